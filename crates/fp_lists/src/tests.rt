@@ -1,0 +1,31 @@
+//! Each allocating call once, with ample memory.
+use super::{Bytes, List};
+use std::test::Fail;
+
+#[test]
+fn bytes_grow_and_copy(rt: HostRuntime) -> Result<(), Fail> {
+    let mut bytes = Bytes::new(rt.alloc());
+    bytes.push(7)?;
+    bytes.append([8, 9].as_slice())?;
+    let again = bytes.copy()?;
+    assert_eq!(rt; again.as_slice(), [7, 8, 9].as_slice());
+    assert!(rt; again == Bytes::from_slice(rt.alloc(), [7, 8, 9].as_slice())?);
+    assert_eq!(rt; again.into_vec().len(), 3);
+    Ok(())
+}
+
+#[test]
+fn a_list_is_written_in_place(rt: HostRuntime) -> Result<(), Fail> {
+    let mut list = List::new(rt.alloc());
+    list.push(1u64)?;
+    list.push(2)?;
+    assert_eq!(rt; list.len(), 2);
+    *list.item_mut(1) = 5;
+    assert_eq!(rt; list.as_slice(), [1, 5].as_slice());
+    assert_eq!(rt; list.get(2), None);
+    let mut more = List::new(rt.alloc());
+    more.push(6)?;
+    list.append(more)?;
+    assert_eq!(rt; list.pop(), Some(6));
+    Ok(())
+}
