@@ -1,0 +1,23 @@
+//! The plain types of the system, and in `specs/` the definitions that every contract cites.
+//!
+//! No function here decides anything: the types say what definitions, scripts, databases, calls and log
+//! entries are, and the definitions say what running them means. docs/MODEL.md lists the definitions in
+//! reading order.
+#![tactic(auto)]
+
+mod calls;
+mod database;
+mod definitions;
+mod events;
+mod log;
+mod name;
+mod scripts;
+
+pub use calls::{Answer, AnchorChange, Call, Deferred, Get, Message, Mode, Resource, SeqInsert, Ssa};
+pub use database::{AreaEnds, Db, Dedb, Msdb, Node, Root, SeqItem};
+pub use definitions::{AreaDef, DedbDef, Defs, FieldDef, FieldKind, Kind, MsdbDef, SegDef};
+pub use events::Event;
+pub use fp_lists::{Bytes, List};
+pub use log::{Entry, Item, Outcome};
+pub use name::Name;
+pub use scripts::{Comparison, FieldText, FsaText, Operand, Operation, Script, SsaText, Statement};
