@@ -64,25 +64,17 @@ pub struct Db {
 
 impl Node {
     /// The same segment once more, with all below it. Fails only for want of memory.
+    #[cycle(copies)]
     pub fn copy(&self, alloc: Global) -> Result<Node, AllocError>
         ensures { IfOk result (λ n. n ≡ self.now) }
     {
-        let mut children = Vec::new(alloc);
-        for group in self.children.as_slice() {
-            let mut row = Vec::new(alloc);
-            for child in group.as_slice() {
-                row.push(child.copy(alloc)?)?;
-            }
-            children.push(List::from_vec(row))?;
-        }
+        let children = copy_children(alloc, &self.children)?;
         let bytes = self.bytes.copy()?;
-        Ok(Node {
-            bytes,
-            children: List::from_vec(children),
-        })
+        Ok(Node { bytes, children })
     }
 }
 
+#[cycle(copies)]
 fn copy_children(alloc: Global, groups: &List<List<Node>>) -> Result<List<List<Node>>, AllocError>
     ensures { IfOk result (λ copies. copies ≡ groups.now) }
 {
