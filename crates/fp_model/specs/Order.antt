@@ -1,5 +1,5 @@
 -- The hierarchical order: the segments of an anchor in the order in which gets meet them, and edits by path.
-use Rattle.std.specs.Prelude.{ℕ, ◌+◌, List, [], ◌∷◌, ◌++◌, length, map, replicate, Bool, true, false, not, ◌&&◌, ◌==◌, nat_lt, if◌then◌else◌, Option, Some, None, unwrap_or, is_some, find, filter, position, slice_get, slice_set}
+use Rattle.std.specs.Prelude.{ℕ, zero, suc, ◌+◌, List, [], ◌∷◌, ◌++◌, length, map, replicate, Bool, true, false, not, ◌&&◌, ◌==◌, nat_lt, if◌then◌else◌, Option, Some, None, find, position, slice_get, slice_set}
 use Rattle.std.specs.List.{flat_map, list_all, list_any}
 use Rattle.std.specs.Option.{option_map_or}
 use Rattle.fp_model.specs.declared.definitions.SegDef.{SegDef}
@@ -35,6 +35,22 @@ sequential_type types = position (λ def. def.sequential) types
 
 abbrev pub is_sequential : List SegDef → ℕ → Bool
 is_sequential types type = option_map_or (λ def. def.sequential) (slice_get types type) false
+
+abbrev pub parent_of : List SegDef → ℕ → Option ℕ
+parent_of types type = option_map_or (λ def. def.parent) (slice_get types type) None
+
+-- the types from the root down to a type, of at most so many levels above it
+abbrev pub line_within : ℕ → List SegDef → ℕ → List ℕ
+line_within zero types type = type ∷ []
+line_within (suc n) types type = option_map_or (λ p. line_within n types p ++ type ∷ []) (parent_of types type) (type ∷ [])
+
+-- the types from the root down to a type
+abbrev pub line_to : List SegDef → ℕ → List ℕ
+line_to types type = line_within (length types) types type
+
+-- a type stands above another
+abbrev pub is_above : List SegDef → ℕ → ℕ → Bool
+is_above types a b = not (a == b) && list_any (λ t. t == a) (line_to types b)
 
 -- ---- paths
 
@@ -84,6 +100,17 @@ leads_below [] (t ∷ ts) = true
 leads_below (s ∷ ss) [] = false
 leads_below (s ∷ ss) (t ∷ ts) = same_step s t && leads_below ss ts
 
+-- A place in a database: an anchor, and a path there.
+pub record Place : Type 0 where
+  pub anchor : ℕ
+  pub path : List Step
+
+abbrev pub place_before : Place → Place → Bool
+place_before a b = if a.anchor == b.anchor then path_before a.path b.path else nat_lt a.anchor b.anchor
+
+abbrev pub place_below : Place → Place → Bool
+place_below a b = a.anchor == b.anchor && leads_below a.path b.path
+
 -- ---- the hierarchical order of an anchor
 
 abbrev pub one_down : Step → Shown → Shown
@@ -121,7 +148,7 @@ sequentials types items = option_map_or (λ type. map (dependent type) items) (s
 abbrev pub root_order : List SegDef → Root → List Shown
 root_order types root =
     under (direct 0 (key_in types 0 root.bytes))
-        (at_end root.bytes ∷ sequentials types root.seqs ++ rows_in_order (child_types types 0) (map (map (node_order types)) root.children))
+    (at_end root.bytes ∷ sequentials types root.seqs ++ rows_in_order (child_types types 0) (map (map (node_order types)) root.children))
 
 -- the segments of an anchor in hierarchical order
 abbrev pub sequence : List SegDef → List Root → List Shown
@@ -147,10 +174,11 @@ abbrev pub admits : List Ssa → List Step → Bool
 admits [] path = true
 admits (ssa ∷ ssas) path = ends_in (last_type ssa.segment ssas) path && list_all (stands_in path) (ssa ∷ ssas)
 
--- the first segment of an anchor that is behind a path, below another, and admitted
-abbrev pub first_admitted : List SegDef → List Root → Option (List Step) → Option (List Step) → List Ssa → Option Shown
-first_admitted types roots behind within ssas =
-    find (λ s. option_map_or (λ p. path_before p s.path) behind true && option_map_or (λ p. leads_below p s.path) within true && admits ssas s.path) (sequence types roots)
+-- the first segment of an anchor that is behind one place, below another, and admitted
+abbrev pub first_admitted : List SegDef → ℕ → List Root → Option Place → Option Place → List Ssa → Option Shown
+first_admitted types anchor roots behind within ssas =
+    let place : Shown → Place = λ s. record { anchor = anchor; path = s.path } in
+    find (λ s. option_map_or (λ p. place_before p (place s)) behind true && option_map_or (λ p. place_below p (place s)) within true && admits ssas s.path) (sequence types roots)
 
 -- the segment at a path
 abbrev pub bytes_at : List SegDef → List Root → List Step → Option (List ℕ)
@@ -187,7 +215,7 @@ below_edited types edit parent [] rows = rows
 below_edited types edit parent (s ∷ []) rows = row_changed types parent s.segment (nodes_edited types s edit) rows
 below_edited types edit parent (s ∷ t ∷ ts) rows =
     row_changed types parent s.segment
-        (change_key (node_key types s.segment) s.key (λ n. roll-Node (record (out-Node n) { children = below_edited types edit s.segment (t ∷ ts) (out-Node n).children }))) rows
+    (change_key (node_key types s.segment) s.key (λ n. roll-Node (record (out-Node n) { children = below_edited types edit s.segment (t ∷ ts) (out-Node n).children }))) rows
 
 abbrev pub root_key : List SegDef → Root → List ℕ
 root_key types root = key_in types 0 root.bytes
