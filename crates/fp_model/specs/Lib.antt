@@ -1,2 +1,5 @@
 pub mod Texts
 pub mod State
+pub mod Numbers
+pub mod Fsas
+pub mod Settle
