@@ -3,3 +3,4 @@ pub mod State
 pub mod Numbers
 pub mod Fsas
 pub mod Settle
+pub mod Programs
