@@ -1,1 +1,10 @@
+pub mod CheckpointText
+pub mod Entries
+pub mod Exits
+pub mod Groups
+pub mod LogText
+pub mod Messages
+pub mod Numbers
+pub mod ReplyLine
+pub mod Spellings
 pub mod Texts
