@@ -9,6 +9,7 @@ use Rattle.fp_model.specs.declared.definitions.DedbDef.{DedbDef}
 use Rattle.fp_model.specs.declared.definitions.Defs.{Defs}
 use Rattle.fp_model.specs.declared.calls.Get.TheVariants.{Unique, Next, NextInParent}
 use Rattle.fp_model.specs.declared.calls.Message.{Message}
+use Rattle.fp_model.specs.declared.calls.Answer.{Answer}
 use Rattle.fp_model.specs.declared.scripts.Operand.{Operand}
 use Rattle.fp_model.specs.declared.scripts.Operand.TheVariants.{Text, Word, Field, Status, Variable}
 use Rattle.fp_model.specs.declared.scripts.Operation.TheVariants.{Join}
@@ -19,6 +20,8 @@ use Rattle.fp_model.specs.declared.scripts.FieldText.{FieldText}
 use Rattle.fp_model.specs.declared.scripts.Statement.{Statement, roll-Statement}
 use Rattle.fp_model.specs.declared.scripts.Statement.TheOpen.{Set, If, Repeat, Break, Reply, Roll, Get, Fld, Isrt, Repl}
 use Rattle.fp_model.specs.declared.scripts.Script.{Script}
+use Rattle.fp_model.specs.Texts.{padded}
+use Rattle.fp_model.specs.Fsas.{Fsa}
 use Rattle.fp_model.specs.declared.database.Msdb.{Msdb}
 use Rattle.fp_model.specs.declared.log.Entry.{Entry}
 use Rattle.fp_model.specs.declared.log.Item.TheVariants.{Segment}
@@ -346,11 +349,11 @@ showc_script = tran (codes "SHOWC") (
     ∷ if_bad (rolb 4)
     ∷ set (codes "OUT") (Field (named (codes "NAME")))
     ∷ roll-Statement (Repeat 10 (
-        roll-Statement (Get NextInParent false 2 (plain 1 ∷ []))
-        ∷ if_bad (roll-Statement Break)
-        ∷ set_joined (codes "OUT") out (Text (codes " "))
-        ∷ set_joined (codes "OUT") out (Field (named (codes "WHAT")))
-        ∷ []))
+    roll-Statement (Get NextInParent false 2 (plain 1 ∷ []))
+    ∷ if_bad (roll-Statement Break)
+    ∷ set_joined (codes "OUT") out (Text (codes " "))
+    ∷ set_joined (codes "OUT") out (Field (named (codes "WHAT")))
+    ∷ []))
     ∷ reply (out ∷ [])
     ∷ [])
 
@@ -365,11 +368,11 @@ abbrev pub listc_script : Script
 listc_script = tran (codes "LISTC") (
     set (codes "OUT") (Text [])
     ∷ roll-Statement (Repeat 30 (
-        roll-Statement (Get Next false 2 (plain 0 ∷ []))
-        ∷ if_bad (roll-Statement Break)
-        ∷ if_text out (set_joined (codes "OUT") out (Text (codes " ")) ∷ [])
-        ∷ set_joined (codes "OUT") out (Field (named (codes "CNO")))
-        ∷ []))
+    roll-Statement (Get Next false 2 (plain 0 ∷ []))
+    ∷ if_bad (roll-Statement Break)
+    ∷ if_text out (set_joined (codes "OUT") out (Text (codes " ")) ∷ [])
+    ∷ set_joined (codes "OUT") out (Field (named (codes "CNO")))
+    ∷ []))
     ∷ reply (out ∷ [])
     ∷ [])
 
@@ -391,11 +394,52 @@ sample_scripts =
     deposit_script ∷ wdraw_script ∷ ask_script ∷ setbal_script ∷ newcust_script ∷ note_script ∷ lend_script
     ∷ showc_script ∷ two_script ∷ listc_script ∷ hire_script ∷ []
 
+-- ---- what the rows are given
+
+-- a text behind a blank; an empty one without it
+abbrev pub behind_blank : List ℕ → List ℕ
+behind_blank [] = []
+behind_blank (b ∷ bs) = 32 ∷ b ∷ bs
+
 -- a message of a terminal that asks for a transaction with a text
 abbrev pub message : List ℕ → List ℕ → List ℕ → Message
 message letters asked text = record {
   lterm = named letters;
   tran = named asked;
   text = text;
-  line = letters ++ 32 ∷ (asked ++ 32 ∷ text);
+  line = letters ++ 32 ∷ (asked ++ behind_blank text);
+}
+
+-- an answer with this status alone
+abbrev pub answered : List ℕ → Answer
+answered status = record { status = status; segment = 0; bytes = []; letters = [] }
+
+-- the answer of a get that shows a segment of a type
+abbrev pub showing : ℕ → List ℕ → Answer
+showing segment bytes = record { status = codes "  "; segment = segment; bytes = bytes; letters = [] }
+
+-- a field call's answer: its status and its letters
+abbrev pub lettered : List ℕ → List ℕ → Answer
+lettered status letters = record { status = status; segment = 0; bytes = []; letters = letters }
+
+-- an FSA before it is answered: field, operation, operand
+abbrev pub given : List ℕ → ℕ → List ℕ → Fsa
+given field op operand = record { field = padded 8 field; status = 32; op = op; operand = operand }
+
+-- a withdrawal of this many
+abbrev pub withdrawal : List ℕ → List Fsa
+withdrawal n = given (codes "BAL") 72 n ∷ given (codes "BAL") 45 n ∷ []
+
+-- a deposit of this many
+abbrev pub deposited : List ℕ → List Fsa
+deposited n = given (codes "BAL") 43 n ∷ []
+
+-- a database with a field of 31 digits behind its key
+abbrev pub wide : MsdbDef
+wide = record {
+  name = named (codes "WIDE");
+  dynamic = false;
+  fields = record { name = named (codes "ACCT"); kind = C; at = 0; length = 4 } ∷ record { name = named (codes "SUM"); kind = P; at = 4; length = 16 } ∷ [];
+  length = 20;
+  load = [];
 }
