@@ -13,7 +13,7 @@ use Rattle.fp_model.specs.declared.log.Outcome.TheVariants as outcome
 use Rattle.fp_model.specs.Rules.{Rules}
 use Rattle.fp_model.specs.Waiting.{without_region}
 use Rattle.fp_model.specs.Machine.{Transaction, Region, Idle, Active, Machine, region_at, with_region, with_entry, entry_of, entry_here, ended_with, next_line, without_line, with_message, with_unknown, with_line, taken_in, is_among, terminal_in, next_group, with_group, sealed_once, sealed_times, sealed_all}
-use Rattle.fp_model.specs.Turns.{Environment, NoFault, DeviceFault, OutOfMemory, Act, Answers, Gains, Waits, Closes, Commits_with, Fails, Fills, Rolls_back, Does, RegionTurn, PurgeTurn, Turn, is_area_held, begins_in, messages_for, with_answer}
+use Rattle.fp_model.specs.Turns.{Environment, NoFault, DeviceFault, OutOfMemory, Act, Answers, Gains, Waits, Closes, Commits_with, Fails_verify, Fills_part, Rolls_back, Does, RegionTurn, PurgeTurn, Turn, is_area_held, begins_in, messages_for, with_answer}
 use Rattle.fp_model.specs.Frames.{KeepsLines, KeepsSealed, KeepsRegions, KeepsEntries, Keeps, AddsEntries}
 
 -- ---- choices
@@ -102,10 +102,10 @@ does_keeps : (rules : Rules) (m : Machine) (region : ℕ) (t : Transaction) (act
 does_keeps rules m region t (Answers call) m2 d = led (λ x. RegionKeeps m x) _ m2 d.2 (put_keeps region _ m m (same_region m))
 does_keeps rules m region t (Gains needed) m2 d = led (λ x. RegionKeeps m x) _ m2 d.2 (record { lines = refl; held = refl }, record { sealed = refl; groups = refl; sent = refl }, refl)
 does_keeps rules m region t (Waits needed) m2 d = led (λ x. RegionKeeps m x) _ m2 d.3 (record { lines = refl; held = refl }, record { sealed = refl; groups = refl; sent = refl }, refl)
-does_keeps rules m region t (Closes needed cycle) m2 d = led (λ x. RegionKeeps m x) _ m2 d.2 (ended_keeps region _ m.now m)
+does_keeps rules m region t (Closes needed cycle) m2 d = led (λ x. RegionKeeps m x) _ m2 d.3 (ended_keeps region _ m.now m)
 does_keeps rules m region t (Commits_with reply items next) m2 d = led (λ x. RegionKeeps m x) _ m2 d.3 (ended_keeps region _ next m)
-does_keeps rules m region t (Fails reply call fsa found) m2 d = led (λ x. RegionKeeps m x) _ m2 d.3 (ended_keeps region _ m.now m)
-does_keeps rules m region t (Fills reply set begin end n) m2 d = led (λ x. RegionKeeps m x) _ m2 d.3 (ended_keeps region _ m.now m)
+does_keeps rules m region t (Fails_verify reply call fsa found) m2 d = led (λ x. RegionKeeps m x) _ m2 d.3 (ended_keeps region _ m.now m)
+does_keeps rules m region t (Fills_part reply set begin end n) m2 d = led (λ x. RegionKeeps m x) _ m2 d.3 (ended_keeps region _ m.now m)
 does_keeps rules m region t (Rolls_back code) m2 d = led (λ x. RegionKeeps m x) _ m2 d.1 (ended_keeps region _ m.now m)
 
 begins_keeps : (rules : Rules) (m : Machine) (region : ℕ) (messages : List Message) → RegionKeeps m (begins_in rules m region messages)
@@ -197,10 +197,10 @@ does_adds : (rules : Rules) (m : Machine) (region : ℕ) (t : Transaction) (act 
 does_adds rules m region t (Answers call) m2 d = led (λ x. AddsEntries m x) _ m2 d.2 (none_added (put_same region _ m))
 does_adds rules m region t (Gains needed) m2 d = led (λ x. AddsEntries m x) _ m2 d.2 (none_added refl)
 does_adds rules m region t (Waits needed) m2 d = led (λ x. AddsEntries m x) _ m2 d.3 (none_added refl)
-does_adds rules m region t (Closes needed cycle) m2 d = led (λ x. AddsEntries m x) _ m2 d.2 (ended_adds region _ m.now m)
+does_adds rules m region t (Closes needed cycle) m2 d = led (λ x. AddsEntries m x) _ m2 d.3 (ended_adds region _ m.now m)
 does_adds rules m region t (Commits_with reply items next) m2 d = led (λ x. AddsEntries m x) _ m2 d.3 (ended_adds region _ next m)
-does_adds rules m region t (Fails reply call fsa found) m2 d = led (λ x. AddsEntries m x) _ m2 d.3 (ended_adds region _ m.now m)
-does_adds rules m region t (Fills reply set begin end n) m2 d = led (λ x. AddsEntries m x) _ m2 d.3 (ended_adds region _ m.now m)
+does_adds rules m region t (Fails_verify reply call fsa found) m2 d = led (λ x. AddsEntries m x) _ m2 d.3 (ended_adds region _ m.now m)
+does_adds rules m region t (Fills_part reply set begin end n) m2 d = led (λ x. AddsEntries m x) _ m2 d.3 (ended_adds region _ m.now m)
 does_adds rules m region t (Rolls_back code) m2 d = led (λ x. AddsEntries m x) _ m2 d.1 (ended_adds region _ m.now m)
 
 begins_adds : (rules : Rules) (m : Machine) (region : ℕ) (messages : List Message) → AddsEntries m (begins_in rules m region messages)
