@@ -14,13 +14,13 @@ msdb_text def msdb = be16 def.length ++ be32 (length msdb.segments) ++ flat_map 
 
 -- a checkpoint without its gate: its letters, its number, the place of a gate in the log, the number of entries
 -- before that gate, and the databases behind their number
-abbrev pub sealed_text : List MsdbDef → ℕ → ℕ → ℕ → List Msdb → List ℕ
-sealed_text defs number at count msdbs =
+abbrev pub checkpoint_rest : List MsdbDef → ℕ → ℕ → ℕ → List Msdb → List ℕ
+checkpoint_rest defs number at count msdbs =
     codes "IMSFPCK1" ++ be64 number ++ be64 at ++ be64 count ++ length msdbs ∷ flat_map (λ each. msdb_text each.0 each.1) (zip defs msdbs)
 
 -- an open checkpoint
 abbrev pub checkpoint_text : List MsdbDef → ℕ → ℕ → ℕ → List Msdb → List ℕ
-checkpoint_text defs number at count msdbs = 1 ∷ sealed_text defs number at count msdbs
+checkpoint_text defs number at count msdbs = 1 ∷ checkpoint_rest defs number at count msdbs
 
 -- a data set is open where it has a byte 0 and that is 1
 abbrev pub IsOpen : List ℕ → Type 0

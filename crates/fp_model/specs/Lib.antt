@@ -4,6 +4,7 @@ pub mod Exits
 pub mod Groups
 pub mod LogText
 pub mod Messages
+pub mod Names
 pub mod Numbers
 pub mod ReplyLine
 pub mod Spellings
