@@ -1,12 +1,14 @@
 -- What the bytes of a log say: its groups up to the first gate that isn't open, or where they are damaged.
-use Rattle.std.specs.Prelude.{◌≡◌, ◌≢◌, ℕ, ◌+◌, ◌≤◌, List, ◌++◌, length, drop, slice_index}
+use Rattle.std.specs.Prelude.{◌≡◌, ◌≢◌, ℕ, ◌+◌, ◌^◌, ◌<◌, ◌≤◌, List, ◌++◌, length, drop, slice_index}
 use Rattle.std.specs.List.{flat_map, AllByRecursion}
 use Rattle.fp_model.specs.LogText.{body_text, group_text, groups_text, HasSpelling}
 use Rattle.fp_model.specs.declared.log.Entry.{Entry}
 
--- the entries of a group: one or more, each with a spelling
-abbrev pub IsGroup : List Entry → Type 0
-IsGroup entries = (1 ≤ length entries) × AllByRecursion HasSpelling entries
+-- the entries of a group: one or more, each with a spelling, and together short enough for a length
+pub record IsGroup (entries : List Entry) : Type 0 where
+  pub some : 1 ≤ length entries
+  pub each : AllByRecursion HasSpelling entries
+  pub fits : length (body_text entries) < 2 ^ 64
 
 -- bytes are the body of these entries
 abbrev pub IsBody : List ℕ → List Entry → Type 0
