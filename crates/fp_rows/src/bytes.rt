@@ -5,9 +5,12 @@ ghost use Rattle.fp_model.specs.Numbers.{number, bytes_of};
 ghost use Rattle.fp_model.specs.Exits.{spread, route, group_of};
 ghost use Rattle.fp_model.specs.Messages.{lines_of, line_fault, LineTooLong, message_of, NoTerminal, NoTran, terminal_of};
 ghost use Rattle.fp_model.specs.Spellings.{be64};
-ghost use Rattle.fp_model.specs.LogText.{Front, entry_text, group_text, front_text, log_text, first_gate};
+ghost use Rattle.fp_model.specs.LogText.{Front, group_text, groups_text, front_text, log_text, first_gate};
+ghost use Rattle.fp_model.specs.Groups.{IsGroup, Reads, Groups, Damage};
 ghost use Rattle.fp_model.specs.ReplyLine.{line_of};
 ghost use Rattle.fp_model.specs.CheckpointText.{checkpoint_text};
+ghost use Rattle.std.specs.List.{AllByRecursion};
+ghost use Rattle.fp_model.specs.declared.log.Entry.{Entry};
 ghost use Rattle.fp_model.specs.declared.definitions.FieldKind.TheVariants.{C, X, H, F, P};
 ghost use Rattle.fp_model.specs.declared.definitions.Kind.TheVariants.{Fold, Range};
 ghost use Rattle.fp_rows.specs.Hex.{hex, line_text, named};
@@ -171,4 +174,27 @@ pub fn the_checkpoint_after_a_deposit()
         ≡ hex (codes "01 494d534650434b31 0000000000000001") ++ be64 gate ++ hex (codes
         "0000000000000001 02 0008 00000002 41303031 0000110c 41303032 0000050c 0008 00000001 54303031 00000000"
         ) }
+{}
+
+/// The text of a log reads as its groups, up to its closed gate.
+pub fn a_log_reads_as_its_groups()
+    ensures { (front : Front) (groups : List (List Entry)) → AllByRecursion IsGroup groups
+        → Reads (log_text front groups) (first_gate front) (Groups groups (first_gate front + length (groups_text groups))) }
+{}
+
+/// The deposit is a group by itself, and so is the refused one.
+pub fn each_of_two_entries_is_a_group()
+    ensures deposit { IsGroup (deposit ∷ []) }
+    ensures refusal { IsGroup (refusal ∷ []) }
+{}
+
+/// A log whose first gate is open, with zeros behind it to the end, is damaged there.
+pub fn an_open_gate_before_zeros_is_damage()
+    ensures { (front : Front) (n : ℕ)
+        → Reads (front_text 1 front ++ 1 ∷ replicate n 0) (first_gate front) (Damage (first_gate front)) }
+{}
+
+/// A log that ends behind its front has no groups: a gate that isn't there is closed.
+pub fn a_front_alone_has_no_groups()
+    ensures { (front : Front) → Reads (front_text 1 front) (first_gate front) (Groups [] (first_gate front)) }
 {}
