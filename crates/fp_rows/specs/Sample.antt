@@ -5,7 +5,9 @@ use Rattle.fp_model.specs.declared.definitions.FieldKind.TheVariants.{C, F, P}
 use Rattle.fp_model.specs.declared.definitions.MsdbDef.{MsdbDef}
 use Rattle.fp_model.specs.declared.database.Msdb.{Msdb}
 use Rattle.fp_model.specs.declared.log.Entry.{Entry}
-use Rattle.fp_model.specs.declared.log.Item.TheVariants.{Segment}
+use Rattle.fp_model.specs.declared.log.Item.{Item}
+use Rattle.fp_model.specs.declared.log.Item.TheVariants.{Segment, Image}
+use Rattle.fp_model.specs.declared.log.Outcome.{Outcome}
 use Rattle.fp_model.specs.declared.log.Outcome.TheVariants.{Done, Roll, Unknown}
 
 -- accounts: a key of 4 characters, and a balance in 4 packed bytes
@@ -54,3 +56,22 @@ refusal = record { from = 0; outcome = Roll 1; line = codes "T1 DEPOSIT A009 10"
 -- the first entry, of a line that is no message or names no script
 abbrev pub unknown : List ℕ → Entry
 unknown line = record { from = 0; outcome = Unknown; line = line; reply = []; notes = []; items = [] }
+
+-- the first entry, of a transaction that ended so
+abbrev pub ended : Outcome → List ℕ → Entry
+ended outcome reply = record { from = 0; outcome = outcome; line = codes "T1 ASK A001"; reply = reply; notes = []; items = [] }
+
+-- a changed segment
+abbrev pub changed : ℕ → List ℕ → Item
+changed msdb key = Segment msdb key []
+
+-- a changed interval
+abbrev pub image : ℕ → ℕ → Item
+image set ci = Image set ci []
+
+-- the keys of 21 customers
+abbrev pub customers : List (List ℕ)
+customers =
+    codes "C001" ∷ codes "C009" ∷ codes "C012" ∷ codes "C023" ∷ codes "C034" ∷ codes "C045" ∷ codes "C056"
+    ∷ codes "C067" ∷ codes "C070" ∷ codes "C078" ∷ codes "C081" ∷ codes "C089" ∷ codes "C092" ∷ codes "C100"
+    ∷ codes "C108" ∷ codes "C111" ∷ codes "C119" ∷ codes "C122" ∷ codes "C133" ∷ codes "C144" ∷ codes "C155" ∷ []
