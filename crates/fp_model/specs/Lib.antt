@@ -2,6 +2,7 @@ pub mod CheckpointText
 pub mod Entries
 pub mod Exits
 pub mod Groups
+pub mod Items
 pub mod LogText
 pub mod Messages
 pub mod Names
