@@ -1,6 +1,6 @@
 //! Rows of the bytes: numbers in fields, exits, messages and reply lines, entries, groups and checkpoints.
 
-ghost use Rattle.std.specs.Prelude.{◌≡◌, ℕ, ◌+◌, List, [], ◌∷◌, ◌++◌, length, map, replicate, codes, Option, Some, None, ℤ, pos, neg_ℤ, Ok, Err, IsOk, IsTrue, IsFalse};
+ghost use Rattle.std.specs.Prelude.{◌≡◌, ℕ, ◌+◌, ◌^◌, ◌≤◌, List, [], ◌∷◌, ◌++◌, length, map, replicate, codes, Option, Some, None, ℤ, pos, neg_ℤ, Ok, Err, IsOk, IsTrue, IsFalse};
 ghost use Rattle.fp_model.specs.Numbers.{number, bytes_of};
 ghost use Rattle.fp_model.specs.Names.{name_in};
 ghost use Rattle.fp_model.specs.Exits.{spread, route, group_of};
@@ -9,8 +9,9 @@ ghost use Rattle.fp_model.specs.Spellings.{be64};
 ghost use Rattle.fp_model.specs.LogText.{Front, group_text, groups_text, front_text, log_text, first_gate, is_ascending};
 ghost use Rattle.fp_model.specs.Entries.{MayStandAt};
 ghost use Rattle.fp_model.specs.Groups.{IsGroup, Reads, Groups, Damage};
+ghost use Rattle.fp_model.specs.Items.{FitsMsdb};
 ghost use Rattle.fp_model.specs.ReplyLine.{line_of};
-ghost use Rattle.fp_model.specs.CheckpointText.{checkpoint_text};
+ghost use Rattle.fp_model.specs.CheckpointText.{checkpoint_text, IsCheckpoint, IsOpen};
 ghost use Rattle.std.specs.List.{AllByRecursion};
 ghost use Rattle.fp_model.specs.declared.log.Entry.{Entry};
 ghost use Rattle.fp_model.specs.declared.log.Outcome.TheVariants.{Done, Verify, SeqFull, Deadlock, Device, Memory, Purge};
@@ -278,4 +279,25 @@ pub fn an_open_gate_before_zeros_is_damage()
 /// A log that ends behind its front has no groups: a gate that isn't there is closed.
 pub fn a_front_alone_has_no_groups()
     ensures { (front : Front) → Reads (front_text 1 front) (first_gate front) (Groups [] (first_gate front)) }
+{}
+
+/// The databases of that checkpoint are as their definitions have them, and so is its count.
+pub fn the_checkpoint_after_a_deposit_is_whole()
+    ensures { (gate : ℕ) → 1 ≤ gate → gate ≤ 2 ^ 62
+        → IsCheckpoint (accts ∷ tellers ∷ []) 1 gate 1 (accts_now ∷ tellers_now ∷ []) }
+{}
+
+/// A data set is open where its first byte is 1; one without bytes isn't.
+pub fn which_data_sets_are_open()
+    ensures empty { ¬ IsOpen [] }
+    ensures closed { ¬ IsOpen (0 ∷ 1 ∷ []) }
+    ensures garbage { ¬ IsOpen (17 ∷ []) }
+    ensures checkpoint { (gate : ℕ) → IsOpen (checkpoint_text [] 1 gate 1 []) }
+{}
+
+/// The new segment of the deposit may be applied, and so may its deletion.
+pub fn the_deposited_segment_is_fit()
+    ensures changed { FitsMsdb accts (codes "A001") (hex (codes "41303031 0000110c")) }
+    ensures deleted { FitsMsdb accts (codes "A001") [] }
+    ensures other_key { ¬ FitsMsdb accts (codes "A002") (hex (codes "41303031 0000110c")) }
 {}
