@@ -1,7 +1,7 @@
 -- Which items of an entry restart may apply under these definitions.
 use Rattle.std.specs.Prelude.{◌≡◌, ◌⊎◌, ℕ, ◌+◌, ◌-◌, ◌*◌, ◌^◌, ◌≤◌, List, [], length, take, replicate, slice_get, Some}
 use Rattle.std.specs.List.{flat_map}
-use Rattle.fp_model.specs.CheckpointText.{first_length}
+use Rattle.fp_model.specs.State.{key_length}
 use Rattle.fp_model.specs.declared.definitions.Defs.{Defs}
 use Rattle.fp_model.specs.declared.definitions.MsdbDef.{MsdbDef}
 use Rattle.fp_model.specs.declared.log.Item.{Item}
@@ -13,7 +13,7 @@ area_sizes defs = flat_map (λ dedb. replicate (length dedb.areas) dedb.ci) defs
 
 -- a segment as its definition has it, under its key, or no segment at all
 pub record FitsMsdb (def : MsdbDef) (key bytes : List ℕ) : Type 0 where
-  pub key_length : length key ≡ first_length def.fields
+  pub key_length : length key ≡ key_length def.fields
   pub segment : (bytes ≡ []) ⊎ ((length bytes ≡ def.length) × (take (length key) bytes ≡ key))
 
 -- an item is fit where its segment is one of the database's, or its image one of an area's intervals that ends at or

@@ -1,8 +1,7 @@
 -- The bytes of the log: entries, groups and the front.
 use Rattle.std.specs.Prelude.{◌≡◌, ⊤, ℕ, ◌<◌, ◌^◌, List, [], ◌∷◌, ◌++◌, length, Bool, true, false, ◌&&◌, ◌||◌, ◌==◌, nat_lt, IsTrue, codes}
 use Rattle.std.specs.List.{flat_map, AllByRecursion}
-use Rattle.std.specs.Ordering.{is_lt, nat_cmp}
-use Rattle.std.specs.Cmp.Lexicographic.{slice_cmp}
+use Rattle.fp_model.specs.State.{is_below}
 use Rattle.fp_model.specs.Spellings.{be16, be32, be64, short_text, long_text, part_text}
 use Rattle.fp_model.specs.declared.log.Item.{Item}
 use Rattle.fp_model.specs.declared.log.Item.TheVariants.{Segment, Image}
@@ -86,7 +85,7 @@ log_text front groups = front_text 1 front ++ groups_text groups ++ 0 ∷ []
 
 -- whether an item stands before another: segments first, by database and key; then images, by data set and interval
 abbrev pub precedes : Item → Item → Bool
-precedes (Segment msdb key bytes) (Segment msdb2 key2 bytes2) = nat_lt msdb msdb2 || (msdb == msdb2 && is_lt (slice_cmp nat_cmp key key2))
+precedes (Segment msdb key bytes) (Segment msdb2 key2 bytes2) = nat_lt msdb msdb2 || (msdb == msdb2 && is_below key key2)
 precedes (Segment msdb key bytes) (Image set ci bytes2) = true
 precedes (Image set ci bytes) (Segment msdb key bytes2) = false
 precedes (Image set ci bytes) (Image set2 ci2 bytes2) = nat_lt set set2 || (set == set2 && nat_lt ci ci2)

@@ -47,7 +47,11 @@ pub enum Call {
         ssas: List<Ssa>,
     },
     /// A field call: verifies and changes of one segment, given as field search arguments in bytes.
-    Fld { db: u8, key: Bytes, fsas: Bytes },
+    Fld {
+        db: u8,
+        key: Bytes,
+        fsas: Bytes,
+    },
     /// Inserts a segment, the parents named by the first arguments and its type by the last.
     Isrt {
         db: u8,
@@ -55,9 +59,14 @@ pub enum Call {
         bytes: Bytes,
     },
     /// Replaces the segment that is held.
-    Repl { db: u8, bytes: Bytes },
+    Repl {
+        db: u8,
+        bytes: Bytes,
+    },
     /// Deletes the segment that is held, with all below it.
-    Dlet { db: u8 },
+    Dlet {
+        db: u8,
+    },
 }
 
 /// What a call is answered. A part that the call doesn't fill is 0 or empty.

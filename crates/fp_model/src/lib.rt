@@ -13,7 +13,9 @@ mod log;
 mod name;
 mod scripts;
 
-pub use calls::{Answer, AnchorChange, Call, Deferred, Get, Message, Mode, Resource, SeqInsert, Ssa};
+pub use calls::{
+    AnchorChange, Answer, Call, Deferred, Get, Message, Mode, Resource, SeqInsert, Ssa,
+};
 pub use database::{AreaEnds, Db, Dedb, Msdb, Node, Root, SeqItem};
 pub use definitions::{AreaDef, DedbDef, Defs, FieldDef, FieldKind, Kind, MsdbDef, SegDef};
 pub use events::Event;

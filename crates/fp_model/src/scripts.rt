@@ -82,7 +82,10 @@ pub enum Statement {
         otherwise: List<Statement>,
     },
     /// `REPEAT n` .. `END`.
-    Repeat { times: u32, body: List<Statement> },
+    Repeat {
+        times: u32,
+        body: List<Statement>,
+    },
     /// Leaves the innermost loop.
     Break,
     /// Ends with the operands, joined.
@@ -109,9 +112,14 @@ pub enum Statement {
         fields: List<FieldText>,
     },
     /// `REPL database field=operand ..`.
-    Repl { db: u8, fields: List<FieldText> },
+    Repl {
+        db: u8,
+        fields: List<FieldText>,
+    },
     /// `DLET database`.
-    Dlet { db: u8 },
+    Dlet {
+        db: u8,
+    },
 }
 
 /// A transaction's script.
