@@ -2,7 +2,6 @@
 use Rattle.std.specs.Prelude.{ℕ, zero, suc, ◌+◌, ◌*◌, List, [], ◌∷◌, ◌++◌, length, take, drop, Bool, true, false, not, ◌&&◌, ◌||◌, ◌==◌, nat_le, is_none, if◌then◌else◌, Option, Some, None, option_map, option_and_then, find, slice_get, slice_index, ◌≡◌, ◌<◌, ℤ, ◌+ℤ◌, ◌-ℤ◌}
 use Rattle.std.specs.List.{list_all}
 use Rattle.std.specs.Option.{option_map_or}
-use Rattle.std.specs.Int.{w16, to_be_bytes}
 use Rattle.std.specs.declared.cmp.Ordering.{Ordering}
 use Rattle.std.specs.Ordering.{nat_cmp, int_cmp, is_eq, is_ne, is_lt, is_le, is_gt, is_ge}
 use Rattle.std.specs.Cmp.Lexicographic.{slice_cmp}
@@ -12,6 +11,7 @@ use Rattle.fp_model.specs.declared.definitions.FieldDef.{FieldDef}
 use Rattle.fp_model.specs.declared.definitions.MsdbDef.{MsdbDef}
 use Rattle.fp_model.specs.Texts.{same_text, padded, number_in}
 use Rattle.fp_model.specs.Numbers.{number, bytes_of}
+use Rattle.fp_model.specs.Spellings.{long_text}
 
 -- a field search argument: the field's name in 8 bytes, the letter that it was answered, the operation, and its operand as a text
 pub record Fsa : Type 0 where
@@ -22,13 +22,9 @@ pub record Fsa : Type 0 where
 
 -- ---- as bytes
 
--- a length in two bytes
-unfoldable pub length_bytes : ℕ → List ℕ
-length_bytes n = to_be_bytes w16 n
-
--- name, status, operation, length of the operand, operand
+-- name, status, operation, and the operand behind its length
 abbrev pub fsa_text : Fsa → List ℕ
-fsa_text fsa = fsa.field ++ fsa.status ∷ fsa.op ∷ (length_bytes (length fsa.operand) ++ fsa.operand)
+fsa_text fsa = fsa.field ++ fsa.status ∷ fsa.op ∷ long_text fsa.operand
 
 -- a list: `*` behind each that another follows, a blank behind the last
 abbrev pub list_text : List Fsa → List ℕ

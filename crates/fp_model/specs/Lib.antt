@@ -27,6 +27,7 @@ pub mod History
 pub mod Waiting
 pub mod Machine
 pub mod Turns
+pub mod Frames
 pub mod Product
 pub mod Recovery
 pub mod Pending

@@ -18,7 +18,8 @@ ghost use Rattle.fp_model.specs.declared.log.Outcome.TheVariants.{Done, Verify, 
 ghost use Rattle.fp_model.specs.declared.definitions.FieldKind.TheVariants.{C, X, H, F, P};
 ghost use Rattle.fp_model.specs.declared.definitions.Kind.TheVariants.{Fold, Range};
 ghost use Rattle.fp_rows.specs.Hex.{hex, line_text, named};
-ghost use Rattle.fp_rows.specs.Sample.{accts, tellers, accts_now, tellers_now, customers, deposit, refusal, unknown, ended, changed, image};
+ghost use Rattle.fp_rows.specs.LogRows.{customers, ended, changed, image};
+ghost use Rattle.fp_rows.specs.Sample.{accts, tellers, accts_now, tellers_now, deposit, refusal, unknown};
 
 /// The sign F is a plus.
 pub fn f_is_plus()
