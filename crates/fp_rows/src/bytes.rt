@@ -9,17 +9,18 @@ ghost use Rattle.fp_model.specs.Spellings.{be64};
 ghost use Rattle.fp_model.specs.LogText.{Front, group_text, groups_text, front_text, log_text, first_gate, is_ascending};
 ghost use Rattle.fp_model.specs.Entries.{MayStandAt};
 ghost use Rattle.fp_model.specs.Groups.{IsGroup, Reads, Groups, Damage};
-ghost use Rattle.fp_model.specs.Items.{FitsMsdb};
+ghost use Rattle.fp_model.specs.Items.{FitsMsdb, IsFit};
 ghost use Rattle.fp_model.specs.ReplyLine.{line_of};
 ghost use Rattle.fp_model.specs.CheckpointText.{checkpoint_text, IsCheckpoint, IsOpen};
 ghost use Rattle.std.specs.List.{AllByRecursion};
 ghost use Rattle.fp_model.specs.declared.log.Entry.{Entry};
+ghost use Rattle.fp_model.specs.declared.log.Item.TheVariants.{Image};
 ghost use Rattle.fp_model.specs.declared.log.Outcome.TheVariants.{Done, Verify, SeqFull, Deadlock, Device, Memory, Purge};
 ghost use Rattle.fp_model.specs.declared.definitions.FieldKind.TheVariants.{C, X, H, F, P};
 ghost use Rattle.fp_model.specs.declared.definitions.Kind.TheVariants.{Fold, Range};
 ghost use Rattle.fp_rows.specs.Hex.{hex, line_text, named};
 ghost use Rattle.fp_rows.specs.LogRows.{customers, ended, changed, image};
-ghost use Rattle.fp_rows.specs.Sample.{accts, tellers, accts_now, tellers_now, deposit, refusal, unknown};
+ghost use Rattle.fp_rows.specs.Sample.{accts, tellers, accts_now, tellers_now, deposit, refusal, unknown, sample_defs};
 
 /// The sign F is a plus.
 pub fn f_is_plus()
@@ -301,4 +302,19 @@ pub fn the_deposited_segment_is_fit()
     ensures changed { FitsMsdb accts (codes "A001") (hex (codes "41303031 0000110c")) }
     ensures deleted { FitsMsdb accts (codes "A001") [] }
     ensures other_key { ¬ FitsMsdb accts (codes "A002") (hex (codes "41303031 0000110c")) }
+{}
+
+/// Under the sample's definitions areas are the data sets 3 and 4, with intervals of 512 bytes.
+pub fn which_images_are_fit()
+    ensures second_area { IsFit sample_defs (Image 4 3 (replicate 512 0)) }
+    ensures no_area { ¬ IsFit sample_defs (Image 5 3 (replicate 512 0)) }
+    ensures checkpoint { ¬ IsFit sample_defs (Image 2 3 (replicate 512 0)) }
+    ensures short { ¬ IsFit sample_defs (Image 4 3 (replicate 511 0)) }
+    ensures far { ¬ IsFit sample_defs (Image 4 9007199254740992 (replicate 512 0)) }
+{}
+
+/// A segment is fit where its database is one of the two.
+pub fn which_segments_are_fit()
+    ensures deposit { AllByRecursion (IsFit sample_defs) deposit.items }
+    ensures no_database { ¬ IsFit sample_defs (changed 2 (codes "A001")) }
 {}
