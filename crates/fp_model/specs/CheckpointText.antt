@@ -15,7 +15,8 @@ msdb_text def msdb = be16 def.length ++ be32 (length msdb.segments) ++ flat_map 
 -- before that gate, and the databases behind their number
 abbrev pub checkpoint_rest : List MsdbDef → ℕ → ℕ → ℕ → List Msdb → List ℕ
 checkpoint_rest defs number at count msdbs =
-    codes "IMSFPCK1" ++ be64 number ++ be64 at ++ be64 count ++ length msdbs ∷ flat_map (λ each. msdb_text each.0 each.1) (zip defs msdbs)
+    codes "IMSFPCK1" ++ be64 number ++ be64 at ++ be64 count
+    ++ length msdbs ∷ flat_map (λ each. msdb_text each.0 each.1) (zip defs msdbs)
 
 -- an open checkpoint
 abbrev pub checkpoint_text : List MsdbDef → ℕ → ℕ → ℕ → List Msdb → List ℕ
@@ -29,7 +30,8 @@ IsOpen bytes = slice_index bytes 0 ≡ 1
 abbrev pub is_ascending_by_key : List FieldDef → List (List ℕ) → Bool
 is_ascending_by_key fields [] = true
 is_ascending_by_key fields (segment ∷ []) = true
-is_ascending_by_key fields (segment ∷ next ∷ more) = is_below (key_of fields segment) (key_of fields next) && is_ascending_by_key fields (next ∷ more)
+is_ascending_by_key fields (segment ∷ next ∷ more) =
+    is_below (key_of fields segment) (key_of fields next) && is_ascending_by_key fields (next ∷ more)
 
 -- a database as its definition has it: each segment has the defined length, and keys ascend
 pub record IsMsdbOf (def : MsdbDef) (msdb : Msdb) : Type 0 where

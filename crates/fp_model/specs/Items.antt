@@ -16,8 +16,9 @@ pub record FitsMsdb (def : MsdbDef) (key bytes : List ℕ) : Type 0 where
   pub key_length : length key ≡ key_length def.fields
   pub segment : (bytes ≡ []) ⊎ ((length bytes ≡ def.length) × (take (length key) bytes ≡ key))
 
--- an item is fit where its segment is one of the database's, or its image one of an area's intervals that ends at or
--- before byte 2^62
+-- an item is fit where its segment is one of a database that is defined, or its image an interval of an area that
+-- ends at or before byte 2^62
 abbrev pub IsFit : Defs → Item → Type 0
 IsFit defs (Segment msdb key bytes) = (def : MsdbDef) × (slice_get defs.msdbs msdb ≡ Some def) × FitsMsdb def key bytes
-IsFit defs (Image set ci bytes) = (3 ≤ set) × (slice_get (area_sizes defs) (set - 3) ≡ Some (length bytes)) × ((ci + 1) * length bytes ≤ 2 ^ 62)
+IsFit defs (Image set ci bytes) =
+    (3 ≤ set) × (slice_get (area_sizes defs) (set - 3) ≡ Some (length bytes)) × ((ci + 1) * length bytes ≤ 2 ^ 62)

@@ -36,7 +36,9 @@ items_text items = be32 (length items) ++ flat_map item_text items
 
 -- an entry without its length
 abbrev pub rest_text : Entry → List ℕ
-rest_text e = be64 e.from ++ outcome_text e.outcome ++ long_text e.line ++ long_text e.reply ++ notes_text e.notes ++ items_text e.items
+rest_text e =
+    be64 e.from ++ outcome_text e.outcome ++ long_text e.line ++ long_text e.reply
+    ++ notes_text e.notes ++ items_text e.items
 
 -- an entry, behind the length of the rest
 abbrev pub entry_text : Entry → List ℕ
@@ -83,7 +85,8 @@ first_gate front = length (front_text 1 front)
 abbrev pub log_text : Front → List (List Entry) → List ℕ
 log_text front groups = front_text 1 front ++ groups_text groups ++ 0 ∷ []
 
--- whether an item stands before another: segments first, by database and key; then images, by data set and interval
+-- whether an item stands before another: segments first, by database and key, then images, by data set and
+-- interval
 abbrev pub precedes : Item → Item → Bool
 precedes (Segment msdb key bytes) (Segment msdb2 key2 bytes2) = nat_lt msdb msdb2 || (msdb == msdb2 && is_below key key2)
 precedes (Segment msdb key bytes) (Image set ci bytes2) = true

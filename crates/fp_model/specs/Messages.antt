@@ -27,7 +27,8 @@ pub data LineFault : Type 0 where
   LineTooLong : (number : ℕ) → LineFault
   TooManyLines : (number : ℕ) → LineFault
 
--- why the line of this number isn't taken: it is behind the first 1,000,000, or has more than 2,100 bytes before its newline
+-- why the line of this number isn't taken: it is behind the first 1,000,000, or has more than 2,100 bytes before
+-- its newline
 abbrev pub fault_of_line : ℕ → List ℕ → Option LineFault
 fault_of_line number line =
     if nat_lt 1000000 number then Some (TooManyLines number)

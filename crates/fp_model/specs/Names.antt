@@ -14,7 +14,9 @@ is_letter_or_digit b = is_letter b || (nat_le 48 b && nat_le b 57)
 
 -- whether a text is a name: 1 to 8 letters and digits, a letter first
 abbrev pub is_name : List ℕ → Bool
-is_name text = nat_le 1 (length text) && nat_le (length text) 8 && is_letter (slice_index text 0) && list_all is_letter_or_digit text
+is_name text =
+    nat_le 1 (length text) && nat_le (length text) 8
+    && is_letter (slice_index text 0) && list_all is_letter_or_digit text
 
 -- the name that a text is, if it is one: blanks follow up to 8 bytes
 abbrev pub name_in : List ℕ → Option Name
