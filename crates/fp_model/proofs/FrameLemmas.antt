@@ -39,20 +39,20 @@ line_keeps : (rules : Rules) (line : List ℕ) (m m2 : Machine) → InKeeps m m2
 line_keeps rules line m m2 k =
     let pass : Machine → Type 0 = λ x. InKeeps m x in
     either_bool pass (list_any (is_among m2.busy) (terminal_in (rules.terminal_of line))) _ _
-        (record { sealed = k.0.sealed; groups = k.0.groups; sent = k.0.sent }, record { regions = k.1.regions; locks = k.1.locks; requests = k.1.requests })
-        (either_option pass (rules.request_of line) (λ message. with_message rules message m2) (with_unknown rules line m2)
-            (λ message. (record { sealed = k.0.sealed; groups = k.0.groups; sent = k.0.sent }, record { regions = k.1.regions; locks = k.1.locks; requests = k.1.requests }))
-            (record { sealed = k.0.sealed; groups = k.0.groups; sent = k.0.sent }, record { regions = k.1.regions; locks = k.1.locks; requests = k.1.requests }))
+    (record { sealed = k.0.sealed; groups = k.0.groups; sent = k.0.sent }, record { regions = k.1.regions; locks = k.1.locks; requests = k.1.requests })
+    (either_option pass (rules.request_of line) (λ message. with_message rules message m2) (with_unknown rules line m2)
+    (λ message. (record { sealed = k.0.sealed; groups = k.0.groups; sent = k.0.sent }, record { regions = k.1.regions; locks = k.1.locks; requests = k.1.requests }))
+    (record { sealed = k.0.sealed; groups = k.0.groups; sent = k.0.sent }, record { regions = k.1.regions; locks = k.1.locks; requests = k.1.requests }))
 
 taken_keeps : (rules : Rules) (m : Machine) → InKeeps m (taken_in rules m)
 taken_keeps rules m =
     let pass : Machine → Type 0 = λ x. InKeeps m x in
     either_option pass (next_line m) (λ line. with_line rules line (without_line m)) m
-        (λ line. line_keeps rules line m (without_line m)
-            (either_option pass m.held (λ l. record m { held = None }) (record m { lines = drop 1 m.lines })
-                (λ l. (record { sealed = refl; groups = refl; sent = refl }, record { regions = refl; locks = refl; requests = refl }))
-                (record { sealed = refl; groups = refl; sent = refl }, record { regions = refl; locks = refl; requests = refl })))
-        (same_in m)
+    (λ line. line_keeps rules line m (without_line m)
+    (either_option pass m.held (λ l. record m { held = None }) (record m { lines = drop 1 m.lines })
+    (λ l. (record { sealed = refl; groups = refl; sent = refl }, record { regions = refl; locks = refl; requests = refl }))
+    (record { sealed = refl; groups = refl; sent = refl }, record { regions = refl; locks = refl; requests = refl })))
+    (same_in m)
 
 -- ---- LOG and CKPT
 
@@ -63,8 +63,8 @@ once_keeps : (rules : Rules) (m m2 : Machine) → LogKeeps m m2 → LogKeeps m (
 once_keeps rules m m2 k =
     let pass : Machine → Type 0 = λ x. LogKeeps m x in
     either_bool pass (nat_lt m2.sealed (length m2.entries)) (with_group rules (next_group rules m2) m2) m2
-        (record { lines = k.0.lines; held = k.0.held }, k.1, record { regions = k.2.regions; locks = k.2.locks; requests = k.2.requests }, record { entries = k.3.entries; past = k.3.past; now = k.3.now })
-        k
+    (record { lines = k.0.lines; held = k.0.held }, k.1, record { regions = k.2.regions; locks = k.2.locks; requests = k.2.requests }, record { entries = k.3.entries; past = k.3.past; now = k.3.now })
+    k
 
 same_log : (m : Machine) → LogKeeps m m
 same_log m = (record { lines = refl; held = refl }, refl, record { regions = refl; locks = refl; requests = refl }, record { entries = refl; past = refl; now = refl })
@@ -169,10 +169,10 @@ line_adds : (rules : Rules) (line : List ℕ) (m m2 : Machine) → m2.entries �
 line_adds rules line m m2 same =
     let pass : Machine → Type 0 = λ x. AddsEntries m x in
     either_bool pass (list_any (is_among m2.busy) (terminal_in (rules.terminal_of line))) _ _
-        (none_added same)
-        (either_option pass (rules.request_of line) (λ message. with_message rules message m2) (with_unknown rules line m2)
-            (λ message. none_added same)
-            (one_added (entry_here m2 outcome.Unknown line []) same refl))
+    (none_added same)
+    (either_option pass (rules.request_of line) (λ message. with_message rules message m2) (with_unknown rules line m2)
+    (λ message. none_added same)
+    (one_added (entry_here m2 outcome.Unknown line []) same refl))
 
 line_kept : (m : Machine) → (without_line m).entries ≡ m.entries
 line_kept m =

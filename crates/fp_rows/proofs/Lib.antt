@@ -1,1 +1,3 @@
 mod Runs
+mod Asks
+mod DepositTurns
