@@ -1,3 +1,4 @@
 pub mod Hex
+pub mod LogRows
 pub mod Sample
 pub mod States
