@@ -388,7 +388,19 @@ hire_script = tran (codes "HIRE") (
     ∷ reply (Variable (named (codes "A")) ∷ Text (codes "/ ") ∷ Status ∷ [])
     ∷ [])
 
--- all of them, in the order of the text
+-- a field call as DEPOSIT makes it, and then a reply
+abbrev pub fld_then_reply : List Operand → List Statement
+fld_then_reply operands = roll-Statement (Fld 0 (Word 1) (on_bal 43 (Word 2) ∷ [])) ∷ reply operands ∷ []
+
+-- a get on the accounts, one on the tellers, and then a statement
+abbrev pub two_gets : Statement → List Statement
+two_gets last =
+    roll-Statement (Get Unique true 0 (keyed 0 (Word 1) ∷ []))
+    ∷ roll-Statement (Get Unique true 1 (keyed 0 (Word 2) ∷ []))
+    ∷ last
+    ∷ []
+
+-- all scripts of the sample, in the order of the text
 abbrev pub sample_scripts : List Script
 sample_scripts =
     deposit_script ∷ wdraw_script ∷ ask_script ∷ setbal_script ∷ newcust_script ∷ note_script ∷ lend_script

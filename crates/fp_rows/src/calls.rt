@@ -1,7 +1,7 @@
 //! Rows of the calls: field search arguments, settling, and what the sample's scripts ask.
 #![tactic(auto, unfolding(fp_model::specs::Fsas::list_on, fp_model::specs::Fsas::first_failure, fp_model::specs::Settle::settle_from, fp_model::specs::Programs::ask, fp_model::specs::Spellings::be16))]
 
-ghost use Rattle.std.specs.Prelude.{◌≡◌, ℕ, List, [], ◌∷◌, ◌++◌, false, codes, Some, None};
+ghost use Rattle.std.specs.Prelude.{◌≡◌, ◌<◌, ℕ, List, [], ◌∷◌, ◌++◌, length, replicate, true, false, codes, Some, None};
 ghost use Rattle.fp_model.specs.declared.database.Msdb.{Msdb};
 ghost use Rattle.fp_model.specs.declared.calls.Call.TheVariants as call;
 ghost use Rattle.fp_model.specs.declared.calls.Deferred.TheVariants as deferred;
@@ -9,9 +9,18 @@ ghost use Rattle.fp_model.specs.declared.calls.Get.TheVariants.{Unique, Next, Ne
 ghost use Rattle.fp_model.specs.declared.calls.Resource.TheVariants.{Segment};
 ghost use Rattle.fp_model.specs.Fsas.{Fsa, Whole, Short, BadConnector, list_text, fsas_of, list_on};
 ghost use Rattle.fp_model.specs.Settle.{Stands, VerifyFails, settle, resources};
-ghost use Rattle.fp_model.specs.Programs.{Asks, Replies, Rolls, ask, cost, script_of};
+ghost use Rattle.fp_model.specs.declared.definitions.Defs.{Defs};
+ghost use Rattle.fp_model.specs.declared.calls.Message.{Message};
+ghost use Rattle.fp_model.specs.declared.calls.Answer.{Answer};
+ghost use Rattle.fp_model.specs.declared.calls.Call.{Call};
+ghost use Rattle.fp_model.specs.declared.scripts.Operand.TheVariants as op;
+ghost use Rattle.fp_model.specs.declared.scripts.Operation.TheVariants.{Add, Subtract, Multiply, Join};
+ghost use Rattle.fp_model.specs.declared.scripts.Comparison.TheVariants.{Equal, Less};
+ghost use Rattle.fp_model.specs.declared.scripts.Statement.{Statement, roll-Statement};
+ghost use Rattle.fp_model.specs.declared.scripts.Statement.TheOpen as stmt;
+ghost use Rattle.fp_model.specs.Programs.{Asks, Replies, Rolls, ask, cost, script_of, words, word_of, operated, compares, fitted};
 ghost use Rattle.fp_rows.specs.Hex.{hex, named};
-ghost use Rattle.fp_rows.specs.Sample.{accts, tellers, wide, sample_defs, sample_scripts, deposit_script, wdraw_script, ask_script, setbal_script, newcust_script, note_script, lend_script, showc_script, listc_script, hire_script, message, answered, showing, lettered, given, withdrawal, deposited};
+ghost use Rattle.fp_rows.specs.Sample.{accts, tellers, wide, sample_defs, sample_scripts, deposit_script, wdraw_script, ask_script, setbal_script, newcust_script, note_script, lend_script, showc_script, listc_script, hire_script, message, answered, showing, lettered, given, withdrawal, deposited, keyed, put, set, reply, fld_then_reply, two_gets};
 
 /// Two field search arguments, read from their bytes.
 pub fn a_list_is_read()
@@ -102,6 +111,32 @@ pub fn a_deposit_to_what_is_gone()
     ensures { settle (accts ∷ []) (record { segments = hex (codes "41303032 0000050c") ∷ [] } ∷ [])
         (deferred.Fld 0 (codes "A001") (list_text (deposited (codes "10"))) ∷ [])
         ≡ VerifyFails 0 65535 [] }
+{}
+
+/// 9 more than 9,999,990 and 9 more than that: the second meets 9,999,999 at the sync point, and its sum doesn't fit.
+pub fn a_deposit_overflows_at_the_sync_point()
+    ensures { settle (accts ∷ []) (record { segments = hex (codes "41303031 9999990c") ∷ [] } ∷ [])
+        (deferred.Fld 0 (codes "A001") (list_text (deposited (codes "9")))
+        ∷ deferred.Fld 0 (codes "A001") (list_text (deposited (codes "9")))
+        ∷ [])
+        ≡ VerifyFails 1 0 (hex (codes "9999999c")) }
+{}
+
+/// What is found is the field as the failing argument meets it, behind the changes before it; nothing where there is no such field.
+pub fn what_a_failing_argument_finds()
+    ensures behind { settle (accts ∷ []) (record { segments = hex (codes "41303031 0000100c") ∷ [] } ∷ [])
+        (deferred.Fld 0 (codes "A001") (list_text (given (codes "BAL") 43 (codes "10") ∷ given (codes "BAL") 69 (codes "100") ∷ [])) ∷ [])
+        ≡ VerifyFails 0 1 (hex (codes "0000110c")) }
+    ensures no_field { settle (accts ∷ []) (record { segments = hex (codes "41303031 0000100c") ∷ [] } ∷ [])
+        (deferred.Fld 0 (codes "A001") (list_text (given (codes "NOSUCH") 69 (codes "1") ∷ [])) ∷ [])
+        ≡ VerifyFails 0 0 [] }
+{}
+
+/// A delete takes the segment out, and an insert of another key goes behind it.
+pub fn a_delete_settles()
+    ensures { settle (accts ∷ tellers ∷ []) (record { segments = [] } ∷ record { segments = hex (codes "54303031 00000000") ∷ [] } ∷ [])
+        (deferred.Dlet 1 (codes "T001") ∷ deferred.Isrt 1 (hex (codes "54303033 00000000")) ∷ deferred.Isrt 1 (hex (codes "54303032 00000000")) ∷ [])
+        ≡ Stands (record { segments = [] } ∷ record { segments = hex (codes "54303032 00000000") ∷ hex (codes "54303033 00000000") ∷ [] } ∷ []) }
 {}
 
 /// A deposit, a value for another account, an insert in front, and a second deposit on what the first left.
@@ -248,4 +283,90 @@ pub fn what_scripts_cost()
     ensures straight { cost deposit_script.statements ≡ 5 }
     ensures loop_of_ten { cost showc_script.statements ≡ 57 }
     ensures loop_of_thirty { cost listc_script.statements ≡ 184 }
+{}
+
+/// A script that costs 10,000 asks at most 10,000 calls: before each of them it was answered fewer than it costs.
+pub fn calls_are_fewer_than_the_cost()
+    ensures { (defs : Defs) (statements : List Statement) (message : Message) (answers : List Answer) (asked : Call)
+        → cost statements < 1000000000
+        → ask defs statements message answers ≡ Asks asked
+        → length answers < cost statements }
+{}
+
+/// The words of a text: blanks and tabs part them, a missing one is empty, and the whole text is number 0.
+pub fn the_words_of_a_text()
+    ensures words { words (codes " AB  C" ++ 9 ∷ codes "D ") ≡ codes "AB" ∷ codes "C" ∷ codes "D" ∷ [] }
+    ensures second { word_of (codes "A001 10") 2 ≡ codes "10" }
+    ensures missing { word_of (codes "A001 10") 3 ≡ [] }
+    ensures whole { word_of (codes "A001 10") 0 ≡ codes "A001 10" }
+{}
+
+/// Numbers are written in canonical decimal, and have at most 31 digits.
+pub fn numbers_in_scripts()
+    ensures sum { operated Add (codes "0007") (codes "-10") ≡ Some (codes "-3") }
+    ensures zero { operated Subtract (codes "-0") (codes "0") ≡ Some (codes "0") }
+    ensures product { operated Multiply (codes "-4") (codes "3") ≡ Some (codes "-12") }
+    ensures no_number { operated Add (codes "") (codes "1") ≡ None }
+    ensures too_great { operated Add (codes "9999999999999999999999999999999") (codes "1") ≡ None }
+    ensures too_long { operated Add (codes "00000000000000000000000000000001") (codes "1") ≡ None }
+{}
+
+/// EQ and NE compare texts without their trailing blanks, the others numbers.
+pub fn comparisons_in_scripts()
+    ensures texts { compares Equal (codes "A  ") (codes "A") ≡ Some true }
+    ensures not_numbers { compares Equal (codes "07") (codes "7") ≡ Some false }
+    ensures numbers { compares Less (codes "-7") (codes "007") ≡ Some true }
+    ensures no_numbers { compares Less (codes "A") (codes "B") ≡ None }
+{}
+
+/// A text of 1,024 bytes is the longest.
+pub fn the_longest_text()
+    ensures fits { operated Join (replicate 1023 65) (codes "A") ≡ Some (replicate 1023 65 ++ codes "A") }
+    ensures too_long { operated Join (replicate 1024 65) (codes "A") ≡ None }
+{}
+
+/// A key is longer than its field also where only blanks make it so, and shorter ones are padded.
+pub fn keys_are_fitted()
+    ensures padded { fitted 4 (codes "A1") ≡ Some (codes "A1  ") }
+    ensures too_long { fitted 4 (codes "A001 ") ≡ None }
+    ensures sequential { ask sample_defs (roll-Statement (stmt.Get Unique false 2 (keyed 1 (op.Text (codes "N123456789")) ∷ [])) ∷ []) (message (codes "T1") (codes "X") []) []
+        ≡ Asks (call.Get Unique false 2 (record { segment = 1; key = Some (codes "N123456789") } ∷ [])) }
+{}
+
+/// STATUS and FSAS: nothing before any call; then the last call's status, and the last field call's letters with `-` for a blank.
+pub fn what_status_and_letters_show()
+    ensures before { ask sample_defs (reply (op.Status ∷ op.Fsas ∷ []) ∷ []) (message (codes "T1") (codes "X") []) [] ≡ Replies [] }
+    ensures behind { ask sample_defs (fld_then_reply (op.Status ∷ op.Fsas ∷ [])) (message (codes "T1") (codes "X") (codes "A001 10"))
+        (lettered (codes "FE") (codes "D ") ∷ [])
+        ≡ Replies (codes "FED-") }
+    ensures none { ask sample_defs (fld_then_reply (op.Status ∷ op.Fsas ∷ [])) (message (codes "T1") (codes "X") (codes "A001 10"))
+        (answered (codes "XP") ∷ [])
+        ≡ Replies (codes "XP") }
+{}
+
+/// A reply has at most 1,000 printable bytes, and a script without one replies nothing.
+pub fn replies_are_short_and_printable()
+    ensures longest { ask sample_defs (reply (op.Text (replicate 1000 65) ∷ []) ∷ []) (message (codes "T1") (codes "X") []) []
+        ≡ Replies (replicate 1000 65) }
+    ensures too_long { ask sample_defs (reply (op.Text (replicate 1000 65) ∷ op.Text (codes "A") ∷ []) ∷ []) (message (codes "T1") (codes "X") []) []
+        ≡ Rolls 99 }
+    ensures not_printable { ask sample_defs (reply (op.Text (127 ∷ []) ∷ []) ∷ []) (message (codes "T1") (codes "X") []) []
+        ≡ Rolls 99 }
+    ensures without { ask sample_defs (set (codes "A") (op.Text (codes "B")) ∷ []) (message (codes "T1") (codes "X") []) [] ≡ Replies [] }
+{}
+
+/// A get that finds nothing leaves what was shown; IO speaks of the last get that found, REPL of the last on its own database.
+pub fn what_was_shown_stays()
+    ensures field { ask sample_defs (two_gets (reply (op.Field (named (codes "BAL")) ∷ []))) (message (codes "T1") (codes "X") (codes "A001 T001"))
+        (showing 0 (hex (codes "41303031 0000110c")) ∷ answered (codes "GE") ∷ [])
+        ≡ Replies (codes "110") }
+    ensures other_database { ask sample_defs (two_gets (reply (op.Field (named (codes "BAL")) ∷ []))) (message (codes "T1") (codes "X") (codes "A001 T001"))
+        (showing 0 (hex (codes "41303031 0000110c")) ∷ showing 0 (hex (codes "54303031 00000000")) ∷ [])
+        ≡ Rolls 99 }
+    ensures own_database { ask sample_defs (two_gets (roll-Statement (stmt.Repl 0 (put (codes "BAL") (op.Text (codes "-5")) ∷ [])))) (message (codes "T1") (codes "X") (codes "A001 T001"))
+        (showing 0 (hex (codes "41303031 0000110c")) ∷ showing 0 (hex (codes "54303031 00000000")) ∷ [])
+        ≡ Asks (call.Repl 0 (hex (codes "41303031 0000005d"))) }
+    ensures no_such_field { ask sample_defs (two_gets (roll-Statement (stmt.Repl 0 (put (codes "CASH") (op.Text (codes "5")) ∷ [])))) (message (codes "T1") (codes "X") (codes "A001 T001"))
+        (showing 0 (hex (codes "41303031 0000110c")) ∷ showing 0 (hex (codes "54303031 00000000")) ∷ [])
+        ≡ Rolls 99 }
 {}
