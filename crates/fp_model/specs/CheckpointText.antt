@@ -6,7 +6,7 @@ use Rattle.std.specs.Cmp.Lexicographic.{slice_cmp}
 use Rattle.fp_model.specs.Spellings.{be16, be32, be64}
 use Rattle.fp_model.specs.declared.database.Msdb.{Msdb}
 use Rattle.fp_model.specs.declared.definitions.MsdbDef.{MsdbDef}
-use Rattle.fp_model.specs.declared.definitions.FieldDef.{FieldDef}
+use Rattle.fp_model.specs.State.{key_length}
 
 -- one database: the length of a segment, the number of segments, and the segments
 abbrev pub msdb_text : MsdbDef → Msdb → List ℕ
@@ -26,11 +26,6 @@ checkpoint_text defs number at count msdbs = 1 ∷ sealed_text defs number at co
 abbrev pub IsOpen : List ℕ → Type 0
 IsOpen bytes = slice_index bytes 0 ≡ 1
 
--- the length of the key, the first field
-abbrev pub first_length : List FieldDef → ℕ
-first_length [] = 0
-first_length (field ∷ fields) = field.length
-
 -- whether the keys of segments ascend, each having so many bytes
 abbrev pub is_ascending_by : ℕ → List (List ℕ) → Bool
 is_ascending_by key [] = true
@@ -40,7 +35,7 @@ is_ascending_by key (segment ∷ next ∷ more) = is_lt (slice_cmp nat_cmp (take
 -- a database as its definition has it: each segment has the defined length, and keys ascend
 pub record IsMsdbOf (def : MsdbDef) (msdb : Msdb) : Type 0 where
   pub lengths : AllByRecursion (λ segment. length segment ≡ def.length) msdb.segments
-  pub in_order : IsTrue (is_ascending_by (first_length def.fields) msdb.segments)
+  pub in_order : IsTrue (is_ascending_by (key_length def.fields) msdb.segments)
   pub few : length msdb.segments < 2 ^ 32
 
 -- what a checkpoint may hold: other numbers are damage

@@ -1,9 +1,10 @@
 -- Where the stored exits send a root key and a transaction.
-use Rattle.std.specs.Prelude.{ℕ, ◌+◌, ◌*◌, ◌%◌, ◌/◌, ◌^◌, List, fold, filter, sum_by, slice_index, ◌==◌, not}
+use Rattle.std.specs.Prelude.{ℕ, ◌+◌, ◌*◌, ◌%◌, ◌/◌, ◌^◌, List, fold, filter, slice_index, ◌==◌, not}
 use Rattle.fp_model.specs.declared.definitions.Kind.{Kind}
 use Rattle.fp_model.specs.declared.definitions.Kind.TheVariants.{Fold, Range}
 use Rattle.fp_model.specs.declared.definitions.DedbDef.{DedbDef}
 use Rattle.fp_model.specs.declared.name.Name.{Name}
+use Rattle.fp_model.specs.State.{anchor_count}
 
 -- the first four bytes as a number, zeros where the key is shorter
 abbrev pub first_four : List ℕ → ℕ
@@ -25,10 +26,6 @@ route kind n tran = spread kind n (letters_of tran)
 -- the balancing group of a transaction, of n groups numbered from 1
 abbrev pub group_of : Kind → ℕ → Name → ℕ
 group_of kind n tran = route kind n tran + 1
-
--- how many anchors a database has: one for each base interval of its areas
-abbrev pub anchor_count : DedbDef → ℕ
-anchor_count def = sum_by (λ area. area.uows * area.base) def.areas
 
 -- the anchor of a root key, counted from 0 within its database
 abbrev pub anchor_of : DedbDef → List ℕ → ℕ

@@ -1,11 +1,10 @@
 -- Databases: segments by key, anchors, areas, and the state before any transaction.
-use Rattle.std.specs.Prelude.{ℕ, ◌+◌, ◌*◌, ◌<◌, List, [], ◌∷◌, length, map, take, replicate, ◌++◌, sum_by, Bool, true, false, not, ◌&&◌, ◌==◌, nat_lt, nat_le, if◌then◌else◌, Option, Some, None, unwrap_or, find, filter, fold, slice_get, slice_set}
+use Rattle.std.specs.Prelude.{ℕ, zero, suc, ◌+◌, ◌*◌, List, [], ◌∷◌, map, take, replicate, ◌++◌, sum_by, Bool, not, ◌&&◌, ◌==◌, nat_lt, nat_le, if◌then◌else◌, Option, Some, None, unwrap_or, find, filter, fold, slice_get, slice_set}
 use Rattle.std.specs.Option.{option_map_or}
 use Rattle.std.specs.Ordering.{nat_cmp, is_lt}
 use Rattle.std.specs.Cmp.Lexicographic.{slice_cmp}
 use Rattle.fp_model.specs.declared.definitions.FieldDef.{FieldDef}
 use Rattle.fp_model.specs.declared.definitions.MsdbDef.{MsdbDef}
-use Rattle.fp_model.specs.declared.definitions.SegDef.{SegDef}
 use Rattle.fp_model.specs.declared.definitions.AreaDef.{AreaDef}
 use Rattle.fp_model.specs.declared.definitions.DedbDef.{DedbDef}
 use Rattle.fp_model.specs.declared.definitions.Defs.{Defs}
@@ -15,6 +14,11 @@ use Rattle.fp_model.specs.declared.database.Dedb.{Dedb}
 use Rattle.fp_model.specs.declared.database.Msdb.{Msdb}
 use Rattle.fp_model.specs.declared.database.Db.{Db}
 use Rattle.fp_model.specs.Texts.{same_text}
+
+-- so many numbers from one on
+abbrev pub numbers_up : ℕ → ℕ → List ℕ
+numbers_up zero from = []
+numbers_up (suc n) from = from ∷ numbers_up n (from + 1)
 
 -- the length of the first field
 abbrev pub key_length : List FieldDef → ℕ
@@ -29,6 +33,21 @@ key_of fields segment = take (key_length fields) segment
 abbrev pub is_below : List ℕ → List ℕ → Bool
 is_below a b = is_lt (slice_cmp nat_cmp a b)
 
+-- ---- lists in ascending order of keys
+
+-- with one more element, at the place that its key gives it
+abbrev pub put_by_key : {X : Type 0} → (X → List ℕ) → X → List X → List X
+put_by_key key x [] = x ∷ []
+put_by_key key x (y ∷ ys) = if is_below (key x) (key y) then x ∷ y ∷ ys else y ∷ put_by_key key x ys
+
+-- with the elements of a key changed
+abbrev pub change_key : {X : Type 0} → (X → List ℕ) → List ℕ → (X → X) → List X → List X
+change_key key k change xs = map (λ x. if same_text (key x) k then change x else x) xs
+
+-- without the elements of a key
+abbrev pub drop_key : {X : Type 0} → (X → List ℕ) → List ℕ → List X → List X
+drop_key key k xs = filter (λ x. not (same_text (key x) k)) xs
+
 -- ---- main storage databases
 
 -- the segment of a key
@@ -40,22 +59,13 @@ abbrev pub segment_after : MsdbDef → Msdb → Option (List ℕ) → Option (Li
 segment_after def msdb None = slice_get msdb.segments 0
 segment_after def msdb (Some key) = find (λ segment. is_below key (key_of def.fields segment)) msdb.segments
 
--- the segments without that of a key
-abbrev pub without_key : MsdbDef → List ℕ → List (List ℕ) → List (List ℕ)
-without_key def key segments = filter (λ segment. not (same_text (key_of def.fields segment) key)) segments
-
--- the segments with one more, at the place that its key gives it
-abbrev pub with_placed : MsdbDef → List ℕ → List (List ℕ) → List (List ℕ)
-with_placed def segment [] = segment ∷ []
-with_placed def segment (s ∷ ss) = if is_below (key_of def.fields segment) (key_of def.fields s) then segment ∷ s ∷ ss else s ∷ with_placed def segment ss
-
 -- with this segment in place of that of its key, or beside the others
 abbrev pub with_segment : MsdbDef → List ℕ → Msdb → Msdb
-with_segment def segment msdb = record { segments = with_placed def segment (without_key def (key_of def.fields segment) msdb.segments) }
+with_segment def segment msdb = record { segments = put_by_key (key_of def.fields) segment (drop_key (key_of def.fields) (key_of def.fields segment) msdb.segments) }
 
 -- without the segment of a key
 abbrev pub without_segment : MsdbDef → List ℕ → Msdb → Msdb
-without_segment def key msdb = record { segments = without_key def key msdb.segments }
+without_segment def key msdb = record { segments = drop_key (key_of def.fields) key msdb.segments }
 
 -- ---- data entry databases
 
@@ -107,7 +117,7 @@ with_roots dedb anchor roots db =
 
 -- the segments that the definitions load, by key
 abbrev pub loaded : MsdbDef → Msdb
-loaded def = record { segments = fold (λ segments segment. with_placed def segment segments) [] def.load }
+loaded def = record { segments = fold (λ segments segment. put_by_key (key_of def.fields) segment segments) [] def.load }
 
 -- no roots, and no sequential dependents
 abbrev pub formatted : DedbDef → Dedb

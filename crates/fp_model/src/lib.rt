@@ -9,6 +9,7 @@ mod calls;
 mod database;
 mod definitions;
 mod events;
+mod laws;
 mod log;
 mod name;
 mod scripts;
@@ -19,6 +20,9 @@ pub use calls::{
 pub use database::{AreaEnds, Db, Dedb, Msdb, Node, Root, SeqItem};
 pub use definitions::{AreaDef, DedbDef, Defs, FieldDef, FieldKind, Kind, MsdbDef, SegDef};
 pub use events::Event;
+pub use laws::{
+    a_front_is_a_history, a_turn_keeps, entries_determine_states, histories_join, notes_never_fall,
+};
 pub use fp_lists::{Bytes, List};
 pub use log::{Entry, Item, Outcome};
 pub use name::Name;

@@ -1,0 +1,168 @@
+-- The machine whose turns a schedule takes: lines, queues, terminals, entries, regions, locks.
+use Rattle.std.specs.Prelude.{ℕ, zero, suc, ◌+◌, ◌-◌, List, [], ◌∷◌, ◌++◌, length, map, filter, flat_map, replicate, take, drop, Bool, not, nat_lt, if◌then◌else◌, Option, Some, None, unwrap_or, slice_get, slice_set}
+use Rattle.std.specs.List.{list_any}
+use Rattle.std.specs.Option.{option_map_or}
+use Rattle.fp_model.specs.declared.name.Name.{Name}
+use Rattle.fp_model.specs.declared.database.Db.{Db}
+use Rattle.fp_model.specs.declared.calls.Message.{Message}
+use Rattle.fp_model.specs.declared.log.Entry.{Entry}
+use Rattle.fp_model.specs.declared.log.Item.{Item}
+use Rattle.fp_model.specs.declared.log.Outcome.{Outcome}
+use Rattle.fp_model.specs.declared.log.Outcome.TheVariants as outcome
+use Rattle.fp_model.specs.Texts.{same_text}
+use Rattle.fp_model.specs.Rules.{Rules}
+use Rattle.fp_model.specs.Serial.{Part}
+use Rattle.fp_model.specs.Waiting.{Lock, without_region}
+
+-- A transaction under way: how many entries stood as it began, its message, how far it has come, and its notes.
+pub record Transaction : Type 0 where
+  pub from : ℕ
+  pub message : Message
+  pub part : Part
+  pub notes : List ℕ
+
+pub data Region : Type 0 where
+  Idle : Region
+  Active : Transaction → Region
+
+pub record Machine : Type 0 where
+  -- message lines not read yet, and the one that waits for its terminal
+  pub lines : List (List ℕ)
+  pub held : Option (List ℕ)
+  -- messages by balancing group, oldest first, and the terminals that wait for a reply
+  pub queues : List (List Message)
+  pub busy : List Name
+  -- all entries, how many of them are sealed, the groups sealed in this run, and the bytes sent in it
+  pub entries : List Entry
+  pub sealed : ℕ
+  pub groups : List (List Entry)
+  pub sent : List ℕ
+  -- each region, its locks and the requests that stand
+  pub regions : List Region
+  pub locks : List Lock
+  pub requests : List Lock
+  -- the state after all entries, and those before it, oldest first
+  pub past : List Db
+  pub now : Db
+
+-- Nothing is queued, held, busy or active, and all entries are sealed.
+abbrev pub at_rest : Rules → List (List ℕ) → List Entry → List Db → Db → Machine
+at_rest rules lines entries past now = record {
+  lines = lines;
+  held = None;
+  queues = replicate rules.queues [];
+  busy = [];
+  entries = entries;
+  sealed = length entries;
+  groups = [];
+  sent = [];
+  regions = map (λ queue. Idle) rules.regions;
+  locks = [];
+  requests = [];
+  past = past;
+  now = now;
+}
+
+-- ---- terminals
+
+abbrev pub same_name : Name → Name → Bool
+same_name a b = same_text a.0 b.0
+
+abbrev pub is_among : List Name → Name → Bool
+is_among names name = list_any (same_name name) names
+
+abbrev pub terminal_in : Option Name → List Name
+terminal_in None = []
+terminal_in (Some name) = name ∷ []
+
+-- ---- entries
+
+-- with an entry, which makes the next state
+abbrev pub with_entry : Entry → Db → Machine → Machine
+with_entry e next m = record m { entries = m.entries ++ e ∷ []; past = m.past ++ m.now ∷ []; now = next }
+
+-- the entry of a transaction that ends
+abbrev pub entry_of : Transaction → Outcome → List ℕ → List ℕ → List Item → Entry
+entry_of t outcome reply notes items = record { from = t.from; outcome = outcome; line = t.message.line; reply = reply; notes = notes; items = items }
+
+-- region k stands at place k - 1
+abbrev pub region_at : Machine → ℕ → Option Region
+region_at m zero = None
+region_at m (suc place) = slice_get m.regions place
+
+abbrev pub with_region : ℕ → Region → Machine → Machine
+with_region zero r m = m
+with_region (suc place) r m = record m { regions = slice_set m.regions place r }
+
+-- The region's transaction ends: its locks and its request go, and the region is idle.
+abbrev pub ended_with : ℕ → Entry → Db → Machine → Machine
+ended_with region e next m =
+    with_entry e next (with_region region Idle (record m { locks = without_region region m.locks; requests = without_region region m.requests }))
+
+-- an entry that no region makes, at its own place
+abbrev pub entry_here : Machine → Outcome → List ℕ → List Item → Entry
+entry_here m outcome line items = record { from = length m.entries; outcome = outcome; line = line; reply = []; notes = []; items = items }
+
+-- ---- IN
+
+-- the line that is held, or the next
+abbrev pub next_line : Machine → Option (List ℕ)
+next_line m = unwrap_or (option_map_or (λ line. Some (Some line)) m.held None) (slice_get m.lines 0)
+
+-- without that line
+abbrev pub without_line : Machine → Machine
+without_line m = option_map_or (λ line. record m { held = None }) m.held (record m { lines = drop 1 m.lines })
+
+abbrev pub queued_at : ℕ → Message → List (List Message) → List (List Message)
+queued_at queue message queues = option_map_or (λ messages. slice_set queues queue (messages ++ message ∷ [])) (slice_get queues queue) queues
+
+-- the message is queued, and its terminal waits
+abbrev pub with_message : Rules → Message → Machine → Machine
+with_message rules message m = record m { queues = queued_at (rules.queue_of message) message m.queues; busy = m.busy ++ message.lterm ∷ [] }
+
+-- the line is answered Unknown, and its terminal waits, if it can be read
+abbrev pub with_unknown : Rules → List ℕ → Machine → Machine
+with_unknown rules line m =
+    with_entry (entry_here m outcome.Unknown line []) m.now (record m { busy = m.busy ++ terminal_in (rules.terminal_of line) })
+
+-- A line waits while its terminal does. Else it is queued, or answered Unknown where it asks for nothing.
+abbrev pub with_line : Rules → List ℕ → Machine → Machine
+with_line rules line m =
+    if list_any (is_among m.busy) (terminal_in (rules.terminal_of line)) then record m { held = Some line }
+    else option_map_or (λ message. with_message rules message m) (rules.request_of line) (with_unknown rules line m)
+
+-- the machine after IN
+abbrev pub taken_in : Rules → Machine → Machine
+taken_in rules m = option_map_or (λ line. with_line rules line (without_line m)) (next_line m) m
+
+-- ---- LOG and CKPT
+
+-- the oldest entries that aren't sealed, as many as a group takes
+abbrev pub next_group : Rules → Machine → List Entry
+next_group rules m = take rules.log_group (drop m.sealed m.entries)
+
+-- the terminals that are told of an entry
+abbrev pub told : Rules → List Entry → List Name
+told rules group = flat_map (λ e. terminal_in (rules.terminal_of e.line)) group
+
+-- the group is sealed, its lines are sent, and their terminals are free
+abbrev pub with_group : Rules → List Entry → Machine → Machine
+with_group rules group m = record m {
+  sealed = m.sealed + length group;
+  groups = m.groups ++ group ∷ [];
+  sent = m.sent ++ flat_map rules.line_of group;
+  busy = filter (λ name. not (is_among (told rules group) name)) m.busy;
+}
+
+-- the machine after LOG: nothing changes where every entry is sealed
+abbrev pub sealed_once : Rules → Machine → Machine
+sealed_once rules m = if nat_lt m.sealed (length m.entries) then with_group rules (next_group rules m) m else m
+
+-- so many times
+abbrev pub sealed_times : ℕ → Rules → Machine → Machine
+sealed_times zero rules m = m
+sealed_times (suc n) rules m = sealed_times n rules (sealed_once rules m)
+
+-- LOG again and again until every entry is sealed
+abbrev pub sealed_all : Rules → Machine → Machine
+sealed_all rules m = sealed_times (length m.entries - m.sealed) rules m
