@@ -13,7 +13,8 @@ use Rattle.fp_model.specs.Texts.{same_text, padded, number_in}
 use Rattle.fp_model.specs.Numbers.{number, bytes_of}
 use Rattle.fp_model.specs.Spellings.{long_text}
 
--- a field search argument: the field's name in 8 bytes, the letter that it was answered, the operation, and its operand as a text
+-- a field search argument: the field's name in 8 bytes, the letter that it was answered, the operation,
+-- and its operand as a text
 pub record Fsa : Type 0 where
   pub field : List ℕ
   pub status : ℕ
@@ -83,7 +84,8 @@ abbrev pub fsas_from : ℕ → ℕ → List ℕ → Reading
 fsas_from zero place bytes = Short place
 fsas_from (suc most) place bytes = elim (connector_in bytes) [
   | None ↦ Short place
-  | Some connector ↦ joined (place + 12 + operand_length bytes) connector (behind bytes) (fsa_in bytes) (fsas_from most (place + 13 + operand_length bytes) (behind bytes))
+  | Some connector ↦ joined (place + 12 + operand_length bytes) connector (behind bytes) (fsa_in bytes)
+      (fsas_from most (place + 13 + operand_length bytes) (behind bytes))
 ]
 
 -- what the bytes of a list read as; an FSA has more than one byte
@@ -144,14 +146,15 @@ verifies op order =
 
 -- whether an operand suits a field: at most its length, or a number
 abbrev pub suits : FieldDef → List ℕ → Bool
-suits field operand = if is_text field.kind then nat_le (length operand) field.length else not (is_none (number_in operand))
+suits field operand =
+    if is_text field.kind then nat_le (length operand) field.length else not (is_none (number_in operand))
 
 -- how a field compares with the operand: as bytes padded with blanks, or as numbers
 abbrev pub compared : FieldDef → List ℕ → List ℕ → Option Ordering
 compared field bytes operand =
     if is_text field.kind
     then Some (slice_cmp nat_cmp bytes (padded field.length operand))
-    else option_and_then (λ held. option_map (λ given. int_cmp held given) (number_in operand)) (number field.kind bytes)
+    else option_and_then (λ held. option_map (int_cmp held) (number_in operand)) (number field.kind bytes)
 
 -- a sum
 abbrev pub summed : ℕ → ℤ → ℤ → ℤ
@@ -193,14 +196,20 @@ letter_on field op operand bytes = first_letter (
 abbrev pub letter_of : MsdbDef → Fsa → List ℕ → ℕ
 letter_of def fsa segment =
     if is_verify fsa.op || is_change fsa.op
-    then option_map_or (λ field. letter_on field fsa.op fsa.operand (field_bytes field segment)) (field_of def.fields fsa.field) 72
+    then option_map_or (λ field. letter_on field fsa.op fsa.operand (field_bytes field segment))
+    (field_of def.fields fsa.field) 72
     else 65
+
+-- the segment with a change made in a field; one that doesn't fit leaves it
+abbrev pub with_change : FieldDef → ℕ → List ℕ → List ℕ → List ℕ
+with_change field op operand segment =
+    option_map_or (λ bytes. with_field field bytes segment) (changed field op (field_bytes field segment) operand) segment
 
 -- the segment with an FSA's change made; a verify leaves it
 abbrev pub changed_by : MsdbDef → Fsa → List ℕ → List ℕ
 changed_by def fsa segment =
     if is_change fsa.op
-    then option_map_or (λ field. option_map_or (λ bytes. with_field field bytes segment) (changed field fsa.op (field_bytes field segment) fsa.operand) segment) (field_of def.fields fsa.field) segment
+    then option_map_or (λ field. with_change field fsa.op fsa.operand segment) (field_of def.fields fsa.field) segment
     else segment
 
 -- an FSA's letter, and the segment behind it

@@ -125,15 +125,18 @@ fitted_key layout text = if layout.has_key then fitted (key_length layout.fields
 
 -- a text as the bytes of a field; None where it doesn't fit
 abbrev pub value_bytes : FieldDef → List ℕ → Option (List ℕ)
-value_bytes field text = if is_text field.kind then fitted field.length text else number_in text >>= bytes_of field.kind field.length
+value_bytes field text =
+    if is_text field.kind then fitted field.length text else number_in text >>= bytes_of field.kind field.length
 
 -- the bytes of a field as a text; None where they are no number
 abbrev pub value_text : FieldDef → List ℕ → Option (List ℕ)
-value_text field bytes = if is_text field.kind then Some (trimmed bytes) else option_map decimal_text (number field.kind bytes)
+value_text field bytes =
+    if is_text field.kind then Some (trimmed bytes) else option_map decimal_text (number field.kind bytes)
 
 -- a field before a value is put there: blanks, or zero
 abbrev pub empty_field : FieldDef → Option (List ℕ)
-empty_field field = if is_text field.kind then Some (padded field.length []) else bytes_of field.kind field.length (pos 0)
+empty_field field =
+    if is_text field.kind then Some (padded field.length []) else bytes_of field.kind field.length (pos 0)
 
 -- a segment before values are put there
 abbrev pub empty_segment : List FieldDef → Option (List ℕ)
@@ -156,8 +159,8 @@ pub record Shown : Type 0 where
   pub type_number : ℕ
   pub bytes : List ℕ
 
--- the variables, the last call's status, the last field call's letters, the segments shown, and the answers not given yet;
--- what is newer stands in front
+-- the variables, the last call's status, the last field call's letters, the segments shown, and the answers
+-- not given yet; what is newer stands in front, but the answers come in the order of the calls
 pub record Env : Type 0 where
   pub settings : List Setting
   pub status : List ℕ
@@ -244,6 +247,10 @@ called asked env = elim env.answers [
   | answer ∷ answers ↦ Goes (learned asked answer (record env { status = answer.status; answers = answers }))
 ]
 
+-- an SSA of a segment type with a key
+abbrev pub qualified : ℕ → List ℕ → Ssa
+qualified type_number key = record { segment = type_number; key = Some key }
+
 module _ (defs : Defs) (message : Message) where
   -- `IO.f`: a field of the segment that the last successful get showed
   abbrev pub shown_field : List ℕ → Env → Option (List ℕ)
@@ -302,7 +309,7 @@ module _ (defs : Defs) (message : Message) where
   abbrev pub ssa_of : Env → ℕ → SsaText → Option Ssa
   ssa_of env db ssa = elim ssa.key [
     | None ↦ Some (record { segment = ssa.segment; key = None })
-    | Some operand ↦ option_map (λ key. let qualified : Ssa = record { segment = ssa.segment; key = Some key } in qualified) (key_text env db ssa.segment operand)
+    | Some operand ↦ option_map (qualified ssa.segment) (key_text env db ssa.segment operand)
   ]
 
   abbrev pub ssas_of : Env → ℕ → List SsaText → Option (List Ssa)
@@ -364,14 +371,16 @@ module _ (defs : Defs) (message : Message) where
 
   -- one statement, with runs in place of the statements in it
   abbrev pub run_step : Statement-F (Env → Way) → Env → Way
-  run_step (Set variable first rest) env = or_rolls (set_text env first rest) (λ text. Goes (with_setting variable.0 text env))
+  run_step (Set variable first rest) env =
+      or_rolls (set_text env first rest) (λ text. Goes (with_setting variable.0 text env))
   run_step (If left comparison right taken otherwise) env =
       or_rolls (chosen env left comparison right) (λ holds. (if holds then in_order taken else in_order otherwise) env)
   run_step (Repeat n body) env = times n (in_order body) env
   run_step Break env = Leaves env
   run_step (Reply operands) env = or_rolls (reply_text env operands) (λ text. Ends (Replies text))
   run_step (Roll code) env = Ends (Rolls code)
-  run_step (Get get hold db ssas) env = or_rolls (get_call env (call.Get get hold db) db ssas) (λ asked. called asked env)
+  run_step (Get get hold db ssas) env =
+      or_rolls (get_call env (call.Get get hold db) db ssas) (λ asked. called asked env)
   run_step (Fld db key fsas) env = or_rolls (fld_call env db key fsas) (λ asked. called asked env)
   run_step (Isrt db ssas fields) env = or_rolls (isrt_call env db ssas fields) (λ asked. called asked env)
   run_step (Repl db fields) env = or_rolls (repl_call env db fields) (λ asked. called asked env)

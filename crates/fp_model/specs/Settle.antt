@@ -19,26 +19,33 @@ pub data Applied : Type 0 where
   Stays : List Msdb → Applied
   Fails : ℕ → List ℕ → Applied
 
+-- the failure where the segment is absent: the FSA 65,535, and nothing found
+abbrev pub absent : Option Failure
+absent = Some (record { place = 65535; found = [] })
+
 module _ (defs : List MsdbDef) where
   -- the databases with one of them changed
   abbrev pub with_msdb : ℕ → (MsdbDef → Msdb → Msdb) → List Msdb → List Msdb
   with_msdb number change msdbs = elim (slice_get defs number) [
     | None ↦ msdbs
-    | Some def ↦ elim (slice_get msdbs number) [ None ↦ msdbs | Some msdb ↦ slice_set msdbs number (change def msdb) ]
+    | Some def ↦ elim (slice_get msdbs number) [
+      | None ↦ msdbs
+      | Some msdb ↦ slice_set msdbs number (change def msdb)
+    ]
   ]
 
-  -- a field call on the segment of a key; where it is absent, the FSA 65,535 fails and nothing is found
+  -- how a field call fails on the segment of a key
   abbrev pub fld_on : MsdbDef → Msdb → List ℕ → List ℕ → Option Failure
   fld_on def msdb key fsas = elim (segment_of def msdb key) [
-    | None ↦ Some (record { place = 65535; found = [] })
+    | None ↦ absent
     | Some segment ↦ first_failure def 0 (fsas_in fsas) segment
   ]
 
   -- that failure in the databases as settled so far
   abbrev pub fld_failure : ℕ → List ℕ → List ℕ → List Msdb → Option Failure
   fld_failure number key fsas msdbs = elim (slice_get defs number) [
-    | None ↦ Some (record { place = 65535; found = [] })
-    | Some def ↦ elim (slice_get msdbs number) [ None ↦ Some (record { place = 65535; found = [] }) | Some msdb ↦ fld_on def msdb key fsas ]
+    | None ↦ absent
+    | Some def ↦ elim (slice_get msdbs number) [ None ↦ absent | Some msdb ↦ fld_on def msdb key fsas ]
   ]
 
   -- the database with the changes of a field call made
@@ -83,7 +90,9 @@ comes_before (Anchor d a) (Anchor e b) = nat_lt d e || d == e && nat_lt a b
 abbrev pub with_resource : Resource → List Resource → List Resource
 with_resource r [] = r ∷ []
 with_resource r (s ∷ others) =
-    if comes_before r s then r ∷ s ∷ others else (if comes_before s r then s ∷ with_resource r others else s ∷ others)
+    if comes_before r s
+    then r ∷ s ∷ others
+    else (if comes_before s r then s ∷ with_resource r others else s ∷ others)
 
 -- the segments of the queued field calls, ascending and each once
 abbrev pub resources : List Deferred → List Resource

@@ -9,7 +9,7 @@ use Rattle.fp_model.specs.Spellings.{be16}
 use Rattle.fp_model.specs.Programs.{Asks, Replies, ask, cost, cost_step}
 use Rattle.fp_rows.specs.Hex.{hex}
 use Rattle.fp_rows.specs.Sample.{sample_defs, deposit_script, wdraw_script, ask_script, message, lettered, showing}
-use Rattle.fp_rows.proofs.Runs.{run-roll}
+use Rattle.fp_model.proofs.ProgramLemmas.{run-roll}
 
 pub deposit_asks : ask sample_defs deposit_script.statements (message (codes "T1") (codes "DEPOSIT") (codes "A001 10")) [] ≡ Asks (call.Fld 0 (codes "A001") (hex (codes "42414c2020202020 20 2b 0002 3130 20")))
 unfolding ask be16 digits

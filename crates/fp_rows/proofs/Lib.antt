@@ -1,3 +1,2 @@
-mod Runs
 mod Asks
 mod DepositTurns

@@ -1,5 +1,5 @@
 -- The sample: its definitions and scripts, as texts and as values, and entries of the rows.
-use Rattle.std.specs.Prelude.{ℕ, List, [], ◌∷◌, ◌++◌, flat_map, true, false, codes, Some, None}
+use Rattle.std.specs.Prelude.{ℕ, List, [], ◌∷◌, ◌++◌, map, flat_map, true, false, codes, Some, None}
 use Rattle.fp_rows.specs.Hex.{hex, named, line_text}
 use Rattle.fp_model.specs.declared.definitions.Kind.TheVariants.{Fold}
 use Rattle.fp_model.specs.declared.definitions.FieldKind.TheVariants.{C, F, P}
@@ -10,6 +10,9 @@ use Rattle.fp_model.specs.declared.definitions.Defs.{Defs}
 use Rattle.fp_model.specs.declared.calls.Get.TheVariants.{Unique, Next, NextInParent}
 use Rattle.fp_model.specs.declared.calls.Message.{Message}
 use Rattle.fp_model.specs.declared.calls.Answer.{Answer}
+use Rattle.fp_model.specs.declared.calls.Ssa.{Ssa}
+use Rattle.fp_model.specs.declared.calls.Deferred.{Deferred}
+use Rattle.fp_model.specs.declared.calls.Deferred.TheVariants as deferred
 use Rattle.fp_model.specs.declared.scripts.Operand.{Operand}
 use Rattle.fp_model.specs.declared.scripts.Operand.TheVariants.{Text, Word, Field, Status, Variable}
 use Rattle.fp_model.specs.declared.scripts.Operation.TheVariants.{Join}
@@ -20,8 +23,9 @@ use Rattle.fp_model.specs.declared.scripts.FieldText.{FieldText}
 use Rattle.fp_model.specs.declared.scripts.Statement.{Statement, roll-Statement}
 use Rattle.fp_model.specs.declared.scripts.Statement.TheOpen.{Set, If, Repeat, Break, Reply, Roll, Get, Fld, Isrt, Repl}
 use Rattle.fp_model.specs.declared.scripts.Script.{Script}
-use Rattle.fp_model.specs.Texts.{padded}
-use Rattle.fp_model.specs.Fsas.{Fsa}
+use Rattle.fp_model.specs.Texts.{padded, trimmed}
+use Rattle.fp_model.specs.Fsas.{Fsa, list_text}
+use Rattle.fp_model.specs.Programs.{Ask, ask}
 use Rattle.fp_model.specs.declared.database.Msdb.{Msdb}
 use Rattle.fp_model.specs.declared.log.Entry.{Entry}
 use Rattle.fp_model.specs.declared.log.Item.TheVariants.{Segment}
@@ -32,7 +36,10 @@ abbrev pub accts : MsdbDef
 accts = record {
   name = named (codes "ACCTS");
   dynamic = false;
-  fields = record { name = named (codes "ACCT"); kind = C; at = 0; length = 4 } ∷ record { name = named (codes "BAL"); kind = P; at = 4; length = 4 } ∷ [];
+  fields =
+      record { name = named (codes "ACCT"); kind = C; at = 0; length = 4 }
+      ∷ record { name = named (codes "BAL"); kind = P; at = 4; length = 4 }
+      ∷ [];
   length = 8;
   load = hex (codes "41303031 0000100c") ∷ hex (codes "41303032 0000050c") ∷ [];
 }
@@ -42,7 +49,10 @@ abbrev pub tellers : MsdbDef
 tellers = record {
   name = named (codes "TELLERS");
   dynamic = true;
-  fields = record { name = named (codes "TNO"); kind = C; at = 0; length = 4 } ∷ record { name = named (codes "CASH"); kind = F; at = 4; length = 4 } ∷ [];
+  fields =
+      record { name = named (codes "TNO"); kind = C; at = 0; length = 4 }
+      ∷ record { name = named (codes "CASH"); kind = F; at = 4; length = 4 }
+      ∷ [];
   length = 8;
   load = hex (codes "54303031 00000000") ∷ [];
 }
@@ -68,7 +78,14 @@ deposit = record {
 
 -- the entry of a deposit to an account that isn't there
 abbrev pub refusal : Entry
-refusal = record { from = 0; outcome = Roll 1; line = codes "T1 DEPOSIT A009 10"; reply = []; notes = 0 ∷ []; items = [] }
+refusal = record {
+  from = 0;
+  outcome = Roll 1;
+  line = codes "T1 DEPOSIT A009 10";
+  reply = [];
+  notes = 0 ∷ [];
+  items = [];
+}
 
 -- the first entry, of a line that is no message or names no script
 abbrev pub unknown : List ℕ → Entry
@@ -126,7 +143,10 @@ customer = record {
   name = named (codes "CUSTOMER");
   parent = None;
   sequential = false;
-  fields = record { name = named (codes "CNO"); kind = C; at = 0; length = 4 } ∷ record { name = named (codes "NAME"); kind = C; at = 4; length = 12 } ∷ [];
+  fields =
+      record { name = named (codes "CNO"); kind = C; at = 0; length = 4 }
+      ∷ record { name = named (codes "NAME"); kind = C; at = 4; length = 12 }
+      ∷ [];
   length = 16;
 }
 
@@ -144,7 +164,10 @@ loan = record {
   name = named (codes "LOAN");
   parent = Some 0;
   sequential = false;
-  fields = record { name = named (codes "LNO"); kind = C; at = 0; length = 2 } ∷ record { name = named (codes "DUE"); kind = P; at = 2; length = 4 } ∷ [];
+  fields =
+      record { name = named (codes "LNO"); kind = C; at = 0; length = 2 }
+      ∷ record { name = named (codes "DUE"); kind = P; at = 2; length = 4 }
+      ∷ [];
   length = 6;
 }
 
@@ -155,7 +178,10 @@ cust = record {
   randomizer = Fold;
   ci = 512;
   segments = customer ∷ audit ∷ loan ∷ [];
-  areas = record { name = named (codes "AREA1"); uows = 2; base = 2; overflow = 1; capacity = 4 } ∷ record { name = named (codes "AREA2"); uows = 2; base = 2; overflow = 1; capacity = 4 } ∷ [];
+  areas =
+      record { name = named (codes "AREA1"); uows = 2; base = 2; overflow = 1; capacity = 4 }
+      ∷ record { name = named (codes "AREA2"); uows = 2; base = 2; overflow = 1; capacity = 4 }
+      ∷ [];
 }
 
 -- all of them; the databases are ACCTS 0, TELLERS 1 and CUST 2
@@ -335,7 +361,8 @@ note_script = tran (codes "NOTE") (
 
 abbrev pub lend_script : Script
 lend_script = tran (codes "LEND") (
-    roll-Statement (Isrt 2 (keyed 0 (Word 1) ∷ plain 2 ∷ []) (put (codes "LNO") (Word 2) ∷ put (codes "DUE") (Word 3) ∷ []))
+    roll-Statement (Isrt 2 (keyed 0 (Word 1) ∷ plain 2 ∷ [])
+    (put (codes "LNO") (Word 2) ∷ put (codes "DUE") (Word 3) ∷ []))
     ∷ reply (Text (codes "LENT") ∷ Status ∷ [])
     ∷ [])
 
@@ -388,7 +415,19 @@ hire_script = tran (codes "HIRE") (
     ∷ reply (Variable (named (codes "A")) ∷ Text (codes "/ ") ∷ Status ∷ [])
     ∷ [])
 
--- all of them, in the order of the text
+-- a field call as DEPOSIT makes it, and then a reply
+abbrev pub fld_then_reply : List Operand → List Statement
+fld_then_reply operands = roll-Statement (Fld 0 (Word 1) (on_bal 43 (Word 2) ∷ [])) ∷ reply operands ∷ []
+
+-- a get on the accounts, one on the tellers, and then a statement
+abbrev pub two_gets : Statement → List Statement
+two_gets last =
+    roll-Statement (Get Unique true 0 (keyed 0 (Word 1) ∷ []))
+    ∷ roll-Statement (Get Unique true 1 (keyed 0 (Word 2) ∷ []))
+    ∷ last
+    ∷ []
+
+-- all scripts of the sample, in the order of the text
 abbrev pub sample_scripts : List Script
 sample_scripts =
     deposit_script ∷ wdraw_script ∷ ask_script ∷ setbal_script ∷ newcust_script ∷ note_script ∷ lend_script
@@ -401,14 +440,30 @@ abbrev pub behind_blank : List ℕ → List ℕ
 behind_blank [] = []
 behind_blank (b ∷ bs) = 32 ∷ b ∷ bs
 
--- a message of a terminal that asks for a transaction with a text
-abbrev pub message : List ℕ → List ℕ → List ℕ → Message
-message letters asked text = record {
-  lterm = named letters;
-  tran = named asked;
+-- a message of the terminal T1 that asks for a script with a text
+abbrev pub message_for : Script → List ℕ → Message
+message_for script text = record {
+  lterm = named (codes "T1");
+  tran = script.name;
   text = text;
-  line = letters ++ 32 ∷ (asked ++ behind_blank text);
+  line = codes "T1 " ++ trimmed script.name.0 ++ behind_blank text;
 }
+
+-- what a script asks for a text, behind these answers
+abbrev pub asked : Script → List ℕ → List Answer → Ask
+asked script text answers = ask sample_defs script.statements (message_for script text) answers
+
+-- the same of statements that are no script of the sample
+abbrev pub asked_by : List Statement → List ℕ → List Answer → Ask
+asked_by statements text answers = asked (tran (codes "X") statements) text answers
+
+-- an SSA without a key
+abbrev pub unqualified : ℕ → Ssa
+unqualified segment = record { segment = segment; key = None }
+
+-- a database with these segments
+abbrev pub held : List (List ℕ) → Msdb
+held texts = record { segments = map hex texts }
 
 -- an answer with this status alone
 abbrev pub answered : List ℕ → Answer
@@ -434,12 +489,19 @@ withdrawal n = given (codes "BAL") 72 n ∷ given (codes "BAL") 45 n ∷ []
 abbrev pub deposited : List ℕ → List Fsa
 deposited n = given (codes "BAL") 43 n ∷ []
 
+-- a field call on an account that waits for the sync point
+abbrev pub queued : List ℕ → List Fsa → Deferred
+queued key fsas = deferred.Fld 0 key (list_text fsas)
+
 -- a database with a field of 31 digits behind its key
 abbrev pub wide : MsdbDef
 wide = record {
   name = named (codes "WIDE");
   dynamic = false;
-  fields = record { name = named (codes "ACCT"); kind = C; at = 0; length = 4 } ∷ record { name = named (codes "SUM"); kind = P; at = 4; length = 16 } ∷ [];
+  fields =
+      record { name = named (codes "ACCT"); kind = C; at = 0; length = 4 }
+      ∷ record { name = named (codes "SUM"); kind = P; at = 4; length = 16 }
+      ∷ [];
   length = 20;
   load = [];
 }
