@@ -28,7 +28,7 @@ abbrev taken : Machine
 taken = taken_in sample_rules at_rest_with_a_deposit
 
 abbrev transaction : Transaction
-transaction = transaction_of sample_rules at_rest_with_a_deposit (sample.message (codes "T1") (codes "DEPOSIT") (codes "A001 10"))
+transaction = transaction_of sample_rules at_rest_with_a_deposit (sample.message_for sample.deposit_script (codes "A001 10"))
 
 abbrev begun_by_one : Machine
 begun_by_one = begins_in sample_rules taken 1 (messages_for sample_rules taken 1)

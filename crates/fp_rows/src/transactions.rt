@@ -64,21 +64,21 @@ pub fn a_purge_makes_room()
 
 /// A deposit alone, from the start: its look shows 100, and the state after it has 110.
 pub fn a_deposit_alone()
-    ensures { serial_run sample_rules at_start (at_start ∷ []) (sample.message (codes "T1") (codes "DEPOSIT") (codes "A001 10")) (0 ∷ [])
+    ensures { serial_run sample_rules at_start (at_start ∷ []) (sample.message_for sample.deposit_script (codes "A001 10")) (0 ∷ [])
         ≡ Done (with_balance (codes "0000110c")) (codes "NEW") }
 {}
 
 /// A withdrawal of 60 that saw 100 as it was called, and comes to its sync point where 40 is left.
 pub fn a_withdrawal_alone_fails_its_verify()
-    ensures { serial_run sample_rules (with_balance (codes "0000040c")) (at_start ∷ with_balance (codes "0000040c") ∷ []) (sample.message (codes "T2") (codes "WDRAW") (codes "A001 60")) (0 ∷ [])
+    ensures { serial_run sample_rules (with_balance (codes "0000040c")) (at_start ∷ with_balance (codes "0000040c") ∷ []) (sample.message_for sample.wdraw_script (codes "A001 60")) (0 ∷ [])
         ≡ VerifyFailed 0 0 (hex (codes "0000040c")) }
 {}
 
 /// What asking shows is the state of its note, and not that of its place.
 pub fn asking_shows_what_it_noted()
-    ensures noted_one { serial_run sample_rules (with_balance (codes "0000130c")) (at_start ∷ with_balance (codes "0000110c") ∷ with_balance (codes "0000130c") ∷ []) (sample.message (codes "T2") (codes "ASK") (codes "A001")) (1 ∷ [])
+    ensures noted_one { serial_run sample_rules (with_balance (codes "0000130c")) (at_start ∷ with_balance (codes "0000110c") ∷ with_balance (codes "0000130c") ∷ []) (sample.message_for sample.ask_script (codes "A001")) (1 ∷ [])
         ≡ Done (with_balance (codes "0000130c")) (codes "110") }
-    ensures noted_two { serial_run sample_rules (with_balance (codes "0000130c")) (at_start ∷ with_balance (codes "0000110c") ∷ with_balance (codes "0000130c") ∷ []) (sample.message (codes "T2") (codes "ASK") (codes "A001")) (2 ∷ [])
+    ensures noted_two { serial_run sample_rules (with_balance (codes "0000130c")) (at_start ∷ with_balance (codes "0000110c") ∷ with_balance (codes "0000130c") ∷ []) (sample.message_for sample.ask_script (codes "A001")) (2 ∷ [])
         ≡ Done (with_balance (codes "0000130c")) (codes "130") }
 {}
 
