@@ -1,7 +1,7 @@
 -- What each turn leaves as it is.
 use Rattle.std.proofs.Common.{◌≡◌, ℕ, zero, suc, ◌-◌, List, [], ◌∷◌, ◌++◌, length, Bool, true, false, Option, Some, None, refl, sym, ap, ◌∙◌, subst}
 use Rattle.std.proofs.lemmas.List.{append-nil}
-use Rattle.std.specs.Prelude.{if◌then◌else◌, slice_get, slice_set, nat_lt, drop}
+use Rattle.std.specs.Prelude.{if◌then◌else◌, nat_lt, drop}
 use Rattle.std.specs.List.{list_any}
 use Rattle.std.specs.Option.{option_map_or}
 use Rattle.fp_model.specs.declared.database.Db.{Db}
@@ -12,8 +12,8 @@ use Rattle.fp_model.specs.declared.log.Entry.{Entry}
 use Rattle.fp_model.specs.declared.log.Outcome.TheVariants as outcome
 use Rattle.fp_model.specs.Rules.{Rules}
 use Rattle.fp_model.specs.Waiting.{without_region}
-use Rattle.fp_model.specs.Machine.{Transaction, Region, Idle, Active, Machine, region_at, with_region, with_entry, entry_of, entry_here, ended_with, next_line, without_line, with_message, with_unknown, with_line, taken_in, is_among, terminal_in, next_group, with_group, sealed_once, sealed_times, sealed_all}
-use Rattle.fp_model.specs.Turns.{Environment, NoFault, DeviceFault, OutOfMemory, Act, Answers, Gains, Waits, Closes, Commits_with, Fails_verify, Fills_part, Rolls_back, Does, RegionTurn, PurgeTurn, Turn, is_area_held, begins_in, messages_for, with_answer}
+use Rattle.fp_model.specs.Machine.{Transaction, Region, Idle, Active, Machine, region_at, with_region, entry_here, ended_with, next_line, without_line, with_message, with_unknown, with_line, taken_in, is_among, terminal_in, next_group, with_group, sealed_once, sealed_times}
+use Rattle.fp_model.specs.Turns.{Environment, NoFault, DeviceFault, OutOfMemory, Act, Answers, Gains, Waits, Closes, Commits_with, Fails_verify, Fills_part, Rolls_back, Does, RegionTurn, PurgeTurn, Turn, is_area_held, begins_in, messages_for}
 use Rattle.fp_model.specs.Frames.{KeepsLines, KeepsSealed, KeepsRegions, KeepsEntries, Keeps, AddsEntries}
 
 -- ---- choices

@@ -8,7 +8,7 @@ use Rattle.fp_model.specs.declared.log.Outcome.TheVariants as outcome
 use Rattle.fp_model.specs.Entries.{SuitsOutcome}
 use Rattle.fp_model.specs.Rules.{Rules}
 use Rattle.fp_model.specs.Serial.{Ended, Done, serial_run}
-use Rattle.fp_model.specs.History.{NeverFalls, EndsAlone, WasRefused, Leads, Comes, History}
+use Rattle.fp_model.specs.History.{NeverFalls, EndsAlone, Leads, Comes, History}
 
 module _ (rules : Rules) where
   -- a history in two parts

@@ -9,13 +9,13 @@ use Rattle.fp_model.specs.declared.definitions.Defs.{Defs}
 use Rattle.fp_model.specs.declared.scripts.Statement.{Statement, roll-Statement, map-Statement}
 use Rattle.fp_model.specs.declared.scripts.Statement.TheOpen.{Statement-F, Set, If, Repeat, Break, Reply, Roll, Get, Fld, Isrt, Repl, Dlet}
 use Rattle.fp_model.specs.declared.scripts.Statement.TheFolds.{fold-roll-Statement, ind-Statement}
-use Rattle.fp_model.specs.Programs.{Env, Way, Goes, Leaves, Ends, Ask, Asks, Replies, Rolls, or_rolls, goes_on, in_order, loops_on, times, called, learned, run, run_step, ended, ask, begun, with_setting, set_text, chosen, reply_text, get_call, fld_call, isrt_call, repl_call, cost_step, statement_cost, cost}
+use Rattle.fp_model.specs.Programs.{Env, Way, Goes, Leaves, Ends, Ask, Asks, Replies, Rolls, or_rolls, goes_on, in_order, loops_on, times, called, learned, run, run_step, ended, ask, at_top, with_setting, set_text, chosen, reply_text, get_call, fld_call, isrt_call, repl_call, cost_step, statement_cost, full_cost}
 
 -- a statement's run, as one step over the runs of the statements in it
 pub run_roll : (defs : Defs) (message : Message) (d : Statement-F Statement) (env : Env) → run defs message (roll-Statement d) env ≡ run_step defs message (map-Statement Statement (Env → Way) (run defs message) d) env
 run_roll defs message d env = ap (λ (part : Env → Way). part env) (fold-roll-Statement (Env → Way) (run_step defs message) d)
 
--- a statement's cost, by those of the statements in it
+-- a statement's full_cost, by those of the statements in it
 pub statement_cost_roll : (d : Statement-F Statement) → statement_cost (roll-Statement d) ≡ cost_step (map-Statement Statement ℕ statement_cost d)
 statement_cost_roll d = fold-roll-Statement ℕ cost_step d
 
@@ -168,9 +168,9 @@ asked-below k n (Goes env) asked is e = absurd (subst IsEnd is tt)
 asked-below k n (Leaves env) asked is e = absurd (subst IsEnd is tt)
 asked-below k n (Ends end) asked is e = subst (EndsWithin k n) is e
 
--- A script that costs less than the number at which costs are cut asks fewer calls than it costs.
-pub calls_below_cost : (defs : Defs) (statements : List Statement) (message : Message) (answers : List Answer) (asked : Call) → cost statements < 1000000000 → ask defs statements message answers ≡ Asks asked → length answers < cost statements
+-- A script that asks a call was answered fewer than it costs.
+pub calls_below_cost : (defs : Defs) (statements : List Statement) (message : Message) (answers : List Answer) (asked : Call) → ask defs statements message answers ≡ Asks asked → length answers < full_cost statements
 unfolding ask
-calls_below_cost defs statements message answers asked cheap is =
-    let below = asked-below _ _ (in_order (map (run defs message) statements) (begun answers)) asked is (script-within defs message statements (begun answers)) in
+calls_below_cost defs statements message answers asked is =
+    let below = asked-below _ _ (in_order (map (run defs message) statements) (at_top answers)) asked is (script-within defs message statements (at_top answers)) in
     omega arith

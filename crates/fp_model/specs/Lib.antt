@@ -31,3 +31,5 @@ pub mod Frames
 pub mod Product
 pub mod Recovery
 pub mod Pending
+pub mod WellFormed
+pub mod Shape

@@ -1,5 +1,5 @@
 -- The rules of this system: what definitions and scripts make of lines, programs, calls and the sync point.
-use Rattle.std.specs.Prelude.{ℕ, ◌-◌, List, [], map, fold, max, Bool, false, is_some, if◌then◌else◌, Option, Some, None, Result, Ok, Err}
+use Rattle.std.specs.Prelude.{ℕ, List, [], fold, max, Bool, false, is_some, if◌then◌else◌, Option, Some, None, Result, Ok, Err}
 use Rattle.std.specs.Option.{option_map_or}
 use Rattle.fp_model.specs.declared.definitions.Defs.{Defs}
 use Rattle.fp_model.specs.declared.calls.Answer.{Answer}
@@ -11,7 +11,7 @@ use Rattle.fp_model.specs.State.{start, has_anchor}
 use Rattle.fp_model.specs.Exits.{group_of}
 use Rattle.fp_model.specs.Messages.{MessageFault, message_of, terminal_of}
 use Rattle.fp_model.specs.ReplyLine.{line_of}
-use Rattle.fp_model.specs.Programs.{Ask, Replies, ask, cost, script_of}
+use Rattle.fp_model.specs.Programs.{Ask, Replies, ask, full_cost, script_of}
 use Rattle.fp_model.specs.Workspace.{fresh}
 use Rattle.fp_model.specs.Calls.{reply_to, looks_unheld, need_of}
 use Rattle.fp_model.specs.Commit.{settlement, lacking, purged, area_of_set}
@@ -29,9 +29,9 @@ request_of scripts line = if_script scripts (message_of line)
 abbrev pub asked_by : Defs → List Script → Message → List Answer → Ask
 asked_by defs scripts message answers = option_map_or (λ script. ask defs script.statements message answers) (script_of scripts message.tran) (Replies [])
 
--- the cost of that script
+-- what that script takes at most
 abbrev pub cost_of : List Script → Message → ℕ
-cost_of scripts message = option_map_or (λ script. cost script.statements) (script_of scripts message.tran) 0
+cost_of scripts message = option_map_or (λ script. full_cost script.statements) (script_of scripts message.tran) 0
 
 abbrev pub is_anchor_of_set : Defs → ℕ → Resource → Bool
 is_anchor_of_set defs set (Segment msdb key) = false

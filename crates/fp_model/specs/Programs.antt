@@ -74,16 +74,16 @@ of_numbers f a b = do
   n ← number_in b
   f m n
 
--- two texts joined; None past 1,024 bytes
-abbrev pub joined_text : List ℕ → List ℕ → Option (List ℕ)
-joined_text a b = if nat_le (length (a ++ b)) 1024 then Some (a ++ b) else None
+-- a text that may be a value; None past 1,024 bytes
+abbrev pub short_enough : List ℕ → Option (List ℕ)
+short_enough text = if nat_le (length text) 1024 then Some text else None
 
 -- two values under an operation
 abbrev pub operated : Operation → List ℕ → List ℕ → Option (List ℕ)
 operated Add a b = of_numbers (λ m n. number_text (m +ℤ n)) a b
 operated Subtract a b = of_numbers (λ m n. number_text (m -ℤ n)) a b
 operated Multiply a b = of_numbers (λ m n. number_text (m *ℤ n)) a b
-operated Join a b = joined_text a b
+operated Join a b = short_enough (a ++ b)
 
 -- whether a comparison holds of two texts as numbers
 abbrev pub ranked : (Ordering → Bool) → List ℕ → List ℕ → Option Bool
@@ -154,7 +154,7 @@ pub record Setting : Type 0 where
   pub text : List ℕ
 
 -- a segment that a get showed: its database, its type and its bytes
-pub record Shown : Type 0 where
+pub record ShownSegment : Type 0 where
   pub db : ℕ
   pub type_number : ℕ
   pub bytes : List ℕ
@@ -165,12 +165,12 @@ pub record Env : Type 0 where
   pub settings : List Setting
   pub status : List ℕ
   pub letters : List ℕ
-  pub shown : List Shown
+  pub shown : List ShownSegment
   pub answers : List Answer
 
 -- at the beginning
-abbrev pub begun : List Answer → Env
-begun answers = record { settings = []; status = []; letters = []; shown = []; answers = answers }
+abbrev pub at_top : List Answer → Env
+at_top answers = record { settings = []; status = []; letters = []; shown = []; answers = answers }
 
 -- with a variable set
 abbrev pub with_setting : List ℕ → List ℕ → Env → Env
@@ -185,7 +185,7 @@ abbrev pub shown_letter : ℕ → ℕ
 shown_letter letter = if letter == 32 then 45 else letter
 
 -- the segment that the last successful get on a database showed
-abbrev pub shown_on : ℕ → Env → Option Shown
+abbrev pub shown_on : ℕ → Env → Option ShownSegment
 shown_on db env = find (λ s. s.db == db) env.shown
 
 -- what an answer adds, beside its status: a get that finds shows a segment, and a field call gives letters
@@ -260,14 +260,18 @@ module _ (defs : Defs) (message : Message) where
     field ← field_of layout.fields name
     value_text field (field_bytes field shown.bytes)
 
+  -- the text that an operand names
+  abbrev pub text_named : Env → Operand → Option (List ℕ)
+  text_named env (Text text) = Some text
+  text_named env (Word n) = Some (word_of message.text n)
+  text_named env (Field name) = shown_field name.0 env
+  text_named env Status = Some (trimmed env.status)
+  text_named env Fsas = Some (map shown_letter env.letters)
+  text_named env (Variable name) = Some (setting_of name.0 env)
+
   -- the text of an operand; None ends the script with code 99
   abbrev pub text_of : Env → Operand → Option (List ℕ)
-  text_of env (Text text) = Some text
-  text_of env (Word n) = Some (word_of message.text n)
-  text_of env (Field name) = shown_field name.0 env
-  text_of env Status = Some (trimmed env.status)
-  text_of env Fsas = Some (map shown_letter env.letters)
-  text_of env (Variable name) = Some (setting_of name.0 env)
+  text_of env operand = text_named env operand >>= short_enough
 
   -- the text that SET gives
   abbrev pub set_text : Env → Operand → Option (Operation × Operand) → Option (List ℕ)
@@ -398,7 +402,7 @@ ended (Ends end) = end
 
 -- the first call of a script that has no answer yet, or its reply, or its rollback code
 unfoldable pub ask : Defs → List Statement → Message → List Answer → Ask
-ask defs statements message answers = ended (in_order (map (run defs message) statements) (begun answers))
+ask defs statements message answers = ended (in_order (map (run defs message) statements) (at_top answers))
 
 -- ---- cost
 
@@ -420,9 +424,13 @@ cost_step (Dlet db) = 1
 abbrev pub statement_cost : Statement → ℕ
 statement_cost = fold-Statement ℕ cost_step
 
--- a script's cost: its TRAN line and its statements; more than 1,000,000,000 is kept as that number
+-- what a script takes at most: its TRAN line and its statements
+abbrev pub full_cost : List Statement → ℕ
+full_cost statements = 1 + sum (map statement_cost statements)
+
+-- a script's cost; more than 1,000,000,000 is kept as that number
 abbrev pub cost : List Statement → ℕ
-cost statements = min 1000000000 (1 + sum (map statement_cost statements))
+cost statements = min 1000000000 (full_cost statements)
 
 -- ---- scripts by name
 

@@ -49,8 +49,8 @@ module _ (defs : List MsdbDef) where
   ]
 
   -- the database with the changes of a field call made
-  abbrev pub with_changes : List ℕ → List ℕ → MsdbDef → Msdb → Msdb
-  with_changes key fsas def msdb = elim (segment_of def msdb key) [
+  abbrev pub with_field_changes : List ℕ → List ℕ → MsdbDef → Msdb → Msdb
+  with_field_changes key fsas def msdb = elim (segment_of def msdb key) [
     | None ↦ msdb
     | Some segment ↦ with_segment def (list_on def (fsas_in fsas) segment).segment msdb
   ]
@@ -58,7 +58,7 @@ module _ (defs : List MsdbDef) where
   -- one call: a field call fails or makes its changes; the others put their segment
   abbrev pub applied : Deferred → List Msdb → Applied
   applied (Fld number key fsas) msdbs = elim (fld_failure number key fsas msdbs) [
-    | None ↦ Stays (with_msdb number (with_changes key fsas) msdbs)
+    | None ↦ Stays (with_msdb number (with_field_changes key fsas) msdbs)
     | Some failure ↦ Fails failure.place failure.found
   ]
   applied (Repl number bytes) msdbs = Stays (with_msdb number (λ def msdb. with_segment def bytes msdb) msdbs)

@@ -33,7 +33,7 @@ pub struct Root {
 /// The ends of the sequential part of an area.
 #[derive(Clone, Copy, Debug, PartialEq, Eq)]
 pub struct AreaEnds {
-    /// The oldest serial that is kept.
+    /// The least serial that may still be kept; `end` where none is.
     pub begin: u64,
     /// The serial that the next sequential dependent gets.
     pub end: u64,

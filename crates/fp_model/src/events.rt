@@ -13,6 +13,6 @@ pub enum Event {
     Out,
     /// Takes a checkpoint.
     Ckpt,
-    /// Deletes the oldest n sequential dependents of an area, named by its data set.
+    /// Lets the sequential part of an area, named by its data set, begin n serials later, at most at its end.
     Purge { set: u16, n: u64 },
 }

@@ -22,7 +22,8 @@ pub use definitions::{AreaDef, DedbDef, Defs, FieldDef, FieldKind, Kind, MsdbDef
 pub use events::Event;
 pub use fp_lists::{Bytes, List};
 pub use laws::{
-    a_front_is_a_history, a_turn_keeps, entries_determine_states, histories_join, notes_never_fall,
+    a_front_is_a_history, a_turn_keeps, calls_are_fewer_than_the_cost, entries_determine_states,
+    histories_join, notes_never_fall,
 };
 pub use log::{Entry, Item, Outcome};
 pub use name::Name;

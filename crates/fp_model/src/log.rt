@@ -40,7 +40,7 @@ pub enum Outcome {
     Memory,
     /// The line was no message, or named no script.
     Unknown,
-    /// No transaction: the oldest n sequential dependents of this data set were deleted.
+    /// No transaction: the sequential part of this data set begins n serials later, at most at its end.
     Purge {
         set: u16,
         n: u64,

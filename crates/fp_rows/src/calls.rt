@@ -301,14 +301,6 @@ pub fn what_scripts_cost()
     ensures loop_of_thirty { cost listc_script.statements ≡ 184 }
 {}
 
-/// A script that costs 10,000 asks at most 10,000 calls: before each of them it was answered fewer than it costs.
-pub fn calls_are_fewer_than_the_cost()
-    ensures { (defs : Defs) (statements : List Statement) (message : Message) (answers : List Answer) (asked : Call)
-        → cost statements < 1000000000
-        → ask defs statements message answers ≡ Asks asked
-        → length answers < cost statements }
-{}
-
 /// The words of a text: blanks and tabs part them, a missing one is empty, and the whole text is number 0.
 pub fn the_words_of_a_text()
     ensures words { words (codes " AB  C" ++ 9 ∷ codes "D ") ≡ codes "AB" ∷ codes "C" ∷ codes "D" ∷ [] }

@@ -1,4 +1,3 @@
-use Rattle.std.proofs.Common.{refl}
 use Rattle.fp_rows.proofs.DepositTurns.{deposit_by_turns}
 use Rattle.fp_rows.proofs.transactions.a_deposit_by_turns.Goals as goal
 
