@@ -5,6 +5,7 @@
 //! reading order.
 #![tactic(auto)]
 
+mod call_laws;
 mod calls;
 mod database;
 mod definitions;
@@ -20,10 +21,10 @@ pub use calls::{
 pub use database::{AreaEnds, Db, Dedb, Msdb, Node, Root, SeqItem};
 pub use definitions::{AreaDef, DedbDef, Defs, FieldDef, FieldKind, Kind, MsdbDef, SegDef};
 pub use events::Event;
+pub use fp_lists::{Bytes, List};
 pub use laws::{
     a_front_is_a_history, a_turn_keeps, entries_determine_states, histories_join, notes_never_fall,
 };
-pub use fp_lists::{Bytes, List};
 pub use log::{Entry, Item, Outcome};
 pub use name::Name;
 pub use scripts::{Comparison, FieldText, FsaText, Operand, Operation, Script, SsaText, Statement};
