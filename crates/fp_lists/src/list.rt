@@ -48,6 +48,15 @@ impl<T> List<T> {
         items
     }
 
+    /// No elements, for another list with the allocator of this one. Takes no memory.
+    pub fn empty_like<U>(&self) -> List<U>
+        ensures { result ≡ [] }
+    {
+        List {
+            items: Vec::new(*self.items.allocator()),
+        }
+    }
+
     /// The elements as a slice.
     pub fn as_slice(&self) -> &[T]
         ensures { result.now ≡ self.now }

@@ -13,7 +13,7 @@ use Rattle.fp_model.specs.declared.log.Outcome.TheVariants as outcome
 use Rattle.fp_model.specs.Rules.{Rules}
 use Rattle.fp_model.specs.Waiting.{without_region}
 use Rattle.fp_model.specs.Machine.{Transaction, Region, Idle, Active, Machine, region_at, with_region, with_entry, entry_of, entry_here, ended_with, next_line, without_line, with_message, with_unknown, with_line, taken_in, is_among, terminal_in, next_group, with_group, sealed_once, sealed_times, sealed_all}
-use Rattle.fp_model.specs.Turns.{Environment, NoFault, DeviceFault, OutOfMemory, Act, Answers, Gains, Waits, Closes, Commits_with, Fails, Fills, Rolls_back, Does, RegionTurn, PurgeTurn, Turn, is_area_held, begins_in, messages_for, with_answer}
+use Rattle.fp_model.specs.Turns.{Environment, NoFault, DeviceFault, OutOfMemory, Act, Answers, Gains, Waits, Closes, Commits_with, Fails_verify, Fills_part, Rolls_back, Does, RegionTurn, PurgeTurn, Turn, is_area_held, begins_in, messages_for, with_answer}
 use Rattle.fp_model.specs.Frames.{KeepsLines, KeepsSealed, KeepsRegions, KeepsEntries, Keeps, AddsEntries}
 
 -- ---- choices
@@ -39,20 +39,20 @@ line_keeps : (rules : Rules) (line : List ℕ) (m m2 : Machine) → InKeeps m m2
 line_keeps rules line m m2 k =
     let pass : Machine → Type 0 = λ x. InKeeps m x in
     either_bool pass (list_any (is_among m2.busy) (terminal_in (rules.terminal_of line))) _ _
-        (record { sealed = k.0.sealed; groups = k.0.groups; sent = k.0.sent }, record { regions = k.1.regions; locks = k.1.locks; requests = k.1.requests })
-        (either_option pass (rules.request_of line) (λ message. with_message rules message m2) (with_unknown rules line m2)
-            (λ message. (record { sealed = k.0.sealed; groups = k.0.groups; sent = k.0.sent }, record { regions = k.1.regions; locks = k.1.locks; requests = k.1.requests }))
-            (record { sealed = k.0.sealed; groups = k.0.groups; sent = k.0.sent }, record { regions = k.1.regions; locks = k.1.locks; requests = k.1.requests }))
+    (record { sealed = k.0.sealed; groups = k.0.groups; sent = k.0.sent }, record { regions = k.1.regions; locks = k.1.locks; requests = k.1.requests })
+    (either_option pass (rules.request_of line) (λ message. with_message rules message m2) (with_unknown rules line m2)
+    (λ message. (record { sealed = k.0.sealed; groups = k.0.groups; sent = k.0.sent }, record { regions = k.1.regions; locks = k.1.locks; requests = k.1.requests }))
+    (record { sealed = k.0.sealed; groups = k.0.groups; sent = k.0.sent }, record { regions = k.1.regions; locks = k.1.locks; requests = k.1.requests }))
 
 taken_keeps : (rules : Rules) (m : Machine) → InKeeps m (taken_in rules m)
 taken_keeps rules m =
     let pass : Machine → Type 0 = λ x. InKeeps m x in
     either_option pass (next_line m) (λ line. with_line rules line (without_line m)) m
-        (λ line. line_keeps rules line m (without_line m)
-            (either_option pass m.held (λ l. record m { held = None }) (record m { lines = drop 1 m.lines })
-                (λ l. (record { sealed = refl; groups = refl; sent = refl }, record { regions = refl; locks = refl; requests = refl }))
-                (record { sealed = refl; groups = refl; sent = refl }, record { regions = refl; locks = refl; requests = refl })))
-        (same_in m)
+    (λ line. line_keeps rules line m (without_line m)
+    (either_option pass m.held (λ l. record m { held = None }) (record m { lines = drop 1 m.lines })
+    (λ l. (record { sealed = refl; groups = refl; sent = refl }, record { regions = refl; locks = refl; requests = refl }))
+    (record { sealed = refl; groups = refl; sent = refl }, record { regions = refl; locks = refl; requests = refl })))
+    (same_in m)
 
 -- ---- LOG and CKPT
 
@@ -63,8 +63,8 @@ once_keeps : (rules : Rules) (m m2 : Machine) → LogKeeps m m2 → LogKeeps m (
 once_keeps rules m m2 k =
     let pass : Machine → Type 0 = λ x. LogKeeps m x in
     either_bool pass (nat_lt m2.sealed (length m2.entries)) (with_group rules (next_group rules m2) m2) m2
-        (record { lines = k.0.lines; held = k.0.held }, k.1, record { regions = k.2.regions; locks = k.2.locks; requests = k.2.requests }, record { entries = k.3.entries; past = k.3.past; now = k.3.now })
-        k
+    (record { lines = k.0.lines; held = k.0.held }, k.1, record { regions = k.2.regions; locks = k.2.locks; requests = k.2.requests }, record { entries = k.3.entries; past = k.3.past; now = k.3.now })
+    k
 
 same_log : (m : Machine) → LogKeeps m m
 same_log m = (record { lines = refl; held = refl }, refl, record { regions = refl; locks = refl; requests = refl }, record { entries = refl; past = refl; now = refl })
@@ -102,10 +102,10 @@ does_keeps : (rules : Rules) (m : Machine) (region : ℕ) (t : Transaction) (act
 does_keeps rules m region t (Answers call) m2 d = led (λ x. RegionKeeps m x) _ m2 d.2 (put_keeps region _ m m (same_region m))
 does_keeps rules m region t (Gains needed) m2 d = led (λ x. RegionKeeps m x) _ m2 d.2 (record { lines = refl; held = refl }, record { sealed = refl; groups = refl; sent = refl }, refl)
 does_keeps rules m region t (Waits needed) m2 d = led (λ x. RegionKeeps m x) _ m2 d.3 (record { lines = refl; held = refl }, record { sealed = refl; groups = refl; sent = refl }, refl)
-does_keeps rules m region t (Closes needed cycle) m2 d = led (λ x. RegionKeeps m x) _ m2 d.2 (ended_keeps region _ m.now m)
+does_keeps rules m region t (Closes needed cycle) m2 d = led (λ x. RegionKeeps m x) _ m2 d.3 (ended_keeps region _ m.now m)
 does_keeps rules m region t (Commits_with reply items next) m2 d = led (λ x. RegionKeeps m x) _ m2 d.3 (ended_keeps region _ next m)
-does_keeps rules m region t (Fails reply call fsa found) m2 d = led (λ x. RegionKeeps m x) _ m2 d.3 (ended_keeps region _ m.now m)
-does_keeps rules m region t (Fills reply set begin end n) m2 d = led (λ x. RegionKeeps m x) _ m2 d.3 (ended_keeps region _ m.now m)
+does_keeps rules m region t (Fails_verify reply call fsa found) m2 d = led (λ x. RegionKeeps m x) _ m2 d.3 (ended_keeps region _ m.now m)
+does_keeps rules m region t (Fills_part reply set begin end n) m2 d = led (λ x. RegionKeeps m x) _ m2 d.3 (ended_keeps region _ m.now m)
 does_keeps rules m region t (Rolls_back code) m2 d = led (λ x. RegionKeeps m x) _ m2 d.1 (ended_keeps region _ m.now m)
 
 begins_keeps : (rules : Rules) (m : Machine) (region : ℕ) (messages : List Message) → RegionKeeps m (begins_in rules m region messages)
@@ -169,10 +169,10 @@ line_adds : (rules : Rules) (line : List ℕ) (m m2 : Machine) → m2.entries �
 line_adds rules line m m2 same =
     let pass : Machine → Type 0 = λ x. AddsEntries m x in
     either_bool pass (list_any (is_among m2.busy) (terminal_in (rules.terminal_of line))) _ _
-        (none_added same)
-        (either_option pass (rules.request_of line) (λ message. with_message rules message m2) (with_unknown rules line m2)
-            (λ message. none_added same)
-            (one_added (entry_here m2 outcome.Unknown line []) same refl))
+    (none_added same)
+    (either_option pass (rules.request_of line) (λ message. with_message rules message m2) (with_unknown rules line m2)
+    (λ message. none_added same)
+    (one_added (entry_here m2 outcome.Unknown line []) same refl))
 
 line_kept : (m : Machine) → (without_line m).entries ≡ m.entries
 line_kept m =
@@ -197,10 +197,10 @@ does_adds : (rules : Rules) (m : Machine) (region : ℕ) (t : Transaction) (act 
 does_adds rules m region t (Answers call) m2 d = led (λ x. AddsEntries m x) _ m2 d.2 (none_added (put_same region _ m))
 does_adds rules m region t (Gains needed) m2 d = led (λ x. AddsEntries m x) _ m2 d.2 (none_added refl)
 does_adds rules m region t (Waits needed) m2 d = led (λ x. AddsEntries m x) _ m2 d.3 (none_added refl)
-does_adds rules m region t (Closes needed cycle) m2 d = led (λ x. AddsEntries m x) _ m2 d.2 (ended_adds region _ m.now m)
+does_adds rules m region t (Closes needed cycle) m2 d = led (λ x. AddsEntries m x) _ m2 d.3 (ended_adds region _ m.now m)
 does_adds rules m region t (Commits_with reply items next) m2 d = led (λ x. AddsEntries m x) _ m2 d.3 (ended_adds region _ next m)
-does_adds rules m region t (Fails reply call fsa found) m2 d = led (λ x. AddsEntries m x) _ m2 d.3 (ended_adds region _ m.now m)
-does_adds rules m region t (Fills reply set begin end n) m2 d = led (λ x. AddsEntries m x) _ m2 d.3 (ended_adds region _ m.now m)
+does_adds rules m region t (Fails_verify reply call fsa found) m2 d = led (λ x. AddsEntries m x) _ m2 d.3 (ended_adds region _ m.now m)
+does_adds rules m region t (Fills_part reply set begin end n) m2 d = led (λ x. AddsEntries m x) _ m2 d.3 (ended_adds region _ m.now m)
 does_adds rules m region t (Rolls_back code) m2 d = led (λ x. AddsEntries m x) _ m2 d.1 (ended_adds region _ m.now m)
 
 begins_adds : (rules : Rules) (m : Machine) (region : ℕ) (messages : List Message) → AddsEntries m (begins_in rules m region messages)

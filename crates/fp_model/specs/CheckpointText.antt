@@ -1,12 +1,11 @@
 -- The bytes of a checkpoint: the main storage databases as they were at one place of the log.
-use Rattle.std.specs.Prelude.{◌≡◌, ℕ, ◌<◌, ◌≤◌, ◌^◌, List, [], ◌∷◌, ◌++◌, length, Bool, true, ◌&&◌, take, IsTrue, codes, slice_index}
+use Rattle.std.specs.Prelude.{◌≡◌, ℕ, ◌<◌, ◌≤◌, ◌^◌, List, [], ◌∷◌, ◌++◌, length, Bool, true, ◌&&◌, IsTrue, codes, slice_index}
 use Rattle.std.specs.List.{flat_map, zip, AllZip, AllByRecursion}
-use Rattle.std.specs.Ordering.{is_lt, nat_cmp}
-use Rattle.std.specs.Cmp.Lexicographic.{slice_cmp}
+use Rattle.fp_model.specs.State.{key_of, is_below}
 use Rattle.fp_model.specs.Spellings.{be16, be32, be64}
 use Rattle.fp_model.specs.declared.database.Msdb.{Msdb}
 use Rattle.fp_model.specs.declared.definitions.MsdbDef.{MsdbDef}
-use Rattle.fp_model.specs.State.{key_length}
+use Rattle.fp_model.specs.declared.definitions.FieldDef.{FieldDef}
 
 -- one database: the length of a segment, the number of segments, and the segments
 abbrev pub msdb_text : MsdbDef → Msdb → List ℕ
@@ -14,28 +13,30 @@ msdb_text def msdb = be16 def.length ++ be32 (length msdb.segments) ++ flat_map 
 
 -- a checkpoint without its gate: its letters, its number, the place of a gate in the log, the number of entries
 -- before that gate, and the databases behind their number
-abbrev pub sealed_text : List MsdbDef → ℕ → ℕ → ℕ → List Msdb → List ℕ
-sealed_text defs number at count msdbs =
-    codes "IMSFPCK1" ++ be64 number ++ be64 at ++ be64 count ++ length msdbs ∷ flat_map (λ each. msdb_text each.0 each.1) (zip defs msdbs)
+abbrev pub checkpoint_rest : List MsdbDef → ℕ → ℕ → ℕ → List Msdb → List ℕ
+checkpoint_rest defs number at count msdbs =
+    codes "IMSFPCK1" ++ be64 number ++ be64 at ++ be64 count
+    ++ length msdbs ∷ flat_map (λ each. msdb_text each.0 each.1) (zip defs msdbs)
 
 -- an open checkpoint
 abbrev pub checkpoint_text : List MsdbDef → ℕ → ℕ → ℕ → List Msdb → List ℕ
-checkpoint_text defs number at count msdbs = 1 ∷ sealed_text defs number at count msdbs
+checkpoint_text defs number at count msdbs = 1 ∷ checkpoint_rest defs number at count msdbs
 
 -- a data set is open where it has a byte 0 and that is 1
 abbrev pub IsOpen : List ℕ → Type 0
 IsOpen bytes = slice_index bytes 0 ≡ 1
 
--- whether the keys of segments ascend, each having so many bytes
-abbrev pub is_ascending_by : ℕ → List (List ℕ) → Bool
-is_ascending_by key [] = true
-is_ascending_by key (segment ∷ []) = true
-is_ascending_by key (segment ∷ next ∷ more) = is_lt (slice_cmp nat_cmp (take key segment) (take key next)) && is_ascending_by key (next ∷ more)
+-- whether the keys of segments ascend
+abbrev pub is_ascending_by_key : List FieldDef → List (List ℕ) → Bool
+is_ascending_by_key fields [] = true
+is_ascending_by_key fields (segment ∷ []) = true
+is_ascending_by_key fields (segment ∷ next ∷ more) =
+    is_below (key_of fields segment) (key_of fields next) && is_ascending_by_key fields (next ∷ more)
 
 -- a database as its definition has it: each segment has the defined length, and keys ascend
 pub record IsMsdbOf (def : MsdbDef) (msdb : Msdb) : Type 0 where
   pub lengths : AllByRecursion (λ segment. length segment ≡ def.length) msdb.segments
-  pub in_order : IsTrue (is_ascending_by (key_length def.fields) msdb.segments)
+  pub in_order : IsTrue (is_ascending_by_key def.fields msdb.segments)
   pub few : length msdb.segments < 2 ^ 32
 
 -- what a checkpoint may hold: other numbers are damage

@@ -61,8 +61,8 @@ first_full db inserts set (area ∷ areas) =
 -- ---- what a commit changes in data entry databases
 
 -- the changed anchors
-abbrev pub with_changes : List AnchorChange → Db → Db
-with_changes changes db = fold (λ state c. with_roots c.dedb c.anchor c.roots state) db changes
+abbrev pub with_anchors : List AnchorChange → Db → Db
+with_anchors changes db = fold (λ state c. with_roots c.dedb c.anchor c.roots state) db changes
 
 abbrev pub types_of : Defs → ℕ → List SegDef
 types_of defs dedb = option_map_or (λ def. def.segments) (slice_get defs.dedbs dedb) []
@@ -95,7 +95,7 @@ with_msdbs msdbs db = record db { msdbs = msdbs }
 
 -- all that the workspace holds, done to the state
 abbrev pub committed : Defs → Workspace → List Msdb → Db → Db
-committed defs own msdbs db = with_inserts defs own.inserts (with_changes own.changes (with_msdbs msdbs db))
+committed defs own msdbs db = with_inserts defs own.inserts (with_anchors own.changes (with_msdbs msdbs db))
 
 abbrev pub settled_to : Defs → Db → Workspace → Settled → Settlement
 settled_to defs db own (VerifyFails call fsa found) = FailsVerify call fsa found

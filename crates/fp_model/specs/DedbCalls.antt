@@ -26,7 +26,7 @@ use Rattle.fp_model.specs.Answers.{Replied, Needed, answered, showing, blank, se
 abbrev pub is_qualified : Ssa → Bool
 is_qualified ssa = is_some ssa.key
 
--- a path's last type and last key
+-- the last step of a path
 abbrev pub end_of : Step → List Step → Step
 end_of s [] = s
 end_of s (t ∷ ts) = end_of t ts
@@ -223,7 +223,7 @@ module _ (def : DedbDef) (dedb : ℕ) where
 
   -- ---- REPL and DLET
 
-  -- the place that is held, if the last call was a hold get that found it
+  -- the place that is held, if the last call to the database was a hold get that found it
   abbrev pub held_place : Workspace → Option Place
   held_place own = if (position_of own).held then (position_of own).place else None
 

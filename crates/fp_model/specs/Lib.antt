@@ -1,4 +1,5 @@
 pub mod Texts
+pub mod Names
 pub mod Numbers
 pub mod State
 pub mod Exits
@@ -17,6 +18,7 @@ pub mod Groups
 pub mod ReplyLine
 pub mod CheckpointText
 pub mod Entries
+pub mod Items
 pub mod Commit
 pub mod Programs
 pub mod Rules

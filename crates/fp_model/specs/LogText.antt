@@ -1,8 +1,7 @@
 -- The bytes of the log: entries, groups and the front.
 use Rattle.std.specs.Prelude.{◌≡◌, ⊤, ℕ, ◌<◌, ◌^◌, List, [], ◌∷◌, ◌++◌, length, Bool, true, false, ◌&&◌, ◌||◌, ◌==◌, nat_lt, IsTrue, codes}
 use Rattle.std.specs.List.{flat_map, AllByRecursion}
-use Rattle.std.specs.Ordering.{is_lt, nat_cmp}
-use Rattle.std.specs.Cmp.Lexicographic.{slice_cmp}
+use Rattle.fp_model.specs.State.{is_below}
 use Rattle.fp_model.specs.Spellings.{be16, be32, be64, short_text, long_text, part_text}
 use Rattle.fp_model.specs.declared.log.Item.{Item}
 use Rattle.fp_model.specs.declared.log.Item.TheVariants.{Segment, Image}
@@ -37,7 +36,9 @@ items_text items = be32 (length items) ++ flat_map item_text items
 
 -- an entry without its length
 abbrev pub rest_text : Entry → List ℕ
-rest_text e = be64 e.from ++ outcome_text e.outcome ++ long_text e.line ++ long_text e.reply ++ notes_text e.notes ++ items_text e.items
+rest_text e =
+    be64 e.from ++ outcome_text e.outcome ++ long_text e.line ++ long_text e.reply
+    ++ notes_text e.notes ++ items_text e.items
 
 -- an entry, behind the length of the rest
 abbrev pub entry_text : Entry → List ℕ
@@ -61,12 +62,20 @@ pub record Front : Type 0 where
   pub scripts : List ℕ
 
 -- a front without its gate
-abbrev pub behind_gate : Front → List ℕ
-behind_gate front = codes "IMSFPLG1" ++ part_text front.defs ++ part_text front.scripts
+abbrev pub front_rest : Front → List ℕ
+front_rest front = codes "IMSFPLG1" ++ part_text front.defs ++ part_text front.scripts
 
 -- a front: its gate, a byte that is 1 where the front is open, and the rest
 abbrev pub front_text : ℕ → Front → List ℕ
-front_text gate front = gate ∷ behind_gate front
+front_text gate front = gate ∷ front_rest front
+
+-- each length in a front fits its field
+abbrev pub FitsFront : Front → Type 0
+FitsFront front = (length front.defs < 2 ^ 32) × (length front.scripts < 2 ^ 32)
+
+-- the bytes of a log that was made for this front: they begin with it, open
+abbrev pub StartsWithFront : List ℕ → Front → Type 0
+StartsWithFront bytes front = (rest : List ℕ) × (bytes ≡ front_text 1 front ++ rest)
 
 -- the place of the first group's gate, right behind the front
 abbrev pub first_gate : Front → ℕ
@@ -76,9 +85,10 @@ first_gate front = length (front_text 1 front)
 abbrev pub log_text : Front → List (List Entry) → List ℕ
 log_text front groups = front_text 1 front ++ groups_text groups ++ 0 ∷ []
 
--- whether an item stands before another: segments first, by database and key; then images, by data set and interval
+-- whether an item stands before another: segments first, by database and key, then images, by data set and
+-- interval
 abbrev pub precedes : Item → Item → Bool
-precedes (Segment msdb key bytes) (Segment msdb2 key2 bytes2) = nat_lt msdb msdb2 || (msdb == msdb2 && is_lt (slice_cmp nat_cmp key key2))
+precedes (Segment msdb key bytes) (Segment msdb2 key2 bytes2) = nat_lt msdb msdb2 || (msdb == msdb2 && is_below key key2)
 precedes (Segment msdb key bytes) (Image set ci bytes2) = true
 precedes (Image set ci bytes) (Segment msdb key bytes2) = false
 precedes (Image set ci bytes) (Image set2 ci2 bytes2) = nat_lt set set2 || (set == set2 && nat_lt ci ci2)
@@ -100,16 +110,18 @@ pub record KeepsRules (e : Entry) : Type 0 where
   pub in_order : IsTrue (is_ascending e.items)
   pub parts : HasItsParts e.outcome e.reply e.items
 
--- Each length fits its field: what a writer asks.
+-- each length in an outcome fits its field
 abbrev pub FitsOutcome : Outcome → Type 0
 FitsOutcome (Verify call fsa found) = length found < 2 ^ 16
 FitsOutcome (Deadlock cycle) = length cycle < 2 ^ 8
 FitsOutcome _ = ⊤
 
+-- each length in an item fits its field
 abbrev pub FitsItem : Item → Type 0
 FitsItem (Segment msdb key bytes) = (length key < 2 ^ 8) × (length bytes < 2 ^ 16)
 FitsItem (Image set ci bytes) = length bytes < 2 ^ 16
 
+-- each length in an entry fits its field, as who writes one has to see to
 pub record FitsEntry (e : Entry) : Type 0 where
   pub outcome : FitsOutcome e.outcome
   pub line : length e.line < 2 ^ 16
@@ -117,13 +129,12 @@ pub record FitsEntry (e : Entry) : Type 0 where
   pub notes : length e.notes < 2 ^ 32
   pub items : length e.items < 2 ^ 32
   pub each_item : AllByRecursion FitsItem e.items
-  pub whole : length (rest_text e) < 2 ^ 64
 
--- a text of bytes
+-- a list of bytes
 abbrev pub IsBytes : List ℕ → Type 0
 IsBytes bytes = AllByRecursion (λ b. b < 2 ^ 8) bytes
 
--- Each number is one of its type: what every value of the types keeps.
+-- each number in an outcome is one of its type
 abbrev pub IsOutcome : Outcome → Type 0
 IsOutcome (Verify call fsa found) = (call < 2 ^ 32) × (fsa < 2 ^ 16) × IsBytes found
 IsOutcome (Roll code) = code < 2 ^ 16
@@ -132,10 +143,12 @@ IsOutcome (Deadlock cycle) = IsBytes cycle
 IsOutcome (Purge set n) = (set < 2 ^ 16) × (n < 2 ^ 64)
 IsOutcome _ = ⊤
 
+-- each number in an item is one of its type
 abbrev pub IsItem : Item → Type 0
 IsItem (Segment msdb key bytes) = (msdb < 2 ^ 8) × IsBytes key × IsBytes bytes
 IsItem (Image set ci bytes) = (set < 2 ^ 16) × (ci < 2 ^ 64) × IsBytes bytes
 
+-- each number in an entry is one of its type, as in every value that a program has
 pub record IsEntry (e : Entry) : Type 0 where
   pub from : e.from < 2 ^ 64
   pub outcome : IsOutcome e.outcome
@@ -143,3 +156,10 @@ pub record IsEntry (e : Entry) : Type 0 where
   pub reply : IsBytes e.reply
   pub notes : AllByRecursion (λ n. n < 2 ^ 64) e.notes
   pub items : AllByRecursion IsItem e.items
+
+-- an entry that has a spelling
+pub record HasSpelling (e : Entry) : Type 0 where
+  pub is_entry : IsEntry e
+  pub fits : FitsEntry e
+  pub whole : length (rest_text e) < 2 ^ 64
+  pub rules : KeepsRules e

@@ -29,7 +29,7 @@ pub record Machine : Type 0 where
   -- message lines not read yet, and the one that waits for its terminal
   pub lines : List (List ℕ)
   pub held : Option (List ℕ)
-  -- messages by balancing group, oldest first, and the terminals that wait for a reply
+  -- the messages of each balancing group, oldest first, and the terminals that wait for a reply
   pub queues : List (List Message)
   pub busy : List Name
   -- all entries, how many of them are sealed, the groups sealed in this run, and the bytes sent in it
@@ -41,7 +41,7 @@ pub record Machine : Type 0 where
   pub regions : List Region
   pub locks : List Lock
   pub requests : List Lock
-  -- the state after all entries, and those before it, oldest first
+  -- the states before the last entry, oldest first, and the state after it
   pub past : List Db
   pub now : Db
 
@@ -50,13 +50,13 @@ abbrev pub at_rest : Rules → List (List ℕ) → List Entry → List Db → Db
 at_rest rules lines entries past now = record {
   lines = lines;
   held = None;
-  queues = replicate rules.queues [];
+  queues = replicate rules.groups [];
   busy = [];
   entries = entries;
   sealed = length entries;
   groups = [];
   sent = [];
-  regions = map (λ queue. Idle) rules.regions;
+  regions = map (λ group. Idle) rules.regions;
   locks = [];
   requests = [];
   past = past;
@@ -118,7 +118,7 @@ queued_at queue message queues = option_map_or (λ messages. slice_set queues qu
 
 -- the message is queued, and its terminal waits
 abbrev pub with_message : Rules → Message → Machine → Machine
-with_message rules message m = record m { queues = queued_at (rules.queue_of message) message m.queues; busy = m.busy ++ message.lterm ∷ [] }
+with_message rules message m = record m { queues = queued_at (rules.group_of message - 1) message m.queues; busy = m.busy ++ message.lterm ∷ [] }
 
 -- the line is answered Unknown, and its terminal waits, if it can be read
 abbrev pub with_unknown : Rules → List ℕ → Machine → Machine

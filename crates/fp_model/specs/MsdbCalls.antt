@@ -31,9 +31,9 @@ module _ (def : MsdbDef) (msdb : ℕ) where
   puts_or_drops key (deferred.Fld m k fsas) = false
   puts_or_drops key (deferred.Repl m bytes) = false
 
-  -- the transaction has queued an insert or a delete of the key
-  abbrev pub is_queued : Workspace → List ℕ → Bool
-  is_queued own key = list_any (puts_or_drops key) own.deferred
+  -- the transaction has queued such a call
+  abbrev pub is_put_or_dropped : Workspace → List ℕ → Bool
+  is_put_or_dropped own key = list_any (puts_or_drops key) own.deferred
 
   abbrev pub position_of : Workspace → MsdbPosition
   position_of own = unwrap_or (slice_get own.msdbs msdb) no_msdb_position
@@ -79,21 +79,21 @@ module _ (def : MsdbDef) (msdb : ℕ) where
   -- with the key of the segment that is held
   abbrev pub repl_reply : Workspace → List ℕ → List ℕ → Replied
   repl_reply own bytes key =
-      if is_queued own key then refused own (codes "XP")
+      if is_put_or_dropped own key then refused own (codes "XP")
       else if same_text (key_of def.fields bytes) key then queued own (answered blank) (deferred.Repl msdb bytes)
       else refused own (codes "DA")
 
   abbrev pub isrt_reply : Msdb → Workspace → List ℕ → Replied
   isrt_reply now own bytes =
       if not def.dynamic then refused own (codes "AM")
-      else if is_queued own (key_of def.fields bytes) then refused own (codes "XP")
+      else if is_put_or_dropped own (key_of def.fields bytes) then refused own (codes "XP")
       else if is_some (segment_of def now (key_of def.fields bytes)) then refused own (codes "II")
       else queued own (answered blank) (deferred.Isrt msdb bytes)
 
   abbrev pub dlet_reply : Workspace → List ℕ → Replied
-  dlet_reply own key = if is_queued own key then refused own (codes "XP") else queued own (answered blank) (deferred.Dlet msdb key)
+  dlet_reply own key = if is_put_or_dropped own key then refused own (codes "XP") else queued own (answered blank) (deferred.Dlet msdb key)
 
-  -- the key that is held, if the last call was a hold get that found it
+  -- the key that is held, if the last call to the database was a hold get that found it
   abbrev pub held_key : Workspace → Option (List ℕ)
   held_key own = if (position_of own).held then (position_of own).key else None
 
@@ -104,7 +104,7 @@ module _ (def : MsdbDef) (msdb : ℕ) where
   -- The answer to a call: holds and inserts look at the database now, all else at the one shown.
   abbrev pub msdb_reply : Msdb → Msdb → Workspace → Call → Replied
   msdb_reply now shown own (call.Get get hold db ssas) = get_reply now shown own get hold (key_named ssas)
-  msdb_reply now shown own (call.Fld db key fsas) = if is_queued own key then refused own (codes "XP") else fld_reply own key fsas (segment_of def shown key)
+  msdb_reply now shown own (call.Fld db key fsas) = if is_put_or_dropped own key then refused own (codes "XP") else fld_reply own key fsas (segment_of def shown key)
   msdb_reply now shown own (call.Repl db bytes) = if_held own (repl_reply own bytes) (held_key own)
   msdb_reply now shown own (call.Isrt db ssas bytes) = isrt_reply now own bytes
   msdb_reply now shown own (call.Dlet db) = if not def.dynamic then refused own (codes "AM") else if_held own (dlet_reply own) (held_key own)
@@ -114,7 +114,7 @@ module _ (def : MsdbDef) (msdb : ℕ) where
   msdb_looks own (call.Get get.Unique hold db ssas) = not hold
   msdb_looks own (call.Get get.Next hold db ssas) = not hold
   msdb_looks own (call.Get get.NextInParent hold db ssas) = false
-  msdb_looks own (call.Fld db key fsas) = not (is_queued own key)
+  msdb_looks own (call.Fld db key fsas) = not (is_put_or_dropped own key)
   msdb_looks own (call.Repl db bytes) = false
   msdb_looks own (call.Isrt db ssas bytes) = false
   msdb_looks own (call.Dlet db) = false
@@ -133,7 +133,7 @@ module _ (def : MsdbDef) (msdb : ℕ) where
   abbrev pub msdb_need : Workspace → Call → Option Needed
   msdb_need own (call.Get get hold db ssas) = for_get get hold (key_named ssas)
   msdb_need own (call.Isrt db ssas bytes) =
-      if def.dynamic && not (is_queued own (key_of def.fields bytes)) then exclusively (key_of def.fields bytes) else None
+      if def.dynamic && not (is_put_or_dropped own (key_of def.fields bytes)) then exclusively (key_of def.fields bytes) else None
   msdb_need own (call.Fld db key fsas) = None
   msdb_need own (call.Repl db bytes) = None
   msdb_need own (call.Dlet db) = None

@@ -5,9 +5,11 @@ use Rattle.fp_model.specs.declared.events.Event.TheVariants as event
 use Rattle.fp_model.specs.declared.log.Item.{Item}
 use Rattle.fp_model.specs.declared.log.Item.TheVariants.{Segment, Image}
 use Rattle.fp_model.specs.declared.log.Entry.{Entry}
+use Rattle.fp_model.specs.Rules.{Rules}
 use Rattle.fp_model.specs.Machine.{Machine}
+use Rattle.fp_model.specs.Turns.{Environment, Turn}
 
--- An interval that isn't written as it should be, with the place of the newest entry that has an item of it.
+-- An interval whose newest image isn't written, with the place of the newest entry that has an item of it.
 pub record Pending : Type 0 where
   pub set : ℕ
   pub ci : ℕ
@@ -54,10 +56,18 @@ abbrev pub with_added : Machine → Machine → List Pending → List Pending
 with_added m m2 pending = with_entries (length m.entries) (added m m2) pending
 
 -- what a turn from m to m2 makes of the pending intervals; CKPT takes out all
-abbrev pub Leaves : Machine → Event → Machine → List Pending → List Pending → Type 0
-Leaves m event.Out m2 before after = TakesOne m.sealed before after
-Leaves m event.Ckpt m2 before after = after ≡ []
-Leaves m event.In m2 before after = after ≡ with_added m m2 before
-Leaves m (event.Region region) m2 before after = after ≡ with_added m m2 before
-Leaves m event.Log m2 before after = after ≡ with_added m m2 before
-Leaves m (event.Purge set n) m2 before after = after ≡ with_added m m2 before
+abbrev pub PendingAfter : Machine → Event → Machine → List Pending → List Pending → Type 0
+PendingAfter m event.Out m2 before after = TakesOne m.sealed before after
+PendingAfter m event.Ckpt m2 before after = after ≡ []
+PendingAfter m event.In m2 before after = after ≡ with_added m m2 before
+PendingAfter m (event.Region region) m2 before after = after ≡ with_added m m2 before
+PendingAfter m event.Log m2 before after = after ≡ with_added m m2 before
+PendingAfter m (event.Purge set n) m2 before after = after ≡ with_added m m2 before
+
+-- a run of turns, and what it makes of the pending intervals
+abbrev pub RunsPending : Rules → Machine → List Pending → List Event → List Environment → Machine → List Pending → Type 0
+RunsPending rules m before [] [] m2 after = (m2 ≡ m) × (after ≡ before)
+RunsPending rules m before [] (v ∷ vs) m2 after = ⊥
+RunsPending rules m before (e ∷ es) [] m2 after = ⊥
+RunsPending rules m before (e ∷ es) (v ∷ vs) m2 after =
+    (mid : Machine) × ((between : List Pending) × (Turn rules m e v mid × PendingAfter m e mid before between × RunsPending rules mid between es vs m2 after))

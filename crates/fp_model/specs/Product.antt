@@ -8,7 +8,7 @@ use Rattle.fp_model.specs.declared.calls.Resource.{Resource}
 use Rattle.fp_model.specs.declared.calls.Resource.TheVariants.{Segment, Anchor}
 use Rattle.fp_model.specs.declared.scripts.Script.{Script}
 use Rattle.fp_model.specs.State.{start, has_anchor}
-use Rattle.fp_model.specs.Exits.{route}
+use Rattle.fp_model.specs.Exits.{group_of}
 use Rattle.fp_model.specs.Messages.{MessageFault, message_of, terminal_of}
 use Rattle.fp_model.specs.ReplyLine.{line_of}
 use Rattle.fp_model.specs.Programs.{Ask, Replies, ask, cost, script_of}
@@ -57,8 +57,8 @@ rules_of defs scripts = record {
   settle = settlement defs;
   purged = purged defs;
   is_in_area = is_anchor_of_set defs;
-  regions = map (λ group. group - 1) defs.regions;
-  queues = group_count defs;
-  queue_of = λ message. route defs.router (group_count defs) message.tran;
+  regions = defs.regions;
+  groups = group_count defs;
+  group_of = λ message. group_of defs.router (group_count defs) message.tran;
   log_group = defs.log_group;
 }

@@ -15,9 +15,13 @@ pub record Holds (front : Front) (bytes : List ℕ) (groups : List (List Entry))
   pub begins : bytes ≡ front_text 1 front ++ behind
   pub reads : Reads bytes (first_gate front) (Groups groups gate)
 
+-- the front of a log of these definitions, with the text of the scripts
+abbrev pub front_of : Defs → List ℕ → Front
+front_of defs scripts_text = record { defs = defs.text; scripts = scripts_text }
+
 -- The log's entries are a serial history, and this is its last state. No checkpoint, area or item is looked at.
-pub record Means (defs : Defs) (scripts : List Script) (front : Front) (bytes : List ℕ) (db : Db) : Type 0 where
+pub record Means (defs : Defs) (scripts : List Script) (scripts_text : List ℕ) (bytes : List ℕ) (db : Db) : Type 0 where
   pub groups : List (List Entry)
   pub gate : ℕ
-  pub holds : Holds front bytes groups gate
+  pub holds : Holds (front_of defs scripts_text) bytes groups gate
   pub history : IsSerialHistory (rules_of defs scripts) (entries_of groups) db

@@ -41,9 +41,9 @@ pub record Rules : Type 0 where
   pub purged : ℕ → ℕ → Db → Option Db
   -- whether a resource is an anchor of that data set
   pub is_in_area : ℕ → Resource → Bool
-  -- the queue of each region, counted from 0, how many queues there are, and the queue of a message
+  -- the balancing group of each region, how many groups there are, and the group of a message; groups count from 1
   pub regions : List ℕ
-  pub queues : ℕ
-  pub queue_of : Message → ℕ
+  pub groups : ℕ
+  pub group_of : Message → ℕ
   -- the most entries of a group
   pub log_group : ℕ

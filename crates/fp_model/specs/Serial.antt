@@ -10,7 +10,7 @@ use Rattle.fp_model.specs.Commit.{Settlement, Commits, FailsVerify, FillsPart}
 use Rattle.fp_model.specs.Programs.{Ask, Asks, Replies, Rolls}
 use Rattle.fp_model.specs.Rules.{Rules}
 
--- How a transaction ends. Stuck: its notes aren't those of its looks.
+-- How a transaction ends. Stuck: its notes aren't those of its looks, or it makes more calls than its script can.
 pub data Ended : Type 0 where
   Done : (state : Db) (reply : List ℕ) → Ended
   Roll : (code : ℕ) → Ended

@@ -15,7 +15,7 @@ use Rattle.fp_model.specs.declared.database.Msdb.{Msdb}
 use Rattle.fp_model.specs.declared.database.Db.{Db}
 use Rattle.fp_model.specs.Texts.{same_text}
 
--- so many numbers from one on
+-- so many numbers from a given one on
 abbrev pub numbers_up : ℕ → ℕ → List ℕ
 numbers_up zero from = []
 numbers_up (suc n) from = from ∷ numbers_up n (from + 1)
@@ -77,7 +77,7 @@ anchors_in area = area.uows * area.base
 abbrev pub anchor_count : DedbDef → ℕ
 anchor_count def = sum_by anchors_in def.areas
 
--- an area of the installation: its database, its number there, the anchors before it and its own
+-- an area of the installation: its database, its number there, the anchors before it, its own, and its capacity
 pub record Area : Type 0 where
   pub dedb : ℕ
   pub number : ℕ
@@ -85,7 +85,7 @@ pub record Area : Type 0 where
   pub anchors : ℕ
   pub capacity : ℕ
 
--- the areas of a database from one on, behind so many anchors
+-- the areas of a database from a given one on, behind so many anchors
 abbrev pub areas_from : ℕ → ℕ → ℕ → List AreaDef → List Area
 areas_from dedb number before [] = []
 areas_from dedb number before (a ∷ others) =

@@ -1,6 +1,6 @@
 -- The table of turns: what each event of a schedule does to the machine.
-use Rattle.std.specs.Prelude.{◌≡◌, ℕ, ◌-◌, List, [], ◌∷◌, ◌++◌, length, map, Bool, true, false, Option, Some, None, option_map, unwrap_or, slice_get, slice_set}
-use Rattle.std.specs.List.{list_any, list_all}
+use Rattle.std.specs.Prelude.{◌==◌, ◌≡◌, ℕ, ◌-◌, List, [], ◌∷◌, ◌++◌, length, map, Bool, true, false, Option, Some, None, option_map, unwrap_or, slice_get, slice_set}
+use Rattle.std.specs.List.{IsDistinct, list_any, list_all}
 use Rattle.fp_model.specs.declared.database.Db.{Db}
 use Rattle.fp_model.specs.declared.calls.Call.{Call}
 use Rattle.fp_model.specs.declared.calls.Message.{Message}
@@ -26,15 +26,15 @@ pub data Environment : Type 0 where
   DeviceFault : Environment
   OutOfMemory : Environment
 
--- What an active region does in a turn, with what the table leaves open: the items of an entry, and which cycle is kept.
+-- What an active region does in a turn. The table leaves open only the items of an entry, and which cycle is kept.
 pub data Act : Type 0 where
   Answers : Call → Act
   Gains : Needed → Act
   Waits : Needed → Act
   Closes : Needed → List ℕ → Act
   Commits_with : (reply : List ℕ) (items : List Item) (next : Db) → Act
-  Fails : (reply : List ℕ) (call fsa : ℕ) (found : List ℕ) → Act
-  Fills : (reply : List ℕ) (set begin end n : ℕ) → Act
+  Fails_verify : (reply : List ℕ) (call fsa : ℕ) (found : List ℕ) → Act
+  Fills_part : (reply : List ℕ) (set begin end n : ℕ) → Act
   Rolls_back : (code : ℕ) → Act
 
 module _ (rules : Rules) where
@@ -80,18 +80,19 @@ module _ (rules : Rules) where
   Does m region t (Closes needed cycle) m2 =
       (wanted m region t (asks t) ≡ Some needed)
       × IsCycle (waits (with_request (as_lock region needed) m.requests) m.locks) (region ∷ cycle)
+      × IsDistinct ◌==◌ (region ∷ cycle)
       × (m2 ≡ ended_with region (entry_of t (outcome.Deadlock (region ∷ cycle)) [] [] []) m.now m)
   Does m region t (Commits_with reply items next) m2 =
       (asks t ≡ Replies reply)
       × (wanted m region t (asks t) ≡ None)
       × (rules.settle m.now t.part.own ≡ Commits next)
       × (m2 ≡ ended_with region (entry_of t outcome.Done reply t.notes items) next m)
-  Does m region t (Fails reply call fsa found) m2 =
+  Does m region t (Fails_verify reply call fsa found) m2 =
       (asks t ≡ Replies reply)
       × (wanted m region t (asks t) ≡ None)
       × (rules.settle m.now t.part.own ≡ FailsVerify call fsa found)
       × (m2 ≡ ended_with region (entry_of t (outcome.Verify call fsa found) [] t.notes []) m.now m)
-  Does m region t (Fills reply set begin end n) m2 =
+  Does m region t (Fills_part reply set begin end n) m2 =
       (asks t ≡ Replies reply)
       × (wanted m region t (asks t) ≡ None)
       × (rules.settle m.now t.part.own ≡ FillsPart set begin end n)
@@ -102,8 +103,9 @@ module _ (rules : Rules) where
 
   -- ---- a region's turn
 
+  -- the place of the queue of a region's balancing group
   abbrev pub queue_of_region : ℕ → ℕ
-  queue_of_region region = unwrap_or (slice_get rules.regions (region - 1)) 0
+  queue_of_region region = unwrap_or (slice_get rules.regions (region - 1)) 0 - 1
 
   abbrev pub messages_for : Machine → ℕ → List Message
   messages_for m region = unwrap_or (slice_get m.queues (queue_of_region region)) []
@@ -117,7 +119,7 @@ module _ (rules : Rules) where
   begins_in m region (message ∷ messages) =
       with_region region (Active (transaction_of m message)) (record m { queues = slice_set m.queues (queue_of_region region) messages })
 
-  -- An idle region takes a message, and has no turn under a fault. An active one acts, or is refused.
+  -- An idle region takes a message, and has no turn where something befalls it. An active one acts, or is refused.
   abbrev pub RegionTurn : Machine → ℕ → Option Region → Environment → Machine → Type 0
   RegionTurn m region None environment m2 = ⊥
   RegionTurn m region (Some Idle) NoFault m2 = m2 ≡ begins_in m region (messages_for m region)
@@ -146,7 +148,7 @@ module _ (rules : Rules) where
 
   -- ---- all turns
 
-  -- IN and LOG have no turn under a fault, and CKPT none under want of memory. A checkpoint isn't seen here.
+  -- IN and LOG have no turn where something befalls them, and CKPT none under want of memory. A checkpoint isn't seen here.
   abbrev pub Turn : Machine → Event → Environment → Machine → Type 0
   Turn m event.In NoFault m2 = m2 ≡ taken_in rules m
   Turn m event.In DeviceFault m2 = ⊥

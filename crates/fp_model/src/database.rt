@@ -2,7 +2,7 @@
 ghost use Rattle.std.specs.Prelude.{◌≡◌, IfOk};
 
 use fp_lists::{Bytes, List};
-use std::alloc::{AllocError, Global};
+use std::alloc::AllocError;
 
 /// A direct dependent with all below it.
 #[derive(Debug, PartialEq, Eq, Drop)]
@@ -65,36 +65,36 @@ pub struct Db {
 impl Node {
     /// The same segment once more, with all below it. Fails only for want of memory.
     #[cycle(copies)]
-    pub fn copy(&self, alloc: Global) -> Result<Node, AllocError>
+    pub fn copy(&self) -> Result<Node, AllocError>
         ensures { IfOk result (λ n. n ≡ self.now) }
     {
-        let children = copy_children(alloc, &self.children)?;
+        let children = copy_children(&self.children)?;
         let bytes = self.bytes.copy()?;
         Ok(Node { bytes, children })
     }
 }
 
 #[cycle(copies)]
-fn copy_children(alloc: Global, groups: &List<List<Node>>) -> Result<List<List<Node>>, AllocError>
+fn copy_children(groups: &List<List<Node>>) -> Result<List<List<Node>>, AllocError>
     ensures { IfOk result (λ copies. copies ≡ groups.now) }
 {
-    let mut children = Vec::new(alloc);
+    let mut children = groups.empty_like();
     for group in groups.as_slice() {
-        let mut row = Vec::new(alloc);
+        let mut row = group.empty_like();
         for child in group.as_slice() {
-            row.push(child.copy(alloc)?)?;
+            row.push(child.copy()?)?;
         }
-        children.push(List::from_vec(row))?;
+        children.push(row)?;
     }
-    Ok(List::from_vec(children))
+    Ok(children)
 }
 
 impl Root {
     /// The same root once more, with all below it. Fails only for want of memory.
-    pub fn copy(&self, alloc: Global) -> Result<Root, AllocError>
+    pub fn copy(&self) -> Result<Root, AllocError>
         ensures { IfOk result (λ root. root ≡ self.now) }
     {
-        let children = copy_children(alloc, &self.children)?;
+        let children = copy_children(&self.children)?;
         let bytes = self.bytes.copy()?;
         let seqs = self.seqs.clone()?;
         Ok(Root {

@@ -1,2 +1,4 @@
 pub mod Hex
+pub mod LogRows
 pub mod Sample
+pub mod States

@@ -1,17 +1,26 @@
 //! Rows of the bytes: numbers in fields, exits, messages and reply lines, entries, groups and checkpoints.
 
-ghost use Rattle.std.specs.Prelude.{◌≡◌, ℕ, ◌+◌, List, [], ◌∷◌, ◌++◌, length, replicate, codes, Option, Some, None, ℤ, pos, neg_ℤ, Ok, Err};
+ghost use Rattle.std.specs.Prelude.{◌≡◌, ℕ, ◌+◌, ◌^◌, ◌≤◌, List, [], ◌∷◌, ◌++◌, length, map, replicate, codes, Option, Some, None, ℤ, pos, neg_ℤ, Ok, Err, IsOk, IsTrue, IsFalse};
 ghost use Rattle.fp_model.specs.Numbers.{number, bytes_of};
+ghost use Rattle.fp_model.specs.Names.{name_in};
 ghost use Rattle.fp_model.specs.Exits.{spread, route, group_of};
-ghost use Rattle.fp_model.specs.Messages.{lines_of, line_fault, LineTooLong, message_of, NoTerminal, NoTran, terminal_of};
+ghost use Rattle.fp_model.specs.Messages.{lines_of, line_fault, fault_of_line, LineTooLong, TooManyLines, message_of, NoTerminal, NoTran, TooLong, NotAscii, terminal_of, text_of};
 ghost use Rattle.fp_model.specs.Spellings.{be64};
-ghost use Rattle.fp_model.specs.LogText.{Front, entry_text, group_text, front_text, log_text, first_gate};
+ghost use Rattle.fp_model.specs.LogText.{Front, group_text, groups_text, front_text, log_text, first_gate, is_ascending};
+ghost use Rattle.fp_model.specs.Entries.{MayStandAt};
+ghost use Rattle.fp_model.specs.Groups.{IsGroup, Reads, Groups, Damage};
+ghost use Rattle.fp_model.specs.Items.{FitsMsdb, IsFit};
 ghost use Rattle.fp_model.specs.ReplyLine.{line_of};
-ghost use Rattle.fp_model.specs.CheckpointText.{checkpoint_text};
+ghost use Rattle.fp_model.specs.CheckpointText.{checkpoint_text, IsCheckpoint, IsOpen};
+ghost use Rattle.std.specs.List.{AllByRecursion};
+ghost use Rattle.fp_model.specs.declared.log.Entry.{Entry};
+ghost use Rattle.fp_model.specs.declared.log.Item.TheVariants.{Image};
+ghost use Rattle.fp_model.specs.declared.log.Outcome.TheVariants.{Done, Verify, SeqFull, Deadlock, Device, Memory, Purge};
 ghost use Rattle.fp_model.specs.declared.definitions.FieldKind.TheVariants.{C, X, H, F, P};
 ghost use Rattle.fp_model.specs.declared.definitions.Kind.TheVariants.{Fold, Range};
 ghost use Rattle.fp_rows.specs.Hex.{hex, line_text, named};
-ghost use Rattle.fp_rows.specs.Sample.{accts, tellers, accts_now, tellers_now, deposit, refusal, unknown};
+ghost use Rattle.fp_rows.specs.LogRows.{customers, ended, changed, image};
+ghost use Rattle.fp_rows.specs.Sample.{accts, tellers, accts_now, tellers_now, deposit, refusal, unknown, sample_defs};
 
 /// The sign F is a plus.
 pub fn f_is_plus()
@@ -36,6 +45,18 @@ pub fn a_digit_is_no_sign()
 /// The preferred plus is C.
 pub fn packed_bytes_of_123()
     ensures { bytes_of P 2 (pos 123) ≡ Some (hex (codes "12 3c")) }
+{}
+
+/// Zero has the sign C.
+pub fn packed_zero_is_plus()
+    ensures { bytes_of P 4 (pos 0) ≡ Some (hex (codes "0000000c")) }
+{}
+
+/// Sixteen packed bytes hold 31 digits.
+pub fn thirty_one_nines_fit_sixteen_bytes()
+    ensures fits { bytes_of P 16 (pos 9999999999999999999999999999999)
+        ≡ Some (hex (codes "99 99 99 99 99 99 99 99 99 99 99 99 99 99 99 9c")) }
+    ensures one_more { bytes_of P 16 (pos 10000000000000000000000000000000) ≡ None }
 {}
 
 /// Two packed bytes hold three digits, so 1,000 doesn't fit.
@@ -71,6 +92,11 @@ pub fn anchors_of_three_customers()
     ensures c009 { spread Fold 8 (codes "C009") ≡ 6 }
 {}
 
+/// So do these have anchor 6, which fill more than one interval.
+pub fn customers_of_one_anchor()
+    ensures { map (spread Fold 8) customers ≡ replicate 21 6 }
+{}
+
 /// The other exit cuts the range of the first four bytes: of 8 anchors, C001 has the third.
 pub fn an_anchor_by_range()
     ensures { spread Range 8 (codes "C001") ≡ 2 }
@@ -82,6 +108,16 @@ pub fn groups_of_three_transactions()
     ensures withdrawal { route Fold 2 (named (codes "WDRAW")) ≡ 1 }
     ensures ask { route Fold 2 (named (codes "ASK")) ≡ 1 }
     ensures group { group_of Fold 2 (named (codes "DEPOSIT")) ≡ 1 }
+{}
+
+/// A name begins with a letter and has 1 to 8 capital letters and digits.
+pub fn what_a_name_is()
+    ensures terminal { name_in (codes "T1") ≡ Some (named (codes "T1")) }
+    ensures eight { name_in (codes "CUSTOMER") ≡ Some (record { 0 = codes "CUSTOMER" }) }
+    ensures nine { name_in (codes "CUSTOMERS") ≡ None }
+    ensures digit_first { name_in (codes "1T") ≡ None }
+    ensures small { name_in (codes "t1") ≡ None }
+    ensures empty { name_in [] ≡ None }
 {}
 
 /// A message: its terminal, its transaction and its text.
@@ -115,6 +151,25 @@ pub fn a_last_blank_is_the_empty_text()
     }) }
 {}
 
+/// A tab separates words as a blank does, but in the text it isn't printable.
+pub fn a_tab_separates_words()
+    ensures words { text_of (codes "T1" ++ 9 ∷ codes "ASK" ++ 9 ∷ codes "A001") ≡ codes "A001" }
+    ensures terminal { terminal_of (codes "T1" ++ 9 ∷ codes "ASK") ≡ Some (named (codes "T1")) }
+    ensures text { message_of (codes "T1 ASK A001" ++ 9 ∷ codes "10") ≡ Err NotAscii }
+{}
+
+/// Only one blank separates words: behind two stands no transaction.
+pub fn two_blanks_hide_the_transaction()
+    ensures { message_of (codes "T1  ASK A001") ≡ Err NoTran }
+{}
+
+/// A text has at most 1,000 bytes, which is asked before its bytes are.
+pub fn a_text_of_1001_bytes_is_too_long()
+    ensures long { message_of (codes "T1 ASK " ++ replicate 1001 200) ≡ Err TooLong }
+    ensures not_ascii { message_of (codes "T1 ASK " ++ replicate 1000 200) ≡ Err NotAscii }
+    ensures fits { IsOk (message_of (codes "T1 ASK " ++ replicate 1000 65)) }
+{}
+
 /// Lines end at newlines and lose one byte 13 there; a last line without newline is taken.
 pub fn a_last_line_without_newline_is_taken()
     ensures { lines_of (codes "T1 ASK" ++ 13 ∷ 10 ∷ 10 ∷ codes "T2 ASK") ≡ codes "T1 ASK" ∷ [] ∷ codes "T2 ASK" ∷ [] }
@@ -130,6 +185,12 @@ pub fn a_line_of_2101_bytes_is_too_long()
     ensures long { line_fault (replicate 2101 65) ≡ Some (LineTooLong 1) }
     ensures second { line_fault (10 ∷ replicate 2101 65 ++ 10 ∷ []) ≡ Some (LineTooLong 2) }
     ensures short { line_fault (replicate 2100 65 ++ 10 ∷ []) ≡ None }
+{}
+
+/// The 1,000,001st line is one too many, whatever its length, and the line before it isn't.
+pub fn the_line_behind_a_million_is_too_many()
+    ensures many { fault_of_line 1000001 (replicate 2101 65) ≡ Some (TooManyLines 1000001) }
+    ensures last { fault_of_line 1000000 [] ≡ None }
 {}
 
 /// The log behind its front after one deposit of 10 to 100: its group, and the closed gate.
@@ -158,6 +219,32 @@ pub fn the_reply_lines_of_what_is_no_message()
     ensures terminal { line_of (unknown (codes "T1 NOSUCH")) ≡ line_text (codes "T1 NO UNKNOWN") }
 {}
 
+/// The other reply lines; nobody is told of a purge.
+pub fn the_reply_lines_of_other_ends()
+    ensures silent { line_of (ended Done []) ≡ line_text (codes "T1 OK") }
+    ensures verify { line_of (ended (Verify 0 0 (hex (codes "0000040c"))) []) ≡ line_text (codes "T1 NO VERIFY") }
+    ensures full { line_of (ended (SeqFull 4 1 5 1) []) ≡ line_text (codes "T1 NO SEQFULL") }
+    ensures deadlock { line_of (ended (Deadlock (2 ∷ 1 ∷ [])) []) ≡ line_text (codes "T1 NO DEADLOCK") }
+    ensures device { line_of (ended Device []) ≡ line_text (codes "T1 NO DEVICE") }
+    ensures memory { line_of (ended Memory []) ≡ line_text (codes "T1 NO MEMORY") }
+    ensures purge { line_of (ended (Purge 4 2) []) ≡ [] }
+{}
+
+/// Items ascend: segments by database and key, then images by data set and interval, each at most once.
+pub fn items_in_order()
+    ensures ascending { IsTrue (is_ascending (changed 0 (codes "A001") ∷ changed 0 (codes "A002") ∷ changed 1 (codes "A000")
+        ∷ image 3 9 ∷ image 4 1 ∷ image 4 2 ∷ [])) }
+    ensures twice { IsFalse (is_ascending (changed 0 (codes "A001") ∷ changed 0 (codes "A001") ∷ [])) }
+    ensures images_first { IsFalse (is_ascending (image 3 9 ∷ changed 0 (codes "A001") ∷ [])) }
+    ensures falling { IsFalse (is_ascending (image 4 1 ∷ image 3 9 ∷ [])) }
+{}
+
+/// An entry of a line that is no message begins at its own place.
+pub fn an_unknown_line_begins_at_its_place()
+    ensures place { MayStandAt 0 (unknown []) }
+    ensures elsewhere { ¬ MayStandAt 1 (unknown []) }
+{}
+
 /// The group of the deposit has 84 bytes, so the next gate stands 84 bytes behind the first.
 #[tactic(auto, unfolding(fp_model::specs::Spellings::be16, fp_model::specs::Spellings::be32, fp_model::specs::Spellings::be64))]
 pub fn the_gate_behind_a_deposit()
@@ -171,4 +258,63 @@ pub fn the_checkpoint_after_a_deposit()
         ≡ hex (codes "01 494d534650434b31 0000000000000001") ++ be64 gate ++ hex (codes
         "0000000000000001 02 0008 00000002 41303031 0000110c 41303032 0000050c 0008 00000001 54303031 00000000"
         ) }
+{}
+
+/// The text of a log reads as its groups, up to its closed gate.
+pub fn a_log_reads_as_its_groups()
+    ensures { (front : Front) (groups : List (List Entry)) → AllByRecursion IsGroup groups
+        → Reads (log_text front groups) (first_gate front) (Groups groups (first_gate front + length (groups_text groups))) }
+{}
+
+/// The deposit is a group by itself, and so is the refused one.
+pub fn each_of_two_entries_is_a_group()
+    ensures deposit { IsGroup (deposit ∷ []) }
+    ensures refusal { IsGroup (refusal ∷ []) }
+{}
+
+/// A log whose first gate is open, with zeros behind it to the end, is damaged there.
+pub fn an_open_gate_before_zeros_is_damage()
+    ensures { (front : Front) (n : ℕ)
+        → Reads (front_text 1 front ++ 1 ∷ replicate n 0) (first_gate front) (Damage (first_gate front)) }
+{}
+
+/// A log that ends behind its front has no groups: a gate that isn't there is closed.
+pub fn a_front_alone_has_no_groups()
+    ensures { (front : Front) → Reads (front_text 1 front) (first_gate front) (Groups [] (first_gate front)) }
+{}
+
+/// The databases of that checkpoint are as their definitions have them, and so is its count.
+pub fn the_checkpoint_after_a_deposit_is_whole()
+    ensures { (gate : ℕ) → 1 ≤ gate → gate ≤ 2 ^ 62
+        → IsCheckpoint (accts ∷ tellers ∷ []) 1 gate 1 (accts_now ∷ tellers_now ∷ []) }
+{}
+
+/// A data set is open where its first byte is 1; one without bytes isn't.
+pub fn which_data_sets_are_open()
+    ensures empty { ¬ IsOpen [] }
+    ensures closed { ¬ IsOpen (0 ∷ 1 ∷ []) }
+    ensures garbage { ¬ IsOpen (17 ∷ []) }
+    ensures checkpoint { (gate : ℕ) → IsOpen (checkpoint_text [] 1 gate 1 []) }
+{}
+
+/// The new segment of the deposit may be applied, and so may its deletion.
+pub fn the_deposited_segment_is_fit()
+    ensures changed { FitsMsdb accts (codes "A001") (hex (codes "41303031 0000110c")) }
+    ensures deleted { FitsMsdb accts (codes "A001") [] }
+    ensures other_key { ¬ FitsMsdb accts (codes "A002") (hex (codes "41303031 0000110c")) }
+{}
+
+/// Under the sample's definitions areas are the data sets 3 and 4, with intervals of 512 bytes.
+pub fn which_images_are_fit()
+    ensures second_area { IsFit sample_defs (Image 4 3 (replicate 512 0)) }
+    ensures no_area { ¬ IsFit sample_defs (Image 5 3 (replicate 512 0)) }
+    ensures checkpoint { ¬ IsFit sample_defs (Image 2 3 (replicate 512 0)) }
+    ensures short { ¬ IsFit sample_defs (Image 4 3 (replicate 511 0)) }
+    ensures far { ¬ IsFit sample_defs (Image 4 9007199254740992 (replicate 512 0)) }
+{}
+
+/// A segment is fit where its database is one of the two.
+pub fn which_segments_are_fit()
+    ensures deposit { AllByRecursion (IsFit sample_defs) deposit.items }
+    ensures no_database { ¬ IsFit sample_defs (changed 2 (codes "A001")) }
 {}

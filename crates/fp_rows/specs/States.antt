@@ -1,0 +1,68 @@
+-- States and machines that the rows of transactions begin with.
+use Rattle.std.specs.Prelude.{ℕ, List, [], ◌∷◌, ◌++◌, codes, false, None}
+use Rattle.fp_model.specs.declared.database.AreaEnds.{AreaEnds}
+use Rattle.fp_model.specs.declared.database.Db.{Db}
+use Rattle.fp_model.specs.declared.calls.Call.TheVariants as call
+use Rattle.fp_model.specs.declared.calls.Get.TheVariants.{Next}
+use Rattle.fp_model.specs.declared.database.Root.{Root}
+use Rattle.fp_model.specs.declared.database.SeqItem.{SeqItem}
+use Rattle.fp_model.specs.State.{start}
+use Rattle.fp_model.specs.Rules.{Rules}
+use Rattle.fp_model.specs.Product.{rules_of}
+use Rattle.fp_model.specs.Machine.{Machine, at_rest}
+use Rattle.fp_model.specs.Workspace.{Workspace, fresh}
+use Rattle.fp_model.specs.Answers.{Replied}
+use Rattle.fp_model.specs.Calls.{reply_to}
+use Rattle.fp_rows.specs.Hex.{hex}
+use Rattle.fp_rows.specs.Sample.{sample_defs, sample_scripts}
+
+abbrev pub sample_rules : Rules
+sample_rules = rules_of sample_defs sample_scripts
+
+-- before any transaction: A001 has 100, A002 has 50
+abbrev pub at_start : Db
+at_start = start sample_defs
+
+-- with this balance of A001, in 4 packed bytes
+abbrev pub with_balance : List ℕ → Db
+with_balance bytes = record at_start { msdbs = record { segments = (codes "A001" ++ hex bytes) ∷ hex (codes "41303032 0000050c") ∷ [] } ∷ record { segments = hex (codes "54303031 00000000") ∷ [] } ∷ [] }
+
+-- a customer without loans, and with these audits
+abbrev pub a_customer : List ℕ → List SeqItem → Root
+a_customer bytes audits = record { bytes = bytes; children = [] ∷ []; seqs = audits }
+
+-- with these customers at anchors 0 and 6, and these ends of the second area
+abbrev pub with_customers : List Root → List Root → ℕ → ℕ → Db
+with_customers zeroth sixth begin end = record at_start {
+  dedbs = record {
+    anchors = zeroth ∷ [] ∷ [] ∷ [] ∷ [] ∷ [] ∷ sixth ∷ [] ∷ [];
+    areas = record { begin = 1; end = 1 } ∷ record { begin = begin; end = end } ∷ [];
+  } ∷ [];
+}
+
+-- one customer, with four audits
+abbrev pub with_audits : Db
+with_audits = with_customers [] (a_customer (codes "C001ANN         ") (
+    record { serial = 4; bytes = codes "N4      " } ∷ record { serial = 3; bytes = codes "N3      " }
+    ∷ record { serial = 2; bytes = codes "N2      " } ∷ record { serial = 1; bytes = codes "N1      " } ∷ []) ∷ []) 1 5
+
+-- a machine at rest at the start, with one line to take in
+abbrev pub at_rest_with_a_deposit : Machine
+at_rest_with_a_deposit = at_rest sample_rules (codes "T1 DEPOSIT A001 10" ∷ []) [] [] at_start
+
+-- three customers: C003 at anchor 0, C001 and C009 at anchor 6
+abbrev pub with_three : Db
+with_three = with_customers (a_customer (codes "C003BOB         ") [] ∷ []) (a_customer (codes "C001ANN         ") [] ∷ a_customer (codes "C009CY          ") [] ∷ []) 1 1
+
+-- a get of the next customer
+abbrev pub next_customer : Workspace → Replied
+next_customer own = reply_to sample_defs with_three with_three own (call.Get Next false 2 (record { segment = 0; key = None } ∷ []))
+
+abbrev pub first : Replied
+first = next_customer (fresh sample_defs)
+
+abbrev pub second : Replied
+second = next_customer first.own
+
+abbrev pub third : Replied
+third = next_customer second.own
