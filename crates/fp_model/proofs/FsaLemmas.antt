@@ -1,9 +1,9 @@
 -- Laws of field search arguments: a list is read as it was written, and none of it fails exactly where all is good.
-use Rattle.std.proofs.Common.{◌≡◌, refl, sym, ap, subst, arith, ◌∙◌, ℕ, zero, suc, ◌+◌, ◌*◌, ◌≤◌, ◌<◌, List, [], ◌∷◌, ◌++◌, length, take, drop, Bool, true, false, ◌&&◌, ◌==◌, if◌then◌else◌, Option, Some, None, slice_get, is_none, All, length-append}
+use Rattle.std.proofs.Common.{◌≡◌, refl, ap, arith, ◌∙◌, ℕ, zero, suc, ◌+◌, ◌≤◌, ◌<◌, List, [], ◌∷◌, ◌++◌, length, take, drop, Bool, true, false, ◌&&◌, ◌==◌, if◌then◌else◌, Option, Some, None, slice_get, is_none, All, length-append}
 use Rattle.std.proofs.Math.Seq.{take-append_seam, drop-append-add}
 use Rattle.fp_model.specs.declared.definitions.MsdbDef.{MsdbDef}
 use Rattle.fp_model.specs.Spellings.{be16}
-use Rattle.fp_model.specs.Fsas.{Fsa, IsFsa, Reading, Whole, Short, BadConnector, fsa_text, list_text, operand_length, connector_in, behind, fsa_in, with_fsa, joined, fsas_from, fsas_of, Failure, letter_of, fsa_on, list_on, first_failure, all_blank}
+use Rattle.fp_model.specs.Fsas.{Fsa, IsFsa, Reading, Whole, Short, fsa_text, list_text, operand_length, connector_in, behind, fsa_in, with_fsa, joined, fsas_from, fsas_of, Failure, letter_of, fsa_on, list_on, first_failure, all_blank}
 
 -- ---- reading what was written
 
