@@ -1,11 +1,4 @@
 //! Laws of the definitions, each the contract of a function that does nothing.
-ghost use Rattle.std.specs.Prelude.{◌<◌};
-ghost use Rattle.fp_model.specs.declared.calls.Answer.{Answer};
-ghost use Rattle.fp_model.specs.declared.calls.Call.{Call};
-ghost use Rattle.fp_model.specs.declared.calls.Message.{Message};
-ghost use Rattle.fp_model.specs.declared.definitions.Defs.{Defs};
-ghost use Rattle.fp_model.specs.declared.scripts.Statement.{Statement};
-ghost use Rattle.fp_model.specs.Programs.{Asks, ask, full_cost};
 ghost use Rattle.std.specs.Prelude.{◌≡◌, ℕ, ◌+◌, List, ◌++◌, length};
 ghost use Rattle.fp_model.specs.declared.database.Db.{Db};
 ghost use Rattle.fp_model.specs.declared.events.Event.{Event};
@@ -61,11 +54,4 @@ pub fn a_turn_keeps()
     ensures adds { (rules : Rules) (m : Machine) (event : Event) (environment : Environment) (m2 : Machine)
         → Turn rules m event environment m2
         → AddsEntries m m2 }
-{}
-
-/// A script that asks a call was answered fewer calls than it costs, whatever the answers were.
-pub fn calls_are_fewer_than_the_cost()
-    ensures { (defs : Defs) (statements : List Statement) (message : Message) (answers : List Answer) (asked : Call)
-        → ask defs statements message answers ≡ Asks asked
-        → length answers < full_cost statements }
 {}

@@ -1,10 +1,11 @@
 //! The plain types of the system, and in `specs/` the definitions that every contract cites.
 //!
-//! No function here decides anything: the types say what definitions, scripts, databases, calls and log
-//! entries are, and the definitions say what running them means. docs/MODEL.md lists the definitions in
-//! reading order.
+//! The types say what definitions, scripts, databases, calls and log entries are; their functions make copies.
+//! The definitions say what running them means: docs/MODEL.md lists them in reading order. The functions of
+//! `laws` and `call_laws` do nothing; their contracts are laws of the definitions.
 #![tactic(auto)]
 
+mod call_laws;
 mod calls;
 mod database;
 mod definitions;
@@ -14,6 +15,9 @@ mod log;
 mod name;
 mod scripts;
 
+pub use call_laws::{
+    a_written_list_is_read, calls_are_fewer_than_the_cost, nothing_fails_where_all_is_blank,
+};
 pub use calls::{
     AnchorChange, Answer, Call, Deferred, Get, Message, Mode, Resource, SeqInsert, Ssa,
 };
@@ -22,8 +26,7 @@ pub use definitions::{AreaDef, DedbDef, Defs, FieldDef, FieldKind, Kind, MsdbDef
 pub use events::Event;
 pub use fp_lists::{Bytes, List};
 pub use laws::{
-    a_front_is_a_history, a_turn_keeps, calls_are_fewer_than_the_cost, entries_determine_states,
-    histories_join, notes_never_fall,
+    a_front_is_a_history, a_turn_keeps, entries_determine_states, histories_join, notes_never_fall,
 };
 pub use log::{Entry, Item, Outcome};
 pub use name::Name;

@@ -1,7 +1,7 @@
 //! Rows of the calls: field search arguments, settling, and what the sample's scripts ask.
 #![tactic(auto, unfolding(fp_model::specs::Fsas::list_on, fp_model::specs::Fsas::first_failure, fp_model::specs::Settle::settle_from, fp_model::specs::Programs::ask, fp_model::specs::Spellings::be16))]
 
-ghost use Rattle.std.specs.Prelude.{◌≡◌, ◌<◌, ℕ, List, [], ◌∷◌, ◌++◌, length, replicate, true, false, codes, Some, None};
+ghost use Rattle.std.specs.Prelude.{◌≡◌, [], ◌∷◌, ◌++◌, replicate, true, false, codes, Some, None};
 ghost use Rattle.fp_model.specs.declared.database.Msdb.{Msdb};
 ghost use Rattle.fp_model.specs.declared.calls.Call.TheVariants as call;
 ghost use Rattle.fp_model.specs.declared.calls.Deferred.TheVariants as deferred;
@@ -9,14 +9,10 @@ ghost use Rattle.fp_model.specs.declared.calls.Get.TheVariants.{Unique, Next, Ne
 ghost use Rattle.fp_model.specs.declared.calls.Resource.TheVariants.{Segment};
 ghost use Rattle.fp_model.specs.Fsas.{Fsa, Whole, Short, BadConnector, list_text, fsas_of, list_on};
 ghost use Rattle.fp_model.specs.Settle.{Stands, VerifyFails, settle, resources};
-ghost use Rattle.fp_model.specs.declared.definitions.Defs.{Defs};
-ghost use Rattle.fp_model.specs.declared.calls.Message.{Message};
-ghost use Rattle.fp_model.specs.declared.calls.Answer.{Answer};
-ghost use Rattle.fp_model.specs.declared.calls.Call.{Call};
 ghost use Rattle.fp_model.specs.declared.scripts.Operand.TheVariants as op;
 ghost use Rattle.fp_model.specs.declared.scripts.Operation.TheVariants.{Add, Subtract, Multiply, Join};
 ghost use Rattle.fp_model.specs.declared.scripts.Comparison.TheVariants.{Equal, Less};
-ghost use Rattle.fp_model.specs.declared.scripts.Statement.{Statement, roll-Statement};
+ghost use Rattle.fp_model.specs.declared.scripts.Statement.{roll-Statement};
 ghost use Rattle.fp_model.specs.declared.scripts.Statement.TheOpen as stmt;
 ghost use Rattle.fp_model.specs.Programs.{Asks, Replies, Rolls, ask, cost, script_of, words, word_of, operated, compares, fitted, qualified};
 ghost use Rattle.fp_rows.specs.Hex.{hex, named};
