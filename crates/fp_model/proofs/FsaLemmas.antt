@@ -3,7 +3,7 @@ use Rattle.std.proofs.Common.{◌≡◌, refl, ap, arith, ◌∙◌, ℕ, zero, 
 use Rattle.std.proofs.Math.Seq.{take-append_seam, drop-append-add}
 use Rattle.fp_model.specs.declared.definitions.MsdbDef.{MsdbDef}
 use Rattle.fp_model.specs.Spellings.{be16}
-use Rattle.fp_model.specs.Fsas.{Fsa, IsFsa, Reading, Whole, Short, fsa_text, list_text, operand_length, connector_in, behind, fsa_in, with_fsa, joined, fsas_from, fsas_of, Failure, letter_of, fsa_on, list_on, first_failure, all_blank}
+use Rattle.fp_model.specs.Fsas.{Fsa, IsFsa, ListReading, Whole, Short, fsa_text, list_text, operand_length, connector_in, behind, fsa_in, with_fsa, joined, fsas_from, fsas_of, Failure, letter_of, fsa_on, list_on, first_failure, all_blank}
 
 -- ---- reading what was written
 
@@ -86,12 +86,12 @@ step : (most place : ℕ) (bytes : List ℕ) (fsa : Fsa) (connector : ℕ) (rest
 step most place bytes fsa connector rest r =
     let at = place + 12 + operand_length bytes in
     let on = place + 13 + operand_length bytes in
-    ap (λ (o : Option ℕ). let read : Reading = elim o [ None ↦ Short place | Some c ↦ joined at c (behind bytes) (fsa_in bytes) (fsas_from most on (behind bytes)) ] in read) r.found
+    ap (λ (o : Option ℕ). let read : ListReading = elim o [ None ↦ Short place | Some c ↦ joined at c (behind bytes) (fsa_in bytes) (fsas_from most on (behind bytes)) ] in read) r.found
     ∙ ap (λ (left : List ℕ). joined at connector left (fsa_in bytes) (fsas_from most on left)) r.left
     ∙ ap (λ (first : Fsa). joined at connector rest first (fsas_from most on rest)) r.first
 
 -- behind a `*` there is something
-goes_on : (place : ℕ) (rest : List ℕ) (fsa : Fsa) (others : Reading) → 0 < length rest → joined place 42 rest fsa others ≡ with_fsa fsa others
+goes_on : (place : ℕ) (rest : List ℕ) (fsa : Fsa) (others : ListReading) → 0 < length rest → joined place 42 rest fsa others ≡ with_fsa fsa others
 goes_on place [] fsa others l = absurd (omega arith)
 goes_on place (b ∷ bs) fsa others l = refl
 

@@ -1,11 +1,10 @@
 -- The bytes of a checkpoint: the main storage databases as they were at one place of the log.
-use Rattle.std.specs.Prelude.{◌≡◌, ℕ, ◌<◌, ◌≤◌, ◌^◌, List, [], ◌∷◌, ◌++◌, length, Bool, true, ◌&&◌, IsTrue, codes, slice_index}
+use Rattle.std.specs.Prelude.{map, ◌≡◌, ℕ, ◌<◌, ◌≤◌, ◌^◌, List, ◌∷◌, ◌++◌, length, IsTrue, codes, slice_index}
 use Rattle.std.specs.List.{flat_map, zip, AllZip, AllByRecursion}
-use Rattle.fp_model.specs.State.{key_of, is_below}
+use Rattle.fp_model.specs.State.{ascend, key_of}
 use Rattle.fp_model.specs.Spellings.{be16, be32, be64}
 use Rattle.fp_model.specs.declared.database.Msdb.{Msdb}
 use Rattle.fp_model.specs.declared.definitions.MsdbDef.{MsdbDef}
-use Rattle.fp_model.specs.declared.definitions.FieldDef.{FieldDef}
 
 -- one database: the length of a segment, the number of segments, and the segments
 abbrev pub msdb_text : MsdbDef → Msdb → List ℕ
@@ -26,17 +25,10 @@ checkpoint_text defs number at count msdbs = 1 ∷ checkpoint_rest defs number a
 abbrev pub IsOpen : List ℕ → Type 0
 IsOpen bytes = slice_index bytes 0 ≡ 1
 
--- whether the keys of segments ascend
-abbrev pub is_ascending_by_key : List FieldDef → List (List ℕ) → Bool
-is_ascending_by_key fields [] = true
-is_ascending_by_key fields (segment ∷ []) = true
-is_ascending_by_key fields (segment ∷ next ∷ more) =
-    is_below (key_of fields segment) (key_of fields next) && is_ascending_by_key fields (next ∷ more)
-
 -- a database as its definition has it: each segment has the defined length, and keys ascend
 pub record IsMsdbOf (def : MsdbDef) (msdb : Msdb) : Type 0 where
   pub lengths : AllByRecursion (λ segment. length segment ≡ def.length) msdb.segments
-  pub in_order : IsTrue (is_ascending_by_key def.fields msdb.segments)
+  pub in_order : IsTrue (ascend (map (key_of def.fields) msdb.segments))
   pub few : length msdb.segments < 2 ^ 32
 
 -- what a checkpoint may hold: other numbers are damage

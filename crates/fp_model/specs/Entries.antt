@@ -5,21 +5,21 @@ use Rattle.fp_model.specs.declared.log.Outcome.TheVariants.{Done, Verify, Roll, 
 use Rattle.fp_model.specs.declared.log.Entry.{Entry}
 
 -- neither a reply nor notes
-abbrev pub HasNoAnswer : Entry → Type 0
-HasNoAnswer e = (e.reply ≡ []) × (e.notes ≡ [])
+abbrev pub IsBare : Entry → Type 0
+IsBare e = (e.reply ≡ []) × (e.notes ≡ [])
 
--- What the outcome allows in an entry at this place, its items aside: only Done has a reply, only the end of a
--- script has notes, Unknown and Purge begin at their own place, and Purge has no line.
+-- What the outcome allows in an entry at this place, its items aside: only Done has a reply, only Done, Verify, Roll
+-- and SeqFull have notes, Unknown and Purge begin at their own place, and Purge has no line.
 abbrev pub SuitsOutcome : ℕ → Entry → Outcome → Type 0
 SuitsOutcome place e Done = ⊤
 SuitsOutcome place e (Verify call fsa found) = e.reply ≡ []
 SuitsOutcome place e (Roll code) = e.reply ≡ []
 SuitsOutcome place e (SeqFull set begin end n) = e.reply ≡ []
-SuitsOutcome place e (Deadlock cycle) = HasNoAnswer e
-SuitsOutcome place e Device = HasNoAnswer e
-SuitsOutcome place e Memory = HasNoAnswer e
-SuitsOutcome place e Unknown = HasNoAnswer e × (e.from ≡ place)
-SuitsOutcome place e (Purge set n) = HasNoAnswer e × (e.from ≡ place) × (e.line ≡ [])
+SuitsOutcome place e (Deadlock cycle) = IsBare e
+SuitsOutcome place e Device = IsBare e
+SuitsOutcome place e Memory = IsBare e
+SuitsOutcome place e Unknown = IsBare e × (e.from ≡ place)
+SuitsOutcome place e (Purge set n) = IsBare e × (e.from ≡ place) × (e.line ≡ [])
 
 -- an entry that may stand at this place
 abbrev pub MayStandAt : ℕ → Entry → Type 0

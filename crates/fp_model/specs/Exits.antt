@@ -16,12 +16,12 @@ spread Fold n key = fold (λ acc byte. (acc * 31 + byte) % n) 0 key
 spread Range n key = first_four key * n / 2 ^ 32
 
 -- a name without its blanks
-abbrev pub letters_of : Name → List ℕ
-letters_of name = filter (λ b. not (b == 32)) name.0
+abbrev pub name_text : Name → List ℕ
+name_text name = filter (λ b. not (b == 32)) name.0
 
 -- which of n places a transaction has
 abbrev pub route : Kind → ℕ → Name → ℕ
-route kind n tran = spread kind n (letters_of tran)
+route kind n tran = spread kind n (name_text tran)
 
 -- the balancing group of a transaction, of n groups numbered from 1
 abbrev pub group_of : Kind → ℕ → Name → ℕ

@@ -33,7 +33,7 @@ list_text [] = []
 list_text (fsa ∷ []) = fsa_text fsa ++ 32 ∷ []
 list_text (fsa ∷ next ∷ fsas) = fsa_text fsa ++ 42 ∷ list_text (next ∷ fsas)
 
--- whether it has a spelling: a name of 8 bytes, two bytes for the letters, and an operand that fits its length
+-- whether it has a spelling: a name of 8 bytes, a byte each for the status and the operation, and an operand that fits its length
 pub record IsFsa (fsa : Fsa) : Type 0 where
   pub name : length fsa.field ≡ 8
   pub status_fits : fsa.status < 256
@@ -41,10 +41,10 @@ pub record IsFsa (fsa : Fsa) : Type 0 where
   pub operand_fits : length fsa.operand < 65536
 
 -- what bytes read as: a list, or the place of the FSA that they end in, or the place of a bad connector
-pub data Reading : Type 0 where
-  Whole : List Fsa → Reading
-  Short : ℕ → Reading
-  BadConnector : ℕ → Reading
+pub data ListReading : Type 0 where
+  Whole : List Fsa → ListReading
+  Short : ℕ → ListReading
+  BadConnector : ℕ → ListReading
 
 -- the length of the operand of the FSA that the bytes begin with
 abbrev pub operand_length : List ℕ → ℕ
@@ -64,14 +64,14 @@ abbrev pub connector_in : List ℕ → Option ℕ
 connector_in bytes = slice_get bytes (12 + operand_length bytes)
 
 -- with one more FSA in front
-abbrev pub with_fsa : Fsa → Reading → Reading
+abbrev pub with_fsa : Fsa → ListReading → ListReading
 with_fsa fsa (Whole fsas) = Whole (fsa ∷ fsas)
 with_fsa fsa (Short place) = Short place
 with_fsa fsa (BadConnector place) = BadConnector place
 
 -- a connector at a place, with the bytes behind it and what they read as:
 -- a blank one ends the bytes, and a `*` doesn't
-abbrev pub joined : ℕ → ℕ → List ℕ → Fsa → Reading → Reading
+abbrev pub joined : ℕ → ℕ → List ℕ → Fsa → ListReading → ListReading
 joined place connector [] fsa others = if connector == 32 then Whole (fsa ∷ []) else BadConnector place
 joined place connector (b ∷ bs) fsa others = if connector == 42 then with_fsa fsa others else BadConnector place
 
@@ -80,7 +80,7 @@ abbrev pub behind : List ℕ → List ℕ
 behind bytes = drop (13 + operand_length bytes) bytes
 
 -- the reading of bytes that begin at a place, of so many FSAs at most
-abbrev pub fsas_from : ℕ → ℕ → List ℕ → Reading
+abbrev pub fsas_from : ℕ → ℕ → List ℕ → ListReading
 fsas_from zero place bytes = Short place
 fsas_from (suc most) place bytes = elim (connector_in bytes) [
   | None ↦ Short place
@@ -89,7 +89,7 @@ fsas_from (suc most) place bytes = elim (connector_in bytes) [
 ]
 
 -- what the bytes of a list read as; an FSA has more than one byte
-abbrev pub fsas_of : List ℕ → Reading
+abbrev pub fsas_of : List ℕ → ListReading
 fsas_of bytes = fsas_from (length bytes + 1) 0 bytes
 
 -- the list, where the bytes are one

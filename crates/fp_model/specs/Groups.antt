@@ -27,12 +27,12 @@ pub record IsDamaged (bytes : List ℕ) (at : ℕ) : Type 0 where
   pub no_group : (entries : List Entry) (rest : List ℕ) → IsGroup entries → drop at bytes ≢ group_text entries ++ rest
 
 -- what reading comes to: groups and the place of the first gate that isn't 1, or the place of damage
-pub data Reading : Type 0 where
-  Groups : (groups : List (List Entry)) (gate : ℕ) → Reading
-  Damage : (at : ℕ) → Reading
+pub data LogReading : Type 0 where
+  Groups : (groups : List (List Entry)) (gate : ℕ) → LogReading
+  Damage : (at : ℕ) → LogReading
 
 -- What reading from a gate on comes to. A byte past the end isn't 1, so the last gate may be missing.
-abbrev pub Reads : List ℕ → ℕ → Reading → Type 0
+abbrev pub Reads : List ℕ → ℕ → LogReading → Type 0
 Reads bytes at (Groups groups gate) = HoldsGroups bytes at groups gate × (slice_index bytes gate ≢ 1)
 Reads bytes at (Damage place) = (groups : List (List Entry)) × HoldsGroups bytes at groups place × IsDamaged bytes place
 

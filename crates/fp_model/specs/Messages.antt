@@ -8,7 +8,7 @@ use Rattle.fp_model.specs.declared.name.Name.{Name}
 use Rattle.fp_model.specs.declared.calls.Message.{Message}
 
 -- The lines: each ends at a newline, and loses one byte 13 directly before it. A last line without newline
--- counts, and nothing behind the last newline is no line.
+-- counts, and an empty rest behind the last newline is no line.
 abbrev pub lines_of : List ℕ → List (List ℕ)
 lines_of bytes = lines bytes
 
@@ -59,8 +59,8 @@ abbrev pub tran_of : List ℕ → Option Name
 tran_of line = name_in (first_word (behind_word line))
 
 -- the text of a line: all that stands behind its second word
-abbrev pub text_of : List ℕ → List ℕ
-text_of line = behind_word (behind_word line)
+abbrev pub message_text : List ℕ → List ℕ
+message_text line = behind_word (behind_word line)
 
 -- why a line is no message
 pub data MessageFault : Type 0 where
@@ -83,4 +83,4 @@ message_by line (Some lterm) (Some tran) text = with_fair_text (record { lterm =
 
 -- the message that a line is, or the first reason that it is none
 abbrev pub message_of : List ℕ → Result Message MessageFault
-message_of line = message_by line (terminal_of line) (tran_of line) (text_of line)
+message_of line = message_by line (terminal_of line) (tran_of line) (message_text line)

@@ -70,16 +70,16 @@ sign_of (negsuc n) = 13
 
 -- pairs of digits, and in the last byte the last digit and the sign
 abbrev pub packed_form : ℕ → ℕ → ℕ → List ℕ
-packed_form length n sign = pairs (length - 1) (n / 10) ++ (n % 10 * 16 + sign) ∷ []
+packed_form size n sign = pairs (size - 1) (n / 10) ++ (n % 10 * 16 + sign) ∷ []
 
 -- the packed bytes of a number that has fewer digits than the field has half bytes
 abbrev pub packed_of : ℕ → ℤ → Option (List ℕ)
-packed_of length n = if nat_lt (unsigned_abs n) (10 ^ (2 * length - 1)) then Some (packed_form length (unsigned_abs n) (sign_of n)) else None
+packed_of size n = if nat_lt (unsigned_abs n) (10 ^ (2 * size - 1)) then Some (packed_form size (unsigned_abs n) (sign_of n)) else None
 
 -- the unsigned bytes of a number from 0 on that fits
 abbrev pub unsigned_of : ℕ → ℤ → Option (List ℕ)
-unsigned_of length (pos n) = if nat_lt n (256 ^ length) then Some (big_endian length n) else None
-unsigned_of length (negsuc n) = None
+unsigned_of size (pos n) = if nat_lt n (256 ^ size) then Some (big_endian size n) else None
+unsigned_of size (negsuc n) = None
 
 -- whether a number fits two's complement of so many bits
 abbrev pub fits_twos : ℕ → ℤ → Bool
@@ -88,12 +88,12 @@ fits_twos bits (negsuc n) = nat_lt n (2 ^ (bits - 1))
 
 -- the bytes of a number in a field of a length that its kind has
 abbrev pub form_of : FieldKind → ℕ → ℤ → Option (List ℕ)
-form_of C length n = None
-form_of X length n = unsigned_of length n
-form_of H length n = if fits_twos 16 n then Some (to_be_bytes w16 (cast_unsigned w16 n)) else None
-form_of F length n = if fits_twos 32 n then Some (to_be_bytes w32 (cast_unsigned w32 n)) else None
-form_of P length n = packed_of length n
+form_of C size n = None
+form_of X size n = unsigned_of size n
+form_of H size n = if fits_twos 16 n then Some (to_be_bytes w16 (cast_unsigned w16 n)) else None
+form_of F size n = if fits_twos 32 n then Some (to_be_bytes w32 (cast_unsigned w32 n)) else None
+form_of P size n = packed_of size n
 
 -- the preferred form of a number in a field, if it fits
 abbrev pub bytes_of : FieldKind → ℕ → ℤ → Option (List ℕ)
-bytes_of kind length n = if is_length_of kind length then form_of kind length n else None
+bytes_of kind size n = if is_length_of kind size then form_of kind size n else None

@@ -13,16 +13,10 @@ use Rattle.fp_model.specs.declared.database.Node.TheOpen.{Node-F}
 use Rattle.fp_model.specs.declared.database.Node.TheFolds.{fold-Node}
 use Rattle.fp_model.specs.declared.database.Root.{Root}
 use Rattle.fp_model.specs.declared.database.SeqItem.{SeqItem}
-use Rattle.fp_model.specs.State.{Area, areas_from, has_anchor, is_below, anchor_count}
+use Rattle.fp_model.specs.State.{Area, ascend, areas_from, has_anchor, anchor_count}
 use Rattle.fp_model.specs.Exits.{anchor_of}
 use Rattle.fp_model.specs.Order.{key_in, child_types, root_key, sequential_type}
 use Rattle.fp_model.specs.CheckpointText.{IsMsdbOf}
-
--- whether texts ascend, each below the next
-abbrev pub ascend : List (List ℕ) → Bool
-ascend [] = true
-ascend (a ∷ []) = true
-ascend (a ∷ b ∷ rest) = is_below a b && ascend (b ∷ rest)
 
 -- whether a segment has the length of its type
 abbrev pub has_length : List SegDef → ℕ → List ℕ → Bool

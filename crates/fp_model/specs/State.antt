@@ -1,5 +1,5 @@
 -- Databases: segments by key, anchors, areas, and the state before any transaction.
-use Rattle.std.specs.Prelude.{ℕ, zero, suc, ◌+◌, ◌*◌, List, [], ◌∷◌, map, take, replicate, ◌++◌, sum_by, Bool, not, ◌&&◌, ◌==◌, nat_lt, nat_le, if◌then◌else◌, Option, Some, None, unwrap_or, find, filter, fold, slice_get, slice_set}
+use Rattle.std.specs.Prelude.{ℕ, zero, suc, ◌+◌, ◌*◌, List, [], ◌∷◌, map, take, replicate, ◌++◌, sum_by, Bool, true, not, ◌&&◌, ◌==◌, nat_lt, nat_le, if◌then◌else◌, Option, Some, None, unwrap_or, find, filter, fold, slice_get, slice_set}
 use Rattle.std.specs.Option.{option_map_or}
 use Rattle.std.specs.Ordering.{nat_cmp, is_lt}
 use Rattle.std.specs.Cmp.Lexicographic.{slice_cmp}
@@ -34,6 +34,12 @@ abbrev pub is_below : List ℕ → List ℕ → Bool
 is_below a b = is_lt (slice_cmp nat_cmp a b)
 
 -- ---- lists in ascending order of keys
+
+-- whether keys ascend, each below the next
+abbrev pub ascend : List (List ℕ) → Bool
+ascend [] = true
+ascend (a ∷ []) = true
+ascend (a ∷ b ∷ rest) = is_below a b && ascend (b ∷ rest)
 
 -- with one more element, at the place that its key gives it
 abbrev pub put_by_key : {X : Type 0} → (X → List ℕ) → X → List X → List X

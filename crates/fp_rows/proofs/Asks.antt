@@ -1,12 +1,12 @@
 -- What the sample's scripts ask of given answers, and what they cost, as equations to rewrite by.
-use Rattle.std.proofs.Common.{◌≡◌, List, [], ◌∷◌, refl}
+use Rattle.std.proofs.Common.{◌≡◌, [], ◌∷◌, refl}
 use Rattle.std.specs.Prelude.{codes, false, Some}
 use Rattle.std.specs.Fmt.{digits}
 use Rattle.fp_model.specs.declared.calls.Call.TheVariants as call
 use Rattle.fp_model.specs.declared.calls.Get.TheVariants.{Unique}
 use Rattle.fp_model.specs.declared.scripts.Statement.TheFolds.{fold-roll-Statement}
 use Rattle.fp_model.specs.Spellings.{be16}
-use Rattle.fp_model.specs.Programs.{Asks, Replies, ask, full_cost, cost_step}
+use Rattle.fp_model.specs.Programs.{Asks, Replies, ask, full_cost}
 use Rattle.fp_rows.specs.Hex.{hex}
 use Rattle.fp_rows.specs.Sample.{sample_defs, deposit_script, wdraw_script, ask_script, message_for, lettered, showing}
 use Rattle.fp_model.proofs.ProgramLemmas.{run_roll}

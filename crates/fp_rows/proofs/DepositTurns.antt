@@ -1,6 +1,6 @@
 -- The run of a deposit, turn by turn.
-use Rattle.std.proofs.Common.{◌≡◌, ℕ, List, [], ◌∷◌, ◌++◌, Bool, true, false, Option, Some, None, refl}
-use Rattle.std.specs.Prelude.{codes, slice_set}
+use Rattle.std.proofs.Common.{◌≡◌, [], ◌∷◌, ◌++◌, refl}
+use Rattle.std.specs.Prelude.{codes}
 use Rattle.std.specs.Fmt.{digits}
 use Rattle.fp_model.specs.declared.calls.Call.{Call}
 use Rattle.fp_model.specs.declared.calls.Call.TheVariants as call
@@ -13,11 +13,9 @@ use Rattle.fp_model.specs.Fsas.{list_on, first_failure}
 use Rattle.fp_model.specs.Settle.{settle_from}
 use Rattle.fp_model.specs.Answers.{Needed}
 use Rattle.fp_model.specs.Calls.{reply_to, looks_unheld, need_of}
-use Rattle.fp_model.specs.Commit.{Commits, settlement, lacking}
-use Rattle.fp_model.specs.Serial.{begun}
-use Rattle.fp_model.specs.Waiting.{Lock}
+use Rattle.fp_model.specs.Commit.{settlement, lacking}
 use Rattle.fp_model.specs.Machine.{Machine, Transaction, Active, taken_in, with_region, entry_of, ended_with, sealed_once}
-use Rattle.fp_model.specs.Turns.{NoFault, Answers, Gains, Commits_with, Runs, Turn, RegionTurn, Does, begins_in, messages_for, with_answer, transaction_of, as_lock}
+use Rattle.fp_model.specs.Turns.{NoFault, Answers, Gains, Commits_with, Runs, Does, begins_in, messages_for, with_answer, transaction_of, as_lock}
 use Rattle.fp_rows.specs.Hex.{hex}
 use Rattle.fp_rows.specs.Sample as sample
 use Rattle.fp_rows.specs.States.{sample_rules, at_rest_with_a_deposit, with_balance}

@@ -1,6 +1,5 @@
 -- States and machines that the rows of transactions begin with.
 use Rattle.std.specs.Prelude.{ℕ, List, [], ◌∷◌, ◌++◌, codes, false, None}
-use Rattle.fp_model.specs.declared.database.AreaEnds.{AreaEnds}
 use Rattle.fp_model.specs.declared.database.Db.{Db}
 use Rattle.fp_model.specs.declared.calls.Call.TheVariants as call
 use Rattle.fp_model.specs.declared.calls.Get.TheVariants.{Next}

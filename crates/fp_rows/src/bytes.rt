@@ -4,7 +4,7 @@ ghost use Rattle.std.specs.Prelude.{◌≡◌, ℕ, ◌+◌, ◌^◌, ◌≤◌,
 ghost use Rattle.fp_model.specs.Numbers.{number, bytes_of};
 ghost use Rattle.fp_model.specs.Names.{name_in};
 ghost use Rattle.fp_model.specs.Exits.{spread, route, group_of};
-ghost use Rattle.fp_model.specs.Messages.{lines_of, line_fault, fault_of_line, LineTooLong, TooManyLines, message_of, NoTerminal, NoTran, TooLong, NotAscii, terminal_of, text_of};
+ghost use Rattle.fp_model.specs.Messages.{lines_of, line_fault, fault_of_line, LineTooLong, TooManyLines, message_of, NoTerminal, NoTran, TooLong, NotAscii, terminal_of, message_text};
 ghost use Rattle.fp_model.specs.Spellings.{be64};
 ghost use Rattle.fp_model.specs.LogText.{Front, group_text, groups_text, front_text, log_text, first_gate, is_ascending};
 ghost use Rattle.fp_model.specs.Entries.{MayStandAt};
@@ -153,7 +153,7 @@ pub fn a_last_blank_is_the_empty_text()
 
 /// A tab separates words as a blank does, but in the text it isn't printable.
 pub fn a_tab_separates_words()
-    ensures words { text_of (codes "T1" ++ 9 ∷ codes "ASK" ++ 9 ∷ codes "A001") ≡ codes "A001" }
+    ensures words { message_text (codes "T1" ++ 9 ∷ codes "ASK" ++ 9 ∷ codes "A001") ≡ codes "A001" }
     ensures terminal { terminal_of (codes "T1" ++ 9 ∷ codes "ASK") ≡ Some (named (codes "T1")) }
     ensures text { message_of (codes "T1 ASK A001" ++ 9 ∷ codes "10") ≡ Err NotAscii }
 {}
