@@ -4,3 +4,7 @@ pub mod Waits
 pub mod Plays
 pub mod Kept
 pub mod Turns
+pub mod Replies
+pub mod Covers
+pub mod Needs
+pub mod Forms
