@@ -8,3 +8,6 @@ pub mod Replies
 pub mod Covers
 pub mod Needs
 pub mod Forms
+pub mod Changes
+pub mod Settling
+pub mod Queue
