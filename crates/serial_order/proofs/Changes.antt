@@ -1,16 +1,10 @@
 -- What settling and purging change: nothing that isn't held Exclusive, and nothing outside the area.
-use Rattle.std.proofs.Common.{◌≡◌, ◌≢◌, ℕ, zero, suc, ◌+◌, ◌-◌, ◌<◌, ◌≤◌, List, [], ◌∷◌, ◌++◌, map, length, take, drop, Option, Some, None, ◌⊎◌, inl, inr, refl, sym, ◌∙◌, ap, subst, Bool, true, false, not, nat_eq, ◌&&◌, ◌||◌, if◌then◌else◌, arith, slice_get, slice_set, Ordering}
-use Rattle.std.specs.Prelude.{find, filter, fold, unwrap_or, nat_lt, nat_le, min}
-use Rattle.std.specs.List.{AllByRecursion, flat_map, list_all}
+use Rattle.std.proofs.Common.{◌≡◌, ℕ, zero, suc, ◌+◌, ◌<◌, ◌≤◌, List, [], ◌∷◌, ◌++◌, map, take, drop, Option, Some, None, ◌⊎◌, inl, inr, refl, sym, ◌∙◌, ap, subst, Bool, true, false, ◌&&◌, if◌then◌else◌, arith, slice_get, slice_set}
+use Rattle.std.specs.Prelude.{find, unwrap_or, nat_lt, nat_le, min}
+use Rattle.std.specs.List.{AllByRecursion}
 use Rattle.std.specs.Option.{option_map_or}
-use Rattle.std.specs.Ordering.{nat_cmp, is_lt, ordering_reverse}
-use Rattle.std.specs.Cmp.Lexicographic.{slice_cmp}
-use Rattle.std.specs.declared.cmp.Ordering.TheVariants.{Less, Equal, Greater}
 use Rattle.std.proofs.lemmas.Bool.{cases_eq}
 use Rattle.std.proofs.lemmas.Grind.{common_steps}
-use Rattle.std.proofs.lemmas.Cmp.{nat_list_cmp_total}
-use Rattle.std.proofs.lemmas.Map.Lookups.{exact_bytes}
-use Rattle.std.proofs.lemmas.List.{length-take, length-take-le, take-take, take-append-le}
 use Rattle.fp_model.specs.declared.definitions.Defs.{Defs}
 use Rattle.fp_model.specs.declared.database.Db.{Db}
 use Rattle.fp_model.specs.declared.database.Dedb.{Dedb}
@@ -25,9 +19,9 @@ use Rattle.fp_model.specs.State.{Area, areas_of, has_anchor, roots_at, with_root
 use Rattle.fp_model.specs.Order.{root_key}
 use Rattle.fp_model.specs.Commit.{ends_at, with_dedb, with_ends, takes, with_anchors, types_of, with_item, with_dependent, numbered_at, with_insert, with_inserts, kept_from, in_anchors, purged_area, area_of_set, purged}
 use Rattle.fp_model.specs.Product.{is_anchor_of_set}
-use Rattle.serial_order.specs.Laws.{SegmentIs, RootsAre}
-use Rattle.serial_order.specs.ProductView.{seen_in, change_claim, insert_claim}
-use Rattle.serial_order.proofs.Lists.{eqb_same, eqb_other, eqb_is, tested, true_is_not_false, some_is, none_is_not_some}
+use Rattle.serial_order.specs.Laws.{RootsAre}
+use Rattle.serial_order.specs.ProductView.{seen_in}
+use Rattle.serial_order.proofs.Lists.{eqb_same, true_is_not_false, some_is, none_is_not_some}
 
 -- ---- elements at a place
 
@@ -88,6 +82,7 @@ module _ (dedb anchor : ℕ) where
               → unwrap_or (slice_get (option_map_or (λ roots. slice_set d.anchors i.anchor (change_key (root_key (types_of defs i.dedb)) i.key (with_item item) roots)) o d.anchors) anchor) [] ≡ unwrap_or (slice_get d.anchors anchor) []
           put d None other = refl
           put d (Some roots) other = ap (λ (o : Option (List Root)). unwrap_or o []) (get_set_other d.anchors i.anchor anchor (change_key (root_key (types_of defs i.dedb)) i.key (with_item item) roots) other)
+
       at : (o : Option Area) → roots_at (option_map_or (λ area. numbered_at defs i area db) o db) dedb anchor ≡ roots_at db dedb anchor
       at None = refl
       at (Some area) = roots_with_ends area (record (ends_at db area) { end = (ends_at db area).end + 1 }) (with_dependent defs i (record { serial = (ends_at db area).end; bytes = i.bytes }) db) ∙ dependent (record { serial = (ends_at db area).end; bytes = i.bytes })
@@ -150,6 +145,7 @@ purge_leaves defs set n db next e resource outside = by (area_of_set defs set) r
     in_area area (Segment msdb key) is outside = refl
     in_area area (Anchor dedb anchor) is outside =
         ap (λ (roots : List Root). RootsAre roots) (roots_with_purge area n db dedb anchor (subst (λ (o : Option Area). option_map_or (λ area. has_anchor area dedb anchor) o false ≡ false) is outside))
+
     by : (o : Option Area) → area_of_set defs set ≡ o → option_map_or (λ area. if nat_lt 0 area.capacity then Some (purged_area area n db) else None) o None ≡ Some next → seen_in defs resource next ≡ seen_in defs resource db
     by None is e = absurd (none_is_not_some next e)
     by (Some area) is e = either (nat_lt 0 area.capacity) e

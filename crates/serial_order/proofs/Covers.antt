@@ -1,5 +1,5 @@
 -- What a call leaves to rely on is held Exclusive.
-use Rattle.std.proofs.Common.{◌≡◌, ℕ, zero, suc, ◌+◌, ◌-◌, List, [], ◌∷◌, ◌++◌, map, length, Option, Some, None, ◌⊎◌, inl, inr, refl, sym, ◌∙◌, ap, subst, Bool, true, false, not, ◌&&◌, ◌||◌, if◌then◌else◌, arith, slice_get, slice_set}
+use Rattle.std.proofs.Common.{◌≡◌, ℕ, zero, suc, ◌+◌, ◌-◌, List, [], ◌∷◌, ◌++◌, map, length, Option, Some, None, refl, sym, ◌∙◌, ap, subst, Bool, true, false, not, ◌&&◌, if◌then◌else◌, arith, slice_get, slice_set}
 use Rattle.std.specs.Prelude.{codes, is_some, find, filter, unwrap_or}
 use Rattle.std.specs.List.{AllByRecursion, flat_map, list_all}
 use Rattle.std.specs.Option.{option_map_or}
@@ -29,13 +29,13 @@ use Rattle.fp_model.specs.State.{key_of, segment_of, segment_after}
 use Rattle.fp_model.specs.Fsas.{fsas_in, list_on, all_blank}
 use Rattle.fp_model.specs.Order.{Shown, Place, Step, Edit, Replaces, Deletes, Inserts, is_sequential, key_in, edited}
 use Rattle.fp_model.specs.Workspace.{MsdbPosition, DedbPosition, no_msdb_position, Workspace, fresh}
-use Rattle.fp_model.specs.Answers.{Replied, Needed, answered, lettered, blank, serves, unless_held}
+use Rattle.fp_model.specs.Answers.{Replied, answered, lettered, blank, unless_held}
 use Rattle.fp_model.specs.MsdbCalls as msdb
 use Rattle.fp_model.specs.DedbCalls as dedb
-use Rattle.fp_model.specs.Calls.{Target, OnMsdb, OnDedb, Nowhere, database_of, dedb_target, target_of, msdb_at, reply_on, need_on, reply_to, need_of}
+use Rattle.fp_model.specs.Calls.{OnMsdb, OnDedb, Nowhere, database_of, dedb_target, msdb_at, reply_on, need_on, reply_to, need_of}
 use Rattle.serial_order.specs.Laws.{IsExclusive, IsCovered}
-use Rattle.serial_order.specs.ProductView.{fields_of, is_whole, is_call, is_whole_call, is_own, held_claim, held_claims, deferred_claim, change_claim, insert_claim, claims_of, view_of}
-use Rattle.serial_order.proofs.Lists.{tested, true_is_not_false, some_is, none_is_not_some}
+use Rattle.serial_order.specs.ProductView.{fields_of, is_whole, is_call, is_whole_call, is_own, held_claim, held_claims, deferred_claim, change_claim, insert_claim, view_of}
+use Rattle.serial_order.proofs.Lists.{some_is, none_is_not_some}
 use Rattle.serial_order.proofs.Locks.{both_left, both_right, same_text_is}
 use Rattle.serial_order.proofs.Replies.{key_held, unless_none, served_exclusive}
 
@@ -208,6 +208,7 @@ module _ (defs : Defs) (held : Resource → Option Mode) where
             by false o e h = absurd (none_is_not_some key e)
             by true None e h = absurd (none_is_not_some key e)
             by true (Some k) e h = subst (λ (n : ℕ). held (Segment n key) ≡ Some Exclusive) (omega arith) (subst (λ (q : List ℕ). held (Segment (0 + number) q) ≡ Some Exclusive) (some_is k key e) h.0)
+
         at : (o : Option MsdbPosition) → slice_get own.msdbs number ≡ o → (if (unwrap_or o no_msdb_position).held then (unwrap_or o no_msdb_position).key else None) ≡ Some key → held (Segment number key) ≡ Some Exclusive
         at None is e = absurd (none_is_not_some key e)
         at (Some p) is e = claimed p e (claims_at own.msdbs 0 number p c.positions is)
@@ -224,8 +225,8 @@ module _ (defs : Defs) (held : Resource → Option Mode) where
         (λ e. unheld_covers own c)
         (λ e. either_covers (same_text (key_of def.fields bytes) key) (msdb.queued def number own (answered blank) (deferred.Repl number bytes)) (msdb.refused def number own (codes "DA"))
         (λ same.
-          let claim : key_of (fields_of defs number) bytes ≡ key = ap (λ (fields : List FieldDef). key_of fields bytes) fields_are ∙ same_text_is (key_of def.fields bytes) key same in
-          queued_covers own (answered blank) (deferred.Repl number bytes) c refl (subst (λ (k : List ℕ). held (Segment number k) ≡ Some Exclusive) (sym claim) h, tt))
+        let claim : key_of (fields_of defs number) bytes ≡ key = ap (λ (fields : List FieldDef). key_of fields bytes) fields_are ∙ same_text_is (key_of def.fields bytes) key same in
+        queued_covers own (answered blank) (deferred.Repl number bytes) c refl (subst (λ (k : List ℕ). held (Segment number k) ≡ Some Exclusive) (sym claim) h, tt))
         (λ other. unheld_covers own c))
 
     dlet_covers : (own : Workspace) (key : List ℕ) → Covers defs own held → held (Segment number key) ≡ Some Exclusive → Covers defs (msdb.dlet_reply def number own key).own held

@@ -1,5 +1,5 @@
 -- The calls that scripts ask have their form: field calls name whole keys.
-use Rattle.std.proofs.Common.{◌≡◌, refl, sym, ap, ◌∙◌, subst, arith, ℕ, zero, suc, ◌+◌, ◌-◌, ◌≤◌, List, [], ◌∷◌, ◌++◌, map, length, replicate, Bool, true, false, if◌then◌else◌, Option, Some, None, slice_get, length-append}
+use Rattle.std.proofs.Common.{◌≡◌, refl, subst, arith, ℕ, zero, suc, ◌+◌, ◌-◌, List, [], ◌∷◌, map, length, replicate, Bool, true, false, if◌then◌else◌, Option, Some, None, slice_get, length-append}
 use Rattle.std.specs.Prelude.{nat_le, option_map}
 use Rattle.std.proofs.lemmas.List.{length-replicate}
 use Rattle.std.specs.Option.{option_map_or}
@@ -24,8 +24,8 @@ use Rattle.fp_model.specs.State.{key_length}
 use Rattle.fp_model.specs.Texts.{padded}
 use Rattle.fp_model.specs.Programs.{◌>>=◌, Env, Way, Goes, Leaves, Ends, Ask, Asks, Replies, Rolls, Layout, layout_of, fitted, fitted_key, or_rolls, goes_on, in_order, loops_on, times, called, run, run_step, ended, ask, at_top, text_of, key_text, fsas_given, set_text, chosen, reply_text, get_call, fld_call, isrt_call, repl_call, ssas_of, new_type, empty_segment, filled, shown_on, script_of}
 use Rattle.fp_model.specs.Product.{asked_by}
-use Rattle.serial_order.specs.ProductView.{fields_of, is_whole, is_call}
-use Rattle.serial_order.proofs.Lists.{true_is_not_false, some_is, none_is_not_some}
+use Rattle.serial_order.specs.ProductView.{is_whole, is_call}
+use Rattle.serial_order.proofs.Lists.{some_is, none_is_not_some}
 
 module _ (defs : Defs) where
   abbrev EndIsFair : Ask → Type 0

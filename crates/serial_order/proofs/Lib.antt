@@ -11,3 +11,4 @@ pub mod Forms
 pub mod Changes
 pub mod Settling
 pub mod Queue
+pub mod ProductLaws

@@ -1,6 +1,6 @@
 -- What calls, the sync point and lines ask for.
 use Rattle.std.proofs.Common.{◌≡◌, ◌<◌, ℕ, ◌-◌, List, [], ◌∷◌, length, Option, Some, None, refl, sym, ◌∙◌, ap, subst, Bool, true, false, not, ◌||◌, if◌then◌else◌, slice_get, Result, Ok, Err}
-use Rattle.std.specs.Prelude.{is_some, find, nat_lt}
+use Rattle.std.specs.Prelude.{is_some, nat_lt}
 use Rattle.std.specs.List.{list_all}
 use Rattle.std.specs.Option.{option_map_or}
 use Rattle.fp_model.specs.declared.name.Name.{Name}
@@ -11,20 +11,18 @@ use Rattle.fp_model.specs.declared.database.Db.{Db}
 use Rattle.fp_model.specs.declared.calls.Answer.{Answer}
 use Rattle.fp_model.specs.declared.calls.Call.{Call}
 use Rattle.fp_model.specs.declared.calls.Call.TheVariants as call
-use Rattle.fp_model.specs.declared.calls.Get.{Get}
 use Rattle.fp_model.specs.declared.calls.Message.{Message}
 use Rattle.fp_model.specs.declared.calls.Mode.{Mode}
 use Rattle.fp_model.specs.declared.calls.Mode.TheVariants.{Exclusive}
 use Rattle.fp_model.specs.declared.calls.Resource.{Resource}
 use Rattle.fp_model.specs.declared.calls.Resource.TheVariants.{Anchor}
-use Rattle.fp_model.specs.declared.calls.Ssa.{Ssa}
 use Rattle.fp_model.specs.declared.scripts.Script.{Script}
 use Rattle.fp_model.specs.Texts.{is_printable}
 use Rattle.fp_model.specs.Messages.{MessageFault, TooLong, NotAscii, with_fair_text, message_by, message_of, terminal_of, tran_of, message_text}
 use Rattle.fp_model.specs.Settle.{resources}
 use Rattle.fp_model.specs.Commit.{lacking}
 use Rattle.fp_model.specs.Order.{Shown, Place}
-use Rattle.fp_model.specs.Programs.{Ask, Asks, Replies, ask, full_cost, script_of}
+use Rattle.fp_model.specs.Programs.{Asks, Replies, ask, full_cost, script_of}
 use Rattle.fp_model.specs.Product.{if_script, request_of, asked_by, cost_of}
 use Rattle.fp_model.specs.Workspace.{Workspace}
 use Rattle.fp_model.specs.Answers.{Needed, serves, unless_held}

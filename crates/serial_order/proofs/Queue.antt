@@ -1,5 +1,5 @@
 -- The sync point changes only what is held Exclusive.
-use Rattle.std.proofs.Common.{◌≡◌, ℕ, zero, suc, ◌+◌, ◌≤◌, List, [], ◌∷◌, ◌++◌, map, length, Option, Some, None, inl, inr, refl, sym, ◌∙◌, ap, subst, Bool, true, false, ◌&&◌, if◌then◌else◌, arith, slice_get, slice_set}
+use Rattle.std.proofs.Common.{◌≡◌, ℕ, zero, suc, ◌+◌, ◌≤◌, List, [], ◌∷◌, map, length, Option, Some, None, inl, inr, refl, sym, ◌∙◌, ap, subst, Bool, true, false, ◌&&◌, if◌then◌else◌, arith, slice_get, slice_set}
 use Rattle.std.specs.Prelude.{filter, find, unwrap_or, nat_lt, nat_le}
 use Rattle.std.specs.List.{AllByRecursion, flat_map, list_all}
 use Rattle.std.specs.Option.{option_map_or}
@@ -22,12 +22,11 @@ use Rattle.fp_model.specs.declared.calls.SeqInsert.{SeqInsert}
 use Rattle.fp_model.specs.State.{key_length, key_of, segment_of, with_segment, without_segment, Area, areas_of, with_roots}
 use Rattle.fp_model.specs.Fsas.{Failure}
 use Rattle.fp_model.specs.Settle.{Settled, Stands, VerifyFails, Applied, Stays, Fails, with_msdb, fld_failure, with_field_changes, applied, settle_from, settle, resources}
-use Rattle.fp_model.specs.Commit.{Settlement, Commits, FailsVerify, FillsPart, with_anchors, with_insert, with_inserts, with_msdbs, committed, first_full, settled_to, settlement, lacking, ends_at, is_too_full, takes, numbered_at}
+use Rattle.fp_model.specs.Commit.{Commits, FailsVerify, FillsPart, with_anchors, with_insert, with_inserts, with_msdbs, committed, first_full, settled_to, settlement, lacking, ends_at, is_too_full, takes, numbered_at}
 use Rattle.fp_model.specs.WellFormed.{IsMsdbDef}
 use Rattle.fp_model.specs.Workspace.{Workspace}
-use Rattle.fp_model.specs.Answers.{serves}
 use Rattle.serial_order.specs.Laws.{SegmentIs, RootsAre, IsExclusive, IsCovered}
-use Rattle.serial_order.specs.ProductView.{seen_in, fields_of, is_whole, is_whole_call, deferred_claim, change_claim, insert_claim, view_of}
+use Rattle.serial_order.specs.ProductView.{seen_in, fields_of, is_whole_call, deferred_claim, change_claim, insert_claim, view_of}
 use Rattle.serial_order.proofs.Lists.{some_is, none_is_not_some}
 use Rattle.serial_order.proofs.Locks.{both_left, both_right}
 use Rattle.serial_order.proofs.Covers.{Covers, parts}
@@ -109,10 +108,11 @@ module _ (defs : Defs) (each : AllByRecursion IsMsdbDef defs.msdbs) where
       where
         after : segment_at (with_msdb defs.msdbs number (with_field_changes defs.msdbs key fsas) msdbs) m k ≡ segment_at msdbs m k
         after = with_msdb_leaves number (with_field_changes defs.msdbs key fsas) msdbs (λ def msdb is same.
-          let whole : nat_le (key_length def.fields) (length key) ≡ true = subst (λ (fields : List FieldDef). nat_le (key_length fields) (length key) ≡ true) (fields_are number def is) fair in
-          let long : key_length def.fields ≤ length key = grind (arith, common_steps, whole) in
-          let formed = all_at IsMsdbDef defs.msdbs number def each is in
-          field_changes_leave def def.length formed.layout.stand defs.msdbs key fsas k msdb long (λ e. ne (ap (λ (q : List ℕ). Segment number q) e ∙ ap (λ (n : ℕ). Segment n k) (sym same))))
+            let whole : nat_le (key_length def.fields) (length key) ≡ true = subst (λ (fields : List FieldDef). nat_le (key_length fields) (length key) ≡ true) (fields_are number def is) fair in
+            let long : key_length def.fields ≤ length key = grind (arith, common_steps, whole) in
+            let formed = all_at IsMsdbDef defs.msdbs number def each is in
+            field_changes_leave def def.length formed.layout.stand defs.msdbs key fsas k msdb long (λ e. ne (ap (λ (q : List ℕ). Segment number q) e ∙ ap (λ (n : ℕ). Segment n k) (sym same))))
+
         by : (o : Option Failure) → elim o as (λ x. Applied) [ None ↦ Stays (with_msdb defs.msdbs number (with_field_changes defs.msdbs key fsas) msdbs) | Some failure ↦ Fails failure.place failure.found ] ≡ Stays changed → segment_at changed m k ≡ segment_at msdbs m k
         by None e = subst (λ (x : List Msdb). segment_at x m k ≡ segment_at msdbs m k) (is_stays (with_msdb defs.msdbs number (with_field_changes defs.msdbs key fsas) msdbs) changed e) after
         by (Some failure) e = absurd (fails_is_not_stays failure.place failure.found changed e)

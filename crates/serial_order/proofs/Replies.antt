@@ -1,5 +1,5 @@
 -- A call that needs no further lock is answered alike where what is held is the same.
-use Rattle.std.proofs.Common.{◌≡◌, ℕ, ◌-◌, List, [], ◌∷◌, length, Option, Some, None, ◌⊎◌, inl, inr, refl, sym, ◌∙◌, ap, subst, Bool, true, false, not, ◌&&◌, ◌||◌, if◌then◌else◌, slice_get}
+use Rattle.std.proofs.Common.{◌≡◌, ℕ, ◌-◌, List, [], ◌∷◌, length, Option, Some, None, refl, sym, ◌∙◌, ap, subst, Bool, true, false, not, ◌&&◌, ◌||◌, if◌then◌else◌, slice_get}
 use Rattle.std.specs.Prelude.{codes, is_some, find, filter}
 use Rattle.std.specs.Option.{option_map_or}
 use Rattle.fp_model.specs.declared.definitions.Defs.{Defs}
@@ -26,10 +26,10 @@ use Rattle.fp_model.specs.Workspace.{Workspace}
 use Rattle.fp_model.specs.Answers.{Replied, Needed, answered, blank, serves, unless_held}
 use Rattle.fp_model.specs.MsdbCalls as msdb
 use Rattle.fp_model.specs.DedbCalls as dedb
-use Rattle.fp_model.specs.Calls.{Target, OnMsdb, OnDedb, Nowhere, database_of, dedb_target, target_of, msdb_at, reply_on, looks_on, need_on, reply_to, looks_unheld, need_of}
+use Rattle.fp_model.specs.Calls.{OnMsdb, OnDedb, Nowhere, database_of, dedb_target, msdb_at, reply_on, looks_on, need_on, reply_to, looks_unheld, need_of}
 use Rattle.serial_order.specs.Laws.{SegmentIs, RootsAre, IsSame}
-use Rattle.serial_order.specs.ProductView.{segment_in, seen_in, view_of}
-use Rattle.serial_order.proofs.Lists.{tested, true_is_not_false, some_is, none_is_not_some}
+use Rattle.serial_order.specs.ProductView.{view_of}
+use Rattle.serial_order.proofs.Lists.{true_is_not_false, some_is, none_is_not_some}
 
 -- ---- what a lock serves
 

@@ -1,45 +1,33 @@
 -- Settling changes only what is held Exclusive.
-use Rattle.std.proofs.Common.{◌≡◌, ℕ, zero, suc, ◌+◌, ◌-◌, ◌<◌, ◌≤◌, List, [], ◌∷◌, ◌++◌, map, length, take, drop, Option, Some, None, ◌⊎◌, inl, inr, refl, sym, ◌∙◌, ap, subst, Bool, true, false, not, nat_eq, ◌&&◌, ◌||◌, if◌then◌else◌, arith, slice_get, slice_set, Ordering, length-append}
-use Rattle.std.specs.Prelude.{find, filter, fold, unwrap_or, nat_lt, nat_le, min}
-use Rattle.std.specs.List.{AllByRecursion, flat_map, list_all}
+use Rattle.std.proofs.Common.{◌≡◌, ℕ, ◌+◌, ◌≤◌, List, [], ◌∷◌, ◌++◌, length, take, drop, Option, Some, None, refl, sym, ◌∙◌, ap, subst, Bool, true, false, not, nat_eq, ◌&&◌, ◌||◌, if◌then◌else◌, arith, Ordering, length-append}
+use Rattle.std.specs.Prelude.{find, filter, nat_lt, min}
+use Rattle.std.specs.List.{AllByRecursion}
 use Rattle.std.specs.Option.{option_map_or}
 use Rattle.std.specs.Ordering.{nat_cmp, is_lt, ordering_reverse}
 use Rattle.std.specs.Cmp.Lexicographic.{slice_cmp}
 use Rattle.std.specs.declared.cmp.Ordering.TheVariants.{Less, Equal, Greater}
-use Rattle.std.proofs.lemmas.Bool.{cases_eq}
 use Rattle.std.proofs.lemmas.Grind.{common_steps}
 use Rattle.std.proofs.lemmas.Cmp.{nat_list_cmp_total}
 use Rattle.std.proofs.lemmas.Map.Lookups.{exact_bytes}
 use Rattle.std.proofs.lemmas.List.{length-take, length-take-le, take-take, take-append-le}
-use Rattle.fp_model.specs.declared.definitions.Defs.{Defs}
 use Rattle.fp_model.specs.declared.definitions.FieldDef.{FieldDef}
 use Rattle.fp_model.specs.declared.definitions.MsdbDef.{MsdbDef}
-use Rattle.fp_model.specs.declared.database.Db.{Db}
 use Rattle.fp_model.specs.declared.database.Msdb.{Msdb}
-use Rattle.fp_model.specs.declared.database.Root.{Root}
-use Rattle.fp_model.specs.declared.calls.AnchorChange.{AnchorChange}
-use Rattle.fp_model.specs.declared.calls.Deferred.{Deferred}
-use Rattle.fp_model.specs.declared.calls.Deferred.TheVariants.{Fld, Repl, Isrt, Dlet}
 use Rattle.fp_model.specs.declared.calls.Mode.{Mode}
 use Rattle.fp_model.specs.declared.calls.Mode.TheVariants.{Exclusive}
 use Rattle.fp_model.specs.declared.calls.Resource.{Resource}
 use Rattle.fp_model.specs.declared.calls.Resource.TheVariants.{Segment, Anchor}
-use Rattle.fp_model.specs.declared.calls.SeqInsert.{SeqInsert}
 use Rattle.fp_model.specs.Texts.{same_text}
-use Rattle.fp_model.specs.State.{key_length, key_of, is_below, put_by_key, drop_key, segment_of, with_segment, without_segment, Area, areas_of}
-use Rattle.fp_model.specs.Fsas.{Fsa, Failure, fsas_in, field_bytes, with_field, field_of, is_key, is_text, is_sum, is_change, is_verify, suits, changed, first_letter, letter_on, letter_of, with_change, changed_by, fsa_on, list_on}
-use Rattle.fp_model.specs.Settle.{Settled, Stands, VerifyFails, Applied, Stays, Fails, with_msdb, fld_failure, with_field_changes, applied, settle_from, settle, comes_before, with_resource, resources}
-use Rattle.fp_model.specs.Commit.{Settlement, Commits, FailsVerify, FillsPart, with_anchors, with_insert, with_inserts, with_msdbs, committed, first_full, settled_to, settlement, lacking, with_dedb, ends_at, is_too_full, takes, numbered_at}
-use Rattle.fp_model.specs.WellFormed.{StandFrom, IsLayout, IsMsdbDef}
-use Rattle.fp_model.specs.Workspace.{Workspace}
+use Rattle.fp_model.specs.State.{key_length, key_of, is_below, put_by_key, drop_key, segment_of, with_segment, without_segment}
+use Rattle.fp_model.specs.Fsas.{Fsa, fsas_in, field_bytes, with_field, field_of, is_key, is_text, is_sum, is_change, is_verify, changed, letter_on, letter_of, with_change, changed_by, fsa_on, list_on}
+use Rattle.fp_model.specs.Settle.{with_field_changes, comes_before, with_resource}
+use Rattle.fp_model.specs.WellFormed.{StandFrom}
 use Rattle.fp_model.specs.Answers.{serves}
-use Rattle.serial_order.specs.Laws.{SegmentIs, RootsAre, IsExclusive, IsCovered}
-use Rattle.serial_order.specs.ProductView.{segment_in, seen_in, fields_of, is_whole, is_whole_call, deferred_claim, change_claim, insert_claim, view_of}
-use Rattle.serial_order.proofs.Lists.{eqb_same, eqb_other, eqb_is, tested, true_is_not_false, some_is, none_is_not_some}
-use Rattle.serial_order.proofs.Locks.{both_left, both_right, same_text_is, text_is_same}
+use Rattle.serial_order.specs.Laws.{IsExclusive}
+use Rattle.serial_order.proofs.Lists.{eqb_same, true_is_not_false, some_is, none_is_not_some}
+use Rattle.serial_order.proofs.Locks.{same_text_is}
 use Rattle.serial_order.proofs.Replies.{served_exclusive}
-use Rattle.serial_order.proofs.Covers.{Covers, parts, found_passes, all_front, all_back}
-use Rattle.serial_order.proofs.Changes.{get_set_other, get_set_same, roots_with_anchors, roots_with_inserts}
+use Rattle.serial_order.proofs.Covers.{found_passes}
 
 -- ---- what the sync point has locked
 

@@ -1,5 +1,5 @@
 use Rattle.serial_order.proofs.Turns.{run_kept, rest_kept}
-use Rattle.serial_order.proofs.every_run_is_serial.Goals as goal
+use Rattle.serial_order.proofs.any_rules.every_run_is_serial.Goals as goal
 
 pub returns : goal.returns
 returns c = record {

@@ -1,5 +1,5 @@
 use Rattle.serial_order.proofs.Turns.{turn_kept, run_kept}
-use Rattle.serial_order.proofs.a_turn_keeps_the_order.Goals as goal
+use Rattle.serial_order.proofs.any_rules.a_turn_keeps_the_order.Goals as goal
 
 pub returns : goal.returns
 returns c = record {
