@@ -13,3 +13,4 @@ pub mod Settling
 pub mod Queue
 pub mod ProductLaws
 pub mod SampleAsks
+pub mod SampleRun

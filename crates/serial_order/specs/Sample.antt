@@ -1,23 +1,18 @@
 -- A run with a wait, a deadlock, a verify that fails at the sync point, an upgrade and a Purge.
 use Rattle.std.specs.Prelude.{ℕ, List, [], ◌∷◌, Bool, true, false, codes, replicate, Some, None}
-use Rattle.fp_model.specs.declared.definitions.AreaDef.{AreaDef}
 use Rattle.fp_model.specs.declared.definitions.DedbDef.{DedbDef}
 use Rattle.fp_model.specs.declared.definitions.Defs.{Defs}
 use Rattle.fp_model.specs.declared.definitions.FieldKind.TheVariants.{C}
 use Rattle.fp_model.specs.declared.definitions.Kind.TheVariants.{Fold}
 use Rattle.fp_model.specs.declared.definitions.MsdbDef.{MsdbDef}
-use Rattle.fp_model.specs.declared.definitions.SegDef.{SegDef}
 use Rattle.fp_model.specs.declared.calls.Get.TheVariants.{Unique}
 use Rattle.fp_model.specs.declared.events.Event.{Event}
 use Rattle.fp_model.specs.declared.events.Event.TheVariants.{In, Region, Log, Purge}
 use Rattle.fp_model.specs.declared.log.Outcome.{Outcome}
 use Rattle.fp_model.specs.declared.log.Outcome.TheVariants as outcome
 use Rattle.fp_model.specs.declared.name.Name.{Name}
-use Rattle.fp_model.specs.declared.scripts.FieldText.{FieldText}
-use Rattle.fp_model.specs.declared.scripts.FsaText.{FsaText}
 use Rattle.fp_model.specs.declared.scripts.Operand.TheVariants.{Text}
 use Rattle.fp_model.specs.declared.scripts.Script.{Script}
-use Rattle.fp_model.specs.declared.scripts.SsaText.{SsaText}
 use Rattle.fp_model.specs.declared.scripts.Statement.{Statement, roll-Statement}
 use Rattle.fp_model.specs.declared.scripts.Statement.TheOpen.{Reply, Get, Fld, Repl}
 use Rattle.fp_model.specs.Texts.{padded}
