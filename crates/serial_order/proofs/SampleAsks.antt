@@ -18,6 +18,7 @@ use Rattle.serial_order.specs.Sample.{named, sample_defs, changing, crossing, ve
 abbrev pub from_terminal : List ℕ → List ℕ → List ℕ → Message
 from_terminal terminal script line = record { lterm = named terminal; tran = named script; text = []; line = line }
 
+-- the four messages
 abbrev pub to_change : Message
 to_change = from_terminal (codes "T1") (codes "X") (codes "T1 X")
 
@@ -43,6 +44,7 @@ verify_of_b = call.Fld 0 (codes "B") (list_text (record { field = (named (codes 
 abbrev pub root_get : Bool → Call
 root_get hold = call.Get Unique hold 1 (record { segment = 0; key = None } ∷ [])
 
+-- what the calls are answered
 abbrev pub shown_a : Answer
 shown_a = showing 0 (codes "A0")
 
@@ -54,6 +56,7 @@ no_root = answered (codes "GE")
 
 -- ---- what each script asks after its answers
 
+-- the script X
 pub change_asks_a : ask sample_defs changing.statements to_change [] ≡ Asks (hold_of (codes "A"))
 unfolding ask
 change_asks_a = simp (run_roll) refl
@@ -70,6 +73,7 @@ pub change_replies : ask sample_defs changing.statements to_change (shown_a ∷ 
 unfolding ask
 change_replies = simp (run_roll) refl
 
+-- the script Y
 pub cross_asks_b : ask sample_defs crossing.statements to_cross [] ≡ Asks (hold_of (codes "B"))
 unfolding ask
 cross_asks_b = simp (run_roll) refl
@@ -78,6 +82,7 @@ pub cross_asks_a : ask sample_defs crossing.statements to_cross (shown_b ∷ [])
 unfolding ask
 cross_asks_a = simp (run_roll) refl
 
+-- the script Z
 pub verify_asks : ask sample_defs verifying.statements to_verify [] ≡ Asks verify_of_b
 unfolding ask be16 digits
 verify_asks = simp (run_roll) refl
@@ -86,6 +91,7 @@ pub verify_replies : ask sample_defs verifying.statements to_verify (lettered bl
 unfolding ask be16 digits
 verify_replies = simp (run_roll) refl
 
+-- the script U
 pub upgrade_looks : ask sample_defs upgrading.statements to_upgrade [] ≡ Asks (root_get false)
 unfolding ask
 upgrade_looks = simp (run_roll) refl

@@ -25,6 +25,7 @@ use Rattle.serial_order.proofs.SampleAsks.{to_change, to_cross, to_verify, to_up
 
 -- ---- the locks that are needed
 
+-- a segment, and the anchor
 abbrev of_segment : List ℕ → Needed
 of_segment key = record { resource = Segment 0 key; mode = Exclusive }
 
@@ -171,6 +172,7 @@ m28 = sealed_once sample_rules m27
 
 -- ---- who waits
 
+-- the only pair
 is_that_pair : (p : ℕ × ℕ) → Contains ((1, 2) ∷ []) p → (p.0 ≡ 1) × (p.1 ≡ 2)
 is_that_pair p c = elim (contains_cases (1, 2) [] p c) [
   | inl same ↦ (ap (λ (q : ℕ × ℕ). q.0) (sym same), ap (λ (q : ℕ × ℕ). q.1) (sym same))
@@ -182,6 +184,7 @@ only_first : (r : ℕ) (rs : List ℕ) (goal : ℕ) → WaitsAlong ((1, 2) ∷ [
 only_first r [] goal w = (is_that_pair (r, goal) w).0
 only_first r (c ∷ cs) goal w = (is_that_pair (r, c) w.0).0
 
+-- where only the first waits there is no cycle
 no_cycle_yet : (cycle : List ℕ) → ¬ IsCycle ((1, 2) ∷ []) (1 ∷ cycle)
 no_cycle_yet [] w = let two : 1 ≡ 2 = (is_that_pair (1, 1) w).1 in absurd (omega (arith, two))
 no_cycle_yet (c ∷ cs) w =
@@ -189,6 +192,7 @@ no_cycle_yet (c ∷ cs) w =
     let one : c ≡ 1 = only_first c cs 1 w.1 in
     absurd (omega (arith, two, one))
 
+-- the regions of the cycle
 two_apart : IsDistinct ◌==◌ (2 ∷ 1 ∷ [])
 unfolding IsDistinct
 two_apart = ((refl, tt), (tt, tt))
@@ -199,6 +203,7 @@ two_apart = ((refl, tt), (tt, tt))
 from_asks : (m : Machine) (region : ℕ) (t : Transaction) (a : Ask) (o : Option Needed) → asks sample_rules t ≡ a → wanted sample_rules m region t a ≡ o → wanted sample_rules m region t (asks sample_rules t) ≡ o
 from_asks m region t a o e f = ap (λ (q : Ask). wanted sample_rules m region t q) e ∙ f
 
+-- the first and the second take their locks
 turn8 : Does sample_rules m7 1 change0 (Gains (of_segment (codes "A"))) m8
 unfolding reply_to looks_unheld need_of list_on first_failure settle_from settlement lacking purged be16 digits
 turn8 = (from_asks m7 1 change0 (Asks (hold_of (codes "A"))) (Some (of_segment (codes "A"))) change_asks_a refl, refl, refl)
@@ -215,10 +220,12 @@ turn11 : Does sample_rules m10 2 cross0 (Answers (hold_of (codes "B"))) m11
 unfolding reply_to looks_unheld need_of list_on first_failure settle_from settlement lacking purged be16 digits
 turn11 = (cross_asks_b, from_asks m10 2 cross0 (Asks (hold_of (codes "B"))) None cross_asks_b refl, refl)
 
+-- the third looks at B
 turn12 : Does sample_rules m11 3 verify0 (Answers (verify_of_b)) m12
 unfolding reply_to looks_unheld need_of list_on first_failure settle_from settlement lacking purged be16 digits
 turn12 = (verify_asks, from_asks m11 3 verify0 (Asks verify_of_b) None verify_asks refl, refl)
 
+-- the first waits, and the second closes the cycle
 turn13 : Does sample_rules m12 1 change1 (Waits (of_segment (codes "B"))) m13
 unfolding reply_to looks_unheld need_of list_on first_failure settle_from settlement lacking purged be16 digits
 turn13 = (from_asks m12 1 change1 (Asks (hold_of (codes "B"))) (Some (of_segment (codes "B"))) change_asks_b refl, refl, no_cycle_yet, refl)
@@ -227,6 +234,7 @@ turn14 : Does sample_rules m13 2 cross1 (Closes (of_segment (codes "A")) (1 ∷ 
 unfolding reply_to looks_unheld need_of list_on first_failure settle_from settlement lacking purged be16 digits
 turn14 = (from_asks m13 2 cross1 (Asks (hold_of (codes "A"))) (Some (of_segment (codes "A"))) cross_asks_a refl, (contains_first (2, 1) ((1, 2) ∷ []), contains_later (2, 1) ((1, 2) ∷ []) (1, 2) (contains_first (1, 2) [])), two_apart, refl)
 
+-- the first goes on and commits
 turn15 : Does sample_rules m14 1 change1 (Gains (of_segment (codes "B"))) m15
 unfolding reply_to looks_unheld need_of list_on first_failure settle_from settlement lacking purged be16 digits
 turn15 = (from_asks m14 1 change1 (Asks (hold_of (codes "B"))) (Some (of_segment (codes "B"))) change_asks_b refl, refl, refl)
@@ -243,6 +251,7 @@ turn18 : Does sample_rules m17 1 change3 (Commits_with (codes "CHANGED") [] chan
 unfolding reply_to looks_unheld need_of list_on first_failure settle_from settlement lacking purged be16 digits
 turn18 = (change_replies, from_asks m17 1 change3 (Replies (codes "CHANGED")) None change_replies refl, refl, refl)
 
+-- the third meets the change
 turn19 : Does sample_rules m18 3 verify1 (Gains (of_segment (codes "B"))) m19
 unfolding reply_to looks_unheld need_of list_on first_failure settle_from settlement lacking purged be16 digits
 turn19 = (from_asks m18 3 verify1 (Replies (codes "VERIFIED")) (Some (of_segment (codes "B"))) verify_replies refl, refl, refl)
@@ -251,6 +260,7 @@ turn20 : Does sample_rules m19 3 verify1 (Fails_verify (codes "VERIFIED") 0 0 (c
 unfolding reply_to looks_unheld need_of list_on first_failure settle_from settlement lacking purged be16 digits
 turn20 = (verify_replies, from_asks m19 3 verify1 (Replies (codes "VERIFIED")) None verify_replies refl, refl, refl)
 
+-- the fourth line
 turn22 : Does sample_rules m21 1 upgrade0 (Gains (of_anchor Share)) m22
 unfolding reply_to looks_unheld need_of list_on first_failure settle_from settlement lacking purged be16 digits
 turn22 = (from_asks m21 1 upgrade0 (Asks (root_get false)) (Some (of_anchor Share)) upgrade_looks refl, refl, refl)
