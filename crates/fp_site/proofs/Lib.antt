@@ -1,0 +1,9 @@
+pub mod Padded
+pub mod DataSets
+pub mod Torns
+pub mod Runs
+pub mod Images
+pub mod Frames
+pub mod Crashes
+pub mod Choices
+pub mod Histories

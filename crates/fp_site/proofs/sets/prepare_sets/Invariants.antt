@@ -1,0 +1,9 @@
+use Rattle.std.proofs.Common.{◌≡◌, ℕ, length}
+use Rattle.fp_site.specs.Sets.{set_bytes}
+use Rattle.fp_site.proofs.sets.prepare_sets.Given as goal
+
+abbrev pub invariant-loop-i : goal.invariant-loop-i
+invariant-loop-i l = record {
+  same : (k : ℕ) → set_bytes l.sets.items k ≡ set_bytes l.initial.sets.items k;
+  count : length l.sets.items ≡ l.i-end;
+}

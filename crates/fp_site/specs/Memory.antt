@@ -1,0 +1,44 @@
+-- A site in memory, as its callers see it.
+use Rattle.std.specs.Prelude.{◌≡◌, ℕ, Bool}
+use Rattle.fp_site.specs.declared.memory.MemorySite.{MemorySite}
+use Rattle.fp_site.specs.Disk.{Snapshot, Disk, IsDurable}
+use Rattle.fp_site.specs.History.{History, disk_of}
+use Rattle.fp_site.specs.Faults.{IsCounted, is_told}
+use Rattle.fp_site.specs.Past.{past_of}
+
+-- the events since its start, the newest first
+abbrev pub memory_history : MemorySite → History
+memory_history m = past_of m.past
+
+-- what it tells
+abbrev pub memory_disk : MemorySite → Disk
+memory_disk m = disk_of (memory_history m)
+
+-- how many calls were made of it
+abbrev pub calls_made : MemorySite → ℕ
+calls_made m = m.faults.number
+
+-- how many failed
+abbrev pub memory_faults : MemorySite → ℕ
+memory_faults m = m.faults.count
+
+-- how many found no memory
+abbrev pub memory_shorts : MemorySite → ℕ
+memory_shorts m = m.faults.shorts
+
+-- whether the call of this number, counted from 0, is to fail
+abbrev pub fails_at : MemorySite → ℕ → Bool
+fails_at m number = is_told m.faults.failing.items m.faults.stop number
+
+-- its count of faults is that of the calls told to fail and of those that found no memory
+abbrev pub CountsFaults : MemorySite → Type 0
+CountsFaults m = IsCounted m.faults.failing.items m.faults.stop (calls_made m) (memory_faults m) (memory_shorts m)
+
+-- it begins as this snapshot, all on the disk, and no call has been made
+pub record BeginsAs (s : Snapshot) (m : MemorySite) : Type 0 where
+  pub contents : (memory_disk m).contents ≡ s.images
+  pub durable : (set : ℕ) → IsDurable (memory_disk m) set
+  pub sent : (memory_disk m).sent ≡ s.sent
+  pub calls : calls_made m ≡ 0
+  pub faults : memory_faults m ≡ 0
+  pub shorts : memory_shorts m ≡ 0
