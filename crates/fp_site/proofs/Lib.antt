@@ -1,9 +1,9 @@
-pub mod Padded
-pub mod DataSets
-pub mod Torns
 pub mod Runs
 pub mod Images
+pub mod Torns
 pub mod Frames
-pub mod Crashes
-pub mod Choices
-pub mod Histories
+mod Crashes
+mod Choices
+mod Histories
+mod DataSets
+mod Padded

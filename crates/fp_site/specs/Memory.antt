@@ -1,5 +1,5 @@
 -- A site in memory, as its callers see it.
-use Rattle.std.specs.Prelude.{◌≡◌, ℕ, Bool}
+use Rattle.std.specs.Prelude.{◌≡◌, ◌⊎◌, ℕ, ◌+◌, ◌-◌, ◌<◌, ◌^◌, Bool, true, false, get_or, min, Result, IsErr, OnErr, OnOk}
 use Rattle.fp_site.specs.declared.memory.MemorySite.{MemorySite}
 use Rattle.fp_site.specs.Disk.{Snapshot, Disk, IsDurable}
 use Rattle.fp_site.specs.History.{History, disk_of}
@@ -26,6 +26,10 @@ memory_faults m = m.faults.count
 abbrev pub memory_shorts : MemorySite → ℕ
 memory_shorts m = m.faults.shorts
 
+-- how many bytes were read of a data set
+abbrev pub memory_reads : MemorySite → ℕ → ℕ
+memory_reads m set = get_or m.reads.items set 0
+
 -- whether the call of this number, counted from 0, is to fail
 abbrev pub fails_at : MemorySite → ℕ → Bool
 fails_at m number = is_told m.faults.failing.items m.faults.stop number
@@ -42,3 +46,13 @@ pub record BeginsAs (s : Snapshot) (m : MemorySite) : Type 0 where
   pub calls : calls_made m ≡ 0
   pub faults : memory_faults m ≡ 0
   pub shorts : memory_shorts m ≡ 0
+
+-- What every call of a site in memory says of itself: it counts as one, it fails where it is told to, else only where it
+-- found no memory, and one that does not fail leaves the count of faults.
+pub record IsCall {T E : Type 0} (old new : MemorySite) (result : Result T E) : Type 0 where
+  pub calls : calls_made new ≡ min (calls_made old + 1) (2 ^ 64 - 1)
+  pub fails : fails_at old (calls_made old) ≡ true → IsErr result
+  pub short : fails_at old (calls_made old) ≡ false → OnErr result ((memory_shorts old < memory_shorts new) ⊎ (memory_shorts new ≡ 2 ^ 64 - 1))
+  pub passes : OnOk result (memory_faults new ≡ memory_faults old)
+  -- what it is told stays
+  pub told : (number : ℕ) → fails_at new number ≡ fails_at old number

@@ -3,7 +3,8 @@
 //! A call told to fail does what a failing device may do: a write leaves mixed bytes in its range, a send half of its
 //! text, and a read fills `into` with bytes that stand nowhere. A call that finds no memory changes nothing.
 ghost use Rattle.std.specs.Prelude.{◌≡◌, true, ◌⊎◌, ◌+◌, ◌-◌, ◌/◌, ◌<◌, ◌≤◌, ◌^◌, ◌↔◌, ℕ, [], ◌∷◌, ◌++◌, IfOk, IsTrue, None, OnErr, OnOk, get_or, length, min, take};
-ghost use Rattle.fp_site.specs.Disk.{written, read_range};
+ghost use Rattle.fp_site.specs.Disk.{Broken, Differs, Elapses, IsDurable, Leaves, Sends, Settles, Stays, Torn, read_range, written};
+ghost use Rattle.fp_site.specs.Site.{Counts};
 ghost use Rattle.fp_site.specs.History.{contents_after, disk_of, sent_after, synced_after};
 ghost use Rattle.fp_site.specs.History.Event.{Wrote, Synced, Sent};
 ghost use Rattle.fp_site.specs.Sets.{set_bytes, snapshot_of};
@@ -157,6 +158,8 @@ impl MemorySite {
 }
 
 impl Site for MemorySite {
+    ghost use Rattle.fp_site.specs.Memory.{IsCall, memory_disk, memory_faults, memory_reads};
+
     ghost told = { λ m. Unit {0} };
 
     ghost disk = { λ m. disk_of (past_of m.past) };
@@ -177,21 +180,42 @@ impl Site for MemorySite {
 
     ghost lawful = { λ m told. lawful (past_of m.past) (bounded_by (past_of m.past) (set_bytes m.sets.items) m.stands m.bounded) };
 
-    fn size(&mut self, set: u16) -> Result<u64, Failed> {
+    fn size(&mut self, set: u16) -> Result<u64, Failed>
+        ensures value { IfOk result (λ n. n ≡ length ((memory_disk self.old).contents set)) }
+        ensures bound { IfOk result (λ n. n ≤ 2 ^ 62) }
+        ensures call { IsCall self.old self.new result }
+        ensures cause { Counts (memory_faults self.old) (memory_faults self.new) result }
+        ensures stays { Stays (memory_disk self.old) (memory_disk self.new) }
+        ensures reads { (k : ℕ) → memory_reads self.new k ≡ memory_reads self.old k }
+    {
         if self.faults.next_fails() {
             return Err(Failed);
         }
         Ok(set_slice(&self.sets, set).len() as u64)
     }
 
-    fn reach(&mut self, _set: u16, _end: u64) -> Result<(), Failed> {
+    fn reach(&mut self, _set: u16, _end: u64) -> Result<(), Failed>
+        requires { _end ≤ 2 ^ 62 }
+        ensures call { IsCall self.old self.new result }
+        ensures cause { Counts (memory_faults self.old) (memory_faults self.new) result }
+        ensures stays { Stays (memory_disk self.old) (memory_disk self.new) }
+        ensures reads { (k : ℕ) → memory_reads self.new k ≡ memory_reads self.old k }
+    {
         if self.faults.next_fails() {
             return Err(Failed);
         }
         Ok(())
     }
 
-    fn read_at(&mut self, set: u16, at: u64, into: &mut [u8]) -> Result<(), Failed> {
+    fn read_at(&mut self, set: u16, at: u64, into: &mut [u8]) -> Result<(), Failed>
+        ensures value { OnOk result (into.new ≡ read_range ((memory_disk self.old).contents set) at (length into.old)) }
+        ensures call { IsCall self.old self.new result }
+        ensures cause { Counts (memory_faults self.old) (memory_faults self.new) result }
+        ensures stays { Stays (memory_disk self.old) (memory_disk self.new) }
+        ensures count { OnOk result (memory_reads self.new set ≡ min (memory_reads self.old set + length into.old) (2 ^ 64 - 1)) }
+        ensures uncounted { OnErr result (memory_reads self.new set ≡ memory_reads self.old set) }
+        ensures others { (k : ℕ) → (k ≡ set → ⊥) → memory_reads self.new k ≡ memory_reads self.old k }
+    {
         if self.faults.next_fails() {
             into.fill(JUNK);
             return Err(Failed);
@@ -204,7 +228,16 @@ impl Site for MemorySite {
         Ok(())
     }
 
-    fn write_at(&mut self, set: u16, at: u64, from: &[u8]) -> Result<(), Failed> {
+    fn write_at(&mut self, set: u16, at: u64, from: &[u8]) -> Result<(), Failed>
+        requires { at + length from.now ≤ 2 ^ 62 }
+        ensures wrote { OnOk result ((memory_disk self.new).contents set ≡ written ((memory_disk self.old).contents set) at from.now) }
+        ensures broke { OnErr result (Broken at (length from.now) ((memory_disk self.old).contents set) ((memory_disk self.new).contents set)) }
+        ensures call { IsCall self.old self.new result }
+        ensures cause { Counts (memory_faults self.old) (memory_faults self.new) result }
+        ensures leaves { Leaves set (memory_disk self.old) (memory_disk self.new) }
+        ensures reads { (k : ℕ) → memory_reads self.new k ≡ memory_reads self.old k }
+        ensures crash { Elapses (memory_disk self.old) (memory_disk self.new) (Differs (memory_disk self.old) set (Torn at (length from.now))) }
+    {
         if self.faults.next_fails() {
             let seed = self.faults.number();
             if break_write(
@@ -229,7 +262,16 @@ impl Site for MemorySite {
         Ok(())
     }
 
-    fn sync(&mut self, set: u16) -> Result<(), Failed> {
+    fn sync(&mut self, set: u16) -> Result<(), Failed>
+        ensures durable { OnOk result (IsDurable (memory_disk self.new) set) }
+        ensures same { (memory_disk self.new).contents set ≡ (memory_disk self.old).contents set }
+        ensures call { IsCall self.old self.new result }
+        ensures cause { Counts (memory_faults self.old) (memory_faults self.new) result }
+        ensures leaves { Leaves set (memory_disk self.old) (memory_disk self.new) }
+        ensures reads { (k : ℕ) → memory_reads self.new k ≡ memory_reads self.old k }
+        ensures crash { Elapses (memory_disk self.old) (memory_disk self.new)
+            (Differs (memory_disk self.old) set (λ _ image. Settles (memory_disk self.old) set image)) }
+    {
         if self.faults.next_fails() {
             return Err(Failed);
         }
@@ -240,7 +282,15 @@ impl Site for MemorySite {
         Ok(())
     }
 
-    fn send(&mut self, text: &[u8]) -> Result<(), Failed> {
+    fn send(&mut self, text: &[u8]) -> Result<(), Failed>
+        ensures sent { OnOk result ((memory_disk self.new).sent ≡ (memory_disk self.old).sent ++ text.now) }
+        ensures part { OnErr result ((n : ℕ) × ((memory_disk self.new).sent ≡ (memory_disk self.old).sent ++ take n text.now)) }
+        ensures call { IsCall self.old self.new result }
+        ensures cause { Counts (memory_faults self.old) (memory_faults self.new) result }
+        ensures same { (memory_disk self.new).contents ≡ (memory_disk self.old).contents }
+        ensures reads { (k : ℕ) → memory_reads self.new k ≡ memory_reads self.old k }
+        ensures crash { Elapses (memory_disk self.old) (memory_disk self.new) (Sends (memory_disk self.old) text.now) }
+    {
         if self.faults.next_fails() {
             if send(&mut self.sent, &mut self.past, first_half(text)).is_err() {
                 self.faults.count_short();
