@@ -35,9 +35,11 @@ pub by_result : {T E P Q R : Type 0} (r : Result T E) → OnOk r P → OnErr r Q
 by_result (Ok v) p q f g = f p
 by_result (Err e) p q f g = g q
 
+-- where nothing was noted no time went on
 pub none_more : (h : History) (these : Snapshot → Type 0) → Elapses (disk_of h) (disk_of h) these
 none_more h these = record { later = omega arith; keeps = λ t s le left. left; nothing_else = λ t s le left. inl left; tells_sent = λ told. told }
 
+-- one event more: what a crash after it, or within it, may leave
 one_more : (h : History) (e : Event) (these : Snapshot → Type 0) → ((s : Snapshot) → MayLeave (e ∷ h) s → these s) → ((s : Snapshot) → MayLeaveWithin e h s → these s) → Elapses (disk_of h) (disk_of (e ∷ h)) these
 one_more h e these here within = record {
   later = let le : length h ≤ suc (length h) = omega arith in le;
@@ -54,9 +56,11 @@ one_more h e these here within = record {
 abbrev put : ℕ → List ℕ → Snapshot → Snapshot
 put set image s = record { images = λ k. if k == set then image else s.images k; sent = s.sent }
 
+-- it has this image,
 put_this : (set : ℕ) (image : List ℕ) (s : Snapshot) → (put set image s).images set ≡ image
 put_this set image s = rw (same_set set) refl
 
+-- and the others as they were
 put_other : (set : ℕ) (image : List ℕ) (s : Snapshot) (k : ℕ) → (k ≡ set → ⊥) → (put set image s).images k ≡ s.images k
 put_other set image s k ne = rw (other_set k set ne) refl
 
@@ -70,9 +74,11 @@ put_left h set image s this others text = record { images = images; sent = text 
       | inr ne ↦ subst (λ c. Image h k c) (sym (put_other set image s k ne)) (others k ne)
     ]
 
+-- an inequality the other way round
 flip_ne : (k set : ℕ) → (k ≡ set → ⊥) → set ≡ k → ⊥
 flip_ne k set ne is = ne (sym is)
 
+-- where an image from before is known that this step leads from
 differs_by : (h : History) (set : ℕ) (step : List ℕ → List ℕ → Type 0) (image : List ℕ) (s : Snapshot) → Image h set image → ((k : ℕ) → (k ≡ set → ⊥) → Image h k (s.images k)) → s.sent ≡ sent_after h → step image (s.images set) → Differs (disk_of h) set step s
 differs_by h set step image s this others text by = record {
   before = put set image s;
@@ -82,16 +88,19 @@ differs_by h set step image s this others text by = record {
   sent = λ told. refl;
 }
 
+-- before a write to another data set the image was one
 other_was_wrote : (h : History) (s set at : ℕ) (bytes c : List ℕ) → (set ≡ s → ⊥) → Image (Wrote s at bytes ∷ h) set c → Image h set c
 other_was_wrote h s set at bytes c ne im =
     let eq = other_set s set (flip_ne set s ne) in
     record { no_shorter = im.no_shorter; no_longer = rw eq at im.no_longer; kept = λ i lt un. im.kept i lt (rw eq un) }
 
+-- and before a sync of another
 other_was_synced : (h : History) (s set : ℕ) (c : List ℕ) → (set ≡ s → ⊥) → Image (Synced s ∷ h) set c → Image h set c
 other_was_synced h s set c ne im =
     let eq = other_set s set (flip_ne set s ne) in
     record { no_shorter = rw eq at im.no_shorter; no_longer = rw eq at im.no_longer; kept = λ i lt un. (rw eq at im.kept) i lt un }
 
+-- a write
 pub wrote : (h : History) (set at : ℕ) (bytes : List ℕ) → Elapses (disk_of h) (disk_of (Wrote set at bytes ∷ h)) (Differs (disk_of h) set (Torn at (length bytes)))
 wrote h set at bytes = one_more h (Wrote set at bytes) (Differs (disk_of h) set (Torn at (length bytes))) here (λ s none. absurd none)
   where
@@ -146,6 +155,7 @@ synced h set = one_more h (Synced set) (Differs (disk_of h) set (λ _ image. Set
     here : (s : Snapshot) → MayLeave (Synced set ∷ h) s → Differs (disk_of h) set (λ _ image. Settles (disk_of h) set image) s
     here s now = record { before = s; left = left s now; this = settles_one (disk_of h) set s (left s now); others = λ k ne. refl; sent = λ told. refl }
 
+-- a send
 pub sent_whole : (h : History) (text : List ℕ) → Elapses (disk_of h) (disk_of (Sent text ∷ h)) (Sends (disk_of h) text)
 sent_whole h text = one_more h (Sent text) (Sends (disk_of h) text) here within
   where
@@ -211,6 +221,7 @@ of_ok (Err e) is p = cc
 
 -- a write that failed, where it noted mixed bytes or found no memory
 module _ {T E : Type 0} (r : Result T E) (set at count : ℕ) (old new : History) (ok : OnOk r (Breaks set at count old new)) (err : OnErr r (new ≡ old)) where
+  -- what a crash may leave
   pub broke_crash : Elapses (disk_of old) (disk_of new) (Differs (disk_of old) set (Torn at count))
   broke_crash =
       by_result r ok err
@@ -218,6 +229,7 @@ module _ {T E : Type 0} (r : Result T E) (set at count : ℕ) (old new : History
       (subst (λ n. Elapses (disk_of old) (disk_of (Wrote set at b.left ∷ old)) (Differs (disk_of old) set (Torn at n))) b.as_long (wrote old set at b.left)))
       (λ same. subst (λ n. Elapses (disk_of old) (disk_of n) (Differs (disk_of old) set (Torn at count))) (sym same) (none_more old (Differs (disk_of old) set (Torn at count))))
 
+  -- what a read gives
   pub broke_contents : Broken at count (contents_after old set) (contents_after new set)
   broke_contents =
       by_result r ok err
@@ -226,6 +238,7 @@ module _ {T E : Type 0} (r : Result T E) (set at count : ℕ) (old new : History
       (λ same. subst (λ n. Broken at count (contents_after old set) (contents_after n set)) (sym same)
       (record { no_shorter = omega arith; no_longer = omega arith; others = λ i out. refl }))
 
+  -- what stays
   pub broke_leaves : Leaves set (disk_of old) (disk_of new)
   broke_leaves =
       by_result r ok err

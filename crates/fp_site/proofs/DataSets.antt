@@ -69,17 +69,20 @@ image_at-push_below [] image k lt = absurd (omega arith)
 image_at-push_below (s ∷ images) image zero lt = refl
 image_at-push_below (s ∷ images) image (suc k) lt = image_at-push_below images image k (omega arith)
 
+-- and the new one
 pub image_at-push_at : (images : List (List ℕ)) (image : List ℕ) (k : ℕ) → k ≡ length images → image_at (images ++ image ∷ []) k ≡ image
 image_at-push_at [] image zero is = refl
 image_at-push_at [] image (suc k) is = absurd (omega arith)
 image_at-push_at (s ∷ images) image zero is = absurd (omega arith)
 image_at-push_at (s ∷ images) image (suc k) is = image_at-push_at images image k (omega arith)
 
+-- what `images.get(k)` reads
 pub image_at_read : (images : List (List ℕ)) (k : ℕ) (image : List ℕ) → k < length images → image ≡ get_or images k image → image_at images k ≡ image
 image_at_read [] k image lt is = absurd (omega arith)
 image_at_read (s ∷ images) zero image lt is = sym is
 image_at_read (s ∷ images) (suc k) image lt is = image_at_read images k image (omega arith) is
 
+-- past the end
 pub image_at_past : (images : List (List ℕ)) (k : ℕ) → length images ≤ k → image_at images k ≡ []
 image_at_past [] k le = refl
 image_at_past (s ∷ images) zero le = absurd (omega arith)

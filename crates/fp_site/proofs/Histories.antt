@@ -16,6 +16,7 @@ history_onto-push (d ∷ calls) c bytes before =
     history_onto-push calls c (drop (bytes_of d) bytes) (event_of d bytes ∷ before)
     ∙ ap (λ l. event_of c l ∷ history_onto calls (drop (bytes_of d) bytes) (event_of d bytes ∷ before)) (drop-drop (bytes_of_all calls) (bytes_of d) bytes)
 
+-- and its bytes are counted
 pub bytes_of_all-push : (calls : List Call) (c : Call) → bytes_of_all (calls ++ c ∷ []) ≡ bytes_of_all calls + bytes_of c
 bytes_of_all-push [] c = omega arith
 bytes_of_all-push (d ∷ calls) c = let e = bytes_of_all-push calls c in omega arith

@@ -16,25 +16,31 @@ same_set set = grind (arith, nat_tests)
 pub other_set : (s set : ℕ) → (s ≡ set → ⊥) → (s == set) ≡ false
 other_set s set ne = grind (arith, nat_tests)
 
+-- neither of two tests
 neither : (a b : Bool) → (a || b) ≡ false → (a ≡ false) × (b ≡ false)
 neither true b h = cc
 neither false true h = cc
 neither false false h = (refl, refl)
 
+-- a byte that no range covers
 pub outside : (at count i : ℕ) → covers at count i ≡ false → (i < at) ⊎ (at + count ≤ i)
 outside at count i h = grind (arith, nat_tests)
 
 -- the image after a write of some bytes in a range of this length
 module _ (h : History) (set at count : ℕ) (c bytes : List ℕ) (le : length bytes ≤ count) (before : Image h set c) where
+  -- the bytes after it
   abbrev now : List ℕ
   now = written c at bytes
 
+  -- it is no shorter than at the last sync,
   pub write_shorter : length (synced_after h set) ≤ length now
   write_shorter = let a = before.no_shorter in let b = length-written c at bytes in omega arith
 
+  -- no longer than the longest write ends,
   pub write_longer : length now ≤ max (length (synced_after h set)) (max (at + count) (longest_end h set))
   write_longer = let a = before.no_longer in let b = length-written c at bytes in omega arith
 
+  -- and has the bytes that no write covers
   pub write_kept : (i : ℕ) → i < length (synced_after h set) → (covers at count i || is_touched h set i) ≡ false → get_or now i 0 ≡ get_or (synced_after h set) i 0
   write_kept i lt un =
       let parts = neither (covers at count i) (is_touched h set i) un in
@@ -65,9 +71,11 @@ image_opened h images text set = record { no_shorter = omega arith; no_longer = 
 
 -- and of another data set
 module _ (h : History) (s set : ℕ) (ne : s ≡ set → ⊥) (c : List ℕ) (before : Image h set c) where
+  -- a write to another data set leaves the image one
   pub other_wrote : (at : ℕ) (bytes : List ℕ) → Image (Wrote s at bytes ∷ h) set c
   other_wrote at bytes = let eq = other_set s set ne in record { no_shorter = before.no_shorter; no_longer = rw eq before.no_longer; kept = λ i lt un. let u = rw eq at un in before.kept i lt u }
 
+  -- and so does a sync of another
   pub other_synced : Image (Synced s ∷ h) set c
   other_synced = let eq = other_set s set ne in record { no_shorter = rw eq before.no_shorter; no_longer = rw eq before.no_longer; kept = λ i lt un. let l = rw eq at lt in let u = rw eq at un in rw eq (before.kept i l u) }
 
@@ -90,15 +98,18 @@ contents_image (Synced s ∷ h) set = let before = contents_image h set in elim 
 pub now_left : (h : History) → MayLeave h (record { images = contents_after h; sent = sent_after h })
 now_left h = record { images = contents_image h; sent = refl }
 
+-- since now there is only what a crash now may leave,
 none_later : (h : History) (s : Snapshot) → LeftSince (length h) h s → MayLeave h s
 none_later [] s left = left
 none_later (e ∷ before) s (inl now) = now
 none_later (e ∷ before) s (inr past) = let le = past.0 in absurd (omega arith)
 
+-- which counts as left since each moment,
 one_of_them : (h : History) (t : ℕ) (s : Snapshot) → MayLeave h s → LeftSince t h s
 one_of_them [] t s now = now
 one_of_them (e ∷ before) t s now = inl now
 
+-- and what was left since a moment was left since each earlier one
 earlier : (h : History) (t u : ℕ) (s : Snapshot) → t ≤ u → LeftSince u h s → LeftSince t h s
 earlier [] t u s le left = left
 earlier (e ∷ before) t u s le (inl now) = inl now

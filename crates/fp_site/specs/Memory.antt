@@ -4,7 +4,9 @@ use Rattle.fp_site.specs.declared.memory.MemorySite.{MemorySite}
 use Rattle.fp_site.specs.Disk.{Snapshot, Disk, IsDurable}
 use Rattle.fp_site.specs.History.{History, disk_of}
 use Rattle.fp_site.specs.Faults.{IsCounted, is_told}
-use Rattle.fp_site.specs.Past.{past_of}
+use Rattle.fp_site.specs.Past.{HasRoom, past_of}
+use Rattle.fp_site.specs.Sets.{HasSpare}
+use Rattle.std.specs.List.{All}
 
 -- the events since its start, the newest first
 abbrev pub memory_history : MemorySite → History
@@ -56,3 +58,9 @@ pub record IsCall {T E : Type 0} (old new : MemorySite) (result : Result T E) : 
   pub passes : OnOk result (memory_faults new ≡ memory_faults old)
   -- what it is told stays
   pub told : (number : ℕ) → fails_at new number ≡ fails_at old number
+
+-- so many bytes more fit without memory in each data set that there is, in the bytes sent and in what is kept of the calls
+pub record IsPrepared (m : MemorySite) (bytes : ℕ) : Type 0 where
+  pub sets : All (HasSpare bytes) m.sets.items
+  pub sent : HasSpare bytes m.sent
+  pub calls : HasRoom m.past bytes bytes

@@ -1,5 +1,5 @@
 -- The data sets that values of the program stand for.
-use Rattle.std.specs.Prelude.{ℕ, zero, suc, List, [], ◌∷◌, Vec}
+use Rattle.std.specs.Prelude.{ℕ, zero, suc, ◌+◌, ◌≤◌, List, [], ◌∷◌, Vec, vec_capacity, vec_len}
 use Rattle.std.specs.declared.alloc.Global.{Global}
 use Rattle.fp_site.specs.Disk.{Snapshot}
 use Rattle.fp_site.specs.declared.snapshot.Snapshot.{Snapshot as Kept}
@@ -19,3 +19,7 @@ image_at (image ∷ images) (suc set) = image_at images set
 -- the snapshot that a value of the program stands for
 abbrev pub snapshot_of : Kept → Snapshot
 snapshot_of s = record { images = image_at s.images; sent = s.sent }
+
+-- so many bytes more fit without memory
+abbrev pub HasSpare : ℕ → Vec ℕ Global → Type 0
+HasSpare bytes all = vec_len all + bytes ≤ vec_capacity all

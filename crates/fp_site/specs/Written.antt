@@ -32,6 +32,7 @@ get_or_zeros zero k = refl
 get_or_zeros (suc n) zero = refl
 get_or_zeros (suc n) (suc k) = get_or_zeros n k
 
+-- zeros behind a list read as what is past its end
 pub get_or-append_zeros : (xs : List ℕ) (n k : ℕ) → get_or (xs ++ zeros n) k 0 ≡ get_or xs k 0
 get_or-append_zeros [] n k = get_or_zeros n k
 get_or-append_zeros (x ∷ xs) n zero = refl

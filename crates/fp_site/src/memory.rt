@@ -40,7 +40,7 @@ pub struct MemorySite {
 }
 
 impl MemorySite {
-    ghost use Rattle.fp_site.specs.Memory.{BeginsAs, CountsFaults, fails_at, memory_disk, memory_faults, memory_history, memory_shorts};
+    ghost use Rattle.fp_site.specs.Memory.{BeginsAs, CountsFaults, IsPrepared, fails_at, memory_disk, memory_faults, memory_history, memory_reads, memory_shorts};
 
     /// A site with no bytes in any data set and nothing sent, whose calls with these numbers, counted from 0, fail.
     pub fn new(alloc: Global, failing: &[u64]) -> Result<MemorySite, AllocError>
@@ -117,9 +117,12 @@ impl MemorySite {
     /// Makes room for this many bytes more in each data set that there is, in the bytes sent and in what is kept of
     /// the calls, and for as many calls. Nothing else changes.
     pub fn prepare(&mut self, bytes: u64) -> Result<(), AllocError>
+        ensures room { OnOk result (IsPrepared self.new bytes) }
         ensures history { memory_history self.new ≡ memory_history self.old }
-        ensures reads { self.new.reads.items ≡ self.old.reads.items }
-        ensures faults { self.new.faults ≡ self.old.faults }
+        ensures reads { (k : ℕ) → memory_reads self.new k ≡ memory_reads self.old k }
+        ensures faults { memory_faults self.new ≡ memory_faults self.old }
+        ensures shorts { memory_shorts self.new ≡ memory_shorts self.old }
+        ensures told { (n : ℕ) → fails_at self.new n ≡ fails_at self.old n }
     {
         let bytes = bytes as usize;
         prepare_sets(&mut self.sets, bytes)?;
@@ -202,9 +205,10 @@ impl Site for MemorySite {
         ensures reads { (k : ℕ) → memory_reads self.new k ≡ memory_reads self.old k }
     {
         if self.faults.next_fails() {
-            return Err(Failed);
+            Err(Failed)
+        } else {
+            Ok(())
         }
-        Ok(())
     }
 
     fn read_at(&mut self, set: u16, at: u64, into: &mut [u8]) -> Result<(), Failed>

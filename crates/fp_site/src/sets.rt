@@ -1,7 +1,8 @@
 // Data sets in memory. Those past the end of the list have no bytes.
 ghost use Rattle.std.specs.Prelude.{◌≡◌, ◌+◌, ◌-◌, ◌<◌, ◌≤◌, ◌^◌, ◌++◌, ℕ, IfOk, OnErr, OnOk, drop, length, replicate, take, true, vec_len};
+ghost use Rattle.std.specs.List.{All};
 ghost use Rattle.fp_site.specs.Disk.{written, read_range};
-ghost use Rattle.fp_site.specs.Sets.{set_bytes, image_at};
+ghost use Rattle.fp_site.specs.Sets.{HasSpare, image_at, set_bytes};
 
 use fp_lists::{Bytes, List};
 use std::alloc::{AllocError, Global};
@@ -128,7 +129,8 @@ pub(crate) fn all_bounded(sets: &[Vec<u8>]) -> bool
 
 // Makes room for so many bytes more in each data set.
 pub(crate) fn prepare_sets(sets: &mut Vec<Vec<u8>>, bytes: usize) -> Result<(), AllocError>
-    ensures { (k : ℕ) → set_bytes sets.new.items k ≡ set_bytes sets.old.items k }
+    ensures same { (k : ℕ) → set_bytes sets.new.items k ≡ set_bytes sets.old.items k }
+    ensures room { OnOk result (All (HasSpare bytes) sets.new.items) }
 {
     for i in 0..sets.len() {
         sets[i].reserve(bytes)?;
