@@ -63,7 +63,15 @@ pub record Settles (old : Disk) (set : ℕ) (image : List ℕ) : Type 0 where
   pub no_shorter : (n : ℕ) → ((c : Snapshot) → old.may_leave c → n ≤ length (c.images set)) → n ≤ length image
   pub no_longer : (n : ℕ) → ((c : Snapshot) → old.may_leave c → length (c.images set) ≤ n) → length image ≤ n
 
--- s has the images of a snapshot that a crash of the old disk may leave, and a prefix of this text is sent
+-- what a crash within or after a write of so many bytes may leave
+abbrev pub Tears : Disk → ℕ → ℕ → ℕ → Snapshot → Type 0
+Tears old set at count = Differs old set (Torn at count)
+
+-- what a crash within or after a sync may leave
+abbrev pub Syncs : Disk → ℕ → Snapshot → Type 0
+Syncs old set = Differs old set (λ before image. Settles old set image)
+
+-- within or after a send: s has the images of a snapshot that a crash of the old disk may leave, and a prefix of this text is sent
 pub record Sends (old : Disk) (text : List ℕ) (s : Snapshot) : Type 0 where
   pub before : Snapshot
   pub left : old.may_leave before

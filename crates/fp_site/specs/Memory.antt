@@ -1,5 +1,5 @@
 -- A site in memory, as its callers see it.
-use Rattle.std.specs.Prelude.{◌≡◌, ◌⊎◌, ℕ, ◌+◌, ◌-◌, ◌<◌, ◌^◌, Bool, true, false, get_or, min, Result, IsErr, OnErr, OnOk}
+use Rattle.std.specs.Prelude.{◌≡◌, ◌⊎◌, ℕ, ◌+◌, ◌-◌, ◌<◌, ◌^◌, Bool, true, false, [], get_or, min, Result, IsErr, OnErr, OnOk}
 use Rattle.fp_site.specs.declared.memory.MemorySite.{MemorySite}
 use Rattle.fp_site.specs.Disk.{Snapshot, Disk, IsDurable}
 use Rattle.fp_site.specs.History.{History, disk_of}
@@ -39,6 +39,10 @@ fails_at m number = is_told m.faults.failing.items m.faults.stop number
 -- its count of faults is that of the calls told to fail and of those that found no memory
 abbrev pub CountsFaults : MemorySite → Type 0
 CountsFaults m = IsCounted m.faults.failing.items m.faults.stop (calls_made m) (memory_faults m) (memory_shorts m)
+
+-- no bytes in any data set, and nothing sent
+abbrev pub empty_snapshot : Snapshot
+empty_snapshot = record { images = λ set. []; sent = [] }
 
 -- it begins as this snapshot, all on the disk, and no call has been made
 pub record BeginsAs (s : Snapshot) (m : MemorySite) : Type 0 where

@@ -3,7 +3,7 @@
 //! A call told to fail does what a failing device may do: a write leaves mixed bytes in its range, a send half of its
 //! text, and a read fills `into` with bytes that stand nowhere. A call that finds no memory changes nothing.
 ghost use Rattle.std.specs.Prelude.{◌≡◌, true, ◌⊎◌, ◌+◌, ◌-◌, ◌/◌, ◌<◌, ◌≤◌, ◌^◌, ◌↔◌, ℕ, [], ◌∷◌, ◌++◌, IfOk, IsTrue, None, OnErr, OnOk, get_or, length, min, take};
-ghost use Rattle.fp_site.specs.Disk.{Broken, Differs, Elapses, IsDurable, Leaves, Sends, Settles, Stays, Torn, read_range, written};
+ghost use Rattle.fp_site.specs.Disk.{Broken, Elapses, IsDurable, Leaves, Sends, Stays, Syncs, Tears, read_range, written};
 ghost use Rattle.fp_site.specs.Site.{Counts};
 ghost use Rattle.fp_site.specs.History.{contents_after, disk_of, sent_after, synced_after};
 ghost use Rattle.fp_site.specs.History.Event.{Wrote, Synced, Sent};
@@ -40,11 +40,11 @@ pub struct MemorySite {
 }
 
 impl MemorySite {
-    ghost use Rattle.fp_site.specs.Memory.{BeginsAs, CountsFaults, IsPrepared, fails_at, memory_disk, memory_faults, memory_history, memory_reads, memory_shorts};
+    ghost use Rattle.fp_site.specs.Memory.{BeginsAs, CountsFaults, IsPrepared, empty_snapshot, fails_at, memory_disk, memory_faults, memory_history, memory_reads, memory_shorts};
 
     /// A site with no bytes in any data set and nothing sent, whose calls with these numbers, counted from 0, fail.
     pub fn new(alloc: Global, failing: &[u64]) -> Result<MemorySite, AllocError>
-        ensures begins { IfOk result (λ m. BeginsAs (record { images = λ k. []; sent = [] }) m) }
+        ensures begins { IfOk result (λ m. BeginsAs empty_snapshot m) }
         ensures fails { IfOk result (λ m. (n : ℕ) → fails_at m n ≡ is_told failing.now None n) }
     {
         let start = Snapshot::new(List::new(alloc), Bytes::new(alloc));
@@ -53,7 +53,7 @@ impl MemorySite {
 
     /// A site as `new` makes it, all of whose calls from this number on fail.
     pub fn stopping(alloc: Global, after: u64) -> Result<MemorySite, AllocError>
-        ensures begins { IfOk result (λ m. BeginsAs (record { images = λ k. []; sent = [] }) m) }
+        ensures begins { IfOk result (λ m. BeginsAs empty_snapshot m) }
         ensures fails { IfOk result (λ m. (n : ℕ) → IsTrue (fails_at m n) ↔ (after ≤ n)) }
     {
         let start = Snapshot::new(List::new(alloc), Bytes::new(alloc));
@@ -77,8 +77,10 @@ impl MemorySite {
     /// mixes them: each is missing, whole, cut off or a mix of old, new and other bytes, by the number.
     pub fn snapshot_as(&self, choice: u64) -> Result<Snapshot, AllocError>
         ensures left { IfOk result (λ s. (memory_disk self.now).may_leave (snapshot_of s)) }
-        ensures none { choice ≡ 0 → IfOk result (λ s. (k : ℕ) → (snapshot_of s).images k ≡ synced_after (memory_history self.now) k) }
-        ensures every { choice ≡ 1 → IfOk result (λ s. (k : ℕ) → (snapshot_of s).images k ≡ (memory_disk self.now).contents k) }
+        ensures none { choice ≡ 0 →
+            IfOk result (λ s. (k : ℕ) → (snapshot_of s).images k ≡ synced_after (memory_history self.now) k) }
+        ensures every { choice ≡ 1 →
+            IfOk result (λ s. (k : ℕ) → (snapshot_of s).images k ≡ (memory_disk self.now).contents k) }
     {
         let past = &self.past;
         replayed(self.alloc, &past.start, &past.calls, &past.kept, choice)
@@ -216,7 +218,8 @@ impl Site for MemorySite {
         ensures call { IsCall self.old self.new result }
         ensures cause { Counts (memory_faults self.old) (memory_faults self.new) result }
         ensures stays { Stays (memory_disk self.old) (memory_disk self.new) }
-        ensures count { OnOk result (memory_reads self.new set ≡ min (memory_reads self.old set + length into.old) (2 ^ 64 - 1)) }
+        ensures count { OnOk result
+            (memory_reads self.new set ≡ min (memory_reads self.old set + length into.old) (2 ^ 64 - 1)) }
         ensures uncounted { OnErr result (memory_reads self.new set ≡ memory_reads self.old set) }
         ensures others { (k : ℕ) → (k ≡ set → ⊥) → memory_reads self.new k ≡ memory_reads self.old k }
     {
@@ -234,13 +237,16 @@ impl Site for MemorySite {
 
     fn write_at(&mut self, set: u16, at: u64, from: &[u8]) -> Result<(), Failed>
         requires { at + length from.now ≤ 2 ^ 62 }
-        ensures wrote { OnOk result ((memory_disk self.new).contents set ≡ written ((memory_disk self.old).contents set) at from.now) }
-        ensures broke { OnErr result (Broken at (length from.now) ((memory_disk self.old).contents set) ((memory_disk self.new).contents set)) }
+        ensures wrote { OnOk result
+            ((memory_disk self.new).contents set ≡ written ((memory_disk self.old).contents set) at from.now) }
+        ensures broke { OnErr result
+            (Broken at (length from.now) ((memory_disk self.old).contents set) ((memory_disk self.new).contents set)) }
         ensures call { IsCall self.old self.new result }
         ensures cause { Counts (memory_faults self.old) (memory_faults self.new) result }
         ensures leaves { Leaves set (memory_disk self.old) (memory_disk self.new) }
         ensures reads { (k : ℕ) → memory_reads self.new k ≡ memory_reads self.old k }
-        ensures crash { Elapses (memory_disk self.old) (memory_disk self.new) (Differs (memory_disk self.old) set (Torn at (length from.now))) }
+        ensures crash { Elapses (memory_disk self.old) (memory_disk self.new)
+            (Tears (memory_disk self.old) set at (length from.now)) }
     {
         if self.faults.next_fails() {
             let seed = self.faults.number();
@@ -273,8 +279,7 @@ impl Site for MemorySite {
         ensures cause { Counts (memory_faults self.old) (memory_faults self.new) result }
         ensures leaves { Leaves set (memory_disk self.old) (memory_disk self.new) }
         ensures reads { (k : ℕ) → memory_reads self.new k ≡ memory_reads self.old k }
-        ensures crash { Elapses (memory_disk self.old) (memory_disk self.new)
-            (Differs (memory_disk self.old) set (λ _ image. Settles (memory_disk self.old) set image)) }
+        ensures crash { Elapses (memory_disk self.old) (memory_disk self.new) (Syncs (memory_disk self.old) set) }
     {
         if self.faults.next_fails() {
             return Err(Failed);

@@ -1,7 +1,7 @@
 //! The storage that everything else writes to, and the output that it sends to.
 ghost use Rattle.std.specs.Prelude.{◌≡◌, ◌+◌, ◌≤◌, ◌^◌, ◌++◌, ℕ, IfOk, OnErr, OnOk, length, take};
-ghost use Rattle.fp_site.specs.Disk.{Disk, written, read_range, Torn, Broken, IsDurable, Differs, Settles, Sends, Elapses, Stays, Leaves, IsLawful};
-ghost use Rattle.fp_site.specs.Site.{Counts};
+ghost use Rattle.fp_site.specs.Disk.{Disk, written, read_range, Broken, IsDurable, Tears, Syncs, Sends, Elapses, Stays, Leaves, IsLawful};
+ghost use Rattle.fp_site.specs.Site.{Counts, ReadsNothing};
 
 /// A call that failed. It comes only where the site's count of faults rose in that call, or stands at its last
 /// value, 2^64 - 1.
@@ -54,7 +54,7 @@ pub trait Site {
 
         // Nothing changes, and nothing is read.
         ensures stays { told self.old → Stays (disk self.old) (disk self.new) }
-        ensures reads { (k : ℕ) → tells_reads self.new k → tells_reads self.old k × (bytes_read self.new k ≡ bytes_read self.old k) }
+        ensures reads { ReadsNothing (tells_reads self.old) (tells_reads self.new) (bytes_read self.old) (bytes_read self.new) }
         ensures told { told self.old → told self.new }
         ensures holds { holds self.new ≡ holds self.old }
         ensures keeps { (first : Self) → keeps first self.old → keeps first self.new };
@@ -64,7 +64,7 @@ pub trait Site {
         requires { end ≤ 2 ^ 62 }
         ensures cause { Counts (faults self.old) (faults self.new) result }
         ensures stays { told self.old → Stays (disk self.old) (disk self.new) }
-        ensures reads { (k : ℕ) → tells_reads self.new k → tells_reads self.old k × (bytes_read self.new k ≡ bytes_read self.old k) }
+        ensures reads { ReadsNothing (tells_reads self.old) (tells_reads self.new) (bytes_read self.old) (bytes_read self.new) }
         ensures told { told self.old → told self.new }
         ensures holds { holds self.new ≡ holds self.old }
         ensures keeps { (first : Self) → keeps first self.old → keeps first self.new };
@@ -72,11 +72,13 @@ pub trait Site {
     /// Fills `into` with the bytes from offset `at` on. Bytes past the end read as 0. After `Failed`, `into` may
     /// hold any bytes.
     fn read_at(&mut self, set: u16, at: u64, into: &mut [u8]) -> Result<(), Failed>
-        ensures value { told self.old → OnOk result (into.new ≡ read_range ((disk self.old).contents set) at (length into.old)) }
+        ensures value { told self.old →
+            OnOk result (into.new ≡ read_range ((disk self.old).contents set) at (length into.old)) }
         ensures cause { Counts (faults self.old) (faults self.new) result }
 
         // The bytes read are counted. At `Failed` some of them may be.
-        ensures count { tells_reads self.new set → OnOk result (bytes_read self.new set ≡ bytes_read self.old set + length into.old) }
+        ensures count { tells_reads self.new set →
+            OnOk result (bytes_read self.new set ≡ bytes_read self.old set + length into.old) }
         ensures at_most { tells_reads self.new set → bytes_read self.new set ≤ bytes_read self.old set + length into.old }
         ensures reads { (k : ℕ) → tells_reads self.new k → tells_reads self.old k }
         ensures others { (k : ℕ) → (k ≡ set → ⊥) → tells_reads self.new k → bytes_read self.new k ≡ bytes_read self.old k }
@@ -91,19 +93,22 @@ pub trait Site {
     /// the range may hold any bytes.
     fn write_at(&mut self, set: u16, at: u64, from: &[u8]) -> Result<(), Failed>
         requires { at + length from.now ≤ 2 ^ 62 }
-        ensures wrote { told self.old → OnOk result ((disk self.new).contents set ≡ written ((disk self.old).contents set) at from.now) }
-        ensures broke { told self.old → OnErr result (Broken at (length from.now) ((disk self.old).contents set) ((disk self.new).contents set)) }
+        ensures wrote { told self.old →
+            OnOk result ((disk self.new).contents set ≡ written ((disk self.old).contents set) at from.now) }
+        ensures broke { told self.old →
+            OnErr result (Broken at (length from.now) ((disk self.old).contents set) ((disk self.new).contents set)) }
         ensures cause { Counts (faults self.old) (faults self.new) result }
 
         // No other data set changes, and nothing is sent.
         ensures leaves { told self.old → Leaves set (disk self.old) (disk self.new) }
-        ensures reads { (k : ℕ) → tells_reads self.new k → tells_reads self.old k × (bytes_read self.new k ≡ bytes_read self.old k) }
+        ensures reads { ReadsNothing (tells_reads self.old) (tells_reads self.new) (bytes_read self.old) (bytes_read self.new) }
         ensures told { told self.old → told self.new }
         ensures holds { holds self.new ≡ holds self.old }
         ensures keeps { (first : Self) → keeps first self.old → keeps first self.new }
 
         // A crash at any moment of the call leaves of this data set an earlier image with the range torn.
-        ensures crash { told self.old → Elapses (disk self.old) (disk self.new) (Differs (disk self.old) set (Torn at (length from.now))) };
+        ensures crash { told self.old →
+            Elapses (disk self.old) (disk self.new) (Tears (disk self.old) set at (length from.now)) };
 
     /// Makes the data set durable: after Ok, every crash leaves what a read gives.
     fn sync(&mut self, set: u16) -> Result<(), Failed>
@@ -113,23 +118,24 @@ pub trait Site {
 
         // No other data set changes, and nothing is sent.
         ensures leaves { told self.old → Leaves set (disk self.old) (disk self.new) }
-        ensures reads { (k : ℕ) → tells_reads self.new k → tells_reads self.old k × (bytes_read self.new k ≡ bytes_read self.old k) }
+        ensures reads { ReadsNothing (tells_reads self.old) (tells_reads self.new) (bytes_read self.old) (bytes_read self.new) }
         ensures told { told self.old → told self.new }
         ensures holds { holds self.new ≡ holds self.old }
         ensures keeps { (first : Self) → keeps first self.old → keeps first self.new }
 
         // A crash at any moment of the call leaves this data set alike where all earlier images were alike.
-        ensures crash { told self.old → Elapses (disk self.old) (disk self.new) (Differs (disk self.old) set (λ _ image. Settles (disk self.old) set image)) };
+        ensures crash { told self.old → Elapses (disk self.old) (disk self.new) (Syncs (disk self.old) set) };
 
     /// Appends `text` to the bytes sent. After `Failed` a prefix of it is appended.
     fn send(&mut self, text: &[u8]) -> Result<(), Failed>
         ensures sent { told self.old → OnOk result ((disk self.new).sent ≡ (disk self.old).sent ++ text.now) }
-        ensures part { told self.old → OnErr result ((n : ℕ) × ((disk self.new).sent ≡ (disk self.old).sent ++ take n text.now)) }
+        ensures part { told self.old →
+            OnErr result ((n : ℕ) × ((disk self.new).sent ≡ (disk self.old).sent ++ take n text.now)) }
         ensures cause { Counts (faults self.old) (faults self.new) result }
 
         // No data set changes.
         ensures same { told self.old → (disk self.new).contents ≡ (disk self.old).contents }
-        ensures reads { (k : ℕ) → tells_reads self.new k → tells_reads self.old k × (bytes_read self.new k ≡ bytes_read self.old k) }
+        ensures reads { ReadsNothing (tells_reads self.old) (tells_reads self.new) (bytes_read self.old) (bytes_read self.new) }
         ensures told { told self.old → told self.new }
         ensures holds { holds self.new ≡ holds self.old }
         ensures keeps { (first : Self) → keeps first self.old → keeps first self.new }
