@@ -8,7 +8,7 @@ use crate::snapshot::Snapshot;
 use std::alloc::{AllocError, Global};
 
 // What a site began with, and its calls since.
-#[derive(Drop)]
+#[derive(Debug, Drop)]
 pub struct Past {
     pub start: Snapshot,
     // The oldest first.

@@ -116,6 +116,15 @@ fn a_failed_read_gives_bytes_that_stand_nowhere(rt: HostRuntime) -> Result<(), F
     Ok(())
 }
 
+#[test]
+fn a_call_that_finds_no_memory_is_short(rt: HostRuntime) -> Result<(), Fail> {
+    let mut site = site_of(rt.alloc(), &[1, 2], &[])?;
+    assert_eq!(rt; site.write_at(0, 1 << 61, &[7]), Err(Failed));
+    assert_eq!(rt; site.contents(0), [1, 2].as_slice());
+    assert_eq!(rt; (site.faults(), site.shorts()), (1, 1));
+    Ok(())
+}
+
 // A write into an empty log, a sync, a send and a second write, as far as the site does not stop.
 fn run(site: &mut MemorySite) -> Result<(), Failed> {
     site.write_at(0, 1, &[7, 7])?;
