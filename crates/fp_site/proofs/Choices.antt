@@ -1,4 +1,4 @@
--- What a call makes of the contents_after, and of an image.
+-- What a replayed call makes of the contents, and of an image.
 use Rattle.std.proofs.Common.{◌≡◌, inl, inr, ℕ, ◌≤◌, List, [], ◌∷◌, length, sym, ◌∙◌, ap, subst}
 use Rattle.std.proofs.lemmas.Bool.{cases_eq}
 use Rattle.fp_site.specs.Disk.{written}

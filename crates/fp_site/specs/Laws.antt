@@ -9,20 +9,21 @@ use Rattle.fp_site.specs.History.{disk_of, LeftSince, History, Image, MayLeave, 
 use Rattle.fp_site.specs.History.Event.{Opened, Wrote, Synced, Sent}
 use Rattle.fp_site.specs.Written.{length-written, written_other}
 
--- the tests of a data set's number
+-- the test of a data set's number is true of it,
 pub same_set : (set : ℕ) → (set == set) ≡ true
 same_set set = grind (arith, nat_tests)
 
+-- and false of another
 pub other_set : (s set : ℕ) → (s ≡ set → ⊥) → (s == set) ≡ false
 other_set s set ne = grind (arith, nat_tests)
 
--- neither of two tests
+-- of two tests of which none is true, each is false
 neither : (a b : Bool) → (a || b) ≡ false → (a ≡ false) × (b ≡ false)
 neither true b h = cc
 neither false true h = cc
 neither false false h = (refl, refl)
 
--- a byte that no range covers
+-- a byte that a range does not cover stands before or behind it
 pub outside : (at count i : ℕ) → covers at count i ≡ false → (i < at) ⊎ (at + count ≤ i)
 outside at count i h = grind (arith, nat_tests)
 
@@ -94,7 +95,7 @@ contents_image (Synced s ∷ h) set = let before = contents_image h set in elim 
   | inr ne ↦ other_synced h s set ne (contents_after h set) before
 ]
 
--- so is what stands now
+-- what a read gives and what was sent is what a crash now may leave
 pub now_left : (h : History) → MayLeave h (record { images = contents_after h; sent = sent_after h })
 now_left h = record { images = contents_image h; sent = refl }
 
@@ -115,7 +116,7 @@ earlier [] t u s le left = left
 earlier (e ∷ before) t u s le (inl now) = inl now
 earlier (e ∷ before) t u s le (inr past) = let ge = past.0 in inr (omega arith, ⊎_elim (λ w. inl w) (λ l. inr (earlier before t u s le l)) past.1)
 
--- the laws of a site, at one with this history
+-- the laws of a disk with this history
 pub lawful : (h : History) → ((set : ℕ) → length (contents_after h set) ≤ 2 ^ 62) → IsLawful (disk_of h)
 lawful h bounded = record {
   counts_now = λ s now. one_of_them h (length h) s now;
