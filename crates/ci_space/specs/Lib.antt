@@ -1,0 +1,3 @@
+pub mod Element
+pub mod Interval
+pub mod Walk
