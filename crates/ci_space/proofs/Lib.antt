@@ -2,3 +2,4 @@ pub mod Chains
 pub mod Reading
 pub mod Walks
 pub mod Splits
+pub mod Tilings

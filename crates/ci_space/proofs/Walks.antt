@@ -156,3 +156,6 @@ first-used (Used segment content ∷ es) bytes at end c t = refl
 pub none-free : (es : List Element) (bytes : List ℕ) (at end : ℕ) → at ≡ end → Chain es bytes at end → first_free es ≡ 0
 none-free [] bytes at end l c = refl
 none-free (e ∷ es) bytes at end l c = absurd (omega (arith, Chain-end es bytes (at + size e) end c.1, least_size e bytes at c.0))
+
+pub walk-low : (bytes : List ℕ) (n at : ℕ) → WalksPast bytes n at → 32 ≤ at
+walk-low bytes n at w = omega (arith, Chain-end w.before bytes 32 at w.done)
