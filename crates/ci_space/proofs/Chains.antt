@@ -2,7 +2,7 @@
 use Rattle.std.proofs.Common.{◌≡◌, ◌≢◌, ℕ, zero, suc, ◌+◌, ◌-◌, ◌*◌, ◌%◌, ◌<◌, ◌≤◌, Bool, true, false, List, [], ◌∷◌, ◌++◌, length, get_or, take, drop, slice_index, slice_range, refl, sym, ap, subst, ◌∙◌, add_assoc, arith, rules}
 use Rattle.std.proofs.lemmas.List.{ext_get_or, get_or-take, get_or-drop, length-take, length-drop}
 use Rattle.ci_space.specs.Element.{Element, Free, Used, size, sizes, Begins, StandsAt, Chain, StartsUsed, IsMerged, front_free, merged, free_size, rest_free}
-use Rattle.ci_space.specs.Walk.{Keeps}
+use Rattle.ci_space.specs.Interval.{Keeps}
 
 -- where they end
 pub Chain-end : (es : List Element) (bytes : List ℕ) (at end : ℕ) → Chain es bytes at end → at + sizes es ≡ end

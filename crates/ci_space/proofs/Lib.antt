@@ -3,3 +3,5 @@ pub mod Reading
 pub mod Walks
 pub mod Splits
 pub mod Tilings
+pub mod Places
+pub mod Heads

@@ -2,7 +2,8 @@
 use Rattle.std.proofs.Common.{◌≡◌, ◌≢◌, ℕ, zero, suc, ◌+◌, ◌-◌, ◌*◌, ◌%◌, ◌<◌, ◌≤◌, List, [], ◌∷◌, ◌++◌, length, drop, slice_index, slice_range, refl, sym, ap, subst, ◌∙◌, add_assoc, append_assoc, zero-add, arith, rules}
 use Rattle.std.proofs.lemmas.List.{length-take, length-drop}
 use Rattle.ci_space.specs.Element.{Element, Free, Used, size, sizes, Begins, StandsAt, Chain, StartsUsed, IsMerged, front_free, merged, free_size, rest_free}
-use Rattle.ci_space.specs.Walk.{Keeps, length_of, last_free, first_free}
+use Rattle.ci_space.specs.Walk.{length_of, last_free, first_free}
+use Rattle.ci_space.specs.Interval.{Keeps}
 use Rattle.ci_space.proofs.Chains.{Chain-end, Chain-append, Chain-front, Chain-back, Chain-keeps}
 
 -- a used element, by its first bytes

@@ -3,7 +3,8 @@ use Rattle.std.proofs.Common.{◌≡◌, ◌≢◌, ℕ, zero, suc, ◌+◌, ◌
 use Rattle.std.proofs.lemmas.List.{append-nil}
 use Rattle.ci_space.specs.Element.{Element, Free, Used, size, sizes, Begins, StandsAt, Chain, StartsUsed, IsMerged, merged, free_size, size_for, rest_free}
 use Rattle.ci_space.specs.Interval.{is_size, kind_of, has_elements, is_kind, IsZero, IsHead, Tiles, IsInterval, HasUsed, IsUsed, HasRoom, Takes, IsFull}
-use Rattle.ci_space.specs.Walk.{Keeps, length_of, last_free, first_free, WalksPast, IsFirstFree, Splits, Puts}
+use Rattle.ci_space.specs.Walk.{length_of, last_free, first_free, WalksPast, IsFirstFree, Splits, Puts}
+use Rattle.ci_space.specs.Interval.{Keeps}
 use Rattle.ci_space.proofs.Chains.{Chain-end, Chain-append, Chain-front, Chain-back, least_size}
 use Rattle.ci_space.proofs.Walks.{IsWhole, first-whole}
 use Rattle.ci_space.proofs.Splits.{frees, merged-merges}
@@ -231,3 +232,9 @@ takes old new n size at e i h f l k s =
       now = rw (← e) (tiles-by old new (f.past.before ++ Free f.free ∷ f.behind) (f.past.before ++ Used 0 done.0 ∷ rest_free (f.free - size) ++ f.behind) was l k h done.2
         (rw (append_assoc f.past.before (Used 0 done.0 ∷ rest_free (f.free - size)) f.behind) (taken_merged f.past.before f.behind f.free (f.free - size) done.0 was.is_merged)));
     }
+
+pub found-fits : (bytes : List ℕ) (n at : ℕ) → IsInterval bytes → IsFirstFree bytes n at → at < 65536
+found-fits bytes n at i f =
+    let w : IsWhole bytes at (length bytes) = found-whole bytes n at f in
+    let b : (512 ≤ length bytes) × (length bytes ≤ 4096) = size-bounds (length bytes) i.tiles.size in
+    omega arith

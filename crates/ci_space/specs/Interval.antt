@@ -21,6 +21,10 @@ is_kind kind = has_elements kind || kind == 1 || kind == 4
 abbrev pub IsZero : List ℕ → ℕ → ℕ → Type 0
 IsZero bytes from to = (k : ℕ) → from ≤ k → k < to → slice_index bytes k ≡ 0
 
+-- the bytes from `from` to `to` stay
+abbrev pub Keeps : List ℕ → List ℕ → ℕ → ℕ → Type 0
+Keeps old new from to = (k : ℕ) → from ≤ k → k < to → slice_index new k ≡ slice_index old k
+
 -- the first 32 bytes are a head: what its kind has no use for is 0
 pub record IsHead (bytes : List ℕ) : Type 0 where
   pub kind : IsTrue (is_kind (kind_of bytes))

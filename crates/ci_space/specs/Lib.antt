@@ -1,3 +1,5 @@
 pub mod Element
 pub mod Interval
+pub mod Head
+pub mod Numbers
 pub mod Walk

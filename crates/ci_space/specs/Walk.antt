@@ -1,5 +1,6 @@
 -- The words of the private walks over an interval's elements.
 use Rattle.std.specs.Prelude.{◌≡◌, ℕ, ◌+◌, ◌-◌, ◌*◌, ◌%◌, ◌<◌, ◌≤◌, Bool, IsTrue, List, [], ◌∷◌, ◌++◌, length, slice_index, All}
+use Rattle.ci_space.specs.Interval.{Keeps}
 use Rattle.ci_space.specs.Element.{Element, Free, Used, size, sizes, Begins, Chain, StartsUsed, IsMerged, free_size, rest_free}
 
 -- the bytes are tiled from `at` to their end; where a free element stands before, a used one begins
@@ -8,10 +9,6 @@ pub record TilesFrom (bytes : List ℕ) (at : ℕ) (after_free : Bool) : Type 0 
   pub chain : Chain elements bytes at (length bytes)
   pub is_merged : IsMerged elements
   pub apart : IsTrue after_free → StartsUsed elements
-
--- the bytes from `from` to `to` stay
-abbrev pub Keeps : List ℕ → List ℕ → ℕ → ℕ → Type 0
-Keeps old new from to = (k : ℕ) → from ≤ k → k < to → slice_index new k ≡ slice_index old k
 
 -- what the first two bytes of an element say
 abbrev pub length_of : List ℕ → ℕ → ℕ

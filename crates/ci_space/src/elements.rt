@@ -9,7 +9,8 @@
 ghost use Rattle.std.specs.Prelude.{◌≡◌, ◌≢◌, ℕ, ◌+◌, ◌-◌, ◌*◌, ◌<◌, ◌≤◌, ◌↔◌, ◌%◌, ◌^◌, ◌==◌, List, [], ◌∷◌, ◌++◌, length, slice_index, slice_range, All, IsTrue, false, true, IfSome, IfNone};
 ghost use Rattle.ci_space.specs.Element.{Element, Chain, Begins, size_for};
 ghost use Rattle.ci_space.specs.Interval.{IsZero, IsInterval, IsUsed, HasRoom, Takes, IsFull, UsedBecomes, UsedIsFreed, has_elements, kind_of};
-ghost use Rattle.ci_space.specs.Walk.{TilesFrom, Keeps, length_of, Puts, WalksPast, IsFirstFree, Splits, last_free, first_free, WalksTo};
+ghost use Rattle.ci_space.specs.Walk.{TilesFrom, length_of, Puts, WalksPast, IsFirstFree, Splits, last_free, first_free, WalksTo};
+ghost use Rattle.ci_space.specs.Interval.{Keeps};
 
 /// The bytes of an interval before its elements.
 pub const HEAD: usize = 32;
@@ -203,6 +204,7 @@ pub fn take(bytes: &mut [u8], length: u16) -> Option<usize>
     ensures full { IfNone result (IsFull bytes.old length) }
     ensures none { IfNone result (bytes.new ≡ bytes.old) }
     ensures head { Keeps bytes.old bytes.new 0 32 }
+    ensures bound { IfSome result (λ at. at < 2 ^ 16) }
 {
     if !holds_elements(bytes[0]) {
         return None;

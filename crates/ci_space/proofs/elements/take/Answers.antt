@@ -1,7 +1,7 @@
 use Rattle.std.proofs.Common.{◌≡◌, ◌+◌, ◌≤◌, length, true, false, sym, ◌∙◌, arith, IsTrue, IfNone}
 use Rattle.ci_space.specs.Interval.{IsFull, has_elements, kind_of}
 use Rattle.ci_space.proofs.Walks.{IsWhole, walk-low}
-use Rattle.ci_space.proofs.Tilings.{walked-full, found-whole, takes}
+use Rattle.ci_space.proofs.Tilings.{walked-full, found-whole, found-fits, takes}
 use Rattle.ci_space.proofs.elements.take.Goals as goal
 
 pub returns-in_err-at-clause-full : goal.returns-in_err-at-clause-full
@@ -20,3 +20,6 @@ returns-clause-some c =
 
 pub returns-clause-head : goal.returns-clause-head
 returns-clause-head c = c.split.ensures.head (walk-low _ _ _ c.in_ok-at.ensures.found.past)
+
+pub returns-clause-bound : goal.returns-clause-bound
+returns-clause-bound c = found-fits _ _ _ c.requires c.in_ok-at.ensures.found

@@ -1,0 +1,104 @@
+//! An interval: the unit of an area that is read and written whole.
+//!
+//!     head 32 | elements, control's numbers or slots ..
+//!
+//! It has 512, 1,024, 2,048 or 4,096 bytes. Behind the head stand
+//!
+//!     base, overflow   elements, one behind the other up to the end
+//!     control          begin 8, end 8, number of independent overflow intervals 8, first of the free chain 8, zeros
+//!     sequential       slots, whose bytes may be any
+//!
+//! An `Interval` is always one whose bytes are in this form (`IsInterval`).
+
+ghost use Rattle.std.specs.Prelude.{◌≡◌, ◌↔◌, ◌+◌, ◌≤◌, ◌<◌, ◌≢◌, ℕ, List, [], ◌∷◌, ◌++◌, length, drop, take, slice_range, IsTrue, IsSome, IfOk, IfSome, IfNone};
+ghost use Rattle.ci_space.specs.Element.{Element, Used};
+ghost use Rattle.ci_space.specs.Interval.{is_size, is_kind, kind_of, has_elements, IsInterval, IsUsed, HasUsed, HasRoom, Tiles, Takes, IsFull, UsedBecomes, UsedIsFreed, IsZero, Keeps, empty_bytes, written};
+ghost use Rattle.ci_space.specs.Head.{head_of, IsHeadOf, ends_of};
+
+use crate::elements;
+use crate::head::{self, Head};
+use std::alloc::{AllocError, Global};
+use std::marker::Model;
+
+/// An interval. Contracts see it as the list of its bytes.
+#[derive(Debug, Drop)]
+pub struct Interval {
+    bytes: Vec<u8>,
+}
+
+impl Model for Interval {
+    ghost use Rattle.std.specs.Prelude.{List, ℕ};
+    ghost use Rattle.ci_space.specs.Interval.{IsInterval};
+
+    ghost Value = { List ℕ };
+
+    ghost view = { λ i. i.bytes.items };
+
+    ghost invariant = { λ i. IsInterval i.bytes.items };
+}
+
+/// Whether an interval may have this size.
+fn is_size(size: usize) -> bool
+    ensures { result ≡ is_size size }
+{
+    matches!(size, 512 | 1024 | 2048 | 4096)
+}
+
+/// Whether bytes are an interval.
+fn is_interval(bytes: &[u8]) -> bool
+    ensures { IsTrue result ↔ IsInterval bytes.now }
+{
+    if !is_size(bytes.len()) || !head::is_head(bytes) {
+        return false;
+    }
+    if elements::holds_elements(bytes[0]) {
+        return elements::is_tiled(bytes);
+    }
+    bytes[0] != head::CONTROL || elements::is_zero(bytes, 64, bytes.len())
+}
+
+impl Interval {
+    /// The interval that these bytes are. None exactly where they are none: where they have another
+    /// size or another kind, where a byte of the head that is to be 0 isn't, where elements don't tile
+    /// a base or overflow interval, or where control has a byte other than 0 behind its numbers.
+    pub fn read(alloc: Global, bytes: &[u8]) -> Result<Option<Interval>, AllocError>
+        ensures some { IfOk result (λ read. IsSome read ↔ IsInterval bytes.now) }
+        ensures same { IfOk result (λ read. IfSome read (λ interval. interval ≡ bytes.now)) }
+    {
+        if !is_interval(bytes) {
+            return Ok(None);
+        }
+        let bytes = Vec::from_slice(alloc, bytes)?;
+        Ok(Some(Interval { bytes }))
+    }
+
+    /// All bytes of the interval.
+    pub fn whole(&self) -> &[u8]
+        ensures bytes { result.now ≡ self.now }
+        ensures interval { IsInterval self.now }
+    {
+        self.bytes.as_slice()
+    }
+
+    /// Takes the first free element that has room for `length` bytes, and gives the place of the new
+    /// used element, whose segment type is 0. What it doesn't need stays free behind it. None exactly
+    /// where no free element has room.
+    pub fn take(&mut self, length: u16) -> Option<u16>
+        ensures some { IfSome result (Takes self.old self.new length) }
+        ensures full { IfNone result (IsFull self.old length) }
+        ensures none { IfNone result (self.new ≡ self.old) }
+        ensures head { Keeps self.old self.new 0 32 }
+    {
+        let at = elements::take(&mut self.bytes, length)?;
+        Some(at as u16)
+    }
+
+    /// Frees the used element at `at`, and merges it with its free neighbours.
+    pub fn free(&mut self, at: u16)
+        requires { IsUsed self.old at }
+        ensures freed { UsedIsFreed self.old self.new at }
+        ensures head { Keeps self.old self.new 0 32 }
+    {
+        elements::free(&mut self.bytes, usize::from(at));
+    }
+}
