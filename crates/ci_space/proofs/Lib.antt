@@ -5,3 +5,4 @@ pub mod Splits
 pub mod Tilings
 pub mod Places
 pub mod Heads
+pub mod Contents

@@ -107,12 +107,16 @@ pub record IsFull (bytes : List ℕ) (n : ℕ) : Type 0 where
 abbrev pub written : List ℕ → ℕ → List ℕ → List ℕ
 written bytes at these = take at bytes ++ these ++ drop (at + length these) bytes
 
--- a new interval: elements are one free one, all else behind the kind is 0
-abbrev pub first_element : ℕ → List ℕ
-first_element n = n / 256 ∷ n % 256 ∷ []
+-- `n` bytes from `at` on end within the interval
+abbrev pub EndsWithin : List ℕ → ℕ → ℕ → Type 0
+EndsWithin bytes at n = at + n ≤ length bytes
+
+-- a new interval: its elements are one free one, every other byte behind the kind is 0
+abbrev pub empty_elements : ℕ → ℕ → List ℕ
+empty_elements size kind =
+    if has_elements kind
+    then (size - 32) / 256 ∷ (size - 32) % 256 ∷ replicate (size - 34) 0
+    else replicate (size - 32) 0
 
 abbrev pub empty_bytes : ℕ → ℕ → List ℕ
-empty_bytes size kind =
-    if has_elements kind
-    then kind ∷ replicate 31 0 ++ first_element (size - 32) ++ replicate (size - 34) 0
-    else kind ∷ replicate (size - 1) 0
+empty_bytes size kind = kind ∷ replicate 31 0 ++ empty_elements size kind

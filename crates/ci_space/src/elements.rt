@@ -6,9 +6,9 @@
 //! free one, whose segment type is 0 and whose content means nothing. No two free elements are
 //! neighbours. All this is the project's profile.
 
-ghost use Rattle.std.specs.Prelude.{◌≡◌, ◌≢◌, ℕ, ◌+◌, ◌-◌, ◌*◌, ◌<◌, ◌≤◌, ◌↔◌, ◌%◌, ◌^◌, ◌==◌, List, [], ◌∷◌, ◌++◌, length, slice_index, slice_range, All, IsTrue, false, true, IfSome, IfNone};
-ghost use Rattle.ci_space.specs.Element.{Element, Chain, Begins, size_for};
-ghost use Rattle.ci_space.specs.Interval.{IsZero, IsInterval, IsUsed, HasRoom, Takes, IsFull, UsedBecomes, UsedIsFreed, has_elements, kind_of};
+ghost use Rattle.std.specs.Prelude.{◌≡◌, ◌≢◌, ℕ, ◌+◌, ◌-◌, ◌*◌, ◌<◌, ◌≤◌, ◌↔◌, ◌%◌, ◌^◌, ◌==◌, List, [], ◌∷◌, ◌++◌, length, drop, slice_index, slice_set, slice_range, All, IsTrue, false, true, IfSome, IfNone};
+ghost use Rattle.ci_space.specs.Element.{Element, Used, Chain, Begins, size_for};
+ghost use Rattle.ci_space.specs.Interval.{IsZero, IsInterval, IsUsed, HasRoom, Takes, IsFull, HasUsed, UsedBecomes, written, UsedIsFreed, has_elements, kind_of};
 ghost use Rattle.ci_space.specs.Walk.{TilesFrom, length_of, Puts, WalksPast, IsFirstFree, Splits, last_free, first_free, WalksTo};
 ghost use Rattle.ci_space.specs.Interval.{Keeps};
 
@@ -224,4 +224,49 @@ pub fn free(bytes: &mut [u8], at: usize)
     let start = start_of_free(bytes, at);
     let end = end_of_free(bytes, at + length_at(bytes, at));
     put_element(bytes, start, end - start, FREE);
+}
+
+/// The content of the used element at `at`.
+pub fn content(bytes: &[u8], at: usize) -> &[u8]
+    requires { IsUsed bytes.now at }
+    ensures { (segment : ℕ) (content : List ℕ) → HasUsed bytes.now at segment content → result.now ≡ content }
+{
+    let end = at + length_at(bytes, at);
+    &bytes[at + 4..end]
+}
+
+/// Puts bytes at `at`.
+pub fn put(bytes: &mut [u8], at: usize, from: &[u8])
+    requires { at + length from.now ≤ length bytes.old }
+    ensures { bytes.new ≡ written bytes.old at from.now }
+{
+    bytes[at..at + from.len()].copy_from_slice(from);
+}
+
+/// Writes the first bytes of the content of the used element at `at`.
+pub fn write(bytes: &mut [u8], at: usize, from: &[u8])
+    requires { HasRoom bytes.old at (length from.now) }
+    ensures bytes { bytes.new ≡ written bytes.old (at + 4) from.now }
+    ensures wrote { UsedBecomes bytes.old bytes.new at (λ segment content. Used segment (from.now ++ drop (length from.now) content)) }
+    ensures head { Keeps bytes.old bytes.new 0 32 }
+{
+    put(bytes, at + 4, from);
+}
+
+/// The segment type of the used element at `at`.
+pub fn type_at(bytes: &[u8], at: usize) -> u8
+    requires { IsUsed bytes.now at }
+    ensures { (segment : ℕ) (content : List ℕ) → HasUsed bytes.now at segment content → result ≡ segment }
+{
+    bytes[at + 3]
+}
+
+/// Sets the segment type of the used element at `at`.
+pub fn set_type(bytes: &mut [u8], at: usize, segment: u8)
+    requires { IsUsed bytes.old at }
+    ensures bytes { bytes.new ≡ slice_set bytes.old (at + 3) segment }
+    ensures becomes { UsedBecomes bytes.old bytes.new at (λ _ content. Used segment content) }
+    ensures head { Keeps bytes.old bytes.new 0 32 }
+{
+    bytes[at + 3] = segment;
 }

@@ -5,9 +5,10 @@
 //! What a kind has no use for is 0. The parts of an interval are the manual's, their bytes the
 //! project's profile.
 
-ghost use Rattle.std.specs.Prelude.{◌≡◌, ◌↔◌, ◌≤◌, length, IsTrue, slice_index};
-ghost use Rattle.ci_space.specs.Interval.{IsHead, is_kind, kind_of};
-ghost use Rattle.ci_space.specs.Head.{head_of, ends_of};
+ghost use Rattle.std.specs.Prelude.{◌≡◌, ◌↔◌, ◌≤◌, List, length, drop, IsTrue};
+ghost use Rattle.ci_space.specs.Interval.{IsHead, IsInterval, Tiles, is_kind, kind_of};
+ghost use Rattle.ci_space.specs.Element.{Element};
+ghost use Rattle.ci_space.specs.Head.{head_of, ends_of, IsHeadOf};
 ghost use Rattle.ci_space.specs.Interval.{Keeps};
 
 use crate::elements::{holds_elements, is_zero};
@@ -78,8 +79,8 @@ pub fn head_at(bytes: &[u8]) -> Head
     }
 }
 
-/// Puts a head of the same kind.
-pub fn put_head(bytes: &mut [u8], head: Head)
+/// Puts a head's numbers.
+fn put_numbers(bytes: &mut [u8], head: Head)
     requires size { 32 ≤ length bytes.old }
     requires kind { head.kind ≡ kind_of bytes.old }
     ensures head { head_of bytes.new ≡ head }
@@ -91,6 +92,17 @@ pub fn put_head(bytes: &mut [u8], head: Head)
     put_short(bytes, 12, head.root.1);
     put_number(bytes, 16, head.link);
     put_number(bytes, 24, head.owner);
+}
+
+/// Puts a head of the same kind into an interval.
+pub fn put_head(bytes: &mut [u8], head: Head)
+    requires interval { IsInterval bytes.old }
+    requires allowed { IsHeadOf (kind_of bytes.old) head }
+    ensures head { head_of bytes.new ≡ head }
+    ensures tiles { (elements : List Element) → Tiles bytes.old elements → Tiles bytes.new elements }
+    ensures others { drop 32 bytes.new ≡ drop 32 bytes.old }
+{
+    put_numbers(bytes, head);
 }
 
 /// The four numbers of control.
@@ -106,8 +118,8 @@ pub fn ends_at(bytes: &[u8]) -> [u64; 4]
     ]
 }
 
-/// Puts the four numbers of control.
-pub fn put_ends(bytes: &mut [u8], ends: [u64; 4])
+/// Puts four numbers behind the head.
+fn put_four(bytes: &mut [u8], ends: [u64; 4])
     requires { 64 ≤ length bytes.old }
     ensures ends { ends_of bytes.new ≡ ends }
     ensures head { Keeps bytes.old bytes.new 0 32 }
@@ -117,4 +129,16 @@ pub fn put_ends(bytes: &mut [u8], ends: [u64; 4])
     put_number(bytes, 40, ends[1]);
     put_number(bytes, 48, ends[2]);
     put_number(bytes, 56, ends[3]);
+}
+
+/// Puts the four numbers of control.
+pub fn put_ends(bytes: &mut [u8], ends: [u64; 4])
+    requires interval { IsInterval bytes.old }
+    requires control { kind_of bytes.old ≡ 1 }
+    ensures ends { ends_of bytes.new ≡ ends }
+    ensures tiles { (elements : List Element) → Tiles bytes.old elements → Tiles bytes.new elements }
+    ensures head { Keeps bytes.old bytes.new 0 32 }
+    ensures others { drop 64 bytes.new ≡ drop 64 bytes.old }
+{
+    put_four(bytes, ends);
 }

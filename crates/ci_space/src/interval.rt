@@ -10,9 +10,9 @@
 //!
 //! An `Interval` is always one whose bytes are in this form (`IsInterval`).
 
-ghost use Rattle.std.specs.Prelude.{◌≡◌, ◌↔◌, ◌+◌, ◌≤◌, ◌<◌, ◌≢◌, ℕ, List, [], ◌∷◌, ◌++◌, length, drop, take, slice_range, IsTrue, IsSome, IfOk, IfSome, IfNone};
+ghost use Rattle.std.specs.Prelude.{◌≡◌, ◌↔◌, ◌+◌, ◌≤◌, ◌<◌, ◌≢◌, ℕ, List, [], ◌∷◌, ◌++◌, length, drop, take, slice_range, slice_set, IsTrue, IsSome, IfOk, IfSome, IfNone};
 ghost use Rattle.ci_space.specs.Element.{Element, Used};
-ghost use Rattle.ci_space.specs.Interval.{is_size, is_kind, kind_of, has_elements, IsInterval, IsUsed, HasUsed, HasRoom, Tiles, Takes, IsFull, UsedBecomes, UsedIsFreed, IsZero, Keeps, empty_bytes, written};
+ghost use Rattle.ci_space.specs.Interval.{is_size, is_kind, kind_of, has_elements, IsInterval, IsUsed, HasUsed, HasRoom, Tiles, Takes, IsFull, UsedBecomes, UsedIsFreed, Keeps, EndsWithin, empty_bytes, written};
 ghost use Rattle.ci_space.specs.Head.{head_of, IsHeadOf, ends_of};
 
 use crate::elements;
@@ -100,5 +100,99 @@ impl Interval {
         ensures head { Keeps self.old self.new 0 32 }
     {
         elements::free(&mut self.bytes, usize::from(at));
+    }
+
+    /// The content of the used element at `at`: all its bytes behind its first four.
+    pub fn content(&self, at: u16) -> &[u8]
+        requires { IsUsed self.now at }
+        ensures { (segment : ℕ) (content : List ℕ) → HasUsed self.now at segment content → result.now ≡ content }
+    {
+        elements::content(&self.bytes, usize::from(at))
+    }
+
+    /// Writes `from` over the first bytes of the content of the used element at `at`.
+    pub fn write(&mut self, at: u16, from: &[u8])
+        requires { HasRoom self.old at (length from.now) }
+        ensures bytes { self.new ≡ written self.old (at + 4) from.now }
+        ensures wrote { UsedBecomes self.old self.new at (λ segment content. Used segment (from.now ++ drop (length from.now) content)) }
+        ensures head { Keeps self.old self.new 0 32 }
+    {
+        elements::write(&mut self.bytes, usize::from(at), from);
+    }
+
+    /// The segment type of the used element at `at`. It is 0 after `take`.
+    pub fn type_at(&self, at: u16) -> u8
+        requires { IsUsed self.now at }
+        ensures { (segment : ℕ) (content : List ℕ) → HasUsed self.now at segment content → result ≡ segment }
+    {
+        elements::type_at(&self.bytes, usize::from(at))
+    }
+
+    /// Sets the segment type of the used element at `at`.
+    pub fn set_type(&mut self, at: u16, segment: u8)
+        requires { IsUsed self.old at }
+        ensures bytes { self.new ≡ slice_set self.old (at + 3) segment }
+        ensures becomes { UsedBecomes self.old self.new at (λ _ content. Used segment content) }
+        ensures head { Keeps self.old self.new 0 32 }
+    {
+        elements::set_type(&mut self.bytes, usize::from(at), segment);
+    }
+
+    /// What the first 32 bytes say.
+    pub fn head(&self) -> Head
+        ensures head { result ≡ head_of self.now }
+        ensures allowed { IsHeadOf (kind_of self.now) result }
+    {
+        head::head_at(&self.bytes)
+    }
+
+    /// Sets the first 32 bytes. The kind stays.
+    pub fn set_head(&mut self, head: Head)
+        requires { IsHeadOf (kind_of self.old) head }
+        ensures head { head_of self.new ≡ head }
+        ensures tiles { (elements : List Element) → Tiles self.old elements → Tiles self.new elements }
+        ensures others { drop 32 self.new ≡ drop 32 self.old }
+    {
+        head::put_head(&mut self.bytes, head);
+    }
+
+    /// The four numbers of control: begin, end, the number of independent overflow intervals, and the
+    /// first of the free chain.
+    pub fn ends(&self) -> [u64; 4]
+        requires { kind_of self.now ≡ 1 }
+        ensures { result ≡ ends_of self.now }
+    {
+        head::ends_at(&self.bytes)
+    }
+
+    /// Sets the four numbers of control.
+    pub fn set_ends(&mut self, ends: [u64; 4])
+        requires { kind_of self.old ≡ 1 }
+        ensures ends { ends_of self.new ≡ ends }
+        ensures head { Keeps self.old self.new 0 32 }
+        ensures others { drop 64 self.new ≡ drop 64 self.old }
+    {
+        head::put_ends(&mut self.bytes, ends);
+    }
+
+    /// `length` bytes of a sequential interval, from `at` on.
+    pub fn slot(&self, at: u16, length: u16) -> &[u8]
+        requires kind { kind_of self.now ≡ 4 }
+        requires start { 32 ≤ at }
+        requires end { EndsWithin self.now at length }
+        ensures { result.now ≡ slice_range self.now at (at + length) }
+    {
+        let start = usize::from(at);
+        &self.bytes[start..start + usize::from(length)]
+    }
+
+    /// Writes bytes of a sequential interval, from `at` on.
+    pub fn set_slot(&mut self, at: u16, from: &[u8])
+        requires kind { kind_of self.old ≡ 4 }
+        requires start { 32 ≤ at }
+        requires end { EndsWithin self.old at (length from.now) }
+        ensures { self.new ≡ written self.old at from.now }
+    {
+        elements::put(&mut self.bytes, usize::from(at), from);
     }
 }

@@ -1,0 +1,12 @@
+use Rattle.std.proofs.Common.{◌≡◌, ◌+◌, ◌≤◌, length, arith, rules}
+use Rattle.ci_space.proofs.Contents.{IsWithin, used-within, room-within, used-length, used-type, used-content, type-becomes, put-written, written-below, content-becomes, room-fits}
+use Rattle.ci_space.proofs.elements.set_type.Goals as goal
+
+pub overflow_add-bytes : goal.overflow_add-bytes
+overflow_add-bytes c = let w : IsWithin c.args.bytes.now c.args.at 0 = used-within _ _ c.requires in omega arith
+
+pub bounds-bytes-at : goal.bounds-bytes-at
+bounds-bytes-at c = let w : IsWithin c.args.bytes.now c.args.at 0 = used-within _ _ c.requires in omega arith
+
+pub returns-clause-becomes : goal.returns-clause-becomes
+returns-clause-becomes c = type-becomes _ _ _
