@@ -6,3 +6,4 @@ pub mod Tilings
 pub mod Places
 pub mod Heads
 pub mod Contents
+pub mod Empties

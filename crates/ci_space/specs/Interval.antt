@@ -112,11 +112,11 @@ abbrev pub EndsWithin : List ℕ → ℕ → ℕ → Type 0
 EndsWithin bytes at n = at + n ≤ length bytes
 
 -- a new interval: its elements are one free one, every other byte behind the kind is 0
-abbrev pub empty_elements : ℕ → ℕ → List ℕ
+unfoldable pub empty_elements : ℕ → ℕ → List ℕ
 empty_elements size kind =
     if has_elements kind
     then (size - 32) / 256 ∷ (size - 32) % 256 ∷ replicate (size - 34) 0
     else replicate (size - 32) 0
 
-abbrev pub empty_bytes : ℕ → ℕ → List ℕ
+unfoldable pub empty_bytes : ℕ → ℕ → List ℕ
 empty_bytes size kind = kind ∷ replicate 31 0 ++ empty_elements size kind

@@ -2,4 +2,5 @@ pub mod Element
 pub mod Interval
 pub mod Head
 pub mod Numbers
+pub mod Calls
 pub mod Walk

@@ -6,9 +6,9 @@
 //! free one, whose segment type is 0 and whose content means nothing. No two free elements are
 //! neighbours. All this is the project's profile.
 
-ghost use Rattle.std.specs.Prelude.{◌≡◌, ◌≢◌, ℕ, ◌+◌, ◌-◌, ◌*◌, ◌<◌, ◌≤◌, ◌↔◌, ◌%◌, ◌^◌, ◌==◌, List, [], ◌∷◌, ◌++◌, length, drop, slice_index, slice_set, slice_range, All, IsTrue, false, true, IfSome, IfNone};
+ghost use Rattle.std.specs.Prelude.{◌≡◌, ◌≢◌, ℕ, ◌+◌, ◌-◌, ◌*◌, ◌<◌, ◌≤◌, ◌↔◌, ◌%◌, ◌^◌, ◌==◌, List, [], ◌∷◌, ◌++◌, length, drop, replicate, slice_index, slice_set, slice_range, All, IsTrue, false, true, IfSome, IfNone};
 ghost use Rattle.ci_space.specs.Element.{Element, Used, Chain, Begins, size_for};
-ghost use Rattle.ci_space.specs.Interval.{IsZero, IsInterval, IsUsed, HasRoom, Takes, IsFull, HasUsed, UsedBecomes, written, UsedIsFreed, has_elements, kind_of};
+ghost use Rattle.ci_space.specs.Interval.{IsZero, IsInterval, IsUsed, HasRoom, Takes, IsFull, HasUsed, UsedBecomes, written, UsedIsFreed, has_elements, kind_of, is_size, empty_bytes};
 ghost use Rattle.ci_space.specs.Walk.{TilesFrom, length_of, Puts, WalksPast, IsFirstFree, Splits, last_free, first_free, WalksTo};
 ghost use Rattle.ci_space.specs.Interval.{Keeps};
 
@@ -269,4 +269,18 @@ pub fn set_type(bytes: &mut [u8], at: usize, segment: u8)
     ensures head { Keeps bytes.old bytes.new 0 32 }
 {
     bytes[at + 3] = segment;
+}
+
+/// Makes an interval of zeros a new one of this kind.
+pub fn put_empty(bytes: &mut [u8], kind: u8)
+    requires size { IsTrue (is_size (length bytes.old)) }
+    requires zero { bytes.old ≡ replicate (length bytes.old) 0 }
+    ensures { bytes.new ≡ empty_bytes (length bytes.old) kind }
+{
+    let free = bytes.len() - HEAD;
+    bytes[0] = kind;
+    if holds_elements(kind) {
+        bytes[HEAD] = (free / 256) as u8;
+        bytes[HEAD + 1] = (free % 256) as u8;
+    }
 }

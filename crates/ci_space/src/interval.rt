@@ -10,8 +10,8 @@
 //!
 //! An `Interval` is always one whose bytes are in this form (`IsInterval`).
 
-ghost use Rattle.std.specs.Prelude.{◌≡◌, ◌↔◌, ◌+◌, ◌≤◌, ◌<◌, ◌≢◌, ℕ, List, [], ◌∷◌, ◌++◌, length, drop, take, slice_range, slice_set, IsTrue, IsSome, IfOk, IfSome, IfNone};
-ghost use Rattle.ci_space.specs.Element.{Element, Used};
+ghost use Rattle.std.specs.Prelude.{◌≡◌, ◌↔◌, ◌+◌, ◌-◌, ◌≤◌, ◌<◌, ◌≢◌, ℕ, List, [], ◌∷◌, ◌++◌, length, drop, take, slice_range, slice_set, IsTrue, IsSome, IfOk, IfSome, IfNone};
+ghost use Rattle.ci_space.specs.Element.{Element, Free, Used};
 ghost use Rattle.ci_space.specs.Interval.{is_size, is_kind, kind_of, has_elements, IsInterval, IsUsed, HasUsed, HasRoom, Tiles, Takes, IsFull, UsedBecomes, UsedIsFreed, Keeps, EndsWithin, empty_bytes, written};
 ghost use Rattle.ci_space.specs.Head.{head_of, IsHeadOf, ends_of};
 
@@ -21,7 +21,7 @@ use std::alloc::{AllocError, Global};
 use std::marker::Model;
 
 /// An interval. Contracts see it as the list of its bytes.
-#[derive(Debug, Drop)]
+#[derive(Clone, Debug, Drop)]
 pub struct Interval {
     bytes: Vec<u8>,
 }
@@ -70,6 +70,19 @@ impl Interval {
         }
         let bytes = Vec::from_slice(alloc, bytes)?;
         Ok(Some(Interval { bytes }))
+    }
+
+    /// A new interval: one free element, or zeros behind the head of a control or sequential one. Its
+    /// head is zeros but for the kind.
+    pub fn empty(alloc: Global, size: u16, kind: u8) -> Result<Interval, AllocError>
+        requires size { IsTrue (is_size size) }
+        requires kind { IsTrue (is_kind kind) }
+        ensures bytes { IfOk result (λ interval. interval ≡ empty_bytes size kind) }
+        ensures one_free { IfOk result (λ interval. IsTrue (has_elements kind) → Tiles interval (Free (size - 32) ∷ [])) }
+    {
+        let mut bytes = vec![in alloc; 0u8; usize::from(size)]?;
+        elements::put_empty(&mut bytes, kind);
+        Ok(Interval { bytes })
     }
 
     /// All bytes of the interval.
