@@ -113,3 +113,12 @@ empty-interval size kind s k = elim (cases_Bool (has_elements kind)) as (λ _. I
   inl h ↦ record { elements = Free (size - 32) ∷ []; tiles = tiled-tiles size kind s k h }
   | inr h ↦ record { elements = []; tiles = untiled-tiles size kind s k h }
 ]
+
+pub length-empty : (size kind : ℕ) → IsTrue (is_size size) → length (empty_bytes size kind) ≡ size
+unfolding empty_bytes empty_elements
+length-empty size kind s =
+    let b : (512 ≤ size) × (size ≤ 4096) = size-bounds size s in
+    elim (cases_Bool (has_elements kind)) as (λ _. length (empty_bytes size kind) ≡ size) [
+      inl h ↦ rw h (omega (arith, length-append (kind ∷ replicate 31 0) ((size - 32) / 256 ∷ (size - 32) % 256 ∷ replicate (size - 34) 0), length-replicate {A = ℕ} (size - 34) 0))
+      | inr h ↦ rw h (omega (arith, length-append (kind ∷ replicate 31 0) (replicate (size - 32) 0), length-replicate {A = ℕ} (size - 32) 0))
+    ]

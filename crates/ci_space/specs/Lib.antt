@@ -3,4 +3,5 @@ pub mod Interval
 pub mod Head
 pub mod Numbers
 pub mod Calls
+pub mod Memory
 pub mod Walk

@@ -21,7 +21,7 @@ use std::alloc::{AllocError, Global};
 use std::marker::Model;
 
 /// An interval. Contracts see it as the list of its bytes.
-#[derive(Clone, Debug, Drop)]
+#[derive(Debug, Drop)]
 pub struct Interval {
     bytes: Vec<u8>,
 }
@@ -91,6 +91,23 @@ impl Interval {
         ensures interval { IsInterval self.now }
     {
         self.bytes.as_slice()
+    }
+
+    /// The number of its bytes.
+    pub fn size(&self) -> u16
+        ensures size { result ≡ length self.now }
+        ensures is_size { IsTrue (is_size result) }
+    {
+        self.bytes.len() as u16
+    }
+
+    /// Another interval of the same bytes.
+    pub fn copied(&self, alloc: Global) -> Result<Interval, AllocError>
+        ensures same { IfOk result (λ interval. interval ≡ self.now) }
+        ensures interval { IfOk result IsInterval }
+    {
+        let bytes = Vec::from_slice(alloc, &self.bytes)?;
+        Ok(Interval { bytes })
     }
 
     /// Takes the first free element that has room for `length` bytes, and gives the place of the new

@@ -9,9 +9,11 @@ mod elements;
 mod head;
 mod interval;
 mod intervals;
+mod memory;
 mod numbers;
 
 pub use head::Head;
 pub use interval::Interval;
 pub use intervals::{GetFault, Intervals, Shape};
+pub use memory::MemoryIntervals;
 pub use std::alloc::AllocError as Memory;
