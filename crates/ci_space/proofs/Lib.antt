@@ -7,3 +7,4 @@ pub mod Places
 pub mod Heads
 pub mod Contents
 pub mod Empties
+pub mod Standing
