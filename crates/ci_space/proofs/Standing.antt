@@ -1,9 +1,13 @@
 -- The used elements of an interval by their places: what a call leaves of them.
-use Rattle.std.proofs.Common.{◌≡◌, ◌≢◌, ℕ, zero, suc, ◌+◌, ◌-◌, ◌<◌, ◌≤◌, ◌⊎◌, inl, inr, Bool, true, false, List, [], ◌∷◌, ◌++◌, length, refl, sym, ap, subst, ◌∙◌, add_assoc, append_assoc, arith, IsTrue}
+use Rattle.std.proofs.Common.{◌≡◌, ◌≢◌, ℕ, zero, suc, ◌+◌, ◌-◌, ◌<◌, ◌≤◌, ◌⊎◌, inl, inr, Bool, true, false, List, [], ◌∷◌, ◌++◌, length, drop, slice_index, refl, sym, ap, subst, ◌∙◌, add_assoc, append_assoc, arith, IsTrue}
 use Rattle.std.proofs.lemmas.Bool.{cases_Bool}
-use Rattle.ci_space.specs.Element.{Element, Free, Used, size, sizes, Chain, StandsAmong, front_free, merged, rest_free, size_for}
-use Rattle.ci_space.specs.Interval.{kind_of, has_elements, Tiles, HasUsed, IsUsed, Takes, UsedBecomes, UsedIsFreed, OthersStay}
-use Rattle.ci_space.proofs.Chains.{Chain-unique}
+use Rattle.std.proofs.lemmas.List.{length-append, length-drop}
+use Rattle.ci_space.specs.Element.{Element, Free, Used, size, sizes, Begins, Chain, IsMerged, StandsAmong, front_free, merged, rest_free, size_for}
+use Rattle.ci_space.specs.Interval.{kind_of, has_elements, Tiles, HasUsed, IsInterval, IsUsed, HasRoom, Takes, UsedBecomes, UsedIsFreed, OthersStay}
+use Rattle.ci_space.specs.Walk.{length_of, TilesFrom}
+use Rattle.ci_space.proofs.Chains.{Chain-unique, Chain-end, Chain-append, least_size}
+use Rattle.ci_space.proofs.Walks.{IsWhole, first-whole, size-is}
+use Rattle.ci_space.proofs.Tilings.{used-back, used-kind, tiles-by}
 
 -- an interval has one reading
 pub Tiles-unique : (bytes : List ℕ) (xs ys : List Element) → Tiles bytes xs → Tiles bytes ys → xs ≡ ys
@@ -199,3 +203,118 @@ takes-used old new n at t = record {
   tiles = rw (← append_assoc t.before (Used 0 t.content ∷ rest_free (t.free - size_for n)) t.after) t.now;
   place = t.place;
 }
+
+pub takes-room : (old new : List ℕ) (n at : ℕ) → Takes old new n at → HasRoom new at n
+takes-room old new n at t = record {
+  segment = 0;
+  content = t.content;
+  used = takes-used old new n at t;
+  fits = omega (arith, t.is_size);
+}
+
+-- nothing used stood there
+pub takes-fresh : (old new : List ℕ) (n at : ℕ) → Takes old new n at → IsUsed old at → ⊥
+takes-fresh old new n at t u =
+    let f : Chain (Free t.free ∷ t.after) old at (length old) = used-back old at t.before t.after (Free t.free) t.place t.was in
+    let g : Chain (Used u.segment u.content ∷ u.used.after) old at (length old) = used-back old at u.used.before u.used.after (Used u.segment u.content) u.used.place u.used.tiles in
+    omega (arith, f.0.is_tag, g.0.0.is_tag)
+
+-- the elements from a place on, where those before it don't reach another place
+pub record WalksUpTo (bytes : List ℕ) (place at : ℕ) : Type 0 where
+  pub before : List Element
+  pub after : List Element
+  pub done : Chain before bytes 32 place
+  pub left : Chain after bytes place (length bytes)
+  pub is_merged : IsMerged (before ++ after)
+  pub passed : (segment : ℕ) (content : List ℕ) → StandsAmong before 32 at (Used segment content) → ⊥
+
+pub up-begins : (bytes : List ℕ) (at : ℕ) (f : Bool) → TilesFrom bytes 32 f → WalksUpTo bytes 32 at
+up-begins bytes at f t = record { before = []; after = t.elements; done = refl; left = t.chain; is_merged = t.is_merged; passed = λ _ _ s. s }
+
+up_on : (before es : List Element) (bytes : List ℕ) (place at : ℕ) → place < at → place < length bytes → Chain before bytes 32 place → Chain es bytes place (length bytes)
+    → IsMerged (before ++ es) → ((segment : ℕ) (content : List ℕ) → StandsAmong before 32 at (Used segment content) → ⊥) → WalksUpTo bytes (place + length_of bytes place) at
+up_on before [] bytes place at a l d c m p = absurd (omega arith)
+up_on before (e ∷ es) bytes place at a l d c m p =
+    let n : length_of bytes place ≡ size e = size-is e bytes place c.0 in
+    let b : 32 + sizes before ≡ place = Chain-end before bytes 32 place d in
+    let q : place + size e ≡ place + length_of bytes place = omega arith in
+    record {
+      before = before ++ e ∷ [];
+      after = es;
+      done = Chain-append before (e ∷ []) bytes 32 place (place + length_of bytes place) d (c.0, q);
+      left = rw n c.1;
+      is_merged = rw (append_assoc before (e ∷ []) es) m;
+      passed = λ segment content s. elim (stands-apart before (e ∷ []) 32 at (Used segment content) s) as (λ _. ⊥) [
+        inl t ↦ p segment content t
+        | inr (inl t) ↦ omega (arith, t.0)
+        | inr (inr t) ↦ t
+      ];
+    }
+
+pub up-on : (bytes : List ℕ) (place at : ℕ) → place < at → place < length bytes → WalksUpTo bytes place at → WalksUpTo bytes (place + length_of bytes place) at
+up-on bytes place at a l w = up_on w.before w.after bytes place at a l w.done w.left w.is_merged w.passed
+
+pub up-whole : (bytes : List ℕ) (place at : ℕ) → place < length bytes → WalksUpTo bytes place at → IsWhole bytes place (length bytes)
+up-whole bytes place at l w = first-whole w.after bytes place (length bytes) l w.left
+
+up_used : (before es : List Element) (bytes : List ℕ) (at : ℕ) → at < length bytes → slice_index bytes (at + 2) ≡ 1 → Chain before bytes 32 at → Chain es bytes at (length bytes)
+    → IsMerged (before ++ es) → IsInterval bytes → IsTrue (has_elements (kind_of bytes)) → IsUsed bytes at
+up_used before [] bytes at l t d c m i h = absurd (omega arith)
+up_used before (Free n ∷ es) bytes at l t d c m i h = absurd (omega (arith, c.0.is_tag, t))
+up_used before (Used segment content ∷ es) bytes at l t d c m i h = record {
+  segment = segment;
+  content = content;
+  used = record {
+    before = before;
+    after = es;
+    tiles = tiles-by bytes bytes i.elements (before ++ Used segment content ∷ es) i.tiles refl (λ k x y. refl) h (Chain-append before (Used segment content ∷ es) bytes 32 at (length bytes) d c) m;
+    place = sym (Chain-end before bytes 32 at d);
+  };
+}
+
+-- the walk has come to it
+pub up-used : (bytes : List ℕ) (place at : ℕ) → place ≡ at → place < length bytes → slice_index bytes (place + 2) ≡ 1 → WalksUpTo bytes place at → IsInterval bytes → IsTrue (has_elements (kind_of bytes)) → IsUsed bytes at
+up-used bytes place at e l t w i h = rw (← e) (up_used w.before w.after bytes place l t w.done w.left w.is_merged i h)
+
+-- it has gone past it, to its end, or to a free element
+up_none : (before es : List Element) (bytes : List ℕ) (place at segment : ℕ) (content : List ℕ) → at ≤ place → Chain es bytes place (length bytes)
+    → ((segment : ℕ) (content : List ℕ) → StandsAmong before 32 at (Used segment content) → ⊥) → (place ≡ at → place < length bytes → slice_index bytes (place + 2) ≡ 1 → ⊥)
+    → 32 + sizes before ≡ place → StandsAmong (before ++ es) 32 at (Used segment content) → ⊥
+up_none before [] bytes place at segment content a c p n b s =
+    elim (stands-apart before [] 32 at (Used segment content) s) as (λ _. ⊥) [ inl t ↦ p segment content t | inr t ↦ t ]
+up_none before (e ∷ es) bytes place at segment content a c p n b s =
+    elim (stands-apart before (e ∷ es) 32 at (Used segment content) s) as (λ _. ⊥) [
+      inl t ↦ p segment content t
+      | inr (inl t) ↦
+        (let same : place ≡ at = omega (arith, t.0) in
+         let u : Begins bytes place (4 + length content) 1 segment = (let d = rw t.1 at c.0 in d.0) in
+         let l : place < length bytes = omega (arith, Chain-end es bytes (place + size e) (length bytes) c.1, least_size e bytes place c.0) in
+         n same l u.is_tag)
+      | inr (inr t) ↦ omega (arith, stands-low es (32 + sizes before + size e) at (Used segment content) t, least_size e bytes place c.0)
+    ]
+
+pub up-none : (bytes : List ℕ) (place at : ℕ) → at ≤ place → WalksUpTo bytes place at → (place ≡ at → place < length bytes → slice_index bytes (place + 2) ≡ 1 → ⊥) → IsInterval bytes → IsTrue (has_elements (kind_of bytes)) → IsUsed bytes at → ⊥
+up-none bytes place at a w n i h u =
+    let t : Tiles bytes (w.before ++ w.after) = tiles-by bytes bytes i.elements (w.before ++ w.after) i.tiles refl (λ k x y. refl) h (Chain-append w.before w.after bytes 32 place (length bytes) w.done w.left) w.is_merged in
+    up_none w.before w.after bytes place at u.segment u.content a w.left w.passed n (Chain-end w.before bytes 32 place w.done)
+      (used-stands bytes (w.before ++ w.after) at u.segment u.content t u.used)
+
+-- no element stands in other kinds
+pub untiled-none : (bytes : List ℕ) (at : ℕ) → has_elements (kind_of bytes) ≡ false → IsUsed bytes at → ⊥
+untiled-none bytes at h u =
+    let k : true ≡ false = sym (used-kind bytes u.used.before u.used.after (Used u.segment u.content) u.used.tiles) ∙ h in
+    cc
+
+pub up-within : (bytes : List ℕ) (place at : ℕ) → WalksUpTo bytes place at → place ≤ length bytes
+up-within bytes place at w = omega (arith, Chain-end w.after bytes place (length bytes) w.left)
+
+pub room-used : (bytes : List ℕ) (at n : ℕ) → HasRoom bytes at n → IsUsed bytes at
+room-used bytes at n r = record { segment = r.segment; content = r.content; used = r.used }
+
+pub rewritten-size : (from content : List ℕ) → length from ≤ length content → 4 + length (from ++ drop (length from) content) ≡ 4 + length content
+rewritten-size from content l = omega (arith, length-append from (drop (length from) content), length-drop (length from) content)
+
+pub used-tag : (bytes : List ℕ) (at : ℕ) → IsUsed bytes at → slice_index bytes (at + 2) ≡ 1
+used-tag bytes at u =
+    let g : Chain (Used u.segment u.content ∷ u.used.after) bytes at (length bytes) = used-back bytes at u.used.before u.used.after (Used u.segment u.content) u.used.place u.used.tiles in
+    g.0.0.is_tag

@@ -3,7 +3,7 @@ use Rattle.std.proofs.Common.{◌≡◌, ◌≢◌, ℕ, zero, suc, ◌+◌, ◌
 use Rattle.std.proofs.lemmas.List.{append-nil}
 use Rattle.ci_space.specs.Element.{Element, Free, Used, size, sizes, Begins, StandsAt, Chain, StartsUsed, IsMerged, merged, free_size, size_for, rest_free}
 use Rattle.ci_space.specs.Interval.{is_size, kind_of, has_elements, is_kind, IsZero, IsHead, Tiles, IsInterval, HasUsed, IsUsed, HasRoom, Takes, IsFull}
-use Rattle.ci_space.specs.Walk.{length_of, last_free, first_free, WalksPast, IsFirstFree, Splits, Puts}
+use Rattle.ci_space.specs.Walk.{TilesFrom, length_of, last_free, first_free, WalksPast, IsFirstFree, Splits, Puts}
 use Rattle.ci_space.specs.Interval.{Keeps}
 use Rattle.ci_space.proofs.Chains.{Chain-end, Chain-append, Chain-front, Chain-back, least_size}
 use Rattle.ci_space.proofs.Walks.{IsWhole, first-whole}
@@ -238,3 +238,6 @@ found-fits bytes n at i f =
     let w : IsWhole bytes at (length bytes) = found-whole bytes n at f in
     let b : (512 ≤ length bytes) × (length bytes ≤ 4096) = size-bounds (length bytes) i.tiles.size in
     omega arith
+
+pub interval-tiled : (bytes : List ℕ) → IsInterval bytes → IsTrue (has_elements (kind_of bytes)) → TilesFrom bytes 32 false
+interval-tiled bytes i h = record { elements = i.elements; chain = i.tiles.tiled h; is_merged = i.tiles.is_merged; apart = λ b. absurd (cc) }

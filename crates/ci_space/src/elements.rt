@@ -8,7 +8,7 @@
 
 ghost use Rattle.std.specs.Prelude.{◌≡◌, ◌≢◌, ℕ, ◌+◌, ◌-◌, ◌*◌, ◌<◌, ◌≤◌, ◌↔◌, ◌%◌, ◌^◌, ◌==◌, List, [], ◌∷◌, ◌++◌, length, drop, replicate, slice_index, slice_set, slice_range, All, IsTrue, false, true, IfSome, IfNone};
 ghost use Rattle.ci_space.specs.Element.{Element, Used, Chain, Begins, size_for};
-ghost use Rattle.ci_space.specs.Interval.{IsZero, IsInterval, IsUsed, HasRoom, Takes, IsFull, HasUsed, UsedBecomes, written, UsedIsFreed, has_elements, kind_of, is_size, empty_bytes};
+ghost use Rattle.ci_space.specs.Interval.{IsZero, IsInterval, IsUsed, HasRoom, Takes, IsFull, HasUsed, UsedBecomes, written, UsedIsFreed, OthersStay, has_elements, kind_of, is_size, empty_bytes};
 ghost use Rattle.ci_space.specs.Walk.{TilesFrom, length_of, Puts, WalksPast, IsFirstFree, Splits, last_free, first_free, WalksTo};
 ghost use Rattle.ci_space.specs.Interval.{Keeps};
 
@@ -197,6 +197,30 @@ pub fn holds_elements(kind: u8) -> bool
     matches!(kind, 2 | 3 | 5)
 }
 
+/// Whether a used element stands at `at`.
+pub fn is_used_at(bytes: &[u8], at: usize) -> bool
+    requires { IsInterval bytes.now }
+    ensures { IsTrue result ↔ IsUsed bytes.now at }
+{
+    if !holds_elements(bytes[0]) {
+        return false;
+    }
+    let mut place = HEAD;
+    while place < at {
+        if place == bytes.len() {
+            return false;
+        }
+        place += length_at(bytes, place);
+    }
+    if at < place {
+        return false;
+    }
+    if at == bytes.len() {
+        return false;
+    }
+    is_used(bytes, at)
+}
+
 /// Takes the first free element with room for `length` bytes, and answers its place.
 pub fn take(bytes: &mut [u8], length: u16) -> Option<usize>
     requires { IsInterval bytes.old }
@@ -204,6 +228,9 @@ pub fn take(bytes: &mut [u8], length: u16) -> Option<usize>
     ensures full { IfNone result (IsFull bytes.old length) }
     ensures none { IfNone result (bytes.new ≡ bytes.old) }
     ensures head { Keeps bytes.old bytes.new 0 32 }
+    ensures room { IfSome result (λ at. HasRoom bytes.new at length) }
+    ensures fresh { IfSome result (λ at. ¬ IsUsed bytes.old at) }
+    ensures others { IfSome result (OthersStay bytes.old bytes.new) }
     ensures bound { IfSome result (λ at. at < 2 ^ 16) }
 {
     if !holds_elements(bytes[0]) {
@@ -219,6 +246,8 @@ pub fn take(bytes: &mut [u8], length: u16) -> Option<usize>
 pub fn free(bytes: &mut [u8], at: usize)
     requires { IsUsed bytes.old at }
     ensures freed { UsedIsFreed bytes.old bytes.new at }
+    ensures gone { ¬ IsUsed bytes.new at }
+    ensures others { OthersStay bytes.old bytes.new at }
     ensures head { Keeps bytes.old bytes.new 0 32 }
 {
     let start = start_of_free(bytes, at);
@@ -248,6 +277,7 @@ pub fn write(bytes: &mut [u8], at: usize, from: &[u8])
     requires { HasRoom bytes.old at (length from.now) }
     ensures bytes { bytes.new ≡ written bytes.old (at + 4) from.now }
     ensures wrote { UsedBecomes bytes.old bytes.new at (λ segment content. Used segment (from.now ++ drop (length from.now) content)) }
+    ensures others { OthersStay bytes.old bytes.new at }
     ensures head { Keeps bytes.old bytes.new 0 32 }
 {
     put(bytes, at + 4, from);
@@ -266,6 +296,7 @@ pub fn set_type(bytes: &mut [u8], at: usize, segment: u8)
     requires { IsUsed bytes.old at }
     ensures bytes { bytes.new ≡ slice_set bytes.old (at + 3) segment }
     ensures becomes { UsedBecomes bytes.old bytes.new at (λ _ content. Used segment content) }
+    ensures others { OthersStay bytes.old bytes.new at }
     ensures head { Keeps bytes.old bytes.new 0 32 }
 {
     bytes[at + 3] = segment;

@@ -12,7 +12,7 @@
 
 ghost use Rattle.std.specs.Prelude.{◌≡◌, ◌↔◌, ◌+◌, ◌-◌, ◌≤◌, ◌<◌, ◌≢◌, ℕ, List, [], ◌∷◌, ◌++◌, length, drop, take, slice_range, slice_set, IsTrue, IsSome, IfOk, IfSome, IfNone};
 ghost use Rattle.ci_space.specs.Element.{Element, Free, Used};
-ghost use Rattle.ci_space.specs.Interval.{is_size, is_kind, kind_of, has_elements, IsInterval, IsUsed, HasUsed, HasRoom, Tiles, Takes, IsFull, UsedBecomes, UsedIsFreed, Keeps, EndsWithin, empty_bytes, written};
+ghost use Rattle.ci_space.specs.Interval.{is_size, is_kind, kind_of, has_elements, IsInterval, IsUsed, HasUsed, HasRoom, Tiles, Takes, IsFull, UsedBecomes, UsedIsFreed, OthersStay, Keeps, EndsWithin, empty_bytes, written};
 ghost use Rattle.ci_space.specs.Head.{head_of, IsHeadOf, ends_of};
 
 use crate::elements;
@@ -110,6 +110,13 @@ impl Interval {
         Ok(Interval { bytes })
     }
 
+    /// Whether a used element stands at `at`. An `at` where none begins is allowed.
+    pub fn is_used(&self, at: u16) -> bool
+        ensures { IsTrue result ↔ IsUsed self.now at }
+    {
+        elements::is_used_at(&self.bytes, usize::from(at))
+    }
+
     /// Takes the first free element that has room for `length` bytes, and gives the place of the new
     /// used element, whose segment type is 0. What it doesn't need stays free behind it. None exactly
     /// where no free element has room.
@@ -117,6 +124,11 @@ impl Interval {
         ensures some { IfSome result (Takes self.old self.new length) }
         ensures full { IfNone result (IsFull self.old length) }
         ensures none { IfNone result (self.new ≡ self.old) }
+
+        // What else a caller may ask of the new element and of the others.
+        ensures room { IfSome result (λ at. HasRoom self.new at length) }
+        ensures fresh { IfSome result (λ at. ¬ IsUsed self.old at) }
+        ensures others { IfSome result (OthersStay self.old self.new) }
         ensures head { Keeps self.old self.new 0 32 }
     {
         let at = elements::take(&mut self.bytes, length)?;
@@ -127,6 +139,8 @@ impl Interval {
     pub fn free(&mut self, at: u16)
         requires { IsUsed self.old at }
         ensures freed { UsedIsFreed self.old self.new at }
+        ensures gone { ¬ IsUsed self.new at }
+        ensures others { OthersStay self.old self.new at }
         ensures head { Keeps self.old self.new 0 32 }
     {
         elements::free(&mut self.bytes, usize::from(at));
@@ -145,6 +159,7 @@ impl Interval {
         requires { HasRoom self.old at (length from.now) }
         ensures bytes { self.new ≡ written self.old (at + 4) from.now }
         ensures wrote { UsedBecomes self.old self.new at (λ segment content. Used segment (from.now ++ drop (length from.now) content)) }
+        ensures others { OthersStay self.old self.new at }
         ensures head { Keeps self.old self.new 0 32 }
     {
         elements::write(&mut self.bytes, usize::from(at), from);
@@ -163,6 +178,7 @@ impl Interval {
         requires { IsUsed self.old at }
         ensures bytes { self.new ≡ slice_set self.old (at + 3) segment }
         ensures becomes { UsedBecomes self.old self.new at (λ _ content. Used segment content) }
+        ensures others { OthersStay self.old self.new at }
         ensures head { Keeps self.old self.new 0 32 }
     {
         elements::set_type(&mut self.bytes, usize::from(at), segment);

@@ -1,6 +1,7 @@
 use Rattle.std.proofs.Common.{◌≡◌, ◌+◌, ◌<◌, ◌≤◌, length, ◌∙◌, arith}
 use Rattle.ci_space.proofs.Walks.{IsWhole}
 use Rattle.ci_space.proofs.Tilings.{used-whole, used-front, used-back, IsFreed, freed-used, frees-used}
+use Rattle.ci_space.proofs.Standing.{freed-gone, freed-others}
 use Rattle.ci_space.proofs.elements.free.Goals as goal
 
 pub start_of_free-start-requires-clause-end : goal.start_of_free-start-requires-clause-end
@@ -39,3 +40,11 @@ pub returns-clause-head : goal.returns-clause-head
 returns-clause-head c =
     let low : 32 ≤ c.start_of_free-start.result = (freed-used _ c.args.at _ _ _ c.requires c.length_at.ensures.length c.start_of_free-start.ensures c.end_of_free-end.ensures).low in
     λ k x y. c.put_element.ensures.below k x (omega arith)
+
+pub returns-clause-gone : goal.returns-clause-gone
+returns-clause-gone c = freed-gone _ _ _ c.requires (λ before after segment content p t.
+    frees-used _ _ c.args.at _ _ _ before after segment content p t c.length_at.ensures.length c.start_of_free-start.ensures c.end_of_free-end.ensures c.put_element.auto.bytes c.put_element.ensures)
+
+pub returns-clause-others : goal.returns-clause-others
+returns-clause-others c = freed-others _ _ _ c.requires (λ before after segment content p t.
+    frees-used _ _ c.args.at _ _ _ before after segment content p t c.length_at.ensures.length c.start_of_free-start.ensures c.end_of_free-end.ensures c.put_element.auto.bytes c.put_element.ensures)

@@ -1,5 +1,6 @@
-use Rattle.std.proofs.Common.{◌≡◌, ◌+◌, ◌≤◌, length, arith, rules}
+use Rattle.std.proofs.Common.{◌≡◌, ◌+◌, ◌≤◌, length, arith, refl}
 use Rattle.ci_space.proofs.Contents.{IsWithin, used-within, room-within, used-length, used-type, used-content, type-becomes, put-written, written-below, content-becomes, room-fits}
+use Rattle.ci_space.proofs.Standing.{becomes-others}
 use Rattle.ci_space.proofs.elements.set_type.Goals as goal
 
 pub overflow_add-bytes : goal.overflow_add-bytes
@@ -10,3 +11,6 @@ bounds-bytes-at c = let w : IsWithin c.args.bytes.now c.args.at 0 = used-within 
 
 pub returns-clause-becomes : goal.returns-clause-becomes
 returns-clause-becomes c = type-becomes _ _ _
+
+pub returns-clause-others : goal.returns-clause-others
+returns-clause-others c = becomes-others _ _ _ _ c.requires (λ segment content u. refl) (type-becomes _ _ _)

@@ -2,6 +2,7 @@ use Rattle.std.proofs.Common.{◌≡◌, ◌+◌, ◌≤◌, length, true, false
 use Rattle.ci_space.specs.Interval.{IsFull, has_elements, kind_of}
 use Rattle.ci_space.proofs.Walks.{IsWhole, walk-low}
 use Rattle.ci_space.proofs.Tilings.{walked-full, found-whole, found-fits, takes}
+use Rattle.ci_space.proofs.Standing.{takes-room, takes-fresh, takes-others}
 use Rattle.ci_space.proofs.elements.take.Goals as goal
 
 pub returns-in_err-at-clause-full : goal.returns-in_err-at-clause-full
@@ -23,3 +24,21 @@ returns-clause-head c = c.split.ensures.head (walk-low _ _ _ c.in_ok-at.ensures.
 
 pub returns-clause-bound : goal.returns-clause-bound
 returns-clause-bound c = found-fits _ _ _ c.requires c.in_ok-at.ensures.found
+
+pub returns-clause-room : goal.returns-clause-room
+returns-clause-room c =
+    let low : 32 ≤ c.in_ok-at.at = walk-low _ _ _ c.in_ok-at.ensures.found.past in
+    takes-room _ _ _ _ (takes _ _ _ _ _ c.needed_size-size.ensures c.requires (sym c.holds_elements.ensures ∙ c.if-not-holds_elements.false) c.in_ok-at.ensures.found c.split.auto.bytes
+      (c.split.ensures.head low) c.split.ensures.splits)
+
+pub returns-clause-fresh : goal.returns-clause-fresh
+returns-clause-fresh c =
+    let low : 32 ≤ c.in_ok-at.at = walk-low _ _ _ c.in_ok-at.ensures.found.past in
+    takes-fresh _ _ _ _ (takes _ _ _ _ _ c.needed_size-size.ensures c.requires (sym c.holds_elements.ensures ∙ c.if-not-holds_elements.false) c.in_ok-at.ensures.found c.split.auto.bytes
+      (c.split.ensures.head low) c.split.ensures.splits)
+
+pub returns-clause-others : goal.returns-clause-others
+returns-clause-others c =
+    let low : 32 ≤ c.in_ok-at.at = walk-low _ _ _ c.in_ok-at.ensures.found.past in
+    takes-others _ _ _ _ (takes _ _ _ _ _ c.needed_size-size.ensures c.requires (sym c.holds_elements.ensures ∙ c.if-not-holds_elements.false) c.in_ok-at.ensures.found c.split.auto.bytes
+      (c.split.ensures.head low) c.split.ensures.splits)
