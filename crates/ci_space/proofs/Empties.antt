@@ -122,3 +122,7 @@ length-empty size kind s =
       inl h ↦ rw h (omega (arith, length-append (kind ∷ replicate 31 0) ((size - 32) / 256 ∷ (size - 32) % 256 ∷ replicate (size - 34) 0), length-replicate {A = ℕ} (size - 34) 0))
       | inr h ↦ rw h (omega (arith, length-append (kind ∷ replicate 31 0) (replicate (size - 32) 0), length-replicate {A = ℕ} (size - 32) 0))
     ]
+
+pub kind-empty : (size kind : ℕ) → kind_of (empty_bytes size kind) ≡ kind
+unfolding empty_bytes
+kind-empty size kind = refl

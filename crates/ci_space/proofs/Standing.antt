@@ -3,11 +3,11 @@ use Rattle.std.proofs.Common.{◌≡◌, ◌≢◌, ℕ, zero, suc, ◌+◌, ◌
 use Rattle.std.proofs.lemmas.Bool.{cases_Bool}
 use Rattle.std.proofs.lemmas.List.{length-append, length-drop}
 use Rattle.ci_space.specs.Element.{Element, Free, Used, size, sizes, Begins, Chain, IsMerged, StandsAmong, front_free, merged, rest_free, size_for}
-use Rattle.ci_space.specs.Interval.{kind_of, has_elements, Tiles, HasUsed, IsInterval, IsUsed, HasRoom, Takes, UsedBecomes, UsedIsFreed, OthersStay}
+use Rattle.ci_space.specs.Interval.{kind_of, has_elements, Tiles, HasUsed, IsInterval, IsEmpty, IsUsed, HasRoom, Takes, UsedBecomes, UsedIsFreed, OthersStay}
 use Rattle.ci_space.specs.Walk.{length_of, TilesFrom}
 use Rattle.ci_space.proofs.Chains.{Chain-unique, Chain-end, Chain-append, least_size}
 use Rattle.ci_space.proofs.Walks.{IsWhole, first-whole, size-is}
-use Rattle.ci_space.proofs.Tilings.{used-back, used-kind, tiles-by}
+use Rattle.ci_space.proofs.Tilings.{size-bounds, used-back, used-kind, tiles-by}
 
 -- an interval has one reading
 pub Tiles-unique : (bytes : List ℕ) (xs ys : List Element) → Tiles bytes xs → Tiles bytes ys → xs ≡ ys
@@ -318,3 +318,32 @@ pub used-tag : (bytes : List ℕ) (at : ℕ) → IsUsed bytes at → slice_index
 used-tag bytes at u =
     let g : Chain (Used u.segment u.content ∷ u.used.after) bytes at (length bytes) = used-back bytes at u.used.before u.used.after (Used u.segment u.content) u.used.place u.used.tiles in
     g.0.0.is_tag
+
+-- an empty interval
+empty_in : (bytes : List ℕ) (es : List Element) → IsTrue (has_elements (kind_of bytes)) → slice_index bytes 34 ≢ 1 → length_of bytes 32 ≡ length bytes - 32 → Tiles bytes es → IsEmpty bytes
+empty_in bytes [] h t n i =
+    let b : (512 ≤ length bytes) × (length bytes ≤ 4096) = size-bounds (length bytes) i.size in
+    absurd (omega (arith, i.tiled h))
+empty_in bytes (Used segment content ∷ es) h t n i = absurd (t (i.tiled h).0.0.is_tag)
+empty_in bytes (Free k ∷ es) h t n i =
+    let b : (512 ≤ length bytes) × (length bytes ≤ 4096) = size-bounds (length bytes) i.size in
+    let m : k ≡ length bytes - 32 = sym (i.tiled h).0.is_length ∙ n in
+    let e : 32 + k ≡ length bytes = omega arith in
+    let none : es ≡ [] = Chain-unique es [] bytes (32 + k) (length bytes) (i.tiled h).1 e in
+    let s : Free k ∷ es ≡ Free (length bytes - 32) ∷ [] = cc in
+    rw s at i
+
+pub empty-read : (bytes : List ℕ) → IsInterval bytes → IsTrue (has_elements (kind_of bytes)) → slice_index bytes 34 ≢ 1 → length_of bytes 32 ≡ length bytes - 32 → IsEmpty bytes
+empty-read bytes i h t n = empty_in bytes i.elements h t n i.tiles
+
+pub empty-kind : (bytes : List ℕ) → IsEmpty bytes → IsTrue (has_elements (kind_of bytes))
+empty-kind bytes t = used-kind bytes [] [] (Free (length bytes - 32)) t
+
+pub empty-tag : (bytes : List ℕ) → IsEmpty bytes → slice_index bytes 34 ≡ 0
+empty-tag bytes t = (t.tiled (empty-kind bytes t)).0.is_tag
+
+pub empty-length : (bytes : List ℕ) → IsEmpty bytes → length_of bytes 32 ≡ length bytes - 32
+empty-length bytes t = (t.tiled (empty-kind bytes t)).0.is_length
+
+pub interval-bounds : (bytes : List ℕ) → IsInterval bytes → (512 ≤ length bytes) × (length bytes ≤ 4096)
+interval-bounds bytes i = size-bounds (length bytes) i.tiles.size

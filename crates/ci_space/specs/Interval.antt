@@ -25,6 +25,9 @@ IsZero bytes from to = (k : ℕ) → from ≤ k → k < to → slice_index bytes
 abbrev pub Keeps : List ℕ → List ℕ → ℕ → ℕ → Type 0
 Keeps old new from to = (k : ℕ) → from ≤ k → k < to → slice_index new k ≡ slice_index old k
 
+abbrev pub SameSize : List ℕ → List ℕ → Type 0
+SameSize old new = length new ≡ length old
+
 -- the first 32 bytes are a head: what its kind has no use for is 0
 pub record IsHead (bytes : List ℕ) : Type 0 where
   pub kind : IsTrue (is_kind (kind_of bytes))
@@ -46,6 +49,10 @@ pub record Tiles (bytes : List ℕ) (elements : List Element) : Type 0 where
 pub record IsInterval (bytes : List ℕ) : Type 0 where
   pub elements : List Element
   pub tiles : Tiles bytes elements
+
+-- an interval of one free element
+abbrev pub IsEmpty : List ℕ → Type 0
+IsEmpty bytes = Tiles bytes (Free (length bytes - 32) ∷ [])
 
 -- a used element of this segment type and content stands at `at`
 pub record HasUsed (bytes : List ℕ) (at segment : ℕ) (content : List ℕ) : Type 0 where

@@ -8,7 +8,7 @@
 
 ghost use Rattle.std.specs.Prelude.{◌≡◌, ◌≢◌, ℕ, ◌+◌, ◌-◌, ◌*◌, ◌<◌, ◌≤◌, ◌↔◌, ◌%◌, ◌^◌, ◌==◌, List, [], ◌∷◌, ◌++◌, length, drop, replicate, slice_index, slice_set, slice_range, All, IsTrue, false, true, IfSome, IfNone};
 ghost use Rattle.ci_space.specs.Element.{Element, Used, Chain, Begins, size_for};
-ghost use Rattle.ci_space.specs.Interval.{IsZero, IsInterval, IsUsed, HasRoom, Takes, IsFull, HasUsed, UsedBecomes, written, UsedIsFreed, OthersStay, has_elements, kind_of, is_size, empty_bytes};
+ghost use Rattle.ci_space.specs.Interval.{IsZero, IsInterval, IsEmpty, IsUsed, HasRoom, Takes, IsFull, HasUsed, UsedBecomes, written, UsedIsFreed, OthersStay, has_elements, kind_of, is_size, empty_bytes};
 ghost use Rattle.ci_space.specs.Walk.{TilesFrom, length_of, Puts, WalksPast, IsFirstFree, Splits, last_free, first_free, WalksTo};
 ghost use Rattle.ci_space.specs.Interval.{Keeps};
 
@@ -195,6 +195,20 @@ pub fn holds_elements(kind: u8) -> bool
     ensures { result ≡ has_elements kind }
 {
     matches!(kind, 2 | 3 | 5)
+}
+
+/// Whether one free element tiles the interval.
+pub fn is_empty(bytes: &[u8]) -> bool
+    requires { IsInterval bytes.now }
+    ensures { IsTrue result ↔ IsEmpty bytes.now }
+{
+    if !holds_elements(bytes[0]) {
+        return false;
+    }
+    if is_used(bytes, HEAD) {
+        return false;
+    }
+    length_at(bytes, HEAD) == bytes.len() - HEAD
 }
 
 /// Whether a used element stands at `at`.

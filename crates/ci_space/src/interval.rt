@@ -12,7 +12,7 @@
 
 ghost use Rattle.std.specs.Prelude.{◌≡◌, ◌↔◌, ◌+◌, ◌-◌, ◌≤◌, ◌<◌, ◌≢◌, ℕ, List, [], ◌∷◌, ◌++◌, length, drop, take, slice_range, slice_set, IsTrue, IsSome, IfOk, IfSome, IfNone};
 ghost use Rattle.ci_space.specs.Element.{Element, Free, Used};
-ghost use Rattle.ci_space.specs.Interval.{is_size, is_kind, kind_of, has_elements, IsInterval, IsUsed, HasUsed, HasRoom, Tiles, Takes, IsFull, UsedBecomes, UsedIsFreed, OthersStay, Keeps, EndsWithin, empty_bytes, written};
+ghost use Rattle.ci_space.specs.Interval.{is_size, is_kind, kind_of, has_elements, IsInterval, IsEmpty, IsUsed, HasUsed, HasRoom, Tiles, Takes, IsFull, UsedBecomes, UsedIsFreed, OthersStay, Keeps, SameSize, EndsWithin, empty_bytes, written};
 ghost use Rattle.ci_space.specs.Head.{head_of, IsHeadOf, ends_of};
 
 use crate::elements;
@@ -78,6 +78,8 @@ impl Interval {
         requires size { IsTrue (is_size size) }
         requires kind { IsTrue (is_kind kind) }
         ensures bytes { IfOk result (λ interval. interval ≡ empty_bytes size kind) }
+        ensures kind { IfOk result (λ interval. kind_of interval ≡ kind) }
+        ensures size { IfOk result (λ interval. length interval ≡ size) }
         ensures one_free { IfOk result (λ interval. IsTrue (has_elements kind) → Tiles interval (Free (size - 32) ∷ [])) }
     {
         let mut bytes = vec![in alloc; 0u8; usize::from(size)]?;
@@ -110,6 +112,13 @@ impl Interval {
         Ok(Interval { bytes })
     }
 
+    /// Whether one free element tiles it. A control or sequential interval is never empty.
+    pub fn is_empty(&self) -> bool
+        ensures { IsTrue result ↔ IsEmpty self.now }
+    {
+        elements::is_empty(&self.bytes)
+    }
+
     /// Whether a used element stands at `at`. An `at` where none begins is allowed.
     pub fn is_used(&self, at: u16) -> bool
         ensures { IsTrue result ↔ IsUsed self.now at }
@@ -130,6 +139,7 @@ impl Interval {
         ensures fresh { IfSome result (λ at. ¬ IsUsed self.old at) }
         ensures others { IfSome result (OthersStay self.old self.new) }
         ensures head { Keeps self.old self.new 0 32 }
+        ensures size { SameSize self.old self.new }
     {
         let at = elements::take(&mut self.bytes, length)?;
         Some(at as u16)
@@ -142,6 +152,7 @@ impl Interval {
         ensures gone { ¬ IsUsed self.new at }
         ensures others { OthersStay self.old self.new at }
         ensures head { Keeps self.old self.new 0 32 }
+        ensures size { SameSize self.old self.new }
     {
         elements::free(&mut self.bytes, usize::from(at));
     }
@@ -161,6 +172,7 @@ impl Interval {
         ensures wrote { UsedBecomes self.old self.new at (λ segment content. Used segment (from.now ++ drop (length from.now) content)) }
         ensures others { OthersStay self.old self.new at }
         ensures head { Keeps self.old self.new 0 32 }
+        ensures size { SameSize self.old self.new }
     {
         elements::write(&mut self.bytes, usize::from(at), from);
     }
@@ -180,6 +192,7 @@ impl Interval {
         ensures becomes { UsedBecomes self.old self.new at (λ _ content. Used segment content) }
         ensures others { OthersStay self.old self.new at }
         ensures head { Keeps self.old self.new 0 32 }
+        ensures size { SameSize self.old self.new }
     {
         elements::set_type(&mut self.bytes, usize::from(at), segment);
     }
@@ -198,6 +211,7 @@ impl Interval {
         ensures head { head_of self.new ≡ head }
         ensures tiles { (elements : List Element) → Tiles self.old elements → Tiles self.new elements }
         ensures others { drop 32 self.new ≡ drop 32 self.old }
+        ensures size { SameSize self.old self.new }
     {
         head::put_head(&mut self.bytes, head);
     }
@@ -216,6 +230,7 @@ impl Interval {
         requires { kind_of self.old ≡ 1 }
         ensures ends { ends_of self.new ≡ ends }
         ensures head { Keeps self.old self.new 0 32 }
+        ensures size { SameSize self.old self.new }
         ensures others { drop 64 self.new ≡ drop 64 self.old }
     {
         head::put_ends(&mut self.bytes, ends);
@@ -237,7 +252,8 @@ impl Interval {
         requires kind { kind_of self.old ≡ 4 }
         requires start { 32 ≤ at }
         requires end { EndsWithin self.old at (length from.now) }
-        ensures { self.new ≡ written self.old at from.now }
+        ensures bytes { self.new ≡ written self.old at from.now }
+        ensures size { SameSize self.old self.new }
     {
         elements::put(&mut self.bytes, usize::from(at), from);
     }

@@ -17,3 +17,6 @@ pub use interval::Interval;
 pub use intervals::{GetFault, Intervals, Shape};
 pub use memory::MemoryIntervals;
 pub use std::alloc::AllocError as Memory;
+
+#[cfg(test)]
+mod tests;
