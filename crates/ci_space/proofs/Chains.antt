@@ -1,7 +1,7 @@
 -- Elements one behind the other: where they end, how they join, what keeps them, and that there is one reading.
-use Rattle.std.proofs.Common.{◌≡◌, ◌≢◌, ℕ, zero, suc, ◌+◌, ◌-◌, ◌*◌, ◌%◌, ◌<◌, ◌≤◌, Bool, true, false, List, [], ◌∷◌, ◌++◌, length, get_or, take, drop, slice_index, slice_range, refl, sym, ap, subst, ◌∙◌, add_assoc, arith, rules}
+use Rattle.std.proofs.Common.{◌≡◌, ℕ, ◌+◌, ◌-◌, ◌<◌, ◌≤◌, List, [], ◌∷◌, ◌++◌, length, get_or, drop, slice_range, refl, sym, ap, ◌∙◌, add_assoc, arith}
 use Rattle.std.proofs.lemmas.List.{ext_get_or, get_or-take, get_or-drop, length-take, length-drop}
-use Rattle.ci_space.specs.Element.{Element, Free, Used, size, sizes, Begins, StandsAt, Chain, StartsUsed, IsMerged, front_free, merged, free_size, rest_free}
+use Rattle.ci_space.specs.Element.{Element, Free, Used, size, sizes, Begins, StandsAt, Chain}
 use Rattle.ci_space.specs.Interval.{Keeps}
 
 -- where they end
@@ -40,25 +40,27 @@ Begins-keeps old new at n tag segment k b =
 pub range-keeps : (old new : List ℕ) (from to : ℕ) → length new ≡ length old → Keeps old new from to → slice_range new from to ≡ slice_range old from to
 range-keeps old new from to l k =
     ext_get_or 0 (slice_range new from to) (slice_range old from to)
-      (simp (length-take, length-drop, l))
-      (λ i h.
-        let b : i < to - from = omega (arith, length-take (to - from) (drop from new)) in
-        get_or-take (to - from) (drop from new) i 0 b ∙ get_or-drop from new i 0
-        ∙ k (from + i) (omega arith) (omega arith)
-        ∙ sym (get_or-take (to - from) (drop from old) i 0 b ∙ get_or-drop from old i 0))
+    (simp (length-take, length-drop, l))
+    (λ i h.
+    let b : i < to - from = omega (arith, length-take (to - from) (drop from new)) in
+    get_or-take (to - from) (drop from new) i 0 b ∙ get_or-drop from new i 0
+    ∙ k (from + i) (omega arith) (omega arith)
+    ∙ sym (get_or-take (to - from) (drop from old) i 0 b ∙ get_or-drop from old i 0))
 
 pub StandsAt-keeps : (e : Element) (old new : List ℕ) (at : ℕ) → length new ≡ length old → Keeps old new at (at + size e) → StandsAt old at e → StandsAt new at e
 StandsAt-keeps (Free n) old new at l k s = Begins-keeps old new at n 0 0 (λ i a b. k i a (omega (arith, s.least))) s
-StandsAt-keeps (Used segment content) old new at l k s =
-    (Begins-keeps old new at (4 + length content) 1 segment (λ i a b. k i a (omega arith)) s.0,
-     range-keeps old new (at + 4) (at + 4 + length content) l (λ i a b. k i (omega arith) (omega arith)) ∙ s.1)
+StandsAt-keeps (Used segment content) old new at l k s = (
+  Begins-keeps old new at (4 + length content) 1 segment (λ i a b. k i a (omega arith)) s.0,
+  range-keeps old new (at + 4) (at + 4 + length content) l (λ i a b. k i (omega arith) (omega arith)) ∙ s.1,
+)
 
 pub Chain-keeps : (es : List Element) (old new : List ℕ) (at end : ℕ) → length new ≡ length old → Keeps old new at end → Chain es old at end → Chain es new at end
 Chain-keeps [] old new at end l k c = c
 Chain-keeps (e ∷ es) old new at end l k c =
-    let r : at + size e + sizes es ≡ end = Chain-end es old (at + size e) end c.1 in
-    (StandsAt-keeps e old new at l (λ i a b. k i a (omega arith)) c.0,
-     Chain-keeps es old new (at + size e) end l (λ i a b. k i (omega arith) b) c.1)
+    let r : at + size e + sizes es ≡ end = Chain-end es old (at + size e) end c.1 in (
+      StandsAt-keeps e old new at l (λ i a b. k i a (omega arith)) c.0,
+      Chain-keeps es old new (at + size e) end l (λ i a b. k i (omega arith) b) c.1,
+    )
 
 -- one reading
 pub StandsAt-unique : (e f : Element) (bytes : List ℕ) (at : ℕ) → StandsAt bytes at e → StandsAt bytes at f → e ≡ f

@@ -1,12 +1,12 @@
 -- A used element that is read, and one that is written.
-use Rattle.std.proofs.Common.{◌≡◌, ◌≢◌, ℕ, suc, ◌+◌, ◌-◌, ◌*◌, ◌%◌, ◌<◌, ◌≤◌, List, [], ◌∷◌, ◌++◌, length, get_or, set, take, drop, slice_index, slice_range, refl, sym, ap, ◌∙◌, append_assoc, arith, rules}
-use Rattle.std.proofs.lemmas.List.{get_or-set_same, get_or-set_other, length-set, length-append, length-take, length-take-le, length-drop, drop-drop, drop-take, drop_at, take_at}
+use Rattle.std.proofs.Common.{◌≡◌, ◌≢◌, ℕ, suc, ◌+◌, ◌-◌, ◌<◌, ◌≤◌, List, [], ◌∷◌, ◌++◌, length, get_or, set, take, drop, slice_index, slice_range, refl, sym, ap, ◌∙◌, append_assoc, arith}
+use Rattle.std.proofs.lemmas.List.{get_or-set_same, get_or-set_other, length-set, length-append, length-take-le, length-drop, drop-drop, drop-take, drop_at, take_at}
 use borrow.Rule.Slice.PartMut.{put_mid}
-use Rattle.ci_space.specs.Element.{Element, Free, Used, size, sizes, Begins, StandsAt, Chain, StartsUsed, IsMerged}
+use Rattle.ci_space.specs.Element.{Element, Free, Used, sizes, Begins, StandsAt, Chain, IsMerged}
 use Rattle.ci_space.specs.Interval.{Keeps, Tiles, HasUsed, IsUsed, HasRoom, UsedBecomes, written}
 use Rattle.ci_space.specs.Walk.{length_of}
 use Rattle.ci_space.proofs.Chains.{Chain-append, Chain-end, Chain-keeps, Begins-keeps, range-keeps}
-use Rattle.ci_space.proofs.Tilings.{size-bounds, used-whole, used-front, used-back, used-kind, used-chain, tiles-by}
+use Rattle.ci_space.proofs.Tilings.{size-bounds, used-whole, used-front, used-back, used-kind, tiles-by}
 use Rattle.ci_space.proofs.Walks.{IsWhole}
 use Rattle.ci_space.proofs.Places.{middle-below, middle-above}
 
@@ -44,9 +44,9 @@ becomes old new at before after segment other content more p t l below above m s
     let behind : Chain after new (at + (4 + length content)) (length new) = rw l (Chain-keeps after old new (at + (4 + length content)) (length old) l above back.1) in
     let n : at + (4 + length more) ≡ at + (4 + length content) = omega arith in
     tiles-by old new (before ++ Used segment content ∷ after) (before ++ Used other more ∷ after) t l (λ k x y. below k x (omega arith))
-      (used-kind old before after (Used segment content) t)
-      (Chain-append before (Used other more ∷ after) new 32 at (length new) kept (s, rw n behind))
-      (merged_same before after segment other content more t.is_merged)
+    (used-kind old before after (Used segment content) t)
+    (Chain-append before (Used other more ∷ after) new 32 at (length new) kept (s, rw n behind))
+    (merged_same before after segment other content more t.is_merged)
 
 -- its segment type is set
 pub type-becomes : (old : List ℕ) (at other : ℕ) → UsedBecomes old (set old (at + 3) other) at (λ _ content. Used other content)
@@ -64,7 +64,7 @@ type-becomes old at other = λ before after segment content p t.
       fours = b.fours;
     } in
     let r : slice_range (set old (at + 3) other) (at + 4) (at + 4 + length content) ≡ content =
-      range-keeps old (set old (at + 3) other) (at + 4) (at + 4 + length content) l (λ k x y. keeps k (omega arith)) ∙ back.0.1 in
+    range-keeps old (set old (at + 3) other) (at + 4) (at + 4 + length content) l (λ k x y. keeps k (omega arith)) ∙ back.0.1 in
     becomes old (set old (at + 3) other) at before after segment other content content p t l (λ k x y. keeps k (omega arith)) (λ k x y. keeps k (omega arith)) refl (c, r)
 
 -- bytes are put in the place of others
@@ -95,11 +95,11 @@ range-written old from at n l h =
     let k : at + n - at ≡ length from + (n - length from) = omega arith in
     let w : written old at from ≡ take at old ++ (from ++ drop (at + length from) old) = append_assoc (take at old) from (drop (at + length from) old) in
     let x : slice_range (written old at from) at (at + n) ≡ from ++ take (n - length from) (drop (at + length from) old) =
-      ap (λ zs. take (at + n - at) (drop at zs)) w ∙ ap (λ zs. take (at + n - at) zs) d ∙ ap (λ i. take i (from ++ drop (at + length from) old)) k
-      ∙ take_past from (drop (at + length from) old) (n - length from) in
+    ap (λ zs. take (at + n - at) (drop at zs)) w ∙ ap (λ zs. take (at + n - at) zs) d ∙ ap (λ i. take i (from ++ drop (at + length from) old)) k
+    ∙ take_past from (drop (at + length from) old) (n - length from) in
     let y : drop (length from) (slice_range old at (at + n)) ≡ take (n - length from) (drop (at + length from) old) =
-      ap (λ i. drop (length from) (take i (drop at old))) k ∙ drop-take (length from) (n - length from) (drop at old)
-      ∙ ap (λ zs. take (n - length from) zs) (drop-drop (length from) at old) in
+    ap (λ i. drop (length from) (take i (drop at old))) k ∙ drop-take (length from) (n - length from) (drop at old)
+    ∙ ap (λ zs. take (n - length from) zs) (drop-drop (length from) at old) in
     x ∙ ap (λ zs. from ++ zs) (sym y)
 
 -- the first bytes of its content are written
@@ -115,11 +115,11 @@ content-becomes old from at room fits = λ before after segment content p t.
     let m : length (from ++ drop (length from) content) ≡ length content = omega (arith, length-append from (drop (length from) content), length-drop (length from) content) in
     let b : Begins (written old (at + 4) from) at (4 + length content) 1 segment = Begins-keeps old (written old (at + 4) from) at (4 + length content) 1 segment (λ k x y. written-below old from (at + 4) k (omega arith) y) back.0.0 in
     let r : slice_range (written old (at + 4) from) (at + 4) (at + 4 + length content) ≡ from ++ drop (length from) content =
-      range-written old from (at + 4) (length content) e f ∙ ap (λ zs. from ++ drop (length from) zs) back.0.1 in
+    range-written old from (at + 4) (length content) e f ∙ ap (λ zs. from ++ drop (length from) zs) back.0.1 in
     becomes old (written old (at + 4) from) at before after segment segment content (from ++ drop (length from) content) p t l
-      (λ k x y. written-below old from (at + 4) k (omega arith) (omega arith))
-      (λ k x y. written-above old from (at + 4) k (omega arith) (omega arith))
-      m (rw m b, rw m r)
+    (λ k x y. written-below old from (at + 4) k (omega arith) (omega arith))
+    (λ k x y. written-above old from (at + 4) k (omega arith) (omega arith))
+    m (rw m b, rw m r)
 
 -- all readings of a used element have one length
 pub room-fits : (old : List ℕ) (at n : ℕ) → HasRoom old at n → (segment : ℕ) (content : List ℕ) → HasUsed old at segment content → n ≤ length content

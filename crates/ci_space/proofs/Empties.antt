@@ -1,9 +1,9 @@
 -- New intervals.
-use Rattle.std.proofs.Common.{◌≡◌, ◌≢◌, ℕ, zero, suc, ◌+◌, ◌-◌, ◌*◌, ◌/◌, ◌%◌, ◌<◌, ◌≤◌, Bool, true, false, List, [], ◌∷◌, ◌++◌, length, get_or, set, replicate, slice_index, refl, sym, ap, ◌∙◌, arith, inl, inr, IsTrue, if◌then◌else◌}
+use Rattle.std.proofs.Common.{◌≡◌, ◌≢◌, ℕ, zero, suc, ◌+◌, ◌-◌, ◌/◌, ◌%◌, ◌<◌, ◌≤◌, true, false, List, [], ◌∷◌, ◌++◌, length, get_or, set, replicate, refl, sym, ap, ◌∙◌, arith, inl, inr, IsTrue}
 use Rattle.std.proofs.lemmas.List.{get_or_append_left, get_or-append_right, get_or-replicate, length-replicate, length-append, replicate-append-replicate}
 use Rattle.std.proofs.lemmas.Bool.{cases_Bool}
-use Rattle.ci_space.specs.Element.{Element, Free, Begins, Chain, IsMerged}
-use Rattle.ci_space.specs.Interval.{is_size, is_kind, kind_of, has_elements, IsZero, IsHead, Tiles, IsInterval, empty_bytes, empty_elements}
+use Rattle.ci_space.specs.Element.{Free}
+use Rattle.ci_space.specs.Interval.{is_size, is_kind, kind_of, has_elements, IsHead, Tiles, IsInterval, empty_bytes, empty_elements}
 use Rattle.ci_space.proofs.Tilings.{size-bounds}
 
 size_fours : (n : ℕ) → IsTrue (is_size n) → n % 4 ≡ 0
@@ -71,13 +71,16 @@ tiled_tiles size kind s k h =
     record {
       size = rw n s;
       head = empty_head kind rest k;
-      tiled = λ _. (record {
-        is_length = omega arith;
-        is_tag = get_or-replicate (size - 34) 0 0 0 (omega arith);
-        is_segment = get_or-replicate (size - 34) 1 0 0 (omega arith);
-        least = omega arith;
-        fours = omega arith;
-      }, omega arith);
+      tiled = λ _. (
+        record {
+          is_length = omega arith;
+          is_tag = get_or-replicate (size - 34) 0 0 0 (omega arith);
+          is_segment = get_or-replicate (size - 34) 1 0 0 (omega arith);
+          least = omega arith;
+          fours = omega arith;
+        },
+        omega arith,
+      );
       is_merged = (tt, tt);
       untiled = λ g. let a : true ≡ false = sym h ∙ g in cc;
       control = λ e. absurd (not_control kind h e);
@@ -110,7 +113,7 @@ untiled-tiles size kind s k h = rw h (untiled_tiles size kind s k h)
 
 pub empty-interval : (size kind : ℕ) → IsTrue (is_size size) → IsTrue (is_kind kind) → IsInterval (empty_bytes size kind)
 empty-interval size kind s k = elim (cases_Bool (has_elements kind)) as (λ _. IsInterval (empty_bytes size kind)) [
-  inl h ↦ record { elements = Free (size - 32) ∷ []; tiles = tiled-tiles size kind s k h }
+  | inl h ↦ record { elements = Free (size - 32) ∷ []; tiles = tiled-tiles size kind s k h }
   | inr h ↦ record { elements = []; tiles = untiled-tiles size kind s k h }
 ]
 
@@ -119,7 +122,7 @@ unfolding empty_bytes empty_elements
 length-empty size kind s =
     let b : (512 ≤ size) × (size ≤ 4096) = size-bounds size s in
     elim (cases_Bool (has_elements kind)) as (λ _. length (empty_bytes size kind) ≡ size) [
-      inl h ↦ rw h (omega (arith, length-append (kind ∷ replicate 31 0) ((size - 32) / 256 ∷ (size - 32) % 256 ∷ replicate (size - 34) 0), length-replicate {A = ℕ} (size - 34) 0))
+      | inl h ↦ rw h (omega (arith, length-append (kind ∷ replicate 31 0) ((size - 32) / 256 ∷ (size - 32) % 256 ∷ replicate (size - 34) 0), length-replicate {A = ℕ} (size - 34) 0))
       | inr h ↦ rw h (omega (arith, length-append (kind ∷ replicate 31 0) (replicate (size - 32) 0), length-replicate {A = ℕ} (size - 32) 0))
     ]
 

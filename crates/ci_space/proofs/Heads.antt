@@ -1,14 +1,14 @@
 -- Heads and ends that are put.
-use Rattle.std.proofs.Common.{◌≡◌, ◌≢◌, ℕ, zero, suc, ◌+◌, ◌-◌, ◌*◌, ◌^◌, ◌<◌, ◌≤◌, ◌⊎◌, inl, inr, false, true, List, [], ◌∷◌, length, get_or, take, drop, slice_index, refl, sym, ap, ◌∙◌, arith}
+use Rattle.std.proofs.Common.{◌≡◌, ℕ, zero, suc, ◌+◌, ◌-◌, ◌*◌, ◌^◌, ◌<◌, ◌≤◌, ◌⊎◌, inl, inr, false, true, List, [], ◌∷◌, length, get_or, take, drop, refl, sym, ap, ◌∙◌, arith}
 use Rattle.std.proofs.lemmas.List.{take_rest}
 use Rattle.std.proofs.lemmas.Bool.{cases_lt}
 use Rattle.std.proofs.lemmas.Nat.{pow_pos}
 use Rattle.std.proofs.Math.Nat.{eq_of_mul-eq-mul_left, mul_comm}
 use Rattle.byteorder.proofs.Bytes.{pow256}
-use Rattle.ci_space.specs.Element.{Element, Chain}
+use Rattle.ci_space.specs.Element.{Element}
 use Rattle.byteorder.specs.Endian.{big_from}
 use Rattle.ci_space.specs.declared.head.Head.{Head}
-use Rattle.ci_space.specs.Interval.{kind_of, has_elements, IsZero, IsHead, Tiles}
+use Rattle.ci_space.specs.Interval.{kind_of, IsZero, Tiles}
 use Rattle.ci_space.specs.Head.{head_of, ends_of, IsHeadOf}
 use Rattle.ci_space.specs.Numbers.{PutsNumber}
 use Rattle.ci_space.specs.Interval.{Keeps}
@@ -31,12 +31,12 @@ pub head-put : (b0 b1 b2 b3 b4 : List ℕ) (h : Head) → h.kind ≡ kind_of b0
 head-put b0 b1 b2 b3 b4 h e p q r s =
     let k : kind_of b4 ≡ h.kind = s.below 0 (omega arith) (omega arith) ∙ r.below 0 (omega arith) (omega arith) ∙ q.below 0 (omega arith) (omega arith) ∙ p.below 0 (omega arith) (omega arith) ∙ sym e in
     let a : big_from 4 8 b4 ≡ h.root.0 =
-      big_from-keeps 8 4 b3 b4 (λ i x y. s.below i (omega arith) (omega arith))
-      ∙ big_from-keeps 8 4 b2 b3 (λ i x y. r.below i (omega arith) (omega arith))
-      ∙ big_from-keeps 8 4 b1 b2 (λ i x y. q.below i (omega arith) (omega arith)) ∙ p.is_number in
+    big_from-keeps 8 4 b3 b4 (λ i x y. s.below i (omega arith) (omega arith))
+    ∙ big_from-keeps 8 4 b2 b3 (λ i x y. r.below i (omega arith) (omega arith))
+    ∙ big_from-keeps 8 4 b1 b2 (λ i x y. q.below i (omega arith) (omega arith)) ∙ p.is_number in
     let b : big_from 12 2 b4 ≡ h.root.1 =
-      big_from-keeps 2 12 b3 b4 (λ i x y. s.below i (omega arith) (omega arith))
-      ∙ big_from-keeps 2 12 b2 b3 (λ i x y. r.below i (omega arith) (omega arith)) ∙ q.is_number in
+    big_from-keeps 2 12 b3 b4 (λ i x y. s.below i (omega arith) (omega arith))
+    ∙ big_from-keeps 2 12 b2 b3 (λ i x y. r.below i (omega arith) (omega arith)) ∙ q.is_number in
     let c : big_from 16 8 b4 ≡ h.link = big_from-keeps 8 16 b3 b4 (λ i x y. s.below i (omega arith) (omega arith)) ∙ r.is_number in
     head_is (kind_of b4) (big_from 4 8 b4) (big_from 12 2 b4) (big_from 16 8 b4) (big_from 24 8 b4) h k a b c s.is_number
 
@@ -47,12 +47,12 @@ pub ends-put : (b0 b1 b2 b3 b4 : List ℕ) (a b c d : ℕ) → PutsNumber b0 b1 
     → ends_of b4 ≡ a ∷ b ∷ c ∷ d ∷ []
 ends-put b0 b1 b2 b3 b4 a b c d p q r s =
     let x : big_from 32 8 b4 ≡ a =
-      big_from-keeps 8 32 b3 b4 (λ i x y. s.below i (omega arith) (omega arith))
-      ∙ big_from-keeps 8 32 b2 b3 (λ i x y. r.below i (omega arith) (omega arith))
-      ∙ big_from-keeps 8 32 b1 b2 (λ i x y. q.below i (omega arith) (omega arith)) ∙ p.is_number in
+    big_from-keeps 8 32 b3 b4 (λ i x y. s.below i (omega arith) (omega arith))
+    ∙ big_from-keeps 8 32 b2 b3 (λ i x y. r.below i (omega arith) (omega arith))
+    ∙ big_from-keeps 8 32 b1 b2 (λ i x y. q.below i (omega arith) (omega arith)) ∙ p.is_number in
     let y : big_from 40 8 b4 ≡ b =
-      big_from-keeps 8 40 b3 b4 (λ i x y. s.below i (omega arith) (omega arith))
-      ∙ big_from-keeps 8 40 b2 b3 (λ i x y. r.below i (omega arith) (omega arith)) ∙ q.is_number in
+    big_from-keeps 8 40 b3 b4 (λ i x y. s.below i (omega arith) (omega arith))
+    ∙ big_from-keeps 8 40 b2 b3 (λ i x y. r.below i (omega arith) (omega arith)) ∙ q.is_number in
     let z : big_from 48 8 b4 ≡ c = big_from-keeps 8 48 b3 b4 (λ i x y. s.below i (omega arith) (omega arith)) ∙ r.is_number in
     list_is (big_from 32 8 b4) (big_from 40 8 b4) (big_from 48 8 b4) (big_from 56 8 b4) a b c d x y z s.is_number
 
@@ -96,7 +96,7 @@ head-tiles old new h l a e spare between others es t =
         kind = rw k t.head.kind;
         spare = λ i x y. spare i x y ∙ t.head.spare i x y;
         root = λ n. zero_root new h.root.0 h.root.1 (ap (λ (g : Head). g.root.0) e) (ap (λ (g : Head). g.root.1) e)
-          (ap (λ (p : ℕ × ℕ). p.0) (a.root (λ b. n (k ∙ b)))) (ap (λ (p : ℕ × ℕ). p.1) (a.root (λ b. n (k ∙ b))));
+            (ap (λ (p : ℕ × ℕ). p.0) (a.root (λ b. n (k ∙ b)))) (ap (λ (p : ℕ × ℕ). p.1) (a.root (λ b. n (k ∙ b))));
         between = λ i x y. between i x y ∙ t.head.between i x y;
         link = λ m n. zero-number 8 16 new (ap (λ (g : Head). g.link) e ∙ a.link (λ b. m (k ∙ b)) (λ b. n (k ∙ b)));
         owner = λ n. zero-number 8 24 new (ap (λ (g : Head). g.owner) e ∙ a.owner (λ b. n (k ∙ b)));

@@ -1,9 +1,9 @@
 -- Reading the first of the elements that tile bytes from a place on.
-use Rattle.std.proofs.Common.{◌≡◌, ◌≢◌, ℕ, zero, suc, ◌+◌, ◌-◌, ◌*◌, ◌/◌, ◌%◌, ◌<◌, ◌≤◌, Bool, true, false, List, [], ◌∷◌, ◌++◌, length, get_or, take, drop, slice_index, slice_range, refl, sym, ap, subst, ◌∙◌, add_assoc, arith, rules, IsTrue}
+use Rattle.std.proofs.Common.{◌≡◌, ℕ, ◌+◌, ◌-◌, ◌%◌, ◌<◌, ◌≤◌, Bool, true, false, List, [], ◌∷◌, length, get_or, drop, slice_index, slice_range, refl, sym, ap, ◌∙◌, arith}
 use Rattle.std.proofs.lemmas.List.{length-take, length-drop, get_or-take, get_or-drop}
-use Rattle.std.proofs.lemmas.List.Elements.{All-from_get_or, All-get_or}
+use Rattle.std.proofs.lemmas.List.Elements.{All-from_get_or}
 use Rattle.std.specs.List.{All}
-use Rattle.ci_space.specs.Element.{Element, Free, Used, size, sizes, Begins, StandsAt, Chain, StartsUsed, IsMerged, free_size}
+use Rattle.ci_space.specs.Element.{Element, Free, Used, size, Chain, IsMerged}
 use Rattle.ci_space.specs.Interval.{IsZero}
 use Rattle.ci_space.specs.Walk.{TilesFrom, length_of}
 use Rattle.ci_space.proofs.Chains.{Chain-end, least_size}
@@ -20,9 +20,9 @@ zero-range bytes from to l h k a b =
 pub range-zero : (bytes : List ℕ) (from to : ℕ) → to ≤ length bytes → IsZero bytes from to → All (λ b. b ≡ 0) (slice_range bytes from to)
 range-zero bytes from to l h =
     All-from_get_or (λ b. b ≡ 0) (slice_range bytes from to) 0 (λ i a.
-      let n : length (slice_range bytes from to) ≡ to - from = omega (arith, length-take (to - from) (drop from bytes), length-drop from bytes) in
-      let b : i < to - from = omega arith in
-      get_or-take (to - from) (drop from bytes) i 0 b ∙ get_or-drop from bytes i 0 ∙ h (from + i) (omega arith) (omega arith))
+    let n : length (slice_range bytes from to) ≡ to - from = omega (arith, length-take (to - from) (drop from bytes), length-drop from bytes) in
+    let b : i < to - from = omega arith in
+    get_or-take (to - from) (drop from bytes) i 0 b ∙ get_or-drop from bytes i 0 ∙ h (from + i) (omega arith) (omega arith))
 
 -- an element needs its four bytes
 four_bytes : (es : List Element) (bytes : List ℕ) (at : ℕ) → at < length bytes → Chain es bytes at (length bytes) → at + 4 ≤ length bytes
@@ -42,10 +42,13 @@ used-on bytes at n f e g least fours l t =
     let whole : at + 4 + length content ≡ at + n = omega arith in
     record {
       elements = Used (slice_index bytes (at + 3)) content ∷ t.elements;
-      chain =
-        ((record { is_length = sym e ∙ sym m; is_tag = g; is_segment = refl; least = omega arith; fours = rw m fours },
-          ap (λ k. slice_range bytes (at + 4) k) whole),
-         rw m t.chain);
+      chain = (
+        (
+          record { is_length = sym e ∙ sym m; is_tag = g; is_segment = refl; least = omega arith; fours = rw m fours },
+          ap (λ k. slice_range bytes (at + 4) k) whole,
+        ),
+        rw m t.chain,
+      );
       is_merged = t.is_merged;
       apart = λ _. tt;
     }

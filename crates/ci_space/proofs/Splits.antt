@@ -1,7 +1,7 @@
 -- A free element that becomes a used one, and a used one that becomes free.
-use Rattle.std.proofs.Common.{◌≡◌, ◌≢◌, ℕ, zero, suc, ◌+◌, ◌-◌, ◌*◌, ◌%◌, ◌<◌, ◌≤◌, List, [], ◌∷◌, ◌++◌, length, drop, slice_index, slice_range, refl, sym, ap, subst, ◌∙◌, add_assoc, append_assoc, zero-add, arith, rules}
+use Rattle.std.proofs.Common.{◌≡◌, ℕ, zero, suc, ◌+◌, ◌-◌, ◌%◌, ◌<◌, ◌≤◌, List, [], ◌∷◌, ◌++◌, length, drop, slice_range, refl, sym, ap, ◌∙◌, add_assoc, zero-add, arith}
 use Rattle.std.proofs.lemmas.List.{length-take, length-drop}
-use Rattle.ci_space.specs.Element.{Element, Free, Used, size, sizes, Begins, StandsAt, Chain, StartsUsed, IsMerged, front_free, merged, free_size, rest_free}
+use Rattle.ci_space.specs.Element.{Element, Free, Used, size, sizes, Begins, StandsAt, Chain, IsMerged, front_free, merged, rest_free}
 use Rattle.ci_space.specs.Walk.{length_of, last_free, first_free}
 use Rattle.ci_space.specs.Interval.{Keeps}
 use Rattle.ci_space.proofs.Chains.{Chain-end, Chain-append, Chain-front, Chain-back, Chain-keeps}
@@ -33,11 +33,13 @@ splits old new n at before after free l below b r above e h c =
     let s : at + n + (free - n) ≡ at + free = omega arith in
     let rest : Chain (rest_free (free - n)) new (at + n) (at + free) = rw (← s) (rest_chain (free - n) new (at + n) (λ p. r (omega arith))) in
     let kept : Chain before new 32 at = Chain-keeps before old new 32 at l (λ i x y. below i (omega arith) y) front in
-    let behind : Chain after new (at + free) (length new) = rw l (Chain-keeps after old new (at + free) (length old) l above back.1) in
-    (slice_range new (at + 4) (at + n), u.0,
-     Chain-append (before ++ Used 0 (slice_range new (at + 4) (at + n)) ∷ rest_free (free - n)) after new 32 (at + free) (length new)
-       (Chain-append before (Used 0 (slice_range new (at + 4) (at + n)) ∷ rest_free (free - n)) new 32 at (at + free) kept (u.1, rw u.0 rest))
-       behind)
+    let behind : Chain after new (at + free) (length new) = rw l (Chain-keeps after old new (at + free) (length old) l above back.1) in (
+      slice_range new (at + 4) (at + n),
+      u.0,
+      Chain-append (before ++ Used 0 (slice_range new (at + 4) (at + n)) ∷ rest_free (free - n)) after new 32 (at + free) (length new)
+          (Chain-append before (Used 0 (slice_range new (at + 4) (at + n)) ∷ rest_free (free - n)) new 32 at (at + free) kept (u.1, rw u.0 rest))
+          behind,
+    )
 
 -- the elements in front of the free one at their end
 abbrev front_of : List Element → List Element
@@ -108,8 +110,8 @@ frees old new at start total before after segment content l e s c m b t below ab
     let behind : Chain after old (start + (last_free before + (4 + length content))) (length old) = rw here back.1 in
     let kept : Chain (front_of before) new 32 start = Chain-keeps (front_of before) old new 32 start l (λ i x y. below i (omega arith) y) (front_chain before old 32 at start s front) in
     rw (merged_freed before after segment content (4 + length content) m)
-      (Chain-append (front_of before) (front_free (last_free before + (4 + length content)) after) new 32 start (length new) kept
-        (back_chain after old new start (last_free before + (4 + length content)) total l b t above behind (omega arith)))
+    (Chain-append (front_of before) (front_free (last_free before + (4 + length content)) after) new 32 start (length new) kept
+    (back_chain after old new start (last_free before + (4 + length content)) total l b t above behind (omega arith)))
 
 pub free-length : (bytes : List ℕ) (at end : ℕ) (before : List Element) (after : List Element) {free : ℕ} → at ≡ 32 + sizes before → Chain (before ++ Free free ∷ after) bytes 32 end → length_of bytes at ≡ free
 free-length bytes at end before after e c = let back : Chain (Free _ ∷ after) bytes at end = rw e (Chain-back before (Free _ ∷ after) bytes 32 end c) in back.0.is_length

@@ -1,5 +1,5 @@
 -- The used elements of an interval by their places: what a call leaves of them.
-use Rattle.std.proofs.Common.{◌≡◌, ◌≢◌, ℕ, zero, suc, ◌+◌, ◌-◌, ◌<◌, ◌≤◌, ◌⊎◌, inl, inr, Bool, true, false, List, [], ◌∷◌, ◌++◌, length, drop, slice_index, refl, sym, ap, subst, ◌∙◌, add_assoc, append_assoc, arith, IsTrue}
+use Rattle.std.proofs.Common.{◌≡◌, ◌≢◌, ℕ, zero, suc, ◌+◌, ◌-◌, ◌<◌, ◌≤◌, ◌⊎◌, inl, inr, Bool, true, false, List, [], ◌∷◌, ◌++◌, length, drop, slice_index, refl, sym, ap, ◌∙◌, add_assoc, append_assoc, arith, IsTrue}
 use Rattle.std.proofs.lemmas.Bool.{cases_Bool}
 use Rattle.std.proofs.lemmas.List.{length-append, length-drop}
 use Rattle.ci_space.specs.Element.{Element, Free, Used, size, sizes, Begins, Chain, IsMerged, StandsAmong, front_free, merged, rest_free, size_for}
@@ -12,7 +12,7 @@ use Rattle.ci_space.proofs.Tilings.{size-bounds, used-back, used-kind, tiles-by}
 -- an interval has one reading
 pub Tiles-unique : (bytes : List ℕ) (xs ys : List Element) → Tiles bytes xs → Tiles bytes ys → xs ≡ ys
 Tiles-unique bytes xs ys t u = elim (cases_Bool (has_elements (kind_of bytes))) as (λ _. xs ≡ ys) [
-  inl h ↦ Chain-unique xs ys bytes 32 (length bytes) (t.tiled h) (u.tiled h)
+  | inl h ↦ Chain-unique xs ys bytes 32 (length bytes) (t.tiled h) (u.tiled h)
   | inr h ↦ t.untiled h ∙ sym (u.untiled h)
 ]
 
@@ -41,7 +41,7 @@ pub stands-apart : (xs ys : List Element) (from at : ℕ) (e : Element) → Stan
 stands-apart [] ys from at e s = let z : from + 0 ≡ from = omega arith in inr (rw z s)
 stands-apart (d ∷ xs) ys from at e (inl s) = inl (inl s)
 stands-apart (d ∷ xs) ys from at e (inr s) = elim (stands-apart xs ys (from + size d) at e s) as (λ _. StandsAmong (d ∷ xs) from at e ⊎ StandsAmong ys (from + (size d + sizes xs)) at e) [
-  inl t ↦ inl (inr t)
+  | inl t ↦ inl (inr t)
   | inr t ↦ inr (rw (← add_assoc from (size d) (sizes xs)) t)
 ]
 
@@ -74,7 +74,7 @@ replaced : (before after : List Element) (d e f : Element) (from at : ℕ) → s
     → StandsAmong (before ++ d ∷ after) from at f → StandsAmong (before ++ e ∷ after) from at f
 replaced before after d e f from at n h s =
     elim (stands-apart before (d ∷ after) from at f s) as (λ _. StandsAmong (before ++ e ∷ after) from at f) [
-      inl t ↦ stands-left before (e ∷ after) from at f t
+      | inl t ↦ stands-left before (e ∷ after) from at f t
       | inr (inl t) ↦ absurd (h t.0)
       | inr (inr t) ↦ stands-right before (e ∷ after) from at f (inr (rw (← n) t))
     ]
@@ -89,10 +89,10 @@ becomes-others old new at next u n b =
     let t : Tiles new (before ++ e ∷ after) = b before after u.segment u.content u.used.place u.used.tiles in
     record {
       stay = λ place segment content h x. stands-used new (before ++ e ∷ after) place segment content t
-        (replaced before after (Used u.segment u.content) e (Used segment content) 32 place (sym z) (λ y. h (y ∙ sym u.used.place))
+          (replaced before after (Used u.segment u.content) e (Used segment content) 32 place (sym z) (λ y. h (y ∙ sym u.used.place))
           (used-stands old (before ++ Used u.segment u.content ∷ after) place segment content u.used.tiles x));
       none_comes = λ place segment content h x. stands-used old (before ++ Used u.segment u.content ∷ after) place segment content u.used.tiles
-        (replaced before after e (Used u.segment u.content) (Used segment content) 32 place z (λ y. h (y ∙ sym u.used.place))
+          (replaced before after e (Used u.segment u.content) (Used segment content) 32 place z (λ y. h (y ∙ sym u.used.place))
           (used-stands new (before ++ e ∷ after) place segment content t x));
     }
 
@@ -133,13 +133,13 @@ freed-others old new at u b =
     let t : Tiles new (merged (before ++ e ∷ after)) = b before after u.segment u.content u.used.place u.used.tiles in
     record {
       stay = λ place segment content h x. stands-used new (merged (before ++ e ∷ after)) place segment content t
-        (stands-merged (before ++ e ∷ after) 32 place segment content
+          (stands-merged (before ++ e ∷ after) 32 place segment content
           (replaced before after d e (Used segment content) 32 place refl (λ y. h (y ∙ sym u.used.place))
-            (used-stands old (before ++ d ∷ after) place segment content u.used.tiles x)));
+          (used-stands old (before ++ d ∷ after) place segment content u.used.tiles x)));
       none_comes = λ place segment content h x. stands-used old (before ++ d ∷ after) place segment content u.used.tiles
-        (replaced before after e d (Used segment content) 32 place refl (λ y. h (y ∙ sym u.used.place))
+          (replaced before after e d (Used segment content) 32 place refl (λ y. h (y ∙ sym u.used.place))
           (merged-stands (before ++ e ∷ after) 32 place segment content
-            (used-stands new (merged (before ++ e ∷ after)) place segment content t x)));
+          (used-stands new (merged (before ++ e ∷ after)) place segment content t x)));
     }
 
 pub freed-gone : (old new : List ℕ) (at : ℕ) → IsUsed old at → UsedIsFreed old new at → IsUsed new at → ⊥
@@ -151,7 +151,7 @@ freed-gone old new at u b v =
     let t : Tiles new (merged (before ++ e ∷ after)) = b before after u.segment u.content u.used.place u.used.tiles in
     let s : StandsAmong (before ++ e ∷ after) 32 at f = merged-stands (before ++ e ∷ after) 32 at v.segment v.content (used-stands new (merged (before ++ e ∷ after)) at v.segment v.content t v.used) in
     elim (stands-apart before (e ∷ after) 32 at f s) as (λ _. ⊥) [
-      inl x ↦ omega (arith, stands-high before 32 at f x, u.used.place)
+      | inl x ↦ omega (arith, stands-high before 32 at f x, u.used.place)
       | inr (inl x) ↦ (let h = x.1 in cc)
       | inr (inr x) ↦ omega (arith, stands-low after (32 + sizes before + (4 + length u.content)) at f x, u.used.place)
     ]
@@ -179,20 +179,20 @@ takes-others old new n at t =
     let w : 32 + sizes front ≡ 32 + sizes t.before + t.free = omega arith in
     record {
       stay = λ place segment content h x.
-        elim (stands-apart t.before (Free t.free ∷ t.after) 32 place (Used segment content) (used-stands old (t.before ++ Free t.free ∷ t.after) place segment content t.was x)) as (λ _. HasUsed new place segment content) [
-          inl y ↦ stands-used new (front ++ t.after) place segment content t.now (stands-left front t.after 32 place (Used segment content) (stands-left t.before (d ∷ rest_free k) 32 place (Used segment content) y))
-          | inr (inl y) ↦ absurd (let g = y.1 in cc)
-          | inr (inr y) ↦ stands-used new (front ++ t.after) place segment content t.now (stands-right front t.after 32 place (Used segment content) (rw w y))
-        ];
+          elim (stands-apart t.before (Free t.free ∷ t.after) 32 place (Used segment content) (used-stands old (t.before ++ Free t.free ∷ t.after) place segment content t.was x)) as (λ _. HasUsed new place segment content) [
+            | inl y ↦ stands-used new (front ++ t.after) place segment content t.now (stands-left front t.after 32 place (Used segment content) (stands-left t.before (d ∷ rest_free k) 32 place (Used segment content) y))
+            | inr (inl y) ↦ absurd (let g = y.1 in cc)
+            | inr (inr y) ↦ stands-used new (front ++ t.after) place segment content t.now (stands-right front t.after 32 place (Used segment content) (rw w y))
+          ];
       none_comes = λ place segment content h x.
-        elim (stands-apart front t.after 32 place (Used segment content) (used-stands new (front ++ t.after) place segment content t.now x)) as (λ _. HasUsed old place segment content) [
-          inl y ↦ elim (stands-apart t.before (d ∷ rest_free k) 32 place (Used segment content) y) as (λ _. HasUsed old place segment content) [
-            inl v ↦ stands-used old (t.before ++ Free t.free ∷ t.after) place segment content t.was (stands-left t.before (Free t.free ∷ t.after) 32 place (Used segment content) v)
-            | inr (inl v) ↦ absurd (h (v.0 ∙ sym t.place))
-            | inr (inr v) ↦ absurd (rest_used k (32 + sizes t.before + (4 + length t.content)) place segment content v)
-          ]
-          | inr y ↦ stands-used old (t.before ++ Free t.free ∷ t.after) place segment content t.was (stands-right t.before (Free t.free ∷ t.after) 32 place (Used segment content) (inr (rw (← w) y)))
-        ];
+          elim (stands-apart front t.after 32 place (Used segment content) (used-stands new (front ++ t.after) place segment content t.now x)) as (λ _. HasUsed old place segment content) [
+            | inl y ↦ elim (stands-apart t.before (d ∷ rest_free k) 32 place (Used segment content) y) as (λ _. HasUsed old place segment content) [
+              | inl v ↦ stands-used old (t.before ++ Free t.free ∷ t.after) place segment content t.was (stands-left t.before (Free t.free ∷ t.after) 32 place (Used segment content) v)
+              | inr (inl v) ↦ absurd (h (v.0 ∙ sym t.place))
+              | inr (inr v) ↦ absurd (rest_used k (32 + sizes t.before + (4 + length t.content)) place segment content v)
+            ]
+            | inr y ↦ stands-used old (t.before ++ Free t.free ∷ t.after) place segment content t.was (stands-right t.before (Free t.free ∷ t.after) 32 place (Used segment content) (inr (rw (← w) y)))
+          ];
     }
 
 -- the new element
@@ -245,7 +245,7 @@ up_on before (e ∷ es) bytes place at a l d c m p =
       left = rw n c.1;
       is_merged = rw (append_assoc before (e ∷ []) es) m;
       passed = λ segment content s. elim (stands-apart before (e ∷ []) 32 at (Used segment content) s) as (λ _. ⊥) [
-        inl t ↦ p segment content t
+        | inl t ↦ p segment content t
         | inr (inl t) ↦ omega (arith, t.0)
         | inr (inr t) ↦ t
       ];
@@ -284,12 +284,12 @@ up_none before [] bytes place at segment content a c p n b s =
     elim (stands-apart before [] 32 at (Used segment content) s) as (λ _. ⊥) [ inl t ↦ p segment content t | inr t ↦ t ]
 up_none before (e ∷ es) bytes place at segment content a c p n b s =
     elim (stands-apart before (e ∷ es) 32 at (Used segment content) s) as (λ _. ⊥) [
-      inl t ↦ p segment content t
+      | inl t ↦ p segment content t
       | inr (inl t) ↦
-        (let same : place ≡ at = omega (arith, t.0) in
-         let u : Begins bytes place (4 + length content) 1 segment = (let d = rw t.1 at c.0 in d.0) in
-         let l : place < length bytes = omega (arith, Chain-end es bytes (place + size e) (length bytes) c.1, least_size e bytes place c.0) in
-         n same l u.is_tag)
+          (let same : place ≡ at = omega (arith, t.0) in
+          let u : Begins bytes place (4 + length content) 1 segment = (let d = rw t.1 at c.0 in d.0) in
+          let l : place < length bytes = omega (arith, Chain-end es bytes (place + size e) (length bytes) c.1, least_size e bytes place c.0) in
+          n same l u.is_tag)
       | inr (inr t) ↦ omega (arith, stands-low es (32 + sizes before + size e) at (Used segment content) t, least_size e bytes place c.0)
     ]
 
@@ -297,7 +297,7 @@ pub up-none : (bytes : List ℕ) (place at : ℕ) → at ≤ place → WalksUpTo
 up-none bytes place at a w n i h u =
     let t : Tiles bytes (w.before ++ w.after) = tiles-by bytes bytes i.elements (w.before ++ w.after) i.tiles refl (λ k x y. refl) h (Chain-append w.before w.after bytes 32 place (length bytes) w.done w.left) w.is_merged in
     up_none w.before w.after bytes place at u.segment u.content a w.left w.passed n (Chain-end w.before bytes 32 place w.done)
-      (used-stands bytes (w.before ++ w.after) at u.segment u.content t u.used)
+    (used-stands bytes (w.before ++ w.after) at u.segment u.content t u.used)
 
 -- no element stands in other kinds
 pub untiled-none : (bytes : List ℕ) (at : ℕ) → has_elements (kind_of bytes) ≡ false → IsUsed bytes at → ⊥

@@ -1,11 +1,10 @@
 -- Intervals as a whole: the head beside the elements.
-use Rattle.std.proofs.Common.{◌≡◌, ◌≢◌, ℕ, zero, suc, ◌+◌, ◌-◌, ◌*◌, ◌%◌, ◌<◌, ◌≤◌, Bool, true, false, List, [], ◌∷◌, ◌++◌, length, slice_index, refl, sym, ap, subst, ◌∙◌, append_assoc, arith, rules, IsTrue}
-use Rattle.std.proofs.lemmas.List.{append-nil}
-use Rattle.ci_space.specs.Element.{Element, Free, Used, size, sizes, Begins, StandsAt, Chain, StartsUsed, IsMerged, merged, free_size, size_for, rest_free}
-use Rattle.ci_space.specs.Interval.{is_size, kind_of, has_elements, is_kind, IsZero, IsHead, Tiles, IsInterval, HasUsed, IsUsed, HasRoom, Takes, IsFull}
+use Rattle.std.proofs.Common.{◌≡◌, ◌≢◌, ℕ, zero, suc, ◌+◌, ◌-◌, ◌%◌, ◌<◌, ◌≤◌, Bool, true, false, List, [], ◌∷◌, ◌++◌, length, refl, sym, ap, ◌∙◌, append_assoc, arith, IsTrue}
+use Rattle.ci_space.specs.Element.{Element, Free, Used, size, sizes, Begins, Chain, IsMerged, merged, size_for, rest_free}
+use Rattle.ci_space.specs.Interval.{is_size, kind_of, has_elements, IsZero, IsHead, Tiles, IsInterval, IsUsed, Takes, IsFull}
 use Rattle.ci_space.specs.Walk.{TilesFrom, length_of, last_free, first_free, WalksPast, IsFirstFree, Splits, Puts}
 use Rattle.ci_space.specs.Interval.{Keeps}
-use Rattle.ci_space.proofs.Chains.{Chain-end, Chain-append, Chain-front, Chain-back, least_size}
+use Rattle.ci_space.proofs.Chains.{Chain-end, Chain-append, Chain-front, Chain-back}
 use Rattle.ci_space.proofs.Walks.{IsWhole, first-whole}
 use Rattle.ci_space.proofs.Splits.{frees, merged-merges}
 
@@ -132,7 +131,7 @@ freed bytes at start end before after segment content p t s e =
       whole = w;
       least = omega arith;
       fours = rw w (three_fours (last_free before) (4 + length content) (first_free after) (last_fours before bytes 32 at front) back.0.0.fours
-        (first_fours after bytes (at + (4 + length content)) (length bytes) back.1));
+          (first_fours after bytes (at + (4 + length content)) (length bytes) back.1));
     }
 
 -- the same where the ends are found by walks
@@ -165,10 +164,10 @@ frees-used old new at start end n before after segment content p t m s e l puts 
     let low : 32 ≤ start = f.low in
     let b : Begins new start (end - start) 0 0 = record { is_length = puts.is_length; is_tag = puts.is_tag; is_segment = puts.is_segment; least = f.least; fours = f.fours } in
     tiles-by old new (before ++ Used segment content ∷ after) (merged (before ++ Free (4 + length content) ∷ after)) t l (λ k x y. puts.below k x (omega arith))
-      (used-kind old before after (Used segment content) t)
-      (frees old new at start (end - start) before after segment content l p (s before (used-front old at before after (Used segment content) p t))
-        (used-chain old before after (Used segment content) t) t.is_merged b f.whole puts.below puts.above)
-      (merged-merges (before ++ Free (4 + length content) ∷ after))
+    (used-kind old before after (Used segment content) t)
+    (frees old new at start (end - start) before after segment content l p (s before (used-front old at before after (Used segment content) p t))
+    (used-chain old before after (Used segment content) t) t.is_merged b f.whole puts.below puts.above)
+    (merged-merges (before ++ Free (4 + length content) ∷ after))
 
 -- what a take leaves is merged
 taken_merged : (before after : List Element) (free k : ℕ) (content : List ℕ) → IsMerged (before ++ Free free ∷ after) → IsMerged (before ++ (Used 0 content ∷ rest_free k ++ after))
@@ -200,8 +199,8 @@ found-tiles bytes n at i h f =
     let left = rw f.is_free at f.past.left in
     let merged = rw f.is_free at f.past.is_merged in
     tiles-by bytes bytes i.elements (f.past.before ++ Free f.free ∷ f.behind) i.tiles refl (λ k x y. refl) h
-      (Chain-append f.past.before (Free f.free ∷ f.behind) bytes 32 at (length bytes) f.past.done left)
-      merged
+    (Chain-append f.past.before (Free f.free ∷ f.behind) bytes 32 at (length bytes) f.past.done left)
+    merged
 
 pub found-place : (bytes : List ℕ) (n at : ℕ) → (f : IsFirstFree bytes n at) → at ≡ 32 + sizes f.past.before
 found-place bytes n at f = sym (Chain-end f.past.before bytes 32 at f.past.done)
@@ -230,7 +229,7 @@ takes old new n size at e i h f l k s =
       place = p;
       is_size = done.1 ∙ e;
       now = rw (← e) (tiles-by old new (f.past.before ++ Free f.free ∷ f.behind) (f.past.before ++ Used 0 done.0 ∷ rest_free (f.free - size) ++ f.behind) was l k h done.2
-        (rw (append_assoc f.past.before (Used 0 done.0 ∷ rest_free (f.free - size)) f.behind) (taken_merged f.past.before f.behind f.free (f.free - size) done.0 was.is_merged)));
+          (rw (append_assoc f.past.before (Used 0 done.0 ∷ rest_free (f.free - size)) f.behind) (taken_merged f.past.before f.behind f.free (f.free - size) done.0 was.is_merged)));
     }
 
 pub found-fits : (bytes : List ℕ) (n at : ℕ) → IsInterval bytes → IsFirstFree bytes n at → at < 65536

@@ -1,11 +1,9 @@
 -- The walks over elements that are known to be there.
-use Rattle.std.proofs.Common.{◌≡◌, ◌≢◌, ℕ, zero, suc, ◌+◌, ◌-◌, ◌*◌, ◌%◌, ◌<◌, ◌≤◌, List, [], ◌∷◌, ◌++◌, length, slice_index, refl, sym, ap, subst, ◌∙◌, append_assoc, arith, rules}
-use Rattle.std.proofs.lemmas.List.{append-nil}
+use Rattle.std.proofs.Common.{◌≡◌, ◌≢◌, ℕ, ◌+◌, ◌%◌, ◌<◌, ◌≤◌, List, [], ◌∷◌, ◌++◌, length, slice_index, refl, sym, ap, append_assoc, arith}
 use Rattle.std.specs.List.{All}
 use Rattle.std.proofs.lemmas.List.Elements.{All-push, All-nil}
-use Rattle.ci_space.specs.Element.{Element, Free, Used, size, sizes, Begins, StandsAt, Chain, StartsUsed, IsMerged, free_size}
+use Rattle.ci_space.specs.Element.{Element, Free, Used, size, sizes, StandsAt, Chain, IsMerged, free_size}
 use Rattle.ci_space.specs.Walk.{TilesFrom, length_of, WalksPast, IsFirstFree, last_free, first_free, WalksTo}
-use Rattle.ci_space.specs.Interval.{Keeps}
 use Rattle.ci_space.proofs.Chains.{Chain-end, Chain-append, least_size, Chain-unique}
 
 -- the element at `at` is whole

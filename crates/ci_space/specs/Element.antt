@@ -1,5 +1,5 @@
 -- What an interval is tiled with: elements, one behind the other.
-use Rattle.std.specs.Prelude.{◌≡◌, ℕ, suc, zero, ◌+◌, ◌*◌, ◌-◌, ◌/◌, ◌%◌, ◌<◌, ◌≤◌, List, [], ◌∷◌, length, slice_index, slice_range, ⊤, ◌⊎◌}
+use Rattle.std.specs.Prelude.{◌≡◌, ℕ, suc, zero, ◌+◌, ◌*◌, ◌/◌, ◌%◌, ◌≤◌, List, [], ◌∷◌, length, slice_index, slice_range, ⊤, ◌⊎◌}
 
 -- a free element has its length, a used one its segment type and its content
 pub data Element : Type 0 where

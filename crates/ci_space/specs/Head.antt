@@ -1,8 +1,7 @@
 -- The numbers of an interval: those of its head, and the four of control. They are big-endian.
-use Rattle.std.specs.Prelude.{◌≡◌, ◌≢◌, ℕ, ◌+◌, ◌<◌, List, [], ◌∷◌, length, slice_index, ◌^◌}
+use Rattle.std.specs.Prelude.{◌≡◌, ◌≢◌, ℕ, List, [], ◌∷◌, slice_index}
 use Rattle.byteorder.specs.Endian.{big_from}
 use Rattle.ci_space.specs.declared.head.Head.{Head}
-use Rattle.ci_space.specs.Interval.{kind_of}
 
 -- the head that the first 32 bytes are
 abbrev pub head_of : List ℕ → Head

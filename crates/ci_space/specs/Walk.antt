@@ -1,7 +1,7 @@
 -- The words of the private walks over an interval's elements.
-use Rattle.std.specs.Prelude.{◌≡◌, ℕ, ◌+◌, ◌-◌, ◌*◌, ◌%◌, ◌<◌, ◌≤◌, Bool, IsTrue, List, [], ◌∷◌, ◌++◌, length, slice_index, All}
+use Rattle.std.specs.Prelude.{◌≡◌, ℕ, ◌+◌, ◌-◌, ◌*◌, ◌<◌, ◌≤◌, Bool, IsTrue, List, [], ◌∷◌, ◌++◌, length, slice_index, All}
 use Rattle.ci_space.specs.Interval.{Keeps}
-use Rattle.ci_space.specs.Element.{Element, Free, Used, size, sizes, Begins, Chain, StartsUsed, IsMerged, free_size, rest_free}
+use Rattle.ci_space.specs.Element.{Element, Free, Used, sizes, Chain, StartsUsed, IsMerged, free_size, rest_free}
 
 -- the bytes are tiled from `at` to their end; where a free element stands before, a used one begins
 pub record TilesFrom (bytes : List ℕ) (at : ℕ) (after_free : Bool) : Type 0 where
@@ -47,7 +47,7 @@ Splits old new n at =
     n ≤ free →
     Chain (before ++ Free free ∷ after) old 32 (length old) →
     (content : List ℕ) × (4 + length content ≡ n)
-      × Chain (before ++ Used 0 content ∷ rest_free (free - n) ++ after) new 32 (length new)
+    × Chain (before ++ Used 0 content ∷ rest_free (free - n) ++ after) new 32 (length new)
 
 -- the free bytes at the end of a list of elements, and at its beginning
 abbrev pub last_free : List Element → ℕ

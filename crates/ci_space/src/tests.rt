@@ -51,7 +51,10 @@ fn a_content_is_written_and_read(rt: HostRuntime) -> Result<(), Fail> {
     assert!(rt; !interval.is_used(44));
     assert!(rt; !interval.is_used(65535));
     interval.write(32, &[]);
-    assert_eq!(rt; &interval.whole()[32..40], [0, 12, 1, 9, 0, 0, 0, 0].as_slice());
+    assert_eq!(rt;
+        &interval.whole()[32..40],
+        [0, 12, 1, 9, 0, 0, 0, 0].as_slice()
+    );
     Ok(())
 }
 
@@ -93,7 +96,15 @@ fn damage_is_found(rt: HostRuntime) -> Result<(), Fail> {
         assert!(rt; damaged(&rt, at, to)?, "{at} {to}");
     }
     // Lengths of 0, of 3 and 13, past the end, and one that ends before the next element.
-    for (at, to) in [(33, 0), (33, 3), (33, 13), (32, 2), (33, 8), (44, 2), (45, 208)] {
+    for (at, to) in [
+        (33, 0),
+        (33, 3),
+        (33, 13),
+        (32, 2),
+        (33, 8),
+        (44, 2),
+        (45, 208),
+    ] {
         assert!(rt; damaged(&rt, at, to)?, "{at} {to}");
     }
     // Two free neighbours, tags that are none, and a free element with a segment type.
@@ -101,7 +112,15 @@ fn damage_is_found(rt: HostRuntime) -> Result<(), Fail> {
         assert!(rt; damaged(&rt, at, to)?, "{at} {to}");
     }
     // What may be: the root anchor point, the first independent overflow interval, any segment type.
-    for (at, to) in [(4, 1), (13, 32), (16, 1), (23, 8), (35, 3), (36, 255), (46, 0)] {
+    for (at, to) in [
+        (4, 1),
+        (13, 32),
+        (16, 1),
+        (23, 8),
+        (35, 3),
+        (36, 255),
+        (46, 0),
+    ] {
         assert!(rt; !damaged(&rt, at, to)?, "{at} {to}");
     }
     // Another size, and a control interval with a byte behind its numbers.
@@ -129,7 +148,10 @@ fn a_head_is_set_and_read(rt: HostRuntime) -> Result<(), Fail> {
     };
     interval.set_head(head);
     assert_eq!(rt; interval.head(), head);
-    assert_eq!(rt; &interval.whole()[16..32], [0, 0, 0, 0, 0, 0, 0, 8, 0, 0, 0, 0, 0, 0, 0, 3].as_slice());
+    assert_eq!(rt;
+        &interval.whole()[16..32],
+        [0, 0, 0, 0, 0, 0, 0, 8, 0, 0, 0, 0, 0, 0, 0, 3].as_slice()
+    );
     Ok(())
 }
 

@@ -1,5 +1,5 @@
-use Rattle.std.proofs.Common.{◌≡◌, ◌+◌, ◌≤◌, length, arith, rules}
-use Rattle.ci_space.proofs.Contents.{IsWithin, used-within, room-within, used-length, used-type, used-content, type-becomes, put-written, written-below, content-becomes, room-fits}
+use Rattle.std.proofs.Common.{arith}
+use Rattle.ci_space.proofs.Contents.{IsWithin, used-within, used-content}
 use Rattle.ci_space.proofs.elements.content.Goals as goal
 
 pub length_at-requires : goal.length_at-requires

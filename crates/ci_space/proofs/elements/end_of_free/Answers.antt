@@ -1,4 +1,4 @@
-use Rattle.std.proofs.Common.{◌≡◌, ◌≢◌, ◌+◌, ◌≤◌, ◌<◌, ◌-◌, length, slice_index, refl, sym, arith, ◌∙◌, true, false}
+use Rattle.std.proofs.Common.{◌≤◌, length, arith}
 use Rattle.ci_space.proofs.Chains.{Chain-end}
 use Rattle.ci_space.proofs.Walks.{IsWhole, first-whole}
 use Rattle.ci_space.proofs.elements.end_of_free.Goals as goal

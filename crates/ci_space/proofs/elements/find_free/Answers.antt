@@ -1,5 +1,4 @@
-use Rattle.std.proofs.Common.{◌≡◌, ◌≤◌, ◌-◌, length, refl, sym, arith, ◌∙◌, true, false}
-use Rattle.ci_space.specs.Walk.{WalksPast}
+use Rattle.std.proofs.Common.{◌≡◌, ◌≤◌, length, arith, true, false}
 use Rattle.ci_space.proofs.Walks.{IsWhole, first-whole, walk-begins, walk-on, walk-finds, walk-within}
 use Rattle.ci_space.proofs.elements.find_free.Goals as goal
 
@@ -29,7 +28,7 @@ loop-at-smaller c =
 pub loop-at-preserved : goal.loop-at-preserved
 loop-at-preserved c =
     rw c.length_at-at.ensures.length
-      (walk-on _ _ _ c.requires.some c.loop-at-test.true c.loop-at.invariant (λ t h. let e : c.holds.result ≡ true = c.holds.ensures.1 (t, h) in let f : c.holds.result ≡ false = c.if-holds.false in cc))
+    (walk-on _ _ _ c.requires.some c.loop-at-test.true c.loop-at.invariant (λ t h. let e : c.holds.result ≡ true = c.holds.ensures.1 (t, h) in let f : c.holds.result ≡ false = c.if-holds.false in cc))
 
 pub returns-clause-none : goal.returns-clause-none
 returns-clause-none c =

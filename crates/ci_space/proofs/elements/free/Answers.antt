@@ -1,6 +1,6 @@
-use Rattle.std.proofs.Common.{◌≡◌, ◌+◌, ◌<◌, ◌≤◌, length, ◌∙◌, arith}
+use Rattle.std.proofs.Common.{◌≡◌, ◌+◌, ◌≤◌, length, ◌∙◌, arith}
 use Rattle.ci_space.proofs.Walks.{IsWhole}
-use Rattle.ci_space.proofs.Tilings.{used-whole, used-front, used-back, IsFreed, freed-used, frees-used}
+use Rattle.ci_space.proofs.Tilings.{used-whole, used-front, used-back, freed-used, frees-used}
 use Rattle.ci_space.proofs.Standing.{freed-gone, freed-others}
 use Rattle.ci_space.proofs.elements.free.Goals as goal
 

@@ -1,14 +1,16 @@
-use Rattle.std.proofs.Common.{◌≡◌, ◌≢◌, ◌≤◌, ◌<◌, ◌-◌, length, slice_index, true, false, refl, sym, ◌∙◌, arith, IsTrue, eq-eqb}
+use Rattle.std.proofs.Common.{◌≡◌, ◌≢◌, slice_index, true, false, sym, ◌∙◌, IsTrue, eq-eqb}
 use Rattle.std.proofs.lemmas.Bool.{eqb-true}
-use Rattle.ci_space.proofs.Standing.{empty-read, empty-kind, empty-tag, empty-length}
+use Rattle.ci_space.proofs.Standing.{empty-read, empty-kind, empty-length}
 use Rattle.ci_space.proofs.elements.is_empty.Goals as goal
 
 pub returns-then-not-holds_elements : goal.returns-then-not-holds_elements
-returns-then-not-holds_elements c =
-    ((λ h. absurd (cc)), λ t.
+returns-then-not-holds_elements c = (
+  (λ h. absurd (cc)),
+  λ t.
       let a : IsTrue _ = empty-kind _ t in
       let b : true ≡ false = sym a ∙ sym c.holds_elements.ensures ∙ c.if-not-holds_elements.true in
-      absurd (cc))
+      absurd (cc),
+)
 
 pub returns : goal.returns
 returns c =

@@ -1,4 +1,4 @@
-use Rattle.std.proofs.Common.{◌≡◌, length, refl, sym, [], arith}
+use Rattle.std.proofs.Common.{◌≡◌, length, refl, [], arith}
 use Rattle.ci_space.proofs.elements.is_tiled.Goals as goal
 
 pub returns : goal.returns

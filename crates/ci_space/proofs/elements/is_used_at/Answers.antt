@@ -1,5 +1,4 @@
-use Rattle.std.proofs.Common.{◌≡◌, ◌≢◌, ◌+◌, ◌<◌, ◌≤◌, length, slice_index, true, false, refl, sym, ◌∙◌, arith, IsTrue}
-use Rattle.ci_space.specs.Interval.{IsUsed, has_elements, kind_of}
+use Rattle.std.proofs.Common.{◌≡◌, ◌≤◌, length, false, sym, ◌∙◌, arith}
 use Rattle.ci_space.proofs.Walks.{IsWhole}
 use Rattle.ci_space.proofs.Tilings.{used-whole, interval-tiled}
 use Rattle.ci_space.proofs.Standing.{up-begins, up-on, up-whole, up-within, up-used, up-none, untiled-none, used-tag}
@@ -12,10 +11,12 @@ pub loop-place-init : goal.loop-place-init
 loop-place-init c = up-begins _ _ false (interval-tiled _ c.requires (sym c.holds_elements.ensures ∙ c.if-not-holds_elements.false))
 
 pub returns-then-place-bytes : goal.returns-then-place-bytes
-returns-then-place-bytes c =
-    ((λ h. absurd (cc)), λ u.
+returns-then-place-bytes c = (
+  (λ h. absurd (cc)),
+  λ u.
       let w : IsWhole c.args.bytes.now c.args.at (length c.args.bytes.now) = used-whole _ _ u in
-      absurd (omega arith))
+      absurd (omega arith),
+)
 
 pub length_at-place-requires : goal.length_at-place-requires
 length_at-place-requires c =
@@ -39,10 +40,12 @@ returns-then-at-place c =
     ((λ h. absurd (cc)), λ u. absurd (up-none _ _ _ (omega arith) c.loop-place.invariant (λ e. absurd (omega arith)) c.requires (sym c.holds_elements.ensures ∙ c.if-not-holds_elements.false) u))
 
 pub returns-then-at-bytes : goal.returns-then-at-bytes
-returns-then-at-bytes c =
-    ((λ h. absurd (cc)), λ u.
+returns-then-at-bytes c = (
+  (λ h. absurd (cc)),
+  λ u.
       let w : IsWhole c.args.bytes.now c.args.at (length c.args.bytes.now) = used-whole _ _ u in
-      absurd (omega arith))
+      absurd (omega arith),
+)
 
 pub is_used-requires : goal.is_used-requires
 is_used-requires c =
@@ -55,6 +58,7 @@ pub returns : goal.returns
 returns c =
     let e : c.loop-place.place ≡ c.args.at = omega arith in
     let l : c.loop-place.place ≤ length c.args.bytes.now = up-within _ _ _ c.loop-place.invariant in
-    let t = c.is_used.ensures in
-    ((λ h. up-used _ c.loop-place.place _ e (omega arith) (rw e (t.0 h)) c.loop-place.invariant c.requires (sym c.holds_elements.ensures ∙ c.if-not-holds_elements.false)),
-     λ u. t.1 (used-tag _ _ u))
+    let t = c.is_used.ensures in (
+      (λ h. up-used _ c.loop-place.place _ e (omega arith) (rw e (t.0 h)) c.loop-place.invariant c.requires (sym c.holds_elements.ensures ∙ c.if-not-holds_elements.false)),
+      λ u. t.1 (used-tag _ _ u),
+    )

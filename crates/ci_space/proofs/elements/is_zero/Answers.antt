@@ -1,4 +1,3 @@
-use Rattle.std.proofs.Common.{rules}
 use Rattle.ci_space.proofs.Reading.{zero-range, range-zero}
 use Rattle.ci_space.proofs.elements.is_zero.Goals as goal
 

@@ -1,4 +1,4 @@
-use Rattle.std.proofs.Common.{rules, arith}
+use Rattle.std.proofs.Common.{arith}
 use Rattle.ci_space.proofs.Reading.{rest-four, used-on, free-on, free-behind}
 use Rattle.ci_space.proofs.elements.next_element.Goals as goal
 

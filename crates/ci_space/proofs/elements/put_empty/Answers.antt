@@ -1,4 +1,4 @@
-use Rattle.std.proofs.Common.{◌≡◌, ◌∙◌, sym, true, false}
+use Rattle.std.proofs.Common.{◌∙◌, sym}
 use Rattle.ci_space.proofs.Empties.{put-tiled-zeros, put-untiled-zeros}
 use Rattle.ci_space.proofs.elements.put_empty.Goals as goal
 

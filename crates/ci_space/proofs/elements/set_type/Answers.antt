@@ -1,5 +1,5 @@
-use Rattle.std.proofs.Common.{◌≡◌, ◌+◌, ◌≤◌, length, arith, refl}
-use Rattle.ci_space.proofs.Contents.{IsWithin, used-within, room-within, used-length, used-type, used-content, type-becomes, put-written, written-below, content-becomes, room-fits}
+use Rattle.std.proofs.Common.{arith, refl}
+use Rattle.ci_space.proofs.Contents.{IsWithin, used-within, type-becomes}
 use Rattle.ci_space.proofs.Standing.{becomes-others}
 use Rattle.ci_space.proofs.elements.set_type.Goals as goal
 

@@ -1,5 +1,4 @@
-use Rattle.std.proofs.Common.{◌≡◌, ◌≢◌, ◌+◌, ◌≤◌, ◌-◌, length, slice_index, refl, sym, arith, ◌∙◌, true, false}
-use Rattle.ci_space.specs.Walk.{WalksTo}
+use Rattle.std.proofs.Common.{◌≡◌, ◌≢◌, ◌+◌, ◌≤◌, slice_index, arith, true, false}
 use Rattle.ci_space.proofs.Walks.{IsWhole, to-begins, to-whole, to-used, to-free, to-within, to-ends}
 use Rattle.ci_space.proofs.elements.start_of_free.Goals as goal
 

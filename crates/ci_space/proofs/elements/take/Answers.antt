@@ -1,5 +1,4 @@
-use Rattle.std.proofs.Common.{◌≡◌, ◌+◌, ◌≤◌, length, true, false, sym, ◌∙◌, arith, IsTrue, IfNone}
-use Rattle.ci_space.specs.Interval.{IsFull, has_elements, kind_of}
+use Rattle.std.proofs.Common.{◌≤◌, length, sym, ◌∙◌}
 use Rattle.ci_space.proofs.Walks.{IsWhole, walk-low}
 use Rattle.ci_space.proofs.Tilings.{walked-full, found-whole, found-fits, takes}
 use Rattle.ci_space.proofs.Standing.{takes-room, takes-fresh, takes-others}
@@ -17,7 +16,7 @@ pub returns-clause-some : goal.returns-clause-some
 returns-clause-some c =
     let low : 32 ≤ c.in_ok-at.at = walk-low _ _ _ c.in_ok-at.ensures.found.past in
     takes _ _ _ _ _ c.needed_size-size.ensures c.requires (sym c.holds_elements.ensures ∙ c.if-not-holds_elements.false) c.in_ok-at.ensures.found c.split.auto.bytes
-      (c.split.ensures.head low) c.split.ensures.splits
+    (c.split.ensures.head low) c.split.ensures.splits
 
 pub returns-clause-head : goal.returns-clause-head
 returns-clause-head c = c.split.ensures.head (walk-low _ _ _ c.in_ok-at.ensures.found.past)
@@ -29,16 +28,16 @@ pub returns-clause-room : goal.returns-clause-room
 returns-clause-room c =
     let low : 32 ≤ c.in_ok-at.at = walk-low _ _ _ c.in_ok-at.ensures.found.past in
     takes-room _ _ _ _ (takes _ _ _ _ _ c.needed_size-size.ensures c.requires (sym c.holds_elements.ensures ∙ c.if-not-holds_elements.false) c.in_ok-at.ensures.found c.split.auto.bytes
-      (c.split.ensures.head low) c.split.ensures.splits)
+    (c.split.ensures.head low) c.split.ensures.splits)
 
 pub returns-clause-fresh : goal.returns-clause-fresh
 returns-clause-fresh c =
     let low : 32 ≤ c.in_ok-at.at = walk-low _ _ _ c.in_ok-at.ensures.found.past in
     takes-fresh _ _ _ _ (takes _ _ _ _ _ c.needed_size-size.ensures c.requires (sym c.holds_elements.ensures ∙ c.if-not-holds_elements.false) c.in_ok-at.ensures.found c.split.auto.bytes
-      (c.split.ensures.head low) c.split.ensures.splits)
+    (c.split.ensures.head low) c.split.ensures.splits)
 
 pub returns-clause-others : goal.returns-clause-others
 returns-clause-others c =
     let low : 32 ≤ c.in_ok-at.at = walk-low _ _ _ c.in_ok-at.ensures.found.past in
     takes-others _ _ _ _ (takes _ _ _ _ _ c.needed_size-size.ensures c.requires (sym c.holds_elements.ensures ∙ c.if-not-holds_elements.false) c.in_ok-at.ensures.found c.split.auto.bytes
-      (c.split.ensures.head low) c.split.ensures.splits)
+    (c.split.ensures.head low) c.split.ensures.splits)

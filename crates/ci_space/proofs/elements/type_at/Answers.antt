@@ -1,5 +1,5 @@
-use Rattle.std.proofs.Common.{◌≡◌, ◌+◌, ◌≤◌, length, arith, rules}
-use Rattle.ci_space.proofs.Contents.{IsWithin, used-within, room-within, used-length, used-type, used-content, type-becomes, put-written, written-below, content-becomes, room-fits}
+use Rattle.std.proofs.Common.{arith}
+use Rattle.ci_space.proofs.Contents.{IsWithin, used-within, used-type}
 use Rattle.ci_space.proofs.elements.type_at.Goals as goal
 
 pub overflow_add-result : goal.overflow_add-result

@@ -1,4 +1,4 @@
-use Rattle.std.proofs.Common.{◌≡◌, ◌+◌, ◌≤◌, ◌++◌, length, drop, arith}
+use Rattle.std.proofs.Common.{◌+◌, ◌++◌, length, drop, arith}
 use Rattle.ci_space.specs.Element.{Used}
 use Rattle.ci_space.specs.Interval.{written}
 use Rattle.ci_space.proofs.Contents.{IsWithin, room-within, written-below, content-becomes, room-fits}
@@ -22,6 +22,6 @@ returns-clause-head c =
 pub returns-clause-others : goal.returns-clause-others
 returns-clause-others c =
     rw c.put.ensures (becomes-others c.args.bytes.now (written c.args.bytes.now (c.args.at + 4) c.args.from.now) c.args.at
-      (λ segment content. Used segment (c.args.from.now ++ drop (length c.args.from.now) content)) (room-used _ _ _ c.requires)
-      (λ segment content u. rewritten-size c.args.from.now content (room-fits _ _ _ c.requires segment content u))
-      (content-becomes c.args.bytes.now c.args.from.now c.args.at c.requires (room-fits _ _ _ c.requires)))
+    (λ segment content. Used segment (c.args.from.now ++ drop (length c.args.from.now) content)) (room-used _ _ _ c.requires)
+    (λ segment content u. rewritten-size c.args.from.now content (room-fits _ _ _ c.requires segment content u))
+    (content-becomes c.args.bytes.now c.args.from.now c.args.at c.requires (room-fits _ _ _ c.requires)))

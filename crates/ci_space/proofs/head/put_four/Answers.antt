@@ -1,4 +1,4 @@
-use Rattle.std.proofs.Common.{◌≡◌, length, get_or, ◌∙◌, rules}
+use Rattle.std.proofs.Common.{◌∙◌, rules}
 use Rattle.ci_space.proofs.Heads.{ends-put, four-numbers}
 use Rattle.ci_space.proofs.head.put_four.Goals as goal
 
