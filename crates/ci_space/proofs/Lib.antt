@@ -8,3 +8,4 @@ pub mod Heads
 pub mod Contents
 pub mod Empties
 pub mod Standing
+pub mod Going

@@ -3,6 +3,7 @@ use Rattle.std.specs.Prelude.{◌≡◌, ◌≢◌, ℕ, ◌+◌, ◌<◌, ◌�
 use Rattle.std.specs.Prelude.{◌-◌, ◌/◌, ◌%◌}
 use Rattle.ci_space.specs.Element.{Element, Free, Used, sizes, Chain, IsMerged, merged, free_size, size_for, rest_free}
 
+-- the sizes that an interval may have
 abbrev pub is_size : ℕ → Bool
 is_size n = n == 512 || n == 1024 || n == 2048 || n == 4096
 
@@ -14,6 +15,7 @@ kind_of bytes = slice_index bytes 0
 abbrev pub has_elements : ℕ → Bool
 has_elements kind = kind == 2 || kind == 3 || kind == 5
 
+-- these, control and sequential
 abbrev pub is_kind : ℕ → Bool
 is_kind kind = has_elements kind || kind == 1 || kind == 4
 
@@ -25,6 +27,7 @@ IsZero bytes from to = (k : ℕ) → from ≤ k → k < to → slice_index bytes
 abbrev pub Keeps : List ℕ → List ℕ → ℕ → ℕ → Type 0
 Keeps old new from to = (k : ℕ) → from ≤ k → k < to → slice_index new k ≡ slice_index old k
 
+-- as many bytes
 abbrev pub SameSize : List ℕ → List ℕ → Type 0
 SameSize old new = length new ≡ length old
 
@@ -46,6 +49,7 @@ pub record Tiles (bytes : List ℕ) (elements : List Element) : Type 0 where
   pub untiled : has_elements (kind_of bytes) ≡ false → elements ≡ []
   pub control : kind_of bytes ≡ 1 → IsZero bytes 64 (length bytes)
 
+-- the bytes are an interval
 pub record IsInterval (bytes : List ℕ) : Type 0 where
   pub elements : List Element
   pub tiles : Tiles bytes elements
@@ -74,7 +78,7 @@ pub record HasRoom (bytes : List ℕ) (at n : ℕ) : Type 0 where
   pub used : HasUsed bytes at segment content
   pub fits : n ≤ length content
 
--- the used element at `at` becomes these; all others stay
+-- the used element at `at` becomes what `next` makes of its segment type and content; all others stay
 abbrev pub UsedBecomes : List ℕ → List ℕ → ℕ → (ℕ → List ℕ → Element) → Type 0
 UsedBecomes old new at next =
     (before after : List Element) (segment : ℕ) (content : List ℕ) →
@@ -123,12 +127,13 @@ written bytes at these = take at bytes ++ these ++ drop (at + length these) byte
 abbrev pub EndsWithin : List ℕ → ℕ → ℕ → Type 0
 EndsWithin bytes at n = at + n ≤ length bytes
 
--- a new interval: its elements are one free one, every other byte behind the kind is 0
+-- what stands behind the head of a new interval: one free element, or zeros
 unfoldable pub empty_elements : ℕ → ℕ → List ℕ
 empty_elements size kind =
     if has_elements kind
     then (size - 32) / 256 ∷ (size - 32) % 256 ∷ replicate (size - 34) 0
     else replicate (size - 32) 0
 
+-- a new interval, whose head is zeros but for the kind
 unfoldable pub empty_bytes : ℕ → ℕ → List ℕ
 empty_bytes size kind = kind ∷ replicate 31 0 ++ empty_elements size kind

@@ -15,9 +15,9 @@ ghost use Rattle.ci_space.specs.Element.{Element, Free, Used};
 ghost use Rattle.ci_space.specs.Interval.{is_size, is_kind, kind_of, has_elements, IsInterval, IsEmpty, IsUsed, HasUsed, HasRoom, Tiles, Takes, IsFull, UsedBecomes, UsedIsFreed, OthersStay, Keeps, SameSize, EndsWithin, empty_bytes, written};
 ghost use Rattle.ci_space.specs.Head.{head_of, IsHeadOf, ends_of};
 
-use crate::elements;
 use crate::head::{self, Head};
-use std::alloc::{AllocError, Global};
+use crate::{Memory, elements};
+use std::alloc::Global;
 use std::marker::Model;
 
 /// An interval. Contracts see it as the list of its bytes.
@@ -61,7 +61,7 @@ impl Interval {
     /// The interval that these bytes are. None exactly where they are none: where they have another
     /// size or another kind, where a byte of the head that is to be 0 isn't, where elements don't tile
     /// a base or overflow interval, or where control has a byte other than 0 behind its numbers.
-    pub fn read(alloc: Global, bytes: &[u8]) -> Result<Option<Interval>, AllocError>
+    pub fn read(alloc: Global, bytes: &[u8]) -> Result<Option<Interval>, Memory>
         ensures some { IfOk result (λ read. IsSome read ↔ IsInterval bytes.now) }
         ensures same { IfOk result (λ read. IfSome read (λ interval. interval ≡ bytes.now)) }
     {
@@ -74,7 +74,7 @@ impl Interval {
 
     /// A new interval: one free element, or zeros behind the head of a control or sequential one. Its
     /// head is zeros but for the kind.
-    pub fn empty(alloc: Global, size: u16, kind: u8) -> Result<Interval, AllocError>
+    pub fn empty(alloc: Global, size: u16, kind: u8) -> Result<Interval, Memory>
         requires size { IsTrue (is_size size) }
         requires kind { IsTrue (is_kind kind) }
         ensures bytes { IfOk result (λ interval. interval ≡ empty_bytes size kind) }
@@ -104,7 +104,7 @@ impl Interval {
     }
 
     /// Another interval of the same bytes.
-    pub fn copied(&self, alloc: Global) -> Result<Interval, AllocError>
+    pub fn copied(&self, alloc: Global) -> Result<Interval, Memory>
         ensures same { IfOk result (λ interval. interval ≡ self.now) }
         ensures interval { IfOk result IsInterval }
     {

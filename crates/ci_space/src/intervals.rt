@@ -4,8 +4,7 @@ ghost use Rattle.std.specs.Prelude.{◌≡◌, ◌≢◌, ◌+◌, ◌*◌, ◌<
 ghost use Rattle.ci_space.specs.Interval.{IsInterval, is_size, empty_bytes};
 ghost use Rattle.ci_space.specs.Calls.{Rose, GoesOn, HaveSize};
 
-use crate::Interval;
-use std::alloc::AllocError;
+use crate::{Interval, Memory};
 
 /// Why a call on an area's intervals gives none.
 #[derive(Clone, Copy, Debug, PartialEq, Eq)]
@@ -83,7 +82,7 @@ pub trait Intervals {
         ensures goes_on { GoesOn told size faults keeps self.old self.new };
 
     /// Replaces the interval of this number.
-    fn put(&mut self, ci: u64, i: Interval) -> Result<(), AllocError>
+    fn put(&mut self, ci: u64, i: Interval) -> Result<(), Memory>
         requires in_range { ci < number self.old }
         requires size { length i ≡ size self.old }
         ensures ok { told self.old → OnOk result (intervals self.new ≡ slice_set (intervals self.old) ci i) }

@@ -16,7 +16,9 @@ pub use head::Head;
 pub use interval::Interval;
 pub use intervals::{GetFault, Intervals, Shape};
 pub use memory::MemoryIntervals;
-pub use std::alloc::AllocError as Memory;
+
+/// There is no memory.
+pub type Memory = std::alloc::AllocError;
 
 #[cfg(test)]
 mod tests;

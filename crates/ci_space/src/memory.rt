@@ -5,7 +5,7 @@ ghost use Rattle.ci_space.specs.Interval.{is_size, empty_bytes};
 ghost use Rattle.ci_space.specs.Calls.{HaveSize, HaveOneSize};
 
 use crate::head::INDEPENDENT;
-use crate::{GetFault, Interval, Intervals};
+use crate::{GetFault, Interval, Intervals, Memory};
 use std::alloc::{AllocError, Global};
 
 /// The intervals of an area in memory. It tells them.
@@ -24,7 +24,7 @@ pub struct MemoryIntervals {
 }
 
 impl MemoryIntervals {
-    ghost use Rattle.ci_space.specs.Memory.{intervals_of, faults_of};
+    ghost use Rattle.ci_space.specs.Memory.{intervals_of, failing_of, faults_of};
 
     /// These intervals, of which there is at least one, all of one size. The calls of `get` and
     /// `extend` with these numbers, counted together from 0, fail.
@@ -32,9 +32,10 @@ impl MemoryIntervals {
         alloc: Global,
         intervals: Vec<Interval>,
         failing: &[u64],
-    ) -> Result<MemoryIntervals, AllocError>
+    ) -> Result<MemoryIntervals, Memory>
         requires { HaveOneSize intervals.items }
         ensures intervals { IfOk result (λ memory. intervals_of memory ≡ intervals.items) }
+        ensures failing { IfOk result (λ memory. failing_of memory ≡ failing.now) }
         ensures faults { IfOk result (λ memory. faults_of memory ≡ 0) }
     {
         let failing = failing.to_vec(alloc)?;
@@ -72,7 +73,7 @@ fn is_to_fail(next_call: &mut u64, failing: &[u64]) -> bool {
 }
 
 /// Adds an empty interval of kind 5, where an area of one more ends at or before byte 2^62.
-fn add_empty(alloc: Global, intervals: &mut Vec<Interval>, size: u16) -> Result<(), AllocError>
+fn add_empty(alloc: Global, intervals: &mut Vec<Interval>, size: u16) -> Result<(), Memory>
     requires { IsTrue (is_size size) }
     ensures ok { OnOk result (intervals.new.items ≡ intervals.old.items ++ empty_bytes size 5 ∷ []) }
     ensures bound { OnOk result (vec_len intervals.new * size ≤ 2 ^ 62) }
@@ -123,7 +124,7 @@ impl Intervals for MemoryIntervals {
         }
     }
 
-    fn put(&mut self, ci: u64, i: Interval) -> Result<(), AllocError> {
+    fn put(&mut self, ci: u64, i: Interval) -> Result<(), Memory> {
         self.intervals[ci as usize] = i;
         Ok(())
     }
