@@ -1,0 +1,83 @@
+//! Writers of numbers, of texts behind their length, and of numbers behind their count.
+//!
+//! | Part | Bytes |
+//! |---|---|
+//! | number | 2, 4 or 8, the highest first |
+//! | short, long, part text | length 1, 2 or 4; bytes |
+//! | counted numbers | count 4; 8 each |
+//!
+//! Each appends to what is there. After want of memory some of it may have been appended, so who must not
+//! change anything then writes into bytes of its own first.
+ghost use Rattle.fp_model.specs.Spellings.{be16, be32, be64, short_text, long_text, part_text};
+ghost use Rattle.fp_model.specs.LogText.{notes_text};
+ghost use Rattle.std.specs.List.{flat_map};
+ghost use Rattle.std.specs.Prelude.{◌≡◌, ◌<◌, ◌^◌, ◌++◌, length, OnOk, OnErr};
+
+use fp_model::{Bytes, List};
+use std::alloc::AllocError;
+
+/// Appends a number in two bytes.
+#[tactic(auto, unfolding(fp_model::specs::Spellings::be16))]
+pub fn put_u16(into: &mut Bytes, n: u16) -> Result<(), AllocError>
+    ensures ok { OnOk result (into.new ≡ into.old ++ be16 n) }
+    ensures err { OnErr result (into.new ≡ into.old) }
+{
+    into.append(&n.to_be_bytes())
+}
+
+/// Appends a number in four bytes.
+#[tactic(auto, unfolding(fp_model::specs::Spellings::be32))]
+pub fn put_u32(into: &mut Bytes, n: u32) -> Result<(), AllocError>
+    ensures ok { OnOk result (into.new ≡ into.old ++ be32 n) }
+    ensures err { OnErr result (into.new ≡ into.old) }
+{
+    into.append(&n.to_be_bytes())
+}
+
+/// Appends a number in eight bytes.
+#[tactic(auto, unfolding(fp_model::specs::Spellings::be64))]
+pub fn put_u64(into: &mut Bytes, n: u64) -> Result<(), AllocError>
+    ensures ok { OnOk result (into.new ≡ into.old ++ be64 n) }
+    ensures err { OnErr result (into.new ≡ into.old) }
+{
+    into.append(&n.to_be_bytes())
+}
+
+/// Appends a text of at most 255 bytes behind its length in one byte.
+pub fn put_short(into: &mut Bytes, text: &Bytes) -> Result<(), AllocError>
+    requires { length text.now < 2 ^ 8 }
+    ensures ok { OnOk result (into.new ≡ into.old ++ short_text text.now) }
+{
+    into.push(text.len() as u8)?;
+    into.append(text.as_slice())
+}
+
+/// Appends a text of at most 65,535 bytes behind its length in two bytes.
+pub fn put_long(into: &mut Bytes, text: &Bytes) -> Result<(), AllocError>
+    requires { length text.now < 2 ^ 16 }
+    ensures ok { OnOk result (into.new ≡ into.old ++ long_text text.now) }
+{
+    put_u16(into, text.len() as u16)?;
+    into.append(text.as_slice())
+}
+
+/// Appends a text behind its length in four bytes.
+pub fn put_part(into: &mut Bytes, text: &Bytes) -> Result<(), AllocError>
+    requires { length text.now < 2 ^ 32 }
+    ensures ok { OnOk result (into.new ≡ into.old ++ part_text text.now) }
+{
+    put_u32(into, text.len() as u32)?;
+    into.append(text.as_slice())
+}
+
+/// Appends numbers of eight bytes each behind their count in four.
+pub fn put_numbers(into: &mut Bytes, numbers: &List<u64>) -> Result<(), AllocError>
+    requires { length numbers.now < 2 ^ 32 }
+    ensures ok { OnOk result (into.new ≡ into.old ++ notes_text numbers.now) }
+{
+    put_u32(into, numbers.len() as u32)?;
+    for number in numbers.as_slice() {
+        put_u64(into, *number)?;
+    }
+    Ok(())
+}
