@@ -1,6 +1,7 @@
 -- The laws of numbers and of texts behind their length.
 use Rattle.std.proofs.Common.{◌≡◌, ℕ, zero, suc, ◌^◌, ◌<◌, ◌≤◌, Bool, true, false, cond, ltb, List, [], ◌∷◌, ◌++◌, length, get_or, take, drop, Option, Some, None, refl, sym, ap, subst, ◌∙◌, append_assoc, arith}
 use Rattle.std.specs.Int.{Width, w16, w32, w64, byte_len, from_be_bytes, to_be_bytes}
+use Rattle.std.specs.List.{AllByRecursion}
 use Rattle.std.proofs.lemmas.Bool.{ltb-false, le-ltb}
 use Rattle.std.proofs.lemmas.List.{take_at, drop_at, take-append-drop, length-append, length-take}
 use Rattle.std.proofs.lemmas.Nat.{be_bytes_2, be_bytes_4, be_bytes_8, from_be_bytes-to_be_bytes_2, from_be_bytes-to_be_bytes_4, from_be_bytes-to_be_bytes_8}
@@ -17,10 +18,16 @@ byte_below [] all i = omega arith
 byte_below (b ∷ bytes) all zero = all.0
 byte_below (b ∷ bytes) all (suc i) = byte_below bytes all.1 i
 
--- numbers below 256 at each place are bytes
-pub from_places : (bytes : List ℕ) → ((i : ℕ) → get_or bytes i 0 < 256) → IsBytes bytes
-from_places [] h = tt
-from_places (b ∷ bytes) h = (h 0, from_places bytes (λ i. h (suc i)))
+-- what is below a limit at each place is so as a list
+pub from_places : (limit : ℕ) (ns : List ℕ) → ((i : ℕ) → get_or ns i 0 < limit) → AllByRecursion (λ n. n < limit) ns
+from_places limit [] h = tt
+from_places limit (n ∷ ns) h = (h 0, from_places limit ns (λ i. h (suc i)))
+
+-- one element more that has a property
+pub all_more : {X : Type 0} (P : X → Type 0) (xs : List X) (i : ℕ) (x : X) → i < length xs → x ≡ get_or xs i x → AllByRecursion P (take i xs) → P x → AllByRecursion P (take (suc i) xs)
+all_more P [] i x lt is all one = absurd (omega arith)
+all_more P (y ∷ ys) zero x lt is all one = (subst P is one, tt)
+all_more P (y ∷ ys) (suc i) x lt is all one = (all.0, all_more P ys i x (omega arith) is all.1 one)
 
 IsBytes-drop : (n : ℕ) (bytes : List ℕ) → IsBytes bytes → IsBytes (drop n bytes)
 IsBytes-drop zero bytes all = all

@@ -8,12 +8,13 @@
 //! | image | 2, set 2, interval 8, bytes, length 2 |
 //!
 //! The entry is put together in bytes of its own, so that want of memory leaves the target as it was.
-ghost use Rattle.fp_model.specs.LogText.{outcome_text, item_text, items_text, rest_text, entry_text, KeepsRules, FitsOutcome, FitsItem, FitsEntry};
+ghost use Rattle.fp_model.specs.LogText.{outcome_text, item_text, items_text, rest_text, entry_text, IsOutcome, FitsOutcome, IsItem, FitsItem, IsEntry, FitsEntry, HasSpelling, KeepsRules};
 ghost use Rattle.fp_model.specs.Spellings.{be16, be32, be64};
 ghost use Rattle.std.specs.List.{AllByRecursion};
-ghost use Rattle.std.specs.Prelude.{◌≡◌, ◌<◌, ◌^◌, ◌++◌, length, OnOk, OnErr};
+ghost use Rattle.std.specs.Prelude.{◌≡◌, ◌-◌, ◌<◌, ◌≤◌, ◌^◌, ◌++◌, drop, length, OnOk, OnErr};
 
 use crate::puts::{put_long, put_numbers, put_short, put_u16, put_u32, put_u64};
+use byteorder::{BigEndian, ByteOrder};
 use fp_model::{Bytes, Entry, Item, List, Outcome};
 use std::alloc::AllocError;
 
@@ -21,6 +22,7 @@ use std::alloc::AllocError;
 fn put_outcome(into: &mut Bytes, outcome: &Outcome) -> Result<(), AllocError>
     requires { FitsOutcome outcome.now }
     ensures ok { OnOk result (into.new ≡ into.old ++ outcome_text outcome.now) }
+    ensures is_outcome { OnOk result (IsOutcome outcome.now) }
 {
     match outcome {
         Outcome::Done => into.push(0),
@@ -60,6 +62,7 @@ fn put_outcome(into: &mut Bytes, outcome: &Outcome) -> Result<(), AllocError>
 fn put_item(into: &mut Bytes, item: &Item) -> Result<(), AllocError>
     requires { FitsItem item.now }
     ensures ok { OnOk result (into.new ≡ into.old ++ item_text item.now) }
+    ensures is_item { OnOk result (IsItem item.now) }
 {
     match item {
         Item::Segment { msdb, key, bytes } => {
@@ -81,6 +84,7 @@ fn put_items(into: &mut Bytes, items: &List<Item>) -> Result<(), AllocError>
     requires count { length items.now < 2 ^ 32 }
     requires each { AllByRecursion FitsItem items.now }
     ensures ok { OnOk result (into.new ≡ into.old ++ items_text items.now) }
+    ensures are_items { OnOk result (AllByRecursion IsItem items.now) }
 {
     put_u32(into, items.len() as u32)?;
     for item in items.as_slice() {
@@ -93,6 +97,7 @@ fn put_items(into: &mut Bytes, items: &List<Item>) -> Result<(), AllocError>
 fn put_rest(into: &mut Bytes, e: &Entry) -> Result<(), AllocError>
     requires { FitsEntry e.now }
     ensures ok { OnOk result (into.new ≡ into.old ++ rest_text e.now) }
+    ensures is_entry { OnOk result (IsEntry e.now) }
 {
     put_u64(into, e.from)?;
     put_outcome(into, &e.outcome)?;
@@ -102,17 +107,51 @@ fn put_rest(into: &mut Bytes, e: &Entry) -> Result<(), AllocError>
     put_items(into, &e.items)
 }
 
+/// How many bytes an item has in the log.
+fn item_room(item: &Item) -> usize {
+    match item {
+        Item::Segment { key, bytes, .. } => key.len().saturating_add(bytes.len()).saturating_add(5),
+        Item::Image { bytes, .. } => bytes.len().saturating_add(13),
+    }
+}
+
+/// About as many bytes as an entry has in the log, so that its text is allocated once.
+fn room_for(e: &Entry) -> usize {
+    let mut room = e.line.len().saturating_add(e.reply.len());
+    room = room.saturating_add(e.notes.len().saturating_mul(8));
+    for item in e.items.as_slice() {
+        room = room.saturating_add(item_room(item));
+    }
+    room.saturating_add(64)
+}
+
+/// Puts the length of the rest into the eight bytes in front.
+#[tactic(auto, unfolding(fp_model::specs::Spellings::be64))]
+fn set_length(text: &mut [u8])
+    requires { 8 ≤ length text.old }
+    ensures { text.new ≡ be64 (length text.old - 8) ++ drop 8 text.old }
+{
+    let rest = (text.len() - 8) as u64;
+    BigEndian::write_u64(text, rest);
+}
+
 /// Appends the one spelling of an entry.
 pub fn put_entry(into: &mut Bytes, e: &Entry) -> Result<(), AllocError>
     requires rules { KeepsRules e.now }
     requires fits { FitsEntry e.now }
+
     ensures ok { OnOk result (into.new ≡ into.old ++ entry_text e.now) }
+    ensures spelled { OnOk result (HasSpelling e.now) }
+
+    // Want of memory changes nothing.
     ensures err { OnErr result (into.new ≡ into.old) }
 {
-    let mut rest = Bytes::from_vec(e.notes.empty_like().into_vec());
-    put_rest(&mut rest, e)?;
-    let mut text = Bytes::from_vec(e.notes.empty_like().into_vec());
-    put_u64(&mut text, rest.len() as u64)?;
-    text.append(rest.as_slice())?;
-    into.append(text.as_slice())
+    let empty: List<u8> = e.notes.empty_like();
+    let empty = empty.into_vec();
+    let mut text = Bytes::from_vec(Vec::with_capacity(*empty.allocator(), room_for(e))?);
+    text.append(&[0; 8])?;
+    put_rest(&mut text, e)?;
+    let mut text = text.into_vec();
+    set_length(&mut text);
+    into.append(&text)
 }

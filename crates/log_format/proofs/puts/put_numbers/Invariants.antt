@@ -5,4 +5,4 @@ use Rattle.log_format.proofs.puts.put_numbers.Given as goal
 
 -- what was there, the count, and the numbers so far
 abbrev pub invariant-loop-number : goal.invariant-loop-number
-invariant-loop-number l = l.into ≡ l.fn.into ++ (be32 (length l.numbers) ++ flat_map be64 (take l.number-index l.number-items))
+invariant-loop-number l = l.into ≡ l.fn.into ++ (be32 (length l.numbers) ++ flat_map be64 (take l.number-index l.items))

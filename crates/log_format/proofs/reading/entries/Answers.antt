@@ -5,7 +5,7 @@ use Rattle.log_format.proofs.reading.entries.Goals as goal
 
 pub loop-rest-init : goal.loop-rest-init
 loop-rest-init c = record {
-  bytes = from_places c.args.bytes.now (λ i. omega (arith, c.type_inv.bytes i));
+  bytes = from_places 256 c.args.bytes.now (λ i. omega (arith, c.type_inv.bytes i));
   read = search rules;
   parts = search rules;
 }
