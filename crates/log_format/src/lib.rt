@@ -20,3 +20,6 @@ pub use takes::{
     byte_of, long_of, numbers_of, part_of, part_text_of, short_of, u16_of, u32_of, u64_of,
 };
 pub use writing::put_entry;
+
+#[cfg(test)]
+mod tests;
