@@ -105,7 +105,7 @@ bad whole found rest place read parts none some is = record {
   rest = rest;
   each = read;
   text = parts;
-  length = omega (arith, is, ap length parts, length-append (body_text found) rest);
+  is_place = omega (arith, is, ap length parts, length-append (body_text found) rest);
   some = some;
   none = none_begins rest none;
 }
@@ -123,7 +123,7 @@ not_bad whole place es b is = stops t.0 t.2 t.3
 
 -- there is one such place
 pub one_place : (whole : List ℕ) (place place2 : ℕ) → IsFirstBad whole place → IsFirstBad whole place2 → place ≡ place2
-one_place whole place place2 a b = a.length ∙ ap length (alike a.before b.before a.each b.each (sym a.text ∙ b.text)) ∙ sym b.length
+one_place whole place place2 a b = a.is_place ∙ ap length (alike a.before b.before a.each b.each (sym a.text ∙ b.text)) ∙ sym b.is_place
   where
     alike : (es fs : List Entry) → AllByRecursion HasSpelling es → AllByRecursion HasSpelling fs → body_text es ++ a.rest ≡ body_text fs ++ b.rest → body_text es ≡ body_text fs
     alike [] [] he hf h = refl

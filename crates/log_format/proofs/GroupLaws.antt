@@ -1,5 +1,5 @@
 -- The laws of groups: bytes begin with at most one group, a log reads in one way, and what is damage.
-use Rattle.std.proofs.Common.{◌≡◌, ◌≢◌, ℕ, ◌+◌, ◌<◌, ◌^◌, List, [], ◌∷◌, ◌++◌, length, drop, get_or, Option, Some, refl, sym, ap, ◌∙◌, append_assoc, arith}
+use Rattle.std.proofs.Common.{◌≡◌, ◌≢◌, ℕ, ◌+◌, ◌<◌, ◌^◌, List, [], ◌∷◌, ◌++◌, length, drop, get_or, Option, Some, refl, sym, ap, subst, ◌∙◌, append_assoc, arith}
 use Rattle.std.specs.Prelude.{slice_index}
 use Rattle.std.specs.Int.{w64}
 use Rattle.std.specs.List.{AllByRecursion}
@@ -9,6 +9,7 @@ use Rattle.fp_model.specs.declared.log.Entry.{Entry}
 use Rattle.fp_model.specs.Spellings.{be64}
 use Rattle.fp_model.specs.LogText.{entry_text, body_text, group_text, groups_text}
 use Rattle.fp_model.specs.Groups.{IsGroup, IsBody, HoldsGroups, IsDamaged, LogReading, Groups, Damage, Reads}
+use Rattle.log_format.specs.Faults.{Spells}
 use Rattle.log_format.specs.Reading.{number_at, part_at}
 use Rattle.log_format.proofs.Fields.{law64, length-be64, part_again}
 use Rattle.log_format.proofs.Bodies.{one_body, entry-some}
@@ -158,3 +159,13 @@ no_length bytes at rest text short = record {
 pub no_bytes : (entries : List Entry) → IsBody [] entries → ⊥
 no_bytes [] body = omega (arith, body.0.some)
 no_bytes (e ∷ entries) body = omega (arith, ap length (body.1 ∙ flat_map-cons entry_text e entries), entry-some e (body_text entries))
+
+-- some entries, one after another, are a body
+pub some_body : (bytes : List ℕ) (entries : List Entry) → Spells bytes entries → bytes ≢ [] → length bytes < 2 ^ 64 → IsBody bytes entries
+some_body bytes [] spells some fits = absurd (some spells.text)
+some_body bytes (e ∷ entries) spells some fits =
+    (record { some = omega arith; each = spells.each; fits = subst (λ (t : List ℕ). length t < 2 ^ 64) spells.text fits }, spells.text)
+
+-- a body is entries, one after another
+pub body_spells : (bytes : List ℕ) (entries : List Entry) → IsBody bytes entries → Spells bytes entries
+body_spells bytes entries body = record { each = body.0.each; text = body.1 }

@@ -1,5 +1,5 @@
 -- The law of elements behind their count.
-use Rattle.std.proofs.Common.{◌≡◌, ℕ, zero, suc, ◌^◌, ◌<◌, List, [], ◌∷◌, ◌++◌, length, Option, Some, refl, ap, subst, ◌∙◌, append_assoc, arith}
+use Rattle.std.proofs.Common.{◌≡◌, ℕ, zero, suc, ◌^◌, ◌<◌, List, [], ◌∷◌, ◌++◌, length, get_or, Option, Some, refl, sym, ap, subst, ◌∙◌, append_assoc, arith}
 use Rattle.std.specs.List.{flat_map, AllByRecursion}
 use Rattle.std.proofs.lemmas.List.Concat.{flat_map-cons}
 use Rattle.fp_model.specs.Spellings.{be32}
@@ -43,3 +43,9 @@ module _ (X : Type 0) (text : X → List ℕ) (at : List ℕ → Option (X × Li
         let regrouped : (be32 (length xs) ++ flat_map text xs) ++ rest ≡ be32 (length xs) ++ (flat_map text xs ++ rest) = append_assoc (be32 (length xs)) (flat_map text xs) rest in
         ap (counted_at at) regrouped ∙ rw (law32.again (length xs) (flat_map text xs ++ rest) fits.0) (many_again xs rest fits.1);
   }
+
+-- an element has what all have
+pub element : {X : Type 0} (P : X → Type 0) (xs : List X) (i : ℕ) (x : X) → i < length xs → x ≡ get_or xs i x → AllByRecursion P xs → P x
+element P [] i x lt is all = absurd (omega arith)
+element P (y ∷ ys) zero x lt is all = subst P (sym is) all.0
+element P (y ∷ ys) (suc i) x lt is all = element P ys i x (omega arith) is all.1

@@ -17,7 +17,7 @@ pub record IsFirstBad (bytes : List ℕ) (place : ℕ) : Type 0 where
   pub rest : List ℕ
   pub each : AllByRecursion HasSpelling before
   pub text : bytes ≡ body_text before ++ rest
-  pub length : place ≡ length (body_text before)
+  pub is_place : place ≡ length (body_text before)
   pub some : rest ≢ []
   pub none : (e : Entry) (more : List ℕ) → HasSpelling e → rest ≢ entry_text e ++ more
 

@@ -60,6 +60,12 @@ pub fn the_first_bad_place_is_one()
     ensures one { (bytes : List ℕ) (place place2 : ℕ) → IsFirstBad bytes place → IsFirstBad bytes place2 → place ≡ place2 }
 {}
 
+/// A body is some entries one after another, in fewer than 2^64 bytes.
+pub fn a_body_is_some_entries()
+    ensures made { (bytes : List ℕ) (entries : List Entry) → Spells bytes entries → bytes ≢ [] → length bytes < 2 ^ 64 → IsBody bytes entries }
+    ensures spelled { (bytes : List ℕ) (entries : List Entry) → IsBody bytes entries → Spells bytes entries }
+{}
+
 /// Bytes begin with at most one group.
 pub fn no_group_begins_another()
     ensures { (entries found : List Entry) (more rest : List ℕ)

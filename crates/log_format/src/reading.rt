@@ -234,7 +234,7 @@ pub fn entries(alloc: Global, bytes: &[u8]) -> Result<List<Entry>, FormatFault>
     // What is spelled so is read, unless memory runs out.
     ensures only { (es : ListOf EntryOf) → Spells bytes.now es → IsReadAs result es }
     // The place is that of the first bytes that are no entry.
-    ensures err { IfErr result (IsCause bytes.now) }
+    ensures cause { IfErr result (IsCause bytes.now) }
 {
     let mut found = List::new(alloc);
     let mut rest = bytes;

@@ -21,8 +21,8 @@ loop-rest-preserved c =
     rw c.in_ok-push-in-Ok.ensures.ok (record { bytes = g.bytes; read = g.read; parts = g.parts })
 
 -- where no entry begins
-pub returns-in-Err-Bad-clause-err : goal.returns-in-Err-Bad-clause-err
-returns-in-Err-Bad-clause-err c = bad c.args.bytes.now c.loop-rest.found c.loop-rest.rest.now _ c.loop-rest.invariant.read c.loop-rest.invariant.parts (rw c.in-Err-Bad.field-0-is at c.in-Err-Bad.ensures) (some_bytes c.loop-rest.rest.now (search rules)) refl
+pub returns-in-Err-Bad-clause-cause : goal.returns-in-Err-Bad-clause-cause
+returns-in-Err-Bad-clause-cause c = bad c.args.bytes.now c.loop-rest.found c.loop-rest.rest.now _ c.loop-rest.invariant.read c.loop-rest.invariant.parts (rw c.in-Err-Bad.field-0-is at c.in-Err-Bad.ensures) (some_bytes c.loop-rest.rest.now (search rules)) refl
 
 pub returns-in-Err-Bad-clause-only : goal.returns-in-Err-Bad-clause-only
 returns-in-Err-Bad-clause-only c es is =
