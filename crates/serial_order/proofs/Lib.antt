@@ -1,0 +1,14 @@
+pub mod Lists
+pub mod Locks
+pub mod Waits
+pub mod Plays
+pub mod Kept
+pub mod Turns
+pub mod Replies
+pub mod Covers
+pub mod Needs
+pub mod Forms
+pub mod Changes
+pub mod Settling
+pub mod Queue
+pub mod ProductLaws
