@@ -58,36 +58,36 @@ part_taken block part at end taken by_newline le e it =
     let reach = part_reaches part (take (end - at) (drop at block)) _ by_newline it in
     let l : length (take (end - at) (drop at block)) ≡ min (end - at) (length (drop at block)) = length-take (end - at) (drop at block) in
     let later : drop (length part + (if by_newline then 1 else 0)) (take (end - at) (drop at block))
-            ≡ take (end - (at + (length part + (if by_newline then 1 else 0)))) (drop (at + (length part + (if by_newline then 1 else 0))) block)
-        = window_later block at end (length part + (if by_newline then 1 else 0)) (omega arith) in
+    ≡ take (end - (at + (length part + (if by_newline then 1 else 0)))) (drop (at + (length part + (if by_newline then 1 else 0))) block)
+    = window_later block at end (length part + (if by_newline then 1 else 0)) (omega arith) in
     rw (e, ← later) it
 
 -- more than 2,100 bytes before a newline, of which some were taken earlier
 pub long_joined : (line part whole rest : List ℕ) (by_newline : Bool) → HasNoNewline line → IsFirstPart part by_newline whole rest
     → 2100 < length line + length part → HasLongLine (line ++ whole)
 long_joined line part whole rest true plain it long = record {
-    front = line ++ part;
-    rest = 10 ∷ rest;
-    splits = rw (it.up_to refl) (sym (append_assoc line part (10 ∷ rest)));
-    plain = plain_append line part plain it.plain;
-    long = rw length-append long;
+  front = line ++ part;
+  rest = 10 ∷ rest;
+  splits = rw (it.up_to refl) (sym (append_assoc line part (10 ∷ rest)));
+  plain = plain_append line part plain it.plain;
+  long = rw length-append long;
 }
 long_joined line part whole rest false plain it long = record {
-    front = line ++ part;
-    rest = [];
-    splits = rw (it.all refl) (sym (append-nil (line ++ part)));
-    plain = plain_append line part plain it.plain;
-    long = rw length-append long;
+  front = line ++ part;
+  rest = [];
+  splits = rw (it.all refl) (sym (append-nil (line ++ part)));
+  plain = plain_append line part plain it.plain;
+  long = rw length-append long;
 }
 
 -- more bytes behind do not make it shorter
 pub long_extended : (bytes more : List ℕ) → HasLongLine bytes → HasLongLine (bytes ++ more)
 long_extended bytes more it = record {
-    front = it.front;
-    rest = it.rest ++ more;
-    splits = ap (λ xs. xs ++ more) it.splits ∙ append_assoc it.front it.rest more;
-    plain = it.plain;
-    long = it.long;
+  front = it.front;
+  rest = it.rest ++ more;
+  splits = ap (λ xs. xs ++ more) it.splits ∙ append_assoc it.front it.rest more;
+  plain = it.plain;
+  long = it.long;
 }
 
 -- a truth value as a number

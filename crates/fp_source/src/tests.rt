@@ -1,5 +1,5 @@
 //! What no clause says, and each public call once.
-use crate::{whole, Failed, LineFault, Lines, MemorySource, Part, Source, WholeFault};
+use crate::{Failed, LineFault, Lines, MemorySource, Part, Source, WholeFault, whole};
 use fp_lists::Bytes;
 use std::alloc::Global;
 use std::test::Fail;

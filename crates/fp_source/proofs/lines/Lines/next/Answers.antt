@@ -36,7 +36,7 @@ returns-in_err-by_newline-clause-too_long g c = λ t n e.
 -- what the bytes ahead begin with
 begins : (g : Over) (c : goal.After-finished g) → g.S.Source.told c.args.source.now
     → Begins (to_come c.args.self.now (g.S.Source.left c.args.source.now Messages)) c.gather.new.line.items
-        (to_come c.gather.new.self (g.S.Source.left c.gather.new.source Messages)) c.in_ok-by_newline.by_newline
+    (to_come c.gather.new.self (g.S.Source.left c.gather.new.source Messages)) c.in_ok-by_newline.by_newline
 begins g c t =
     let left : List ℕ = g.S.Source.left c.fill.new.source Messages in
     let now : to_come c.fill.new.self left ≡ to_come c.args.self.now (g.S.Source.left c.args.source.now Messages) = c.in_ok-fill.ensures.same t in
@@ -44,11 +44,11 @@ begins g c t =
     let told = c.in_ok-fill.ensures.source.stays_told t in
     let it = c.in_ok-by_newline.ensures in
     record {
-        some = rw (← now) (omega (arith, length-append (buffered c.fill.new.self) left));
-        plain = it.plain;
-        up_to = λ by. rw (← now) (it.by_newline told by);
-        all = λ by. rw (← now) (it.at_end told by);
-        nothing = λ by. it.ended told by;
+      some = rw (← now) (omega (arith, length-append (buffered c.fill.new.self) left));
+      plain = it.plain;
+      up_to = λ by. rw (← now) (it.by_newline told by);
+      all = λ by. rw (← now) (it.at_end told by);
+      nothing = λ by. it.ended told by;
     }
 
 pub returns-clause-line : goal.returns-clause-line

@@ -10,7 +10,8 @@ returns-then-part-len-clause-too_long c = λ n e.
 pub returns-clause-part : goal.returns-clause-part
 returns-clause-part c =
     let it = rw c.deref.ensures.value at c.first_part-by_newline.ensures in
-    let self = c.args.self.now in
-    (c.first_part-by_newline.result.0.now,
-     part_taken self.block.items c.first_part-by_newline.result.0.now self.at self.end c.from.result c.first_part-by_newline.result.1 (omega arith) (c.from.ensures ∙ as_number c.first_part-by_newline.result.1) it,
-     c.in_ok-extend_from_slice.ensures.items)
+    let self = c.args.self.now in (
+      c.first_part-by_newline.result.0.now,
+      part_taken self.block.items c.first_part-by_newline.result.0.now self.at self.end c.from.result c.first_part-by_newline.result.1 (omega arith) (c.from.ensures ∙ as_number c.first_part-by_newline.result.1) it,
+      c.in_ok-extend_from_slice.ensures.items,
+    )
