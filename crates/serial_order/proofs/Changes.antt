@@ -25,6 +25,7 @@ use Rattle.serial_order.proofs.Lists.{eqb_same, true_is_not_false, some_is, none
 
 -- ---- elements at a place
 
+-- a write leaves the other places
 pub get_set_other : {X : Type 0} (xs : List X) (r s : ℕ) (a : X) → ¬ (s ≡ r) → slice_get (slice_set xs r a) s ≡ slice_get xs s
 get_set_other [] r s a ne = refl
 get_set_other (x ∷ xs) zero zero a ne = absurd (ne refl)
@@ -32,6 +33,7 @@ get_set_other (x ∷ xs) zero (suc s) a ne = refl
 get_set_other (x ∷ xs) (suc r) zero a ne = refl
 get_set_other (x ∷ xs) (suc r) (suc s) a ne = get_set_other xs r s a (λ e. ne (ap (λ (n : ℕ). suc n) e))
 
+-- and puts its value at its own
 pub get_set_same : {X : Type 0} (xs : List X) (r : ℕ) (a x : X) → slice_get xs r ≡ Some x → slice_get (slice_set xs r a) r ≡ Some a
 get_set_same [] r a x e = absurd (none_is_not_some x e)
 get_set_same (y ∷ ys) zero a x e = refl
@@ -66,6 +68,7 @@ module _ (dedb anchor : ℕ) where
   roots_with_roots c db ne = roots_with_dedb c.dedb (λ d. record d { anchors = slice_set d.anchors c.anchor c.roots }) db
       (λ d same. ap (λ (o : Option (List Root)). unwrap_or o []) (get_set_other d.anchors c.anchor anchor c.roots (λ e. ne (ap (λ (n : ℕ). Anchor n c.anchor) (sym same) ∙ ap (λ (n : ℕ). Anchor dedb n) (sym e)))))
 
+  -- all changed anchors
   pub roots_with_anchors : (cs : List AnchorChange) (db : Db) → AllByRecursion (λ (c : AnchorChange). ¬ (Anchor c.dedb c.anchor ≡ Anchor dedb anchor)) cs → roots_at (with_anchors cs db) dedb anchor ≡ roots_at db dedb anchor
   roots_with_anchors [] db h = refl
   roots_with_anchors (c ∷ cs) db h = roots_with_anchors cs (with_roots c.dedb c.anchor c.roots db) h.1 ∙ roots_with_roots c db h.0
@@ -87,6 +90,7 @@ module _ (dedb anchor : ℕ) where
       at None = refl
       at (Some area) = roots_with_ends area (record (ends_at db area) { end = (ends_at db area).end + 1 }) (with_dependent defs i (record { serial = (ends_at db area).end; bytes = i.bytes }) db) ∙ dependent (record { serial = (ends_at db area).end; bytes = i.bytes })
 
+  -- all sequential inserts
   pub roots_with_inserts : (defs : Defs) (is : List SeqInsert) (db : Db) → AllByRecursion (λ (i : SeqInsert). ¬ (Anchor i.dedb i.anchor ≡ Anchor dedb anchor)) is → roots_at (with_inserts defs is db) dedb anchor ≡ roots_at db dedb anchor
   roots_with_inserts defs [] db h = refl
   roots_with_inserts defs (i ∷ is) db h = roots_with_inserts defs is (with_insert defs db i) h.1 ∙ roots_with_insert defs db i h.0

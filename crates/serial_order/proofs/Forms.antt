@@ -39,35 +39,42 @@ module _ (defs : Defs) where
   WayIsFair (Leaves env) = Unit {0}
   WayIsFair (Ends end) = EndIsFair end
 
+  -- a part that is fair whatever it begins with
   abbrev IsFair : (Env → Way) → Type 0
   IsFair part = (env : Env) → WayIsFair (part env)
 
   -- ---- parts together
 
+  -- one part behind another
   goes_on-fair : (way : Way) (part : Env → Way) → WayIsFair way → IsFair part → WayIsFair (goes_on way part)
   goes_on-fair (Goes env) part w p = p env
   goes_on-fair (Leaves env) part w p = tt
   goes_on-fair (Ends end) part w p = w
 
+  -- a loop that goes on
   loops_on-fair : (way : Way) (part : Env → Way) → WayIsFair way → IsFair part → WayIsFair (loops_on way part)
   loops_on-fair (Goes env) part w p = p env
   loops_on-fair (Leaves env) part w p = tt
   loops_on-fair (Ends end) part w p = w
 
+  -- a whole loop
   times-fair : (n : ℕ) (body : Env → Way) → IsFair body → IsFair (times n body)
   times-fair zero body h env = tt
   times-fair (suc n) body h env = loops_on-fair (body env) (times n body) (h env) (times-fair n body h)
 
+  -- a value that there may be
   or_rolls-fair : {A : Type 0} (o : Option A) (f : A → Way) → ((x : A) → o ≡ Some x → WayIsFair (f x)) → WayIsFair (or_rolls o f)
   or_rolls-fair None f h = tt
   or_rolls-fair (Some x) f h = h x refl
 
+  -- a call
   called-fair : (c : Call) (env : Env) (answers : List Answer) → env.answers ≡ answers → is_call defs c ≡ true → WayIsFair (called c env)
   called-fair c env [] e h = rw e h
   called-fair c env (answer ∷ rest) e h = rw e tt
 
   -- ---- whole keys
 
+  -- a padded text is as long as its field
   padded_whole : (n : ℕ) (text : List ℕ) → nat_le n (length (padded n text)) ≡ true
   padded_whole n text =
       let blanks : List ℕ = replicate (n - length text) 32 in
@@ -75,6 +82,7 @@ module _ (defs : Defs) where
       let b : length blanks ≡ n - length text = length-replicate (n - length text) 32 in
       grind (arith, common_steps, a, b)
 
+  -- and so is one that fits
   fitted_whole : (n : ℕ) (text key : List ℕ) → fitted n text ≡ Some key → nat_le n (length key) ≡ true
   fitted_whole n text key e = either (nat_le (length text) n) e
     where
@@ -105,14 +113,17 @@ module _ (defs : Defs) where
 
   -- ---- statements
 
+  -- what a function makes of a value that there may be
   mapped : {A B : Type 0} (f : A → B) (o : Option A) (y : B) → option_map f o ≡ Some y → (x : A) × (f x ≡ y)
   mapped f None y e = absurd (none_is_not_some y e)
   mapped f (Some x) y e = (x, some_is (f x) y e)
 
   module _ (message : Message) where
+    -- GU, GN, GNP and their holds
     get_fair : (env : Env) (g : GetKind) (hold : Bool) (db : ℕ) (ssas : List SsaText) (c : Call) → get_call defs message env (call.Get g hold db) db ssas ≡ Some c → is_call defs c ≡ true
     get_fair env g hold db ssas c e = let of = mapped (call.Get g hold db) (ssas_of defs message env db ssas) c e in subst (λ (q : Call). is_call defs q ≡ true) of.1 refl
 
+    -- ISRT
     isrt_fair : (env : Env) (db : ℕ) (ssas : List SsaText) (fields : List FieldText) (c : Call) → isrt_call defs message env db ssas fields ≡ Some c → is_call defs c ≡ true
     isrt_fair env db ssas fields c e =
         let found = behind (ssas_of defs message env db ssas) _ c e in
@@ -121,6 +132,7 @@ module _ (defs : Defs) where
         let bytes = behind (filled defs message env layout.0.fields fields segment.0) _ c segment.1.1 in
         subst (λ (q : Call). is_call defs q ≡ true) (some_is (call.Isrt db found.0 bytes.0) c bytes.1.1) refl
 
+    -- REPL
     repl_fair : (env : Env) (db : ℕ) (fields : List FieldText) (c : Call) → repl_call defs message env db fields ≡ Some c → is_call defs c ≡ true
     repl_fair env db fields c e =
         let shown = behind (shown_on db env) _ c e in
@@ -128,19 +140,23 @@ module _ (defs : Defs) where
         let bytes = behind (filled defs message env layout.0.fields fields shown.0.bytes) _ c layout.1.1 in
         subst (λ (q : Call). is_call defs q ≡ true) (some_is (call.Repl db bytes.0) c bytes.1.1) refl
 
+    -- a call that there may be
     asked-fair : (o : Option Call) (env : Env) → ((c : Call) → o ≡ Some c → is_call defs c ≡ true) → WayIsFair (or_rolls o (λ c. called c env))
     asked-fair o env h = or_rolls-fair o (λ c. called c env) (λ c e. called-fair c env env.answers refl (h c e))
 
     -- ---- statements
 
+    -- a block of statements
     block-fair : (ss : List ((s : Statement) × IsFair (run defs message s))) → IsFair (in_order (map (run defs message) (map (λ e. e.0) ss)))
     block-fair [] env = tt
     block-fair (s ∷ ss) env = goes_on-fair (run defs message s.0 env) _ (s.1 env) (block-fair ss)
 
+    -- one of two blocks
     choice-fair : (b : Bool) (x y : Env → Way) → IsFair x → IsFair y → IsFair (if b then x else y)
     choice-fair true x y h g = h
     choice-fair false x y h g = g
 
+    -- one statement, over the runs of those in it
     step-fair : (y : Statement-F ((s : Statement) × IsFair (run defs message s))) → IsFair (run_step defs message (map-Statement _ _ (run defs message) (map-Statement _ _ (λ e. e.0) y)))
     step-fair (Set variable first rest) env = or_rolls-fair (set_text defs message env first rest) _ (λ text e. tt)
     step-fair (If left comparison right taken otherwise) env =
@@ -157,25 +173,31 @@ module _ (defs : Defs) where
     step-fair (Repl db fields) env = asked-fair (repl_call defs message env db fields) env (repl_fair env db fields)
     step-fair (Dlet db) env = called-fair (call.Dlet db) env env.answers refl refl
 
+    -- a statement from its parts
     rolled-fair : (x : Statement-F Statement) → IsFair (run_step defs message (map-Statement _ _ (run defs message) x)) → IsFair (run defs message (roll-Statement x))
     rolled-fair x h = rw (fold-roll-Statement (Env → Way) (run_step defs message) x) h
 
+    -- every statement
     statement-fair : (s : Statement) → IsFair (run defs message s)
     statement-fair = ind-Statement (λ s. IsFair (run defs message s)) (λ x y is. rolled-fair x (subst (λ z. IsFair (run_step defs message (map-Statement _ _ (run defs message) z))) is (step-fair y)))
 
+    -- every script
     script-fair : (ss : List Statement) → IsFair (in_order (map (run defs message) ss))
     script-fair [] env = tt
     script-fair (s ∷ ss) env = goes_on-fair (run defs message s env) _ (statement-fair s env) (script-fair ss)
 
+    -- what a script comes to
     ended-fair : (way : Way) → WayIsFair way → EndIsFair (ended way)
     ended-fair (Goes env) h = tt
     ended-fair (Leaves env) h = tt
     ended-fair (Ends end) h = h
 
+    -- what a script asks
     asks-fair : (statements : List Statement) (answers : List Answer) → EndIsFair (ask defs statements message answers)
     unfolding ask
     asks-fair statements answers = ended-fair (in_order (map (run defs message) statements) (at_top answers)) (script-fair statements (at_top answers))
 
+    -- the script of a name
     by_script : (o : Option Script) (answers : List Answer) → EndIsFair (option_map_or (λ script. ask defs script.statements message answers) o (Replies []))
     by_script None answers = tt
     by_script (Some script) answers = asks-fair script.statements answers

@@ -26,9 +26,11 @@ use Rattle.serial_order.proofs.Plays.{call_comes_to}
 
 -- ---- regions
 
+-- an active region has one transaction
 is_transaction : (t u : Transaction) → Active t ≡ Active u → t ≡ u
 is_transaction t u e = cc
 
+-- and is not idle
 pub not_idle : (t : Transaction) → ¬ (Active t ≡ Idle)
 not_idle t e = cc
 
@@ -43,12 +45,14 @@ region_cases m m2 place (suc q) r x put stands = elim (put_cases m.regions place
 
 -- ---- what is relied on
 
+-- all that is held Exclusive is, where more is
 held_all : (held more : Resource → Option Mode) (claims : List Resource) → ((resource : Resource) → IsExclusive held resource → IsExclusive more resource)
     → AllByRecursion (IsExclusive held) claims → AllByRecursion (IsExclusive more) claims
 held_all held more [] up h = h
 held_all held more (c ∷ cs) up h = (up c h.0, held_all held more cs up h.1)
 
 module _ (rules : Rules) (view : View) where
+  -- what is relied on is held, where more is
   covered_by : (own : _) (held more : Resource → Option Mode) → ((resource : Resource) → IsExclusive held resource → IsExclusive more resource) → IsCovered view own held → IsCovered view own more
   covered_by own held more up c = record { is_own = c.is_own; holds = held_all held more (view.claims own) up c.holds }
 
@@ -95,6 +99,7 @@ module _ (rules : Rules) (view : View) where
     ];
   }
 
+  -- a region begins
   pub begins_kept : Laws rules view → (m : Machine) (place : ℕ) (message : Message) → Kept rules view m → IsRequest rules message
       → Kept rules view (with_region (suc place) (Active (transaction_of rules m message)) m)
   begins_kept laws m place message k is = put_kept m place (transaction_of rules m message) k (record {
@@ -105,10 +110,12 @@ module _ (rules : Rules) (view : View) where
     covered = laws.begins (held_as m.locks (suc place));
   })
 
+  -- a note of this place
   noted_in_order : (from : ℕ) (notes : List ℕ) (place : ℕ) (b : Bool) → NeverFalls from notes place → NeverFalls from (noted rules b notes place) place
   noted_in_order from notes place true h = never_falls_with from notes place h
   noted_in_order from notes place false h = h
 
+  -- a call is answered
   pub answers_kept : Laws rules view → (m : Machine) (place : ℕ) (t : Transaction) (call : Call) → Kept rules view m → GoesOn rules view m.past m.now (held_as m.locks (suc place)) t
       → rules.ask t.message t.part.answers ≡ Asks call → rules.need m.now t.part.own (held_as m.locks (suc place)) call ≡ None
       → Kept rules view (with_region (suc place) (Active (with_answer rules m t call)) m)
@@ -138,6 +145,7 @@ module _ (rules : Rules) (view : View) where
     covered = covered_by t.part.own held more ex g.covered;
   }
 
+  -- a lock is gained
   pub gains_kept : (m : Machine) (l : Lock) → Kept rules view m → is_blocked m.locks l ≡ false → ¬ (held_as m.locks l.region l.resource ≡ Some Exclusive)
       → Kept rules view (record m { locks = l ∷ m.locks; requests = without_region l.region m.requests })
   gains_kept m l k free new = record {
@@ -148,6 +156,7 @@ module _ (rules : Rules) (view : View) where
     no_cycle = gained_waits l m.requests m.locks k.no_cycle;
   }
 
+  -- a request stands, and closes no cycle
   pub waits_kept : (m : Machine) (l : Lock) → Kept rules view m → ((cycle : List ℕ) → ¬ IsCycle (waits (with_request l m.requests) m.locks) (l.region ∷ cycle))
       → Kept rules view (record m { requests = with_request l m.requests })
   waits_kept m l k none = record { history = k.history; queued = k.queued; apart = k.apart; sound = k.sound; no_cycle = asked_waits l m.requests m.locks none k.no_cycle }

@@ -13,6 +13,7 @@ use Rattle.fp_model.specs.History.{NeverFalls}
 
 -- ---- numbers and tests
 
+-- numbers as tests
 pub eqb_same : (a : ℕ) → nat_eq a a ≡ true
 eqb_same a = grind (arith, common_steps)
 
@@ -30,6 +31,7 @@ tested false = inr refl
 pub true_is_not_false : true ≡ false → ⊥
 true_is_not_false e = cc
 
+-- values that there may be
 pub some_is : {A : Type 0} (x y : A) → Some x ≡ Some y → x ≡ y
 some_is x y e = cc
 
@@ -38,27 +40,33 @@ none_is_not_some x e = cc
 
 -- ---- what a list contains
 
+-- the empty list
 pub contains_nothing : {X : Type 0} (x : X) → Contains [] x → ⊥
 contains_nothing x c = absurd (omega (arith, c.1))
 
+-- the first element
 pub contains_first : {X : Type 0} (x : X) (xs : List X) → Contains (x ∷ xs) x
 contains_first x xs = Contains-append_left (x ∷ []) xs x (Contains-push [] x)
 
+-- an element behind the first
 pub contains_later : {X : Type 0} (y : X) (xs : List X) (x : X) → Contains xs x → Contains (y ∷ xs) x
 contains_later y xs x c = Contains-append_right (y ∷ []) xs x c
 
+-- an element is the first or behind it
 pub contains_cases : {X : Type 0} (y : X) (xs : List X) (x : X) → Contains (y ∷ xs) x → (y ≡ x) ⊎ Contains xs x
 contains_cases y xs x c = elim (Contains-append_cases (y ∷ []) xs x c) [
   | inl here ↦ elim (Contains-push_cases [] y x here) [ inl none ↦ absurd (contains_nothing x none) | inr same ↦ inl same ]
   | inr there ↦ inr there
 ]
 
+-- an element that a filter left
 pub contains_in_filter : {X : Type 0} (p : X → Bool) (xs : List X) (x : X) → Contains (filter p xs) x → Contains xs x × (p x ≡ true)
 contains_in_filter p xs x c = (
   All-contains (λ y. Contains xs y) (filter p xs) x (All-filter p (λ y. Contains xs y) xs (All-contains_itself xs)) c,
   All-contains (λ y. p y ≡ true) (filter p xs) x (filter_passes p xs) c,
 )
 
+-- an element that a filter leaves
 pub filter_contains : {X : Type 0} (p : X → Bool) (xs : List X) (x : X) → Contains xs x → p x ≡ true → Contains (filter p xs) x
 filter_contains p [] x c is = c
 filter_contains p (y ∷ ys) x c is = elim (contains_cases y ys x c) [
@@ -69,11 +77,13 @@ filter_contains p (y ∷ ys) x c is = elim (contains_cases y ys x c) [
   ]
 ]
 
+-- an element of a mapped list
 pub contains_in_map : {X Y : Type 0} (f : X → Y) (xs : List X) (y : Y) → Contains (map f xs) y → (x : X) × (Contains xs x × (y ≡ f x))
 contains_in_map {X} {Y} f xs y c =
     let P : Y → Type 0 = λ z. (x : X) × (Contains xs x × (z ≡ f x)) in
     All-contains P (map f xs) y (All-map P f xs (All-weaker (λ x. Contains xs x) (λ x. P (f x)) (λ x here. (x, (here, refl))) xs (All-contains_itself xs))) c
 
+-- the image of an element
 pub map_contains : {X Y : Type 0} (f : X → Y) (xs : List X) (x : X) → Contains xs x → Contains (map f xs) (f x)
 map_contains f [] x c = absurd (contains_nothing x c)
 map_contains f (z ∷ zs) x c = elim (contains_cases z zs x c) [
@@ -81,6 +91,7 @@ map_contains f (z ∷ zs) x c = elim (contains_cases z zs x c) [
   | inr there ↦ contains_later (f z) (map f zs) (f x) (map_contains f zs x there)
 ]
 
+-- an element of joined lists
 pub contains_in_flat_map : {X Y : Type 0} (f : X → List Y) (xs : List X) (y : Y) → Contains (flat_map f xs) y → (x : X) × (Contains xs x × Contains (f x) y)
 contains_in_flat_map f [] y c = absurd (contains_nothing y c)
 contains_in_flat_map f (z ∷ zs) y c = elim (Contains-append_cases (f z) (flat_map f zs) y c) [
@@ -88,6 +99,7 @@ contains_in_flat_map f (z ∷ zs) y c = elim (Contains-append_cases (f z) (flat_
   | inr there ↦ let rest = contains_in_flat_map f zs y there in (rest.0, (contains_later z zs rest.0 rest.1.0, rest.1.1))
 ]
 
+-- an element of one of them
 pub flat_map_contains : {X Y : Type 0} (f : X → List Y) (xs : List X) (x : X) (y : Y) → Contains xs x → Contains (f x) y → Contains (flat_map f xs) y
 flat_map_contains f [] x y c d = absurd (contains_nothing x c)
 flat_map_contains f (z ∷ zs) x y c d = elim (contains_cases z zs x c) [
@@ -119,12 +131,14 @@ none_passes p (y ∷ ys) x none c = elim (contains_cases y ys x c) [
 
 -- ---- elements at a place
 
+-- at the place written
 set_here : {A : Type 0} (xs : List A) (r : ℕ) (a x : A) → slice_get (slice_set xs r a) r ≡ Some x → x ≡ a
 set_here xs r a x e =
     let within : r < length (set xs r a) = slice_get_within (set xs r a) r x e in
     let short : r < length xs = grind (arith, common_steps, within) in
     sym (get_or_from_slice_get (set xs r a) r x x e) ∙ get_or-set_same xs r a x short
 
+-- at another place
 set_there : {A : Type 0} (xs : List A) (r s : ℕ) (a x : A) → ¬ (s ≡ r) → slice_get (slice_set xs r a) s ≡ Some x → slice_get xs s ≡ Some x
 set_there xs r s a x ne e =
     let within : s < length (set xs r a) = slice_get_within (set xs r a) s x e in
@@ -150,32 +164,39 @@ mapped_to [] s a x e = absurd (none_is_not_some x e)
 mapped_to (b ∷ bs) zero a x e = sym (some_is a x e)
 mapped_to (b ∷ bs) (suc s) a x e = mapped_to bs s a x e
 
+-- a list of copies has no other
 pub replicated : {A : Type 0} (n : ℕ) (a x : A) → Contains (replicate n a) x → x ≡ a
 replicated zero a x c = absurd (contains_nothing x c)
 replicated (suc n) a x c = elim (contains_cases a (replicate n a) x c) [ inl same ↦ sym same | inr there ↦ replicated n a x there ]
 
 -- ---- states by place
 
+-- the state now stands behind those past
 pub last_state : (start : Db) (past : List Db) (now : Db) → state_at start (past ++ now ∷ []) (length past) ≡ now
 last_state start past now = unwrap_or-slice_get (past ++ now ∷ []) (length past) start ∙ get_or-append_seam past now [] start
 
+-- a state more leaves the earlier ones
 pub state_stays : (start : Db) (states : List Db) (next : Db) (place : ℕ) → place < length states → state_at start (states ++ next ∷ []) place ≡ state_at start states place
 state_stays start states next place h =
     unwrap_or-slice_get (states ++ next ∷ []) place start ∙ get_or_append_left states (next ∷ []) start place h ∙ sym (unwrap_or-slice_get states place start)
 
+-- and there are more of them
 pub longer : (past : List Db) (now : Db) → length past < length (past ++ now ∷ [])
 longer past now = grind (arith, common_steps)
 
 -- ---- notes
 
+-- notes stay in order at a later place
 pub never_falls_later : (from : ℕ) (notes : List ℕ) (place later : ℕ) → NeverFalls from notes place → place ≤ later → NeverFalls from notes later
 never_falls_later from [] place later h le = omega (arith, h, le)
 never_falls_later from (k ∷ ks) place later h le = (h.0, never_falls_later k ks place later h.1 le)
 
+-- one more note, at this place
 pub never_falls_with : (from : ℕ) (notes : List ℕ) (place : ℕ) → NeverFalls from notes place → NeverFalls from (notes ++ place ∷ []) place
 never_falls_with from [] place h = (h, omega arith)
 never_falls_with from (k ∷ ks) place h = (h.0, never_falls_with k ks place h.1)
 
+-- a transaction began before this place
 pub from_below : (from : ℕ) (notes : List ℕ) (place : ℕ) → NeverFalls from notes place → from ≤ place
 from_below from [] place h = h
 from_below from (k ∷ ks) place h = let e = from_below k ks place h.1 in omega (arith, h.0, e)

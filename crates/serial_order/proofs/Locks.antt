@@ -14,6 +14,7 @@ use Rattle.serial_order.proofs.Lists.{eqb_same, eqb_other, eqb_is, true_is_not_f
 
 -- ---- tests
 
+-- both tests hold
 pub both_left : (a b : Bool) → (a && b) ≡ true → a ≡ true
 both_left true b e = refl
 both_left false b e = e
@@ -22,6 +23,7 @@ pub both_right : (a b : Bool) → (a && b) ≡ true → b ≡ true
 both_right true b e = e
 both_right false b e = absurd (true_is_not_false (sym e))
 
+-- texts and resources as tests
 pub same_text_is : (a b : List ℕ) → same_text a b ≡ true → a ≡ b
 same_text_is a b e = (bytes_eq-Decides a b).0 e
 
@@ -113,16 +115,19 @@ still_exclusive l locks free s resource held = either (nat_eq l.region s && same
 
 -- ---- locks side by side
 
+-- modes that go together
 shared_both : (a b : Mode) → (is_exclusive a || is_exclusive b) ≡ false → (a ≡ Share) × (b ≡ Share)
 shared_both Share Share e = (refl, refl)
 shared_both Share Exclusive e = absurd (true_is_not_false e)
 shared_both Exclusive b e = absurd (true_is_not_false e)
 
+-- the last of three tests fails where the others hold
 last_of : (a b c : Bool) → a ≡ true → b ≡ true → (a && b && c) ≡ false → c ≡ false
 last_of true true c p q e = e
 last_of true false c p q e = absurd (true_is_not_false (sym q))
 last_of false b c p q e = absurd (true_is_not_false (sym p))
 
+-- different regions
 not_same : (a b : ℕ) → ¬ (a ≡ b) → not (nat_eq a b) ≡ true
 not_same a b ne = ap not (eqb_other a b ne)
 

@@ -57,6 +57,7 @@ module _ (held : Resource → Option Mode) (needed : Needed) where
   maybe_needed None e = absurd (none_is_not_some needed e)
   maybe_needed (Some n) e = unless_some held n needed e
 
+  -- a lock behind a test
   if_needed : (b : Bool) (o : Option Needed) → (if b then o else None) ≡ Some needed → (o ≡ Some needed → ¬ (held needed.resource ≡ Some Exclusive)) → ¬ (held needed.resource ≡ Some Exclusive)
   if_needed true o e h = h e
   if_needed false o e h = absurd (none_is_not_some needed e)
@@ -65,6 +66,7 @@ module _ (held : Resource → Option Mode) (needed : Needed) where
   unless_needed true o e h = absurd (none_is_not_some needed e)
   unless_needed false o e h = h e
 
+  -- calls to a data entry database
   dedb_wants : (def : DedbDef) (number : ℕ) (db : Db) (own : Workspace) (c : Call) → dedb.dedb_need def number db own held c ≡ Some needed → ¬ (held needed.resource ≡ Some Exclusive)
   dedb_wants def number db own (call.Get g hold n ssas) e =
       unless_needed (not (dedb.are_get_arguments def number ssas) || dedb.lacks_parent def number own g) _ e
@@ -89,10 +91,12 @@ module _ (held : Resource → Option Mode) (needed : Needed) where
       held_wants None e = absurd (none_is_not_some needed e)
       held_wants (Some place) e = unless_some held _ needed e
 
+  -- if there is one
   dedb_target_wants : (number : ℕ) (o : Option DedbDef) (db : Db) (own : Workspace) (c : Call) → need_on (option_map_or (λ def. OnDedb def number) o Nowhere) db own held c ≡ Some needed → ¬ (held needed.resource ≡ Some Exclusive)
   dedb_target_wants number None db own c e = absurd (none_is_not_some needed e)
   dedb_target_wants number (Some def) db own c e = dedb_wants def number db own c e
 
+  -- main storage databases are looked for first
   target_wants : (defs : Defs) (number dedb_number : ℕ) (o : Option MsdbDef) (db : Db) (own : Workspace) (c : Call)
       → need_on (option_map_or (λ def. OnMsdb def number) o (dedb_target defs dedb_number)) db own held c ≡ Some needed → ¬ (held needed.resource ≡ Some Exclusive)
   target_wants defs number dedb_number None db own c e = dedb_target_wants dedb_number (slice_get defs.dedbs dedb_number) db own c e
@@ -114,12 +118,14 @@ sync_wants own held resource e = not_served (held resource) Exclusive (negated (
 
 -- ---- lines and scripts
 
+-- results and what they hold
 ok_is : (x y : Message) (r : Result Message MessageFault) → r ≡ Ok x → r ≡ Ok y → x ≡ y
 ok_is x y r e f = cc
 
 error_is_not_ok : (f : MessageFault) (x : Message) → Err f ≡ Ok x → ⊥
 error_is_not_ok f x e = cc
 
+-- a message that is taken is as it was
 fair_line : (m message : Message) → with_fair_text m ≡ Ok message → m ≡ message
 fair_line m message e = either (nat_lt 1000 (length m.text)) (list_all is_printable m.text) e
   where
@@ -128,11 +134,13 @@ fair_line m message e = either (nat_lt 1000 (length m.text)) (list_all is_printa
     either false true e = ok_is m message (Ok m) refl e
     either false false e = absurd (error_is_not_ok NotAscii message e)
 
+-- it has the line that it was read from
 by_line : (line : List ℕ) (lterm tran : Option Name) (text : List ℕ) (message : Message) → message_by line lterm tran text ≡ Ok message → message.line ≡ line
 by_line line None tran text message e = absurd (error_is_not_ok _ message e)
 by_line line (Some lterm) None text message e = absurd (error_is_not_ok _ message e)
 by_line line (Some lterm) (Some tran) text message e = sym (ap (λ (m : Message). m.line) (fair_line (record { lterm = lterm; tran = tran; text = text; line = line }) message e))
 
+-- and names a script
 scripted : (scripts : List Script) (line : List ℕ) (r : Result Message MessageFault) (message : Message) → ((m : Message) → r ≡ Ok m → m.line ≡ line) → if_script scripts r ≡ Some message → message.line ≡ line
 scripted scripts line (Err fault) message by e = absurd (none_is_not_some message e)
 scripted scripts line (Ok m) message by e = either (is_some (script_of scripts m.tran)) e

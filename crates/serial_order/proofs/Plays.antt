@@ -16,6 +16,7 @@ use Rattle.serial_order.specs.Laws.{View, IsSame, Laws}
 use Rattle.serial_order.specs.Kept.{GoesOn}
 use Rattle.serial_order.proofs.Lists.{true_is_not_false, last_state}
 
+-- one more answer
 one_more : (xs : List Answer) (x : Answer) (n : ℕ) → length (xs ++ x ∷ []) + n ≡ length xs + suc n
 one_more xs x n = let e : length (xs ++ x ∷ []) ≡ length xs + 1 = length-append xs (x ∷ []) in omega (arith, e)
 

@@ -39,6 +39,7 @@ use Rattle.serial_order.proofs.Queue.{sync_leaves}
 
 -- ---- the laws
 
+-- This system keeps the laws.
 pub laws_of : (defs : Defs) (scripts : List Script) → AllByRecursion IsMsdbDef defs.msdbs → Laws (rules_of defs scripts) (view_of defs)
 laws_of defs scripts each = record {
   lines = keeps_line scripts;
@@ -66,10 +67,12 @@ unlocked_alike is_locked look look2 [] same = refl
 unlocked_alike is_locked look look2 (a ∷ rest) same = rw (same a, unlocked_alike is_locked look look2 rest same) refl
 
 module _ (area : Area) (ends : AreaEnds) (db : Db) (own : Workspace) where
+  -- what a get finds at an anchor
   look_alike : (def : DedbDef) (number : ℕ) (g : Get) (ssas : List Ssa) (anchor : ℕ) → dedb.look_at def number (with_ends area ends db) own g ssas anchor ≡ dedb.look_at def number db own g ssas anchor
   look_alike def number g ssas anchor = ap (λ (roots : List Root). first_admitted def.segments anchor (option_map_or (λ (c : AnchorChange). c.roots) (find (dedb.is_change_of def number anchor) own.changes) roots) (dedb.begins_behind def number (dedb.position_of def number own) g) (dedb.stays_below def number (dedb.position_of def number own) g) ssas)
       (roots_with_ends number anchor area ends db)
 
+  -- which lock a call to a data entry database needs
   dedb_need_alike : (def : DedbDef) (number : ℕ) (held : Resource → Option Mode) (c : Call) → dedb.dedb_need def number (with_ends area ends db) own held c ≡ dedb.dedb_need def number db own held c
   dedb_need_alike def number held (call.Get g hold n ssas) =
       ap (λ (o : Option ℕ). if not (dedb.are_get_arguments def number ssas) || dedb.lacks_parent def number own g then None else option_map_or (λ (anchor : ℕ). Some (dedb.anchor_lock def number (dedb.lock_of def number hold) anchor)) o None)
@@ -85,10 +88,12 @@ module _ (area : Area) (ends : AreaEnds) (db : Db) (own : Workspace) where
     dedb_target_need number None = refl
     dedb_target_need number (Some def) = dedb_need_alike def number held c
 
+    -- main storage databases are looked for first
     target_need : (number dedb_number : ℕ) (o : Option MsdbDef) → need_on (option_map_or (λ def. OnMsdb def number) o (dedb_target defs dedb_number)) (with_ends area ends db) own held c ≡ need_on (option_map_or (λ def. OnMsdb def number) o (dedb_target defs dedb_number)) db own held c
     target_need number dedb_number None = dedb_target_need dedb_number (slice_get defs.dedbs dedb_number)
     target_need number dedb_number (Some def) = refl
 
+    -- Which lock a call needs depends on no ends.
     pub needs_with_ends : need_of defs (with_ends area ends db) own held c ≡ need_of defs db own held c
     unfolding need_of
     needs_with_ends = target_need (database_of c) (database_of c - length defs.msdbs) (slice_get defs.msdbs (database_of c))
@@ -102,15 +107,18 @@ module _ (area : Area) (ends : AreaEnds) (db : Db) (own : Workspace) where
       by true later = refl
       by false later = later
 
+  -- behind a test
   either_none : {X : Type 0} (b : Bool) (x : Option X) → x ≡ None → (if b then None else x) ≡ None
   either_none true x e = refl
   either_none false x e = e
 
   module _ (def : DedbDef) (number : ℕ) where
+    -- the place that is held
     place_needs_none : (o : Option Place) → dedb.held_need def number (λ (resource : Resource). Some Exclusive) o ≡ None
     place_needs_none None = refl
     place_needs_none (Some place) = refl
 
+    -- a call where all is held
     dedb_needs_none : (c : Call) → dedb.dedb_need def number db own (λ (resource : Resource). Some Exclusive) c ≡ None
     dedb_needs_none (call.Get g hold n ssas) =
         either_none (not (dedb.are_get_arguments def number ssas) || dedb.lacks_parent def number own g) _
@@ -131,11 +139,13 @@ module _ (area : Area) (ends : AreaEnds) (db : Db) (own : Workspace) where
     dedb_target_reply number None = refl
     dedb_target_reply number (Some def) = dedb_alike def number (λ (resource : Resource). Some Exclusive) own db (with_ends area ends db) (λ anchor h. roots_with_ends number anchor area ends db) c (dedb_needs_none def number c)
 
+    -- main storage databases are looked for first
     target_reply : (number dedb_number : ℕ) (o : Option MsdbDef)
         → reply_on (option_map_or (λ def. OnMsdb def number) o (dedb_target defs dedb_number)) (with_ends area ends db) (with_ends area2 ends2 shown) own c ≡ reply_on (option_map_or (λ def. OnMsdb def number) o (dedb_target defs dedb_number)) db shown own c
     target_reply number dedb_number None = dedb_target_reply dedb_number (slice_get defs.dedbs dedb_number)
     target_reply number dedb_number (Some def) = refl
 
+    -- What a call is answered depends on no ends.
     pub replies_with_ends : reply_to defs (with_ends area ends db) (with_ends area2 ends2 shown) own c ≡ reply_to defs db shown own c
     unfolding reply_to
     replies_with_ends = target_reply (database_of c) (database_of c - length defs.msdbs) (slice_get defs.msdbs (database_of c))

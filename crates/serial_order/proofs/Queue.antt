@@ -33,6 +33,7 @@ use Rattle.serial_order.proofs.Covers.{Covers, parts}
 use Rattle.serial_order.proofs.Changes.{get_set_other, get_set_same, roots_with_anchors, roots_with_inserts}
 use Rattle.serial_order.proofs.Settling.{with_new, with_old, all_served, segment_put, segment_dropped, field_changes_leave}
 
+-- results and what they hold
 is_stays : (x y : List Msdb) → Becomes x ≡ Becomes y → x ≡ y
 is_stays x y e = cc
 
@@ -141,6 +142,7 @@ module _ (defs : Defs) (each : AllByRecursion IsMsdbDef defs.msdbs) where
 
   -- ---- what the queue touches is held
 
+  -- what a call of the queue touches is held Exclusive
   touched_held : (held : Resource → Option Mode) (calls : List Deferred) → AllByRecursion (IsExclusive held) (flat_map (deferred_claim defs) calls) → AllByRecursion (IsExclusive held) (resources calls)
       → AllByRecursion (λ (d : Deferred). held (touched d) ≡ Some Exclusive) calls
   touched_held held [] c r = tt
@@ -155,6 +157,7 @@ module _ (defs : Defs) (each : AllByRecursion IsMsdbDef defs.msdbs) where
   others held f resource [] free h = tt
   others held f resource (x ∷ xs) free h = ((λ e. free (subst (λ (r : Resource). held r ≡ Some Exclusive) e h.0)), others held f resource xs free h.1)
 
+  -- so are the anchors of a list
   mapped_held : {X : Type 0} (held : Resource → Option Mode) (f : X → Resource) (xs : List X) → AllByRecursion (IsExclusive held) (map f xs) → AllByRecursion (λ (x : X). held (f x) ≡ Some Exclusive) xs
   mapped_held held f [] h = tt
   mapped_held held f (x ∷ xs) h = (h.0, mapped_held held f xs h.1)
@@ -166,6 +169,7 @@ module _ (defs : Defs) (each : AllByRecursion IsMsdbDef defs.msdbs) where
   anchors_leave [] db = refl
   anchors_leave (c ∷ cs) db = anchors_leave cs (with_roots c.dedb c.anchor c.roots db)
 
+  -- one sequential insert
   insert_leaves : (i : SeqInsert) (db : Db) → (with_insert defs db i).msdbs ≡ db.msdbs
   insert_leaves i db = by (find (λ area. takes area i) (areas_of defs))
     where
@@ -173,6 +177,7 @@ module _ (defs : Defs) (each : AllByRecursion IsMsdbDef defs.msdbs) where
       by None = refl
       by (Some area) = refl
 
+  -- all of them
   inserts_leave : (is : List SeqInsert) (db : Db) → (with_inserts defs is db).msdbs ≡ db.msdbs
   inserts_leave [] db = refl
   inserts_leave (i ∷ is) db = inserts_leave is (with_insert defs db i) ∙ insert_leaves i db
@@ -199,6 +204,7 @@ module _ (defs : Defs) (each : AllByRecursion IsMsdbDef defs.msdbs) where
         let inserts = others held (insert_claim defs) (Anchor dedb anchor) own.inserts free (mapped_held held (insert_claim defs) own.inserts c.inserts) in
         ap (λ (roots : List Root). RootsAre roots) (roots_with_inserts dedb anchor defs own.inserts (with_anchors own.changes (with_msdbs msdbs db)) inserts ∙ roots_with_anchors dedb anchor own.changes (with_msdbs msdbs db) changes)
 
+    -- a queue that settled
     settled_leaves : (s : Settled) → settle_from defs.msdbs 0 db.msdbs own.deferred ≡ s → (next : Db) → settled_to defs db own s ≡ Commits next → (resource : Resource) → ¬ (held resource ≡ Some Exclusive) → seen_in defs resource next ≡ seen_in defs resource db
     settled_leaves (VerifyFails call fsa found) is next e resource free = absurd (verify_is_no_commit call fsa found next e)
     settled_leaves (Stands msdbs) is next e resource free =

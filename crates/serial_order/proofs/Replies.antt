@@ -73,10 +73,12 @@ module _ (def : MsdbDef) (number : ℕ) (held : Resource → Option Mode) (own :
   pub key_held : (key : List ℕ) → option_map_or (unless_held held) (msdb.exclusively def number key) None ≡ None → held (Segment number key) ≡ Some Exclusive
   key_held key e = served_exclusive (held (Segment number key)) (unless_none held (record { resource = Segment number key; mode = Exclusive }) e)
 
+  -- a key held Exclusive is held
   held_key : (key : List ℕ) → held (Segment number key) ≡ Some Exclusive → ¬ (held (Segment number key) ≡ None)
   held_key key e none = none_is_not_some Exclusive (sym none ∙ e)
 
   module _ (now now2 shown shown2 : Msdb) (same : (key : List ℕ) → ¬ (held (Segment number key) ≡ None) → segment_of def now2 key ≡ segment_of def now key) where
+    -- GU, GN and GHU
     get_alike : (g : Get) (hold : Bool) (key : Option (List ℕ)) (n : ℕ) (ssas : List Ssa) → option_map_or (unless_held held) (msdb.for_get def number g hold key) None ≡ None
         → (msdb.msdb_looks def number own (call.Get g hold n ssas) ≡ true → shown2 ≡ shown)
         → msdb.get_reply def number now2 shown2 own g hold key ≡ msdb.get_reply def number now shown own g hold key
@@ -102,6 +104,7 @@ module _ (def : MsdbDef) (number : ℕ) (held : Resource → Option Mode) (own :
     isrt_alike true true key r q f need = refl
     isrt_alike true false key r q f need = ap f (same key (held_key key (key_held key need)))
 
+    -- any call to a main storage database
     pub msdb_alike : (c : Call) → option_map_or (unless_held held) (msdb.msdb_need def number own c) None ≡ None
         → (msdb.msdb_looks def number own c ≡ true → shown2 ≡ shown)
         → msdb.msdb_reply def number now2 shown2 own c ≡ msdb.msdb_reply def number now shown own c
@@ -138,9 +141,11 @@ module _ (def : DedbDef) (number : ℕ) (held : Resource → Option Mode) (own :
   roots_alike : (anchor : ℕ) (mode : Mode) → serves (held (Anchor number anchor)) mode ≡ true → dedb.roots_seen def number db2 own anchor ≡ dedb.roots_seen def number db own anchor
   roots_alike anchor mode h = ap (λ (roots : List Root). option_map_or (λ (c : AnchorChange). c.roots) (find (dedb.is_change_of def number anchor) own.changes) roots) (same anchor (served_is_held (held (Anchor number anchor)) mode h))
 
+  -- the roots of an anchor whose lock is held
   roots_locked : (anchor : ℕ) (mode : Mode) → dedb.unless_locked def number held mode anchor ≡ None → dedb.roots_seen def number db2 own anchor ≡ dedb.roots_seen def number db own anchor
   roots_locked anchor mode e = roots_alike anchor mode (unless_none held (record { resource = Anchor number anchor; mode = mode }) e)
 
+  -- a get
   search_alike : (g : Get) (hold : Bool) (ssas : List Ssa) (anchors : List ℕ) (status : List ℕ)
       → option_map_or (λ (anchor : ℕ). Some (dedb.anchor_lock def number (dedb.lock_of def number hold) anchor)) (dedb.first_unlocked (λ (anchor : ℕ). serves (held (Anchor number anchor)) (dedb.lock_of def number hold)) (dedb.look_at def number db own g ssas) anchors) None ≡ None
       → dedb.found_or def number status g hold own (dedb.first_found (dedb.look_at def number db2 own g ssas) anchors)
@@ -164,23 +169,28 @@ module _ (def : DedbDef) (number : ℕ) (held : Resource → Option Mode) (own :
   get_alike_if true true g hold ssas r q need = refl
   get_alike_if true false g hold ssas r q need = search_alike g hold ssas (dedb.anchors_searched def number (dedb.position_of def number own) g (dedb.root_named def number ssas)) (dedb.not_found def number g ssas) need
 
+  -- ISRT
   insert_alike : (fair : Bool) (anchor : ℕ) (r : Replied) (f : List Root → Replied)
       → (if fair then dedb.unless_locked def number held Exclusive anchor else None) ≡ None
       → (if fair then f (dedb.roots_seen def number db2 own anchor) else r) ≡ (if fair then f (dedb.roots_seen def number db own anchor) else r)
   insert_alike true anchor r f need = ap f (roots_locked anchor Exclusive need)
   insert_alike false anchor r f need = refl
 
+  -- a change at the place that is held
   edit_alike : (place : Place) (edit : Edit) → dedb.unless_locked def number held Exclusive place.anchor ≡ None → dedb.edit_at def number db2 own place edit ≡ dedb.edit_at def number db own place edit
   edit_alike place edit need = ap (λ (roots : List Root). dedb.with_change def number place.anchor (edited def.segments roots place.path edit) (dedb.unheld def number own)) (roots_locked place.anchor Exclusive need)
 
+  -- REPL
   repl_alike : (bytes : List ℕ) (o : Option Place) → dedb.held_need def number held o ≡ None → dedb.repl_reply def number db2 own bytes o ≡ dedb.repl_reply def number db own bytes o
   repl_alike bytes None need = refl
   repl_alike bytes (Some place) need = ap (λ (w : Workspace). if is_sequential def.segments (dedb.type_of_path def number place.path) then dedb.refused def number own (codes "AM") else (if same_text (key_in def.segments (dedb.type_of_path def number place.path) bytes) (dedb.key_of_path def number place.path) then record { answer = answered blank; own = w } else dedb.refused def number own (codes "DA"))) (edit_alike place (Replaces bytes) need)
 
+  -- DLET
   dlet_alike : (o : Option Place) → dedb.held_need def number held o ≡ None → dedb.dlet_reply def number db2 own o ≡ dedb.dlet_reply def number db own o
   dlet_alike None need = refl
   dlet_alike (Some place) need = ap (λ (after : Workspace). if is_sequential def.segments (dedb.type_of_path def number place.path) then dedb.refused def number own (codes "AM") else record { answer = answered blank; own = dedb.with_position def number (record (dedb.position_of def number after) { parent = None }) (record after { inserts = filter (λ i. not (dedb.goes_with def number place i)) own.inserts }) }) (edit_alike place Deletes need)
 
+  -- any call to a data entry database
   pub dedb_alike : (c : Call) → dedb.dedb_need def number db own held c ≡ None → dedb.dedb_reply def number db2 own c ≡ dedb.dedb_reply def number db own c
   dedb_alike (call.Get g hold n ssas) need = get_alike_if (dedb.are_get_arguments def number ssas) (dedb.lacks_parent def number own g) g hold ssas (dedb.refused def number own (codes "AM")) (dedb.refused def number own (codes "GP")) need
   dedb_alike (call.Fld n key fsas) need = refl
@@ -192,6 +202,7 @@ module _ (def : DedbDef) (number : ℕ) (held : Resource → Option Mode) (own :
 
 -- ---- all calls
 
+-- what is seen, and what it holds
 segment_is : (a b : Option (List ℕ)) → SegmentIs a ≡ SegmentIs b → a ≡ b
 segment_is a b e = cc
 
@@ -200,12 +211,14 @@ roots_are a b e = cc
 
 module _ (defs : Defs) (held : Resource → Option Mode) (own : Workspace) (db db2 shown shown2 : Db) (c : Call)
     (same : IsSame (view_of defs) held db db2) where
+  -- a call to a data entry database, if there is one
   dedb_target_alike : (number : ℕ) (o : Option DedbDef)
       → need_on (option_map_or (λ def. OnDedb def number) o Nowhere) db own held c ≡ None
       → reply_on (option_map_or (λ def. OnDedb def number) o Nowhere) db2 shown2 own c ≡ reply_on (option_map_or (λ def. OnDedb def number) o Nowhere) db shown own c
   dedb_target_alike number None need = refl
   dedb_target_alike number (Some def) need = dedb_alike def number held own db db2 (λ anchor h. roots_are _ _ (same (Anchor number anchor) h)) c need
 
+  -- main storage databases are looked for first
   target_alike : (number dedb_number : ℕ) (o : Option MsdbDef) → slice_get defs.msdbs number ≡ o
       → need_on (option_map_or (λ def. OnMsdb def number) o (dedb_target defs dedb_number)) db own held c ≡ None
       → (looks_on (option_map_or (λ def. OnMsdb def number) o (dedb_target defs dedb_number)) own c ≡ true → shown2 ≡ shown)

@@ -31,6 +31,7 @@ use Rattle.serial_order.proofs.Covers.{found_passes}
 
 -- ---- what the sync point has locked
 
+-- two that come in neither order are equal
 neither : (o p : Ordering) → o ≡ ordering_reverse p → is_lt o ≡ false → is_lt p ≡ false → o ≡ Equal
 neither o Less is a b = absurd (true_is_not_false b)
 neither o Equal is a b = is
@@ -40,9 +41,11 @@ neither o Greater is a b = absurd (true_is_not_false (sym (ap is_lt is) ∙ a))
 same_key : (k l : List ℕ) → is_below k l ≡ false → is_below l k ≡ false → k ≡ l
 same_key k l a b = exact_bytes k l (neither (slice_cmp nat_cmp k l) (slice_cmp nat_cmp l k) (nat_list_cmp_total.antisymm k l) a b)
 
+-- of two numbers, neither of which is less
 same_numbers : (m n : ℕ) → nat_lt m n ≡ false → nat_lt n m ≡ false → m ≡ n
 same_numbers m n a b = grind (arith, common_steps)
 
+-- tests that fail
 or_left : (a b : Bool) → (a || b) ≡ false → a ≡ false
 or_left true b e = e
 or_left false b e = refl
@@ -126,6 +129,7 @@ find_kept p q (x ∷ xs) h = by (q x) refl (find_kept p q xs h)
         either true here = absurd (true_is_not_false (sym (h x here) ∙ is))
         either false here = later
 
+-- texts that differ
 other_text : (a k : List ℕ) → ¬ (a ≡ k) → same_text a k ≡ false
 other_text a k ne = by (same_text a k) refl
   where
@@ -141,6 +145,7 @@ segment_put def segment k msdb ne =
     ∙ find_kept (λ (s : List ℕ). same_text (key s) k) (λ (s : List ℕ). not (same_text (key s) (key segment))) msdb.segments
     (λ s here. ap not (other_text (key s) (key segment) (λ e. ne (sym e ∙ same_text_is (key s) k here))))
 
+-- a segment dropped leaves those of other keys
 pub segment_dropped : (def : MsdbDef) (gone k : List ℕ) (msdb : Msdb) → ¬ (gone ≡ k) → segment_of def (without_segment def gone msdb) k ≡ segment_of def msdb k
 segment_dropped def gone k msdb ne =
     let key : List ℕ → List ℕ = key_of def.fields in
@@ -149,6 +154,7 @@ segment_dropped def gone k msdb ne =
 
 -- ---- a field call leaves the key
 
+-- fields stand behind where they begin
 stand_behind : (at : ℕ) (fields : List FieldDef) (end : ℕ) (p : FieldDef → Bool) (field : FieldDef) → StandFrom at fields end → find p fields ≡ Some field → at ≤ field.at
 stand_behind at [] end p field s e = absurd (none_is_not_some field e)
 stand_behind at (f ∷ fs) end p field s e = by (p f) e (λ g. stand_behind (at + f.length) fs end p field s.2 g)
@@ -168,6 +174,7 @@ behind_key (f ∷ fs) end p field s e no_key = by (p f) e
         absurd (true_is_not_false (sym (subst (λ (n : ℕ). nat_eq n 0 ≡ true) (sym at) refl) ∙ no_key))
     by false e = let later = stand_behind (0 + f.length) fs end p field s.2 e in omega (arith, later)
 
+-- bytes written behind the key leave it
 key_stays : (n at : ℕ) (segment bytes rest : List ℕ) → n ≤ at → n ≤ length segment → take n (take at segment ++ bytes ++ rest) ≡ take n segment
 key_stays n at segment bytes rest h l =
     let short : length (take at segment) ≡ min at (length segment) = length-take at segment in
@@ -175,12 +182,14 @@ key_stays n at segment bytes rest h l =
     take-append-le n (take at segment ++ bytes) rest (omega (arith, short, more)) ∙ take-append-le n (take at segment) bytes (omega (arith, short)) ∙ take-take n at segment h
 
 module _ (def : MsdbDef) (end : ℕ) (stands : StandFrom 0 def.fields end) where
+  -- the letter of a change of a field
   good_letter : (a c : Bool) (o : Option FieldDef) (f : FieldDef → ℕ) (field : FieldDef) → nat_eq (if a || c then option_map_or f o 72 else 65) 32 ≡ true → c ≡ true → o ≡ Some field → nat_eq (f field) 32 ≡ true
   good_letter a c None f field e p q = absurd (none_is_not_some field q)
   good_letter true c (Some x) f field e p q = subst (λ (y : FieldDef). nat_eq (f y) 32 ≡ true) (some_is x field q) e
   good_letter false true (Some x) f field e p q = subst (λ (y : FieldDef). nat_eq (f y) 32 ≡ true) (some_is x field q) e
   good_letter false false (Some x) f field e p q = absurd (true_is_not_false (sym p))
 
+  -- a blank letter is not C
   second_letter : (a b : Bool) (x : ℕ) → nat_eq (if a then 65 else if b then 67 else x) 32 ≡ true → b ≡ false
   second_letter true b x e = absurd (true_is_not_false (sym e))
   second_letter false true x e = absurd (true_is_not_false (sym e))
@@ -192,6 +201,7 @@ module _ (def : MsdbDef) (end : ℕ) (stands : StandFrom 0 def.fields end) where
       let letter = good_letter (is_verify fsa.op) (is_change fsa.op) (field_of def.fields fsa.field) (λ (f : FieldDef). letter_on f fsa.op fsa.operand (field_bytes f segment)) field good change of in
       and_right (is_change fsa.op) (is_key field) change (second_letter (is_sum fsa.op && is_text field.kind) (is_change fsa.op && is_key field) _ letter)
 
+  -- a good change leaves the key
   changed_keeps : (fsa : Fsa) (segment : List ℕ) → key_length def.fields ≤ length segment → nat_eq (letter_of def fsa segment) 32 ≡ true → take (key_length def.fields) (changed_by def fsa segment) ≡ take (key_length def.fields) segment
   changed_keeps fsa segment long good = by (is_change fsa.op) refl (field_of def.fields fsa.field) refl
     where
@@ -206,6 +216,7 @@ module _ (def : MsdbDef) (end : ℕ) (stands : StandFrom 0 def.fields end) where
           put (Some bytes) = key_stays (key_length def.fields) field.at segment bytes (drop (field.at + length bytes) segment)
               (behind_key def.fields end (λ (f : FieldDef). same_text f.name.0 fsa.field) field stands of (no_key_changed fsa segment field good is of)) long
 
+  -- and so does any argument
   fsa_keeps : (fsa : Fsa) (segment : List ℕ) → key_length def.fields ≤ length segment → take (key_length def.fields) (fsa_on def fsa segment).segment ≡ take (key_length def.fields) segment
   fsa_keeps fsa segment long = by (nat_eq (letter_of def fsa segment) 32) refl
     where
@@ -213,6 +224,7 @@ module _ (def : MsdbDef) (end : ℕ) (stands : StandFrom 0 def.fields end) where
       by true good = changed_keeps fsa segment long good
       by false bad = refl
 
+  -- a segment stays as long as its key
   still_long : (n : ℕ) (a b : List ℕ) → take n a ≡ take n b → n ≤ length b → n ≤ length a
   still_long n a b same long =
       let x : length (take n a) ≡ min n (length a) = length-take n a in
@@ -220,6 +232,7 @@ module _ (def : MsdbDef) (end : ℕ) (stands : StandFrom 0 def.fields end) where
       let z : length (take n a) ≡ length (take n b) = ap (λ (q : List ℕ). length q) same in
       omega (arith, x, y, z)
 
+  -- and so does a list of them
   list_keeps : (fsas : List Fsa) (segment : List ℕ) → key_length def.fields ≤ length segment → take (key_length def.fields) (list_on def fsas segment).segment ≡ take (key_length def.fields) segment
   unfolding list_on
   list_keeps [] segment long = refl

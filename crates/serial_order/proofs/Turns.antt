@@ -34,14 +34,17 @@ use Rattle.serial_order.proofs.Plays.{ends_alone}
 use Rattle.serial_order.proofs.Kept.{not_idle, counted, alike, queues_kept, begins_kept, answers_kept, gains_kept, waits_kept, ended_kept, written_kept}
 
 module _ (rules : Rules) (view : View) (laws : Laws rules view) where
+  -- what a turn leads to
   is_kept : (m m2 : Machine) → m2 ≡ m → Kept rules view m → Kept rules view m2
   is_kept m m2 e k = subst (λ (x : Machine). Kept rules view x) (sym e) k
 
   -- ---- what an active region does
 
+  -- a call for which nothing is wanted
   none_wanted : (m : Machine) (region : ℕ) (t : Transaction) (ask : Ask) (call : Call) → ask ≡ Asks call → wanted rules m region t ask ≡ None → rules.need m.now t.part.own (held_as m.locks region) call ≡ None
   none_wanted m region t ask call e w = subst (λ (a : Ask). wanted rules m region t a ≡ None) e w
 
+  -- an end for which nothing is wanted
   lacks_none : (o : Option Resource) → option_map (λ (resource : Resource). let n : Needed = record { resource = resource; mode = Exclusive } in n) o ≡ None → o ≡ None
   lacks_none None e = refl
   lacks_none (Some r) e = absurd (none_is_not_some _ (sym e))
@@ -65,10 +68,12 @@ module _ (rules : Rules) (view : View) (laws : Laws rules view) where
   replies_so m t reply settled is settles n =
       ap (λ (a : Ask). asked rules m.now (m.past ++ m.now ∷ []) t.message a t.part [] (goes rules m.now (m.past ++ m.now ∷ []) t.message n)) is ∙ ap (settled_as reply) settles
 
+  -- one that rolls back
   rolls_so : (m : Machine) (t : Transaction) (code : ℕ) → rules.ask t.message t.part.answers ≡ Rolls code → (n : ℕ) → goes rules m.now (m.past ++ m.now ∷ []) t.message (suc n) t.part [] ≡ Roll code
   rolls_so m t code is n = ap (λ (a : Ask). asked rules m.now (m.past ++ m.now ∷ []) t.message a t.part [] (goes rules m.now (m.past ++ m.now ∷ []) t.message n)) is
 
   module _ (m : Machine) (place : ℕ) (t : Transaction) (k : Kept rules view m) (g : GoesOn rules view m.past m.now (held_as m.locks (suc place)) t) where
+    -- how it ends is how it ends alone
     ends : (outcome : Outcome) (reply : List ℕ) (items : List Item) (ended : Ended)
         → ((n : ℕ) → goes rules m.now (m.past ++ m.now ∷ []) t.message (suc n) t.part [] ≡ ended)
         → EndsAlone rules m.past m.now (entry_of t outcome reply t.notes items) ended
@@ -78,6 +83,7 @@ module _ (rules : Rules) (view : View) (laws : Laws rules view) where
     rests : (e : Entry) → Comes rules m.past m.now e m.now → Kept rules view (ended_with (suc place) e m.now m)
     rests e comes = ended_kept rules view m place e m.now k comes (λ resource h. refl)
 
+    -- any act of an active region
     does : (act : Act) (m2 : Machine) → Does rules m (suc place) t act m2 → Kept rules view m2
     does (Answers call) m2 d = is_kept _ m2 d.2 (answers_kept rules view laws m place t call k g d.0 (none_wanted m (suc place) t (asks rules t) call d.0 d.1))
     does (Gains needed) m2 d = is_kept _ m2 d.2 (gains_kept rules view m (as_lock rules (suc place) needed) k d.1 (wants_new m (suc place) t (asks rules t) needed d.0))
@@ -103,6 +109,7 @@ module _ (rules : Rules) (view : View) (laws : Laws rules view) where
       leads = record { message = t.message; is_request = g.is_request; in_order = from_below t.from t.notes (length m.past) g.in_order; same = refl };
     })
 
+    -- one for want of memory
     lacks_memory : Kept rules view (ended_with (suc place) (entry_of t outcome.Memory [] [] []) m.now m)
     lacks_memory = rests (entry_of t outcome.Memory [] [] []) (record {
       form = (refl, refl);
@@ -128,6 +135,7 @@ module _ (rules : Rules) (view : View) (laws : Laws rules view) where
       contains_head : (x : Message) (xs : List Message) → Contains (x ∷ xs) x
       contains_head x xs = get_contains (x ∷ xs) zero x refl
 
+  -- a turn of a region
   region_turn : (m : Machine) (place : ℕ) (region : Option Region) (v : Environment) (m2 : Machine) → Kept rules view m
       → ((t : Transaction) → region ≡ Some (Active t) → GoesOn rules view m.past m.now (held_as m.locks (suc place)) t)
       → RegionTurn rules m (suc place) region v m2 → Kept rules view m2
@@ -141,6 +149,7 @@ module _ (rules : Rules) (view : View) (laws : Laws rules view) where
 
   -- ---- IN
 
+  -- a message is queued
   message_kept : (m : Machine) (message : Message) → IsRequest rules message → Kept rules view m → Kept rules view (with_message rules message m)
   message_kept m message is k =
       let queue : ℕ = rules.group_of message - 1 in
@@ -158,6 +167,7 @@ module _ (rules : Rules) (view : View) (laws : Laws rules view) where
         | inr there ↦ k.queued messages other there d
       ]
 
+  -- a line that asks for nothing
   unknown_kept : (m : Machine) (line : List ℕ) → rules.request_of line ≡ None → Kept rules view m → Kept rules view (with_unknown rules line m)
   unknown_kept m line is k =
       let busier : Machine = record m { busy = m.busy ++ terminal_in (rules.terminal_of line) } in
@@ -166,6 +176,7 @@ module _ (rules : Rules) (view : View) (laws : Laws rules view) where
       (record { form = ((refl, refl), sym (counted rules view m k)); leads = (is, refl) })
       (λ s resource h. refl)
 
+  -- a line is taken, or held
   line_kept : (m : Machine) (line : List ℕ) → Kept rules view m → Kept rules view (with_line rules line m)
   line_kept m line k = either (list_any (is_among m.busy) (terminal_in (rules.terminal_of line)))
     where
@@ -177,6 +188,7 @@ module _ (rules : Rules) (view : View) (laws : Laws rules view) where
       either true = record { history = k.history; queued = k.queued; apart = k.apart; sound = k.sound; no_cycle = k.no_cycle }
       either false = requested (rules.request_of line) refl
 
+  -- IN
   taken_kept : (m : Machine) → Kept rules view m → Kept rules view (taken_in rules m)
   taken_kept m k = taken (next_line m)
     where
@@ -190,6 +202,7 @@ module _ (rules : Rules) (view : View) (laws : Laws rules view) where
 
   -- ---- PURGE
 
+  -- a Purge, where no anchor of the area is held
   purge_turn : (m : Machine) (set n : ℕ) (held : Bool) (m2 : Machine) → is_area_held rules m set ≡ held → Kept rules view m → PurgeTurn rules m set n held m2 → Kept rules view m2
   purge_turn m set n true m2 is k turn = is_kept m m2 turn k
   purge_turn m set n false m2 is k turn = is_kept _ m2 turn.after (written_kept rules view m (entry_here m (outcome.Purge set n) [] turn.items) turn.next k
@@ -204,6 +217,7 @@ module _ (rules : Rules) (view : View) (laws : Laws rules view) where
 
   -- ---- all turns
 
+  -- One turn keeps the invariant.
   pub turn_kept : (m : Machine) (e : Event) (v : Environment) (m2 : Machine) → Turn rules m e v m2 → Kept rules view m → Kept rules view m2
   turn_kept m event.In NoFault m2 turn k = is_kept _ m2 turn (taken_kept m k)
   turn_kept m event.In DeviceFault m2 turn k = absurd turn
@@ -221,6 +235,7 @@ module _ (rules : Rules) (view : View) (laws : Laws rules view) where
   turn_kept m (event.Purge set n) DeviceFault m2 turn k = is_kept m m2 turn k
   turn_kept m (event.Purge set n) OutOfMemory m2 turn k = is_kept m m2 turn k
 
+  -- Every run keeps it.
   pub run_kept : (m : Machine) (es : List Event) (vs : List Environment) (m2 : Machine) → Runs rules m es vs m2 → Kept rules view m → Kept rules view m2
   run_kept m [] [] m2 runs k = is_kept m m2 runs k
   run_kept m [] (v ∷ vs) m2 runs k = absurd runs
@@ -240,6 +255,7 @@ at_rest_rests rules lines entries past now history = record {
     not_active zero t e = none_is_not_some _ e
     not_active (suc place) t e = not_idle t (mapped_to rules.regions place Idle (Active t) e)
 
+-- it has the invariant
 pub rest_kept : (rules : Rules) (view : View) (m : Machine) → IsAtRest rules m → Kept rules view m
 rest_kept rules view m rest = record {
   history = rest.history;

@@ -1,0 +1,293 @@
+-- The sample run, turn by turn.
+use Rattle.std.proofs.Common.{◌≡◌, ℕ, List, [], ◌∷◌, map, Option, Some, None, inl, inr, refl, sym, ◌∙◌, ap, arith, true, false}
+use Rattle.std.specs.Prelude.{◌==◌, codes}
+use Rattle.std.specs.Fmt.{digits}
+use Rattle.std.specs.List.{Contains, IsDistinct}
+use Rattle.fp_model.specs.declared.database.Db.{Db}
+use Rattle.fp_model.specs.declared.calls.Mode.{Mode}
+use Rattle.fp_model.specs.declared.calls.Mode.TheVariants.{Share, Exclusive}
+use Rattle.fp_model.specs.declared.calls.Resource.TheVariants.{Segment, Anchor}
+use Rattle.fp_model.specs.declared.log.Outcome.TheVariants as outcome
+use Rattle.fp_model.specs.Spellings.{be16}
+use Rattle.fp_model.specs.State.{start}
+use Rattle.fp_model.specs.Fsas.{list_on, first_failure}
+use Rattle.fp_model.specs.Settle.{settle_from}
+use Rattle.fp_model.specs.Answers.{Needed}
+use Rattle.fp_model.specs.Calls.{reply_to, looks_unheld, need_of}
+use Rattle.fp_model.specs.Commit.{settlement, lacking, purged}
+use Rattle.fp_model.specs.Programs.{Ask, Asks, Replies}
+use Rattle.fp_model.specs.Waiting.{without_region, with_request, WaitsAlong, IsCycle}
+use Rattle.fp_model.specs.Machine.{Machine, Transaction, Active, taken_in, with_region, with_entry, entry_here, entry_of, ended_with, sealed_once}
+use Rattle.fp_model.specs.Turns.{Answers, Gains, Waits, Closes, Commits_with, Fails_verify, Runs, Does, begins_in, with_answer, transaction_of, as_lock, asks, wanted}
+use Rattle.serial_order.specs.Sample.{sample_defs, sample_rules, at_start, the_events, no_faults, the_outcomes}
+use Rattle.serial_order.proofs.Lists.{contains_nothing, contains_first, contains_later, contains_cases}
+use Rattle.serial_order.proofs.SampleAsks.{to_change, to_cross, to_verify, to_upgrade, hold_of, change_of_b, verify_of_b, root_get, change_asks_a, change_asks_b, change_asks_repl, change_replies, cross_asks_b, cross_asks_a, verify_asks, verify_replies, upgrade_looks, upgrade_holds, upgrade_replies}
+
+-- ---- the locks that are needed
+
+-- a segment, and the anchor
+abbrev of_segment : List ℕ → Needed
+of_segment key = record { resource = Segment 0 key; mode = Exclusive }
+
+abbrev of_anchor : Mode → Needed
+of_anchor mode = record { resource = Anchor 0 0; mode = mode }
+
+-- the machine with a lock gained, or with a request that stands
+abbrev gained : ℕ → Needed → Machine → Machine
+gained region needed m = record m { locks = as_lock sample_rules region needed ∷ m.locks; requests = without_region region m.requests }
+
+abbrev waiting : ℕ → Needed → Machine → Machine
+waiting region needed m = record m { requests = with_request (as_lock sample_rules region needed) m.requests }
+
+-- the state after B was changed
+abbrev changed : Db
+changed = record (start sample_defs) { msdbs = record { segments = codes "A0" ∷ codes "B1" ∷ [] } ∷ [] }
+
+-- ---- the machines after each turn, and the transactions in them
+
+-- four lines are read
+abbrev m1 : Machine
+m1 = taken_in sample_rules at_start
+
+abbrev m2 : Machine
+m2 = taken_in sample_rules m1
+
+abbrev m3 : Machine
+m3 = taken_in sample_rules m2
+
+abbrev m4 : Machine
+m4 = taken_in sample_rules m3
+
+abbrev change0 : Transaction
+change0 = transaction_of sample_rules m4 to_change
+
+-- three regions begin
+abbrev m5 : Machine
+m5 = begins_in sample_rules m4 1 (to_change ∷ to_cross ∷ to_verify ∷ to_upgrade ∷ [])
+
+abbrev cross0 : Transaction
+cross0 = transaction_of sample_rules m5 to_cross
+
+abbrev m6 : Machine
+m6 = begins_in sample_rules m5 2 (to_cross ∷ to_verify ∷ to_upgrade ∷ [])
+
+abbrev verify0 : Transaction
+verify0 = transaction_of sample_rules m6 to_verify
+
+abbrev m7 : Machine
+m7 = begins_in sample_rules m6 3 (to_verify ∷ to_upgrade ∷ [])
+
+-- the first holds A, the second B; the third looks at B
+abbrev m8 : Machine
+m8 = gained 1 (of_segment (codes "A")) m7
+
+abbrev change1 : Transaction
+change1 = with_answer sample_rules m8 change0 (hold_of (codes "A"))
+
+abbrev m9 : Machine
+m9 = with_region 1 (Active change1) m8
+
+abbrev m10 : Machine
+m10 = gained 2 (of_segment (codes "B")) m9
+
+abbrev cross1 : Transaction
+cross1 = with_answer sample_rules m10 cross0 (hold_of (codes "B"))
+
+abbrev m11 : Machine
+m11 = with_region 2 (Active cross1) m10
+
+abbrev verify1 : Transaction
+verify1 = with_answer sample_rules m11 verify0 verify_of_b
+
+abbrev m12 : Machine
+m12 = with_region 3 (Active verify1) m11
+
+-- the first waits for B, and the second would wait for A
+abbrev m13 : Machine
+m13 = waiting 1 (of_segment (codes "B")) m12
+
+abbrev m14 : Machine
+m14 = ended_with 2 (entry_of cross1 (outcome.Deadlock (2 ∷ 1 ∷ [])) [] [] []) m13.now m13
+
+-- the first holds B, changes it and commits
+abbrev m15 : Machine
+m15 = gained 1 (of_segment (codes "B")) m14
+
+abbrev change2 : Transaction
+change2 = with_answer sample_rules m15 change1 (hold_of (codes "B"))
+
+abbrev m16 : Machine
+m16 = with_region 1 (Active change2) m15
+
+abbrev change3 : Transaction
+change3 = with_answer sample_rules m16 change2 change_of_b
+
+abbrev m17 : Machine
+m17 = with_region 1 (Active change3) m16
+
+abbrev m18 : Machine
+m18 = ended_with 1 (entry_of change3 outcome.Done (codes "CHANGED") change3.notes []) changed m17
+
+-- the third meets the change
+abbrev m19 : Machine
+m19 = gained 3 (of_segment (codes "B")) m18
+
+abbrev m20 : Machine
+m20 = ended_with 3 (entry_of verify1 (outcome.Verify 0 0 (codes "1")) [] verify1.notes []) m19.now m19
+
+abbrev upgrade0 : Transaction
+upgrade0 = transaction_of sample_rules m20 to_upgrade
+
+-- the first region takes the fourth line, shares the anchor and holds it
+abbrev m21 : Machine
+m21 = begins_in sample_rules m20 1 (to_upgrade ∷ [])
+
+abbrev m22 : Machine
+m22 = gained 1 (of_anchor Share) m21
+
+abbrev upgrade1 : Transaction
+upgrade1 = with_answer sample_rules m22 upgrade0 (root_get false)
+
+abbrev m23 : Machine
+m23 = with_region 1 (Active upgrade1) m22
+
+abbrev m24 : Machine
+m24 = gained 1 (of_anchor Exclusive) m23
+
+abbrev upgrade2 : Transaction
+upgrade2 = with_answer sample_rules m24 upgrade1 (root_get true)
+
+abbrev m25 : Machine
+m25 = with_region 1 (Active upgrade2) m24
+
+abbrev m26 : Machine
+m26 = ended_with 1 (entry_of upgrade2 outcome.Done (codes "HELD") upgrade2.notes []) changed m25
+
+-- the area is purged, and the entries are sealed
+abbrev m27 : Machine
+m27 = with_entry (entry_here m26 (outcome.Purge 3 1) [] []) changed m26
+
+abbrev m28 : Machine
+m28 = sealed_once sample_rules m27
+
+-- ---- who waits
+
+-- the only pair
+is_that_pair : (p : ℕ × ℕ) → Contains ((1, 2) ∷ []) p → (p.0 ≡ 1) × (p.1 ≡ 2)
+is_that_pair p c = elim (contains_cases (1, 2) [] p c) [
+  | inl same ↦ (ap (λ (q : ℕ × ℕ). q.0) (sym same), ap (λ (q : ℕ × ℕ). q.1) (sym same))
+  | inr none ↦ absurd (contains_nothing p none)
+]
+
+-- where only the first waits for the second, nobody waits for himself
+only_first : (r : ℕ) (rs : List ℕ) (goal : ℕ) → WaitsAlong ((1, 2) ∷ []) r rs goal → r ≡ 1
+only_first r [] goal w = (is_that_pair (r, goal) w).0
+only_first r (c ∷ cs) goal w = (is_that_pair (r, c) w.0).0
+
+-- where only the first waits there is no cycle
+no_cycle_yet : (cycle : List ℕ) → ¬ IsCycle ((1, 2) ∷ []) (1 ∷ cycle)
+no_cycle_yet [] w = let two : 1 ≡ 2 = (is_that_pair (1, 1) w).1 in absurd (omega (arith, two))
+no_cycle_yet (c ∷ cs) w =
+    let two : c ≡ 2 = (is_that_pair (1, c) w.0).1 in
+    let one : c ≡ 1 = only_first c cs 1 w.1 in
+    absurd (omega (arith, two, one))
+
+-- the regions of the cycle
+two_apart : IsDistinct ◌==◌ (2 ∷ 1 ∷ [])
+unfolding IsDistinct
+two_apart = ((refl, tt), (tt, tt))
+
+-- ---- the turns
+
+-- what a transaction wants, by what it asks
+from_asks : (m : Machine) (region : ℕ) (t : Transaction) (a : Ask) (o : Option Needed) → asks sample_rules t ≡ a → wanted sample_rules m region t a ≡ o → wanted sample_rules m region t (asks sample_rules t) ≡ o
+from_asks m region t a o e f = ap (λ (q : Ask). wanted sample_rules m region t q) e ∙ f
+
+-- the first and the second take their locks
+turn8 : Does sample_rules m7 1 change0 (Gains (of_segment (codes "A"))) m8
+unfolding reply_to looks_unheld need_of list_on first_failure settle_from settlement lacking purged be16 digits
+turn8 = (from_asks m7 1 change0 (Asks (hold_of (codes "A"))) (Some (of_segment (codes "A"))) change_asks_a refl, refl, refl)
+
+turn9 : Does sample_rules m8 1 change0 (Answers (hold_of (codes "A"))) m9
+unfolding reply_to looks_unheld need_of list_on first_failure settle_from settlement lacking purged be16 digits
+turn9 = (change_asks_a, from_asks m8 1 change0 (Asks (hold_of (codes "A"))) None change_asks_a refl, refl)
+
+turn10 : Does sample_rules m9 2 cross0 (Gains (of_segment (codes "B"))) m10
+unfolding reply_to looks_unheld need_of list_on first_failure settle_from settlement lacking purged be16 digits
+turn10 = (from_asks m9 2 cross0 (Asks (hold_of (codes "B"))) (Some (of_segment (codes "B"))) cross_asks_b refl, refl, refl)
+
+turn11 : Does sample_rules m10 2 cross0 (Answers (hold_of (codes "B"))) m11
+unfolding reply_to looks_unheld need_of list_on first_failure settle_from settlement lacking purged be16 digits
+turn11 = (cross_asks_b, from_asks m10 2 cross0 (Asks (hold_of (codes "B"))) None cross_asks_b refl, refl)
+
+-- the third looks at B
+turn12 : Does sample_rules m11 3 verify0 (Answers (verify_of_b)) m12
+unfolding reply_to looks_unheld need_of list_on first_failure settle_from settlement lacking purged be16 digits
+turn12 = (verify_asks, from_asks m11 3 verify0 (Asks verify_of_b) None verify_asks refl, refl)
+
+-- the first waits, and the second closes the cycle
+turn13 : Does sample_rules m12 1 change1 (Waits (of_segment (codes "B"))) m13
+unfolding reply_to looks_unheld need_of list_on first_failure settle_from settlement lacking purged be16 digits
+turn13 = (from_asks m12 1 change1 (Asks (hold_of (codes "B"))) (Some (of_segment (codes "B"))) change_asks_b refl, refl, no_cycle_yet, refl)
+
+turn14 : Does sample_rules m13 2 cross1 (Closes (of_segment (codes "A")) (1 ∷ [])) m14
+unfolding reply_to looks_unheld need_of list_on first_failure settle_from settlement lacking purged be16 digits
+turn14 = (from_asks m13 2 cross1 (Asks (hold_of (codes "A"))) (Some (of_segment (codes "A"))) cross_asks_a refl, (contains_first (2, 1) ((1, 2) ∷ []), contains_later (2, 1) ((1, 2) ∷ []) (1, 2) (contains_first (1, 2) [])), two_apart, refl)
+
+-- the first goes on and commits
+turn15 : Does sample_rules m14 1 change1 (Gains (of_segment (codes "B"))) m15
+unfolding reply_to looks_unheld need_of list_on first_failure settle_from settlement lacking purged be16 digits
+turn15 = (from_asks m14 1 change1 (Asks (hold_of (codes "B"))) (Some (of_segment (codes "B"))) change_asks_b refl, refl, refl)
+
+turn16 : Does sample_rules m15 1 change1 (Answers (hold_of (codes "B"))) m16
+unfolding reply_to looks_unheld need_of list_on first_failure settle_from settlement lacking purged be16 digits
+turn16 = (change_asks_b, from_asks m15 1 change1 (Asks (hold_of (codes "B"))) None change_asks_b refl, refl)
+
+turn17 : Does sample_rules m16 1 change2 (Answers (change_of_b)) m17
+unfolding reply_to looks_unheld need_of list_on first_failure settle_from settlement lacking purged be16 digits
+turn17 = (change_asks_repl, from_asks m16 1 change2 (Asks change_of_b) None change_asks_repl refl, refl)
+
+turn18 : Does sample_rules m17 1 change3 (Commits_with (codes "CHANGED") [] changed) m18
+unfolding reply_to looks_unheld need_of list_on first_failure settle_from settlement lacking purged be16 digits
+turn18 = (change_replies, from_asks m17 1 change3 (Replies (codes "CHANGED")) None change_replies refl, refl, refl)
+
+-- the third meets the change
+turn19 : Does sample_rules m18 3 verify1 (Gains (of_segment (codes "B"))) m19
+unfolding reply_to looks_unheld need_of list_on first_failure settle_from settlement lacking purged be16 digits
+turn19 = (from_asks m18 3 verify1 (Replies (codes "VERIFIED")) (Some (of_segment (codes "B"))) verify_replies refl, refl, refl)
+
+turn20 : Does sample_rules m19 3 verify1 (Fails_verify (codes "VERIFIED") 0 0 (codes "1")) m20
+unfolding reply_to looks_unheld need_of list_on first_failure settle_from settlement lacking purged be16 digits
+turn20 = (verify_replies, from_asks m19 3 verify1 (Replies (codes "VERIFIED")) None verify_replies refl, refl, refl)
+
+-- the fourth line
+turn22 : Does sample_rules m21 1 upgrade0 (Gains (of_anchor Share)) m22
+unfolding reply_to looks_unheld need_of list_on first_failure settle_from settlement lacking purged be16 digits
+turn22 = (from_asks m21 1 upgrade0 (Asks (root_get false)) (Some (of_anchor Share)) upgrade_looks refl, refl, refl)
+
+turn23 : Does sample_rules m22 1 upgrade0 (Answers (root_get false)) m23
+unfolding reply_to looks_unheld need_of list_on first_failure settle_from settlement lacking purged be16 digits
+turn23 = (upgrade_looks, from_asks m22 1 upgrade0 (Asks (root_get false)) None upgrade_looks refl, refl)
+
+turn24 : Does sample_rules m23 1 upgrade1 (Gains (of_anchor Exclusive)) m24
+unfolding reply_to looks_unheld need_of list_on first_failure settle_from settlement lacking purged be16 digits
+turn24 = (from_asks m23 1 upgrade1 (Asks (root_get true)) (Some (of_anchor Exclusive)) upgrade_holds refl, refl, refl)
+
+turn25 : Does sample_rules m24 1 upgrade1 (Answers (root_get true)) m25
+unfolding reply_to looks_unheld need_of list_on first_failure settle_from settlement lacking purged be16 digits
+turn25 = (upgrade_holds, from_asks m24 1 upgrade1 (Asks (root_get true)) None upgrade_holds refl, refl)
+
+turn26 : Does sample_rules m25 1 upgrade2 (Commits_with (codes "HELD") [] changed) m26
+unfolding reply_to looks_unheld need_of list_on first_failure settle_from settlement lacking purged be16 digits
+turn26 = (upgrade_replies, from_asks m25 1 upgrade2 (Replies (codes "HELD")) None upgrade_replies refl, refl, refl)
+
+-- The sample run, with its outcomes.
+pub sample_run : (m : Machine) × (Runs sample_rules at_start the_events no_faults m × (map (λ e. e.outcome) m.entries ≡ the_outcomes))
+unfolding reply_to looks_unheld need_of list_on first_failure settle_from settlement lacking purged be16 digits
+sample_run = (
+  m28,
+  (
+    (m1, refl, (m2, refl, (m3, refl, (m4, refl, (m5, refl, (m6, refl, (m7, refl, (m8, (Gains (of_segment (codes "A")), turn8), (m9, (Answers (hold_of (codes "A")), turn9), (m10, (Gains (of_segment (codes "B")), turn10), (m11, (Answers (hold_of (codes "B")), turn11), (m12, (Answers verify_of_b, turn12), (m13, (Waits (of_segment (codes "B")), turn13), (m14, (Closes (of_segment (codes "A")) (1 ∷ []), turn14), (m15, (Gains (of_segment (codes "B")), turn15), (m16, (Answers (hold_of (codes "B")), turn16), (m17, (Answers change_of_b, turn17), (m18, (Commits_with (codes "CHANGED") [] changed, turn18), (m19, (Gains (of_segment (codes "B")), turn19), (m20, (Fails_verify (codes "VERIFIED") 0 0 (codes "1"), turn20), (m21, refl, (m22, (Gains (of_anchor Share), turn22), (m23, (Answers (root_get false), turn23), (m24, (Gains (of_anchor Exclusive), turn24), (m25, (Answers (root_get true), turn25), (m26, (Commits_with (codes "HELD") [] changed, turn26), (m27, record { items = []; next = changed; is_purged = refl; after = refl }, (m28, refl, refl)))))))))))))))))))))))))))),
+    refl,
+  ),
+)
