@@ -1,5 +1,5 @@
 -- Runs of calls that read of one part alone.
-use Rattle.std.proofs.Common.{ℕ, ◌≡◌, ◌≤◌, ◌<◌, ◌+◌, ◌-◌, min, List, [], ◌++◌, length, take, refl, sym, ◌∙◌, ap, arith, append_assoc, length-append}
+use Rattle.std.proofs.Common.{ℕ, ◌≡◌, ◌≤◌, ◌<◌, ◌+◌, ◌-◌, min, List, ◌++◌, length, take, refl, sym, ◌∙◌, ap, arith, append_assoc, length-append}
 use Rattle.std.proofs.lemmas.List.{length-take, length-take-le, take-take, take-append-le}
 use Rattle.fp_source.specs.declared.part.Part.{Part}
 use Rattle.fp_source.specs.Source.{ReadsOnly}
@@ -8,22 +8,22 @@ use Rattle.fp_source.specs.Source.{ReadsOnly}
 pub reads_none : {S : Type 0} (told : S → Type 0) (left : S → Part → List ℕ) (faults holds : S → ℕ) (keeps : S → S → Type 0) (part : Part) (a : S)
     → ReadsOnly told left faults holds keeps part a a
 reads_none told left faults holds keeps part a = record {
-    later = omega arith;
-    others = λ t p o. refl;
-    stays_told = λ t. t;
-    same_reference = refl;
-    kept = λ first k. k;
+  later = omega arith;
+  others = λ t p o. refl;
+  stays_told = λ t. t;
+  same_reference = refl;
+  kept = λ first k. k;
 }
 
 -- one run after another
 pub reads_joined : {S : Type 0} (told : S → Type 0) (left : S → Part → List ℕ) (faults holds : S → ℕ) (keeps : S → S → Type 0) (part : Part) (a b c : S)
     → ReadsOnly told left faults holds keeps part a b → ReadsOnly told left faults holds keeps part b c → ReadsOnly told left faults holds keeps part a c
 reads_joined told left faults holds keeps part a b c f s = record {
-    later = let x = f.later in let y = s.later in omega arith;
-    others = λ t p o. s.others (f.stays_told t) p o ∙ f.others t p o;
-    stays_told = λ t. s.stays_told (f.stays_told t);
-    same_reference = s.same_reference ∙ f.same_reference;
-    kept = λ first k. s.kept first (f.kept first k);
+  later = let x = f.later in let y = s.later in omega arith;
+  others = λ t p o. s.others (f.stays_told t) p o ∙ f.others t p o;
+  stays_told = λ t. s.stays_told (f.stays_told t);
+  same_reference = s.same_reference ∙ f.same_reference;
+  kept = λ first k. s.kept first (f.kept first k);
 }
 
 -- one call more

@@ -1,14 +1,13 @@
 -- The first of the lines that are ahead.
-use Rattle.std.proofs.Common.{ℕ, zero, suc, ◌≡◌, ◌+◌, ◌-◌, ◌<◌, ◌≤◌, ◌⊎◌, Bool, true, false, List, [], ◌∷◌, ◌++◌, length, refl, sym, ◌∙◌, ap, inl, inr, ⊎_elim, arith, append_assoc, length-append, Option, Some, None}
-use Rattle.std.specs.Prelude.{◌==◌, if◌then◌else◌, nat_lt, slice_get, filter_map, cond}
-use Rattle.std.specs.List.{slice_split, onto_first, enumerate_from, cons_option}
-use Rattle.std.specs.Str.Lines.{lines, lines_of_parts, strip_carriage_return}
-use Rattle.std.proofs.lemmas.List.{append-nil}
+use Rattle.std.proofs.Common.{ℕ, ◌≡◌, ◌+◌, ◌<◌, ◌≤◌, ◌⊎◌, Bool, true, false, List, [], ◌∷◌, ◌++◌, length, refl, sym, ◌∙◌, ap, inl, inr, ⊎_elim, arith, append_assoc, length-append, Some, None}
+use Rattle.std.specs.Prelude.{◌==◌, if◌then◌else◌}
+use Rattle.std.specs.List.{slice_split, onto_first}
+use Rattle.std.specs.Str.Lines.{lines_of_parts, strip_carriage_return}
 use Rattle.std.proofs.lemmas.List.Splits.{slice_split_none, slice_split_at, slice_split-cons_yes, slice_split-cons_no}
 use Rattle.std.proofs.lemmas.List.Elements.{All-nil, All-cons}
 use Rattle.std.proofs.lemmas.Bool.{cases_eq}
 use Rattle.std.proofs.lemmas.Bool.Decides.{nat_tests}
-use Rattle.fp_model.specs.Messages.{LineFault, LineTooLong, TooManyLines, lines_of, raw_lines, but_empty_last, fault_of_line, line_fault}
+use Rattle.fp_model.specs.Messages.{LineFault, LineTooLong, TooManyLines, lines_of, raw_lines, but_empty_last, fault_of_line}
 use Rattle.fp_source.specs.Newlines.{HasNoNewline, HasLongLine}
 use Rattle.fp_source.specs.Lines.{fault_from}
 use Rattle.fp_source.proofs.Pieces.{plain_append}
@@ -78,9 +77,9 @@ splits [] = inr plain_nil
 splits (b ∷ bytes) = ⊎_elim
     (λ is. inl ([], bytes, plain_nil, ap (λ x. x ∷ bytes) is))
     (λ not. ⊎_elim
-        (λ s. inl (b ∷ s.0, s.1, plain_cons b s.0 not s.2, ap (λ xs. b ∷ xs) s.3))
-        (λ plain. inr (plain_cons b bytes not plain))
-        (splits bytes))
+    (λ s. inl (b ∷ s.0, s.1, plain_cons b s.0 not s.2, ap (λ xs. b ∷ xs) s.3))
+    (λ plain. inr (plain_cons b bytes not plain))
+    (splits bytes))
     (cases_eq b 10)
 
 -- where there are bytes there is a line
@@ -97,13 +96,13 @@ long_line bytes it =
     let long = it.long in
     ⊎_elim
     (λ s.
-        let e = s.3 in
-        let whole : bytes ≡ (it.front ++ s.0) ++ 10 ∷ s.1 = joined ∙ rw e (sym (append_assoc it.front s.0 (10 ∷ s.1))) in
-        rw whole (it.front ++ s.0, raw_lines s.1, omega (arith, length-append it.front s.0), raw_first (it.front ++ s.0) s.1 (plain_append it.front s.0 it.plain s.2)))
+    let e = s.3 in
+    let whole : bytes ≡ (it.front ++ s.0) ++ 10 ∷ s.1 = joined ∙ rw e (sym (append_assoc it.front s.0 (10 ∷ s.1))) in
+    rw whole (it.front ++ s.0, raw_lines s.1, omega (arith, length-append it.front s.0), raw_first (it.front ++ s.0) s.1 (plain_append it.front s.0 it.plain s.2)))
     (λ plain.
-        let l : 2100 < length (it.front ++ it.rest) = omega (arith, length-append it.front it.rest) in
-        let some : 0 < length (it.front ++ it.rest) = omega arith in
-        rw joined (it.front ++ it.rest, [], l, raw_last (it.front ++ it.rest) (plain_append it.front it.rest it.plain plain) some))
+    let l : 2100 < length (it.front ++ it.rest) = omega (arith, length-append it.front it.rest) in
+    let some : 0 < length (it.front ++ it.rest) = omega arith in
+    rw joined (it.front ++ it.rest, [], l, raw_last (it.front ++ it.rest) (plain_append it.front it.rest it.plain plain) some))
     (splits it.rest)
 
 -- the fault of a first line that isn't taken,
@@ -152,7 +151,7 @@ pub fault_stays : (given : ℕ) (bytes line rest : List ℕ) (by_newline : Bool)
     → fault_from (given + 1) (raw_lines bytes) ≡ fault_from (given + 1 + 1) (raw_lines rest)
 fault_stays given bytes line rest by_newline it few short =
     ap (fault_from (given + 1)) (raw_given bytes line rest by_newline it)
-        ∙ fault_later (given + 1) line (raw_lines rest) (taken (given + 1) line (omega arith) short)
+    ∙ fault_later (given + 1) line (raw_lines rest) (taken (given + 1) line (omega arith) short)
 
 -- a line more than there may be
 pub many_ahead : (given : ℕ) (bytes : List ℕ) → given ≡ 1000000 → 0 < length bytes → fault_from (given + 1) (raw_lines bytes) ≡ Some (TooManyLines 1000001)

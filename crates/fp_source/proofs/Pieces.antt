@@ -1,8 +1,7 @@
 -- Pieces of lists: what a piece given leaves.
-use Rattle.std.proofs.Common.{ℕ, ◌≡◌, ◌+◌, ◌-◌, ◌<◌, ◌≤◌, ◌⊎◌, ◌^◌, min, Bool, true, false, List, [], ◌∷◌, ◌++◌, length, take, drop, refl, sym, ◌∙◌, ap, inl, inr, ⊎_elim, arith, append_assoc, length-append, length-drop, length-take}
-use Rattle.std.proofs.lemmas.List.{append-nil, drop-drop, take-append-drop, take-append-le, take_at, take_all, drop_at, drop_all, drop-append-le, drop-take, length-take-le}
+use Rattle.std.proofs.Common.{ℕ, ◌≡◌, ◌+◌, ◌-◌, ◌<◌, ◌≤◌, min, Bool, true, false, List, [], ◌∷◌, ◌++◌, length, take, drop, refl, sym, ◌∙◌, ap, inl, inr, ⊎_elim, arith, append_assoc, length-append, length-take}
+use Rattle.std.proofs.lemmas.List.{append-nil, drop-drop, take-append-drop, take_at, drop-take, length-take-le}
 use Rattle.std.proofs.lemmas.List.Elements.{All-append}
-use Rattle.std.proofs.lemmas.Bool.{cases_lt}
 use Rattle.std.specs.Prelude.{◌==◌, if◌then◌else◌}
 use mir.Val.{bool_byte}
 use Rattle.fp_source.specs.Source.{Rose}
@@ -58,36 +57,36 @@ part_taken block part at end taken by_newline le e it =
     let reach = part_reaches part (take (end - at) (drop at block)) _ by_newline it in
     let l : length (take (end - at) (drop at block)) ≡ min (end - at) (length (drop at block)) = length-take (end - at) (drop at block) in
     let later : drop (length part + (if by_newline then 1 else 0)) (take (end - at) (drop at block))
-            ≡ take (end - (at + (length part + (if by_newline then 1 else 0)))) (drop (at + (length part + (if by_newline then 1 else 0))) block)
-        = window_later block at end (length part + (if by_newline then 1 else 0)) (omega arith) in
+    ≡ take (end - (at + (length part + (if by_newline then 1 else 0)))) (drop (at + (length part + (if by_newline then 1 else 0))) block)
+    = window_later block at end (length part + (if by_newline then 1 else 0)) (omega arith) in
     rw (e, ← later) it
 
 -- more than 2,100 bytes before a newline, of which some were taken earlier
 pub long_joined : (line part whole rest : List ℕ) (by_newline : Bool) → HasNoNewline line → IsFirstPart part by_newline whole rest
     → 2100 < length line + length part → HasLongLine (line ++ whole)
 long_joined line part whole rest true plain it long = record {
-    front = line ++ part;
-    rest = 10 ∷ rest;
-    splits = rw (it.up_to refl) (sym (append_assoc line part (10 ∷ rest)));
-    plain = plain_append line part plain it.plain;
-    long = rw length-append long;
+  front = line ++ part;
+  rest = 10 ∷ rest;
+  splits = rw (it.up_to refl) (sym (append_assoc line part (10 ∷ rest)));
+  plain = plain_append line part plain it.plain;
+  long = rw length-append long;
 }
 long_joined line part whole rest false plain it long = record {
-    front = line ++ part;
-    rest = [];
-    splits = rw (it.all refl) (sym (append-nil (line ++ part)));
-    plain = plain_append line part plain it.plain;
-    long = rw length-append long;
+  front = line ++ part;
+  rest = [];
+  splits = rw (it.all refl) (sym (append-nil (line ++ part)));
+  plain = plain_append line part plain it.plain;
+  long = rw length-append long;
 }
 
 -- more bytes behind do not make it shorter
 pub long_extended : (bytes more : List ℕ) → HasLongLine bytes → HasLongLine (bytes ++ more)
 long_extended bytes more it = record {
-    front = it.front;
-    rest = it.rest ++ more;
-    splits = ap (λ xs. xs ++ more) it.splits ∙ append_assoc it.front it.rest more;
-    plain = it.plain;
-    long = it.long;
+  front = it.front;
+  rest = it.rest ++ more;
+  splits = ap (λ xs. xs ++ more) it.splits ∙ append_assoc it.front it.rest more;
+  plain = it.plain;
+  long = it.long;
 }
 
 -- a truth value as a number

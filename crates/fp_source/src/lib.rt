@@ -16,7 +16,7 @@ pub use lines::{LineFault, Lines};
 pub use memory::MemorySource;
 pub use part::Part;
 pub use source::{Failed, Source};
-pub use whole_part::{whole, WholeFault};
+pub use whole_part::{WholeFault, whole};
 
 #[cfg(test)]
 mod tests;

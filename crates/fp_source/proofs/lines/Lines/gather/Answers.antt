@@ -1,4 +1,4 @@
-use Rattle.std.proofs.Common.{◌≡◌, ◌++◌, ℕ, Bool, List, [], Err, sym, ◌∙◌, ap, append_assoc}
+use Rattle.std.proofs.Common.{◌≡◌, ◌++◌, ℕ, List, [], Err, sym, ◌∙◌, ap, append_assoc}
 use Rattle.std.proofs.lemmas.Result.{err_from_is_err_and}
 use Rattle.fp_source.specs.declared.lines.LineFault.{LineFault}
 use Rattle.fp_source.specs.declared.lines.LineFault.TheVariants.{TooLong}
@@ -27,15 +27,15 @@ loop-self-preserved g c =
     let left : List ℕ = g.S.Source.left c.fill.new.source Messages in
     let line : List ℕ = c.loop-self.line.items in
     record {
-        source = reads_joined g.S.Source.told g.S.Source.left g.S.Source.faults g.S.Source.holds g.S.Source.keeps Messages _ _ _ it.source c.in_ok-fill.ensures.source;
-        same = λ t.
-            let whole : to_come c.args.self.now (g.S.Source.left c.args.source.now Messages) ≡ line ++ to_come c.loop-self.self (g.S.Source.left c.loop-self.source Messages) = it.same t in
-            let now : to_come c.fill.new.self left ≡ to_come c.loop-self.self (g.S.Source.left c.loop-self.source Messages) = c.in_ok-fill.ensures.same (it.source.stays_told t) in
-            let all : buffered c.fill.new.self ≡ part.0 = part.1.all c.if-branch-2.false in
-            let nothing : buffered c.take_part.new.self ≡ [] = part.1.nothing c.if-branch-2.false in
-            let more : c.take_part.new.line.items ≡ line ++ part.0 = part.2 in
-            rw (whole, ← now, all, more, nothing) (sym (append_assoc line part.0 left));
-        plain = let more : c.take_part.new.line.items ≡ line ++ part.0 = part.2 in rw more (plain_append line part.0 it.plain part.1.plain);
-        short = c.in_ok-take_part.ensures.short;
-        given = c.in_ok-take_part.ensures.given ∙ c.in_ok-fill.ensures.given ∙ it.given;
+      source = reads_joined g.S.Source.told g.S.Source.left g.S.Source.faults g.S.Source.holds g.S.Source.keeps Messages _ _ _ it.source c.in_ok-fill.ensures.source;
+      same = λ t.
+          let whole : to_come c.args.self.now (g.S.Source.left c.args.source.now Messages) ≡ line ++ to_come c.loop-self.self (g.S.Source.left c.loop-self.source Messages) = it.same t in
+          let now : to_come c.fill.new.self left ≡ to_come c.loop-self.self (g.S.Source.left c.loop-self.source Messages) = c.in_ok-fill.ensures.same (it.source.stays_told t) in
+          let all : buffered c.fill.new.self ≡ part.0 = part.1.all c.if-branch-2.false in
+          let nothing : buffered c.take_part.new.self ≡ [] = part.1.nothing c.if-branch-2.false in
+          let more : c.take_part.new.line.items ≡ line ++ part.0 = part.2 in
+          rw (whole, ← now, all, more, nothing) (sym (append_assoc line part.0 left));
+      plain = let more : c.take_part.new.line.items ≡ line ++ part.0 = part.2 in rw more (plain_append line part.0 it.plain part.1.plain);
+      short = c.in_ok-take_part.ensures.short;
+      given = c.in_ok-take_part.ensures.given ∙ c.in_ok-fill.ensures.given ∙ it.given;
     }

@@ -1,13 +1,9 @@
-use Rattle.std.proofs.Common.{◌≡◌, ◌<◌, ◌≤◌, ◌+◌, ◌++◌, ℕ, Bool, true, false, List, [], Ok, Err, Option, Some, length, sym, ◌∙◌, ap, arith, length-append}
-use Rattle.std.specs.Prelude.{if◌then◌else◌}
-use Rattle.std.specs.Str.Lines.{strip_carriage_return}
+use Rattle.std.proofs.Common.{◌≡◌, ◌<◌, ◌+◌, ℕ, List, Err, length, sym, ◌∙◌, ap, arith, length-append}
 use Rattle.std.proofs.lemmas.Result.{err_from_is_err_and}
-use Rattle.fp_lists.specs.declared.bytes.Bytes.{Bytes}
-use Rattle.fp_model.specs.Messages.{raw_lines, lines_of, LineTooLong, TooManyLines}
 use Rattle.fp_source.specs.declared.part.Part.TheVariants.{Messages}
 use Rattle.fp_source.specs.declared.lines.LineFault.{LineFault}
-use Rattle.fp_source.specs.declared.lines.LineFault.TheVariants.{TooLong, TooMany}
-use Rattle.fp_source.specs.Lines.{buffered, to_come, fault_from}
+use Rattle.fp_source.specs.declared.lines.LineFault.TheVariants.{TooLong}
+use Rattle.fp_source.specs.Lines.{buffered, to_come}
 use Rattle.fp_source.proofs.LineLemmas.{Begins, line_given, fault_stays, many_ahead, long_ahead}
 use Rattle.fp_source.proofs.lines.Lines.next.Given.{Over}
 use Rattle.fp_source.proofs.lines.Lines.next.Goals as goal
@@ -36,7 +32,7 @@ returns-in_err-by_newline-clause-too_long g c = λ t n e.
 -- what the bytes ahead begin with
 begins : (g : Over) (c : goal.After-finished g) → g.S.Source.told c.args.source.now
     → Begins (to_come c.args.self.now (g.S.Source.left c.args.source.now Messages)) c.gather.new.line.items
-        (to_come c.gather.new.self (g.S.Source.left c.gather.new.source Messages)) c.in_ok-by_newline.by_newline
+    (to_come c.gather.new.self (g.S.Source.left c.gather.new.source Messages)) c.in_ok-by_newline.by_newline
 begins g c t =
     let left : List ℕ = g.S.Source.left c.fill.new.source Messages in
     let now : to_come c.fill.new.self left ≡ to_come c.args.self.now (g.S.Source.left c.args.source.now Messages) = c.in_ok-fill.ensures.same t in
@@ -44,11 +40,11 @@ begins g c t =
     let told = c.in_ok-fill.ensures.source.stays_told t in
     let it = c.in_ok-by_newline.ensures in
     record {
-        some = rw (← now) (omega (arith, length-append (buffered c.fill.new.self) left));
-        plain = it.plain;
-        up_to = λ by. rw (← now) (it.by_newline told by);
-        all = λ by. rw (← now) (it.at_end told by);
-        nothing = λ by. it.ended told by;
+      some = rw (← now) (omega (arith, length-append (buffered c.fill.new.self) left));
+      plain = it.plain;
+      up_to = λ by. rw (← now) (it.by_newline told by);
+      all = λ by. rw (← now) (it.at_end told by);
+      nothing = λ by. it.ended told by;
     }
 
 pub returns-clause-line : goal.returns-clause-line
