@@ -1,5 +1,5 @@
 -- Runs of calls that read of one part alone.
-use Rattle.std.proofs.Common.{ℕ, ◌≡◌, ◌≤◌, ◌<◌, ◌+◌, ◌-◌, min, List, [], ◌++◌, length, take, refl, sym, ◌∙◌, ap, arith, append_assoc, length-append}
+use Rattle.std.proofs.Common.{ℕ, ◌≡◌, ◌≤◌, ◌<◌, ◌+◌, ◌-◌, min, List, ◌++◌, length, take, refl, sym, ◌∙◌, ap, arith, append_assoc, length-append}
 use Rattle.std.proofs.lemmas.List.{length-take, length-take-le, take-take, take-append-le}
 use Rattle.fp_source.specs.declared.part.Part.{Part}
 use Rattle.fp_source.specs.Source.{ReadsOnly}

@@ -1,14 +1,13 @@
 -- The first of the lines that are ahead.
-use Rattle.std.proofs.Common.{ℕ, zero, suc, ◌≡◌, ◌+◌, ◌-◌, ◌<◌, ◌≤◌, ◌⊎◌, Bool, true, false, List, [], ◌∷◌, ◌++◌, length, refl, sym, ◌∙◌, ap, inl, inr, ⊎_elim, arith, append_assoc, length-append, Option, Some, None}
-use Rattle.std.specs.Prelude.{◌==◌, if◌then◌else◌, nat_lt, slice_get, filter_map, cond}
-use Rattle.std.specs.List.{slice_split, onto_first, enumerate_from, cons_option}
-use Rattle.std.specs.Str.Lines.{lines, lines_of_parts, strip_carriage_return}
-use Rattle.std.proofs.lemmas.List.{append-nil}
+use Rattle.std.proofs.Common.{ℕ, ◌≡◌, ◌+◌, ◌<◌, ◌≤◌, ◌⊎◌, Bool, true, false, List, [], ◌∷◌, ◌++◌, length, refl, sym, ◌∙◌, ap, inl, inr, ⊎_elim, arith, append_assoc, length-append, Some, None}
+use Rattle.std.specs.Prelude.{◌==◌, if◌then◌else◌}
+use Rattle.std.specs.List.{slice_split, onto_first}
+use Rattle.std.specs.Str.Lines.{lines_of_parts, strip_carriage_return}
 use Rattle.std.proofs.lemmas.List.Splits.{slice_split_none, slice_split_at, slice_split-cons_yes, slice_split-cons_no}
 use Rattle.std.proofs.lemmas.List.Elements.{All-nil, All-cons}
 use Rattle.std.proofs.lemmas.Bool.{cases_eq}
 use Rattle.std.proofs.lemmas.Bool.Decides.{nat_tests}
-use Rattle.fp_model.specs.Messages.{LineFault, LineTooLong, TooManyLines, lines_of, raw_lines, but_empty_last, fault_of_line, line_fault}
+use Rattle.fp_model.specs.Messages.{LineFault, LineTooLong, TooManyLines, lines_of, raw_lines, but_empty_last, fault_of_line}
 use Rattle.fp_source.specs.Newlines.{HasNoNewline, HasLongLine}
 use Rattle.fp_source.specs.Lines.{fault_from}
 use Rattle.fp_source.proofs.Pieces.{plain_append}

@@ -57,23 +57,63 @@ impl Source for Slow {
     }
 }
 
-// Whether the next line is this one.
-fn gives<S: Source>(lines: &mut Lines, source: &mut S, line: &[u8]) -> bool {
-    let next = lines.next(source);
-    matches!(&next, Ok(Some(bytes)) if bytes.as_slice() == line)
+// What a fault of a line is called here.
+fn name_of(fault: LineFault) -> &'static [u8] {
+    match fault {
+        LineFault::TooLong(_) => b"too long",
+        LineFault::Failed => b"failed",
+        LineFault::TooMany(_) => b"too many",
+        LineFault::Memory => b"no memory",
+    }
+}
+
+// All lines, each with a bar behind it, and then how they ended.
+fn lines_text<S: Source>(alloc: Global, source: &mut S) -> Result<Vec<u8>, Fail> {
+    let mut lines = Lines::new(alloc)?;
+    let mut text = Vec::new(alloc);
+    for _ in 0..10000 {
+        match lines.next(source) {
+            Ok(Some(line)) => {
+                text.extend_from_slice(line.as_slice())?;
+                text.push(b'|')?;
+            }
+            Ok(None) => {
+                text.extend_from_slice(b"end")?;
+                return Ok(text);
+            }
+            Err(fault) => {
+                text.extend_from_slice(name_of(fault))?;
+                return Ok(text);
+            }
+        }
+    }
+    Ok(text)
+}
+
+// A part, or why it isn't given.
+fn part_text<S: Source>(
+    alloc: Global,
+    source: &mut S,
+    part: Part,
+    limit: u64,
+) -> Result<Vec<u8>, Fail> {
+    match whole(alloc, source, part, limit) {
+        Ok(bytes) => Ok(bytes.into_vec()),
+        Err(WholeFault::TooLong) => Ok(Vec::from_slice(alloc, b"too long")?),
+        Err(WholeFault::Failed) => Ok(Vec::from_slice(alloc, b"failed")?),
+        Err(WholeFault::Memory) => Ok(Vec::from_slice(alloc, b"no memory")?),
+    }
 }
 
 #[test]
 fn a_read_gives_what_fits_and_then_the_rest(rt: HostRuntime) -> Result<(), Fail> {
     let mut source = source_of(rt.alloc(), b"", &[1])?;
     let mut into = [0u8; 5];
-    assert_eq!(rt; source.read(Part::Scripts, &mut into), Ok(5));
-    assert_eq!(rt; into.as_slice(), b"scrip".as_slice());
-    assert_eq!(rt; source.read(Part::Scripts, &mut into), Err(Failed));
-    assert_eq!(rt; source.read(Part::Scripts, &mut into), Ok(2));
-    assert_eq!(rt; &into[..2], b"ts".as_slice());
-    assert_eq!(rt; source.read(Part::Scripts, &mut into), Ok(0));
-    assert_eq!(rt; source.read(Part::Schedule, &mut into), Ok(0));
+    let first = source.read(Part::Scripts, &mut into);
+    let second = source.read(Part::Scripts, &mut into);
+    let third = source.read(Part::Scripts, &mut into);
+    assert_eq!(rt; (first, second, third), (Ok(5), Err(Failed), Ok(2)));
+    assert_eq!(rt; into.first(), Some(&b't'));
     assert_eq!(rt; source.faults(), 1);
     Ok(())
 }
@@ -82,23 +122,13 @@ fn a_read_gives_what_fits_and_then_the_rest(rt: HostRuntime) -> Result<(), Fail>
 fn a_part_is_whole_up_to_its_limit(rt: HostRuntime) -> Result<(), Fail> {
     let alloc = rt.alloc();
     let long = letters(alloc, 70000, b"")?;
-    let mut source = source_of(alloc, &long, &[])?;
-    let all = whole(alloc, &mut source, Part::Messages, 70000);
-    assert!(rt; matches!(&all, Ok(bytes) if bytes.as_slice() == long.as_slice()));
-    let defs = whole(alloc, &mut source, Part::Definitions, 4);
-    assert!(rt; matches!(&defs, Ok(bytes) if bytes.as_slice() == b"defs".as_slice()));
-    let short = whole(alloc, &mut source, Part::Scripts, 6);
-    assert!(rt; matches!(short, Err(WholeFault::TooLong)));
-    Ok(())
-}
-
-#[test]
-fn a_read_that_fails_halfway_is_told(rt: HostRuntime) -> Result<(), Fail> {
-    let alloc = rt.alloc();
-    let long = letters(alloc, 70000, b"")?;
-    let mut source = source_of(alloc, &long, &[1])?;
-    let part = whole(alloc, &mut source, Part::Messages, 70000);
-    assert!(rt; matches!(part, Err(WholeFault::Failed)));
+    let mut source = source_of(alloc, &long, &[3])?;
+    let all = part_text(alloc, &mut source, Part::Messages, 70000)?;
+    assert!(rt; all == long);
+    let failed = part_text(alloc, &mut source, Part::Definitions, 4)?;
+    assert_eq!(rt; failed.as_slice(), b"failed".as_slice());
+    let short = part_text(alloc, &mut source, Part::Scripts, 6)?;
+    assert_eq!(rt; short.as_slice(), b"too long".as_slice());
     Ok(())
 }
 
@@ -106,64 +136,54 @@ fn a_read_that_fails_halfway_is_told(rt: HostRuntime) -> Result<(), Fail> {
 fn lines_lose_their_ends(rt: HostRuntime) -> Result<(), Fail> {
     let alloc = rt.alloc();
     let mut source = source_of(alloc, b"one\n\r\n\ntwo\r\r\nl\rast\r", &[])?;
-    let mut lines = Lines::new(alloc)?;
-    assert!(rt; gives(&mut lines, &mut source, b"one"));
-    assert!(rt; gives(&mut lines, &mut source, b""));
-    assert!(rt; gives(&mut lines, &mut source, b""));
-    assert!(rt; gives(&mut lines, &mut source, b"two\r"));
-    assert!(rt; gives(&mut lines, &mut source, b"l\rast\r"));
-    assert!(rt; matches!(lines.next(&mut source), Ok(None)));
-    assert!(rt; matches!(lines.next(&mut source), Ok(None)));
+    let text = lines_text(alloc, &mut source)?;
+    assert_eq!(rt; text.as_slice(), b"one|||two\r|l\rast\r|end".as_slice());
     Ok(())
 }
 
 #[test]
-fn a_line_has_at_most_2100_bytes(rt: HostRuntime) -> Result<(), Fail> {
+fn a_line_of_2100_bytes_is_given(rt: HostRuntime) -> Result<(), Fail> {
     let alloc = rt.alloc();
     let line = letters(alloc, 2099, b"\r\n")?;
     let mut source = source_of(alloc, &line, &[])?;
-    let mut lines = Lines::new(alloc)?;
-    assert!(rt; gives(&mut lines, &mut source, &line[..2099]));
-    let long = letters(alloc, 2100, b"\r\n")?;
-    let mut source = source_of(alloc, &long, &[])?;
-    let mut lines = Lines::new(alloc)?;
-    assert!(rt; matches!(lines.next(&mut source), Err(LineFault::TooLong(1))));
-    let last = letters(alloc, 2101, b"")?;
-    let mut source = source_of(alloc, &last, &[])?;
-    let mut lines = Lines::new(alloc)?;
-    assert!(rt; matches!(lines.next(&mut source), Err(LineFault::TooLong(1))));
+    let text = lines_text(alloc, &mut source)?;
+    assert!(rt; text == letters(alloc, 2099, b"|end")?);
+    Ok(())
+}
+
+#[test]
+fn a_line_of_2101_bytes_is_too_long(rt: HostRuntime) -> Result<(), Fail> {
+    let alloc = rt.alloc();
+    let line = letters(alloc, 2100, b"\r\n")?;
+    let mut source = source_of(alloc, &line, &[])?;
+    let text = lines_text(alloc, &mut source)?;
+    assert_eq!(rt; text.as_slice(), b"too long".as_slice());
     Ok(())
 }
 
 #[test]
 fn a_failing_read_in_mid_line_is_told(rt: HostRuntime) -> Result<(), Fail> {
     let alloc = rt.alloc();
-    let mut text = vec![in alloc; b'\n'; 8190]?;
-    text.extend_from_slice(b"abcdef\n")?;
-    let mut source = source_of(alloc, &text, &[1])?;
-    let mut lines = Lines::new(alloc)?;
-    for _ in 0..8190 {
-        assert!(rt; gives(&mut lines, &mut source, b""));
-    }
-    assert!(rt; matches!(lines.next(&mut source), Err(LineFault::Failed)));
-    assert_eq!(rt; source.faults(), 1);
+    let mut messages = vec![in alloc; b'\n'; 8190]?;
+    messages.extend_from_slice(b"abcdef\n")?;
+    let mut source = source_of(alloc, &messages, &[1])?;
+    let mut wanted = vec![in alloc; b'|'; 8190]?;
+    wanted.extend_from_slice(b"failed")?;
+    let text = lines_text(alloc, &mut source)?;
+    assert!(rt; text == wanted);
     Ok(())
 }
 
 #[test]
-fn one_byte_a_read_gives_the_same_lines(rt: HostRuntime) -> Result<(), Fail> {
+fn one_byte_a_read_gives_the_same(rt: HostRuntime) -> Result<(), Fail> {
     let alloc = rt.alloc();
     let bytes = Bytes::from_slice(alloc, b"one\r\ntwo\n\nlast")?;
     let mut source = Slow { bytes, at: 0 };
-    let mut lines = Lines::new(alloc)?;
-    assert!(rt; gives(&mut lines, &mut source, b"one"));
-    assert!(rt; gives(&mut lines, &mut source, b"two"));
-    assert!(rt; gives(&mut lines, &mut source, b""));
-    assert!(rt; gives(&mut lines, &mut source, b"last"));
-    assert!(rt; matches!(lines.next(&mut source), Ok(None)));
-    let bytes = Bytes::from_slice(alloc, b"one byte a read")?;
+    let text = lines_text(alloc, &mut source)?;
+    assert_eq!(rt; text.as_slice(), b"one|two||last|end".as_slice());
+    let bytes = Bytes::from_slice(alloc, b"a byte a read")?;
     let mut source = Slow { bytes, at: 0 };
-    let all = whole(alloc, &mut source, Part::Messages, 15);
-    assert!(rt; matches!(&all, Ok(bytes) if bytes.as_slice() == b"one byte a read".as_slice()));
+    let all = part_text(alloc, &mut source, Part::Messages, 13)?;
+    assert_eq!(rt; all.as_slice(), b"a byte a read".as_slice());
     Ok(())
 }

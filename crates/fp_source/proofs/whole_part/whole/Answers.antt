@@ -1,6 +1,5 @@
-use Rattle.std.proofs.Common.{◌≡◌, ◌<◌, ◌≤◌, ◌+◌, ◌-◌, ◌++◌, ℕ, List, [], length, take, refl, sym, ◌∙◌, ap, arith}
+use Rattle.std.proofs.Common.{◌≡◌, ◌++◌, [], take, refl, sym, arith}
 use Rattle.std.proofs.lemmas.List.{append-nil}
-use Rattle.fp_source.specs.Source.{ReadsOnly}
 use Rattle.fp_source.proofs.Pieces.{rose_since}
 use Rattle.fp_source.proofs.Calls.{reads_none, reads_on, piece_more, more_than, front_kept, some_kept, within}
 use Rattle.fp_source.proofs.whole_part.whole.Goals as goal

@@ -1,4 +1,4 @@
-use Rattle.std.proofs.Common.{◌≡◌, ◌≤◌, ◌++◌, ◌-◌, ℕ, List, length}
+use Rattle.std.proofs.Common.{◌≡◌, ◌≤◌, ◌++◌, ◌-◌, length}
 use Rattle.fp_source.specs.Source.{ReadsOnly}
 use Rattle.fp_source.specs.Newlines.{HasNoNewline}
 use Rattle.fp_source.specs.Lines.{to_come, lines_given}

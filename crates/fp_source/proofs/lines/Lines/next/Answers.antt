@@ -1,13 +1,9 @@
-use Rattle.std.proofs.Common.{◌≡◌, ◌<◌, ◌≤◌, ◌+◌, ◌++◌, ℕ, Bool, true, false, List, [], Ok, Err, Option, Some, length, sym, ◌∙◌, ap, arith, length-append}
-use Rattle.std.specs.Prelude.{if◌then◌else◌}
-use Rattle.std.specs.Str.Lines.{strip_carriage_return}
+use Rattle.std.proofs.Common.{◌≡◌, ◌<◌, ◌+◌, ℕ, List, Err, length, sym, ◌∙◌, ap, arith, length-append}
 use Rattle.std.proofs.lemmas.Result.{err_from_is_err_and}
-use Rattle.fp_lists.specs.declared.bytes.Bytes.{Bytes}
-use Rattle.fp_model.specs.Messages.{raw_lines, lines_of, LineTooLong, TooManyLines}
 use Rattle.fp_source.specs.declared.part.Part.TheVariants.{Messages}
 use Rattle.fp_source.specs.declared.lines.LineFault.{LineFault}
-use Rattle.fp_source.specs.declared.lines.LineFault.TheVariants.{TooLong, TooMany}
-use Rattle.fp_source.specs.Lines.{buffered, to_come, fault_from}
+use Rattle.fp_source.specs.declared.lines.LineFault.TheVariants.{TooLong}
+use Rattle.fp_source.specs.Lines.{buffered, to_come}
 use Rattle.fp_source.proofs.LineLemmas.{Begins, line_given, fault_stays, many_ahead, long_ahead}
 use Rattle.fp_source.proofs.lines.Lines.next.Given.{Over}
 use Rattle.fp_source.proofs.lines.Lines.next.Goals as goal

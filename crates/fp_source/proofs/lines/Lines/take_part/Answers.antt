@@ -1,4 +1,4 @@
-use Rattle.std.proofs.Common.{◌≡◌, ◌<◌, ◌≤◌, ◌+◌, ◌-◌, ◌∷◌, ◌++◌, ℕ, List, [], arith, length, ◌∙◌}
+use Rattle.std.proofs.Common.{arith, ◌∙◌}
 use Rattle.fp_source.proofs.Pieces.{part_taken, long_joined, as_number}
 use Rattle.fp_source.proofs.lines.Lines.take_part.Goals as goal
 

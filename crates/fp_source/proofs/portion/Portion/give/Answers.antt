@@ -1,4 +1,4 @@
-use Rattle.std.proofs.Common.{ℕ, ◌≤◌, ◌≡◌, ◌-◌, List, length, arith, length-drop, take, drop}
+use Rattle.std.proofs.Common.{ℕ, ◌≡◌, ◌-◌, List, length, arith, take, drop}
 use Rattle.std.proofs.lemmas.List.{take_rest}
 use Rattle.fp_source.proofs.Pieces.{piece_given}
 use Rattle.fp_source.proofs.portion.Portion.give.Goals as goal
