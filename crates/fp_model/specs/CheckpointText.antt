@@ -29,13 +29,13 @@ IsOpen bytes = slice_index bytes 0 ≡ 1
 pub record IsMsdbOf (def : MsdbDef) (msdb : Msdb) : Type 0 where
   pub lengths : AllByRecursion (λ segment. length segment ≡ def.length) msdb.segments
   pub in_order : IsTrue (ascend (map (key_of def.fields) msdb.segments))
-  pub few : length msdb.segments < 2 ^ 32
 
 -- what a checkpoint may hold: other numbers are damage
 pub record IsCheckpoint (defs : List MsdbDef) (number at count : ℕ) (msdbs : List Msdb) : Type 0 where
   pub number_fits : number < 2 ^ 64
   pub place : at ≤ 2 ^ 62
   pub entries : count ≤ at
+  pub few : AllByRecursion (λ (msdb : Msdb). length msdb.segments < 2 ^ 32) msdbs
   pub databases : AllZip IsMsdbOf defs msdbs
 
 -- bytes that begin with such a checkpoint, open; what stands behind it means nothing

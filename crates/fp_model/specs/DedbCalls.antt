@@ -140,15 +140,15 @@ module _ (def : DedbDef) (dedb : ℕ) where
   parent_after get.Next before place = Some place
   parent_after get.NextInParent before place = before
 
-  abbrev pub segment_of_path : List Step → ℕ
-  segment_of_path path = option_map_or (λ s. s.segment) (last_step path) 0
+  abbrev pub type_of_path : List Step → ℕ
+  type_of_path path = option_map_or (λ s. s.segment) (last_step path) 0
 
   abbrev pub found_or : List ℕ → Get → Bool → Workspace → Option (ℕ × Shown) → Replied
   found_or status get hold own None = refused own status
   found_or status get hold own (Some found) =
       let place : Place = record { anchor = found.0; path = found.1.path } in
       record {
-        answer = showing (segment_of_path found.1.path) found.1.bytes;
+        answer = showing (type_of_path found.1.path) found.1.bytes;
         own = with_position (record { place = Some place; parent = parent_after get (position_of own).parent place; held = hold }) own;
       }
 
@@ -236,7 +236,7 @@ module _ (def : DedbDef) (dedb : ℕ) where
   abbrev pub repl_reply : Db → Workspace → List ℕ → Option Place → Replied
   repl_reply db own bytes None = refused own (codes "DJ")
   repl_reply db own bytes (Some place) =
-      let type : ℕ = segment_of_path place.path in
+      let type : ℕ = type_of_path place.path in
       if is_sequential def.segments type then refused own (codes "AM")
       else if same_text (key_in def.segments type bytes) (key_of_path place.path) then record { answer = answered blank; own = edit_at db own place (Replaces bytes) }
       else refused own (codes "DA")
@@ -254,7 +254,7 @@ module _ (def : DedbDef) (dedb : ℕ) where
   abbrev pub dlet_reply : Db → Workspace → Option Place → Replied
   dlet_reply db own None = refused own (codes "DJ")
   dlet_reply db own (Some place) =
-      if is_sequential def.segments (segment_of_path place.path) then refused own (codes "AM")
+      if is_sequential def.segments (type_of_path place.path) then refused own (codes "AM")
       else record { answer = answered blank; own = deleted db own place }
 
   -- ---- the answer to a call, and the lock that it needs first

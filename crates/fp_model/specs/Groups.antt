@@ -20,8 +20,8 @@ pub record HoldsGroups (bytes : List ℕ) (at : ℕ) (groups : List (List Entry)
   pub next : gate ≡ at + length (groups_text groups)
   pub text : drop at bytes ≡ groups_text groups ++ drop gate bytes
 
--- Damage: an open gate with no group behind it. The body's length is 0 or passes the end of the bytes, or the
--- body isn't whole entries.
+-- Damage: an open gate with no group behind it. So the length is cut short or 0, or passes the end of the bytes,
+-- or the body isn't whole entries that keep the rules.
 pub record IsDamaged (bytes : List ℕ) (at : ℕ) : Type 0 where
   pub gate : slice_index bytes at ≡ 1
   pub no_group : (entries : List Entry) (rest : List ℕ) → IsGroup entries → drop at bytes ≢ group_text entries ++ rest

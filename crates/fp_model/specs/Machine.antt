@@ -50,7 +50,7 @@ abbrev pub at_rest : Rules → List (List ℕ) → List Entry → List Db → Db
 at_rest rules lines entries past now = record {
   lines = lines;
   held = None;
-  queues = replicate rules.groups [];
+  queues = replicate rules.group_count [];
   busy = [];
   entries = entries;
   sealed = length entries;

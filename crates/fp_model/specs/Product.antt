@@ -25,7 +25,7 @@ if_script scripts (Ok message) = if is_some (script_of scripts message.tran) the
 abbrev pub request_of : List Script → List ℕ → Option Message
 request_of scripts line = if_script scripts (message_of line)
 
--- what the script that the message names asks after these answers
+-- what the script that the message names asks after these answers; a message that names none is no request
 abbrev pub asked_by : Defs → List Script → Message → List Answer → Ask
 asked_by defs scripts message answers = option_map_or (λ script. ask defs script.statements message answers) (script_of scripts message.tran) (Replies [])
 
@@ -38,8 +38,8 @@ is_anchor_of_set defs set (Segment msdb key) = false
 is_anchor_of_set defs set (Anchor dedb anchor) = option_map_or (λ area. has_anchor area dedb anchor) (area_of_set defs set) false
 
 -- the balancing groups: as many as the greatest number of one
-abbrev pub group_count : Defs → ℕ
-group_count defs = fold max 0 defs.regions
+abbrev pub groups_of : Defs → ℕ
+groups_of defs = fold max 0 defs.regions
 
 abbrev pub rules_of : Defs → List Script → Rules
 rules_of defs scripts = record {
@@ -58,7 +58,7 @@ rules_of defs scripts = record {
   purged = purged defs;
   is_in_area = is_anchor_of_set defs;
   regions = defs.regions;
-  groups = group_count defs;
-  group_of = λ message. group_of defs.router (group_count defs) message.tran;
+  group_count = groups_of defs;
+  group_of = λ message. group_of defs.router (groups_of defs) message.tran;
   log_group = defs.log_group;
 }

@@ -1,5 +1,5 @@
 -- What a script asks: a function of the message and of the answers that its calls were given.
-use Rattle.std.specs.Prelude.{ℕ, zero, suc, ◌+◌, ◌-◌, ◌*◌, ◌^◌, min, max, List, [], ◌∷◌, ◌++◌, length, map, sum, Bool, true, false, not, ◌&&◌, ◌||◌, ◌==◌, nat_lt, nat_le, if◌then◌else◌, Option, Some, None, option_map, unwrap_or, find, slice_get, ℤ, pos, ◌+ℤ◌, ◌-ℤ◌, ◌*ℤ◌, unsigned_abs}
+use Rattle.std.specs.Prelude.{ℕ, zero, suc, ◌+◌, ◌-◌, ◌*◌, ◌^◌, min, max, List, [], ◌∷◌, ◌++◌, length, map, sum, Bool, true, false, not, ◌&&◌, ◌==◌, nat_lt, nat_le, if◌then◌else◌, Option, Some, None, option_map, unwrap_or, find, slice_get, ℤ, pos, ◌+ℤ◌, ◌-ℤ◌, ◌*ℤ◌, unsigned_abs}
 use Rattle.std.specs.List.{list_all}
 use Rattle.std.specs.Option.{option_map_or}
 use Rattle.std.specs.declared.cmp.Ordering.{Ordering}
@@ -26,6 +26,7 @@ use Rattle.fp_model.specs.declared.scripts.Statement.TheOpen.{Statement-F, Set, 
 use Rattle.fp_model.specs.declared.scripts.Statement.TheFolds.{fold-Statement}
 use Rattle.fp_model.specs.declared.scripts.Script.{Script}
 use Rattle.fp_model.specs.Texts.{same_text, is_printable, trimmed, padded, number_in, decimal_text}
+use Rattle.fp_model.specs.Messages.{is_separator}
 use Rattle.fp_model.specs.Numbers.{number, bytes_of}
 use Rattle.fp_model.specs.State.{key_length}
 use Rattle.fp_model.specs.Fsas.{Fsa, list_text, field_bytes, with_field, field_of, is_text}
@@ -38,14 +39,10 @@ None >>= f = None
 
 -- ---- values
 
--- blanks between the words of a message: spaces and tabs
-abbrev pub is_gap : ℕ → Bool
-is_gap b = b == 32 || b == 9
-
 -- whether a text begins with a byte of a word
 abbrev pub begins_word : List ℕ → Bool
 begins_word [] = false
-begins_word (b ∷ bs) = not (is_gap b)
+begins_word (b ∷ bs) = not (is_separator b)
 
 -- a byte at the front of the first word, or a word of its own
 abbrev pub at_front : Bool → ℕ → List (List ℕ) → List (List ℕ)
@@ -56,7 +53,7 @@ at_front false b ws = (b ∷ []) ∷ ws
 -- the words of a text
 abbrev pub words : List ℕ → List (List ℕ)
 words [] = []
-words (b ∷ bs) = if is_gap b then words bs else at_front (begins_word bs) b (words bs)
+words (b ∷ bs) = if is_separator b then words bs else at_front (begins_word bs) b (words bs)
 
 -- `#0` is the whole text, and `#1` and on its words; a missing one is empty
 abbrev pub word_of : List ℕ → ℕ → List ℕ

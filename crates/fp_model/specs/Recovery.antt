@@ -1,18 +1,17 @@
 -- What the bytes of a log mean: the state that a restart gives.
-use Rattle.std.specs.Prelude.{◌≡◌, ℕ, List, ◌++◌}
+use Rattle.std.specs.Prelude.{ℕ, List}
 use Rattle.fp_model.specs.declared.definitions.Defs.{Defs}
 use Rattle.fp_model.specs.declared.database.Db.{Db}
 use Rattle.fp_model.specs.declared.log.Entry.{Entry}
 use Rattle.fp_model.specs.declared.scripts.Script.{Script}
-use Rattle.fp_model.specs.LogText.{Front, front_text, first_gate}
+use Rattle.fp_model.specs.LogText.{Front, StartsWithFront, first_gate}
 use Rattle.fp_model.specs.Groups.{Groups, Reads, entries_of}
 use Rattle.fp_model.specs.History.{IsSerialHistory}
 use Rattle.fp_model.specs.Product.{rules_of}
 
 -- The log begins with the open front, and holds these groups up to a gate that isn't open.
 pub record Holds (front : Front) (bytes : List ℕ) (groups : List (List Entry)) (gate : ℕ) : Type 0 where
-  pub behind : List ℕ
-  pub begins : bytes ≡ front_text 1 front ++ behind
+  pub begins : StartsWithFront bytes front
   pub reads : Reads bytes (first_gate front) (Groups groups gate)
 
 -- the front of a log of these definitions, with the text of the scripts

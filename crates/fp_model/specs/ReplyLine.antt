@@ -30,9 +30,9 @@ verdict Unknown reply = Some (codes "NO UNKNOWN")
 verdict (Purge set n) reply = None
 
 -- a line: to whom, a blank, what, and a newline
-abbrev pub line_to : List ℕ → List ℕ → List ℕ
-line_to terminal text = terminal ++ 32 ∷ text ++ 10 ∷ []
+abbrev pub line_for : List ℕ → List ℕ → List ℕ
+line_for terminal text = terminal ++ 32 ∷ text ++ 10 ∷ []
 
 -- the reply line of an entry; no bytes for a Purge
 abbrev pub line_of : Entry → List ℕ
-line_of e = option_map_or (line_to (addressee (terminal_of e.line))) (verdict e.outcome e.reply) []
+line_of e = option_map_or (line_for (addressee (terminal_of e.line))) (verdict e.outcome e.reply) []

@@ -24,8 +24,9 @@ pub record Rules : Type 0 where
   pub terminal_of : List ℕ → Option Name
   -- the reply line of an entry
   pub line_of : Entry → List ℕ
-  -- what the message's script asks after these answers, and more calls than this it doesn't make
+  -- what the message's script asks after these answers
   pub ask : Message → List Answer → Ask
+  -- its script makes at most so many calls
   pub budget : Message → ℕ
   -- the answer to a call on a state, with unheld looks on a second one
   pub reply_to : Db → Db → Workspace → Call → Replied
@@ -43,7 +44,7 @@ pub record Rules : Type 0 where
   pub is_in_area : ℕ → Resource → Bool
   -- the balancing group of each region, how many groups there are, and the group of a message; groups count from 1
   pub regions : List ℕ
-  pub groups : ℕ
+  pub group_count : ℕ
   pub group_of : Message → ℕ
   -- the most entries of a group
   pub log_group : ℕ

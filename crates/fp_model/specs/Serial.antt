@@ -23,7 +23,7 @@ pub record Part : Type 0 where
   pub answers : List Answer
   pub own : Workspace
 
--- the state at a place, of states oldest first
+-- the state at a place, of states oldest first; a note of an entry lies within them
 abbrev pub state_at : Db → List Db → ℕ → Db
 state_at start states place = unwrap_or (slice_get states place) start
 

@@ -16,7 +16,7 @@ pub data Settled : Type 0 where
 
 -- what one call of the queue comes to: the new databases, or the FSA that fails and the bytes found
 pub data Applied : Type 0 where
-  Stays : List Msdb → Applied
+  Becomes : List Msdb → Applied
   Fails : ℕ → List ℕ → Applied
 
 -- the failure where the segment is absent: the FSA 65,535, and nothing found
@@ -58,18 +58,18 @@ module _ (defs : List MsdbDef) where
   -- one call: a field call fails or makes its changes; the others put their segment
   abbrev pub applied : Deferred → List Msdb → Applied
   applied (Fld number key fsas) msdbs = elim (fld_failure number key fsas msdbs) [
-    | None ↦ Stays (with_msdb number (with_field_changes key fsas) msdbs)
+    | None ↦ Becomes (with_msdb number (with_field_changes key fsas) msdbs)
     | Some failure ↦ Fails failure.place failure.found
   ]
-  applied (Repl number bytes) msdbs = Stays (with_msdb number (λ def msdb. with_segment def bytes msdb) msdbs)
-  applied (Isrt number bytes) msdbs = Stays (with_msdb number (λ def msdb. with_segment def bytes msdb) msdbs)
-  applied (Dlet number key) msdbs = Stays (with_msdb number (λ def msdb. without_segment def key msdb) msdbs)
+  applied (Repl number bytes) msdbs = Becomes (with_msdb number (λ def msdb. with_segment def bytes msdb) msdbs)
+  applied (Isrt number bytes) msdbs = Becomes (with_msdb number (λ def msdb. with_segment def bytes msdb) msdbs)
+  applied (Dlet number key) msdbs = Becomes (with_msdb number (λ def msdb. without_segment def key msdb) msdbs)
 
   -- the queue whose first call has that place, each call on what those before it left
   unfoldable pub settle_from : ℕ → List Msdb → List Deferred → Settled
   settle_from place msdbs [] = Stands msdbs
   settle_from place msdbs (call ∷ calls) = elim (applied call msdbs) [
-    | Stays changed ↦ settle_from (place + 1) changed calls
+    | Becomes changed ↦ settle_from (place + 1) changed calls
     | Fails fsa found ↦ VerifyFails place fsa found
   ]
 

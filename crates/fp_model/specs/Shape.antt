@@ -78,7 +78,8 @@ is_anchor def anchor ends roots =
 abbrev pub are_ends : ℕ → AreaEnds → Bool
 are_ends capacity ends = nat_le 1 ends.begin && nat_le ends.begin ends.end && nat_le (ends.end - ends.begin) capacity && nat_le ends.end (2 ^ 62)
 
--- Every anchor of every area is in shape, and so are the ends of each area.
+-- Every anchor of every area is in shape, and so are the ends of each area. The areas are numbered here as those of one
+-- database alone.
 pub record IsDedbOf (def : DedbDef) (dedb : Dedb) : Type 0 where
   pub anchors : length dedb.anchors ≡ anchor_count def
   pub areas : AllZip (λ area ends. are_ends area.capacity ends ≡ true) def.areas dedb.areas

@@ -342,7 +342,7 @@ module _ (defs : Defs) (held : Resource → Option Mode) where
     repl_dedb_covers : (db : Db) (bytes : List ℕ) (o : Option Place) → dedb.held_need def number held o ≡ None → Covers defs (dedb.repl_reply def number db own bytes o).own held
     repl_dedb_covers db bytes None need = refused_covers
     repl_dedb_covers db bytes (Some place) need =
-        let type : ℕ = dedb.segment_of_path def number place.path in
+        let type : ℕ = dedb.type_of_path def number place.path in
         let done : Replied = record { answer = answered blank; own = dedb.edit_at def number db own place (Replaces bytes) } in
         let last : Replied = if same_text (key_in def.segments type bytes) (dedb.key_of_path def number place.path) then done else dedb.refused def number own (codes "DA") in
         either_dedb (is_sequential def.segments type) (dedb.refused def number own (codes "AM")) last
@@ -363,7 +363,7 @@ module _ (defs : Defs) (held : Resource → Option Mode) where
           changes = k.changes;
           inserts = all_map_filter (IsExclusive held) (insert_claim defs) (λ (i : SeqInsert). not (dedb.goes_with def number place i)) own.inserts c.inserts;
         } in
-        either_dedb (is_sequential def.segments (dedb.segment_of_path def number place.path)) (dedb.refused def number own (codes "AM")) (record { answer = answered blank; own = dedb.deleted def number db own place })
+        either_dedb (is_sequential def.segments (dedb.type_of_path def number place.path)) (dedb.refused def number own (codes "AM")) (record { answer = answered blank; own = dedb.deleted def number db own place })
         (λ e. refused_covers)
         (λ e. placed (record (dedb.position_of def number after) { parent = None }) (record after { inserts = filter (λ (i : SeqInsert). not (dedb.goes_with def number place i)) own.inserts }) left)
 

@@ -21,7 +21,7 @@ use Rattle.fp_model.specs.declared.calls.Resource.TheVariants.{Segment, Anchor}
 use Rattle.fp_model.specs.declared.calls.SeqInsert.{SeqInsert}
 use Rattle.fp_model.specs.State.{key_length, key_of, segment_of, with_segment, without_segment, Area, areas_of, with_roots}
 use Rattle.fp_model.specs.Fsas.{Failure}
-use Rattle.fp_model.specs.Settle.{Settled, Stands, VerifyFails, Applied, Stays, Fails, with_msdb, fld_failure, with_field_changes, applied, settle_from, settle, resources}
+use Rattle.fp_model.specs.Settle.{Settled, Stands, VerifyFails, Applied, Becomes, Fails, with_msdb, fld_failure, with_field_changes, applied, settle_from, settle, resources}
 use Rattle.fp_model.specs.Commit.{Commits, FailsVerify, FillsPart, with_anchors, with_insert, with_inserts, with_msdbs, committed, first_full, settled_to, settlement, lacking, ends_at, is_too_full, takes, numbered_at}
 use Rattle.fp_model.specs.WellFormed.{IsMsdbDef}
 use Rattle.fp_model.specs.Workspace.{Workspace}
@@ -34,10 +34,10 @@ use Rattle.serial_order.proofs.Changes.{get_set_other, get_set_same, roots_with_
 use Rattle.serial_order.proofs.Settling.{with_new, with_old, all_served, segment_put, segment_dropped, field_changes_leave}
 
 -- results and what they hold
-is_stays : (x y : List Msdb) → Stays x ≡ Stays y → x ≡ y
+is_stays : (x y : List Msdb) → Becomes x ≡ Becomes y → x ≡ y
 is_stays x y e = cc
 
-fails_is_not_stays : (fsa : ℕ) (found : List ℕ) (x : List Msdb) → Fails fsa found ≡ Stays x → ⊥
+fails_is_not_stays : (fsa : ℕ) (found : List ℕ) (x : List Msdb) → Fails fsa found ≡ Becomes x → ⊥
 fails_is_not_stays fsa found x e = cc
 
 is_stands : (x y : List Msdb) → Stands x ≡ Stands y → x ≡ y
@@ -104,7 +104,7 @@ module _ (defs : Defs) (each : AllByRecursion IsMsdbDef defs.msdbs) where
         (λ def msdb is same. segment_put def bytes k msdb (λ e. ne (ap (λ (fields : List FieldDef). Segment number (key_of fields bytes)) (fields_are number def is) ∙ ap (λ (q : List ℕ). Segment number q) e ∙ ap (λ (n : ℕ). Segment n k) (sym same))))
 
     -- one call of the queue
-    call_leaves : (d : Deferred) (msdbs changed : List Msdb) → is_whole_call defs d ≡ true → ¬ (touched d ≡ Segment m k) → applied defs.msdbs d msdbs ≡ Stays changed → segment_at changed m k ≡ segment_at msdbs m k
+    call_leaves : (d : Deferred) (msdbs changed : List Msdb) → is_whole_call defs d ≡ true → ¬ (touched d ≡ Segment m k) → applied defs.msdbs d msdbs ≡ Becomes changed → segment_at changed m k ≡ segment_at msdbs m k
     call_leaves (Fld number key fsas) msdbs changed fair ne e = by (fld_failure defs.msdbs number key fsas msdbs) e
       where
         after : segment_at (with_msdb defs.msdbs number (with_field_changes defs.msdbs key fsas) msdbs) m k ≡ segment_at msdbs m k
@@ -114,7 +114,7 @@ module _ (defs : Defs) (each : AllByRecursion IsMsdbDef defs.msdbs) where
             let formed = all_at IsMsdbDef defs.msdbs number def each is in
             field_changes_leave def def.length formed.layout.stand defs.msdbs key fsas k msdb long (λ e. ne (ap (λ (q : List ℕ). Segment number q) e ∙ ap (λ (n : ℕ). Segment n k) (sym same))))
 
-        by : (o : Option Failure) → elim o as (λ x. Applied) [ None ↦ Stays (with_msdb defs.msdbs number (with_field_changes defs.msdbs key fsas) msdbs) | Some failure ↦ Fails failure.place failure.found ] ≡ Stays changed → segment_at changed m k ≡ segment_at msdbs m k
+        by : (o : Option Failure) → elim o as (λ x. Applied) [ None ↦ Becomes (with_msdb defs.msdbs number (with_field_changes defs.msdbs key fsas) msdbs) | Some failure ↦ Fails failure.place failure.found ] ≡ Becomes changed → segment_at changed m k ≡ segment_at msdbs m k
         by None e = subst (λ (x : List Msdb). segment_at x m k ≡ segment_at msdbs m k) (is_stays (with_msdb defs.msdbs number (with_field_changes defs.msdbs key fsas) msdbs) changed e) after
         by (Some failure) e = absurd (fails_is_not_stays failure.place failure.found changed e)
     call_leaves (Repl number bytes) msdbs changed fair ne e =
@@ -134,10 +134,10 @@ module _ (defs : Defs) (each : AllByRecursion IsMsdbDef defs.msdbs) where
         (λ changed g. queue_leaves (place + 1) changed calls final (both_right (is_whole_call defs d) (list_all (is_whole_call defs) calls) fair) ne.1 g)
       where
         by : (a : Applied) → applied defs.msdbs d msdbs ≡ a
-            → elim a as (λ x. Settled) [ Stays changed ↦ settle_from defs.msdbs (place + 1) changed calls | Fails fsa found ↦ VerifyFails place fsa found ] ≡ Stands final
+            → elim a as (λ x. Settled) [ Becomes changed ↦ settle_from defs.msdbs (place + 1) changed calls | Fails fsa found ↦ VerifyFails place fsa found ] ≡ Stands final
             → ((changed : List Msdb) → settle_from defs.msdbs (place + 1) changed calls ≡ Stands final → segment_at final m k ≡ segment_at changed m k)
             → segment_at final m k ≡ segment_at msdbs m k
-        by (Stays changed) is e later = later changed e ∙ call_leaves d msdbs changed (both_left (is_whole_call defs d) (list_all (is_whole_call defs) calls) fair) ne.0 is
+        by (Becomes changed) is e later = later changed e ∙ call_leaves d msdbs changed (both_left (is_whole_call defs d) (list_all (is_whole_call defs) calls) fair) ne.0 is
         by (Fails fsa found) is e later = absurd (fails_is_not_stands place fsa found final e)
 
   -- ---- what the queue touches is held

@@ -183,12 +183,12 @@ module _ (def : DedbDef) (number : ℕ) (held : Resource → Option Mode) (own :
   -- REPL
   repl_alike : (bytes : List ℕ) (o : Option Place) → dedb.held_need def number held o ≡ None → dedb.repl_reply def number db2 own bytes o ≡ dedb.repl_reply def number db own bytes o
   repl_alike bytes None need = refl
-  repl_alike bytes (Some place) need = ap (λ (w : Workspace). if is_sequential def.segments (dedb.segment_of_path def number place.path) then dedb.refused def number own (codes "AM") else (if same_text (key_in def.segments (dedb.segment_of_path def number place.path) bytes) (dedb.key_of_path def number place.path) then record { answer = answered blank; own = w } else dedb.refused def number own (codes "DA"))) (edit_alike place (Replaces bytes) need)
+  repl_alike bytes (Some place) need = ap (λ (w : Workspace). if is_sequential def.segments (dedb.type_of_path def number place.path) then dedb.refused def number own (codes "AM") else (if same_text (key_in def.segments (dedb.type_of_path def number place.path) bytes) (dedb.key_of_path def number place.path) then record { answer = answered blank; own = w } else dedb.refused def number own (codes "DA"))) (edit_alike place (Replaces bytes) need)
 
   -- DLET
   dlet_alike : (o : Option Place) → dedb.held_need def number held o ≡ None → dedb.dlet_reply def number db2 own o ≡ dedb.dlet_reply def number db own o
   dlet_alike None need = refl
-  dlet_alike (Some place) need = ap (λ (after : Workspace). if is_sequential def.segments (dedb.segment_of_path def number place.path) then dedb.refused def number own (codes "AM") else record { answer = answered blank; own = dedb.with_position def number (record (dedb.position_of def number after) { parent = None }) (record after { inserts = filter (λ i. not (dedb.goes_with def number place i)) own.inserts }) }) (edit_alike place Deletes need)
+  dlet_alike (Some place) need = ap (λ (after : Workspace). if is_sequential def.segments (dedb.type_of_path def number place.path) then dedb.refused def number own (codes "AM") else record { answer = answered blank; own = dedb.with_position def number (record (dedb.position_of def number after) { parent = None }) (record after { inserts = filter (λ i. not (dedb.goes_with def number place i)) own.inserts }) }) (edit_alike place Deletes need)
 
   -- any call to a data entry database
   pub dedb_alike : (c : Call) → dedb.dedb_need def number db own held c ≡ None → dedb.dedb_reply def number db2 own c ≡ dedb.dedb_reply def number db own c

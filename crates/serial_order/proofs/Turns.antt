@@ -246,7 +246,7 @@ module _ (rules : Rules) (view : View) (laws : Laws rules view) where
 pub at_rest_rests : (rules : Rules) (lines : List (List ℕ)) (entries : List Entry) (past : List Db) (now : Db) → History rules [] rules.start entries past now → IsAtRest rules (at_rest rules lines entries past now)
 at_rest_rests rules lines entries past now history = record {
   history = history;
-  queued = λ messages message c d. absurd (contains_nothing message (subst (λ (q : List Message). Contains q message) (replicated rules.groups [] messages c) d));
+  queued = λ messages message c d. absurd (contains_nothing message (subst (λ (q : List Message). Contains q message) (replicated rules.group_count [] messages c) d));
   no_active = not_active;
   no_locks = refl;
 }

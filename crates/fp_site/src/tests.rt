@@ -1,0 +1,3 @@
+//! What no clause says, and a small caller that is proved.
+mod calls;
+mod uses;

@@ -1,0 +1,217 @@
+//! Each call with ample memory, and what calls told to fail, stops and crashes leave.
+use crate::{Failed, MemorySite, Site, Snapshot};
+use fp_lists::{Bytes, List};
+use std::alloc::Global;
+use std::test::Fail;
+
+// A site whose log is these bytes, all on the disk, with this text sent.
+fn site_of(alloc: Global, log: &[u8], failing: &[u64]) -> Result<MemorySite, Fail> {
+    let mut images = List::new(alloc);
+    images.push(Bytes::from_slice(alloc, log)?)?;
+    let start = Snapshot::new(images, Bytes::from_slice(alloc, b"line\n")?);
+    Ok(MemorySite::from_snapshot(alloc, start, failing)?)
+}
+
+// The log of a snapshot.
+fn log_of(snapshot: &Snapshot) -> &[u8] {
+    match snapshot.images.get(0) {
+        Some(log) => log.as_slice(),
+        None => &[],
+    }
+}
+
+#[test]
+fn each_call_answers(rt: HostRuntime) -> Result<(), Fail> {
+    let alloc = rt.alloc();
+    let mut site = MemorySite::new(alloc, &[])?;
+    site.prepare(100)?;
+    assert_eq!(rt; site.size(3), Ok(0));
+    assert_eq!(rt; site.reach(3, 1 << 62), Ok(()));
+    assert_eq!(rt; site.write_at(3, 2, &[7, 8]), Ok(()));
+    assert_eq!(rt; site.size(3), Ok(4));
+    let mut into = [9u8; 4];
+    assert_eq!(rt; site.read_at(3, 1, &mut into), Ok(()));
+    assert_eq!(rt; into.as_slice(), [0, 7, 8, 0].as_slice());
+    assert_eq!(rt; site.sync(3), Ok(()));
+    assert_eq!(rt; site.write_at(3, 0, &[1]), Ok(()));
+    assert_eq!(rt; site.contents(3), [1, 0, 7, 8].as_slice());
+    assert_eq!(rt; site.contents(4), [].as_slice());
+    assert_eq!(rt; site.send(b"T1 OK\n"), Ok(()));
+    assert_eq!(rt; site.sent(), b"T1 OK\n".as_slice());
+    assert_eq!(rt; (site.faults(), site.shorts()), (0, 0));
+    Ok(())
+}
+
+// One call of the trait, by number.
+fn call(site: &mut MemorySite, which: u64) -> Result<(), Failed> {
+    let mut into = [0u8; 4];
+    match which {
+        0 => {
+            site.size(0)?;
+            Ok(())
+        }
+        1 => site.reach(0, 10),
+        2 => site.read_at(0, 0, &mut into),
+        3 => site.write_at(0, 0, &[5, 6]),
+        4 => site.sync(0),
+        _ => site.send(b"T2 OK\n"),
+    }
+}
+
+#[test]
+fn each_call_told_to_fail_fails_and_is_counted(rt: HostRuntime) -> Result<(), Fail> {
+    let alloc = rt.alloc();
+    for told in 0..6 {
+        let mut site = site_of(alloc, &[1, 2, 3, 4], &[told])?;
+        for which in 0..6 {
+            assert_eq!(rt;
+                call(&mut site, which).is_err(),
+                which == told,
+                "at {which}"
+            );
+        }
+        assert_eq!(rt; (site.faults(), site.shorts()), (1, 0));
+    }
+    Ok(())
+}
+
+#[test]
+fn a_failed_write_leaves_mixed_bytes_in_its_range(rt: HostRuntime) -> Result<(), Fail> {
+    let alloc = rt.alloc();
+    let mut site = site_of(alloc, &[1; 40], &[0])?;
+    assert_eq!(rt; site.write_at(0, 4, &[2; 32]), Err(Failed));
+    let left = site.contents(0);
+    assert_eq!(rt; left.len(), 40);
+    let (mut old, mut new, mut other) = (false, false, false);
+    for i in 0..40 {
+        match left[i] {
+            1 => old |= 4 <= i && i < 36,
+            2 => new = true,
+            _ => other = true,
+        }
+        assert!(rt;
+            4 <= i && i < 36 || left[i] == 1,
+            "byte {i} is outside the range"
+        );
+    }
+    assert!(rt; old && new && other, "{left:?}");
+    Ok(())
+}
+
+#[test]
+fn a_failed_send_leaves_a_prefix(rt: HostRuntime) -> Result<(), Fail> {
+    let alloc = rt.alloc();
+    let mut site = site_of(alloc, &[], &[0])?;
+    assert_eq!(rt; site.send(b"T1 OK\n"), Err(Failed));
+    assert_eq!(rt; site.sent(), b"line\nT1 ".as_slice());
+    Ok(())
+}
+
+#[test]
+fn a_failed_read_gives_bytes_that_stand_nowhere(rt: HostRuntime) -> Result<(), Fail> {
+    let mut site = site_of(rt.alloc(), &[1, 2], &[0])?;
+    let mut into = [0u8; 2];
+    assert_eq!(rt; site.read_at(0, 0, &mut into), Err(Failed));
+    assert_eq!(rt; into.as_slice(), [0xA5, 0xA5].as_slice());
+    Ok(())
+}
+
+#[test]
+fn a_call_that_finds_no_memory_is_short(rt: HostRuntime) -> Result<(), Fail> {
+    let mut site = site_of(rt.alloc(), &[1, 2], &[])?;
+    assert_eq!(rt; site.write_at(0, 1 << 61, &[7]), Err(Failed));
+    assert_eq!(rt; site.contents(0), [1, 2].as_slice());
+    assert_eq!(rt; (site.faults(), site.shorts()), (1, 1));
+    Ok(())
+}
+
+// A write into an empty log, a sync, a send and a second write, as far as the site does not stop.
+fn run(site: &mut MemorySite) -> Result<(), Failed> {
+    site.write_at(0, 1, &[7, 7])?;
+    site.sync(0)?;
+    site.send(b"T1 OK\n")?;
+    site.write_at(0, 2, &[8, 8, 8, 8])
+}
+
+// What every crash after a stop has in common.
+#[derive(Clone, Copy)]
+struct Stop<'a> {
+    // The log at its last sync.
+    synced: &'a [u8],
+    // How many of its bytes no write covers since.
+    firm: usize,
+    // The end of the longest write since.
+    longest: usize,
+    sent: &'a [u8],
+}
+
+// Whether a log begins with the bytes that stay.
+fn keeps(log: &[u8], stop: &Stop<'_>) -> bool {
+    let firm = stop.firm;
+    firm <= log.len() && firm <= stop.synced.len() && log[..firm] == stop.synced[..firm]
+}
+
+#[test]
+fn each_stop_leaves_what_the_disk_model_allows(rt: HostRuntime) -> Result<(), Fail> {
+    let alloc = rt.alloc();
+    let empty = Stop {
+        synced: &[],
+        firm: 0,
+        longest: 3,
+        sent: b"",
+    };
+    let first = Stop {
+        synced: &[0, 7, 7],
+        firm: 3,
+        longest: 3,
+        sent: b"T1 ",
+    };
+    let second = Stop {
+        synced: &[0, 7, 7],
+        firm: 2,
+        longest: 6,
+        sent: b"T1 OK\n",
+    };
+    let stops = [&empty, &empty, &first, &second, &second];
+    let mut number = 0u64;
+    for stop in stops {
+        for choice in 0..8 {
+            let mut site = MemorySite::stopping(alloc, number)?;
+            assert_eq!(rt; run(&mut site).is_err(), number < 4);
+            let snapshot = site.snapshot_as(choice)?;
+            let log = log_of(&snapshot);
+            assert!(rt; keeps(log, stop), "stop {number} choice {choice} {log:?}");
+            assert!(rt;
+                stop.synced.len() <= log.len() && log.len() <= stop.longest,
+                "stop {number} choice {choice}"
+            );
+            assert_eq!(rt; snapshot.sent.as_slice(), stop.sent);
+            match choice {
+                0 => assert_eq!(rt; log, stop.synced),
+                1 => assert_eq!(rt; log, site.contents(0)),
+                _ => {}
+            }
+            // A site goes on from there.
+            let again = MemorySite::from_snapshot(alloc, snapshot, &[])?;
+            assert_eq!(rt; again.sent(), stop.sent);
+        }
+        number = number.saturating_add(1);
+    }
+    Ok(())
+}
+
+#[test]
+fn choices_tear_and_lengthen(rt: HostRuntime) -> Result<(), Fail> {
+    let alloc = rt.alloc();
+    let mut site = MemorySite::new(alloc, &[])?;
+    assert_eq!(rt; run(&mut site), Ok(()));
+    let (mut torn, mut longer) = (false, false);
+    for choice in 2..8 {
+        let snapshot = site.snapshot_as(choice)?;
+        let log = log_of(&snapshot);
+        torn |= log != [0, 7, 7].as_slice() && log != site.contents(0);
+        longer |= log.len() > 3;
+    }
+    assert!(rt; torn && longer);
+    Ok(())
+}

@@ -1,0 +1,56 @@
+use Rattle.std.proofs.Common.{◌≡◌, ◌<◌, ◌+◌, ℕ, List, Err, length, sym, ◌∙◌, ap, arith, length-append}
+use Rattle.std.proofs.lemmas.Result.{err_from_is_err_and}
+use Rattle.fp_source.specs.declared.part.Part.TheVariants.{Messages}
+use Rattle.fp_source.specs.declared.lines.LineFault.{LineFault}
+use Rattle.fp_source.specs.declared.lines.LineFault.TheVariants.{TooLong}
+use Rattle.fp_source.specs.Lines.{buffered, to_come}
+use Rattle.fp_source.proofs.LineLemmas.{Begins, line_given, fault_stays, many_ahead, long_ahead}
+use Rattle.fp_source.proofs.lines.Lines.next.Given.{Over}
+use Rattle.fp_source.proofs.lines.Lines.next.Goals as goal
+
+pub returns-then-self-eq-MOST_LINES-clause-too_many : goal.returns-then-self-eq-MOST_LINES-clause-too_many
+returns-then-self-eq-MOST_LINES-clause-too_many g c = λ t n e.
+    let left : List ℕ = g.S.Source.left c.fill.new.source Messages in
+    let number : n ≡ 1000001 = cc e in
+    let now : to_come c.fill.new.self left ≡ to_come c.args.self.now (g.S.Source.left c.args.source.now Messages) = c.in_ok-fill.ensures.same t in
+    let some : 0 < length (buffered c.fill.new.self) = c.in_ok-fill.ensures.some c.if-not-branch.false in
+    let given : c.args.self.now.given ≡ 1000000 = sym c.in_ok-fill.ensures.given ∙ c.if-self-eq-MOST_LINES.true in
+    rw (number, ← now) (many_ahead c.args.self.now.given (to_come c.fill.new.self left) given (omega (arith, length-append (buffered c.fill.new.self) left)))
+
+pub returns-in_err-by_newline-clause-too_long : goal.returns-in_err-by_newline-clause-too_long
+returns-in_err-by_newline-clause-too_long g c = λ t n e.
+    let p = err_from_is_err_and c.from_residual-in_err-by_newline.result c.from_residual-in_err-by_newline.ensures.1 in
+    let told : LineFault = c.in_err-by_newline.field-0.0 in
+    let same : told ≡ TooLong n = cc (p.1, p.2, e) in
+    let left : List ℕ = g.S.Source.left c.fill.new.source Messages in
+    let now : to_come c.fill.new.self left ≡ to_come c.args.self.now (g.S.Source.left c.args.source.now Messages) = c.in_ok-fill.ensures.same t in
+    let long = c.in_err-by_newline.ensures.too_long (c.in_ok-fill.ensures.source.stays_told t) n (ap (λ x. Err x) same) in
+    let given : c.fill.new.self.given ≡ c.args.self.now.given = c.in_ok-fill.ensures.given in
+    let number : n ≡ c.args.self.now.given + 1 = c.in_err-by_newline.ensures.number n (ap (λ x. Err x) same) ∙ ap (λ k. k + 1) given in
+    rw (number, ← now) (long_ahead c.args.self.now.given (to_come c.fill.new.self left) (omega arith) long)
+
+-- what the bytes ahead begin with
+begins : (g : Over) (c : goal.After-finished g) → g.S.Source.told c.args.source.now
+    → Begins (to_come c.args.self.now (g.S.Source.left c.args.source.now Messages)) c.gather.new.line.items
+    (to_come c.gather.new.self (g.S.Source.left c.gather.new.source Messages)) c.in_ok-by_newline.by_newline
+begins g c t =
+    let left : List ℕ = g.S.Source.left c.fill.new.source Messages in
+    let now : to_come c.fill.new.self left ≡ to_come c.args.self.now (g.S.Source.left c.args.source.now Messages) = c.in_ok-fill.ensures.same t in
+    let some : 0 < length (buffered c.fill.new.self) = c.in_ok-fill.ensures.some c.if-not-branch.false in
+    let told = c.in_ok-fill.ensures.source.stays_told t in
+    let it = c.in_ok-by_newline.ensures in
+    record {
+      some = rw (← now) (omega (arith, length-append (buffered c.fill.new.self) left));
+      plain = it.plain;
+      up_to = λ by. rw (← now) (it.by_newline told by);
+      all = λ by. rw (← now) (it.at_end told by);
+      nothing = λ by. it.ended told by;
+    }
+
+pub returns-clause-line : goal.returns-clause-line
+returns-clause-line g c = λ t. rw c.finished.ensures (line_given _ _ _ _ (begins g c t))
+
+pub returns-clause-fair : goal.returns-clause-fair
+returns-clause-fair g c = λ t.
+    let given : c.gather.new.self.given ≡ c.args.self.now.given = c.in_ok-by_newline.ensures.given ∙ c.in_ok-fill.ensures.given in
+    rw given (fault_stays c.args.self.now.given _ _ _ _ (begins g c t) (omega arith) c.in_ok-by_newline.ensures.short)

@@ -1,0 +1,7 @@
+pub mod Loop
+pub mod Rules
+pub mod Fields
+pub mod Lists
+pub mod EntryLaws
+pub mod Bodies
+pub mod GroupLaws

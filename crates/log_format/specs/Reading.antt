@@ -1,0 +1,69 @@
+-- Reading bytes from left to right: numbers, texts behind their length, lists behind their count.
+use Rattle.std.specs.Prelude.{◌≡◌, ℕ, zero, suc, List, [], ◌∷◌, length, take, drop, Option, Some, None, Result, Ok, Err, nat_lt, if◌then◌else◌}
+use Rattle.std.specs.Int.{Width, w16, w32, byte_len, from_be_bytes}
+use Rattle.log_format.specs.declared.fault.ReadError.{ReadError}
+use Rattle.log_format.specs.declared.fault.ReadError.TheVariants as errors
+
+-- the next step, where there is one
+infixl 10 ◌>>=◌
+abbrev pub ◌>>=◌ : {A B : Type 0} → Option A → (A → Option B) → Option B
+None >>= f = None
+(Some x) >>= f = f x
+
+-- an error that is want of memory, or has bytes for its cause that can't be read
+abbrev pub Fails : {Y : Type 0} → ReadError → Option Y → Type 0
+Fails errors.Memory read = Unit {0}
+Fails errors.Bad read = read ≡ None
+
+-- what a function returned, seen by view, is what reading gives, unless memory ran out
+abbrev pub Gives : {X Y : Type 0} → (X → Y) → Result X ReadError → Option Y → Type 0
+Gives view (Ok x) read = read ≡ Some (view x)
+Gives view (Err e) read = Fails e read
+
+-- a byte, and the bytes behind it
+abbrev pub byte_at : List ℕ → Option (ℕ × List ℕ)
+byte_at [] = None
+byte_at (b ∷ bytes) = Some (b, bytes)
+
+-- a number of this width, the highest byte first
+unfoldable pub number_at : Width → List ℕ → Option (ℕ × List ℕ)
+number_at w bytes =
+    if nat_lt (length bytes) (byte_len w)
+    then None
+    else Some (from_be_bytes w (take (byte_len w) bytes), drop (byte_len w) bytes)
+
+-- so many bytes
+abbrev pub part_at : ℕ → List ℕ → Option (List ℕ × List ℕ)
+part_at n bytes = if nat_lt (length bytes) n then None else Some (take n bytes, drop n bytes)
+
+-- a text behind its length in a byte
+unfoldable pub short_at : List ℕ → Option (List ℕ × List ℕ)
+short_at bytes = do
+  n ← byte_at bytes
+  part_at n.0 n.1
+
+-- a text behind its length in two bytes
+unfoldable pub long_at : List ℕ → Option (List ℕ × List ℕ)
+long_at bytes = do
+  n ← number_at w16 bytes
+  part_at n.0 n.1
+
+-- a text behind its length in four bytes
+unfoldable pub part_text_at : List ℕ → Option (List ℕ × List ℕ)
+part_text_at bytes = do
+  n ← number_at w32 bytes
+  part_at n.0 n.1
+
+-- so many elements, one after another
+unfoldable pub many_at : {X : Type 0} → (List ℕ → Option (X × List ℕ)) → ℕ → List ℕ → Option (List X × List ℕ)
+many_at at zero bytes = Some ([], bytes)
+many_at at (suc n) bytes = do
+  first ← at bytes
+  others ← many_at at n first.1
+  Some (first.0 ∷ others.0, others.1)
+
+-- elements behind their count in four bytes
+unfoldable pub counted_at : {X : Type 0} → (List ℕ → Option (X × List ℕ)) → List ℕ → Option (List X × List ℕ)
+counted_at at bytes = do
+  n ← number_at w32 bytes
+  many_at at n.0 n.1

@@ -1,0 +1,125 @@
+//! Readers of numbers, of texts behind their length, and of numbers behind their count.
+//!
+//! Each takes the front of the bytes and answers the value with what is left behind it. `Bad`: the bytes end
+//! too early. The clause of each says what reading gives in every case but want of memory.
+ghost use Rattle.log_format.specs.Reading.{Gives, byte_at, number_at, part_at, short_at, long_at, part_text_at, many_at, counted_at};
+ghost use Rattle.std.specs.Int.{w16, w32, w64};
+ghost use Rattle.std.specs.Prelude.{◌≡◌};
+
+use crate::fault::ReadError;
+use fp_model::{Bytes, List};
+use std::alloc::Global;
+
+/// One byte.
+pub fn byte_of(bytes: &[u8]) -> Result<(u8, &[u8]), ReadError>
+    ensures { Gives (λ x. (x.0, x.1.now)) result (byte_at bytes.now) }
+{
+    match bytes {
+        [] => Err(ReadError::Bad),
+        [b, rest @ ..] => Ok((*b, rest)),
+    }
+}
+
+/// A number of two bytes.
+#[tactic(auto, unfolding(crate::specs::Reading::number_at))]
+pub fn u16_of(bytes: &[u8]) -> Result<(u16, &[u8]), ReadError>
+    ensures { Gives (λ x. (x.0, x.1.now)) result (number_at w16 bytes.now) }
+{
+    if bytes.len() < 2 {
+        return Err(ReadError::Bad);
+    }
+    let (front, rest) = bytes.split_at(2);
+    Ok((u16::from_be_bytes([front[0], front[1]]), rest))
+}
+
+/// A number of four bytes.
+#[tactic(auto, unfolding(crate::specs::Reading::number_at))]
+pub fn u32_of(bytes: &[u8]) -> Result<(u32, &[u8]), ReadError>
+    ensures { Gives (λ x. (x.0, x.1.now)) result (number_at w32 bytes.now) }
+{
+    if bytes.len() < 4 {
+        return Err(ReadError::Bad);
+    }
+    let (front, rest) = bytes.split_at(4);
+    let number = u32::from_be_bytes([front[0], front[1], front[2], front[3]]);
+    Ok((number, rest))
+}
+
+/// A number of eight bytes.
+#[tactic(auto, unfolding(crate::specs::Reading::number_at))]
+pub fn u64_of(bytes: &[u8]) -> Result<(u64, &[u8]), ReadError>
+    ensures { Gives (λ x. (x.0, x.1.now)) result (number_at w64 bytes.now) }
+{
+    if bytes.len() < 8 {
+        return Err(ReadError::Bad);
+    }
+    let (front, rest) = bytes.split_at(8);
+    let number = u64::from_be_bytes([
+        front[0], front[1], front[2], front[3], front[4], front[5], front[6], front[7],
+    ]);
+    Ok((number, rest))
+}
+
+/// So many bytes, copied.
+pub fn part_of(alloc: Global, n: usize, bytes: &[u8]) -> Result<(Bytes, &[u8]), ReadError>
+    ensures { Gives (λ x. (x.0, x.1.now)) result (part_at n bytes.now) }
+{
+    if bytes.len() < n {
+        return Err(ReadError::Bad);
+    }
+    let (part, rest) = bytes.split_at(n);
+    Ok((Bytes::from_vec(Vec::from_slice(alloc, part)?), rest))
+}
+
+/// A text behind its length in one byte.
+#[tactic(auto, unfolding(crate::specs::Reading::short_at))]
+pub fn short_of(alloc: Global, bytes: &[u8]) -> Result<(Bytes, &[u8]), ReadError>
+    ensures { Gives (λ x. (x.0, x.1.now)) result (short_at bytes.now) }
+{
+    let (n, rest) = byte_of(bytes)?;
+    let n = n as usize;
+    part_of(alloc, n, rest)
+}
+
+/// A text behind its length in two bytes.
+#[tactic(auto, unfolding(crate::specs::Reading::long_at))]
+pub fn long_of(alloc: Global, bytes: &[u8]) -> Result<(Bytes, &[u8]), ReadError>
+    ensures { Gives (λ x. (x.0, x.1.now)) result (long_at bytes.now) }
+{
+    let (n, rest) = u16_of(bytes)?;
+    let n = n as usize;
+    part_of(alloc, n, rest)
+}
+
+/// A text behind its length in four bytes.
+#[tactic(auto, unfolding(crate::specs::Reading::part_text_at))]
+pub fn part_text_of(alloc: Global, bytes: &[u8]) -> Result<(Bytes, &[u8]), ReadError>
+    ensures { Gives (λ x. (x.0, x.1.now)) result (part_text_at bytes.now) }
+{
+    let (n, rest) = u32_of(bytes)?;
+    let n = n as usize;
+    part_of(alloc, n, rest)
+}
+
+/// So many numbers of eight bytes each.
+fn many_numbers_of(alloc: Global, count: u32, bytes: &[u8]) -> Result<(List<u64>, &[u8]), ReadError>
+    ensures { Gives (λ x. (x.0, x.1.now)) result (many_at (number_at w64) count bytes.now) }
+{
+    let mut numbers = List::new(alloc);
+    let mut rest = bytes;
+    for _ in 0..count {
+        let (number, after) = u64_of(rest)?;
+        numbers.push(number)?;
+        rest = after;
+    }
+    Ok((numbers, rest))
+}
+
+/// Numbers of eight bytes each behind their count in four.
+#[tactic(auto, unfolding(crate::specs::Reading::counted_at))]
+pub fn numbers_of(alloc: Global, bytes: &[u8]) -> Result<(List<u64>, &[u8]), ReadError>
+    ensures { Gives (λ x. (x.0, x.1.now)) result (counted_at (number_at w64) bytes.now) }
+{
+    let (count, rest) = u32_of(bytes)?;
+    many_numbers_of(alloc, count, rest)
+}
