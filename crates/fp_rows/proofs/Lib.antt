@@ -1,2 +1,5 @@
 mod Asks
 mod DepositTurns
+mod MachineSteps
+mod WithdrawalTurns
+mod HolderTurns

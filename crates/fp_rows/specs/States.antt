@@ -5,6 +5,8 @@ use Rattle.fp_model.specs.declared.calls.Call.TheVariants as call
 use Rattle.fp_model.specs.declared.calls.Get.TheVariants.{Next}
 use Rattle.fp_model.specs.declared.database.Root.{Root}
 use Rattle.fp_model.specs.declared.database.SeqItem.{SeqItem}
+use Rattle.fp_model.specs.declared.log.Item.{Item}
+use Rattle.fp_model.specs.declared.log.Item.TheVariants.{Segment}
 use Rattle.fp_model.specs.State.{start}
 use Rattle.fp_model.specs.Rules.{Rules}
 use Rattle.fp_model.specs.Product.{rules_of}
@@ -65,3 +67,19 @@ second = next_customer first.own
 
 abbrev pub third : Replied
 third = next_customer second.own
+
+-- A001 with this balance, as an item of an entry
+abbrev pub segment_item : List ℕ → Item
+segment_item bytes = Segment 0 (codes "A001") (codes "A001" ++ hex bytes)
+
+-- the same message of two terminals
+abbrev pub at_rest_with_two_withdrawals : Machine
+at_rest_with_two_withdrawals = at_rest sample_rules (codes "T1 WDRAW A001 60" ∷ codes "T2 WDRAW A001 60" ∷ []) [] [] at_start
+
+-- C003 at anchor 0 and C001 at anchor 6
+abbrev pub with_two : Db
+with_two = with_customers (a_customer (codes "C003BOB         ") [] ∷ []) (a_customer (codes "C001ANN         ") [] ∷ []) 1 1
+
+-- two terminals that ask for both customers, each in the other's order
+abbrev pub at_rest_with_two_holders : Machine
+at_rest_with_two_holders = at_rest sample_rules (codes "T1 TWO C001 C003" ∷ codes "T2 TWO C003 C001" ∷ []) [] [] with_two

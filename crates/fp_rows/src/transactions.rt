@@ -1,7 +1,7 @@
 //! Rows of whole transactions: calls on a state, commits, serial runs, locks, and a run of turns.
 #![tactic(auto, unfolding(fp_model::specs::Fsas::list_on, fp_model::specs::Fsas::first_failure, fp_model::specs::Settle::settle_from, fp_model::specs::Calls::reply_to, fp_model::specs::Calls::need_of, fp_model::specs::Commit::settlement, fp_model::specs::Commit::purged, fp_model::specs::Spellings::be16))]
 
-ghost use Rattle.std.specs.Prelude.{◌≡◌, ℕ, List, [], ◌∷◌, ◌++◌, false, true, codes, Some, None};
+ghost use Rattle.std.specs.Prelude.{◌≡◌, ℕ, List, [], ◌∷◌, ◌++◌, false, true, codes, replicate, Some, None};
 ghost use Rattle.fp_model.specs.declared.calls.Call.TheVariants as call;
 ghost use Rattle.fp_model.specs.declared.calls.Get.TheVariants.{Unique, Next, NextInParent};
 ghost use Rattle.fp_model.specs.declared.calls.Mode.TheVariants.{Share, Exclusive};
@@ -18,7 +18,7 @@ ghost use Rattle.fp_model.specs.Serial.{Done, VerifyFailed, serial_run};
 ghost use Rattle.fp_model.specs.declared.events.Event.TheVariants.{In, Region, Log};
 ghost use Rattle.fp_model.specs.Machine.{Machine};
 ghost use Rattle.fp_model.specs.Turns.{NoFault, Runs};
-ghost use Rattle.fp_rows.specs.States.{with_three, next_customer, first, second, third, sample_rules, at_rest_with_a_deposit, at_start, with_balance, a_customer, with_customers, with_audits};
+ghost use Rattle.fp_rows.specs.States.{with_three, next_customer, first, second, third, sample_rules, at_rest_with_a_deposit, at_rest_with_two_withdrawals, at_rest_with_two_holders, at_start, with_balance, a_customer, with_customers, with_audits};
 
 /// The randomizer of the sample's eight anchors.
 pub fn where_customers_lie()
@@ -109,4 +109,23 @@ pub fn a_search_asks_for_its_anchors()
         ≡ Some (record { resource = Anchor 0 6; mode = Exclusive }) }
     ensures share_is_not_enough { need_of sample_defs with_three (fresh sample_defs) (λ r. Some Share) (call.Get Unique true 2 (record { segment = 0; key = Some (codes "C009") } ∷ []))
         ≡ Some (record { resource = Anchor 0 6; mode = Exclusive }) }
+{}
+
+/// Two withdrawals of 60 from 100: both look before either commits, and the second fails its verify at the sync point.
+pub fn two_withdrawals_by_turns()
+    ensures { (m : Machine)
+        × (Runs sample_rules at_rest_with_two_withdrawals
+        (In ∷ In ∷ Region 1 ∷ Region 2 ∷ Region 1 ∷ Region 2 ∷ Region 1 ∷ Region 1 ∷ Region 2 ∷ Region 2 ∷ Log ∷ [])
+        (replicate 11 NoFault) m
+        × (m.sent ≡ codes "T1 OK PAID 60" ++ 10 ∷ codes "T2 NO VERIFY" ++ 10 ∷ [])) }
+{}
+
+/// Two transactions that hold two customers each, in opposite orders: the second closes the cycle and is refused, and the
+/// first goes on.
+pub fn two_holders_by_turns()
+    ensures { (m : Machine)
+        × (Runs sample_rules at_rest_with_two_holders
+        (In ∷ In ∷ Region 1 ∷ Region 1 ∷ Region 2 ∷ Region 2 ∷ Region 1 ∷ Region 2 ∷ Region 1 ∷ Region 2 ∷ Region 1 ∷ Region 1 ∷ Region 1 ∷ Log ∷ [])
+        (replicate 14 NoFault) m
+        × (m.sent ≡ codes "T2 NO DEADLOCK" ++ 10 ∷ codes "T1 OK BOTH" ++ 10 ∷ [])) }
 {}

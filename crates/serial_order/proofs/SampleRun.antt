@@ -1,5 +1,5 @@
 -- The sample run, turn by turn.
-use Rattle.std.proofs.Common.{◌≡◌, ℕ, List, [], ◌∷◌, map, Option, Some, None, inl, inr, refl, sym, ◌∙◌, ap, arith, true, false}
+use Rattle.std.proofs.Common.{◌≡◌, ℕ, List, [], ◌∷◌, Option, Some, None, inl, inr, refl, sym, ◌∙◌, ap, arith, true, false}
 use Rattle.std.specs.Prelude.{◌==◌, codes}
 use Rattle.std.specs.Fmt.{digits}
 use Rattle.std.specs.List.{Contains, IsDistinct}
@@ -19,7 +19,7 @@ use Rattle.fp_model.specs.Programs.{Ask, Asks, Replies}
 use Rattle.fp_model.specs.Waiting.{without_region, with_request, WaitsAlong, IsCycle}
 use Rattle.fp_model.specs.Machine.{Machine, Transaction, Active, taken_in, with_region, with_entry, entry_here, entry_of, ended_with, sealed_once}
 use Rattle.fp_model.specs.Turns.{Answers, Gains, Waits, Closes, Commits_with, Fails_verify, Runs, Does, begins_in, with_answer, transaction_of, as_lock, asks, wanted}
-use Rattle.serial_order.specs.Sample.{sample_defs, sample_rules, at_start, the_events, no_faults, the_outcomes}
+use Rattle.serial_order.specs.Sample.{sample_defs, sample_rules, at_start, the_events, no_faults, the_entries}
 use Rattle.serial_order.proofs.Lists.{contains_nothing, contains_first, contains_later, contains_cases}
 use Rattle.serial_order.proofs.SampleAsks.{to_change, to_cross, to_verify, to_upgrade, hold_of, change_of_b, verify_of_b, root_get, change_asks_a, change_asks_b, change_asks_repl, change_replies, cross_asks_b, cross_asks_a, verify_asks, verify_replies, upgrade_looks, upgrade_holds, upgrade_replies}
 
@@ -282,7 +282,7 @@ unfolding reply_to looks_unheld need_of list_on first_failure settle_from settle
 turn26 = (upgrade_replies, from_asks m25 1 upgrade2 (Replies (codes "HELD")) None upgrade_replies refl, refl, refl)
 
 -- The sample run, with its outcomes.
-pub sample_run : (m : Machine) × (Runs sample_rules at_start the_events no_faults m × (map (λ e. e.outcome) m.entries ≡ the_outcomes))
+pub sample_run : (m : Machine) × (Runs sample_rules at_start the_events no_faults m × (m.entries ≡ the_entries))
 unfolding reply_to looks_unheld need_of list_on first_failure settle_from settlement lacking purged be16 digits
 sample_run = (
   m28,

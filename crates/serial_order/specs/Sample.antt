@@ -8,6 +8,7 @@ use Rattle.fp_model.specs.declared.definitions.MsdbDef.{MsdbDef}
 use Rattle.fp_model.specs.declared.calls.Get.TheVariants.{Unique}
 use Rattle.fp_model.specs.declared.events.Event.{Event}
 use Rattle.fp_model.specs.declared.events.Event.TheVariants.{In, Region, Log, Purge}
+use Rattle.fp_model.specs.declared.log.Entry.{Entry}
 use Rattle.fp_model.specs.declared.log.Outcome.{Outcome}
 use Rattle.fp_model.specs.declared.log.Outcome.TheVariants as outcome
 use Rattle.fp_model.specs.declared.name.Name.{Name}
@@ -117,6 +118,15 @@ the_events =
 abbrev pub no_faults : List Environment
 no_faults = replicate 28 NoFault
 
-abbrev pub the_outcomes : List Outcome
-the_outcomes =
-    outcome.Deadlock (2 ∷ 1 ∷ []) ∷ outcome.Done ∷ outcome.Verify 0 0 (codes "1") ∷ outcome.Done ∷ outcome.Purge 3 1 ∷ []
+-- an entry without items
+abbrev pub entry : ℕ → List ℕ → Outcome → List ℕ → List ℕ → Entry
+entry from line end reply notes = record { from = from; outcome = end; line = line; reply = reply; notes = notes; items = [] }
+
+abbrev pub the_entries : List Entry
+the_entries =
+    entry 0 (codes "T2 Y") (outcome.Deadlock (2 ∷ 1 ∷ [])) [] []
+    ∷ entry 0 (codes "T1 X") outcome.Done (codes "CHANGED") []
+    ∷ entry 0 (codes "T3 Z") (outcome.Verify 0 0 (codes "1")) [] (0 ∷ [])
+    ∷ entry 3 (codes "T4 U") outcome.Done (codes "HELD") []
+    ∷ entry 4 [] (outcome.Purge 3 1) [] []
+    ∷ []

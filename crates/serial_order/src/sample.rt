@@ -1,13 +1,13 @@
 //! One run, so that the laws speak of something.
-ghost use Rattle.std.specs.Prelude.{◌≡◌, map};
+ghost use Rattle.std.specs.Prelude.{◌≡◌};
 ghost use Rattle.fp_model.specs.Machine.{Machine};
 ghost use Rattle.fp_model.specs.Turns.{Runs};
-ghost use Rattle.serial_order.specs.Sample.{sample_rules, at_start, the_events, no_faults, the_outcomes};
+ghost use Rattle.serial_order.specs.Sample.{sample_rules, at_start, the_events, no_faults, the_entries};
 
 /// Three regions run four transactions in 28 turns: one waits, one closes a cycle, one has a verify that fails at its end, one
 /// upgrades a lock; then an area is purged.
 pub fn a_run()
     ensures { (m : Machine)
         × (Runs sample_rules at_start the_events no_faults m
-        × (map (λ e. e.outcome) m.entries ≡ the_outcomes)) }
+        × (m.entries ≡ the_entries)) }
 {}

@@ -1,0 +1,231 @@
+-- The run of two transactions that hold two customers each, in opposite orders, turn by turn.
+use Rattle.std.proofs.Common.{◌≡◌, ℕ, zero, suc, ◌<◌, List, [], ◌∷◌, ◌++◌, Option, Some, None, refl, sym, ap, ◌∙◌, arith, lit<}
+use Rattle.std.specs.Prelude.{◌==◌, codes, replicate, Contains, slice_index_or}
+use Rattle.std.specs.List.{IsDistinct}
+use Rattle.fp_model.specs.declared.calls.Message.{Message}
+use Rattle.fp_model.specs.declared.calls.Mode.TheVariants.{Exclusive}
+use Rattle.fp_model.specs.declared.calls.Resource.TheVariants.{Anchor}
+use Rattle.fp_model.specs.declared.events.Event.TheVariants.{In, Region, Log}
+use Rattle.fp_model.specs.declared.log.Outcome.TheVariants as outcome
+use Rattle.fp_model.specs.Answers.{Needed}
+use Rattle.fp_model.specs.Calls.{reply_to, looks_unheld, need_of}
+use Rattle.fp_model.specs.Commit.{settlement, lacking}
+use Rattle.fp_model.specs.Settle.{settle_from}
+use Rattle.fp_model.specs.Programs.{Ask, Asks, Replies}
+use Rattle.fp_model.specs.Waiting.{WaitsAlong, IsCycle}
+use Rattle.fp_model.specs.Machine.{Machine, Transaction, Active, taken_in, with_region, entry_of, ended_with, sealed_once}
+use Rattle.fp_model.specs.Turns.{NoFault, Answers, Gains, Waits, Closes, Commits_with, Runs, Does, begins_in, with_answer, transaction_of, asks, wanted}
+use Rattle.fp_rows.specs.Hex.{named}
+use Rattle.fp_rows.specs.Sample as sample
+use Rattle.fp_rows.specs.States.{sample_rules, at_rest_with_two_holders, with_two}
+use Rattle.fp_rows.proofs.Asks.{customer_held, two_ask_first, two_ask_second, two_reply, others_ask_first, others_ask_second}
+use Rattle.fp_rows.proofs.MachineSteps.{gained, waiting}
+
+abbrev first_asked : Message
+first_asked = record (sample.message_for sample.two_script (codes "C001 C003")) { lterm = named (codes "T1"); line = codes "T1 TWO C001 C003" }
+
+abbrev second_asked : Message
+second_asked = record (sample.message_for sample.two_script (codes "C003 C001")) { lterm = named (codes "T2"); line = codes "T2 TWO C003 C001" }
+
+abbrev of_anchor : ℕ → Needed
+of_anchor anchor = record { resource = Anchor 0 anchor; mode = Exclusive }
+
+-- ---- the machines after each turn
+
+abbrev m1 : Machine
+m1 = taken_in sample_rules at_rest_with_two_holders
+
+abbrev m2 : Machine
+m2 = taken_in sample_rules m1
+
+abbrev first0 : Transaction
+first0 = transaction_of sample_rules m2 first_asked
+
+abbrev m3 : Machine
+m3 = begins_in sample_rules m2 1 (first_asked ∷ second_asked ∷ [])
+
+abbrev m4 : Machine
+m4 = gained 1 (of_anchor 6) m3
+
+abbrev second0 : Transaction
+second0 = transaction_of sample_rules m4 second_asked
+
+abbrev m5 : Machine
+m5 = begins_in sample_rules m4 2 (second_asked ∷ [])
+
+abbrev m6 : Machine
+m6 = gained 2 (of_anchor 0) m5
+
+abbrev first1 : Transaction
+first1 = with_answer sample_rules m6 first0 (customer_held (codes "C001"))
+
+abbrev m7 : Machine
+m7 = with_region 1 (Active first1) m6
+
+abbrev second1 : Transaction
+second1 = with_answer sample_rules m7 second0 (customer_held (codes "C003"))
+
+abbrev m8 : Machine
+m8 = with_region 2 (Active second1) m7
+
+-- the first waits for the second, and the second would wait for the first
+abbrev m9 : Machine
+m9 = waiting 1 (of_anchor 0) m8
+
+abbrev m10 : Machine
+m10 = ended_with 2 (entry_of second1 (outcome.Deadlock (2 ∷ 1 ∷ [])) [] [] []) m9.now m9
+
+abbrev m11 : Machine
+m11 = gained 1 (of_anchor 0) m10
+
+abbrev first2 : Transaction
+first2 = with_answer sample_rules m11 first1 (customer_held (codes "C003"))
+
+abbrev m12 : Machine
+m12 = with_region 1 (Active first2) m11
+
+abbrev m13 : Machine
+m13 = ended_with 1 (entry_of first2 outcome.Done (codes "BOTH") first2.notes []) with_two m12
+
+-- ---- region 1 waits for region 2 alone, so no cycle closes yet
+
+-- the only pair of a region that waits
+abbrev only_pair : List (ℕ × ℕ)
+only_pair = (1, 2) ∷ []
+
+pair_at : (p : ℕ × ℕ) (k : ℕ) → k < 1 → slice_index_or only_pair k p ≡ p → (p.0 ≡ 1) × (p.1 ≡ 2)
+pair_at p zero lt e = (ap (λ (q : ℕ × ℕ). q.0) (sym e), ap (λ (q : ℕ × ℕ). q.1) (sym e))
+pair_at p (suc k) lt e = absurd (omega (arith, lt))
+
+from_one : (p : ℕ × ℕ) → Contains only_pair p → (p.0 ≡ 1) × (p.1 ≡ 2)
+from_one p c = pair_at p c.0 c.1 c.2
+
+only_first : (r : ℕ) (rs : List ℕ) (goal : ℕ) → WaitsAlong only_pair r rs goal → r ≡ 1
+only_first r [] goal w = (from_one (r, goal) w).0
+only_first r (c ∷ cs) goal w = (from_one (r, c) w.0).0
+
+no_cycle : (cycle : List ℕ) → ¬ IsCycle only_pair (1 ∷ cycle)
+no_cycle [] w = let two : 1 ≡ 2 = (from_one (1, 1) w).1 in absurd (omega (arith, two))
+no_cycle (c ∷ cs) w =
+    let two : c ≡ 2 = (from_one (1, c) w.0).1 in
+    let one : c ≡ 1 = only_first c cs 1 w.1 in
+    absurd (omega (arith, two, one))
+
+two_apart : IsDistinct ◌==◌ (2 ∷ 1 ∷ [])
+unfolding IsDistinct
+two_apart = ((refl, tt), (tt, tt))
+
+-- region 1 waits for region 2, and region 2 would wait for region 1
+abbrev both_pairs : List (ℕ × ℕ)
+both_pairs = (2, 1) ∷ (1, 2) ∷ []
+
+a_cycle : IsCycle both_pairs (2 ∷ 1 ∷ [])
+a_cycle = ((0, lit< tt, refl), (1, lit< tt, refl))
+
+-- ---- the turns
+
+-- what a transaction wants, by what it asks
+from_asks : (m : Machine) (region : ℕ) (t : Transaction) (a : Ask) (o : Option Needed) → asks sample_rules t ≡ a → wanted sample_rules m region t a ≡ o → wanted sample_rules m region t (asks sample_rules t) ≡ o
+from_asks m region t a o e f = ap (λ (q : Ask). wanted sample_rules m region t q) e ∙ f
+
+turn4 : Does sample_rules m3 1 first0 (Gains (of_anchor 6)) m4
+unfolding reply_to looks_unheld need_of
+turn4 = (from_asks m3 1 first0 (Asks (customer_held (codes "C001"))) (Some (of_anchor 6)) (two_ask_first first_asked.lterm first_asked.line) refl, refl, refl)
+
+turn6 : Does sample_rules m5 2 second0 (Gains (of_anchor 0)) m6
+unfolding reply_to looks_unheld need_of
+turn6 = (from_asks m5 2 second0 (Asks (customer_held (codes "C003"))) (Some (of_anchor 0)) (others_ask_first second_asked.lterm second_asked.line) refl, refl, refl)
+
+turn7 : Does sample_rules m6 1 first0 (Answers (customer_held (codes "C001"))) m7
+unfolding reply_to looks_unheld need_of
+turn7 = (two_ask_first first_asked.lterm first_asked.line, from_asks m6 1 first0 (Asks (customer_held (codes "C001"))) None (two_ask_first first_asked.lterm first_asked.line) refl, refl)
+
+turn8 : Does sample_rules m7 2 second0 (Answers (customer_held (codes "C003"))) m8
+unfolding reply_to looks_unheld need_of
+turn8 = (others_ask_first second_asked.lterm second_asked.line, from_asks m7 2 second0 (Asks (customer_held (codes "C003"))) None (others_ask_first second_asked.lterm second_asked.line) refl, refl)
+
+turn9 : Does sample_rules m8 1 first1 (Waits (of_anchor 0)) m9
+unfolding reply_to looks_unheld need_of
+turn9 = (from_asks m8 1 first1 (Asks (customer_held (codes "C003"))) (Some (of_anchor 0)) (two_ask_second first_asked.lterm first_asked.line) refl, refl, no_cycle, refl)
+
+turn10 : Does sample_rules m9 2 second1 (Closes (of_anchor 6) (1 ∷ [])) m10
+unfolding reply_to looks_unheld need_of
+turn10 = (from_asks m9 2 second1 (Asks (customer_held (codes "C001"))) (Some (of_anchor 6)) (others_ask_second second_asked.lterm second_asked.line) refl, a_cycle, two_apart, refl)
+
+turn11 : Does sample_rules m10 1 first1 (Gains (of_anchor 0)) m11
+unfolding reply_to looks_unheld need_of
+turn11 = (from_asks m10 1 first1 (Asks (customer_held (codes "C003"))) (Some (of_anchor 0)) (two_ask_second first_asked.lterm first_asked.line) refl, refl, refl)
+
+turn12 : Does sample_rules m11 1 first1 (Answers (customer_held (codes "C003"))) m12
+unfolding reply_to looks_unheld need_of
+turn12 = (two_ask_second first_asked.lterm first_asked.line, from_asks m11 1 first1 (Asks (customer_held (codes "C003"))) None (two_ask_second first_asked.lterm first_asked.line) refl, refl)
+
+turn13 : Does sample_rules m12 1 first2 (Commits_with (codes "BOTH") [] with_two) m13
+unfolding reply_to looks_unheld need_of lacking settlement settle_from
+turn13 = (two_reply first_asked.lterm first_asked.line, from_asks m12 1 first2 (Replies (codes "BOTH")) None (two_reply first_asked.lterm first_asked.line) refl, refl, refl)
+
+pub holders_by_turns : (m : Machine)
+    × (Runs sample_rules at_rest_with_two_holders
+    (In ∷ In ∷ Region 1 ∷ Region 1 ∷ Region 2 ∷ Region 2 ∷ Region 1 ∷ Region 2 ∷ Region 1 ∷ Region 2 ∷ Region 1 ∷ Region 1 ∷ Region 1 ∷ Log ∷ [])
+    (replicate 14 NoFault) m
+    × (m.sent ≡ codes "T2 NO DEADLOCK" ++ 10 ∷ codes "T1 OK BOTH" ++ 10 ∷ []))
+unfolding reply_to looks_unheld
+holders_by_turns = (
+  sealed_once sample_rules m13,
+  (
+    (
+      m1,
+      refl,
+      (
+        m2,
+        refl,
+        (
+          m3,
+          refl,
+          (
+            m4,
+            (Gains (of_anchor 6), turn4),
+            (
+              m5,
+              refl,
+              (
+                m6,
+                (Gains (of_anchor 0), turn6),
+                (
+                  m7,
+                  (Answers (customer_held (codes "C001")), turn7),
+                  (
+                    m8,
+                    (Answers (customer_held (codes "C003")), turn8),
+                    (
+                      m9,
+                      (Waits (of_anchor 0), turn9),
+                      (
+                        m10,
+                        (Closes (of_anchor 6) (1 ∷ []), turn10),
+                        (
+                          m11,
+                          (Gains (of_anchor 0), turn11),
+                          (
+                            m12,
+                            (Answers (customer_held (codes "C003")), turn12),
+                            (
+                              m13,
+                              (Commits_with (codes "BOTH") [] with_two, turn13),
+                              (sealed_once sample_rules m13, refl, refl),
+                            ),
+                          ),
+                        ),
+                      ),
+                    ),
+                  ),
+                ),
+              ),
+            ),
+          ),
+        ),
+      ),
+    ),
+    refl,
+  ),
+)
