@@ -1,0 +1,2 @@
+pub mod LogImages
+pub mod GatedWrites
