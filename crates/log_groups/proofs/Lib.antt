@@ -1,2 +1,3 @@
 pub mod LogImages
 pub mod GatedWrites
+pub mod Shutting

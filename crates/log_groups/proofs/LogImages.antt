@@ -12,6 +12,13 @@ use Rattle.fp_model.specs.Recovery.{Holds}
 use Rattle.log_groups.specs.Images.{IsLog, before_gate, gate_behind}
 use Rattle.log_groups.specs.Reads.{HasGroup}
 
+-- the byte at a place is the first from there on
+pub head_is : (bytes : List ℕ) (at b : ℕ) (rest : List ℕ) → drop at bytes ≡ b ∷ rest → slice_index bytes at ≡ b
+head_is bytes at b rest h = ap (λ n. get_or bytes n 0) at_zero ∙ sym (get_or-drop at bytes 0 0) ∙ ap (λ t. get_or t 0 0) h
+  where
+    at_zero : at ≡ at + 0
+    at_zero = omega arith
+
 -- all of a list, and one more
 pub all-append : {X : Type 0} (P : X → Type 0) (xs ys : List X) → AllByRecursion P xs → AllByRecursion P ys → AllByRecursion P (xs ++ ys)
 all-append P [] ys a b = b
@@ -98,12 +105,6 @@ open_front front groups gate old new entries next junk log same group behind shu
       place = place;
       text = all ∙ ap (λ t. more ++ t) (sym end);
     }) stands (λ one. shut (sym byte ∙ one))
-  where
-    head_is : (bytes : List ℕ) (at b : ℕ) (rest : List ℕ) → drop at bytes ≡ b ∷ rest → slice_index bytes at ≡ b
-    head_is bytes at b rest h = ap (λ n. get_or bytes n 0) at_zero ∙ sym (get_or-drop at bytes 0 0) ∙ ap (λ t. get_or t 0 0) h
-      where
-        at_zero : at ≡ at + 0
-        at_zero = omega arith
 
 -- groups that were read, and one more behind them
 pub groups_more : (bytes : List ℕ) (at : ℕ) (groups : List (List Entry)) (gate : ℕ) (entries : List Entry) (next : ℕ) → HoldsGroups bytes at groups gate → HasGroup bytes gate entries next → HoldsGroups bytes at (groups ++ entries ∷ []) next

@@ -65,11 +65,19 @@ pub record IsOpened (old : List ℕ) (gate : ℕ) (bytes : List ℕ) (new : Disk
   pub rest : List ℕ
   pub behind : drop gate (new.contents 0) ≡ 1 ∷ (bytes ++ rest)
 
--- a disk whose log is there and isn't open, and every crash leaves it so
+-- the front's gate is there, and isn't open
+pub record IsShutGate (bytes : List ℕ) : Type 0 where
+  pub some : 0 < length bytes
+  pub gate : slice_index bytes 0 ≢ 1
+
+-- the front's gate is absent, or open
+abbrev pub IsOpenGate : List ℕ → Type 0
+IsOpenGate bytes = (length bytes ≡ 0) ⊎ (slice_index bytes 0 ≡ 1)
+
+-- a disk whose log is shut, and every crash leaves it so
 pub record IsShut (disk : Disk) : Type 0 where
   pub durable : IsDurable disk 0
-  pub some : 0 < length (disk.contents 0)
-  pub gate : slice_index (disk.contents 0) 0 ≢ 1
+  pub gate : IsShutGate (disk.contents 0)
 
 -- The log that a crash left is as a sync might have left it at the start, or begins with no open front.
 abbrev pub IsBeforeOrShut : Disk → Snapshot → Type 0

@@ -16,6 +16,7 @@ mod fault;
 mod front;
 mod gated;
 mod group;
+mod making;
 
 
 
