@@ -1,3 +1,4 @@
 pub mod LogImages
 pub mod GatedWrites
 pub mod Shutting
+pub mod BodyReads

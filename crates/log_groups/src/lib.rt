@@ -12,11 +12,13 @@
 //! After a failure the log must be opened again.
 #![tactic(auto)]
 
+mod buffer;
 mod fault;
 mod front;
 mod gated;
 mod group;
 mod making;
+mod opening;
 
 
 

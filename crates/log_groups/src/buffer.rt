@@ -1,0 +1,77 @@
+//! The bytes of the entries that are not sealed: room for a length, the entries, and a closed gate.
+ghost use Rattle.fp_model.specs.Spellings.{be64};
+ghost use Rattle.fp_site.specs.Disk.{Disk, IsDurable};
+ghost use Rattle.fp_site.specs.Moments.{OnlyOn, Through};
+ghost use Rattle.fp_site.specs.Site.{Counts, ReadsNothing};
+ghost use Rattle.log_groups.specs.Images.{IsGated, IsOpened};
+ghost use Rattle.log_groups.specs.Log.{part_text};
+ghost use Rattle.std.specs.Prelude.{◌≡◌, ◌⊎◌, ◌+◌, ◌-◌, ◌<◌, ◌≤◌, ◌^◌, ◌∷◌, ◌++◌, ℕ, [], List, OnOk, drop, length, slice_index, take, vec_capacity, vec_len};
+
+use crate::gated::write_gated;
+use byteorder::{BigEndian, ByteOrder};
+use fp_site::{Failed, Site};
+
+// Puts a text before the closed gate at the end, where there is room.
+pub(crate) fn put_text(buffer: &mut Vec<u8>, text: &[u8])
+    requires some { 1 ≤ length buffer.old.items }
+    requires room { vec_len buffer.old + length text.now ≤ vec_capacity buffer.old }
+    ensures items { (front : List ℕ) → buffer.old.items ≡ front ++ 0 ∷ [] → buffer.new.items ≡ front ++ text.now ++ 0 ∷ [] }
+    ensures capacity { vec_capacity buffer.old ≤ vec_capacity buffer.new }
+{
+    let _ = buffer.pop();
+    let _ = buffer.extend_from_slice(text);
+    let _ = buffer.push(0);
+}
+
+// Seals a part of the buffer as one group: its length goes in front of it and a closed gate behind it.
+pub(crate) fn seal_part<S: Site>(
+    site: &mut S,
+    gate: u64,
+    buffer: &mut [u8],
+    start: usize,
+    end: usize,
+) -> Result<(), Failed>
+    requires header { 8 ≤ start }
+    requires order { start ≤ end }
+    requires inside { end < length buffer.old }
+    requires room { gate + 10 + (end - start) ≤ 2 ^ 62 }
+
+    // At `Ok` the group is in the log, and every crash leaves it there.
+    ensures opened { S.told site.old → IsDurable (S.disk site.old) 0 → gate < length ((S.disk site.old).contents 0) →
+        OnOk result (IsOpened ((S.disk site.old).contents 0) gate (part_text buffer.old start end) (S.disk site.new)) }
+    ensures cause { Counts (S.faults site.old) (S.faults site.new) result }
+
+    // The bytes from the end of the part on stay.
+    ensures len { length buffer.new ≡ length buffer.old }
+    ensures rest { drop end buffer.new ≡ drop end buffer.old }
+
+    // No other data set changes, nothing is sent or read.
+    ensures only { S.told site.old → OnlyOn 0 (S.disk site.old) (S.disk site.new) }
+    ensures reads { ReadsNothing (S.tells_reads site.old) (S.tells_reads site.new) (S.bytes_read site.old) (S.bytes_read site.new) }
+    ensures told { S.told site.old → S.told site.new }
+    ensures holds { S.holds site.new ≡ S.holds site.old }
+    ensures keeps { (first : S) → S.keeps first site.old → S.keeps first site.new }
+
+    // A crash at any moment leaves the gate as it was, or the group whole behind it.
+    ensures crash { S.told site.old → IsDurable (S.disk site.old) 0 → gate < length ((S.disk site.old).contents 0) →
+        Through (S.disk site.old) (S.disk site.new) (IsGated ((S.disk site.old).contents 0) gate (part_text buffer.old start end)) }
+{
+    let next = buffer[end];
+    make_ready(buffer, start, end);
+    let sealed = write_gated(site, gate, &buffer[start - 8..end + 1]);
+    buffer[end] = next;
+    sealed
+}
+
+// Puts the length of a part in front of it, and a closed gate behind it.
+fn make_ready(buffer: &mut [u8], start: usize, end: usize)
+    requires header { 8 ≤ start }
+    requires order { start ≤ end }
+    requires inside { end < length buffer.old }
+    ensures len { length buffer.new ≡ length buffer.old }
+    ensures ready { take (8 + (end - start) + 1) (drop (start - 8) buffer.new) ≡ part_text buffer.old start end }
+    ensures rest { drop (end + 1) buffer.new ≡ drop (end + 1) buffer.old }
+{
+    BigEndian::write_u64(&mut buffer[start - 8..start], (end - start) as u64);
+    buffer[end] = 0;
+}
