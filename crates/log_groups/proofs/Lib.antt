@@ -2,3 +2,4 @@ pub mod LogImages
 pub mod GatedWrites
 pub mod Shutting
 pub mod BodyReads
+pub mod BufferParts

@@ -30,6 +30,11 @@ pub record IsAtRest (disk : Disk) (front : Front) (groups : List (List Entry)) (
 abbrev pub gate_behind : ℕ → List Entry → ℕ
 gate_behind gate entries = gate + length (group_text entries)
 
+-- groups and one more of these entries, where there are any
+abbrev pub with_group : List (List Entry) → List Entry → List (List Entry)
+with_group groups [] = groups
+with_group groups (e ∷ entries) = groups ++ (e ∷ entries) ∷ []
+
 -- the log that a crash left has these groups, or one more, whole
 abbrev pub IsBeforeOrAfter : Front → List (List Entry) → ℕ → List Entry → Snapshot → Type 0
 IsBeforeOrAfter front groups gate entries s =

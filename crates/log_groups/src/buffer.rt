@@ -4,10 +4,14 @@ ghost use Rattle.fp_site.specs.Disk.{Disk, IsDurable};
 ghost use Rattle.fp_site.specs.Moments.{OnlyOn, Through};
 ghost use Rattle.fp_site.specs.Site.{Counts, ReadsNothing};
 ghost use Rattle.log_groups.specs.Images.{IsGated, IsOpened};
-ghost use Rattle.log_groups.specs.Log.{part_text};
-ghost use Rattle.std.specs.Prelude.{◌≡◌, ◌⊎◌, ◌+◌, ◌-◌, ◌<◌, ◌≤◌, ◌^◌, ◌∷◌, ◌++◌, ℕ, [], List, OnOk, drop, length, slice_index, take, vec_capacity, vec_len};
+ghost use Rattle.fp_model.specs.LogText.{HasSpelling, body_text};
+ghost use Rattle.fp_model.specs.declared.log.Entry.{Entry};
+ghost use Rattle.log_groups.specs.Log.{HasEntries, part_text};
+ghost use Rattle.std.specs.List.{AllByRecursion};
+ghost use Rattle.std.specs.Prelude.{◌≡◌, ◌⊎◌, ◌+◌, ◌-◌, ◌<◌, ◌≤◌, ◌^◌, ◌∷◌, ◌++◌, ℕ, [], List as ListOf, OnOk, drop, length, slice_index, slice_set, take, vec_capacity, vec_len};
 
 use crate::gated::write_gated;
+use crate::group::number_of;
 use byteorder::{BigEndian, ByteOrder};
 use fp_site::{Failed, Site};
 
@@ -41,9 +45,9 @@ pub(crate) fn seal_part<S: Site>(
         OnOk result (IsOpened ((S.disk site.old).contents 0) gate (part_text buffer.old start end) (S.disk site.new)) }
     ensures cause { Counts (S.faults site.old) (S.faults site.new) result }
 
-    // The bytes from the end of the part on stay.
+    // The bytes from its start on stay.
     ensures len { length buffer.new ≡ length buffer.old }
-    ensures rest { drop end buffer.new ≡ drop end buffer.old }
+    ensures rest { drop start buffer.new ≡ drop start buffer.old }
 
     // No other data set changes, nothing is sent or read.
     ensures only { S.told site.old → OnlyOn 0 (S.disk site.old) (S.disk site.new) }
@@ -70,8 +74,46 @@ fn make_ready(buffer: &mut [u8], start: usize, end: usize)
     requires inside { end < length buffer.old }
     ensures len { length buffer.new ≡ length buffer.old }
     ensures ready { take (8 + (end - start) + 1) (drop (start - 8) buffer.new) ≡ part_text buffer.old start end }
-    ensures rest { drop (end + 1) buffer.new ≡ drop (end + 1) buffer.old }
+    ensures rest { drop start (slice_set buffer.new end (slice_index buffer.old end)) ≡ drop start buffer.old }
 {
-    BigEndian::write_u64(&mut buffer[start - 8..start], (end - start) as u64);
+    put_number(&mut buffer[start - 8..start], (end - start) as u64);
     buffer[end] = 0;
+}
+
+// Writes a number over eight bytes.
+#[tactic(auto, unfolding(fp_model::specs::Spellings::be64))]
+fn put_number(into: &mut [u8], n: u64)
+    requires { length into.old ≡ 8 }
+    ensures { into.new ≡ be64 n }
+{
+    BigEndian::write_u64(into, n);
+}
+
+// Where the part that has so many of these entries ends.
+pub(crate) fn end_of(buffer: &[u8], start: usize, count: usize) -> usize
+    requires { HasEntries buffer.now start count }
+    ensures start { start ≤ result }
+    ensures inside { result < length buffer.now }
+    ensures rest { (entries : ListOf Entry) → AllByRecursion HasSpelling entries → count ≤ length entries
+        → drop start buffer.now ≡ body_text entries ++ 0 ∷ []
+        → drop result buffer.now ≡ body_text (drop count entries) ++ 0 ∷ [] }
+{
+    let mut end = start;
+    for _ in 0..count {
+        end = next_end(buffer, end);
+    }
+    end
+}
+
+// Where the entry at this place ends.
+fn next_end(buffer: &[u8], at: usize) -> usize
+    requires { HasEntries buffer.now at 1 }
+    ensures later { at ≤ result }
+    ensures inside { result < length buffer.now }
+    ensures rest { (e : Entry) (entries : ListOf Entry) → HasSpelling e
+        → drop at buffer.now ≡ body_text (e ∷ entries) ++ 0 ∷ []
+        → drop result buffer.now ≡ body_text entries ++ 0 ∷ [] }
+{
+    let number = number_of(&buffer[at..at + 8]);
+    at + (8 + number as usize)
 }

@@ -28,4 +28,15 @@ impl Front {
         put_part(&mut rest, &self.scripts)?;
         Ok(rest)
     }
+
+    // The front with its gate open.
+    pub(crate) fn text(&self, alloc: Global) -> Result<Bytes, AllocError>
+        requires { FitsFront (texts_of self.now) }
+        ensures { IfOk result (λ text. text ≡ front_text 1 (texts_of self.now)) }
+    {
+        let rest = self.rest(alloc)?;
+        let mut text = Bytes::from_slice(alloc, &[1])?;
+        text.append(rest.as_slice())?;
+        Ok(text)
+    }
 }

@@ -42,7 +42,7 @@ fn is_open<S: Site>(site: &mut S, at: u64) -> Result<bool, Failed>
 }
 
 // The number that these bytes spell.
-fn number_of(bytes: &[u8]) -> u64
+pub(crate) fn number_of(bytes: &[u8]) -> u64
     requires { length bytes.now ≡ 8 }
     ensures { be64 result ≡ bytes.now }
 {

@@ -17,6 +17,7 @@ mod fault;
 mod front;
 mod gated;
 mod group;
+mod log;
 mod making;
 mod opening;
 
@@ -25,5 +26,6 @@ mod opening;
 pub use fault::{LogFault, SealFault};
 pub use front::Front;
 pub use group::Group;
+pub use log::Log;
 
 
