@@ -94,10 +94,10 @@ all-take P (x ∷ xs) zero all = tt
 all-take P (x ∷ xs) (suc i) all = (all.0, all-take P xs i all.1)
 
 -- an entry has more bytes than a gate and a length
-pub length-entry : (e : Entry) → 9 ≤ length (entry_text e)
+pub length-entry : (e : Entry) → 12 ≤ length (entry_text e)
 length-entry e = omega (arith, length-append (be64 (length (rest_text e))) (rest_text e), length-be64 (length (rest_text e)), rest_some)
   where
-    rest_some : 1 ≤ length (rest_text e)
+    rest_some : 4 ≤ length (rest_text e)
     rest_some = omega (arith, length-append (be64 e.from ++ outcome_text e.outcome ++ long_text e.line ++ long_text e.reply ++ notes_text e.notes) (items_text e.items), length-append (be32 (length e.items)) (flat_map item_text e.items), length-be32 (length e.items))
 
 -- what stands from an entry on

@@ -3,3 +3,4 @@ pub mod GatedWrites
 pub mod Shutting
 pub mod BodyReads
 pub mod BufferParts
+pub mod Sealing

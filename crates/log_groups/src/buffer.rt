@@ -19,7 +19,7 @@ use fp_site::{Failed, Site};
 pub(crate) fn put_text(buffer: &mut Vec<u8>, text: &[u8])
     requires some { 1 ≤ length buffer.old.items }
     requires room { vec_len buffer.old + length text.now ≤ vec_capacity buffer.old }
-    ensures items { (front : List ℕ) → buffer.old.items ≡ front ++ 0 ∷ [] → buffer.new.items ≡ front ++ text.now ++ 0 ∷ [] }
+    ensures items { (front : ListOf ℕ) → buffer.old.items ≡ front ++ 0 ∷ [] → buffer.new.items ≡ front ++ text.now ++ 0 ∷ [] }
     ensures capacity { vec_capacity buffer.old ≤ vec_capacity buffer.new }
 {
     let _ = buffer.pop();

@@ -123,7 +123,7 @@ impl Log {
         if !begins_with(alloc, site, text.as_slice())? {
             return Err(LogFault::Foreign);
         }
-        let buffer = vec![in alloc; 0u8; 9]?;
+        let buffer = Vec::from_slice(alloc, &[0; 9])?;
         Ok(Log {
             sealed: 0,
             gate: text.len() as u64,
