@@ -1,12 +1,12 @@
 -- What stands behind an open gate: a length and a body, or damage.
-use Rattle.std.proofs.Common.{◌≡◌, ◌≢◌, inl, inr, ℕ, ◌+◌, ◌-◌, ◌<◌, ◌≤◌, ◌^◌, List, [], ◌∷◌, ◌++◌, length, get_or, take, drop, replicate, refl, sym, ◌∙◌, ap, arith, append_assoc}
+use Rattle.std.proofs.Common.{◌≡◌, inl, inr, ℕ, ◌+◌, ◌<◌, ◌≤◌, ◌^◌, List, [], ◌∷◌, ◌++◌, length, get_or, take, drop, replicate, refl, sym, ◌∙◌, ap, arith, append_assoc}
 use Rattle.std.specs.Prelude.{slice_index}
 use Rattle.std.proofs.lemmas.Bool.{cases_lt}
-use Rattle.std.proofs.lemmas.List.{length-append, length-take, length-drop, drop-drop, drop_more, take-append-drop, take-append-le, append-nil, get_or_past, get_or-drop, get_or-take}
+use Rattle.std.proofs.lemmas.List.{length-append, length-drop, drop-drop, drop_more, take-append-drop, take-append-le, append-nil, get_or_past, get_or-drop, get_or-take}
 use Rattle.fp_model.specs.declared.log.Entry.{Entry}
 use Rattle.fp_model.specs.Spellings.{be64}
 use Rattle.fp_model.specs.LogText.{body_text}
-use Rattle.fp_model.specs.Groups.{IsGroup, IsBody, IsDamaged}
+use Rattle.fp_model.specs.Groups.{IsDamaged}
 use Rattle.fp_site.specs.Disk.{read_range}
 use Rattle.fp_site.specs.Written.{get_or-append_zeros}
 use Rattle.log_format.specs.Faults.{Spells, IsFirstBad}

@@ -1,18 +1,17 @@
 -- The parts of the buffer: what is written of it as a group, and the entries that it has.
 use Rattle.std.proofs.Common.{◌≡◌, ℕ, zero, suc, ◌+◌, ◌-◌, ◌<◌, ◌≤◌, ◌^◌, List, [], ◌∷◌, ◌++◌, length, get_or, take, drop, set, refl, sym, ◌∙◌, ap, subst, arith, append_assoc}
-use Rattle.std.specs.Prelude.{slice_set}
 use Rattle.std.specs.List.{AllByRecursion, flat_map}
 use Rattle.std.proofs.Math.Seq.{set-append_seam}
 use Rattle.std.proofs.lemmas.Slice.{take-put_mid, drop-put_mid}
 use Rattle.std.proofs.lemmas.List.{length-append, length-take, length-drop, drop-drop, drop_more, drop_at, take_at, take-append-drop}
-use Rattle.std.proofs.lemmas.List.Concat.{flat_map-cons, flat_map-append}
+use Rattle.std.proofs.lemmas.List.Concat.{flat_map-cons}
 use borrow.Rule.Slice.PartMut.{put_mid}
 use Rattle.fp_model.specs.declared.log.Entry.{Entry}
 use Rattle.fp_model.specs.Spellings.{be32, be64, long_text}
 use Rattle.fp_model.specs.LogText.{HasSpelling, outcome_text, item_text, notes_text, items_text, rest_text, entry_text, body_text}
 use Rattle.log_format.proofs.Fields.{length-be32, length-be64}
 use Rattle.log_format.proofs.GroupLaws.{one_number}
-use Rattle.log_groups.specs.Log.{HasEntries, part_text}
+use Rattle.log_groups.specs.Log.{HasEntries}
 
 -- a buffer with a length in front of a part and a closed gate behind it
 module _ (xs m : List ℕ) (start end : ℕ) (header : 8 ≤ start) (order : start ≤ end) (inside : end < length xs) (eight : length m ≡ 8) where

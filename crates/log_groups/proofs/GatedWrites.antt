@@ -2,8 +2,8 @@
 use Rattle.std.proofs.Common.{◌≡◌, inl, inr, ℕ, ◌+◌, ◌-◌, ◌<◌, ◌≤◌, false, List, [], ◌∷◌, ◌++◌, length, get_or, take, drop, refl, sym, ◌∙◌, ap, subst, arith}
 use Rattle.std.specs.Prelude.{slice_index}
 use Rattle.std.proofs.lemmas.Bool.Decides.{nat_tests}
-use Rattle.std.proofs.lemmas.List.{length-append, length-take, take-take, take_at, drop_at, drop_more, take-append-drop, take-append-le, get_or-take, get_or_append_left}
-use Rattle.fp_site.specs.Disk.{Disk, Snapshot, Torn, IsDurable, Differs, Settles, Tears, Syncs, Elapses, Leaves, IsLawful, written, covers}
+use Rattle.std.proofs.lemmas.List.{length-append, length-take, take-take, take_at, drop_at, drop_more, take-append-drop, take-append-le}
+use Rattle.fp_site.specs.Disk.{Disk, Snapshot, Torn, IsDurable, Settles, Tears, Syncs, Elapses, Leaves, IsLawful, written, covers}
 use Rattle.fp_site.specs.Moments.{Through, OnlyOn}
 use Rattle.fp_site.proofs.Torns.{torn_front, torn_back}
 use Rattle.fp_site.proofs.Images.{torn_from, torn_now, torn_settles}

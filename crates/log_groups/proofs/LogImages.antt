@@ -1,14 +1,13 @@
 -- The images of a log: where its bytes change behind the closed gate, where that gate stays closed, and where it opens
 -- before a whole group.
-use Rattle.std.proofs.Common.{◌≡◌, ◌≢◌, ℕ, zero, suc, ◌+◌, ◌<◌, ◌≤◌, List, [], ◌∷◌, ◌++◌, length, take, drop, get_or, refl, sym, ◌∙◌, ap, subst, arith, append_assoc}
+use Rattle.std.proofs.Common.{◌≡◌, ◌≢◌, ℕ, suc, ◌+◌, ◌<◌, List, [], ◌∷◌, ◌++◌, length, take, drop, get_or, refl, sym, ◌∙◌, ap, arith, append_assoc}
 use Rattle.std.specs.Prelude.{slice_index}
 use Rattle.std.specs.List.{AllByRecursion}
-use Rattle.std.proofs.lemmas.List.{length-append, take_at, drop_at, drop_more, take-append-drop, append-nil, get_or-drop}
+use Rattle.std.proofs.lemmas.List.{length-append, take_at, drop_at, take-append-drop, append-nil, get_or-drop}
 use Rattle.std.proofs.lemmas.List.Concat.{flat_map-cons, flat_map-append}
 use Rattle.fp_model.specs.declared.log.Entry.{Entry}
 use Rattle.fp_model.specs.LogText.{Front, front_text, group_text, groups_text}
 use Rattle.fp_model.specs.Groups.{IsGroup, HoldsGroups}
-use Rattle.fp_model.specs.Recovery.{Holds}
 use Rattle.log_groups.specs.Images.{IsLog, before_gate, gate_behind}
 use Rattle.log_groups.specs.Reads.{HasGroup}
 
@@ -57,11 +56,14 @@ log_of front groups gate bytes shape stands shut =
     record {
       holds = record {
         begins = (rest, all);
-        reads = (record {
-          each = shape.each;
-          next = shape.place ∙ length-append head (groups_text groups);
-          text = ap (drop (length head)) all ∙ drop_at head rest (length head) refl;
-        }, shut);
+        reads = (
+          record {
+            each = shape.each;
+            next = shape.place ∙ length-append head (groups_text groups);
+            text = ap (drop (length head)) all ∙ drop_at head rest (length head) refl;
+          },
+          shut,
+        );
       };
       stands = stands;
     }

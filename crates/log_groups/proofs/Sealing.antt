@@ -1,26 +1,24 @@
 -- What sealing a part of the buffer comes to: for the log, and for the buffer.
-use Rattle.std.proofs.Common.{◌≡◌, ◌≢◌, ◌⊎◌, inl, inr, ℕ, zero, suc, ◌+◌, ◌-◌, ◌*◌, ◌<◌, ◌≤◌, ◌^◌, min, Vec, List, [], ◌∷◌, ◌++◌, length, take, drop, refl, sym, ◌∙◌, ap, subst, arith, append_assoc}
-use Rattle.std.specs.Prelude.{slice_index}
-use Rattle.std.specs.Vec.{with_items, vec_capacity, vec_len}
+use Rattle.std.proofs.Common.{◌≡◌, inl, inr, ℕ, zero, suc, ◌+◌, ◌-◌, ◌*◌, ◌<◌, ◌≤◌, ◌^◌, min, Vec, List, [], ◌∷◌, ◌++◌, length, take, drop, refl, sym, ◌∙◌, ap, subst, arith, append_assoc}
+use Rattle.std.specs.Vec.{with_items, vec_capacity}
 use Rattle.std.specs.List.{AllByRecursion}
 use Rattle.std.specs.declared.alloc.Global.{Global}
 use Rattle.std.proofs.Math.Seq.{take-length}
 use Rattle.std.proofs.lemmas.Bool.{cases_eq, cases_lt}
 use Rattle.std.proofs.lemmas.List.{with_items_is, length-append, length-take, length-drop, drop-drop, take_at, drop_at, append-nil, take-append-drop}
 use Rattle.std.proofs.lemmas.List.Concat.{flat_map-cons, flat_map-append}
-use Rattle.fp_site.specs.Disk.{Disk, Snapshot, IsDurable}
+use Rattle.fp_site.specs.Disk.{Disk, Snapshot}
 use Rattle.fp_site.specs.Moments.{Through}
 use Rattle.fp_site.proofs.Runs.{weaker}
 use Rattle.fp_model.specs.declared.log.Entry.{Entry}
 use Rattle.fp_model.specs.Spellings.{be64}
 use Rattle.fp_model.specs.LogText.{Front, HasSpelling, entry_text, body_text, group_text}
-use Rattle.fp_model.specs.Groups.{IsGroup}
 use Rattle.log_format.specs.Reading.{many_at}
 use Rattle.log_format.specs.EntryReading.{entry_at}
 use Rattle.log_format.proofs.Fields.{length-be64}
 use Rattle.log_format.proofs.Lists.{many_again}
 use Rattle.log_format.proofs.EntryLaws.{entry_law}
-use Rattle.log_groups.specs.Images.{IsLog, IsAtRest, IsBeforeOrAfter, IsGated, IsUnopened, IsStaged, IsOpened, SpellsGroup, gate_behind, with_group}
+use Rattle.log_groups.specs.Images.{IsLog, IsAtRest, IsBeforeOrAfter, IsGated, IsOpened, SpellsGroup, gate_behind, with_group}
 use Rattle.log_groups.specs.Log.{IsBuffered, values_of, entries_in, part_text}
 use Rattle.log_groups.proofs.LogImages.{all-append, head_is, closed_front, open_front}
 use Rattle.log_groups.proofs.BufferParts.{all-drop, all-take, length-entry}

@@ -1,18 +1,18 @@
 -- Closing the front's gate: what a crash leaves of each call.
-use Rattle.std.proofs.Common.{◌≡◌, ◌≢◌, ◌⊎◌, inl, inr, ⊎_elim, ℕ, zero, suc, ◌+◌, ◌-◌, ◌<◌, ◌≤◌, ◌^◌, Bool, true, false, not, List, [], ◌∷◌, ◌++◌, length, get_or, take, drop, refl, sym, ◌∙◌, ap, subst, arith, append_assoc}
-use Rattle.std.specs.Prelude.{slice_index, slice_index_or, nat_eq, ◌==◌}
+use Rattle.std.proofs.Common.{◌≡◌, ◌⊎◌, inl, inr, ⊎_elim, ℕ, zero, suc, ◌+◌, ◌<◌, false, List, [], ◌∷◌, ◌++◌, length, get_or, drop, refl, sym, ◌∙◌, ap, subst, arith, append_assoc}
+use Rattle.std.specs.Prelude.{slice_index}
 use Rattle.std.proofs.lemmas.Bool.Decides.{nat_tests}
 use Rattle.std.proofs.lemmas.Bool.{cases_eq}
 use Rattle.std.proofs.lemmas.List.{length-append, ext_get_or, drop_at, append-nil}
 use Rattle.fp_model.specs.Spellings.{be32, part_text}
-use Rattle.fp_model.specs.LogText.{Front, StartsWithFront, FitsFront, front_text, front_rest, first_gate}
-use Rattle.fp_site.specs.Disk.{Disk, Snapshot, Torn, IsDurable, Differs, Settles, Tears, Syncs, Elapses, Leaves, Stays, IsLawful, written, covers, read_range}
+use Rattle.fp_model.specs.LogText.{Front, StartsWithFront, front_text, front_rest, first_gate}
+use Rattle.fp_site.specs.Disk.{Disk, Snapshot, Torn, IsDurable, Differs, Settles, Tears, Syncs, Elapses, Leaves, Stays, IsLawful, written, covers}
 use Rattle.fp_site.specs.Moments.{Through, OnlyOn}
 use Rattle.fp_site.proofs.Images.{torn_from, torn_now, torn_settles, durable_stays}
 use Rattle.fp_site.proofs.Runs.{started, goes_on, stays_on, joined, weaker, elapses_weaker}
 use Rattle.fp_site.proofs.Frames.{Anyhow, only_none, only_more}
 use Rattle.log_format.proofs.Fields.{length-be32}
-use Rattle.log_groups.specs.Images.{IsLog, IsAtRest, IsShut, IsShutGate, IsOpenGate, IsBeforeOrShut, IsBeforeOrMade, IsGated, IsUnopened, IsStaged, IsOpened}
+use Rattle.log_groups.specs.Images.{IsLog, IsAtRest, IsShut, IsShutGate, IsOpenGate, IsBeforeOrShut, IsBeforeOrMade, IsGated, IsOpened}
 use Rattle.log_groups.proofs.LogImages.{head_is, log_of}
 use Rattle.log_groups.proofs.GatedWrites.{written_is}
 

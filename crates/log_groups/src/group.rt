@@ -80,7 +80,12 @@ fn length_at<S: Site>(site: &mut S, at: u64) -> Result<Option<u64>, Failed>
 }
 
 // So many bytes of the log from this place on.
-pub(crate) fn bytes_at<S: Site>(alloc: Global, site: &mut S, at: u64, len: u64) -> Result<Vec<u8>, LogFault>
+pub(crate) fn bytes_at<S: Site>(
+    alloc: Global,
+    site: &mut S,
+    at: u64,
+    len: u64,
+) -> Result<Vec<u8>, LogFault>
     ensures value { S.told site.old → at + len ≤ length ((S.disk site.old).contents 0) →
         IfOk result (λ bytes. bytes.items ≡ take len (drop at ((S.disk site.old).contents 0))) }
     ensures long { IfOk result (λ bytes. length bytes.items ≡ len) }

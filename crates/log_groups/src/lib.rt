@@ -21,11 +21,10 @@ mod log;
 mod making;
 mod opening;
 
-
-
 pub use fault::{LogFault, SealFault};
 pub use front::Front;
 pub use group::Group;
 pub use log::Log;
 
-
+#[cfg(test)]
+mod tests;

@@ -1,5 +1,5 @@
-use Rattle.std.proofs.Common.{arith, rules}
-use Rattle.log_groups.proofs.BufferParts.{walk_begins, walk_on}
+use Rattle.std.proofs.Common.{rules}
+use Rattle.log_groups.proofs.BufferParts.{walk_on}
 use Rattle.log_groups.proofs.buffer.end_of.Goals as goal
 
 pub loop-preserved : goal.loop-preserved

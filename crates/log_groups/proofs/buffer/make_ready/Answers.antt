@@ -1,4 +1,4 @@
-use Rattle.std.proofs.Common.{length, ◌-◌, sym, ◌∙◌, ap, arith, take, drop, ◌++◌, ◌∷◌, []}
+use Rattle.std.proofs.Common.{length, ◌-◌, ◌∙◌, ap, take, drop, ◌++◌, ◌∷◌, []}
 use Rattle.log_format.proofs.Fields.{length-be64}
 use Rattle.log_groups.proofs.BufferParts.{ready, put_back}
 use Rattle.log_groups.proofs.buffer.make_ready.Goals as goal

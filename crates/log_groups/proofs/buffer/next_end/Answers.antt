@@ -1,5 +1,4 @@
-use Rattle.std.proofs.Common.{◌≡◌, ◌+◌, ◌<◌, length, take, drop, sym, ◌∙◌, ap, arith, rules}
-use Rattle.fp_model.specs.Spellings.{be64}
+use Rattle.std.proofs.Common.{arith, rules}
 use Rattle.log_groups.proofs.BufferParts.{header_inside, end_inside, entry_on}
 use Rattle.log_groups.proofs.buffer.next_end.Goals as goal
 

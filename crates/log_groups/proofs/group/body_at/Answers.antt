@@ -1,4 +1,4 @@
-use Rattle.std.proofs.Common.{◌≡◌, ◌+◌, ◌≤◌, length, take, drop, sym, ◌∙◌, ap, arith}
+use Rattle.std.proofs.Common.{◌+◌, ◌≤◌, length, take, drop, ◌∙◌, ap, arith}
 use Rattle.log_groups.specs.Reads.{HasLength}
 use Rattle.log_groups.proofs.BodyReads.{body_read}
 use Rattle.log_groups.proofs.group.body_at.Goals as goal

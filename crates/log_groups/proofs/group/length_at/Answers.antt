@@ -1,7 +1,6 @@
-use Rattle.std.proofs.Common.{◌≡◌, ◌+◌, length, sym, ◌∙◌, ap, arith}
+use Rattle.std.proofs.Common.{◌+◌, ◌∙◌, ap, arith}
 use Rattle.fp_site.specs.Disk.{read_range}
 use Rattle.log_groups.proofs.BodyReads.{cut_short, length_read, no_length_is_damage, past_end_is_damage}
-use Rattle.fp_model.specs.Spellings.{be64}
 use Rattle.log_groups.proofs.group.length_at.Goals.{then-size-lt9-via-then-size-lt9, then-size-lt9-via-else-size-lt9+then-at-size}
 use Rattle.log_groups.proofs.group.length_at.Goals.{then-len-eq0-via-then-len-eq0, then-len-eq0-via-else-len-eq0+then-len-size}
 use Rattle.log_groups.proofs.group.length_at.Goals as goal

@@ -1,5 +1,4 @@
-use Rattle.std.proofs.Common.{[], ◌∷◌, ◌∙◌, ap}
-use Rattle.log_groups.proofs.Shutting.{only1, synced1, only2, looked, shut_already, only3, wrote, only4, synced2, shut_now}
+use Rattle.log_groups.proofs.Shutting.{only1, synced1, only2, looked, only3, wrote, only4, synced2}
 use Rattle.log_groups.proofs.making.shut.Goals as goal
 
 pub returns-in_err-sync-clause-only : goal.returns-in_err-sync-clause-only

@@ -1,6 +1,6 @@
-use Rattle.std.proofs.Common.{◌≡◌, ◌+◌, ◌≤◌, ◌<◌, [], ◌∷◌, ◌++◌, length, take, drop, refl, sym, subst, ◌∙◌, ap, arith, rules}
+use Rattle.std.proofs.Common.{◌≡◌, [], ◌++◌, length, drop, refl, sym, ◌∙◌, ap, arith, rules}
 use Rattle.std.proofs.lemmas.List.{take-append-drop}
-use Rattle.fp_model.specs.LogText.{front_text, front_rest, first_gate}
+use Rattle.fp_model.specs.LogText.{front_text, first_gate}
 use Rattle.log_format.specs.Reading.{many_at}
 use Rattle.log_groups.specs.Images.{texts_of}
 use Rattle.log_groups.specs.Log.{entries_in}
