@@ -1,0 +1,6 @@
+pub mod LogImages
+pub mod GatedWrites
+pub mod Shutting
+pub mod BodyReads
+pub mod BufferParts
+pub mod Sealing

@@ -1,0 +1,64 @@
+use Rattle.std.proofs.Common.{◌≡◌, [], ◌∷◌, ◌++◌, length, subst, ◌∙◌, ap, arith}
+use Rattle.std.proofs.lemmas.List.{length-append}
+use Rattle.fp_model.specs.LogText.{front_rest}
+use Rattle.fp_site.specs.Moments.{Through}
+use Rattle.log_groups.specs.Images.{IsGated, IsOpened, texts_of}
+use Rattle.log_groups.proofs.Shutting.{length-front, only_joined, once_made, made_log}
+use Rattle.log_groups.proofs.making.make.Goals as goal
+
+-- the front fits in a data set
+pub write_gated-requires : goal.write_gated-requires
+write_gated-requires g c =
+    let front = texts_of c.args.front.now in
+    let is : c.as_slice.result.now ≡ front_rest front ++ 0 ∷ [] = c.as_slice.ensures ∙ c.in_ok-push.ensures.ok ∙ ap (λ l. l ++ 0 ∷ []) c.in_ok-bytes.ensures in
+    let fits = c.requires in
+    record { room = omega (arith, ap length is, length-append (front_rest front) (0 ∷ []), length-front front, fits.0, fits.1) }
+
+pub returns-in_err-write_gated-clause-only : goal.returns-in_err-write_gated-clause-only
+returns-in_err-write_gated-clause-only g c t =
+    let t1 = c.shut.ensures.told t in
+    only_joined 0 _ _ _ (g.met.S.Site.lawful c.args.site.now t) (g.met.S.Site.lawful c.shut.new.site t1) (c.shut.ensures.only t) (c.write_gated.ensures.only t1)
+
+pub returns-in_err-write_gated-clause-crash : goal.returns-in_err-write_gated-clause-crash
+returns-in_err-write_gated-clause-crash g c t =
+    let t1 = c.shut.ensures.told t in
+    let law = g.met.S.Site.lawful c.args.site.now t in
+    let law1 = g.met.S.Site.lawful c.shut.new.site t1 in
+    let shut = c.in_ok-shut.ensures.shut t in
+    let front = texts_of c.args.front.now in
+    let h = g.S.Site.disk c.args.site.now in
+    let a = g.S.Site.disk c.shut.new.site in
+    let b = g.S.Site.disk c.write_gated.new.site in
+    let is : c.as_slice.result.now ≡ front_rest front ++ 0 ∷ [] = c.as_slice.ensures ∙ c.in_ok-push.ensures.ok ∙ ap (λ l. l ++ 0 ∷ []) c.in_ok-bytes.ensures in
+    once_made front h a b law law1 (c.shut.ensures.crash t) shut (subst (λ l. Through a b (IsGated (a.contents 0) 0 l)) is (c.write_gated.ensures.crash t1 shut.durable shut.gate.some))
+
+pub returns-clause-only : goal.returns-clause-only
+returns-clause-only g c t =
+    let t1 = c.shut.ensures.told t in
+    only_joined 0 _ _ _ (g.met.S.Site.lawful c.args.site.now t) (g.met.S.Site.lawful c.shut.new.site t1) (c.shut.ensures.only t) (c.write_gated.ensures.only t1)
+
+pub returns-clause-crash : goal.returns-clause-crash
+returns-clause-crash g c t =
+    let t1 = c.shut.ensures.told t in
+    let law = g.met.S.Site.lawful c.args.site.now t in
+    let law1 = g.met.S.Site.lawful c.shut.new.site t1 in
+    let shut = c.in_ok-shut.ensures.shut t in
+    let front = texts_of c.args.front.now in
+    let h = g.S.Site.disk c.args.site.now in
+    let a = g.S.Site.disk c.shut.new.site in
+    let b = g.S.Site.disk c.write_gated.new.site in
+    let is : c.as_slice.result.now ≡ front_rest front ++ 0 ∷ [] = c.as_slice.ensures ∙ c.in_ok-push.ensures.ok ∙ ap (λ l. l ++ 0 ∷ []) c.in_ok-bytes.ensures in
+    once_made front h a b law law1 (c.shut.ensures.crash t) shut (subst (λ l. Through a b (IsGated (a.contents 0) 0 l)) is (c.write_gated.ensures.crash t1 shut.durable shut.gate.some))
+
+pub returns-clause-made : goal.returns-clause-made
+returns-clause-made g c t =
+    let t1 = c.shut.ensures.told t in
+    let law = g.met.S.Site.lawful c.args.site.now t in
+    let law1 = g.met.S.Site.lawful c.shut.new.site t1 in
+    let shut = c.in_ok-shut.ensures.shut t in
+    let front = texts_of c.args.front.now in
+    let h = g.S.Site.disk c.args.site.now in
+    let a = g.S.Site.disk c.shut.new.site in
+    let b = g.S.Site.disk c.write_gated.new.site in
+    let is : c.as_slice.result.now ≡ front_rest front ++ 0 ∷ [] = c.as_slice.ensures ∙ c.in_ok-push.ensures.ok ∙ ap (λ l. l ++ 0 ∷ []) c.in_ok-bytes.ensures in
+    made_log front (a.contents 0) b (subst (λ l. IsOpened (a.contents 0) 0 l b) is (c.in_ok-write_gated.ensures.opened t1 shut.durable shut.gate.some))

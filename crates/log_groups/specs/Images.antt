@@ -1,0 +1,93 @@
+-- A log in a data set, and what a crash leaves of it.
+use Rattle.std.specs.Prelude.{◌≡◌, ◌≢◌, ◌⊎◌, ℕ, ◌+◌, ◌<◌, List, [], ◌∷◌, ◌++◌, length, take, drop, slice_index}
+use Rattle.fp_site.specs.Disk.{Disk, Snapshot, IsDurable, Settles}
+use Rattle.fp_model.specs.declared.log.Entry.{Entry}
+use Rattle.fp_model.specs.Spellings.{be64}
+use Rattle.fp_model.specs.LogText.{Front, StartsWithFront, first_gate, front_text, body_text, group_text, groups_text}
+use Rattle.fp_model.specs.Groups.{IsGroup}
+use Rattle.fp_model.specs.Recovery.{Holds}
+use Rattle.log_groups.specs.declared.front.Front.{Front as Kept}
+
+-- the texts of a front that the program has
+abbrev pub texts_of : Kept → Front
+texts_of front = record { defs = front.defs; scripts = front.scripts }
+
+-- The bytes of a log: the open front, these groups, and the next gate, which is there and isn't open.
+pub record IsLog (front : Front) (bytes : List ℕ) (groups : List (List Entry)) (gate : ℕ) : Type 0 where
+  pub holds : Holds front bytes groups gate
+  pub stands : gate < length bytes
+
+-- the bytes in front of a log's closed gate
+abbrev pub before_gate : Front → List (List Entry) → List ℕ
+before_gate front groups = front_text 1 front ++ groups_text groups
+
+-- a disk whose log is this one, so that every crash leaves it
+pub record IsAtRest (disk : Disk) (front : Front) (groups : List (List Entry)) (gate : ℕ) : Type 0 where
+  pub durable : IsDurable disk 0
+  pub log : IsLog front (disk.contents 0) groups gate
+
+-- the place of the gate behind one group more
+abbrev pub gate_behind : ℕ → List Entry → ℕ
+gate_behind gate entries = gate + length (group_text entries)
+
+-- groups and one more of these entries, where there are any
+abbrev pub with_group : List (List Entry) → List Entry → List (List Entry)
+with_group groups [] = groups
+with_group groups (e ∷ entries) = groups ++ (e ∷ entries) ∷ []
+
+-- the log that a crash left has these groups, or one more, whole
+abbrev pub IsBeforeOrAfter : Front → List (List Entry) → ℕ → List Entry → Snapshot → Type 0
+IsBeforeOrAfter front groups gate entries s =
+    IsLog front (s.images 0) groups gate ⊎ IsLog front (s.images 0) (groups ++ entries ∷ []) (gate_behind gate entries)
+
+-- a group as it is written behind its gate: the length of the body, the body, and the next gate, closed
+pub record SpellsGroup (bytes : List ℕ) (entries : List Entry) : Type 0 where
+  pub group : IsGroup entries
+  pub text : bytes ≡ be64 (length (body_text entries)) ++ (body_text entries ++ 0 ∷ [])
+
+-- A gated write of some bytes behind a gate, seen on the image from before it. Before the gate is written, all bytes up
+-- to it are as they were,
+pub record IsUnopened (old : List ℕ) (gate : ℕ) (image : List ℕ) : Type 0 where
+  pub front : take gate image ≡ take gate old
+  pub byte : slice_index image gate ≡ slice_index old gate
+  pub stands : gate < length image
+
+-- and from then on the bytes stand behind it, whatever the gate is
+pub record IsStaged (old : List ℕ) (gate : ℕ) (bytes : List ℕ) (image : List ℕ) : Type 0 where
+  pub front : take gate image ≡ take gate old
+  pub first : ℕ
+  pub rest : List ℕ
+  pub behind : drop gate image ≡ first ∷ (bytes ++ rest)
+
+-- the log that a crash leaves within a gated write
+abbrev pub IsGated : List ℕ → ℕ → List ℕ → Snapshot → Type 0
+IsGated old gate bytes s = IsUnopened old gate (s.images 0) ⊎ IsStaged old gate bytes (s.images 0)
+
+-- after a gated write the gate is open, and every crash leaves it so
+pub record IsOpened (old : List ℕ) (gate : ℕ) (bytes : List ℕ) (new : Disk) : Type 0 where
+  pub durable : IsDurable new 0
+  pub front : take gate (new.contents 0) ≡ take gate old
+  pub rest : List ℕ
+  pub behind : drop gate (new.contents 0) ≡ 1 ∷ (bytes ++ rest)
+
+-- the front's gate is there, and isn't open
+pub record IsShutGate (bytes : List ℕ) : Type 0 where
+  pub some : 0 < length bytes
+  pub gate : slice_index bytes 0 ≢ 1
+
+-- the front's gate is absent, or open
+abbrev pub IsOpenGate : List ℕ → Type 0
+IsOpenGate bytes = (length bytes ≡ 0) ⊎ (slice_index bytes 0 ≡ 1)
+
+-- a disk whose log is shut, and every crash leaves it so
+pub record IsShut (disk : Disk) : Type 0 where
+  pub durable : IsDurable disk 0
+  pub gate : IsShutGate (disk.contents 0)
+
+-- The log that a crash left is as a sync might have left it at the start, or begins with no open front.
+abbrev pub IsBeforeOrShut : Disk → Snapshot → Type 0
+IsBeforeOrShut start s = Settles start 0 (s.images 0) ⊎ ((front : Front) → StartsWithFront (s.images 0) front → ⊥)
+
+-- the same, or it is this front's new log, with no groups
+abbrev pub IsBeforeOrMade : Disk → Front → Snapshot → Type 0
+IsBeforeOrMade start front s = IsBeforeOrShut start s ⊎ IsLog front (s.images 0) [] (first_gate front)

@@ -1,0 +1,119 @@
+//! The bytes of the entries that are not sealed: room for a length, the entries, and a closed gate.
+ghost use Rattle.fp_model.specs.Spellings.{be64};
+ghost use Rattle.fp_site.specs.Disk.{Disk, IsDurable};
+ghost use Rattle.fp_site.specs.Moments.{OnlyOn, Through};
+ghost use Rattle.fp_site.specs.Site.{Counts, ReadsNothing};
+ghost use Rattle.log_groups.specs.Images.{IsGated, IsOpened};
+ghost use Rattle.fp_model.specs.LogText.{HasSpelling, body_text};
+ghost use Rattle.fp_model.specs.declared.log.Entry.{Entry};
+ghost use Rattle.log_groups.specs.Log.{HasEntries, part_text};
+ghost use Rattle.std.specs.List.{AllByRecursion};
+ghost use Rattle.std.specs.Prelude.{◌≡◌, ◌⊎◌, ◌+◌, ◌-◌, ◌<◌, ◌≤◌, ◌^◌, ◌∷◌, ◌++◌, ℕ, [], List as ListOf, OnOk, drop, length, slice_index, slice_set, take, vec_capacity, vec_len};
+
+use crate::gated::write_gated;
+use crate::group::number_of;
+use byteorder::{BigEndian, ByteOrder};
+use fp_site::{Failed, Site};
+
+// Puts a text before the closed gate at the end, where there is room.
+pub(crate) fn put_text(buffer: &mut Vec<u8>, text: &[u8])
+    requires some { 1 ≤ length buffer.old.items }
+    requires room { vec_len buffer.old + length text.now ≤ vec_capacity buffer.old }
+    ensures items { (front : ListOf ℕ) → buffer.old.items ≡ front ++ 0 ∷ [] → buffer.new.items ≡ front ++ text.now ++ 0 ∷ [] }
+    ensures capacity { vec_capacity buffer.old ≤ vec_capacity buffer.new }
+{
+    let _ = buffer.pop();
+    let _ = buffer.extend_from_slice(text);
+    let _ = buffer.push(0);
+}
+
+// Seals a part of the buffer as one group: its length goes in front of it and a closed gate behind it.
+pub(crate) fn seal_part<S: Site>(
+    site: &mut S,
+    gate: u64,
+    buffer: &mut [u8],
+    start: usize,
+    end: usize,
+) -> Result<(), Failed>
+    requires header { 8 ≤ start }
+    requires order { start ≤ end }
+    requires inside { end < length buffer.old }
+    requires room { gate + 10 + (end - start) ≤ 2 ^ 62 }
+
+    // At `Ok` the group is in the log, and every crash leaves it there.
+    ensures opened { S.told site.old → IsDurable (S.disk site.old) 0 → gate < length ((S.disk site.old).contents 0) →
+        OnOk result (IsOpened ((S.disk site.old).contents 0) gate (part_text buffer.old start end) (S.disk site.new)) }
+    ensures cause { Counts (S.faults site.old) (S.faults site.new) result }
+
+    // The bytes from its start on stay.
+    ensures len { length buffer.new ≡ length buffer.old }
+    ensures rest { drop start buffer.new ≡ drop start buffer.old }
+
+    // No other data set changes, nothing is sent or read.
+    ensures only { S.told site.old → OnlyOn 0 (S.disk site.old) (S.disk site.new) }
+    ensures reads { ReadsNothing (S.tells_reads site.old) (S.tells_reads site.new) (S.bytes_read site.old) (S.bytes_read site.new) }
+    ensures told { S.told site.old → S.told site.new }
+    ensures holds { S.holds site.new ≡ S.holds site.old }
+    ensures keeps { (first : S) → S.keeps first site.old → S.keeps first site.new }
+
+    // A crash at any moment leaves the gate as it was, or the group whole behind it.
+    ensures crash { S.told site.old → IsDurable (S.disk site.old) 0 → gate < length ((S.disk site.old).contents 0) →
+        Through (S.disk site.old) (S.disk site.new) (IsGated ((S.disk site.old).contents 0) gate (part_text buffer.old start end)) }
+{
+    let next = buffer[end];
+    make_ready(buffer, start, end);
+    let sealed = write_gated(site, gate, &buffer[start - 8..end + 1]);
+    buffer[end] = next;
+    sealed
+}
+
+// Puts the length of a part in front of it, and a closed gate behind it.
+fn make_ready(buffer: &mut [u8], start: usize, end: usize)
+    requires header { 8 ≤ start }
+    requires order { start ≤ end }
+    requires inside { end < length buffer.old }
+    ensures len { length buffer.new ≡ length buffer.old }
+    ensures ready { take (8 + (end - start) + 1) (drop (start - 8) buffer.new) ≡ part_text buffer.old start end }
+    ensures rest { drop start (slice_set buffer.new end (slice_index buffer.old end)) ≡ drop start buffer.old }
+{
+    put_number(&mut buffer[start - 8..start], (end - start) as u64);
+    buffer[end] = 0;
+}
+
+// Writes a number over eight bytes.
+#[tactic(auto, unfolding(fp_model::specs::Spellings::be64))]
+fn put_number(into: &mut [u8], n: u64)
+    requires { length into.old ≡ 8 }
+    ensures { into.new ≡ be64 n }
+{
+    BigEndian::write_u64(into, n);
+}
+
+// Where the part that has so many of these entries ends.
+pub(crate) fn end_of(buffer: &[u8], start: usize, count: usize) -> usize
+    requires { HasEntries buffer.now start count }
+    ensures start { start ≤ result }
+    ensures inside { result < length buffer.now }
+    ensures rest { (entries : ListOf Entry) → AllByRecursion HasSpelling entries → count ≤ length entries
+        → drop start buffer.now ≡ body_text entries ++ 0 ∷ []
+        → drop result buffer.now ≡ body_text (drop count entries) ++ 0 ∷ [] }
+{
+    let mut end = start;
+    for _ in 0..count {
+        end = next_end(buffer, end);
+    }
+    end
+}
+
+// Where the entry at this place ends.
+fn next_end(buffer: &[u8], at: usize) -> usize
+    requires { HasEntries buffer.now at 1 }
+    ensures later { at ≤ result }
+    ensures inside { result < length buffer.now }
+    ensures rest { (e : Entry) (entries : ListOf Entry) → HasSpelling e
+        → drop at buffer.now ≡ body_text (e ∷ entries) ++ 0 ∷ []
+        → drop result buffer.now ≡ body_text entries ++ 0 ∷ [] }
+{
+    let number = number_of(&buffer[at..at + 8]);
+    at + (8 + number as usize)
+}

@@ -1,0 +1,35 @@
+//! A write that counts whole or not at all: its bytes go behind a gate, and the gate is opened last.
+ghost use Rattle.fp_site.specs.Disk.{Disk, IsDurable};
+ghost use Rattle.fp_site.specs.Moments.{OnlyOn, Through};
+ghost use Rattle.fp_site.specs.Site.{Counts, ReadsNothing};
+ghost use Rattle.log_groups.specs.Images.{IsGated, IsOpened};
+ghost use Rattle.std.specs.Prelude.{◌≡◌, ◌⊎◌, ◌+◌, ◌-◌, ◌<◌, ◌≤◌, ◌^◌, ◌∷◌, ◌++◌, OnOk, length};
+
+use fp_site::{Failed, Site};
+
+/// Writes these bytes behind a gate of the log, syncs, opens the gate, syncs.
+pub(crate) fn write_gated<S: Site>(site: &mut S, gate: u64, bytes: &[u8]) -> Result<(), Failed>
+    requires room { gate + 1 + length bytes.now ≤ 2 ^ 62 }
+
+    // At `Ok` the gate is open, and every crash leaves it so.
+    ensures opened { S.told site.old → IsDurable (S.disk site.old) 0 → gate < length ((S.disk site.old).contents 0) →
+        OnOk result (IsOpened ((S.disk site.old).contents 0) gate bytes.now (S.disk site.new)) }
+    ensures cause { Counts (S.faults site.old) (S.faults site.new) result }
+
+    // No other data set changes, nothing is sent or read.
+    ensures only { S.told site.old → OnlyOn 0 (S.disk site.old) (S.disk site.new) }
+    ensures reads { ReadsNothing (S.tells_reads site.old) (S.tells_reads site.new) (S.bytes_read site.old) (S.bytes_read site.new) }
+    ensures told { S.told site.old → S.told site.new }
+    ensures holds { S.holds site.new ≡ S.holds site.old }
+    ensures keeps { (first : S) → S.keeps first site.old → S.keeps first site.new }
+
+    // A crash at any moment leaves the gate as it was, or the bytes whole behind it.
+    ensures crash { S.told site.old → IsDurable (S.disk site.old) 0 → gate < length ((S.disk site.old).contents 0) →
+        Through (S.disk site.old) (S.disk site.new) (IsGated ((S.disk site.old).contents 0) gate bytes.now) }
+{
+    site.write_at(0, gate + 1, bytes)?;
+    site.sync(0)?; // the bytes are on the disk behind the gate as it was
+    site.write_at(0, gate, &[1])?;
+    site.sync(0)?; // and now it is open
+    Ok(())
+}

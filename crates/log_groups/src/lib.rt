@@ -1,0 +1,30 @@
+//! The log: groups of entries, each behind a gate, so that a group counts whole or not at all.
+//!
+//! | Part | Bytes |
+//! |---|---|
+//! | front | gate 1, `IMSFPLG1` 8, definitions behind their length 4, scripts behind their length 4 |
+//! | group | gate 1, length of the body 8, body: one or more entries |
+//! | end | a gate that isn't 1; bytes behind it mean nothing |
+//!
+//! A group counts where its gate is 1. Between calls (`IsAtRest`) the last gate is closed, in the data set and in
+//! all that a crash may leave. `seal` writes length, body and next gate, syncs, opens the gate, syncs. `make`
+//! closes the front's gate, writes the rest of the front and the first gate, syncs, opens the front's gate, syncs.
+//! After a failure the log must be opened again.
+#![tactic(auto)]
+
+mod buffer;
+mod fault;
+mod front;
+mod gated;
+mod group;
+mod log;
+mod making;
+mod opening;
+
+pub use fault::{LogFault, SealFault};
+pub use front::Front;
+pub use group::Group;
+pub use log::Log;
+
+#[cfg(test)]
+mod tests;

@@ -1,0 +1,263 @@
+//! A log that is open: what is sealed of it, and the entries that are not.
+ghost use Rattle.fp_model.specs.Groups.{IsDamaged};
+ghost use Rattle.fp_model.specs.LogText.{FitsEntry, FitsFront, Front as FrontOf, KeepsRules, StartsWithFront, body_text, entry_text, first_gate};
+ghost use Rattle.fp_model.specs.declared.log.Entry.{Entry as EntryOf};
+ghost use Rattle.fp_site.specs.Disk.{Disk, Stays};
+ghost use Rattle.fp_site.specs.Moments.{OnlyOn, Through};
+ghost use Rattle.fp_site.specs.Site.{Counts, ReadsNothing};
+ghost use Rattle.log_groups.specs.Images.{IsAtRest, IsBeforeOrAfter, IsBeforeOrMade, texts_of, with_group};
+ghost use Rattle.log_groups.specs.Reads.{HasGroup, ReadsOnlyLog};
+ghost use Rattle.log_groups.specs.declared.fault.LogFault.TheVariants as faults;
+ghost use Rattle.std.specs.Prelude.{◌≡◌, ◌≢◌, ◌⊎◌, ◌+◌, ◌-◌, ◌*◌, ◌<◌, ◌≤◌, ◌^◌, ◌∷◌, ◌++◌, ℕ, [], IfNone, IfOk, IfSome, IsErrOf, List as ListOf, OnErr, OnOk, drop, length, min, slice_index, take};
+
+use crate::buffer::{end_of, put_text, seal_part};
+use crate::group::read_group;
+use crate::opening::begins_with;
+use crate::{Front, Group, LogFault, SealFault, making};
+use fp_model::{Bytes, Entry};
+use fp_site::Site;
+use log_format::put_entry;
+use std::alloc::{AllocError, Global};
+use std::marker::Model;
+
+// Where a data set ends at the latest.
+const LIMIT: u64 = 1 << 62;
+
+/// A log that is open. Contracts see how many entries are sealed, its closed gate, the entries that are not sealed,
+/// the oldest first, and its spare.
+#[derive(Debug, Drop)]
+pub struct Log {
+    sealed: u64,
+    gate: u64,
+    // How many entries are not sealed.
+    waiting: usize,
+    // Room for a length, the entries that are not sealed, and a closed gate.
+    buffer: Vec<u8>,
+    // Where the oldest of them begins.
+    start: usize,
+    spare: usize,
+}
+
+impl Model for Log {
+    ghost use Rattle.log_groups.specs.Log.{LogState, IsBuffered, entries_in};
+    ghost use Rattle.std.specs.Prelude.{drop};
+
+    ghost Value = { LogState };
+
+    ghost view = { λ l. record { sealed = l.sealed; gate = l.gate; unsealed = entries_in l.waiting (drop l.start l.buffer.items); spare = l.spare } };
+
+    ghost invariant = { λ l. IsBuffered l.buffer l.start l.waiting l.sealed l.gate l.spare (entries_in l.waiting (drop l.start l.buffer.items)) };
+}
+
+impl Log {
+    /// How many entries there are, sealed or not.
+    pub fn count(&self) -> u64
+        ensures { result ≡ self.now.sealed + length self.now.unsealed }
+    {
+        self.sealed + self.waiting as u64
+    }
+
+    /// How many entries are sealed.
+    pub fn sealed(&self) -> u64
+        ensures { result ≡ self.now.sealed }
+    {
+        self.sealed
+    }
+
+    /// The place of the log's closed gate.
+    pub fn gate(&self) -> u64
+        ensures { result ≡ self.now.gate }
+    {
+        self.gate
+    }
+
+    /// How many bytes of entries can be appended for sure. Takes no memory.
+    pub fn spare(&self) -> u64
+        ensures { result ≡ self.now.spare }
+    {
+        self.spare as u64
+    }
+
+    /// Writes a new log with this front and no groups: the front's gate is closed first, and opened last. Fails only
+    /// with the site and for want of memory.
+    pub fn make<T: Site>(alloc: Global, site: &mut T, front: &Front) -> Result<(), LogFault>
+        requires fits { FitsFront (texts_of front.now) }
+        ensures made { T.told site.old → OnOk result (IsAtRest (T.disk site.new) (texts_of front.now) [] (first_gate (texts_of front.now))) }
+        ensures cause { IsErrOf result faults.Failed → (T.faults site.old < T.faults site.new) ⊎ (T.faults site.new ≡ 2 ^ 64 - 1) }
+        ensures later { T.faults site.old ≤ T.faults site.new }
+        ensures never { (IsErrOf result faults.Foreign → ⊥) × ((place : ℕ) → IsErrOf result (faults.Damaged place) → ⊥) }
+
+        // No other data set changes or is read, and nothing is sent.
+        ensures only { T.told site.old → OnlyOn 0 (T.disk site.old) (T.disk site.new) }
+        ensures reads { ReadsOnlyLog (T.tells_reads site.old) (T.tells_reads site.new) (T.bytes_read site.old) (T.bytes_read site.new) }
+        ensures told { T.told site.old → T.told site.new }
+        ensures holds { T.holds site.new ≡ T.holds site.old }
+        ensures keeps { (first : T) → T.keeps first site.old → T.keeps first site.new }
+
+        // A crash at any moment leaves the log as a sync might have left it before, or with no open front, or made.
+        ensures crash { T.told site.old → Through (T.disk site.old) (T.disk site.new) (IsBeforeOrMade (T.disk site.old) (texts_of front.now)) }
+    {
+        making::make(alloc, site, front)
+    }
+
+    /// Opens a log with this front, as far as its first gate. It fails with `Foreign`, with the site, and for want
+    /// of memory.
+    pub fn open<T: Site>(alloc: Global, site: &mut T, front: &Front) -> Result<Log, LogFault>
+        requires fits { FitsFront (texts_of front.now) }
+        ensures log { IfOk result (λ log. log ≡ record { sealed = 0; gate = first_gate (texts_of front.now); unsealed = []; spare = 0 }) }
+        ensures front { T.told site.old → OnOk result (StartsWithFront ((T.disk site.old).contents 0) (texts_of front.now)) }
+        ensures foreign { T.told site.old → IsErrOf result faults.Foreign → StartsWithFront ((T.disk site.old).contents 0) (texts_of front.now) → ⊥ }
+        ensures cause { IsErrOf result faults.Failed → (T.faults site.old < T.faults site.new) ⊎ (T.faults site.new ≡ 2 ^ 64 - 1) }
+        ensures later { T.faults site.old ≤ T.faults site.new }
+        ensures never { (place : ℕ) → IsErrOf result (faults.Damaged place) → ⊥ }
+
+        // Nothing changes, and no more than the front is read.
+        ensures count { T.tells_reads site.new 0 → OnOk result (T.bytes_read site.new 0 ≤ T.bytes_read site.old 0 + first_gate (texts_of front.now)) }
+        ensures stays { T.told site.old → Stays (T.disk site.old) (T.disk site.new) }
+        ensures reads { ReadsOnlyLog (T.tells_reads site.old) (T.tells_reads site.new) (T.bytes_read site.old) (T.bytes_read site.new) }
+        ensures told { T.told site.old → T.told site.new }
+        ensures holds { T.holds site.new ≡ T.holds site.old }
+        ensures keeps { (first : T) → T.keeps first site.old → T.keeps first site.new }
+    {
+        let text = front.text(alloc)?;
+        if !begins_with(alloc, site, text.as_slice())? {
+            return Err(LogFault::Foreign);
+        }
+        let buffer = Vec::from_slice(alloc, &[0; 9])?;
+        Ok(Log {
+            sealed: 0,
+            gate: text.len() as u64,
+            waiting: 0,
+            buffer,
+            start: 8,
+            spare: 0,
+        })
+    }
+
+    /// The group behind the gate at this place; None where that gate is not open. It fails with `Damaged`, with the
+    /// site, and for want of memory.
+    pub fn group_at<T: Site>(&mut self, site: &mut T, at: u64) -> Result<Option<Group>, LogFault>
+        ensures some { T.told site.old →
+            IfOk result (λ found. IfSome found (λ group. HasGroup ((T.disk site.old).contents 0) at group.entries group.next)) }
+        ensures none { T.told site.old → IfOk result (λ found. IfNone found (slice_index ((T.disk site.old).contents 0) at ≢ 1)) }
+        ensures damaged { (place : ℕ) → T.told site.old → IsErrOf result (faults.Damaged place) →
+            (place ≡ at) × IsDamaged ((T.disk site.old).contents 0) at }
+        ensures cause { IsErrOf result faults.Failed → (T.faults site.old < T.faults site.new) ⊎ (T.faults site.new ≡ 2 ^ 64 - 1) }
+        ensures later { T.faults site.old ≤ T.faults site.new }
+        ensures never { IsErrOf result faults.Foreign → ⊥ }
+
+        // Nothing changes. The group's bytes are read once, or one byte where there is none.
+        ensures same { self.new ≡ self.old }
+        ensures count { T.tells_reads site.new 0 →
+            IfOk result (λ found. IfSome found (λ group. T.bytes_read site.new 0 + at ≡ T.bytes_read site.old 0 + group.next)) }
+        ensures looked { T.tells_reads site.new 0 →
+            IfOk result (λ found. IfNone found (T.bytes_read site.new 0 ≡ T.bytes_read site.old 0 + 1)) }
+        ensures stays { T.told site.old → Stays (T.disk site.old) (T.disk site.new) }
+        ensures reads { ReadsOnlyLog (T.tells_reads site.old) (T.tells_reads site.new) (T.bytes_read site.old) (T.bytes_read site.new) }
+        ensures told { T.told site.old → T.told site.new }
+        ensures holds { T.holds site.new ≡ T.holds site.old }
+        ensures keeps { (first : T) → T.keeps first site.old → T.keeps first site.new }
+    {
+        read_group(*self.buffer.allocator(), site, at)
+    }
+
+    /// Tells where the log ends: the place of its closed gate, and how many entries stand before it.
+    pub fn end_at(&mut self, at: u64, count: u64)
+        requires unsealed { self.old.unsealed ≡ [] }
+        requires at { at ≤ 2 ^ 62 }
+        requires count { count ≤ at }
+        ensures sealed { self.new.sealed ≡ count }
+        ensures gate { self.new.gate ≡ at }
+        ensures unsealed { self.new.unsealed ≡ [] }
+        ensures spare { self.new.spare ≤ self.old.spare }
+    {
+        self.sealed = count;
+        self.gate = at;
+        self.spare = self.spare.min(((LIMIT - at) / 2) as usize);
+    }
+
+    /// Makes the spare at least this many bytes. It fails only for want of memory, and where the log would pass the
+    /// last place of a data set.
+    pub fn reserve(&mut self, bytes: u64) -> Result<(), AllocError>
+        ensures ok { OnOk result (bytes ≤ self.new.spare) }
+        ensures spare { self.old.spare ≤ self.new.spare }
+        ensures same { self.new ≡ record { sealed = self.old.sealed; gate = self.old.gate; unsealed = self.old.unsealed; spare = self.new.spare } }
+    {
+        if bytes <= self.spare as u64 {
+            return Ok(());
+        }
+        let waiting = (self.buffer.len() - self.start - 1) as u64;
+        let most = (LIMIT - self.gate) / 2;
+        if waiting > most || bytes > most - waiting {
+            // No machine comes so far.
+            return Err(AllocError);
+        }
+        self.buffer.reserve(bytes as usize)?;
+        self.spare = bytes as usize;
+        Ok(())
+    }
+
+    /// Appends an entry and answers its place, counted from 0. It fails only for want of memory, and where the log
+    /// would pass the last place of a data set; no entry is appended then.
+    pub fn append(&mut self, e: &Entry) -> Result<u64, AllocError>
+        requires rules { KeepsRules e.now }
+        requires fits { FitsEntry e.now }
+        ensures ok { OnOk result (self.new.unsealed ≡ self.old.unsealed ++ e.now ∷ []) }
+        ensures place { IfOk result (λ place. place ≡ self.old.sealed + length self.old.unsealed) }
+        ensures err { OnErr result (self.new.unsealed ≡ self.old.unsealed) }
+        ensures spare { self.old.spare ≤ self.new.spare + length (entry_text e.now) }
+        ensures sealed { self.new.sealed ≡ self.old.sealed }
+        ensures gate { self.new.gate ≡ self.old.gate }
+    {
+        let place = self.count();
+        let mut text = Bytes::new(*self.buffer.allocator());
+        put_entry(&mut text, e)?;
+        self.reserve(text.len() as u64)?;
+        put_text(&mut self.buffer, text.as_slice());
+        self.spare -= text.len();
+        self.waiting += 1;
+        Ok(place)
+    }
+
+    /// Seals the oldest entries as one group, this many or all where there are fewer, and answers how many. Where
+    /// none is unsealed nothing is written. After `Failed` the log must be opened again. Takes no memory.
+    pub fn seal<T: Site>(&mut self, site: &mut T, most: u32) -> Result<u32, SealFault>
+        requires some { 1 ≤ most }
+
+        // At `Ok` the entries are in the log, and every crash leaves them there.
+        ensures count { IfOk result (λ n. n ≡ min most (length self.old.unsealed)) }
+        ensures unsealed { IfOk result (λ n. self.new.unsealed ≡ drop n self.old.unsealed) }
+        ensures sealed { IfOk result (λ n. self.new.sealed ≡ self.old.sealed + n) }
+        ensures durable { (front : FrontOf) (groups : ListOf (ListOf EntryOf))
+            → T.told site.old → IsAtRest (T.disk site.old) front groups self.old.gate → OnOk result
+            (IsAtRest (T.disk site.new) front (with_group groups (take most self.old.unsealed)) self.new.gate) }
+        ensures spare { self.old.spare ≤ self.new.spare }
+
+        // It fails only with the site.
+        ensures cause { Counts (T.faults site.old) (T.faults site.new) result }
+
+        // No other data set changes, and nothing is sent or read.
+        ensures only { T.told site.old → OnlyOn 0 (T.disk site.old) (T.disk site.new) }
+        ensures reads { ReadsNothing (T.tells_reads site.old) (T.tells_reads site.new) (T.bytes_read site.old) (T.bytes_read site.new) }
+        ensures told { T.told site.old → T.told site.new }
+        ensures holds { T.holds site.new ≡ T.holds site.old }
+        ensures keeps { (first : T) → T.keeps first site.old → T.keeps first site.new }
+
+        // A crash at any moment leaves the groups from before, or with the new one whole.
+        ensures crash { (front : FrontOf) (groups : ListOf (ListOf EntryOf))
+            → T.told site.old → IsAtRest (T.disk site.old) front groups self.old.gate → Through (T.disk site.old) (T.disk site.new)
+            (IsBeforeOrAfter front groups self.old.gate (take most self.old.unsealed)) }
+    {
+        if self.waiting == 0 {
+            return Ok(0);
+        }
+        let count = (most as usize).min(self.waiting);
+        let end = end_of(&self.buffer, self.start, count);
+        seal_part(site, self.gate, &mut self.buffer, self.start, end)?;
+        self.sealed += count as u64;
+        self.gate += 9 + (end - self.start) as u64;
+        self.start = end;
+        self.waiting -= count;
+        Ok(count as u32)
+    }
+}

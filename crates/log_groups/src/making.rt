@@ -1,0 +1,84 @@
+//! Making a log: its gate is closed first, and opened last.
+ghost use Rattle.fp_model.specs.LogText.{FitsFront, first_gate};
+ghost use Rattle.fp_site.specs.Disk.{Disk, Stays};
+ghost use Rattle.fp_site.specs.Moments.{OnlyOn, Through};
+ghost use Rattle.fp_site.specs.Site.{Counts};
+ghost use Rattle.log_groups.specs.Images.{IsAtRest, IsBeforeOrMade, IsBeforeOrShut, IsOpenGate, IsShut, IsShutGate, texts_of};
+ghost use Rattle.log_groups.specs.Reads.{ReadsOnlyLog};
+ghost use Rattle.log_groups.specs.declared.fault.LogFault.TheVariants as faults;
+ghost use Rattle.std.specs.Prelude.{◌≡◌, ◌⊎◌, ◌+◌, ◌-◌, ◌<◌, ◌≤◌, ◌^◌, ℕ, [], IfOk, IsErrOf, OnOk, true, false};
+
+use crate::gated::write_gated;
+use crate::{Front, LogFault};
+use fp_site::{Failed, Site};
+use std::alloc::Global;
+
+// Whether the front's gate is there and isn't open.
+fn is_shut<S: Site>(site: &mut S) -> Result<bool, Failed>
+    ensures shut { S.told site.old → IfOk result (λ shut. shut ≡ true → IsShutGate ((S.disk site.old).contents 0)) }
+    ensures open { S.told site.old → IfOk result (λ shut. shut ≡ false → IsOpenGate ((S.disk site.old).contents 0)) }
+    ensures cause { Counts (S.faults site.old) (S.faults site.new) result }
+
+    // Nothing changes.
+    ensures stays { S.told site.old → Stays (S.disk site.old) (S.disk site.new) }
+    ensures reads { ReadsOnlyLog (S.tells_reads site.old) (S.tells_reads site.new) (S.bytes_read site.old) (S.bytes_read site.new) }
+    ensures told { S.told site.old → S.told site.new }
+    ensures holds { S.holds site.new ≡ S.holds site.old }
+    ensures keeps { (first : S) → S.keeps first site.old → S.keeps first site.new }
+{
+    if site.size(0)? == 0 {
+        return Ok(false);
+    }
+    let mut gate = [0u8];
+    site.read_at(0, 0, &mut gate)?;
+    Ok(gate[0] != 1)
+}
+
+// Closes the front's gate. A gate that is there and isn't open is not written again.
+pub(crate) fn shut<S: Site>(site: &mut S) -> Result<(), Failed>
+    ensures shut { S.told site.old → OnOk result (IsShut (S.disk site.new)) }
+    ensures cause { Counts (S.faults site.old) (S.faults site.new) result }
+
+    // No other data set changes, and nothing is sent.
+    ensures only { S.told site.old → OnlyOn 0 (S.disk site.old) (S.disk site.new) }
+    ensures reads { ReadsOnlyLog (S.tells_reads site.old) (S.tells_reads site.new) (S.bytes_read site.old) (S.bytes_read site.new) }
+    ensures told { S.told site.old → S.told site.new }
+    ensures holds { S.holds site.new ≡ S.holds site.old }
+    ensures keeps { (first : S) → S.keeps first site.old → S.keeps first site.new }
+
+    // A crash at any moment leaves the log as a sync might have left it before, or shut.
+    ensures crash { S.told site.old → Through (S.disk site.old) (S.disk site.new) (IsBeforeOrShut (S.disk site.old)) }
+{
+    site.sync(0)?;
+    if is_shut(site)? {
+        return Ok(());
+    }
+    site.write_at(0, 0, &[0])?;
+    site.sync(0)?;
+    Ok(())
+}
+
+// Writes a new log with this front and no groups: the front's gate is closed first, and opened last.
+pub(crate) fn make<S: Site>(alloc: Global, site: &mut S, front: &Front) -> Result<(), LogFault>
+    requires { FitsFront (texts_of front.now) }
+    ensures made { S.told site.old → OnOk result (IsAtRest (S.disk site.new) (texts_of front.now) [] (first_gate (texts_of front.now))) }
+    ensures cause { IsErrOf result faults.Failed → (S.faults site.old < S.faults site.new) ⊎ (S.faults site.new ≡ 2 ^ 64 - 1) }
+    ensures later { S.faults site.old ≤ S.faults site.new }
+    ensures never { (IsErrOf result faults.Foreign → ⊥) × ((place : ℕ) → IsErrOf result (faults.Damaged place) → ⊥) }
+
+    // No other data set changes, and nothing is sent.
+    ensures only { S.told site.old → OnlyOn 0 (S.disk site.old) (S.disk site.new) }
+    ensures reads { ReadsOnlyLog (S.tells_reads site.old) (S.tells_reads site.new) (S.bytes_read site.old) (S.bytes_read site.new) }
+    ensures told { S.told site.old → S.told site.new }
+    ensures holds { S.holds site.new ≡ S.holds site.old }
+    ensures keeps { (first : S) → S.keeps first site.old → S.keeps first site.new }
+
+    // A crash at any moment leaves the log as a sync might have left it before, or shut, or made.
+    ensures crash { S.told site.old → Through (S.disk site.old) (S.disk site.new) (IsBeforeOrMade (S.disk site.old) (texts_of front.now)) }
+{
+    let mut bytes = front.rest(alloc)?;
+    bytes.push(0)?;
+    shut(site)?;
+    write_gated(site, 0, bytes.as_slice())?;
+    Ok(())
+}
