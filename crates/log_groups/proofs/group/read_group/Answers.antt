@@ -22,7 +22,7 @@ returns-clause-damaged g c place t is =
     let same = ap (λ f. f 0) (c.is_open.ensures.stays t).contents in
     let one = c.in_ok-is_open.ensures.open t c.if-not-branch.false in
     let has : HasBody ((g.S.Site.disk c.is_open.new.site).contents 0) c.args.at c.in-Some.body.items = rw c.in-Some.is at (c.in_ok-body.ensures.found t1) in
-    let bad : IsFirstBad c.deref.result.now c.in-Err-BadEntry.field-0-0 = rw c.in-Err-BadEntry.field-0-is at c.in-Err-BadEntry.ensures.err in (
+    let bad : IsFirstBad c.deref.result.now c.in-Err-BadEntry.field-0-0 = rw c.in-Err-BadEntry.field-0-is at c.in-Err-BadEntry.ensures.cause in (
       search (rules, damaged_place),
       body_is_damage bytes c.args.at c.in-Some.body.items _ one (subst (λ l. HasBody l c.args.at c.in-Some.body.items) same has)
           (subst (λ l. IsFirstBad l c.in-Err-BadEntry.field-0-0) c.deref.ensures.value bad),
