@@ -71,7 +71,7 @@ impl Log {
         self.gate
     }
 
-    /// How many bytes of entries can be appended for sure. Takes no memory.
+    /// How many bytes of entries the buffer has room for. Takes no memory.
     pub fn spare(&self) -> u64
         ensures { result ≡ self.now.spare }
     {
@@ -198,7 +198,8 @@ impl Log {
     }
 
     /// Appends an entry and answers its place, counted from 0. It fails only for want of memory, and where the log
-    /// would pass the last place of a data set; no entry is appended then.
+    /// would pass the last place of a data set; no entry is appended then. An entry is put together in memory of its
+    /// own first, so an append can fail where the spare would hold it.
     pub fn append(&mut self, e: &Entry) -> Result<u64, AllocError>
         requires rules { KeepsRules e.now }
         requires fits { FitsEntry e.now }
