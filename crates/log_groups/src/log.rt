@@ -10,7 +10,7 @@ ghost use Rattle.log_groups.specs.Reads.{HasGroup, ReadsOnlyLog};
 ghost use Rattle.log_groups.specs.declared.fault.LogFault.TheVariants as faults;
 ghost use Rattle.std.specs.Prelude.{◌≡◌, ◌≢◌, ◌⊎◌, ◌+◌, ◌-◌, ◌*◌, ◌<◌, ◌≤◌, ◌^◌, ◌∷◌, ◌++◌, ℕ, [], IfNone, IfOk, IfSome, IsErrOf, List as ListOf, OnErr, OnOk, drop, length, min, slice_index, take};
 
-use crate::buffer::{end_of, put_text, seal_part};
+use crate::buffer::{end_of, move_down, put_text, seal_part};
 use crate::group::read_group;
 use crate::opening::begins_with;
 use crate::{Front, Group, LogFault, SealFault, making};
@@ -176,6 +176,18 @@ impl Log {
         self.spare = self.spare.min(((LIMIT - at) / 2) as usize);
     }
 
+    // Moves the entries to the buffer's front, where at least as many bytes stand before them: so each byte that was
+    // appended is moved less than once.
+    fn compact(&mut self)
+        ensures { self.new ≡ self.old }
+    {
+        if self.start - 8 < self.buffer.len() - self.start {
+            return;
+        }
+        move_down(&mut self.buffer, self.start);
+        self.start = 8;
+    }
+
     /// Makes the spare at least this many bytes. It fails only for want of memory, and where the log would pass the
     /// last place of a data set.
     pub fn reserve(&mut self, bytes: u64) -> Result<(), AllocError>
@@ -192,6 +204,7 @@ impl Log {
             // No machine comes so far.
             return Err(AllocError);
         }
+        self.compact();
         self.buffer.reserve(bytes as usize)?;
         self.spare = bytes as usize;
         Ok(())
