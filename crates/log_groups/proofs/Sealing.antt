@@ -1,6 +1,6 @@
 -- What sealing a part of the buffer comes to: for the log, and for the buffer.
 use Rattle.std.proofs.Common.{◌≡◌, inl, inr, ℕ, zero, suc, ◌+◌, ◌-◌, ◌*◌, ◌<◌, ◌≤◌, ◌^◌, min, Vec, List, [], ◌∷◌, ◌++◌, length, take, drop, refl, sym, ◌∙◌, ap, subst, arith, append_assoc}
-use Rattle.std.specs.Vec.{with_items, vec_capacity}
+use Rattle.std.specs.Vec.{with_items, vec_len, vec_capacity}
 use Rattle.std.specs.List.{AllByRecursion}
 use Rattle.std.specs.declared.alloc.Global.{Global}
 use Rattle.std.proofs.Math.Seq.{take-length}
@@ -201,5 +201,21 @@ module _ (v w : Vec ℕ Global) (start waiting sealed gate spare : ℕ) (entries
     header = buffered.header;
     room = omega (arith, buffered.room, room, fits, longer, v.ok.0, w.ok.0);
     limit = omega (arith, buffered.limit, body_longer, fits);
+    fewer = buffered.fewer;
+  })
+
+-- the buffer once its entries were moved to the front
+module _ (v w : Vec ℕ Global) (start waiting sealed gate spare : ℕ) (buffered : IsBuffered v start waiting sealed gate spare (entries_in waiting (drop start v.items))) (text : drop 8 w.items ≡ drop start v.items) (shorter : vec_len w ≤ vec_len v) (room : vec_capacity v ≤ vec_capacity w) where
+  pub moved_entries : entries_in waiting (drop 8 w.items) ≡ entries_in waiting (drop start v.items)
+  moved_entries = ap (entries_in waiting) text
+
+  pub moved_buffered : IsBuffered w 8 waiting sealed gate spare (entries_in waiting (drop 8 w.items))
+  moved_buffered = subst (IsBuffered w 8 waiting sealed gate spare) (sym moved_entries) (record {
+    each = buffered.each;
+    count = buffered.count;
+    text = text ∙ buffered.text;
+    header = omega arith;
+    room = omega (arith, buffered.room, shorter, room);
+    limit = buffered.limit;
     fewer = buffered.fewer;
   })

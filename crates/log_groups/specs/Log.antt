@@ -9,7 +9,7 @@ use Rattle.log_format.specs.Reading.{many_at}
 use Rattle.log_format.specs.EntryReading.{entry_at}
 
 -- an open log: how many entries are sealed, its closed gate, the entries that aren't sealed, the oldest first, and
--- how many bytes of entries can be appended for sure
+-- how many bytes of entries its buffer has room for
 pub record LogState : Type 0 where
   pub sealed : ℕ
   pub gate : ℕ

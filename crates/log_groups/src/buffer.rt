@@ -27,6 +27,19 @@ pub(crate) fn put_text(buffer: &mut Vec<u8>, text: &[u8])
     let _ = buffer.push(0);
 }
 
+// Moves what stands from a place on to the front, behind the room for a length.
+pub(crate) fn move_down(buffer: &mut Vec<u8>, start: usize)
+    requires header { 8 ≤ start }
+    requires inside { start ≤ length buffer.old.items }
+    ensures text { drop 8 buffer.new.items ≡ drop start buffer.old.items }
+    ensures shorter { vec_len buffer.new ≤ vec_len buffer.old }
+    ensures capacity { vec_capacity buffer.old ≤ vec_capacity buffer.new }
+{
+    let len = buffer.len() - start;
+    buffer.copy_within(start.., 8);
+    buffer.truncate(8 + len);
+}
+
 // Seals a part of the buffer as one group: its length goes in front of it and a closed gate behind it.
 pub(crate) fn seal_part<S: Site>(
     site: &mut S,

@@ -10,7 +10,7 @@ ghost use Rattle.log_groups.specs.Reads.{HasGroup, ReadsOnlyLog};
 ghost use Rattle.log_groups.specs.declared.fault.LogFault.TheVariants as faults;
 ghost use Rattle.std.specs.Prelude.{◌≡◌, ◌≢◌, ◌⊎◌, ◌+◌, ◌-◌, ◌*◌, ◌<◌, ◌≤◌, ◌^◌, ◌∷◌, ◌++◌, ℕ, [], IfNone, IfOk, IfSome, IsErrOf, List as ListOf, OnErr, OnOk, drop, length, min, slice_index, take};
 
-use crate::buffer::{end_of, put_text, seal_part};
+use crate::buffer::{end_of, move_down, put_text, seal_part};
 use crate::group::read_group;
 use crate::opening::begins_with;
 use crate::{Front, Group, LogFault, SealFault, making};
@@ -71,7 +71,7 @@ impl Log {
         self.gate
     }
 
-    /// How many bytes of entries can be appended for sure. Takes no memory.
+    /// How many bytes of entries the buffer has room for. Takes no memory.
     pub fn spare(&self) -> u64
         ensures { result ≡ self.now.spare }
     {
@@ -176,6 +176,18 @@ impl Log {
         self.spare = self.spare.min(((LIMIT - at) / 2) as usize);
     }
 
+    // Moves the entries to the buffer's front, where at least as many bytes stand before them: so each byte that was
+    // appended is moved less than once.
+    fn compact(&mut self)
+        ensures { self.new ≡ self.old }
+    {
+        if self.start - 8 < self.buffer.len() - self.start {
+            return;
+        }
+        move_down(&mut self.buffer, self.start);
+        self.start = 8;
+    }
+
     /// Makes the spare at least this many bytes. It fails only for want of memory, and where the log would pass the
     /// last place of a data set.
     pub fn reserve(&mut self, bytes: u64) -> Result<(), AllocError>
@@ -192,13 +204,15 @@ impl Log {
             // No machine comes so far.
             return Err(AllocError);
         }
+        self.compact();
         self.buffer.reserve(bytes as usize)?;
         self.spare = bytes as usize;
         Ok(())
     }
 
     /// Appends an entry and answers its place, counted from 0. It fails only for want of memory, and where the log
-    /// would pass the last place of a data set; no entry is appended then.
+    /// would pass the last place of a data set; no entry is appended then. An entry is put together in memory of its
+    /// own first, so an append can fail where the spare would hold it.
     pub fn append(&mut self, e: &Entry) -> Result<u64, AllocError>
         requires rules { KeepsRules e.now }
         requires fits { FitsEntry e.now }

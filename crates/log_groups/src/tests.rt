@@ -128,5 +128,9 @@ fn several_entries_are_one_group(rt: HostRuntime) -> Result<(), Fail> {
     assert_eq!(rt; log.seal(&mut site, 2), Ok(1));
     assert_eq!(rt; log.seal(&mut site, 2), Ok(0));
     assert_eq!(rt; (log.sealed(), log.count(), log.gate()), (3, 3, 123));
+    log.reserve(1000)?;
+    assert_eq!(rt; log.append(&entry(alloc, 3))?, 3);
+    assert_eq!(rt; log.seal(&mut site, 1), Ok(1));
+    assert_eq!(rt; log.gate(), 161);
     Ok(())
 }
