@@ -1,5 +1,4 @@
-use Rattle.std.proofs.Common.{◌∙◌, ap, arith}
-use Rattle.log_groups.proofs.Sealing.{moved_entries, moved_buffered}
+use Rattle.log_groups.proofs.Sealing.{moved_buffered}
 use Rattle.log_groups.proofs.log.Log.compact.Goals as goal
 
 pub invariant_of-self : goal.invariant_of-self
