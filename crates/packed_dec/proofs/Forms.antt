@@ -1,15 +1,11 @@
 -- Digits as they are written: pairs of them from the last, and the bytes of an unsigned number.
-use Rattle.std.proofs.Common.{◌≡◌, ℕ, zero, suc, ◌+◌, ◌*◌, ◌^◌, ◌/◌, ◌%◌, ◌-◌, ◌<◌, ◌≤◌, true, List, [], ◌∷◌, ◌++◌, length, get_or, refl, sym, ap, subst, ◌∙◌, arith, append_assoc, append-nil, inl, inr, pow-add}
-use Rattle.std.proofs.lemmas.Bool.{cases_lt, and_parts, ltb-true, le-ltb}
+use Rattle.std.proofs.Common.{◌≡◌, ℕ, zero, suc, ◌+◌, ◌*◌, ◌^◌, ◌/◌, ◌%◌, ◌-◌, ◌<◌, ◌≤◌, List, [], ◌∷◌, ◌++◌, length, refl, sym, arith, append_assoc, append-nil, inl, inr}
+use Rattle.std.proofs.lemmas.Bool.{cases_lt, le-ltb}
 use Rattle.std.proofs.lemmas.Int.{ints}
-use Rattle.std.proofs.lemmas.List.Folds.{list_all-append}
 use Rattle.std.proofs.Math.Nat.{pow-le-pow_right, pow-suc, pow-zero}
-use Rattle.std.specs.List.{list_all}
-use Rattle.std.specs.Prelude.{ℤ, pos, negsuc, ◌≤ℤ◌, ◌<ℤ◌, Option, None}
-use Rattle.fp_model.specs.Numbers.{is_digit, pairs, packed_form, big_endian, unsigned_of}
-use Rattle.fp_model.specs.Texts.{value}
-use Rattle.packed_dec.specs.Halves.{halves}
-use Rattle.packed_dec.proofs.Digits.{length_snoc, value_snoc, halves_snoc, digits_snoc, pair_snoc}
+use Rattle.std.specs.Prelude.{ℤ, pos, negsuc, ◌≤ℤ◌, ◌<ℤ◌, None}
+use Rattle.fp_model.specs.Numbers.{pairs, packed_form, big_endian, unsigned_of}
+use Rattle.packed_dec.proofs.Digits.{length_snoc}
 
 pub length-pairs : (k n : ℕ) → length (pairs k n) ≡ k
 length-pairs zero n = refl

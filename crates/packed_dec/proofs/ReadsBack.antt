@@ -1,13 +1,13 @@
 -- The form of a number, read again, is that number.
-use Rattle.std.proofs.Common.{◌≡◌, ℕ, zero, suc, ◌+◌, ◌*◌, ◌^◌, ◌/◌, ◌%◌, ◌-◌, ◌<◌, ◌≤◌, Bool, true, false, List, [], ◌∷◌, ◌++◌, length, refl, sym, ap, subst, ◌∙◌, arith, Option, Some, None, pow-add}
+use Rattle.std.proofs.Common.{◌≡◌, ℕ, zero, suc, ◌+◌, ◌*◌, ◌^◌, ◌/◌, ◌%◌, ◌-◌, ◌<◌, ◌≤◌, Bool, true, false, List, length, refl, sym, ap, subst, ◌∙◌, arith, Option, Some, None, pow-add}
 use Rattle.std.proofs.lemmas.Bool.{ltb-true, eqb-true, leb-true, and_parts}
-use Rattle.std.proofs.lemmas.Int.{to_z-of_z, ints}
+use Rattle.std.proofs.lemmas.Int.{to_z-of_z}
 use Rattle.std.proofs.lemmas.Nat.{from_be_bytes-to_be_bytes_2, from_be_bytes-to_be_bytes_4}
 use Rattle.std.proofs.Math.Nat.{pow-suc, pow-zero}
 use Rattle.std.specs.Int.{cast_signed, cast_unsigned, w16, w32, to_be_bytes}
 use Rattle.std.specs.List.{list_all}
 use Rattle.std.specs.Prelude.{ℤ, pos, negsuc, if◌then◌else◌, nat_lt, unsigned_abs, FitsSigned}
-use Rattle.fp_model.specs.Numbers.{is_digit, is_length_of, pairs, packed, packed_sign, packed_form, packed_of, sign_of, signed_by, big_endian, unsigned_of, fits_twos, number, bytes_of, form_of, number_of}
+use Rattle.fp_model.specs.Numbers.{is_digit, is_length_of, pairs, packed, packed_form, packed_of, sign_of, signed_by, big_endian, unsigned_of, fits_twos, number, bytes_of, form_of, number_of}
 use Rattle.fp_model.specs.Texts.{value}
 use Rattle.fp_model.specs.declared.definitions.FieldKind.{FieldKind}
 use Rattle.fp_model.specs.declared.definitions.FieldKind.TheVariants.{C, X, H, F, P}

@@ -5,7 +5,7 @@
 ghost use Rattle.fp_model.specs.Numbers.{number, packed, signed_by};
 ghost use Rattle.fp_model.specs.Texts.{value};
 ghost use Rattle.packed_dec.specs.Halves.{magnitude, pairs_value};
-ghost use Rattle.std.specs.Prelude.{◌≡◌, ◌≤◌, ◌<◌, ◌^◌, IfSome, length};
+ghost use Rattle.std.specs.Prelude.{◌≡◌, ◌≤◌, ◌<◌, ◌^◌, ◌||◌, ◌==◌, IfSome, length};
 
 use fp_model::FieldKind;
 
@@ -63,22 +63,29 @@ fn long_magnitude(bytes: &[u8]) -> Option<u128>
     Some(u128::from(high) * 100_000_000_000_000_000 + u128::from(low))
 }
 
+/// Whether a sign is minus.
+fn is_minus(sign: u8) -> bool
+    ensures { result ≡ (sign == 11 || sign == 13) }
+{
+    sign == 11 || sign == 13
+}
+
 /// A magnitude of up to 17 digits with its sign.
 fn short_signed(sign: u8, n: u64) -> i64
     requires { n < 10 ^ 17 }
     ensures { result ≡ signed_by sign n }
 {
     let n = n as i64;
-    if sign == 11 || sign == 13 { -n } else { n }
+    if is_minus(sign) { -n } else { n }
 }
 
-/// A magnitude of up to 31 digits with its sign.
+/// A magnitude of more digits with its sign.
 fn long_signed(sign: u8, n: u128) -> i128
     requires { n < 2 ^ 127 }
     ensures { result ≡ signed_by sign n }
 {
     let n = n as i128;
-    if sign == 11 || sign == 13 { -n } else { n }
+    if is_minus(sign) { -n } else { n }
 }
 
 /// The number of packed bytes.
