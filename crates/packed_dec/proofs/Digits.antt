@@ -11,6 +11,7 @@ use Rattle.fp_model.specs.Numbers.{is_digit, packed, packed_digits, packed_sign,
 use Rattle.fp_model.specs.Texts.{value}
 use Rattle.packed_dec.specs.Halves.{halves, pairs_value, magnitude}
 
+-- one item more at the end
 pub length_snoc : (xs : List ℕ) (d : ℕ) → length (xs ++ d ∷ []) ≡ suc (length xs)
 length_snoc xs d = omega (arith, length-append xs (d ∷ []))
 
@@ -28,10 +29,12 @@ value_below base (d ∷ ds) fits =
     let m : base ^ length ds * (d + 1) ≤ base ^ length ds * base = mul-le-mul_left (base ^ length ds) first in
     rw (pow-suc base (length ds)) (grind (arith, m, h))
 
+-- a byte more at the end is two half bytes more
 pub halves_snoc : (xs : List ℕ) (b : ℕ) → halves (xs ++ b ∷ []) ≡ halves xs ++ b / 16 ∷ b % 16 ∷ []
 halves_snoc [] b = refl
 halves_snoc (x ∷ xs) b = ap (λ (t : List ℕ). x / 16 ∷ x % 16 ∷ t) (halves_snoc xs b)
 
+-- two half bytes to a byte
 pub length-halves : (xs : List ℕ) → length (halves xs) ≡ 2 * length xs
 length-halves [] = refl
 length-halves (x ∷ xs) = omega (arith, length-halves xs)
@@ -44,6 +47,7 @@ digits_at ds h i lt =
       | inr above ↦ absurd (cc (h, list_all_at is_digit ds i 0 lt (le-ltb (get_or ds i 0) 10 above)))
     ]
 
+-- eight bytes hold sixteen digits
 pub pairs_small : (xs : List ℕ) → length xs ≤ 8 → list_all is_digit (halves xs) ≡ true → value 10 (halves xs) < 10 ^ 16
 pairs_small xs few h =
     let below : value 10 (halves xs) < 10 ^ length (halves xs) = value_below 10 (halves xs) (digits_at (halves xs) h) in
@@ -52,9 +56,11 @@ pairs_small xs few h =
     let power : 10 ^ length (halves xs) ≤ 10 ^ 16 = pow-le-pow_right ten fits in
     omega (arith, below, power)
 
+-- and so do the first of them
 pub prefix_small : (xs : List ℕ) (i : ℕ) → length xs ≤ 8 → list_all is_digit (halves (take i xs)) ≡ true → value 10 (halves (take i xs)) < 10 ^ 16
 prefix_small xs i few h = pairs_small (take i xs) (omega (arith, length-take i xs)) h
 
+-- a half byte above 9 is no digit
 pub not_digits : (xs : List ℕ) (i : ℕ) → i < length xs → ((9 < get_or xs i 0 / 16) ⊎ ((get_or xs i 0 / 16 ≤ 9) × (9 < get_or xs i 0 % 16))) → list_all is_digit (halves xs) ≡ false
 not_digits [] i lt either = absurd (omega arith)
 not_digits (x ∷ xs) zero lt (inl high) = rw (le-ltb (x / 16) 10 (omega arith)) refl
@@ -62,28 +68,34 @@ not_digits (x ∷ xs) zero lt (inr low) = rw (le-ltb (x % 16) 10 (omega (arith, 
 not_digits (x ∷ xs) (suc i) lt either =
     rw (not_digits xs i (omega arith) either, and-false (is_digit (x % 16))) (and-false (is_digit (x / 16)))
 
+-- a byte of two digits more
 pub digits_snoc : (xs : List ℕ) (b : ℕ) → list_all is_digit (halves xs) ≡ true → b / 16 ≤ 9 → b % 16 ≤ 9 → list_all is_digit (halves (xs ++ b ∷ [])) ≡ true
 digits_snoc xs b h high low = rw (halves_snoc xs b, list_all-append is_digit (halves xs) (b / 16 ∷ b % 16 ∷ []), h, lt-ltb (b / 16) 10 (omega arith), lt-ltb (b % 16) 10 (omega arith)) refl
 
+-- two digits more
 pub pair_snoc : (xs : List ℕ) (b : ℕ) → value 10 (halves (xs ++ b ∷ [])) ≡ value 10 (halves xs) * 100 + b / 16 * 10 + b % 16
 pair_snoc xs b =
     let apart : halves (xs ++ b ∷ []) ≡ (halves xs ++ b / 16 ∷ []) ++ b % 16 ∷ [] = halves_snoc xs b ∙ sym (append_assoc (halves xs) (b / 16 ∷ []) (b % 16 ∷ [])) in
     rw (apart, value_snoc 10 (halves xs ++ b / 16 ∷ []) (b % 16), value_snoc 10 (halves xs) (b / 16)) (omega arith)
 
+-- the last byte of packed bytes has one digit
 pub packed_digits_snoc : (front : List ℕ) (last : ℕ) → packed_digits (front ++ last ∷ []) ≡ halves front ++ last / 16 ∷ []
 packed_digits_snoc [] last = refl
 packed_digits_snoc (b ∷ []) last = refl
 packed_digits_snoc (b ∷ c ∷ bs) last = ap (λ (t : List ℕ). b / 16 ∷ b % 16 ∷ t) (packed_digits_snoc (c ∷ bs) last)
 
+-- and the sign
 pub packed_sign_snoc : (front : List ℕ) (last : ℕ) → packed_sign (front ++ last ∷ []) ≡ last % 16
 packed_sign_snoc [] last = refl
 packed_sign_snoc (b ∷ []) last = refl
 packed_sign_snoc (b ∷ c ∷ bs) last = packed_sign_snoc (c ∷ bs) last
 
+-- what packed bytes are, from their last byte and those in front of it
 pub magnitude_snoc : (front : List ℕ) (last : ℕ) → magnitude (front ++ last ∷ [])
     ≡ (if (list_all is_digit (halves front) && (is_digit (last / 16) && true)) && nat_le 10 (last % 16) then Some (value 10 (halves front) * 10 + last / 16) else None)
 magnitude_snoc front last = rw (packed_digits_snoc front last, packed_sign_snoc front last, list_all-append is_digit (halves front) (last / 16 ∷ []), value_snoc 10 (halves front) (last / 16)) refl
 
+-- the first bytes with the next one
 pub take_snoc : (xs : List ℕ) (i : ℕ) → i < length xs → take (i + 1) xs ≡ take i xs ++ get_or xs i 0 ∷ []
 take_snoc xs i lt = take_more xs i 0 lt
 
@@ -96,6 +108,7 @@ prefix_below xs i few bytes lt =
     let power : 256 ^ length (take i xs) ≤ 256 ^ 7 = pow-le-pow_right some len in
     omega (arith, below, power)
 
+-- what None and Some say of the test in front
 tested_none : {A : Type 0} (b : Bool) (x : A) → None ≡ (if b then Some x else None) → b ≡ false
 tested_none true x e = absurd cc
 tested_none false x e = refl
@@ -104,14 +117,17 @@ pub tested_some : {A : Type 0} (b : Bool) (x y : A) → Some y ≡ (if b then So
 tested_some true x y e = (refl, cc)
 tested_some false x y e = absurd cc
 
+-- packed bytes are no number where those in front of the last are no digits
 pub no_pairs : (text front : List ℕ) (last : ℕ) → text ≡ front ++ last ∷ [] → None ≡ pairs_value front → None ≡ magnitude text
 no_pairs text front last is none = rw (is, magnitude_snoc front last, tested_none _ _ none) refl
 
+-- nor where the last byte has no digit or no sign
 pub bad_end : (text front : List ℕ) (last : ℕ) → text ≡ front ++ last ∷ []
     → ((9 < last / 16) ⊎ ((last / 16 ≤ 9) × (last % 16 < 10))) → None ≡ magnitude text
 bad_end text front last is (inl high) = rw (is, magnitude_snoc front last, le-ltb (last / 16) 10 (omega arith), and-false (list_all is_digit (halves front))) refl
 bad_end text front last is (inr low) = rw (is, magnitude_snoc front last, lt-leb 10 (last % 16) (omega (arith, low.1)), and-false (list_all is_digit (halves front) && (is_digit (last / 16) && true))) refl
 
+-- else they are one
 pub good_end : (text front : List ℕ) (last n : ℕ) → text ≡ front ++ last ∷ []
     → Some n ≡ pairs_value front → last / 16 ≤ 9 → 10 ≤ last % 16 → Some (n * 10 + last / 16) ≡ magnitude text
 good_end text front last n is some high low =
@@ -123,12 +139,14 @@ pub value_append : (base : ℕ) (xs ys : List ℕ) → value base (xs ++ ys) ≡
 value_append base [] ys = omega arith
 value_append base (x ∷ xs) ys = rw (value_append base xs ys, length-append xs ys, pow-add base (length xs) (length ys)) (grind arith)
 
+-- bytes in front of packed bytes are digits
 packed_digits_append : (xs ys : List ℕ) → 1 ≤ length ys → packed_digits (xs ++ ys) ≡ halves xs ++ packed_digits ys
 packed_digits_append xs [] some = absurd (omega arith)
 packed_digits_append [] (y ∷ ys) some = refl
 packed_digits_append (b ∷ []) (y ∷ ys) some = refl
 packed_digits_append (b ∷ c ∷ bs) (y ∷ ys) some = ap (λ (t : List ℕ). b / 16 ∷ b % 16 ∷ t) (packed_digits_append (c ∷ bs) (y ∷ ys) some)
 
+-- and do not touch the sign
 packed_sign_append : (xs ys : List ℕ) → 1 ≤ length ys → packed_sign (xs ++ ys) ≡ packed_sign ys
 packed_sign_append xs [] some = absurd (omega arith)
 packed_sign_append [] (y ∷ ys) some = refl
@@ -149,6 +167,7 @@ sign_is_last (b ∷ c ∷ bs) =
     let at : length (b ∷ c ∷ bs) - 1 ≡ suc (length (c ∷ bs) - 1) = omega arith in
     rw at (sign_is_last (c ∷ bs))
 
+-- what packed bytes are, cut in two
 magnitude_append : (xs ys : List ℕ) → 1 ≤ length ys → magnitude (xs ++ ys)
     ≡ (if (list_all is_digit (halves xs) && list_all is_digit (packed_digits ys)) && nat_le 10 (packed_sign ys) then Some (value 10 (halves xs) * 10 ^ length (packed_digits ys) + value 10 (packed_digits ys)) else None)
 magnitude_append xs ys some = rw (packed_digits_append xs ys some, packed_sign_append xs ys some, list_all-append is_digit (halves xs) (packed_digits ys), value_append 10 (halves xs) (packed_digits ys)) refl
@@ -183,6 +202,7 @@ halved k text front back first last = rw (first, last) (sym (take-append-drop k 
 pub unsigned_none : (bytes : List ℕ) → None ≡ magnitude bytes → None ≡ packed bytes
 unsigned_none bytes none = rw (tested_none _ _ none) refl
 
+-- else the sign makes the magnitude a number
 pub signed_some : (bytes : List ℕ) (n : ℕ) → Some n ≡ magnitude bytes → Some (signed_by (packed_sign bytes) n) ≡ packed bytes
 signed_some bytes n some = let t = tested_some _ _ _ some in rw (t.0, t.1) refl
 

@@ -7,10 +7,12 @@ use Rattle.std.specs.Prelude.{ℤ, pos, negsuc, ◌≤ℤ◌, ◌<ℤ◌, None}
 use Rattle.fp_model.specs.Numbers.{pairs, packed_form, big_endian, unsigned_of}
 use Rattle.packed_dec.proofs.Digits.{length_snoc}
 
+-- so many bytes
 pub length-pairs : (k n : ℕ) → length (pairs k n) ≡ k
 length-pairs zero n = refl
 length-pairs (suc k) n = omega (arith, length_snoc (pairs k (n / 100)) (n / 10 % 10 * 16 + n % 10), length-pairs k (n / 100))
 
+-- so many bytes
 pub length-big_endian : (k n : ℕ) → length (big_endian k n) ≡ k
 length-big_endian zero n = refl
 length-big_endian (suc k) n = omega (arith, length_snoc (big_endian k (n / 256)) (n % 256), length-big_endian k (n / 256))
@@ -42,6 +44,7 @@ seventeen k n high low sign is below =
     let ones : n % 10 ≡ low % 10 = omega (arith, is) in
     rw (size, up, ones, pairs_apart k 8 high (low / 10) rest) (sym (append_assoc (pairs k high) (pairs 8 (low / 10)) ((low % 10 * 16 + sign) ∷ [])))
 
+-- the same of two parts that were written
 pub form_apart : (size k j n high low sign : ℕ) (front back : List ℕ) → front ≡ pairs k high → back ≡ packed_form j low sign → j ≡ 9 → size ≡ k + 9
     → n ≡ high * 100000000000000000 + low → low < 100000000000000000 → front ++ back ≡ packed_form size n sign
 form_apart size k j n high low sign front back first last nine whole is below =

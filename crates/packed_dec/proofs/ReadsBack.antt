@@ -20,12 +20,14 @@ pub under_test : {A : Type 0} (b : Bool) (o : Option A) (x : A) → (if b then o
 under_test true o x e = (refl, e)
 under_test false o x e = absurd cc
 
+-- unsigned bytes
 value_big_endian : (k n : ℕ) → n < 256 ^ k → value 256 (big_endian k n) ≡ n
 value_big_endian zero n below = omega (arith, below, pow-zero 256)
 value_big_endian (suc k) n below =
     let rest : n / 256 < 256 ^ k = omega (arith, below, pow-suc 256 k) in
     rw (value_snoc 256 (big_endian k (n / 256)) (n % 256), value_big_endian k (n / 256) rest) (omega arith)
 
+-- pairs are digits, and of a number that fits
 digits_of_pairs : (k n : ℕ) → list_all is_digit (halves (pairs k n)) ≡ true
 digits_of_pairs zero n = refl
 digits_of_pairs (suc k) n =
@@ -44,15 +46,18 @@ hundreds (suc k) =
     let twice : 2 * suc k ≡ 2 * k + 2 = omega arith in
     rw (twice, pow-add 10 (2 * k) 2, hundreds k, pow-suc 100 k) refl
 
+-- all half bytes but one
 pub odd_digits : (size : ℕ) → 1 ≤ size → 10 ^ (2 * size - 1) ≡ 100 ^ (size - 1) * 10
 odd_digits size some =
     let twice : 2 * size - 1 ≡ 2 * (size - 1) + 1 = omega (arith, some) in
     rw (twice, pow-add 10 (2 * (size - 1)) 1, hundreds (size - 1)) refl
 
+-- a form fills its field
 length-form : (size n sign : ℕ) → 1 ≤ size → length (packed_form size n sign) ≡ size
 length-form size n sign some =
     omega (arith, some, length_snoc (pairs (size - 1) (n / 10)) (n % 10 * 16 + sign), length-pairs (size - 1) (n / 10))
 
+-- the packed form of a magnitude is read as it, with its sign
 form_is_number : (size n sign : ℕ) → 1 ≤ size → n < 10 ^ (2 * size - 1) → 10 ≤ sign → sign < 16 → packed (packed_form size n sign) ≡ Some (signed_by sign n)
 form_is_number size n sign some below low high =
     let front = pairs (size - 1) (n / 10) in
@@ -67,6 +72,7 @@ form_is_number size n sign some below low high =
     let Signed : ℕ → Type 0 = λ s. packed (packed_form size n sign) ≡ Some (signed_by s n) in
     subst Signed (packed_sign_snoc front last ∙ half) (sym (signed_some (packed_form size n sign) n (subst Reads again whole)))
 
+-- the preferred sign is that of the number, and one of the six
 preferred_sign : (n : ℤ) → signed_by (sign_of n) (unsigned_abs n) ≡ n
 preferred_sign (pos n) = refl
 preferred_sign (negsuc n) = refl
@@ -79,6 +85,7 @@ sign_below : (n : ℤ) → sign_of n < 16
 sign_below (pos n) = omega arith
 sign_below (negsuc n) = omega arith
 
+-- each kind of field, read back
 packed_back : (size : ℕ) (n : ℤ) (form : List ℕ) → 1 ≤ size → packed_of size n ≡ Some form → (length form ≡ size) × (packed form ≡ Some n)
 packed_back size n form some e =
     let t = under_test (nat_lt (unsigned_abs n) (10 ^ (2 * size - 1))) (Some (packed_form size (unsigned_abs n) (sign_of n))) form e in
@@ -95,6 +102,7 @@ unsigned_back size (pos n) form e =
     let Back : List ℕ → Type 0 = λ bytes. (length bytes ≡ size) × (Some (pos (value 256 bytes)) ≡ Some (pos n)) in
     subst Back same (length-big_endian size n, ap (λ m. Some (pos m)) (value_big_endian size n (ltb-true n (256 ^ size) t.0)))
 
+-- two bytes and four bytes of two's complement
 fits_16 : (n : ℤ) → fits_twos 16 n ≡ true → FitsSigned w16 n
 fits_16 (pos n) e = record { sfits = ltb-true n (2 ^ 15) e }
 fits_16 (negsuc n) e = record { sfits = ltb-true n (2 ^ 15) e }
@@ -111,6 +119,7 @@ bits_32 : (n : ℤ) → fits_twos 32 n ≡ true → cast_unsigned w32 n < 2 ^ 32
 bits_32 (pos n) e = omega (arith, ltb-true n (2 ^ 31) e)
 bits_32 (negsuc n) e = omega (arith, ltb-true n (2 ^ 31) e)
 
+-- the bytes of a word as an unsigned number
 value_16 : (m : ℕ) → m < 2 ^ 16 → value 256 (to_be_bytes w16 m) ≡ m
 value_16 m below = omega (arith, from_be_bytes-to_be_bytes_2 m below)
 

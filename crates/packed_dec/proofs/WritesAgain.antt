@@ -28,6 +28,7 @@ ending x (y ∷ ys) =
     let rest = ending y ys in
     record { front = x ∷ rest.front; last = rest.last; is = ap (λ (t : List ℕ). x ∷ t) rest.is }
 
+-- the pairs of the digits that bytes are, are these bytes
 pair_back : (k : ℕ) (front : List ℕ) (last : ℕ)
     → (list_all is_digit (halves front) ≡ true → pairs k (value 10 (halves front)) ≡ front)
     → list_all is_digit (halves (front ++ last ∷ [])) ≡ true
@@ -56,6 +57,7 @@ pairs_back (suc k) (b ∷ bs) size digits =
     let Back : List ℕ → Type 0 = λ t. list_all is_digit (halves t) ≡ true → pairs (suc k) (value 10 (halves t)) ≡ t in
     subst Back (sym e.is) (pair_back k e.front e.last (pairs_back k e.front short)) digits
 
+-- the unsigned bytes of the number that bytes are, are these bytes
 byte_back : (k : ℕ) (front : List ℕ) (last : ℕ) → big_endian k (value 256 front) ≡ front → last < 256
     → big_endian (suc k) (value 256 (front ++ last ∷ [])) ≡ front ++ last ∷ []
 byte_back k front last before small =
@@ -64,6 +66,7 @@ byte_back k front last before small =
     let byte : (v * 256 + last) % 256 ≡ last = omega (arith, small) in
     rw (value_snoc 256 front last, up, byte, before) refl
 
+-- each of some bytes is one
 small_front : (front : List ℕ) (last : ℕ) → ((i : ℕ) → get_or (front ++ last ∷ []) i 0 < 256) → (i : ℕ) → get_or front i 0 < 256
 small_front [] last small i = omega arith
 small_front (x ∷ xs) last small zero = small zero
@@ -92,11 +95,13 @@ abs_either false n = refl
 abs_signed : (sign n : ℕ) → unsigned_abs (signed_by sign n) ≡ n
 abs_signed sign n = abs_either (sign == 11 || sign == 13) n
 
+-- the sign stands in the last byte alone
 signed_as_snoc : (sign : ℕ) (front : List ℕ) (last : ℕ) → signed_as sign (front ++ last ∷ []) ≡ front ++ (last / 16 * 16 + sign) ∷ []
 signed_as_snoc sign [] last = refl
 signed_as_snoc sign (b ∷ []) last = refl
 signed_as_snoc sign (b ∷ c ∷ bs) last = ap (λ (t : List ℕ). b ∷ t) (signed_as_snoc sign (c ∷ bs) last)
 
+-- the form of the magnitude that packed bytes are is these bytes, with the sign of the form
 form_again : (front : List ℕ) (last u sign : ℕ) → list_all is_digit (packed_digits (front ++ last ∷ [])) ≡ true → u ≡ value 10 (packed_digits (front ++ last ∷ []))
     → packed_form (length (front ++ last ∷ [])) u sign ≡ signed_as sign (front ++ last ∷ [])
 form_again front last u sign digits is =
@@ -124,6 +129,7 @@ again_snoc front last n e =
     let fits : unsigned_abs n < 10 ^ (2 * length text - 1) = omega (arith, size, subst Below (length-packed_digits text) below) in
     rw (lt-ltb (unsigned_abs n) (10 ^ (2 * length text - 1)) fits) (ap (λ (f : List ℕ). Some f) (form_again front last (unsigned_abs n) (sign_of n) both.0 size))
 
+-- what two or four bytes are fits two's complement
 twos_fit_16 : (v : ℕ) → v < 65536 → fits_twos 16 (cast_signed w16 v) ≡ true
 twos_fit_16 v below = elim (cases_lt v 32768) [
   | inl low ↦ rw (lt-ltb v 32768 low) (lt-ltb v 32768 low)
@@ -136,6 +142,7 @@ twos_fit_32 v below = elim (cases_lt v 2147483648) [
   | inr high ↦ rw (le-ltb v 2147483648 high) (lt-ltb (4294967296 - suc v) 2147483648 (omega arith))
 ]
 
+-- the value of two or four bytes, as the library has it
 from_16 : (bs : List ℕ) → length bs ≡ 2 → value 256 bs ≡ from_be_bytes w16 bs
 from_16 [] two = absurd (omega arith)
 from_16 (a ∷ []) two = absurd (omega arith)
@@ -150,11 +157,13 @@ from_32 (a ∷ b ∷ c ∷ []) four = absurd (omega arith)
 from_32 (a ∷ b ∷ c ∷ d ∷ []) four = omega arith
 from_32 (a ∷ b ∷ c ∷ d ∷ f ∷ bs) four = absurd (omega arith)
 
+-- so many bytes are below that power of 256
 below_power : (bs : List ℕ) (k : ℕ) → length bs ≡ k → ((i : ℕ) → get_or bs i 0 < 256) → value 256 bs < 256 ^ k
 below_power bs k size small =
     let Below : ℕ → Type 0 = λ j. value 256 bs < 256 ^ j in
     subst Below size (value_below 256 bs (λ i within. small i))
 
+-- each kind of field, written again
 unsigned_again : (bs : List ℕ) → ((i : ℕ) → get_or bs i 0 < 256) → unsigned_of (length bs) (pos (value 256 bs)) ≡ Some bs
 unsigned_again bs small =
     rw (lt-ltb (value 256 bs) (256 ^ length bs) (below_power bs (length bs) refl small)) (ap (λ (f : List ℕ). Some f) (bytes_back (length bs) bs refl small))
