@@ -10,6 +10,9 @@
 //!
 //! Packed decimal has two half bytes in each byte: a digit in every one but the last, which is the sign.
 //!
+//!     byte          1             2                     n
+//!     half    digit digit | digit digit | .. | digit  sign
+//!
 //!     12 3C    123   the digits 1, 2, 3 and the sign C
 //!     12 3D   -123   D and B are minus
 //!     12 3F    123   A, C, E and F are plus
