@@ -1,0 +1,4 @@
+pub mod Digits
+pub mod Forms
+pub mod ReadsBack
+pub mod WritesAgain

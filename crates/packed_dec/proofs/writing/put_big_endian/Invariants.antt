@@ -1,0 +1,12 @@
+use Rattle.std.proofs.Common.{◌≡◌, ◌≤◌, ◌++◌, length, drop}
+use Rattle.fp_model.specs.Numbers.{big_endian}
+use Rattle.packed_dec.proofs.writing.put_big_endian.Given as goal
+
+abbrev pub invariant-loop-at : goal.invariant-loop-at
+invariant-loop-at l = record {
+  within : l.at ≤ length l.into;
+  so_far : big_endian l.at l.rest ++ drop l.at l.into ≡ big_endian (length l.into) l.initial.rest;
+}
+
+abbrev pub decreases-loop-at : goal.decreases-loop-at
+decreases-loop-at l = l.at
