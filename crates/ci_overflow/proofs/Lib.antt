@@ -1,0 +1,5 @@
+pub mod Going
+pub mod Tries
+pub mod Joins
+pub mod Finds
+pub mod Orders
