@@ -59,4 +59,4 @@ told_by false word name e is = search rules
 pub told_is : (line : List ℕ) → is_name (first_word line) ≡ true → first_word line ≡ addressee (terminal_of line)
 told_is line e =
     told_by (is_name (first_word line)) (first_word line) (record { 0 = padded 8 (first_word line) }) e
-      (trimmed-fair (first_word line) (8 - length (first_word line)) (both-second _ _ e))
+    (trimmed-fair (first_word line) (8 - length (first_word line)) (both-second _ _ e))
