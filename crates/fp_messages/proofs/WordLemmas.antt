@@ -1,6 +1,5 @@
 -- Where a line's first word ends, and what is left of a name that is padded and then trimmed.
-use Rattle.std.proofs.Common.{◌≡◌, ℕ, suc, zero, ◌+◌, ◌-◌, ◌<◌, ◌≤◌, List, [], ◌∷◌, ◌++◌, length, take, drop, replicate, Bool, true, false, cond, ◌&&◌, if◌then◌else◌, Option, Some, None, refl, ap, sym, ◌∙◌, arith, rules, nat_lt, IsTrue}
-use Rattle.std.proofs.lemmas.Grind.{common_steps}
+use Rattle.std.proofs.Common.{◌≡◌, ℕ, suc, zero, ◌-◌, ◌≤◌, List, [], ◌∷◌, ◌++◌, length, replicate, Bool, true, false, cond, ◌&&◌, if◌then◌else◌, Some, None, refl, ap, sym, ◌∙◌, arith, rules, nat_lt}
 use Rattle.std.specs.List.{position_or_len, list_all}
 use Rattle.fp_model.specs.Texts.{trimmed, padded, in_front}
 use Rattle.fp_model.specs.Names.{is_letter_or_digit, is_name}

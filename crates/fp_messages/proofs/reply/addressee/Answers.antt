@@ -1,4 +1,4 @@
-use Rattle.std.proofs.Common.{rules, sym, ◌∙◌}
+use Rattle.std.proofs.Common.{rules, ◌∙◌}
 use Rattle.fp_messages.proofs.WordLemmas.{told_is}
 use Rattle.fp_messages.proofs.reply.addressee.Goals as goal
 
