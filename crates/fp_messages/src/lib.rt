@@ -1,0 +1,25 @@
+//! Message lines, and the lines that terminals are sent for log entries.
+//!
+//!     line       = terminal [ separator [ transaction [ separator text ] ] ]
+//!     separator  = a blank or a tab
+//!     terminal, transaction
+//!                = 1 to 8 letters A to Z and digits, a letter first
+//!     text       = 0 to 1,000 bytes from 32 to 126
+//!
+//!     reply line = ( terminal | "?" ) blank verdict newline
+//!     verdict    = "OK" [ blank reply ] | "NO VERIFY" | "NO ROLB " code | "NO SEQFULL" | "NO DEADLOCK"
+//!                | "NO DEVICE" | "NO MEMORY" | "NO UNKNOWN"
+//!
+//! A line of a terminal alone is no message, but its terminal can be told so. The text is all that stands behind the
+//! second separator, further separators among it. A question mark stands where a line has no terminal.
+#![tactic(auto)]
+
+mod message;
+mod reply;
+mod words;
+
+pub use message::{MessageFault, read_message, terminal_of};
+pub use reply::reply_line;
+
+#[cfg(test)]
+mod tests;
