@@ -1,4 +1,4 @@
--- What a turn leaves as it is.
+-- What each event leaves as it is in every case.
 use Rattle.std.specs.Prelude.{◌≡◌, List, ◌++◌}
 use Rattle.fp_model.specs.declared.events.Event.{Event}
 use Rattle.fp_model.specs.declared.events.Event.TheVariants as event

@@ -1,4 +1,5 @@
--- Which intervals of areas wait to be written, along a run of turns. No turn looks at them.
+-- Which intervals of areas wait to be written, along a run of turns. No turn looks at them. OUT and CKPT are taken to
+-- succeed: what is said of intervals on the disk speaks of runs without a fault.
 use Rattle.std.specs.Prelude.{◌≡◌, ℕ, ◌+◌, ◌<◌, ◌≤◌, List, [], ◌∷◌, ◌++◌, length, drop, fold, filter, Contains, Bool, not, ◌&&◌, ◌⊎◌, ◌==◌}
 use Rattle.fp_model.specs.declared.events.Event.{Event}
 use Rattle.fp_model.specs.declared.events.Event.TheVariants as event

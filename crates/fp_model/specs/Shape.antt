@@ -1,6 +1,6 @@
 -- What a state keeps under its definitions: lengths, ascending keys, lists for each child type, serials.
-use Rattle.std.specs.Prelude.{◌≡◌, ℕ, ◌-◌, ◌^◌, List, [], ◌∷◌, length, map, Bool, true, false, ◌&&◌, ◌==◌, nat_le, nat_lt, Some, Contains, slice_get}
-use Rattle.std.specs.List.{AllZip, list_all}
+use Rattle.std.specs.Prelude.{◌≡◌, ℕ, ◌-◌, ◌^◌, List, [], ◌∷◌, length, map, flat_map, take, drop, Bool, true, false, ◌&&◌, ◌||◌, ◌==◌, nat_le, nat_lt, Some, Contains, slice_get}
+use Rattle.std.specs.List.{AllZip, IsDistinct, list_all}
 use Rattle.std.specs.Option.{option_map_or}
 use Rattle.fp_model.specs.declared.definitions.DedbDef.{DedbDef}
 use Rattle.fp_model.specs.declared.definitions.Defs.{Defs}
@@ -74,17 +74,24 @@ is_anchor def anchor ends roots =
 
 -- ---- states
 
--- the sequential part holds at most its capacity, and serials stay within 2^62
+-- the sequential part holds at most its capacity, serials stay within 2^62, and without a capacity there never was one
 abbrev pub are_ends : ℕ → AreaEnds → Bool
-are_ends capacity ends = nat_le 1 ends.begin && nat_le ends.begin ends.end && nat_le (ends.end - ends.begin) capacity && nat_le ends.end (2 ^ 62)
+are_ends capacity ends =
+    nat_le 1 ends.begin && nat_le ends.begin ends.end && nat_le (ends.end - ends.begin) capacity && nat_le ends.end (2 ^ 62)
+    && (nat_lt 0 capacity || ends.end == 1)
 
--- Every anchor of every area is in shape, and so are the ends of each area. The areas are numbered here as those of one
+-- the serials that stand at the roots of an area, numbered as one of its database alone
+abbrev pub serials_in : Area → Dedb → List ℕ
+serials_in area dedb = flat_map (λ roots. flat_map (λ root. map (λ item. item.serial) root.seqs) roots) (take area.anchors (drop area.first_anchor dedb.anchors))
+
+-- Every anchor of every area is in shape, so are the ends of each area, and a serial stands at most once in its area. The areas are numbered here as those of one
 -- database alone.
 pub record IsDedbOf (def : DedbDef) (dedb : Dedb) : Type 0 where
   pub anchors : length dedb.anchors ≡ anchor_count def
   pub areas : AllZip (λ area ends. are_ends area.capacity ends ≡ true) def.areas dedb.areas
   pub each_anchor : (area : Area) (ends : AreaEnds) (anchor : ℕ) (roots : List Root) → Contains (areas_from 0 0 0 def.areas) area → slice_get dedb.areas area.number ≡ Some ends
       → has_anchor area 0 anchor ≡ true → slice_get dedb.anchors anchor ≡ Some roots → is_anchor def anchor ends roots ≡ true
+  pub serials : (area : Area) → Contains (areas_from 0 0 0 def.areas) area → IsDistinct ◌==◌ (serials_in area dedb)
 
 pub record IsDbOf (defs : Defs) (db : Db) : Type 0 where
   pub msdbs : AllZip IsMsdbOf defs.msdbs db.msdbs

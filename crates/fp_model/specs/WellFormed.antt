@@ -1,6 +1,6 @@
 -- What definitions keep: the rules and limits that every reader of them has tested.
-use Rattle.std.specs.Prelude.{◌≡◌, ◌⊎◌, ⊤, ℕ, ◌+◌, ◌*◌, ◌-◌, ◌/◌, ◌<◌, ◌≤◌, List, [], ◌∷◌, ◌++◌, length, map, sum_by, flat_map, Bool, true, false, ◌&&◌, ◌==◌, nat_le, if◌then◌else◌, Some, None, Contains, IsTrue, IfSome, codes, slice_get}
-use Rattle.std.specs.List.{AllByRecursion, IsDistinct}
+use Rattle.std.specs.Prelude.{◌≡◌, ◌⊎◌, ⊤, ℕ, ◌+◌, ◌*◌, ◌-◌, ◌/◌, ◌<◌, ◌≤◌, ℤ, List, [], ◌∷◌, ◌++◌, length, map, take, drop, sum_by, flat_map, Bool, true, false, ◌&&◌, ◌==◌, nat_le, if◌then◌else◌, Some, None, Contains, IsTrue, IfSome, codes, slice_get}
+use Rattle.std.specs.List.{AllByRecursion, IsDistinct, list_all}
 use Rattle.fp_model.specs.declared.name.Name.{Name}
 use Rattle.fp_model.specs.declared.definitions.FieldKind.{FieldKind}
 use Rattle.fp_model.specs.declared.definitions.FieldKind.TheVariants.{C, X, H, F, P}
@@ -10,9 +10,9 @@ use Rattle.fp_model.specs.declared.definitions.SegDef.{SegDef}
 use Rattle.fp_model.specs.declared.definitions.AreaDef.{AreaDef}
 use Rattle.fp_model.specs.declared.definitions.DedbDef.{DedbDef}
 use Rattle.fp_model.specs.declared.definitions.Defs.{Defs}
-use Rattle.fp_model.specs.Texts.{same_text}
+use Rattle.fp_model.specs.Texts.{same_text, is_printable}
 use Rattle.fp_model.specs.Names.{IsName}
-use Rattle.fp_model.specs.Numbers.{is_length_of}
+use Rattle.fp_model.specs.Numbers.{is_length_of, bytes_of}
 use Rattle.fp_model.specs.State.{key_of, anchor_count}
 use Rattle.fp_model.specs.Order.{child_types, line_to}
 
@@ -59,12 +59,27 @@ BeginsWithKey (f ∷ fs) = (f.kind ≡ C) × (f.length ≤ 64)
 
 -- ---- main storage databases
 
+-- what a field holds that was loaded: printable characters, or the preferred form of a number
+abbrev pub IsLoadedField : FieldKind → List ℕ → Type 0
+IsLoadedField C bytes = IsTrue (list_all is_printable bytes)
+IsLoadedField kind bytes = (n : ℤ) × (bytes_of kind (length bytes) n ≡ Some bytes)
+
+-- each field of a segment does, one behind another
+abbrev pub AreLoadedFields : List FieldDef → List ℕ → Type 0
+AreLoadedFields [] bytes = ⊤
+AreLoadedFields (f ∷ fs) bytes = IsLoadedField f.kind (take f.length bytes) × AreLoadedFields fs (drop f.length bytes)
+
+-- a segment that was loaded
+pub record IsLoaded (def : MsdbDef) (segment : List ℕ) : Type 0 where
+  pub whole : length segment ≡ def.length
+  pub fields : AreLoadedFields def.fields segment
+
 pub record IsMsdbDef (def : MsdbDef) : Type 0 where
   pub name : IsName def.name
   pub layout : IsLayout def.fields def.length
   pub key : BeginsWithKey def.fields
   pub short : def.length ≤ 1024
-  pub loaded : AllByRecursion (λ segment. length segment ≡ def.length) def.load
+  pub loaded : AllByRecursion (IsLoaded def) def.load
   pub keys : IsDistinct same_text (map (key_of def.fields) def.load)
 
 -- ---- data entry databases

@@ -1,3 +1,4 @@
 pub mod Images
+pub mod Kept
 pub mod Log
 pub mod Reads
