@@ -1,0 +1,40 @@
+-- What a restart gives, and when the log is damaged.
+use Rattle.std.specs.Prelude.{◌≡◌, ◌⊎◌, ℕ, List, [], length}
+use Rattle.std.specs.List.{AllByRecursion}
+use Rattle.fp_site.specs.Disk.{Disk}
+use Rattle.fp_model.specs.declared.definitions.Defs.{Defs}
+use Rattle.fp_model.specs.declared.database.Db.{Db}
+use Rattle.fp_model.specs.declared.log.Entry.{Entry}
+use Rattle.fp_model.specs.declared.scripts.Script.{Script}
+use Rattle.fp_model.specs.Groups.{IsDamaged, entries_of}
+use Rattle.fp_model.specs.History.{IsSerialHistory}
+use Rattle.fp_model.specs.Items.{IsFit}
+use Rattle.fp_model.specs.LogText.{Front}
+use Rattle.fp_model.specs.Product.{rules_of}
+use Rattle.log_groups.specs.Images.{IsAtRest}
+use Rattle.log_groups.specs.Kept.{items_of}
+use Rattle.log_groups.specs.Log.{LogState}
+use Rattle.log_groups.specs.Reads.{HasGroup}
+use Rattle.msdb_store.specs.Store.{Stored, IsOf}
+
+-- The store and the open log stand for these entries: the store has the segments of the state behind them, all of them
+-- are sealed, and the log on the disk is at rest and holds them.
+pub record StandsFor (defs : Defs) (scripts : List Script) (front : Front) (disk : Disk) (entries : List Entry) (store : Stored) (log : LogState) : Type 0 where
+  pub of : IsOf defs.msdbs store
+  pub segments : (last : Db) → IsSerialHistory (rules_of defs scripts) entries last → store.msdbs ≡ last.msdbs
+  pub sealed : log.sealed ≡ length entries
+  pub unsealed : log.unsealed ≡ []
+  pub groups : List (List Entry)
+  pub all : entries ≡ entries_of groups
+  pub at_rest : IsAtRest disk front groups log.gate
+
+-- the group there has an item that restart may not apply
+pub record HasUnfit (defs : Defs) (log : List ℕ) (at : ℕ) : Type 0 where
+  pub entries : List Entry
+  pub next : ℕ
+  pub group : HasGroup log at entries next
+  pub unfit : ¬ (AllByRecursion (IsFit defs) (items_of entries))
+
+-- the bytes of the log at a gate are outside the format, or what stands there doesn't fit the definitions
+abbrev pub IsBadAt : Defs → List ℕ → ℕ → Type 0
+IsBadAt defs log at = IsDamaged log at ⊎ HasUnfit defs log at

@@ -1,0 +1,68 @@
+//! Restarting.
+ghost use Rattle.fp_model.specs.LogText.{FitsFront, StartsWithFront};
+ghost use Rattle.fp_model.specs.WellFormed.{IsMsdbDef};
+ghost use Rattle.fp_model.specs.declared.log.Entry.{Entry};
+ghost use Rattle.fp_model.specs.declared.scripts.Script.{Script};
+ghost use Rattle.fp_restart.specs.Restarts.{IsBadAt, StandsFor};
+ghost use Rattle.fp_restart.specs.declared.fault.RestartFault.TheVariants as faults;
+ghost use Rattle.fp_site.specs.Disk.{Syncs};
+ghost use Rattle.fp_site.specs.Moments.{Through};
+ghost use Rattle.log_groups.specs.Images.{texts_of};
+ghost use Rattle.log_groups.specs.Kept.{IsSound};
+ghost use Rattle.std.specs.List.{AllByRecursion};
+ghost use Rattle.std.specs.Prelude.{◌≡◌, ◌⊎◌, ◌-◌, ◌<◌, ◌≤◌, ◌^◌, ℕ, IfOk, IsErrOf, List as ListOf, OnOk};
+
+use crate::RestartFault;
+use fp_model::Defs;
+use fp_site::Site;
+use log_groups::{Front, Log};
+use msdb_store::MsdbStore;
+use std::alloc::Global;
+
+/// What a restart gives: the segments, and the log, which goes on behind what it has.
+pub type Parts = (MsdbStore, Log);
+
+/// The state that the log means: its groups up to the first gate that isn't open, read once, in order. Nothing is
+/// written; the log is synced. `Foreign` comes exactly where the log doesn't begin with the open front, and
+/// `Damaged` only where its bytes at that gate are outside the format or don't fit the definitions; a fault of the
+/// site and want of memory may stand in the place of both.
+pub fn restart<T: Site>(
+    alloc: Global,
+    defs: &Defs,
+    front: &Front,
+    site: &mut T,
+) -> Result<Parts, RestartFault>
+    requires fits { FitsFront (texts_of front.now) }
+    requires texts { (texts_of front.now).defs ≡ defs.now.text }
+    requires each { AllByRecursion IsMsdbDef defs.now.msdbs }
+
+    // A sound log gives what it means, and is neither foreign nor damaged.
+    ensures sound { (scripts : ListOf Script) (entries : ListOf Entry) → T.told site.old
+        → IsSound defs.now scripts (texts_of front.now).scripts ((T.disk site.old).contents 0) entries
+        → IfOk result (λ parts. StandsFor defs.now scripts (texts_of front.now) (T.disk site.new) entries parts.0 parts.1) }
+    ensures never { (scripts : ListOf Script) (entries : ListOf Entry) → T.told site.old
+        → IsSound defs.now scripts (texts_of front.now).scripts ((T.disk site.old).contents 0) entries
+        → (IsErrOf result faults.Foreign → ⊥) × ((set at : ℕ) → IsErrOf result (faults.Damaged set at) → ⊥) }
+
+    // When each refusal comes.
+    ensures front { T.told site.old → OnOk result (StartsWithFront ((T.disk site.old).contents 0) (texts_of front.now)) }
+    ensures foreign { T.told site.old → IsErrOf result faults.Foreign → StartsWithFront ((T.disk site.old).contents 0) (texts_of front.now) → ⊥ }
+    ensures damaged { (set at : ℕ) → T.told site.old → IsErrOf result (faults.Damaged set at) → (set ≡ 0) × IsBadAt defs.now ((T.disk site.old).contents 0) at }
+    ensures cause { IsErrOf result faults.SiteFault → (T.faults site.old < T.faults site.new) ⊎ (T.faults site.new ≡ 2 ^ 64 - 1) }
+    ensures later { T.faults site.old ≤ T.faults site.new }
+
+    // No contents change, nothing is sent, and a crash at any moment leaves what it might have left before, the log as
+    // a sync might have left it.
+    ensures contents { T.told site.old → (set : ℕ) → (T.disk site.new).contents set ≡ (T.disk site.old).contents set }
+    ensures sent { T.told site.old → (T.disk site.new).sent ≡ (T.disk site.old).sent }
+    ensures crash { T.told site.old → Through (T.disk site.old) (T.disk site.new) (Syncs (T.disk site.old) 0) }
+    ensures told { T.told site.old → T.told site.new }
+    ensures holds { T.holds site.new ≡ T.holds site.old }
+    ensures keeps { (first : T) → T.keeps first site.old → T.keeps first site.new }
+{
+    let _ = &alloc;
+    let _ = &defs.pool;
+    let _ = &front.defs;
+    let _ = &*site;
+    Err(RestartFault::Memory)
+}

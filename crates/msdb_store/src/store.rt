@@ -1,0 +1,120 @@
+//! The store.
+ghost use Rattle.fp_model.specs.CheckpointText.{IsMsdbOf};
+ghost use Rattle.std.specs.List.{AllZip};
+ghost use Rattle.std.specs.Prelude.{◌≡◌, IfOk};
+
+use crate::table::Table;
+use fp_model::{Bytes, Defs, Item, List, Msdb, MsdbDef};
+use std::alloc::{AllocError, Global};
+use std::marker::Model;
+
+/// The segments of the main storage databases, by key. Contracts see the fields of each database's segments, and the
+/// databases. The database of number n is the one that the definitions have in place n, counted from 0.
+#[derive(Debug, Drop)]
+pub struct MsdbStore {
+    tables: Vec<Table>,
+}
+
+impl Model for MsdbStore {
+    ghost use Rattle.std.specs.Prelude.{map};
+    ghost use Rattle.msdb_store.specs.Store.{Stored};
+
+    ghost Value = { Stored };
+
+    ghost view = { λ s. record { layouts = map (λ t. t.fields) s.tables.items; msdbs = map (λ t. record { segments = t.segments.items }) s.tables.items } };
+}
+
+// The table of a database.
+fn table_of(alloc: Global, def: &MsdbDef, msdb: Msdb) -> Result<Table, AllocError>
+    ensures fields { IfOk result (λ t. t.fields ≡ def.now.fields) }
+    ensures segments { IfOk result (λ t. t.segments.items ≡ msdb.segments) }
+{
+    Ok(Table {
+        fields: List::from_vec(Vec::from_slice(alloc, def.fields.as_slice())?),
+        segments: msdb.segments.into_vec(),
+    })
+}
+
+impl MsdbStore {
+    ghost use Rattle.fp_model.specs.Items.{with_item, with_items};
+    ghost use Rattle.msdb_store.specs.Store.{IsFitSegment, IsOf, found, found_after};
+    ghost use Rattle.std.specs.List.{AllByRecursion};
+    ghost use Rattle.std.specs.Option.{option_copied, option_map};
+    ghost use Rattle.std.specs.Prelude.{◌<◌, List as ListOf, OnOk, length};
+    ghost use Rattle.fp_model.specs.declared.definitions.MsdbDef.{MsdbDef as DefOf};
+    ghost use Rattle.fp_model.specs.declared.log.Item.TheVariants.{Segment};
+
+    /// The store of these databases, which are those of the definitions. It fails only for want of memory.
+    pub fn new(alloc: Global, defs: &Defs, msdbs: List<Msdb>) -> Result<MsdbStore, AllocError>
+        requires { AllZip IsMsdbOf defs.now.msdbs msdbs }
+        ensures of { IfOk result (IsOf defs.now.msdbs) }
+        ensures msdbs { IfOk result (λ store. store.msdbs ≡ msdbs) }
+    {
+        let mut tables = Vec::new(alloc);
+        for (def, msdb) in defs.msdbs.as_slice().iter().zip(msdbs.into_vec()) {
+            tables.push(table_of(alloc, def, msdb)?)?;
+        }
+        Ok(MsdbStore { tables })
+    }
+
+    /// The segment of a key in the database of this number. None exactly where there is none. Takes no memory.
+    pub fn look(&self, msdb: u8, key: &[u8]) -> Option<&[u8]>
+        requires { msdb < length self.now.msdbs }
+        ensures { (defs : ListOf DefOf) → IsOf defs self.now → option_copied result ≡ found defs self.now msdb key.now }
+    {
+        self.tables[msdb as usize].look(key)
+    }
+
+    /// The first segment with a greater key, or the first of all, in the database of this number. None exactly where
+    /// there is none. Takes no memory.
+    pub fn after(&self, msdb: u8, key: Option<&[u8]>) -> Option<&[u8]>
+        requires { msdb < length self.now.msdbs }
+        ensures { (defs : ListOf DefOf) → IsOf defs self.now → option_copied result ≡ found_after defs self.now msdb (option_copied key.entry) }
+    {
+        match key {
+            None => self.tables[msdb as usize].first(),
+            Some(key) => self.tables[msdb as usize].above(key),
+        }
+    }
+
+    /// Puts the segments of items in their order; no bytes take a segment away, and other items are left aside. It
+    /// fails only for want of memory. Then the items up to some one are put, and the store is to be thrown away.
+    pub fn apply(&mut self, items: &List<Item>) -> Result<(), AllocError>
+        ensures msdbs { (defs : ListOf DefOf) → IsOf defs self.old → AllByRecursion (IsFitSegment defs) items.now
+            → OnOk result (self.new.msdbs ≡ with_items defs self.old.msdbs items.now) }
+        ensures of { (defs : ListOf DefOf) → IsOf defs self.old → AllByRecursion (IsFitSegment defs) items.now → IsOf defs self.new }
+    {
+        for item in items.as_slice() {
+            self.put_item(item)?;
+        }
+        Ok(())
+    }
+
+    // Puts the segment of one item.
+    fn put_item(&mut self, item: &Item) -> Result<(), AllocError>
+        ensures msdbs { (defs : ListOf DefOf) → IsOf defs self.old → IsFitSegment defs item.now → OnOk result (self.new.msdbs ≡ with_item defs self.old.msdbs item.now) }
+        ensures of { (defs : ListOf DefOf) → IsOf defs self.old → IsFitSegment defs item.now → IsOf defs self.new }
+    {
+        match item {
+            Item::Segment { msdb, key, bytes } => self.put_segment(*msdb, key, bytes),
+            Item::Image { .. } => Ok(()),
+        }
+    }
+
+    // Puts a segment in place of that of its key, or takes that one away where there are no bytes.
+    fn put_segment(&mut self, msdb: u8, key: &Bytes, bytes: &Bytes) -> Result<(), AllocError>
+        ensures msdbs { (defs : ListOf DefOf) → IsOf defs self.old → IsFitSegment defs (Segment msdb key.now bytes.now)
+            → OnOk result (self.new.msdbs ≡ with_item defs self.old.msdbs (Segment msdb key.now bytes.now)) }
+        ensures of { (defs : ListOf DefOf) → IsOf defs self.old → IsFitSegment defs (Segment msdb key.now bytes.now) → IsOf defs self.new }
+    {
+        let at = msdb as usize;
+        if at >= self.tables.len() {
+            return Ok(());
+        }
+        if bytes.is_empty() {
+            self.tables[at].take_away(key.as_slice());
+            return Ok(());
+        }
+        self.tables[at].put(bytes.copy()?)
+    }
+}
