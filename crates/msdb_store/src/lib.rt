@@ -6,3 +6,6 @@ mod store;
 mod table;
 
 pub use store::MsdbStore;
+
+#[cfg(test)]
+mod tests;

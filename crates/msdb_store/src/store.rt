@@ -83,6 +83,7 @@ impl MsdbStore {
         ensures msdbs { (defs : ListOf DefOf) → IsOf defs self.old → AllByRecursion (IsFitSegment defs) items.now
             → OnOk result (self.new.msdbs ≡ with_items defs self.old.msdbs items.now) }
         ensures of { (defs : ListOf DefOf) → IsOf defs self.old → AllByRecursion (IsFitSegment defs) items.now → IsOf defs self.new }
+        ensures count { length self.new.msdbs ≡ length self.old.msdbs }
     {
         for item in items.as_slice() {
             self.put_item(item)?;
@@ -94,6 +95,7 @@ impl MsdbStore {
     fn put_item(&mut self, item: &Item) -> Result<(), AllocError>
         ensures msdbs { (defs : ListOf DefOf) → IsOf defs self.old → IsFitSegment defs item.now → OnOk result (self.new.msdbs ≡ with_item defs self.old.msdbs item.now) }
         ensures of { (defs : ListOf DefOf) → IsOf defs self.old → IsFitSegment defs item.now → IsOf defs self.new }
+        ensures count { length self.new.msdbs ≡ length self.old.msdbs }
     {
         match item {
             Item::Segment { msdb, key, bytes } => self.put_segment(*msdb, key, bytes),
@@ -106,6 +108,7 @@ impl MsdbStore {
         ensures msdbs { (defs : ListOf DefOf) → IsOf defs self.old → IsFitSegment defs (Segment msdb key.now bytes.now)
             → OnOk result (self.new.msdbs ≡ with_item defs self.old.msdbs (Segment msdb key.now bytes.now)) }
         ensures of { (defs : ListOf DefOf) → IsOf defs self.old → IsFitSegment defs (Segment msdb key.now bytes.now) → IsOf defs self.new }
+        ensures count { length self.new.msdbs ≡ length self.old.msdbs }
     {
         let at = msdb as usize;
         if at >= self.tables.len() {
