@@ -1,4 +1,4 @@
-use Rattle.std.proofs.Common.{◌≡◌, ◌+◌, ◌-◌, ◌≤◌, [], ◌∷◌, ◌++◌, length, drop, refl, sym, subst, ◌∙◌, ap, arith}
+use Rattle.std.proofs.Common.{◌+◌, ◌-◌, ◌≤◌, [], ◌∷◌, ◌++◌, length, drop, refl, sym, subst, ◌∙◌, ap, arith}
 use Rattle.fp_model.specs.LogText.{entry_text}
 use Rattle.log_groups.specs.Log.{IsBuffered, entries_in}
 use Rattle.log_groups.proofs.Sealing.{length-body, appended_entries, appended_buffered}
