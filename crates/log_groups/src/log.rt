@@ -217,8 +217,8 @@ impl Log {
     }
 
     /// Makes the spare at least this many bytes. Where it is so large already nothing changes, and no memory is taken.
-    /// Else it fails for want of memory, and where the log would pass the last place of a data set; nothing changes
-    /// then.
+    /// Else it may fail for want of memory, or because the log would pass the last place of a data set; nothing
+    /// changes then.
     pub fn reserve(&mut self, bytes: u64) -> Result<(), AllocError>
         ensures ok { OnOk result (bytes ≤ self.new.spare) }
         ensures sure { bytes ≤ self.old.spare → IsOk result }
@@ -242,8 +242,8 @@ impl Log {
     }
 
     /// Appends an entry and answers its place, counted from 0. Where the spare holds the entry no memory is taken, and
-    /// it is appended. Else it fails for want of memory, and where the log would pass the last place of a data set;
-    /// nothing changes then.
+    /// it is appended. Else it may fail for want of memory, or because the log would pass the last place of a data
+    /// set; nothing changes then.
     pub fn append(&mut self, e: &Entry) -> Result<u64, AllocError>
         requires rules { KeepsRules e.now }
         requires fits { FitsEntry e.now }
