@@ -1,5 +1,6 @@
 pub mod Loop
 pub mod Rules
+pub mod SizeLaws
 pub mod Fields
 pub mod Lists
 pub mod EntryLaws

@@ -14,6 +14,8 @@ mod fault;
 mod laws;
 mod puts;
 mod reading;
+mod room;
+mod sizes;
 mod takes;
 mod writing;
 
@@ -26,10 +28,12 @@ pub use laws::{
 };
 pub use puts::{put_long, put_numbers, put_part, put_short, put_u16, put_u32, put_u64};
 pub use reading::entries;
+pub use sizes::entry_length;
 pub use takes::{
-    byte_of, long_of, numbers_of, part_of, part_text_of, short_of, u16_of, u32_of, u64_of,
+    byte_of, long_of, number_of, numbers_of, part_of, part_text_of, short_of, u16_of, u32_of,
+    u64_of,
 };
-pub use writing::put_entry;
+pub use writing::{put_entry, write_entry};
 
 #[cfg(test)]
 mod tests;

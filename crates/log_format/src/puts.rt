@@ -45,7 +45,7 @@ pub fn put_u64(into: &mut Bytes, n: u64) -> Result<(), AllocError>
 }
 
 /// The bytes of a text, each of them a byte.
-fn slice_of(text: &Bytes) -> &[u8]
+pub(crate) fn slice_of(text: &Bytes) -> &[u8]
     ensures value { result.now ≡ text.now }
     ensures bytes { IsBytes text.now }
 {
@@ -87,7 +87,7 @@ pub fn put_part(into: &mut Bytes, text: &Bytes) -> Result<(), AllocError>
 }
 
 /// The numbers of a list, each of them below 2^64.
-fn items_of(numbers: &List<u64>) -> &[u64]
+pub(crate) fn items_of(numbers: &List<u64>) -> &[u64]
     ensures value { result.now ≡ numbers.now }
     ensures each { AllByRecursion (λ n. n < 2 ^ 64) numbers.now }
 {

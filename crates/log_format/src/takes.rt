@@ -3,8 +3,9 @@
 //! Each takes the front of the bytes and answers the value with what is left behind it. `Bad`: the bytes end
 //! too early. The clause of each says what reading gives in every case but want of memory.
 ghost use Rattle.log_format.specs.Reading.{Gives, byte_at, number_at, part_at, short_at, long_at, part_text_at, many_at, counted_at};
-ghost use Rattle.std.specs.Int.{w16, w32, w64};
-ghost use Rattle.std.specs.Prelude.{◌≡◌};
+ghost use Rattle.fp_model.specs.Spellings.{be64};
+ghost use Rattle.std.specs.Int.{from_be_bytes, w16, w32, w64};
+ghost use Rattle.std.specs.Prelude.{◌≡◌, length};
 
 use crate::fault::ReadError;
 use fp_model::{Bytes, List};
@@ -45,6 +46,17 @@ pub fn u32_of(bytes: &[u8]) -> Result<(u32, &[u8]), ReadError>
     Ok((number, rest))
 }
 
+/// The number that eight bytes spell.
+pub fn number_of(bytes: &[u8]) -> u64
+    requires { length bytes.now ≡ 8 }
+    ensures value { result ≡ from_be_bytes w64 bytes.now }
+    ensures text { be64 result ≡ bytes.now }
+{
+    u64::from_be_bytes([
+        bytes[0], bytes[1], bytes[2], bytes[3], bytes[4], bytes[5], bytes[6], bytes[7],
+    ])
+}
+
 /// A number of eight bytes.
 #[tactic(auto, unfolding(crate::specs::Reading::number_at))]
 pub fn u64_of(bytes: &[u8]) -> Result<(u64, &[u8]), ReadError>
@@ -54,10 +66,7 @@ pub fn u64_of(bytes: &[u8]) -> Result<(u64, &[u8]), ReadError>
         return Err(ReadError::Bad);
     }
     let (front, rest) = bytes.split_at(8);
-    let number = u64::from_be_bytes([
-        front[0], front[1], front[2], front[3], front[4], front[5], front[6], front[7],
-    ]);
-    Ok((number, rest))
+    Ok((number_of(front), rest))
 }
 
 /// So many bytes, copied.

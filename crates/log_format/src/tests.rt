@@ -2,7 +2,7 @@
 ghost use Rattle.fp_model.specs.LogText.{body_text};
 ghost use Rattle.std.specs.Prelude.{◌≡◌, IfOk};
 
-use super::{FormatFault, entries, put_entry};
+use super::{FormatFault, entries, entry_length, put_entry, write_entry};
 use fp_model::{Bytes, Entry, Item, List, Outcome};
 use std::alloc::{AllocError, Global};
 use std::test::Fail;
@@ -52,14 +52,27 @@ fn rewritten(alloc: Global, bytes: &[u8]) -> Result<Bytes, FormatFault>
     Ok(again)
 }
 
+/// Reads entries and writes them again, each into just its room.
+fn written_in_room(alloc: Global, bytes: &[u8]) -> Result<Vec<u8>, FormatFault> {
+    let found = entries(alloc, bytes)?;
+    let mut again = Vec::new(alloc);
+    for e in found.as_slice() {
+        again.reserve_exact(entry_length(e) as usize)?;
+        write_entry(&mut again, e)?;
+    }
+    Ok(again)
+}
+
 /// Whether these bytes, in hexadecimal, are read as this entry alone, and written again.
 fn is_spelled(alloc: Global, text: &str, e: &Entry) -> Result<bool, Fail> {
     let bytes = hex::decode(alloc, text)?;
     let found = entries(alloc, &bytes)?;
     let again = rewritten(alloc, &bytes)?;
+    let in_room = written_in_room(alloc, &bytes)?;
     let mut wanted = List::new(alloc);
     wanted.push(e.clone()?)?;
-    Ok(found == wanted && again == Bytes::from_vec(bytes))
+    let is_in_room = in_room.capacity() == bytes.len() && in_room == bytes;
+    Ok(found == wanted && is_in_room && again == Bytes::from_vec(bytes))
 }
 
 fn segment(alloc: Global, msdb: u8, key: &str, bytes: &str) -> Result<Item, AllocError> {

@@ -7,132 +7,137 @@
 //! | segment | 1, msdb 1, key, length 1, bytes, length 2 |
 //! | image | 2, set 2, interval 8, bytes, length 2 |
 //!
-//! The entry is put together in bytes of its own, so that want of memory leaves the target as it was.
+//! Room for the whole entry is made first. What follows can't fail, so an entry is there whole or not at all.
 ghost use Rattle.fp_model.specs.LogText.{outcome_text, item_text, items_text, rest_text, entry_text, IsOutcome, FitsOutcome, IsItem, FitsItem, IsEntry, FitsEntry, HasSpelling, KeepsRules};
 ghost use Rattle.fp_model.specs.Spellings.{be16, be32, be64};
+ghost use Rattle.log_format.specs.Sizes.{item_size, items_size, outcome_size, rest_size};
 ghost use Rattle.std.specs.List.{AllByRecursion};
-ghost use Rattle.std.specs.Prelude.{◌≡◌, ◌-◌, ◌<◌, ◌≤◌, ◌^◌, ◌++◌, drop, length, OnOk, OnErr};
+ghost use Rattle.std.specs.Prelude.{◌≡◌, ◌+◌, ◌<◌, ◌≤◌, ◌^◌, ◌++◌, IsOk, OnOk, OnErr, length, vec_capacity, vec_len};
 
-use crate::puts::{put_long, put_numbers, put_short, put_u16, put_u32, put_u64};
-use byteorder::{BigEndian, ByteOrder};
+use crate::room::{
+    write_long, write_numbers, write_short, write_u8, write_u16, write_u32, write_u64,
+};
+use crate::sizes::rest_length;
 use fp_model::{Bytes, Entry, Item, List, Outcome};
 use std::alloc::AllocError;
+use std::mem;
 
 #[tactic(auto, using(std::proofs::Common::append_assoc))]
-fn put_outcome(into: &mut Bytes, outcome: &Outcome) -> Result<(), AllocError>
-    requires { FitsOutcome outcome.now }
-    ensures ok { OnOk result (into.new ≡ into.old ++ outcome_text outcome.now) }
-    ensures is_outcome { OnOk result (IsOutcome outcome.now) }
+fn write_outcome(into: &mut Vec<u8>, outcome: &Outcome)
+    requires fits { FitsOutcome outcome.now }
+    requires room { vec_len into.old + outcome_size outcome.now ≤ vec_capacity into.old }
+    ensures items { into.new.items ≡ into.old.items ++ outcome_text outcome.now }
+    ensures len { vec_len into.new ≡ vec_len into.old + outcome_size outcome.now }
+    ensures capacity { vec_capacity into.old ≤ vec_capacity into.new }
+    ensures is_outcome { IsOutcome outcome.now }
 {
     match outcome {
-        Outcome::Done => into.push(0),
+        Outcome::Done => write_u8(into, 0),
         Outcome::Verify { call, fsa, found } => {
-            into.push(1)?;
-            put_u32(into, *call)?;
-            put_u16(into, *fsa)?;
-            put_long(into, found)
+            write_u8(into, 1);
+            write_u32(into, *call);
+            write_u16(into, *fsa);
+            write_long(into, found);
         }
         Outcome::Roll(code) => {
-            into.push(2)?;
-            put_u16(into, *code)
+            write_u8(into, 2);
+            write_u16(into, *code);
         }
         Outcome::SeqFull { set, begin, end, n } => {
-            into.push(3)?;
-            put_u16(into, *set)?;
-            put_u64(into, *begin)?;
-            put_u64(into, *end)?;
-            put_u64(into, *n)
+            write_u8(into, 3);
+            write_u16(into, *set);
+            write_u64(into, *begin);
+            write_u64(into, *end);
+            write_u64(into, *n);
         }
         Outcome::Deadlock(cycle) => {
-            into.push(4)?;
-            put_short(into, cycle)
+            write_u8(into, 4);
+            write_short(into, cycle);
         }
-        Outcome::Device => into.push(5),
-        Outcome::Memory => into.push(6),
-        Outcome::Unknown => into.push(7),
+        Outcome::Device => write_u8(into, 5),
+        Outcome::Memory => write_u8(into, 6),
+        Outcome::Unknown => write_u8(into, 7),
         Outcome::Purge { set, n } => {
-            into.push(8)?;
-            put_u16(into, *set)?;
-            put_u64(into, *n)
+            write_u8(into, 8);
+            write_u16(into, *set);
+            write_u64(into, *n);
         }
     }
 }
 
 #[tactic(auto, using(std::proofs::Common::append_assoc))]
-fn put_item(into: &mut Bytes, item: &Item) -> Result<(), AllocError>
-    requires { FitsItem item.now }
-    ensures ok { OnOk result (into.new ≡ into.old ++ item_text item.now) }
-    ensures is_item { OnOk result (IsItem item.now) }
+fn write_item(into: &mut Vec<u8>, item: &Item)
+    requires fits { FitsItem item.now }
+    requires room { vec_len into.old + item_size item.now ≤ vec_capacity into.old }
+    ensures items { into.new.items ≡ into.old.items ++ item_text item.now }
+    ensures len { vec_len into.new ≡ vec_len into.old + item_size item.now }
+    ensures capacity { vec_capacity into.old ≤ vec_capacity into.new }
+    ensures is_item { IsItem item.now }
 {
     match item {
         Item::Segment { msdb, key, bytes } => {
-            into.push(1)?;
-            into.push(*msdb)?;
-            put_short(into, key)?;
-            put_long(into, bytes)
+            write_u8(into, 1);
+            write_u8(into, *msdb);
+            write_short(into, key);
+            write_long(into, bytes);
         }
         Item::Image { set, ci, bytes } => {
-            into.push(2)?;
-            put_u16(into, *set)?;
-            put_u64(into, *ci)?;
-            put_long(into, bytes)
+            write_u8(into, 2);
+            write_u16(into, *set);
+            write_u64(into, *ci);
+            write_long(into, bytes);
         }
     }
 }
 
-fn put_items(into: &mut Bytes, items: &List<Item>) -> Result<(), AllocError>
+fn write_items(into: &mut Vec<u8>, items: &List<Item>)
     requires count { length items.now < 2 ^ 32 }
     requires each { AllByRecursion FitsItem items.now }
-    ensures ok { OnOk result (into.new ≡ into.old ++ items_text items.now) }
-    ensures are_items { OnOk result (AllByRecursion IsItem items.now) }
+    requires room { vec_len into.old + items_size items.now ≤ vec_capacity into.old }
+    ensures items { into.new.items ≡ into.old.items ++ items_text items.now }
+    ensures are_items { AllByRecursion IsItem items.now }
+    ensures capacity { vec_capacity into.old ≤ vec_capacity into.new }
 {
-    put_u32(into, items.len() as u32)?;
+    write_u32(into, items.len() as u32);
     for item in items.as_slice() {
-        put_item(into, item)?;
+        write_item(into, item);
     }
-    Ok(())
 }
 
 #[tactic(auto, using(std::proofs::Common::append_assoc))]
-fn put_rest(into: &mut Bytes, e: &Entry) -> Result<(), AllocError>
-    requires { FitsEntry e.now }
-    ensures ok { OnOk result (into.new ≡ into.old ++ rest_text e.now) }
-    ensures is_entry { OnOk result (IsEntry e.now) }
+fn write_rest(into: &mut Vec<u8>, e: &Entry)
+    requires fits { FitsEntry e.now }
+    requires room { vec_len into.old + rest_size e.now ≤ vec_capacity into.old }
+    ensures items { into.new.items ≡ into.old.items ++ rest_text e.now }
+    ensures is_entry { IsEntry e.now }
+    ensures capacity { vec_capacity into.old ≤ vec_capacity into.new }
 {
-    put_u64(into, e.from)?;
-    put_outcome(into, &e.outcome)?;
-    put_long(into, &e.line)?;
-    put_long(into, &e.reply)?;
-    put_numbers(into, &e.notes)?;
-    put_items(into, &e.items)
+    write_u64(into, e.from);
+    write_outcome(into, &e.outcome);
+    write_long(into, &e.line);
+    write_long(into, &e.reply);
+    write_numbers(into, &e.notes);
+    write_items(into, &e.items);
 }
 
-/// How many bytes an item has in the log.
-fn item_room(item: &Item) -> usize {
-    match item {
-        Item::Segment { key, bytes, .. } => key.len().saturating_add(bytes.len()).saturating_add(5),
-        Item::Image { bytes, .. } => bytes.len().saturating_add(13),
-    }
-}
+/// Appends the one spelling of an entry. Where there is room for it, no memory is taken and the answer is Ok.
+pub fn write_entry(into: &mut Vec<u8>, e: &Entry) -> Result<(), AllocError>
+    requires rules { KeepsRules e.now }
+    requires fits { FitsEntry e.now }
 
-/// About as many bytes as an entry has in the log, so that its text is allocated once.
-fn room_for(e: &Entry) -> usize {
-    let mut room = e.line.len().saturating_add(e.reply.len());
-    room = room.saturating_add(e.notes.len().saturating_mul(8));
-    for item in e.items.as_slice() {
-        room = room.saturating_add(item_room(item));
-    }
-    room.saturating_add(64)
-}
+    ensures ok { OnOk result (into.new.items ≡ into.old.items ++ entry_text e.now) }
+    ensures spelled { OnOk result (HasSpelling e.now) }
 
-/// Puts the length of the rest into the eight bytes in front.
-#[tactic(auto, unfolding(fp_model::specs::Spellings::be64))]
-fn set_length(text: &mut [u8])
-    requires { 8 ≤ length text.old }
-    ensures { text.new ≡ be64 (length text.old - 8) ++ drop 8 text.old }
+    // Only where there is no room it may fail. Then nothing changes.
+    ensures sure { vec_len into.old + length (entry_text e.now) ≤ vec_capacity into.old → IsOk result }
+    ensures err { OnErr result (into.new.items ≡ into.old.items) }
+    ensures capacity { vec_capacity into.old ≤ vec_capacity into.new }
 {
-    let rest = (text.len() - 8) as u64;
-    BigEndian::write_u64(text, rest);
+    let rest = rest_length(e);
+    into.reserve(8 + rest as usize)?;
+    write_u64(into, rest);
+    write_rest(into, e);
+    Ok(())
 }
 
 /// Appends the one spelling of an entry.
@@ -147,11 +152,8 @@ pub fn put_entry(into: &mut Bytes, e: &Entry) -> Result<(), AllocError>
     ensures err { OnErr result (into.new ≡ into.old) }
 {
     let empty: List<u8> = e.notes.empty_like();
-    let empty = empty.into_vec();
-    let mut text = Bytes::from_vec(Vec::with_capacity(*empty.allocator(), room_for(e))?);
-    text.append(&[0; 8])?;
-    put_rest(&mut text, e)?;
-    let mut text = text.into_vec();
-    set_length(&mut text);
-    into.append(&text)
+    let mut bytes = mem::replace(into, Bytes::from_vec(empty.into_vec())).into_vec();
+    let written = write_entry(&mut bytes, e);
+    *into = Bytes::from_vec(bytes);
+    written
 }

@@ -8,25 +8,13 @@ use Rattle.fp_model.specs.Spellings.{be32, part_text}
 use Rattle.fp_model.specs.LogText.{Front, StartsWithFront, front_text, front_rest, first_gate}
 use Rattle.fp_site.specs.Disk.{Disk, Snapshot, Torn, IsDurable, Differs, Settles, Tears, Syncs, Elapses, Leaves, Stays, IsLawful, written, covers}
 use Rattle.fp_site.specs.Moments.{Through, OnlyOn}
-use Rattle.fp_site.proofs.Images.{torn_from, torn_now, torn_settles, durable_stays}
-use Rattle.fp_site.proofs.Runs.{started, goes_on, stays_on, joined, weaker, elapses_weaker}
-use Rattle.fp_site.proofs.Frames.{Anyhow, only_none, only_more}
+use Rattle.fp_site.proofs.Images.{torn_from, torn_now, torn_settles, durable_settles, durable_stays, settles_left, settles_contents}
+use Rattle.fp_site.proofs.Runs.{started, goes_on, stays_on, joined, weaker}
+use Rattle.fp_site.proofs.Frames.{only_none, only_more, only_stays, only_with}
 use Rattle.log_format.proofs.Fields.{length-be32}
-use Rattle.log_groups.specs.Images.{IsLog, IsAtRest, IsShut, IsShutGate, IsOpenGate, IsBeforeOrShut, IsBeforeOrMade, IsGated, IsOpened}
+use Rattle.log_groups.specs.Images.{IsLog, IsAtRest, IsShut, IsShutGate, IsOpenGate, HasNoFront, IsBeforeOrShut, IsBeforeOrMade, IsSameOrShut, IsSameOrMade, IsGated, IsOpened}
 use Rattle.log_groups.proofs.LogImages.{head_is, log_of}
 use Rattle.log_groups.proofs.GatedWrites.{written_is}
-
--- ---- runs on one data set
-
--- a call that changes nothing, after a run on one data set
-pub only_stays : (set : ℕ) (old mid new : Disk) → IsLawful old → IsLawful mid → OnlyOn set old mid → Stays mid new → OnlyOn set old new
-only_stays set old mid new law law2 so_far stays =
-    only_more set old mid new Anyhow law law2 so_far (record { contents = λ k ne. ap (λ f. f k) stays.contents; sent = stays.sent })
-    (elapses_weaker mid new mid.may_leave (Differs mid set Anyhow) (λ s now. record { before = s; left = now; this = tt; others = λ k ne. refl; sent = λ told. refl }) stays.crash)
-
--- one run on a data set after another
-pub only_joined : (set : ℕ) (old mid new : Disk) → IsLawful old → IsLawful mid → OnlyOn set old mid → OnlyOn set mid new → OnlyOn set old new
-only_joined set old mid new law law2 first second = only_more set old mid new Anyhow law law2 first second.now second.crash
 
 -- ---- fronts
 
@@ -43,20 +31,10 @@ pub length-front : (front : Front) → length (front_rest front) ≡ 8 + (4 + le
 length-front front =
     omega (arith, length-append (part_text front.defs) (part_text front.scripts), length-append (be32 (length front.defs)) front.defs, length-append (be32 (length front.scripts)) front.scripts, length-be32 (length front.defs), length-be32 (length front.scripts))
 
--- ---- what a sync may leave
-
--- what a crash may leave of a data set, a sync may leave too
-pub settles_left : (h : Disk) (set : ℕ) (s : Snapshot) → h.may_leave s → Settles h set (s.images set)
-settles_left h set s left = record { bytes = λ i byte all. all s left; no_shorter = λ n all. all s left; no_longer = λ n all. all s left }
-
--- and so it may what a read gives
-pub settles_contents : (h : Disk) (set : ℕ) → IsLawful h → Settles h set (h.contents set)
-settles_contents h set law = subst (λ f. Settles h set (f set)) law.stands.2 (settles_left h set law.stands.0 law.stands.1)
-
 -- ---- closing the gate
 
 -- what a crash leaves of a write of the gate
-torn_gate : (old c : List ℕ) → IsOpenGate old → Torn 0 1 old c → (c ≡ old) ⊎ ((front : Front) → StartsWithFront c front → ⊥)
+torn_gate : (old c : List ℕ) → IsOpenGate old → Torn 0 1 old c → (c ≡ old) ⊎ HasNoFront c
 torn_gate old c (inl none) torn = inr (λ front begins. let long = begins_long front c begins in let short = torn.no_longer in omega (arith, none))
 torn_gate [] c (inr is_open) torn = inr (λ front begins. let long = begins_long front c begins in let short = torn.no_longer in omega arith)
 torn_gate (x ∷ xs) c (inr is_open) torn = elim (cases_eq (get_or c 0 0) 1) [
@@ -94,7 +72,7 @@ module _ (h h1 : Disk) (law : IsLawful h) (law1 : IsLawful h1) (leaves1 : Leaves
       shut_already gate = record { durable = durable2; gate = subst IsShutGate (sym (ap (λ f. f 0) stays.contents)) gate }
 
       -- an image with a torn gate
-      torn_image : (c : List ℕ) → IsOpenGate (h1.contents 0) → Torn 0 1 (h2.contents 0) c → Settles h 0 c ⊎ ((front : Front) → StartsWithFront c front → ⊥)
+      torn_image : (c : List ℕ) → IsOpenGate (h1.contents 0) → Torn 0 1 (h2.contents 0) c → Settles h 0 c ⊎ HasNoFront c
       torn_image c gate torn = ⊎_elim (λ same. inl (subst (Settles h 0) (sym (same ∙ same2)) (settles_contents h 0 law))) (λ no. inr no)
           (torn_gate (h2.contents 0) c (subst IsOpenGate (sym (ap (λ f. f 0) stays.contents)) gate) torn)
 
@@ -168,3 +146,25 @@ module _ (front : Front) (h a b : Disk) (law : IsLawful h) (law1 : IsLawful a) w
   once_made run shut more =
       joined (IsBeforeOrMade h front) h a b (once_shut run)
       (weaker (IsGated (a.contents 0) 0 (front_rest front ++ 0 ∷ [])) (IsBeforeOrMade h front) a b (λ s p. made_image h front (a.contents 0) s shut.gate p) more)
+
+-- ---- from a log that a sync had left
+
+-- what a sync may leave of it is the log itself
+same_or_shut : (h : Disk) (c : List ℕ) → IsDurable h 0 → Settles h 0 c ⊎ HasNoFront c → IsSameOrShut (h.contents 0) c
+same_or_shut h c durable p = ⊎_elim (λ settles. inl (durable_settles h 0 c durable settles)) (λ no. inr no) p
+
+-- so at every moment of closing its gate,
+pub shut_kept : (h a : Disk) → IsLawful h → IsDurable h 0 → OnlyOn 0 h a → Through h a (IsBeforeOrShut h) → Through h a (Differs h 0 IsSameOrShut)
+shut_kept h a law durable only run = only_with 0 h a (λ c. Settles h 0 c ⊎ HasNoFront c) IsSameOrShut law durable (λ c p. same_or_shut h c durable p) only run
+
+-- and of making a new log
+pub made_kept : (front : Front) (h b : Disk) → IsLawful h → IsDurable h 0 → OnlyOn 0 h b → Through h b (IsBeforeOrMade h front) → Through h b (Differs h 0 (IsSameOrMade front))
+made_kept front h b law durable only run =
+    only_with 0 h b (λ c. (Settles h 0 c ⊎ HasNoFront c) ⊎ IsLog front c [] (first_gate front)) (IsSameOrMade front) law durable
+    (λ c p. ⊎_elim (λ q. inl (same_or_shut h c durable q)) (λ log. inr log) p) only run
+
+-- a log that was shut begins with no open front until it is made
+pub shut_stays : (front : Front) (before now : List ℕ) → IsShutGate before → IsSameOrMade front before now → HasNoFront now ⊎ IsLog front now [] (first_gate front)
+shut_stays front before now shut (inl (inl same)) = inl (λ other begins. shut.gate (ap (λ l. slice_index l 0) (sym same) ∙ begins_open other now begins))
+shut_stays front before now shut (inl (inr none)) = inl none
+shut_stays front before now shut (inr log) = inr log

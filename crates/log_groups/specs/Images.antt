@@ -84,10 +84,22 @@ pub record IsShut (disk : Disk) : Type 0 where
   pub durable : IsDurable disk 0
   pub gate : IsShutGate (disk.contents 0)
 
+-- bytes that begin with no open front, so that no log is opened
+abbrev pub HasNoFront : List ℕ → Type 0
+HasNoFront bytes = (front : Front) → StartsWithFront bytes front → ⊥
+
 -- The log that a crash left is as a sync might have left it at the start, or begins with no open front.
 abbrev pub IsBeforeOrShut : Disk → Snapshot → Type 0
-IsBeforeOrShut start s = Settles start 0 (s.images 0) ⊎ ((front : Front) → StartsWithFront (s.images 0) front → ⊥)
+IsBeforeOrShut start s = Settles start 0 (s.images 0) ⊎ HasNoFront (s.images 0)
 
 -- the same, or it is this front's new log, with no groups
 abbrev pub IsBeforeOrMade : Disk → Front → Snapshot → Type 0
 IsBeforeOrMade start front s = IsBeforeOrShut start s ⊎ IsLog front (s.images 0) [] (first_gate front)
+
+-- The log is what it was, or begins with no open front.
+abbrev pub IsSameOrShut : List ℕ → List ℕ → Type 0
+IsSameOrShut before now = (now ≡ before) ⊎ HasNoFront now
+
+-- the same, or it is this front's new log, with no groups
+abbrev pub IsSameOrMade : Front → List ℕ → List ℕ → Type 0
+IsSameOrMade front before now = IsSameOrShut before now ⊎ IsLog front now [] (first_gate front)

@@ -4,26 +4,30 @@ ghost use Rattle.fp_site.specs.Disk.{Disk, IsDurable};
 ghost use Rattle.fp_site.specs.Moments.{OnlyOn, Through};
 ghost use Rattle.fp_site.specs.Site.{Counts, ReadsNothing};
 ghost use Rattle.log_groups.specs.Images.{IsGated, IsOpened};
-ghost use Rattle.fp_model.specs.LogText.{HasSpelling, body_text};
-ghost use Rattle.fp_model.specs.declared.log.Entry.{Entry};
+ghost use Rattle.fp_model.specs.LogText.{FitsEntry, HasSpelling, KeepsRules, body_text, entry_text};
+ghost use Rattle.fp_model.specs.declared.log.Entry.{Entry as EntryOf};
 ghost use Rattle.log_groups.specs.Log.{HasEntries, part_text};
 ghost use Rattle.std.specs.List.{AllByRecursion};
 ghost use Rattle.std.specs.Prelude.{◌≡◌, ◌⊎◌, ◌+◌, ◌-◌, ◌<◌, ◌≤◌, ◌^◌, ◌∷◌, ◌++◌, ℕ, [], List as ListOf, OnOk, drop, length, slice_index, slice_set, take, vec_capacity, vec_len};
 
 use crate::gated::write_gated;
-use crate::group::number_of;
 use byteorder::{BigEndian, ByteOrder};
+use fp_model::Entry;
 use fp_site::{Failed, Site};
+use log_format::{number_of, write_entry};
 
-// Puts a text before the closed gate at the end, where there is room.
-pub(crate) fn put_text(buffer: &mut Vec<u8>, text: &[u8])
+// Puts an entry before the closed gate at the end, where there is room.
+pub(crate) fn add_entry(buffer: &mut Vec<u8>, e: &Entry)
+    requires rules { KeepsRules e.now }
+    requires fits { FitsEntry e.now }
     requires some { 1 ≤ length buffer.old.items }
-    requires room { vec_len buffer.old + length text.now ≤ vec_capacity buffer.old }
-    ensures items { (front : ListOf ℕ) → buffer.old.items ≡ front ++ 0 ∷ [] → buffer.new.items ≡ front ++ text.now ++ 0 ∷ [] }
+    requires room { vec_len buffer.old + length (entry_text e.now) ≤ vec_capacity buffer.old }
+    ensures items { (front : ListOf ℕ) → buffer.old.items ≡ front ++ 0 ∷ [] → buffer.new.items ≡ front ++ entry_text e.now ++ 0 ∷ [] }
+    ensures spelled { HasSpelling e.now }
     ensures capacity { vec_capacity buffer.old ≤ vec_capacity buffer.new }
 {
     let _ = buffer.pop();
-    let _ = buffer.extend_from_slice(text);
+    let _ = write_entry(buffer, e);
     let _ = buffer.push(0);
 }
 
@@ -107,7 +111,7 @@ pub(crate) fn end_of(buffer: &[u8], start: usize, count: usize) -> usize
     requires { HasEntries buffer.now start count }
     ensures start { start ≤ result }
     ensures inside { result < length buffer.now }
-    ensures rest { (entries : ListOf Entry) → AllByRecursion HasSpelling entries → count ≤ length entries
+    ensures rest { (entries : ListOf EntryOf) → AllByRecursion HasSpelling entries → count ≤ length entries
         → drop start buffer.now ≡ body_text entries ++ 0 ∷ []
         → drop result buffer.now ≡ body_text (drop count entries) ++ 0 ∷ [] }
 {
@@ -123,7 +127,7 @@ fn next_end(buffer: &[u8], at: usize) -> usize
     requires { HasEntries buffer.now at 1 }
     ensures later { at ≤ result }
     ensures inside { result < length buffer.now }
-    ensures rest { (e : Entry) (entries : ListOf Entry) → HasSpelling e
+    ensures rest { (e : EntryOf) (entries : ListOf EntryOf) → HasSpelling e
         → drop at buffer.now ≡ body_text (e ∷ entries) ++ 0 ∷ []
         → drop result buffer.now ≡ body_text entries ++ 0 ∷ [] }
 {

@@ -8,10 +8,9 @@ ghost use Rattle.log_groups.specs.declared.fault.LogFault.TheVariants as faults;
 ghost use Rattle.std.specs.Prelude.{◌≡◌, ◌≢◌, ◌⊎◌, ◌+◌, ◌-◌, ◌<◌, ◌≤◌, ◌^◌, ℕ, IfNone, IfOk, IfSome, IsErrOf, drop, length, slice_index, take, true, false};
 
 use crate::LogFault;
-use byteorder::{BigEndian, ByteOrder};
 use fp_model::{Entry, List};
 use fp_site::{Failed, Site};
-use log_format::{FormatFault, entries};
+use log_format::{FormatFault, entries, number_of};
 use std::alloc::Global;
 
 /// A group of the log.
@@ -39,14 +38,6 @@ fn is_open<S: Site>(site: &mut S, at: u64) -> Result<bool, Failed>
     let mut gate = [0u8];
     site.read_at(0, at, &mut gate)?;
     Ok(gate[0] == 1)
-}
-
-// The number that these bytes spell.
-pub(crate) fn number_of(bytes: &[u8]) -> u64
-    requires { length bytes.now ≡ 8 }
-    ensures { be64 result ≡ bytes.now }
-{
-    BigEndian::read_u64(bytes)
 }
 
 // The length of the body behind the gate at this place; None where it is 0, cut short, or passes the log's end.

@@ -7,9 +7,9 @@
 //! | end | a gate that isn't 1; bytes behind it mean nothing |
 //!
 //! A group counts where its gate is 1. Between calls (`IsAtRest`) the last gate is closed, in the data set and in
-//! all that a crash may leave. `seal` writes length, body and next gate, syncs, opens the gate, syncs. `make`
-//! closes the front's gate, writes the rest of the front and the first gate, syncs, opens the front's gate, syncs.
-//! After a failure the log must be opened again.
+//! all that a crash may leave. `seal` writes length, body and next gate, syncs, opens the gate, syncs. `shut` closes
+//! the front's gate. `make` does so too, writes the rest of the front and the first gate, syncs, opens the front's
+//! gate, syncs. After a failure the log must be opened again.
 #![tactic(auto)]
 
 mod buffer;

@@ -2,21 +2,21 @@
 ghost use Rattle.fp_model.specs.Groups.{IsDamaged};
 ghost use Rattle.fp_model.specs.LogText.{FitsEntry, FitsFront, Front as FrontOf, KeepsRules, StartsWithFront, body_text, entry_text, first_gate};
 ghost use Rattle.fp_model.specs.declared.log.Entry.{Entry as EntryOf};
-ghost use Rattle.fp_site.specs.Disk.{Disk, Stays};
+ghost use Rattle.fp_site.specs.Disk.{Differs, Disk, IsDurable, Stays};
 ghost use Rattle.fp_site.specs.Moments.{OnlyOn, Through};
 ghost use Rattle.fp_site.specs.Site.{Counts, ReadsNothing};
-ghost use Rattle.log_groups.specs.Images.{IsAtRest, IsBeforeOrAfter, IsBeforeOrMade, texts_of, with_group};
+ghost use Rattle.log_groups.specs.Images.{IsAtRest, IsBeforeOrAfter, IsBeforeOrMade, IsBeforeOrShut, IsSameOrMade, IsSameOrShut, IsShut, texts_of, with_group};
 ghost use Rattle.log_groups.specs.Reads.{HasGroup, ReadsOnlyLog};
 ghost use Rattle.log_groups.specs.declared.fault.LogFault.TheVariants as faults;
-ghost use Rattle.std.specs.Prelude.{◌≡◌, ◌≢◌, ◌⊎◌, ◌+◌, ◌-◌, ◌*◌, ◌<◌, ◌≤◌, ◌^◌, ◌∷◌, ◌++◌, ℕ, [], IfNone, IfOk, IfSome, IsErrOf, List as ListOf, OnErr, OnOk, drop, length, min, slice_index, take};
+ghost use Rattle.std.specs.Prelude.{◌≡◌, ◌≢◌, ◌⊎◌, ◌+◌, ◌-◌, ◌*◌, ◌<◌, ◌≤◌, ◌^◌, ◌∷◌, ◌++◌, ℕ, [], IfNone, IfOk, IfSome, IsErrOf, IsOk, List as ListOf, OnErr, OnOk, drop, length, min, slice_index, take};
 
-use crate::buffer::{end_of, move_down, put_text, seal_part};
+use crate::buffer::{add_entry, end_of, move_down, seal_part};
 use crate::group::read_group;
 use crate::opening::begins_with;
 use crate::{Front, Group, LogFault, SealFault, making};
-use fp_model::{Bytes, Entry};
-use fp_site::Site;
-use log_format::put_entry;
+use fp_model::Entry;
+use fp_site::{Failed, Site};
+use log_format::entry_length;
 use std::alloc::{AllocError, Global};
 use std::marker::Model;
 
@@ -78,6 +78,30 @@ impl Log {
         self.spare as u64
     }
 
+    /// Closes the log: from then on no crash leaves an open front, until a new log is made. Who writes other data sets
+    /// before the new log closes the old one so. A gate that is there and isn't open is not written again. Fails only
+    /// with the site. Takes no memory.
+    pub fn shut<T: Site>(site: &mut T) -> Result<(), Failed>
+        ensures shut { T.told site.old → OnOk result (IsShut (T.disk site.new)) }
+        ensures cause { Counts (T.faults site.old) (T.faults site.new) result }
+
+        // No other data set changes or is read, and nothing is sent.
+        ensures only { T.told site.old → OnlyOn 0 (T.disk site.old) (T.disk site.new) }
+        ensures reads { ReadsOnlyLog (T.tells_reads site.old) (T.tells_reads site.new) (T.bytes_read site.old) (T.bytes_read site.new) }
+        ensures told { T.told site.old → T.told site.new }
+        ensures holds { T.holds site.new ≡ T.holds site.old }
+        ensures keeps { (first : T) → T.keeps first site.old → T.keeps first site.new }
+
+        // A crash at any moment leaves the log as a sync might have left it before, or with no open front.
+        ensures crash { T.told site.old → Through (T.disk site.old) (T.disk site.new) (IsBeforeOrShut (T.disk site.old)) }
+
+        // Where a sync had left the log, it leaves it so, or with no open front, and all else as before.
+        ensures kept { T.told site.old → IsDurable (T.disk site.old) 0 →
+            Through (T.disk site.old) (T.disk site.new) (Differs (T.disk site.old) 0 IsSameOrShut) }
+    {
+        making::shut(site)
+    }
+
     /// Writes a new log with this front and no groups: the front's gate is closed first, and opened last. Fails only
     /// with the site and for want of memory.
     pub fn make<T: Site>(alloc: Global, site: &mut T, front: &Front) -> Result<(), LogFault>
@@ -96,6 +120,10 @@ impl Log {
 
         // A crash at any moment leaves the log as a sync might have left it before, or with no open front, or made.
         ensures crash { T.told site.old → Through (T.disk site.old) (T.disk site.new) (IsBeforeOrMade (T.disk site.old) (texts_of front.now)) }
+
+        // Where a sync had left the log, it leaves it so, or with no open front, or made, and all else as before.
+        ensures kept { T.told site.old → IsDurable (T.disk site.old) 0 →
+            Through (T.disk site.old) (T.disk site.new) (Differs (T.disk site.old) 0 (IsSameOrMade (texts_of front.now))) }
     {
         making::make(alloc, site, front)
     }
@@ -188,10 +216,13 @@ impl Log {
         self.start = 8;
     }
 
-    /// Makes the spare at least this many bytes. It fails only for want of memory, and where the log would pass the
-    /// last place of a data set.
+    /// Makes the spare at least this many bytes. Where it is so large already nothing changes, and no memory is taken.
+    /// Else it may fail for want of memory, or because the log would pass the last place of a data set; nothing
+    /// changes then.
     pub fn reserve(&mut self, bytes: u64) -> Result<(), AllocError>
         ensures ok { OnOk result (bytes ≤ self.new.spare) }
+        ensures sure { bytes ≤ self.old.spare → IsOk result }
+        ensures err { OnErr result (self.new ≡ self.old) }
         ensures spare { self.old.spare ≤ self.new.spare }
         ensures same { self.new ≡ record { sealed = self.old.sealed; gate = self.old.gate; unsealed = self.old.unsealed; spare = self.new.spare } }
     {
@@ -210,25 +241,27 @@ impl Log {
         Ok(())
     }
 
-    /// Appends an entry and answers its place, counted from 0. It fails only for want of memory, and where the log
-    /// would pass the last place of a data set; no entry is appended then. An entry is put together in memory of its
-    /// own first, so an append can fail where the spare would hold it.
+    /// Appends an entry and answers its place, counted from 0. Where the spare holds the entry no memory is taken, and
+    /// it is appended. Else it may fail for want of memory, or because the log would pass the last place of a data
+    /// set; nothing changes then.
     pub fn append(&mut self, e: &Entry) -> Result<u64, AllocError>
         requires rules { KeepsRules e.now }
         requires fits { FitsEntry e.now }
         ensures ok { OnOk result (self.new.unsealed ≡ self.old.unsealed ++ e.now ∷ []) }
         ensures place { IfOk result (λ place. place ≡ self.old.sealed + length self.old.unsealed) }
-        ensures err { OnErr result (self.new.unsealed ≡ self.old.unsealed) }
+        ensures sure { length (entry_text e.now) ≤ self.old.spare → IsOk result }
+
+        // What stays. A refusal changes nothing.
+        ensures err { OnErr result (self.new ≡ self.old) }
         ensures spare { self.old.spare ≤ self.new.spare + length (entry_text e.now) }
         ensures sealed { self.new.sealed ≡ self.old.sealed }
         ensures gate { self.new.gate ≡ self.old.gate }
     {
         let place = self.count();
-        let mut text = Bytes::new(*self.buffer.allocator());
-        put_entry(&mut text, e)?;
-        self.reserve(text.len() as u64)?;
-        put_text(&mut self.buffer, text.as_slice());
-        self.spare -= text.len();
+        let len = entry_length(e);
+        self.reserve(len)?;
+        add_entry(&mut self.buffer, e);
+        self.spare -= len as usize;
         self.waiting += 1;
         Ok(place)
     }

@@ -49,12 +49,12 @@ pub(crate) fn shut<S: Site>(site: &mut S) -> Result<(), Failed>
     // A crash at any moment leaves the log as a sync might have left it before, or shut.
     ensures crash { S.told site.old → Through (S.disk site.old) (S.disk site.new) (IsBeforeOrShut (S.disk site.old)) }
 {
-    site.sync(0)?;
+    site.sync(0)?; // what is looked at is what a crash leaves
     if is_shut(site)? {
         return Ok(());
     }
     site.write_at(0, 0, &[0])?;
-    site.sync(0)?;
+    site.sync(0)?; // and now every crash leaves it shut
     Ok(())
 }
 

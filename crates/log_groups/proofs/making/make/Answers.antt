@@ -2,8 +2,9 @@ use Rattle.std.proofs.Common.{◌≡◌, [], ◌∷◌, ◌++◌, length, subst,
 use Rattle.std.proofs.lemmas.List.{length-append}
 use Rattle.fp_model.specs.LogText.{front_rest}
 use Rattle.fp_site.specs.Moments.{Through}
+use Rattle.fp_site.proofs.Frames.{only_joined}
 use Rattle.log_groups.specs.Images.{IsGated, IsOpened, texts_of}
-use Rattle.log_groups.proofs.Shutting.{length-front, only_joined, once_made, made_log}
+use Rattle.log_groups.proofs.Shutting.{length-front, once_made, made_log}
 use Rattle.log_groups.proofs.making.make.Goals as goal
 
 -- the front fits in a data set
