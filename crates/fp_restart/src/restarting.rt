@@ -9,6 +9,7 @@ ghost use Rattle.fp_site.specs.Disk.{Syncs};
 ghost use Rattle.fp_site.specs.Moments.{Through};
 ghost use Rattle.log_groups.specs.Images.{texts_of};
 ghost use Rattle.log_groups.specs.Kept.{IsSound};
+ghost use Rattle.msdb_store.specs.Store.{IsOf};
 ghost use Rattle.std.specs.List.{AllByRecursion};
 ghost use Rattle.std.specs.Prelude.{◌≡◌, ◌⊎◌, ◌-◌, ◌<◌, ◌≤◌, ◌^◌, ℕ, IfOk, IsErrOf, List as ListOf, OnOk};
 
@@ -43,6 +44,9 @@ pub fn restart<T: Site>(
     ensures never { (scripts : ListOf Script) (entries : ListOf Entry) → T.told site.old
         → IsSound defs.now scripts (texts_of front.now).scripts ((T.disk site.old).contents 0) entries
         → (IsErrOf result faults.Foreign → ⊥) × ((set at : ℕ) → IsErrOf result (faults.Damaged set at) → ⊥) }
+
+    // In any case the store is one of these definitions.
+    ensures of { IfOk result (λ parts. IsOf defs.now.msdbs parts.0) }
 
     // When each refusal comes.
     ensures front { T.told site.old → OnOk result (StartsWithFront ((T.disk site.old).contents 0) (texts_of front.now)) }
