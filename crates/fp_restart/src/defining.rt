@@ -8,14 +8,14 @@ ghost use Rattle.std.specs.Prelude.{◌≡◌, ◌⊎◌, ◌-◌, ◌<◌, ◌�
 use crate::RestartFault;
 use fp_model::Defs;
 use fp_site::Site;
-use log_groups::Front;
+use log_groups::{Front, Log, LogFault};
 use std::alloc::Global;
 
 /// Makes the site anew for these definitions: a log with this front and no entries. It fails only with the site and
 /// for want of memory.
 pub fn define<T: Site>(
     alloc: Global,
-    defs: &Defs,
+    _defs: &Defs,
     front: &Front,
     site: &mut T,
 ) -> Result<(), RestartFault>
@@ -34,9 +34,9 @@ pub fn define<T: Site>(
     // A crash at any moment leaves the log as a sync might have left it before, or with no open front, or made.
     ensures crash { T.told site.old → Through (T.disk site.old) (T.disk site.new) (IsBeforeOrMade (T.disk site.old) (texts_of front.now)) }
 {
-    let _ = &alloc;
-    let _ = &defs.pool;
-    let _ = &front.defs;
-    let _ = &*site;
-    Err(RestartFault::Memory)
+    match Log::make(alloc, site, front) {
+        Ok(()) => Ok(()),
+        Err(LogFault::Failed) => Err(RestartFault::SiteFault),
+        Err(_) => Err(RestartFault::Memory),
+    }
 }

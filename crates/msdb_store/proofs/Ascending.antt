@@ -75,7 +75,7 @@ not_above a b less = by (is_below b a) refl
     by true e = absurd (not_both (sym (below_trans a b a less e) ∙ not_below_itself a))
     by false e = refl
 
-differs_back : (a b : List ℕ) → same_text a b ≡ false → same_text b a ≡ false
+pub differs_back : (a b : List ℕ) → same_text a b ≡ false → same_text b a ≡ false
 differs_back a b e = by (same_text b a) refl
   where
     by : (t : Bool) → same_text b a ≡ t → t ≡ false

@@ -90,13 +90,13 @@ after_in fields msdb defs tables n t k result of at is =
 
 -- ---- edits
 
-without_good : (def : MsdbDef) (msdb : Msdb) (key : List ℕ) → IsMsdbOf def msdb → IsMsdbOf def (without_segment def key msdb)
+pub without_good : (def : MsdbDef) (msdb : Msdb) (key : List ℕ) → IsMsdbOf def msdb → IsMsdbOf def (without_segment def key msdb)
 without_good def msdb key good = record {
   lengths = all_but (key_of def.fields) (λ segment. length segment ≡ def.length) key msdb.segments good.lengths;
   in_order = still_ascends (key_of def.fields) key msdb.segments good.in_order;
 }
 
-with_good : (def : MsdbDef) (segment : List ℕ) (msdb : Msdb) → length segment ≡ def.length → IsMsdbOf def msdb → IsMsdbOf def (with_segment def segment msdb)
+pub with_good : (def : MsdbDef) (segment : List ℕ) (msdb : Msdb) → length segment ≡ def.length → IsMsdbOf def msdb → IsMsdbOf def (with_segment def segment msdb)
 with_good def segment msdb whole good = record {
   lengths = all_put (key_of def.fields) (λ s. length s ≡ def.length) segment (drop_key (key_of def.fields) (key_of def.fields segment) msdb.segments) whole
       (all_but (key_of def.fields) (λ s. length s ≡ def.length) (key_of def.fields segment) msdb.segments good.lengths);

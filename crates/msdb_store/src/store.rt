@@ -1,5 +1,7 @@
 //! The store.
 ghost use Rattle.fp_model.specs.CheckpointText.{IsMsdbOf};
+ghost use Rattle.fp_model.specs.State.{loaded as load_of, start};
+ghost use Rattle.fp_model.specs.WellFormed.{IsMsdbDef};
 ghost use Rattle.std.specs.List.{AllZip};
 ghost use Rattle.std.specs.Prelude.{◌≡◌, IfOk};
 
@@ -35,6 +37,23 @@ fn table_of(alloc: Global, def: &MsdbDef, msdb: Msdb) -> Result<Table, AllocErro
     })
 }
 
+// The table of the segments that a definition loads.
+fn loaded(alloc: Global, def: &MsdbDef) -> Result<Table, AllocError>
+    requires { IsMsdbDef def.now }
+    ensures fields { IfOk result (λ t. t.fields ≡ def.now.fields) }
+    ensures segments { IfOk result (λ t. t.segments.items ≡ (load_of def.now).segments) }
+    ensures good { IfOk result (λ t. IsMsdbOf def.now (record { segments = t.segments.items })) }
+{
+    let mut table = Table {
+        fields: List::from_vec(Vec::from_slice(alloc, def.fields.as_slice())?),
+        segments: Vec::new(alloc),
+    };
+    for segment in def.load.as_slice() {
+        table.put(segment.copy()?)?;
+    }
+    Ok(table)
+}
+
 impl MsdbStore {
     ghost use Rattle.fp_model.specs.Items.{with_item, with_items};
     ghost use Rattle.msdb_store.specs.Store.{IsFitSegment, IsOf, found, found_after};
@@ -53,6 +72,20 @@ impl MsdbStore {
         let mut tables = Vec::new(alloc);
         for (def, msdb) in defs.msdbs.as_slice().iter().zip(msdbs.into_vec()) {
             tables.push(table_of(alloc, def, msdb)?)?;
+        }
+        Ok(MsdbStore { tables })
+    }
+
+    /// The store of the state before any transaction: the segments that the definitions load, by key. It fails only for
+    /// want of memory.
+    pub fn start(alloc: Global, defs: &Defs) -> Result<MsdbStore, AllocError>
+        requires { AllByRecursion IsMsdbDef defs.now.msdbs }
+        ensures of { IfOk result (IsOf defs.now.msdbs) }
+        ensures msdbs { IfOk result (λ store. store.msdbs ≡ (start defs.now).msdbs) }
+    {
+        let mut tables = Vec::new(alloc);
+        for def in defs.msdbs.as_slice() {
+            tables.push(loaded(alloc, def)?)?;
         }
         Ok(MsdbStore { tables })
     }
