@@ -7,7 +7,7 @@ use Rattle.std.proofs.Math.Seq.{take-length}
 use Rattle.std.proofs.lemmas.Bool.{cases_eq, cases_lt}
 use Rattle.std.proofs.lemmas.List.{with_items_is, length-append, length-take, length-drop, drop-drop, take_at, drop_at, append-nil, take-append-drop}
 use Rattle.std.proofs.lemmas.List.Concat.{flat_map-cons, flat_map-append}
-use Rattle.fp_site.specs.Disk.{Disk, Snapshot}
+use Rattle.fp_site.specs.Disk.{Disk}
 use Rattle.fp_site.specs.Moments.{Through}
 use Rattle.fp_site.proofs.Runs.{weaker}
 use Rattle.fp_model.specs.declared.log.Entry.{Entry}

@@ -6,7 +6,7 @@ use Rattle.std.proofs.lemmas.Bool.{cases_eq}
 use Rattle.std.proofs.lemmas.List.{length-append, ext_get_or, drop_at, append-nil}
 use Rattle.fp_model.specs.Spellings.{be32, part_text}
 use Rattle.fp_model.specs.LogText.{Front, StartsWithFront, front_text, front_rest, first_gate}
-use Rattle.fp_site.specs.Disk.{Disk, Snapshot, Torn, IsDurable, Differs, Settles, Tears, Syncs, Elapses, Leaves, Stays, IsLawful, written, covers}
+use Rattle.fp_site.specs.Disk.{Disk, Torn, IsDurable, Differs, Settles, Tears, Syncs, Elapses, Leaves, Stays, IsLawful, written, covers}
 use Rattle.fp_site.specs.Moments.{Through, OnlyOn}
 use Rattle.fp_site.proofs.Images.{torn_from, durable_settles, durable_stays, settles_left, settles_contents, settles_synced, settles_stays, settles_torn}
 use Rattle.fp_site.proofs.Runs.{started, goes_on, stays_on, joined, weaker}

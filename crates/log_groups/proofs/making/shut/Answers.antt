@@ -173,7 +173,6 @@ returns-clause-crash g c t =
     let gate = c.in_ok-is_shut.ensures.open t1 c.if-branch.false in
     synced2 _ _ law law1 (c.sync.ensures.leaves t) (c.sync.ensures.crash t) _ law2 (c.is_shut.ensures.stays t1) (c.in_ok-sync.ensures.durable t) (c.sync.ensures.same t) _ law3 gate (c.write_at.ensures.leaves t2) (c.write_at.ensures.crash t2) _ (c.sync-2.ensures.leaves t3) (c.sync-2.ensures.crash t3)
 
-
 pub returns-clause-settles : goal.returns-clause-settles
 returns-clause-settles g c image t settles =
     let t1 = c.sync.ensures.told t in
