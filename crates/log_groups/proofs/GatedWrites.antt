@@ -6,10 +6,10 @@ use Rattle.std.proofs.lemmas.List.{length-append, length-take, take-take, take_a
 use Rattle.fp_site.specs.Disk.{Disk, Snapshot, Torn, IsDurable, Settles, Tears, Syncs, Elapses, Leaves, IsLawful, written, covers}
 use Rattle.fp_site.specs.Moments.{Through, OnlyOn}
 use Rattle.fp_site.proofs.Torns.{torn_front, torn_back}
-use Rattle.fp_site.proofs.Images.{torn_from, torn_now, torn_settles}
+use Rattle.fp_site.proofs.Images.{torn_from, settles_synced, settles_torn}
 use Rattle.fp_site.proofs.Runs.{started, goes_on}
 use Rattle.fp_site.proofs.Frames.{only_none, only_more}
-use Rattle.log_groups.specs.Images.{IsUnopened, IsStaged, IsGated, IsOpened}
+use Rattle.log_groups.specs.Images.{IsUnopened, IsStaged, IsGated, IsGatedImage, IsOpened}
 
 -- a write that leaves no hole
 pub written_is : (old : List ℕ) (at : ℕ) (bytes : List ℕ) → at ≤ length old → written old at bytes ≡ take at old ++ (bytes ++ drop (at + length bytes) old)
@@ -98,14 +98,20 @@ module _ (gate : ℕ) (ready : List ℕ) (h h1 : Disk) (law : IsLawful h) (law1 
       (started P h law (λ s left. inl (record { front = ap (take gate) (durable s left); byte = ap (λ l. slice_index l gate) (durable s left); stands = omega (arith, ap length (durable s left)) })))
       first (λ s d. inl (behind_gate (h.contents 0) gate ready stands (s.images 0) (torn_from h 0 (gate + 1) (length ready) s durable d)))
 
+  -- and so each image that settles
+  pub settled1 : IsDurable h 0 → gate < length (h.contents 0) → (image : List ℕ) → Settles h1 0 image → IsGatedImage (h.contents 0) gate ready image
+  settled1 durable stands image settles = inl (behind_gate (h.contents 0) gate ready stands image (settles_torn h h1 0 (gate + 1) (length ready) image law law1 durable first settles))
+
   module _ (h2 : Disk) (leaves2 : Leaves 0 h1 h2) (second : Elapses h1 h2 (Syncs h1 0)) where
     pub only2 : OnlyOn 0 h h2
     only2 = only_more 0 h h1 h2 (λ _ image. Settles h1 0 image) law law1 only1 leaves2 second
 
     pub synced1 : IsDurable h 0 → gate < length (h.contents 0) → Through h h2 P
     synced1 durable stands =
-        goes_on P h h1 h2 (Syncs h1 0) (wrote1 durable stands) second
-        (λ s d. inl (behind_gate (h.contents 0) gate ready stands (s.images 0) (torn_settles h1 0 (gate + 1) (length ready) (h.contents 0) (s.images 0) (torn_now h h1 0 (gate + 1) (length ready) law law1 durable first) d.this)))
+        goes_on P h h1 h2 (Syncs h1 0) (wrote1 durable stands) second (λ s d. settled1 durable stands (s.images 0) d.this)
+
+    pub settled2 : IsLawful h2 → IsDurable h 0 → gate < length (h.contents 0) → (image : List ℕ) → Settles h2 0 image → IsGatedImage (h.contents 0) gate ready image
+    settled2 law2 durable stands image settles = settled1 durable stands image (settles_synced h1 h2 0 image law1 law2 second settles)
 
     module _ (h3 : Disk) (law2 : IsLawful h2) (law3 : IsLawful h3) (durable2 : IsDurable h2 0) (is : h2.contents 0 ≡ written (h.contents 0) (gate + 1) ready) (leaves3 : Leaves 0 h2 h3) (third : Elapses h2 h3 (Tears h2 0 gate 1)) where
       pub only3 : OnlyOn 0 h h3
@@ -116,12 +122,17 @@ module _ (gate : ℕ) (ready : List ℕ) (h h1 : Disk) (law : IsLawful h) (law1 
           goes_on P h h2 h3 (Tears h2 0 gate 1) (synced1 durable stands) third
           (λ s d. inr (at_gate (h.contents 0) gate ready stands (s.images 0) (subst (λ c. Torn gate 1 c (s.images 0)) is (torn_from h2 0 gate 1 s durable2 d))))
 
+      pub settled3 : IsDurable h 0 → gate < length (h.contents 0) → (image : List ℕ) → Settles h3 0 image → IsGatedImage (h.contents 0) gate ready image
+      settled3 durable stands image settles =
+          inr (at_gate (h.contents 0) gate ready stands image (subst (λ c. Torn gate 1 c image) is (settles_torn h2 h3 0 gate 1 image law2 law3 durable2 third settles)))
+
       module _ (h4 : Disk) (leaves4 : Leaves 0 h3 h4) (fourth : Elapses h3 h4 (Syncs h3 0)) where
         pub only4 : OnlyOn 0 h h4
         only4 = only_more 0 h h3 h4 (λ _ image. Settles h3 0 image) law law3 only3 leaves4 fourth
 
         pub synced2 : IsDurable h 0 → gate < length (h.contents 0) → Through h h4 P
         synced2 durable stands =
-            goes_on P h h3 h4 (Syncs h3 0) (wrote2 durable stands) fourth
-            (λ s d. inr (at_gate (h.contents 0) gate ready stands (s.images 0)
-            (torn_settles h3 0 gate 1 (staged (h.contents 0) gate ready stands) (s.images 0) (λ c left. subst (λ l. Torn gate 1 l (c.images 0)) is (torn_now h2 h3 0 gate 1 law2 law3 durable2 third c left)) d.this)))
+            goes_on P h h3 h4 (Syncs h3 0) (wrote2 durable stands) fourth (λ s d. settled3 durable stands (s.images 0) d.this)
+
+        pub settled4 : IsLawful h4 → IsDurable h 0 → gate < length (h.contents 0) → (image : List ℕ) → Settles h4 0 image → IsGatedImage (h.contents 0) gate ready image
+        settled4 law4 durable stands image settles = settled3 durable stands image (settles_synced h3 h4 0 image law3 law4 fourth settles)

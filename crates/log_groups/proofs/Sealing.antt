@@ -7,7 +7,7 @@ use Rattle.std.proofs.Math.Seq.{take-length}
 use Rattle.std.proofs.lemmas.Bool.{cases_eq, cases_lt}
 use Rattle.std.proofs.lemmas.List.{with_items_is, length-append, length-take, length-drop, drop-drop, take_at, drop_at, append-nil, take-append-drop}
 use Rattle.std.proofs.lemmas.List.Concat.{flat_map-cons, flat_map-append}
-use Rattle.fp_site.specs.Disk.{Disk, Snapshot}
+use Rattle.fp_site.specs.Disk.{Disk}
 use Rattle.fp_site.specs.Moments.{Through}
 use Rattle.fp_site.proofs.Runs.{weaker}
 use Rattle.fp_model.specs.declared.log.Entry.{Entry}
@@ -18,7 +18,7 @@ use Rattle.log_format.specs.EntryReading.{entry_at}
 use Rattle.log_format.proofs.Fields.{length-be64}
 use Rattle.log_format.proofs.Lists.{many_again}
 use Rattle.log_format.proofs.EntryLaws.{entry_law}
-use Rattle.log_groups.specs.Images.{IsLog, IsAtRest, IsBeforeOrAfter, IsGated, IsOpened, SpellsGroup, gate_behind, with_group}
+use Rattle.log_groups.specs.Images.{IsLog, IsAtRest, IsWithOrWithout, IsBeforeOrAfter, IsGated, IsGatedImage, IsOpened, SpellsGroup, gate_behind, with_group}
 use Rattle.log_groups.specs.Log.{IsBuffered, values_of, entries_in, part_text}
 use Rattle.log_groups.proofs.LogImages.{all-append, head_is, closed_front, open_front}
 use Rattle.log_groups.proofs.BufferParts.{all-drop, all-take, length-entry}
@@ -32,22 +32,22 @@ group_behind bytes rest entries spells =
     let body = body_text entries in
     ap (λ t. 1 ∷ t) (ap (λ t. t ++ rest) spells.text ∙ append_assoc size (body ++ 0 ∷ []) rest ∙ ap (λ t. size ++ t) (append_assoc body (0 ∷ []) rest) ∙ sym (append_assoc size body (0 ∷ rest)))
 
--- what a crash leaves of the gated write of a group
-pub gated_log : (front : Front) (groups : List (List Entry)) (gate : ℕ) (old bytes : List ℕ) (entries : List Entry) → IsLog front old groups gate → SpellsGroup bytes entries → (s : Snapshot) → IsGated old gate bytes s → IsBeforeOrAfter front groups gate entries s
-gated_log front groups gate old bytes entries log spells s (inl un) =
-    inl (closed_front front groups gate old (s.images 0) log un.stands un.front (λ one. log.holds.reads.1 (sym un.byte ∙ one)))
-gated_log front groups gate old bytes entries log spells s (inr staged) = elim (cases_eq staged.first 1) [
-  | inl one ↦ inr (open_front front groups gate old (s.images 0) entries 0 staged.rest log staged.front spells.group
+-- an image within the gated write of a group
+pub gated_log : (front : Front) (groups : List (List Entry)) (gate : ℕ) (old bytes : List ℕ) (entries : List Entry) → IsLog front old groups gate → SpellsGroup bytes entries → (image : List ℕ) → IsGatedImage old gate bytes image → IsWithOrWithout front groups gate entries image
+gated_log front groups gate old bytes entries log spells image (inl un) =
+    inl (closed_front front groups gate old image log un.stands un.front (λ one. log.holds.reads.1 (sym un.byte ∙ one)))
+gated_log front groups gate old bytes entries log spells image (inr staged) = elim (cases_eq staged.first 1) [
+  | inl one ↦ inr (open_front front groups gate old image entries 0 staged.rest log staged.front spells.group
       (staged.behind ∙ ap (λ b. b ∷ (bytes ++ staged.rest)) one ∙ group_behind bytes staged.rest entries spells) (λ one. omega (arith, one)))
-  | inr ne ↦ inl (closed_front front groups gate old (s.images 0) log (omega (arith, ap length staged.behind, length-drop gate (s.images 0))) staged.front
-      (λ one. ne (sym (head_is (s.images 0) gate staged.first (bytes ++ staged.rest) staged.behind) ∙ one)))
+  | inr ne ↦ inl (closed_front front groups gate old image log (omega (arith, ap length staged.behind, length-drop gate image)) staged.front
+      (λ one. ne (sym (head_is image gate staged.first (bytes ++ staged.rest) staged.behind) ∙ one)))
 ]
 
 -- so at every moment of it
 pub sealed_through : (front : Front) (groups : List (List Entry)) (gate : ℕ) (bytes : List ℕ) (entries : List Entry) (h a : Disk) → IsAtRest h front groups gate → SpellsGroup bytes entries
     → Through h a (IsGated (h.contents 0) gate bytes) → Through h a (IsBeforeOrAfter front groups gate entries)
 sealed_through front groups gate bytes entries h a rest spells run =
-    weaker (IsGated (h.contents 0) gate bytes) (IsBeforeOrAfter front groups gate entries) h a (gated_log front groups gate (h.contents 0) bytes entries rest.log spells) run
+    weaker (IsGated (h.contents 0) gate bytes) (IsBeforeOrAfter front groups gate entries) h a (λ s p. gated_log front groups gate (h.contents 0) bytes entries rest.log spells (s.images 0) p) run
 
 -- and at Ok
 pub sealed_log : (front : Front) (groups : List (List Entry)) (gate : ℕ) (bytes : List ℕ) (entries : List Entry) (h a : Disk) → IsAtRest h front groups gate → SpellsGroup bytes entries

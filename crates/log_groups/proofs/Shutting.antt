@@ -6,13 +6,13 @@ use Rattle.std.proofs.lemmas.Bool.{cases_eq}
 use Rattle.std.proofs.lemmas.List.{length-append, ext_get_or, drop_at, append-nil}
 use Rattle.fp_model.specs.Spellings.{be32, part_text}
 use Rattle.fp_model.specs.LogText.{Front, StartsWithFront, front_text, front_rest, first_gate}
-use Rattle.fp_site.specs.Disk.{Disk, Snapshot, Torn, IsDurable, Differs, Settles, Tears, Syncs, Elapses, Leaves, Stays, IsLawful, written, covers}
+use Rattle.fp_site.specs.Disk.{Disk, Torn, IsDurable, Differs, Settles, Tears, Syncs, Elapses, Leaves, Stays, IsLawful, written, covers}
 use Rattle.fp_site.specs.Moments.{Through, OnlyOn}
-use Rattle.fp_site.proofs.Images.{torn_from, torn_now, torn_settles, durable_settles, durable_stays, settles_left, settles_contents}
+use Rattle.fp_site.proofs.Images.{torn_from, durable_settles, durable_stays, settles_left, settles_contents, settles_synced, settles_stays, settles_torn}
 use Rattle.fp_site.proofs.Runs.{started, goes_on, stays_on, joined, weaker}
 use Rattle.fp_site.proofs.Frames.{only_none, only_more, only_stays, only_with}
 use Rattle.log_format.proofs.Fields.{length-be32}
-use Rattle.log_groups.specs.Images.{IsLog, IsAtRest, IsShut, IsShutGate, IsOpenGate, HasNoFront, IsBeforeOrShut, IsBeforeOrMade, IsSameOrShut, IsSameOrMade, IsGated, IsOpened}
+use Rattle.log_groups.specs.Images.{IsLog, IsAtRest, IsShut, IsShutGate, IsOpenGate, HasNoFront, IsOldOrShut, IsOldOrMade, IsBeforeOrShut, IsBeforeOrMade, IsSameOrShut, IsSameOrMade, IsGated, IsGatedImage, IsOpened}
 use Rattle.log_groups.proofs.LogImages.{head_is, log_of}
 use Rattle.log_groups.proofs.GatedWrites.{written_is}
 
@@ -54,9 +54,16 @@ module _ (h h1 : Disk) (law : IsLawful h) (law1 : IsLawful h1) (leaves1 : Leaves
   pub synced1 : Through h h1 (IsBeforeOrShut h)
   synced1 = goes_on (IsBeforeOrShut h) h h h1 (Syncs h 0) (started (IsBeforeOrShut h) h law (λ s left. inl (settles_left h 0 s left))) first (λ s d. inl d.this)
 
+  -- what settles after it
+  pub settled1 : (image : List ℕ) → Settles h1 0 image → IsOldOrShut h image
+  settled1 image settles = inl (settles_synced h h1 0 image law law1 first settles)
+
   module _ (h2 : Disk) (law2 : IsLawful h2) (stays : Stays h1 h2) where
     pub only2 : OnlyOn 0 h h2
     only2 = only_stays 0 h h1 h2 law law1 only1 stays
+
+    pub settled2 : (image : List ℕ) → Settles h2 0 image → IsOldOrShut h image
+    settled2 image settles = settled1 image (settles_stays h1 h2 0 image law1 law2 stays settles)
 
     module _ (durable1 : IsDurable h1 0) (same1 : h1.contents 0 ≡ h.contents 0) where
       pub looked : Through h h2 (IsBeforeOrShut h)
@@ -72,7 +79,7 @@ module _ (h h1 : Disk) (law : IsLawful h) (law1 : IsLawful h1) (leaves1 : Leaves
       shut_already gate = record { durable = durable2; gate = subst IsShutGate (sym (ap (λ f. f 0) stays.contents)) gate }
 
       -- an image with a torn gate
-      torn_image : (c : List ℕ) → IsOpenGate (h1.contents 0) → Torn 0 1 (h2.contents 0) c → Settles h 0 c ⊎ HasNoFront c
+      torn_image : (c : List ℕ) → IsOpenGate (h1.contents 0) → Torn 0 1 (h2.contents 0) c → IsOldOrShut h c
       torn_image c gate torn = ⊎_elim (λ same. inl (subst (Settles h 0) (sym (same ∙ same2)) (settles_contents h 0 law))) (λ no. inr no)
           (torn_gate (h2.contents 0) c (subst IsOpenGate (sym (ap (λ f. f 0) stays.contents)) gate) torn)
 
@@ -83,13 +90,18 @@ module _ (h h1 : Disk) (law : IsLawful h) (law1 : IsLawful h1) (leaves1 : Leaves
         pub wrote : Through h h3 (IsBeforeOrShut h)
         wrote = goes_on (IsBeforeOrShut h) h h2 h3 (Tears h2 0 0 1) looked third (λ s d. torn_image (s.images 0) gate (torn_from h2 0 0 1 s durable2 d))
 
+        pub settled3 : (image : List ℕ) → Settles h3 0 image → IsOldOrShut h image
+        settled3 image settles = torn_image image gate (settles_torn h2 h3 0 0 1 image law2 law3 durable2 third settles)
+
         module _ (h4 : Disk) (leaves4 : Leaves 0 h3 h4) (fourth : Elapses h3 h4 (Syncs h3 0)) where
           pub only4 : OnlyOn 0 h h4
           only4 = only_more 0 h h3 h4 (λ _ image. Settles h3 0 image) law law3 only3 leaves4 fourth
 
           pub synced2 : Through h h4 (IsBeforeOrShut h)
-          synced2 = goes_on (IsBeforeOrShut h) h h3 h4 (Syncs h3 0) wrote fourth
-              (λ s d. torn_image (s.images 0) gate (torn_settles h3 0 0 1 (h2.contents 0) (s.images 0) (torn_now h2 h3 0 0 1 law2 law3 durable2 third) d.this))
+          synced2 = goes_on (IsBeforeOrShut h) h h3 h4 (Syncs h3 0) wrote fourth (λ s d. settled3 (s.images 0) d.this)
+
+          pub settled4 : IsLawful h4 → (image : List ℕ) → Settles h4 0 image → IsOldOrShut h image
+          settled4 law4 image settles = settled3 image (settles_synced h3 h4 0 image law3 law4 fourth settles)
 
 -- after the write
 pub shut_now : (old : List ℕ) (new : Disk) → IsDurable new 0 → new.contents 0 ≡ written old 0 (0 ∷ []) → IsShut new
@@ -119,12 +131,12 @@ new_log front bytes rest is =
     (omega (arith, ap length all, length-append head (0 ∷ rest)))
     (λ one. let zero_is : slice_index bytes (length head) ≡ 0 = head_is bytes (length head) 0 rest end in omega (arith, zero_is, one))
 
--- what a crash leaves of the gated write of the front's rest and the first gate
-pub made_image : (start : Disk) (front : Front) (old : List ℕ) (s : Snapshot) → IsShutGate old → IsGated old 0 (front_rest front ++ 0 ∷ []) s → IsBeforeOrMade start front s
-made_image start front old s shut (inl un) = inl (inr (λ other begins. shut.gate (sym un.byte ∙ begins_open other (s.images 0) begins)))
-made_image start front old s shut (inr staged) = elim (cases_eq staged.first 1) [
-  | inl one ↦ inr (new_log front (s.images 0) staged.rest (staged.behind ∙ ap (λ b. b ∷ (front_rest front ++ 0 ∷ []) ++ staged.rest) one))
-  | inr ne ↦ inl (inr (λ other begins. ne (sym (ap (λ l. get_or l 0 0) staged.behind) ∙ begins_open other (s.images 0) begins)))
+-- an image within the gated write of the front's rest and the first gate
+pub made_image : (start : Disk) (front : Front) (old image : List ℕ) → IsShutGate old → IsGatedImage old 0 (front_rest front ++ 0 ∷ []) image → IsOldOrMade start front image
+made_image start front old image shut (inl un) = inl (inr (λ other begins. shut.gate (sym un.byte ∙ begins_open other image begins)))
+made_image start front old image shut (inr staged) = elim (cases_eq staged.first 1) [
+  | inl one ↦ inr (new_log front image staged.rest (staged.behind ∙ ap (λ b. b ∷ (front_rest front ++ 0 ∷ []) ++ staged.rest) one))
+  | inr ne ↦ inl (inr (λ other begins. ne (sym (ap (λ l. get_or l 0 0) staged.behind) ∙ begins_open other image begins)))
 ]
 
 -- and what it leaves at Ok
@@ -145,7 +157,7 @@ module _ (front : Front) (h a b : Disk) (law : IsLawful h) (law1 : IsLawful a) w
   pub once_made : Through h a (IsBeforeOrShut h) → IsShut a → Through a b (IsGated (a.contents 0) 0 (front_rest front ++ 0 ∷ [])) → Through h b (IsBeforeOrMade h front)
   once_made run shut more =
       joined (IsBeforeOrMade h front) h a b (once_shut run)
-      (weaker (IsGated (a.contents 0) 0 (front_rest front ++ 0 ∷ [])) (IsBeforeOrMade h front) a b (λ s p. made_image h front (a.contents 0) s shut.gate p) more)
+      (weaker (IsGated (a.contents 0) 0 (front_rest front ++ 0 ∷ [])) (IsBeforeOrMade h front) a b (λ s p. made_image h front (a.contents 0) (s.images 0) shut.gate p) more)
 
 -- ---- from a log that a sync had left
 

@@ -35,10 +35,14 @@ abbrev pub with_group : List (List Entry) → List Entry → List (List Entry)
 with_group groups [] = groups
 with_group groups (e ∷ entries) = groups ++ (e ∷ entries) ∷ []
 
+-- a log with these groups, or with one more, whole
+abbrev pub IsWithOrWithout : Front → List (List Entry) → ℕ → List Entry → List ℕ → Type 0
+IsWithOrWithout front groups gate entries image =
+    IsLog front image groups gate ⊎ IsLog front image (groups ++ entries ∷ []) (gate_behind gate entries)
+
 -- the log that a crash left has these groups, or one more, whole
 abbrev pub IsBeforeOrAfter : Front → List (List Entry) → ℕ → List Entry → Snapshot → Type 0
-IsBeforeOrAfter front groups gate entries s =
-    IsLog front (s.images 0) groups gate ⊎ IsLog front (s.images 0) (groups ++ entries ∷ []) (gate_behind gate entries)
+IsBeforeOrAfter front groups gate entries s = IsWithOrWithout front groups gate entries (s.images 0)
 
 -- a group as it is written behind its gate: the length of the body, the body, and the next gate, closed
 pub record SpellsGroup (bytes : List ℕ) (entries : List Entry) : Type 0 where
@@ -59,9 +63,13 @@ pub record IsStaged (old : List ℕ) (gate : ℕ) (bytes : List ℕ) (image : Li
   pub rest : List ℕ
   pub behind : drop gate image ≡ first ∷ (bytes ++ rest)
 
+-- an image within a gated write
+abbrev pub IsGatedImage : List ℕ → ℕ → List ℕ → List ℕ → Type 0
+IsGatedImage old gate bytes image = IsUnopened old gate image ⊎ IsStaged old gate bytes image
+
 -- the log that a crash leaves within a gated write
 abbrev pub IsGated : List ℕ → ℕ → List ℕ → Snapshot → Type 0
-IsGated old gate bytes s = IsUnopened old gate (s.images 0) ⊎ IsStaged old gate bytes (s.images 0)
+IsGated old gate bytes s = IsGatedImage old gate bytes (s.images 0)
 
 -- after a gated write the gate is open, and every crash leaves it so
 pub record IsOpened (old : List ℕ) (gate : ℕ) (bytes : List ℕ) (new : Disk) : Type 0 where
@@ -88,13 +96,21 @@ pub record IsShut (disk : Disk) : Type 0 where
 abbrev pub HasNoFront : List ℕ → Type 0
 HasNoFront bytes = (front : Front) → StartsWithFront bytes front → ⊥
 
+-- An image that a sync might have left at the start, or that begins with no open front.
+abbrev pub IsOldOrShut : Disk → List ℕ → Type 0
+IsOldOrShut start image = Settles start 0 image ⊎ HasNoFront image
+
+-- the same, or it is this front's new log, with no groups
+abbrev pub IsOldOrMade : Disk → Front → List ℕ → Type 0
+IsOldOrMade start front image = IsOldOrShut start image ⊎ IsLog front image [] (first_gate front)
+
 -- The log that a crash left is as a sync might have left it at the start, or begins with no open front.
 abbrev pub IsBeforeOrShut : Disk → Snapshot → Type 0
-IsBeforeOrShut start s = Settles start 0 (s.images 0) ⊎ HasNoFront (s.images 0)
+IsBeforeOrShut start s = IsOldOrShut start (s.images 0)
 
 -- the same, or it is this front's new log, with no groups
 abbrev pub IsBeforeOrMade : Disk → Front → Snapshot → Type 0
-IsBeforeOrMade start front s = IsBeforeOrShut start s ⊎ IsLog front (s.images 0) [] (first_gate front)
+IsBeforeOrMade start front s = IsOldOrMade start front (s.images 0)
 
 -- The log is what it was, or begins with no open front.
 abbrev pub IsSameOrShut : List ℕ → List ℕ → Type 0

@@ -1,9 +1,9 @@
 //! The bytes of the entries that are not sealed: room for a length, the entries, and a closed gate.
 ghost use Rattle.fp_model.specs.Spellings.{be64};
-ghost use Rattle.fp_site.specs.Disk.{Disk, IsDurable};
+ghost use Rattle.fp_site.specs.Disk.{Disk, IsDurable, Settles};
 ghost use Rattle.fp_site.specs.Moments.{OnlyOn, Through};
 ghost use Rattle.fp_site.specs.Site.{Counts, ReadsNothing};
-ghost use Rattle.log_groups.specs.Images.{IsGated, IsOpened};
+ghost use Rattle.log_groups.specs.Images.{IsGated, IsGatedImage, IsOpened};
 ghost use Rattle.fp_model.specs.LogText.{FitsEntry, HasSpelling, KeepsRules, body_text, entry_text};
 ghost use Rattle.fp_model.specs.declared.log.Entry.{Entry as EntryOf};
 ghost use Rattle.log_groups.specs.Log.{HasEntries, part_text};
@@ -76,6 +76,10 @@ pub(crate) fn seal_part<S: Site>(
     // A crash at any moment leaves the gate as it was, or the group whole behind it.
     ensures crash { S.told site.old → IsDurable (S.disk site.old) 0 → gate < length ((S.disk site.old).contents 0) →
         Through (S.disk site.old) (S.disk site.new) (IsGated ((S.disk site.old).contents 0) gate (part_text buffer.old start end)) }
+
+    // So does each image that a further sync may make of what a crash may leave now.
+    ensures settles { (image : ListOf ℕ) → S.told site.old → IsDurable (S.disk site.old) 0 → gate < length ((S.disk site.old).contents 0) →
+        Settles (S.disk site.new) 0 image → IsGatedImage ((S.disk site.old).contents 0) gate (part_text buffer.old start end) image }
 {
     let next = buffer[end];
     make_ready(buffer, start, end);

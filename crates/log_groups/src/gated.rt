@@ -1,9 +1,9 @@
 //! A write that counts whole or not at all: its bytes go behind a gate, and the gate is opened last.
-ghost use Rattle.fp_site.specs.Disk.{Disk, IsDurable};
+ghost use Rattle.fp_site.specs.Disk.{Disk, IsDurable, Settles};
 ghost use Rattle.fp_site.specs.Moments.{OnlyOn, Through};
 ghost use Rattle.fp_site.specs.Site.{Counts, ReadsNothing};
-ghost use Rattle.log_groups.specs.Images.{IsGated, IsOpened};
-ghost use Rattle.std.specs.Prelude.{◌≡◌, ◌⊎◌, ◌+◌, ◌-◌, ◌<◌, ◌≤◌, ◌^◌, ◌∷◌, ◌++◌, OnOk, length};
+ghost use Rattle.log_groups.specs.Images.{IsGated, IsGatedImage, IsOpened};
+ghost use Rattle.std.specs.Prelude.{◌≡◌, ◌⊎◌, ◌+◌, ◌-◌, ◌<◌, ◌≤◌, ◌^◌, ◌∷◌, ◌++◌, ℕ, List as ListOf, OnOk, length};
 
 use fp_site::{Failed, Site};
 
@@ -26,6 +26,10 @@ pub(crate) fn write_gated<S: Site>(site: &mut S, gate: u64, bytes: &[u8]) -> Res
     // A crash at any moment leaves the gate as it was, or the bytes whole behind it.
     ensures crash { S.told site.old → IsDurable (S.disk site.old) 0 → gate < length ((S.disk site.old).contents 0) →
         Through (S.disk site.old) (S.disk site.new) (IsGated ((S.disk site.old).contents 0) gate bytes.now) }
+
+    // So does each image that a further sync may make of what a crash may leave now.
+    ensures settles { (image : ListOf ℕ) → S.told site.old → IsDurable (S.disk site.old) 0 → gate < length ((S.disk site.old).contents 0) →
+        Settles (S.disk site.new) 0 image → IsGatedImage ((S.disk site.old).contents 0) gate bytes.now image }
 {
     site.write_at(0, gate + 1, bytes)?;
     site.sync(0)?; // the bytes are on the disk behind the gate as it was

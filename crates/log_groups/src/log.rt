@@ -2,10 +2,10 @@
 ghost use Rattle.fp_model.specs.Groups.{IsDamaged};
 ghost use Rattle.fp_model.specs.LogText.{FitsEntry, FitsFront, Front as FrontOf, KeepsRules, StartsWithFront, body_text, entry_text, first_gate};
 ghost use Rattle.fp_model.specs.declared.log.Entry.{Entry as EntryOf};
-ghost use Rattle.fp_site.specs.Disk.{Differs, Disk, IsDurable, Stays};
+ghost use Rattle.fp_site.specs.Disk.{Differs, Disk, IsDurable, Settles, Stays};
 ghost use Rattle.fp_site.specs.Moments.{OnlyOn, Through};
 ghost use Rattle.fp_site.specs.Site.{Counts, ReadsNothing};
-ghost use Rattle.log_groups.specs.Images.{IsAtRest, IsBeforeOrAfter, IsBeforeOrMade, IsBeforeOrShut, IsSameOrMade, IsSameOrShut, IsShut, texts_of, with_group};
+ghost use Rattle.log_groups.specs.Images.{IsAtRest, IsBeforeOrAfter, IsBeforeOrMade, IsBeforeOrShut, IsOldOrMade, IsOldOrShut, IsSameOrMade, IsSameOrShut, IsShut, IsWithOrWithout, texts_of, with_group};
 ghost use Rattle.log_groups.specs.Reads.{HasGroup, ReadsOnlyLog};
 ghost use Rattle.log_groups.specs.declared.fault.LogFault.TheVariants as faults;
 ghost use Rattle.std.specs.Prelude.{◌≡◌, ◌≢◌, ◌⊎◌, ◌+◌, ◌-◌, ◌*◌, ◌<◌, ◌≤◌, ◌^◌, ◌∷◌, ◌++◌, ℕ, [], IfNone, IfOk, IfSome, IsErrOf, IsOk, List as ListOf, OnErr, OnOk, drop, length, min, slice_index, take};
@@ -98,6 +98,10 @@ impl Log {
         // Where a sync had left the log, it leaves it so, or with no open front, and all else as before.
         ensures kept { T.told site.old → IsDurable (T.disk site.old) 0 →
             Through (T.disk site.old) (T.disk site.new) (Differs (T.disk site.old) 0 IsSameOrShut) }
+
+        // Each image that a further sync may make of what a crash may leave now is one that a sync might have left
+        // before, or has no open front.
+        ensures settles { (image : ListOf ℕ) → T.told site.old → Settles (T.disk site.new) 0 image → IsOldOrShut (T.disk site.old) image }
     {
         making::shut(site)
     }
@@ -124,6 +128,11 @@ impl Log {
         // Where a sync had left the log, it leaves it so, or with no open front, or made, and all else as before.
         ensures kept { T.told site.old → IsDurable (T.disk site.old) 0 →
             Through (T.disk site.old) (T.disk site.new) (Differs (T.disk site.old) 0 (IsSameOrMade (texts_of front.now))) }
+
+        // Each image that a further sync may make of what a crash may leave now is one that a sync might have left
+        // before, or has no open front, or is the new log.
+        ensures settles { (image : ListOf ℕ) → T.told site.old → Settles (T.disk site.new) 0 image
+            → IsOldOrMade (T.disk site.old) (texts_of front.now) image }
     {
         making::make(alloc, site, front)
     }
@@ -294,6 +303,11 @@ impl Log {
         ensures crash { (front : FrontOf) (groups : ListOf (ListOf EntryOf))
             → T.told site.old → IsAtRest (T.disk site.old) front groups self.old.gate → Through (T.disk site.old) (T.disk site.new)
             (IsBeforeOrAfter front groups self.old.gate (take most self.old.unsealed)) }
+
+        // So does each image that a further sync may make of what a crash may leave now, whatever the answer is.
+        ensures settles { (front : FrontOf) (groups : ListOf (ListOf EntryOf)) (image : ListOf ℕ)
+            → T.told site.old → IsAtRest (T.disk site.old) front groups self.old.gate → Settles (T.disk site.new) 0 image
+            → IsWithOrWithout front groups self.old.gate (take most self.old.unsealed) image }
     {
         if self.waiting == 0 {
             return Ok(0);

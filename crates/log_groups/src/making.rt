@@ -1,12 +1,12 @@
 //! Making a log: its gate is closed first, and opened last.
 ghost use Rattle.fp_model.specs.LogText.{FitsFront, first_gate};
-ghost use Rattle.fp_site.specs.Disk.{Disk, Stays};
+ghost use Rattle.fp_site.specs.Disk.{Disk, Settles, Stays};
 ghost use Rattle.fp_site.specs.Moments.{OnlyOn, Through};
 ghost use Rattle.fp_site.specs.Site.{Counts};
-ghost use Rattle.log_groups.specs.Images.{IsAtRest, IsBeforeOrMade, IsBeforeOrShut, IsOpenGate, IsShut, IsShutGate, texts_of};
+ghost use Rattle.log_groups.specs.Images.{IsAtRest, IsBeforeOrMade, IsBeforeOrShut, IsOldOrMade, IsOldOrShut, IsOpenGate, IsShut, IsShutGate, texts_of};
 ghost use Rattle.log_groups.specs.Reads.{ReadsOnlyLog};
 ghost use Rattle.log_groups.specs.declared.fault.LogFault.TheVariants as faults;
-ghost use Rattle.std.specs.Prelude.{◌≡◌, ◌⊎◌, ◌+◌, ◌-◌, ◌<◌, ◌≤◌, ◌^◌, ℕ, [], IfOk, IsErrOf, OnOk, true, false};
+ghost use Rattle.std.specs.Prelude.{◌≡◌, ◌⊎◌, ◌+◌, ◌-◌, ◌<◌, ◌≤◌, ◌^◌, ℕ, [], IfOk, IsErrOf, List as ListOf, OnOk, true, false};
 
 use crate::gated::write_gated;
 use crate::{Front, LogFault};
@@ -48,6 +48,9 @@ pub(crate) fn shut<S: Site>(site: &mut S) -> Result<(), Failed>
 
     // A crash at any moment leaves the log as a sync might have left it before, or shut.
     ensures crash { S.told site.old → Through (S.disk site.old) (S.disk site.new) (IsBeforeOrShut (S.disk site.old)) }
+
+    // So does each image that a further sync may make of what a crash may leave now.
+    ensures settles { (image : ListOf ℕ) → S.told site.old → Settles (S.disk site.new) 0 image → IsOldOrShut (S.disk site.old) image }
 {
     site.sync(0)?; // what is looked at is what a crash leaves
     if is_shut(site)? {
@@ -75,6 +78,9 @@ pub(crate) fn make<S: Site>(alloc: Global, site: &mut S, front: &Front) -> Resul
 
     // A crash at any moment leaves the log as a sync might have left it before, or shut, or made.
     ensures crash { S.told site.old → Through (S.disk site.old) (S.disk site.new) (IsBeforeOrMade (S.disk site.old) (texts_of front.now)) }
+
+    // So does each image that a further sync may make of what a crash may leave now.
+    ensures settles { (image : ListOf ℕ) → S.told site.old → Settles (S.disk site.new) 0 image → IsOldOrMade (S.disk site.old) (texts_of front.now) image }
 {
     let mut bytes = front.rest(alloc)?;
     bytes.push(0)?;

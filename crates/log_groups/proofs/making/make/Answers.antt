@@ -3,8 +3,8 @@ use Rattle.std.proofs.lemmas.List.{length-append}
 use Rattle.fp_model.specs.LogText.{front_rest}
 use Rattle.fp_site.specs.Moments.{Through}
 use Rattle.fp_site.proofs.Frames.{only_joined}
-use Rattle.log_groups.specs.Images.{IsGated, IsOpened, texts_of}
-use Rattle.log_groups.proofs.Shutting.{length-front, once_made, made_log}
+use Rattle.log_groups.specs.Images.{IsGated, IsGatedImage, IsOpened, texts_of}
+use Rattle.log_groups.proofs.Shutting.{length-front, once_made, made_image, made_log}
 use Rattle.log_groups.proofs.making.make.Goals as goal
 
 -- the front fits in a data set
@@ -33,6 +33,16 @@ returns-in_err-write_gated-clause-crash g c t =
     let is : c.as_slice.result.now ≡ front_rest front ++ 0 ∷ [] = c.as_slice.ensures ∙ c.in_ok-push.ensures.ok ∙ ap (λ l. l ++ 0 ∷ []) c.in_ok-bytes.ensures in
     once_made front h a b law law1 (c.shut.ensures.crash t) shut (subst (λ l. Through a b (IsGated (a.contents 0) 0 l)) is (c.write_gated.ensures.crash t1 shut.durable shut.gate.some))
 
+pub returns-in_err-write_gated-clause-settles : goal.returns-in_err-write_gated-clause-settles
+returns-in_err-write_gated-clause-settles g c image t settles =
+    let t1 = c.shut.ensures.told t in
+    let shut = c.in_ok-shut.ensures.shut t in
+    let front = texts_of c.args.front.now in
+    let a = g.S.Site.disk c.shut.new.site in
+    let is : c.as_slice.result.now ≡ front_rest front ++ 0 ∷ [] = c.as_slice.ensures ∙ c.in_ok-push.ensures.ok ∙ ap (λ l. l ++ 0 ∷ []) c.in_ok-bytes.ensures in
+    made_image (g.S.Site.disk c.args.site.now) front (a.contents 0) image shut.gate
+    (subst (λ l. IsGatedImage (a.contents 0) 0 l image) is (c.write_gated.ensures.settles image t1 shut.durable shut.gate.some settles))
+
 pub returns-clause-only : goal.returns-clause-only
 returns-clause-only g c t =
     let t1 = c.shut.ensures.told t in
@@ -50,6 +60,16 @@ returns-clause-crash g c t =
     let b = g.S.Site.disk c.write_gated.new.site in
     let is : c.as_slice.result.now ≡ front_rest front ++ 0 ∷ [] = c.as_slice.ensures ∙ c.in_ok-push.ensures.ok ∙ ap (λ l. l ++ 0 ∷ []) c.in_ok-bytes.ensures in
     once_made front h a b law law1 (c.shut.ensures.crash t) shut (subst (λ l. Through a b (IsGated (a.contents 0) 0 l)) is (c.write_gated.ensures.crash t1 shut.durable shut.gate.some))
+
+pub returns-clause-settles : goal.returns-clause-settles
+returns-clause-settles g c image t settles =
+    let t1 = c.shut.ensures.told t in
+    let shut = c.in_ok-shut.ensures.shut t in
+    let front = texts_of c.args.front.now in
+    let a = g.S.Site.disk c.shut.new.site in
+    let is : c.as_slice.result.now ≡ front_rest front ++ 0 ∷ [] = c.as_slice.ensures ∙ c.in_ok-push.ensures.ok ∙ ap (λ l. l ++ 0 ∷ []) c.in_ok-bytes.ensures in
+    made_image (g.S.Site.disk c.args.site.now) front (a.contents 0) image shut.gate
+    (subst (λ l. IsGatedImage (a.contents 0) 0 l image) is (c.write_gated.ensures.settles image t1 shut.durable shut.gate.some settles))
 
 pub returns-clause-made : goal.returns-clause-made
 returns-clause-made g c t =

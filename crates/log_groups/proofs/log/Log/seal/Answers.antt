@@ -1,9 +1,10 @@
-use Rattle.std.proofs.Common.{◌≡◌, ◌+◌, ◌-◌, ◌<◌, ◌≤◌, min, [], ◌∷◌, ◌++◌, length, drop, take, sym, subst, ◌∙◌, ap, arith}
+use Rattle.std.proofs.Common.{◌≡◌, inl, ◌+◌, ◌-◌, ◌<◌, ◌≤◌, min, [], ◌∷◌, ◌++◌, length, drop, take, sym, subst, ◌∙◌, ap, arith}
 use Rattle.fp_model.specs.LogText.{body_text}
 use Rattle.fp_site.specs.Moments.{Through}
-use Rattle.log_groups.specs.Images.{IsAtRest, IsBeforeOrAfter, IsGated, IsOpened, with_group}
+use Rattle.fp_site.proofs.Images.{durable_settles}
+use Rattle.log_groups.specs.Images.{IsLog, IsAtRest, IsWithOrWithout, IsBeforeOrAfter, IsGated, IsGatedImage, IsOpened, with_group}
 use Rattle.log_groups.specs.Log.{entries_in, part_text}
-use Rattle.log_groups.proofs.Sealing.{sealed_through, sealed_log, with_some, take_fewer, span, total, many, spells, gate_is, now_unsealed, now_buffered}
+use Rattle.log_groups.proofs.Sealing.{gated_log, sealed_through, sealed_log, with_some, take_fewer, span, total, many, spells, gate_is, now_unsealed, now_buffered}
 use Rattle.log_groups.proofs.log.Log.seal.Goals as goal
 
 -- the group ends within the data set
@@ -60,6 +61,11 @@ returns-clause-unsealed g c =
     c.end_of-end.ensures.start inside some (omega (arith, few, i.count)) rest
     ∙ ap (λ s. drop k s.unsealed) c.self.view_is
 
+-- where nothing is unsealed nothing was written
+pub returns-then-self-eq0-clause-settles : goal.returns-then-self-eq0-clause-settles
+returns-then-self-eq0-clause-settles g c front groups image t at_rest settles =
+    inl (subst (λ l. IsLog front l groups c.args.self.now.gate) (sym (durable_settles (g.T.Site.disk c.args.site.now) 0 image at_rest.durable settles)) at_rest.log)
+
 pub returns-in_err-seal_part-clause-crash : goal.returns-in_err-seal_part-clause-crash
 returns-in_err-seal_part-clause-crash g c front groups t at_rest =
     let f = c.self.inside in
@@ -86,6 +92,31 @@ returns-in_err-seal_part-clause-crash g c front groups t at_rest =
     (subst (λ es. Through (g.T.Site.disk c.args.site.now) (g.T.Site.disk c.seal_part.new.site) (IsBeforeOrAfter front groups f.gate es)) taken
     (sealed_through front groups f.gate (part_text f.buffer.items f.start end) (take k entries) (g.T.Site.disk c.args.site.now) (g.T.Site.disk c.seal_part.new.site) at_gate spelled run))
 
+pub returns-in_err-seal_part-clause-settles : goal.returns-in_err-seal_part-clause-settles
+returns-in_err-seal_part-clause-settles g c front groups image t at_rest settles =
+    let f = c.self.inside in
+    let i = c.self.invariant in
+    let entries = entries_in f.waiting (drop f.start f.buffer.items) in
+    let end = c.end_of-end.result in
+    let k = c.min-count.result in
+    let few : k ≤ length entries = omega (arith, c.min-count.ensures, i.count) in
+    let some : 1 ≤ k = omega (arith, c.min-count.ensures, c.requires, c.if-self-eq0.false) in
+    let value = c.deref.ensures.value in
+    let inside : end < length f.buffer.items = omega (arith, c.end_of-end.ensures.inside, ap length value) in
+    let rest : drop end f.buffer.items ≡ body_text (drop k entries) ++ 0 ∷ [] =
+    ap (drop end) (sym value) ∙ c.end_of-end.ensures.rest entries i.each few (ap (drop f.start) value ∙ i.text) in
+    let all = total f.buffer.items f.start end k entries i.each i.text c.end_of-end.ensures.start inside few rest in
+    let spelled = spells f.buffer.items f.start end k entries i.each i.text c.end_of-end.ensures.start inside few rest some (omega (arith, all, i.limit)) in
+    let taken : take k entries ≡ take c.args.most c.args.self.now.unsealed =
+    ap (λ n. take n entries) (c.min-count.ensures ∙ ap (min c.args.most) (sym i.count)) ∙ sym (take_fewer entries c.args.most) ∙ ap (λ s. take c.args.most s.unsealed) c.self.view_is in
+    let gate : f.gate ≡ c.args.self.now.gate = ap (λ s. s.gate) c.self.view_is in
+    let at_gate : IsAtRest (g.T.Site.disk c.args.site.now) front groups f.gate = subst (IsAtRest (g.T.Site.disk c.args.site.now) front groups) (sym gate) at_rest in
+    let gated : IsGatedImage ((g.T.Site.disk c.args.site.now).contents 0) f.gate (part_text f.buffer.items f.start end) image =
+    subst (λ l. IsGatedImage ((g.T.Site.disk c.args.site.now).contents 0) f.gate (part_text l f.start end) image) c.deref_mut.ensures.value (c.seal_part.ensures.settles image t at_gate.durable at_gate.log.stands settles) in
+    subst (λ n. IsWithOrWithout front groups n (take c.args.most c.args.self.now.unsealed) image) gate
+    (subst (λ es. IsWithOrWithout front groups f.gate es image) taken
+    (gated_log front groups f.gate ((g.T.Site.disk c.args.site.now).contents 0) (part_text f.buffer.items f.start end) (take k entries) at_gate.log spelled image gated))
+
 pub returns-clause-crash : goal.returns-clause-crash
 returns-clause-crash g c front groups t at_rest =
     let f = c.self.inside in
@@ -111,6 +142,31 @@ returns-clause-crash g c front groups t at_rest =
     subst (λ n. Through (g.T.Site.disk c.args.site.now) (g.T.Site.disk c.seal_part.new.site) (IsBeforeOrAfter front groups n (take c.args.most c.args.self.now.unsealed))) gate
     (subst (λ es. Through (g.T.Site.disk c.args.site.now) (g.T.Site.disk c.seal_part.new.site) (IsBeforeOrAfter front groups f.gate es)) taken
     (sealed_through front groups f.gate (part_text f.buffer.items f.start end) (take k entries) (g.T.Site.disk c.args.site.now) (g.T.Site.disk c.seal_part.new.site) at_gate spelled run))
+
+pub returns-clause-settles : goal.returns-clause-settles
+returns-clause-settles g c front groups image t at_rest settles =
+    let f = c.self.inside in
+    let i = c.self.invariant in
+    let entries = entries_in f.waiting (drop f.start f.buffer.items) in
+    let end = c.end_of-end.result in
+    let k = c.min-count.result in
+    let few : k ≤ length entries = omega (arith, c.min-count.ensures, i.count) in
+    let some : 1 ≤ k = omega (arith, c.min-count.ensures, c.requires, c.if-self-eq0.false) in
+    let value = c.deref.ensures.value in
+    let inside : end < length f.buffer.items = omega (arith, c.end_of-end.ensures.inside, ap length value) in
+    let rest : drop end f.buffer.items ≡ body_text (drop k entries) ++ 0 ∷ [] =
+    ap (drop end) (sym value) ∙ c.end_of-end.ensures.rest entries i.each few (ap (drop f.start) value ∙ i.text) in
+    let all = total f.buffer.items f.start end k entries i.each i.text c.end_of-end.ensures.start inside few rest in
+    let spelled = spells f.buffer.items f.start end k entries i.each i.text c.end_of-end.ensures.start inside few rest some (omega (arith, all, i.limit)) in
+    let taken : take k entries ≡ take c.args.most c.args.self.now.unsealed =
+    ap (λ n. take n entries) (c.min-count.ensures ∙ ap (min c.args.most) (sym i.count)) ∙ sym (take_fewer entries c.args.most) ∙ ap (λ s. take c.args.most s.unsealed) c.self.view_is in
+    let gate : f.gate ≡ c.args.self.now.gate = ap (λ s. s.gate) c.self.view_is in
+    let at_gate : IsAtRest (g.T.Site.disk c.args.site.now) front groups f.gate = subst (IsAtRest (g.T.Site.disk c.args.site.now) front groups) (sym gate) at_rest in
+    let gated : IsGatedImage ((g.T.Site.disk c.args.site.now).contents 0) f.gate (part_text f.buffer.items f.start end) image =
+    subst (λ l. IsGatedImage ((g.T.Site.disk c.args.site.now).contents 0) f.gate (part_text l f.start end) image) c.deref_mut.ensures.value (c.seal_part.ensures.settles image t at_gate.durable at_gate.log.stands settles) in
+    subst (λ n. IsWithOrWithout front groups n (take c.args.most c.args.self.now.unsealed) image) gate
+    (subst (λ es. IsWithOrWithout front groups f.gate es image) taken
+    (gated_log front groups f.gate ((g.T.Site.disk c.args.site.now).contents 0) (part_text f.buffer.items f.start end) (take k entries) at_gate.log spelled image gated))
 
 pub returns-clause-durable : goal.returns-clause-durable
 returns-clause-durable g c front groups t at_rest =
