@@ -7,3 +7,4 @@ pub mod Segments
 pub mod Areas
 pub mod Dedbs
 pub mod Whole
+pub mod Sample
