@@ -1,1 +1,4 @@
 pub mod OnLiterals
+pub mod KeyLemmas
+pub mod Loops
+pub mod TrimLemmas

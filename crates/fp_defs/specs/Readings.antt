@@ -15,7 +15,7 @@ or_fault fault None = Err fault
 or_fault fault (Some x) = Ok x
 
 -- one after another, each read beside those before it
-unfoldable pub in_turn : {A B : Type 0} → (List A → B → Result A DefsFault) → List A → List B → Result (List A) DefsFault
+abbrev pub in_turn : {A B : Type 0} → (List A → B → Result A DefsFault) → List A → List B → Result (List A) DefsFault
 in_turn read before [] = Ok before
 in_turn read before (x ∷ xs) = do
   y ← read before x

@@ -23,7 +23,7 @@ None >>= step = None
 (Some x) >>= step = step x
 
 -- what each item is, where each is something
-unfoldable pub each : {A : Type 0} → (Data → Option A) → Items → Option (List A)
+abbrev pub each : {A : Type 0} → (Data → Option A) → Items → Option (List A)
 each what no_items = Some []
 each what (item first rest) = do
   x ← what first

@@ -4,6 +4,7 @@
 mod fault;
 mod fields;
 mod keys;
+mod names;
 mod rows;
 
 pub use fault::DefsFault;
