@@ -1,5 +1,5 @@
 //! The keys of tables, and the values at them.
-ghost use Rattle.std.specs.Prelude.{◌≡◌, ◌≤◌, Option, Some, None, IfOk, map, option_map, string_bytes, pos};
+ghost use Rattle.std.specs.Prelude.{◌≡◌, ◌≤◌, ◌<◌, ◌^◌, OnOk, Option, Some, None, IfOk, map, option_map, string_bytes, pos};
 ghost use Rattle.toml.specs.Data.{get_member, as_table};
 ghost use Rattle.toml.specs.View.{view, array_view, table_view};
 ghost use Rattle.fp_defs.specs.Readings.{Gives, or_fault};
@@ -96,6 +96,20 @@ pub(crate) fn within(alloc: Global, key: &str, low: u32, high: u32, n: i64) -> R
         Ok(n as u32)
     } else {
         Err(out_of_limit(alloc, key, n))
+    }
+}
+
+/// How many there are of something, within limits.
+#[tactic(auto, unfolding(crate::specs::Keys::within))]
+pub(crate) fn count_within(alloc: Global, key: &str, low: u32, high: u32, n: usize) -> Result<u32, DefsFault>
+    requires { n < 2 ^ 63 }
+    ensures exact { Gives (λ m. m) result (within key.now low high (pos n)) }
+    ensures small { OnOk result (n ≤ high) }
+{
+    if n >= low as usize && n <= high as usize {
+        Ok(n as u32)
+    } else {
+        Err(out_of_limit(alloc, key, n as i64))
     }
 }
 

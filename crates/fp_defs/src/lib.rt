@@ -6,6 +6,7 @@ mod fields;
 mod keys;
 mod names;
 mod rows;
+mod texts;
 
 pub use fault::DefsFault;
 pub use rows::{
