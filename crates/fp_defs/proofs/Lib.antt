@@ -5,4 +5,6 @@ pub mod TrimLemmas
 pub mod Steps
 pub mod ValueSteps
 pub mod FieldLemmas
+pub mod RowLemmas
+pub mod NumberLemmas
 pub mod TextLemmas

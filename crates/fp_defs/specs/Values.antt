@@ -1,5 +1,5 @@
 -- What a value of a document is in the definitions: a name, an exit, tables, a field, a row of texts.
-use Rattle.std.specs.Prelude.{ℕ, ℤ, pos, negsuc, neg_ℤ, ◌-◌, List, [], ◌∷◌, ◌++◌, length, map, Bool, true, false, not, ◌&&◌, ◌||◌, ◌==◌, nat_le, if◌then◌else◌, Option, Some, None, unwrap_or, codes}
+use Rattle.std.specs.Prelude.{◌≡◌, ℕ, ℤ, pos, negsuc, neg_ℤ, ◌-◌, List, [], ◌∷◌, ◌++◌, length, map, Bool, true, false, not, ◌&&◌, ◌||◌, ◌==◌, nat_le, if◌then◌else◌, Option, Some, None, unwrap_or, codes}
 use Rattle.std.specs.List.{list_all}
 use Rattle.std.specs.Option.{option_map}
 use Rattle.std.specs.Str.{all_ascii_digits}
@@ -119,11 +119,14 @@ unfoldable pub number_of_text : List ℕ → Option ℤ
 number_of_text [] = None
 number_of_text (c ∷ cs) = if c == 45 then option_map (λ n. neg_ℤ (pos n)) (digits_of cs) else option_map pos (digits_of (c ∷ cs))
 
--- the bytes of a number that a text is, in a field that it fits
+-- the bytes of a number, if it is one, in a field that it fits
+abbrev pub bytes_if : FieldKind → ℕ → Option ℤ → Option (List ℕ)
+bytes_if kind size None = None
+bytes_if kind size (Some n) = bytes_of kind size n
+
+-- the bytes of the number that a text is
 abbrev pub number_loaded : FieldKind → ℕ → List ℕ → Option (List ℕ)
-number_loaded kind size text = do
-  n ← number_of_text text
-  bytes_of kind size n
+number_loaded kind size text = bytes_if kind size (number_of_text text)
 
 -- the bytes of a text in a field: printable characters, and blanks behind them
 abbrev pub text_loaded : ℕ → List ℕ → Option (List ℕ)
@@ -136,14 +139,19 @@ loaded_as H size text = number_loaded H size text
 loaded_as F size text = number_loaded F size text
 loaded_as P size text = number_loaded P size text
 
+-- the bytes of a field, from its text
+unfoldable pub field_in : FieldDef → Data → Option (List ℕ)
+field_in field value = do
+  text ← as_str value
+  loaded_as field.kind field.length text
+
 -- the bytes of a segment: a text for each field
-unfoldable pub segment_in : List FieldDef → Items → Option (List ℕ)
+abbrev pub segment_in : List FieldDef → Items → Option (List ℕ)
 segment_in [] no_items = Some []
 segment_in [] (item first rest) = None
 segment_in (field ∷ fields) no_items = None
 segment_in (field ∷ fields) (item first rest) = do
-  text ← as_str first
-  bytes ← loaded_as field.kind field.length text
+  bytes ← field_in field first
   behind ← segment_in fields rest
   Some (bytes ++ behind)
 
@@ -156,3 +164,10 @@ unfoldable pub as_segments : List FieldDef → Data → Option (List (List ℕ))
 as_segments fields value = do
   rows ← as_array value
   each (as_segment fields) rows
+
+-- Bytes that are put at the end: those of a value, where there are some, and then the answer is true.
+abbrev pub Appends : Bool → List ℕ → List ℕ → Option (List ℕ) → Type 0
+Appends true old new (Some bytes) = new ≡ old ++ bytes
+Appends false old new None = Unit {0}
+Appends true old new None = ⊥
+Appends false old new (Some bytes) = ⊥

@@ -4,6 +4,8 @@
 mod fault;
 mod fields;
 mod keys;
+mod load;
+mod msdbs;
 mod names;
 mod rows;
 mod texts;
