@@ -47,10 +47,9 @@ depth_from types place (def ∷ defs) = max (length (line_to types place)) (dept
 abbrev pub intervals_of : List DedbDef → ℕ
 intervals_of defs = sum_by (λ def. sum_by (formatted_intervals def) def.areas) defs
 
--- the end of a table: too many segments, levels, areas, anchors, and intervals with those of the databases before it
+-- the end of a table behind its segments' number: levels, areas, anchors, and intervals with those of the databases before it
 unfoldable pub ended : List DedbDef → DedbDef → Result DedbDef DefsFault
 ended before def = do
-  _ ← within (codes "segment") 0 15 (pos (length def.segments))
   _ ← within (codes "segment") 0 4 (pos (depth_from def.segments 0 def.segments))
   _ ← within (codes "area") 0 16 (pos (length def.areas))
   _ ← within (codes "area") 0 65536 (pos (anchor_count def))
@@ -69,4 +68,5 @@ dedb_of msdbs before members = do
   segments ← in_turn segment_of [] segment_tables
   _ ← all_fit (ci - 32) segments 0 segments
   areas ← in_turn (area_of (has_sequential segments) (areas_named before)) [] area_tables
+  _ ← within (codes "segment") 0 15 (pos (length segments))
   ended before (record { name = name; randomizer = randomizer; ci = ci; segments = segments; areas = areas })

@@ -192,7 +192,8 @@ fn names_once(alloc: Global, triples: &[Triple]) -> Result<(), DefsFault>
 /// The fields of a table, of at most so many bytes, the first of them a key where one is wanted.
 #[tactic(auto, unfolding(crate::specs::Fields::fields_at))]
 pub(crate) fn fields_at(alloc: Global, key_wanted: bool, most: u32, table: &Table) -> Result<Layout, DefsFault>
-    ensures { Gives (λ layout. layout) result (fields_at key_wanted most (table_view table.now)) }
+    ensures exact { Gives (λ layout. layout) result (fields_at key_wanted most (table_view table.now)) }
+    ensures small { IfOk result (λ layout. layout.length ≤ most) }
 {
     let value = needed(alloc, "fields", table)?;
     let read = triples_in(alloc, value)?;

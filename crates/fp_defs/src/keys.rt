@@ -1,5 +1,5 @@
 //! The keys of tables, and the values at them.
-ghost use Rattle.std.specs.Prelude.{◌≡◌, ◌≤◌, ◌<◌, ◌^◌, OnOk, Option, Some, None, IfOk, map, option_map, string_bytes, pos};
+ghost use Rattle.std.specs.Prelude.{◌≡◌, ◌≤◌, ◌<◌, ◌^◌, OnOk, Option, Some, None, IfOk, length, map, option_map, string_bytes, pos};
 ghost use Rattle.toml.specs.Data.{get_member, as_table};
 ghost use Rattle.toml.specs.View.{view, array_view, table_view};
 ghost use Rattle.fp_defs.specs.Readings.{Gives, or_fault};
@@ -184,10 +184,17 @@ pub(crate) fn name_at(alloc: Global, key: &str, table: &Table) -> Result<Name, D
     }
 }
 
-/// The tables that the items of an array are.
+// More tables than a text of 1,000,000 bytes has.
+const MANY: usize = 1_000_000;
+
+/// The tables that the items of an array are. No machine comes so far as `MANY`: then there is no memory.
 fn tables_of<'a>(alloc: Global, key: &str, items: &'a Vec<Value>) -> Result<Vec<&'a Table>, DefsFault>
-    ensures { Gives (λ ts. map (λ t. table_view t.now) ts.items) result (or_fault (faults.BadField key.now) (each as_table (array_view items.now))) }
+    ensures few { IfOk result (λ ts. length ts.items ≤ 1000000) }
+    ensures exact { Gives (λ ts. map (λ t. table_view t.now) ts.items) result (or_fault (faults.BadField key.now) (each as_table (array_view items.now))) }
 {
+    if items.len() > MANY {
+        return Err(DefsFault::Memory);
+    }
     let mut tables = Vec::new(alloc);
     for item in items {
         let Some(table) = item.as_table() else {
@@ -203,7 +210,8 @@ fn tables_of<'a>(alloc: Global, key: &str, items: &'a Vec<Value>) -> Result<Vec<
 /// The tables that the items of a value are.
 #[tactic(auto, unfolding(crate::specs::Values::as_tables))]
 fn tables_in<'a>(alloc: Global, key: &str, value: &'a Value) -> Result<Vec<&'a Table>, DefsFault>
-    ensures { Gives (λ ts. map (λ t. table_view t.now) ts.items) result (or_fault (faults.BadField key.now) (as_tables (view value.now))) }
+    ensures few { IfOk result (λ ts. length ts.items ≤ 1000000) }
+    ensures exact { Gives (λ ts. map (λ t. table_view t.now) ts.items) result (or_fault (faults.BadField key.now) (as_tables (view value.now))) }
 {
     match value.as_array() {
         Some(items) => tables_of(alloc, key, items),
@@ -214,7 +222,8 @@ fn tables_in<'a>(alloc: Global, key: &str, value: &'a Value) -> Result<Vec<&'a T
 /// The tables of an array, none where the table has no such key.
 #[tactic(auto, unfolding(crate::specs::Keys::tables_or_none))]
 pub(crate) fn tables_or_none<'a>(alloc: Global, key: &str, table: &'a Table) -> Result<Vec<&'a Table>, DefsFault>
-    ensures { Gives (λ ts. map (λ t. table_view t.now) ts.items) result (tables_or_none key.now (table_view table.now)) }
+    ensures few { IfOk result (λ ts. length ts.items ≤ 1000000) }
+    ensures exact { Gives (λ ts. map (λ t. table_view t.now) ts.items) result (tables_or_none key.now (table_view table.now)) }
 {
     match member(table, key) {
         Some(value) => tables_in(alloc, key, value),
@@ -225,7 +234,8 @@ pub(crate) fn tables_or_none<'a>(alloc: Global, key: &str, table: &'a Table) -> 
 /// The tables of an array that must have one.
 #[tactic(auto, unfolding(crate::specs::Keys::tables_at))]
 pub(crate) fn tables_at<'a>(alloc: Global, key: &str, table: &'a Table) -> Result<Vec<&'a Table>, DefsFault>
-    ensures { Gives (λ ts. map (λ t. table_view t.now) ts.items) result (tables_at key.now (table_view table.now)) }
+    ensures few { IfOk result (λ ts. length ts.items ≤ 1000000) }
+    ensures exact { Gives (λ ts. map (λ t. table_view t.now) ts.items) result (tables_at key.now (table_view table.now)) }
 {
     let value = needed(alloc, key, table)?;
     let tables = tables_in(alloc, key, value)?;

@@ -1,6 +1,8 @@
 //! The definitions file.
 #![tactic(auto)]
 
+mod areas;
+mod dedbs;
 mod fault;
 mod fields;
 mod keys;
@@ -8,6 +10,7 @@ mod load;
 mod msdbs;
 mod names;
 mod rows;
+mod segments;
 mod texts;
 
 pub use fault::DefsFault;
