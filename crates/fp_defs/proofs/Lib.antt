@@ -5,6 +5,7 @@ pub mod TrimLemmas
 pub mod Steps
 pub mod ValueSteps
 pub mod FieldLemmas
+pub mod PlaceLemmas
 pub mod RowLemmas
 pub mod NumberLemmas
 pub mod TextLemmas

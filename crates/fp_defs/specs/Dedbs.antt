@@ -1,6 +1,8 @@
 -- The table of a data entry database, with its segments and areas.
 use Rattle.std.specs.Prelude.{ℕ, ℤ, pos, negsuc, ◌+◌, ◌-◌, List, [], ◌∷◌, ◌++◌, length, map, max, sum_by, Bool, true, false, ◌||◌, ◌==◌, if◌then◌else◌, Result, Ok, Err, codes, flat_map, ⊤}
 use Rattle.toml.specs.Data.{Members, as_integer}
+use Rattle.fp_model.specs.declared.name.Name.{Name}
+use Rattle.fp_model.specs.declared.definitions.Kind.{Kind}
 use Rattle.fp_model.specs.declared.definitions.MsdbDef.{MsdbDef}
 use Rattle.fp_model.specs.declared.definitions.SegDef.{SegDef}
 use Rattle.fp_model.specs.declared.definitions.AreaDef.{AreaDef}
@@ -56,6 +58,15 @@ ended before def = do
   _ ← within (codes "area") 0 524288 (pos (intervals_of (before ++ def ∷ [])))
   Ok def
 
+-- a data entry database behind its own keys: its segments, what room they need, its areas, and its end
+unfoldable pub dedb_behind : List DedbDef → Name → Kind → ℕ → List Members → List Members → Result DedbDef DefsFault
+dedb_behind before name randomizer ci segment_tables area_tables = do
+  segments ← in_turn segment_of [] segment_tables
+  _ ← all_fit (ci - 32) segments 0 segments
+  areas ← in_turn (area_of (has_sequential segments) (areas_named before)) [] area_tables
+  _ ← within (codes "segment") 0 15 (pos (length segments))
+  ended before (record { name = name; randomizer = randomizer; ci = ci; segments = segments; areas = areas })
+
 -- a data entry database, behind those of the tables before it
 unfoldable pub dedb_of : List MsdbDef → List DedbDef → Members → Result DedbDef DefsFault
 dedb_of msdbs before members = do
@@ -65,8 +76,4 @@ dedb_of msdbs before members = do
   ci ← interval_size_at members
   segment_tables ← tables_at (codes "segment") members
   area_tables ← tables_at (codes "area") members
-  segments ← in_turn segment_of [] segment_tables
-  _ ← all_fit (ci - 32) segments 0 segments
-  areas ← in_turn (area_of (has_sequential segments) (areas_named before)) [] area_tables
-  _ ← within (codes "segment") 0 15 (pos (length segments))
-  ended before (record { name = name; randomizer = randomizer; ci = ci; segments = segments; areas = areas })
+  dedb_behind before name randomizer ci segment_tables area_tables

@@ -5,6 +5,8 @@ use Rattle.std.specs.Option.{option_map_or}
 use Rattle.std.specs.Str.{is_utf8}
 use Rattle.toml.specs.Data.{Data, Items, no_items, item, Members, as_array}
 use Rattle.toml.specs.Parse.{parse_document}
+use Rattle.fp_model.specs.declared.definitions.MsdbDef.{MsdbDef}
+use Rattle.fp_model.specs.declared.definitions.DedbDef.{DedbDef}
 use Rattle.fp_model.specs.declared.definitions.Defs.{Defs}
 use Rattle.fp_model.specs.State.{numbers_up}
 use Rattle.fp_defs.specs.Readings.{◌>>=◌, or_fault, in_turn}
@@ -33,21 +35,35 @@ abbrev pub missing_group : List ℕ → Option ℕ
 missing_group groups = find (λ g. not (list_any (λ h. h == g) groups)) (numbers_up (greatest groups) 1)
 
 -- every group up to the greatest has a region
-unfoldable pub no_gap : List ℕ → Result (List ℕ) DefsFault
-no_gap groups = option_map_or (λ g. Err (OutOfLimit (codes "regions") (pos g))) (missing_group groups) (Ok groups)
+unfoldable pub no_gap : List ℕ → Result ⊤ DefsFault
+no_gap groups = option_map_or (λ g. Err (OutOfLimit (codes "regions") (pos g))) (missing_group groups) (Ok tt)
 
 -- how many regions there are, then each in turn, then the groups that none has
+unfoldable pub groups_in : Items → Result (List ℕ) DefsFault
+groups_in items = do
+  _ ← within (codes "regions") 1 64 (pos (length (items_in items)))
+  groups ← in_turn group_of [] (items_in items)
+  _ ← no_gap groups
+  Ok groups
+
 unfoldable pub regions_at : Members → Result (List ℕ) DefsFault
 regions_at members = do
   value ← needed (codes "regions") members
   items ← or_fault (BadField (codes "regions")) (as_array value)
-  _ ← within (codes "regions") 1 64 (pos (length (items_in items)))
-  groups ← in_turn group_of [] (items_in items)
-  no_gap groups
+  groups_in items
 
 -- ---- the whole
 
--- the top table of a text, and then its databases in turn
+-- how many databases there are of each sort, and then each in turn
+unfoldable pub databases_of : List Members → List Members → Result (List MsdbDef × List DedbDef) DefsFault
+databases_of msdb_tables dedb_tables = do
+  _ ← within (codes "msdb") 0 32 (pos (length msdb_tables))
+  _ ← within (codes "dedb") 0 16 (pos (length dedb_tables))
+  msdbs ← in_turn msdb_of [] msdb_tables
+  dedbs ← in_turn (dedb_of msdbs) [] dedb_tables
+  Ok (msdbs, dedbs)
+
+-- the top table of a text, and then its databases
 unfoldable pub defs_in : List ℕ → Members → Result Defs DefsFault
 defs_in text members = do
   _ ← only Top members
@@ -57,11 +73,8 @@ defs_in text members = do
   pool ← number_or 1000 (codes "pool") 1 100000 members
   msdb_tables ← tables_or_none (codes "msdb") members
   dedb_tables ← tables_or_none (codes "dedb") members
-  _ ← within (codes "msdb") 0 32 (pos (length msdb_tables))
-  _ ← within (codes "dedb") 0 16 (pos (length dedb_tables))
-  msdbs ← in_turn msdb_of [] msdb_tables
-  dedbs ← in_turn (dedb_of msdbs) [] dedb_tables
-  Ok (record { regions = regions; router = router; log_group = log_group; pool = pool; msdbs = msdbs; dedbs = dedbs; text = text })
+  databases ← databases_of msdb_tables dedb_tables
+  Ok (record { regions = regions; router = router; log_group = log_group; pool = pool; msdbs = databases.0; dedbs = databases.1; text = text })
 
 -- the document that a text is: UTF-8, and TOML
 unfoldable pub document_of : List ℕ → Option Members

@@ -1,5 +1,5 @@
 //! The tables of data entry databases.
-ghost use Rattle.std.specs.Prelude.{◌≡◌, ◌≤◌, ◌<◌, ◌++◌, ◌∷◌, [], ◌^◌, IfOk, length, map, pos, sum_by};
+ghost use Rattle.std.specs.Prelude.{◌≡◌, ◌≤◌, ◌<◌, ◌++◌, ◌∷◌, [], ◌+◌, ◌^◌, IfOk, length, map, pos, sum_by};
 ghost use Rattle.toml.specs.View.{table_view};
 ghost use Rattle.fp_model.specs.State.{anchors_in, anchor_count};
 ghost use Rattle.fp_model.specs.Order.{line_to, parent_of};
@@ -7,7 +7,7 @@ ghost use Rattle.fp_model.specs.WellFormed.{sequential_intervals, formatted_inte
 ghost use Rattle.fp_defs.specs.Readings.{Gives, in_turn};
 ghost use Rattle.fp_defs.specs.Keys.{occurs, once, new_name};
 ghost use Rattle.fp_defs.specs.Msdbs.{msdb_names};
-ghost use Rattle.fp_defs.specs.Dedbs.{dedb_names, size_in, interval_size_at, depth_from, intervals_of, ended, dedb_of};
+ghost use Rattle.fp_defs.specs.Dedbs.{dedb_names, size_in, interval_size_at, depth_from, intervals_of, ended, dedb_behind, dedb_of};
 
 use crate::areas::areas_of;
 use crate::fault::{DefsFault, bad_field, out_of_limit, twice};
@@ -15,9 +15,17 @@ use crate::keys::{Form, count_within, exit_at, name_at, needed, only, tables_at}
 use crate::msdbs::is_msdb;
 use crate::names::without_blanks;
 use crate::segments::{all_fit, has_sequential, narrowed, segments_of};
-use fp_model::{AreaDef, DedbDef, List, MsdbDef, Name, SegDef};
+use fp_model::{AreaDef, DedbDef, Kind, List, MsdbDef, Name, SegDef};
 use std::alloc::Global;
 use toml::Table;
+
+/// A database's own keys but its segments and areas.
+#[derive(Clone, Copy, Debug)]
+struct Head {
+    name: Name,
+    randomizer: Kind,
+    ci: u16,
+}
 
 /// Whether one of these databases has a name.
 fn is_dedb(defs: &[DedbDef], name: &Name) -> bool
@@ -49,6 +57,7 @@ fn new_dedb_name(alloc: Global, msdbs: &[MsdbDef], before: &[DedbDef], table: &T
 fn interval_size_at(alloc: Global, table: &Table) -> Result<u16, DefsFault>
     ensures exact { Gives (λ n. n) result (interval_size_at (table_view table.now)) }
     ensures some { IfOk result (λ n. 512 ≤ n) }
+    ensures small { IfOk result (λ n. n ≤ 4096) }
 {
     let value = needed(alloc, "ci", table)?;
     let Some(n) = value.as_integer() else {
@@ -114,6 +123,14 @@ fn anchors(areas: &[AreaDef]) -> u64
     sum
 }
 
+/// The bytes of a sequential slot.
+fn slot(length: u16) -> u64
+    ensures exact { result ≡ 16 + length }
+    ensures small { result < 2 ^ 17 }
+{
+    16 + u64::from(length)
+}
+
 /// The intervals of the sequential part of an area with a capacity.
 fn sequential_intervals(ci: u16, types: &[SegDef], capacity: u32) -> u64
     requires { 512 ≤ ci }
@@ -122,7 +139,7 @@ fn sequential_intervals(ci: u16, types: &[SegDef], capacity: u32) -> u64
 {
     for def in types {
         if def.sequential {
-            let slots = (u64::from(ci) - 32) / (16 + u64::from(def.length));
+            let slots = (u64::from(ci) - 32) / slot(def.length);
             if slots == 0 {
                 return 0;
             }
@@ -146,4 +163,78 @@ fn intervals(def: &DedbDef) -> u64
         sum += 1 + u64::from(area.uows) * unit + last;
     }
     sum
+}
+
+/// The end of a table: its levels, its anchors, and its intervals with those taken before. Answers all intervals too.
+#[tactic(auto, unfolding(crate::specs::Dedbs::ended))]
+fn ended(alloc: Global, before: &[DedbDef], taken: u32, def: DedbDef) -> Result<(DedbDef, u32), DefsFault>
+    requires taken { taken ≡ intervals_of before.now }
+    requires small { taken ≤ 524288 }
+    requires few { length def.segments ≤ 15 }
+    requires size { 512 ≤ def.ci }
+    ensures exact { Gives (λ r. r.0) result (ended before.now def) }
+    ensures all { IfOk result (λ r. r.1 ≡ intervals_of (before.now ++ r.0 ∷ [])) }
+    ensures small { IfOk result (λ r. r.1 ≤ 524288) }
+{
+    count_within(alloc, "segment", 0, 4, depth(def.segments.as_slice()))?;
+    count_within(alloc, "area", 0, 16, def.areas.len())?;
+    count_within(alloc, "area", 0, 65_536, anchors(def.areas.as_slice()) as usize)?;
+    let all = u64::from(taken) + intervals(&def);
+    let all = count_within(alloc, "area", 0, 524_288, all as usize)?;
+    Ok((def, all))
+}
+
+/// A database behind its own keys.
+#[tactic(auto, unfolding(crate::specs::Dedbs::dedb_behind))]
+fn dedb_behind(alloc: Global, before: &[DedbDef], taken: u32, head: Head, segment_tables: &[&Table], area_tables: &[&Table]) -> Result<(DedbDef, u32), DefsFault>
+    requires taken { taken ≡ intervals_of before.now }
+    requires small { taken ≤ 524288 }
+    requires size { 512 ≤ head.ci }
+    requires largest { head.ci ≤ 4096 }
+    requires few { length segment_tables.now ≤ 1000000 }
+    ensures exact { Gives (λ r. r.0) result (dedb_behind before.now head.name head.randomizer head.ci (map (λ t. table_view t.now) segment_tables.now) (map (λ t. table_view t.now) area_tables.now)) }
+    ensures all { IfOk result (λ r. r.1 ≡ intervals_of (before.now ++ r.0 ∷ [])) }
+    ensures small { IfOk result (λ r. r.1 ≤ 524288) }
+{
+    let drafts = segments_of(alloc, segment_tables)?;
+    all_fit(alloc, u32::from(head.ci - 32), drafts.as_slice())?;
+    let sequential = has_sequential(drafts.as_slice());
+    let areas = areas_of(alloc, sequential, before, area_tables)?;
+    count_within(alloc, "segment", 0, 15, drafts.len())?;
+    let segments = narrowed(alloc, drafts)?;
+    let Head { name, randomizer, ci } = head;
+    ended(alloc, before, taken, DedbDef { name, randomizer, ci, segments, areas })
+}
+
+/// A data entry database, behind those of the tables before it, which have taken so many intervals.
+#[tactic(auto, unfolding(crate::specs::Dedbs::dedb_of))]
+fn dedb_of(alloc: Global, msdbs: &[MsdbDef], before: &[DedbDef], taken: u32, table: &Table) -> Result<(DedbDef, u32), DefsFault>
+    requires taken { taken ≡ intervals_of before.now }
+    requires small { taken ≤ 524288 }
+    ensures exact { Gives (λ r. r.0) result (dedb_of msdbs.now before.now (table_view table.now)) }
+    ensures all { IfOk result (λ r. r.1 ≡ intervals_of (before.now ++ r.0 ∷ [])) }
+    ensures small { IfOk result (λ r. r.1 ≤ 524288) }
+{
+    only(alloc, Form::Dedb, table)?;
+    let name = new_dedb_name(alloc, msdbs, before, table)?;
+    let randomizer = exit_at(alloc, "randomizer", table)?;
+    let ci = interval_size_at(alloc, table)?;
+    let segment_tables = tables_at(alloc, "segment", table)?;
+    let area_tables = tables_at(alloc, "area", table)?;
+    let head = Head { name, randomizer, ci };
+    dedb_behind(alloc, before, taken, head, &segment_tables, &area_tables)
+}
+
+/// The data entry databases of tables, in turn.
+pub(crate) fn dedbs_of(alloc: Global, msdbs: &[MsdbDef], tables: &[&Table]) -> Result<List<DedbDef>, DefsFault>
+    ensures { Gives (λ defs. defs) result (in_turn (dedb_of msdbs.now) [] (map (λ t. table_view t.now) tables.now)) }
+{
+    let mut defs = List::new(alloc);
+    let mut taken = 0;
+    for table in tables {
+        let (def, all) = dedb_of(alloc, msdbs, defs.as_slice(), taken, *table)?;
+        defs.push(def)?;
+        taken = all;
+    }
+    Ok(defs)
 }

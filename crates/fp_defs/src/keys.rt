@@ -105,6 +105,7 @@ pub(crate) fn count_within(alloc: Global, key: &str, low: u32, high: u32, n: usi
     requires { n < 2 ^ 63 }
     ensures exact { Gives (λ m. m) result (within key.now low high (pos n)) }
     ensures small { OnOk result (n ≤ high) }
+    ensures same { IfOk result (λ m. m ≡ n) }
 {
     if n >= low as usize && n <= high as usize {
         Ok(n as u32)

@@ -219,7 +219,10 @@ pub(crate) fn all_fit(alloc: Global, room: u32, drafts: &[Draft]) -> Result<(), 
     ensures { Gives (λ u. u) result (all_fit room drafts.now 0 drafts.now) }
 {
     for place in 0..drafts.len() {
-        count_within(alloc, "fields", 0, room, stored_length(drafts, place))?;
+        let needed = stored_length(drafts, place);
+        if let Err(fault) = count_within(alloc, "fields", 0, room, needed) {
+            return Err(fault);
+        }
     }
     Ok(())
 }
