@@ -5,6 +5,9 @@ pub mod TrimLemmas
 pub mod Steps
 pub mod ValueSteps
 pub mod FieldLemmas
+pub mod WholeLemmas
+pub mod SegmentLemmas
+pub mod Beside
 pub mod PlaceLemmas
 pub mod RowLemmas
 pub mod NumberLemmas

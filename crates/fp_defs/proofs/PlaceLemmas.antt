@@ -1,6 +1,7 @@
 -- An element at a place, and the lines of types from the root down.
-use Rattle.std.proofs.Common.{◌≡◌, ℕ, zero, suc, ◌+◌, ◌-◌, ◌<◌, List, [], ◌∷◌, ◌++◌, length, drop, get_or, max, Option, Some, None, Ok, Err, pos, codes, refl, sym, ap, ◌∙◌, arith, rules}
+use Rattle.std.proofs.Common.{◌≡◌, ℕ, zero, suc, ◌+◌, ◌-◌, ◌<◌, List, [], ◌∷◌, ◌++◌, length, drop, get_or, max, Bool, true, false, cond, not, find, ◌==◌, Option, Some, None, Ok, Err, pos, codes, refl, sym, ap, ◌∙◌, arith, rules}
 use Rattle.std.specs.Prelude.{slice_get}
+use Rattle.std.specs.List.{list_any}
 use Rattle.std.proofs.lemmas.List.{drop_more, length_push}
 use Rattle.std.proofs.lemmas.Option.{slice_get-get_or}
 use Rattle.fp_model.specs.declared.definitions.SegDef.{SegDef}
@@ -31,6 +32,24 @@ line_longer (suc n) types at parent some is = let e : suc n - 1 ≡ n = omega ar
 pub numbers_up_more : (n from : ℕ) → 0 < n → numbers_up n from ≡ from ∷ numbers_up (n - 1) (from + 1)
 numbers_up_more zero from some = absurd (omega arith)
 numbers_up_more (suc n) from some = let e : suc n - 1 ≡ n = omega arith in rw e
+
+-- the least group without a region, from one on
+abbrev lacks : List ℕ → ℕ → Bool
+lacks groups g = not (list_any (λ h. h == g) groups)
+
+find_first : (test : ℕ → Bool) (x : ℕ) (xs : List ℕ) (b : Bool) → test x ≡ b → find test (x ∷ xs) ≡ cond b (Some x) (find test xs)
+find_first test x xs b e = ap (λ c. cond c (Some x) (find test xs)) e
+
+pub gap_here : (groups : List ℕ) (most i : ℕ) → i < most → list_any (λ h. h == i + 1) groups ≡ false → find (lacks groups) (numbers_up (most - i) (i + 1)) ≡ Some (i + 1)
+gap_here groups most i below e = ap (find (lacks groups)) (numbers_up_more (most - i) (i + 1) (omega arith)) ∙ find_first (lacks groups) (i + 1) _ true (ap not e)
+
+pub gap_later : (groups : List ℕ) (most i : ℕ) → i < most → list_any (λ h. h == i + 1) groups ≡ true
+    → find (lacks groups) (numbers_up (most - i) (i + 1)) ≡ find (lacks groups) (numbers_up (most - (i + 1)) (i + 1 + 1))
+gap_later groups most i below e =
+    let same : most - i - 1 ≡ most - (i + 1) = omega arith in
+    ap (find (lacks groups)) (numbers_up_more (most - i) (i + 1) (omega arith))
+    ∙ find_first (lacks groups) (i + 1) _ false (ap not e)
+    ∙ ap (λ (n : ℕ). find (lacks groups) (numbers_up n (i + 1 + 1))) same
 
 -- the greatest number on a line, with one type more
 pub depth_more : (types : List SegDef) (place : ℕ) → place < length types

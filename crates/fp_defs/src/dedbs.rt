@@ -1,5 +1,5 @@
 //! The tables of data entry databases.
-ghost use Rattle.std.specs.Prelude.{◌≡◌, ◌≤◌, ◌<◌, ◌++◌, ◌∷◌, [], ◌+◌, ◌^◌, IfOk, length, map, pos, sum_by};
+ghost use Rattle.std.specs.Prelude.{◌≡◌, ◌≤◌, ◌<◌, ◌++◌, ◌∷◌, [], ◌+◌, ◌^◌, IfOk, length, map, max, sum_by};
 ghost use Rattle.toml.specs.View.{table_view};
 ghost use Rattle.fp_model.specs.State.{anchors_in, anchor_count};
 ghost use Rattle.fp_model.specs.Order.{line_to, parent_of};
@@ -97,6 +97,13 @@ fn parent_of(types: &[SegDef], place: usize) -> Option<u8>
     if place < types.len() { types[place].parent } else { None }
 }
 
+/// The greater of two.
+fn greater(a: usize, b: usize) -> usize
+    ensures { result ≡ max a b }
+{
+    if a < b { b } else { a }
+}
+
 /// The greatest number of types on a line from the root down.
 fn depth(types: &[SegDef]) -> usize
     requires { length types.now ≤ 15 }
@@ -105,7 +112,7 @@ fn depth(types: &[SegDef]) -> usize
 {
     let mut most = 0;
     for place in 0..types.len() {
-        most = most.max(line_length(types, place));
+        most = greater(most, line_length(types, place));
     }
     most
 }

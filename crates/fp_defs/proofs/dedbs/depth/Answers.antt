@@ -11,9 +11,9 @@ loop-place-preserved c =
     let most = c.loop-place.most in
     let rest : ℕ = depth_from types (place + 1) (drop (place + 1) types) in
     (
-      ap (λ (m : ℕ). max m rest) (c.max-most.ensures ∙ ap (max most) c.line_length.ensures.exact)
+      ap (λ (m : ℕ). max m rest) (c.greater-most.ensures ∙ ap (max most) c.line_length.ensures.exact)
       ∙ max_three most (length (line_to types place)) rest
       ∙ ap (max most) (sym (depth_more types place c.loop-place-test.true))
       ∙ c.loop-place.invariant.0,
-      grind (arith, c.max-most.ensures, c.line_length.ensures.small),
+      grind (arith, c.greater-most.ensures, c.line_length.ensures.small),
     )
