@@ -8,6 +8,9 @@ pub mod FieldLemmas
 pub mod WholeLemmas
 pub mod SegmentLemmas
 pub mod Beside
+pub mod Distinct
+pub mod LayoutLemmas
+pub mod MsdbLemmas
 pub mod PlaceLemmas
 pub mod RowLemmas
 pub mod NumberLemmas

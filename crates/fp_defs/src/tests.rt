@@ -1577,11 +1577,11 @@ fn the_sample(rt: HostRuntime) -> Result<(), Fail> {
     let Ok(defs) = read else {
         return Ok(());
     };
-    assert_eq!(rt; defs.regions.as_slice(), [1, 1].as_slice());
+    assert!(rt; defs.regions.as_slice() == [1, 1].as_slice());
     assert_eq!(rt; defs.router, Kind::Fold);
     assert_eq!(rt; defs.log_group, 100);
     assert_eq!(rt; defs.pool, 1000);
-    assert_eq!(rt; defs.text.as_slice(), SAMPLE.as_bytes());
+    assert!(rt; defs.text.as_slice() == SAMPLE.as_bytes());
     assert!(rt; is_accounts(&defs));
     assert!(rt; is_customers(&defs));
     Ok(())
