@@ -1,5 +1,5 @@
 -- The keys of a table as a map has them, and as its members have them.
-use Rattle.std.proofs.Common.{◌≡◌, ℕ, ◌≤◌, List, [], ◌∷◌, Option, Some, None, Ok, Err, String, Global, string_bytes, Bool, true, false, cond, ◌&&◌, nat_le, pos, refl, arith}
+use Rattle.std.proofs.Common.{◌≡◌, ℕ, ◌≤◌, List, [], ◌∷◌, Option, Some, None, Ok, Err, String, Global, string_bytes, Bool, true, false, cond, ◌&&◌, nat_le, ℤ, pos, negsuc, refl, arith}
 use Rattle.std.proofs.lemmas.Bool.Decides.{nat_tests}
 use Rattle.std.specs.Prelude.{if◌then◌else◌}
 use Rattle.std.specs.Map.{keys_of}
@@ -30,3 +30,11 @@ within-ok key low high n m e =
     let h = from_test (nat_le low n && nat_le n high) n m (OutOfLimit key (pos n)) e in
     let is : n ≡ m = h.1 in
     grind (arith, nat_tests, h.0)
+
+pub within-any : (key : List ℕ) (low high : ℕ) (z : ℤ) (m : ℕ) → within key low high z ≡ Ok m → (low ≤ m) × (m ≤ high)
+unfolding within
+within-any key low high (pos n) m e =
+    let h = from_test (nat_le low n && nat_le n high) n m (OutOfLimit key (pos n)) e in
+    let is : n ≡ m = h.1 in
+    grind (arith, nat_tests, h.0)
+within-any key low high (negsuc n) m e = absurd (cc)

@@ -11,6 +11,7 @@ pub mod Beside
 pub mod Distinct
 pub mod LayoutLemmas
 pub mod MsdbLemmas
+pub mod DedbLemmas
 pub mod PlaceLemmas
 pub mod RowLemmas
 pub mod NumberLemmas

@@ -51,7 +51,7 @@ found_in : (b : Bool) (i n : ℕ) (rest : Option ℕ) → cond b (Some i) rest �
 found_in true i n rest e = inl (refl, cc)
 found_in false i n rest e = inr (refl, e)
 
-found_below : (test : SegDef → Bool) (i : ℕ) (defs : List SegDef) (n : ℕ) → position_from test i defs ≡ Some n → (i ≤ n) × (n < i + length defs)
+pub found_below : (test : SegDef → Bool) (i : ℕ) (defs : List SegDef) (n : ℕ) → position_from test i defs ≡ Some n → (i ≤ n) × (n < i + length defs)
 found_below test i [] n e = absurd (cc)
 found_below test i (def ∷ defs) n e =
     elim (found_in (test def) i n (position_from test (i + 1) defs) e) [
@@ -96,7 +96,7 @@ sequential_by before None true is e yes1 = absurd (cc)
 sequential_by before (Some p) true is e yes1 =
     second (length before) p (length before == 1 && p == 0) refl is e
 
-sequential_is : (before : List SegDef) (parent : Option ℕ) (members : Members) (is : Bool) → sequential_at before parent members ≡ Ok is → is ≡ true → (length before ≡ 1) × (parent ≡ Some 0)
+pub sequential_is : (before : List SegDef) (parent : Option ℕ) (members : Members) (is : Bool) → sequential_at before parent members ≡ Ok is → is ≡ true → (length before ≡ 1) × (parent ≡ Some 0)
 unfolding sequential_at
 sequential_is before parent members is e yes1 =
     let said = ok_step (flag_at (codes "sequential") members) (at_its_place before parent) is e in

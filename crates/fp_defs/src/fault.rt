@@ -13,7 +13,8 @@ pub enum DefsFault {
     Missing(Bytes),
     /// A table has a key that the format lacks; of several the least.
     Unknown(Bytes),
-    /// A number, or how many there are of something, is outside its limits: the key and the number.
+    /// A number, how many there are of something, or the bytes of something is outside its limits: the key and the
+    /// number. Or no region has a group below the greatest: `regions` and the least such group.
     OutOfLimit(Bytes, i64),
     /// A name or the key of a loaded segment occurred before.
     Twice(Bytes),

@@ -1572,11 +1572,7 @@ overflow = 0"#;
 
 #[test]
 fn the_sample(rt: HostRuntime) -> Result<(), Fail> {
-    let read = read_defs(rt.alloc(), SAMPLE.as_bytes());
-    assert!(rt; read.is_ok());
-    let Ok(defs) = read else {
-        return Ok(());
-    };
+    let defs = read_defs(rt.alloc(), SAMPLE.as_bytes())?;
     assert!(rt; defs.regions.as_slice() == [1, 1].as_slice());
     assert_eq!(rt; defs.router, Kind::Fold);
     assert_eq!(rt; defs.log_group, 100);
