@@ -19,7 +19,7 @@ use Rattle.fp_model.specs.Order.{line_to}
 use Rattle.fp_model.specs.WellFormed.{Between, AreDistinct, IsLayout, BeginsWithKey, HavePlaces, IsTypeName, IsNoSequentialChild, IsSegDef, has_sequential, AllWithinLevels, HasCapacity, IsAreaDef, IsDedbDef}
 use Rattle.fp_defs.specs.Readings.{◌>>=◌, or_fault, in_turn}
 use Rattle.fp_defs.specs.Values.{as_name}
-use Rattle.fp_defs.specs.Keys.{occurs, only, needed, name_at, once, new_name, within, number_at, number_in, flag_at, exit_at, tables_at}
+use Rattle.fp_defs.specs.Keys.{occurs, only, needed, name_at, once, new_name, within, number_at, number_within, flag_at, exit_at, tables_at}
 use Rattle.fp_defs.specs.Fields.{fields_at}
 use Rattle.fp_defs.specs.Msdbs.{msdb_names}
 use Rattle.fp_defs.specs.Segments.{segment_names, not_KEY, segment_name, no_limit, says_sequential, place_of, parent_in, parent_at, at_its_place, sequential_at, segment_of, all_fit}
@@ -44,7 +44,7 @@ map_twice f g (x ∷ xs) = ap (λ ys. g (f x) ∷ ys) (map_twice f g xs)
 -- ---- areas
 
 pub number_at-within : (key : List ℕ) (low high : ℕ) (table : Members) (n : ℕ) → number_at key low high table ≡ Ok n → Between low high n
-unfolding number_at number_in
+unfolding number_at number_within
 number_at-within key low high table n e =
     let value = ok_step (needed key table) _ n e in
     let read = ok_step (or_fault (BadField key) (as_integer value.0)) (within key low high) n value.2 in

@@ -13,7 +13,7 @@ use Rattle.fp_defs.specs.declared.fault.DefsFault.{DefsFault}
 use Rattle.fp_defs.specs.declared.fault.DefsFault.TheVariants.{Twice}
 use Rattle.fp_defs.proofs.Beside.{Beside}
 
-nothing_more : {A : Type 0} (xs : List A) → xs ++ [] ≡ xs
+pub nothing_more : {A : Type 0} (xs : List A) → xs ++ [] ≡ xs
 nothing_more [] = refl
 nothing_more (x ∷ xs) = ap (λ ys. x ∷ ys) (nothing_more xs)
 

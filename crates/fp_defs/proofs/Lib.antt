@@ -12,6 +12,8 @@ pub mod Distinct
 pub mod LayoutLemmas
 pub mod MsdbLemmas
 pub mod DedbLemmas
+pub mod DedbKeeps
+pub mod WholeKeeps
 pub mod PlaceLemmas
 pub mod RowLemmas
 pub mod NumberLemmas

@@ -43,8 +43,8 @@ unfoldable pub within : List ℕ → ℕ → ℕ → ℤ → Result ℕ DefsFaul
 within key low high (pos n) = if nat_le low n && nat_le n high then Ok n else Err (OutOfLimit key (pos n))
 within key low high (negsuc n) = Err (OutOfLimit key (negsuc n))
 
-unfoldable pub number_in : List ℕ → ℕ → ℕ → Data → Result ℕ DefsFault
-number_in key low high value = do
+unfoldable pub number_within : List ℕ → ℕ → ℕ → Data → Result ℕ DefsFault
+number_within key low high value = do
   n ← or_fault (BadField key) (as_integer value)
   within key low high n
 
@@ -52,11 +52,11 @@ number_in key low high value = do
 unfoldable pub number_at : List ℕ → ℕ → ℕ → Members → Result ℕ DefsFault
 number_at key low high members = do
   value ← needed key members
-  number_in key low high value
+  number_within key low high value
 
 -- a whole number that it may have
 unfoldable pub number_or : ℕ → List ℕ → ℕ → ℕ → Members → Result ℕ DefsFault
-number_or default key low high members = option_map_or (number_in key low high) (get_member key members) (Ok default)
+number_or default key low high members = option_map_or (number_within key low high) (get_member key members) (Ok default)
 
 -- true or false, and false where the table has no such key
 unfoldable pub flag_at : List ℕ → Members → Result Bool DefsFault

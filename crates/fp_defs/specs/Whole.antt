@@ -10,7 +10,7 @@ use Rattle.fp_model.specs.declared.definitions.DedbDef.{DedbDef}
 use Rattle.fp_model.specs.declared.definitions.Defs.{Defs}
 use Rattle.fp_model.specs.State.{numbers_up}
 use Rattle.fp_defs.specs.Readings.{◌>>=◌, or_fault, in_turn}
-use Rattle.fp_defs.specs.Keys.{only, needed, within, number_in, number_or, exit_at, tables_or_none}
+use Rattle.fp_defs.specs.Keys.{only, needed, within, number_within, number_or, exit_at, tables_or_none}
 use Rattle.fp_defs.specs.Msdbs.{msdb_of}
 use Rattle.fp_defs.specs.Dedbs.{dedb_of}
 use Rattle.fp_defs.specs.declared.fault.DefsFault.{DefsFault}
@@ -25,7 +25,7 @@ items_in (item first rest) = first ∷ items_in rest
 
 -- a region's group
 abbrev pub group_of : List ℕ → Data → Result ℕ DefsFault
-group_of before value = number_in (codes "regions") 1 16 value
+group_of before value = number_within (codes "regions") 1 16 value
 
 abbrev pub greatest : List ℕ → ℕ
 greatest groups = fold max 0 groups

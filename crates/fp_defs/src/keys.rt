@@ -4,7 +4,7 @@ ghost use Rattle.toml.specs.Data.{get_member, as_table};
 ghost use Rattle.toml.specs.View.{view, array_view, table_view};
 ghost use Rattle.fp_defs.specs.Readings.{Gives, or_fault};
 ghost use Rattle.fp_defs.specs.Values.{each, as_tables};
-ghost use Rattle.fp_defs.specs.Keys.{has_key, unknown_key, only, needed, within, number_in, number_at, number_or, flag_at, exit_at, name_at, tables_or_none, tables_at};
+ghost use Rattle.fp_defs.specs.Keys.{has_key, unknown_key, only, needed, within, number_within, number_at, number_or, flag_at, exit_at, name_at, tables_or_none, tables_at};
 ghost use Rattle.fp_defs.specs.declared.fault.DefsFault.TheVariants as faults;
 
 use crate::fault::{DefsFault, bad_field, missing, out_of_limit, unknown};
@@ -115,9 +115,9 @@ pub(crate) fn count_within(alloc: Global, key: &str, low: u32, high: u32, n: usi
 }
 
 /// The number within its limits that a value is.
-#[tactic(auto, unfolding(crate::specs::Keys::number_in))]
-pub(crate) fn number_in(alloc: Global, key: &str, low: u32, high: u32, value: &Value) -> Result<u32, DefsFault>
-    ensures exact { Gives (λ m. m) result (number_in key.now low high (view value.now)) }
+#[tactic(auto, unfolding(crate::specs::Keys::number_within))]
+pub(crate) fn number_within(alloc: Global, key: &str, low: u32, high: u32, value: &Value) -> Result<u32, DefsFault>
+    ensures exact { Gives (λ m. m) result (number_within key.now low high (view value.now)) }
     ensures small { IfOk result (λ m. m ≤ high) }
 {
     match value.as_integer() {
@@ -133,7 +133,7 @@ pub(crate) fn number_at(alloc: Global, key: &str, low: u32, high: u32, table: &T
     ensures small { IfOk result (λ m. m ≤ high) }
 {
     let value = needed(alloc, key, table)?;
-    number_in(alloc, key, low, high, value)
+    number_within(alloc, key, low, high, value)
 }
 
 /// A number that the table may have.
@@ -142,7 +142,7 @@ pub(crate) fn number_or(alloc: Global, default: u32, key: &str, low: u32, high: 
     ensures { Gives (λ m. m) result (number_or default key.now low high (table_view table.now)) }
 {
     match member(table, key) {
-        Some(value) => number_in(alloc, key, low, high, value),
+        Some(value) => number_within(alloc, key, low, high, value),
         None => Ok(default),
     }
 }

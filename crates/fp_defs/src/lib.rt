@@ -6,7 +6,6 @@ mod dedbs;
 mod fault;
 mod fields;
 mod keys;
-mod laws;
 mod load;
 mod msdbs;
 mod names;
@@ -16,7 +15,6 @@ mod texts;
 mod whole;
 
 pub use fault::DefsFault;
-pub use laws::fields_are_laid_out;
 pub use whole::read_defs;
 pub use rows::{
     a_cut_line_is_no_document, a_loaded_key_stands_once, an_element_has_its_sequential_pointer,

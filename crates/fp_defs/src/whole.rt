@@ -8,7 +8,7 @@ ghost use Rattle.fp_defs.specs.Whole.{items_in, group_of, greatest, missing_grou
 
 use crate::dedbs::dedbs_of;
 use crate::fault::{DefsFault, bad_field, out_of_limit};
-use crate::keys::{Form, count_within, exit_at, needed, number_in, number_or, only, tables_or_none};
+use crate::keys::{Form, count_within, exit_at, needed, number_within, number_or, only, tables_or_none};
 use crate::msdbs::msdbs_of;
 use fp_model::{Bytes, DedbDef, Defs, List, MsdbDef};
 use std::alloc::Global;
@@ -23,7 +23,7 @@ fn groups_of(alloc: Global, items: &Vec<Value>) -> Result<List<u8>, DefsFault>
 {
     let mut groups = List::new(alloc);
     for item in items {
-        let group = number_in(alloc, "regions", 1, 16, item)?;
+        let group = number_within(alloc, "regions", 1, 16, item)?;
         groups.push(group as u8)?;
     }
     Ok(groups)
@@ -132,7 +132,12 @@ fn defs_in(alloc: Global, text: &[u8], table: &Table) -> Result<Defs, DefsFault>
 /// The definitions of a text, or its first fault.
 #[tactic(auto, unfolding(crate::specs::Whole::defs_of, crate::specs::Whole::document_of))]
 pub fn read_defs(alloc: Global, bytes: &[u8]) -> Result<Defs, DefsFault>
-    ensures exact { Gives (λ defs. defs) result (defs_of bytes.now) }
+    // At Ok it is what the text means, and at a fault it is the text's first fault. Want of memory alone is free.
+    ensures ok { IfOk result (λ defs. defs_of bytes.now ≡ Ok defs) }
+    ensures fault { IfErr result (λ fault. fault ≢ DefsFault.Memory → defs_of bytes.now ≡ Err fault) }
+
+    // All rules and limits hold of it.
+    ensures valid { IfOk result AreDefs }
 {
     if bytes.len() > LONGEST {
         return Err(DefsFault::TooLong);
