@@ -1,21 +1,19 @@
 -- A data entry database that is read is well formed, and so are all of them together.
-use Rattle.std.proofs.Common.{◌≡◌, ℕ, zero, suc, ◌+◌, ◌-◌, ◌<◌, ◌≤◌, List, [], ◌∷◌, ◌++◌, length, map, max, sum_by, Bool, true, false, cond, ◌||◌, ◌==◌, ◌⊎◌, inl, inr, Option, Some, None, Result, Ok, Err, ℤ, pos, negsuc, codes, refl, sym, ap, subst, ◌∙◌, append_assoc, arith, rules}
-use Rattle.std.specs.Prelude.{⊤, Contains, flat_map}
+use Rattle.std.proofs.Common.{◌≡◌, ℕ, ◌+◌, ◌-◌, ◌≤◌, List, [], ◌∷◌, ◌++◌, length, map, Bool, true, false, cond, ◌||◌, ◌==◌, ◌⊎◌, inl, inr, Ok, Err, ℤ, pos, negsuc, codes, refl, sym, subst, ◌∙◌, append_assoc, arith}
+use Rattle.std.specs.Prelude.{Contains}
 use Rattle.std.specs.List.{AllByRecursion, IsDistinct}
 use Rattle.std.proofs.lemmas.Bool.Decides.{nat_tests}
-use Rattle.toml.specs.Data.{Data, Members, as_integer}
+use Rattle.toml.specs.Data.{Members, as_integer}
 use Rattle.fp_model.specs.declared.name.Name.{Name}
 use Rattle.fp_model.specs.declared.definitions.Kind.{Kind}
 use Rattle.fp_model.specs.declared.definitions.MsdbDef.{MsdbDef}
 use Rattle.fp_model.specs.declared.definitions.SegDef.{SegDef}
-use Rattle.fp_model.specs.declared.definitions.AreaDef.{AreaDef}
 use Rattle.fp_model.specs.declared.definitions.DedbDef.{DedbDef}
 use Rattle.fp_model.specs.Texts.{same_text}
 use Rattle.fp_model.specs.Names.{IsName}
 use Rattle.fp_model.specs.State.{anchor_count}
-use Rattle.fp_model.specs.Order.{line_to}
-use Rattle.fp_model.specs.WellFormed.{Between, AreDistinct, IsSegDef, has_sequential, AllWithinLevels, IsAreaDef, IsDedbDef}
-use Rattle.fp_defs.specs.Readings.{◌>>=◌, or_fault, in_turn}
+use Rattle.fp_model.specs.WellFormed.{AreDistinct, IsSegDef, has_sequential, AllWithinLevels, IsAreaDef, IsDedbDef}
+use Rattle.fp_defs.specs.Readings.{or_fault, in_turn}
 use Rattle.fp_defs.specs.Values.{as_tables}
 use Rattle.fp_defs.specs.Keys.{occurs, only, needed, new_name, within, exit_at, not_empty, tables_at}
 use Rattle.fp_defs.specs.Msdbs.{msdb_names}
@@ -26,22 +24,21 @@ use Rattle.fp_defs.specs.declared.fault.DefsFault.{DefsFault}
 use Rattle.fp_defs.specs.declared.fault.DefsFault.TheVariants.{BadField, OutOfLimit}
 use Rattle.fp_defs.specs.declared.keys.Form.TheVariants.{Dedb}
 use Rattle.fp_defs.proofs.Beside.{Beside, IsRead, read_in_turn, beside_map, beside_each}
-use Rattle.fp_defs.proofs.Distinct.{no_texts, nothing_more, distinct_beside}
+use Rattle.fp_defs.proofs.Distinct.{no_texts, distinct_beside}
 use Rattle.fp_defs.proofs.DedbLemmas.{map_twice, AreaKeeps, area_keeps, SegmentKeeps, segment_keeps}
 use Rattle.fp_defs.proofs.KeyLemmas.{within-ok}
 use Rattle.fp_defs.proofs.MsdbLemmas.{new_name-is}
 use Rattle.fp_defs.proofs.SegmentLemmas.{have_places, each_fits}
-use Rattle.fp_defs.proofs.Steps.{ok_step, some_from_ok}
+use Rattle.fp_defs.proofs.Steps.{ok_step}
 
 -- ---- types together
 
 each_type : (before ys all : List SegDef) → all ≡ before ++ ys → Beside SegmentKeeps before ys → AllByRecursion (IsSegDef all) ys
 each_type before [] all e keeps = tt
-each_type before (y ∷ ys) all e keeps =
-    (
-      subst (λ (types : List SegDef). IsSegDef types y) (sym e) (keeps.0.0 (y ∷ ys)),
-      each_type (before ++ y ∷ []) ys all (e ∙ sym (append_assoc before (y ∷ []) ys)) keeps.1,
-    )
+each_type before (y ∷ ys) all e keeps = (
+  subst (λ (types : List SegDef). IsSegDef types y) (sym e) (keeps.0.0 (y ∷ ys)),
+  each_type (before ++ y ∷ []) ys all (e ∙ sym (append_assoc before (y ∷ []) ys)) keeps.1,
+)
 
 levels_from : (types : List SegDef) (place : ℕ) (defs : List SegDef) → depth_from types place defs ≤ 4 → AllWithinLevels types place defs
 levels_from types place [] h = tt
@@ -75,12 +72,12 @@ either false b e = inr e
 size_among : (n : ℕ) → is_interval_size n ≡ true → Contains (512 ∷ 1024 ∷ 2048 ∷ 4096 ∷ []) n
 size_among n e =
     elim (either (n == 512 || n == 1024 || n == 2048) (n == 4096) e) [
-      inr d ↦ let is : n ≡ 4096 = grind (arith, nat_tests) in (3, omega arith, sym is)
-    | inl abc ↦ elim (either (n == 512 || n == 1024) (n == 2048) abc) [
-        inr c ↦ let is : n ≡ 2048 = grind (arith, nat_tests) in (2, omega arith, sym is)
-      | inl ab ↦ elim (either (n == 512) (n == 1024) ab) [
-          inr b ↦ let is : n ≡ 1024 = grind (arith, nat_tests) in (1, omega arith, sym is)
-        | inl a ↦ let is : n ≡ 512 = grind (arith, nat_tests) in (0, omega arith, sym is)
+      | inr d ↦ let is : n ≡ 4096 = grind (arith, nat_tests) in (3, omega arith, sym is)
+      | inl abc ↦ elim (either (n == 512 || n == 1024) (n == 2048) abc) [
+        | inr c ↦ let is : n ≡ 2048 = grind (arith, nat_tests) in (2, omega arith, sym is)
+        | inl ab ↦ elim (either (n == 512) (n == 1024) ab) [
+          | inr b ↦ let is : n ≡ 1024 = grind (arith, nat_tests) in (1, omega arith, sym is)
+          | inl a ↦ let is : n ≡ 512 = grind (arith, nat_tests) in (0, omega arith, sym is)
         ]
       ]
     ]

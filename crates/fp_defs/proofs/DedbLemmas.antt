@@ -1,39 +1,30 @@
 -- A data entry database that is read is well formed.
-use Rattle.std.proofs.Common.{◌≡◌, ◌≢◌, ℕ, zero, suc, ◌+◌, ◌-◌, ◌*◌, ◌<◌, ◌≤◌, List, [], ◌∷◌, ◌++◌, length, map, max, sum_by, Bool, true, false, cond, not, ◌&&◌, ◌||◌, ◌==◌, ◌⊎◌, inl, inr, Option, Some, None, unwrap_or, Result, Ok, Err, ℤ, pos, negsuc, codes, refl, sym, ap, subst, ◌∙◌, append_assoc, arith, rules}
-use Rattle.std.specs.Prelude.{IfSome, slice_get, ⊤, Contains, IsTrue, flat_map}
-use Rattle.std.specs.List.{AllByRecursion, IsDistinct, position_from, list_any}
+use Rattle.std.proofs.Common.{◌≡◌, ℕ, zero, suc, ◌+◌, ◌<◌, List, [], ◌∷◌, ◌++◌, length, map, Bool, true, false, cond, not, ◌&&◌, ◌==◌, ◌⊎◌, inl, inr, Option, Some, None, unwrap_or, Ok, Err, ℤ, pos, negsuc, codes, refl, ap, subst, ◌∙◌, arith}
+use Rattle.std.specs.Prelude.{IfSome, slice_get}
+use Rattle.std.specs.List.{position_from}
 use Rattle.std.specs.Option.{option_map_or}
-use Rattle.std.proofs.lemmas.Bool.Decides.{nat_tests}
 use Rattle.toml.specs.Data.{Data, Members, get_member, as_integer, as_bool}
 use Rattle.fp_model.specs.declared.name.Name.{Name}
-use Rattle.fp_model.specs.declared.definitions.Kind.{Kind}
-use Rattle.fp_model.specs.declared.definitions.MsdbDef.{MsdbDef}
 use Rattle.fp_model.specs.declared.definitions.SegDef.{SegDef}
 use Rattle.fp_model.specs.declared.definitions.FieldDef.{FieldDef}
 use Rattle.fp_model.specs.declared.definitions.AreaDef.{AreaDef}
-use Rattle.fp_model.specs.declared.definitions.DedbDef.{DedbDef}
 use Rattle.fp_model.specs.Texts.{same_text}
 use Rattle.fp_model.specs.Names.{IsName}
-use Rattle.fp_model.specs.State.{anchor_count}
-use Rattle.fp_model.specs.Order.{line_to}
-use Rattle.fp_model.specs.WellFormed.{Between, AreDistinct, IsLayout, BeginsWithKey, HavePlaces, IsTypeName, IsNoSequentialChild, IsSegDef, has_sequential, AllWithinLevels, HasCapacity, IsAreaDef, IsDedbDef}
-use Rattle.fp_defs.specs.Readings.{◌>>=◌, or_fault, in_turn}
+use Rattle.fp_model.specs.WellFormed.{Between, BeginsWithKey, IsTypeName, IsSegDef, has_sequential, HasCapacity, IsAreaDef}
+use Rattle.fp_defs.specs.Readings.{or_fault}
 use Rattle.fp_defs.specs.Values.{as_name}
-use Rattle.fp_defs.specs.Keys.{occurs, only, needed, name_at, once, new_name, within, number_at, number_within, flag_at, exit_at, tables_at}
-use Rattle.fp_defs.specs.Fields.{fields_at}
-use Rattle.fp_defs.specs.Msdbs.{msdb_names}
-use Rattle.fp_defs.specs.Segments.{segment_names, not_KEY, segment_name, no_limit, says_sequential, place_of, parent_in, parent_at, at_its_place, sequential_at, segment_of, all_fit}
+use Rattle.fp_defs.specs.Keys.{occurs, only, needed, name_at, once, new_name, within, number_at, number_within, flag_at}
+use Rattle.fp_defs.specs.Segments.{segment_names, not_KEY, segment_name, no_limit, says_sequential, place_of, parent_in, parent_at, at_its_place, sequential_at, segment_of}
 use Rattle.fp_defs.specs.Areas.{area_names, capacity_in, capacity_at, area_of}
-use Rattle.fp_defs.specs.Dedbs.{dedb_names, areas_named, is_interval_size, size_in, interval_size_at, depth_from, intervals_of, ended, dedb_behind, dedb_of}
 use Rattle.fp_defs.specs.declared.fault.DefsFault.{DefsFault}
-use Rattle.fp_defs.specs.declared.fault.DefsFault.TheVariants.{BadField, OutOfLimit}
-use Rattle.fp_defs.specs.declared.keys.Form.TheVariants.{Area, Dedb}
-use Rattle.fp_defs.proofs.Beside.{Beside, IsRead, read_in_turn, beside_map, beside_each}
-use Rattle.fp_defs.proofs.Distinct.{no_texts, once-new, distinct_beside}
-use Rattle.fp_defs.proofs.KeyLemmas.{within-ok, within-any}
+use Rattle.fp_defs.specs.declared.fault.DefsFault.TheVariants.{BadField}
+use Rattle.fp_defs.specs.declared.keys.Form.TheVariants.{Area}
+use Rattle.fp_defs.proofs.Beside.{IsRead}
+use Rattle.fp_defs.proofs.Distinct.{once-new}
+use Rattle.fp_defs.proofs.KeyLemmas.{within-any}
 use Rattle.fp_defs.proofs.LayoutLemmas.{layout_keeps, name_at-is}
 use Rattle.fp_defs.proofs.MsdbLemmas.{new_name-is}
-use Rattle.fp_defs.proofs.SegmentLemmas.{segment_read, have_places, each_fits, found_below}
+use Rattle.fp_defs.proofs.SegmentLemmas.{segment_read, found_below}
 use Rattle.fp_defs.proofs.Steps.{ok_step, ok_same, some_from_ok}
 
 -- two maps, one behind the other
@@ -81,8 +72,7 @@ area_keeps types others before table def e =
     let made : Ok read ≡ Ok def = c.2 in
     let same : read ≡ def = cc in
     let name = new_name-is (others ++ area_names before) table n.0 n.1 in
-    subst (AreaKeeps types others before) same
-    (
+    subst (AreaKeeps types others before) same (
       record {
         name = name.0;
         uows = number_at-within (codes "uows") 1 65536 table u.0 u.1;
@@ -114,13 +104,13 @@ found_direct : (text : List ℕ) (i : ℕ) (defs : List SegDef) (n k : ℕ) → 
 found_direct text i [] n k e is p there = absurd (cc)
 found_direct text i (def ∷ defs) n zero e is p there =
     elim (found_by (same_text def.name.0 text && not def.sequential) i n (position_from _ (i + 1) defs) e) [
-      inl h ↦ let same : def ≡ p = cc in subst (λ (d : SegDef). d.sequential ≡ false) same (not_true def.sequential (both-second (same_text def.name.0 text) (not def.sequential) h.0))
-    | inr h ↦ let below = found_below _ (i + 1) defs n h.1 in absurd (omega arith)
+      | inl h ↦ let same : def ≡ p = cc in subst (λ (d : SegDef). d.sequential ≡ false) same (not_true def.sequential (both-second (same_text def.name.0 text) (not def.sequential) h.0))
+      | inr h ↦ let below = found_below _ (i + 1) defs n h.1 in absurd (omega arith)
     ]
 found_direct text i (def ∷ defs) n (suc k) e is p there =
     elim (found_by (same_text def.name.0 text && not def.sequential) i n (position_from _ (i + 1) defs) e) [
-      inl h ↦ let same : i ≡ n = h.1 in absurd (omega arith)
-    | inr h ↦ found_direct text (i + 1) defs n k h.1 (omega arith) p there
+      | inl h ↦ let same : i ≡ n = h.1 in absurd (omega arith)
+      | inr h ↦ found_direct text (i + 1) defs n k h.1 (omega arith) p there
     ]
 
 -- in more segments the same stands at a place
@@ -166,8 +156,7 @@ segment_name-is before table name e =
     let other = ok_step (not_KEY read.0) (once (segment_names before)) name read.2 in
     let new = once-new (segment_names before) other.0 name other.2 in
     let apart = other_by (same_text read.0.0 (codes "KEY     ")) (BadField (codes "name")) read.0 other.0 other.1 in
-    let same : read.0 ≡ name = apart.1 ∙ new.1 in
-    (
+    let same : read.0 ≡ name = apart.1 ∙ new.1 in (
       (subst IsName same (name_at-is (codes "name") table read.0 read.1), subst (λ (n : Name). same_text n.0 (codes "KEY     ") ≡ false) same apart.0),
       new.0,
     )
@@ -215,8 +204,7 @@ segment_keeps before def read =
     let r = segment_read before read.0 def read.1 in
     let name = segment_name-is before read.0 def.name r.name in
     let layout = layout_keeps (not (says_sequential read.0)) no_limit read.0 _ r.layout in
-    let direct = parent_direct before read.0 def.parent r.parent in
-    (
+    let direct = parent_direct before read.0 def.parent r.parent in (
       (λ rest. record {
         name = name.0;
         layout = layout.whole;

@@ -1,7 +1,7 @@
 -- Texts that each were looked for among those before them are distinct.
-use Rattle.std.proofs.Common.{◌≡◌, ℕ, List, [], ◌∷◌, ◌++◌, map, Bool, true, false, cond, ◌||◌, Option, Some, None, Result, Ok, Err, refl, sym, ap, subst, ◌∙◌, append_assoc, rules}
+use Rattle.std.proofs.Common.{◌≡◌, ℕ, List, [], ◌∷◌, ◌++◌, map, Bool, true, false, cond, Option, Some, None, Ok, Err, refl, sym, ap, subst, ◌∙◌, append_assoc}
 use Rattle.std.specs.Prelude.{⊤}
-use Rattle.std.specs.List.{IsDistinct, list_any}
+use Rattle.std.specs.List.{IsDistinct}
 use Rattle.std.specs.Option.{option_map_or}
 use Rattle.std.proofs.lemmas.Cmp.{nat_list_eq_equiv}
 use Rattle.std.proofs.lemmas.List.{map-append}
@@ -63,6 +63,6 @@ pub distinct_beside : {A : Type 0} (text : A → List ℕ) (others : List (List 
 distinct_beside {A} text others before [] distinct all = subst (λ (zs : List A). IsDistinct same_text (others ++ map text zs)) (sym (nothing_more before)) distinct
 distinct_beside {A} text others before (y ∷ ys) distinct all =
     let more : IsDistinct same_text (others ++ map text (before ++ y ∷ [])) =
-        subst (IsDistinct same_text) (append_assoc others (map text before) (text y ∷ []) ∙ ap (λ (ts : List (List ℕ)). others ++ ts) (sym (map-append text before (y ∷ [])))) (one_more (others ++ map text before) (text y) distinct all.0)
+    subst (IsDistinct same_text) (append_assoc others (map text before) (text y ∷ []) ∙ ap (λ (ts : List (List ℕ)). others ++ ts) (sym (map-append text before (y ∷ [])))) (one_more (others ++ map text before) (text y) distinct all.0)
     in
     subst (λ (zs : List A). IsDistinct same_text (others ++ map text zs)) (append_assoc before (y ∷ []) ys) (distinct_beside text others (before ++ y ∷ []) ys more all.1)

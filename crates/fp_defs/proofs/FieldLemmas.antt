@@ -1,14 +1,13 @@
 -- Fields that the file writes.
-use Rattle.std.proofs.Common.{◌≡◌, ◌≢◌, ℕ, ◌≤◌, ◌<◌, List, [], ◌∷◌, length, map, Option, Some, None, Bool, true, false, cond, ◌&&◌, ℤ, pos, negsuc, nat_le, refl, subst, arith, rules}
+use Rattle.std.proofs.Common.{◌≡◌, ℕ, ◌≤◌, ◌<◌, List, [], ◌∷◌, length, Some, None, Bool, true, false, cond, ℤ, pos, negsuc, refl, subst, arith}
 use Rattle.std.specs.List.{AllByRecursion}
 use Rattle.std.proofs.lemmas.Bool.Decides.{nat_tests}
 use Rattle.toml.specs.Data.{Data, Items, no_items, item, as_integer, as_array}
-use Rattle.toml.specs.View.{items_of, items_view}
-use Rattle.toml.specs.declared.value.Value.{Value}
+use Rattle.toml.specs.View.{items_of}
 use Rattle.fp_model.specs.declared.definitions.FieldKind.{FieldKind}
 use Rattle.fp_model.specs.declared.definitions.FieldKind.TheVariants.{C, X, H, F, P}
 use Rattle.fp_model.specs.WellFormed.{is_field_length}
-use Rattle.fp_defs.specs.Values.{◌>>=◌, each, as_field_name, as_kind, length_for, as_length, triple_in, as_triple, as_triples}
+use Rattle.fp_defs.specs.Values.{each, as_field_name, as_kind, length_for, as_length, triple_in, as_triple, as_triples}
 use Rattle.fp_defs.specs.Fields.{IsShort}
 use Rattle.fp_defs.specs.declared.fields.Triple.{Triple}
 use Rattle.fp_defs.proofs.ValueSteps.{some_step, each_has}

@@ -1,6 +1,6 @@
 -- What fields that are read keep: their names, their places, the key in front.
-use Rattle.std.proofs.Common.{◌≡◌, ℕ, suc, ◌+◌, ◌<◌, ◌≤◌, List, [], ◌∷◌, ◌++◌, length, map, sum_by, Bool, true, false, cond, not, ◌&&◌, ◌||◌, nat_le, ◌⊎◌, inl, inr, Option, Some, None, Result, Ok, Err, pos, codes, refl, sym, ap, subst, ◌∙◌, arith, rules}
-use Rattle.std.specs.Prelude.{⊤, IsTrue}
+use Rattle.std.proofs.Common.{◌≡◌, ℕ, suc, ◌+◌, ◌≤◌, List, [], ◌∷◌, length, map, Bool, true, false, cond, not, ◌&&◌, ◌||◌, nat_le, Some, None, Ok, Err, pos, codes, refl, sym, ap, subst, ◌∙◌, arith}
+use Rattle.std.specs.Prelude.{⊤}
 use Rattle.std.specs.List.{AllByRecursion, IsDistinct}
 use Rattle.std.proofs.lemmas.Bool.Decides.{nat_tests}
 use Rattle.std.proofs.lemmas.List.Sums.{sum_by-cons}
@@ -8,15 +8,13 @@ use Rattle.toml.specs.Data.{Data, Items, no_items, item, Members, as_str, as_arr
 use Rattle.fp_model.specs.declared.name.Name.{Name}
 use Rattle.fp_model.specs.declared.definitions.FieldKind.{FieldKind}
 use Rattle.fp_model.specs.declared.definitions.FieldKind.TheVariants.{C, X, H, F, P}
-use Rattle.fp_model.specs.declared.definitions.FieldDef.{FieldDef}
 use Rattle.fp_model.specs.Texts.{same_text, padded}
 use Rattle.fp_model.specs.Names.{is_name, name_in, IsName}
-use Rattle.fp_model.specs.WellFormed.{Between, AreDistinct, IsOther, is_field_length, StandFrom, IsFieldName, IsLayout, BeginsWithKey}
-use Rattle.fp_defs.specs.Readings.{◌>>=◌, or_fault}
+use Rattle.fp_model.specs.WellFormed.{StandFrom, IsFieldName, IsLayout, BeginsWithKey}
+use Rattle.fp_defs.specs.Readings.{or_fault}
 use Rattle.fp_defs.specs.Values.{each, as_name, is_reserved, as_field_name, as_kind, as_length, triple_in, as_triple, as_triples}
 use Rattle.fp_defs.specs.Keys.{needed, name_at, within, all_once}
 use Rattle.fp_defs.specs.Fields.{begins_with_key, keyed, is_characters, laid_out, total, fields_at}
-use Rattle.fp_defs.specs.declared.fault.DefsFault.{DefsFault}
 use Rattle.fp_defs.specs.declared.fault.DefsFault.TheVariants.{BadField}
 use Rattle.fp_defs.specs.declared.fields.Triple.{Triple}
 use Rattle.fp_defs.specs.declared.fields.Layout.{Layout}
@@ -57,8 +55,7 @@ field_name-is d name e =
     let s = some_step (as_name d) _ name e in
     let h = other_by (is_reserved s.0) s.0 name s.2 in
     let apart : is_reserved name ≡ false = subst (λ (n : Name). is_reserved n ≡ false) h.1 h.0 in
-    let front = first_false (same_text name.0 (codes "IO      ") || same_text name.0 (codes "STATUS  ")) (same_text name.0 (codes "FSAS    ")) apart in
-    (
+    let front = first_false (same_text name.0 (codes "IO      ") || same_text name.0 (codes "STATUS  ")) (same_text name.0 (codes "FSAS    ")) apart in (
       as_name-is d name (s.1 ∙ ap Some h.1),
       first_false (same_text name.0 (codes "IO      ")) (same_text name.0 (codes "STATUS  ")) front,
       second_false (same_text name.0 (codes "IO      ")) (same_text name.0 (codes "STATUS  ")) front,

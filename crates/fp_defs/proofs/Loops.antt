@@ -1,10 +1,9 @@
 -- Loops over the items of an array: what they have so far, and what the rest gives.
-use Rattle.std.proofs.Common.{◌≡◌, ℕ, suc, length, map, List, [], ◌∷◌, ◌++◌, Option, Some, None, refl, ap, sym, ◌∙◌, append_assoc}
+use Rattle.std.proofs.Common.{◌≡◌, length, map, List, [], ◌∷◌, ◌++◌, Option, Some, None, refl, ap, ◌∙◌, append_assoc}
 use Rattle.std.proofs.lemmas.List.{length-map}
-use Rattle.toml.specs.Data.{Data, Items, no_items, item}
+use Rattle.toml.specs.Data.{Data}
 use Rattle.toml.specs.View.{view, items_of, items_view}
 use Rattle.toml.specs.declared.value.Value.{Value}
-use Rattle.fp_defs.specs.Values.{each}
 use Rattle.fp_defs.specs.Whole.{items_in}
 
 -- these elements, and then those of the rest

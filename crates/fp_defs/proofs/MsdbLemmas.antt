@@ -1,6 +1,5 @@
 -- A main storage database that is read is well formed.
-use Rattle.std.proofs.Common.{◌≡◌, ℕ, zero, suc, ◌+◌, ◌-◌, ◌<◌, ◌≤◌, List, [], ◌∷◌, ◌++◌, length, map, take, drop, replicate, Bool, true, false, cond, ◌&&◌, nat_le, Option, Some, None, Result, Ok, Err, ℤ, codes, refl, sym, ap, subst, ◌∙◌, arith, rules}
-use Rattle.std.specs.Prelude.{⊤, IsTrue}
+use Rattle.std.proofs.Common.{◌≡◌, ℕ, zero, suc, ◌+◌, ◌-◌, ◌≤◌, List, [], ◌∷◌, ◌++◌, length, map, take, drop, replicate, Bool, true, false, cond, ◌&&◌, nat_le, Option, Some, None, Ok, ℤ, codes, refl, sym, ap, subst, ◌∙◌, arith}
 use Rattle.std.specs.List.{AllByRecursion, IsDistinct, list_all}
 use Rattle.std.specs.Option.{option_map_or}
 use Rattle.std.proofs.lemmas.Bool.Decides.{nat_tests}
@@ -15,14 +14,13 @@ use Rattle.fp_model.specs.Names.{IsName}
 use Rattle.fp_model.specs.Texts.{same_text, is_printable, padded}
 use Rattle.fp_model.specs.Numbers.{bytes_of}
 use Rattle.fp_model.specs.State.{key_of}
-use Rattle.fp_model.specs.WellFormed.{StandFrom, IsLayout, IsLoadedField, AreLoadedFields, IsLoaded, IsMsdbDef}
+use Rattle.fp_model.specs.WellFormed.{StandFrom, IsLoadedField, AreLoadedFields, IsLoaded, IsMsdbDef}
 use Rattle.packed_dec.proofs.ReadsBack.{reads_back}
-use Rattle.fp_defs.specs.Readings.{◌>>=◌, or_fault}
+use Rattle.fp_defs.specs.Readings.{or_fault}
 use Rattle.fp_defs.specs.Values.{each, number_of_text, bytes_if, number_loaded, text_loaded, loaded_as, field_in, segment_in, as_segment, as_segments}
 use Rattle.fp_defs.specs.Keys.{occurs, only, new_name, flag_at, name_at, once, all_once}
 use Rattle.fp_defs.specs.Fields.{fields_at}
 use Rattle.fp_defs.specs.Msdbs.{load_in, load_at, msdb_names, msdb_of}
-use Rattle.fp_defs.specs.declared.fault.DefsFault.{DefsFault}
 use Rattle.fp_defs.specs.declared.fault.DefsFault.TheVariants.{BadField}
 use Rattle.fp_defs.specs.declared.keys.Form.TheVariants.{Msdb}
 use Rattle.fp_defs.proofs.Distinct.{no_texts, all_once-distinct, once-new}
@@ -118,8 +116,7 @@ segment_whole (f ∷ fs) (item d ds) segment e =
     let same : first.0 ++ rest.0 ≡ segment = cc in
     let filled = field_filled f d first.0 first.1 in
     let behind = segment_whole fs ds rest.0 rest.1 in
-    subst (IsWhole (f ∷ fs)) same
-    (
+    subst (IsWhole (f ∷ fs)) same (
       simp length-append (omega arith),
       (subst (IsLoadedField f.kind) (sym (take_front first.0 rest.0 f.length filled.0)) filled.1, subst (AreLoadedFields fs) (sym (drop_front first.0 rest.0 f.length filled.0)) behind.1),
     )
@@ -187,8 +184,7 @@ msdb_keeps before table def e =
     let name = new_name-is (msdb_names before) table n.0 n.1 in
     let layout = layout_keeps true 1024 table l.0 l.1 in
     let load = load_at-is l.0.fields table ld.0 ld.1 in
-    subst (MsdbKeeps before) same
-    (
+    subst (MsdbKeeps before) same (
       record {
         name = name.0;
         layout = layout.whole;

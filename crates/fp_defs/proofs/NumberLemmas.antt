@@ -1,5 +1,5 @@
 -- Numbers as texts: digits from left to right, and numbers that no field holds.
-use Rattle.std.proofs.Common.{◌≡◌, ◌≢◌, ℕ, zero, suc, ◌+◌, ◌-◌, ◌*◌, ◌^◌, ◌<◌, ◌≤◌, List, [], ◌∷◌, ◌++◌, length, map, take, get_or, min, Bool, true, false, cond, ◌&&◌, nat_le, nat_lt, Option, Some, None, option_map, ℤ, pos, negsuc, neg_ℤ, ◌⊎◌, inl, inr, refl, sym, ap, ◌∙◌, arith, rules, ◌==◌}
+use Rattle.std.proofs.Common.{◌≡◌, ◌≢◌, ℕ, zero, suc, ◌+◌, ◌-◌, ◌*◌, ◌^◌, ◌<◌, ◌≤◌, List, [], ◌∷◌, length, map, take, get_or, min, Bool, true, false, cond, ◌&&◌, nat_le, nat_lt, Option, Some, None, option_map, ℤ, pos, neg_ℤ, inl, inr, refl, sym, ap, ◌∙◌, arith, ◌==◌}
 use Rattle.std.proofs.Math.Nat.{pow-le-pow_right}
 use Rattle.std.proofs.lemmas.List.{take_more, map-append}
 use Rattle.std.proofs.lemmas.Bool.Decides.{nat_tests}

@@ -1,5 +1,5 @@
 -- An element at a place, and the lines of types from the root down.
-use Rattle.std.proofs.Common.{◌≡◌, ℕ, zero, suc, ◌+◌, ◌-◌, ◌<◌, List, [], ◌∷◌, ◌++◌, length, drop, get_or, max, Bool, true, false, cond, not, find, ◌==◌, Option, Some, None, Ok, Err, pos, codes, refl, sym, ap, ◌∙◌, arith, rules}
+use Rattle.std.proofs.Common.{◌≡◌, ℕ, zero, suc, ◌+◌, ◌-◌, ◌<◌, List, [], ◌∷◌, length, drop, get_or, max, Bool, true, false, cond, not, find, ◌==◌, Some, Ok, Err, pos, codes, sym, ap, ◌∙◌, arith}
 use Rattle.std.specs.Prelude.{slice_get}
 use Rattle.std.specs.List.{list_any}
 use Rattle.std.proofs.lemmas.List.{drop_more, length_push}

@@ -1,6 +1,6 @@
 -- Segment types that are read: their places, parents and lengths.
-use Rattle.std.proofs.Common.{◌≡◌, ◌≢◌, ℕ, zero, suc, ◌+◌, ◌-◌, ◌*◌, ◌/◌, ◌<◌, ◌≤◌, List, [], ◌∷◌, ◌++◌, length, map, Bool, true, false, cond, not, ◌&&◌, ◌==◌, if◌then◌else◌, ◌⊎◌, inl, inr, Option, Some, None, Result, Ok, Err, pos, codes, refl, sym, ap, subst, ◌∙◌, arith, rules}
-use Rattle.std.specs.Prelude.{IfSome, slice_get, ⊤}
+use Rattle.std.proofs.Common.{◌≡◌, ℕ, ◌+◌, ◌-◌, ◌*◌, ◌<◌, ◌≤◌, List, [], ◌∷◌, ◌++◌, length, Bool, true, false, cond, not, ◌&&◌, ◌==◌, if◌then◌else◌, ◌⊎◌, inl, inr, Option, Some, None, Ok, Err, pos, codes, refl, sym, ap, subst, ◌∙◌, arith}
+use Rattle.std.specs.Prelude.{IfSome, ⊤}
 use Rattle.std.specs.List.{AllByRecursion, position_from}
 use Rattle.std.specs.Option.{option_map_or}
 use Rattle.std.proofs.lemmas.Bool.Decides.{nat_tests}
@@ -8,19 +8,16 @@ use Rattle.std.proofs.lemmas.List.{length_push}
 use Rattle.toml.specs.Data.{Data, Members, get_member}
 use Rattle.fp_model.specs.declared.name.Name.{Name}
 use Rattle.fp_model.specs.declared.definitions.SegDef.{SegDef}
-use Rattle.fp_model.specs.Texts.{same_text}
 use Rattle.fp_model.specs.Order.{child_types}
 use Rattle.fp_model.specs.WellFormed.{HasPlace, HavePlaces, EachFits, has_sequential, in_fours, stored_length}
-use Rattle.fp_defs.specs.Readings.{◌>>=◌, or_fault, in_turn}
+use Rattle.fp_defs.specs.Readings.{or_fault}
 use Rattle.fp_defs.specs.Values.{as_name}
 use Rattle.fp_defs.specs.Keys.{only, needed, flag_at, within}
 use Rattle.fp_defs.specs.Fields.{fields_at}
-use Rattle.fp_defs.specs.Segments.{IsNarrow, segment_name, no_limit, says_sequential, place_of, parent_in, parent_at, may_be_sequential, at_its_place, sequential_at, segment_of, all_fit}
-use Rattle.fp_defs.specs.declared.fault.DefsFault.{DefsFault}
+use Rattle.fp_defs.specs.Segments.{IsNarrow, segment_name, no_limit, says_sequential, place_of, parent_in, parent_at, at_its_place, sequential_at, segment_of, all_fit}
 use Rattle.fp_defs.specs.declared.fault.DefsFault.TheVariants.{BadField}
-use Rattle.fp_defs.specs.declared.fields.Layout.{Layout}
 use Rattle.fp_defs.specs.declared.keys.Form.TheVariants.{Segment}
-use Rattle.fp_defs.proofs.Beside.{Beside, IsRead, read_in_turn, beside_map}
+use Rattle.fp_defs.proofs.Beside.{Beside, IsRead}
 use Rattle.fp_defs.proofs.KeyLemmas.{within-ok}
 use Rattle.fp_defs.proofs.Steps.{ok_step, some_from_ok}
 
@@ -44,7 +41,6 @@ segment_read before members def e =
     let same : record { name = n.0; parent = p.0; sequential = s.0; fields = l.0.fields; length = l.0.length } ≡ def = cc in
     subst (SegmentRead before members) same (record { name = n.1; layout = l.1; parent = p.1; sequential = s.1 })
 
-
 -- ---- places
 
 found_in : (b : Bool) (i n : ℕ) (rest : Option ℕ) → cond b (Some i) rest ≡ Some n → ((b ≡ true) × (i ≡ n)) ⊎ ((b ≡ false) × (rest ≡ Some n))
@@ -55,8 +51,8 @@ pub found_below : (test : SegDef → Bool) (i : ℕ) (defs : List SegDef) (n : �
 found_below test i [] n e = absurd (cc)
 found_below test i (def ∷ defs) n e =
     elim (found_in (test def) i n (position_from test (i + 1) defs) e) [
-      inl h ↦ let same : i ≡ n = h.1 in (omega arith, omega arith)
-    | inr h ↦ let r = found_below test (i + 1) defs n h.1 in (omega arith, omega arith)
+      | inl h ↦ let same : i ≡ n = h.1 in (omega arith, omega arith)
+      | inr h ↦ let r = found_below test (i + 1) defs n h.1 in (omega arith, omega arith)
     ]
 
 by_name_of : (before : List SegDef) (n : ℕ) (name : Option Name) → option_map_or (place_of before) name None ≡ Some n → n < length before
@@ -145,8 +141,7 @@ near_by (Some p) place h few = omega (arith, h)
 pub narrow_by : (room place : ℕ) (types defs : List SegDef) → HavePlaces place defs → EachFits room types place defs → room ≤ 65535 → place + length defs ≤ 256 → AllByRecursion IsNarrow defs
 narrow_by room place types [] places fits small few = tt
 narrow_by room place types (def ∷ defs) places fits small few =
-    let stored = stored_holds types place def in
-    (
+    let stored = stored_holds types place def in (
       record { near = near_by def.parent place places.0.0 (omega arith); short = omega (arith, fits.0) },
       narrow_by room (place + 1) types defs places.1 fits.1 small (omega arith),
     )

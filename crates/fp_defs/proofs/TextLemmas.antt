@@ -1,9 +1,8 @@
 -- Texts one after another, and a set of those so far.
-use Rattle.std.proofs.Common.{◌≡◌, ℕ, ◌+◌, ◌<◌, List, [], ◌∷◌, ◌++◌, length, map, take, drop, get_or, Bool, true, false, cond, ◌||◌, not, Option, Some, None, Decides, refl, sym, ap, ◌∙◌, arith, rules, nat_cmp}
+use Rattle.std.proofs.Common.{◌≡◌, ℕ, ◌+◌, ◌<◌, List, [], ◌∷◌, ◌++◌, length, map, take, drop, get_or, Bool, true, false, cond, ◌||◌, Some, refl, sym, ap, ◌∙◌, rules, nat_cmp}
 use Rattle.std.specs.Ordering.{is_eq}
 use Rattle.std.specs.Cmp.Lexicographic.{slice_cmp}
 use Rattle.std.specs.Str.{bytes_eq}
-use Rattle.std.specs.List.{list_any}
 use Rattle.std.proofs.lemmas.List.{take_more, drop_more, map-append}
 use Rattle.std.proofs.lemmas.Bool.Decides.{same_from_decides}
 use Rattle.std.proofs.lemmas.Map.Text.{is_eq-slice_cmp}
@@ -46,7 +45,6 @@ module _ {X : Type 0} (text : X → List ℕ) (xs : List X) (i : ℕ) (d : X) (w
       ∙ ap (λ b. cond (bytes_eq (text (get_or xs i d)) q) true b) before
       ∙ sym (occurs-push (map text (take i xs)) (text (get_or xs i d)) q)
       ∙ ap (λ texts. occurs texts q) (sym map-take)
-
 
   -- a text that occurred before is the first such
   pub repeated_here : occurs (map text (take i xs)) (text (get_or xs i d)) ≡ true

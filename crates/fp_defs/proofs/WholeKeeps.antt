@@ -1,5 +1,5 @@
 -- Definitions that are read are well formed.
-use Rattle.std.proofs.Common.{◌≡◌, ℕ, zero, suc, ◌+◌, ◌-◌, ◌<◌, ◌≤◌, List, [], ◌∷◌, ◌++◌, length, map, max, get_or, fold, find, sum_by, Bool, true, false, cond, not, ◌||◌, ◌==◌, ◌⊎◌, inl, inr, Option, Some, None, Result, Ok, Err, ℤ, pos, nat_lt, codes, refl, sym, ap, subst, ◌∙◌, append_assoc, arith, rules}
+use Rattle.std.proofs.Common.{◌≡◌, ℕ, zero, suc, ◌+◌, ◌<◌, ◌≤◌, List, [], ◌∷◌, ◌++◌, length, map, max, get_or, fold, find, Bool, true, false, cond, not, ◌||◌, ◌==◌, ◌⊎◌, inl, inr, Option, Some, None, Result, Ok, Err, pos, nat_lt, codes, refl, sym, ap, subst, ◌∙◌, append_assoc, arith}
 use Rattle.std.specs.Prelude.{⊤, Contains, flat_map, IfOk}
 use Rattle.std.specs.List.{AllByRecursion, IsDistinct, list_any}
 use Rattle.std.specs.Option.{option_map_or}
@@ -16,7 +16,7 @@ use Rattle.fp_model.specs.declared.definitions.Defs.{Defs}
 use Rattle.fp_model.specs.Texts.{same_text}
 use Rattle.fp_model.specs.State.{numbers_up}
 use Rattle.fp_model.specs.WellFormed.{Between, AreDistinct, IsMsdbDef, IsDedbDef, AreGroups, AreDefs}
-use Rattle.fp_defs.specs.Readings.{◌>>=◌, or_fault, in_turn, Gives}
+use Rattle.fp_defs.specs.Readings.{or_fault, in_turn, Gives}
 use Rattle.fp_defs.specs.Keys.{occurs, only, needed, within, number_within, number_or, exit_at, tables_or_none}
 use Rattle.fp_defs.specs.Msdbs.{msdb_names, msdb_of}
 use Rattle.fp_defs.specs.Areas.{area_names}
@@ -31,7 +31,7 @@ use Rattle.fp_defs.proofs.DedbLemmas.{map_twice}
 use Rattle.fp_defs.proofs.DedbKeeps.{DedbKeeps, dedb_keeps}
 use Rattle.fp_defs.proofs.KeyLemmas.{within-ok, within-any}
 use Rattle.fp_defs.proofs.MsdbLemmas.{MsdbKeeps, msdb_keeps}
-use Rattle.fp_defs.proofs.Steps.{ok_step, ok_same, some_from_ok}
+use Rattle.fp_defs.proofs.Steps.{ok_step, ok_same}
 
 -- ---- numbers
 
@@ -64,8 +64,8 @@ none_found test zero from g e low high = absurd (omega arith)
 none_found test (suc n) from g e low high =
     let h = none_first (test from) from (find test (numbers_up n (from + 1))) e in
     elim (from_or_later from g low) [
-      inl same ↦ subst (λ (k : ℕ). test k ≡ false) same h.0
-    | inr later ↦ none_found test n (from + 1) g h.1 later (omega arith)
+      | inl same ↦ subst (λ (k : ℕ). test k ≡ false) same h.0
+      | inr later ↦ none_found test n (from + 1) g h.1 later (omega arith)
     ]
 
 from_not : (b : Bool) → not b ≡ false → b ≡ true
@@ -80,8 +80,8 @@ found_contains : (groups : List ℕ) (g : ℕ) → list_any (λ h. h == g) group
 found_contains [] g e = absurd (cc)
 found_contains (h ∷ hs) g e =
     elim (either (h == g) (list_any (λ k. k == g) hs) e) [
-      inl here ↦ (0, omega arith, grind (arith, nat_tests))
-    | inr later ↦ let r = found_contains hs g later in (suc r.0, omega (arith, r.1), r.2)
+      | inl here ↦ (0, omega arith, grind (arith, nat_tests))
+      | inr later ↦ let r = found_contains hs g later in (suc r.0, omega (arith, r.1), r.2)
     ]
 
 -- the greatest is none below
@@ -122,8 +122,7 @@ groups_keep items groups e =
     let same : g.0 ≡ groups = cc in
     let read = read_in_turn group_of (items_in items) g.0 g.1 in
     let counted = within-ok _ _ _ _ _ c.1 in
-    subst GroupsKeep same
-    (
+    subst GroupsKeep same (
       (omega (arith, read.1, counted.0), omega (arith, read.1, counted.1)),
       (
         beside_each (Between 1 16) [] g.0 (beside_map (IsRead group_of) (λ _ y. Between 1 16 y) (λ _ y r. number_within-within (codes "regions") 1 16 r.0 y r.1) [] g.0 read.0),
@@ -151,7 +150,7 @@ areas_beside : (msdbs : List MsdbDef) (before ys : List DedbDef) → IsDistinct 
 areas_beside msdbs before [] distinct all = subst (λ (ds : List DedbDef). IsDistinct same_text (areas_named ds)) (sym (nothing_more before)) distinct
 areas_beside msdbs before (y ∷ ys) distinct all =
     let first : IsDistinct same_text (areas_named before ++ area_names y.areas) =
-        distinct_beside (λ a. a.name.0) (areas_named before) [] y.areas (subst (IsDistinct same_text) (sym (nothing_more (areas_named before))) distinct) all.0.areas
+    distinct_beside (λ a. a.name.0) (areas_named before) [] y.areas (subst (IsDistinct same_text) (sym (nothing_more (areas_named before))) distinct) all.0.areas
     in
     subst (λ (ds : List DedbDef). IsDistinct same_text (areas_named ds)) (append_assoc before (y ∷ []) ys)
     (areas_beside msdbs (before ++ y ∷ []) ys (subst (IsDistinct same_text) (sym (one_area before y)) first) all.1)
@@ -192,11 +191,11 @@ databases_keep msdb_tables dedb_tables all e =
     let each_msdb = beside_map (IsRead msdb_of) MsdbKeeps (λ before y r. msdb_keeps before r.0 y r.1) [] m.0 msdbs.0 in
     let each_dedb = beside_map (IsRead (dedb_of m.0)) (DedbKeeps m.0) (λ before y r. dedb_keeps m.0 before y r) [] d.0 dedbs.0 in
     let first : IsDistinct same_text (msdb_names m.0) =
-        distinct_beside (λ x. x.name.0) [] [] m.0 no_texts (beside_map MsdbKeeps (λ before y. occurs (msdb_names before) y.name.0 ≡ false) (λ _ _ h. h.1) [] m.0 each_msdb)
+    distinct_beside (λ x. x.name.0) [] [] m.0 no_texts (beside_map MsdbKeeps (λ before y. occurs (msdb_names before) y.name.0 ≡ false) (λ _ _ h. h.1) [] m.0 each_msdb)
     in
     let both : IsDistinct same_text (msdb_names m.0 ++ dedb_names d.0) =
-        distinct_beside (λ x. x.name.0) (msdb_names m.0) [] d.0 (subst (IsDistinct same_text) (sym (nothing_more (msdb_names m.0))) first)
-        (beside_map (DedbKeeps m.0) (λ before y. occurs (msdb_names m.0 ++ dedb_names before) y.name.0 ≡ false) (λ _ _ h. h.new) [] d.0 each_dedb)
+    distinct_beside (λ x. x.name.0) (msdb_names m.0) [] d.0 (subst (IsDistinct same_text) (sym (nothing_more (msdb_names m.0))) first)
+    (beside_map (DedbKeeps m.0) (λ before y. occurs (msdb_names m.0 ++ dedb_names before) y.name.0 ≡ false) (λ _ _ h. h.new) [] d.0 each_dedb)
     in
     subst (λ (p : List MsdbDef × List DedbDef). DatabasesKeep p.0 p.1) same
     (record {

@@ -1,5 +1,5 @@
 -- The document of a text.
-use Rattle.std.proofs.Common.{◌≡◌, ℕ, ◌<◌, ◌≤◌, List, length, Bool, true, false, cond, nat_lt, Option, Some, None, Result, Ok, Err, refl, sym, ap, ◌∙◌, arith, rules}
+use Rattle.std.proofs.Common.{◌≡◌, ℕ, ◌≤◌, List, length, Bool, true, false, cond, nat_lt, Option, Some, None, Err, refl, ap, arith}
 use Rattle.std.specs.Str.{IsUtf8, is_utf8}
 use Rattle.std.proofs.lemmas.Str.{IsUtf8-from_is_utf8, is_utf8-from_IsUtf8}
 use Rattle.std.proofs.lemmas.Bool.Decides.{nat_tests}
@@ -7,7 +7,7 @@ use Rattle.toml.specs.Data.{Members}
 use Rattle.toml.specs.Parse.{parse_document}
 use Rattle.fp_defs.specs.Readings.{◌>>=◌, or_fault}
 use Rattle.fp_defs.specs.Whole.{document_of, defs_in, defs_of}
-use Rattle.fp_defs.specs.declared.fault.DefsFault.TheVariants.{NotToml, TooLong}
+use Rattle.fp_defs.specs.declared.fault.DefsFault.TheVariants.{NotToml}
 
 not_long : (text : List ℕ) → length text ≤ 1000000 → nat_lt 1000000 (length text) ≡ false
 not_long text short = grind (arith, nat_tests)

@@ -1,11 +1,10 @@
 -- The table of a data entry database, with its segments and areas.
-use Rattle.std.specs.Prelude.{ℕ, ℤ, pos, negsuc, ◌+◌, ◌-◌, List, [], ◌∷◌, ◌++◌, length, map, max, sum_by, Bool, true, false, ◌||◌, ◌==◌, if◌then◌else◌, Result, Ok, Err, codes, flat_map, ⊤}
+use Rattle.std.specs.Prelude.{ℕ, ℤ, pos, negsuc, ◌+◌, ◌-◌, List, [], ◌∷◌, ◌++◌, length, map, max, sum_by, Bool, ◌||◌, ◌==◌, if◌then◌else◌, Result, Ok, Err, codes, flat_map}
 use Rattle.toml.specs.Data.{Members, as_integer}
 use Rattle.fp_model.specs.declared.name.Name.{Name}
 use Rattle.fp_model.specs.declared.definitions.Kind.{Kind}
 use Rattle.fp_model.specs.declared.definitions.MsdbDef.{MsdbDef}
 use Rattle.fp_model.specs.declared.definitions.SegDef.{SegDef}
-use Rattle.fp_model.specs.declared.definitions.AreaDef.{AreaDef}
 use Rattle.fp_model.specs.declared.definitions.DedbDef.{DedbDef}
 use Rattle.fp_model.specs.State.{anchor_count}
 use Rattle.fp_model.specs.Order.{line_to}

@@ -1,12 +1,11 @@
 -- The tables of the segment types of a data entry database.
-use Rattle.std.specs.Prelude.{◌<◌, IfSome, ℕ, pos, ◌+◌, ◌*◌, List, [], ◌∷◌, length, map, Bool, true, false, not, ◌&&◌, ◌==◌, if◌then◌else◌, Option, Some, None, unwrap_or, Result, Ok, Err, codes, slice_get, ⊤}
+use Rattle.std.specs.Prelude.{◌<◌, IfSome, ℕ, pos, ◌+◌, ◌*◌, List, [], ◌∷◌, length, map, Bool, true, false, not, ◌&&◌, ◌==◌, if◌then◌else◌, Option, Some, None, unwrap_or, Result, Ok, Err, codes, ⊤}
 use Rattle.std.specs.List.{position_from}
 use Rattle.std.specs.Option.{option_map_or}
 use Rattle.toml.specs.Data.{Data, Members, get_member, as_bool}
 use Rattle.fp_model.specs.declared.name.Name.{Name}
 use Rattle.fp_model.specs.declared.definitions.SegDef.{SegDef}
 use Rattle.fp_model.specs.Texts.{same_text}
-use Rattle.fp_model.specs.Order.{is_sequential}
 use Rattle.fp_model.specs.WellFormed.{stored_length}
 use Rattle.fp_defs.specs.Readings.{◌>>=◌, or_fault}
 use Rattle.fp_defs.specs.Values.{as_name}
@@ -82,6 +81,8 @@ all_fit room types place [] = Ok tt
 all_fit room types place (def ∷ defs) = do
   _ ← within (codes "fields") 0 room (pos (stored_length types place def))
   all_fit room types (place + 1) defs
+
+-- ---- no part of what a text means: a condition of a function that makes definitions of drafts
 
 -- A segment type with a parent and a length that its definition has room for.
 pub record IsNarrow (def : SegDef) : Type 0 where

@@ -1,5 +1,5 @@
 -- The definitions that a text is, or its first fault.
-use Rattle.std.specs.Prelude.{ℕ, pos, List, [], ◌∷◌, ◌++◌, length, map, fold, max, Bool, not, ◌==◌, nat_lt, if◌then◌else◌, Option, Some, None, find, Result, Ok, Err, codes, ⊤}
+use Rattle.std.specs.Prelude.{ℕ, pos, List, [], ◌∷◌, length, fold, max, not, ◌==◌, nat_lt, if◌then◌else◌, Option, None, find, Result, Ok, Err, codes, ⊤}
 use Rattle.std.specs.List.{list_any}
 use Rattle.std.specs.Option.{option_map_or}
 use Rattle.std.specs.Str.{is_utf8}

@@ -39,7 +39,12 @@ fn is_area_of_any(dedbs: &[DedbDef], name: &Name) -> bool
 
 /// The name of an area that none of these databases and none before it has.
 #[tactic(auto, unfolding(crate::specs::Keys::new_name, crate::specs::Keys::once))]
-fn new_area_name(alloc: Global, dedbs: &[DedbDef], before: &[AreaDef], table: &Table) -> Result<Name, DefsFault>
+fn new_area_name(
+    alloc: Global,
+    dedbs: &[DedbDef],
+    before: &[AreaDef],
+    table: &Table,
+) -> Result<Name, DefsFault>
     ensures { Gives (λ name. name) result (new_name (areas_named dedbs.now ++ area_names before.now) (table_view table.now)) }
 {
     let name = name_at(alloc, "name", table)?;
@@ -82,7 +87,13 @@ fn capacity_at(alloc: Global, sequential: bool, table: &Table) -> Result<u32, De
 
 /// An area, behind those of earlier databases and of its own.
 #[tactic(auto, unfolding(crate::specs::Areas::area_of))]
-fn area_of(alloc: Global, sequential: bool, dedbs: &[DedbDef], before: &[AreaDef], table: &Table) -> Result<AreaDef, DefsFault>
+fn area_of(
+    alloc: Global,
+    sequential: bool,
+    dedbs: &[DedbDef],
+    before: &[AreaDef],
+    table: &Table,
+) -> Result<AreaDef, DefsFault>
     ensures { Gives (λ def. def) result (area_of sequential (areas_named dedbs.now) before.now (table_view table.now)) }
 {
     only(alloc, Form::Area, table)?;
@@ -101,7 +112,12 @@ fn area_of(alloc: Global, sequential: bool, dedbs: &[DedbDef], before: &[AreaDef
 }
 
 /// The areas of tables, in turn.
-pub(crate) fn areas_of(alloc: Global, sequential: bool, dedbs: &[DedbDef], tables: &[&Table]) -> Result<List<AreaDef>, DefsFault>
+pub(crate) fn areas_of(
+    alloc: Global,
+    sequential: bool,
+    dedbs: &[DedbDef],
+    tables: &[&Table],
+) -> Result<List<AreaDef>, DefsFault>
     ensures { Gives (λ defs. defs) result (in_turn (area_of sequential (areas_named dedbs.now)) [] (map (λ t. table_view t.now) tables.now)) }
 {
     let mut defs = List::new(alloc);

@@ -41,7 +41,12 @@ fn is_dedb(defs: &[DedbDef], name: &Name) -> bool
 
 /// The name of a database that none before it has.
 #[tactic(auto, unfolding(crate::specs::Keys::new_name, crate::specs::Keys::once))]
-fn new_dedb_name(alloc: Global, msdbs: &[MsdbDef], before: &[DedbDef], table: &Table) -> Result<Name, DefsFault>
+fn new_dedb_name(
+    alloc: Global,
+    msdbs: &[MsdbDef],
+    before: &[DedbDef],
+    table: &Table,
+) -> Result<Name, DefsFault>
     ensures { Gives (λ name. name) result (new_name (msdb_names msdbs.now ++ dedb_names before.now) (table_view table.now)) }
 {
     let name = name_at(alloc, "name", table)?;
@@ -94,7 +99,11 @@ fn line_length(types: &[SegDef], place: usize) -> usize
 fn parent_of(types: &[SegDef], place: usize) -> Option<u8>
     ensures { result ≡ parent_of types.now place }
 {
-    if place < types.len() { types[place].parent } else { None }
+    if place < types.len() {
+        types[place].parent
+    } else {
+        None
+    }
 }
 
 /// The greater of two.
@@ -174,7 +183,12 @@ fn intervals(def: &DedbDef) -> u64
 
 /// The end of a table: its levels, its anchors, and its intervals with those taken before. Answers all intervals too.
 #[tactic(auto, unfolding(crate::specs::Dedbs::ended))]
-fn ended(alloc: Global, before: &[DedbDef], taken: u32, def: DedbDef) -> Result<(DedbDef, u32), DefsFault>
+fn ended(
+    alloc: Global,
+    before: &[DedbDef],
+    taken: u32,
+    def: DedbDef,
+) -> Result<(DedbDef, u32), DefsFault>
     requires taken { taken ≡ intervals_of before.now }
     requires small { taken ≤ 524288 }
     requires few { length def.segments ≤ 15 }
@@ -185,7 +199,13 @@ fn ended(alloc: Global, before: &[DedbDef], taken: u32, def: DedbDef) -> Result<
 {
     count_within(alloc, "segment", 0, 4, depth(def.segments.as_slice()))?;
     count_within(alloc, "area", 0, 16, def.areas.len())?;
-    count_within(alloc, "area", 0, 65_536, anchors(def.areas.as_slice()) as usize)?;
+    count_within(
+        alloc,
+        "area",
+        0,
+        65_536,
+        anchors(def.areas.as_slice()) as usize,
+    )?;
     let all = u64::from(taken) + intervals(&def);
     let all = count_within(alloc, "area", 0, 524_288, all as usize)?;
     Ok((def, all))
@@ -193,7 +213,14 @@ fn ended(alloc: Global, before: &[DedbDef], taken: u32, def: DedbDef) -> Result<
 
 /// A database behind its own keys.
 #[tactic(auto, unfolding(crate::specs::Dedbs::dedb_behind))]
-fn dedb_behind(alloc: Global, before: &[DedbDef], taken: u32, head: Head, segment_tables: &[&Table], area_tables: &[&Table]) -> Result<(DedbDef, u32), DefsFault>
+fn dedb_behind(
+    alloc: Global,
+    before: &[DedbDef],
+    taken: u32,
+    head: Head,
+    segment_tables: &[&Table],
+    area_tables: &[&Table],
+) -> Result<(DedbDef, u32), DefsFault>
     requires taken { taken ≡ intervals_of before.now }
     requires small { taken ≤ 524288 }
     requires size { 512 ≤ head.ci }
@@ -209,13 +236,34 @@ fn dedb_behind(alloc: Global, before: &[DedbDef], taken: u32, head: Head, segmen
     let areas = areas_of(alloc, sequential, before, area_tables)?;
     count_within(alloc, "segment", 0, 15, drafts.len())?;
     let segments = narrowed(alloc, drafts)?;
-    let Head { name, randomizer, ci } = head;
-    ended(alloc, before, taken, DedbDef { name, randomizer, ci, segments, areas })
+    let Head {
+        name,
+        randomizer,
+        ci,
+    } = head;
+    ended(
+        alloc,
+        before,
+        taken,
+        DedbDef {
+            name,
+            randomizer,
+            ci,
+            segments,
+            areas,
+        },
+    )
 }
 
 /// A data entry database, behind those of the tables before it, which have taken so many intervals.
 #[tactic(auto, unfolding(crate::specs::Dedbs::dedb_of))]
-fn dedb_of(alloc: Global, msdbs: &[MsdbDef], before: &[DedbDef], taken: u32, table: &Table) -> Result<(DedbDef, u32), DefsFault>
+fn dedb_of(
+    alloc: Global,
+    msdbs: &[MsdbDef],
+    before: &[DedbDef],
+    taken: u32,
+    table: &Table,
+) -> Result<(DedbDef, u32), DefsFault>
     requires taken { taken ≡ intervals_of before.now }
     requires small { taken ≤ 524288 }
     ensures exact { Gives (λ r. r.0) result (dedb_of msdbs.now before.now (table_view table.now)) }
@@ -228,12 +276,20 @@ fn dedb_of(alloc: Global, msdbs: &[MsdbDef], before: &[DedbDef], taken: u32, tab
     let ci = interval_size_at(alloc, table)?;
     let segment_tables = tables_at(alloc, "segment", table)?;
     let area_tables = tables_at(alloc, "area", table)?;
-    let head = Head { name, randomizer, ci };
+    let head = Head {
+        name,
+        randomizer,
+        ci,
+    };
     dedb_behind(alloc, before, taken, head, &segment_tables, &area_tables)
 }
 
 /// The data entry databases of tables, in turn.
-pub(crate) fn dedbs_of(alloc: Global, msdbs: &[MsdbDef], tables: &[&Table]) -> Result<List<DedbDef>, DefsFault>
+pub(crate) fn dedbs_of(
+    alloc: Global,
+    msdbs: &[MsdbDef],
+    tables: &[&Table],
+) -> Result<List<DedbDef>, DefsFault>
     ensures { Gives (λ defs. defs) result (in_turn (dedb_of msdbs.now) [] (map (λ t. table_view t.now) tables.now)) }
 {
     let mut defs = List::new(alloc);

@@ -70,11 +70,23 @@ fn as_length(kind: FieldKind, value: &Value) -> Option<u16>
 {
     let n = value.as_integer()?;
     match kind {
-        FieldKind::C => if n >= 1 && n <= 1024 { Some(n as u16) } else { None },
-        FieldKind::X => if n >= 1 && n <= 8 { Some(n as u16) } else { None },
+        FieldKind::C => if n >= 1 && n <= 1024 {
+            Some(n as u16)
+        } else {
+            None
+        },
+        FieldKind::X => if n >= 1 && n <= 8 {
+            Some(n as u16)
+        } else {
+            None
+        },
         FieldKind::H => if n == 2 { Some(2) } else { None },
         FieldKind::F => if n == 4 { Some(4) } else { None },
-        FieldKind::P => if n >= 1 && n <= 16 { Some(n as u16) } else { None },
+        FieldKind::P => if n >= 1 && n <= 16 {
+            Some(n as u16)
+        } else {
+            None
+        },
     }
 }
 
@@ -191,7 +203,12 @@ fn names_once(alloc: Global, triples: &[Triple]) -> Result<(), DefsFault>
 
 /// The fields of a table, of at most so many bytes, the first of them a key where one is wanted.
 #[tactic(auto, unfolding(crate::specs::Fields::fields_at))]
-pub(crate) fn fields_at(alloc: Global, key_wanted: bool, most: u32, table: &Table) -> Result<Layout, DefsFault>
+pub(crate) fn fields_at(
+    alloc: Global,
+    key_wanted: bool,
+    most: u32,
+    table: &Table,
+) -> Result<Layout, DefsFault>
     ensures exact { Gives (λ layout. layout) result (fields_at key_wanted most (table_view table.now)) }
     ensures small { IfOk result (λ layout. layout.length ≤ most) }
 {

@@ -30,7 +30,12 @@ fn has_key(form: Form, key: &str) -> bool
 {
     match form {
         Form::Top => {
-            key == "regions" || key == "router" || key == "log_group" || key == "pool" || key == "msdb" || key == "dedb"
+            key == "regions"
+                || key == "router"
+                || key == "log_group"
+                || key == "pool"
+                || key == "msdb"
+                || key == "dedb"
         }
         Form::Msdb => key == "name" || key == "fields" || key == "dynamic" || key == "load",
         Form::Dedb => {
@@ -40,7 +45,11 @@ fn has_key(form: Form, key: &str) -> bool
             key == "name" || key == "fields" || key == "parent" || key == "sequential"
         }
         Form::Area => {
-            key == "name" || key == "uows" || key == "base" || key == "overflow" || key == "capacity"
+            key == "name"
+                || key == "uows"
+                || key == "base"
+                || key == "overflow"
+                || key == "capacity"
         }
     }
 }
@@ -88,7 +97,13 @@ pub(crate) fn needed<'a>(alloc: Global, key: &str, table: &'a Table) -> Result<&
 
 /// A number within its limits.
 #[tactic(auto, unfolding(crate::specs::Keys::within))]
-pub(crate) fn within(alloc: Global, key: &str, low: u32, high: u32, n: i64) -> Result<u32, DefsFault>
+pub(crate) fn within(
+    alloc: Global,
+    key: &str,
+    low: u32,
+    high: u32,
+    n: i64,
+) -> Result<u32, DefsFault>
     ensures exact { Gives (λ m. m) result (within key.now low high n) }
     ensures small { IfOk result (λ m. m ≤ high) }
 {
@@ -101,7 +116,13 @@ pub(crate) fn within(alloc: Global, key: &str, low: u32, high: u32, n: i64) -> R
 
 /// How many there are of something, within limits.
 #[tactic(auto, unfolding(crate::specs::Keys::within))]
-pub(crate) fn count_within(alloc: Global, key: &str, low: u32, high: u32, n: usize) -> Result<u32, DefsFault>
+pub(crate) fn count_within(
+    alloc: Global,
+    key: &str,
+    low: u32,
+    high: u32,
+    n: usize,
+) -> Result<u32, DefsFault>
     requires { n < 2 ^ 63 }
     ensures exact { Gives (λ m. m) result (within key.now low high (pos n)) }
     ensures small { OnOk result (n ≤ high) }
@@ -116,7 +137,13 @@ pub(crate) fn count_within(alloc: Global, key: &str, low: u32, high: u32, n: usi
 
 /// The number within its limits that a value is.
 #[tactic(auto, unfolding(crate::specs::Keys::number_within))]
-pub(crate) fn number_within(alloc: Global, key: &str, low: u32, high: u32, value: &Value) -> Result<u32, DefsFault>
+pub(crate) fn number_within(
+    alloc: Global,
+    key: &str,
+    low: u32,
+    high: u32,
+    value: &Value,
+) -> Result<u32, DefsFault>
     ensures exact { Gives (λ m. m) result (number_within key.now low high (view value.now)) }
     ensures small { IfOk result (λ m. m ≤ high) }
 {
@@ -128,7 +155,13 @@ pub(crate) fn number_within(alloc: Global, key: &str, low: u32, high: u32, value
 
 /// A number that the table must have.
 #[tactic(auto, unfolding(crate::specs::Keys::number_at))]
-pub(crate) fn number_at(alloc: Global, key: &str, low: u32, high: u32, table: &Table) -> Result<u32, DefsFault>
+pub(crate) fn number_at(
+    alloc: Global,
+    key: &str,
+    low: u32,
+    high: u32,
+    table: &Table,
+) -> Result<u32, DefsFault>
     ensures exact { Gives (λ m. m) result (number_at key.now low high (table_view table.now)) }
     ensures small { IfOk result (λ m. m ≤ high) }
 {
@@ -138,7 +171,14 @@ pub(crate) fn number_at(alloc: Global, key: &str, low: u32, high: u32, table: &T
 
 /// A number that the table may have.
 #[tactic(auto, unfolding(crate::specs::Keys::number_or))]
-pub(crate) fn number_or(alloc: Global, default: u32, key: &str, low: u32, high: u32, table: &Table) -> Result<u32, DefsFault>
+pub(crate) fn number_or(
+    alloc: Global,
+    default: u32,
+    key: &str,
+    low: u32,
+    high: u32,
+    table: &Table,
+) -> Result<u32, DefsFault>
     ensures { Gives (λ m. m) result (number_or default key.now low high (table_view table.now)) }
 {
     match member(table, key) {
@@ -189,7 +229,11 @@ pub(crate) fn name_at(alloc: Global, key: &str, table: &Table) -> Result<Name, D
 const MANY: usize = 1_000_000;
 
 /// The tables that the items of an array are. No machine comes so far as `MANY`: then there is no memory.
-fn tables_of<'a>(alloc: Global, key: &str, items: &'a Vec<Value>) -> Result<Vec<&'a Table>, DefsFault>
+fn tables_of<'a>(
+    alloc: Global,
+    key: &str,
+    items: &'a Vec<Value>,
+) -> Result<Vec<&'a Table>, DefsFault>
     ensures few { IfOk result (λ ts. length ts.items ≤ 1000000) }
     ensures exact { Gives (λ ts. map (λ t. table_view t.now) ts.items) result (or_fault (faults.BadField key.now) (each as_table (array_view items.now))) }
 {
@@ -222,7 +266,11 @@ fn tables_in<'a>(alloc: Global, key: &str, value: &'a Value) -> Result<Vec<&'a T
 
 /// The tables of an array, none where the table has no such key.
 #[tactic(auto, unfolding(crate::specs::Keys::tables_or_none))]
-pub(crate) fn tables_or_none<'a>(alloc: Global, key: &str, table: &'a Table) -> Result<Vec<&'a Table>, DefsFault>
+pub(crate) fn tables_or_none<'a>(
+    alloc: Global,
+    key: &str,
+    table: &'a Table,
+) -> Result<Vec<&'a Table>, DefsFault>
     ensures few { IfOk result (λ ts. length ts.items ≤ 1000000) }
     ensures exact { Gives (λ ts. map (λ t. table_view t.now) ts.items) result (tables_or_none key.now (table_view table.now)) }
 {
@@ -234,7 +282,11 @@ pub(crate) fn tables_or_none<'a>(alloc: Global, key: &str, table: &'a Table) -> 
 
 /// The tables of an array that must have one.
 #[tactic(auto, unfolding(crate::specs::Keys::tables_at))]
-pub(crate) fn tables_at<'a>(alloc: Global, key: &str, table: &'a Table) -> Result<Vec<&'a Table>, DefsFault>
+pub(crate) fn tables_at<'a>(
+    alloc: Global,
+    key: &str,
+    table: &'a Table,
+) -> Result<Vec<&'a Table>, DefsFault>
     ensures few { IfOk result (λ ts. length ts.items ≤ 1000000) }
     ensures exact { Gives (λ ts. map (λ t. table_view t.now) ts.items) result (tables_at key.now (table_view table.now)) }
 {

@@ -66,7 +66,12 @@ fn minus(n: u128) -> i128
 }
 
 /// Puts a number at the end, in a field of this kind and length that holds it.
-fn append_number(out: &mut Vec<u8>, kind: FieldKind, size: usize, n: i128) -> Result<bool, AllocError>
+fn append_number(
+    out: &mut Vec<u8>,
+    kind: FieldKind,
+    size: usize,
+    n: i128,
+) -> Result<bool, AllocError>
     ensures { IfOk result (λ fits. Appends fits out.old.items out.new.items (bytes_of kind size n)) }
 {
     if size > LONGEST_NUMBER {
@@ -99,7 +104,12 @@ fn number_of_text(text: &[u8]) -> Option<i128>
 }
 
 /// Puts the number that a text is at the end.
-fn append_number_text(out: &mut Vec<u8>, kind: FieldKind, size: usize, text: &[u8]) -> Result<bool, AllocError>
+fn append_number_text(
+    out: &mut Vec<u8>,
+    kind: FieldKind,
+    size: usize,
+    text: &[u8],
+) -> Result<bool, AllocError>
     ensures { IfOk result (λ fits. Appends fits out.old.items out.new.items (number_loaded kind size text.now)) }
 {
     match number_of_text(text) {
@@ -139,7 +149,12 @@ fn append_text(out: &mut Vec<u8>, size: usize, text: &[u8]) -> Result<bool, Allo
 
 /// Puts what a text says of a field at the end.
 #[tactic(auto, unfolding(crate::specs::Values::loaded_as))]
-fn append_field(out: &mut Vec<u8>, kind: FieldKind, size: u16, text: &[u8]) -> Result<bool, AllocError>
+fn append_field(
+    out: &mut Vec<u8>,
+    kind: FieldKind,
+    size: u16,
+    text: &[u8],
+) -> Result<bool, AllocError>
     ensures { IfOk result (λ fits. Appends fits out.old.items out.new.items (loaded_as kind size text.now)) }
 {
     match kind {
@@ -163,7 +178,11 @@ fn append_value(out: &mut Vec<u8>, field: &FieldDef, value: &Value) -> Result<bo
 }
 
 /// The segment that a row is, if it is one.
-fn segment_in(alloc: Global, fields: &[FieldDef], texts: &[Value]) -> Result<Option<Bytes>, AllocError>
+fn segment_in(
+    alloc: Global,
+    fields: &[FieldDef],
+    texts: &[Value],
+) -> Result<Option<Bytes>, AllocError>
     ensures { IfOk result (λ segment. segment ≡ segment_in fields.now (items_view texts.now)) }
 {
     if texts.len() != fields.len() {
@@ -180,7 +199,11 @@ fn segment_in(alloc: Global, fields: &[FieldDef], texts: &[Value]) -> Result<Opt
 
 /// The segment that a value is, if it is one.
 #[tactic(auto, unfolding(crate::specs::Values::as_segment))]
-fn as_segment(alloc: Global, fields: &[FieldDef], value: &Value) -> Result<Option<Bytes>, AllocError>
+fn as_segment(
+    alloc: Global,
+    fields: &[FieldDef],
+    value: &Value,
+) -> Result<Option<Bytes>, AllocError>
     ensures { IfOk result (λ segment. segment ≡ as_segment fields.now (view value.now)) }
 {
     match value.as_array() {
@@ -190,7 +213,11 @@ fn as_segment(alloc: Global, fields: &[FieldDef], value: &Value) -> Result<Optio
 }
 
 /// The segments that the items of an array are.
-fn segments_of(alloc: Global, fields: &[FieldDef], rows: &Vec<Value>) -> Result<List<Bytes>, DefsFault>
+fn segments_of(
+    alloc: Global,
+    fields: &[FieldDef],
+    rows: &Vec<Value>,
+) -> Result<List<Bytes>, DefsFault>
     ensures { Gives (λ load. load) result (or_fault (faults.BadField (codes "load")) (each (as_segment fields.now) (array_view rows.now))) }
 {
     let mut load = List::new(alloc);
@@ -244,7 +271,11 @@ fn load_in(alloc: Global, fields: &[FieldDef], value: &Value) -> Result<List<Byt
 
 /// The segments that a table loads, none where it has no such key.
 #[tactic(auto, unfolding(crate::specs::Msdbs::load_at))]
-pub(crate) fn load_at(alloc: Global, fields: &[FieldDef], table: &Table) -> Result<List<Bytes>, DefsFault>
+pub(crate) fn load_at(
+    alloc: Global,
+    fields: &[FieldDef],
+    table: &Table,
+) -> Result<List<Bytes>, DefsFault>
     ensures { Gives (λ load. load) result (load_at fields.now (table_view table.now)) }
 {
     match member(table, "load") {

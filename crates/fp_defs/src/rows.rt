@@ -37,8 +37,8 @@ pub fn a_loaded_key_stands_once()
         ≡ Err (fault.BadField (codes "load")) }
 {}
 
-/// A root of 4 bytes with a sequential type has an element of 28 bytes: 4, two pointers' 10 and 8, the root, and 2
-/// to a multiple of 4. So 457 bytes more are too many for an interval of 512.
+/// The element of a root with a sequential type: 4 bytes in front, 10 to its next twin, 8 for the newest serial, and
+/// 461 of its own make 483, which is 484 in fours. An interval of 512 has room for 480.
 pub fn an_element_has_its_sequential_pointer()
     ensures { defs_of (codes "regions = [1]\nrouter = \"RANGE\"\n[[dedb]]\nname = \"D\"\nrandomizer = \"FOLD\"\nci = 512\narea = [{}]\n[[dedb.segment]]\nname = \"R\"\nfields = [[\"K\", \"C\", 4], [\"F\", \"C\", 457]]\n[[dedb.segment]]\nname = \"S\"\nparent = \"R\"\nsequential = true\nfields = [[\"F\", \"P\", 4]]\n")
         ≡ Err (fault.OutOfLimit (codes "fields") (pos 484)) }

@@ -123,7 +123,12 @@ fn parent_at(alloc: Global, before: &[Draft], table: &Table) -> Result<Option<us
 
 /// Whether a segment is sequential, where it may be.
 #[tactic(auto, unfolding(crate::specs::Segments::sequential_at))]
-fn sequential_at(alloc: Global, before: &[Draft], parent: Option<usize>, table: &Table) -> Result<bool, DefsFault>
+fn sequential_at(
+    alloc: Global,
+    before: &[Draft],
+    parent: Option<usize>,
+    table: &Table,
+) -> Result<bool, DefsFault>
     ensures { Gives (λ flag. flag) result (sequential_at before.now parent (table_view table.now)) }
 {
     if !flag_at(alloc, "sequential", table)? {
@@ -209,7 +214,11 @@ fn stored_length(drafts: &[Draft], place: usize) -> usize
     if draft.sequential {
         return 16 + length;
     }
-    let serial = if place == 0 && has_sequential(drafts) { 8 } else { 0 };
+    let serial = if place == 0 && has_sequential(drafts) {
+        8
+    } else {
+        0
+    };
     (14 + serial + 10 * child_count(drafts, place) + length + 3) / 4 * 4
 }
 
@@ -234,12 +243,24 @@ pub(crate) fn narrowed(alloc: Global, drafts: List<Draft>) -> Result<List<SegDef
 {
     let mut defs = List::new(alloc);
     for draft in drafts.into_vec() {
-        let Draft { name, parent, sequential, fields, length } = draft;
+        let Draft {
+            name,
+            parent,
+            sequential,
+            fields,
+            length,
+        } = draft;
         let parent = match parent {
             Some(place) => Some(place as u8),
             None => None,
         };
-        defs.push(SegDef { name, parent, sequential, fields, length: length as u16 })?;
+        defs.push(SegDef {
+            name,
+            parent,
+            sequential,
+            fields,
+            length: length as u16,
+        })?;
     }
     Ok(defs)
 }

@@ -16,7 +16,10 @@ fn said(alloc: Global, text: &str) -> Result<String, AllocError> {
         Err(DefsFault::NotToml) => format!(in alloc; "not TOML"),
         Err(DefsFault::Missing(key)) => format!(in alloc; "missing {}", text_of(&key)),
         Err(DefsFault::Unknown(key)) => format!(in alloc; "unknown {}", text_of(&key)),
-        Err(DefsFault::OutOfLimit(key, n)) => format!(in alloc; "{} out of limit: {n}", text_of(&key)),
+        Err(DefsFault::OutOfLimit(key, n)) => format!(in alloc;
+            "{} out of limit: {n}",
+            text_of(&key)
+        ),
         Err(DefsFault::Twice(name)) => format!(in alloc; "twice {}", text_of(&name)),
         Err(DefsFault::BadField(key)) => format!(in alloc; "bad field {}", text_of(&key)),
         Err(DefsFault::TooLong) => format!(in alloc; "too long"),
@@ -1612,9 +1615,11 @@ fn is_customers(defs: &Defs) -> bool {
     let Some(customers) = defs.dedbs.get(0) else {
         return false;
     };
-    let (Some(root), Some(audit), Some(loan)) =
-        (customers.segments.get(0), customers.segments.get(1), customers.segments.get(2))
-    else {
+    let (Some(root), Some(audit), Some(loan)) = (
+        customers.segments.get(0),
+        customers.segments.get(1),
+        customers.segments.get(2),
+    ) else {
         return false;
     };
     let Some(area) = customers.areas.get(1) else {

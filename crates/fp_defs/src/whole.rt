@@ -8,7 +8,9 @@ ghost use Rattle.fp_defs.specs.Whole.{items_in, group_of, greatest, missing_grou
 
 use crate::dedbs::dedbs_of;
 use crate::fault::{DefsFault, bad_field, out_of_limit};
-use crate::keys::{Form, count_within, exit_at, needed, number_within, number_or, only, tables_or_none};
+use crate::keys::{
+    Form, count_within, exit_at, needed, number_or, number_within, only, tables_or_none,
+};
 use crate::msdbs::msdbs_of;
 use fp_model::{Bytes, DedbDef, Defs, List, MsdbDef};
 use std::alloc::Global;
@@ -100,7 +102,11 @@ fn regions_at(alloc: Global, table: &Table) -> Result<List<u8>, DefsFault>
 
 /// The databases of tables.
 #[tactic(auto, unfolding(crate::specs::Whole::databases_of))]
-fn databases_of(alloc: Global, msdb_tables: &[&Table], dedb_tables: &[&Table]) -> Result<(List<MsdbDef>, List<DedbDef>), DefsFault>
+fn databases_of(
+    alloc: Global,
+    msdb_tables: &[&Table],
+    dedb_tables: &[&Table],
+) -> Result<(List<MsdbDef>, List<DedbDef>), DefsFault>
     requires msdbs { length msdb_tables.now ≤ 1000000 }
     requires dedbs { length dedb_tables.now ≤ 1000000 }
     ensures { Gives (λ all. all) result (databases_of (map (λ t. table_view t.now) msdb_tables.now) (map (λ t. table_view t.now) dedb_tables.now)) }
@@ -126,7 +132,15 @@ fn defs_in(alloc: Global, text: &[u8], table: &Table) -> Result<Defs, DefsFault>
     let dedb_tables = tables_or_none(alloc, "dedb", table)?;
     let (msdbs, dedbs) = databases_of(alloc, &msdb_tables, &dedb_tables)?;
     let text = Bytes::from_slice(alloc, text)?;
-    Ok(Defs { regions, router, log_group, pool, msdbs, dedbs, text })
+    Ok(Defs {
+        regions,
+        router,
+        log_group,
+        pool,
+        msdbs,
+        dedbs,
+        text,
+    })
 }
 
 /// The definitions of a text, or its first fault.

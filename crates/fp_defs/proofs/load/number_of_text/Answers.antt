@@ -1,6 +1,6 @@
-use Rattle.std.proofs.Common.{◌≡◌, ◌∙◌, ap, sym, length, [], None, Some, rules, arith}
+use Rattle.std.proofs.Common.{◌∙◌, ap, None, Some, rules}
 use Rattle.std.specs.Int.{w128}
-use Rattle.std.proofs.lemmas.Int.{to_z-of_z, ints}
+use Rattle.std.proofs.lemmas.Int.{to_z-of_z}
 use Rattle.fp_model.specs.Numbers.{bytes_of}
 use Rattle.fp_defs.proofs.NumberLemmas.{read_nothing, read_minus, read_plus}
 use Rattle.fp_defs.proofs.load.number_of_text.Goals as goal

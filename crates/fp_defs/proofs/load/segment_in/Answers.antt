@@ -1,4 +1,4 @@
-use Rattle.std.proofs.Common.{◌≡◌, ◌+◌, ◌∙◌, List, ℕ, drop, sym, ap, arith}
+use Rattle.std.proofs.Common.{◌+◌, ◌∙◌, List, ℕ, drop, sym, ap, arith}
 use Rattle.toml.specs.View.{items_view}
 use Rattle.fp_defs.specs.Values.{segment_in}
 use Rattle.fp_defs.proofs.Loops.{onto}

@@ -20,7 +20,7 @@ given_fault text (Err fault) gives = gives
 pub returns-in-Ok : goal.returns-in-Ok
 returns-in-Ok c =
     let given : Gives {X = Defs} {Y = Defs} (λ defs. defs) c.defs_in.result (defs_of c.args.bytes.now) =
-        subst (Gives {X = Defs} {Y = Defs} (λ defs. defs) c.defs_in.result) (sym (read_document c.args.bytes.now _ (omega arith) c.in-Ok.ensures.ok.0 c.in-Ok.ensures.ok.1)) c.defs_in.ensures
+    subst (Gives {X = Defs} {Y = Defs} (λ defs. defs) c.defs_in.result) (sym (read_document c.args.bytes.now _ (omega arith) c.in-Ok.ensures.ok.0 c.in-Ok.ensures.ok.1)) c.defs_in.ensures
     in
     record { ok = given_ok c.args.bytes.now c.defs_in.result given; fault = given_fault c.args.bytes.now c.defs_in.result given; valid = given_are_defs c.args.bytes.now c.defs_in.result given }
 
