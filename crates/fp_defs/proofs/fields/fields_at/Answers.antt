@@ -1,0 +1,10 @@
+use Rattle.std.proofs.Common.{sym, subst}
+use Rattle.std.specs.List.{AllByRecursion}
+use Rattle.fp_defs.specs.Fields.{IsShort}
+use Rattle.fp_defs.proofs.Steps.{some_from_ok}
+use Rattle.fp_defs.proofs.FieldLemmas.{triples-short}
+use Rattle.fp_defs.proofs.fields.fields_at.Goals as goal
+
+pub laid_out-requires-clause-short : goal.laid_out-requires-clause-short
+laid_out-requires-clause-short c =
+    subst (AllByRecursion IsShort) (sym c.as_slice-triples.ensures.value) (triples-short _ _ (some_from_ok _ _ _ c.in_ok-read.ensures))

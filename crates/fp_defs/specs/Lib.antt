@@ -1,0 +1,10 @@
+pub mod Readings
+pub mod Values
+pub mod Keys
+pub mod Fields
+pub mod Msdbs
+pub mod Segments
+pub mod Areas
+pub mod Dedbs
+pub mod Whole
+pub mod Sample
