@@ -1,0 +1,14 @@
+//! The script language.
+#![tactic(auto)]
+
+mod fault;
+mod line;
+mod rows;
+mod token;
+
+pub use fault::ScriptFault;
+pub use rows::{
+    a_dear_script_is_a_fault, a_field_call_has_these_tokens, a_name_twice_is_a_fault,
+    an_open_block_is_a_fault, deposit_is_a_script, faults_of_lines, showc_is_a_script,
+    the_sample_is_its_scripts, tokens_need_no_blanks,
+};
