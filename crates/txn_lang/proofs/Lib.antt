@@ -1,0 +1,4 @@
+pub mod Runs
+pub mod TokenLemmas
+pub mod ReadingLemmas
+pub mod Shrinking

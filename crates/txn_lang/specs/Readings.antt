@@ -1,7 +1,7 @@
 -- What reading a part of a text gives.
-use Rattle.std.specs.Prelude.{ℕ, zero, suc, List, [], ◌∷◌, length, Result, Ok, Err}
+use Rattle.std.specs.Prelude.{◌≡◌, ⊤, ℕ, zero, suc, List, [], ◌∷◌, length, Result, Ok, Err}
 use Rattle.txn_lang.specs.declared.fault.LineFault.{LineFault}
-use Rattle.txn_lang.specs.declared.fault.LineFault.TheVariants.{Syntax}
+use Rattle.txn_lang.specs.declared.fault.LineFault.TheVariants.{Syntax, UnknownName, Memory}
 
 -- a part that was read, or why the line is none
 abbrev pub Reading : Type 0 → Type 0
@@ -30,3 +30,16 @@ all_by part xs = many part (length xs) xs
 abbrev pub ended : {X A : Type 0} → A → List X → Reading A
 ended x [] = Ok x
 ended x (y ∷ ys) = Err Syntax
+
+-- ---- what a function's contract says
+
+-- a refusal is the one that reading gives; want of memory says nothing
+abbrev pub Fails : {Y : Type 0} → LineFault → Reading Y → Type 0
+Fails Syntax read = read ≡ Err Syntax
+Fails UnknownName read = read ≡ Err UnknownName
+Fails Memory read = ⊤
+
+-- a function's result, seen through a view, is what reading gives, unless memory ran out
+abbrev pub Gives : {X Y : Type 0} → (X → Y) → Result X LineFault → Reading Y → Type 0
+Gives view (Ok x) read = read ≡ Ok (view x)
+Gives view (Err e) read = Fails e read

@@ -1,8 +1,9 @@
 -- The tokens of a line.
-use Rattle.std.specs.Prelude.{ℕ, ◌≡◌, List, [], ◌∷◌, ◌++◌, length, drop, Bool, true, false, not, ◌&&◌, ◌||◌, ◌==◌, nat_le, nat_lt, ◌-◌, if◌then◌else◌, codes, Option, Some, None, Result, Ok, Err, ℤ}
+use Rattle.std.specs.Prelude.{ℕ, ◌≡◌, List, [], ◌∷◌, length, drop, Bool, true, false, not, ◌&&◌, ◌||◌, ◌==◌, nat_le, nat_lt, ◌-◌, if◌then◌else◌, codes, Option, Some, None, Result, Ok, Err, ℤ, pos, neg_ℤ}
 use Rattle.std.specs.List.{list_all, list_any, before_first, after_first}
+use Rattle.std.specs.Char.{is_ascii_digit}
 use Rattle.fp_model.specs.declared.name.Name.{Name}
-use Rattle.fp_model.specs.Texts.{same_text, is_printable, number_in}
+use Rattle.fp_model.specs.Texts.{same_text, is_printable, digits_number}
 use Rattle.fp_model.specs.Names.{is_letter, is_letter_or_digit, name_in}
 use Rattle.fp_model.specs.Messages.{is_separator}
 use Rattle.txn_lang.specs.declared.fault.LineFault.TheVariants.{Syntax}
@@ -27,7 +28,7 @@ abbrev pub unblanked : List ℕ → List ℕ
 unblanked bytes = behind is_separator bytes
 
 abbrev pub is_digit : ℕ → Bool
-is_digit b = nat_le 48 b && nat_le b 57
+is_digit b = is_ascii_digit b
 
 -- whether a text begins with a byte that passes a test
 abbrev pub begins : (ℕ → Bool) → List ℕ → Bool
@@ -58,11 +59,16 @@ letter_token bytes =
     let rest = behind is_letter_or_digit bytes in
     if same_text letters (codes "IO") && begins_with 46 rest then field_token (drop 1 rest) else word_token letters rest
 
--- 1 to 31 digits, here behind a sign that may be empty
-unfoldable pub number_token : List ℕ → List ℕ → Reading (Token × List ℕ)
-number_token sign bytes = do
-  n ← or_syntax (number_in (sign ++ run is_digit bytes))
-  Ok (Number n, behind is_digit bytes)
+-- a number with its sign
+abbrev pub signed : Bool → ℕ → ℤ
+signed true n = neg_ℤ (pos n)
+signed false n = pos n
+
+-- 1 to 31 digits, and whether a `-` stands before them
+unfoldable pub number_token : Bool → List ℕ → Reading (Token × List ℕ)
+number_token negative bytes = do
+  n ← or_syntax (digits_number (run is_digit bytes))
+  Ok (Number (signed negative n), behind is_digit bytes)
 
 -- a text, here without its first quote: at most 1,000 printable bytes up to the next quote, which there must be
 unfoldable pub text_token : List ℕ → Reading (Token × List ℕ)
@@ -86,8 +92,8 @@ unfoldable pub token_at : List ℕ → Reading (Token × List ℕ)
 token_at [] = Err Syntax
 token_at (b ∷ bs) =
     if is_letter b then letter_token (b ∷ bs)
-    else if is_digit b then number_token [] (b ∷ bs)
-    else if b == 45 && begins is_digit bs then number_token (codes "-") bs
+    else if is_digit b then number_token false (b ∷ bs)
+    else if b == 45 && begins is_digit bs then number_token true bs
     else if b == 39 then text_token bs
     else if b == 35 then hash_token bs
     else if is_sign b then Ok (Sign b, bs)

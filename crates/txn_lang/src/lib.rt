@@ -5,6 +5,7 @@ mod fault;
 mod line;
 mod rows;
 mod token;
+mod tokens;
 
 pub use fault::ScriptFault;
 pub use rows::{
