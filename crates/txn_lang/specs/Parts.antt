@@ -85,10 +85,14 @@ word_operand name =
     else if is_reserved name then Err Syntax
     else Ok (operand.Variable name)
 
--- a number, a text, `#d`, `IO.word`, STATUS, FSAS or a variable; a number stands for its canonical text
+-- a number stands for its canonical text
+abbrev pub number_operand : ℤ → Reading Operand
+number_operand n = Ok (operand.Text (decimal_text n))
+
+-- a number, a text, `#d`, `IO.word`, STATUS, FSAS or a variable
 abbrev pub operand_of : Token → Reading Operand
 operand_of (Word name assigned) = word_operand name
-operand_of (Number n) = Ok (operand.Text (decimal_text n))
+operand_of (Number n) = number_operand n
 operand_of (Text text) = Ok (operand.Text text)
 operand_of (Hash digit) = Ok (operand.Word digit)
 operand_of (Field name) = Ok (operand.Field name)

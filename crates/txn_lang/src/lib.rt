@@ -3,6 +3,7 @@
 
 mod fault;
 mod line;
+mod parts;
 mod rows;
 mod token;
 mod tokens;
