@@ -2,3 +2,4 @@ pub mod Runs
 pub mod TokenLemmas
 pub mod ReadingLemmas
 pub mod Shrinking
+pub mod PartLemmas

@@ -223,6 +223,14 @@ field_at tokens = do
   value ← operand_at sign.1
   Ok (record { field = field.0; value = value.0 }, value.1)
 
+-- at least one
+abbrev pub some_of : {A : Type 0} → List A → Reading (List A)
+some_of [] = Err Syntax
+some_of (x ∷ xs) = Ok (x ∷ xs)
+
+unfoldable pub operands_in : List Token → Reading (List Operand)
+operands_in tokens = all_by operand_at tokens >>= some_of
+
 -- 1 to 255 of them
 abbrev pub few : {A : Type 0} → List A → Reading (List A)
 few xs = if nat_le 1 (length xs) && nat_le (length xs) 255 then Ok xs else Err Syntax
@@ -233,5 +241,5 @@ fsas_in tokens = all_by fsa_at tokens >>= few
 unfoldable pub fields_in : List Token → Reading (List FieldText)
 fields_in tokens = all_by field_at tokens >>= few
 
-unfoldable pub ssas_in : List Token → Reading (List WrittenSsa)
+abbrev pub ssas_in : List Token → Reading (List WrittenSsa)
 ssas_in tokens = all_by ssa_at tokens

@@ -16,9 +16,9 @@ use Rattle.txn_lang.specs.declared.line.Keyword.{Keyword}
 use Rattle.txn_lang.specs.declared.line.Keyword.TheVariants as keyword
 use Rattle.txn_lang.specs.declared.line.Line.{Line}
 use Rattle.txn_lang.specs.declared.line.Line.TheVariants as line
-use Rattle.txn_lang.specs.Readings.{Reading, ◌>>=◌, all_by, ended}
+use Rattle.txn_lang.specs.Readings.{Reading, ◌>>=◌, ended}
 use Rattle.txn_lang.specs.Tokens.{or_syntax}
-use Rattle.txn_lang.specs.Parts.{entry_of, word_at, variable_at, operand_at, operation_at, comparison_at, count_at, key_at, ssas_in, fsas_in, fields_in}
+use Rattle.txn_lang.specs.Parts.{entry_of, word_at, variable_at, operand_at, operation_at, comparison_at, count_at, key_at, operands_in, ssas_in, fsas_in, fields_in}
 use Rattle.txn_lang.specs.Lookups.{db_of, get_ssas, isrt_ssas, isrt_fields}
 
 -- ---- the word that a statement begins with
@@ -94,17 +94,11 @@ repeat_line tokens = do
   times ← count_at 1 10000 tokens
   ended (line.Repeat times.0) times.1
 
--- at least one
-abbrev pub some_of : {A : Type 0} → List A → Reading (List A)
-some_of [] = Err Syntax
-some_of (x ∷ xs) = Ok (x ∷ xs)
-
 -- `REPLY operand operand ..`
 unfoldable pub reply_line : List Token → Reading Line
 reply_line tokens = do
-  operands ← all_by operand_at tokens
-  reply ← some_of operands
-  Ok (whole (roll-Statement (statement.Reply reply)))
+  operands ← operands_in tokens
+  Ok (whole (roll-Statement (statement.Reply operands)))
 
 -- `ROLB n`
 unfoldable pub rolb_line : List Token → Reading Line

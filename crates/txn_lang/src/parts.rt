@@ -1,7 +1,7 @@
 //! The parts of a statement: each reads the first tokens of a list, and gives what stands behind them too.
 ghost use Rattle.std.specs.Prelude.{◌≡◌, ◌∷◌, ◌≤◌, ◌<◌, ◌^◌, IfOk};
 ghost use Rattle.fp_model.specs.Texts.{same_text};
-ghost use Rattle.txn_lang.specs.Readings.{Gives};
+ghost use Rattle.txn_lang.specs.Readings.{Gives, all_by};
 ghost use Rattle.txn_lang.specs.Tokens.{or_syntax};
 ghost use Rattle.txn_lang.specs.Parts as parts;
 
@@ -10,6 +10,9 @@ use crate::line::WrittenSsa;
 use crate::token::Token;
 use fp_model::{Bytes, Comparison, FieldText, FsaText, List, Name, Operand, Operation};
 use std::alloc::Global;
+
+// How many fields a call has at most.
+const MOST_FIELDS: usize = 255;
 
 // Whether a name has these letters.
 pub(crate) fn is_word(name: &Name, letters: &[u8; 8]) -> bool
@@ -347,4 +350,96 @@ fn field_at(alloc: Global, tokens: &[Token]) -> Result<(FieldText, &[Token]), Li
     let rest = sign_at(rest, b'=')?;
     let (value, rest) = operand_at(alloc, rest)?;
     Ok((FieldText { field, value }, rest))
+}
+
+// Operands up to the end.
+fn operands_of(alloc: Global, tokens: &[Token]) -> Result<List<Operand>, LineFault>
+    ensures { Gives (λ x. x) result (all_by parts.operand_at tokens.now) }
+{
+    let mut operands = List::new(alloc);
+    let mut rest = tokens;
+    while !rest.is_empty() {
+        let (operand, behind) = operand_at(alloc, rest)?;
+        operands.push(operand)?;
+        rest = behind;
+    }
+    Ok(operands)
+}
+
+/// At least one operand, up to the end.
+#[tactic(auto, unfolding(crate::specs::Parts::operands_in))]
+pub(crate) fn operands_in(alloc: Global, tokens: &[Token]) -> Result<List<Operand>, LineFault>
+    ensures { Gives (λ x. x) result (parts.operands_in tokens.now) }
+{
+    let operands = operands_of(alloc, tokens)?;
+    if operands.is_empty() {
+        return Err(LineFault::Syntax);
+    }
+    Ok(operands)
+}
+
+/// Segment search arguments as they are written, up to the end.
+pub(crate) fn ssas_in(alloc: Global, tokens: &[Token]) -> Result<List<WrittenSsa>, LineFault>
+    ensures { Gives (λ x. x) result (all_by parts.ssa_at tokens.now) }
+{
+    let mut ssas = List::new(alloc);
+    let mut rest = tokens;
+    while !rest.is_empty() {
+        let (ssa, behind) = ssa_at(alloc, rest)?;
+        ssas.push(ssa)?;
+        rest = behind;
+    }
+    Ok(ssas)
+}
+
+// Field search arguments up to the end.
+fn fsas_of(alloc: Global, tokens: &[Token]) -> Result<List<FsaText>, LineFault>
+    ensures { Gives (λ x. x) result (all_by parts.fsa_at tokens.now) }
+{
+    let mut fsas = List::new(alloc);
+    let mut rest = tokens;
+    while !rest.is_empty() {
+        let (fsa, behind) = fsa_at(alloc, rest)?;
+        fsas.push(fsa)?;
+        rest = behind;
+    }
+    Ok(fsas)
+}
+
+/// 1 to 255 field search arguments, up to the end.
+#[tactic(auto, unfolding(crate::specs::Parts::fsas_in))]
+pub(crate) fn fsas_in(alloc: Global, tokens: &[Token]) -> Result<List<FsaText>, LineFault>
+    ensures { Gives (λ x. x) result (parts.fsas_in tokens.now) }
+{
+    let fsas = fsas_of(alloc, tokens)?;
+    if fsas.is_empty() || fsas.len() > MOST_FIELDS {
+        return Err(LineFault::Syntax);
+    }
+    Ok(fsas)
+}
+
+// Fields with their values up to the end.
+fn fields_of(alloc: Global, tokens: &[Token]) -> Result<List<FieldText>, LineFault>
+    ensures { Gives (λ x. x) result (all_by parts.field_at tokens.now) }
+{
+    let mut fields = List::new(alloc);
+    let mut rest = tokens;
+    while !rest.is_empty() {
+        let (field, behind) = field_at(alloc, rest)?;
+        fields.push(field)?;
+        rest = behind;
+    }
+    Ok(fields)
+}
+
+/// 1 to 255 fields with their values, up to the end.
+#[tactic(auto, unfolding(crate::specs::Parts::fields_in))]
+pub(crate) fn fields_in(alloc: Global, tokens: &[Token]) -> Result<List<FieldText>, LineFault>
+    ensures { Gives (λ x. x) result (parts.fields_in tokens.now) }
+{
+    let fields = fields_of(alloc, tokens)?;
+    if fields.is_empty() || fields.len() > MOST_FIELDS {
+        return Err(LineFault::Syntax);
+    }
+    Ok(fields)
 }
