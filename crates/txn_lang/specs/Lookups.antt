@@ -1,9 +1,11 @@
 -- The names that a statement uses, looked up in the definitions.
-use Rattle.std.specs.Prelude.{ℕ, ◌-◌, List, [], ◌∷◌, ◌++◌, length, map, Bool, true, false, not, ◌&&◌, ◌||◌, nat_lt, if◌then◌else◌, codes, position, is_some, slice_get, Option, Some, None, Result, Ok, Err}
+use Rattle.std.specs.Prelude.{ℕ, ◌+◌, ◌-◌, ◌≤◌, List, [], ◌∷◌, length, Bool, true, false, not, ◌&&◌, ◌||◌, nat_lt, if◌then◌else◌, codes, position, is_some, slice_get, Option, Some, None, Result, Ok, Err}
 use Rattle.std.specs.List.{list_all, list_any}
 use Rattle.std.specs.Option.{option_map_or}
 use Rattle.fp_model.specs.declared.name.Name.{Name}
 use Rattle.fp_model.specs.declared.definitions.Defs.{Defs}
+use Rattle.fp_model.specs.declared.definitions.MsdbDef.{MsdbDef}
+use Rattle.fp_model.specs.declared.definitions.DedbDef.{DedbDef}
 use Rattle.fp_model.specs.declared.definitions.SegDef.{SegDef}
 use Rattle.fp_model.specs.declared.definitions.FieldDef.{FieldDef}
 use Rattle.fp_model.specs.declared.scripts.Operand.{Operand}
@@ -31,11 +33,19 @@ has_name name other = same_text other.0 name.0
 abbrev pub has_field : List FieldDef → Name → Bool
 has_field fields name = list_any (λ field. has_name name field.name) fields
 
--- whether some segment of the definitions has a field of this name
-unfoldable pub is_some_field : Defs → Name → Bool
-is_some_field defs name =
-    list_any (λ msdb. has_field msdb.fields name) defs.msdbs
-    || list_any (λ dedb. list_any (λ segment. has_field segment.fields name) dedb.segments) defs.dedbs
+-- whether some segment of the definitions has a field of this name: one of a main storage database, or one of a data
+-- entry database
+abbrev pub is_msdb_field : List MsdbDef → Name → Bool
+is_msdb_field msdbs name = list_any (λ def. has_field def.fields name) msdbs
+
+abbrev pub is_type_field : List SegDef → Name → Bool
+is_type_field types name = list_any (λ def. has_field def.fields name) types
+
+abbrev pub is_dedb_field : List DedbDef → Name → Bool
+is_dedb_field dedbs name = list_any (λ def. is_type_field def.segments name) dedbs
+
+abbrev pub is_some_field : Defs → Name → Bool
+is_some_field defs name = is_msdb_field defs.msdbs name || is_dedb_field defs.dedbs name
 
 -- `IO.f` needs such a field
 abbrev pub is_known : Defs → Token → Bool
@@ -52,13 +62,16 @@ are_known defs tokens = list_all (is_known defs) tokens
 
 -- ---- databases
 
--- main storage databases come first, then data entry databases
-abbrev pub database_names : Defs → List Name
-database_names defs = map (λ msdb. msdb.name) defs.msdbs ++ map (λ dedb. dedb.name) defs.dedbs
+-- main storage databases have the numbers from 0 on, and data entry databases those behind
+abbrev pub db_by : Option ℕ → Option ℕ → ℕ → Reading ℕ
+db_by (Some place) dedb count = Ok place
+db_by None (Some place) count = Ok (count + place)
+db_by None None count = Err UnknownName
 
 -- the number of a database
 unfoldable pub db_of : Defs → Name → Reading ℕ
-db_of defs name = or_unknown (position (has_name name) (database_names defs))
+db_of defs name =
+    db_by (position (λ def. has_name name def.name) defs.msdbs) (position (λ def. has_name name def.name) defs.dedbs) (length defs.msdbs)
 
 -- whether that of a number is a main storage database
 abbrev pub is_msdb : Defs → ℕ → Bool
@@ -67,6 +80,11 @@ is_msdb defs db = nat_lt db (length defs.msdbs)
 -- the segment types of a data entry database
 abbrev pub types_of : Defs → ℕ → List SegDef
 types_of defs db = option_map_or (λ dedb. dedb.segments) (slice_get defs.dedbs (db - length defs.msdbs)) []
+
+-- databases and segment types have numbers of one byte
+pub record HaveByteNumbers (defs : Defs) : Type 0 where
+  pub databases : length defs.msdbs + length defs.dedbs ≤ 256
+  pub types : (db : ℕ) → length (types_of defs db) ≤ 256
 
 -- ---- segments
 
@@ -82,11 +100,15 @@ msdb_ssas [] = Ok []
 msdb_ssas (written ∷ []) = key_alone written
 msdb_ssas (written ∷ next ∷ more) = Err Syntax
 
+-- the number of a segment type
+abbrev pub segment_of : List SegDef → Name → Reading ℕ
+segment_of types name = or_unknown (position (λ def. has_name name def.name) types)
+
 -- on a data entry database: each names a segment type
 unfoldable pub dedb_ssas : List SegDef → List WrittenSsa → Reading (List SsaText)
 dedb_ssas types [] = Ok []
 dedb_ssas types (written ∷ more) = do
-  segment ← or_unknown (position (λ def. has_name written.name def.name) types)
+  segment ← segment_of types written.name
   others ← dedb_ssas types more
   Ok (record { segment = segment; key = written.key } ∷ others)
 

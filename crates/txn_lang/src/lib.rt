@@ -3,6 +3,7 @@
 
 mod fault;
 mod line;
+mod lookups;
 mod parts;
 mod rows;
 mod token;
