@@ -3,3 +3,4 @@ pub mod TokenLemmas
 pub mod ReadingLemmas
 pub mod Shrinking
 pub mod PartLemmas
+pub mod LookupLemmas

@@ -40,7 +40,7 @@ shorter_at {X} {A} n r a rest is h = subst (λ (x : Reading (A × List X)). IsSh
 abbrev pub with_front : {A : Type 0} → List A → Reading (List A) → Reading (List A)
 with_front front read = read >>= λ xs. Ok (front ++ xs)
 
-regroup : {A : Type 0} (front : List A) (a : A) (read : Reading (List A)) → with_front front (read >>= λ xs. Ok (a ∷ xs)) ≡ with_front (front ++ a ∷ []) read
+pub regroup : {A : Type 0} (front : List A) (a : A) (read : Reading (List A)) → with_front front (read >>= λ xs. Ok (a ∷ xs)) ≡ with_front (front ++ a ∷ []) read
 regroup {A = A} front a (Ok xs) = ap (λ (all : List A). Ok all) (simp append_assoc)
 regroup front a (Err e) = refl
 

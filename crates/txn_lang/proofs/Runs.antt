@@ -36,3 +36,6 @@ behind_is test bytes i e = behind_take (position_or_len (λ b. not (test b)) byt
 
 pub behind_none : (test : ℕ → Bool) (bytes : List ℕ) → length bytes ≤ position_or_len (λ b. not (test b)) bytes → behind test bytes ≡ []
 behind_none test bytes le = behind_take (position_or_len (λ b. not (test b)) bytes) bytes ∙ grind (arith, common_steps)
+
+pub drop_past : {X : Type 0} (n : ℕ) (xs : List X) → length xs ≤ n → drop n xs ≡ []
+drop_past n xs le = grind (arith, common_steps)

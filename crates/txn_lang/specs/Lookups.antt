@@ -1,5 +1,5 @@
 -- The names that a statement uses, looked up in the definitions.
-use Rattle.std.specs.Prelude.{ℕ, ◌+◌, ◌-◌, ◌≤◌, List, [], ◌∷◌, length, Bool, true, false, not, ◌&&◌, ◌||◌, nat_lt, if◌then◌else◌, codes, position, is_some, slice_get, Option, Some, None, Result, Ok, Err}
+use Rattle.std.specs.Prelude.{ℕ, ◌+◌, ◌-◌, ◌≤◌, List, [], ◌∷◌, length, Bool, true, false, not, ◌&&◌, ◌||◌, nat_lt, if◌then◌else◌, codes, position, slice_get, option_map, Option, Some, None, Result, Ok, Err}
 use Rattle.std.specs.List.{list_all, list_any}
 use Rattle.std.specs.Option.{option_map_or}
 use Rattle.fp_model.specs.declared.name.Name.{Name}
@@ -135,7 +135,10 @@ inserted (ssa ∷ []) = ssa.segment
 inserted (ssa ∷ next ∷ more) = inserted (next ∷ more)
 
 -- the fields that ISRT gives are fields of the new segment
+abbrev pub have_fields : List FieldDef → List FieldText → Reading (List FieldText)
+have_fields fields given = if list_all (λ text. has_field fields text.field) given then Ok given else Err UnknownName
+
 unfoldable pub isrt_fields : Defs → ℕ → List SsaText → List FieldText → Reading (List FieldText)
-isrt_fields defs db ssas fields = do
-  layout ← or_unknown (layout_of defs db (inserted ssas))
-  if list_all (λ given. has_field layout.fields given.field) fields then Ok fields else Err UnknownName
+isrt_fields defs db ssas given = do
+  fields ← or_unknown (option_map (λ layout. layout.fields) (layout_of defs db (inserted ssas)))
+  have_fields fields given

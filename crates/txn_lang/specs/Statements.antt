@@ -23,34 +23,51 @@ use Rattle.txn_lang.specs.Lookups.{db_of, get_ssas, isrt_ssas, isrt_fields}
 
 -- ---- the word that a statement begins with
 
-abbrev pub keywords : List (List ℕ × Keyword)
-keywords =
+abbrev pub block_keywords : List (List ℕ × Keyword)
+block_keywords =
     (codes "TRAN", keyword.Tran)
-    ∷ (codes "SET", keyword.Set)
     ∷ (codes "IF", keyword.If)
     ∷ (codes "ELSE", keyword.Else)
-    ∷ (codes "END", keyword.End)
     ∷ (codes "REPEAT", keyword.Repeat)
     ∷ (codes "BREAK", keyword.Break)
-    ∷ (codes "REPLY", keyword.Reply)
-    ∷ (codes "ROLB", keyword.Rolb)
-    ∷ (codes "GU", keyword.Get Unique false)
+    ∷ (codes "END", keyword.End)
+    ∷ []
+
+abbrev pub get_keywords : List (List ℕ × Keyword)
+get_keywords =
+    (codes "GU", keyword.Get Unique false)
     ∷ (codes "GN", keyword.Get Next false)
     ∷ (codes "GNP", keyword.Get NextInParent false)
     ∷ (codes "GHU", keyword.Get Unique true)
     ∷ (codes "GHN", keyword.Get Next true)
     ∷ (codes "GHNP", keyword.Get NextInParent true)
+    ∷ []
+
+abbrev pub plain_keywords : List (List ℕ × Keyword)
+plain_keywords =
+    (codes "SET", keyword.Set)
+    ∷ (codes "REPLY", keyword.Reply)
+    ∷ (codes "ROLB", keyword.Rolb)
     ∷ (codes "FLD", keyword.Fld)
     ∷ (codes "ISRT", keyword.Isrt)
     ∷ (codes "REPL", keyword.Repl)
     ∷ (codes "DLET", keyword.Dlet)
     ∷ []
 
+-- a word of one of the three tables; no word stands in two
+abbrev pub keyword_by : Option Keyword → Option Keyword → Option Keyword → Reading Keyword
+keyword_by (Some found) get plain = Ok found
+keyword_by None (Some found) plain = Ok found
+keyword_by None None plain = or_syntax plain
+
+abbrev pub keyword_of : Name → Reading Keyword
+keyword_of name = keyword_by (entry_of block_keywords name) (entry_of get_keywords name) (entry_of plain_keywords name)
+
 unfoldable pub keyword_at : List Token → Reading (Keyword × List Token)
 keyword_at tokens = do
   word ← word_at tokens
-  found ← or_syntax (entry_of keywords word.0)
-  Ok (found, word.1)
+  keyword ← keyword_of word.0
+  Ok (keyword, word.1)
 
 -- ---- a row for each, behind its first word
 

@@ -6,6 +6,7 @@ mod line;
 mod lookups;
 mod parts;
 mod rows;
+mod statements;
 mod token;
 mod tokens;
 

@@ -1,5 +1,7 @@
 //! Looks up in the definitions what a statement names.
-ghost use Rattle.std.specs.Prelude.{◌≡◌, ◌≤◌, length, position};
+ghost use Rattle.std.specs.Prelude.{◌≡◌, ◌≤◌, length, position, option_map};
+ghost use Rattle.std.specs.Option.{option_copied};
+ghost use Rattle.fp_model.specs.Programs.{layout_of};
 ghost use Rattle.std.specs.List.{list_all};
 ghost use Rattle.txn_lang.specs.Readings.{Gives};
 ghost use Rattle.txn_lang.specs.Lookups as lookups;
@@ -210,4 +212,60 @@ pub(crate) fn isrt_ssas(
         return Err(LineFault::Syntax);
     }
     dedb_ssas(alloc, types_of(defs, db), written)
+}
+
+// The number of the type that ISRT inserts: that of the last SSA.
+fn inserted(ssas: &[SsaText]) -> u8
+    ensures { result ≡ lookups.inserted ssas.now }
+{
+    match ssas.last() {
+        Some(ssa) => ssa.segment,
+        None => 0,
+    }
+}
+
+// The fields of a segment type; None where there is no such type.
+fn fields_of(defs: &Defs, db: u8, segment: u8) -> Option<&[FieldDef]>
+    ensures { option_copied result ≡ option_map (λ layout. layout.fields) (layout_of defs.now db segment) }
+{
+    if let Some(def) = defs.msdbs.as_slice().get(usize::from(db)) {
+        return Some(def.fields.as_slice());
+    }
+    let place = usize::from(db).saturating_sub(defs.msdbs.len());
+    match defs.dedbs.as_slice().get(place) {
+        Some(def) => match def.segments.as_slice().get(usize::from(segment)) {
+            Some(def) => Some(def.fields.as_slice()),
+            None => None,
+        },
+        None => None,
+    }
+}
+
+// Whether all of these are fields of a segment type.
+fn have_fields(fields: &[FieldDef], given: &[FieldText]) -> bool
+    ensures { result ≡ list_all (λ text. lookups.has_field fields.now text.field) given.now }
+{
+    given.iter().all(|text| has_field(fields, &text.field))
+}
+
+/// Whether the fields that ISRT gives are fields of the new segment.
+#[tactic(auto, unfolding(crate::specs::Lookups::isrt_fields))]
+pub(crate) fn isrt_fields(
+    defs: &Defs,
+    db: u8,
+    ssas: &[SsaText],
+    given: List<FieldText>,
+) -> Result<List<FieldText>, LineFault>
+    ensures { Gives (λ x. x) result (lookups.isrt_fields defs.now db ssas.now given) }
+{
+    match fields_of(defs, db, inserted(ssas)) {
+        Some(fields) => {
+            if have_fields(fields, given.as_slice()) {
+                Ok(given)
+            } else {
+                Err(LineFault::UnknownName)
+            }
+        }
+        None => Err(LineFault::UnknownName),
+    }
 }
