@@ -5,3 +5,4 @@ pub mod Lookups
 pub mod Statements
 pub mod Blocks
 pub mod Grammar
+pub mod Building

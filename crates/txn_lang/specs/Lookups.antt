@@ -130,15 +130,17 @@ isrt_ssas defs db written = do
 
 -- the type that ISRT inserts: that of the last SSA; a main storage database has type 0 alone
 abbrev pub inserted : List SsaText → ℕ
-inserted [] = 0
-inserted (ssa ∷ []) = ssa.segment
-inserted (ssa ∷ next ∷ more) = inserted (next ∷ more)
+inserted ssas = option_map_or (λ ssa. ssa.segment) (slice_get ssas (length ssas - 1)) 0
+
+-- the fields of a segment type
+abbrev pub fields_of : Defs → ℕ → ℕ → Reading (List FieldDef)
+fields_of defs db segment = or_unknown (option_map (λ layout. layout.fields) (layout_of defs db segment))
 
 -- the fields that ISRT gives are fields of the new segment
-abbrev pub have_fields : List FieldDef → List FieldText → Reading (List FieldText)
-have_fields fields given = if list_all (λ text. has_field fields text.field) given then Ok given else Err UnknownName
+abbrev pub with_fields : List FieldDef → List FieldText → Reading (List FieldText)
+with_fields fields given = if list_all (λ text. has_field fields text.field) given then Ok given else Err UnknownName
 
 unfoldable pub isrt_fields : Defs → ℕ → List SsaText → List FieldText → Reading (List FieldText)
 isrt_fields defs db ssas given = do
-  fields ← or_unknown (option_map (λ layout. layout.fields) (layout_of defs db (inserted ssas)))
-  have_fields fields given
+  fields ← fields_of defs db (inserted ssas)
+  with_fields fields given

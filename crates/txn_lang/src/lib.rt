@@ -1,6 +1,7 @@
 //! The script language.
 #![tactic(auto)]
 
+mod blocks;
 mod fault;
 mod line;
 mod lookups;

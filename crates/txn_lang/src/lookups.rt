@@ -1,7 +1,5 @@
 //! Looks up in the definitions what a statement names.
-ghost use Rattle.std.specs.Prelude.{◌≡◌, ◌≤◌, length, position, option_map};
-ghost use Rattle.std.specs.Option.{option_copied};
-ghost use Rattle.fp_model.specs.Programs.{layout_of};
+ghost use Rattle.std.specs.Prelude.{◌≡◌, ◌≤◌, length, position};
 ghost use Rattle.std.specs.List.{list_all};
 ghost use Rattle.txn_lang.specs.Readings.{Gives};
 ghost use Rattle.txn_lang.specs.Lookups as lookups;
@@ -224,20 +222,20 @@ fn inserted(ssas: &[SsaText]) -> u8
     }
 }
 
-// The fields of a segment type; None where there is no such type.
-fn fields_of(defs: &Defs, db: u8, segment: u8) -> Option<&[FieldDef]>
-    ensures { option_copied result ≡ option_map (λ layout. layout.fields) (layout_of defs.now db segment) }
+// The fields of a segment type.
+fn fields_of(defs: &Defs, db: u8, segment: u8) -> Result<&[FieldDef], LineFault>
+    ensures { Gives (λ x. x.now) result (lookups.fields_of defs.now db segment) }
 {
     if let Some(def) = defs.msdbs.as_slice().get(usize::from(db)) {
-        return Some(def.fields.as_slice());
+        return Ok(def.fields.as_slice());
     }
     let place = usize::from(db).saturating_sub(defs.msdbs.len());
     match defs.dedbs.as_slice().get(place) {
         Some(def) => match def.segments.as_slice().get(usize::from(segment)) {
-            Some(def) => Some(def.fields.as_slice()),
-            None => None,
+            Some(def) => Ok(def.fields.as_slice()),
+            None => Err(LineFault::UnknownName),
         },
-        None => None,
+        None => Err(LineFault::UnknownName),
     }
 }
 
@@ -248,7 +246,17 @@ fn have_fields(fields: &[FieldDef], given: &[FieldText]) -> bool
     given.iter().all(|text| has_field(fields, &text.field))
 }
 
-/// Whether the fields that ISRT gives are fields of the new segment.
+// The fields that ISRT gives, where a segment type has them.
+fn with_fields(fields: &[FieldDef], given: List<FieldText>) -> Result<List<FieldText>, LineFault>
+    ensures { Gives (λ x. x) result (lookups.with_fields fields.now given) }
+{
+    if have_fields(fields, given.as_slice()) {
+        return Ok(given);
+    }
+    Err(LineFault::UnknownName)
+}
+
+/// The fields that ISRT gives, which are fields of the new segment.
 #[tactic(auto, unfolding(crate::specs::Lookups::isrt_fields))]
 pub(crate) fn isrt_fields(
     defs: &Defs,
@@ -258,14 +266,6 @@ pub(crate) fn isrt_fields(
 ) -> Result<List<FieldText>, LineFault>
     ensures { Gives (λ x. x) result (lookups.isrt_fields defs.now db ssas.now given) }
 {
-    match fields_of(defs, db, inserted(ssas)) {
-        Some(fields) => {
-            if have_fields(fields, given.as_slice()) {
-                Ok(given)
-            } else {
-                Err(LineFault::UnknownName)
-            }
-        }
-        None => Err(LineFault::UnknownName),
-    }
+    let fields = fields_of(defs, db, inserted(ssas))?;
+    with_fields(fields, given)
 }

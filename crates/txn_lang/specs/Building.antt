@@ -1,0 +1,116 @@
+-- What the reader of lines holds between two lines, and what it says of the lines before.
+use Rattle.std.specs.Prelude.{◌≡◌, ⊤, ℕ, ◌+◌, ◌*◌, ◌≤◌, List, [], ◌∷◌, ◌++◌, length, map, reverse, sum, max, min, Bool, true, false, Option, Some, None, IsSome, is_some}
+use Rattle.fp_model.specs.declared.name.Name.{Name}
+use Rattle.fp_model.specs.declared.scripts.Operand.{Operand}
+use Rattle.fp_model.specs.declared.scripts.Comparison.{Comparison}
+use Rattle.fp_model.specs.declared.scripts.Statement.{Statement, roll-Statement}
+use Rattle.fp_model.specs.declared.scripts.Statement.TheOpen as statement
+use Rattle.fp_model.specs.declared.scripts.Script.{Script}
+use Rattle.fp_model.specs.Programs.{statement_cost, cost}
+use Rattle.txn_lang.specs.declared.line.Line.{Line}
+use Rattle.txn_lang.specs.declared.line.Line.TheVariants as line
+use Rattle.txn_lang.specs.declared.blocks.Block.{Block}
+use Rattle.txn_lang.specs.declared.blocks.Opening.{Opening}
+use Rattle.txn_lang.specs.declared.blocks.Opening.TheVariants as opening
+use Rattle.txn_lang.specs.declared.blocks.Frame.{Frame}
+use Rattle.txn_lang.specs.declared.blocks.Builder.{Builder}
+use Rattle.txn_lang.specs.Blocks.{Kind, Choice, Otherwise, Loop, Open, Context, begun, choice, loop, else_in, end_in, AreStatements, AreScripts}
+
+-- ---- costs
+
+-- a cost, kept up to the greatest
+abbrev pub capped : ℕ → ℕ
+capped n = min 1000000000 n
+
+-- the cost of a block is that of its statements
+abbrev pub IsBlock : Block → Type 0
+IsBlock block = block.cost ≡ capped (sum (map statement_cost block.statements))
+
+-- ---- where the reader stands
+
+abbrev pub kind_of : Opening → Kind
+kind_of (opening.Choice left comparison right) = Choice
+kind_of (opening.Otherwise left comparison right taken) = Otherwise
+kind_of (opening.Loop times) = Loop
+
+abbrev pub open_of : Frame → Open
+open_of frame = record { kind = kind_of frame.opening; line = frame.line }
+
+abbrev pub context_of : Builder → Context
+context_of b = record { has_begun = is_some b.begun; open_blocks = map open_of (reverse b.frames); left_open = b.left_open }
+
+-- what is open behind a line that can stand there
+abbrev pub or_same : Context → Option (List Open) → Context
+or_same context None = context
+or_same context (Some blocks) = record context { open_blocks = blocks }
+
+abbrev pub with_block : Kind → ℕ → Context → Context
+with_block kind number context = record context { open_blocks = record { kind = kind; line = number } ∷ context.open_blocks }
+
+abbrev pub behind_line : ℕ → Line → Context → Context
+behind_line number (line.Tran name) context = begun context
+behind_line number (line.If left comparison right) context = with_block Choice number context
+behind_line number line.Else context = or_same context (else_in context.open_blocks)
+behind_line number (line.Repeat times) context = with_block Loop number context
+behind_line number line.End context = or_same context (end_in context.open_blocks)
+behind_line number (line.Whole s) context = context
+
+-- a count of REPEAT
+abbrev pub IsCount : ℕ → Type 0
+IsCount times = (1 ≤ times) × (times ≤ 10000)
+
+-- what a line that can stand there has
+abbrev pub Follows : Line → Context → Type 0
+Follows (line.Tran name) context = ⊤
+Follows (line.If left comparison right) context = context.has_begun ≡ true
+Follows line.Else context = (context.has_begun ≡ true) × IsSome (else_in context.open_blocks)
+Follows (line.Repeat times) context = (context.has_begun ≡ true) × IsCount times
+Follows line.End context = (context.has_begun ≡ true) × IsSome (end_in context.open_blocks)
+Follows (line.Whole s) context = (context.has_begun ≡ true) × (statement_cost s ≡ 1)
+
+-- ---- what the lines before are
+
+-- these lines open a block and are its statements so far
+abbrev pub IsOpened : Opening → List Statement → List Line → Type 0
+IsOpened (opening.Choice left comparison right) statements lines =
+    (a : List Line) × (lines ≡ line.If left comparison right ∷ a) × AreStatements a statements
+IsOpened (opening.Otherwise left comparison right taken) statements lines =
+    (a b : List Line) × (lines ≡ line.If left comparison right ∷ a ++ line.Else ∷ b) × AreStatements a taken.statements × AreStatements b statements
+IsOpened (opening.Loop times) statements lines =
+    (a : List Line) × (lines ≡ line.Repeat times ∷ a) × AreStatements a statements
+
+-- the lines of a script behind its TRAN, the innermost frame first
+abbrev pub Covers : List Frame → List Statement → List Line → Type 0
+Covers [] statements lines = AreStatements lines statements
+Covers (frame ∷ frames) statements lines =
+    (a b : List Line) × (lines ≡ a ++ b) × Covers frames frame.outer.statements a × IsOpened frame.opening statements b
+
+-- all lines so far
+abbrev pub HasShape : Option Name → List Script → List Frame → List Statement → List Line → Type 0
+HasShape None scripts frames statements said = (said ≡ []) × (scripts ≡ [])
+HasShape (Some name) scripts frames statements said =
+    (a b : List Line) × (said ≡ a ++ line.Tran name ∷ b) × AreScripts a scripts × Covers frames statements b
+
+-- ---- what is kept
+
+abbrev pub IsOpening : Opening → Type 0
+IsOpening (opening.Choice left comparison right) = ⊤
+IsOpening (opening.Otherwise left comparison right taken) = IsBlock taken
+IsOpening (opening.Loop times) = IsCount times
+
+abbrev pub AreFrames : List Frame → Type 0
+AreFrames [] = ⊤
+AreFrames (frame ∷ frames) = IsOpening frame.opening × IsBlock frame.outer × AreFrames frames
+
+-- the statement that a block makes at its END
+abbrev pub statement_by : Opening → List Statement → Statement
+statement_by (opening.Choice left comparison right) statements = choice left comparison right statements []
+statement_by (opening.Otherwise left comparison right taken) statements = choice left comparison right taken.statements statements
+statement_by (opening.Loop times) statements = loop times statements
+
+-- whatever the lines are, costs are right; and where no script was left open, the scripts are the lines
+pub record IsBuilt (b : Builder) (said : List Line) : Type 0 where
+  pub costs : b.costs ≡ map (λ s. cost s.statements) b.scripts
+  pub block : IsBlock b.block
+  pub frames : AreFrames (reverse b.frames)
+  pub shape : b.left_open ≡ None → HasShape b.begun b.scripts (reverse b.frames) b.block.statements said
