@@ -1,5 +1,5 @@
 -- What the reader of lines holds between two lines, and what it says of the lines before.
-use Rattle.std.specs.Prelude.{◌≡◌, ⊤, ℕ, ◌+◌, ◌*◌, ◌≤◌, List, [], ◌∷◌, ◌++◌, length, map, reverse, sum, max, min, Bool, true, false, Option, Some, None, IsSome, is_some}
+use Rattle.std.specs.Prelude.{◌≡◌, ⊤, ℕ, ◌+◌, ◌*◌, ◌≤◌, List, [], ◌∷◌, ◌++◌, length, map, reverse, sum, max, min, Bool, true, false, Option, Some, None, IsSome, is_some, if◌then◌else◌, Ok, Err}
 use Rattle.fp_model.specs.declared.name.Name.{Name}
 use Rattle.fp_model.specs.declared.scripts.Operand.{Operand}
 use Rattle.fp_model.specs.declared.scripts.Comparison.{Comparison}
@@ -14,7 +14,14 @@ use Rattle.txn_lang.specs.declared.blocks.Opening.{Opening}
 use Rattle.txn_lang.specs.declared.blocks.Opening.TheVariants as opening
 use Rattle.txn_lang.specs.declared.blocks.Frame.{Frame}
 use Rattle.txn_lang.specs.declared.blocks.Builder.{Builder}
-use Rattle.txn_lang.specs.Blocks.{Kind, Choice, Otherwise, Loop, Open, Context, begun, choice, loop, else_in, end_in, AreStatements, AreScripts}
+use Rattle.fp_model.specs.declared.definitions.Defs.{Defs}
+use Rattle.txn_lang.specs.declared.fault.LineFault.TheVariants.{Syntax, UnknownName}
+use Rattle.txn_lang.specs.declared.line.Keyword.{Keyword}
+use Rattle.txn_lang.specs.Readings.{Reading, ◌>>=◌}
+use Rattle.txn_lang.specs.Tokens.{tokens_of}
+use Rattle.txn_lang.specs.Lookups.{are_known}
+use Rattle.txn_lang.specs.Statements.{keyword_at, line_behind}
+use Rattle.txn_lang.specs.Blocks.{stands, Kind, Choice, Otherwise, Loop, Open, Context, begun, choice, loop, else_in, end_in, AreStatements, AreScripts}
 
 -- ---- costs
 
@@ -114,3 +121,51 @@ pub record IsBuilt (b : Builder) (said : List Line) : Type 0 where
   pub block : IsBlock b.block
   pub frames : AreFrames (reverse b.frames)
   pub shape : b.left_open ≡ None → HasShape b.begun b.scripts (reverse b.frames) b.block.statements said
+
+-- ---- steps of the reader
+
+-- the line that opened a block
+abbrev pub opening_line : Opening → Line
+opening_line (opening.Choice left comparison right) = line.If left comparison right
+opening_line (opening.Otherwise left comparison right taken) = line.Else
+opening_line (opening.Loop times) = line.Repeat times
+
+-- IF or REPEAT
+abbrev pub IsFirst : Opening → Type 0
+IsFirst (opening.Choice left comparison right) = ⊤
+IsFirst (opening.Otherwise left comparison right taken) = ⊥
+IsFirst (opening.Loop times) = ⊤
+
+-- a block of an IF before its ELSE
+abbrev pub is_choice : Kind → Bool
+is_choice Choice = true
+is_choice Otherwise = false
+is_choice Loop = false
+
+-- an IF behind its ELSE
+abbrev pub turned : Opening → Block → Opening
+turned (opening.Choice left comparison right) taken = opening.Otherwise left comparison right taken
+turned (opening.Otherwise left comparison right first) taken = opening.Otherwise left comparison right first
+turned (opening.Loop times) taken = opening.Loop times
+
+-- the script that was being read
+abbrev pub finished : Option Name → List Statement → List Script
+finished None statements = []
+finished (Some name) statements = record { name = name; statements = statements } ∷ []
+
+-- a step that reads a line
+abbrev pub Adds : Builder → Line → Builder → Type 0
+Adds old said new = (before : List Line) → IsBuilt old before → IsBuilt new (before ++ said ∷ [])
+
+-- whether a line that begins with this word can stand here
+abbrev pub can_stand : Keyword → Context → Reading (Unit {0})
+can_stand keyword context = if is_some (stands 0 keyword context) then Ok tt else Err Syntax
+
+-- what a line with a statement says, with the word that it begins with
+unfoldable pub said_in : Defs → Context → List ℕ → Reading (Keyword × Line)
+said_in defs context bytes = do
+  tokens ← tokens_of bytes
+  keyword ← keyword_at tokens
+  here ← can_stand keyword.0 context
+  said ← line_behind defs keyword.0 keyword.1
+  if are_known defs tokens then Ok (keyword.0, said) else Err UnknownName

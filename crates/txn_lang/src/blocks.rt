@@ -3,18 +3,25 @@
 //! The script that is being read has a block of statements so far. Where an IF or a REPEAT is open, that is the block
 //! of the innermost one, and what stood before it waits in a frame: there is a frame for each open IF and REPEAT, the
 //! innermost last, and at most 64.
-ghost use Rattle.std.specs.Prelude.{◌≡◌, ◌∷◌, [], ◌++◌, ◌≤◌, ◌<◌, ◌+◌, ◌*◌, ◌^◌, List, max, min, length, IfOk, IsSome, is_some, true};
-ghost use Rattle.fp_model.specs.Programs.{statement_cost};
+ghost use Rattle.std.specs.Prelude.{◌≡◌, ◌∷◌, [], ◌++◌, ◌≤◌, ◌<◌, ◌+◌, ◌*◌, ◌^◌, List, max, min, length, IfOk, IsSome, is_some, map, reverse};
+ghost use Rattle.std.specs.List.{list_any};
+ghost use Rattle.fp_model.specs.Programs.{statement_cost, cost};
+ghost use Rattle.txn_lang.specs.Readings.{Gives};
+ghost use Rattle.txn_lang.specs.Lookups.{HaveByteNumbers};
 ghost use Rattle.txn_lang.specs.declared.line.Line.{Line};
 ghost use Rattle.txn_lang.specs.declared.line.Line.TheVariants as line;
 ghost use Rattle.txn_lang.specs.Blocks as blocks;
 ghost use Rattle.txn_lang.specs.Blocks.{stands, unclosed};
 ghost use Rattle.txn_lang.specs.Building as building;
-ghost use Rattle.txn_lang.specs.Building.{IsBlock, IsBuilt, Follows, context_of, behind_line, statement_by};
+ghost use Rattle.txn_lang.specs.Building.{IsBlock, IsBuilt, Follows, Adds, context_of, behind_line, statement_by};
 
 use crate::fault::LineFault;
 use crate::line::{Keyword, Line};
-use fp_model::{Comparison, List, Name, Operand, Script, Statement};
+use crate::lookups::are_known;
+use crate::statements::{keyword_at, line_behind};
+use crate::token::Token;
+use crate::tokens::tokens_of;
+use fp_model::{Comparison, Defs, List, Name, Operand, Script, Statement};
 use std::alloc::{AllocError, Global};
 
 // A cost is kept up to this number.
@@ -144,15 +151,229 @@ impl Builder {
         }
     }
 
-    // A statement in the innermost block, with its cost.
+    // The number of the line of the outermost open block.
+    fn outermost(&self) -> Option<u32>
+        ensures { result ≡ blocks.outermost (context_of self.now).open_blocks }
+    {
+        match self.frames.get(0) {
+            Some(frame) => Some(frame.line),
+            None => None,
+        }
+    }
+
+    // The first line of a block that has no END, if the text ended here.
+    fn unclosed(&self) -> Option<u32>
+        ensures { result ≡ unclosed (context_of self.now) }
+    {
+        match self.left_open {
+            Some(number) => Some(number),
+            None => self.outermost(),
+        }
+    }
+
+    // Whether a loop is open.
+    fn is_in_loop(&self) -> bool
+        ensures { result ≡ list_any blocks.is_loop (context_of self.now).open_blocks }
+    {
+        self.frames.as_slice().iter().any(|frame| frame.is_loop())
+    }
+
+    // Whether the innermost open block is that of an IF, before its ELSE.
+    fn is_in_choice(&self) -> bool
+        ensures { result ≡ is_some (blocks.else_in (context_of self.now).open_blocks) }
+    {
+        match self.frames.as_slice().last() {
+            Some(frame) => frame.is_choice(),
+            None => false,
+        }
+    }
+
+    // Whether a line that begins with this word can stand here.
+    fn can_stand(&self, keyword: Keyword) -> Result<(), LineFault>
+        ensures { Gives (λ x. x) result (building.can_stand keyword (context_of self.now)) }
+    {
+        let has_begun = self.begun.is_some();
+        let can = match keyword {
+            Keyword::Tran => true,
+            Keyword::If | Keyword::Repeat => has_begun && self.frames.len() < DEEPEST,
+            Keyword::Else => self.is_in_choice(),
+            Keyword::End => !self.frames.is_empty(),
+            Keyword::Break => self.is_in_loop(),
+            _ => has_begun,
+        };
+        if can { Ok(()) } else { Err(LineFault::Syntax) }
+    }
+
+    // A statement in the innermost block.
     fn put(self, statement: Statement) -> Result<Builder, AllocError>
+        requires begun { IsSome self.begun }
         requires block { IsBlock self.block }
         requires one { statement_cost statement ≡ 1 }
         ensures context { IfOk result (λ b. context_of b ≡ context_of self) }
-        ensures built { IfOk result (λ b. (said : List Line) → IsBuilt self said → (is_some self.begun ≡ true) → IsBuilt b (said ++ line.Whole statement ∷ [])) }
+        ensures built { IfOk result (λ b. Adds self (line.Whole statement) b) }
     {
         let Builder { begun, block, frames, left_open, scripts, costs } = self;
         let block = block.with(statement, 1)?;
         Ok(Builder { begun, block, frames, left_open, scripts, costs })
     }
+
+    // A new block, of the IF or REPEAT in this line.
+    fn open(self, alloc: Global, opening: Opening, line: u32) -> Result<Builder, AllocError>
+        requires begun { IsSome self.begun }
+        requires first { building.IsFirst opening }
+        requires opening { building.IsOpening opening }
+        ensures context { IfOk result (λ b. context_of b ≡ building.with_block (building.kind_of opening) line (context_of self)) }
+        ensures built { IfOk result (λ b. Adds self (building.opening_line opening) b) }
+    {
+        let Builder { begun, block, mut frames, left_open, scripts, costs } = self;
+        frames.push(Frame { opening, line, outer: block })?;
+        let block = Block::new(alloc);
+        Ok(Builder { begun, block, frames, left_open, scripts, costs })
+    }
+
+    // ELSE: the block of an IF becomes its first one.
+    fn turn(self, alloc: Global) -> Result<Builder, AllocError>
+        requires begun { IsSome self.begun }
+        requires choice { IsSome (blocks.else_in (context_of self).open_blocks) }
+        ensures context { IfOk result (λ b. context_of b ≡ building.or_same (context_of self) (blocks.else_in (context_of self).open_blocks)) }
+        ensures built { IfOk result (λ b. Adds self line.Else b) }
+    {
+        let Builder { begun, block, mut frames, left_open, scripts, costs } = self;
+        if let Some(Frame { opening, line, outer }) = frames.pop() {
+            frames.push(Frame { opening: turned(opening, block), line, outer })?;
+        }
+        let block = Block::new(alloc);
+        Ok(Builder { begun, block, frames, left_open, scripts, costs })
+    }
+
+    // END: the innermost block becomes a statement of the one around it.
+    fn close(self, alloc: Global) -> Result<Builder, AllocError>
+        requires begun { IsSome self.begun }
+        requires some { IsSome (blocks.end_in (context_of self).open_blocks) }
+        requires block { IsBlock self.block }
+        requires frames { building.AreFrames (reverse self.frames) }
+        ensures context { IfOk result (λ b. context_of b ≡ building.or_same (context_of self) (blocks.end_in (context_of self).open_blocks)) }
+        ensures built { IfOk result (λ b. Adds self line.End b) }
+    {
+        let Builder { begun, block, mut frames, left_open, scripts, costs } = self;
+        match frames.pop() {
+            Some(Frame { opening, line: _, outer }) => {
+                let (statement, cost) = closed(opening, block, alloc);
+                let block = outer.with(statement, cost)?;
+                Ok(Builder { begun, block, frames, left_open, scripts, costs })
+            }
+            None => Ok(Builder { begun, block, frames, left_open, scripts, costs }),
+        }
+    }
+
+    // TRAN: the script before it ends, and another begins.
+    fn begin(self, alloc: Global, name: Name) -> Result<Builder, AllocError>
+        ensures context { IfOk result (λ b. context_of b ≡ blocks.begun (context_of self)) }
+        ensures built { IfOk result (λ b. Adds self (line.Tran name) b) }
+    {
+        let left_open = self.unclosed();
+        let Builder { begun, block, frames: _, left_open: _, scripts, costs } = self;
+        let (scripts, costs) = with_last(scripts, costs, begun, block)?;
+        Ok(Builder {
+            begun: Some(name),
+            block: Block::new(alloc),
+            frames: List::new(alloc),
+            left_open,
+            scripts,
+            costs,
+        })
+    }
+
+    /// A line behind those before.
+    pub(crate) fn add(self, alloc: Global, number: u32, line: Line) -> Result<Builder, AllocError>
+        requires follows { Follows line (context_of self) }
+        requires block { IsBlock self.block }
+        requires frames { building.AreFrames (reverse self.frames) }
+        ensures context { IfOk result (λ b. context_of b ≡ behind_line number line (context_of self)) }
+        ensures built { IfOk result (λ b. Adds self line b) }
+    {
+        match line {
+            Line::Tran(name) => self.begin(alloc, name),
+            Line::If { left, comparison, right } => {
+                self.open(alloc, Opening::Choice { left, comparison, right }, number)
+            }
+            Line::Else => self.turn(alloc),
+            Line::Repeat(times) => self.open(alloc, Opening::Loop { times }, number),
+            Line::End => self.close(alloc),
+            Line::Whole(statement) => self.put(statement),
+        }
+    }
+
+    // What a line with a statement says, with the word that it begins with.
+    #[tactic(auto, unfolding(crate::specs::Building::said_in))]
+    fn statement_in(
+        &self,
+        alloc: Global,
+        defs: &Defs,
+        bytes: &[u8],
+    ) -> Result<(Keyword, Line), LineFault>
+        requires { HaveByteNumbers defs.now }
+        ensures { Gives (λ x. x) result (building.said_in defs.now (context_of self.now) bytes.now) }
+    {
+        let tokens = tokens_of(alloc, bytes)?;
+        let (keyword, rest) = keyword_at(&tokens)?;
+        self.can_stand(keyword)?;
+        let said = line_behind(alloc, defs, keyword, rest)?;
+        if !are_known(defs, &tokens) {
+            return Err(LineFault::UnknownName);
+        }
+        Ok((keyword, said))
+    }
+}
+
+impl Frame {
+    fn is_loop(&self) -> bool
+        ensures { result ≡ blocks.is_loop (building.open_of self.now) }
+    {
+        match self.opening {
+            Opening::Loop { .. } => true,
+            _ => false,
+        }
+    }
+
+    fn is_choice(&self) -> bool
+        ensures { result ≡ building.is_choice (building.kind_of self.now.opening) }
+    {
+        match self.opening {
+            Opening::Choice { .. } => true,
+            _ => false,
+        }
+    }
+}
+
+// An IF behind its ELSE.
+fn turned(opening: Opening, taken: Block) -> Opening
+    ensures { result ≡ building.turned opening taken }
+{
+    match opening {
+        Opening::Choice { left, comparison, right } => {
+            Opening::Otherwise { left, comparison, right, taken }
+        }
+        other => other,
+    }
+}
+
+// Scripts and their costs, with the one that was being read.
+fn with_last(
+    scripts: List<Script>,
+    costs: List<u64>,
+    begun: Option<Name>,
+    block: Block,
+) -> Result<(List<Script>, List<u64>), AllocError>
+    ensures scripts { IfOk result (λ x. x.0 ≡ scripts ++ building.finished begun block.statements) }
+    ensures costs { IfOk result (λ x. IsBlock block → costs ≡ map (λ s. cost s.statements) scripts → x.1 ≡ map (λ s. cost s.statements) x.0) }
+{
+    let mut scripts = scripts;
+    let mut costs = costs;
+    let Block { statements, cost } = block;
+    if let Some(name) = begun {
+        scripts.push(Script { name, statements })?;
+        costs.push(capped(1 + cost))?;
+    }
+    Ok((scripts, costs))
 }
