@@ -4,3 +4,4 @@ pub mod ReadingLemmas
 pub mod Shrinking
 pub mod PartLemmas
 pub mod LookupLemmas
+pub mod BlockLemmas

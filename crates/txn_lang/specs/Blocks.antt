@@ -51,14 +51,14 @@ unclosed context = elim context.left_open [ None ↦ outermost context.open_bloc
 abbrev pub is_loop : Open → Bool
 is_loop block = elim block.kind [ Choice ↦ false | Otherwise ↦ false | Loop ↦ true ]
 
--- behind a TRAN line
-abbrev pub within_script : Context → Option Context
-within_script context = if context.has_begun then Some context else None
+-- nothing but TRAN can stand before the first TRAN
+abbrev pub within_script : Context → Option Context → Option Context
+within_script context next = if context.has_begun then next else None
 
 -- a new block, where fewer than 64 are open
 abbrev pub opened : Kind → ℕ → Context → Option Context
 opened kind number context =
-    if context.has_begun && nat_lt (length context.open_blocks) 64
+    if nat_lt (length context.open_blocks) 64
     then Some (record context { open_blocks = record { kind = kind; line = number } ∷ context.open_blocks })
     else None
 
@@ -80,6 +80,10 @@ abbrev pub with_open : Context → Option (List Open) → Option Context
 with_open context None = None
 with_open context (Some blocks) = Some (record context { open_blocks = blocks })
 
+-- BREAK, where a loop is open
+abbrev pub in_loop : Context → Option Context
+in_loop context = if list_any is_loop context.open_blocks then Some context else None
+
 -- TRAN ends the script before it, with what was open there
 abbrev pub begun : Context → Context
 begun context = record { has_begun = true; open_blocks = []; left_open = unclosed context }
@@ -87,19 +91,19 @@ begun context = record { has_begun = true; open_blocks = []; left_open = unclose
 -- what is open behind a line that begins with this word; None where it can't stand there
 unfoldable pub stands : ℕ → Keyword → Context → Option Context
 stands number keyword.Tran context = Some (begun context)
-stands number keyword.Set context = within_script context
-stands number keyword.If context = opened Choice number context
-stands number keyword.Else context = with_open context (else_in context.open_blocks)
-stands number keyword.End context = with_open context (end_in context.open_blocks)
-stands number keyword.Repeat context = opened Loop number context
-stands number keyword.Break context = if list_any is_loop context.open_blocks then Some context else None
-stands number keyword.Reply context = within_script context
-stands number keyword.Rolb context = within_script context
-stands number (keyword.Get get hold) context = within_script context
-stands number keyword.Fld context = within_script context
-stands number keyword.Isrt context = within_script context
-stands number keyword.Repl context = within_script context
-stands number keyword.Dlet context = within_script context
+stands number keyword.If context = within_script context (opened Choice number context)
+stands number keyword.Else context = within_script context (with_open context (else_in context.open_blocks))
+stands number keyword.End context = within_script context (with_open context (end_in context.open_blocks))
+stands number keyword.Repeat context = within_script context (opened Loop number context)
+stands number keyword.Break context = within_script context (in_loop context)
+stands number keyword.Set context = within_script context (Some context)
+stands number keyword.Reply context = within_script context (Some context)
+stands number keyword.Rolb context = within_script context (Some context)
+stands number (keyword.Get get hold) context = within_script context (Some context)
+stands number keyword.Fld context = within_script context (Some context)
+stands number keyword.Isrt context = within_script context (Some context)
+stands number keyword.Repl context = within_script context (Some context)
+stands number keyword.Dlet context = within_script context (Some context)
 
 -- ---- how lines make statements and scripts
 

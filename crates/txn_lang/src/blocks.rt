@@ -3,7 +3,7 @@
 //! The script that is being read has a block of statements so far. Where an IF or a REPEAT is open, that is the block
 //! of the innermost one, and what stood before it waits in a frame: there is a frame for each open IF and REPEAT, the
 //! innermost last, and at most 64.
-ghost use Rattle.std.specs.Prelude.{◌≡◌, ◌∷◌, [], ◌++◌, ◌≤◌, ◌<◌, ◌+◌, ◌*◌, ◌^◌, List, max, min, length, IfOk, IsSome, is_some, map, reverse};
+ghost use Rattle.std.specs.Prelude.{◌≡◌, ◌∷◌, [], ◌++◌, ◌≤◌, ◌<◌, ◌+◌, ◌*◌, ◌^◌, List, max, min, length, IfOk, IsSome, is_some, map, reverse, ◌&&◌, nat_lt};
 ghost use Rattle.std.specs.List.{list_any};
 ghost use Rattle.fp_model.specs.Programs.{statement_cost, cost};
 ghost use Rattle.txn_lang.specs.Readings.{Gives};
@@ -188,20 +188,54 @@ impl Builder {
         }
     }
 
+    // Whether a new block can be opened.
+    fn has_room(&self) -> bool
+        ensures { result ≡ nat_lt (length (context_of self.now).open_blocks) 64 }
+    {
+        self.frames.len() < DEEPEST
+    }
+
+    // Whether a block is open.
+    fn is_open(&self) -> bool
+        ensures { result ≡ is_some (blocks.end_in (context_of self.now).open_blocks) }
+    {
+        match self.frames.as_slice().last() {
+            Some(_) => true,
+            None => false,
+        }
+    }
+
     // Whether a line that begins with this word can stand here.
+    #[tactic(auto, unfolding(crate::specs::Blocks::stands))]
+    fn is_place_of(&self, keyword: Keyword) -> bool
+        ensures { result ≡ is_some (stands 0 keyword (context_of self.now)) }
+    {
+        let has_begun = self.begun.is_some();
+        match keyword {
+            Keyword::Tran => true,
+            Keyword::If | Keyword::Repeat => has_begun && self.has_room(),
+            Keyword::Else => has_begun && self.is_in_choice(),
+            Keyword::End => has_begun && self.is_open(),
+            Keyword::Break => has_begun && self.is_in_loop(),
+            Keyword::Set
+            | Keyword::Reply
+            | Keyword::Rolb
+            | Keyword::Get { .. }
+            | Keyword::Fld
+            | Keyword::Isrt
+            | Keyword::Repl
+            | Keyword::Dlet => has_begun,
+        }
+    }
+
+    // The same, as a reading.
     fn can_stand(&self, keyword: Keyword) -> Result<(), LineFault>
         ensures { Gives (λ x. x) result (building.can_stand keyword (context_of self.now)) }
     {
-        let has_begun = self.begun.is_some();
-        let can = match keyword {
-            Keyword::Tran => true,
-            Keyword::If | Keyword::Repeat => has_begun && self.frames.len() < DEEPEST,
-            Keyword::Else => self.is_in_choice(),
-            Keyword::End => !self.frames.is_empty(),
-            Keyword::Break => self.is_in_loop(),
-            _ => has_begun,
-        };
-        if can { Ok(()) } else { Err(LineFault::Syntax) }
+        if self.is_place_of(keyword) {
+            return Ok(());
+        }
+        Err(LineFault::Syntax)
     }
 
     // A statement in the innermost block.
@@ -239,11 +273,14 @@ impl Builder {
         ensures built { IfOk result (λ b. Adds self line.Else b) }
     {
         let Builder { begun, block, mut frames, left_open, scripts, costs } = self;
-        if let Some(Frame { opening, line, outer }) = frames.pop() {
-            frames.push(Frame { opening: turned(opening, block), line, outer })?;
+        match frames.pop() {
+            Some(Frame { opening, line, outer }) => {
+                frames.push(Frame { opening: turned(opening, block), line, outer })?;
+                let block = Block::new(alloc);
+                Ok(Builder { begun, block, frames, left_open, scripts, costs })
+            }
+            None => Ok(Builder { begun, block, frames, left_open, scripts, costs }),
         }
-        let block = Block::new(alloc);
-        Ok(Builder { begun, block, frames, left_open, scripts, costs })
     }
 
     // END: the innermost block becomes a statement of the one around it.
@@ -268,6 +305,7 @@ impl Builder {
 
     // TRAN: the script before it ends, and another begins.
     fn begin(self, alloc: Global, name: Name) -> Result<Builder, AllocError>
+        requires { IsBlock self.block }
         ensures context { IfOk result (λ b. context_of b ≡ blocks.begun (context_of self)) }
         ensures built { IfOk result (λ b. Adds self (line.Tran name) b) }
     {
@@ -365,8 +403,9 @@ fn with_last(
     begun: Option<Name>,
     block: Block,
 ) -> Result<(List<Script>, List<u64>), AllocError>
+    requires { IsBlock block }
     ensures scripts { IfOk result (λ x. x.0 ≡ scripts ++ building.finished begun block.statements) }
-    ensures costs { IfOk result (λ x. IsBlock block → costs ≡ map (λ s. cost s.statements) scripts → x.1 ≡ map (λ s. cost s.statements) x.0) }
+    ensures costs { IfOk result (λ x. costs ≡ map (λ s. cost s.statements) scripts → x.1 ≡ map (λ s. cost s.statements) x.0) }
 {
     let mut scripts = scripts;
     let mut costs = costs;
