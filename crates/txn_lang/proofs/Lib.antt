@@ -5,3 +5,5 @@ pub mod Shrinking
 pub mod PartLemmas
 pub mod LookupLemmas
 pub mod BlockLemmas
+pub mod LineLemmas
+pub mod TextLemmas

@@ -21,7 +21,10 @@ use Rattle.txn_lang.specs.Readings.{Reading, ◌>>=◌}
 use Rattle.txn_lang.specs.Tokens.{tokens_of}
 use Rattle.txn_lang.specs.Lookups.{are_known}
 use Rattle.txn_lang.specs.Statements.{keyword_at, line_behind}
-use Rattle.txn_lang.specs.Blocks.{stands, Kind, Choice, Otherwise, Loop, Open, Context, begun, choice, loop, else_in, end_in, AreStatements, AreScripts}
+use Rattle.txn_lang.specs.declared.fault.ScriptFault.{ScriptFault}
+use Rattle.txn_lang.specs.declared.fault.ScriptFault.TheVariants as fault
+use Rattle.txn_lang.specs.Grammar.{line_in, text_in}
+use Rattle.txn_lang.specs.Blocks.{stands, unclosed, Kind, Choice, Otherwise, Loop, Open, Context, begun, choice, loop, else_in, end_in, AreStatements, AreScripts}
 
 -- ---- costs
 
@@ -169,3 +172,36 @@ said_in defs context bytes = do
   here ← can_stand keyword.0 context
   said ← line_behind defs keyword.0 keyword.1
   if are_known defs tokens then Ok (keyword.0, said) else Err UnknownName
+
+-- a line was read, and leads from one builder to another
+pub record ReadsLine (defs : Defs) (number : ℕ) (bytes : List ℕ) (old new : Builder) : Type 0 where
+  pub said : List Line
+  pub few : length said ≤ 1
+  pub reads : line_in defs number (context_of old) bytes ≡ Ok (record { said = said; context = context_of new })
+  pub adds : (before : List Line) → IsBuilt old before → IsBuilt new (before ++ said)
+
+-- all lines were read
+pub record ReadsText (defs : Defs) (text : List ℕ) (b : Builder) : Type 0 where
+  pub said : List Line
+  pub few : length said ≤ 1000000
+  pub reads : text_in defs text ≡ Ok (record { said = said; context = context_of b })
+  pub built : IsBuilt b said
+
+-- a refusal is that of reading the lines; want of memory says nothing
+abbrev pub Refuses : ScriptFault → Type 0 → Type 0
+Refuses fault.Memory reason = ⊤
+Refuses (fault.Syntax number) reason = reason
+Refuses (fault.UnknownName number) reason = reason
+Refuses (fault.TooDear name cost) reason = reason
+Refuses (fault.Twice name) reason = reason
+Refuses fault.TooLong reason = reason
+
+-- a text ended with a block open
+abbrev pub IsLeftOpen : Builder → ScriptFault → Type 0
+IsLeftOpen b e = (number : ℕ) × (unclosed (context_of b) ≡ Some number) × (e ≡ fault.Syntax number)
+
+-- a text ended with all blocks closed: these are its scripts, and what each costs
+pub record Finishes (b : Builder) (scripts : List Script) (costs : List ℕ) : Type 0 where
+  pub closed : unclosed (context_of b) ≡ None
+  pub shape : (said : List Line) → IsBuilt b said → AreScripts said scripts
+  pub costed : (said : List Line) → IsBuilt b said → costs ≡ map (λ s. cost s.statements) scripts

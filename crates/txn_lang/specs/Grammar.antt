@@ -92,12 +92,15 @@ pub record IsWritten (defs : Defs) (text : List ℕ) (scripts : List Script) : T
   pub closed : unclosed read.context ≡ None
   pub shape : AreScripts read.said scripts
 
--- what is wrong with a transaction behind these: a name that one of them has, or a cost above 10,000
-abbrev pub script_fault : List Script → Script → Option ScriptFault
-script_fault earlier s =
-    if is_some (script_of earlier s.name) then Some (fault.Twice s.name)
+-- what is wrong with a transaction: a name that an earlier one has, or a cost above 10,000
+abbrev pub fault_of_script : Bool → Script → Option ScriptFault
+fault_of_script seen s =
+    if seen then Some (fault.Twice s.name)
     else if nat_lt 10000 (cost s.statements) then Some (fault.TooDear s.name (cost s.statements))
     else None
+
+abbrev pub script_fault : List Script → Script → Option ScriptFault
+script_fault earlier s = fault_of_script (is_some (script_of earlier s.name)) s
 
 abbrev pub or_later : Option ScriptFault → Option ScriptFault → Option ScriptFault
 or_later None later = later

@@ -6,3 +6,4 @@ pub mod Statements
 pub mod Blocks
 pub mod Grammar
 pub mod Building
+pub mod Numbers

@@ -3,7 +3,7 @@
 //! The script that is being read has a block of statements so far. Where an IF or a REPEAT is open, that is the block
 //! of the innermost one, and what stood before it waits in a frame: there is a frame for each open IF and REPEAT, the
 //! innermost last, and at most 64.
-ghost use Rattle.std.specs.Prelude.{◌≡◌, ◌∷◌, [], ◌++◌, ◌≤◌, ◌<◌, ◌+◌, ◌*◌, ◌^◌, List, max, min, length, IfOk, IsSome, is_some, map, reverse, ◌&&◌, nat_lt};
+ghost use Rattle.std.specs.Prelude.{◌≡◌, ◌∷◌, [], ◌++◌, ◌≤◌, ◌<◌, ◌+◌, ◌*◌, ◌^◌, List, max, min, length, IfOk, IfErr, IsSome, is_some, map, reverse, ◌&&◌, nat_lt};
 ghost use Rattle.std.specs.List.{list_any};
 ghost use Rattle.fp_model.specs.Programs.{statement_cost, cost};
 ghost use Rattle.txn_lang.specs.Readings.{Gives};
@@ -15,7 +15,7 @@ ghost use Rattle.txn_lang.specs.Blocks.{stands, unclosed};
 ghost use Rattle.txn_lang.specs.Building as building;
 ghost use Rattle.txn_lang.specs.Building.{IsBlock, IsBuilt, Follows, Adds, context_of, behind_line, statement_by};
 
-use crate::fault::LineFault;
+use crate::fault::{LineFault, ScriptFault};
 use crate::line::{Keyword, Line};
 use crate::lookups::are_known;
 use crate::statements::{keyword_at, line_behind};
@@ -342,9 +342,24 @@ impl Builder {
         }
     }
 
-    // What a line with a statement says, with the word that it begins with.
+    /// The scripts, and what each costs, at the end of a text.
+    pub(crate) fn finish(self) -> Result<(List<Script>, List<u64>), ScriptFault>
+        requires { IsBlock self.block }
+        ensures ok { IfOk result (λ x. building.Finishes self x.0 x.1) }
+        ensures err { IfErr result (λ e. building.Refuses e (building.IsLeftOpen self e)) }
+    {
+        match self.unclosed() {
+            Some(number) => Err(ScriptFault::Syntax(number)),
+            None => {
+                let Builder { begun, block, frames: _, left_open: _, scripts, costs } = self;
+                Ok(with_last(scripts, costs, begun, block)?)
+            }
+        }
+    }
+
+    /// What a line with a statement says, with the word that it begins with.
     #[tactic(auto, unfolding(crate::specs::Building::said_in))]
-    fn statement_in(
+    pub(crate) fn statement_in(
         &self,
         alloc: Global,
         defs: &Defs,
