@@ -7,3 +7,5 @@ pub mod LookupLemmas
 pub mod BlockLemmas
 pub mod LineLemmas
 pub mod TextLemmas
+pub mod NumberLemmas
+pub mod ParseLemmas

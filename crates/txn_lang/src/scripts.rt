@@ -67,10 +67,18 @@ impl Scripts {
     ghost use Rattle.std.specs.Prelude.{option_and_then};
     ghost use Rattle.txn_lang.specs.Numbers.{place_of};
 
+    pub(crate) fn new(text: Bytes, scripts: List<Script>, numbers: BTreeMap<Name, u32>) -> Scripts
+        requires { Indexes numbers scripts }
+        ensures scripts { result.scripts ≡ scripts }
+        ensures text { result.text ≡ text }
+    {
+        Scripts { text, scripts, numbers }
+    }
+
     /// The number of the script of a name, counted from 0. None exactly where no script has that name.
     pub fn find(&self, tran: &Name) -> Option<u32>
         ensures number { result ≡ place_of self.now.scripts tran.now }
-        ensures script { option_and_then result (slice_get self.now.scripts) ≡ script_of self.now.scripts tran.now }
+        ensures script { option_and_then (slice_get self.now.scripts) result ≡ script_of self.now.scripts tran.now }
     {
         self.numbers.get(tran).copied()
     }
