@@ -66,9 +66,13 @@ opened_first (opening.Loop n) is = ([], refl, none)
 pub shape_open : (begun : Option Name) (scripts : List Script) (frames : List Frame) (frame : Frame) (said : List Line) → IsSome begun → IsFirst frame.opening
     → HasShape begun scripts frames frame.outer.statements said → HasShape begun scripts (frame ∷ frames) [] (said ++ opening_line frame.opening ∷ [])
 shape_open None scripts frames frame said some first h = absurd cc
-shape_open (Some name) scripts frames frame said some first h =
-    (h.0, h.1 ++ opening_line frame.opening ∷ [], split_more said h.0 h.1 (opening_line frame.opening ∷ []) name h.2, h.3,
-    (h.1, opening_line frame.opening ∷ [], refl, h.4, opened_first frame.opening first))
+shape_open (Some name) scripts frames frame said some first h = (
+  h.0,
+  h.1 ++ opening_line frame.opening ∷ [],
+  split_more said h.0 h.1 (opening_line frame.opening ∷ []) name h.2,
+  h.3,
+  (h.1, opening_line frame.opening ∷ [], refl, h.4, opened_first frame.opening first),
+)
 
 opened_turned : (o : Opening) (block : Block) (b : List Line) → is_choice (kind_of o) ≡ true → IsOpened o block.statements b → IsOpened (turned o block) [] (b ++ line.Else ∷ [])
 opened_turned (opening.Choice l c r) block b is h = (h.0, [], ap (λ (x : List Line). x ++ line.Else ∷ []) h.1, h.2, none)
@@ -81,9 +85,13 @@ pub shape_turn : (begun : Option Name) (scripts : List Script) (frames : List Fr
     → HasShape begun scripts (record frame { opening = turned frame.opening block } ∷ frames) [] (said ++ line.Else ∷ [])
 shape_turn None scripts frames frame block said some is h = absurd cc
 shape_turn (Some name) scripts frames frame block said some is h =
-    let k = h.4 in
-    (h.0, h.1 ++ line.Else ∷ [], split_more said h.0 h.1 (line.Else ∷ []) name h.2, h.3,
-    (k.0, k.1 ++ line.Else ∷ [], ap (λ (x : List Line). x ++ line.Else ∷ []) k.2 ∙ append_assoc k.0 k.1 (line.Else ∷ []), k.3, opened_turned frame.opening block k.1 is k.4))
+    let k = h.4 in (
+      h.0,
+      h.1 ++ line.Else ∷ [],
+      split_more said h.0 h.1 (line.Else ∷ []) name h.2,
+      h.3,
+      (k.0, k.1 ++ line.Else ∷ [], ap (λ (x : List Line). x ++ line.Else ∷ []) k.2 ∙ append_assoc k.0 k.1 (line.Else ∷ []), k.3, opened_turned frame.opening block k.1 is k.4),
+    )
 
 -- a block is a statement behind its END
 closed_block : (o : Opening) (st : List Statement) (b : List Line) → IsOpened o st b → AreStatements (b ++ line.End ∷ []) (statement_by o st ∷ [])
@@ -97,10 +105,14 @@ pub shape_close : (begun : Option Name) (scripts : List Script) (frames : List F
 shape_close None scripts frames frame st said some h = absurd cc
 shape_close (Some name) scripts frames frame st said some h =
     let k = h.4 in
-    let more = cover_more frames frame.outer.statements (statement_by frame.opening st ∷ []) k.0 (k.1 ++ line.End ∷ []) k.3 (closed_block frame.opening st k.1 k.4) in
-    (h.0, h.1 ++ line.End ∷ [], split_more said h.0 h.1 (line.End ∷ []) name h.2, h.3,
-    subst (λ (x : List Line). Covers frames (frame.outer.statements ++ statement_by frame.opening st ∷ []) x)
-    (sym (ap (λ (x : List Line). x ++ line.End ∷ []) k.2 ∙ append_assoc k.0 k.1 (line.End ∷ []))) more)
+    let more = cover_more frames frame.outer.statements (statement_by frame.opening st ∷ []) k.0 (k.1 ++ line.End ∷ []) k.3 (closed_block frame.opening st k.1 k.4) in (
+      h.0,
+      h.1 ++ line.End ∷ [],
+      split_more said h.0 h.1 (line.End ∷ []) name h.2,
+      h.3,
+      subst (λ (x : List Line). Covers frames (frame.outer.statements ++ statement_by frame.opening st ∷ []) x)
+          (sym (ap (λ (x : List Line). x ++ line.End ∷ []) k.2 ∙ append_assoc k.0 k.1 (line.End ∷ []))) more,
+    )
 
 -- ---- scripts
 
@@ -166,19 +178,19 @@ length_open frames = length-map (reverse frames) open_of ∙ length-reverse fram
 
 pub choice_in : (frame : Frame) (more : List Open) → IsSome (else_in (open_of frame ∷ more)) → is_choice (kind_of frame.opening) ≡ true
 choice_in frame more is = by_opening frame.opening is
-    where
-      by_opening : (o : Opening) → IsSome (else_in (record { kind = kind_of o; line = frame.line } ∷ more)) → is_choice (kind_of o) ≡ true
-      by_opening (opening.Choice l c r) h = refl
-      by_opening (opening.Otherwise l c r taken) h = absurd cc
-      by_opening (opening.Loop n) h = absurd cc
+  where
+    by_opening : (o : Opening) → IsSome (else_in (record { kind = kind_of o; line = frame.line } ∷ more)) → is_choice (kind_of o) ≡ true
+    by_opening (opening.Choice l c r) h = refl
+    by_opening (opening.Otherwise l c r taken) h = absurd cc
+    by_opening (opening.Loop n) h = absurd cc
 
 outermost_none : (xs : List Open) → outermost xs ≡ None → xs ≡ []
 outermost_none [] is = refl
 outermost_none (x ∷ []) is = absurd cc
 outermost_none (x ∷ y ∷ ys) is = absurd (nil_cons (outermost_none (y ∷ ys) is))
-    where
-      nil_cons : y ∷ ys ≡ [] → ⊥
-      nil_cons e = absurd cc
+  where
+    nil_cons : y ∷ ys ≡ [] → ⊥
+    nil_cons e = absurd cc
 
 map_nil : (frames : List Frame) → map open_of frames ≡ [] → frames ≡ []
 map_nil [] is = refl

@@ -9,3 +9,4 @@ pub mod LineLemmas
 pub mod TextLemmas
 pub mod NumberLemmas
 pub mod ParseLemmas
+pub mod OneMeaning

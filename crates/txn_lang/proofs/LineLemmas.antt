@@ -28,7 +28,7 @@ use Rattle.txn_lang.specs.Lookups.{are_known, db_of, get_ssas, isrt_ssas, isrt_f
 use Rattle.txn_lang.specs.Statements.{keyword_at, before_fields, from_fields, tran_line, set_rest, set_line, if_line, repeat_line, reply_line, rolb_line, get_line, fld_line, isrt_line, repl_line, dlet_line, line_behind}
 use Rattle.txn_lang.specs.Blocks.{Kind, Choice, Loop, Context, begun, within_script, opened, with_open, in_loop, is_loop, else_in, end_in, stands}
 use Rattle.txn_lang.specs.Grammar.{Read, is_ascii, is_skipped, statement_in, line_in}
-use Rattle.txn_lang.specs.Building.{IsCount, Follows, behind_line, or_same, with_block, can_stand, said_in}
+use Rattle.txn_lang.specs.Building.{IsCount, Follows, context_behind, or_same, with_block, can_stand, said_in}
 
 -- ---- what a reading gives has a property
 
@@ -79,11 +79,11 @@ IsOf keyword.Dlet said = IsWhole said
 
 count_fits : (n : ℤ) → Has IsCount (count_within 1 10000 n)
 count_fits (pos n) = by_test (nat_le 1 n) (nat_le n 10000) refl refl
-    where
-      by_test : (a b : Bool) → nat_le 1 n ≡ a → nat_le n 10000 ≡ b → Has IsCount (if a && b then Ok n else Err Syntax)
-      by_test true true p q = (leb-true 1 n p, leb-true n 10000 q)
-      by_test true false p q = tt
-      by_test false b p q = tt
+  where
+    by_test : (a b : Bool) → nat_le 1 n ≡ a → nat_le n 10000 ≡ b → Has IsCount (if a && b then Ok n else Err Syntax)
+    by_test true true p q = (leb-true 1 n p, leb-true n 10000 q)
+    by_test true false p q = tt
+    by_test false b p q = tt
 count_fits (negsuc n) = tt
 
 count_token : (t : Token) → Has IsCount (count_of 1 10000 t)
@@ -195,7 +195,7 @@ open_is context None next is = absurd cc
 open_is context (Some blocks) next is = (refl, cc)
 
 abbrev Goes : ℕ → Context → Context → Line → Type 0
-Goes number context next said = Follows said context × (next ≡ behind_line number said context)
+Goes number context next said = Follows said context × (next ≡ context_behind number said context)
 
 whole_goes : (number : ℕ) (said : Line) (context next : Context) → IsWhole said → within_script context (Some context) ≡ Some next → Goes number context next said
 whole_goes number said context next is stood =
@@ -303,7 +303,7 @@ module _ (defs : Defs) (context : Context) where
   statement_good number bytes tokens k next said a b s l known = rw (a, b, s, l, known) refl
 
   pub said_reads : (number : ℕ) (bytes : List ℕ) (read : Keyword × Line) → said_in defs context bytes ≡ Ok read
-      → Follows read.1 context × (statement_in defs number context bytes ≡ Ok (record { said = read.1 ∷ []; context = behind_line number read.1 context }))
+      → Follows read.1 context × (statement_in defs number context bytes ≡ Ok (record { said = read.1 ∷ []; context = context_behind number read.1 context }))
   unfolding said_in
   said_reads number bytes read is =
       let a = bind_ok (tokens_of bytes) then_keyword read is in
@@ -313,9 +313,9 @@ module _ (defs : Defs) (context : Context) where
       let known = guard_ok (are_known defs a.0) (b.0.0, l.0) read UnknownName l.2 in
       let stood = is_there (stands number b.0.0 context) (sym (any_number number b.0.0 context) ∙ (guard_ok (is_some (stands 0 b.0.0 context)) tt s.0 Syntax s.1).0) in
       let goes = line_goes number b.0.0 l.0 context stood.0 (has_ok (IsOf b.0.0) _ l.0 (line_has defs b.0.0 b.0.1) l.1) stood.1 in
-      let whole : statement_in defs number context bytes ≡ Ok (record { said = l.0 ∷ []; context = behind_line number l.0 context }) =
-        statement_good number bytes a.0 b.0 stood.0 l.0 a.1 b.1 stood.1 l.1 known.0 ∙ ap (λ (next : Context). Ok (record { said = l.0 ∷ []; context = next })) goes.1 in
-      subst (λ (x : Keyword × Line). Follows x.1 context × (statement_in defs number context bytes ≡ Ok (record { said = x.1 ∷ []; context = behind_line number x.1 context }))) known.1 (goes.0, whole)
+      let whole : statement_in defs number context bytes ≡ Ok (record { said = l.0 ∷ []; context = context_behind number l.0 context }) =
+      statement_good number bytes a.0 b.0 stood.0 l.0 a.1 b.1 stood.1 l.1 known.0 ∙ ap (λ (next : Context). Ok (record { said = l.0 ∷ []; context = next })) goes.1 in
+      subst (λ (x : Keyword × Line). Follows x.1 context × (statement_in defs number context bytes ≡ Ok (record { said = x.1 ∷ []; context = context_behind number x.1 context }))) known.1 (goes.0, whole)
 
   refused : (number : ℕ) (bytes : List ℕ) (e : LineFault) → said_in defs context bytes ≡ Err e → statement_in defs number context bytes ≡ Err e
   unfolding said_in statement_in
@@ -326,23 +326,23 @@ module _ (defs : Defs) (context : Context) where
       (λ t. rw (a.1, t) refl)
       (λ b. ⊎_elim
       (λ t.
-          let stood = guard_err (is_some (stands 0 b.0.0 context)) tt Syntax e t in
-          let nothing = not_there (stands number b.0.0 context) (sym (any_number number b.0.0 context) ∙ stood.0) in
-          rw (a.1, b.1, nothing) (ap (λ (c : LineFault). Err c) stood.1))
+      let stood = guard_err (is_some (stands 0 b.0.0 context)) tt Syntax e t in
+      let nothing = not_there (stands number b.0.0 context) (sym (any_number number b.0.0 context) ∙ stood.0) in
+      rw (a.1, b.1, nothing) (ap (λ (c : LineFault). Err c) stood.1))
       (λ s.
-          let stood = is_there (stands number b.0.0 context) (sym (any_number number b.0.0 context) ∙ (guard_ok (is_some (stands 0 b.0.0 context)) tt s.0 Syntax s.1).0) in
-          ⊎_elim
-          (λ t. rw (a.1, b.1, stood.1, t) refl)
-          (λ l.
-              let unknown = guard_err (are_known defs a.0) (b.0.0, l.0) UnknownName e l.2 in
-              rw (a.1, b.1, stood.1, l.1, unknown.0) (ap (λ (c : LineFault). Err c) unknown.1))
-          (bind_err (line_behind defs b.0.0 b.0.1) (λ said. if are_known defs a.0 then Ok (b.0.0, said) else Err UnknownName) e s.2))
+      let stood = is_there (stands number b.0.0 context) (sym (any_number number b.0.0 context) ∙ (guard_ok (is_some (stands 0 b.0.0 context)) tt s.0 Syntax s.1).0) in
+      ⊎_elim
+      (λ t. rw (a.1, b.1, stood.1, t) refl)
+      (λ l.
+      let unknown = guard_err (are_known defs a.0) (b.0.0, l.0) UnknownName e l.2 in
+      rw (a.1, b.1, stood.1, l.1, unknown.0) (ap (λ (c : LineFault). Err c) unknown.1))
+      (bind_err (line_behind defs b.0.0 b.0.1) (λ said. if are_known defs a.0 then Ok (b.0.0, said) else Err UnknownName) e s.2))
       (bind_err (can_stand b.0.0 context) (λ here. then_last a.0 b.0) e b.2))
       (bind_err (keyword_at a.0) (then_line a.0) e a.2))
       (bind_err (tokens_of bytes) then_keyword e is)
 
   pub line_reads : (number : ℕ) (bytes : List ℕ) (read : Keyword × Line) → list_all is_ascii bytes ≡ true → is_skipped bytes ≡ false → said_in defs context bytes ≡ Ok read
-      → line_in defs number context bytes ≡ Ok (record { said = read.1 ∷ []; context = behind_line number read.1 context })
+      → line_in defs number context bytes ≡ Ok (record { said = read.1 ∷ []; context = context_behind number read.1 context })
   unfolding line_in
   line_reads number bytes read ascii some is = rw (ascii, some) (said_reads number bytes read is).1
 

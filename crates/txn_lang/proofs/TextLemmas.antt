@@ -81,7 +81,7 @@ module _ (defs : Defs) where
   unfolding lines_in
   line_more number context next before said bytes all more total split is so_far =
       let one : in_front before (lines_in defs number context (bytes ∷ more)) ≡ in_front (before ++ said) (lines_in defs (number + 1) next more) =
-        ap (λ (read : Reading Read). in_front before (and_then (numbered number read) (then_lines number more))) is ∙ front_more before said (lines_in defs (number + 1) next more) in
+      ap (λ (read : Reading Read). in_front before (and_then (numbered number read) (then_lines number more))) is ∙ front_more before said (lines_in defs (number + 1) next more) in
       sym one ∙ ap (λ (lines : List (List ℕ)). in_front before (lines_in defs number context lines)) (sym split) ∙ so_far
 
   line_stops : (number : ℕ) (context : Context) (before : List Line) (bytes : List ℕ) (all more : List (List ℕ)) (e : LineFault) (total : Result Read ScriptFault)

@@ -1,4 +1,5 @@
--- What the reader of lines holds between two lines, and what it says of the lines before.
+-- Of the code, not of the language: what the reader of lines holds between two lines, what that says of the lines
+-- before, and what each of its steps does. No public contract rests on this file but for `Refuses`.
 use Rattle.std.specs.Prelude.{◌≡◌, ⊤, ℕ, ◌+◌, ◌*◌, ◌≤◌, List, [], ◌∷◌, ◌++◌, length, map, reverse, sum, max, min, Bool, true, false, Option, Some, None, IsSome, is_some, if◌then◌else◌, Ok, Err}
 use Rattle.fp_model.specs.declared.name.Name.{Name}
 use Rattle.fp_model.specs.declared.scripts.Operand.{Operand}
@@ -57,13 +58,13 @@ or_same context (Some blocks) = record context { open_blocks = blocks }
 abbrev pub with_block : Kind → ℕ → Context → Context
 with_block kind number context = record context { open_blocks = record { kind = kind; line = number } ∷ context.open_blocks }
 
-abbrev pub behind_line : ℕ → Line → Context → Context
-behind_line number (line.Tran name) context = begun context
-behind_line number (line.If left comparison right) context = with_block Choice number context
-behind_line number line.Else context = or_same context (else_in context.open_blocks)
-behind_line number (line.Repeat times) context = with_block Loop number context
-behind_line number line.End context = or_same context (end_in context.open_blocks)
-behind_line number (line.Whole s) context = context
+abbrev pub context_behind : ℕ → Line → Context → Context
+context_behind number (line.Tran name) context = begun context
+context_behind number (line.If left comparison right) context = with_block Choice number context
+context_behind number line.Else context = or_same context (else_in context.open_blocks)
+context_behind number (line.Repeat times) context = with_block Loop number context
+context_behind number line.End context = or_same context (end_in context.open_blocks)
+context_behind number (line.Whole s) context = context
 
 -- a count of REPEAT
 abbrev pub IsCount : ℕ → Type 0

@@ -128,7 +128,8 @@ isrt_ssas defs db written = do
   counted ← isrt_count (is_msdb defs db) written
   dedb_ssas (types_of defs db) counted
 
--- the type that ISRT inserts: that of the last SSA; a main storage database has type 0 alone
+-- the type that ISRT inserts: that of the last SSA; a main storage database has type 0 alone. It is the model's
+-- `new_type`, which stands among definitions that are given a message
 abbrev pub inserted : List SsaText → ℕ
 inserted ssas = option_map_or (λ ssa. ssa.segment) (slice_get ssas (length ssas - 1)) 0
 

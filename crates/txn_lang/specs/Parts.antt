@@ -224,22 +224,22 @@ field_at tokens = do
   Ok (record { field = field.0; value = value.0 }, value.1)
 
 -- at least one
-abbrev pub some_of : {A : Type 0} → List A → Reading (List A)
-some_of [] = Err Syntax
-some_of (x ∷ xs) = Ok (x ∷ xs)
+abbrev pub at_least_one : {A : Type 0} → List A → Reading (List A)
+at_least_one [] = Err Syntax
+at_least_one (x ∷ xs) = Ok (x ∷ xs)
 
 unfoldable pub operands_in : List Token → Reading (List Operand)
-operands_in tokens = all_by operand_at tokens >>= some_of
+operands_in tokens = all_by operand_at tokens >>= at_least_one
 
 -- 1 to 255 of them
-abbrev pub few : {A : Type 0} → List A → Reading (List A)
-few xs = if nat_le 1 (length xs) && nat_le (length xs) 255 then Ok xs else Err Syntax
+abbrev pub one_to_255 : {A : Type 0} → List A → Reading (List A)
+one_to_255 xs = if nat_le 1 (length xs) && nat_le (length xs) 255 then Ok xs else Err Syntax
 
 unfoldable pub fsas_in : List Token → Reading (List FsaText)
-fsas_in tokens = all_by fsa_at tokens >>= few
+fsas_in tokens = all_by fsa_at tokens >>= one_to_255
 
 unfoldable pub fields_in : List Token → Reading (List FieldText)
-fields_in tokens = all_by field_at tokens >>= few
+fields_in tokens = all_by field_at tokens >>= one_to_255
 
 abbrev pub ssas_in : List Token → Reading (List WrittenSsa)
 ssas_in tokens = all_by ssa_at tokens

@@ -3,7 +3,7 @@ use Rattle.std.specs.Prelude.{◌≡◌, ⊤, ℕ, zero, suc, List, [], ◌∷�
 use Rattle.txn_lang.specs.declared.fault.LineFault.{LineFault}
 use Rattle.txn_lang.specs.declared.fault.LineFault.TheVariants.{Syntax, UnknownName, Memory}
 
--- a part that was read, or why the line is none
+-- a part that was read, or why the line is none; no reading fails for want of memory, which only the code knows
 abbrev pub Reading : Type 0 → Type 0
 Reading A = Result A LineFault
 

@@ -23,6 +23,8 @@ use Rattle.txn_lang.specs.Lookups.{db_of, get_ssas, isrt_ssas, isrt_fields}
 
 -- ---- the word that a statement begins with
 
+-- one list in three parts: those of scripts and blocks, the gets, and the others
+
 abbrev pub block_keywords : List (List ℕ × Keyword)
 block_keywords =
     (codes "TRAN", keyword.Tran)

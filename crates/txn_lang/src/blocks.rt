@@ -13,7 +13,7 @@ ghost use Rattle.txn_lang.specs.declared.line.Line.TheVariants as line;
 ghost use Rattle.txn_lang.specs.Blocks as blocks;
 ghost use Rattle.txn_lang.specs.Blocks.{stands, unclosed};
 ghost use Rattle.txn_lang.specs.Building as building;
-ghost use Rattle.txn_lang.specs.Building.{IsBlock, IsBuilt, Follows, Adds, context_of, behind_line, statement_by};
+ghost use Rattle.txn_lang.specs.Building.{IsBlock, IsBuilt, Follows, Adds, context_of, context_behind, statement_by};
 
 use crate::fault::{LineFault, ScriptFault};
 use crate::line::{Keyword, Line};
@@ -41,11 +41,22 @@ pub(crate) struct Block {
 #[derive(Debug, Drop)]
 pub(crate) enum Opening {
     /// IF, in its first block.
-    Choice { left: Operand, comparison: Comparison, right: Operand },
+    Choice {
+        left: Operand,
+        comparison: Comparison,
+        right: Operand,
+    },
     /// IF, behind its ELSE, with its first block.
-    Otherwise { left: Operand, comparison: Comparison, right: Operand, taken: Block },
+    Otherwise {
+        left: Operand,
+        comparison: Comparison,
+        right: Operand,
+        taken: Block,
+    },
     /// REPEAT.
-    Loop { times: u32 },
+    Loop {
+        times: u32,
+    },
 }
 
 /// An open block: what opened it, the line of that, and the block that it stands in, up to it.
@@ -100,7 +111,10 @@ impl Block {
         ensures statements { IfOk result (λ b. b.statements ≡ self.statements ++ statement ∷ []) }
         ensures costed { IfOk result (λ b. IsBlock b) }
     {
-        let Block { mut statements, cost: before } = self;
+        let Block {
+            mut statements,
+            cost: before,
+        } = self;
         statements.push(statement)?;
         Ok(Block {
             statements,
@@ -118,18 +132,45 @@ fn closed(opening: Opening, block: Block, alloc: Global) -> (Statement, u64)
 {
     let Block { statements, cost } = block;
     match opening {
-        Opening::Choice { left, comparison, right } => {
+        Opening::Choice {
+            left,
+            comparison,
+            right,
+        } => {
             let otherwise = List::new(alloc);
-            let statement = Statement::If { left, comparison, right, then: statements, otherwise };
+            let statement = Statement::If {
+                left,
+                comparison,
+                right,
+                then: statements,
+                otherwise,
+            };
             (statement, capped(1 + cost))
         }
-        Opening::Otherwise { left, comparison, right, taken } => {
-            let Block { statements: then, cost: other } = taken;
-            let statement = Statement::If { left, comparison, right, then, otherwise: statements };
+        Opening::Otherwise {
+            left,
+            comparison,
+            right,
+            taken,
+        } => {
+            let Block {
+                statements: then,
+                cost: other,
+            } = taken;
+            let statement = Statement::If {
+                left,
+                comparison,
+                right,
+                then,
+                otherwise: statements,
+            };
             (statement, capped(1 + cost.max(other)))
         }
         Opening::Loop { times } => {
-            let statement = Statement::Repeat { times, body: statements };
+            let statement = Statement::Repeat {
+                times,
+                body: statements,
+            };
             (statement, capped(1 + u64::from(times) * cost))
         }
     }
@@ -246,9 +287,23 @@ impl Builder {
         ensures context { IfOk result (λ b. context_of b ≡ context_of self) }
         ensures built { IfOk result (λ b. Adds self (line.Whole statement) b) }
     {
-        let Builder { begun, block, frames, left_open, scripts, costs } = self;
+        let Builder {
+            begun,
+            block,
+            frames,
+            left_open,
+            scripts,
+            costs,
+        } = self;
         let block = block.with(statement, 1)?;
-        Ok(Builder { begun, block, frames, left_open, scripts, costs })
+        Ok(Builder {
+            begun,
+            block,
+            frames,
+            left_open,
+            scripts,
+            costs,
+        })
     }
 
     // A new block, of the IF or REPEAT in this line.
@@ -259,10 +314,28 @@ impl Builder {
         ensures context { IfOk result (λ b. context_of b ≡ building.with_block (building.kind_of opening) line (context_of self)) }
         ensures built { IfOk result (λ b. Adds self (building.opening_line opening) b) }
     {
-        let Builder { begun, block, mut frames, left_open, scripts, costs } = self;
-        frames.push(Frame { opening, line, outer: block })?;
+        let Builder {
+            begun,
+            block,
+            mut frames,
+            left_open,
+            scripts,
+            costs,
+        } = self;
+        frames.push(Frame {
+            opening,
+            line,
+            outer: block,
+        })?;
         let block = Block::new(alloc);
-        Ok(Builder { begun, block, frames, left_open, scripts, costs })
+        Ok(Builder {
+            begun,
+            block,
+            frames,
+            left_open,
+            scripts,
+            costs,
+        })
     }
 
     // ELSE: the block of an IF becomes its first one.
@@ -272,14 +345,45 @@ impl Builder {
         ensures context { IfOk result (λ b. context_of b ≡ building.or_same (context_of self) (blocks.else_in (context_of self).open_blocks)) }
         ensures built { IfOk result (λ b. Adds self line.Else b) }
     {
-        let Builder { begun, block, mut frames, left_open, scripts, costs } = self;
+        let Builder {
+            begun,
+            block,
+            mut frames,
+            left_open,
+            scripts,
+            costs,
+        } = self;
         match frames.pop() {
-            Some(Frame { opening, line, outer }) => {
-                frames.push(Frame { opening: turned(opening, block), line, outer })?;
+            Some(
+                Frame {
+                    opening,
+                    line,
+                    outer,
+                },
+            ) => {
+                frames.push(Frame {
+                    opening: turned(opening, block),
+                    line,
+                    outer,
+                })?;
                 let block = Block::new(alloc);
-                Ok(Builder { begun, block, frames, left_open, scripts, costs })
+                Ok(Builder {
+                    begun,
+                    block,
+                    frames,
+                    left_open,
+                    scripts,
+                    costs,
+                })
             }
-            None => Ok(Builder { begun, block, frames, left_open, scripts, costs }),
+            None => Ok(Builder {
+                begun,
+                block,
+                frames,
+                left_open,
+                scripts,
+                costs,
+            }),
         }
     }
 
@@ -292,14 +396,41 @@ impl Builder {
         ensures context { IfOk result (λ b. context_of b ≡ building.or_same (context_of self) (blocks.end_in (context_of self).open_blocks)) }
         ensures built { IfOk result (λ b. Adds self line.End b) }
     {
-        let Builder { begun, block, mut frames, left_open, scripts, costs } = self;
+        let Builder {
+            begun,
+            block,
+            mut frames,
+            left_open,
+            scripts,
+            costs,
+        } = self;
         match frames.pop() {
-            Some(Frame { opening, line: _, outer }) => {
+            Some(
+                Frame {
+                    opening,
+                    line: _,
+                    outer,
+                },
+            ) => {
                 let (statement, cost) = closed(opening, block, alloc);
                 let block = outer.with(statement, cost)?;
-                Ok(Builder { begun, block, frames, left_open, scripts, costs })
+                Ok(Builder {
+                    begun,
+                    block,
+                    frames,
+                    left_open,
+                    scripts,
+                    costs,
+                })
             }
-            None => Ok(Builder { begun, block, frames, left_open, scripts, costs }),
+            None => Ok(Builder {
+                begun,
+                block,
+                frames,
+                left_open,
+                scripts,
+                costs,
+            }),
         }
     }
 
@@ -310,7 +441,14 @@ impl Builder {
         ensures built { IfOk result (λ b. Adds self (line.Tran name) b) }
     {
         let left_open = self.unclosed();
-        let Builder { begun, block, frames: _, left_open: _, scripts, costs } = self;
+        let Builder {
+            begun,
+            block,
+            frames: _,
+            left_open: _,
+            scripts,
+            costs,
+        } = self;
         let (scripts, costs) = with_last(scripts, costs, begun, block)?;
         Ok(Builder {
             begun: Some(name),
@@ -327,13 +465,25 @@ impl Builder {
         requires follows { Follows line (context_of self) }
         requires block { IsBlock self.block }
         requires frames { building.AreFrames (reverse self.frames) }
-        ensures context { IfOk result (λ b. context_of b ≡ behind_line number line (context_of self)) }
+        ensures context { IfOk result (λ b. context_of b ≡ context_behind number line (context_of self)) }
         ensures built { IfOk result (λ b. Adds self line b) }
     {
         match line {
             Line::Tran(name) => self.begin(alloc, name),
-            Line::If { left, comparison, right } => {
-                self.open(alloc, Opening::Choice { left, comparison, right }, number)
+            Line::If {
+                left,
+                comparison,
+                right,
+            } => {
+                self.open(
+                    alloc,
+                    Opening::Choice {
+                        left,
+                        comparison,
+                        right,
+                    },
+                    number,
+                )
             }
             Line::Else => self.turn(alloc),
             Line::Repeat(times) => self.open(alloc, Opening::Loop { times }, number),
@@ -351,7 +501,14 @@ impl Builder {
         match self.unclosed() {
             Some(number) => Err(ScriptFault::Syntax(number)),
             None => {
-                let Builder { begun, block, frames: _, left_open: _, scripts, costs } = self;
+                let Builder {
+                    begun,
+                    block,
+                    frames: _,
+                    left_open: _,
+                    scripts,
+                    costs,
+                } = self;
                 Ok(with_last(scripts, costs, begun, block)?)
             }
         }
@@ -404,8 +561,17 @@ fn turned(opening: Opening, taken: Block) -> Opening
     ensures { result ≡ building.turned opening taken }
 {
     match opening {
-        Opening::Choice { left, comparison, right } => {
-            Opening::Otherwise { left, comparison, right, taken }
+        Opening::Choice {
+            left,
+            comparison,
+            right,
+        } => {
+            Opening::Otherwise {
+                left,
+                comparison,
+                right,
+                taken,
+            }
         }
         other => other,
     }

@@ -3,22 +3,22 @@
 
 mod blocks;
 mod fault;
+mod laws;
 mod line;
 mod lookups;
-
 mod parsing;
 mod parts;
 mod reader;
 mod rows;
 mod scripts;
 mod statements;
+#[cfg(test)]
+mod tests;
 mod token;
 mod tokens;
 
-#[cfg(test)]
-mod tests;
-
 pub use fault::ScriptFault;
+pub use laws::{a_text_has_one_meaning, definitions_have_byte_numbers};
 pub use parsing::parse;
 pub use rows::{
     a_dear_script_is_a_fault, a_field_call_has_these_tokens, a_name_twice_is_a_fault,

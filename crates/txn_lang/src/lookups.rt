@@ -30,21 +30,27 @@ fn has_field(fields: &[FieldDef], name: &Name) -> bool
 fn is_msdb_field(msdbs: &[MsdbDef], name: &Name) -> bool
     ensures { result ≡ lookups.is_msdb_field msdbs.now name.now }
 {
-    msdbs.iter().any(|def| has_field(def.fields.as_slice(), name))
+    msdbs
+        .iter()
+        .any(|def| has_field(def.fields.as_slice(), name))
 }
 
 // Whether one of these segment types has a field of this name.
 fn is_type_field(types: &[SegDef], name: &Name) -> bool
     ensures { result ≡ lookups.is_type_field types.now name.now }
 {
-    types.iter().any(|def| has_field(def.fields.as_slice(), name))
+    types
+        .iter()
+        .any(|def| has_field(def.fields.as_slice(), name))
 }
 
 // Whether a segment of some data entry database has a field of this name.
 fn is_dedb_field(dedbs: &[DedbDef], name: &Name) -> bool
     ensures { result ≡ lookups.is_dedb_field dedbs.now name.now }
 {
-    dedbs.iter().any(|def| is_type_field(def.segments.as_slice(), name))
+    dedbs
+        .iter()
+        .any(|def| is_type_field(def.segments.as_slice(), name))
 }
 
 // Whether `IO.f` can be used, if that is what a token is.
@@ -114,7 +120,11 @@ fn types_of(defs: &Defs, db: u8) -> &[SegDef]
     ensures { result.now ≡ lookups.types_of defs.now db }
 {
     let db = usize::from(db);
-    match defs.dedbs.as_slice().get(db.saturating_sub(defs.msdbs.len())) {
+    match defs
+        .dedbs
+        .as_slice()
+        .get(db.saturating_sub(defs.msdbs.len()))
+    {
         Some(def) => def.segments.as_slice(),
         None => &[],
     }
@@ -128,7 +138,10 @@ fn key_alone(alloc: Global, written: WrittenSsa) -> Result<List<SsaText>, LineFa
     match key {
         Some(key) if is_word(&name, b"KEY     ") => {
             let mut ssas = List::new(alloc);
-            ssas.push(SsaText { segment: 0, key: Some(key) })?;
+            ssas.push(SsaText {
+                segment: 0,
+                key: Some(key),
+            })?;
             Ok(ssas)
         }
         _ => Err(LineFault::Syntax),

@@ -72,7 +72,11 @@ impl Scripts {
         ensures scripts { result.scripts ≡ scripts }
         ensures text { result.text ≡ text }
     {
-        Scripts { text, scripts, numbers }
+        Scripts {
+            text,
+            scripts,
+            numbers,
+        }
     }
 
     /// The number of the script of a name, counted from 0. None exactly where no script has that name.

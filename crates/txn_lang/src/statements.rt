@@ -36,6 +36,7 @@ use std::alloc::Global;
 
 // How often a loop runs at most, and the greatest code of ROLB.
 const MOST_TIMES: u16 = 10_000;
+
 const GREATEST_CODE: u16 = 98;
 
 // The keywords of scripts and blocks.
@@ -68,22 +69,40 @@ fn get_keyword(name: &Name) -> Option<Keyword>
     ensures { result ≡ entry_of statements.get_keywords name.now }
 {
     if is_word(name, b"GU      ") {
-        return Some(Keyword::Get { get: Get::Unique, hold: false });
+        return Some(Keyword::Get {
+            get: Get::Unique,
+            hold: false,
+        });
     }
     if is_word(name, b"GN      ") {
-        return Some(Keyword::Get { get: Get::Next, hold: false });
+        return Some(Keyword::Get {
+            get: Get::Next,
+            hold: false,
+        });
     }
     if is_word(name, b"GNP     ") {
-        return Some(Keyword::Get { get: Get::NextInParent, hold: false });
+        return Some(Keyword::Get {
+            get: Get::NextInParent,
+            hold: false,
+        });
     }
     if is_word(name, b"GHU     ") {
-        return Some(Keyword::Get { get: Get::Unique, hold: true });
+        return Some(Keyword::Get {
+            get: Get::Unique,
+            hold: true,
+        });
     }
     if is_word(name, b"GHN     ") {
-        return Some(Keyword::Get { get: Get::Next, hold: true });
+        return Some(Keyword::Get {
+            get: Get::Next,
+            hold: true,
+        });
     }
     if is_word(name, b"GHNP    ") {
-        return Some(Keyword::Get { get: Get::NextInParent, hold: true });
+        return Some(Keyword::Get {
+            get: Get::NextInParent,
+            hold: true,
+        });
     }
     None
 }
@@ -183,7 +202,11 @@ fn set_line(alloc: Global, tokens: &[Token]) -> Result<Line, LineFault>
     let (variable, rest) = variable_at(tokens)?;
     let (first, rest) = operand_at(alloc, rest)?;
     let rest = set_rest(alloc, rest)?;
-    Ok(Line::Whole(Statement::Set { variable, first, rest }))
+    Ok(Line::Whole(Statement::Set {
+        variable,
+        first,
+        rest,
+    }))
 }
 
 #[tactic(auto, unfolding(crate::specs::Statements::if_line))]
@@ -193,7 +216,14 @@ fn if_line(alloc: Global, tokens: &[Token]) -> Result<Line, LineFault>
     let (left, rest) = operand_at(alloc, tokens)?;
     let (comparison, rest) = comparison_at(rest)?;
     let (right, rest) = operand_at(alloc, rest)?;
-    ended(Line::If { left, comparison, right }, rest)
+    ended(
+        Line::If {
+            left,
+            comparison,
+            right,
+        },
+        rest,
+    )
 }
 
 #[tactic(auto, unfolding(crate::specs::Statements::repeat_line))]
@@ -235,7 +265,12 @@ fn get_line(
     let written = ssas_in(alloc, rest)?;
     let db = db_of(defs, &database)?;
     let ssas = get_ssas(alloc, defs, db, written)?;
-    Ok(Line::Whole(Statement::Get { get, hold, db, ssas }))
+    Ok(Line::Whole(Statement::Get {
+        get,
+        hold,
+        db,
+        ssas,
+    }))
 }
 
 #[tactic(auto, unfolding(crate::specs::Statements::fld_line))]

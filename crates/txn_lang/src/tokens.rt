@@ -14,7 +14,9 @@ use std::alloc::Global;
 
 // How many bytes a word has at most, how many digits a number, and how many bytes a text between its quotes.
 const LONGEST_WORD: usize = 8;
+
 const MOST_DIGITS: usize = 31;
+
 const LONGEST_TEXT: usize = 1000;
 
 // Whether a byte separates tokens: a space or a tab.
@@ -202,7 +204,10 @@ fn text_token(alloc: Global, bytes: &[u8]) -> Result<(Token, &[u8]), LineFault>
             if !is_printable(text) {
                 return Err(LineFault::Syntax);
             }
-            Ok((Token::Text(Bytes::from_slice(alloc, text)?), &bytes[place + 1..]))
+            Ok((
+                Token::Text(Bytes::from_slice(alloc, text)?),
+                &bytes[place + 1..],
+            ))
         }
         None => Err(LineFault::Syntax),
     }

@@ -16,9 +16,12 @@ loop-rest-preserved c =
     let so_far = c.loop-rest.invariant.so_far in
     let read = c.in-Ok.ensures.ok in
     record {
-      so_far = (so_far.0 ++ read.said, read.adds so_far.0 so_far.1,
-          omega (arith, length-append so_far.0 read.said, read.few, so_far.2, c.split_line.ensures.shorter),
-          line_more c.args.defs.now c.loop-rest.number (context_of c.loop-rest.builder) _ so_far.0 read.said _ _ _ (text_in c.args.defs.now c.args.text.now) c.split_line.ensures.lines read.reads so_far.3);
+      so_far = (
+        so_far.0 ++ read.said,
+        read.adds so_far.0 so_far.1,
+        omega (arith, length-append so_far.0 read.said, read.few, so_far.2, c.split_line.ensures.shorter),
+        line_more c.args.defs.now c.loop-rest.number (context_of c.loop-rest.builder) _ so_far.0 read.said _ _ _ (text_in c.args.defs.now c.args.text.now) c.split_line.ensures.lines read.reads so_far.3,
+      );
       few = omega (arith, c.split_line.ensures.shorter, c.loop-rest.invariant.few);
     }
 

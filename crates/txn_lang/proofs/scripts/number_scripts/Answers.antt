@@ -17,7 +17,7 @@ returns-in_err-check_script-clause-err c =
     let e = c.in_err-check_script.field-0.0 in
     let here = sym (seen_is c.loop-place.numbers (take i xs) s c.loop-place.invariant.indexed) ∙ c.in_err-check_script.ensures.err in
     let is : scripts_fault [] xs ≡ Some e =
-      sym c.loop-place.invariant.fair ∙ ap (scripts_fault (take i xs)) (rest_at xs i s c.loop-place-test.true c.index-scripts-place.is) ∙ fault_here (take i xs) s (drop (i + 1) xs) e here in
+    sym c.loop-place.invariant.fair ∙ ap (scripts_fault (take i xs)) (rest_at xs i s c.loop-place-test.true c.index-scripts-place.is) ∙ fault_here (take i xs) s (drop (i + 1) xs) e here in
     rw (p.1, p.2) (no_memory e (scripts_fault [] xs ≡ Some e) is)
 
 pub loop-place-preserved : goal.loop-place-preserved

@@ -20,7 +20,7 @@ overflow_add-n c =
     omega (arith, h, c.loop-byte.invariant.so_far, c.from.ensures, c.type_inv.digits c.loop-byte.byte-index)
 
 pub loop-byte-preserved : goal.loop-byte-preserved
-loop-byte-preserved c = 
+loop-byte-preserved c =
     let yes : is_ascii_digit (get_or c.args.digits.now c.loop-byte.byte-index 0) ≡ true = sym c.is_digit.ensures ∙ c.if-not-is_digit.false in
     rw (take_snoc c.args.digits.now c.loop-byte.byte-index c.loop-byte-test.true) (record {
       digits = digits_push (take c.loop-byte.byte-index c.args.digits.now) (get_or c.args.digits.now c.loop-byte.byte-index 0) c.loop-byte.invariant.digits yes;
