@@ -1,8 +1,8 @@
 -- What a line that was read is, by the word that it begins with, and what is open behind it.
-use Rattle.std.proofs.Common.{◌≡◌, ℕ, ◌+◌, ◌≤◌, List, [], ◌∷◌, ◌++◌, Bool, true, false, cond, Option, Some, None, Result, Ok, Err, refl, sym, ap, subst, ◌∙◌, arith, ◌⊎◌, inl, inr, ⊎_elim, length}
-use Rattle.std.specs.Prelude.{IsSome, is_some, ◌&&◌, ◌==◌, nat_le, nat_lt, not, if◌then◌else◌, ℤ, pos, negsuc}
-use Rattle.std.specs.List.{list_all, list_any}
-use Rattle.std.proofs.lemmas.Bool.{and_parts, leb-true}
+use Rattle.std.proofs.Common.{◌≡◌, ℕ, List, [], ◌∷◌, Bool, true, false, cond, Option, Some, None, Ok, Err, refl, sym, ap, subst, ◌∙◌, ◌⊎◌, inl, inr, ⊎_elim, length}
+use Rattle.std.specs.Prelude.{IsSome, is_some, ◌&&◌, nat_le, nat_lt, if◌then◌else◌, ℤ, pos, negsuc}
+use Rattle.std.specs.List.{list_all}
+use Rattle.std.proofs.lemmas.Bool.{leb-true}
 use Rattle.fp_model.specs.declared.name.Name.{Name}
 use Rattle.fp_model.specs.declared.definitions.Defs.{Defs}
 use Rattle.fp_model.specs.declared.calls.Get.{Get}
@@ -22,13 +22,13 @@ use Rattle.txn_lang.specs.declared.line.Keyword.TheVariants as keyword
 use Rattle.txn_lang.specs.declared.line.Line.{Line}
 use Rattle.txn_lang.specs.declared.line.Line.TheVariants as line
 use Rattle.txn_lang.specs.Readings.{Reading, ◌>>=◌, Fails, ended}
-use Rattle.txn_lang.specs.Tokens.{or_syntax, tokens_of}
-use Rattle.txn_lang.specs.Parts.{token_in, one_token, count_within, count_of, count_at, word_at, variable_at, operand_at, comparison_at, key_at, operands_in, ssas_in, fsas_in, fields_in}
+use Rattle.txn_lang.specs.Tokens.{tokens_of}
+use Rattle.txn_lang.specs.Parts.{token_in, count_within, count_of, count_at, word_at, variable_at, operand_at, comparison_at, key_at, operands_in, ssas_in, fsas_in, fields_in}
 use Rattle.txn_lang.specs.Lookups.{are_known, db_of, get_ssas, isrt_ssas, isrt_fields}
 use Rattle.txn_lang.specs.Statements.{keyword_at, before_fields, from_fields, tran_line, set_rest, set_line, if_line, repeat_line, reply_line, rolb_line, get_line, fld_line, isrt_line, repl_line, dlet_line, line_behind}
-use Rattle.txn_lang.specs.Blocks.{Kind, Choice, Loop, Context, begun, within_script, opened, with_open, in_loop, is_loop, else_in, end_in, stands}
-use Rattle.txn_lang.specs.Grammar.{Read, is_ascii, is_skipped, statement_in, line_in}
-use Rattle.txn_lang.specs.Building.{IsCount, Follows, context_behind, or_same, with_block, can_stand, said_in}
+use Rattle.txn_lang.specs.Blocks.{Choice, Loop, Context, begun, within_script, opened, with_open, in_loop, else_in, end_in, stands}
+use Rattle.txn_lang.specs.Grammar.{is_ascii, is_skipped, statement_in, line_in}
+use Rattle.txn_lang.specs.Building.{IsCount, Follows, context_behind, or_same, can_stand, said_in}
 
 -- ---- what a reading gives has a property
 

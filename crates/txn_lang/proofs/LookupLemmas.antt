@@ -1,6 +1,6 @@
 -- SSAs looked up one after another, as a loop does.
-use Rattle.std.proofs.Common.{◌≡◌, ℕ, List, [], ◌∷◌, ◌++◌, Ok, Err, refl, sym, ap, ◌∙◌, append_assoc, length, arith, zero, suc, ◌+◌, ◌-◌, ◌≤◌, true}
-use Rattle.std.specs.Prelude.{slice_get, nat_le, ◌&&◌}
+use Rattle.std.proofs.Common.{◌≡◌, ℕ, List, [], ◌∷◌, ◌++◌, Ok, Err, refl, sym, ap, ◌∙◌, length, arith, zero, suc, ◌-◌, ◌≤◌, true}
+use Rattle.std.specs.Prelude.{slice_get, nat_le}
 use Rattle.std.specs.Option.{option_map_or}
 use Rattle.std.specs.List.{list_all, AllByRecursion}
 use Rattle.std.proofs.lemmas.Bool.{and_parts, leb-true}

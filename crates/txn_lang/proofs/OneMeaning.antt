@@ -1,5 +1,5 @@
 -- Lines have one reading: what a front of them is, up to the line that ends a block, is a function of the lines.
-use Rattle.std.proofs.Common.{◌≡◌, ℕ, ◌≤◌, ◌<◌, List, [], ◌∷◌, ◌++◌, length, Option, Some, None, Result, Ok, Err, refl, sym, ap, subst, ◌∙◌, append_assoc, arith}
+use Rattle.std.proofs.Common.{◌≡◌, ℕ, List, [], ◌∷◌, ◌++◌, Option, Some, None, Result, Ok, Err, refl, sym, ap, subst, ◌∙◌, append_assoc, arith}
 use Rattle.std.proofs.lemmas.List.{append-nil}
 use Rattle.fp_model.specs.declared.name.Name.{Name}
 use Rattle.fp_model.specs.declared.definitions.Defs.{Defs}
@@ -8,6 +8,7 @@ use Rattle.fp_model.specs.declared.scripts.Comparison.{Comparison}
 use Rattle.fp_model.specs.declared.scripts.Statement.{Statement}
 use Rattle.fp_model.specs.declared.scripts.Script.{Script}
 use Rattle.txn_lang.specs.declared.fault.ScriptFault.{ScriptFault}
+use Rattle.txn_lang.specs.declared.fault.ScriptFault.TheVariants as fault
 use Rattle.txn_lang.specs.declared.line.Line.{Line}
 use Rattle.txn_lang.specs.declared.line.Line.TheVariants as line
 use Rattle.txn_lang.specs.Blocks.{choice, loop, unclosed, AreStatements, none, one, if_end, if_else_end, repeat_end, AreScripts, no_script, script}
@@ -160,3 +161,48 @@ apart defs text scripts f p (is_open {read = read} {number = number} short is le
 apart defs text scripts f p (in_script {scripts = others} {f = g} written is) =
     let same = written_one defs text others scripts written p.written in
     none_some (scripts_fault [] scripts) g p.fair (subst (λ (xs : List Script). scripts_fault [] xs ≡ Some g) same is)
+
+-- ---- one fault
+
+abbrev bad : ScriptFault → Result Read ScriptFault
+bad f = Err f
+
+same_fault : (f g : ScriptFault) → bad f ≡ bad g → f ≡ g
+same_fault f g e = cc
+
+same_option : (f g : ScriptFault) → some_fault f ≡ some_fault g → f ≡ g
+same_option f g e = cc
+
+same_number : (m n : ℕ) → (o : Option ℕ) → o ≡ Some m → o ≡ Some n → m ≡ n
+same_number m n o p q = cc
+
+not_both : (defs : Defs) (text : List ℕ) (r : Read) (f : ScriptFault) → text_in defs text ≡ Ok r → text_in defs text ≡ Err f → ⊥
+not_both defs text r f p q = no_fault r f (sym p ∙ q)
+
+open_written : (defs : Defs) (text : List ℕ) (scripts : List Script) (read : Read) (number : ℕ) → IsWritten defs text scripts → text_in defs text ≡ Ok read
+    → unclosed read.context ≡ Some number → ⊥
+open_written defs text scripts read number w is left =
+    let same = same_read read w.read (sym is ∙ w.lines) in
+    none_open (unclosed w.read.context) number w.closed (subst (λ (r : Read). unclosed r.context ≡ Some number) same left)
+
+pub one_fault : (defs : Defs) (text : List ℕ) (f g : ScriptFault) → HasFault defs text f → HasFault defs text g → f ≡ g
+one_fault defs text f g (is_long long) (is_long long2) = refl
+one_fault defs text f g (is_long long) (in_line short is) = absurd (omega arith)
+one_fault defs text f g (is_long long) (is_open short is left) = absurd (omega arith)
+one_fault defs text f g (is_long long) (in_script w is) = absurd (omega (arith, w.short))
+one_fault defs text f g (in_line short is) (is_long long) = absurd (omega arith)
+one_fault defs text f g (in_line {f = f2} short is) (in_line {f = g2} short2 is2) = same_fault f2 g2 (sym is ∙ is2)
+one_fault defs text f g (in_line {f = f2} short is) (is_open {read = read} short2 is2 left) = absurd (not_both defs text read f2 is2 is)
+one_fault defs text f g (in_line {f = f2} short is) (in_script w is2) = absurd (not_both defs text w.read f2 w.lines is)
+one_fault defs text f g (is_open short is left) (is_long long) = absurd (omega arith)
+one_fault defs text f g (is_open {read = read} short is left) (in_line {f = g2} short2 is2) = absurd (not_both defs text read g2 is is2)
+one_fault defs text f g (is_open {read = r} {number = m} short is left) (is_open {read = s} {number = n} short2 is2 left2) =
+    let same = same_read s r (sym is2 ∙ is) in
+    ap fault.Syntax (same_number m n (unclosed r.context) left (subst (λ (x : Read). unclosed x.context ≡ Some n) same left2))
+one_fault defs text f g (is_open {read = read} {number = m} short is left) (in_script {scripts = scripts} w is2) = absurd (open_written defs text scripts read m w is left)
+one_fault defs text f g (in_script w is) (is_long long) = absurd (omega (arith, w.short))
+one_fault defs text f g (in_script w is) (in_line {f = g2} short2 is2) = absurd (not_both defs text w.read g2 w.lines is2)
+one_fault defs text f g (in_script {scripts = scripts} w is) (is_open {read = read} {number = m} short2 is2 left) = absurd (open_written defs text scripts read m w is2 left)
+one_fault defs text f g (in_script {scripts = a} {f = f2} w is) (in_script {scripts = b} {f = g2} v is2) =
+    let same = written_one defs text b a v w in
+    same_option f2 g2 (sym is ∙ subst (λ (xs : List Script). scripts_fault [] xs ≡ Some g2) same is2)

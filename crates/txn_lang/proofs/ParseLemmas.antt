@@ -1,14 +1,13 @@
 -- What the parts of reading a text say together.
-use Rattle.std.proofs.Common.{◌≡◌, ℕ, ◌+◌, ◌≤◌, ◌<◌, List, [], ◌∷◌, ◌++◌, length, Option, Some, None, Ok, Err, refl, sym, ap, subst, ◌∙◌, arith, length-append}
+use Rattle.std.proofs.Common.{ℕ, ◌≤◌, List, length, sym, subst, arith, length-append}
 use Rattle.fp_model.specs.declared.definitions.Defs.{Defs}
 use Rattle.fp_model.specs.declared.scripts.Script.{Script}
 use Rattle.txn_lang.specs.declared.fault.ScriptFault.{ScriptFault}
 use Rattle.txn_lang.specs.declared.fault.ScriptFault.TheVariants as fault
 use Rattle.txn_lang.specs.declared.line.Line.{Line}
-use Rattle.txn_lang.specs.declared.line.Line.TheVariants as line
 use Rattle.txn_lang.specs.declared.blocks.Builder.{Builder}
-use Rattle.txn_lang.specs.Blocks.{unclosed, AreScripts, no_script, script}
-use Rattle.txn_lang.specs.Grammar.{Read, text_in, IsWritten, HasFault, is_long, in_line, is_open, in_script, scripts_fault}
+use Rattle.txn_lang.specs.Blocks.{AreScripts, no_script, script}
+use Rattle.txn_lang.specs.Grammar.{IsWritten, HasFault, is_open}
 use Rattle.txn_lang.specs.Building.{Refuses, ReadsText, Finishes, IsLeftOpen, context_of}
 
 -- each script has a line

@@ -1,6 +1,5 @@
 -- Each part of a statement takes some tokens.
-use Rattle.std.proofs.Common.{◌≡◌, ℕ, zero, suc, ◌≤◌, ◌<◌, Bool, true, false, List, [], ◌∷◌, length, Option, Some, None, Result, Ok, Err, refl, arith}
-use Rattle.fp_model.specs.declared.scripts.Operand.{Operand}
+use Rattle.std.proofs.Common.{ℕ, suc, ◌≤◌, ◌<◌, List, [], ◌∷◌, length, Ok, Err, arith}
 use Rattle.txn_lang.specs.declared.token.Token.{Token}
 use Rattle.txn_lang.specs.Readings.{Reading, ◌>>=◌}
 use Rattle.txn_lang.specs.Parts.{one_token, word_of, word_at, sign_is, sign_at, operand_of, operand_at, bracket_at, begins_bracket, key_behind, ssa_at, fsa_op_of, fsa_at, field_at}

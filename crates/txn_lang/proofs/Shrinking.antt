@@ -1,18 +1,17 @@
 -- Each token takes something of the text.
-use Rattle.std.proofs.Common.{◌≡◌, ℕ, zero, suc, ◌+◌, ◌-◌, ◌≤◌, ◌<◌, Bool, true, false, cond, List, [], ◌∷◌, ◌++◌, length, take, drop, Option, Some, None, Result, Ok, Err, refl, sym, ap, ◌∙◌, arith, not}
-use Rattle.std.specs.Prelude.{◌&&◌, ◌||◌, ◌==◌, nat_le, nat_lt, slice_index, if◌then◌else◌, codes}
-use Rattle.std.specs.List.{list_all, list_any, position_or_len, before_first}
-use Rattle.std.specs.Char.{is_ascii_digit}
+use Rattle.std.proofs.Common.{◌≡◌, ℕ, suc, ◌+◌, ◌≤◌, ◌<◌, Bool, true, false, List, [], ◌∷◌, length, drop, Ok, Err, arith}
+use Rattle.std.specs.Prelude.{◌&&◌, ◌==◌, nat_le, nat_lt, slice_index, codes}
+use Rattle.std.specs.List.{list_all, position_or_len, before_first}
 use Rattle.std.specs.Str.{all_ascii_digits}
 use Rattle.std.proofs.lemmas.Bool.{and_parts, leb-true}
-use Rattle.std.proofs.lemmas.List.{length-take, length-drop}
-use Rattle.fp_model.specs.Texts.{padded, is_printable, value, digits_number, same_text}
+use Rattle.std.proofs.lemmas.List.{length-drop}
+use Rattle.fp_model.specs.Texts.{is_printable, same_text}
 use Rattle.fp_model.specs.Names.{is_letter, is_letter_or_digit, is_name}
 use Rattle.fp_model.specs.Messages.{is_separator}
 use Rattle.txn_lang.specs.declared.token.Token.{Token}
 use Rattle.txn_lang.specs.Readings.{Reading, ◌>>=◌}
-use Rattle.txn_lang.specs.Tokens.{run, behind, unblanked, is_digit, is_sign, begins, begins_with, word_token, field_token, letter_token, number_token, text_token, hash_token, token_at, spaced_token_at}
-use Rattle.txn_lang.proofs.ReadingLemmas.{IsShorter, Shrinks, shorter_if, shorter_bind, shorter_option, shorter_le}
+use Rattle.txn_lang.specs.Tokens.{run, behind, unblanked, is_digit, is_sign, begins, begins_with, field_token, letter_token, number_token, text_token, hash_token, token_at, spaced_token_at}
+use Rattle.txn_lang.proofs.ReadingLemmas.{IsShorter, Shrinks, shorter_if, shorter_option}
 
 pub behind_le : (test : ℕ → Bool) (bytes : List ℕ) → length (behind test bytes) ≤ length bytes
 behind_le test bytes = omega (arith, length-drop (length (run test bytes)) bytes)

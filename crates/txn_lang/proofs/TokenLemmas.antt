@@ -1,10 +1,9 @@
 -- Texts in quotes, and digits read from the front.
-use Rattle.std.proofs.Common.{◌≡◌, ℕ, zero, suc, ◌+◌, ◌*◌, ◌^◌, ◌-◌, ◌≤◌, ◌<◌, List, [], ◌∷◌, ◌++◌, length, get_or, take, drop, map, Bool, true, false, cond, not, Option, Some, None, Ok, Err, refl, ap, sym, ◌∙◌, arith, rules, nat_lt, length-append}
+use Rattle.std.proofs.Common.{◌≡◌, ℕ, zero, suc, ◌+◌, ◌*◌, ◌^◌, ◌-◌, ◌≤◌, ◌<◌, List, [], ◌∷◌, ◌++◌, length, get_or, take, drop, map, Bool, true, false, Ok, Err, refl, ap, ◌∙◌, arith, rules, nat_lt, length-append}
 use Rattle.std.specs.Prelude.{◌==◌, ◌&&◌, nat_le, if◌then◌else◌}
 use Rattle.std.specs.List.{position_or_len, list_all}
-use Rattle.std.proofs.lemmas.List.{take_all, length-take, length-map, map_push, take_more}
+use Rattle.std.proofs.lemmas.List.{length-take, length-map, map_push, take_more}
 use Rattle.std.proofs.lemmas.Bool.{le-ltb, lt-ltb, le-leb, lt-leb, and_parts}
-use Rattle.std.proofs.lemmas.Grind.{common_steps}
 use Rattle.std.proofs.Math.Nat.{pow-le-pow_right, pow-suc, pow-zero, mul-le-mul_left}
 use Rattle.std.proofs.Math.Bool.{and-false}
 use Rattle.std.specs.Str.{all_ascii_digits}

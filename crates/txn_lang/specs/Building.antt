@@ -1,11 +1,8 @@
 -- Of the code, not of the language: what the reader of lines holds between two lines, what that says of the lines
 -- before, and what each of its steps does. No public contract rests on this file but for `Refuses`.
-use Rattle.std.specs.Prelude.{◌≡◌, ⊤, ℕ, ◌+◌, ◌*◌, ◌≤◌, List, [], ◌∷◌, ◌++◌, length, map, reverse, sum, max, min, Bool, true, false, Option, Some, None, IsSome, is_some, if◌then◌else◌, Ok, Err}
+use Rattle.std.specs.Prelude.{◌≡◌, ⊤, ℕ, ◌≤◌, List, [], ◌∷◌, ◌++◌, length, map, reverse, sum, min, Bool, true, false, Option, Some, None, IsSome, is_some, if◌then◌else◌, Ok, Err}
 use Rattle.fp_model.specs.declared.name.Name.{Name}
-use Rattle.fp_model.specs.declared.scripts.Operand.{Operand}
-use Rattle.fp_model.specs.declared.scripts.Comparison.{Comparison}
-use Rattle.fp_model.specs.declared.scripts.Statement.{Statement, roll-Statement}
-use Rattle.fp_model.specs.declared.scripts.Statement.TheOpen as statement
+use Rattle.fp_model.specs.declared.scripts.Statement.{Statement}
 use Rattle.fp_model.specs.declared.scripts.Script.{Script}
 use Rattle.fp_model.specs.Programs.{statement_cost, cost}
 use Rattle.txn_lang.specs.declared.line.Line.{Line}

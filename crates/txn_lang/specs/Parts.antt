@@ -1,5 +1,5 @@
 -- The parts of a statement: each is the first tokens of a list, and leaves what stands behind them.
-use Rattle.std.specs.Prelude.{ℕ, List, [], ◌∷◌, length, Bool, true, false, not, ◌&&◌, ◌||◌, ◌==◌, nat_le, if◌then◌else◌, codes, slice_index, Option, Some, None, option_map, find, Result, Ok, Err, ℤ, pos, negsuc}
+use Rattle.std.specs.Prelude.{ℕ, List, [], ◌∷◌, length, Bool, false, ◌&&◌, ◌||◌, ◌==◌, nat_le, if◌then◌else◌, codes, slice_index, Option, Some, None, option_map, find, Ok, Err, ℤ, pos, negsuc}
 use Rattle.fp_model.specs.declared.name.Name.{Name}
 use Rattle.fp_model.specs.declared.scripts.Operand.{Operand}
 use Rattle.fp_model.specs.declared.scripts.Operand.TheVariants as operand

@@ -1,5 +1,5 @@
 -- The statements: a row for each, as the parts that stand one after another on its line.
-use Rattle.std.specs.Prelude.{ℕ, List, [], ◌∷◌, length, drop, Bool, true, false, if◌then◌else◌, codes, Option, Some, None, Result, Ok, Err}
+use Rattle.std.specs.Prelude.{ℕ, List, [], ◌∷◌, length, drop, Bool, true, false, codes, Option, Some, None, Ok}
 use Rattle.std.specs.List.{before_first}
 use Rattle.fp_model.specs.declared.name.Name.{Name}
 use Rattle.fp_model.specs.declared.calls.Get.{Get}
@@ -9,7 +9,6 @@ use Rattle.fp_model.specs.declared.scripts.Operand.{Operand}
 use Rattle.fp_model.specs.declared.scripts.Operation.{Operation}
 use Rattle.fp_model.specs.declared.scripts.Statement.{Statement, roll-Statement}
 use Rattle.fp_model.specs.declared.scripts.Statement.TheOpen as statement
-use Rattle.txn_lang.specs.declared.fault.LineFault.TheVariants.{Syntax}
 use Rattle.txn_lang.specs.declared.token.Token.{Token}
 use Rattle.txn_lang.specs.declared.token.Token.TheVariants.{Word, Number, Text, Hash, Field, Sign}
 use Rattle.txn_lang.specs.declared.line.Keyword.{Keyword}

@@ -1,8 +1,7 @@
 -- The tokens of a line.
-use Rattle.std.specs.Prelude.{ℕ, ◌≡◌, List, [], ◌∷◌, length, drop, Bool, true, false, not, ◌&&◌, ◌||◌, ◌==◌, nat_le, nat_lt, ◌-◌, if◌then◌else◌, codes, Option, Some, None, Result, Ok, Err, ℤ, pos, neg_ℤ}
+use Rattle.std.specs.Prelude.{ℕ, List, [], ◌∷◌, length, drop, Bool, true, false, not, ◌&&◌, ◌==◌, nat_le, nat_lt, ◌-◌, if◌then◌else◌, codes, Option, Some, None, Ok, Err, ℤ, pos, neg_ℤ}
 use Rattle.std.specs.List.{list_all, list_any, before_first, after_first}
 use Rattle.std.specs.Char.{is_ascii_digit}
-use Rattle.fp_model.specs.declared.name.Name.{Name}
 use Rattle.fp_model.specs.Texts.{same_text, is_printable, digits_number}
 use Rattle.fp_model.specs.Names.{is_letter, is_letter_or_digit, name_in}
 use Rattle.fp_model.specs.Messages.{is_separator}

@@ -12,8 +12,9 @@ pub fn definitions_have_byte_numbers()
     ensures { (defs : Defs) → AreDefs defs → HaveByteNumbers defs }
 {}
 
-/// A text is one list of scripts at most, and one that is scripts has no fault.
+/// A text is one list of scripts at most, one that is scripts has no fault, and any other has one first fault at most.
 pub fn a_text_has_one_meaning()
     ensures one { (defs : Defs) (text : List ℕ) (a b : List Script) → AreScriptsOf defs text a → AreScriptsOf defs text b → a ≡ b }
+    ensures fault { (defs : Defs) (text : List ℕ) (f g : ScriptFault) → HasFault defs text f → HasFault defs text g → f ≡ g }
     ensures apart { (defs : Defs) (text : List ℕ) (scripts : List Script) (f : ScriptFault) → AreScriptsOf defs text scripts → HasFault defs text f → ⊥ }
 {}

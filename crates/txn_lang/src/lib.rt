@@ -1,4 +1,19 @@
-//! The script language.
+//! The script language: a text is read as scripts, or refused with its first fault.
+//!
+//!     text       = line newline line newline ..            at most 1,000,000 bytes
+//!     script     = "TRAN" name, and statements up to the next TRAN
+//!     statement  = "SET" variable operand [ ( "+" | "-" | "*" | "&" ) operand ]
+//!                | "IF" operand comparison operand, statements, [ "ELSE", statements, ] "END"
+//!                | "REPEAT" count, statements, "END"  |  "BREAK"
+//!                | "REPLY" operand ..  |  "ROLB" code
+//!                | get database ssa ..  |  "FLD" database "KEY(" operand ")" ( field op operand ) ..
+//!                | "ISRT" database ssa .. ( field "=" operand ) ..
+//!                | "REPL" database ( field "=" operand ) ..  |  "DLET" database
+//!     operand    = number | text | "#" digit | "IO." field | "STATUS" | "FSAS" | variable
+//!     ssa        = segment [ "(" operand ")" ]  |  "KEY(" operand ")" on a main storage database
+//!
+//! Each statement line has a line to itself. Blank lines and those that begin with `*` are skipped. The definitions are
+//! in `specs/`; docs/MODEL.md, 'The script language', says them in plain words.
 #![tactic(auto)]
 
 mod blocks;

@@ -1,4 +1,4 @@
-use Rattle.std.proofs.Common.{◌≡◌, ◌∙◌, sym, ap, refl, arith, length, ◌≤◌, []}
+use Rattle.std.proofs.Common.{◌∙◌, sym, ap, arith, length, []}
 use Rattle.std.proofs.lemmas.Result.{err_from_is_err_and}
 use Rattle.txn_lang.specs.Grammar.{is_long, in_line, in_script, scripts_fault}
 use Rattle.txn_lang.proofs.ParseLemmas.{scripts_few, because, left_open, written}

@@ -1,4 +1,4 @@
-use Rattle.std.proofs.Common.{◌≡◌, ◌∙◌, ◌<◌, [], ◌∷◌, ◌++◌, length, arith, refl, sym}
+use Rattle.std.proofs.Common.{◌∙◌, ◌<◌, length, sym}
 use Rattle.std.proofs.lemmas.Result.{err_from_is_err_and}
 use Rattle.txn_lang.specs.Readings.{all_by}
 use Rattle.txn_lang.specs.Parts.{ssa_at}

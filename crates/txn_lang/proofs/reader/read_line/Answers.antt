@@ -1,4 +1,4 @@
-use Rattle.std.proofs.Common.{◌≡◌, ◌∙◌, sym, ap, subst, refl, ◌∷◌, [], ◌++◌, arith}
+use Rattle.std.proofs.Common.{◌∙◌, sym, subst, ◌∷◌, [], arith}
 use Rattle.std.proofs.lemmas.List.{append-nil}
 use Rattle.std.proofs.lemmas.Result.{err_from_is_err_and}
 use Rattle.txn_lang.specs.Building.{IsBuilt, context_of}

@@ -1,4 +1,4 @@
-use Rattle.std.proofs.Common.{◌≡◌, ◌∙◌, sym, ap, refl, arith, [], ◌++◌, ◌<◌, length, length-append}
+use Rattle.std.proofs.Common.{◌∙◌, sym, ap, arith, ◌++◌, length-append}
 use Rattle.fp_model.specs.Messages.{lines_of}
 use Rattle.txn_lang.specs.Grammar.{text_in}
 use Rattle.txn_lang.specs.Building.{context_of}

@@ -1,10 +1,9 @@
-use Rattle.std.proofs.Common.{rules, tests, ◌∙◌, ◌≡◌, ◌+◌, ◌-◌, ◌∷◌, sym, ap, refl, arith, take, drop, length}
+use Rattle.std.proofs.Common.{rules, tests, ◌∙◌, ◌+◌, ◌-◌, sym, refl, arith, drop, length}
 use Rattle.std.specs.Prelude.{◌==◌}
 use Rattle.std.proofs.lemmas.List.{take_all}
 use Rattle.std.proofs.lemmas.Iterator.{YieldsList-from_slice}
 use Rattle.std.proofs.lemmas.Iterator.Search.{position_from_yields_List}
 use Rattle.std.proofs.lemmas.Grind.{common_steps}
-use Rattle.fp_model.specs.Messages.{lines_of}
 use Rattle.txn_lang.proofs.Runs.{place_is, place_within, whole_is}
 use Rattle.txn_lang.proofs.TextLemmas.{lines_first, lines_last}
 use Rattle.txn_lang.proofs.reader.split_line.Goals as goal

@@ -1,7 +1,6 @@
-use Rattle.std.proofs.Common.{refl, lit≤, [], ◌∷◌}
+use Rattle.std.proofs.Common.{refl, lit≤}
 use Rattle.fp_model.proofs.ProgramLemmas.{statement_cost_roll}
-use Rattle.txn_lang.specs.Blocks.{none, one, if_end, if_else_end, repeat_end, no_script, script}
-use Rattle.txn_lang.specs.Grammar.{is_long, in_line, is_open, in_script}
+use Rattle.txn_lang.specs.Blocks.{none, one, if_end, no_script, script}
 use Rattle.txn_lang.specs.Readings.{all_by}
 use Rattle.txn_lang.specs.Tokens.{letter_token, number_token, text_token, hash_token, token_at, spaced_token_at, tokens_of}
 use Rattle.txn_lang.specs.Parts.{word_at, sign_at, variable_at, operand_at, operation_at, comparison_at, count_at, bracket_at, key_at, key_behind, ssa_at, fsa_at, field_at, operands_in, fsas_in, fields_in}

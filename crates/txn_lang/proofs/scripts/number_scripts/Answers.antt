@@ -1,4 +1,4 @@
-use Rattle.std.proofs.Common.{◌≡◌, ◌∙◌, ◌∷◌, [], ◌++◌, ◌+◌, ◌<◌, List, sym, ap, refl, length, take, drop, get_or, arith, Some, None}
+use Rattle.std.proofs.Common.{◌≡◌, ◌∙◌, [], ◌+◌, List, sym, ap, length, take, drop, arith, Some}
 use Rattle.std.proofs.lemmas.List.{length-take}
 use Rattle.std.proofs.lemmas.Result.{err_from_is_err_and}
 use Rattle.std.proofs.lemmas.Grind.{common_steps}

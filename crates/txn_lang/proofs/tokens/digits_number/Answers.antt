@@ -1,7 +1,5 @@
-use Rattle.std.proofs.Common.{get_or, take, map, refl, arith, ◌≡◌, ◌-◌, ◌<◌, ◌^◌, true, false, rules, tests, sym, ◌∙◌}
+use Rattle.std.proofs.Common.{get_or, take, refl, arith, ◌≡◌, true, false, sym, ◌∙◌}
 use Rattle.std.specs.Char.{is_ascii_digit}
-use Rattle.fp_model.specs.Texts.{value}
-use Rattle.std.proofs.lemmas.Bool.Decides.{nat_tests}
 use Rattle.std.proofs.Math.Bool.{and-false}
 use Rattle.txn_lang.proofs.TokenLemmas.{take_snoc, digits_push, value_digit, not_digits, prefix_below, digits_small}
 use Rattle.txn_lang.proofs.tokens.digits_number.Goals as goal

@@ -1,6 +1,5 @@
-use Rattle.std.proofs.Common.{rules, tests, ◌∙◌, ◌+◌, ◌-◌, ◌≡◌, sym, ap, arith, take, drop, refl, length, ◌<◌, ◌≤◌}
+use Rattle.std.proofs.Common.{rules, tests, ◌∙◌, ◌+◌, ◌-◌, sym, arith, drop, refl, length, ◌≤◌}
 use Rattle.std.specs.Prelude.{◌==◌}
-use Rattle.std.specs.List.{position_or_len}
 use Rattle.std.proofs.lemmas.List.{take_all, length-take, length-take-le}
 use Rattle.std.proofs.lemmas.Iterator.{YieldsList-from_slice}
 use Rattle.std.proofs.lemmas.Iterator.Search.{position_from_yields_List}

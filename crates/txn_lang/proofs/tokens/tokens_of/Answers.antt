@@ -1,6 +1,5 @@
-use Rattle.std.proofs.Common.{◌≡◌, ◌++◌, ◌∷◌, [], ◌∙◌, ◌<◌, length, arith, refl, sym}
+use Rattle.std.proofs.Common.{◌∙◌, ◌<◌, length, sym}
 use Rattle.std.proofs.lemmas.Result.{err_from_is_err_and}
-use Rattle.std.proofs.lemmas.Grind.{common_steps}
 use Rattle.txn_lang.specs.Readings.{all_by}
 use Rattle.txn_lang.specs.Tokens.{spaced_token_at, tokens_of, unblanked}
 use Rattle.txn_lang.proofs.ReadingLemmas.{with_nothing, goes_on, fails, is_done, is_some, is_nil, shorter_at}

@@ -1,9 +1,8 @@
-use Rattle.std.proofs.Common.{◌≡◌, ◌∙◌, sym, ap, subst, refl, List, ◌∷◌, [], ◌++◌, map, None}
-use Rattle.std.specs.Prelude.{reverse, IsSome}
+use Rattle.std.proofs.Common.{◌≡◌, ◌∙◌, ap, subst, List, ◌∷◌, None}
+use Rattle.std.specs.Prelude.{reverse}
 use Rattle.txn_lang.specs.declared.blocks.Frame.{Frame}
-use Rattle.txn_lang.specs.Blocks.{Open, else_in}
-use Rattle.txn_lang.specs.Building.{AreFrames, HasShape, open_of}
-use Rattle.txn_lang.proofs.BlockLemmas.{shape_open, shape_turn, shape_close, shape_begin, reverse_push, choice_in, nothing_open}
+use Rattle.txn_lang.specs.Building.{AreFrames, HasShape}
+use Rattle.txn_lang.proofs.BlockLemmas.{shape_close, reverse_push}
 use Rattle.txn_lang.proofs.blocks.Builder.close.Goals as goal
 
 pub returns-in_ok-block-in-Some-clause-built : goal.returns-in_ok-block-in-Some-clause-built

@@ -1,4 +1,4 @@
-use Rattle.std.proofs.Common.{◌≡◌, ◌∙◌, sym, ap, subst, refl, List, [], None}
+use Rattle.std.proofs.Common.{◌∙◌, sym, subst, refl, List}
 use Rattle.std.specs.Prelude.{reverse, is_some}
 use Rattle.txn_lang.specs.declared.blocks.Frame.{Frame}
 use Rattle.txn_lang.specs.Building.{HasShape}

@@ -1,5 +1,5 @@
-use Rattle.std.proofs.Common.{◌≡◌, ◌∙◌, sym, ap, refl, Some, None}
-use Rattle.std.specs.Prelude.{option_map, slice_get}
+use Rattle.std.proofs.Common.{◌∙◌, ap}
+use Rattle.std.specs.Prelude.{option_map}
 use Rattle.txn_lang.specs.declared.blocks.Frame.{Frame}
 use Rattle.txn_lang.proofs.BlockLemmas.{outermost_first}
 use Rattle.txn_lang.proofs.blocks.Builder.outermost.Goals as goal

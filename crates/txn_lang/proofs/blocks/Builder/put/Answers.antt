@@ -1,6 +1,5 @@
-use Rattle.std.proofs.Common.{◌≡◌, ◌∙◌, sym, ap, refl, ◌∷◌, [], ◌++◌, reverse}
+use Rattle.std.proofs.Common.{◌∷◌, []}
 use Rattle.txn_lang.specs.Blocks.{none, one}
-use Rattle.txn_lang.specs.Building.{HasShape}
 use Rattle.txn_lang.proofs.BlockLemmas.{shape_more}
 use Rattle.txn_lang.proofs.blocks.Builder.put.Goals as goal
 

@@ -1,9 +1,9 @@
-use Rattle.std.proofs.Common.{◌≡◌, ◌∙◌, sym, ap, subst, refl, List, ◌∷◌, [], ◌++◌, map, None}
+use Rattle.std.proofs.Common.{◌≡◌, ◌∙◌, ap, subst, refl, List, ◌∷◌, [], ◌++◌, map, None}
 use Rattle.std.specs.Prelude.{reverse, IsSome}
 use Rattle.txn_lang.specs.declared.blocks.Frame.{Frame}
-use Rattle.txn_lang.specs.Blocks.{Open, else_in}
+use Rattle.txn_lang.specs.Blocks.{else_in}
 use Rattle.txn_lang.specs.Building.{AreFrames, HasShape, open_of, turned}
-use Rattle.txn_lang.proofs.BlockLemmas.{shape_open, shape_turn, shape_close, shape_begin, reverse_push, choice_in, turned_opening}
+use Rattle.txn_lang.proofs.BlockLemmas.{shape_turn, reverse_push, choice_in, turned_opening}
 use Rattle.txn_lang.proofs.blocks.Builder.turn.Goals as goal
 
 pub returns-in_ok-push-in-Some-clause-built : goal.returns-in_ok-push-in-Some-clause-built

@@ -1,4 +1,4 @@
-use Rattle.std.proofs.Common.{◌≡◌, ◌∙◌, sym, ap, refl}
+use Rattle.std.proofs.Common.{◌∙◌, ap}
 use Rattle.std.specs.Prelude.{slice_get, option_and_then}
 use Rattle.fp_model.specs.Texts.{same_text}
 use Rattle.txn_lang.proofs.NumberLemmas.{found_at}
