@@ -1,0 +1,12 @@
+pub mod Runs
+pub mod TokenLemmas
+pub mod ReadingLemmas
+pub mod Shrinking
+pub mod PartLemmas
+pub mod LookupLemmas
+pub mod BlockLemmas
+pub mod LineLemmas
+pub mod TextLemmas
+pub mod NumberLemmas
+pub mod ParseLemmas
+pub mod OneMeaning

@@ -1,0 +1,599 @@
+//! Puts statement lines together to blocks and scripts.
+//!
+//! The script that is being read has a block of statements so far. Where an IF or a REPEAT is open, that is the block
+//! of the innermost one, and what stood before it waits in a frame: there is a frame for each open IF and REPEAT, the
+//! innermost last, and at most 64.
+ghost use Rattle.std.specs.Prelude.{◌≡◌, ◌∷◌, [], ◌++◌, ◌≤◌, ◌<◌, ◌+◌, ◌*◌, ◌^◌, List, max, min, length, IfOk, IfErr, IsSome, is_some, map, reverse, ◌&&◌, nat_lt};
+ghost use Rattle.std.specs.List.{list_any};
+ghost use Rattle.fp_model.specs.Programs.{statement_cost, cost};
+ghost use Rattle.txn_lang.specs.Readings.{Gives};
+ghost use Rattle.txn_lang.specs.Lookups.{HaveByteNumbers};
+ghost use Rattle.txn_lang.specs.declared.line.Line.{Line};
+ghost use Rattle.txn_lang.specs.declared.line.Line.TheVariants as line;
+ghost use Rattle.txn_lang.specs.Blocks as blocks;
+ghost use Rattle.txn_lang.specs.Blocks.{stands, unclosed};
+ghost use Rattle.txn_lang.specs.Building as building;
+ghost use Rattle.txn_lang.specs.Building.{IsBlock, IsBuilt, Follows, Adds, context_of, context_behind, statement_by};
+
+use crate::fault::{LineFault, ScriptFault};
+use crate::line::{Keyword, Line};
+use crate::lookups::are_known;
+use crate::statements::{keyword_at, line_behind};
+use crate::token::Token;
+use crate::tokens::tokens_of;
+use fp_model::{Comparison, Defs, List, Name, Operand, Script, Statement};
+use std::alloc::{AllocError, Global};
+
+// A cost is kept up to this number.
+const GREATEST_COST: u64 = 1_000_000_000;
+
+// How many blocks are open at most.
+const DEEPEST: usize = 64;
+
+/// The statements of a block so far, and what they cost, up to 1,000,000,000.
+#[derive(Debug, Drop)]
+pub(crate) struct Block {
+    pub(crate) statements: List<Statement>,
+    pub(crate) cost: u64,
+}
+
+/// What opened a block.
+#[derive(Debug, Drop)]
+pub(crate) enum Opening {
+    /// IF, in its first block.
+    Choice {
+        left: Operand,
+        comparison: Comparison,
+        right: Operand,
+    },
+    /// IF, behind its ELSE, with its first block.
+    Otherwise {
+        left: Operand,
+        comparison: Comparison,
+        right: Operand,
+        taken: Block,
+    },
+    /// REPEAT.
+    Loop {
+        times: u32,
+    },
+}
+
+/// An open block: what opened it, the line of that, and the block that it stands in, up to it.
+#[derive(Debug, Drop)]
+pub(crate) struct Frame {
+    pub(crate) opening: Opening,
+    pub(crate) line: u32,
+    pub(crate) outer: Block,
+}
+
+/// What the lines so far make.
+#[derive(Debug, Drop)]
+pub(crate) struct Builder {
+    /// The name of the script that is being read; None before the first TRAN.
+    pub(crate) begun: Option<Name>,
+    /// The innermost block of that script.
+    pub(crate) block: Block,
+    /// Its open blocks, the innermost last.
+    pub(crate) frames: List<Frame>,
+    /// The first line of a block that an earlier script left open. Where there is one, the text is refused at its end,
+    /// and the scripts mean nothing.
+    pub(crate) left_open: Option<u32>,
+    /// The scripts before that.
+    pub(crate) scripts: List<Script>,
+    /// What each of them costs.
+    pub(crate) costs: List<u64>,
+}
+
+// A cost, kept up to the greatest.
+fn capped(cost: u64) -> u64
+    ensures { result ≡ building.capped cost }
+{
+    cost.min(GREATEST_COST)
+}
+
+impl Block {
+    // An empty block.
+    fn new(alloc: Global) -> Block
+        ensures empty { result.statements ≡ [] }
+        ensures free { result.cost ≡ 0 }
+    {
+        Block {
+            statements: List::new(alloc),
+            cost: 0,
+        }
+    }
+
+    // The block with one statement more, which costs so much.
+    fn with(self, statement: Statement, cost: u64) -> Result<Block, AllocError>
+        requires costed { IsBlock self }
+        requires kept { cost ≡ building.capped (statement_cost statement) }
+        ensures statements { IfOk result (λ b. b.statements ≡ self.statements ++ statement ∷ []) }
+        ensures costed { IfOk result (λ b. IsBlock b) }
+    {
+        let Block {
+            mut statements,
+            cost: before,
+        } = self;
+        statements.push(statement)?;
+        Ok(Block {
+            statements,
+            cost: capped(before + cost),
+        })
+    }
+}
+
+// The statement that a block makes at its END, and what it costs.
+fn closed(opening: Opening, block: Block, alloc: Global) -> (Statement, u64)
+    requires opening { building.IsOpening opening }
+    requires block { IsBlock block }
+    ensures statement { result.0 ≡ statement_by opening block.statements }
+    ensures cost { result.1 ≡ building.capped (statement_cost result.0) }
+{
+    let Block { statements, cost } = block;
+    match opening {
+        Opening::Choice {
+            left,
+            comparison,
+            right,
+        } => {
+            let otherwise = List::new(alloc);
+            let statement = Statement::If {
+                left,
+                comparison,
+                right,
+                then: statements,
+                otherwise,
+            };
+            (statement, capped(1 + cost))
+        }
+        Opening::Otherwise {
+            left,
+            comparison,
+            right,
+            taken,
+        } => {
+            let Block {
+                statements: then,
+                cost: other,
+            } = taken;
+            let statement = Statement::If {
+                left,
+                comparison,
+                right,
+                then,
+                otherwise: statements,
+            };
+            (statement, capped(1 + cost.max(other)))
+        }
+        Opening::Loop { times } => {
+            let statement = Statement::Repeat {
+                times,
+                body: statements,
+            };
+            (statement, capped(1 + u64::from(times) * cost))
+        }
+    }
+}
+
+impl Builder {
+    /// Before the first line.
+    pub(crate) fn new(alloc: Global) -> Builder
+        ensures context { context_of result ≡ blocks.at_top }
+        ensures built { IsBuilt result [] }
+    {
+        Builder {
+            begun: None,
+            block: Block::new(alloc),
+            frames: List::new(alloc),
+            left_open: None,
+            scripts: List::new(alloc),
+            costs: List::new(alloc),
+        }
+    }
+
+    // The number of the line of the outermost open block.
+    fn outermost(&self) -> Option<u32>
+        ensures { result ≡ blocks.outermost (context_of self.now).open_blocks }
+    {
+        match self.frames.get(0) {
+            Some(frame) => Some(frame.line),
+            None => None,
+        }
+    }
+
+    // The first line of a block that has no END, if the text ended here.
+    fn unclosed(&self) -> Option<u32>
+        ensures { result ≡ unclosed (context_of self.now) }
+    {
+        match self.left_open {
+            Some(number) => Some(number),
+            None => self.outermost(),
+        }
+    }
+
+    // Whether a loop is open.
+    fn is_in_loop(&self) -> bool
+        ensures { result ≡ list_any blocks.is_loop (context_of self.now).open_blocks }
+    {
+        self.frames.as_slice().iter().any(|frame| frame.is_loop())
+    }
+
+    // Whether the innermost open block is that of an IF, before its ELSE.
+    fn is_in_choice(&self) -> bool
+        ensures { result ≡ is_some (blocks.else_in (context_of self.now).open_blocks) }
+    {
+        match self.frames.as_slice().last() {
+            Some(frame) => frame.is_choice(),
+            None => false,
+        }
+    }
+
+    // Whether a new block can be opened.
+    fn has_room(&self) -> bool
+        ensures { result ≡ nat_lt (length (context_of self.now).open_blocks) 64 }
+    {
+        self.frames.len() < DEEPEST
+    }
+
+    // Whether a block is open.
+    fn is_open(&self) -> bool
+        ensures { result ≡ is_some (blocks.end_in (context_of self.now).open_blocks) }
+    {
+        match self.frames.as_slice().last() {
+            Some(_) => true,
+            None => false,
+        }
+    }
+
+    // Whether a line that begins with this word can stand here.
+    #[tactic(auto, unfolding(crate::specs::Blocks::stands))]
+    fn is_place_of(&self, keyword: Keyword) -> bool
+        ensures { result ≡ is_some (stands 0 keyword (context_of self.now)) }
+    {
+        let has_begun = self.begun.is_some();
+        match keyword {
+            Keyword::Tran => true,
+            Keyword::If | Keyword::Repeat => has_begun && self.has_room(),
+            Keyword::Else => has_begun && self.is_in_choice(),
+            Keyword::End => has_begun && self.is_open(),
+            Keyword::Break => has_begun && self.is_in_loop(),
+            Keyword::Set
+            | Keyword::Reply
+            | Keyword::Rolb
+            | Keyword::Get { .. }
+            | Keyword::Fld
+            | Keyword::Isrt
+            | Keyword::Repl
+            | Keyword::Dlet => has_begun,
+        }
+    }
+
+    // The same, as a reading.
+    fn can_stand(&self, keyword: Keyword) -> Result<(), LineFault>
+        ensures { Gives (λ x. x) result (building.can_stand keyword (context_of self.now)) }
+    {
+        if self.is_place_of(keyword) {
+            return Ok(());
+        }
+        Err(LineFault::Syntax)
+    }
+
+    // A statement in the innermost block.
+    fn put(self, statement: Statement) -> Result<Builder, AllocError>
+        requires begun { IsSome self.begun }
+        requires block { IsBlock self.block }
+        requires one { statement_cost statement ≡ 1 }
+        ensures context { IfOk result (λ b. context_of b ≡ context_of self) }
+        ensures built { IfOk result (λ b. Adds self (line.Whole statement) b) }
+    {
+        let Builder {
+            begun,
+            block,
+            frames,
+            left_open,
+            scripts,
+            costs,
+        } = self;
+        let block = block.with(statement, 1)?;
+        Ok(Builder {
+            begun,
+            block,
+            frames,
+            left_open,
+            scripts,
+            costs,
+        })
+    }
+
+    // A new block, of the IF or REPEAT in this line.
+    fn open(self, alloc: Global, opening: Opening, line: u32) -> Result<Builder, AllocError>
+        requires begun { IsSome self.begun }
+        requires first { building.IsFirst opening }
+        requires opening { building.IsOpening opening }
+        ensures context { IfOk result (λ b. context_of b ≡ building.with_block (building.kind_of opening) line (context_of self)) }
+        ensures built { IfOk result (λ b. Adds self (building.opening_line opening) b) }
+    {
+        let Builder {
+            begun,
+            block,
+            mut frames,
+            left_open,
+            scripts,
+            costs,
+        } = self;
+        frames.push(Frame {
+            opening,
+            line,
+            outer: block,
+        })?;
+        let block = Block::new(alloc);
+        Ok(Builder {
+            begun,
+            block,
+            frames,
+            left_open,
+            scripts,
+            costs,
+        })
+    }
+
+    // ELSE: the block of an IF becomes its first one.
+    fn turn(self, alloc: Global) -> Result<Builder, AllocError>
+        requires begun { IsSome self.begun }
+        requires choice { IsSome (blocks.else_in (context_of self).open_blocks) }
+        ensures context { IfOk result (λ b. context_of b ≡ building.or_same (context_of self) (blocks.else_in (context_of self).open_blocks)) }
+        ensures built { IfOk result (λ b. Adds self line.Else b) }
+    {
+        let Builder {
+            begun,
+            block,
+            mut frames,
+            left_open,
+            scripts,
+            costs,
+        } = self;
+        match frames.pop() {
+            Some(
+                Frame {
+                    opening,
+                    line,
+                    outer,
+                },
+            ) => {
+                frames.push(Frame {
+                    opening: turned(opening, block),
+                    line,
+                    outer,
+                })?;
+                let block = Block::new(alloc);
+                Ok(Builder {
+                    begun,
+                    block,
+                    frames,
+                    left_open,
+                    scripts,
+                    costs,
+                })
+            }
+            None => Ok(Builder {
+                begun,
+                block,
+                frames,
+                left_open,
+                scripts,
+                costs,
+            }),
+        }
+    }
+
+    // END: the innermost block becomes a statement of the one around it.
+    fn close(self, alloc: Global) -> Result<Builder, AllocError>
+        requires begun { IsSome self.begun }
+        requires some { IsSome (blocks.end_in (context_of self).open_blocks) }
+        requires block { IsBlock self.block }
+        requires frames { building.AreFrames (reverse self.frames) }
+        ensures context { IfOk result (λ b. context_of b ≡ building.or_same (context_of self) (blocks.end_in (context_of self).open_blocks)) }
+        ensures built { IfOk result (λ b. Adds self line.End b) }
+    {
+        let Builder {
+            begun,
+            block,
+            mut frames,
+            left_open,
+            scripts,
+            costs,
+        } = self;
+        match frames.pop() {
+            Some(
+                Frame {
+                    opening,
+                    line: _,
+                    outer,
+                },
+            ) => {
+                let (statement, cost) = closed(opening, block, alloc);
+                let block = outer.with(statement, cost)?;
+                Ok(Builder {
+                    begun,
+                    block,
+                    frames,
+                    left_open,
+                    scripts,
+                    costs,
+                })
+            }
+            None => Ok(Builder {
+                begun,
+                block,
+                frames,
+                left_open,
+                scripts,
+                costs,
+            }),
+        }
+    }
+
+    // TRAN: the script before it ends, and another begins.
+    fn begin(self, alloc: Global, name: Name) -> Result<Builder, AllocError>
+        requires { IsBlock self.block }
+        ensures context { IfOk result (λ b. context_of b ≡ blocks.begun (context_of self)) }
+        ensures built { IfOk result (λ b. Adds self (line.Tran name) b) }
+    {
+        let left_open = self.unclosed();
+        let Builder {
+            begun,
+            block,
+            frames: _,
+            left_open: _,
+            scripts,
+            costs,
+        } = self;
+        let (scripts, costs) = with_last(scripts, costs, begun, block)?;
+        Ok(Builder {
+            begun: Some(name),
+            block: Block::new(alloc),
+            frames: List::new(alloc),
+            left_open,
+            scripts,
+            costs,
+        })
+    }
+
+    /// A line behind those before.
+    pub(crate) fn add(self, alloc: Global, number: u32, line: Line) -> Result<Builder, AllocError>
+        requires follows { Follows line (context_of self) }
+        requires block { IsBlock self.block }
+        requires frames { building.AreFrames (reverse self.frames) }
+        ensures context { IfOk result (λ b. context_of b ≡ context_behind number line (context_of self)) }
+        ensures built { IfOk result (λ b. Adds self line b) }
+    {
+        match line {
+            Line::Tran(name) => self.begin(alloc, name),
+            Line::If {
+                left,
+                comparison,
+                right,
+            } => {
+                self.open(
+                    alloc,
+                    Opening::Choice {
+                        left,
+                        comparison,
+                        right,
+                    },
+                    number,
+                )
+            }
+            Line::Else => self.turn(alloc),
+            Line::Repeat(times) => self.open(alloc, Opening::Loop { times }, number),
+            Line::End => self.close(alloc),
+            Line::Whole(statement) => self.put(statement),
+        }
+    }
+
+    /// The scripts, and what each costs, at the end of a text.
+    pub(crate) fn finish(self) -> Result<(List<Script>, List<u64>), ScriptFault>
+        requires { IsBlock self.block }
+        ensures ok { IfOk result (λ x. building.Finishes self x.0 x.1) }
+        ensures err { IfErr result (λ e. building.Refuses e (building.IsLeftOpen self e)) }
+    {
+        match self.unclosed() {
+            Some(number) => Err(ScriptFault::Syntax(number)),
+            None => {
+                let Builder {
+                    begun,
+                    block,
+                    frames: _,
+                    left_open: _,
+                    scripts,
+                    costs,
+                } = self;
+                Ok(with_last(scripts, costs, begun, block)?)
+            }
+        }
+    }
+
+    /// What a line with a statement says, with the word that it begins with.
+    #[tactic(auto, unfolding(crate::specs::Building::said_in))]
+    pub(crate) fn statement_in(
+        &self,
+        alloc: Global,
+        defs: &Defs,
+        bytes: &[u8],
+    ) -> Result<(Keyword, Line), LineFault>
+        requires { HaveByteNumbers defs.now }
+        ensures { Gives (λ x. x) result (building.said_in defs.now (context_of self.now) bytes.now) }
+    {
+        let tokens = tokens_of(alloc, bytes)?;
+        let (keyword, rest) = keyword_at(&tokens)?;
+        self.can_stand(keyword)?;
+        let said = line_behind(alloc, defs, keyword, rest)?;
+        if !are_known(defs, &tokens) {
+            return Err(LineFault::UnknownName);
+        }
+        Ok((keyword, said))
+    }
+}
+
+impl Frame {
+    fn is_loop(&self) -> bool
+        ensures { result ≡ blocks.is_loop (building.open_of self.now) }
+    {
+        match self.opening {
+            Opening::Loop { .. } => true,
+            _ => false,
+        }
+    }
+
+    fn is_choice(&self) -> bool
+        ensures { result ≡ building.is_choice (building.kind_of self.now.opening) }
+    {
+        match self.opening {
+            Opening::Choice { .. } => true,
+            _ => false,
+        }
+    }
+}
+
+// An IF behind its ELSE.
+fn turned(opening: Opening, taken: Block) -> Opening
+    ensures { result ≡ building.turned opening taken }
+{
+    match opening {
+        Opening::Choice {
+            left,
+            comparison,
+            right,
+        } => {
+            Opening::Otherwise {
+                left,
+                comparison,
+                right,
+                taken,
+            }
+        }
+        other => other,
+    }
+}
+
+// Scripts and their costs, with the one that was being read.
+fn with_last(
+    scripts: List<Script>,
+    costs: List<u64>,
+    begun: Option<Name>,
+    block: Block,
+) -> Result<(List<Script>, List<u64>), AllocError>
+    requires { IsBlock block }
+    ensures scripts { IfOk result (λ x. x.0 ≡ scripts ++ building.finished begun block.statements) }
+    ensures costs { IfOk result (λ x. costs ≡ map (λ s. cost s.statements) scripts → x.1 ≡ map (λ s. cost s.statements) x.0) }
+{
+    let mut scripts = scripts;
+    let mut costs = costs;
+    let Block { statements, cost } = block;
+    if let Some(name) = begun {
+        scripts.push(Script { name, statements })?;
+        costs.push(capped(1 + cost))?;
+    }
+    Ok((scripts, costs))
+}

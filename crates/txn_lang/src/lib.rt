@@ -1,0 +1,43 @@
+//! The script language: a text is read as scripts, or refused with its first fault.
+//!
+//!     text       = line newline line newline ..            at most 1,000,000 bytes
+//!     script     = "TRAN" name, and statements up to the next TRAN
+//!     statement  = "SET" variable operand [ ( "+" | "-" | "*" | "&" ) operand ]
+//!                | "IF" operand comparison operand, statements, [ "ELSE", statements, ] "END"
+//!                | "REPEAT" count, statements, "END"  |  "BREAK"
+//!                | "REPLY" operand ..  |  "ROLB" code
+//!                | get database ssa ..  |  "FLD" database "KEY(" operand ")" ( field op operand ) ..
+//!                | "ISRT" database ssa .. ( field "=" operand ) ..
+//!                | "REPL" database ( field "=" operand ) ..  |  "DLET" database
+//!     operand    = number | text | "#" digit | "IO." field | "STATUS" | "FSAS" | variable
+//!     ssa        = segment [ "(" operand ")" ]  |  "KEY(" operand ")" on a main storage database
+//!
+//! Each statement line has a line to itself. Blank lines and those that begin with `*` are skipped. The definitions are
+//! in `specs/`; docs/MODEL.md, 'The script language', says them in plain words.
+#![tactic(auto)]
+
+mod blocks;
+mod fault;
+mod laws;
+mod line;
+mod lookups;
+mod parsing;
+mod parts;
+mod reader;
+mod rows;
+mod scripts;
+mod statements;
+#[cfg(test)]
+mod tests;
+mod token;
+mod tokens;
+
+pub use fault::ScriptFault;
+pub use laws::{a_text_has_one_meaning, definitions_have_byte_numbers};
+pub use parsing::parse;
+pub use rows::{
+    a_dear_script_is_a_fault, a_field_call_has_these_tokens, a_name_twice_is_a_fault,
+    an_open_block_is_a_fault, deposit_is_a_script, faults_of_lines, showc_is_a_script,
+    the_sample_is_its_scripts, tokens_need_no_blanks,
+};
+pub use scripts::Scripts;

@@ -1,0 +1,48 @@
+//! What a line says.
+use fp_model::{Comparison, Get, Name, Operand, Statement};
+
+/// The word that a statement line begins with.
+#[derive(Clone, Copy, Debug, PartialEq, Eq)]
+pub(crate) enum Keyword {
+    Tran,
+    Set,
+    If,
+    Else,
+    End,
+    Repeat,
+    Break,
+    Reply,
+    Rolb,
+    /// GU, GN, GNP, and with hold GHU, GHN, GHNP.
+    Get { get: Get, hold: bool },
+    Fld,
+    Isrt,
+    Repl,
+    Dlet,
+}
+
+/// A statement line.
+#[derive(Debug, Drop)]
+pub(crate) enum Line {
+    /// `TRAN name`.
+    Tran(Name),
+    /// `IF left comparison right`.
+    If {
+        left: Operand,
+        comparison: Comparison,
+        right: Operand,
+    },
+    Else,
+    /// `REPEAT n`.
+    Repeat(u32),
+    End,
+    /// A statement that has its line to itself.
+    Whole(Statement),
+}
+
+/// A segment search argument as it is written: a word, and a key in parentheses where there is one.
+#[derive(Debug, Drop)]
+pub(crate) struct WrittenSsa {
+    pub(crate) name: Name,
+    pub(crate) key: Option<Operand>,
+}
