@@ -1,0 +1,7 @@
+//! All that the program does, over any source and any site.
+#![tactic(auto)]
+
+mod status;
+mod words;
+
+pub use status::{Status, fault_text};
