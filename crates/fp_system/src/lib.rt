@@ -1,6 +1,8 @@
 //! All that the program does, over any source and any site.
 #![tactic(auto)]
 
+mod deposit;
+mod operands;
 mod status;
 mod words;
 
