@@ -86,7 +86,7 @@ module _ (defs : Defs) (scripts : List Script) (d : Deposit) (is : IsSmall defs 
   fsas_are : fsas_in (list_text (fsa_for d m ∷ [])) ≡ fsa_for d m ∷ []
   fsas_are = rw (fsas_of_list_text (fsa_for d m ∷ []) (all_one IsFsa (fsa_for d m) fsa_fits) (omega arith), fsas_in) refl
 
-  script_is : script_of scripts m.tran ≡ Some (deposit_script d)
+  pub script_is : script_of scripts m.tran ≡ Some (deposit_script d)
   script_is = rw (is.script, takes.tran) refl
 
   first_short : length (word_of m.text 1) ≤ d.key_length

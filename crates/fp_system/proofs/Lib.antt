@@ -1,3 +1,4 @@
+pub mod Results
 pub mod Letters
 pub mod Scripts
 pub mod Small
@@ -5,3 +6,7 @@ pub mod Deposits
 pub mod WordLemmas
 pub mod DigitLemmas
 pub mod SumLemmas
+pub mod DepositSums
+pub mod Stores
+pub mod MessageLengths
+pub mod Entries

@@ -57,7 +57,7 @@ padded_long text few =
     let b : length blanks ≡ 8 - length text = length-replicate (8 - length text) 32 in
     omega (arith, a, b, few)
 
-few_of : (text : List ℕ) → is_name text ≡ true → length text ≤ 8
+pub few_of : (text : List ℕ) → is_name text ≡ true → length text ≤ 8
 few_of text is = let e : nat_le (length text) 8 ≡ true = second_of (nat_le 1 (length text)) (nat_le (length text) 8) _ _ is in grind (arith, nat_tests, e)
 
 -- a name has 8 bytes

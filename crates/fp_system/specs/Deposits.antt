@@ -12,7 +12,11 @@ use Rattle.fp_model.specs.Programs.{words, word_of}
 use Rattle.fp_model.specs.declared.definitions.FieldKind.TheVariants.{P}
 use Rattle.fp_model.specs.Numbers.{number, bytes_of}
 use Rattle.fp_model.specs.Texts.{number_in, padded, same_text}
+use Rattle.msdb_store.specs.Store.{Stored, IsOf}
 use Rattle.fp_system.specs.declared.deposit.Deposit.{Deposit}
+use Rattle.fp_system.specs.Small.{IsSmall}
+use Rattle.fp_model.specs.declared.definitions.Defs.{Defs}
+use Rattle.fp_model.specs.declared.scripts.Script.{Script}
 
 -- a message that the deposit takes
 pub record Takes (d : Deposit) (message : Message) : Type 0 where
@@ -56,3 +60,10 @@ entry_for d message from found = record {
   notes = from ∷ [];
   items = items_for (key_for d message) (new_segment d message found);
 }
+
+-- a store of small definitions that this deposit is of
+pub record IsFor (d : Deposit) (store : Stored) : Type 0 where
+  pub defs : Defs
+  pub scripts : List Script
+  pub small : IsSmall defs scripts d
+  pub of : IsOf defs.msdbs store
