@@ -39,7 +39,7 @@ use Rattle.fp_model.specs.Workspace.{Workspace, fresh}
 use Rattle.fp_model.proofs.FsaLemmas.{fsas_of_list_text}
 use Rattle.fp_system.specs.declared.deposit.Deposit.{Deposit}
 use Rattle.fp_system.specs.Small.{AreSmall, IsSmall, deposit_script}
-use Rattle.fp_system.specs.Deposits.{Takes, deposited, new_segment, key_for, items_for, entry_for}
+use Rattle.fp_system.specs.Deposits.{IsTaken, deposited, new_segment, key_for, items_for, entry_for}
 use Rattle.fp_system.proofs.Letters.{good_sum}
 use Rattle.fp_system.proofs.Scripts.{fsa_for, call_for, deposit_asks, deposit_replies, deposit_costs}
 use Rattle.fp_system.proofs.Small.{its_length, same_itself, word_within, its_place, its_field, its_key_length, key_short, key_some, field_at, field_name_long}
@@ -65,7 +65,7 @@ all_one Q x h (suc k) y l = absurd (omega arith)
 
 -- ---- the field call
 
-module _ (defs : Defs) (scripts : List Script) (d : Deposit) (is : IsSmall defs scripts d) (m : Message) (takes : Takes d m) (long : length m.text ≤ 1000) where
+module _ (defs : Defs) (scripts : List Script) (d : Deposit) (is : IsSmall defs scripts d) (m : Message) (takes : IsTaken d m) (long : length m.text ≤ 1000) where
   abbrev key : List ℕ
   key = key_for d m
 

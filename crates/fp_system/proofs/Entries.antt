@@ -23,7 +23,7 @@ use Rattle.fp_model.specs.Texts.{padded, same_text}
 use Rattle.msdb_store.specs.Store.{Stored, IsOf, found}
 use Rattle.fp_system.specs.declared.deposit.Deposit.{Deposit}
 use Rattle.fp_system.specs.Small.{AreSmall, IsSmall, deposit_script}
-use Rattle.fp_system.specs.Deposits.{Takes, IsFor, deposited, new_segment, key_for, items_for, entry_for}
+use Rattle.fp_system.specs.Deposits.{IsTaken, IsFor, deposited, new_segment, key_for, items_for, entry_for}
 use Rattle.fp_system.specs.Next.{ComesNext}
 use Rattle.fp_system.proofs.Small.{its_place, its_length, its_key_length, key_short, key_some, field_at, field_within, its_msdb}
 use Rattle.fp_system.proofs.Stores.{only, only_place, found_is, found_has}
@@ -65,7 +65,7 @@ made_of : (field : FieldDef) (operand segment : List ℕ) (o : Option (List ℕ)
 made_of field operand segment None new e f = absurd cc
 made_of field operand segment (Some bytes) new e f = (bytes, (e, cc))
 
-module _ (defs : Defs) (scripts : List Script) (d : Deposit) (is : IsSmall defs scripts d) (m : Message) (takes : Takes d m) (store : Stored) (of : IsOf defs.msdbs store) where
+module _ (defs : Defs) (scripts : List Script) (d : Deposit) (is : IsSmall defs scripts d) (m : Message) (takes : IsTaken d m) (store : Stored) (of : IsOf defs.msdbs store) where
   abbrev small : AreSmall defs
   small = is.small
 

@@ -10,3 +10,4 @@ pub mod DepositSums
 pub mod Stores
 pub mod MessageLengths
 pub mod Entries
+pub mod MessageLines

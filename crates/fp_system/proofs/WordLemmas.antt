@@ -11,10 +11,10 @@ abbrev pub is_other : ℕ → Bool
 is_other b = not (is_separator b)
 
 -- where the first of more elements passes, or else one place later than in the others
-position_here : (p : ℕ → Bool) (b : ℕ) (bs : List ℕ) → p b ≡ true → position_or_len p (b ∷ bs) ≡ 0
+pub position_here : (p : ℕ → Bool) (b : ℕ) (bs : List ℕ) → p b ≡ true → position_or_len p (b ∷ bs) ≡ 0
 position_here p b bs e = rw e refl
 
-position_later : (p : ℕ → Bool) (b : ℕ) (bs : List ℕ) → p b ≡ false → position_or_len p (b ∷ bs) ≡ suc (position_or_len p bs)
+pub position_later : (p : ℕ → Bool) (b : ℕ) (bs : List ℕ) → p b ≡ false → position_or_len p (b ∷ bs) ≡ suc (position_or_len p bs)
 position_later p b bs e = rw e (let s : 1 + position_or_len p bs ≡ suc (position_or_len p bs) = omega arith in s)
 
 -- separators in front are no words

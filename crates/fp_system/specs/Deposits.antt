@@ -1,5 +1,5 @@
 -- What a deposit makes of the segment that it names, and the entry that it is.
-use Rattle.std.specs.Prelude.{◌≡◌, ℕ, ◌≤◌, List, [], ◌∷◌, length, true, Ok, Option, Some, None, option_map, option_and_then, ℤ, ◌+ℤ◌}
+use Rattle.std.specs.Prelude.{◌≡◌, ℕ, ◌≤◌, List, [], ◌∷◌, length, Bool, true, false, ◌&&◌, Ok, Err, Option, Some, None, option_map, option_and_then, ℤ, ◌+ℤ◌}
 use Rattle.fp_model.specs.declared.definitions.FieldDef.{FieldDef}
 use Rattle.fp_model.specs.declared.calls.Message.{Message}
 use Rattle.fp_model.specs.declared.log.Entry.{Entry}
@@ -14,12 +14,12 @@ use Rattle.fp_model.specs.Numbers.{number, bytes_of}
 use Rattle.fp_model.specs.Texts.{number_in, padded, same_text}
 use Rattle.msdb_store.specs.Store.{Stored, IsOf}
 use Rattle.fp_system.specs.declared.deposit.Deposit.{Deposit}
-use Rattle.fp_system.specs.Small.{IsSmall}
+use Rattle.fp_system.specs.Small.{IsSmall, names_key}
 use Rattle.fp_model.specs.declared.definitions.Defs.{Defs}
 use Rattle.fp_model.specs.declared.scripts.Script.{Script}
 
 -- a message that the deposit takes
-pub record Takes (d : Deposit) (message : Message) : Type 0 where
+pub record IsTaken (d : Deposit) (message : Message) : Type 0 where
   pub is_message : message_of message.line ≡ Ok message
   pub tran : same_text d.tran.0 message.tran.0 ≡ true
   pub two : length (words message.text) ≡ 2
@@ -67,3 +67,11 @@ pub record IsFor (d : Deposit) (store : Stored) : Type 0 where
   pub scripts : List Script
   pub small : IsSmall defs scripts d
   pub of : IsOf defs.msdbs store
+
+-- whether a message is one of this deposit
+abbrev pub takes : Deposit → Message → Bool
+takes d message = same_text d.tran.0 message.tran.0 && names_key d.key_length message.text
+
+-- whether a line is such a message
+abbrev pub takes_line : Deposit → List ℕ → Bool
+takes_line d line = elim (message_of line) [ Err fault ↦ false | Ok message ↦ takes d message ]

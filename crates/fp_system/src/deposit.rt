@@ -10,7 +10,7 @@ ghost use Rattle.fp_model.specs.declared.scripts.Script.{Script};
 ghost use Rattle.fp_system.specs.Next.{ComesNext};
 ghost use Rattle.fp_system.specs.Small.{IsSmall};
 ghost use Rattle.msdb_store.specs.Store.{IsOf, found};
-ghost use Rattle.fp_system.specs.Deposits.{IsFor, Takes, deposited, entry_for, key_for, items_for, new_field};
+ghost use Rattle.fp_system.specs.Deposits.{IsFor, IsTaken, deposited, entry_for, key_for, items_for, new_field};
 
 use crate::operands::{sum_of, two_words};
 use fp_model::{Bytes, Entry, FieldDef, FieldKind, Item, List, Message, Name, Outcome};
@@ -130,7 +130,7 @@ impl Deposit {
         from: u64,
         message: &Message,
     ) -> Result<Entry, AllocError>
-        requires takes { Takes self.now message.now }
+        requires takes { IsTaken self.now message.now }
         requires store { IsFor self.now store.now }
         ensures { (defs : ListOf DefOf) → IsOf defs store.now →
             IfOk result (λ e. e ≡ entry_for self.now message.now from (found defs store.now 0 (key_for self.now message.now))) }
@@ -160,7 +160,7 @@ impl Deposit {
         from: u64,
         message: &Message,
     ) -> Result<Entry, AllocError>
-        requires takes { Takes self.now message.now }
+        requires takes { IsTaken self.now message.now }
         requires store { IsFor self.now store.now }
         // It is the next of a serial history that has come to these databases.
         ensures comes { (defs : Defs) (scripts : ListOf Script) (past : ListOf Db) (now : Db)

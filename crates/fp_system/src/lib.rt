@@ -2,6 +2,7 @@
 #![tactic(auto)]
 
 mod deposit;
+mod messages;
 mod operands;
 mod status;
 mod words;
