@@ -41,7 +41,7 @@ use Rattle.fp_system.specs.declared.deposit.Deposit.{Deposit}
 use Rattle.fp_system.specs.Small.{AreSmall, IsSmall, deposit_script}
 use Rattle.fp_system.specs.Deposits.{IsTaken, deposited, new_segment, key_for, items_for, entry_for}
 use Rattle.fp_system.proofs.Letters.{good_sum}
-use Rattle.fp_system.proofs.Scripts.{fsa_for, call_for, deposit_asks, deposit_replies, deposit_costs}
+use Rattle.fp_system.proofs.DepositScript.{fsa_for, call_for, deposit_asks, deposit_replies, deposit_costs}
 use Rattle.fp_system.proofs.Small.{its_length, same_itself, word_within, its_place, its_field, its_key_length, key_short, key_some, field_at, field_name_long}
 
 -- ---- a transaction of one call

@@ -1,6 +1,6 @@
 pub mod Results
 pub mod Letters
-pub mod Scripts
+pub mod DepositScript
 pub mod Small
 pub mod Deposits
 pub mod WordLemmas
@@ -11,3 +11,4 @@ pub mod Stores
 pub mod MessageLengths
 pub mod Entries
 pub mod MessageLines
+pub mod Accounts

@@ -3,3 +3,7 @@ pub mod Texts
 pub mod Small
 pub mod Deposits
 pub mod Next
+pub mod Definitions
+pub mod Scripts
+pub mod Parts
+pub mod Setups

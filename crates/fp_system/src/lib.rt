@@ -1,9 +1,12 @@
 //! All that the program does, over any source and any site.
 #![tactic(auto)]
 
+mod definitions;
 mod deposit;
 mod messages;
 mod operands;
+mod parts;
+mod scripts;
 mod status;
 mod words;
 
