@@ -12,3 +12,4 @@ pub mod MessageLengths
 pub mod Entries
 pub mod MessageLines
 pub mod Accounts
+pub mod SetupLemmas

@@ -149,3 +149,25 @@ pub(crate) fn read_setup<S: Source>(alloc: Global, source: &mut S) -> Result<Set
     let (deposit, text) = scripts(alloc, source, &defs)?;
     Ok(setup_with(defs, deposit, text)?)
 }
+
+/// The messages, each one of the setup's deposit.
+pub(crate) fn read_messages<S: Source>(
+    alloc: Global,
+    source: &mut S,
+    setup: &Setup,
+) -> Result<List<Message>, Refusal>
+    ensures each { IfOk result (λ messages. AllByRecursion (IsTaken setup.now.deposit) messages) }
+    ensures lines { S.told source.old →
+        IfOk result (λ messages. map (λ (m : MessageOf). m.line) messages ≡ lines_of (S.left source.old part.Messages)) }
+    ensures taken { (job : Job) → S.told source.old → IsSetupOf job setup.now → OnOk result (are_taken job (S.left source.old part.Messages) ≡ true) }
+    ensures not_built { (job : Job) (p : PartOf) → S.told source.old → IsSetupOf job setup.now → IsErrOf result (refusal.NotBuilt p) →
+        (p ≡ part.Messages) × (are_taken job (S.left source.old part.Messages) ≡ false) }
+    ensures cause { IsErrOf result refusal.ReadFault → Rose (S.faults source.old) (S.faults source.new) }
+    ensures source { ReadsOnly S.told S.left S.faults S.holds S.keeps part.Messages source.old source.new }
+{
+    let bytes = read_part(alloc, source, Part::Messages)?;
+    match messages_in(alloc, &setup.deposit, bytes.as_slice())? {
+        Some(messages) => Ok(messages),
+        None => Err(Refusal::NotBuilt(Part::Messages)),
+    }
+}
