@@ -13,3 +13,5 @@ pub mod Entries
 pub mod MessageLines
 pub mod Accounts
 pub mod SetupLemmas
+pub mod Stands
+pub mod Steps

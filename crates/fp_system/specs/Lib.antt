@@ -7,3 +7,4 @@ pub mod Definitions
 pub mod Scripts
 pub mod Parts
 pub mod Setups
+pub mod Serving

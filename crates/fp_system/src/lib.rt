@@ -7,6 +7,7 @@ mod messages;
 mod operands;
 mod parts;
 mod scripts;
+mod server;
 mod status;
 mod words;
 
