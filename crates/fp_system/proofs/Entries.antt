@@ -20,7 +20,7 @@ use Rattle.fp_model.specs.Product.{rules_of, request_of, if_script}
 use Rattle.fp_model.specs.Programs.{word_of, script_of}
 use Rattle.fp_model.specs.State.{key_of, key_length, segment_of}
 use Rattle.fp_model.specs.Texts.{padded, same_text}
-use Rattle.msdb_store.specs.Store.{Stored, IsOf, found}
+use Rattle.msdb_store.specs.Store.{Stored, IsFitSegment, IsOf, found}
 use Rattle.fp_system.specs.declared.deposit.Deposit.{Deposit}
 use Rattle.fp_system.specs.Small.{AreSmall, IsSmall, deposit_script}
 use Rattle.fp_system.specs.Deposits.{IsTaken, IsFor, deposited, new_segment, key_for, items_for, entry_for}
@@ -129,6 +129,13 @@ module _ (defs : Defs) (scripts : List Script) (d : Deposit) (is : IsSmall defs 
   items_fit : (made : Option (List ℕ)) → new_segment d m the_found ≡ made → AllByRecursion (IsFit defs) (the_items made)
   items_fit None e = tt
   items_fit (Some new) e = ((small.def, its_place defs small, new_fits the_found new refl e), tt)
+
+  item_fits : (made : Option (List ℕ)) → new_segment d m the_found ≡ made → AllByRecursion (IsFitSegment defs.msdbs) (the_items made)
+  item_fits None e = tt
+  item_fits (Some new) e = ((small.def, its_place defs small, new_fits the_found new refl e), tt)
+
+  pub segments_fit : (from : ℕ) → AllByRecursion (IsFitSegment defs.msdbs) (entry_for d m from the_found).items
+  segments_fit from = item_fits (new_segment d m the_found) refl
 
   -- ---- it can be written
 

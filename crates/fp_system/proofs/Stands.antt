@@ -9,6 +9,7 @@ use Rattle.fp_model.specs.declared.database.Db.{Db}
 use Rattle.fp_model.specs.declared.definitions.Defs.{Defs}
 use Rattle.fp_model.specs.declared.log.Entry.{Entry}
 use Rattle.fp_model.specs.declared.log.Item.{Item}
+use Rattle.fp_model.specs.declared.log.Item.TheVariants.{Segment, Image}
 use Rattle.fp_model.specs.Groups.{entries_of}
 use Rattle.fp_model.specs.History.{History, IsSerialHistory, Comes}
 use Rattle.fp_model.specs.Items.{IsFit, with_item, with_items}
@@ -22,7 +23,7 @@ use Rattle.fp_site.proofs.Images.{durable_settles, settles_left}
 use Rattle.log_groups.specs.Images.{IsLog, IsAtRest, with_log}
 use Rattle.log_groups.specs.Kept.{IsSound, IsSafe, GoesOn, items_of, lines_of_entries}
 use Rattle.log_groups.specs.Log.{LogState}
-use Rattle.msdb_store.specs.Store.{Stored, IsOf}
+use Rattle.msdb_store.specs.Store.{Stored, IsOf, IsFitSegment}
 use Rattle.fp_system.specs.Parts.{Job, front_for}
 use Rattle.fp_system.specs.Next.{ComesNext}
 use Rattle.fp_system.specs.Serving.{IsAccount, StandsAt, Serves, Halts}
@@ -56,12 +57,12 @@ one_group groups entries e all =
     ap (λ (es : List Entry). es ++ e ∷ []) all
     ∙ sym (flat_map-append (λ (es : List Entry). es) groups ((e ∷ []) ∷ []))
 
-items_more : (entries : List Entry) (e : Entry) → items_of (entries ++ e ∷ []) ≡ items_of entries ++ e.items
+pub items_more : (entries : List Entry) (e : Entry) → items_of (entries ++ e ∷ []) ≡ items_of entries ++ e.items
 items_more entries e =
     flat_map-append (λ (x : Entry). x.items) entries (e ∷ [])
     ∙ ap (λ (is : List Item). items_of entries ++ is) (flat_map-cons (λ (x : Entry). x.items) e [] ∙ append-nil e.items)
 
-all_append : {X : Type 0} (Q : X → Type 0) (xs ys : List X) → AllByRecursion Q xs → AllByRecursion Q ys → AllByRecursion Q (xs ++ ys)
+pub all_append : {X : Type 0} (Q : X → Type 0) (xs ys : List X) → AllByRecursion Q xs → AllByRecursion Q ys → AllByRecursion Q (xs ++ ys)
 all_append Q [] ys a b = b
 all_append Q (x ∷ xs) ys a b = (a.0, all_append Q xs ys a.1 b)
 
@@ -70,7 +71,7 @@ pub past_length : (job : Job) (entries : List Entry) (account : IsAccount job en
 past_length job entries account = let n = states_counted (rules_of job.defs job.scripts) [] (start job.defs) entries account.history.0 account.last account.history.1 in omega (arith, n)
 
 -- with the next entry
-pub account_more : (job : Job) (entries : List Entry) (account : IsAccount job entries) (line : List ℕ) (e : Entry) → ComesNext job.defs job.scripts account.history.0 account.last line e → IsAccount job (entries ++ e ∷ [])
+unfoldable pub account_more : (job : Job) (entries : List Entry) (account : IsAccount job entries) (line : List ℕ) (e : Entry) → ComesNext job.defs job.scripts account.history.0 account.last line e → IsAccount job (entries ++ e ∷ [])
 account_more job entries account line e next = record {
   last = next.next;
   history = (account.history.0 ++ account.last ∷ [], join (rules_of job.defs job.scripts) [] (start job.defs) entries (e ∷ []) account.history.0 account.last _ next.next account.history.1 (next.next, next.comes, (refl, refl)));
@@ -80,3 +81,9 @@ account_more job entries account line e next = record {
       ∙ fold-append (with_item job.defs.msdbs) (start job.defs).msdbs (items_of entries) e.items
       ∙ ap (λ ms. with_items job.defs.msdbs ms e.items) account.made ∙ next.made;
 }
+
+-- items that are fit may be put in a store
+pub fit_segments : (defs : Defs) (items : List Item) → AllByRecursion (IsFit defs) items → AllByRecursion (IsFitSegment defs.msdbs) items
+fit_segments defs [] all = tt
+fit_segments defs (Segment msdb key bytes ∷ items) all = (all.0, fit_segments defs items all.1)
+fit_segments defs (Image set ci bytes ∷ items) all = (tt, fit_segments defs items all.1)

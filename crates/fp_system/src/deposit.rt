@@ -1,4 +1,5 @@
 //! The transaction of this stage: a deposit.
+ghost use Rattle.std.specs.List.{AllByRecursion};
 ghost use Rattle.std.specs.Prelude.{◌≡◌, ℕ, List as ListOf, ◌+◌, ◌≤◌, ◌∷◌, [], IfOk, length, option_and_then};
 ghost use Rattle.fp_model.specs.declared.definitions.MsdbDef.{MsdbDef as DefOf};
 ghost use Rattle.fp_model.specs.declared.definitions.FieldKind.TheVariants.{P};
@@ -9,7 +10,7 @@ ghost use Rattle.fp_model.specs.declared.definitions.Defs.{Defs};
 ghost use Rattle.fp_model.specs.declared.scripts.Script.{Script};
 ghost use Rattle.fp_system.specs.Next.{ComesNext};
 ghost use Rattle.fp_system.specs.Small.{IsSmall};
-ghost use Rattle.msdb_store.specs.Store.{IsOf, found};
+ghost use Rattle.msdb_store.specs.Store.{IsFitSegment, IsOf, found};
 ghost use Rattle.fp_system.specs.Deposits.{IsFor, IsTaken, deposited, entry_for, key_for, items_for, new_field};
 
 use crate::operands::{sum_of, two_words};
@@ -166,6 +167,10 @@ impl Deposit {
         ensures comes { (defs : Defs) (scripts : ListOf Script) (past : ListOf Db) (now : Db)
             → IsSmall defs scripts self.now → IsOf defs.msdbs store.now → store.now.msdbs ≡ now.msdbs → from ≡ length past →
             IfOk result (ComesNext defs scripts past now message.now.line) }
+
+        // Its items may be put in the store.
+        ensures segments { (defs : Defs) (scripts : ListOf Script) → IsSmall defs scripts self.now → IsOf defs.msdbs store.now →
+            IfOk result (λ e. AllByRecursion (IsFitSegment defs.msdbs) e.items) }
 
         // It can be written.
         ensures rules { IfOk result (λ e. KeepsRules e) }
