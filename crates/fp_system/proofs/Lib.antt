@@ -15,3 +15,4 @@ pub mod Accounts
 pub mod SetupLemmas
 pub mod Stands
 pub mod Steps
+pub mod Loops
