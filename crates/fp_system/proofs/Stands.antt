@@ -20,7 +20,7 @@ use Rattle.fp_model.proofs.HistoryLemmas.{join, states_counted}
 use Rattle.fp_site.specs.Disk.{Disk, Snapshot, IsDurable, Settles, Sends, Elapses, IsLawful}
 use Rattle.fp_site.specs.Moments.{Through}
 use Rattle.fp_site.proofs.Images.{durable_settles, settles_left}
-use Rattle.log_groups.specs.Images.{IsLog, IsAtRest, with_log}
+use Rattle.log_groups.specs.Images.{IsLog, IsAtRest}
 use Rattle.log_groups.specs.Kept.{IsSound, IsSafe, GoesOn, items_of, lines_of_entries}
 use Rattle.log_groups.specs.Log.{LogState}
 use Rattle.msdb_store.specs.Store.{Stored, IsOf, IsFitSegment}

@@ -11,7 +11,7 @@ use Rattle.fp_site.specs.Moments.{OnlyOn, Through}
 use Rattle.fp_site.proofs.Frames.{Anyhow, only_through}
 use Rattle.fp_site.proofs.Images.{durable_sent, settles_contents}
 use Rattle.fp_site.proofs.Runs.{started, goes_on, both, weaker}
-use Rattle.log_groups.specs.Images.{IsLog, IsAtRest, IsBeforeOrAfter, with_log}
+use Rattle.log_groups.specs.Images.{IsLog, IsAtRest, IsBeforeOrAfter, IsWithOrWithout}
 use Rattle.log_groups.specs.Kept.{IsSound, IsSafe, GoesOn, lines_of_entries}
 use Rattle.log_groups.specs.Log.{LogState}
 use Rattle.msdb_store.specs.Store.{Stored, IsOf}
@@ -63,10 +63,13 @@ module _ (job : Job) (entries : List Entry) where
     abbrev more : List (List Entry)
     more = stands.groups ++ (e ∷ []) ∷ []
 
+    abbrev EitherImage : List ℕ → Type 0
+    EitherImage = IsWithOrWithout (front_for job) stands.groups log.gate (e ∷ [])
+
     -- a log with these groups or one more is sound
-    either_sound : (s : Snapshot) → Either s → Sound (s.images 0) entries ⊎ Sound (s.images 0) (entries ++ e ∷ [])
-    either_sound s (inl before) = inl (sound_log job entries (s.images 0) stands.groups log.gate stands.account stands.all before)
-    either_sound s (inr after) = inr (sound_log job (entries ++ e ∷ []) (s.images 0) more _ account (one_group stands.groups entries e stands.all) after)
+    either_sound : (image : List ℕ) → EitherImage image → Sound image entries ⊎ Sound image (entries ++ e ∷ [])
+    either_sound image (inl before) = inl (sound_log job entries image stands.groups log.gate stands.account stands.all before)
+    either_sound image (inr after) = inr (sound_log job (entries ++ e ∷ []) image more _ account (one_group stands.groups entries e stands.all) after)
 
     goes_by : (s : Snapshot) → (h.tells_sent → s.sent ≡ h.sent) → Sound (s.images 0) entries ⊎ Sound (s.images 0) (entries ++ e ∷ []) → P s
     goes_by s text (inl sound) = goes_none h s sound text
@@ -74,12 +77,12 @@ module _ (job : Job) (entries : List Entry) where
 
     module _ (h1 : Disk) (only : OnlyOn 0 h h1) (run : Through h h1 Either) where
       pub after_seal : Through h h1 P
-      after_seal = weaker (λ s. Either s × Differs h 0 Anyhow s) P h h1 (λ s both. goes_by s (λ told. both.1.sent told ∙ law.sent_now told both.1.before both.1.left) (either_sound s both.0)) (both Either (Differs h 0 Anyhow) h h1 run (only_through 0 h h1 law only))
+      after_seal = weaker (λ s. Either s × Differs h 0 Anyhow s) P h h1 (λ s both. goes_by s (λ told. both.1.sent told ∙ law.sent_now told both.1.before both.1.left) (either_sound (s.images 0) both.0)) (both Either (Differs h 0 Anyhow) h h1 run (only_through 0 h h1 law only))
 
       -- where the seal failed
-      module _ (law1 : IsLawful h1) (settles : (image : List ℕ) → Settles h1 0 image → Either (with_log image)) where
+      module _ (law1 : IsLawful h1) (settles : (image : List ℕ) → Settles h1 0 image → EitherImage image) where
         left_sound : (image : List ℕ) → Settles h1 0 image → (left : List Entry) × Sound image left
-        left_sound image s = ⊎_elim (λ sound. (entries, sound)) (λ sound. (entries ++ e ∷ [], sound)) (either_sound (with_log image) (settles image s))
+        left_sound image s = ⊎_elim (λ sound. (entries, sound)) (λ sound. (entries ++ e ∷ [], sound)) (either_sound image (settles image s))
 
         safe_by : (later : List Entry) → Sound (h1.contents 0) (entries ++ later) → Halts job entries h h1
         safe_by later sound = record { later = later; safe = record { now = sound; crash = left_sound }; count = 0; sent = only.now.sent ∙ sym (append-nil h.sent) }
@@ -87,7 +90,7 @@ module _ (job : Job) (entries : List Entry) where
         pub halts_unsealed : Halts job entries h h1
         halts_unsealed =
             ⊎_elim (λ sound. safe_by [] (subst (Sound (h1.contents 0)) (sym (append-nil entries)) sound)) (λ sound. safe_by (e ∷ []) sound)
-            (either_sound (with_log (h1.contents 0)) (settles (h1.contents 0) (settles_contents h1 0 law1)))
+            (either_sound (h1.contents 0) (settles (h1.contents 0) (settles_contents h1 0 law1)))
 
       -- and where it didn't
       module _ (law1 : IsLawful h1) (gate1 : ℕ) (rest : IsAtRest h1 (front_for job) more gate1) (line : List ℕ) (is : line ≡ line_of e) (h2 : Disk) (law2 : IsLawful h2) (same : h2.contents ≡ h1.contents) (send : Elapses h1 h2 (Sends h1 line)) where

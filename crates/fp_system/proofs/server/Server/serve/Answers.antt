@@ -2,7 +2,7 @@ use Rattle.std.proofs.Common.{◌≡◌, ◌+◌, ◌++◌, [], ◌∷◌, List,
 use Rattle.fp_model.specs.declared.log.Entry.{Entry}
 use Rattle.fp_site.specs.Disk.{Disk, Settles}
 use Rattle.fp_site.specs.Moments.{Through}
-use Rattle.log_groups.specs.Images.{IsAtRest, IsBeforeOrAfter, with_group, with_log}
+use Rattle.log_groups.specs.Images.{IsAtRest, IsBeforeOrAfter, IsWithOrWithout, with_group}
 use Rattle.fp_system.specs.Parts.{front_for}
 use Rattle.fp_system.specs.Serving.{IsReady, StandsAt, Serves, Halts}
 use Rattle.fp_system.proofs.Results.{at_err}
@@ -31,9 +31,9 @@ returns-in_err-seal-clause-err g c job entries t small stands =
     (subst (λ (es : List Entry). Through h h1 (IsBeforeOrAfter (front_for job) stands.groups c.prepare.new.self.log.gate (take 1 es))) ready.unsealed (c.seal.ensures.crash (front_for job) stands.groups t rest)) in
     let t1 = c.seal.ensures.told t in
     let law1 = g.met.T.Site.lawful c.seal.new.site t1 in
-    let settles : (image : List ℕ) → Settles h1 0 image → IsBeforeOrAfter (front_for job) stands.groups c.args.self.now.log.gate (e ∷ []) (with_log image) = λ image s.
-    subst (λ (n : ℕ). IsBeforeOrAfter (front_for job) stands.groups n (e ∷ []) (with_log image)) ready.gate_is
-    (subst (λ (es : List Entry). IsBeforeOrAfter (front_for job) stands.groups c.prepare.new.self.log.gate (take 1 es) (with_log image)) ready.unsealed (c.seal.ensures.settles (front_for job) stands.groups image t rest s)) in
+    let settles : (image : List ℕ) → Settles h1 0 image → IsWithOrWithout (front_for job) stands.groups c.args.self.now.log.gate (e ∷ []) image = λ image s.
+    subst (λ (n : ℕ). IsWithOrWithout (front_for job) stands.groups n (e ∷ []) image) ready.gate_is
+    (subst (λ (es : List Entry). IsWithOrWithout (front_for job) stands.groups c.prepare.new.self.log.gate (take 1 es) image) ready.unsealed (c.seal.ensures.settles (front_for job) stands.groups image t rest s)) in
     at_err c.from_residual-in_err-seal.result (Halts job entries h h1) (halts_unsealed job entries h c.args.self.now.store c.args.self.now.log law stands e ready.account h1 only run law1 settles)
 
 pub returns-in_err-seal-clause-crash : goal.returns-in_err-seal-clause-crash
