@@ -8,3 +8,4 @@ pub mod Scripts
 pub mod Parts
 pub mod Setups
 pub mod Serving
+pub mod Ims

@@ -1,6 +1,7 @@
 //! All that the program does, over any source and any site.
 #![tactic(auto)]
 
+mod acting;
 mod definitions;
 mod deposit;
 mod messages;
