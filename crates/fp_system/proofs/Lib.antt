@@ -16,3 +16,4 @@ pub mod SetupLemmas
 pub mod Stands
 pub mod Steps
 pub mod Loops
+pub mod Acted

@@ -5,7 +5,8 @@ use Rattle.std.specs.List.{list_all}
 use Rattle.std.specs.Option.{option_map_or}
 use Rattle.std.proofs.lemmas.Bool.{le-leb, lt-leb}
 use Rattle.fp_source.specs.declared.part.Part.{Part}
-use Rattle.fp_source.specs.declared.part.Part.TheVariants.{Definitions, Scripts}
+use Rattle.fp_source.specs.declared.part.Part.TheVariants.{Definitions, Scripts, Messages}
+use Rattle.fp_system.specs.declared.words.Command.TheVariants.{Run}
 use Rattle.fp_model.specs.declared.definitions.Defs.{Defs}
 use Rattle.fp_model.specs.declared.scripts.Script.{Script}
 use Rattle.fp_model.specs.declared.definitions.MsdbDef.{MsdbDef}
@@ -20,7 +21,7 @@ use Rattle.fp_system.specs.Small.{IsSmall, deposit_script, names_key, first_key_
 use Rattle.fp_system.specs.Deposits.{takes, takes_line}
 use Rattle.fp_system.proofs.Small.{its_place, its_key_length}
 use Rattle.fp_system.specs.Scripts.{scripts_in}
-use Rattle.fp_system.specs.Parts.{Job, Reading, Gives, Refuses, is_short, definitions_of, scripts_of, with_scripts, with_definitions, setup_of, are_taken}
+use Rattle.fp_system.specs.Parts.{Job, Reading, Gives, Refuses, is_short, definitions_of, scripts_of, with_scripts, with_definitions, setup_of, are_taken, with_messages, asked}
 
 -- definitions and scripts that are there give a job
 pub setup_is : (left : Part → List ℕ) (defs : Defs) (scripts : List Script) (text : List ℕ) → definitions_of (left Definitions) ≡ Some defs → text ≡ left Scripts → length text ≤ 1000000 → scripts_in defs text ≡ Some scripts
@@ -73,3 +74,11 @@ taken_by job d bytes v is short e = ap (λ (b : Bool). b && list_all (is_taken j
 -- and isn't where it is too long
 pub too_long : (job : Job) (bytes : List ℕ) → 1000000 < length bytes → are_taken job bytes ≡ false
 too_long job bytes long = ap (λ (b : Bool). b && list_all (is_taken job.defs job.scripts) (lines_of bytes)) (lt-leb (length bytes) 1000000 long)
+
+-- a run whose lines are taken has its job,
+pub run_is : (left : Part → List ℕ) (job : Job) → setup_of left ≡ Gives job → are_taken job (left Messages) ≡ true → asked Run left ≡ Gives job
+run_is left job e taken = ap (λ (r : Reading). with_messages r (left Messages)) e ∙ ap (λ (b : Bool). if b then Gives job else Refuses Messages) taken
+
+-- and one of which a line isn't has none
+pub run_refused : (left : Part → List ℕ) (job : Job) → setup_of left ≡ Gives job → are_taken job (left Messages) ≡ false → asked Run left ≡ Refuses Messages
+run_refused left job e taken = ap (λ (r : Reading). with_messages r (left Messages)) e ∙ ap (λ (b : Bool). if b then Gives job else Refuses Messages) taken

@@ -7,7 +7,8 @@ ghost use Rattle.fp_model.specs.declared.calls.Message.{Message as MessageOf};
 ghost use Rattle.fp_model.specs.declared.scripts.Script.{Script};
 ghost use Rattle.fp_system.specs.Definitions.{defs_in};
 ghost use Rattle.fp_system.specs.Deposits.{IsTaken};
-ghost use Rattle.fp_system.specs.Parts.{Gives, Job, Refuses, are_taken, definitions_of, scripts_of, setup_of};
+ghost use Rattle.fp_system.specs.declared.words.Command.TheVariants as command;
+ghost use Rattle.fp_system.specs.Parts.{Gives, Job, Refuses, are_taken, asked, definitions_of, scripts_of, setup_of};
 ghost use Rattle.fp_system.specs.Scripts.{IsRead, scripts_in};
 ghost use Rattle.fp_system.specs.Setups.{IsSetup, IsSetupOf};
 ghost use Rattle.fp_system.specs.declared.parts.Refusal.TheVariants as refusal;
@@ -170,4 +171,28 @@ pub(crate) fn read_messages<S: Source>(
         Some(messages) => Ok(messages),
         None => Err(Refusal::NotBuilt(Part::Messages)),
     }
+}
+
+/// What the parts ask for where the command is `run`: the setup, and the messages.
+pub(crate) fn read_run<S: Source>(
+    alloc: Global,
+    source: &mut S,
+) -> Result<(Setup, List<Message>), Refusal>
+    ensures ok { (job : Job) → S.told source.old → asked command.Run (S.left source.old) ≡ Gives job → IfOk result (λ read. IsSetupOf job read.0) }
+    ensures lines { S.told source.old → IfOk result (λ read. map (λ (m : MessageOf). m.line) read.1 ≡ lines_of (S.left source.old part.Messages)) }
+    ensures given { S.told source.old → OnOk result ((job : Job) × (asked command.Run (S.left source.old) ≡ Gives job)) }
+    ensures setup { IfOk result (λ read. IsSetup read.0) }
+    ensures each { IfOk result (λ read. AllByRecursion (IsTaken read.0.deposit) read.1) }
+
+    // The first part that isn't built.
+    ensures not_built { (p : PartOf) → S.told source.old → IsErrOf result (refusal.NotBuilt p) → asked command.Run (S.left source.old) ≡ Refuses p }
+    ensures cause { IsErrOf result refusal.ReadFault → Rose (S.faults source.old) (S.faults source.new) }
+    ensures later { S.faults source.old ≤ S.faults source.new }
+    ensures told { S.told source.old → S.told source.new }
+    ensures holds { S.holds source.new ≡ S.holds source.old }
+    ensures keeps { (first : S) → S.keeps first source.old → S.keeps first source.new }
+{
+    let setup = read_setup(alloc, source)?;
+    let messages = read_messages(alloc, source, &setup)?;
+    Ok((setup, messages))
 }
