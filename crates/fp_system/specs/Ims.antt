@@ -1,5 +1,5 @@
 -- What the top call promises.
-use Rattle.std.specs.Prelude.{◌≡◌, ◌⊎◌, ⊤, ℕ, List, [], ◌++◌, map, option_map, Option, Some, None}
+use Rattle.std.specs.Prelude.{◌≡◌, ◌⊎◌, ⊤, ℕ, ◌≤◌, List, [], ◌++◌, map, option_map, Option, Some, None}
 use Rattle.fp_source.specs.declared.part.Part.{Part}
 use Rattle.fp_model.specs.declared.log.Entry.{Entry}
 use Rattle.fp_model.specs.LogText.{StartsWithFront}
@@ -7,6 +7,8 @@ use Rattle.fp_restart.specs.declared.fault.RestartFault.{RestartFault}
 use Rattle.fp_restart.specs.declared.fault.RestartFault.TheVariants as fault
 use Rattle.fp_site.specs.Disk.{Disk}
 use Rattle.log_groups.specs.Kept.{IsSafe, lines_of_entries}
+use Rattle.fp_system.specs.declared.parts.Refusal.{Refusal}
+use Rattle.fp_system.specs.declared.parts.Refusal.TheVariants as refusal
 use Rattle.fp_system.specs.declared.status.Status.{Status}
 use Rattle.fp_system.specs.declared.status.Status.TheVariants.{Done, Usage, ReadFault, SiteFault, Foreign, Damaged, NoMemory, NotBuilt}
 use Rattle.fp_system.specs.declared.words.Command.{Command}
@@ -63,3 +65,16 @@ status_of_fault fault.Foreign = Foreign
 status_of_fault fault.SiteFault = SiteFault
 status_of_fault (fault.Damaged set at) = Damaged set at
 status_of_fault fault.Memory = NoMemory
+
+-- By what is told and by the numbers: calls were made of a source or a site, and it is the same one.
+pub record IsSame {X : Type 0} (told : X → Type 0) (faults : X → ℕ) (holds : X → ℕ) (keeps : X → X → Type 0) (old new : X) : Type 0 where
+  pub later : faults old ≤ faults new
+  pub still_told : told old → told new
+  pub reference : holds new ≡ holds old
+  pub kept : (first : X) → keeps first old → keeps first new
+
+-- the status of a refusal of the parts
+abbrev pub status_of_refusal : Refusal → Status
+status_of_refusal (refusal.NotBuilt part) = NotBuilt part
+status_of_refusal refusal.ReadFault = ReadFault
+status_of_refusal refusal.Memory = NoMemory

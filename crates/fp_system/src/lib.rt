@@ -10,6 +10,8 @@ mod parts;
 mod scripts;
 mod server;
 mod status;
+mod top;
 mod words;
 
 pub use status::{Status, fault_text};
+pub use top::ims;
