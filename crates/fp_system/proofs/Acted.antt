@@ -144,3 +144,20 @@ module _ (job : Job) (h h1 : Disk) (entries : List Entry) (law1 : IsLawful h1) (
         count = length (lines_of_entries serves.later);
         sent = answered.sent ∙ ap (λ (t : List ℕ). h.sent ++ t) (sym (take_all (length (lines_of_entries serves.later)) (lines_of_entries serves.later) (omega arith)));
       }
+
+-- ---- where nothing was done
+
+pub halts_safe : (job : Job) (h : Disk) (entries : List Entry) → IsSafe job.defs job.scripts job.scripts_text h entries → Halts job entries h h
+halts_safe job h entries safe = record {
+  later = [];
+  safe = subst (IsSafe job.defs job.scripts job.scripts_text h) (sym (append-nil entries)) safe;
+  count = 0;
+  sent = sym (append-nil h.sent);
+}
+
+-- what a crash may leave, a sync may leave
+same_synced : (h : Disk) (s : Snapshot) → h.may_leave s → Syncs h 0 s
+same_synced h s left = record { before = s; left = left; this = settles_left h 0 s left; others = λ k ne. refl; sent = λ told. refl }
+
+pub kept_safe : (job : Job) (h : Disk) (entries : List Entry) → IsLawful h → Through h h (IsKept job.defs job.scripts job.scripts_text h entries)
+kept_safe job h entries law = started (IsKept job.defs job.scripts job.scripts_text h entries) h law (λ s left. inl (same_synced h s left))
