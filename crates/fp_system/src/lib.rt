@@ -15,3 +15,6 @@ mod words;
 
 pub use status::{Status, fault_text};
 pub use top::ims;
+
+#[cfg(test)]
+mod tests;

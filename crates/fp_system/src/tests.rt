@@ -1,0 +1,166 @@
+//! What the program says and does: words, refused parts, a new site, and deposits in the log and at the terminal.
+ghost use Rattle.fp_system.specs.Deposits.{IsFor};
+ghost use Rattle.fp_system.specs.Setups.{IsSetup};
+ghost use Rattle.std.specs.Prelude.{◌≡◌, IfOk};
+
+use crate::parts::{Setup, read_setup};
+use crate::messages::messages_in;
+use crate::server::Server;
+use crate::{Status, fault_text, ims};
+use fp_model::Bytes;
+use fp_site::MemorySite;
+use fp_source::{MemorySource, Part};
+use log_groups::Log;
+use msdb_store::MsdbStore;
+use std::alloc::{AllocError, Global};
+use std::test::Fail;
+
+const DEFINITIONS: &str = "regions = [1]\nrouter = \"FOLD\"\n[[msdb]]\nname = \"ACCTS\"\nfields = [[\"ACCT\", \"C\", 4], [\"BAL\", \"P\", 4]]\nload = [[\"A001\", \"100\"], [\"A002\", \"50\"]]\n";
+const SCRIPTS: &str = "TRAN DEPOSIT\nFLD ACCTS KEY(#1) BAL + #2\nREPLY 'NEW'\n";
+
+// A source of these parts, of which the calls with these numbers fail.
+fn source(
+    alloc: Global,
+    definitions: &str,
+    scripts: &str,
+    messages: &str,
+    failing: &[u64],
+) -> Result<MemorySource, AllocError> {
+    let parts = [
+        Bytes::from_slice(alloc, definitions.as_bytes())?,
+        Bytes::from_slice(alloc, scripts.as_bytes())?,
+        Bytes::new(alloc),
+        Bytes::from_slice(alloc, messages.as_bytes())?,
+    ];
+    MemorySource::new(alloc, parts, failing)
+}
+
+fn words(alloc: Global, texts: &[&str]) -> Result<Vec<String>, AllocError> {
+    let mut words = Vec::new(alloc);
+    for text in texts {
+        words.push(text.to_string(alloc)?)?;
+    }
+    Ok(words)
+}
+
+// What a command answers over these parts and a new site, which it leaves as it was.
+fn refused(
+    alloc: Global,
+    texts: &[&str],
+    definitions: &str,
+    scripts: &str,
+    messages: &str,
+) -> Result<(Status, bool), AllocError> {
+    let mut source = source(alloc, definitions, scripts, messages, &[])?;
+    let mut site = MemorySite::new(alloc, &[])?;
+    let status = ims(alloc, &words(alloc, texts)?, &mut source, &mut site);
+    Ok((status, site.contents(0).is_empty() && site.sent().is_empty()))
+}
+
+#[test]
+fn words_in_no_form_are_usage(rt: HostRuntime) -> Result<(), Fail> {
+    let forms: [&[&str]; 9] = [
+        &[],
+        &["run"],
+        &["define"],
+        &["run", ""],
+        &["run", "-h"],
+        &["-run", "D"],
+        &["show", "D"],
+        &["Run", "D"],
+        &["run", "D", "E"],
+    ];
+    for form in forms {
+        let answer = refused(rt.alloc(), form, DEFINITIONS, SCRIPTS, "")?;
+        assert_eq!(rt; answer, (Status::Usage, true), "at {form:?}");
+    }
+    Ok(())
+}
+
+#[test]
+fn the_first_part_that_is_not_built_is_told(rt: HostRuntime) -> Result<(), Fail> {
+    let other = "regions = [1, 1]\n";
+    let good = "T1 DEPOSIT A001 10\n";
+    for (command, definitions, scripts, messages, part) in [
+        ("define", "", SCRIPTS, good, Part::Definitions),
+        ("define", other, "", "", Part::Definitions),
+        ("define", DEFINITIONS, "", "", Part::Scripts),
+        ("run", other, "", "", Part::Definitions),
+        ("run", DEFINITIONS, "TRAN A\nBOGUS\n", "X\n", Part::Scripts),
+        ("run", DEFINITIONS, SCRIPTS, "\n", Part::Messages),
+        ("run", DEFINITIONS, SCRIPTS, "T1\n", Part::Messages),
+        ("run", DEFINITIONS, SCRIPTS, "T1 DEPOSIT\n", Part::Messages),
+        ("run", DEFINITIONS, SCRIPTS, "T1 DEPOSIT A001\n", Part::Messages),
+        ("run", DEFINITIONS, SCRIPTS, "T1 DEPOSIT A001 1 2\n", Part::Messages),
+        ("run", DEFINITIONS, SCRIPTS, "T1 DEPOSIT A0011 1\n", Part::Messages),
+        ("run", DEFINITIONS, SCRIPTS, "T1 OTHER A001 1\n", Part::Messages),
+        ("run", DEFINITIONS, SCRIPTS, "T1 DEPOSIT A001 1\nT2", Part::Messages),
+    ] {
+        let answer = refused(rt.alloc(), &[command, "D"], definitions, scripts, messages)?;
+        assert_eq!(rt; answer, (Status::NotBuilt(part), true), "at {command} {messages:?}");
+    }
+    Ok(())
+}
+
+#[test]
+fn each_status_has_its_number_and_text(rt: HostRuntime) -> Result<(), Fail> {
+    for (status, number, text) in [
+        (Status::Done, 0, ""),
+        (Status::Usage, 1, "usage: ims_fp define DIR | run DIR"),
+        (Status::ReadFault, 5, "read fault"),
+        (Status::SiteFault, 6, "site fault"),
+        (Status::Foreign, 7, "foreign log"),
+        (Status::Damaged { set: 0, at: 208 }, 8, "damaged: data set 0 at 208"),
+        (Status::NoMemory, 10, "no memory"),
+        (Status::NotBuilt(Part::Definitions), 11, "not built: definitions"),
+        (Status::NotBuilt(Part::Scripts), 11, "not built: scripts"),
+        (Status::NotBuilt(Part::Messages), 11, "not built: messages"),
+    ] {
+        assert_eq!(rt; status.number(), number, "at {text:?}");
+        assert_eq!(rt; fault_text(rt.alloc(), &status)?.as_slice(), text.as_bytes(), "at {number}");
+    }
+    Ok(())
+}
+
+// The bytes of a log of these definitions and scripts, up to its first gate.
+fn front_bytes(alloc: Global) -> Result<Vec<u8>, AllocError> {
+    let mut bytes = b"\x01IMSFPLG1".to_vec(alloc)?;
+    for text in [DEFINITIONS, SCRIPTS] {
+        bytes.extend_from_slice(&(text.len() as u32).to_be_bytes())?;
+        bytes.extend_from_slice(text.as_bytes())?;
+    }
+    Ok(bytes)
+}
+
+#[test]
+fn a_new_site_has_a_front_and_a_closed_gate(rt: HostRuntime) -> Result<(), Fail> {
+    let alloc = rt.alloc();
+    let mut source = source(alloc, DEFINITIONS, SCRIPTS, "", &[])?;
+    let mut site = MemorySite::new(alloc, &[])?;
+    let status = ims(alloc, &words(alloc, &["define", "D"])?, &mut source, &mut site);
+    assert_eq!(rt; status, Status::Done);
+    let mut wanted = front_bytes(alloc)?;
+    wanted.push(0)?;
+    assert_eq!(rt; site.contents(0), wanted.as_slice());
+    assert_eq!(rt; site.sent(), b"".as_slice());
+    Ok(())
+}
+
+#[test]
+fn each_failing_call_is_told(rt: HostRuntime) -> Result<(), Fail> {
+    let alloc = rt.alloc();
+    for call in 0..4 {
+        let mut source = source(alloc, DEFINITIONS, SCRIPTS, "", &[call])?;
+        let mut site = MemorySite::new(alloc, &[])?;
+        let status = ims(alloc, &words(alloc, &["define", "D"])?, &mut source, &mut site);
+        assert_eq!(rt; (status, source.faults()), (Status::ReadFault, 1), "at read {call}");
+        assert_eq!(rt; site.contents(0), b"".as_slice(), "at read {call}");
+    }
+    for call in 0..8 {
+        let mut source = source(alloc, DEFINITIONS, SCRIPTS, "", &[])?;
+        let mut site = MemorySite::new(alloc, &[call])?;
+        let status = ims(alloc, &words(alloc, &["define", "D"])?, &mut source, &mut site);
+        assert_eq!(rt; (status, site.faults()), (Status::SiteFault, 1), "at call {call}");
+    }
+    Ok(())
+}
