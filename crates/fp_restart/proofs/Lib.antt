@@ -4,4 +4,4 @@ mod Formats
 pub mod Groups
 mod Looking
 pub mod Replays
-mod Synced
+mod Results
