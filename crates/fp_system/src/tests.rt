@@ -8,7 +8,7 @@ use crate::messages::messages_in;
 use crate::server::Server;
 use crate::{Status, fault_text, ims};
 use fp_model::Bytes;
-use fp_site::MemorySite;
+use fp_site::{MemorySite, Site};
 use fp_source::{MemorySource, Part};
 use log_groups::Log;
 use msdb_store::MsdbStore;
@@ -162,5 +162,107 @@ fn each_failing_call_is_told(rt: HostRuntime) -> Result<(), Fail> {
         let status = ims(alloc, &words(alloc, &["define", "D"])?, &mut source, &mut site);
         assert_eq!(rt; (status, site.faults()), (Status::SiteFault, 1), "at call {call}");
     }
+    Ok(())
+}
+
+// What a command answers over the sample's definitions and scripts, these messages and this site.
+fn answer(
+    alloc: Global,
+    command: &str,
+    messages: &str,
+    site: &mut MemorySite,
+) -> Result<Status, AllocError> {
+    let mut source = source(alloc, DEFINITIONS, SCRIPTS, messages, &[])?;
+    Ok(ims(alloc, &words(alloc, &[command, "D"])?, &mut source, site))
+}
+
+const FIRST_GROUP: &[u8] = b"\x01\x00\x00\x00\x00\x00\x00\x00\x4b\x00\x00\x00\x00\x00\x00\x00\x43\x00\x00\x00\x00\x00\x00\x00\x00\x00\x00\x12T1 DEPOSIT A001 10\x00\x03NEW\x00\x00\x00\x01\x00\x00\x00\x00\x00\x00\x00\x00\x00\x00\x00\x01\x01\x00\x04A001\x00\x08A001\x00\x00\x11\x0c";
+const SECOND_GROUP: &[u8] = b"\x01\x00\x00\x00\x00\x00\x00\x00\x4a\x00\x00\x00\x00\x00\x00\x00\x42\x00\x00\x00\x00\x00\x00\x00\x01\x00\x00\x11T1 DEPOSIT A001 5\x00\x03NEW\x00\x00\x00\x01\x00\x00\x00\x00\x00\x00\x00\x01\x00\x00\x00\x01\x01\x00\x04A001\x00\x08A001\x00\x00\x11\x5c";
+
+#[test]
+fn two_runs_are_two_groups(rt: HostRuntime) -> Result<(), Fail> {
+    let alloc = rt.alloc();
+    let mut site = MemorySite::new(alloc, &[])?;
+    assert_eq!(rt; answer(alloc, "define", "", &mut site)?, Status::Done);
+    let mut wanted = front_bytes(alloc)?;
+    wanted.push(0)?;
+    assert_eq!(rt; answer(alloc, "run", "", &mut site)?, Status::Done);
+    assert_eq!(rt; (site.contents(0), site.sent()), (wanted.as_slice(), b"".as_slice()));
+
+    let first = "T1 DEPOSIT A001 10\n";
+    assert_eq!(rt; answer(alloc, "run", first, &mut site)?, Status::Done);
+    wanted.truncate(wanted.len() - 1);
+    wanted.extend_from_slice(FIRST_GROUP)?;
+    wanted.push(0)?;
+    assert_eq!(rt; (site.contents(0), site.sent()), (wanted.as_slice(), b"T1 OK NEW\n".as_slice()));
+
+    let second = "T1 DEPOSIT A001 5\n";
+    assert_eq!(rt; answer(alloc, "run", second, &mut site)?, Status::Done);
+    wanted.truncate(wanted.len() - 1);
+    wanted.extend_from_slice(SECOND_GROUP)?;
+    wanted.push(0)?;
+    assert_eq!(rt; site.contents(0), wanted.as_slice());
+    assert_eq!(rt; site.sent(), b"T1 OK NEW\nT1 OK NEW\n".as_slice());
+    Ok(())
+}
+
+// The entries of messages that change nothing have no item: the group ends with the number of items.
+#[test]
+fn a_deposit_that_cannot_be_changes_nothing(rt: HostRuntime) -> Result<(), Fail> {
+    let alloc = rt.alloc();
+    for message in [
+        "T1 DEPOSIT A009 10\n",
+        "T1 DEPOSIT A ten\n",
+        "T1 DEPOSIT A001 ten\n",
+        "T1 DEPOSIT A001 -\n",
+        "T1 DEPOSIT A001 1-\n",
+        "T1 DEPOSIT A001 9999900\n",
+        "T1 DEPOSIT A001 99999999999999999999999999999999\n",
+        "T1 DEPOSIT A001 9999999999999999999999999999999\n",
+    ] {
+        let mut site = MemorySite::new(alloc, &[])?;
+        assert_eq!(rt; answer(alloc, "define", "", &mut site)?, Status::Done);
+        assert_eq!(rt; answer(alloc, "run", message, &mut site)?, Status::Done, "at {message:?}");
+        let log = site.contents(0);
+        assert_eq!(rt; &log[log.len() - 5..], b"\x00\x00\x00\x00\x00".as_slice(), "at {message:?}");
+        assert_eq!(rt; site.sent(), b"T1 OK NEW\n".as_slice(), "at {message:?}");
+    }
+    Ok(())
+}
+
+#[test]
+fn a_deposit_changes_its_segment(rt: HostRuntime) -> Result<(), Fail> {
+    let alloc = rt.alloc();
+    for (message, segment) in [
+        ("T1 DEPOSIT A002 0\n", b"A002\x00\x00\x05\x0c".as_slice()),
+        ("T1\tDEPOSIT\tA002   -50  \n", b"A002\x00\x00\x00\x0c".as_slice()),
+        ("T1 DEPOSIT A002 -51", b"A002\x00\x00\x00\x1d".as_slice()),
+        ("T1 DEPOSIT A001 9999899\r\n", b"A001\x99\x99\x99\x9c".as_slice()),
+        ("T1 DEPOSIT A001 0000000000000000000000000000001\n", b"A001\x00\x00\x10\x1c".as_slice()),
+    ] {
+        let mut site = MemorySite::new(alloc, &[])?;
+        assert_eq!(rt; answer(alloc, "define", "", &mut site)?, Status::Done);
+        assert_eq!(rt; answer(alloc, "run", message, &mut site)?, Status::Done, "at {message:?}");
+        let log = site.contents(0);
+        assert_eq!(rt; &log[log.len() - 9..log.len() - 1], segment, "at {message:?}");
+    }
+    Ok(())
+}
+
+#[test]
+fn a_foreign_and_a_damaged_log_are_told(rt: HostRuntime) -> Result<(), Fail> {
+    let alloc = rt.alloc();
+    let mut site = MemorySite::new(alloc, &[])?;
+    assert_eq!(rt; answer(alloc, "run", "", &mut site)?, Status::Foreign);
+    assert_eq!(rt; answer(alloc, "define", "", &mut site)?, Status::Done);
+
+    let gate = site.contents(0).len() as u64 - 1;
+    assert_eq!(rt; site.write_at(0, gate, b"\x01\x00\x00\x00\x00"), Ok(()));
+    assert_eq!(rt; answer(alloc, "run", "", &mut site)?, Status::Damaged { set: 0, at: gate });
+
+    assert_eq!(rt; site.write_at(0, gate - 1, b"x"), Ok(()));
+    let before = site.contents(0).to_vec(alloc)?;
+    assert_eq!(rt; answer(alloc, "run", "T1 DEPOSIT A001 1\n", &mut site)?, Status::Foreign);
+    assert_eq!(rt; (site.contents(0), site.sent()), (before.as_slice(), b"".as_slice()));
     Ok(())
 }
