@@ -1,13 +1,11 @@
 -- The definitions and scripts that are taken so far have the small shape.
-use Rattle.std.proofs.Common.{◌≡◌, refl, sym, ap, subst, ◌∙◌, arith, ℕ, zero, suc, ◌+◌, ◌≤◌, ◌<◌, List, [], ◌∷◌, ◌++◌, length, map, Bool, true, false, if◌then◌else◌, Option, Some, None, codes, slice_index_or}
+use Rattle.std.proofs.Common.{◌≡◌, refl, sym, ap, subst, ◌∙◌, arith, ℕ, zero, suc, ◌≤◌, ◌<◌, List, [], ◌∷◌, Bool, true, false, if◌then◌else◌, Some, None, codes, slice_index_or}
 use Rattle.std.specs.Prelude.{pos, Contains}
-use Rattle.std.specs.List.{IsDistinct, AllByRecursion}
+use Rattle.std.specs.List.{IsDistinct}
 use Rattle.std.specs.Cmp.Lexicographic.{bytes_decides}
 use Rattle.fp_model.specs.declared.definitions.Defs.{Defs}
-use Rattle.fp_model.specs.declared.definitions.MsdbDef.{MsdbDef}
-use Rattle.fp_model.specs.WellFormed.{AreDefs, AreGroups, AreDistinct, IsMsdbDef, IsLayout, IsLoaded}
+use Rattle.fp_model.specs.WellFormed.{AreDefs, AreGroups, IsMsdbDef}
 use Rattle.fp_model.specs.Texts.{same_text}
-use Rattle.fp_system.specs.declared.deposit.Deposit.{Deposit}
 use Rattle.fp_system.specs.Definitions.{defs_in, defs_text, accounts, account, balance, accounts_alone}
 use Rattle.fp_system.specs.Scripts.{IsRead, scripts_in, scripts_text, the_deposit}
 use Rattle.fp_system.specs.Small.{AreSmall, IsSmall, deposit_script}
@@ -18,6 +16,7 @@ one_group = (((omega arith, omega arith), tt), among)
     at_first : (greatest k : ℕ) → k < 1 → slice_index_or (1 ∷ []) k greatest ≡ greatest → 1 ≡ greatest
     at_first greatest zero lt e = e
     at_first greatest (suc k) lt e = absurd (omega arith)
+
     among : (group greatest : ℕ) → Contains (1 ∷ []) greatest → 1 ≤ group → group ≤ greatest → Contains (1 ∷ []) group
     among group greatest has low high = let e = at_first greatest has.0 has.1 has.2 in (0, omega arith, omega arith)
 

@@ -1,5 +1,5 @@
 -- What restarting and then serving leave of a safe site.
-use Rattle.std.proofs.Common.{◌≡◌, inl, inr, refl, sym, ap, subst, ◌∙◌, arith, ℕ, ◌+◌, ◌≤◌, List, [], ◌∷◌, ◌++◌, length, map, take}
+use Rattle.std.proofs.Common.{◌≡◌, inl, inr, refl, sym, ap, subst, ◌∙◌, arith, ℕ, List, [], ◌++◌, length, take}
 use Rattle.std.proofs.lemmas.List.{append-nil, take_all}
 use Rattle.fp_model.specs.declared.definitions.Defs.{Defs}
 use Rattle.fp_model.specs.declared.log.Entry.{Entry}
@@ -17,9 +17,8 @@ use Rattle.log_groups.specs.Kept.{IsSound, IsSafe, IsKept, GoesOn, lines_of_entr
 use Rattle.log_groups.specs.Log.{LogState}
 use Rattle.msdb_store.specs.Store.{Stored}
 use Rattle.fp_system.specs.declared.parts.Setup.{Setup}
-use Rattle.fp_system.specs.declared.status.Status.{Status}
 use Rattle.fp_system.specs.declared.status.Status.TheVariants as status
-use Rattle.fp_system.specs.Ims.{IsAnswered, IsFault, IsOr, status_of_fault}
+use Rattle.fp_system.specs.Ims.{IsAnswered, IsOr, status_of_fault}
 use Rattle.fp_system.specs.Parts.{Job, front_for}
 use Rattle.fp_system.specs.Serving.{IsAccount, StandsAt, Serves, Halts}
 use Rattle.fp_system.specs.Setups.{IsSetupOf}

@@ -1,23 +1,20 @@
 -- What the script of a deposit asks and replies, and what it costs.
-use Rattle.std.proofs.Common.{◌≡◌, refl, sym, ap, subst, ◌∙◌, arith, ℕ, suc, ◌≤◌, List, [], ◌∷◌, ◌++◌, length, Bool, true, false, ◌&&◌, if◌then◌else◌, Option, Some, None, slice_get}
-use Rattle.std.specs.Prelude.{nat_le}
+use Rattle.std.proofs.Common.{◌≡◌, refl, arith, ℕ, ◌≤◌, List, [], ◌∷◌, length, true, Some, slice_get}
 use Rattle.std.specs.List.{list_all}
 use Rattle.std.proofs.lemmas.Bool.{le-leb}
 use Rattle.std.proofs.lemmas.List.{append-nil}
 use Rattle.fp_model.specs.declared.definitions.Defs.{Defs}
 use Rattle.fp_model.specs.declared.definitions.MsdbDef.{MsdbDef}
-use Rattle.fp_model.specs.declared.definitions.FieldDef.{FieldDef}
 use Rattle.fp_model.specs.declared.calls.Answer.{Answer}
 use Rattle.fp_model.specs.declared.calls.Call.{Call}
 use Rattle.fp_model.specs.declared.calls.Call.TheVariants as call
 use Rattle.fp_model.specs.declared.calls.Message.{Message}
 use Rattle.fp_model.specs.declared.scripts.Operand.TheVariants.{Text, Word}
-use Rattle.fp_model.specs.declared.scripts.FsaText.{FsaText}
 use Rattle.fp_model.specs.declared.scripts.Statement.TheFolds.{fold-roll-Statement}
 use Rattle.fp_model.specs.Fsas.{Fsa, list_text}
 use Rattle.fp_model.specs.State.{key_length}
 use Rattle.fp_model.specs.Texts.{padded, is_printable}
-use Rattle.fp_model.specs.Programs.{Ask, Asks, Replies, Env, short_enough, fitted, layout_of, Layout, word_of, text_of, key_text, fsas_given, fld_call, reply_text, joined_texts, ask, full_cost, at_top, called}
+use Rattle.fp_model.specs.Programs.{Asks, Replies, Env, short_enough, layout_of, word_of, key_text, fsas_given, fld_call, reply_text, ask, full_cost, at_top}
 use Rattle.fp_model.proofs.ProgramLemmas.{run_roll}
 use Rattle.fp_system.specs.declared.deposit.Deposit.{Deposit}
 use Rattle.fp_system.specs.Small.{deposit_script}

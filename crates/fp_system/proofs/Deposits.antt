@@ -1,48 +1,41 @@
 -- A deposit alone: what its script comes to, and that its entry may come.
-use Rattle.std.proofs.Common.{◌≡◌, refl, sym, ap, subst, ◌∙◌, arith, inl, inr, ℕ, zero, suc, ◌+◌, ◌-◌, ◌≤◌, ◌<◌, List, [], ◌∷◌, ◌++◌, length, take, drop, Bool, true, false, ◌&&◌, if◌then◌else◌, Option, Some, None, IfSome, min, slice_get, unwrap_or, All, length-append}
-use Rattle.std.specs.Prelude.{◌==◌, nat_le, is_some, is_none, find, slice_set, option_map, option_and_then, codes, Ok}
-use Rattle.std.specs.List.{list_all, AllByRecursion, AllZip}
+use Rattle.std.proofs.Common.{◌≡◌, refl, sym, ap, subst, ◌∙◌, arith, ℕ, zero, suc, ◌+◌, ◌≤◌, ◌<◌, List, [], ◌∷◌, ◌++◌, length, take, drop, Bool, true, false, if◌then◌else◌, Option, Some, None, IfSome, min, slice_get, All, length-append}
+use Rattle.std.specs.Prelude.{◌==◌, is_some, slice_set, option_map, codes}
 use Rattle.std.specs.Option.{option_map_or}
 use Rattle.std.proofs.lemmas.List.{length-take}
-use Rattle.std.proofs.lemmas.Bool.{le-leb}
 use Rattle.std.proofs.Math.Bool.{and-true}
 use Rattle.std.proofs.lemmas.Bool.Decides.{nat_tests}
 use Rattle.fp_model.specs.declared.database.Db.{Db}
 use Rattle.fp_model.specs.declared.database.Msdb.{Msdb}
 use Rattle.fp_model.specs.declared.definitions.Defs.{Defs}
 use Rattle.fp_model.specs.declared.definitions.FieldDef.{FieldDef}
-use Rattle.fp_model.specs.declared.definitions.MsdbDef.{MsdbDef}
 use Rattle.fp_model.specs.declared.definitions.DedbDef.{DedbDef}
 use Rattle.fp_model.specs.declared.definitions.FieldKind.TheVariants.{P}
 use Rattle.fp_model.specs.declared.calls.Answer.{Answer}
 use Rattle.fp_model.specs.declared.calls.Call.{Call}
-use Rattle.fp_model.specs.declared.calls.Call.TheVariants as call
-use Rattle.fp_model.specs.declared.calls.Deferred.{Deferred}
 use Rattle.fp_model.specs.declared.calls.Deferred.TheVariants as deferred
 use Rattle.fp_model.specs.declared.calls.Message.{Message}
-use Rattle.fp_model.specs.declared.log.Entry.{Entry}
 use Rattle.fp_model.specs.declared.scripts.Script.{Script}
 use Rattle.fp_model.specs.Answers.{Replied, blank, lettered}
 use Rattle.fp_model.specs.Calls.{reply_to, looks_unheld, msdb_at}
-use Rattle.fp_model.specs.Commit.{Settlement, Commits, settlement}
-use Rattle.fp_model.specs.Fsas.{with_change, found_by, fsa_on, field_of, Fsa, IsFsa, Whole, Failure, Tried, list_text, fsas_of, fsas_in, list_on, letter_of, letter_on, field_bytes, with_field, changed, changed_by, all_blank, first_failure}
-use Rattle.fp_model.specs.MsdbCalls.{fld_reply, refused, queued, unheld}
+use Rattle.fp_model.specs.Commit.{Commits, settlement}
+use Rattle.fp_model.specs.Fsas.{with_change, found_by, fsa_on, field_of, Fsa, IsFsa, Tried, list_text, fsas_in, list_on, letter_of, letter_on, field_bytes, with_field, changed, changed_by, all_blank, first_failure}
+use Rattle.fp_model.specs.MsdbCalls.{fld_reply, queued, unheld}
 use Rattle.fp_model.specs.Product.{rules_of, asked_by, cost_of}
-use Rattle.fp_model.specs.Programs.{ask, Ask, Asks, Replies, words, word_of, full_cost, script_of}
+use Rattle.fp_model.specs.Programs.{ask, Asks, Replies, word_of, full_cost, script_of}
 use Rattle.fp_model.specs.Rules.{Rules}
-use Rattle.fp_model.specs.Serial.{Ended, Done, state_at, serial_run}
+use Rattle.fp_model.specs.Serial.{Done, state_at, serial_run}
 use Rattle.fp_model.specs.Settle.{Settled, Stands, VerifyFails, Becomes, Fails, Applied, settle, settle_from, applied, with_msdb, fld_failure, fld_on, with_field_changes}
 use Rattle.fp_model.specs.State.{start, areas_of, areas_of_all, key_length, segment_of, with_segment}
-use Rattle.fp_model.specs.Items.{with_bytes, with_item, with_items}
-use Rattle.fp_model.specs.Texts.{padded, same_text}
+use Rattle.fp_model.specs.Items.{with_bytes, with_items}
 use Rattle.fp_model.specs.Workspace.{Workspace, fresh}
 use Rattle.fp_model.proofs.FsaLemmas.{fsas_of_list_text}
 use Rattle.fp_system.specs.declared.deposit.Deposit.{Deposit}
-use Rattle.fp_system.specs.Small.{AreSmall, IsSmall, deposit_script}
-use Rattle.fp_system.specs.Deposits.{IsTaken, deposited, new_segment, key_for, items_for, entry_for}
+use Rattle.fp_system.specs.Small.{IsSmall, deposit_script}
+use Rattle.fp_system.specs.Deposits.{IsTaken, new_segment, key_for, items_for}
 use Rattle.fp_system.proofs.Letters.{good_sum}
 use Rattle.fp_system.proofs.DepositScript.{fsa_for, call_for, deposit_asks, deposit_replies, deposit_costs}
-use Rattle.fp_system.proofs.Small.{its_length, same_itself, word_within, its_place, its_field, its_key_length, key_short, key_some, field_at, field_name_long}
+use Rattle.fp_system.proofs.Small.{its_length, word_within, its_place, its_field, its_key_length, key_short, key_some, field_at, field_name_long}
 
 -- ---- a transaction of one call
 

@@ -1,31 +1,29 @@
 -- The entry of a deposit: it may come, its item may be applied, and it can be written.
-use Rattle.std.proofs.Common.{◌≡◌, refl, sym, ap, subst, ◌∙◌, arith, inl, inr, ℕ, zero, suc, ◌+◌, ◌-◌, ◌≤◌, ◌<◌, ◌^◌, List, [], ◌∷◌, ◌++◌, length, take, drop, replicate, Bool, true, false, Option, Some, None, IfSome, slice_get, length-append, append_assoc, if◌then◌else◌, ◌⊎◌}
-use Rattle.std.specs.Prelude.{Ok, is_some, option_map, option_and_then}
+use Rattle.std.proofs.Common.{◌≡◌, refl, sym, ap, ◌∙◌, arith, inl, inr, ℕ, ◌+◌, ◌-◌, ◌≤◌, ◌<◌, ◌^◌, List, [], ◌++◌, length, take, drop, replicate, true, Option, Some, None, IfSome, slice_get, length-append, append_assoc, if◌then◌else◌, ◌⊎◌}
+use Rattle.std.specs.Prelude.{is_some, option_map}
 use Rattle.std.specs.List.{AllByRecursion}
 use Rattle.std.specs.Cmp.Lexicographic.{bytes_decides}
-use Rattle.std.proofs.lemmas.List.{length-take, length-take-le, length-drop, length-replicate, take_at}
+use Rattle.std.proofs.lemmas.List.{length-take-le, length-drop, length-replicate, take_at}
 use Rattle.fp_model.specs.declared.database.Db.{Db}
 use Rattle.fp_model.specs.declared.database.Msdb.{Msdb}
 use Rattle.fp_model.specs.declared.definitions.Defs.{Defs}
 use Rattle.fp_model.specs.declared.definitions.FieldDef.{FieldDef}
 use Rattle.fp_model.specs.declared.calls.Message.{Message}
-use Rattle.fp_model.specs.declared.log.Entry.{Entry}
 use Rattle.fp_model.specs.declared.log.Item.{Item}
 use Rattle.fp_model.specs.declared.scripts.Script.{Script}
 use Rattle.fp_model.specs.Fsas.{changed, field_bytes, with_field}
-use Rattle.fp_model.specs.History.{Comes, EndsAlone}
 use Rattle.fp_model.specs.Items.{IsFit, FitsMsdb, with_items}
 use Rattle.fp_model.specs.LogText.{is_ascending, KeepsRules, FitsEntry, FitsItem}
-use Rattle.fp_model.specs.Product.{rules_of, request_of, if_script}
-use Rattle.fp_model.specs.Programs.{word_of, script_of}
-use Rattle.fp_model.specs.State.{key_of, key_length, segment_of}
-use Rattle.fp_model.specs.Texts.{padded, same_text}
+use Rattle.fp_model.specs.Product.{request_of, if_script}
+use Rattle.fp_model.specs.Programs.{word_of}
+use Rattle.fp_model.specs.State.{key_of, key_length}
+use Rattle.fp_model.specs.Texts.{padded}
 use Rattle.msdb_store.specs.Store.{Stored, IsFitSegment, IsOf, found}
 use Rattle.fp_system.specs.declared.deposit.Deposit.{Deposit}
-use Rattle.fp_system.specs.Small.{AreSmall, IsSmall, deposit_script}
-use Rattle.fp_system.specs.Deposits.{IsTaken, IsFor, deposited, new_segment, key_for, items_for, entry_for}
+use Rattle.fp_system.specs.Small.{AreSmall, IsSmall}
+use Rattle.fp_system.specs.Deposits.{IsTaken, deposited, new_segment, key_for, items_for, entry_for}
 use Rattle.fp_system.specs.Next.{ComesNext}
-use Rattle.fp_system.proofs.Small.{its_place, its_length, its_key_length, key_short, key_some, field_at, field_within, its_msdb}
+use Rattle.fp_system.proofs.Small.{its_place, its_length, its_key_length, key_short, field_at, its_msdb}
 use Rattle.fp_system.proofs.Stores.{only, only_place, found_is, found_has}
 use Rattle.fp_system.proofs.MessageLengths.{message_short}
 use Rattle.fp_system.proofs.DepositSums.{changed_is, new_field_long}

@@ -1,14 +1,12 @@
 -- How long a message and its line are.
-use Rattle.std.proofs.Common.{◌≡◌, refl, sym, ap, subst, ◌∙◌, arith, ℕ, zero, suc, ◌+◌, ◌-◌, ◌≤◌, ◌<◌, min, List, [], ◌∷◌, ◌++◌, length, take, drop, Bool, true, false, ◌&&◌, if◌then◌else◌, Option, Some, None, nat_lt}
-use Rattle.std.specs.Prelude.{nat_le, Result, Ok, Err}
-use Rattle.std.specs.List.{list_all, position_or_len, prefix_len}
+use Rattle.std.proofs.Common.{◌≡◌, refl, sym, ap, arith, ℕ, ◌+◌, ◌-◌, ◌≤◌, min, List, length, take, drop, Bool, true, false, if◌then◌else◌, Option, Some, None, nat_lt}
+use Rattle.std.specs.Prelude.{Ok, Err}
+use Rattle.std.specs.List.{list_all, position_or_len}
 use Rattle.std.proofs.lemmas.List.{length-take, length-drop}
-use Rattle.std.proofs.lemmas.Bool.{and_parts}
 use Rattle.std.proofs.lemmas.Bool.Decides.{nat_tests}
-use Rattle.std.proofs.lemmas.Grind.{common_steps}
 use Rattle.fp_model.specs.declared.name.Name.{Name}
 use Rattle.fp_model.specs.declared.calls.Message.{Message}
-use Rattle.fp_model.specs.Messages.{MessageFault, NoTerminal, NoTran, TooLong, NotAscii, is_separator, first_word, behind_word, terminal_of, tran_of, message_text, with_fair_text, message_by, message_of}
+use Rattle.fp_model.specs.Messages.{TooLong, NotAscii, is_separator, first_word, behind_word, terminal_of, tran_of, message_text, message_by, message_of}
 use Rattle.fp_model.specs.Names.{is_name, name_in}
 use Rattle.fp_model.specs.Texts.{is_printable, padded}
 use Rattle.fp_system.proofs.Small.{few_of}

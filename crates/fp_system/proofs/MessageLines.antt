@@ -1,9 +1,8 @@
 -- The first line of bytes, and messages line by line.
-use Rattle.std.proofs.Common.{◌≡◌, refl, sym, ap, subst, ◌∙◌, arith, ℕ, zero, suc, ◌+◌, ◌-◌, ◌≤◌, ◌<◌, List, [], ◌∷◌, ◌++◌, length, take, drop, map, Bool, true, false, ◌&&◌, if◌then◌else◌, Option, Some, None}
-use Rattle.std.specs.Prelude.{◌==◌, nat_le, Ok, Err, Result}
+use Rattle.std.proofs.Common.{◌≡◌, refl, sym, ap, subst, ◌∙◌, arith, ℕ, suc, ◌+◌, ◌≤◌, ◌<◌, List, [], ◌∷◌, ◌++◌, length, take, drop, map, Bool, true, false, ◌&&◌}
+use Rattle.std.specs.Prelude.{◌==◌, nat_le, Ok}
 use Rattle.std.specs.List.{position_or_len, AllByRecursion, list_all}
 use Rattle.std.specs.Str.Lines.{strip_carriage_return}
-use Rattle.std.proofs.lemmas.List.{map-append, append_assoc}
 use Rattle.std.proofs.lemmas.List.Elements.{All-nil, All-cons}
 use Rattle.std.proofs.lemmas.Bool.{and_parts}
 use Rattle.std.proofs.lemmas.Bool.Decides.{nat_tests}
@@ -85,6 +84,7 @@ is_taken_by d line m e t =
   where
     two_is : (n : ℕ) → (n == 2) ≡ true → n ≡ 2
     two_is n e = grind (arith, nat_tests)
+
     short_is : (n k : ℕ) → nat_le n k ≡ true → n ≤ k
     short_is n k e = grind (arith, nat_tests)
 

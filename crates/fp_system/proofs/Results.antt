@@ -1,5 +1,4 @@
 -- What holds of a good answer.
-use Rattle.std.proofs.Common.{◌≡◌, ap, sym, subst, ◌∙◌, List, length}
 use Rattle.std.specs.Prelude.{Result, Ok, Err, IfOk, OnErr, OnOk}
 
 -- of a good answer more is said

@@ -1,6 +1,6 @@
 -- The setup that definitions and scripts give.
-use Rattle.std.proofs.Common.{◌≡◌, refl, sym, ap, subst, ◌∙◌, arith, ℕ, ◌≤◌, ◌<◌, List, [], ◌∷◌, length, Bool, true, false, ◌&&◌, cond, if◌then◌else◌, Option, Some, None, slice_get}
-use Rattle.std.specs.Prelude.{nat_le, Result, Ok, Err, is_some}
+use Rattle.std.proofs.Common.{◌≡◌, refl, sym, ap, ◌∙◌, ℕ, ◌≤◌, ◌<◌, List, [], ◌∷◌, length, Bool, true, false, ◌&&◌, cond, if◌then◌else◌, Option, Some, None}
+use Rattle.std.specs.Prelude.{Result, Ok, Err, is_some}
 use Rattle.std.specs.List.{list_all}
 use Rattle.std.specs.Option.{option_map_or}
 use Rattle.std.proofs.lemmas.Bool.{le-leb, lt-leb}
@@ -21,7 +21,7 @@ use Rattle.fp_system.specs.Small.{IsSmall, deposit_script, names_key, first_key_
 use Rattle.fp_system.specs.Deposits.{takes, takes_line}
 use Rattle.fp_system.proofs.Small.{its_place, its_key_length}
 use Rattle.fp_system.specs.Scripts.{scripts_in}
-use Rattle.fp_system.specs.Parts.{Job, Reading, Gives, Refuses, is_short, definitions_of, scripts_of, with_scripts, with_definitions, setup_of, are_taken, with_messages, asked}
+use Rattle.fp_system.specs.Parts.{Job, Reading, Gives, Refuses, definitions_of, scripts_of, with_scripts, with_definitions, setup_of, are_taken, with_messages, asked}
 
 -- definitions and scripts that are there give a job
 pub setup_is : (left : Part → List ℕ) (defs : Defs) (scripts : List Script) (text : List ℕ) → definitions_of (left Definitions) ≡ Some defs → text ≡ left Scripts → length text ≤ 1000000 → scripts_in defs text ≡ Some scripts

@@ -1,6 +1,6 @@
 -- What small definitions keep: where their fields stand, and how long their texts are.
-use Rattle.std.proofs.Common.{◌≡◌, refl, sym, ap, subst, ◌∙◌, arith, ℕ, zero, suc, ◌+◌, ◌-◌, ◌≤◌, List, [], ◌∷◌, ◌++◌, length, map, replicate, Bool, true, false, ◌&&◌, if◌then◌else◌, Option, Some, None, slice_get, unwrap_or, length-append}
-use Rattle.std.specs.Prelude.{◌==◌, nat_le}
+use Rattle.std.proofs.Common.{◌≡◌, refl, ap, subst, ◌∙◌, arith, ℕ, zero, suc, ◌+◌, ◌-◌, ◌≤◌, List, [], ◌∷◌, length, map, replicate, Bool, true, false, ◌&&◌, if◌then◌else◌, Some, slice_get, unwrap_or, length-append}
+use Rattle.std.specs.Prelude.{nat_le}
 use Rattle.std.specs.List.{AllByRecursion, IsDistinct}
 use Rattle.std.specs.Cmp.Lexicographic.{bytes_decides}
 use Rattle.std.proofs.lemmas.Bool.{and_parts}
@@ -10,13 +10,12 @@ use Rattle.fp_model.specs.declared.name.Name.{Name}
 use Rattle.fp_model.specs.declared.definitions.Defs.{Defs}
 use Rattle.fp_model.specs.declared.definitions.FieldDef.{FieldDef}
 use Rattle.fp_model.specs.declared.definitions.FieldKind.{FieldKind}
-use Rattle.fp_model.specs.declared.definitions.FieldKind.TheVariants.{C, P}
 use Rattle.fp_model.specs.Texts.{same_text, padded}
-use Rattle.fp_model.specs.Names.{IsName, is_name, is_letter, is_letter_or_digit}
+use Rattle.fp_model.specs.Names.{IsName, is_name}
 use Rattle.fp_model.specs.State.{key_length}
 use Rattle.fp_model.specs.Fsas.{field_of}
 use Rattle.fp_model.specs.Messages.{is_separator}
-use Rattle.fp_model.specs.Programs.{words, word_of, at_front, begins_word}
+use Rattle.fp_model.specs.Programs.{words, at_front, begins_word}
 use Rattle.fp_model.specs.WellFormed.{IsMsdbDef, IsFieldName, StandFrom, BeginsWithKey, AreDistinct, is_field_length}
 use Rattle.fp_system.specs.Small.{AreSmall}
 

@@ -1,32 +1,26 @@
 -- What a disk at rest shows: that its log is sound, in each image that a crash may leave.
-use Rattle.std.proofs.Common.{◌≡◌, inl, inr, ⊎_elim, refl, sym, ap, subst, ◌∙◌, arith, ℕ, ◌+◌, ◌≤◌, ◌<◌, List, [], ◌∷◌, ◌++◌, length, map, take, append_assoc, length-append}
-use Rattle.std.specs.Prelude.{◌⊎◌}
-use Rattle.std.specs.List.{AllByRecursion, flat_map}
+use Rattle.std.proofs.Common.{◌≡◌, refl, sym, ap, subst, ◌∙◌, arith, ℕ, List, [], ◌∷◌, ◌++◌, length}
+use Rattle.std.specs.List.{AllByRecursion}
 use Rattle.std.proofs.lemmas.List.{append-nil}
 use Rattle.std.proofs.lemmas.Grind.{fold-append}
 use Rattle.std.proofs.lemmas.List.Concat.{flat_map-append, flat_map-cons}
-use Rattle.fp_model.specs.declared.database.Db.{Db}
 use Rattle.fp_model.specs.declared.definitions.Defs.{Defs}
 use Rattle.fp_model.specs.declared.log.Entry.{Entry}
 use Rattle.fp_model.specs.declared.log.Item.{Item}
 use Rattle.fp_model.specs.declared.log.Item.TheVariants.{Segment, Image}
 use Rattle.fp_model.specs.Groups.{entries_of}
-use Rattle.fp_model.specs.History.{History, IsSerialHistory, Comes}
 use Rattle.fp_model.specs.Items.{IsFit, with_item, with_items}
 use Rattle.fp_model.specs.Product.{rules_of}
-use Rattle.fp_model.specs.ReplyLine.{line_of}
 use Rattle.fp_model.specs.State.{start}
 use Rattle.fp_model.proofs.HistoryLemmas.{join, states_counted}
-use Rattle.fp_site.specs.Disk.{Disk, Snapshot, IsDurable, Settles, Sends, Elapses, IsLawful}
-use Rattle.fp_site.specs.Moments.{Through}
-use Rattle.fp_site.proofs.Images.{durable_settles, settles_left}
+use Rattle.fp_site.specs.Disk.{Disk}
+use Rattle.fp_site.proofs.Images.{durable_settles}
 use Rattle.log_groups.specs.Images.{IsLog, IsAtRest}
-use Rattle.log_groups.specs.Kept.{IsSound, IsSafe, GoesOn, items_of, lines_of_entries}
-use Rattle.log_groups.specs.Log.{LogState}
-use Rattle.msdb_store.specs.Store.{Stored, IsOf, IsFitSegment}
+use Rattle.log_groups.specs.Kept.{IsSound, IsSafe, items_of}
+use Rattle.msdb_store.specs.Store.{IsFitSegment}
 use Rattle.fp_system.specs.Parts.{Job, front_for}
 use Rattle.fp_system.specs.Next.{ComesNext}
-use Rattle.fp_system.specs.Serving.{IsAccount, StandsAt, Serves, Halts}
+use Rattle.fp_system.specs.Serving.{IsAccount}
 
 -- a log of these groups is sound, where their entries may stand in one
 pub sound_log : (job : Job) (entries : List Entry) (bytes : List ℕ) (groups : List (List Entry)) (gate : ℕ) → IsAccount job entries → entries ≡ entries_of groups → IsLog (front_for job) bytes groups gate → IsSound job.defs job.scripts job.scripts_text bytes entries

@@ -1,12 +1,12 @@
 -- One message: what each call leaves, at every moment.
-use Rattle.std.proofs.Common.{◌≡◌, inl, inr, ⊎_elim, refl, sym, ap, subst, ◌∙◌, arith, ℕ, ◌+◌, ◌≤◌, ◌<◌, List, [], ◌∷◌, ◌++◌, length, map, take, append_assoc, length-append}
+use Rattle.std.proofs.Common.{◌≡◌, inl, inr, ⊎_elim, refl, sym, ap, subst, ◌∙◌, ℕ, List, [], ◌∷◌, ◌++◌, length, take}
 use Rattle.std.specs.Prelude.{◌⊎◌}
 use Rattle.std.proofs.lemmas.List.{append-nil}
-use Rattle.std.proofs.lemmas.List.Concat.{flat_map-append, flat_map-cons}
+use Rattle.std.proofs.lemmas.List.Concat.{flat_map-cons}
 use Rattle.fp_model.specs.declared.log.Entry.{Entry}
 use Rattle.fp_model.specs.Groups.{entries_of}
 use Rattle.fp_model.specs.ReplyLine.{line_of}
-use Rattle.fp_site.specs.Disk.{Disk, Snapshot, Differs, IsDurable, Settles, Sends, Elapses, IsLawful}
+use Rattle.fp_site.specs.Disk.{Disk, Snapshot, Differs, Settles, Sends, Elapses, IsLawful}
 use Rattle.fp_site.specs.Moments.{OnlyOn, Through}
 use Rattle.fp_site.proofs.Frames.{Anyhow, only_through}
 use Rattle.fp_site.proofs.Images.{durable_sent, settles_contents}
@@ -16,7 +16,7 @@ use Rattle.log_groups.specs.Kept.{IsSound, IsSafe, GoesOn, lines_of_entries}
 use Rattle.log_groups.specs.Log.{LogState}
 use Rattle.msdb_store.specs.Store.{Stored, IsOf}
 use Rattle.fp_system.specs.Parts.{Job, front_for}
-use Rattle.fp_system.specs.Serving.{IsAccount, IsReady, StandsAt, Serves, Halts}
+use Rattle.fp_system.specs.Serving.{IsAccount, StandsAt, Serves, Halts}
 use Rattle.fp_system.proofs.Stands.{sound_log, safe_at_rest, one_group}
 
 -- the line of one entry

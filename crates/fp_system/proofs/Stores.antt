@@ -1,5 +1,5 @@
 -- What a store of small definitions has: one database, whose segments have their length.
-use Rattle.std.proofs.Common.{◌≡◌, refl, sym, ap, subst, ◌∙◌, arith, ℕ, ◌+◌, ◌≤◌, ◌<◌, List, [], ◌∷◌, length, Bool, true, false, cond, Option, Some, None, slice_get}
+use Rattle.std.proofs.Common.{◌≡◌, refl, sym, ap, subst, ◌∙◌, arith, ℕ, ◌+◌, ◌≤◌, ◌<◌, List, [], ◌∷◌, length, Bool, true, false, cond, Option, Some, slice_get}
 use Rattle.std.specs.Prelude.{find}
 use Rattle.std.specs.List.{AllByRecursion, AllZip}
 use Rattle.fp_model.specs.declared.database.Msdb.{Msdb}
@@ -11,7 +11,7 @@ use Rattle.fp_model.specs.State.{key_of, segment_of}
 use Rattle.fp_model.specs.Texts.{same_text}
 use Rattle.msdb_store.specs.Store.{Stored, IsOf, found}
 use Rattle.fp_system.specs.declared.deposit.Deposit.{Deposit}
-use Rattle.fp_system.specs.Small.{AreSmall, IsSmall}
+use Rattle.fp_system.specs.Small.{AreSmall}
 use Rattle.fp_system.specs.Deposits.{IsFor}
 use Rattle.fp_system.proofs.Small.{its_place, field_at, its_length}
 

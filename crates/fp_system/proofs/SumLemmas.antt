@@ -1,6 +1,6 @@
 -- The sum of a packed field and an operand fits the type of sums.
-use Rattle.std.proofs.Common.{◌≡◌, refl, sym, ap, subst, ◌∙◌, arith, ℕ, zero, suc, ◌+◌, ◌-◌, ◌*◌, ◌^◌, ◌≤◌, ◌<◌, List, length, Bool, true, false, ◌&&◌, ◌||◌, if◌then◌else◌, Option, Some, None}
-use Rattle.std.specs.Prelude.{◌==◌, nat_le, ℤ, pos, negsuc, neg_ℤ, ◌+ℤ◌, unsigned_abs}
+use Rattle.std.proofs.Common.{◌≡◌, refl, sym, ap, ◌∙◌, arith, ℕ, zero, suc, ◌*◌, ◌^◌, ◌≤◌, ◌<◌, List, length, Bool, true, false, ◌&&◌, ◌||◌, if◌then◌else◌, Option, Some, None}
+use Rattle.std.specs.Prelude.{◌==◌, nat_le, ℤ, pos, neg_ℤ, ◌+ℤ◌, unsigned_abs}
 use Rattle.std.specs.List.{list_all}
 use Rattle.std.proofs.lemmas.Bool.{and_parts}
 use Rattle.std.proofs.lemmas.Bool.Decides.{nat_tests}
@@ -42,6 +42,7 @@ packed_small bytes n e =
     tested_long : (b : Bool) (o : Option ℤ) (n : ℤ) → (if b then o else None) ≡ Some n → (b ≡ true) × (o ≡ Some n)
     tested_long true o n e = (refl, e)
     tested_long false o n e = absurd cc
+
     few_of : (k : ℕ) → (nat_le 1 k && nat_le k 16) ≡ true → k ≤ 16
     few_of k e = let both = and_parts (nat_le 1 k) (nat_le k 16) e in let h = both.1 in grind (arith, nat_tests, h)
 

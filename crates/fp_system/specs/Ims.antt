@@ -1,5 +1,5 @@
 -- What the top call promises.
-use Rattle.std.specs.Prelude.{◌≡◌, ◌⊎◌, ⊤, ℕ, ◌≤◌, List, [], ◌++◌, map, option_map, Option, Some, None}
+use Rattle.std.specs.Prelude.{◌≡◌, ◌⊎◌, ⊤, ℕ, ◌≤◌, List, ◌++◌, map, option_map, Option, Some}
 use Rattle.fp_source.specs.declared.part.Part.{Part}
 use Rattle.fp_model.specs.declared.log.Entry.{Entry}
 use Rattle.fp_model.specs.LogText.{StartsWithFront}
@@ -10,9 +10,8 @@ use Rattle.log_groups.specs.Kept.{IsSafe, lines_of_entries}
 use Rattle.fp_system.specs.declared.parts.Refusal.{Refusal}
 use Rattle.fp_system.specs.declared.parts.Refusal.TheVariants as refusal
 use Rattle.fp_system.specs.declared.status.Status.{Status}
-use Rattle.fp_system.specs.declared.status.Status.TheVariants.{Done, Usage, ReadFault, SiteFault, Foreign, Damaged, NoMemory, NotBuilt}
+use Rattle.fp_system.specs.declared.status.Status.TheVariants.{Usage, ReadFault, SiteFault, Foreign, Damaged, NoMemory, NotBuilt}
 use Rattle.fp_system.specs.declared.words.Command.{Command}
-use Rattle.fp_system.specs.declared.words.Command.TheVariants.{Define, Run}
 use Rattle.fp_system.specs.Parts.{Job, Reading, Gives, asked, front_for}
 use Rattle.fp_system.specs.Words.{command_of}
 

@@ -1,5 +1,5 @@
 -- What the parts of a source ask for, or the first of them that isn't built.
-use Rattle.std.specs.Prelude.{◌≡◌, ℕ, ◌<◌, ◌^◌, List, length, Bool, true, ◌&&◌, nat_le, if◌then◌else◌, Option, Some, None}
+use Rattle.std.specs.Prelude.{ℕ, List, length, Bool, ◌&&◌, nat_le, if◌then◌else◌, Option, Some, None}
 use Rattle.std.specs.List.{list_all}
 use Rattle.fp_source.specs.declared.part.Part.{Part}
 use Rattle.fp_source.specs.declared.part.Part.TheVariants.{Definitions, Scripts, Messages}

@@ -1,5 +1,5 @@
 -- The setup that the program has made of definitions and scripts.
-use Rattle.std.specs.Prelude.{◌≡◌, ℕ, List}
+use Rattle.std.specs.Prelude.{◌≡◌}
 use Rattle.fp_model.specs.LogText.{FitsFront}
 use Rattle.log_groups.specs.Images.{texts_of}
 use Rattle.fp_system.specs.declared.parts.Setup.{Setup}

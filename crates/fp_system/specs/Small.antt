@@ -1,17 +1,16 @@
 -- The small shape: the definitions, scripts and message lines that are taken at this stage.
-use Rattle.std.specs.Prelude.{◌≡◌, ℕ, ◌≤◌, List, [], ◌∷◌, length, Bool, true, false, ◌&&◌, ◌==◌, nat_le, IsTrue, slice_get}
+use Rattle.std.specs.Prelude.{◌≡◌, ℕ, ◌≤◌, List, [], ◌∷◌, length, Bool, true, false, ◌&&◌, ◌==◌, nat_le, slice_get}
 use Rattle.std.specs.List.{list_all}
 use Rattle.std.specs.Option.{option_map_or}
 use Rattle.fp_model.specs.declared.definitions.FieldDef.{FieldDef}
 use Rattle.fp_model.specs.declared.definitions.FieldKind.TheVariants.{P}
 use Rattle.fp_model.specs.declared.definitions.MsdbDef.{MsdbDef}
 use Rattle.fp_model.specs.declared.definitions.Defs.{Defs}
-use Rattle.fp_model.specs.declared.calls.Message.{Message}
 use Rattle.fp_model.specs.declared.scripts.Operand.TheVariants.{Text, Word}
 use Rattle.fp_model.specs.declared.scripts.Script.{Script}
 use Rattle.fp_model.specs.declared.scripts.Statement.{roll-Statement}
 use Rattle.fp_model.specs.declared.scripts.Statement.TheOpen.{Fld, Reply}
-use Rattle.fp_model.specs.Texts.{is_printable, same_text}
+use Rattle.fp_model.specs.Texts.{is_printable}
 use Rattle.fp_model.specs.State.{key_length}
 use Rattle.fp_model.specs.Programs.{words, word_of}
 use Rattle.fp_model.specs.Product.{request_of}

@@ -6,7 +6,8 @@ ghost use Rattle.fp_system.specs.Definitions.{account, accounts, accounts_alone,
 use fp_model::{Bytes, Defs, FieldDef, FieldKind, Kind, List, MsdbDef, Name};
 use std::alloc::{AllocError, Global};
 
-const TEXT: &[u8] = b"regions = [1]\nrouter = \"FOLD\"\n[[msdb]]\nname = \"ACCTS\"\nfields = [[\"ACCT\", \"C\", 4], [\"BAL\", \"P\", 4]]\nload = [[\"A001\", \"100\"], [\"A002\", \"50\"]]\n";
+const TEXT: &[u8] =
+    b"regions = [1]\nrouter = \"FOLD\"\n[[msdb]]\nname = \"ACCTS\"\nfields = [[\"ACCT\", \"C\", 4], [\"BAL\", \"P\", 4]]\nload = [[\"A001\", \"100\"], [\"A002\", \"50\"]]\n";
 
 // The key of an account.
 const ACCOUNT: FieldDef = FieldDef {

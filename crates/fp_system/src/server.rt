@@ -92,12 +92,7 @@ impl Server {
     }
 
     // Serves one message: seals its entry, and then sends its reply line.
-    fn serve<T: Site>(
-        &mut self,
-        alloc: Global,
-        site: &mut T,
-        message: &Message,
-    ) -> Result<(), Stop>
+    fn serve<T: Site>(&mut self, alloc: Global, site: &mut T, message: &Message) -> Result<(), Stop>
         requires takes { IsTaken self.old.deposit message.now }
         requires store { IsFor self.old.deposit self.old.store }
         ensures ok { (job : Job) (entries : ListOf Entry) → T.told site.old → IsSmall job.defs job.scripts self.old.deposit

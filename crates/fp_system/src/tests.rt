@@ -1,21 +1,18 @@
 //! What the program says and does: words, refused parts, a new site, and deposits in the log and at the terminal.
-ghost use Rattle.fp_system.specs.Deposits.{IsFor};
 ghost use Rattle.fp_system.specs.Setups.{IsSetup};
-ghost use Rattle.std.specs.Prelude.{◌≡◌, IfOk};
 
 use crate::parts::{Setup, read_setup};
-use crate::messages::messages_in;
-use crate::server::Server;
 use crate::{Status, fault_text, ims};
-use fp_model::Bytes;
-use fp_site::{MemorySite, Site};
+use fp_model::{Bytes, Item};
+use fp_site::{MemorySite, Site, Snapshot};
 use fp_source::{MemorySource, Part};
-use log_groups::Log;
-use msdb_store::MsdbStore;
+use log_groups::{Log, LogFault};
 use std::alloc::{AllocError, Global};
 use std::test::Fail;
 
-const DEFINITIONS: &str = "regions = [1]\nrouter = \"FOLD\"\n[[msdb]]\nname = \"ACCTS\"\nfields = [[\"ACCT\", \"C\", 4], [\"BAL\", \"P\", 4]]\nload = [[\"A001\", \"100\"], [\"A002\", \"50\"]]\n";
+const DEFINITIONS: &str =
+    "regions = [1]\nrouter = \"FOLD\"\n[[msdb]]\nname = \"ACCTS\"\nfields = [[\"ACCT\", \"C\", 4], [\"BAL\", \"P\", 4]]\nload = [[\"A001\", \"100\"], [\"A002\", \"50\"]]\n";
+
 const SCRIPTS: &str = "TRAN DEPOSIT\nFLD ACCTS KEY(#1) BAL + #2\nREPLY 'NEW'\n";
 
 // A source of these parts, of which the calls with these numbers fail.
@@ -54,7 +51,10 @@ fn refused(
     let mut source = source(alloc, definitions, scripts, messages, &[])?;
     let mut site = MemorySite::new(alloc, &[])?;
     let status = ims(alloc, &words(alloc, texts)?, &mut source, &mut site);
-    Ok((status, site.contents(0).is_empty() && site.sent().is_empty()))
+    Ok((
+        status,
+        site.contents(0).is_empty() && site.sent().is_empty(),
+    ))
 }
 
 #[test]
@@ -90,14 +90,48 @@ fn the_first_part_that_is_not_built_is_told(rt: HostRuntime) -> Result<(), Fail>
         ("run", DEFINITIONS, SCRIPTS, "\n", Part::Messages),
         ("run", DEFINITIONS, SCRIPTS, "T1\n", Part::Messages),
         ("run", DEFINITIONS, SCRIPTS, "T1 DEPOSIT\n", Part::Messages),
-        ("run", DEFINITIONS, SCRIPTS, "T1 DEPOSIT A001\n", Part::Messages),
-        ("run", DEFINITIONS, SCRIPTS, "T1 DEPOSIT A001 1 2\n", Part::Messages),
-        ("run", DEFINITIONS, SCRIPTS, "T1 DEPOSIT A0011 1\n", Part::Messages),
-        ("run", DEFINITIONS, SCRIPTS, "T1 OTHER A001 1\n", Part::Messages),
-        ("run", DEFINITIONS, SCRIPTS, "T1 DEPOSIT A001 1\nT2", Part::Messages),
+        (
+            "run",
+            DEFINITIONS,
+            SCRIPTS,
+            "T1 DEPOSIT A001\n",
+            Part::Messages,
+        ),
+        (
+            "run",
+            DEFINITIONS,
+            SCRIPTS,
+            "T1 DEPOSIT A001 1 2\n",
+            Part::Messages,
+        ),
+        (
+            "run",
+            DEFINITIONS,
+            SCRIPTS,
+            "T1 DEPOSIT A0011 1\n",
+            Part::Messages,
+        ),
+        (
+            "run",
+            DEFINITIONS,
+            SCRIPTS,
+            "T1 OTHER A001 1\n",
+            Part::Messages,
+        ),
+        (
+            "run",
+            DEFINITIONS,
+            SCRIPTS,
+            "T1 DEPOSIT A001 1\nT2",
+            Part::Messages,
+        ),
     ] {
         let answer = refused(rt.alloc(), &[command, "D"], definitions, scripts, messages)?;
-        assert_eq!(rt; answer, (Status::NotBuilt(part), true), "at {command} {messages:?}");
+        assert_eq!(rt;
+            answer,
+            (Status::NotBuilt(part), true),
+            "at {command} {messages:?}"
+        );
     }
     Ok(())
 }
@@ -110,14 +144,26 @@ fn each_status_has_its_number_and_text(rt: HostRuntime) -> Result<(), Fail> {
         (Status::ReadFault, 5, "read fault"),
         (Status::SiteFault, 6, "site fault"),
         (Status::Foreign, 7, "foreign log"),
-        (Status::Damaged { set: 0, at: 208 }, 8, "damaged: data set 0 at 208"),
+        (
+            Status::Damaged { set: 0, at: 208 },
+            8,
+            "damaged: data set 0 at 208",
+        ),
         (Status::NoMemory, 10, "no memory"),
-        (Status::NotBuilt(Part::Definitions), 11, "not built: definitions"),
+        (
+            Status::NotBuilt(Part::Definitions),
+            11,
+            "not built: definitions",
+        ),
         (Status::NotBuilt(Part::Scripts), 11, "not built: scripts"),
         (Status::NotBuilt(Part::Messages), 11, "not built: messages"),
     ] {
         assert_eq!(rt; status.number(), number, "at {text:?}");
-        assert_eq!(rt; fault_text(rt.alloc(), &status)?.as_slice(), text.as_bytes(), "at {number}");
+        assert_eq!(rt;
+            fault_text(rt.alloc(), &status)?.as_slice(),
+            text.as_bytes(),
+            "at {number}"
+        );
     }
     Ok(())
 }
@@ -137,7 +183,12 @@ fn a_new_site_has_a_front_and_a_closed_gate(rt: HostRuntime) -> Result<(), Fail>
     let alloc = rt.alloc();
     let mut source = source(alloc, DEFINITIONS, SCRIPTS, "", &[])?;
     let mut site = MemorySite::new(alloc, &[])?;
-    let status = ims(alloc, &words(alloc, &["define", "D"])?, &mut source, &mut site);
+    let status = ims(
+        alloc,
+        &words(alloc, &["define", "D"])?,
+        &mut source,
+        &mut site,
+    );
     assert_eq!(rt; status, Status::Done);
     let mut wanted = front_bytes(alloc)?;
     wanted.push(0)?;
@@ -152,15 +203,33 @@ fn each_failing_call_is_told(rt: HostRuntime) -> Result<(), Fail> {
     for call in 0..4 {
         let mut source = source(alloc, DEFINITIONS, SCRIPTS, "", &[call])?;
         let mut site = MemorySite::new(alloc, &[])?;
-        let status = ims(alloc, &words(alloc, &["define", "D"])?, &mut source, &mut site);
-        assert_eq!(rt; (status, source.faults()), (Status::ReadFault, 1), "at read {call}");
+        let status = ims(
+            alloc,
+            &words(alloc, &["define", "D"])?,
+            &mut source,
+            &mut site,
+        );
+        assert_eq!(rt;
+            (status, source.faults()),
+            (Status::ReadFault, 1),
+            "at read {call}"
+        );
         assert_eq!(rt; site.contents(0), b"".as_slice(), "at read {call}");
     }
     for call in 0..8 {
         let mut source = source(alloc, DEFINITIONS, SCRIPTS, "", &[])?;
         let mut site = MemorySite::new(alloc, &[call])?;
-        let status = ims(alloc, &words(alloc, &["define", "D"])?, &mut source, &mut site);
-        assert_eq!(rt; (status, site.faults()), (Status::SiteFault, 1), "at call {call}");
+        let status = ims(
+            alloc,
+            &words(alloc, &["define", "D"])?,
+            &mut source,
+            &mut site,
+        );
+        assert_eq!(rt;
+            (status, site.faults()),
+            (Status::SiteFault, 1),
+            "at call {call}"
+        );
     }
     Ok(())
 }
@@ -176,8 +245,11 @@ fn answer(
     Ok(ims(alloc, &words(alloc, &[command, "D"])?, &mut source, site))
 }
 
-const FIRST_GROUP: &[u8] = b"\x01\x00\x00\x00\x00\x00\x00\x00\x4b\x00\x00\x00\x00\x00\x00\x00\x43\x00\x00\x00\x00\x00\x00\x00\x00\x00\x00\x12T1 DEPOSIT A001 10\x00\x03NEW\x00\x00\x00\x01\x00\x00\x00\x00\x00\x00\x00\x00\x00\x00\x00\x01\x01\x00\x04A001\x00\x08A001\x00\x00\x11\x0c";
-const SECOND_GROUP: &[u8] = b"\x01\x00\x00\x00\x00\x00\x00\x00\x4a\x00\x00\x00\x00\x00\x00\x00\x42\x00\x00\x00\x00\x00\x00\x00\x01\x00\x00\x11T1 DEPOSIT A001 5\x00\x03NEW\x00\x00\x00\x01\x00\x00\x00\x00\x00\x00\x00\x01\x00\x00\x00\x01\x01\x00\x04A001\x00\x08A001\x00\x00\x11\x5c";
+const FIRST_GROUP: &[u8] =
+    b"\x01\x00\x00\x00\x00\x00\x00\x00\x4b\x00\x00\x00\x00\x00\x00\x00\x43\x00\x00\x00\x00\x00\x00\x00\x00\x00\x00\x12T1 DEPOSIT A001 10\x00\x03NEW\x00\x00\x00\x01\x00\x00\x00\x00\x00\x00\x00\x00\x00\x00\x00\x01\x01\x00\x04A001\x00\x08A001\x00\x00\x11\x0c";
+
+const SECOND_GROUP: &[u8] =
+    b"\x01\x00\x00\x00\x00\x00\x00\x00\x4a\x00\x00\x00\x00\x00\x00\x00\x42\x00\x00\x00\x00\x00\x00\x00\x01\x00\x00\x11T1 DEPOSIT A001 5\x00\x03NEW\x00\x00\x00\x01\x00\x00\x00\x00\x00\x00\x00\x01\x00\x00\x00\x01\x01\x00\x04A001\x00\x08A001\x00\x00\x11\x5c";
 
 #[test]
 fn two_runs_are_two_groups(rt: HostRuntime) -> Result<(), Fail> {
@@ -187,14 +259,20 @@ fn two_runs_are_two_groups(rt: HostRuntime) -> Result<(), Fail> {
     let mut wanted = front_bytes(alloc)?;
     wanted.push(0)?;
     assert_eq!(rt; answer(alloc, "run", "", &mut site)?, Status::Done);
-    assert_eq!(rt; (site.contents(0), site.sent()), (wanted.as_slice(), b"".as_slice()));
+    assert_eq!(rt;
+        (site.contents(0), site.sent()),
+        (wanted.as_slice(), b"".as_slice())
+    );
 
     let first = "T1 DEPOSIT A001 10\n";
     assert_eq!(rt; answer(alloc, "run", first, &mut site)?, Status::Done);
     wanted.truncate(wanted.len() - 1);
     wanted.extend_from_slice(FIRST_GROUP)?;
     wanted.push(0)?;
-    assert_eq!(rt; (site.contents(0), site.sent()), (wanted.as_slice(), b"T1 OK NEW\n".as_slice()));
+    assert_eq!(rt;
+        (site.contents(0), site.sent()),
+        (wanted.as_slice(), b"T1 OK NEW\n".as_slice())
+    );
 
     let second = "T1 DEPOSIT A001 5\n";
     assert_eq!(rt; answer(alloc, "run", second, &mut site)?, Status::Done);
@@ -222,9 +300,17 @@ fn a_deposit_that_cannot_be_changes_nothing(rt: HostRuntime) -> Result<(), Fail>
     ] {
         let mut site = MemorySite::new(alloc, &[])?;
         assert_eq!(rt; answer(alloc, "define", "", &mut site)?, Status::Done);
-        assert_eq!(rt; answer(alloc, "run", message, &mut site)?, Status::Done, "at {message:?}");
+        assert_eq!(rt;
+            answer(alloc, "run", message, &mut site)?,
+            Status::Done,
+            "at {message:?}"
+        );
         let log = site.contents(0);
-        assert_eq!(rt; &log[log.len() - 5..], b"\x00\x00\x00\x00\x00".as_slice(), "at {message:?}");
+        assert_eq!(rt;
+            &log[log.len() - 5..],
+            b"\x00\x00\x00\x00\x00".as_slice(),
+            "at {message:?}"
+        );
         assert_eq!(rt; site.sent(), b"T1 OK NEW\n".as_slice(), "at {message:?}");
     }
     Ok(())
@@ -235,16 +321,33 @@ fn a_deposit_changes_its_segment(rt: HostRuntime) -> Result<(), Fail> {
     let alloc = rt.alloc();
     for (message, segment) in [
         ("T1 DEPOSIT A002 0\n", b"A002\x00\x00\x05\x0c".as_slice()),
-        ("T1\tDEPOSIT\tA002   -50  \n", b"A002\x00\x00\x00\x0c".as_slice()),
+        (
+            "T1\tDEPOSIT\tA002   -50  \n",
+            b"A002\x00\x00\x00\x0c".as_slice(),
+        ),
         ("T1 DEPOSIT A002 -51", b"A002\x00\x00\x00\x1d".as_slice()),
-        ("T1 DEPOSIT A001 9999899\r\n", b"A001\x99\x99\x99\x9c".as_slice()),
-        ("T1 DEPOSIT A001 0000000000000000000000000000001\n", b"A001\x00\x00\x10\x1c".as_slice()),
+        (
+            "T1 DEPOSIT A001 9999899\r\n",
+            b"A001\x99\x99\x99\x9c".as_slice(),
+        ),
+        (
+            "T1 DEPOSIT A001 0000000000000000000000000000001\n",
+            b"A001\x00\x00\x10\x1c".as_slice(),
+        ),
     ] {
         let mut site = MemorySite::new(alloc, &[])?;
         assert_eq!(rt; answer(alloc, "define", "", &mut site)?, Status::Done);
-        assert_eq!(rt; answer(alloc, "run", message, &mut site)?, Status::Done, "at {message:?}");
+        assert_eq!(rt;
+            answer(alloc, "run", message, &mut site)?,
+            Status::Done,
+            "at {message:?}"
+        );
         let log = site.contents(0);
-        assert_eq!(rt; &log[log.len() - 9..log.len() - 1], segment, "at {message:?}");
+        assert_eq!(rt;
+            &log[log.len() - 9..log.len() - 1],
+            segment,
+            "at {message:?}"
+        );
     }
     Ok(())
 }
@@ -258,11 +361,100 @@ fn a_foreign_and_a_damaged_log_are_told(rt: HostRuntime) -> Result<(), Fail> {
 
     let gate = site.contents(0).len() as u64 - 1;
     assert_eq!(rt; site.write_at(0, gate, b"\x01\x00\x00\x00\x00"), Ok(()));
-    assert_eq!(rt; answer(alloc, "run", "", &mut site)?, Status::Damaged { set: 0, at: gate });
+    assert_eq!(rt;
+        answer(alloc, "run", "", &mut site)?,
+        Status::Damaged { set: 0, at: gate }
+    );
 
     assert_eq!(rt; site.write_at(0, gate - 1, b"x"), Ok(()));
     let before = site.contents(0).to_vec(alloc)?;
-    assert_eq!(rt; answer(alloc, "run", "T1 DEPOSIT A001 1\n", &mut site)?, Status::Foreign);
-    assert_eq!(rt; (site.contents(0), site.sent()), (before.as_slice(), b"".as_slice()));
+    assert_eq!(rt;
+        answer(alloc, "run", "T1 DEPOSIT A001 1\n", &mut site)?,
+        Status::Foreign
+    );
+    assert_eq!(rt;
+        (site.contents(0), site.sent()),
+        (before.as_slice(), b"".as_slice())
+    );
+    Ok(())
+}
+
+// How many groups a crash leaves, and the segment in the last of them; None where no log is open.
+fn read_back(
+    alloc: Global,
+    snapshot: Snapshot,
+    setup: &Setup,
+) -> Result<Option<(u64, Bytes)>, LogFault>
+    requires { IsSetup setup.now }
+{
+    let mut site = MemorySite::from_snapshot(alloc, snapshot, &[])?;
+    let mut log = match Log::open(alloc, &mut site, &setup.front) {
+        Ok(log) => log,
+        Err(LogFault::Foreign) => return Ok(None),
+        Err(fault) => return Err(fault),
+    };
+    let mut at = log.gate();
+    let mut last = Bytes::new(alloc);
+    for number in 0..4 {
+        let Some(group) = log.group_at(&mut site, at)? else {
+            return Ok(Some((number, last)));
+        };
+        at = group.next;
+        for e in group.entries.as_slice() {
+            for item in e.items.as_slice() {
+                if let Item::Segment { bytes, .. } = item {
+                    last = bytes.copy()?;
+                }
+            }
+        }
+    }
+    Err(LogFault::Damaged(at))
+}
+
+// The segment behind so many of the two deposits.
+fn segment_behind(groups: u64) -> &'static [u8] {
+    match groups {
+        0 => b"",
+        1 => b"A001\x00\x00\x11\x0c",
+        _ => b"A001\x00\x00\x13\x0c",
+    }
+}
+
+// Each reply line has ten bytes. A log that is open can be run again.
+#[test]
+fn after_each_stop_what_was_answered_is_there(rt: HostRuntime) -> Result<(), Fail> {
+    let alloc = rt.alloc();
+    let messages = "T1 DEPOSIT A001 10\nT2 DEPOSIT A001 20\n";
+    let mut parts = source(alloc, DEFINITIONS, SCRIPTS, "", &[])?;
+    let Ok(setup) = read_setup(alloc, &mut parts) else {
+        return Err(Fail::from(AllocError));
+    };
+    let mut done = 0;
+    for after in 0..30 {
+        let mut site = MemorySite::stopping(alloc, after)?;
+        if answer(alloc, "define", "", &mut site)? == Status::Done
+            && answer(alloc, "run", messages, &mut site)? == Status::Done
+        {
+            done += 1;
+        }
+        for choice in 0..8 {
+            let lines = site.snapshot_as(choice)?.sent.len().div_ceil(10) as u64;
+            let again = &mut MemorySite::from_snapshot(alloc, site.snapshot_as(choice)?, &[])?;
+            let status = answer(alloc, "run", "", again)?;
+            match read_back(alloc, site.snapshot_as(choice)?, &setup)? {
+                Some((groups, segment)) => {
+                    assert_eq!(rt;
+                        segment.as_slice(),
+                        segment_behind(groups),
+                        "at {after} {choice}"
+                    );
+                    assert_eq!(rt; lines.min(groups), lines, "at {after} {choice}");
+                    assert_eq!(rt; status, Status::Done, "at {after} {choice}");
+                }
+                None => assert_eq!(rt; status, Status::Foreign, "at {after} {choice}"),
+            }
+        }
+    }
+    assert_eq!(rt; done > 0, true);
     Ok(())
 }

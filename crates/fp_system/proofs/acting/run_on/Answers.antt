@@ -1,4 +1,4 @@
-use Rattle.std.proofs.Common.{◌≡◌, ◌++◌, List, ℕ, refl, sym, ap, subst, ◌∙◌}
+use Rattle.std.proofs.Common.{◌≡◌, ℕ, sym, ap, subst, ◌∙◌}
 use Rattle.std.specs.Prelude.{Err}
 use Rattle.fp_model.specs.declared.definitions.Defs.{Defs}
 use Rattle.fp_model.specs.LogText.{StartsWithFront}
@@ -100,7 +100,6 @@ returns-clause-safe g c job earlier t is safe =
     let found = c.in-Ok.ensures.sound job.scripts earlier t (to_setup job c.args.setup is (h.contents 0) earlier safe.now) in
     let stands = stands_restarted job c.args.setup is h h1 earlier c.in-Ok.parts.0 c.in-Ok.parts.1 safe found in
     halts_served job h h1 earlier law1 safe (c.restart.ensures.contents t) (c.restart.ensures.sent t) (c.restart.ensures.crash t) h2 (c.in-Err-Memory.ensures.err job earlier t1 is.small stands)
-
 
 pub returns-in-Err-clause-only_foreign : goal.returns-in-Err-clause-only_foreign
 returns-in-Err-clause-only_foreign g c job t is foreign =

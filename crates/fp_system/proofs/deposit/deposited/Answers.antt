@@ -1,4 +1,4 @@
-use Rattle.std.proofs.Common.{◌≡◌, ◌+◌, ◌-◌, ◌≤◌, ◌++◌, ℕ, List, take, drop, length, sym, ◌∙◌, ap, arith, rules}
+use Rattle.std.proofs.Common.{◌≡◌, ◌+◌, ◌-◌, ◌++◌, ℕ, List, take, drop, sym, ◌∙◌, ap, arith, rules}
 use Rattle.fp_model.specs.Fsas.{field_bytes}
 use Rattle.fp_system.proofs.WordLemmas.{take_rest}
 use Rattle.fp_system.proofs.DepositSums.{made_none, made_some}

@@ -1,8 +1,8 @@
-use Rattle.std.proofs.Common.{◌≡◌, ◌+◌, ◌*◌, ◌^◌, ◌<◌, ◌≤◌, get_or, take, length, arith, refl, sym, ◌∙◌, ap, ℕ, ◌-◌, Some, rules}
+use Rattle.std.proofs.Common.{◌≡◌, ◌+◌, ◌*◌, get_or, take, arith, sym, ◌∙◌, ap, ◌-◌, rules}
 use Rattle.std.specs.Str.{all_ascii_digits}
-use Rattle.std.proofs.lemmas.List.{take_more, take_all}
+use Rattle.std.proofs.lemmas.List.{take_more}
 use Rattle.fp_model.specs.Texts.{value}
-use Rattle.fp_system.proofs.DigitLemmas.{figures, digits_more, figures_more, not_digits, prefix_below, digits_some, digits_none}
+use Rattle.fp_system.proofs.DigitLemmas.{figures, digits_more, figures_more, not_digits, prefix_below, digits_none}
 use Rattle.fp_system.proofs.operands.digits_number.Goals as goal
 
 pub returns-then-not-is_ascii_digit-clause-exact : goal.returns-then-not-is_ascii_digit-clause-exact

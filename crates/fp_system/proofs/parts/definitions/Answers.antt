@@ -1,4 +1,4 @@
-use Rattle.std.proofs.Common.{◌≡◌, ◌≤◌, List, ℕ, Some, length, sym, subst, ap, ◌∙◌, arith}
+use Rattle.std.proofs.Common.{◌≡◌, ◌≤◌, List, ℕ, Some, length, sym, subst, ◌∙◌}
 use Rattle.fp_system.specs.Definitions.{defs_in}
 use Rattle.fp_system.proofs.Accounts.{text_kept}
 use Rattle.fp_system.proofs.parts.definitions.Goals as goal

@@ -1,6 +1,5 @@
-use Rattle.std.proofs.Common.{◌≡◌, List, ℕ, Some, false, true, subst, sym, ap, ◌∙◌, rules}
+use Rattle.std.proofs.Common.{subst, sym, ap, ◌∙◌, rules}
 use Rattle.std.specs.Prelude.{IsErrOf}
-use Rattle.fp_source.specs.declared.part.Part.TheVariants as part
 use Rattle.fp_system.specs.declared.words.Command.TheVariants as command
 use Rattle.fp_system.specs.declared.parts.Refusal.TheVariants as refusal
 use Rattle.fp_system.specs.Parts.{Job, Refuses, are_taken, asked}

@@ -1,10 +1,10 @@
-use Rattle.std.proofs.Common.{◌≡◌, ◌+◌, ◌++◌, [], ◌∷◌, List, ℕ, length, take, drop, min, ap, sym, subst, ◌∙◌, refl, arith, length-append}
+use Rattle.std.proofs.Common.{◌≡◌, ◌++◌, [], ◌∷◌, List, ℕ, length, take, drop, ap, sym, subst, ◌∙◌, refl, arith, length-append}
 use Rattle.fp_model.specs.declared.log.Entry.{Entry}
-use Rattle.fp_site.specs.Disk.{Disk, Settles}
+use Rattle.fp_site.specs.Disk.{Settles}
 use Rattle.fp_site.specs.Moments.{Through}
 use Rattle.log_groups.specs.Images.{IsAtRest, IsBeforeOrAfter, IsWithOrWithout, with_group}
 use Rattle.fp_system.specs.Parts.{front_for}
-use Rattle.fp_system.specs.Serving.{IsReady, StandsAt, Serves, Halts}
+use Rattle.fp_system.specs.Serving.{IsReady, Serves, Halts}
 use Rattle.fp_system.proofs.Results.{at_err}
 use Rattle.fp_system.proofs.Steps.{halts_here, stays_here, after_seal, halts_unsealed, after_send, halts_sent, serves_one}
 use Rattle.fp_system.proofs.server.Server.serve.Goals as goal

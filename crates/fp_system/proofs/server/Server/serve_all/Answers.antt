@@ -1,4 +1,4 @@
-use Rattle.std.proofs.Common.{◌≡◌, ◌++◌, ◌≤◌, ◌+◌, ◌∷◌, [], List, ℕ, take, get_or, length, refl, sym, ap, subst, ◌∙◌, arith}
+use Rattle.std.proofs.Common.{◌++◌, List, ℕ, take, get_or, refl, sym, subst, ◌∙◌, arith}
 use Rattle.fp_model.specs.declared.calls.Message.{Message}
 use Rattle.fp_system.specs.declared.deposit.Deposit.{Deposit}
 use Rattle.fp_system.specs.Deposits.{IsTaken}
@@ -70,20 +70,20 @@ loop-message-preserved g c = record {
   count = omega (arith, c.serve.ensures.later, c.loop-message.invariant.count);
   going = λ job entries t small stands.
       let inv = c.loop-message.invariant in
-    let so = inv.going job entries t small stands in
-    let t1 = inv.told t in
-    let h0 = g.T.Site.disk c.args.site.now in
-    let h = g.T.Site.disk c.loop-message.site in
-    let h1 = g.T.Site.disk c.serve.new.site in
-    let messages = c.args.messages.now in
-    let i = c.loop-message.message-index in
-    let small1 = subst (λ (d : Deposit). IsSmall job.defs job.scripts d) (sym inv.deposit) small in
-    let lines = lines_in (take i messages) in
-    let run = c.serve.ensures.crash job (entries ++ so.serves.later) t1 small1 so.serves.stands in
-    let m = c.message-item.result in
-    let one = c.in_ok-serve.ensures.ok job (entries ++ so.serves.later) t1 small1 so.serves.stands in
-    subst (λ (ls : List (List ℕ)). Going job entries h0 h1 ls c.serve.new.self.store c.serve.new.self.log) (sym (one_line_more messages i m c.loop-message-test.true c.message-item.is))
-    (going_more job entries h0 h h1 lines c.loop-message.self.store c.loop-message.self.log so m.line c.serve.new.self.store c.serve.new.self.log one run);
+      let so = inv.going job entries t small stands in
+      let t1 = inv.told t in
+      let h0 = g.T.Site.disk c.args.site.now in
+      let h = g.T.Site.disk c.loop-message.site in
+      let h1 = g.T.Site.disk c.serve.new.site in
+      let messages = c.args.messages.now in
+      let i = c.loop-message.message-index in
+      let small1 = subst (λ (d : Deposit). IsSmall job.defs job.scripts d) (sym inv.deposit) small in
+      let lines = lines_in (take i messages) in
+      let run = c.serve.ensures.crash job (entries ++ so.serves.later) t1 small1 so.serves.stands in
+      let m = c.message-item.result in
+      let one = c.in_ok-serve.ensures.ok job (entries ++ so.serves.later) t1 small1 so.serves.stands in
+      subst (λ (ls : List (List ℕ)). Going job entries h0 h1 ls c.serve.new.self.store c.serve.new.self.log) (sym (one_line_more messages i m c.loop-message-test.true c.message-item.is))
+      (going_more job entries h0 h h1 lines c.loop-message.self.store c.loop-message.self.log so m.line c.serve.new.self.store c.serve.new.self.log one run);
 }
 
 pub returns-clause-ok : goal.returns-clause-ok
