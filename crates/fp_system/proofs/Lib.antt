@@ -11,7 +11,8 @@ pub mod Stores
 pub mod MessageLengths
 pub mod Entries
 pub mod MessageLines
-pub mod Accounts
+pub mod DefinitionLemmas
+pub mod ScriptLemmas
 pub mod SetupLemmas
 pub mod Stands
 pub mod Steps

@@ -1,60 +1,41 @@
--- The definitions that are taken so far: one text.
-use Rattle.std.specs.Prelude.{ℕ, List, [], ◌∷◌, ◌++◌, codes, flat_map, false, if◌then◌else◌, Option, Some, None}
-use Rattle.fp_model.specs.declared.name.Name.{Name}
-use Rattle.fp_model.specs.declared.definitions.Kind.TheVariants.{Fold}
+-- The definitions that are taken so far: those that a text gives, where they have the small shape.
+use Rattle.std.specs.Prelude.{ℕ, List, [], ◌∷◌, length, Bool, true, false, not, ◌&&◌, ◌==◌, if◌then◌else◌, Option, Some, None, Result, Ok, Err}
 use Rattle.fp_model.specs.declared.definitions.FieldDef.{FieldDef}
-use Rattle.fp_model.specs.declared.definitions.FieldKind.TheVariants.{C, P}
+use Rattle.fp_model.specs.declared.definitions.FieldKind.{FieldKind}
+use Rattle.fp_model.specs.declared.definitions.FieldKind.TheVariants.{C, X, H, F, P}
 use Rattle.fp_model.specs.declared.definitions.MsdbDef.{MsdbDef}
 use Rattle.fp_model.specs.declared.definitions.Defs.{Defs}
-use Rattle.fp_model.specs.Texts.{padded, same_text}
+use Rattle.fp_model.specs.Texts.{same_text}
+use Rattle.fp_defs.specs.Whole.{defs_of}
+use Rattle.fp_defs.specs.declared.fault.DefsFault.{DefsFault}
 
--- its lines, each with a newline
-abbrev pub with_newlines : List (List ℕ) → List ℕ
-with_newlines lines = flat_map (λ line. line ++ 10 ∷ []) lines
+abbrev pub is_packed : FieldKind → Bool
+is_packed C = false
+is_packed X = false
+is_packed H = false
+is_packed F = false
+is_packed P = true
 
-abbrev pub defs_text : List ℕ
-defs_text = with_newlines (
-    codes "regions = [1]"
-    ∷ codes "router = \"FOLD\""
-    ∷ codes "[[msdb]]"
-    ∷ codes "name = \"ACCTS\""
-    ∷ codes "fields = [[\"ACCT\", \"C\", 4], [\"BAL\", \"P\", 4]]"
-    ∷ codes "load = [[\"A001\", \"100\"], [\"A002\", \"50\"]]"
-    ∷ [])
+-- a key, which is of characters wherever definitions are read, and a packed field
+abbrev pub are_small_fields : List FieldDef → Bool
+are_small_fields (key ∷ field ∷ []) = is_packed field.kind
+are_small_fields fields = false
 
-abbrev pub named : List ℕ → Name
-named letters = record { 0 = padded 8 letters }
+-- one main storage database of such fields, to which no segment can be added
+abbrev pub is_one_small : List MsdbDef → Bool
+is_one_small (def ∷ []) = not def.dynamic && are_small_fields def.fields
+is_one_small msdbs = false
 
--- the key of an account
-abbrev pub account : FieldDef
-account = record { name = named (codes "ACCT"); kind = C; at = 0; length = 4 }
+-- that one database and one region, and what a text has that leaves out the log's groups and the pool
+abbrev pub is_small_defs : Defs → Bool
+is_small_defs defs =
+    same_text defs.regions (1 ∷ []) && defs.log_group == 100 && defs.pool == 1000
+    && is_one_small defs.msdbs && length defs.dedbs == 0
 
--- its balance
-abbrev pub balance : FieldDef
-balance = record { name = named (codes "BAL"); kind = P; at = 4; length = 4 }
+abbrev pub if_small : Result Defs DefsFault → Option Defs
+if_small (Ok defs) = if is_small_defs defs then Some defs else None
+if_small (Err fault) = None
 
--- the accounts: A001 with 100, and A002 with 50
-abbrev pub accounts : MsdbDef
-accounts = record {
-  name = named (codes "ACCTS");
-  dynamic = false;
-  fields = account ∷ balance ∷ [];
-  length = 8;
-  load = (codes "A001" ++ 0 ∷ 0 ∷ 16 ∷ 12 ∷ []) ∷ (codes "A002" ++ 0 ∷ 0 ∷ 5 ∷ 12 ∷ []) ∷ [];
-}
-
--- one region, the accounts, and what a text that leaves it out has: 100 entries a group, 1,000 intervals
-abbrev pub accounts_alone : List ℕ → Defs
-accounts_alone text = record {
-  regions = 1 ∷ [];
-  router = Fold;
-  log_group = 100;
-  pool = 1000;
-  msdbs = accounts ∷ [];
-  dedbs = [];
-  text = text;
-}
-
--- the definitions that a text is
+-- the definitions that a text is, where they are small
 unfoldable pub defs_in : List ℕ → Option Defs
-defs_in text = if same_text text defs_text then Some (accounts_alone text) else None
+defs_in text = if_small (defs_of text)

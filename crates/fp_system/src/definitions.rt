@@ -1,83 +1,66 @@
-//! The definitions: so far one text is taken.
-ghost use Rattle.std.specs.Prelude.{◌≡◌, ◌∷◌, ◌++◌, [], IfOk};
-ghost use Rattle.fp_model.specs.declared.definitions.FieldDef.{FieldDef as Field};
-ghost use Rattle.fp_system.specs.Definitions.{account, accounts, accounts_alone, balance, defs_in};
+//! The definitions: those of the small shape are taken so far.
+ghost use Rattle.std.specs.Prelude.{◌≡◌, IfOk, Ok};
+ghost use Rattle.fp_system.specs.Definitions.{are_small_fields, defs_in, if_small, is_one_small, is_packed, is_small_defs};
 
-use fp_model::{Bytes, Defs, FieldDef, FieldKind, Kind, List, MsdbDef, Name};
+use fp_defs::{DefsFault, read_defs};
+use fp_model::{Defs, FieldDef, FieldKind, MsdbDef};
 use std::alloc::{AllocError, Global};
 
-const TEXT: &[u8] =
-    b"regions = [1]\nrouter = \"FOLD\"\n[[msdb]]\nname = \"ACCTS\"\nfields = [[\"ACCT\", \"C\", 4], [\"BAL\", \"P\", 4]]\nload = [[\"A001\", \"100\"], [\"A002\", \"50\"]]\n";
-
-// The key of an account.
-const ACCOUNT: FieldDef = FieldDef {
-    name: Name(*b"ACCT    "),
-    kind: FieldKind::C,
-    at: 0,
-    length: 4,
-};
-
-// Its balance.
-pub(crate) const BALANCE: FieldDef = FieldDef {
-    name: Name(*b"BAL     "),
-    kind: FieldKind::P,
-    at: 4,
-    length: 4,
-};
-
-// The accounts that stand before any transaction.
-fn load(alloc: Global) -> Result<List<Bytes>, AllocError>
-    ensures { IfOk result (λ load. load ≡ accounts.load) }
+// Whether numbers of this kind are packed.
+fn is_packed(kind: FieldKind) -> bool
+    ensures { result ≡ is_packed kind }
 {
-    let mut load = List::new(alloc);
-    load.push(Bytes::from_slice(alloc, b"A001\x00\x00\x10\x0c")?)?;
-    load.push(Bytes::from_slice(alloc, b"A002\x00\x00\x05\x0c")?)?;
-    Ok(load)
+    matches!(kind, FieldKind::P)
 }
 
-// The fields of an account.
-fn fields(alloc: Global) -> Result<List<FieldDef>, AllocError>
-    ensures { IfOk result (λ fields. fields ≡ account ∷ balance ∷ []) }
+// Whether fields are a key and a packed field.
+fn are_small_fields(fields: &[FieldDef]) -> bool
+    ensures { result ≡ are_small_fields fields.now }
 {
-    let mut fields = List::new(alloc);
-    fields.push(ACCOUNT)?;
-    fields.push(BALANCE)?;
-    Ok(fields)
-}
-
-// The database of accounts.
-fn accounts(alloc: Global) -> Result<List<MsdbDef>, AllocError>
-    ensures { IfOk result (λ msdbs. msdbs ≡ accounts ∷ []) }
-{
-    let def = MsdbDef {
-        name: Name(*b"ACCTS   "),
-        dynamic: false,
-        fields: fields(alloc)?,
-        length: 8,
-        load: load(alloc)?,
-    };
-    let mut msdbs = List::new(alloc);
-    msdbs.push(def)?;
-    Ok(msdbs)
-}
-
-/// The definitions that a text is; None where it isn't the one that is taken so far.
-#[tactic(auto, unfolding(crate::specs::Definitions::defs_in))]
-pub(crate) fn read_definitions(alloc: Global, text: Bytes) -> Result<Option<Defs>, AllocError>
-    ensures { IfOk result (λ found. found ≡ defs_in text) }
-{
-    if text.as_slice() != TEXT {
-        return Ok(None);
+    match fields {
+        [_, field] => is_packed(field.kind),
+        _ => false,
     }
-    let mut regions = List::new(alloc);
-    regions.push(1u8)?;
-    Ok(Some(Defs {
-        regions,
-        router: Kind::Fold,
-        log_group: 100,
-        pool: 1000,
-        msdbs: accounts(alloc)?,
-        dedbs: List::new(alloc),
-        text,
-    }))
+}
+
+// Whether there is one main storage database, of such fields.
+fn is_one_small(msdbs: &[MsdbDef]) -> bool
+    ensures { result ≡ is_one_small msdbs.now }
+{
+    match msdbs {
+        [def] => !def.dynamic && are_small_fields(def.fields.as_slice()),
+        _ => false,
+    }
+}
+
+// Whether definitions have the small shape.
+fn is_small(defs: &Defs) -> bool
+    ensures { result ≡ is_small_defs defs.now }
+{
+    defs.regions.as_slice() == [1].as_slice()
+        && defs.log_group == 100
+        && defs.pool == 1000
+        && is_one_small(defs.msdbs.as_slice())
+        && defs.dedbs.is_empty()
+}
+
+// Definitions, if they have the small shape.
+fn if_small(defs: Defs) -> Option<Defs>
+    ensures { result ≡ if_small (Ok defs) }
+{
+    if is_small(&defs) { Some(defs) } else { None }
+}
+
+/// The definitions that a text is; None where it is none, or others than those that are taken so far.
+#[tactic(auto, unfolding(crate::specs::Definitions::defs_in))]
+pub(crate) fn read_definitions(alloc: Global, text: &[u8]) -> Result<Option<Defs>, AllocError>
+    ensures { IfOk result (λ found. found ≡ defs_in text.now) }
+{
+    match read_defs(alloc, text) {
+        Ok(defs) => Ok(if_small(defs)),
+        Err(fault) => match fault {
+            DefsFault::Memory => Err(AllocError),
+            _ => Ok(None),
+        },
+    }
 }

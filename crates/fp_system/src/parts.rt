@@ -83,7 +83,7 @@ fn definitions<S: Source>(alloc: Global, source: &mut S) -> Result<Defs, Refusal
     ensures source { ReadsOnly S.told S.left S.faults S.holds S.keeps part.Definitions source.old source.new }
 {
     let bytes = read_part(alloc, source, Part::Definitions)?;
-    match read_definitions(alloc, bytes)? {
+    match read_definitions(alloc, bytes.as_slice())? {
         Some(defs) => Ok(defs),
         None => Err(Refusal::NotBuilt(Part::Definitions)),
     }

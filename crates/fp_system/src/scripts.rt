@@ -1,42 +1,101 @@
-//! The scripts: so far one text is taken.
-ghost use Rattle.std.specs.Prelude.{◌≡◌, IfNone, IfOk, IfSome, None, Some};
-ghost use Rattle.fp_model.specs.Texts.{same_text};
-ghost use Rattle.fp_system.specs.Definitions.{defs_in};
-ghost use Rattle.fp_system.specs.Scripts.{IsRead, scripts_in, scripts_text};
+//! The scripts: under given definitions one text is taken so far.
+ghost use Rattle.std.specs.Prelude.{◌≡◌, IfNone, IfOk, IfSome, None};
+ghost use Rattle.fp_model.specs.Texts.{same_text, trimmed};
+ghost use Rattle.fp_system.specs.Scripts.{IsRead, deposit_in, deposit_on, deposit_with, script_text, scripts_in};
+ghost use Rattle.fp_system.specs.Small.{AreSmall};
 
-use crate::definitions::BALANCE;
 use crate::deposit::Deposit;
-use fp_model::{Bytes, Defs, Name};
+use fp_model::{Bytes, Defs, FieldDef, MsdbDef, Name};
 use std::alloc::{AllocError, Global};
 
-const TEXT: &[u8] = b"TRAN DEPOSIT\nFLD ACCTS KEY(#1) BAL + #2\nREPLY 'NEW'\n";
-
-// Whether a text is the one that is taken.
-fn is_taken(text: &[u8]) -> bool
-    ensures { result ≡ same_text text.now scripts_text }
+// A text without the blanks at its end.
+fn without_blanks(text: &[u8]) -> &[u8]
+    ensures { result.now ≡ trimmed text.now }
 {
-    text == TEXT
+    let mut end = text.len();
+    while end > 0 && text[end - 1] == b' ' {
+        end -= 1;
+    }
+    &text[..end]
 }
 
-/// The deposit that a text has under definitions; None where the text isn't the one that is taken so far.
-#[tactic(auto, unfolding(crate::specs::Scripts::scripts_in))]
+// The text that is taken where the database and its field have these names.
+#[tactic(auto, using(std::proofs::Common::append_assoc))]
+fn script_text(alloc: Global, database: &Name, field: &Name) -> Result<Bytes, AllocError>
+    ensures { IfOk result (λ text. text ≡ script_text (trimmed database.now.0) (trimmed field.now.0)) }
+{
+    let mut text = Bytes::from_slice(alloc, b"TRAN DEPOSIT\nFLD ")?;
+    text.append(without_blanks(&database.0))?;
+    text.append(b" KEY(#1) ")?;
+    text.append(without_blanks(&field.0))?;
+    text.append(b" + #2\nREPLY 'NEW'\n")?;
+    Ok(text)
+}
+
+// Whether a text is this one.
+fn is_taken(text: &[u8], taken: &[u8]) -> bool
+    ensures { result ≡ same_text text.now taken.now }
+{
+    text == taken
+}
+
+// The deposit on these fields.
+fn deposit_on(alloc: Global, key: &FieldDef, field: &FieldDef) -> Result<Deposit, AllocError>
+    ensures { IfOk result (λ deposit. deposit ≡ deposit_on key.now field.now) }
+{
+    Ok(Deposit {
+        tran: Name(*b"DEPOSIT "),
+        key_length: key.length,
+        field: *field,
+        reply: Bytes::from_slice(alloc, b"NEW")?,
+    })
+}
+
+// The deposit that a text has by a database.
+fn deposit_with(
+    alloc: Global,
+    text: &[u8],
+    def: &MsdbDef,
+) -> Result<Option<Deposit>, AllocError>
+    ensures { IfOk result (λ found. found ≡ deposit_with text.now def.now def.now.fields) }
+{
+    match def.fields.as_slice() {
+        [key, field] => {
+            let taken = script_text(alloc, &def.name, &field.name)?;
+            if is_taken(text, taken.as_slice()) {
+                Ok(Some(deposit_on(alloc, key, field)?))
+            } else {
+                Ok(None)
+            }
+        }
+        _ => Ok(None),
+    }
+}
+
+// The deposit that a text has by these databases.
+fn deposit_in(
+    alloc: Global,
+    text: &[u8],
+    msdbs: &[MsdbDef],
+) -> Result<Option<Deposit>, AllocError>
+    ensures { IfOk result (λ found. found ≡ deposit_in text.now msdbs.now) }
+{
+    match msdbs {
+        [def] => deposit_with(alloc, text, def),
+        _ => Ok(None),
+    }
+}
+
+/// The deposit that a text has under definitions; None where the text isn't the one that is taken under them so far.
 pub(crate) fn read_scripts(
     alloc: Global,
     defs: &Defs,
     text: &[u8],
 ) -> Result<Option<Deposit>, AllocError>
-    requires { defs_in defs.now.text ≡ Some defs.now }
+    requires { AreSmall defs.now }
     ensures some { IfOk result (λ found. IfSome found (IsRead defs.now text.now)) }
     ensures none { IfOk result (λ found. IfNone found (scripts_in defs.now text.now ≡ None)) }
 {
-    let _ = &defs.pool;
-    if !is_taken(text) {
-        return Ok(None);
-    }
-    Ok(Some(Deposit {
-        tran: Name(*b"DEPOSIT "),
-        key_length: 4,
-        field: BALANCE,
-        reply: Bytes::from_slice(alloc, b"NEW")?,
-    }))
+    let found = deposit_in(alloc, text, defs.msdbs.as_slice())?;
+    Ok(found)
 }

@@ -168,6 +168,88 @@ fn each_status_has_its_number_and_text(rt: HostRuntime) -> Result<(), Fail> {
     Ok(())
 }
 
+// Another text of the small shape, with comments and blanks, and its scripts.
+const STOCK: &str =
+    "# the stock\nregions = [ 1 ]\nrouter = \"RANGE\"\n\n[[ msdb ]]\nname    = \"STOCK\"   # one row a part\nfields  = [ [\"PART\", \"C\", 6], [\"ONHAND\", \"P\", 3] ]\nload    = [ [\"BOLT\", \"-7\"] ]\n";
+
+const STOCK_SCRIPTS: &str = "TRAN DEPOSIT\nFLD STOCK KEY(#1) ONHAND + #2\nREPLY 'NEW'\n";
+
+#[test]
+fn definitions_outside_the_small_shape_are_not_built(rt: HostRuntime) -> Result<(), Fail> {
+    let alloc = rt.alloc();
+    for (change, to) in [
+        // no TOML document, and no definitions
+        ("regions = [1]", "regions = [1"),
+        ("regions = [1]", "areas = 1"),
+        ("[\"BAL\", \"P\", 4]", "[\"BAL\", \"P\", 17]"),
+        // definitions of another shape
+        ("regions = [1]", "regions = [1, 1]"),
+        ("regions = [1]", "regions = [1]\nlog_group = 2"),
+        ("regions = [1]", "regions = [1]\npool = 1001"),
+        ("name = \"ACCTS\"", "name = \"ACCTS\"\ndynamic = true"),
+        ("[\"BAL\", \"P\", 4]", "[\"BAL\", \"H\", 2]"),
+        (
+            "load = [[\"A001\", \"100\"], [\"A002\", \"50\"]]\n",
+            "[[msdb]]\nname = \"OTHER\"\nfields = [[\"KEY1\", \"C\", 4], [\"SUM\", \"P\", 4]]\n",
+        ),
+        (
+            "load = [[\"A001\", \"100\"], [\"A002\", \"50\"]]\n",
+            "[[dedb]]\nname = \"CUST\"\nrandomizer = \"FOLD\"\nci = 512\n[[dedb.segment]]\nname = \"CUSTOMER\"\nfields = [[\"CNO\", \"C\", 4]]\n[[dedb.area]]\nname = \"AREA1\"\nuows = 2\nbase = 2\noverflow = 1\n",
+        ),
+    ] {
+        let text = DEFINITIONS.replace(alloc, change, to)?;
+        let answer = refused(alloc, &["run", "D"], text.as_str(), SCRIPTS, "")?;
+        assert_eq!(rt;
+            answer,
+            (Status::NotBuilt(Part::Definitions), true),
+            "at {to:?}"
+        );
+    }
+    Ok(())
+}
+
+#[test]
+fn scripts_of_another_text_are_not_built(rt: HostRuntime) -> Result<(), Fail> {
+    let alloc = rt.alloc();
+    for scripts in [
+        "TRAN DEPOSIT\nFLD ACCTS KEY(#1) BAL + #2\nIF STATUS NE ''\nROLB 1\nEND\nREPLY 'NEW'\n",
+        "TRAN DEPOSIT\nFLD ACCTS KEY(#1) BAL + #2\nREPLY 'NEW'\nTRAN OTHER\nREPLY 'NEW'\n",
+        "TRAN DEPOSIT\nFLD ACCTS KEY(#1) BAL - #2\nREPLY 'NEW'\n",
+        "TRAN DEPOSIT\nFLD ACCTS KEY(#1) BAL + #2\nREPLY 'NEW' 'NEW'\n",
+        "TRAN DEPOSIT\nFLD STOCK KEY(#1) ONHAND + #2\nREPLY 'NEW'\n",
+        "TRAN DEPOSIT\nFLD ACCTS KEY(#1) ACCT + #2\nREPLY 'NEW'\n",
+    ] {
+        let answer = refused(alloc, &["run", "D"], DEFINITIONS, scripts, "")?;
+        assert_eq!(rt;
+            answer,
+            (Status::NotBuilt(Part::Scripts), true),
+            "at {scripts:?}"
+        );
+    }
+    let answer = refused(alloc, &["run", "D"], STOCK, SCRIPTS, "")?;
+    assert_eq!(rt; answer, (Status::NotBuilt(Part::Scripts), true));
+    Ok(())
+}
+
+// Other names and lengths: the key has 6 bytes, and the sum of -7 and 12 is 5.
+#[test]
+fn other_small_definitions_run(rt: HostRuntime) -> Result<(), Fail> {
+    let alloc = rt.alloc();
+    let mut site = MemorySite::new(alloc, &[])?;
+    for (command, messages) in [("define", ""), ("run", "T1 DEPOSIT BOLT 12\n")] {
+        let mut parts = source(alloc, STOCK, STOCK_SCRIPTS, messages, &[])?;
+        let status = ims(alloc, &words(alloc, &[command, "D"])?, &mut parts, &mut site);
+        assert_eq!(rt; status, Status::Done, "at {command}");
+    }
+    assert_eq!(rt; site.sent(), b"T1 OK NEW\n".as_slice());
+    let log = site.contents(0);
+    assert_eq!(rt;
+        &log[log.len() - 20..],
+        b"\x00\x06BOLT  \x00\x09BOLT  \x00\x00\x5c\x00".as_slice()
+    );
+    Ok(())
+}
+
 // The bytes of a log of these definitions and scripts, up to its first gate.
 fn front_bytes(alloc: Global) -> Result<Vec<u8>, AllocError> {
     let mut bytes = b"\x01IMSFPLG1".to_vec(alloc)?;
