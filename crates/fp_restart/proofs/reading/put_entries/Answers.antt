@@ -15,5 +15,5 @@ loop-entry-preserved c defs of fit =
     let here = all-of (IsFitSegment defs) c.args.entries.now c.loop-entry.entry-index c.entry-item.result c.loop-entry-test.true c.entry-item.is fit in (
       c.apply.ensures.of defs so_far.0 here,
       c.in_ok-apply.ensures.msdbs defs so_far.0 here ∙ ap (λ ms. with_items defs ms c.entry-item.result.items) so_far.1
-      ∙ put-next defs c.args.store.now.msdbs c.args.entries.now c.loop-entry.entry-index c.entry-item.result c.loop-entry-test.true c.entry-item.is,
+          ∙ put-next defs c.args.store.now.msdbs c.args.entries.now c.loop-entry.entry-index c.entry-item.result c.loop-entry-test.true c.entry-item.is,
     )
