@@ -1,1 +1,3 @@
 pub mod Restarts
+pub mod Replayed
+pub mod Faults

@@ -1,26 +1,31 @@
 //! Making storage anew.
 ghost use Rattle.fp_model.specs.LogText.{FitsFront, first_gate};
 ghost use Rattle.fp_restart.specs.declared.fault.RestartFault.TheVariants as faults;
+ghost use Rattle.fp_site.specs.Disk.{Differs, IsDurable};
 ghost use Rattle.fp_site.specs.Moments.{OnlyOn, Through};
-ghost use Rattle.log_groups.specs.Images.{IsAtRest, IsBeforeOrMade, texts_of};
-ghost use Rattle.std.specs.Prelude.{◌≡◌, ◌⊎◌, ◌-◌, ◌<◌, ◌≤◌, ◌^◌, ℕ, [], IsErrOf, OnOk};
+ghost use Rattle.log_groups.specs.Images.{IsAtRest, IsBeforeOrMade, IsSameOrMade, texts_of};
+ghost use Rattle.log_groups.specs.Kept.{IsSafe};
+ghost use Rattle.fp_model.specs.declared.scripts.Script.{Script};
+ghost use Rattle.std.specs.Prelude.{◌≡◌, ◌⊎◌, ◌-◌, ◌<◌, ◌≤◌, ◌^◌, ℕ, [], IsErrOf, List as ListOf, OnOk};
 
 use crate::RestartFault;
 use fp_model::Defs;
 use fp_site::Site;
-use log_groups::{Front, Log, LogFault};
+use log_groups::{Front, Log};
 use std::alloc::Global;
 
 /// Makes the site anew for these definitions: a log with this front and no entries. It fails only with the site and
 /// for want of memory.
 pub fn define<T: Site>(
     alloc: Global,
-    _defs: &Defs,
+    defs: &Defs,
     front: &Front,
     site: &mut T,
 ) -> Result<(), RestartFault>
     requires fits { FitsFront (texts_of front.now) }
     ensures made { T.told site.old → OnOk result (IsAtRest (T.disk site.new) (texts_of front.now) [] (first_gate (texts_of front.now))) }
+    ensures safe { T.told site.old → (texts_of front.now).defs ≡ defs.now.text → (scripts : ListOf Script)
+        → OnOk result (IsSafe defs.now scripts (texts_of front.now).scripts (T.disk site.new) []) }
     ensures cause { IsErrOf result faults.SiteFault → (T.faults site.old < T.faults site.new) ⊎ (T.faults site.new ≡ 2 ^ 64 - 1) }
     ensures later { T.faults site.old ≤ T.faults site.new }
     ensures never { (IsErrOf result faults.Foreign → ⊥) × ((set at : ℕ) → IsErrOf result (faults.Damaged set at) → ⊥) }
@@ -33,10 +38,12 @@ pub fn define<T: Site>(
 
     // A crash at any moment leaves the log as a sync might have left it before, or with no open front, or made.
     ensures crash { T.told site.old → Through (T.disk site.old) (T.disk site.new) (IsBeforeOrMade (T.disk site.old) (texts_of front.now)) }
+
+    // Where a sync had left the log, it leaves it so, or with no open front, or made, and all else as before.
+    ensures kept { T.told site.old → IsDurable (T.disk site.old) 0 →
+        Through (T.disk site.old) (T.disk site.new) (Differs (T.disk site.old) 0 (IsSameOrMade (texts_of front.now))) }
 {
-    match Log::make(alloc, site, front) {
-        Ok(()) => Ok(()),
-        Err(LogFault::Failed) => Err(RestartFault::SiteFault),
-        Err(_) => Err(RestartFault::Memory),
-    }
+    let _ = &defs.pool; // the log alone is made; areas will need the definitions
+    Log::make(alloc, site, front)?;
+    Ok(())
 }

@@ -1,4 +1,11 @@
 //! Why storage couldn't be made or restarted.
+ghost use Rattle.fp_restart.specs.Faults.{of_log};
+ghost use Rattle.fp_restart.specs.declared.fault.RestartFault.TheVariants as faults;
+ghost use Rattle.std.specs.Prelude.{◌≡◌};
+
+use fp_site::Failed;
+use log_groups::LogFault;
+use std::alloc::AllocError;
 
 /// Why storage couldn't be made or restarted.
 #[derive(Clone, Copy, Debug, PartialEq, Eq)]
@@ -19,4 +26,33 @@ pub enum RestartFault {
 
     /// There is no memory.
     Memory,
+}
+
+impl From<AllocError> for RestartFault {
+    ghost from_gives = { λ _ e. e ≡ faults.Memory };
+
+    fn from(_e: AllocError) -> RestartFault {
+        RestartFault::Memory
+    }
+}
+
+impl From<Failed> for RestartFault {
+    ghost from_gives = { λ _ e. e ≡ faults.SiteFault };
+
+    fn from(_e: Failed) -> RestartFault {
+        RestartFault::SiteFault
+    }
+}
+
+impl From<LogFault> for RestartFault {
+    ghost from_gives = { λ fault e. e ≡ of_log fault };
+
+    fn from(fault: LogFault) -> RestartFault {
+        match fault {
+            LogFault::Foreign => RestartFault::Foreign,
+            LogFault::Damaged(at) => RestartFault::Damaged { set: 0, at },
+            LogFault::Failed => RestartFault::SiteFault,
+            LogFault::Memory => RestartFault::Memory,
+        }
+    }
 }

@@ -2,13 +2,20 @@
 //!
 //! At this stage the storage is the log alone. `define` makes it, without entries. `restart` syncs it, compares its
 //! front, reads the groups up to the first gate that isn't open, and puts their segments over those that the
-//! definitions load. It writes nothing.
+//! definitions load. It writes nothing, and keeps no list of groups or entries. `whole_db` copies the state out.
 #![tactic(auto)]
 
 mod defining;
 mod fault;
+mod fitting;
+mod reading;
 mod restarting;
+mod whole;
 
 pub use defining::define;
 pub use fault::RestartFault;
 pub use restarting::{Parts, restart};
+pub use whole::whole_db;
+
+#[cfg(test)]
+mod tests;

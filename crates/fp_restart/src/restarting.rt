@@ -1,8 +1,9 @@
 //! Restarting.
-ghost use Rattle.fp_model.specs.LogText.{FitsFront, StartsWithFront};
+ghost use Rattle.fp_model.specs.LogText.{FitsFront, StartsWithFront, first_gate};
 ghost use Rattle.fp_model.specs.WellFormed.{IsMsdbDef};
 ghost use Rattle.fp_model.specs.declared.log.Entry.{Entry};
 ghost use Rattle.fp_model.specs.declared.scripts.Script.{Script};
+ghost use Rattle.fp_restart.specs.Replayed.{IsFirstBadAt};
 ghost use Rattle.fp_restart.specs.Restarts.{IsBadAt, StandsFor};
 ghost use Rattle.fp_restart.specs.declared.fault.RestartFault.TheVariants as faults;
 ghost use Rattle.fp_site.specs.Disk.{Syncs};
@@ -14,6 +15,7 @@ ghost use Rattle.std.specs.List.{AllByRecursion};
 ghost use Rattle.std.specs.Prelude.{◌≡◌, ◌⊎◌, ◌-◌, ◌<◌, ◌≤◌, ◌^◌, ℕ, IfOk, IsErrOf, List as ListOf, OnOk};
 
 use crate::RestartFault;
+use crate::reading::read_parts;
 use fp_model::Defs;
 use fp_site::Site;
 use log_groups::{Front, Log};
@@ -52,6 +54,8 @@ pub fn restart<T: Site>(
     ensures front { T.told site.old → OnOk result (StartsWithFront ((T.disk site.old).contents 0) (texts_of front.now)) }
     ensures foreign { T.told site.old → IsErrOf result faults.Foreign → StartsWithFront ((T.disk site.old).contents 0) (texts_of front.now) → ⊥ }
     ensures damaged { (set at : ℕ) → T.told site.old → IsErrOf result (faults.Damaged set at) → (set ≡ 0) × IsBadAt defs.now ((T.disk site.old).contents 0) at }
+    ensures place { (set at : ℕ) → T.told site.old → IsErrOf result (faults.Damaged set at) →
+        IsFirstBadAt defs.now ((T.disk site.old).contents 0) (first_gate (texts_of front.now)) at }
     ensures cause { IsErrOf result faults.SiteFault → (T.faults site.old < T.faults site.new) ⊎ (T.faults site.new ≡ 2 ^ 64 - 1) }
     ensures later { T.faults site.old ≤ T.faults site.new }
 
@@ -64,9 +68,6 @@ pub fn restart<T: Site>(
     ensures holds { T.holds site.new ≡ T.holds site.old }
     ensures keeps { (first : T) → T.keeps first site.old → T.keeps first site.new }
 {
-    let _ = &alloc;
-    let _ = &defs.pool;
-    let _ = &front.defs;
-    let _ = &*site;
-    Err(RestartFault::Memory)
+    site.sync(0)?; // what is read is what a crash leaves
+    read_parts(alloc, defs, front, site)
 }

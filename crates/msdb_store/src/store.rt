@@ -110,6 +110,17 @@ impl MsdbStore {
         }
     }
 
+    /// A copy of all databases. It fails only for want of memory.
+    pub fn databases(&self, alloc: Global) -> Result<List<Msdb>, AllocError>
+        ensures { IfOk result (λ msdbs. msdbs ≡ self.now.msdbs) }
+    {
+        let mut msdbs = List::new(alloc);
+        for table in &self.tables {
+            msdbs.push(table.database()?)?;
+        }
+        Ok(msdbs)
+    }
+
     /// Puts the segments of items in their order; no bytes take a segment away, and other items are left aside. It
     /// fails only for want of memory. Then the items up to some one are put, and the store is to be thrown away.
     pub fn apply(&mut self, items: &List<Item>) -> Result<(), AllocError>

@@ -3,10 +3,10 @@ ghost use Rattle.fp_model.specs.State.{ascend, drop_key, is_below, key_length, k
 ghost use Rattle.fp_model.specs.Texts.{same_text};
 ghost use Rattle.msdb_store.specs.Places.{IsPlaced, IsWithin};
 ghost use Rattle.std.specs.Option.{option_copied};
-ghost use Rattle.std.specs.Prelude.{slice_get, ◌≡◌, OnErr, OnOk, find, length, map, true};
+ghost use Rattle.std.specs.Prelude.{slice_get, ◌≡◌, IfOk, OnErr, OnOk, find, length, map, true};
 
 use crate::keyed::{Place, count_below, key_in};
-use fp_model::{Bytes, FieldDef, List};
+use fp_model::{Bytes, FieldDef, List, Msdb};
 use std::alloc::AllocError;
 
 #[derive(Debug, Drop)]
@@ -109,5 +109,14 @@ impl Table {
             }
             Place::Lacks(_) => {}
         }
+    }
+
+    // The segments once more.
+    pub(crate) fn database(&self) -> Result<Msdb, AllocError>
+        ensures { IfOk result (λ msdb. msdb.segments ≡ self.now.segments.items) }
+    {
+        Ok(Msdb {
+            segments: List::from_vec(self.segments.clone()?),
+        })
     }
 }

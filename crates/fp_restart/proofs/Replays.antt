@@ -1,0 +1,156 @@
+-- Reading a log group by group, and what that gives of a sound log.
+use Rattle.std.proofs.Common.{◌≡◌, ◌≢◌, ⊎_elim, ℕ, ◌+◌, List, [], ◌∷◌, ◌++◌, length, refl, sym, ◌∙◌, ap, subst, arith}
+use Rattle.std.specs.Prelude.{slice_index}
+use Rattle.std.specs.List.{AllByRecursion}
+use Rattle.std.proofs.lemmas.List.{length-append}
+use Rattle.std.proofs.lemmas.List.Sums.{fold-append}
+use Rattle.fp_model.proofs.HistoryLemmas.{one_end}
+use Rattle.fp_model.specs.declared.definitions.Defs.{Defs}
+use Rattle.fp_model.specs.declared.database.Db.{Db}
+use Rattle.fp_model.specs.declared.database.Msdb.{Msdb}
+use Rattle.fp_model.specs.declared.log.Entry.{Entry}
+use Rattle.fp_model.specs.declared.log.Item.{Item}
+use Rattle.fp_model.specs.declared.log.Item.TheVariants.{Segment, Image}
+use Rattle.fp_model.specs.declared.scripts.Script.{Script}
+use Rattle.fp_model.specs.Groups.{Groups, Damage, IsDamaged, entries_of}
+use Rattle.fp_model.specs.Items.{IsFit, with_item, with_items}
+use Rattle.fp_model.specs.LogText.{Front, StartsWithFront, first_gate}
+use Rattle.fp_model.specs.Product.{rules_of}
+use Rattle.fp_model.specs.Recovery.{Holds, front_of}
+use Rattle.fp_model.specs.State.{start}
+use Rattle.fp_site.specs.Disk.{Disk, IsDurable}
+use Rattle.fp_site.proofs.Images.{durable_settles}
+use Rattle.log_format.proofs.GroupLaws.{one_reading}
+use Rattle.log_groups.proofs.LogImages.{all-append, groups_more}
+use Rattle.log_groups.specs.Images.{IsAtRest, IsLog}
+use Rattle.log_groups.specs.Kept.{IsSafe, IsSound, items_of}
+use Rattle.log_groups.specs.Log.{LogState}
+use Rattle.msdb_store.specs.Store.{IsFitSegment, IsOf, Stored}
+use Rattle.fp_restart.specs.Replayed.{IsFirstBadAt, IsReplayed, IsTaken}
+use Rattle.fp_restart.specs.Restarts.{HasUnfit, IsBadAt, StandsFor}
+use Rattle.fp_restart.proofs.Fits.{all-back, all-front, entries-append, entries-more, items-append}
+use Rattle.fp_restart.proofs.Groups.{has_next, same_reading}
+
+-- fit items are fit for the store
+pub fit_segments : (defs : Defs) (items : List Item) → AllByRecursion (IsFit defs) items → AllByRecursion (IsFitSegment defs.msdbs) items
+fit_segments defs [] all = tt
+fit_segments defs (Segment msdb key bytes ∷ items) all = (all.0, fit_segments defs items all.1)
+fit_segments defs (Image set ci bytes ∷ items) all = (tt, fit_segments defs items all.1)
+
+-- ---- group by group
+
+module _ (defs : Defs) (log : List ℕ) where
+  -- nothing is read yet
+  pub replayed_none : (first : ℕ) (before : List Msdb) → IsReplayed defs log (record { first = first; at = first; count = 0 }) before before
+  replayed_none first before = record {
+    groups = [];
+    holds = record { holds = record { each = tt; next = omega arith; text = refl }; fit = tt };
+    count = refl;
+    msdbs = refl;
+  }
+
+  -- a group more
+  pub replayed_more : (first at next count more : ℕ) (before mid now : List Msdb) → IsReplayed defs log (record { first = first; at = at; count = count }) before mid → IsTaken defs log at next more mid now
+      → IsReplayed defs log (record { first = first; at = next; count = count + more }) before now
+  replayed_more first at next count more before mid now so_far taken =
+      let gs = so_far.groups in
+      let es = taken.entries in
+      let all : entries_of (gs ++ es ∷ []) ≡ entries_of gs ++ es = entries-more gs es in
+      let items : items_of (entries_of (gs ++ es ∷ [])) ≡ items_of (entries_of gs) ++ items_of es = ap items_of all ∙ items-append (entries_of gs) es in
+      record {
+        groups = gs ++ es ∷ [];
+        holds = record {
+          holds = groups_more log first gs at es next so_far.holds.holds taken.group;
+          fit = subst (AllByRecursion (IsFit defs)) (sym items) (all-append (IsFit defs) (items_of (entries_of gs)) (items_of es) so_far.holds.fit taken.fit);
+        };
+        count = omega (arith, so_far.count, taken.count_is, ap length all, length-append (entries_of gs) es);
+        msdbs = taken.msdbs ∙ ap (λ ms. with_items defs.msdbs ms (items_of es)) so_far.msdbs ∙ sym (fold-append (with_item defs.msdbs) before (items_of (entries_of gs)) (items_of es)) ∙ ap (with_items defs.msdbs before) (sym items);
+      }
+
+  -- the first place that is bad
+  pub first_bad : (first at count : ℕ) (before now : List Msdb) → IsReplayed defs log (record { first = first; at = at; count = count }) before now → IsBadAt defs log at → IsFirstBadAt defs log first at
+  first_bad first at count before now so_far bad = record { groups = so_far.groups; holds = so_far.holds; bad = bad }
+
+-- ---- of a sound log
+
+module _ (defs : Defs) (scripts : List Script) (front : Front) (is : front.defs ≡ defs.text) (log : List ℕ) (entries : List Entry) (sound : IsSound defs scripts front.scripts log entries) where
+  same_front : front_of defs front.scripts ≡ front
+  same_front = ap (λ d. let f : Front = record { defs = d; scripts = front.scripts } in f) (sym is)
+
+  held : Holds front log sound.groups sound.gate
+  held = subst (λ f. Holds f log sound.groups sound.gate) same_front sound.holds
+
+  -- it begins with the front,
+  pub sound_begins : StartsWithFront log front
+  sound_begins = held.begins
+
+  -- and is bad nowhere
+  pub sound_not_bad : (at : ℕ) → IsFirstBadAt defs log (first_gate front) at → ⊥
+  sound_not_bad at it = ⊎_elim damaged unfit it.bad
+    where
+      no_damage : (gs : List (List Entry)) (gate at : ℕ) → Groups gs gate ≡ Damage at → ⊥
+      no_damage gs gate at e = cc
+
+      damaged : IsDamaged log at → ⊥
+      damaged d = no_damage sound.groups sound.gate at (one_reading log (first_gate front) (Groups sound.groups sound.gate) (Damage at) held.reads (it.groups, it.holds.holds, d))
+
+      unfit : HasUnfit defs log at → ⊥
+      unfit u =
+          let gs = it.groups in
+          let es = u.entries in
+          let next = has_next log (first_gate front) gs sound.groups at sound.gate u.next es it.holds.holds u.group held.reads in
+          let more = next.0 in
+          let all : entries ≡ (entries_of gs ++ es) ++ entries_of more =
+          sound.all ∙ ap entries_of next.1 ∙ entries-append (gs ++ es ∷ []) more ∙ ap (λ l. l ++ entries_of more) (entries-more gs es) in
+          let fit = subst (λ l. AllByRecursion (IsFit defs) (items_of l)) all sound.fit in
+          let front_fit = all-front (IsFit defs) (items_of (entries_of gs ++ es)) (items_of (entries_of more)) (subst (AllByRecursion (IsFit defs)) (items-append (entries_of gs ++ es) (entries_of more)) fit) in
+          u.unfit (all-back (IsFit defs) (items_of (entries_of gs)) (items_of es) (subst (AllByRecursion (IsFit defs)) (items-append (entries_of gs) es) front_fit))
+
+  -- what was read of it to its end stands for it
+  pub sound_stands : (disk : Disk) (store : Stored) (l : LogState) → IsDurable disk 0 → disk.contents 0 ≡ log → IsOf defs.msdbs store → l.unsealed ≡ []
+      → IsReplayed defs log (record { first = first_gate front; at = l.gate; count = l.sealed }) (start defs).msdbs store.msdbs → slice_index log l.gate ≢ 1
+      → StandsFor defs scripts front disk entries store l
+  sound_stands disk store l durable now of unsealed replayed closed =
+      let same = same_reading log (first_gate front) replayed.groups sound.groups l.gate sound.gate (replayed.holds.holds, closed) held.reads in
+      let all : entries ≡ entries_of replayed.groups = sound.all ∙ ap entries_of (sym same.0) in
+      record {
+        of = of;
+        segments = λ last history.
+            replayed.msdbs ∙ ap (λ es. with_items defs.msdbs (start defs).msdbs (items_of es)) (sym all) ∙ sound.made
+            ∙ ap (λ (d : Db). d.msdbs) (sym (one_end (rules_of defs scripts) [] (rules_of defs scripts).start entries sound.history.0 history.0 sound.last last sound.history.1 history.1).0);
+        sealed = replayed.count ∙ ap length (sym all);
+        unsealed = unsealed;
+        groups = replayed.groups;
+        all = all;
+        at_rest = record {
+          durable = durable;
+          log = subst (λ bytes. IsLog front bytes replayed.groups l.gate) (sym now) (record {
+            holds = record { begins = held.begins; reads = (replayed.holds.holds, closed) };
+            stands = omega (arith, same.1, sound.stands);
+          });
+        };
+      }
+
+-- ---- of a new log
+
+module _ (defs : Defs) (scripts : List Script) (front : Front) (is : front.defs ≡ defs.text) (disk : Disk) (rest : IsAtRest disk front [] (first_gate front)) where
+  -- a log without groups is sound
+  new_sound : IsSound defs scripts front.scripts (disk.contents 0) []
+  new_sound = record {
+    groups = [];
+    gate = first_gate front;
+    holds = subst (λ f. Holds f (disk.contents 0) [] (first_gate front)) (ap (λ d. let f : Front = record { defs = d; scripts = front.scripts } in f) is) rest.log.holds;
+    stands = rest.log.stands;
+    all = refl;
+    last = start defs;
+    history = ([], (refl, refl));
+    fit = tt;
+    made = refl;
+  }
+
+  -- and every crash leaves it so
+  pub new_safe : IsSafe defs scripts front.scripts disk []
+  new_safe = record {
+    now = new_sound;
+    crash = λ image settles. ([], subst (λ c. IsSound defs scripts front.scripts c []) (sym (durable_settles disk 0 image rest.durable settles)) new_sound);
+  }

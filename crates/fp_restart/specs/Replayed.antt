@@ -1,0 +1,44 @@
+-- What reading the groups of a log makes of the databases.
+use Rattle.std.specs.Prelude.{◌≡◌, ℕ, List, length}
+use Rattle.std.specs.List.{AllByRecursion}
+use Rattle.fp_model.specs.declared.definitions.Defs.{Defs}
+use Rattle.fp_model.specs.declared.database.Msdb.{Msdb}
+use Rattle.fp_model.specs.declared.log.Entry.{Entry}
+use Rattle.fp_model.specs.Groups.{HoldsGroups, entries_of}
+use Rattle.fp_model.specs.Items.{IsFit, with_items}
+use Rattle.log_groups.specs.Kept.{items_of}
+use Rattle.log_groups.specs.Reads.{HasGroup}
+use Rattle.fp_restart.specs.Restarts.{IsBadAt}
+
+-- a place behind a first gate, and how many entries stand between the two
+pub record Progress : Type 0 where
+  pub first : ℕ
+  pub at : ℕ
+  pub count : ℕ
+
+module _ (defs : Defs) (log : List ℕ) where
+  -- from the first gate on the log holds whole groups up to that place; all their items fit
+  pub record HoldsFit (first at : ℕ) (groups : List (List Entry)) : Type 0 where
+    pub holds : HoldsGroups log first groups at
+    pub fit : AllByRecursion (IsFit defs) (items_of (entries_of groups))
+
+  -- so many entries stand up to that place, and the databases now are those from before with their items
+  pub record IsReplayed (way : Progress) (before now : List Msdb) : Type 0 where
+    pub groups : List (List Entry)
+    pub holds : HoldsFit way.first way.at groups
+    pub count : way.count ≡ length (entries_of groups)
+    pub msdbs : now ≡ with_items defs.msdbs before (items_of (entries_of groups))
+
+  -- the group at a place is whole, its items fit, and the databases now are those from before with them
+  pub record IsTaken (at next count : ℕ) (before now : List Msdb) : Type 0 where
+    pub entries : List Entry
+    pub group : HasGroup log at entries next
+    pub fit : AllByRecursion (IsFit defs) (items_of entries)
+    pub count_is : count ≡ length entries
+    pub msdbs : now ≡ with_items defs.msdbs before (items_of entries)
+
+  -- the first place, from that gate on, where no group stands that restart may take
+  pub record IsFirstBadAt (first at : ℕ) : Type 0 where
+    pub groups : List (List Entry)
+    pub holds : HoldsFit first at groups
+    pub bad : IsBadAt defs log at

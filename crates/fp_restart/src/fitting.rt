@@ -1,0 +1,131 @@
+//! Whether the items of a group may be applied.
+ghost use Rattle.fp_model.specs.Items.{FitsMsdb, IsFit, area_sizes};
+ghost use Rattle.fp_model.specs.State.{key_length};
+ghost use Rattle.log_groups.specs.Kept.{items_of};
+ghost use Rattle.std.specs.List.{AllByRecursion};
+ghost use Rattle.std.specs.Prelude.{◌≡◌, ◌+◌, ◌*◌, ◌^◌, ◌≤◌, Some, false, length, slice_get, take, true};
+
+use fp_model::{Bytes, Defs, Entry, Item, MsdbDef};
+
+// Where the last interval of an area ends at the latest.
+const LIMIT: u128 = 1 << 62;
+
+// The data set of the first area.
+const FIRST_AREA: u16 = 3;
+
+// Whether every item of these entries is fit.
+pub(crate) fn are_fit(defs: &Defs, entries: &[Entry]) -> bool
+    ensures fits { result ≡ true → AllByRecursion (IsFit defs.now) (items_of entries.now) }
+    ensures unfit { result ≡ false → ¬ (AllByRecursion (IsFit defs.now) (items_of entries.now)) }
+{
+    for entry in entries {
+        if !items_fit(defs, entry.items.as_slice()) {
+            return false;
+        }
+    }
+    true
+}
+
+// Whether every item is fit.
+fn items_fit(defs: &Defs, items: &[Item]) -> bool
+    ensures fits { result ≡ true → AllByRecursion (IsFit defs.now) items.now }
+    ensures unfit { result ≡ false → ¬ (AllByRecursion (IsFit defs.now) items.now) }
+{
+    for item in items {
+        if !is_fit(defs, item) {
+            return false;
+        }
+    }
+    true
+}
+
+// Whether restart may apply an item.
+fn is_fit(defs: &Defs, item: &Item) -> bool
+    ensures fits { result ≡ true → IsFit defs.now item.now }
+    ensures unfit { result ≡ false → ¬ (IsFit defs.now item.now) }
+{
+    match item {
+        Item::Segment { msdb, key, bytes } => match defs.msdbs.get(*msdb as usize) {
+            Some(def) => fits_msdb(def, key, bytes),
+            None => false,
+        },
+        Item::Image { set, ci, bytes } => {
+            *set >= FIRST_AREA
+                && is_size(area_size(defs, (*set - FIRST_AREA) as usize), bytes.len())
+                && ends_within(*ci, bytes.len())
+        }
+    }
+}
+
+// Whether a segment is one that its database may have: none at all, or one of the defined length under its key.
+fn fits_msdb(def: &MsdbDef, key: &Bytes, bytes: &Bytes) -> bool
+    ensures fits { result ≡ true → FitsMsdb def.now key.now bytes.now }
+    ensures unfit { result ≡ false → ¬ (FitsMsdb def.now key.now bytes.now) }
+{
+    if key.len() != key_length(def) {
+        return false;
+    }
+    if bytes.is_empty() {
+        return true;
+    }
+    bytes.len() == def.length as usize && has_key(bytes.as_slice(), key.as_slice())
+}
+
+// The length of the key of a database's segments.
+fn key_length(def: &MsdbDef) -> usize
+    ensures { result ≡ key_length def.now.fields }
+{
+    match def.fields.as_slice().first() {
+        Some(key) => key.length as usize,
+        None => 0,
+    }
+}
+
+// Whether a segment begins with a key.
+fn has_key(segment: &[u8], key: &[u8]) -> bool
+    ensures is { result ≡ true → take (length key.now) segment.now ≡ key.now }
+    ensures not { result ≡ false → ¬ (take (length key.now) segment.now ≡ key.now) }
+{
+    start_of(segment, key.len()) == key
+}
+
+// So many bytes at the start of a segment, or all where there are fewer.
+fn start_of(segment: &[u8], count: usize) -> &[u8]
+    ensures { result.now ≡ take count segment.now }
+{
+    &segment[..count.min(segment.len())]
+}
+
+// The size of the intervals of an area, by its number, counted from 0 through the databases. None where there is no
+// such area.
+fn area_size(defs: &Defs, number: usize) -> Option<u16>
+    ensures { result ≡ slice_get (area_sizes defs.now) number }
+{
+    let mut left = number;
+    for dedb in defs.dedbs.as_slice() {
+        if left < dedb.areas.len() {
+            return Some(dedb.ci);
+        }
+        left -= dedb.areas.len();
+    }
+    None
+}
+
+// Whether an area has intervals of this size.
+fn is_size(size: Option<u16>, len: usize) -> bool
+    ensures is { result ≡ true → size ≡ Some len }
+    ensures not { result ≡ false → ¬ (size ≡ Some len) }
+{
+    match size {
+        Some(size) => size as usize == len,
+        None => false,
+    }
+}
+
+// Whether an interval of this number and size ends where an area may.
+fn ends_within(ci: u64, len: usize) -> bool
+    ensures within { result ≡ true → (ci + 1) * len ≤ 2 ^ 62 }
+    ensures past { result ≡ false → ¬ ((ci + 1) * len ≤ 2 ^ 62) }
+{
+    (ci as u128 + 1) * len as u128 <= LIMIT
+}

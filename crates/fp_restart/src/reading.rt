@@ -1,0 +1,172 @@
+//! Reading the groups of a log, and putting their segments.
+ghost use Rattle.fp_model.specs.Items.{IsFit, with_items};
+ghost use Rattle.fp_model.specs.State.{start};
+ghost use Rattle.fp_model.specs.LogText.{FitsFront, StartsWithFront, first_gate};
+ghost use Rattle.fp_model.specs.WellFormed.{IsMsdbDef};
+ghost use Rattle.fp_restart.specs.Replayed.{IsFirstBadAt, IsReplayed, IsTaken};
+ghost use Rattle.fp_restart.specs.Restarts.{IsBadAt};
+ghost use Rattle.fp_restart.specs.declared.fault.RestartFault.TheVariants as faults;
+ghost use Rattle.fp_site.specs.Disk.{Stays};
+ghost use Rattle.log_groups.specs.Images.{texts_of};
+ghost use Rattle.log_groups.specs.Kept.{items_of};
+ghost use Rattle.log_groups.specs.Reads.{HasGroup};
+ghost use Rattle.fp_model.specs.declared.definitions.MsdbDef.{MsdbDef as DefOf};
+ghost use Rattle.msdb_store.specs.Store.{IsFitSegment, IsOf};
+ghost use Rattle.std.specs.List.{AllByRecursion};
+ghost use Rattle.std.specs.Prelude.{◌≡◌, ◌≢◌, ◌⊎◌, ◌+◌, ◌-◌, ◌<◌, ◌≤◌, ◌^◌, ℕ, [], List as ListOf, IfNone, IfOk, IfSome, IsErrOf, OnOk, false, length, slice_index, true};
+
+use crate::RestartFault;
+use crate::fitting::are_fit;
+use crate::restarting::Parts;
+use fp_model::{Defs, Entry};
+use fp_site::Site;
+use log_groups::{Front, Group, Log};
+use msdb_store::MsdbStore;
+use std::alloc::{AllocError, Global};
+
+// Where a data set ends at the latest.
+const LIMIT: u64 = 1 << 62;
+
+// A group that was taken: the place of the gate behind it, and how many entries it has.
+#[derive(Clone, Copy)]
+struct Taken {
+    next: u64,
+    count: u64,
+}
+
+// The log's parts, read from the front on. Nothing changes.
+pub(crate) fn read_parts<T: Site>(
+    alloc: Global,
+    defs: &Defs,
+    front: &Front,
+    site: &mut T,
+) -> Result<Parts, RestartFault>
+    requires fits { FitsFront (texts_of front.now) }
+    requires each { AllByRecursion IsMsdbDef defs.now.msdbs }
+
+    // The groups up to the first gate that isn't open are put.
+    ensures replayed { T.told site.old → IfOk result (λ parts. IsReplayed defs.now ((T.disk site.old).contents 0)
+        (record { first = first_gate (texts_of front.now); at = parts.1.gate; count = parts.1.sealed }) (start defs.now).msdbs parts.0.msdbs) }
+    ensures closed { T.told site.old → IfOk result (λ parts. slice_index ((T.disk site.old).contents 0) parts.1.gate ≢ 1) }
+    ensures unsealed { IfOk result (λ parts. parts.1.unsealed ≡ []) }
+    ensures of { IfOk result (λ parts. IsOf defs.now.msdbs parts.0) }
+
+    // When each refusal comes.
+    ensures front { T.told site.old → OnOk result (StartsWithFront ((T.disk site.old).contents 0) (texts_of front.now)) }
+    ensures foreign { T.told site.old → IsErrOf result faults.Foreign → StartsWithFront ((T.disk site.old).contents 0) (texts_of front.now) → ⊥ }
+    ensures damaged { (set at : ℕ) → T.told site.old → IsErrOf result (faults.Damaged set at) →
+        (set ≡ 0) × IsFirstBadAt defs.now ((T.disk site.old).contents 0) (first_gate (texts_of front.now)) at }
+    ensures cause { IsErrOf result faults.SiteFault → (T.faults site.old < T.faults site.new) ⊎ (T.faults site.new ≡ 2 ^ 64 - 1) }
+    ensures later { T.faults site.old ≤ T.faults site.new }
+
+    ensures stays { T.told site.old → Stays (T.disk site.old) (T.disk site.new) }
+    ensures told { T.told site.old → T.told site.new }
+    ensures holds { T.holds site.new ≡ T.holds site.old }
+    ensures keeps { (first : T) → T.keeps first site.old → T.keeps first site.new }
+{
+    let mut log = Log::open(alloc, site, front)?;
+    let mut store = MsdbStore::start(alloc, defs)?;
+    replay(defs, site, &mut log, &mut store)?;
+    Ok((store, log))
+}
+
+// Reads the groups behind a log's gate, puts their segments, and tells the log where it ends.
+fn replay<T: Site>(
+    defs: &Defs,
+    site: &mut T,
+    log: &mut Log,
+    store: &mut MsdbStore,
+) -> Result<(), RestartFault>
+    requires of { IsOf defs.now.msdbs store.old }
+    requires unsealed { log.old.unsealed ≡ [] }
+    requires gate { log.old.gate ≤ 2 ^ 62 }
+    ensures replayed { T.told site.old → OnOk result (IsReplayed defs.now ((T.disk site.old).contents 0)
+        (record { first = log.old.gate; at = log.new.gate; count = log.new.sealed }) store.old.msdbs store.new.msdbs) }
+    ensures closed { T.told site.old → OnOk result (slice_index ((T.disk site.old).contents 0) log.new.gate ≢ 1) }
+    ensures unsealed { OnOk result (log.new.unsealed ≡ []) }
+    ensures of { OnOk result (IsOf defs.now.msdbs store.new) }
+    ensures damaged { (set at : ℕ) → T.told site.old → IsErrOf result (faults.Damaged set at) →
+        (set ≡ 0) × IsFirstBadAt defs.now ((T.disk site.old).contents 0) log.old.gate at }
+    ensures cause { IsErrOf result faults.SiteFault → (T.faults site.old < T.faults site.new) ⊎ (T.faults site.new ≡ 2 ^ 64 - 1) }
+    ensures later { T.faults site.old ≤ T.faults site.new }
+    ensures never { IsErrOf result faults.Foreign → ⊥ }
+    ensures stays { T.told site.old → Stays (T.disk site.old) (T.disk site.new) }
+    ensures told { T.told site.old → T.told site.new }
+    ensures holds { T.holds site.new ≡ T.holds site.old }
+    ensures keeps { (first : T) → T.keeps first site.old → T.keeps first site.new }
+{
+    let mut at = log.gate();
+    let mut count = 0;
+    loop {
+        let Some(taken) = take_group(defs, site, log, store, at)? else {
+            log.end_at(at, count);
+            return Ok(());
+        };
+        at = taken.next;
+        count += taken.count;
+    }
+}
+
+// Reads the group behind the gate at this place, and puts its segments. None where that gate isn't open.
+fn take_group<T: Site>(
+    defs: &Defs,
+    site: &mut T,
+    log: &mut Log,
+    store: &mut MsdbStore,
+    at: u64,
+) -> Result<Option<Taken>, RestartFault>
+    requires { IsOf defs.now.msdbs store.old }
+    ensures taken { T.told site.old → IfOk result (λ found. IfSome found (λ taken.
+        IsTaken defs.now ((T.disk site.old).contents 0) at taken.next taken.count store.old.msdbs store.new.msdbs)) }
+    ensures goes_on { IfOk result (λ found. IfSome found (λ taken. (at < taken.next) × (taken.next ≤ 2 ^ 62) × (at + taken.count ≤ taken.next))) }
+    ensures closed { T.told site.old → IfOk result (λ found. IfNone found (slice_index ((T.disk site.old).contents 0) at ≢ 1)) }
+    ensures none { IfOk result (λ found. IfNone found (store.new ≡ store.old)) }
+    ensures of { OnOk result (IsOf defs.now.msdbs store.new) }
+    ensures damaged { (set place : ℕ) → T.told site.old → IsErrOf result (faults.Damaged set place) →
+        (set ≡ 0) × (place ≡ at) × IsBadAt defs.now ((T.disk site.old).contents 0) at }
+    ensures cause { IsErrOf result faults.SiteFault → (T.faults site.old < T.faults site.new) ⊎ (T.faults site.new ≡ 2 ^ 64 - 1) }
+    ensures later { T.faults site.old ≤ T.faults site.new }
+    ensures never { IsErrOf result faults.Foreign → ⊥ }
+    ensures log { log.new ≡ log.old }
+    ensures stays { T.told site.old → Stays (T.disk site.old) (T.disk site.new) }
+    ensures told { T.told site.old → T.told site.new }
+    ensures holds { T.holds site.new ≡ T.holds site.old }
+    ensures keeps { (first : T) → T.keeps first site.old → T.keeps first site.new }
+{
+    let Some(group) = log.group_at(site, at)? else {
+        return Ok(None);
+    };
+    if !stands_behind(&group, at) {
+        // A site that tells what it holds never comes here.
+        return Err(RestartFault::Damaged { set: 0, at });
+    }
+    if !are_fit(defs, group.entries.as_slice()) {
+        return Err(RestartFault::Damaged { set: 0, at });
+    }
+    put_entries(store, group.entries.as_slice())?;
+    Ok(Some(Taken {
+        next: group.next,
+        count: group.entries.len() as u64,
+    }))
+}
+
+// Whether a group's end is behind its gate, by more bytes than it has entries, and within a data set.
+fn stands_behind(group: &Group, at: u64) -> bool
+    ensures is { result ≡ true → (at < group.now.next) × (group.now.next ≤ 2 ^ 62) × (at + length group.now.entries ≤ group.now.next) }
+    ensures not { result ≡ false → at < group.now.next → group.now.next ≤ 2 ^ 62 → at + length group.now.entries ≤ group.now.next → ⊥ }
+{
+    at < group.next && group.next <= LIMIT && group.entries.len() as u64 <= group.next - at
+}
+
+// Puts the segments of these entries in their order. It fails only for want of memory; then the store is to be thrown
+// away.
+fn put_entries(store: &mut MsdbStore, entries: &[Entry]) -> Result<(), AllocError>
+    ensures msdbs { (defs : ListOf DefOf) → IsOf defs store.old → AllByRecursion (IsFitSegment defs) (items_of entries.now)
+        → OnOk result (store.new.msdbs ≡ with_items defs store.old.msdbs (items_of entries.now)) }
+    ensures of { (defs : ListOf DefOf) → IsOf defs store.old → AllByRecursion (IsFitSegment defs) (items_of entries.now) → IsOf defs store.new }
+{
+    for entry in entries {
+        store.apply(&entry.items)?;
+    }
+    Ok(())
+}
