@@ -1,5 +1,5 @@
 //! The file of a data set.
-ghost use Rattle.std.specs.Prelude.{◌≡◌, ◌++◌, ◌≤◌, ◌+◌, ◌^◌, IfOk, codes, length};
+ghost use Rattle.std.specs.Prelude.{◌≡◌, ◌++◌, ◌≤◌, ◌+◌, ◌^◌, IfOk, IsErr, OnErr, OnOk, codes, false, length, true};
 ghost use Rattle.std.specs.Fmt.{decimal};
 ghost use Rattle.std.specs.String.{string_bytes};
 ghost use Rattle.ims_fp.specs.Files.{data_set_name};
@@ -61,9 +61,11 @@ impl DataSet {
         folder: &Folder<'_, R>,
         set: u16,
     ) -> io::Result<u64>
-        ensures { IfOk result (λ n. n ≤ 2 ^ 62) }
+        ensures bound { IfOk result (λ n. n ≤ 2 ^ 62) }
+        ensures lost { self.new.lost ≡ self.old.lost }
     {
-        let length = match self.found(folder, set)? {
+        self.find(folder, set)?;
+        let length = match &self.file {
             Some(file) => file.metadata()?.len(),
             None => 0,
         };
@@ -80,7 +82,9 @@ impl DataSet {
         set: u16,
         at: u64,
         into: &mut [u8],
-    ) -> io::Result<()> {
+    ) -> io::Result<()>
+        ensures { self.new.lost ≡ self.old.lost }
+    {
         let count = self.size(folder, set)?.saturating_sub(at);
         let count = count.min(into.len() as u64) as usize;
         if let Some(file) = &self.file {
@@ -99,19 +103,32 @@ impl DataSet {
         from: &[u8],
     ) -> io::Result<()>
         requires { at + length from.now ≤ 2 ^ 62 }
+        ensures { self.new.lost ≡ self.old.lost }
     {
         if from.is_empty() {
             return Ok(());
         }
-        self.made(folder, set)?.write_all_at(from, at)
+        self.find(folder, set)?;
+        match &self.file {
+            Some(file) => file.write_all_at(from, at),
+            None => {
+                let file = self.made(folder, set)?;
+                self.file.insert(file).write_all_at(from, at)
+            }
+        }
     }
 
-    /// Makes durable what the data set holds, and that its file is there or isn't.
+    /// Makes durable what the data set holds, and that its file is there or isn't. After a sync that failed, each
+    /// later one fails.
     pub(crate) fn sync<R: Files<File = File>>(
         &mut self,
         folder: &Folder<'_, R>,
         set: u16,
-    ) -> io::Result<()> {
+    ) -> io::Result<()>
+        ensures settled { OnOk result (self.new.settled ≡ true) }
+        ensures failed { OnErr result (self.new.lost ≡ true) }
+        ensures lost { self.old.lost ≡ true → IsErr result }
+    {
         if self.lost {
             return Err(io::ErrorKind::Other.into());
         }
@@ -124,8 +141,11 @@ impl DataSet {
         &mut self,
         folder: &Folder<'_, R>,
         set: u16,
-    ) -> io::Result<()> {
-        if let Some(file) = self.found(folder, set)? {
+    ) -> io::Result<()>
+        ensures { OnOk result (self.new.settled ≡ true) }
+    {
+        self.find(folder, set)?;
+        if let Some(file) = &self.file {
             file.sync_all()?;
         }
         if !self.settled {
@@ -135,40 +155,33 @@ impl DataSet {
         Ok(())
     }
 
-    // Its file, if there is one.
-    fn found<R: Files<File = File>>(
-        &mut self,
-        folder: &Folder<'_, R>,
-        set: u16,
-    ) -> io::Result<Option<&File>> {
-        if self.file.is_none() {
-            let name = name_of(folder.alloc(), set)?;
-            match folder.open_to_write(&name) {
-                Ok(file) => self.file = Some(file),
-                Err(e) if e.kind() == io::ErrorKind::NotFound => return Ok(None),
-                Err(e) => return Err(e),
-            }
+    // Opens its file, if there is one.
+    fn find<R: Files<File = File>>(&mut self, folder: &Folder<'_, R>, set: u16) -> io::Result<()>
+        ensures { self.new.lost ≡ self.old.lost }
+    {
+        if self.file.is_some() {
+            return Ok(());
         }
-        Ok(self.file.as_ref())
-    }
-
-    // Its file, made where there is none.
-    fn made<R: Files<File = File>>(
-        &mut self,
-        folder: &Folder<'_, R>,
-        set: u16,
-    ) -> io::Result<&File> {
-        match &self.file {
-            Some(_) => {}
-            None => {
-                let name = name_of(folder.alloc(), set)?;
-                self.file = Some(folder.make(&name)?);
+        let name = name_of(folder.alloc(), set)?;
+        match folder.open_to_write(&name) {
+            Ok(file) => {
+                self.file = Some(file);
                 self.settled = false;
             }
+            Err(e) if e.kind() == io::ErrorKind::NotFound => {}
+            Err(e) => return Err(e),
         }
-        match &self.file {
-            Some(file) => Ok(file),
-            None => Err(io::ErrorKind::NotFound.into()),
-        }
+        Ok(())
+    }
+
+    // Its file, which is made.
+    fn made<R: Files<File = File>>(&mut self, folder: &Folder<'_, R>, set: u16) -> io::Result<File>
+        ensures settled { OnOk result (self.new.settled ≡ false) }
+        ensures lost { self.new.lost ≡ self.old.lost }
+    {
+        let name = name_of(folder.alloc(), set)?;
+        let file = folder.make(&name)?;
+        self.settled = false;
+        Ok(file)
     }
 }

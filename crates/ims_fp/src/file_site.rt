@@ -1,8 +1,8 @@
 //! The data sets of a folder, and an output, as a site.
 //!
 //! What is sent is gathered in a block, and written when the block is full, before the next other call, and by
-//! `finish`. What a failed write of the output leaves stays in the block, and the next call writes it, so the bytes
-//! that come out have no gap.
+//! `finish`. What a failed write leaves of the block stays in it, and the next call writes it. So no text whose `send`
+//! answered Ok is left out before a later one.
 ghost use Rattle.std.specs.Prelude.{◌≡◌, ◌<◌, ◌≤◌, ◌+◌, ◌^◌, [], IfOk, OnErr, OnOk, length, vec_len};
 ghost use Rattle.fp_site.specs.Site.{Counts};
 ghost use Rattle.fp_source.specs.Source.{Rose};

@@ -4,12 +4,14 @@
 //! a call needs one.
 #![tactic(auto)]
 
+ghost use Rattle.std.specs.Prelude.{◌≡◌, ◌≢◌, IsErr, IsOk};
+ghost use Rattle.fp_system.specs.declared.status.Status.{Status};
+
 mod data_set;
 mod faults;
 mod file_site;
 mod file_source;
 mod folder;
-
 #[cfg(test)]
 mod tests;
 
@@ -62,7 +64,17 @@ fn served(rt: &HostRuntime, words: &[String]) -> Status {
     };
     let mut source = FileSource::new(Folder::new(rt, alloc, dir));
     let status = ims(alloc, words, &mut source, &mut site);
-    match site.finish() {
+    after(status, site.finish())
+}
+
+// How the program ends, once the last of the output is written or not: it isn't `Done` where it isn't written.
+fn after(status: Status, written: Result<(), Failed>) -> Status
+    ensures done { result ≡ Status.Done → IsOk written }
+    ensures fault { IsErr written → status ≡ Status.Done → result ≡ Status.SiteFault }
+    ensures others { status ≢ Status.Done → result ≡ status }
+    ensures written { IsOk written → result ≡ status }
+{
+    match written {
         Err(Failed) if status == Status::Done => Status::SiteFault,
         _ => status,
     }

@@ -1,5 +1,5 @@
 -- one place fewer is missing
-use Rattle.std.proofs.Common.{◌+◌, ◌-◌, ℕ, vec_len}
+use Rattle.std.proofs.Common.{◌+◌, ◌-◌, vec_len}
 use Rattle.ims_fp.proofs.file_site.reach_set.Given as goal
 
 abbrev pub decreases-loop-sets : goal.decreases-loop-sets
