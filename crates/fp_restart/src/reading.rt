@@ -56,6 +56,7 @@ pub(crate) fn read_parts<T: Site>(
     ensures foreign { T.told site.old → IsErrOf result faults.Foreign → StartsWithFront ((T.disk site.old).contents 0) (texts_of front.now) → ⊥ }
     ensures damaged { (set at : ℕ) → T.told site.old → IsErrOf result (faults.Damaged set at) →
         (set ≡ 0) × IsFirstBadAt defs.now ((T.disk site.old).contents 0) (first_gate (texts_of front.now)) at }
+    ensures begun { (set at : ℕ) → T.told site.old → IsErrOf result (faults.Damaged set at) → StartsWithFront ((T.disk site.old).contents 0) (texts_of front.now) }
     ensures cause { IsErrOf result faults.SiteFault → (T.faults site.old < T.faults site.new) ⊎ (T.faults site.new ≡ 2 ^ 64 - 1) }
     ensures later { T.faults site.old ≤ T.faults site.new }
 

@@ -54,6 +54,7 @@ pub fn restart<T: Site>(
     ensures front { T.told site.old → OnOk result (StartsWithFront ((T.disk site.old).contents 0) (texts_of front.now)) }
     ensures foreign { T.told site.old → IsErrOf result faults.Foreign → StartsWithFront ((T.disk site.old).contents 0) (texts_of front.now) → ⊥ }
     ensures damaged { (set at : ℕ) → T.told site.old → IsErrOf result (faults.Damaged set at) → (set ≡ 0) × IsBadAt defs.now ((T.disk site.old).contents 0) at }
+    ensures begun { (set at : ℕ) → T.told site.old → IsErrOf result (faults.Damaged set at) → StartsWithFront ((T.disk site.old).contents 0) (texts_of front.now) }
     ensures place { (set at : ℕ) → T.told site.old → IsErrOf result (faults.Damaged set at) →
         IsFirstBadAt defs.now ((T.disk site.old).contents 0) (first_gate (texts_of front.now)) at }
     ensures cause { IsErrOf result faults.SiteFault → (T.faults site.old < T.faults site.new) ⊎ (T.faults site.new ≡ 2 ^ 64 - 1) }

@@ -1,6 +1,6 @@
 use Rattle.std.proofs.Common.{◌≡◌, ◌≢◌, [], sym, ap, subst}
 use Rattle.std.specs.Prelude.{slice_index}
-use Rattle.fp_model.specs.LogText.{first_gate}
+use Rattle.fp_model.specs.LogText.{StartsWithFront, first_gate}
 use Rattle.fp_model.specs.State.{start}
 use Rattle.fp_site.proofs.Images.{durable_stays}
 use Rattle.fp_restart.specs.Replayed.{IsFirstBadAt, IsReplayed}
@@ -54,3 +54,7 @@ pub returns-clause-place : goal.returns-clause-place
 returns-clause-place g c set at t is =
     let bad = c.read_parts.ensures.damaged set at (c.sync.ensures.told t) is in
     subst (λ l. IsFirstBadAt c.args.defs.now l (first_gate (texts_of c.args.front.now)) at) (c.sync.ensures.same t) bad.1
+
+pub returns-clause-begun : goal.returns-clause-begun
+returns-clause-begun g c set at t is =
+    subst (λ l. StartsWithFront l (texts_of c.args.front.now)) (c.sync.ensures.same t) (c.read_parts.ensures.begun set at (c.sync.ensures.told t) is)

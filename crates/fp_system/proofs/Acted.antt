@@ -1,0 +1,162 @@
+-- What restarting and then serving leave of a safe site.
+use Rattle.std.proofs.Common.{◌≡◌, inl, inr, refl, sym, ap, subst, ◌∙◌, arith, ℕ, List, [], ◌++◌, length, take}
+use Rattle.std.proofs.lemmas.List.{append-nil, take_all}
+use Rattle.fp_model.specs.declared.definitions.Defs.{Defs}
+use Rattle.fp_model.specs.declared.log.Entry.{Entry}
+use Rattle.fp_model.specs.LogText.{Front, first_gate}
+use Rattle.fp_model.specs.State.{start}
+use Rattle.fp_restart.specs.declared.fault.RestartFault.{RestartFault}
+use Rattle.fp_restart.specs.declared.fault.RestartFault.TheVariants as fault
+use Rattle.fp_restart.specs.Restarts.{StandsFor}
+use Rattle.fp_site.specs.Disk.{Disk, Snapshot, Settles, Syncs, IsLawful}
+use Rattle.fp_site.specs.Moments.{Through}
+use Rattle.fp_site.proofs.Images.{settles_again, settles_left}
+use Rattle.fp_site.proofs.Runs.{started, joined, weaker}
+use Rattle.log_groups.specs.Images.{IsAtRest, texts_of}
+use Rattle.log_groups.specs.Kept.{IsSound, IsSafe, IsKept, GoesOn, lines_of_entries}
+use Rattle.log_groups.specs.Log.{LogState}
+use Rattle.msdb_store.specs.Store.{Stored}
+use Rattle.fp_system.specs.declared.parts.Setup.{Setup}
+use Rattle.fp_system.specs.declared.status.Status.TheVariants as status
+use Rattle.fp_system.specs.Ims.{IsAnswered, IsOr, status_of_fault}
+use Rattle.fp_system.specs.Parts.{Job, front_for}
+use Rattle.fp_system.specs.Serving.{IsAccount, StandsAt, Serves, Halts}
+use Rattle.fp_system.specs.Setups.{IsSetupOf}
+use Rattle.fp_system.proofs.Stands.{safe_at_rest}
+
+-- ---- faults of storage
+
+pub or_foreign : (f : RestartFault) → ((set at : ℕ) → f ≡ fault.Damaged set at → ⊥) → IsOr status.Foreign (status_of_fault f)
+or_foreign fault.Foreign never = inl refl
+or_foreign fault.SiteFault never = inr tt
+or_foreign (fault.Damaged set at) never = absurd (never set at refl)
+or_foreign fault.Memory never = inr tt
+
+pub or_done : (f : RestartFault) → (f ≡ fault.Foreign → ⊥) → ((set at : ℕ) → f ≡ fault.Damaged set at → ⊥) → IsOr status.Done (status_of_fault f)
+or_done fault.Foreign never never2 = absurd (never refl)
+or_done fault.SiteFault never never2 = inr tt
+or_done (fault.Damaged set at) never never2 = absurd (never2 set at refl)
+or_done fault.Memory never never2 = inr tt
+
+pub damaged_is : (f : RestartFault) (set at : ℕ) → status_of_fault f ≡ status.Damaged set at → f ≡ fault.Damaged set at
+damaged_is fault.Foreign set at e = absurd cc
+damaged_is fault.SiteFault set at e = absurd cc
+damaged_is (fault.Damaged s a) set at e = cc
+damaged_is fault.Memory set at e = absurd cc
+
+-- ---- no entries
+
+no_account : (job : Job) → IsAccount job []
+no_account job = record { last = start job.defs; history = ([], (refl, refl)); fit = tt; made = refl }
+
+-- a new log is safe
+pub made_safe : (job : Job) (setup : Setup) (disk : Disk) → IsSetupOf job setup → IsAtRest disk (texts_of setup.front) [] (first_gate (texts_of setup.front)) → IsSafe job.defs job.scripts job.scripts_text disk []
+made_safe job setup disk is rest = safe_at_rest job [] disk [] (first_gate (front_for job)) (no_account job) refl (subst (λ (f : Front). IsAtRest disk f [] (first_gate f)) is.front rest)
+
+-- ---- restarting
+
+module _ (job : Job) (setup : Setup) (is : IsSetupOf job setup) where
+  scripts_same : (texts_of setup.front).scripts ≡ job.scripts_text
+  scripts_same = ap (λ (f : Front). f.scripts) is.front
+
+  pub to_setup : (bytes : List ℕ) (entries : List Entry) → IsSound job.defs job.scripts job.scripts_text bytes entries → IsSound setup.defs job.scripts (texts_of setup.front).scripts bytes entries
+  to_setup bytes entries sound =
+      subst (λ (d : Defs). IsSound d job.scripts (texts_of setup.front).scripts bytes entries) (sym is.defs)
+      (subst (λ (t : List ℕ). IsSound job.defs job.scripts t bytes entries) (sym scripts_same) sound)
+
+  from_setup : (disk : Disk) (entries : List Entry) (store : Stored) (log : LogState) → StandsFor setup.defs job.scripts (texts_of setup.front) disk entries store log → StandsFor job.defs job.scripts (front_for job) disk entries store log
+  from_setup disk entries store log stands =
+      subst (λ (f : Front). StandsFor job.defs job.scripts f disk entries store log) is.front
+      (subst (λ (d : Defs). StandsFor d job.scripts (texts_of setup.front) disk entries store log) is.defs stands)
+
+  -- what restart gives of a safe site stands at its entries
+  pub stands_restarted : (h h1 : Disk) (entries : List Entry) (store : Stored) (log : LogState) → IsSafe job.defs job.scripts job.scripts_text h entries → StandsFor setup.defs job.scripts (texts_of setup.front) h1 entries store log → StandsAt job entries h1 store log
+  stands_restarted h h1 entries store log safe found =
+      let f = from_setup h1 entries store log found in
+      record {
+        account = record { last = safe.now.last; history = safe.now.history; fit = safe.now.fit; made = safe.now.made };
+        groups = f.groups;
+        all = f.all;
+        at_rest = f.at_rest;
+        unsealed = f.unsealed;
+        sealed = f.sealed;
+        of = f.of;
+        segments = f.segments safe.now.last safe.now.history;
+      }
+
+module _ (job : Job) (h h1 : Disk) (entries : List Entry) (law1 : IsLawful h1) (safe : IsSafe job.defs job.scripts job.scripts_text h entries) (contents : (set : ℕ) → h1.contents set ≡ h.contents set) (sent : h1.sent ≡ h.sent) (run : Through h h1 (Syncs h 0)) where
+  abbrev Kept : Snapshot → Type 0
+  Kept = IsKept job.defs job.scripts job.scripts_text h entries
+
+  synced : (s : Snapshot) → h1.may_leave s → Settles h 0 (s.images 0)
+  synced s left = (run.each s (law1.earlier h.moment h1.moment s run.later (law1.counts_now s left))).this
+
+  -- a safe site that was synced is safe
+  safe_synced : IsSafe job.defs job.scripts job.scripts_text h1 entries
+  safe_synced = record {
+    now = subst (λ (l : List ℕ). IsSound job.defs job.scripts job.scripts_text l entries) (sym (contents 0)) safe.now;
+    crash = λ image settles. safe.crash image (settles_again h h1 0 image synced settles);
+  }
+
+  pub halts_synced : Halts job entries h h1
+  halts_synced = record {
+    later = [];
+    safe = subst (IsSafe job.defs job.scripts job.scripts_text h1) (sym (append-nil entries)) safe_synced;
+    count = 0;
+    sent = sent ∙ sym (append-nil h.sent);
+  }
+
+  pub kept_synced : Through h h1 Kept
+  kept_synced = weaker (Syncs h 0) Kept h h1 (λ s d. inl d) run
+
+  -- ---- and then serving
+
+  module _ (h2 : Disk) where
+    from_old : (s : Snapshot) → GoesOn job.defs job.scripts job.scripts_text h1 entries s → Kept s
+    from_old s goes = inr (record {
+      later = goes.later;
+      sound = goes.sound;
+      count = goes.count;
+      sent = λ told. goes.sent (run.tells_sent told) ∙ ap (λ (t : List ℕ). t ++ take goes.count (lines_of_entries goes.later)) sent;
+    })
+
+    pub kept_served : Through h1 h2 (GoesOn job.defs job.scripts job.scripts_text h1 entries) → Through h h2 Kept
+    kept_served served = joined Kept h h1 h2 kept_synced (weaker (GoesOn job.defs job.scripts job.scripts_text h1 entries) Kept h1 h2 from_old served)
+
+    pub halts_served : Halts job entries h1 h2 → Halts job entries h h2
+    halts_served halts = record { later = halts.later; safe = halts.safe; count = halts.count; sent = halts.sent ∙ ap (λ (t : List ℕ). t ++ take halts.count (lines_of_entries halts.later)) sent }
+
+    module _ (lines : List (List ℕ)) (store : Stored) (log : LogState) (serves : Serves job entries h1 h2 lines store log) where
+      pub answered : IsAnswered job entries lines h h2
+      answered = record {
+        later = serves.later;
+        of_lines = serves.of_lines;
+        safe = safe_at_rest job (entries ++ serves.later) h2 serves.stands.groups log.gate serves.stands.account serves.stands.all serves.stands.at_rest;
+        sent = serves.sent ∙ ap (λ (t : List ℕ). t ++ lines_of_entries serves.later) sent;
+      }
+
+      pub halts_answered : Halts job entries h h2
+      unfolding answered
+      halts_answered = record {
+        later = serves.later;
+        safe = answered.safe;
+        count = length (lines_of_entries serves.later);
+        sent = answered.sent ∙ ap (λ (t : List ℕ). h.sent ++ t) (sym (take_all (length (lines_of_entries serves.later)) (lines_of_entries serves.later) (omega arith)));
+      }
+
+-- ---- where nothing was done
+
+pub halts_safe : (job : Job) (h : Disk) (entries : List Entry) → IsSafe job.defs job.scripts job.scripts_text h entries → Halts job entries h h
+halts_safe job h entries safe = record {
+  later = [];
+  safe = subst (IsSafe job.defs job.scripts job.scripts_text h) (sym (append-nil entries)) safe;
+  count = 0;
+  sent = sym (append-nil h.sent);
+}
+
+-- what a crash may leave, a sync may leave
+same_synced : (h : Disk) (s : Snapshot) → h.may_leave s → Syncs h 0 s
+same_synced h s left = record { before = s; left = left; this = settles_left h 0 s left; others = λ k ne. refl; sent = λ told. refl }
+
+pub kept_safe : (job : Job) (h : Disk) (entries : List Entry) → IsLawful h → Through h h (IsKept job.defs job.scripts job.scripts_text h entries)
+kept_safe job h entries law = started (IsKept job.defs job.scripts job.scripts_text h entries) h law (λ s left. inl (same_synced h s left))

@@ -1,0 +1,83 @@
+-- What a disk at rest shows: that its log is sound, in each image that a crash may leave.
+use Rattle.std.proofs.Common.{◌≡◌, refl, sym, ap, subst, ◌∙◌, arith, ℕ, List, [], ◌∷◌, ◌++◌, length}
+use Rattle.std.specs.List.{AllByRecursion}
+use Rattle.std.proofs.lemmas.List.{append-nil}
+use Rattle.std.proofs.lemmas.Grind.{fold-append}
+use Rattle.std.proofs.lemmas.List.Concat.{flat_map-append, flat_map-cons}
+use Rattle.fp_model.specs.declared.definitions.Defs.{Defs}
+use Rattle.fp_model.specs.declared.log.Entry.{Entry}
+use Rattle.fp_model.specs.declared.log.Item.{Item}
+use Rattle.fp_model.specs.declared.log.Item.TheVariants.{Segment, Image}
+use Rattle.fp_model.specs.Groups.{entries_of}
+use Rattle.fp_model.specs.Items.{IsFit, with_item, with_items}
+use Rattle.fp_model.specs.Product.{rules_of}
+use Rattle.fp_model.specs.State.{start}
+use Rattle.fp_model.proofs.HistoryLemmas.{join, states_counted}
+use Rattle.fp_site.specs.Disk.{Disk}
+use Rattle.fp_site.proofs.Images.{durable_settles}
+use Rattle.log_groups.specs.Images.{IsLog, IsAtRest}
+use Rattle.log_groups.specs.Kept.{IsSound, IsSafe, items_of}
+use Rattle.msdb_store.specs.Store.{IsFitSegment}
+use Rattle.fp_system.specs.Parts.{Job, front_for}
+use Rattle.fp_system.specs.Next.{ComesNext}
+use Rattle.fp_system.specs.Serving.{IsAccount}
+
+-- a log of these groups is sound, where their entries may stand in one
+pub sound_log : (job : Job) (entries : List Entry) (bytes : List ℕ) (groups : List (List Entry)) (gate : ℕ) → IsAccount job entries → entries ≡ entries_of groups → IsLog (front_for job) bytes groups gate → IsSound job.defs job.scripts job.scripts_text bytes entries
+sound_log job entries bytes groups gate account all log = record {
+  groups = groups;
+  gate = gate;
+  holds = log.holds;
+  stands = log.stands;
+  all = all;
+  last = account.last;
+  history = account.history;
+  fit = account.fit;
+  made = account.made;
+}
+
+-- a disk at rest is safe
+pub safe_at_rest : (job : Job) (entries : List Entry) (disk : Disk) (groups : List (List Entry)) (gate : ℕ) → IsAccount job entries → entries ≡ entries_of groups → IsAtRest disk (front_for job) groups gate → IsSafe job.defs job.scripts job.scripts_text disk entries
+safe_at_rest job entries disk groups gate account all at_rest = record {
+  now = sound_log job entries (disk.contents 0) groups gate account all at_rest.log;
+  crash = λ image settles. (entries, subst (λ (l : List ℕ). IsSound job.defs job.scripts job.scripts_text l entries) (sym (durable_settles disk 0 image at_rest.durable settles)) (sound_log job entries (disk.contents 0) groups gate account all at_rest.log));
+}
+
+-- ---- one entry more
+
+-- entries in one more group
+pub one_group : (groups : List (List Entry)) (entries : List Entry) (e : Entry) → entries ≡ entries_of groups → entries ++ e ∷ [] ≡ entries_of (groups ++ (e ∷ []) ∷ [])
+one_group groups entries e all =
+    ap (λ (es : List Entry). es ++ e ∷ []) all
+    ∙ sym (flat_map-append (λ (es : List Entry). es) groups ((e ∷ []) ∷ []))
+
+pub items_more : (entries : List Entry) (e : Entry) → items_of (entries ++ e ∷ []) ≡ items_of entries ++ e.items
+items_more entries e =
+    flat_map-append (λ (x : Entry). x.items) entries (e ∷ [])
+    ∙ ap (λ (is : List Item). items_of entries ++ is) (flat_map-cons (λ (x : Entry). x.items) e [] ∙ append-nil e.items)
+
+pub all_append : {X : Type 0} (Q : X → Type 0) (xs ys : List X) → AllByRecursion Q xs → AllByRecursion Q ys → AllByRecursion Q (xs ++ ys)
+all_append Q [] ys a b = b
+all_append Q (x ∷ xs) ys a b = (a.0, all_append Q xs ys a.1 b)
+
+-- how many states there were before the last
+pub past_length : (job : Job) (entries : List Entry) (account : IsAccount job entries) → length account.history.0 ≡ length entries
+past_length job entries account = let n = states_counted (rules_of job.defs job.scripts) [] (start job.defs) entries account.history.0 account.last account.history.1 in omega (arith, n)
+
+-- with the next entry
+unfoldable pub account_more : (job : Job) (entries : List Entry) (account : IsAccount job entries) (line : List ℕ) (e : Entry) → ComesNext job.defs job.scripts account.history.0 account.last line e → IsAccount job (entries ++ e ∷ [])
+account_more job entries account line e next = record {
+  last = next.next;
+  history = (account.history.0 ++ account.last ∷ [], join (rules_of job.defs job.scripts) [] (start job.defs) entries (e ∷ []) account.history.0 account.last _ next.next account.history.1 (next.next, next.comes, (refl, refl)));
+  fit = subst (AllByRecursion (IsFit job.defs)) (sym (items_more entries e)) (all_append (IsFit job.defs) (items_of entries) e.items account.fit next.fit);
+  made =
+      ap (with_items job.defs.msdbs (start job.defs).msdbs) (items_more entries e)
+      ∙ fold-append (with_item job.defs.msdbs) (start job.defs).msdbs (items_of entries) e.items
+      ∙ ap (λ ms. with_items job.defs.msdbs ms e.items) account.made ∙ next.made;
+}
+
+-- items that are fit may be put in a store
+pub fit_segments : (defs : Defs) (items : List Item) → AllByRecursion (IsFit defs) items → AllByRecursion (IsFitSegment defs.msdbs) items
+fit_segments defs [] all = tt
+fit_segments defs (Segment msdb key bytes ∷ items) all = (all.0, fit_segments defs items all.1)
+fit_segments defs (Image set ci bytes ∷ items) all = (tt, fit_segments defs items all.1)

@@ -1,0 +1,11 @@
+pub mod Words
+pub mod Texts
+pub mod Small
+pub mod Deposits
+pub mod Next
+pub mod Definitions
+pub mod Scripts
+pub mod Parts
+pub mod Setups
+pub mod Serving
+pub mod Ims

@@ -1,0 +1,63 @@
+-- Where a run stands between messages, and where it may end.
+use Rattle.std.specs.Prelude.{◌≡◌, ℕ, List, [], ◌∷◌, ◌++◌, length, map, take}
+use Rattle.std.specs.List.{AllByRecursion}
+use Rattle.fp_model.specs.declared.database.Db.{Db}
+use Rattle.fp_model.specs.declared.log.Entry.{Entry}
+use Rattle.fp_model.specs.Groups.{entries_of}
+use Rattle.fp_model.specs.History.{IsSerialHistory}
+use Rattle.fp_model.specs.Items.{IsFit, with_items}
+use Rattle.fp_model.specs.Product.{rules_of}
+use Rattle.fp_model.specs.ReplyLine.{line_of}
+use Rattle.fp_model.specs.State.{start}
+use Rattle.fp_site.specs.Disk.{Disk}
+use Rattle.log_groups.specs.Images.{IsAtRest}
+use Rattle.log_groups.specs.Kept.{IsSafe, items_of, lines_of_entries}
+use Rattle.log_groups.specs.Log.{LogState}
+use Rattle.msdb_store.specs.Store.{Stored, IsOf}
+use Rattle.fp_system.specs.Parts.{Job, front_for}
+
+-- Entries that may stand in a log: a serial history, whose items are fit and make of the segments loaded those of its last state.
+pub record IsAccount (job : Job) (entries : List Entry) : Type 0 where
+  pub last : Db
+  pub history : IsSerialHistory (rules_of job.defs job.scripts) entries last
+  pub fit : AllByRecursion (IsFit job.defs) (items_of entries)
+  pub made : with_items job.defs.msdbs (start job.defs).msdbs (items_of entries) ≡ last.msdbs
+
+-- Between messages: the log on the disk is at rest and holds these entries, none waits to be sealed, and the store has the
+-- segments behind them.
+pub record StandsAt (job : Job) (entries : List Entry) (disk : Disk) (store : Stored) (log : LogState) : Type 0 where
+  pub account : IsAccount job entries
+  pub groups : List (List Entry)
+  pub all : entries ≡ entries_of groups
+  pub at_rest : IsAtRest disk (front_for job) groups log.gate
+  pub unsealed : log.unsealed ≡ []
+  pub sealed : log.sealed ≡ length entries
+  pub of : IsOf job.defs.msdbs store
+  pub segments : store.msdbs ≡ account.last.msdbs
+
+-- Messages were served: for each line in order there is one entry more, and just their reply lines were sent.
+pub record Serves (job : Job) (entries : List Entry) (old new : Disk) (lines : List (List ℕ)) (store : Stored) (log : LogState) : Type 0 where
+  pub later : List Entry
+  pub of_lines : map (λ e. e.line) later ≡ lines
+  pub stands : StandsAt job (entries ++ later) new store log
+  pub sent : new.sent ≡ old.sent ++ lines_of_entries later
+
+-- However it ended: the site is safe with some entries more, and a first part of their reply lines was sent.
+pub record Halts (job : Job) (entries : List Entry) (old new : Disk) : Type 0 where
+  pub later : List Entry
+  pub safe : IsSafe job.defs job.scripts job.scripts_text new (entries ++ later)
+  pub count : ℕ
+  pub sent : new.sent ≡ old.sent ++ take count (lines_of_entries later)
+
+-- A message's entry waits to be sealed, and its reply line is ready: with it the entries may stand in a log, and the store
+-- has the segments behind it.
+pub record IsReady (job : Job) (entries : List Entry) (line reply : List ℕ) (gate : ℕ) (store : Stored) (log : LogState) : Type 0 where
+  pub entry : Entry
+  pub of_line : entry.line ≡ line
+  pub reply_is : reply ≡ line_of entry
+  pub account : IsAccount job (entries ++ entry ∷ [])
+  pub unsealed : log.unsealed ≡ entry ∷ []
+  pub sealed : log.sealed ≡ length entries
+  pub gate_is : log.gate ≡ gate
+  pub of : IsOf job.defs.msdbs store
+  pub segments : store.msdbs ≡ account.last.msdbs
