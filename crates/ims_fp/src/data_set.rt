@@ -11,8 +11,8 @@ use std::io;
 use std::os::unix::fs::FileExt;
 use std::rt::Files;
 
-/// How long a data set is at most, in bytes.
-pub(crate) const MOST_BYTES: u64 = 1 << 62;
+// How long a data set is at most, in bytes.
+const MOST_BYTES: u64 = 1 << 62;
 
 /// A data set. Its file is opened when it is first needed. While there is none, the data set is empty.
 #[derive(Drop)]
