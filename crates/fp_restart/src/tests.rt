@@ -149,12 +149,20 @@ fn seal(alloc: Global, log: &mut Log, site: &mut MemorySite, item: Item) -> Resu
     }
 }
 
+// Makes a new log.
+fn make(alloc: Global, defs: &Defs, site: &mut MemorySite) -> Result<(), RestartFault>
+    requires { length defs.now.text < 2 ^ 32 }
+{
+    let front = front(alloc, defs, b'S')?;
+    define(alloc, defs, &front, site)
+}
+
 // A new log, open.
 fn new_log(alloc: Global, defs: &Defs, site: &mut MemorySite) -> Result<Log, RestartFault>
     requires { length defs.now.text < 2 ^ 32 }
 {
+    make(alloc, defs, site)?;
     let front = front(alloc, defs, b'S')?;
-    define(alloc, defs, &front, site)?;
     Ok(Log::open(alloc, site, &front)?)
 }
 
@@ -209,71 +217,122 @@ fn found(alloc: Global, count: u64, segments: &[u8]) -> Result<(u64, Bytes), All
 }
 
 #[test]
-fn a_restart_gives_the_segments_of_the_last_group_and_goes_on(rt: HostRuntime) -> Result<(), Fail> {
+fn a_restart_gives_the_segments_of_the_last_group(rt: HostRuntime) -> Result<(), Fail> {
     let alloc = rt.alloc();
     let defs = defs(alloc, List::new(alloc))?;
     let mut site = MemorySite::new(alloc, &[])?;
     assert_eq!(rt; write_two(alloc, &defs, &mut site), Ok(()));
-    assert_eq!(rt;
-        read(alloc, &defs, b'S', &mut site),
-        Ok(found(alloc, 2, b"A001paidB002open")?)
-    );
-
-    let front = front(alloc, &defs, b'S')?;
-    let Ok((_, mut log)) = restart(alloc, &defs, &front, &mut site) else {
-        assert!(rt; false);
-        return Ok(());
-    };
-    assert_eq!(rt;
-        seal(
-            alloc,
-            &mut log,
-            &mut site,
-            segment(alloc, 0, b"B002", b"B002shut")?
-        ),
-        Ok(())
-    );
-    assert_eq!(rt;
-        read(alloc, &defs, b'S', &mut site),
-        Ok(found(alloc, 3, b"A001paidB002shut")?)
-    );
+    let answer = read(alloc, &defs, b'S', &mut site);
+    assert_eq!(rt; answer, Ok(found(alloc, 2, b"A001paidB002open")?));
     Ok(())
 }
 
+// Restarts, and writes one group more.
+fn go_on(alloc: Global, defs: &Defs, site: &mut MemorySite) -> Result<(), RestartFault>
+    requires msdbs { AllByRecursion IsMsdbDef defs.now.msdbs }
+    requires text { length defs.now.text < 2 ^ 32 }
+{
+    let front = front(alloc, defs, b'S')?;
+    let (_, mut log) = restart(alloc, defs, &front, site)?;
+    let item = segment(alloc, 0, b"B002", b"B002shut")?;
+    seal(alloc, &mut log, site, item)
+}
+
+#[test]
+fn a_log_goes_on_behind_what_a_restart_found(rt: HostRuntime) -> Result<(), Fail> {
+    let alloc = rt.alloc();
+    let defs = defs(alloc, List::new(alloc))?;
+    let mut site = MemorySite::new(alloc, &[])?;
+    assert_eq!(rt; write_two(alloc, &defs, &mut site), Ok(()));
+    assert_eq!(rt; go_on(alloc, &defs, &mut site), Ok(()));
+    let answer = read(alloc, &defs, b'S', &mut site);
+    assert_eq!(rt; answer, Ok(found(alloc, 3, b"A001paidB002shut")?));
+    Ok(())
+}
+
+// What a crash left of a making over a log with two groups that stopped behind so many calls.
+#[derive(Clone, Copy, PartialEq, Eq)]
+enum Left {
+    TwoGroups,
+    NoFront,
+    Start,
+    Another,
+}
+
+fn left_of(answer: &Result<(u64, Bytes), RestartFault>) -> Left {
+    match answer {
+        Ok((2, segments)) if segments.as_slice() == b"A001paidB002open".as_slice() =>
+            Left::TwoGroups,
+        Ok((0, segments)) if segments.as_slice() == b"A001open".as_slice() => Left::Start,
+        Err(RestartFault::Foreign) => Left::NoFront,
+        _ => Left::Another,
+    }
+}
+
 // Of a log with two groups a new one is made by nine calls.
+fn may_be_left(after: u64, left: Left) -> bool {
+    match left {
+        Left::TwoGroups => after < 5,
+        Left::NoFront => after >= 3 && after < 9,
+        Left::Start => after >= 7,
+        Left::Another => false,
+    }
+}
+
+// Whether every snapshot of a site restarts to what may be left of a making that stopped so.
+fn is_left_well(
+    alloc: Global,
+    defs: &Defs,
+    site: &MemorySite,
+    after: u64,
+) -> Result<bool, AllocError>
+    requires msdbs { AllByRecursion IsMsdbDef defs.now.msdbs }
+    requires text { length defs.now.text < 2 ^ 32 }
+{
+    for choice in 0..8 {
+        let snapshot = site.snapshot_as(choice)?;
+        let mut left = MemorySite::from_snapshot(alloc, snapshot, &[])?;
+        let answer = read(alloc, defs, b'S', &mut left);
+        if !may_be_left(after, left_of(&answer)) {
+            return Ok(false);
+        }
+    }
+    Ok(true)
+}
+
 #[test]
 fn after_each_stop_of_define_the_old_state_stands_or_none_or_the_start(
     rt: HostRuntime,
 ) -> Result<(), Fail> {
     let alloc = rt.alloc();
     let defs = defs(alloc, List::new(alloc))?;
-    let front = front(alloc, &defs, b'S')?;
     let mut old = MemorySite::new(alloc, &[])?;
     assert_eq!(rt; write_two(alloc, &defs, &mut old), Ok(()));
     for after in 0..10 {
         let failing = [after, after + 1];
         let snapshot = old.snapshot_as(0)?;
         let mut site = MemorySite::from_snapshot(alloc, snapshot, &failing)?;
-        let made = define(alloc, &defs, &front, &mut site).is_ok();
+        let made = make(alloc, &defs, &mut site).is_ok();
         assert_eq!(rt; made, after == 9);
-        for choice in 0..8 {
-            let snapshot = site.snapshot_as(choice)?;
-            let mut left = MemorySite::from_snapshot(alloc, snapshot, &[])?;
-            match read(alloc, &defs, b'S', &mut left) {
-                Ok((2, segments)) => {
-                    assert_eq!(rt; segments.as_slice(), &b"A001paidB002open"[..]);
-                    assert!(rt; after < 5);
-                }
-                Ok((0, segments)) => {
-                    assert_eq!(rt; segments.as_slice(), &b"A001open"[..]);
-                    assert!(rt; after >= 7);
-                }
-                Err(RestartFault::Foreign) => assert!(rt; after >= 3 && after < 9),
-                _ => assert!(rt; false),
-            }
-        }
+        assert_eq!(rt; is_left_well(alloc, &defs, &site, after), Ok(true));
     }
     Ok(())
+}
+
+// What a restart answers for a new log with these bytes at its first gate.
+fn with_bytes(
+    alloc: Global,
+    defs: &Defs,
+    bytes: &[u8; 12],
+    count: usize,
+) -> Result<(u64, Bytes), RestartFault>
+    requires msdbs { AllByRecursion IsMsdbDef defs.now.msdbs }
+    requires text { length defs.now.text < 2 ^ 32 }
+{
+    let mut site = MemorySite::new(alloc, &[])?;
+    make(alloc, defs, &mut site)?;
+    site.write_at(0, FIRST, &bytes[..count.min(12)])?;
+    read(alloc, defs, b'S', &mut site)
 }
 
 // Behind an open gate: nothing, a length of 0, one that passes the end, and a body that is no entry.
@@ -281,27 +340,19 @@ fn after_each_stop_of_define_the_old_state_stands_or_none_or_the_start(
 fn an_open_gate_without_a_group_is_damaged_at_its_place(rt: HostRuntime) -> Result<(), Fail> {
     let alloc = rt.alloc();
     let defs = defs(alloc, List::new(alloc))?;
-    let damaged = RestartFault::Damaged { set: 0, at: FIRST };
-    for (bytes, fault) in [
-        ([0, 0, 0, 0, 0, 0, 0, 0, 0, 0, 0, 0], None),
-        ([7, 0, 0, 0, 0, 0, 0, 0, 3, 0, 0, 0], None),
-        ([1, 0, 0, 0, 0, 0, 0, 0, 0, 0, 0, 0], Some(damaged)),
-        ([1, 0, 0, 0, 0, 0, 0, 0, 4, 0, 0, 0], Some(damaged)),
-        ([1, 0, 0, 0, 0, 0, 0, 0, 3, 0, 0, 0], Some(damaged)),
+    for (bytes, count, is_damage) in [
+        ([0, 0, 0, 0, 0, 0, 0, 0, 0, 0, 0, 0], 12, false),
+        ([7, 0, 0, 0, 0, 0, 0, 0, 3, 0, 0, 0], 12, false),
+        ([1, 0, 0, 0, 0, 0, 0, 0, 0, 0, 0, 0], 1, true),
+        ([1, 0, 0, 0, 0, 0, 0, 0, 0, 0, 0, 0], 12, true),
+        ([1, 0, 0, 0, 0, 0, 0, 0, 4, 0, 0, 0], 12, true),
+        ([1, 0, 0, 0, 0, 0, 0, 0, 3, 0, 0, 0], 12, true),
     ] {
-        let mut site = MemorySite::new(alloc, &[])?;
-        assert!(rt; new_log(alloc, &defs, &mut site).is_ok());
-        assert_eq!(rt; site.write_at(0, FIRST, &bytes), Ok(()));
-        let answer = read(alloc, &defs, b'S', &mut site);
-        match fault {
-            Some(fault) => assert_eq!(rt; answer, Err(fault)),
-            None => assert_eq!(rt; answer, Ok(found(alloc, 0, b"A001open")?)),
-        }
+        let answer = with_bytes(alloc, &defs, &bytes, count);
+        let damaged = answer == Err(RestartFault::Damaged { set: 0, at: FIRST });
+        assert_eq!(rt; damaged, is_damage);
+        assert_eq!(rt; left_of(&answer) == Left::Start, !is_damage);
     }
-    let mut site = MemorySite::new(alloc, &[])?;
-    assert!(rt; new_log(alloc, &defs, &mut site).is_ok());
-    assert_eq!(rt; site.write_at(0, FIRST, &[1]), Ok(()));
-    assert_eq!(rt; read(alloc, &defs, b'S', &mut site), Err(damaged));
     Ok(())
 }
 
@@ -310,62 +361,64 @@ fn another_front_is_foreign_and_stays(rt: HostRuntime) -> Result<(), Fail> {
     let alloc = rt.alloc();
     let defs = defs(alloc, List::new(alloc))?;
     let mut site = MemorySite::new(alloc, &[])?;
-    assert_eq!(rt;
-        read(alloc, &defs, b'S', &mut site),
-        Err(RestartFault::Foreign)
-    );
+    let none = read(alloc, &defs, b'S', &mut site);
+    assert!(rt; left_of(&none) == Left::NoFront);
     assert_eq!(rt; write_two(alloc, &defs, &mut site), Ok(()));
     let before = Vec::from_slice(alloc, site.contents(0))?;
-    assert_eq!(rt;
-        read(alloc, &defs, b'X', &mut site),
-        Err(RestartFault::Foreign)
-    );
+    let other = read(alloc, &defs, b'X', &mut site);
+    assert!(rt; left_of(&other) == Left::NoFront);
     assert_eq!(rt; site.contents(0), before.as_slice());
-    assert_eq!(rt;
-        read(alloc, &defs, b'S', &mut site),
-        Ok(found(alloc, 2, b"A001paidB002open")?)
-    );
     Ok(())
 }
 
-// No such database, another key, an area that isn't there, the log itself, an interval behind the last place.
+// An item of a case: no such database, another key, an area that isn't there, the log itself, an interval behind the
+// last place; from case 5 on items that fit.
+fn item(alloc: Global, case: u64) -> Result<Item, AllocError>
+    ensures { IfOk result FitsItem }
+{
+    match case {
+        0 => segment(alloc, 7, b"B002", b"B002open"),
+        1 => segment(alloc, 0, b"B002", b"A001open"),
+        2 => image(alloc, 5, 0),
+        3 => image(alloc, 0, 0),
+        4 => image(alloc, 3, 1 << 53),
+        5 => image(alloc, 3, 1),
+        6 => image(alloc, 4, (1 << 53) - 1),
+        _ => segment(alloc, 0, b"B002", b"B002open"),
+    }
+}
+
+// Writes a group that fits and one with the item of a case, and answers where the second one's gate stands.
+fn write_case(
+    alloc: Global,
+    defs: &Defs,
+    site: &mut MemorySite,
+    case: u64,
+) -> Result<u64, RestartFault>
+    requires { length defs.now.text < 2 ^ 32 }
+{
+    let mut log = new_log(alloc, defs, site)?;
+    let first = segment(alloc, 0, b"A001", b"A001paid")?;
+    seal(alloc, &mut log, site, first)?;
+    let at = log.gate();
+    let second = item(alloc, case)?;
+    seal(alloc, &mut log, site, second)?;
+    Ok(at)
+}
+
 #[test]
 fn an_item_that_does_not_fit_is_damage_at_its_group(rt: HostRuntime) -> Result<(), Fail> {
     let alloc = rt.alloc();
     let defs = defs(alloc, orders(alloc)?)?;
     for case in 0..8 {
-        let item = match case {
-            0 => segment(alloc, 7, b"B002", b"B002open")?,
-            1 => segment(alloc, 0, b"B002", b"A001open")?,
-            2 => image(alloc, 5, 0)?,
-            3 => image(alloc, 0, 0)?,
-            4 => image(alloc, 3, 1 << 53)?,
-            5 => image(alloc, 3, 1)?,
-            6 => image(alloc, 4, (1 << 53) - 1)?,
-            _ => segment(alloc, 0, b"B002", b"B002open")?,
-        };
         let mut site = MemorySite::new(alloc, &[])?;
-        let Ok(mut log) = new_log(alloc, &defs, &mut site) else {
-            assert!(rt; false);
-            return Ok(());
-        };
-        assert_eq!(rt;
-            seal(
-                alloc,
-                &mut log,
-                &mut site,
-                segment(alloc, 0, b"A001", b"A001paid")?
-            ),
-            Ok(())
-        );
-        let at = log.gate();
-        assert_eq!(rt; seal(alloc, &mut log, &mut site, item), Ok(()));
+        let gate = write_case(alloc, &defs, &mut site, case);
+        assert!(rt; gate.is_ok());
+        let at = gate.unwrap_or(0);
         let answer = read(alloc, &defs, b'S', &mut site);
-        if case < 5 {
-            assert_eq!(rt; answer, Err(RestartFault::Damaged { set: 0, at }));
-        } else {
-            assert!(rt; matches!(answer, Ok((2, _))));
-        }
+        let damaged = answer == Err(RestartFault::Damaged { set: 0, at });
+        assert_eq!(rt; damaged, case < 5);
+        assert_eq!(rt; answer.is_ok(), case >= 5);
     }
     Ok(())
 }
@@ -374,24 +427,27 @@ fn an_item_that_does_not_fit_is_damage_at_its_group(rt: HostRuntime) -> Result<(
 fn data_entry_databases_are_as_they_were_formatted(rt: HostRuntime) -> Result<(), Fail> {
     let alloc = rt.alloc();
     let defs = defs(alloc, orders(alloc)?)?;
-    let front = front(alloc, &defs, b'S')?;
     let mut site = MemorySite::new(alloc, &[])?;
-    assert_eq!(rt; define(alloc, &defs, &front, &mut site), Ok(()));
-    let Ok(mut parts) = restart(alloc, &defs, &front, &mut site) else {
+    let Ok(db) = started(alloc, &defs, &mut site) else {
         assert!(rt; false);
         return Ok(());
     };
-    let Ok(db) = whole_db(alloc, &mut parts, &defs, &mut site) else {
-        assert!(rt; false);
-        return Ok(());
-    };
-    let Some(orders) = db.dedbs.get(0) else {
-        assert!(rt; false);
-        return Ok(());
-    };
-    assert_eq!(rt; orders.anchors.len(), 8);
-    assert!(rt; orders.anchors.as_slice().iter().all(List::is_empty));
     let ends = AreaEnds { begin: 1, end: 1 };
-    assert_eq!(rt; orders.areas.as_slice(), &[ends, ends][..]);
+    for orders in db.dedbs.as_slice() {
+        assert_eq!(rt; orders.anchors.len(), 8);
+        assert_eq!(rt; orders.areas.as_slice(), &[ends, ends][..]);
+    }
+    assert_eq!(rt; db.dedbs.len(), 1);
     Ok(())
+}
+
+// The state of a new log.
+fn started(alloc: Global, defs: &Defs, site: &mut MemorySite) -> Result<Db, RestartFault>
+    requires msdbs { AllByRecursion IsMsdbDef defs.now.msdbs }
+    requires text { length defs.now.text < 2 ^ 32 }
+{
+    make(alloc, defs, site)?;
+    let front = front(alloc, defs, b'S')?;
+    let mut parts = restart(alloc, defs, &front, site)?;
+    whole_db(alloc, &mut parts, defs, site)
 }
