@@ -1,5 +1,5 @@
 -- The names in the set of busy terminals, which is kept in order, as names among others.
-use Rattle.std.proofs.Common.{refl, arith, ◌≡◌, ℕ, List, [], ◌∷◌, ◌++◌, Bool, true, false, cond, not, ◌&&◌, ◌||◌, ◌==◌, nat_eq, ap, sym, ◌∙◌, subst}
+use Rattle.std.proofs.Common.{refl, arith, ◌≡◌, List, [], ◌∷◌, ◌++◌, Bool, true, false, cond, not, ◌&&◌, ◌||◌, ap, sym, ◌∙◌}
 use Rattle.std.proofs.lemmas.Bool.Decides.{nat_tests}
 use Rattle.std.specs.List.{list_any}
 use Rattle.std.specs.Ordering.{is_eq, nat_cmp}

@@ -1,10 +1,10 @@
 -- Messages that wait for a region, and terminals that wait for a reply.
-use Rattle.std.specs.Prelude.{ℕ, ◌-◌, ◌≡◌, List, [], ◌++◌, ◌∷◌, length, unwrap_or, slice_get, filter, not}
+use Rattle.std.specs.Prelude.{ℕ, ◌-◌, ◌≡◌, List, [], length, unwrap_or, slice_get, filter, not}
 use Rattle.fp_model.specs.declared.definitions.Kind.{Kind}
 use Rattle.fp_model.specs.declared.calls.Message.{Message}
 use Rattle.fp_model.specs.declared.name.Name.{Name}
 use Rattle.fp_model.specs.Exits.{group_of}
-use Rattle.fp_model.specs.Machine.{is_among, same_name, queued_at}
+use Rattle.fp_model.specs.Machine.{is_among, same_name}
 
 -- The messages of each balancing group, oldest first, group g at place g - 1; and the terminals that wait, in no order.
 pub record Backlog : Type 0 where

@@ -68,6 +68,8 @@ impl Queues {
         ensures queued { is_among self.old.busy message.lterm ≡ false → OnOk result (self.new.queues ≡ queued_at (group_for router.now.kind message self.old - 1) message self.old.queues) }
         ensures marked { is_among self.old.busy message.lterm ≡ false → OnOk result (AreSame self.new.busy (self.old.busy ++ message.lterm ∷ [])) }
 
+        ensures groups { length self.new.queues ≡ length self.old.queues }
+
         // Want of memory changes nothing.
         ensures err { OnErr result (self.new ≡ self.old) }
     {
@@ -90,6 +92,8 @@ impl Queues {
         ensures oldest { result ≡ slice_get (queue_of group self.old) 0 }
         ensures none { IsNone result ↔ (queue_of group self.old ≡ []) }
         ensures rest { self.new.queues ≡ slice_set self.old.queues (group - 1) (drop 1 (queue_of group self.old)) }
+
+        ensures groups { length self.new.queues ≡ length self.old.queues }
 
         // The terminal goes on waiting for its reply.
         ensures busy { self.new.busy ≡ self.old.busy }
