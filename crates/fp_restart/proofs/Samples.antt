@@ -1,10 +1,9 @@
 -- A definition for the tests: keys of four characters, and four more.
-use Rattle.std.proofs.Common.{◌≡◌, ℕ, List, [], ◌∷◌, inl, refl, arith, true}
-use Rattle.std.specs.Prelude.{codes, IsTrue}
-use Rattle.fp_model.specs.declared.definitions.FieldDef.{FieldDef}
+use Rattle.std.proofs.Common.{[], ◌∷◌, refl, arith, true}
+use Rattle.std.specs.Prelude.{codes}
 use Rattle.fp_model.specs.declared.definitions.FieldKind.TheVariants.{C}
 use Rattle.fp_model.specs.declared.definitions.MsdbDef.{MsdbDef}
-use Rattle.fp_model.specs.declared.name.Name.{Name}
+use Rattle.std.specs.List.{IsDistinct}
 use Rattle.fp_model.specs.WellFormed.{IsMsdbDef}
 
 abbrev pub accounts : MsdbDef
@@ -17,16 +16,17 @@ accounts = record {
 }
 
 pub accounts_good : IsMsdbDef accounts
+unfolding IsDistinct
 accounts_good = record {
-  name = (codes "ACCTS", tt, refl);
+  name = (codes "ACCTS", refl, refl);
   layout = record {
     count = (omega arith, omega arith);
-    stand = (refl, tt, refl, tt, refl);
-    names = (((codes "ACCT", tt, refl), refl, refl, refl), ((codes "NOTE", tt, refl), refl, refl, refl), tt);
+    stand = (refl, refl, (refl, refl, refl));
+    names = (((codes "ACCT", refl, refl), refl, refl, refl), (((codes "NOTE", refl, refl), refl, refl, refl), tt));
     distinct = ((refl, tt), (tt, tt));
   };
   key = (refl, omega arith);
   short = omega arith;
-  loaded = (record { whole = refl; fields = (tt, tt, tt) }, tt);
+  loaded = (record { whole = refl; fields = (refl, (refl, tt)) }, tt);
   keys = (tt, tt);
 }
