@@ -5,3 +5,4 @@ pub mod Groups
 mod Looking
 pub mod Replays
 mod Results
+mod Samples

@@ -52,11 +52,7 @@ fn deposit_on(alloc: Global, key: &FieldDef, field: &FieldDef) -> Result<Deposit
 }
 
 // The deposit that a text has by a database.
-fn deposit_with(
-    alloc: Global,
-    text: &[u8],
-    def: &MsdbDef,
-) -> Result<Option<Deposit>, AllocError>
+fn deposit_with(alloc: Global, text: &[u8], def: &MsdbDef) -> Result<Option<Deposit>, AllocError>
     ensures { IfOk result (λ found. found ≡ deposit_with text.now def.now def.now.fields) }
 {
     match def.fields.as_slice() {
@@ -73,11 +69,7 @@ fn deposit_with(
 }
 
 // The deposit that a text has by these databases.
-fn deposit_in(
-    alloc: Global,
-    text: &[u8],
-    msdbs: &[MsdbDef],
-) -> Result<Option<Deposit>, AllocError>
+fn deposit_in(alloc: Global, text: &[u8], msdbs: &[MsdbDef]) -> Result<Option<Deposit>, AllocError>
     ensures { IfOk result (λ found. found ≡ deposit_in text.now msdbs.now) }
 {
     match msdbs {

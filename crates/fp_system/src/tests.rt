@@ -238,7 +238,12 @@ fn other_small_definitions_run(rt: HostRuntime) -> Result<(), Fail> {
     let mut site = MemorySite::new(alloc, &[])?;
     for (command, messages) in [("define", ""), ("run", "T1 DEPOSIT BOLT 12\n")] {
         let mut parts = source(alloc, STOCK, STOCK_SCRIPTS, messages, &[])?;
-        let status = ims(alloc, &words(alloc, &[command, "D"])?, &mut parts, &mut site);
+        let status = ims(
+            alloc,
+            &words(alloc, &[command, "D"])?,
+            &mut parts,
+            &mut site,
+        );
         assert_eq!(rt; status, Status::Done, "at {command}");
     }
     assert_eq!(rt; site.sent(), b"T1 OK NEW\n".as_slice());

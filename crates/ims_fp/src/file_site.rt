@@ -1,0 +1,207 @@
+//! The data sets of a folder, and an output, as a site.
+//!
+//! What is sent is gathered in a block, and written when the block is full, before the next other call, and by
+//! `finish`. What a failed write leaves of the block stays in it, and the next call writes it. So no text whose `send`
+//! answered Ok is left out before a later one.
+ghost use Rattle.std.specs.Prelude.{◌≡◌, ◌<◌, ◌≤◌, ◌+◌, ◌^◌, [], IfOk, OnErr, OnOk, length, vec_len};
+ghost use Rattle.fp_site.specs.Site.{Counts};
+ghost use Rattle.fp_source.specs.Source.{Rose};
+ghost use Rattle.ims_fp.specs.Files.{untold};
+ghost use Rattle.ims_fp.specs.Output.{Gathers, WritesOut};
+
+use crate::data_set::DataSet;
+use crate::faults::Faults;
+use crate::folder::Folder;
+use fp_site::{Failed, Site};
+use std::alloc::{AllocError, Global};
+use std::fs::File;
+use std::io;
+use std::io::{BufWriter, Write};
+use std::rt::Files;
+
+/// The data sets of a folder, in files `log`, `ckpt1`, `ckpt2`, `area3`, `area4` and so on, and an output. It tells
+/// nothing of what they hold.
+#[derive(Drop)]
+pub(crate) struct FileSite<'a, R, W: Write + Drop> {
+    folder: Folder<'a, R>,
+    sets: Vec<DataSet>,
+    output: BufWriter<W>,
+    faults: Faults,
+}
+
+impl<'a, R: Files<File = File>, W: Write + Drop> FileSite<'a, R, W> {
+    /// Touches no file. Fails only for want of memory.
+    pub(crate) fn new(
+        alloc: Global,
+        folder: Folder<'a, R>,
+        output: W,
+    ) -> io::Result<FileSite<'a, R, W>>
+        ensures faults { IfOk result (λ site. site.faults.count ≡ 0) }
+    {
+        Ok(FileSite {
+            folder,
+            sets: Vec::new(alloc),
+            output: BufWriter::new(alloc, output)?,
+            faults: Faults::new(),
+        })
+    }
+
+    /// Writes what was sent and isn't written yet.
+    pub(crate) fn finish(&mut self) -> Result<(), Failed>
+        ensures output { WritesOut W.contents self.old.output self.new.output result }
+        ensures cause { Counts self.old.faults.count self.new.faults.count result }
+    {
+        match self.output.flush() {
+            Ok(()) => Ok(()),
+            Err(_) => Err(self.fail()),
+        }
+    }
+
+    // Counts a fault.
+    fn fail(&mut self) -> Failed
+        ensures rose { Rose self.old.faults.count self.new.faults.count }
+        ensures later { self.old.faults.count ≤ self.new.faults.count }
+        ensures output { self.new.output ≡ self.old.output }
+    {
+        self.faults.rise();
+        Failed
+    }
+
+    // What comes before each call on a data set: what was sent is written, and the data set has its place in the list.
+    fn begin(&mut self, set: u16) -> io::Result<()>
+        ensures place { OnOk result (set < vec_len self.new.sets) }
+        ensures output { WritesOut W.contents self.old.output self.new.output result }
+        ensures faults { self.new.faults ≡ self.old.faults }
+    {
+        self.output.flush()?;
+        reach_set(&mut self.sets, set)?;
+        Ok(())
+    }
+
+    fn try_size(&mut self, set: u16) -> io::Result<u64>
+        ensures bound { IfOk result (λ n. n ≤ 2 ^ 62) }
+        ensures output { WritesOut W.contents self.old.output self.new.output result }
+        ensures faults { self.new.faults ≡ self.old.faults }
+    {
+        self.begin(set)?;
+        self.sets[usize::from(set)].size(&self.folder, set)
+    }
+
+    fn try_read(&mut self, set: u16, at: u64, into: &mut [u8]) -> io::Result<()>
+        ensures output { WritesOut W.contents self.old.output self.new.output result }
+        ensures faults { self.new.faults ≡ self.old.faults }
+    {
+        self.begin(set)?;
+        self.sets[usize::from(set)].read_at(&self.folder, set, at, into)
+    }
+
+    fn try_write(&mut self, set: u16, at: u64, from: &[u8]) -> io::Result<()>
+        requires { at + length from.now ≤ 2 ^ 62 }
+        ensures output { WritesOut W.contents self.old.output self.new.output result }
+        ensures faults { self.new.faults ≡ self.old.faults }
+    {
+        self.begin(set)?;
+        self.sets[usize::from(set)].write_at(&self.folder, set, at, from)
+    }
+
+    fn try_sync(&mut self, set: u16) -> io::Result<()>
+        ensures output { WritesOut W.contents self.old.output self.new.output result }
+        ensures faults { self.new.faults ≡ self.old.faults }
+    {
+        self.begin(set)?;
+        self.sets[usize::from(set)].sync(&self.folder, set)
+    }
+}
+
+// Lengthens the list of data sets, so that it has this one.
+fn reach_set(sets: &mut Vec<DataSet>, set: u16) -> Result<(), AllocError>
+    ensures { OnOk result (set < vec_len sets.new) }
+{
+    while sets.len() <= usize::from(set) {
+        sets.push(DataSet::new())?;
+    }
+    Ok(())
+}
+
+impl<R: Files<File = File>, W: Write + Drop> Site for FileSite<'_, R, W> {
+    ghost told = { λ s. ⊥ };
+
+    ghost disk = { λ s. untold };
+
+    ghost tells_reads = { λ s set. ⊥ };
+
+    ghost bytes_read = { λ s set. 0 };
+
+    ghost faults = { λ s. s.faults.count };
+
+    ghost holds = { λ s. 0 };
+
+    ghost keeps = { λ first s. Unit {0} };
+
+    ghost keeps_itself = { λ s. tt };
+
+    ghost keeps_on = { λ a b c f g. tt };
+
+    ghost lawful = { λ s told. absurd told };
+
+    fn size(&mut self, set: u16) -> Result<u64, Failed>
+        ensures bound { IfOk result (λ n. n ≤ 2 ^ 62) }
+        ensures cause { Counts self.old.faults.count self.new.faults.count result }
+        ensures output { WritesOut W.contents self.old.output self.new.output result }
+    {
+        match self.try_size(set) {
+            Ok(length) => Ok(length),
+            Err(_) => Err(self.fail()),
+        }
+    }
+
+    // Files say only when they are written whether they can grow.
+    fn reach(&mut self, _set: u16, _end: u64) -> Result<(), Failed>
+        requires { _end ≤ 2 ^ 62 }
+        ensures cause { Counts self.old.faults.count self.new.faults.count result }
+        ensures output { WritesOut W.contents self.old.output self.new.output result }
+    {
+        self.finish()
+    }
+
+    fn read_at(&mut self, set: u16, at: u64, into: &mut [u8]) -> Result<(), Failed>
+        ensures cause { Counts self.old.faults.count self.new.faults.count result }
+        ensures output { WritesOut W.contents self.old.output self.new.output result }
+    {
+        match self.try_read(set, at, into) {
+            Ok(()) => Ok(()),
+            Err(_) => Err(self.fail()),
+        }
+    }
+
+    fn write_at(&mut self, set: u16, at: u64, from: &[u8]) -> Result<(), Failed>
+        requires { at + length from.now ≤ 2 ^ 62 }
+        ensures cause { Counts self.old.faults.count self.new.faults.count result }
+        ensures output { WritesOut W.contents self.old.output self.new.output result }
+    {
+        match self.try_write(set, at, from) {
+            Ok(()) => Ok(()),
+            Err(_) => Err(self.fail()),
+        }
+    }
+
+    fn sync(&mut self, set: u16) -> Result<(), Failed>
+        ensures cause { Counts self.old.faults.count self.new.faults.count result }
+        ensures output { WritesOut W.contents self.old.output self.new.output result }
+    {
+        match self.try_sync(set) {
+            Ok(()) => Ok(()),
+            Err(_) => Err(self.fail()),
+        }
+    }
+
+    fn send(&mut self, text: &[u8]) -> Result<(), Failed>
+        ensures cause { Counts self.old.faults.count self.new.faults.count result }
+        ensures sent { Gathers W.contents self.old.output self.new.output result text.now }
+    {
+        match self.output.write_all(text) {
+            Ok(()) => Ok(()),
+            Err(_) => Err(self.fail()),
+        }
+    }
+}
