@@ -1,0 +1,4 @@
+pub mod Comparing
+pub mod Digits
+pub mod Letters
+pub mod NumberSizes
