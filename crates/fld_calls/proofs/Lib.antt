@@ -1,4 +1,6 @@
 pub mod Comparing
 pub mod Digits
 pub mod Letters
+pub mod ListLemmas
 pub mod NumberSizes
+pub mod TryLemmas

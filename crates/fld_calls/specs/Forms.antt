@@ -29,7 +29,3 @@ IsReadAs (Err (fault.Short place)) reading = reading ≡ Short place
 IsReadAs (Err (fault.BadConnector place)) reading = reading ≡ BadConnector place
 IsReadAs (Err fault.Memory) reading = ⊤
 
--- the connector before further arguments: a blank where there are none
-abbrev pub connector_before : {A : Type 0} → List A → ℕ
-connector_before [] = 32
-connector_before (a ∷ others) = 42

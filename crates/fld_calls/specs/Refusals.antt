@@ -1,7 +1,7 @@
 -- The letters of refusals.
 use Rattle.std.specs.Prelude.{◌≡◌, ℕ, List, Option, Some, None, Result, Ok, Err, ⊤, if◌then◌else◌}
 use Rattle.fp_model.specs.declared.definitions.FieldDef.{FieldDef}
-use Rattle.fp_model.specs.Fsas.{is_change, changed}
+use Rattle.fp_model.specs.Fsas.{is_change, changed, with_change}
 use Rattle.fld_calls.specs.declared.field.Refusal.{Refusal}
 use Rattle.fld_calls.specs.declared.field.Refusal.TheVariants as refusal
 
@@ -23,6 +23,10 @@ letter_in (Err why) = letter_of_refusal why
 -- the bytes of a field behind a good operation: a change puts new ones, and a comparison leaves them
 abbrev pub bytes_behind : FieldDef → ℕ → List ℕ → List ℕ → Option (List ℕ)
 bytes_behind field op bytes operand = if is_change op then changed field op bytes operand else Some bytes
+
+-- the segment behind a good operation on a field
+abbrev pub segment_behind : FieldDef → ℕ → List ℕ → List ℕ → List ℕ
+segment_behind field op operand segment = if is_change op then with_change field op operand segment else segment
 
 -- Where there are new bytes they stand now; else it is refused for its range, and the bytes are as they were.
 abbrev pub IsDone : Result ⊤ Refusal → List ℕ → List ℕ → Option (List ℕ) → Type 0

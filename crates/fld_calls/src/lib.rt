@@ -33,4 +33,5 @@ mod operation;
 mod trying;
 
 pub use arguments::{Fsa, FsaFault};
+pub use layout::{read_list, write_list};
 pub use trying::try_fsas;

@@ -1,9 +1,10 @@
 //! Field search arguments tried on a segment. Nothing here takes memory.
-ghost use Rattle.std.specs.Prelude.{◌≡◌, length};
-ghost use Rattle.fp_model.specs.Fsas.{all_blank, field_of, fsa_on, letter_of, list_on};
+ghost use Rattle.std.specs.Prelude.{◌≡◌, ◌+◌, ◌≤◌, OnErr, OnOk, length};
+ghost use Rattle.fp_model.specs.Fsas.{all_blank, field_bytes, field_of, fsa_on, letter_of, letter_on, list_on};
 ghost use Rattle.fp_model.specs.WellFormed.{StandFrom};
 ghost use Rattle.fld_calls.specs.Forms.{form_of, forms, with_letters};
-ghost use Rattle.fld_calls.specs.Refusals.{letter_in};
+ghost use Rattle.fld_calls.specs.Operations.{byte_of};
+ghost use Rattle.fld_calls.specs.Refusals.{letter_in, segment_behind};
 
 use crate::arguments::Fsa;
 use crate::field::{Refusal, try_field};
@@ -38,6 +39,24 @@ fn letter(outcome: Result<(), Refusal>) -> u8
     }
 }
 
+// An operation on a field of a segment.
+fn try_at(
+    field: &FieldDef,
+    operation: Operation,
+    operand: &[u8],
+    segment: &mut [u8],
+) -> Result<(), Refusal>
+    requires { field.now.at + field.now.length ≤ length segment.old }
+    ensures letter { letter_in result ≡ letter_on field.now (byte_of operation) operand.now (field_bytes field.now segment.old) }
+    ensures ok { OnOk result (segment.new ≡ segment_behind field.now (byte_of operation) operand.now segment.old) }
+    ensures err { OnErr result (segment.new ≡ segment.old) }
+{
+    let at = usize::from(field.at);
+    let end = at + usize::from(field.length);
+    let held = &mut segment[at..end];
+    try_field(field, operation, operand, held)
+}
+
 // One argument. A good change is made, and a bad argument leaves the segment.
 fn try_fsa(def: &MsdbDef, fsa: &Fsa, segment: &mut [u8]) -> Result<(), Refusal>
     requires fields { StandFrom 0 def.now.fields def.now.length }
@@ -51,10 +70,7 @@ fn try_fsa(def: &MsdbDef, fsa: &Fsa, segment: &mut [u8]) -> Result<(), Refusal>
     let Some(field) = find_field(def, &fsa.field) else {
         return Err(Refusal::NoField);
     };
-    let at = usize::from(field.at);
-    let end = at + usize::from(field.length);
-    let held = &mut segment[at..end];
-    try_field(&field, operation, fsa.operand.as_slice(), held)
+    try_at(&field, operation, fsa.operand.as_slice(), segment)
 }
 
 /// Tries arguments on a segment in their order. Each is answered a letter in its status, by what those before it left.
@@ -72,7 +88,7 @@ pub fn try_fsas(def: &MsdbDef, fsas: &mut List<Fsa>, segment: &mut [u8]) -> bool
         let fsa = fsas.item_mut(at);
         let outcome = try_fsa(def, fsa, segment);
         fsa.status = letter(outcome);
-        good = good && outcome.is_ok();
+        good &= outcome.is_ok();
     }
     good
 }
