@@ -1,5 +1,5 @@
 -- The letters of changes of numbers, once the conditions before the last are known.
-use Rattle.std.proofs.Common.{◌≡◌, refl, ap, ℕ, List, [], ◌∷◌, Bool, true, false, Option, Some, None}
+use Rattle.std.proofs.Common.{◌≡◌, refl, ap, ℕ, List, [], ◌∷◌, false, Option, Some, None}
 use Rattle.std.specs.Prelude.{ℤ, is_none, Result, Ok, Err, OnErr, OnOk, ⊤}
 use Rattle.fp_model.specs.declared.definitions.FieldDef.{FieldDef}
 use Rattle.fp_model.specs.Fsas.{is_key, is_text, letter_on, first_letter, changed, summed}

@@ -3,4 +3,6 @@ pub mod Digits
 pub mod Letters
 pub mod ListLemmas
 pub mod NumberSizes
+pub mod ReadLemmas
 pub mod TryLemmas
+pub mod WriteLemmas

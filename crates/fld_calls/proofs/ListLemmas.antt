@@ -1,7 +1,7 @@
 -- Arguments tried one after another.
-use Rattle.std.proofs.Common.{◌≡◌, refl, sym, ap, ◌∙◌, arith, ℕ, zero, suc, ◌+◌, ◌≤◌, ◌<◌, List, [], ◌∷◌, ◌++◌, length, take, drop, append_assoc, Bool, true, false, ◌&&◌, ◌==◌, Option, Some, None, slice_get, slice_set}
+use Rattle.std.proofs.Common.{◌≡◌, refl, sym, ap, ◌∙◌, arith, ℕ, zero, suc, ◌+◌, List, [], ◌∷◌, ◌++◌, drop, append_assoc, Bool, true, false, ◌&&◌, ◌==◌, Some, slice_get}
 use Rattle.std.specs.Prelude.{Result, Ok, Err, ⊤, is_ok}
-use Rattle.std.proofs.lemmas.List.{take_more_set, drop-set-lt, take_all, drop_all, append-nil}
+use Rattle.std.proofs.lemmas.List.{append-nil}
 use Rattle.fp_model.specs.declared.definitions.MsdbDef.{MsdbDef}
 use Rattle.fp_model.specs.Fsas.{fsa_on, letter_of, list_on, all_blank}
 use Rattle.fld_calls.specs.declared.arguments.Fsa.{Fsa as Argument}
@@ -57,7 +57,10 @@ trying-end def all start done segment good t = (sym (t.is_good ∙ and_all good)
 -- ---- places in a list
 
 -- the list from an element on
-pub drop_got : {X : Type 0} (xs : List X) (i : ℕ) (x : X) → slice_get xs i ≡ Some x → drop i xs ≡ x ∷ drop (suc i) xs
-drop_got [] i x e = absurd cc
-drop_got (y ∷ ys) zero x e = let is : y ≡ x = cc e in ap (λ z. z ∷ ys) is
-drop_got (y ∷ ys) (suc i) x e = drop_got ys i x e
+got : {X : Type 0} (xs : List X) (i : ℕ) (x : X) → slice_get xs i ≡ Some x → drop i xs ≡ x ∷ drop (suc i) xs
+got [] i x e = absurd cc
+got (y ∷ ys) zero x e = let is : y ≡ x = cc e in ap (λ z. z ∷ ys) is
+got (y ∷ ys) (suc i) x e = got ys i x e
+
+pub drop_got : {X : Type 0} (xs : List X) (i : ℕ) (x : X) → slice_get xs i ≡ Some x → drop i xs ≡ x ∷ drop (i + 1) xs
+drop_got xs i x e = let next : i + 1 ≡ suc i = omega arith in rw next (got xs i x e)

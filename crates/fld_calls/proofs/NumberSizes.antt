@@ -1,6 +1,6 @@
 -- What a field holds as a number has at most 31 digits.
-use Rattle.std.proofs.Common.{◌≡◌, refl, sym, ap, arith, Fits, ℕ, zero, suc, ◌*◌, ◌^◌, ◌≤◌, ◌<◌, List, length, get_or, Bool, true, false, ◌&&◌, ◌||◌, if◌then◌else◌, Option, Some, None}
-use Rattle.std.specs.Prelude.{◌==◌, nat_le, ℤ, pos, negsuc, neg_ℤ, unsigned_abs, FitsSigned, IfSome}
+use Rattle.std.proofs.Common.{◌≡◌, refl, sym, ap, arith, Fits, ℕ, zero, suc, ◌^◌, ◌≤◌, ◌<◌, List, length, get_or, Bool, true, false, ◌&&◌, ◌||◌, if◌then◌else◌, Option, Some, None}
+use Rattle.std.specs.Prelude.{◌==◌, nat_le, ℤ, pos, neg_ℤ, unsigned_abs, FitsSigned, IfSome}
 use Rattle.std.specs.Int.{w16, w32, w128, cast_signed}
 use Rattle.std.specs.List.{list_all}
 use Rattle.std.proofs.lemmas.Bool.{and_parts}

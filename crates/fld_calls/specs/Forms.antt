@@ -1,5 +1,5 @@
 -- Field search arguments as the definitions see them, and with their letters.
-use Rattle.std.specs.Prelude.{◌≡◌, ◌<◌, ℕ, List, [], ◌∷◌, length, map, Result, Ok, Err, ⊤}
+use Rattle.std.specs.Prelude.{◌≡◌, ◌<◌, ℕ, List, [], ◌∷◌, length, map, Bool, true, false, Result, Ok, Err, ⊤}
 use Rattle.fp_model.specs.Fsas.{Fsa, ListReading, Whole, Short, BadConnector}
 use Rattle.fld_calls.specs.declared.arguments.Fsa.{Fsa as Argument}
 use Rattle.fld_calls.specs.declared.arguments.FsaFault.{FsaFault}
@@ -29,3 +29,8 @@ IsReadAs (Err (fault.Short place)) reading = reading ≡ Short place
 IsReadAs (Err (fault.BadConnector place)) reading = reading ≡ BadConnector place
 IsReadAs (Err fault.Memory) reading = ⊤
 
+
+-- whether nothing is behind an argument
+abbrev pub is_last : List ℕ → Bool
+is_last [] = true
+is_last (b ∷ bs) = false

@@ -2,7 +2,7 @@
 ghost use Rattle.std.specs.List.{AllByRecursion};
 ghost use Rattle.std.specs.Prelude.{◌≡◌, ◌+◌, ◌<◌, ◌^◌, ◌++◌, ◌∷◌, [], if◌then◌else◌, IfNone, IfOk, IfSome, None, OnOk, Some, length};
 ghost use Rattle.fp_model.specs.Fsas.{behind, connector_in, fsa_in, fsa_text, fsas_of, list_text, operand_length};
-ghost use Rattle.fld_calls.specs.Forms.{form_of, forms, IsReadAs, IsShort};
+ghost use Rattle.fld_calls.specs.Forms.{form_of, forms, is_last, IsReadAs, IsShort};
 
 use crate::arguments::{Fsa, FsaFault};
 use fp_model::{Bytes, List, Name};
@@ -62,6 +62,13 @@ impl Front<'_> {
     }
 }
 
+// Whether nothing is behind an argument.
+fn is_last(rest: &[u8]) -> bool
+    ensures { result ≡ is_last rest.now }
+{
+    matches!(rest, [])
+}
+
 // The connector of an argument, by whether it is the last.
 fn connector(last: bool) -> u8
     ensures { result ≡ (if last then 32 else 42) }
@@ -86,7 +93,7 @@ pub fn read_list(alloc: Global, bytes: &[u8]) -> Result<List<Fsa>, FsaFault>
             return Err(FsaFault::Short(place));
         };
         let end = place + 12 + front.operand.len() as u32;
-        let last = front.rest.is_empty();
+        let last = is_last(front.rest);
         if front.connector != connector(last) {
             return Err(FsaFault::BadConnector(end));
         }

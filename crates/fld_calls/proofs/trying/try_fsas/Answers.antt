@@ -1,8 +1,7 @@
-use Rattle.std.proofs.Common.{◌≡◌, ◌<◌, ◌+◌, ◌∙◌, length, arith, sym, drop, take}
+use Rattle.std.proofs.Common.{rules, ◌<◌, ◌+◌, ◌∙◌, length, arith, sym, drop, take}
 use Rattle.std.proofs.lemmas.List.{take_more_set, drop-set-lt, take_all, drop_all}
 use Rattle.fld_calls.specs.declared.arguments.Fsa.{Fsa as Argument}
-use Rattle.fld_calls.specs.Refusals.{letter_in}
-use Rattle.fld_calls.proofs.ListLemmas.{IsTrying, trying-step, trying-end, drop_got}
+use Rattle.fld_calls.proofs.ListLemmas.{trying-step, trying-end, drop_got}
 use Rattle.fld_calls.proofs.trying.try_fsas.Goals as goal
 
 pub loop-at-preserved : goal.loop-at-preserved
@@ -16,9 +15,9 @@ loop-at-preserved c =
     let here = drop_got fsas i x c.item_mut-fsa.ensures.value in
     let step = trying-step c.args.def.now c.args.fsas.now c.args.segment.now (take i fsas) x (drop (i + 1) fsas) c.loop-at.segment c.try_fsa-outcome.new.segment c.loop-at.good c.try_fsa-outcome.result (rw here at t) c.try_fsa-outcome.ensures.letter c.try_fsa-outcome.ensures.segment in
     record {
-      all = ?;
+      all = search rules;
       whole = omega (arith, c.try_fsa-outcome.auto.segment, c.loop-at.invariant.whole);
-      trying = rw (take_more_set fsas i y lt, drop-set-lt (i + 1) fsas i y (omega arith), c.letter-fsa.ensures) ?;
+      trying = rw (take_more_set fsas i y lt, drop-set-lt (i + 1) fsas i y (omega arith), c.letter-fsa.ensures, c.is_ok-good.ensures.value) step;
     }
 
 pub returns-clause-good : goal.returns-clause-good
