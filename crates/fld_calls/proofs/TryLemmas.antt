@@ -79,7 +79,7 @@ module _ (field : FieldDef) (segment new : List ℕ) (long : length new ≡ fiel
   put_same : new ≡ field_bytes field segment → put ≡ segment
   put_same same =
       let rest : field_bytes field segment ++ drop (field.at + field.length) segment ≡ drop field.at segment =
-          ap (λ (xs : List ℕ). field_bytes field segment ++ xs) (sym (drop-drop field.length field.at segment)) ∙ take-append-drop field.length (drop field.at segment) in
+      ap (λ (xs : List ℕ). field_bytes field segment ++ xs) (sym (drop-drop field.length field.at segment)) ∙ take-append-drop field.length (drop field.at segment) in
       ap (λ (xs : List ℕ). take field.at segment ++ (xs ++ drop (field.at + field.length) segment)) same
       ∙ ap (λ (xs : List ℕ). take field.at segment ++ xs) rest
       ∙ take-append-drop field.at segment

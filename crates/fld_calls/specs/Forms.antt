@@ -29,7 +29,6 @@ IsReadAs (Err (fault.Short place)) reading = reading ≡ Short place
 IsReadAs (Err (fault.BadConnector place)) reading = reading ≡ BadConnector place
 IsReadAs (Err fault.Memory) reading = ⊤
 
-
 -- whether nothing is behind an argument
 abbrev pub is_last : List ℕ → Bool
 is_last [] = true

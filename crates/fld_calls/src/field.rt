@@ -47,12 +47,7 @@ fn is_key(field: &FieldDef) -> bool
 }
 
 // A comparison of characters.
-fn verify_text(
-    field: &FieldDef,
-    verify: Verify,
-    operand: &[u8],
-    held: &[u8],
-) -> Result<(), Refusal>
+fn verify_text(field: &FieldDef, verify: Verify, operand: &[u8], held: &[u8]) -> Result<(), Refusal>
     requires text { is_text field.now.kind ≡ true }
     requires whole { length held.now ≡ field.now.length }
     ensures { letter_in result ≡ letter_on field.now (verify_byte verify) operand.now held.now }

@@ -35,3 +35,6 @@ mod trying;
 pub use arguments::{Fsa, FsaFault};
 pub use layout::{read_list, write_list};
 pub use trying::try_fsas;
+
+#[cfg(test)]
+mod tests;
