@@ -1,0 +1,21 @@
+use Rattle.std.proofs.Common.{◌≡◌, ◌∙◌, ◌+◌, ◌-◌, ◌++◌, ◌∷◌, [], ◌==◌, if◌then◌else◌, length, length-drop, drop, ap, sym, arith, List, ℕ}
+use Rattle.fp_model.specs.Fsas.{fsa_text, list_text}
+use Rattle.fld_calls.specs.declared.arguments.Fsa.{Fsa as Argument}
+use Rattle.fld_calls.specs.Forms.{form_of, forms}
+use Rattle.fld_calls.proofs.WriteLemmas.{text-step, from-item}
+use Rattle.fld_calls.proofs.layout.write_list.Goals as goal
+
+pub loop-fsa-preserved : goal.loop-fsa-preserved
+loop-fsa-preserved c =
+    let xs : List Argument = c.as_slice-fsa-items.result.now in
+    let i = c.loop-fsa.fsa-index in
+    let a : Argument = c.fsa-item.result in
+    let text = c.loop-fsa.text in
+    let here = from-item xs i a c.loop-fsa-test.true c.fsa-item.is in
+    let left : length (drop (i + 1) xs) ≡ c.loop-fsa.left - 1 = omega (arith, length-drop (i + 1) xs, c.loop-fsa.invariant.many, c.loop-fsa-test.true) in
+    let step = text-step text a (drop (i + 1) xs) (c.loop-fsa.left - 1) left in
+    let new : c.put_fsa.new.text ≡ text ++ fsa_text (form_of a) ++ (if c.loop-fsa.left - 1 == 0 then 32 else 42) ∷ [] = rw c.connector.ensures at c.in_ok-put_fsa.ensures in
+    record {
+      many = omega (arith, c.loop-fsa.invariant.many, c.loop-fsa-test.true);
+      so_far = ap (λ (t : List ℕ). t ++ list_text (forms (drop (i + 1) xs))) new ∙ step ∙ ap (λ (ys : List Argument). text ++ list_text (forms ys)) (sym here) ∙ c.loop-fsa.invariant.so_far;
+    }

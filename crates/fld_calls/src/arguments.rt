@@ -1,0 +1,38 @@
+//! Field search arguments, and why bytes aren't a list of them.
+ghost use Rattle.std.specs.Prelude.{◌≡◌};
+ghost use Rattle.fld_calls.specs.declared.arguments.FsaFault.TheVariants as fault;
+
+use fp_model::{Bytes, Name};
+use std::alloc::AllocError;
+
+/// A field search argument: one test or change of a field.
+#[derive(Debug, PartialEq, Eq, Drop)]
+pub struct Fsa {
+    pub field: Name,
+    /// The letter that it was answered; a blank where it is good.
+    pub status: u8,
+    /// The operation: E, G, H, L, M, N, `+`, `-` or `=`. Any other byte is answered A.
+    pub op: u8,
+    /// A text: characters for a field of characters, else an optional `-` and 1 to 31 digits.
+    pub operand: Bytes,
+}
+
+/// Why bytes aren't read as a list of field search arguments.
+#[derive(Clone, Copy, Debug, PartialEq, Eq)]
+pub enum FsaFault {
+    /// The place of the argument that the bytes end in, counted from 0.
+    Short(u32),
+    /// The place of a connector that is neither `*` nor a blank, or of a blank before further bytes, or of a `*` at
+    /// the end.
+    BadConnector(u32),
+    /// There was no memory.
+    Memory,
+}
+
+impl From<AllocError> for FsaFault {
+    ghost from_gives = { λ _ e. e ≡ fault.Memory };
+
+    fn from(_: AllocError) -> FsaFault {
+        FsaFault::Memory
+    }
+}

@@ -1,0 +1,138 @@
+//! Field search arguments as bytes.
+ghost use Rattle.std.specs.List.{AllByRecursion};
+ghost use Rattle.std.specs.Prelude.{◌≡◌, ◌+◌, ◌<◌, ◌^◌, ◌++◌, ◌∷◌, [], if◌then◌else◌, IfNone, IfOk, IfSome, None, OnOk, Some, length};
+ghost use Rattle.fp_model.specs.Fsas.{behind, connector_in, fsa_in, fsa_text, fsas_of, list_text, operand_length};
+ghost use Rattle.fld_calls.specs.Forms.{form_of, forms, is_last, IsReadAs, IsShort};
+
+use crate::arguments::{Fsa, FsaFault};
+use fp_model::{Bytes, List, Name};
+use std::alloc::{AllocError, Global};
+
+// An argument at the front of bytes, its connector, and what stands behind that.
+#[derive(Drop)]
+struct Front<'a> {
+    field: Name,
+    status: u8,
+    op: u8,
+    operand: &'a [u8],
+    connector: u8,
+    rest: &'a [u8],
+}
+
+// What bytes begin with. None where they end in the argument or before its connector.
+fn front_of(bytes: &[u8]) -> Option<Front<'_>>
+    ensures none { IfNone result (connector_in bytes.now ≡ None) }
+    ensures connector { IfSome result (λ front. connector_in bytes.now ≡ Some front.connector) }
+    ensures fsa { IfSome result (λ front. fsa_in bytes.now
+        ≡ record { field = front.field.0; status = front.status; op = front.op; operand = front.operand.now }) }
+    ensures operand { IfSome result (λ front. operand_length bytes.now ≡ length front.operand.now) }
+    ensures rest { IfSome result (λ front. behind bytes.now ≡ front.rest.now) }
+    ensures short { IfSome result (λ front. length front.operand.now < 65536) }
+    ensures all { IfSome result (λ front. length bytes.now ≡ 13 + length front.operand.now + length front.rest.now) }
+{
+    let [a, b, c, d, e, f, g, h, status, op, high, low, rest @ ..] = bytes else {
+        return None;
+    };
+    let length = usize::from(*high) * 256 + usize::from(*low);
+    if rest.len() <= length {
+        return None;
+    }
+    Some(Front {
+        field: Name([*a, *b, *c, *d, *e, *f, *g, *h]),
+        status: *status,
+        op: *op,
+        operand: &rest[..length],
+        connector: rest[length],
+        rest: &rest[length + 1..],
+    })
+}
+
+impl Front<'_> {
+    // The argument, with a copy of its operand.
+    fn fsa(&self, alloc: Global) -> Result<Fsa, AllocError>
+        ensures { IfOk result (λ fsa. form_of fsa
+            ≡ record { field = self.now.field.0; status = self.now.status; op = self.now.op; operand = self.now.operand.now }) }
+    {
+        Ok(Fsa {
+            field: self.field,
+            status: self.status,
+            op: self.op,
+            operand: Bytes::from_slice(alloc, self.operand)?,
+        })
+    }
+}
+
+// Whether nothing is behind an argument.
+fn is_last(rest: &[u8]) -> bool
+    ensures { result ≡ is_last rest.now }
+{
+    matches!(rest, [])
+}
+
+// The connector of an argument, by whether it is the last.
+fn connector(last: bool) -> u8
+    ensures { result ≡ (if last then 32 else 42) }
+{
+    if last { b' ' } else { b'*' }
+}
+
+/// The list that bytes are. Else the place of the argument that they end in, or of the first bad connector; places
+/// count from 0, and no bytes end in the argument at 0. Memory may be wanted before a fault is met.
+///
+/// Condition: places fit 4 bytes.
+pub fn read_list(alloc: Global, bytes: &[u8]) -> Result<List<Fsa>, FsaFault>
+    requires { length bytes.now < 2 ^ 32 }
+    ensures exact { IsReadAs result (fsas_of bytes.now) }
+    ensures short { IfOk result (λ fsas. AllByRecursion IsShort fsas) }
+{
+    let mut fsas = List::new(alloc);
+    let mut place: u32 = 0;
+    let mut rest = bytes;
+    loop {
+        let Some(front) = front_of(rest) else {
+            return Err(FsaFault::Short(place));
+        };
+        let end = place + 12 + front.operand.len() as u32;
+        let last = is_last(front.rest);
+        if front.connector != connector(last) {
+            return Err(FsaFault::BadConnector(end));
+        }
+        fsas.push(front.fsa(alloc)?)?;
+        if last {
+            return Ok(fsas);
+        }
+        place = end + 1;
+        rest = front.rest;
+    }
+}
+
+// One argument and its connector.
+#[tactic(auto, unfolding(fp_model::specs::Spellings::be16))]
+fn put_fsa(text: &mut Bytes, fsa: &Fsa, connector: u8) -> Result<(), AllocError>
+    requires { IsShort fsa.now }
+    ensures { OnOk result (text.new ≡ text.old ++ fsa_text (form_of fsa.now) ++ connector ∷ []) }
+{
+    text.append(&fsa.field.0)?;
+    text.push(fsa.status)?;
+    text.push(fsa.op)?;
+    text.append(&(fsa.operand.len() as u16).to_be_bytes())?;
+    text.append(fsa.operand.as_slice())?;
+    text.push(connector)
+}
+
+/// The bytes of a list: `*` behind each argument that another follows, and a blank behind the last. No bytes for none.
+/// Fails only for want of memory.
+///
+/// Condition: each operand's length fits two bytes.
+pub fn write_list(alloc: Global, fsas: &List<Fsa>) -> Result<Bytes, AllocError>
+    requires { AllByRecursion IsShort fsas.now }
+    ensures { IfOk result (λ text. text ≡ list_text (forms fsas.now)) }
+{
+    let mut text = Bytes::new(alloc);
+    let mut left = fsas.len();
+    for fsa in fsas.as_slice() {
+        left -= 1;
+        put_fsa(&mut text, fsa, connector(left == 0))?;
+    }
+    Ok(text)
+}

@@ -1,0 +1,94 @@
+//! Field search arguments tried on a segment. Nothing here takes memory.
+ghost use Rattle.std.specs.Prelude.{◌≡◌, ◌+◌, ◌≤◌, OnErr, OnOk, length};
+ghost use Rattle.fp_model.specs.Fsas.{all_blank, field_bytes, field_of, fsa_on, letter_of, letter_on, list_on};
+ghost use Rattle.fp_model.specs.WellFormed.{StandFrom};
+ghost use Rattle.fld_calls.specs.Forms.{form_of, forms, with_letters};
+ghost use Rattle.fld_calls.specs.Operations.{byte_of};
+ghost use Rattle.fld_calls.specs.Refusals.{letter_in, segment_behind};
+
+use crate::arguments::Fsa;
+use crate::field::{Refusal, try_field};
+use crate::operation::Operation;
+use fp_model::{FieldDef, List, MsdbDef, Name};
+
+// The field of a name.
+fn find_field(def: &MsdbDef, name: &Name) -> Option<FieldDef>
+    ensures { result ≡ field_of def.now.fields name.now.0 }
+{
+    for field in def.fields.as_slice() {
+        if field.name == *name {
+            return Some(*field);
+        }
+    }
+    None
+}
+
+// The letter of an answer.
+fn letter(outcome: Result<(), Refusal>) -> u8
+    ensures { result ≡ letter_in outcome }
+{
+    match outcome {
+        Ok(()) => b' ',
+        Err(Refusal::Operation) => b'A',
+        Err(Refusal::NoField) => b'H',
+        Err(Refusal::Key) => b'C',
+        Err(Refusal::Operand) => b'B',
+        Err(Refusal::NoNumber) => b'E',
+        Err(Refusal::False) => b'D',
+        Err(Refusal::Range) => b'G',
+    }
+}
+
+// An operation on a field of a segment.
+fn try_at(
+    field: &FieldDef,
+    operation: Operation,
+    operand: &[u8],
+    segment: &mut [u8],
+) -> Result<(), Refusal>
+    requires { field.now.at + field.now.length ≤ length segment.old }
+    ensures letter { letter_in result ≡ letter_on field.now (byte_of operation) operand.now (field_bytes field.now segment.old) }
+    ensures ok { OnOk result (segment.new ≡ segment_behind field.now (byte_of operation) operand.now segment.old) }
+    ensures err { OnErr result (segment.new ≡ segment.old) }
+{
+    let at = usize::from(field.at);
+    let end = at + usize::from(field.length);
+    let held = &mut segment[at..end];
+    try_field(field, operation, operand, held)
+}
+
+// One argument. A good change is made, and a bad argument leaves the segment.
+fn try_fsa(def: &MsdbDef, fsa: &Fsa, segment: &mut [u8]) -> Result<(), Refusal>
+    requires fields { StandFrom 0 def.now.fields def.now.length }
+    requires whole { length segment.old ≡ def.now.length }
+    ensures letter { letter_in result ≡ letter_of def.now (form_of fsa.now) segment.old }
+    ensures segment { segment.new ≡ (fsa_on def.now (form_of fsa.now) segment.old).segment }
+{
+    let Some(operation) = Operation::of(fsa.op) else {
+        return Err(Refusal::Operation);
+    };
+    let Some(field) = find_field(def, &fsa.field) else {
+        return Err(Refusal::NoField);
+    };
+    try_at(&field, operation, fsa.operand.as_slice(), segment)
+}
+
+/// Tries arguments on a segment in their order. Each is answered a letter in its status, by what those before it left.
+/// A good change is made in the segment; a bad argument leaves it, and the next is still tried. True exactly where
+/// every letter is a blank. The fields must be those of a definition, and the segment of its length.
+pub fn try_fsas(def: &MsdbDef, fsas: &mut List<Fsa>, segment: &mut [u8]) -> bool
+    requires fields { StandFrom 0 def.now.fields def.now.length }
+    requires whole { length segment.old ≡ def.now.length }
+    ensures good { result ≡ all_blank (list_on def.now (forms fsas.old) segment.old).letters }
+    ensures letters { fsas.new ≡ with_letters fsas.old (list_on def.now (forms fsas.old) segment.old).letters }
+    ensures segment { segment.new ≡ (list_on def.now (forms fsas.old) segment.old).segment }
+{
+    let mut good = true;
+    for at in 0..fsas.len() {
+        let fsa = fsas.item_mut(at);
+        let outcome = try_fsa(def, fsa, segment);
+        fsa.status = letter(outcome);
+        good &= outcome.is_ok();
+    }
+    good
+}
