@@ -33,3 +33,4 @@ pub mod Recovery
 pub mod Pending
 pub mod WellFormed
 pub mod Shape
+pub mod FitCalls

@@ -1,0 +1,102 @@
+-- Calls to main storage databases that fit the database which they name: what a script that was read asks, and what
+-- such calls are answered.
+use Rattle.std.specs.Prelude.{◌≡◌, ⊤, ℕ, List, [], length, Bool, true, ◌&&◌, nat_lt, nat_le, Some, IfSome, slice_get}
+use Rattle.std.specs.List.{AllByRecursion, list_all}
+use Rattle.fp_model.specs.declared.definitions.Defs.{Defs}
+use Rattle.fp_model.specs.declared.definitions.MsdbDef.{MsdbDef}
+use Rattle.fp_model.specs.declared.calls.Answer.{Answer}
+use Rattle.fp_model.specs.declared.calls.Call.{Call}
+use Rattle.fp_model.specs.declared.calls.Call.TheVariants as call
+use Rattle.fp_model.specs.declared.calls.Deferred.{Deferred}
+use Rattle.fp_model.specs.declared.calls.Deferred.TheVariants as deferred
+use Rattle.fp_model.specs.declared.scripts.Statement.{Statement}
+use Rattle.fp_model.specs.declared.scripts.Statement.TheOpen.{Statement-F, Set, If, Repeat, Break, Reply, Roll, Get, Fld, Isrt, Repl, Dlet}
+use Rattle.fp_model.specs.declared.scripts.Statement.TheFolds.{fold-Statement}
+use Rattle.fp_model.specs.State.{key_length}
+use Rattle.fp_model.specs.Texts.{same_text, trimmed}
+use Rattle.fp_model.specs.Fsas.{Fsa, IsFsa, list_text}
+use Rattle.fp_model.specs.MsdbCalls.{key_named}
+use Rattle.fp_model.specs.Calls.{database_of}
+use Rattle.fp_model.specs.WellFormed.{Between}
+
+-- ---- scripts
+
+-- 1 to 255 of them
+abbrev pub is_some_few : {A : Type 0} → List A → Bool
+is_some_few xs = nat_le 1 (length xs) && nat_le (length xs) 255
+
+-- one statement, with the answers for the statements in it
+abbrev pub fits_step : Defs → Statement-F Bool → Bool
+fits_step defs (Set variable first rest) = true
+fits_step defs (If left comparison right taken otherwise) = list_all (λ fits. fits) taken && list_all (λ fits. fits) otherwise
+fits_step defs (Repeat n body) = list_all (λ fits. fits) body
+fits_step defs Break = true
+fits_step defs (Reply operands) = true
+fits_step defs (Roll code) = true
+fits_step defs (Get get hold db ssas) = nat_lt db (length defs.msdbs)
+fits_step defs (Fld db key fsas) = nat_lt db (length defs.msdbs) && is_some_few fsas
+fits_step defs (Isrt db ssas fields) = nat_lt db (length defs.msdbs)
+fits_step defs (Repl db fields) = nat_lt db (length defs.msdbs)
+fits_step defs (Dlet db) = nat_lt db (length defs.msdbs)
+
+-- whether each call in a statement names a main storage database, and each field call has 1 to 255 search arguments
+abbrev pub fits_statement : Defs → Statement → Bool
+fits_statement defs = fold-Statement Bool (fits_step defs)
+
+abbrev pub are_fit : Defs → List Statement → Bool
+are_fit defs statements = list_all (fits_statement defs) statements
+
+-- ---- calls
+
+-- the main storage database of a number is defined, and has this
+abbrev pub OfMsdb : List MsdbDef → ℕ → (MsdbDef → Type 0) → Type 0
+OfMsdb defs number P = (def : MsdbDef) × (slice_get defs number ≡ Some def) × P def
+
+-- a key as long as the database's keys
+abbrev pub FitsKey : List ℕ → MsdbDef → Type 0
+FitsKey key def = length key ≡ key_length def.fields
+
+-- a segment as long as the database's segments
+abbrev pub FitsSegment : List ℕ → MsdbDef → Type 0
+FitsSegment bytes def = length bytes ≡ def.length
+
+-- bytes of 1 to 255 field search arguments
+pub record IsFsaList (bytes : List ℕ) : Type 0 where
+  pub fsas : List Fsa
+  pub count : Between 1 255 (length fsas)
+  pub each : AllByRecursion IsFsa fsas
+  pub text : bytes ≡ list_text fsas
+
+-- the call's key, segment and search arguments are such
+abbrev pub FitsCall : Call → MsdbDef → Type 0
+FitsCall (call.Get get hold db ssas) def = IfSome (key_named ssas) (λ key. FitsKey key def)
+FitsCall (call.Fld db key fsas) def = FitsKey key def × IsFsaList fsas
+FitsCall (call.Isrt db ssas bytes) def = FitsSegment bytes def
+FitsCall (call.Repl db bytes) def = FitsSegment bytes def
+FitsCall (call.Dlet db) def = ⊤
+
+-- a call that names a main storage database, and fits it
+abbrev pub IsMsdbCall : List MsdbDef → Call → Type 0
+IsMsdbCall defs c = OfMsdb defs (database_of c) (FitsCall c)
+
+-- ---- answers
+
+-- a segment of type 0, the one type that the database has
+pub record IsShownOn (number : ℕ) (bytes : List ℕ) (def : MsdbDef) : Type 0 where
+  pub root : number ≡ 0
+  pub whole : FitsSegment bytes def
+
+-- where the call is a get, and its answer says that it found, the answer shows a segment of the database
+abbrev pub FitsAnswer : List MsdbDef → Call → Answer → Type 0
+FitsAnswer defs (call.Get get hold db ssas) answer =
+    same_text (trimmed answer.status) [] ≡ true → OfMsdb defs db (IsShownOn answer.segment answer.bytes)
+FitsAnswer defs c answer = ⊤
+
+-- ---- deferred calls
+
+-- a deferred call as such calls leave it
+abbrev pub IsFitDeferred : List MsdbDef → Deferred → Type 0
+IsFitDeferred defs (deferred.Fld number key fsas) = OfMsdb defs number (FitsKey key) × IsFsaList fsas
+IsFitDeferred defs (deferred.Repl number bytes) = OfMsdb defs number (FitsSegment bytes)
+IsFitDeferred defs (deferred.Isrt number bytes) = OfMsdb defs number (FitsSegment bytes)
+IsFitDeferred defs (deferred.Dlet number key) = OfMsdb defs number (FitsKey key)
