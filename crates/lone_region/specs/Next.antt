@@ -1,0 +1,33 @@
+-- The entry that a line comes to, and what it makes of the databases.
+use Rattle.std.specs.Prelude.{◌≡◌, ℕ, List, [], ◌∷◌, ◌++◌}
+use Rattle.std.specs.List.{AllByRecursion}
+use Rattle.fp_model.specs.declared.database.Db.{Db}
+use Rattle.fp_model.specs.declared.definitions.Defs.{Defs}
+use Rattle.fp_model.specs.declared.log.Entry.{Entry}
+use Rattle.fp_model.specs.declared.scripts.Script.{Script}
+use Rattle.fp_model.specs.History.{Comes}
+use Rattle.fp_model.specs.Items.{IsFit, with_items}
+use Rattle.fp_model.specs.Product.{rules_of}
+use Rattle.fp_model.specs.ReplyLine.{line_of}
+use Rattle.log_groups.specs.Log.{LogState}
+use Rattle.msdb_store.specs.Store.{Stored}
+
+-- The entry of a line, that may come where now is the state and past are those before it. Its items may be applied, and
+-- make of the main storage databases those of the state that it leads to; data entry databases stay.
+pub record ComesNext (defs : Defs) (scripts : List Script) (past : List Db) (now : Db) (line : List ℕ) (e : Entry) : Type 0 where
+  pub next : Db
+  pub comes : Comes (rules_of defs scripts) past now e next
+  pub fit : AllByRecursion (IsFit defs) e.items
+  pub made : with_items defs.msdbs now.msdbs e.items ≡ next.msdbs
+  pub still : next.dedbs ≡ now.dedbs
+  pub of_line : e.line ≡ line
+
+-- A line was answered: its entry waits to be sealed, the store has the segments behind it, and the reply is its line.
+pub record IsServed (defs : Defs) (scripts : List Script) (past : List Db) (now : Db) (line reply : List ℕ) (old new : LogState) (store : Stored) : Type 0 where
+  pub entry : Entry
+  pub comes : ComesNext defs scripts past now line entry
+  pub reply_is : reply ≡ line_of entry
+  pub unsealed : new.unsealed ≡ old.unsealed ++ entry ∷ []
+  pub sealed : new.sealed ≡ old.sealed
+  pub gate : new.gate ≡ old.gate
+  pub segments : store.msdbs ≡ comes.next.msdbs

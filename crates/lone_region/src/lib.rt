@@ -1,0 +1,6 @@
+//! The one region: a message line is run alone, and its entry put behind those that stand.
+#![tactic(auto)]
+
+mod serving;
+
+pub use serving::serve_line;
