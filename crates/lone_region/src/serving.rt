@@ -41,6 +41,5 @@ pub fn serve_line(
     ensures sealed { OnErr result (log.new.sealed ≡ log.old.sealed) }
     ensures gate { OnErr result (log.new.gate ≡ log.old.gate) }
 {
-    let _ = (alloc, defs, scripts, line, store, log);
     Err(AllocError)
 }
