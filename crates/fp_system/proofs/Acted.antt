@@ -33,11 +33,11 @@ or_foreign fault.SiteFault never = inr tt
 or_foreign (fault.Damaged set at) never = absurd (never set at refl)
 or_foreign fault.Memory never = inr tt
 
-pub or_done : (f : RestartFault) → (f ≡ fault.Foreign → ⊥) → ((set at : ℕ) → f ≡ fault.Damaged set at → ⊥) → IsOr status.Done (status_of_fault f)
-or_done fault.Foreign never never2 = absurd (never refl)
-or_done fault.SiteFault never never2 = inr tt
-or_done (fault.Damaged set at) never never2 = absurd (never2 set at refl)
-or_done fault.Memory never never2 = inr tt
+pub is_fault : (f : RestartFault) → (f ≡ fault.Foreign → ⊥) → ((set at : ℕ) → f ≡ fault.Damaged set at → ⊥) → IsFault (status_of_fault f)
+is_fault fault.Foreign never never2 = absurd (never refl)
+is_fault fault.SiteFault never never2 = tt
+is_fault (fault.Damaged set at) never never2 = absurd (never2 set at refl)
+is_fault fault.Memory never never2 = tt
 
 pub damaged_is : (f : RestartFault) (set at : ℕ) → status_of_fault f ≡ status.Damaged set at → f ≡ fault.Damaged set at
 damaged_is fault.Foreign set at e = absurd cc

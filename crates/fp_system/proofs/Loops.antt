@@ -10,6 +10,10 @@ use Rattle.fp_site.proofs.Runs.{joined, weaker}
 use Rattle.log_groups.specs.Kept.{IsSound, IsSafe, GoesOn, lines_of_entries}
 use Rattle.log_groups.specs.Log.{LogState}
 use Rattle.msdb_store.specs.Store.{Stored}
+use Rattle.fp_source.specs.declared.lines.LineFault.{LineFault}
+use Rattle.fp_source.specs.declared.lines.LineFault.TheVariants as fault
+use Rattle.fp_system.specs.Answers.{status_of_line}
+use Rattle.fp_system.specs.declared.status.Status.TheVariants as status
 use Rattle.fp_system.specs.Parts.{Job}
 use Rattle.fp_system.specs.Serving.{StandsAt, Serves, Halts}
 use Rattle.fp_system.proofs.Stands.{safe_at_rest}
@@ -128,3 +132,11 @@ module _ (job : Job) (entries : List Entry) (h0 h : Disk) (whole ahead : List (L
   served_before number is =
       let n : length so.served ≡ number - 1 = omega (arith, so.count, is) in
       subst (λ (ls : List (List ℕ)). Serves job entries h0 h ls store log) (sym (ap (take (number - 1)) so.splits ∙ take_at so.served ahead (number - 1) n)) so.going.serves
+
+-- ---- the number of a line that isn't taken
+
+pub number_is : (f : LineFault) (number next : ℕ) → status_of_line f ≡ status.Line number → ((n : ℕ) → f ≡ fault.TooLong n → n ≡ next) → ((n : ℕ) → f ≡ fault.TooMany n → n ≡ next) → number ≡ next
+number_is (fault.TooLong n) number next e long many = let same : number ≡ n = cc in same ∙ long n refl
+number_is (fault.TooMany n) number next e long many = let same : number ≡ n = cc in same ∙ many n refl
+number_is fault.Failed number next e long many = absurd cc
+number_is fault.Memory number next e long many = absurd cc
