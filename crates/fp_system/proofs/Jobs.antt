@@ -102,6 +102,11 @@ pub refused_or : (left : Part → List ℕ) (answer given : Status) → Refuses 
 refused_or left answer given p (inl f) = inr f
 refused_or left answer given p (inr q) = inl (one_answer left given answer q p)
 
+-- where they are a job, it is a fault
+pub job_is_fault : (left : Part → List ℕ) (job : Job) (given : Status) → IsJob left job → IsFault given ⊎ Refuses left given → IsFault given
+job_is_fault left job given p (inl f) = f
+job_is_fault left job given p (inr q) = no_job_refused left job given p q
+
 -- ---- parts that are too long
 
 pub long_definitions : (text : List ℕ) → 1000000 < length text → definitions_in text ≡ Err (status.Definitions bad.TooLong)
