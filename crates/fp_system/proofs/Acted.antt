@@ -45,29 +45,6 @@ damaged_is fault.SiteFault set at e = absurd cc
 damaged_is (fault.Damaged s a) set at e = cc
 damaged_is fault.Memory set at e = absurd cc
 
--- ---- answers that stop a run
-
--- without a line that isn't taken it is a fault
-pub stop_is_fault : (s : Status) → IsStop s → ((number : ℕ) → s ≡ status.Line number → ⊥) → IsFault s
-stop_is_fault status.ReadFault stop none = tt
-stop_is_fault status.SiteFault stop none = tt
-stop_is_fault (status.Line number) stop none = absurd (none number refl)
-stop_is_fault status.NoMemory stop none = tt
-stop_is_fault other stop none = absurd stop
-
--- with one, it is that line or a fault
-pub stop_is_line : (s : Status) (number : ℕ) → IsStop s → ((n : ℕ) → s ≡ status.Line n → n ≡ number) → IsOr (status.Line number) s
-stop_is_line status.ReadFault number stop one = inr tt
-stop_is_line status.SiteFault number stop one = inr tt
-stop_is_line (status.Line n) number stop one = inl (ap (λ k. status.Line k) (one n refl))
-stop_is_line status.NoMemory number stop one = inr tt
-stop_is_line other number stop one = absurd stop
-
-pub site_stops : (s : Status) → IsOfSite s → IsStop s
-site_stops status.SiteFault of = tt
-site_stops status.NoMemory of = tt
-site_stops other of = absurd of
-
 -- ---- no entries
 
 no_account : (job : Job) → IsAccount job []

@@ -12,3 +12,5 @@ mod words;
 pub use status::{Status, fault_text};
 pub use top::ims;
 
+#[cfg(test)]
+mod tests;

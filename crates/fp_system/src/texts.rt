@@ -95,7 +95,12 @@ fn numbered(alloc: Global, front: &[u8], number: u64) -> Result<Bytes, AllocErro
 fn transaction_text(alloc: Global, name: &Name, back: &[u8]) -> Result<Bytes, AllocError>
     ensures { IfOk result (λ text. text ≡ codes "scripts: " ++ (codes "transaction " ++ trimmed name.now.0 ++ back.now)) }
 {
-    joined(alloc, b"scripts: transaction ", without_blanks(&name.0), back)
+    joined(
+        alloc,
+        b"scripts: transaction ",
+        without_blanks(&name.0),
+        back,
+    )
 }
 
 // What is said of a transaction that costs too much.
