@@ -13,4 +13,6 @@ pub use status::{Status, fault_text};
 pub use top::ims;
 
 #[cfg(test)]
+mod rows;
+#[cfg(test)]
 mod tests;
