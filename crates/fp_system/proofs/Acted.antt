@@ -16,9 +16,8 @@ use Rattle.log_groups.specs.Kept.{IsSound, IsSafe, IsKept, GoesOn, lines_of_entr
 use Rattle.log_groups.specs.Log.{LogState}
 use Rattle.msdb_store.specs.Store.{Stored}
 use Rattle.fp_system.specs.declared.parts.Setup.{Setup}
-use Rattle.fp_system.specs.declared.status.Status.{Status}
 use Rattle.fp_system.specs.declared.status.Status.TheVariants as status
-use Rattle.fp_system.specs.Answers.{IsOr, IsFault, IsStop, IsOfSite, status_of_fault}
+use Rattle.fp_system.specs.Answers.{IsOr, IsFault, status_of_fault}
 use Rattle.fp_system.specs.Ims.{IsAnswered}
 use Rattle.fp_system.specs.Parts.{Job, front_for}
 use Rattle.fp_system.specs.Serving.{IsAccount, StandsAt, Serves, Halts}

@@ -1,11 +1,10 @@
-use Rattle.std.proofs.Common.{◌≡◌, ℕ, sym, ap, subst, ◌∙◌, inr}
+use Rattle.std.proofs.Common.{sym, ap, subst, ◌∙◌, inr}
 use Rattle.std.specs.Prelude.{Err}
-use Rattle.fp_restart.specs.declared.fault.RestartFault.TheVariants as fault
 use Rattle.fp_system.specs.declared.status.Status.{Status}
 use Rattle.fp_system.specs.declared.status.Status.TheVariants as status
 use Rattle.fp_system.specs.Answers.{IsOr}
 use Rattle.fp_system.specs.Setups.{job_of}
-use Rattle.fp_system.proofs.Acted.{is_fault, damaged_is, to_setup, stands_restarted, halts_synced, kept_synced, kept_served, halts_served, answered, halts_answered}
+use Rattle.fp_system.proofs.Acted.{is_fault, damaged_is, to_setup, stands_restarted, halts_synced, kept_served, halts_served, answered, halts_answered}
 use Rattle.fp_system.proofs.acting.run_on.Goals as goal
 
 pub returns-in-Err-clause-damaged : goal.returns-in-Err-clause-damaged

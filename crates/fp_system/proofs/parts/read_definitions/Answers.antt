@@ -1,4 +1,4 @@
-use Rattle.std.proofs.Common.{◌≡◌, inr, refl, ap}
+use Rattle.std.proofs.Common.{◌≡◌, inr, ap}
 use Rattle.fp_source.specs.declared.part.Part.TheVariants as part
 use Rattle.fp_system.proofs.Jobs.{long_definitions}
 use Rattle.std.specs.Prelude.{Err}

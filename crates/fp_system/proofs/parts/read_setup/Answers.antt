@@ -1,10 +1,7 @@
-use Rattle.std.proofs.Common.{◌≡◌, sym, subst}
-use Rattle.std.specs.Prelude.{◌⊎◌, Result, IfErr}
+use Rattle.std.proofs.Common.{◌≡◌}
 use Rattle.std.proofs.lemmas.Result.{err_from_is_err_and}
 use Rattle.fp_source.specs.declared.part.Part.TheVariants as part
 use Rattle.fp_system.proofs.Jobs.{or_refused, or_scripts}
-use Rattle.fp_system.specs.Answers.{IsFault}
-use Rattle.fp_system.specs.Parts.{Refuses}
 use Rattle.fp_system.proofs.parts.read_setup.Goals as goal
 
 pub returns-in_err-defs-clause-refused : goal.returns-in_err-defs-clause-refused

@@ -1,15 +1,15 @@
 use Rattle.std.proofs.Common.{◌≡◌, ◌++◌, ◌+◌, [], ◌∷◌, ℕ, List, refl, sym, ap, ◌∙◌, arith, rules}
-use Rattle.std.specs.Prelude.{Err, Some, None}
+use Rattle.std.specs.Prelude.{Err, None}
 use Rattle.std.proofs.lemmas.Result.{err_from_is_err_and}
 use Rattle.fp_model.specs.Messages.{lines_of}
 use Rattle.fp_source.specs.Lines.{lines_ahead, lines_given, fault_ahead, to_come}
 use Rattle.fp_source.specs.declared.lines.LineFault.{LineFault}
 use Rattle.fp_source.specs.declared.part.Part.TheVariants as part
 use Rattle.fp_system.specs.Answers.{status_of_line}
-use Rattle.fp_system.specs.Serving.{Halts, StandsAt}
+use Rattle.fp_system.specs.Serving.{Halts}
 use Rattle.fp_system.specs.Setups.{job_of}
 use Rattle.fp_system.specs.declared.status.Status.TheVariants as status
-use Rattle.fp_system.proofs.Loops.{HasServed, going_none, halts_going, halts_more, moments_more, served_none, served_more, served_all, served_before, number_is}
+use Rattle.fp_system.proofs.Loops.{going_none, halts_going, halts_more, moments_more, served_none, served_more, served_all, served_before, number_is}
 use Rattle.fp_system.proofs.Results.{at_err, at_some, at_none}
 use Rattle.fp_system.proofs.Steps.{halts_here, stays_here}
 use Rattle.fp_system.proofs.server.Server.serve_all.Goals as goal

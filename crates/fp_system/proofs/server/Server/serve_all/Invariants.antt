@@ -1,4 +1,4 @@
-use Rattle.std.proofs.Common.{◌≡◌, ◌+◌, ◌-◌, List}
+use Rattle.std.proofs.Common.{◌≡◌, ◌-◌, List}
 use Rattle.fp_model.specs.Messages.{lines_of, line_fault}
 use Rattle.fp_model.specs.declared.log.Entry.{Entry}
 use Rattle.fp_source.specs.Lines.{lines_ahead, lines_given, fault_ahead}
