@@ -12,6 +12,7 @@ ghost use Rattle.txn_lang.specs.declared.fault.ScriptFault.{ScriptFault as Scrip
 
 use crate::Status;
 use fp_defs::{DefsFault, read_defs};
+use fp_exits::Exits;
 use fp_model::{Bytes, Defs};
 use fp_source::{Part, Source, WholeFault, whole};
 use log_groups::Front;
@@ -58,7 +59,7 @@ fn are_built(defs: &Defs) -> bool
 }
 
 // The definitions that a text is, where they are built.
-fn definitions_in(alloc: Global, text: &[u8]) -> Result<Defs, Status>
+fn definitions_in(alloc: Global, text: &[u8], exits: &Exits) -> Result<Defs, Status>
     ensures ok { IfOk result (λ defs. definitions_in text.now ≡ Ok defs) }
     ensures are { IfOk result AreDefs }
     ensures built { IfOk result (λ defs. are_built defs ≡ true) }
@@ -77,7 +78,7 @@ fn definitions_in(alloc: Global, text: &[u8]) -> Result<Defs, Status>
 }
 
 // The definitions.
-fn read_definitions<S: Source>(alloc: Global, source: &mut S) -> Result<Defs, Status>
+fn read_definitions<S: Source>(alloc: Global, source: &mut S, exits: &Exits) -> Result<Defs, Status>
     ensures ok { S.told source.old → IfOk result (λ defs. definitions_in (S.left source.old part.Definitions) ≡ Ok defs) }
     ensures are { IfOk result AreDefs }
     ensures built { IfOk result (λ defs. are_built defs ≡ true) }
@@ -88,7 +89,7 @@ fn read_definitions<S: Source>(alloc: Global, source: &mut S) -> Result<Defs, St
     ensures source { ReadsOnly S.told S.left S.faults S.holds S.keeps part.Definitions source.old source.new }
 {
     match whole(alloc, source, Part::Definitions, MOST_BYTES) {
-        Ok(text) => definitions_in(alloc, text.as_slice()),
+        Ok(text) => definitions_in(alloc, text.as_slice(), exits),
         Err(WholeFault::TooLong) => Err(Status::Definitions(DefsFault::TooLong)),
         Err(WholeFault::Failed) => Err(Status::ReadFault),
         Err(WholeFault::Memory) => Err(Status::NoMemory),
@@ -151,7 +152,11 @@ fn setup_with(alloc: Global, defs: Defs, scripts: Scripts) -> Result<Setup, Allo
 }
 
 /// What definitions and scripts ask for, or the answer that is given instead.
-pub(crate) fn read_setup<S: Source>(alloc: Global, source: &mut S) -> Result<Setup, Status>
+pub(crate) fn read_setup<S: Source>(
+    alloc: Global,
+    source: &mut S,
+    exits: &Exits,
+) -> Result<Setup, Status>
     ensures job { S.told source.old → IfOk result (λ setup. IsJob (S.left source.old) (job_of setup)) }
     ensures setup { IfOk result IsSetup }
 
@@ -167,7 +172,7 @@ pub(crate) fn read_setup<S: Source>(alloc: Global, source: &mut S) -> Result<Set
     ensures holds { S.holds source.new ≡ S.holds source.old }
     ensures keeps { (first : S) → S.keeps first source.old → S.keeps first source.new }
 {
-    let defs = read_definitions(alloc, source)?;
+    let defs = read_definitions(alloc, source, exits)?;
     let scripts = read_scripts(alloc, source, &defs)?;
     Ok(setup_with(alloc, defs, scripts)?)
 }

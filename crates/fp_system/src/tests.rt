@@ -1,6 +1,7 @@
 //! The text and the number of each answer, and answers that come before the site is looked at.
 use crate::{Status, fault_text, ims};
 use fp_defs::DefsFault;
+use fp_exits::Exits;
 use fp_model::{Bytes, Name};
 use fp_site::MemorySite;
 use fp_source::{MemorySource, Part};
@@ -31,13 +32,14 @@ fn refused(
         Bytes::new(alloc),
         Bytes::new(alloc),
     ];
+    let exits = Exits::new(Vec::new(alloc), Vec::new(alloc));
     let mut source = MemorySource::new(alloc, parts, &[])?;
     let mut site = MemorySite::new(alloc, &[])?;
     let mut texts = Vec::new(alloc);
     for word in words {
         texts.push(word.to_string(alloc)?)?;
     }
-    let status = ims(alloc, &texts, &mut source, &mut site);
+    let status = ims(alloc, &texts, &mut source, &mut site, &exits);
     Ok((said(alloc, &status)?, site.contents(0).is_empty()))
 }
 

@@ -22,6 +22,7 @@ use crate::Status;
 use crate::acting::{define_on, run_on};
 use crate::parts::read_setup;
 use crate::words::{Command, command_of};
+use fp_exits::Exits;
 use fp_site::Site;
 use fp_source::Source;
 use std::alloc::Global;
@@ -39,6 +40,7 @@ pub fn ims<S: Source, T: Site>(
     words: &[String],
     source: &mut S,
     site: &mut T,
+    exits: &Exits,
 ) -> Status
     // When each answer comes.
     ensures usage { (result ≡ status.Usage) ↔ (command_of (map string_bytes words.now) ≡ None) }
@@ -88,13 +90,16 @@ pub fn ims<S: Source, T: Site>(
     ensures crash { (job : Job) → S.told source.old → T.told site.old → Asks (map string_bytes words.now) (S.left source.old) command.Define job →
         Through (T.disk site.old) (T.disk site.new) (IsBeforeOrMade (T.disk site.old) (front_for job)) }
 
+    // `define` reads no messages.
+    ensures messages { S.told source.old → command_of (map string_bytes words.now) ≡ Some command.Define →
+        S.left source.new part.Messages ≡ S.left source.old part.Messages }
     ensures source { IsSame S.told S.faults S.holds S.keeps source.old source.new }
     ensures site { IsSame T.told T.faults T.holds T.keeps site.old site.new }
 {
     let Some(command) = command_of(words) else {
         return Status::Usage;
     };
-    match read_setup(alloc, source) {
+    match read_setup(alloc, source, exits) {
         Ok(setup) => match command {
             Command::Define => define_on(alloc, site, &setup),
             Command::Run => run_on(alloc, source, site, &setup),
