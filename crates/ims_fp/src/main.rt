@@ -5,6 +5,8 @@
 #![tactic(auto)]
 
 ghost use Rattle.std.specs.Prelude.{◌≡◌, ◌≢◌, IsErr, IsOk};
+ghost use Rattle.fp_exits.specs.Ranges.{IsRoutable, IsSpreadable};
+ghost use Rattle.fp_model.specs.Exits.{route, spread};
 ghost use Rattle.fp_system.specs.declared.status.Status.{Status};
 
 mod data_set;
@@ -21,7 +23,7 @@ use folder::Folder;
 use fp_exits::{
     Exits, Router, Routing, Spreader, Spreading, fold_group, fold_place, range_group, range_place,
 };
-use fp_model::Kind;
+use fp_model::{Kind, Name};
 use fp_site::Failed;
 use fp_system::{Status, fault_text, ims};
 use std::alloc::AllocError;
@@ -63,13 +65,37 @@ fn words(rt: &HostRuntime) -> io::Result<Vec<String>> {
 // Makes the installation's exits, one of each kind for keys and for transactions, and does what the words say.
 fn with_exits(rt: &HostRuntime, words: &[String]) -> Result<Status, AllocError> {
     let alloc = rt.alloc();
-    let fold: Spreading = Box::new(alloc, fold_place)?;
-    let range: Spreading = Box::new(alloc, range_place)?;
+    let fold: Spreading = Box::new(
+        alloc,
+        |key: &[u8], n: u64| -> u64
+            requires { IsSpreadable key.now n }
+            ensures { result ≡ spread Kind.Fold n key.now }
+        { fold_place(key, n) },
+    )?;
+    let range: Spreading = Box::new(
+        alloc,
+        |key: &[u8], n: u64| -> u64
+            requires { IsSpreadable key.now n }
+            ensures { result ≡ spread Kind.Range n key.now }
+        { range_place(key, n) },
+    )?;
     let mut spreaders = Vec::new(alloc);
     spreaders.push(Spreader::new(Kind::Fold, fold))?;
     spreaders.push(Spreader::new(Kind::Range, range))?;
-    let fold: Routing = Box::new(alloc, fold_group)?;
-    let range: Routing = Box::new(alloc, range_group)?;
+    let fold: Routing = Box::new(
+        alloc,
+        |tran: &Name, n: u64| -> u64
+            requires { IsRoutable tran.now n }
+            ensures { result ≡ route Kind.Fold n tran.now }
+        { fold_group(tran, n) },
+    )?;
+    let range: Routing = Box::new(
+        alloc,
+        |tran: &Name, n: u64| -> u64
+            requires { IsRoutable tran.now n }
+            ensures { result ≡ route Kind.Range n tran.now }
+        { range_group(tran, n) },
+    )?;
     let mut routers = Vec::new(alloc);
     routers.push(Router::new(Kind::Fold, fold))?;
     routers.push(Router::new(Kind::Range, range))?;
