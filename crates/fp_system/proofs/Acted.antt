@@ -26,12 +26,6 @@ use Rattle.fp_system.proofs.Stands.{safe_at_rest}
 
 -- ---- faults of storage
 
-pub or_foreign : (f : RestartFault) → ((set at : ℕ) → f ≡ fault.Damaged set at → ⊥) → IsOr status.Foreign (status_of_fault f)
-or_foreign fault.Foreign never = inl refl
-or_foreign fault.SiteFault never = inr tt
-or_foreign (fault.Damaged set at) never = absurd (never set at refl)
-or_foreign fault.Memory never = inr tt
-
 pub is_fault : (f : RestartFault) → (f ≡ fault.Foreign → ⊥) → ((set at : ℕ) → f ≡ fault.Damaged set at → ⊥) → IsFault (status_of_fault f)
 is_fault fault.Foreign never never2 = absurd (never refl)
 is_fault fault.SiteFault never never2 = tt

@@ -2,7 +2,9 @@
 use Rattle.std.proofs.Common.{◌≡◌, inl, inr, refl, sym, ap, subst, ◌∙◌, arith, ℕ, ◌<◌, List, [], ◌∷◌, length, Bool, true, false, if◌then◌else◌}
 use Rattle.std.specs.Prelude.{◌≢◌, ◌⊎◌, ◌==◌, ◌&&◌, nat_lt, Result, Ok, Err}
 use Rattle.std.proofs.lemmas.Bool.Decides.{nat_tests}
+use Rattle.fp_defs.specs.Exits.{defs_for}
 use Rattle.fp_defs.specs.Whole.{defs_of}
+use Rattle.fp_exits.specs.Kinds.{Kinds}
 use Rattle.fp_defs.specs.declared.fault.DefsFault.{DefsFault}
 use Rattle.fp_defs.specs.declared.fault.DefsFault.TheVariants as bad
 use Rattle.fp_model.specs.declared.definitions.DedbDef.{DedbDef}
@@ -41,40 +43,17 @@ fault_is_answer read (bad.Unknown key) is = inr (ap only_built (is (λ e. cc)))
 fault_is_answer read (bad.OutOfLimit key value) is = inr (ap only_built (is (λ e. cc)))
 fault_is_answer read (bad.Twice text) is = inr (ap only_built (is (λ e. cc)))
 fault_is_answer read (bad.BadField key) is = inr (ap only_built (is (λ e. cc)))
+fault_is_answer read (bad.NoExit kind) is = inr (ap only_built (is (λ e. cc)))
 fault_is_answer read bad.TooLong is = inr (ap only_built (is (λ e. cc)))
 
--- ---- scripts
-
--- the first fault of the scripts is the answer, unless memory ran out
-pub scripts_answer : (fault : ScriptFault) (defs : Defs) (text : List ℕ) → RefusesFor fault (HasFault defs text fault)
-    → IsFault (status_of_scripts fault) ⊎ ((f : ScriptFault) × (status_of_scripts fault ≡ status.Scripts f) × HasFault defs text f)
-scripts_answer wrong.Memory defs text is = inl tt
-scripts_answer (wrong.Syntax line) defs text is = inr (wrong.Syntax line, refl, is)
-scripts_answer (wrong.UnknownName line) defs text is = inr (wrong.UnknownName line, refl, is)
-scripts_answer (wrong.TooDear name cost) defs text is = inr (wrong.TooDear name cost, refl, is)
-scripts_answer (wrong.Twice name) defs text is = inr (wrong.Twice name, refl, is)
-scripts_answer wrong.TooLong defs text is = inr (wrong.TooLong, refl, is)
-
 -- ---- the whole
-
--- no data entry databases
-none_left : (ds : List DedbDef) → (length ds == 0) ≡ true → ds ≡ []
-none_left [] e = refl
-none_left (d ∷ ds) e = absurd (let z : length (d ∷ ds) ≡ 0 = grind (arith, nat_tests) in omega (arith, z))
-
-second_of : (a b : Bool) → (a && b) ≡ true → b ≡ true
-second_of true b e = e
-second_of false b e = absurd cc
-
-pub built_without : (defs : Defs) → are_built defs ≡ true → defs.dedbs ≡ []
-built_without defs built = none_left defs.dedbs (second_of _ (length defs.dedbs == 0) built)
 
 abbrev job_with : Defs → List ℕ → List Script → Job
 job_with defs text scripts = record { defs = defs; scripts = scripts; scripts_text = text }
 
-pub one_job : (left : Part → List ℕ) (a b : Job) → IsJob left a → IsJob left b → a ≡ b
-one_job left a b p q =
-    let d : a.defs ≡ b.defs = same_defs (definitions_in (left part.Definitions)) a.defs b.defs p.definitions q.definitions in
+pub one_job : (kinds : Kinds) (left : Part → List ℕ) (a b : Job) → IsJob kinds left a → IsJob kinds left b → a ≡ b
+one_job kinds left a b p q =
+    let d : a.defs ≡ b.defs = same_defs (definitions_in kinds (left part.Definitions)) a.defs b.defs p.definitions q.definitions in
     let t : a.scripts_text ≡ b.scripts_text = p.text ∙ sym q.text in
     let s : a.scripts ≡ b.scripts =
     one_list b.defs b.scripts_text a.scripts b.scripts
@@ -82,54 +61,54 @@ one_job left a b p q =
     ap (λ (defs : Defs). job_with defs a.scripts_text a.scripts) d ∙ ap (λ (text : List ℕ). job_with b.defs text a.scripts) t
     ∙ ap (λ (scripts : List Script). job_with b.defs b.scripts_text scripts) s
 
-pub no_job_refused : {Any : Type 0} (left : Part → List ℕ) (job : Job) (answer : Status) → IsJob left job → Refuses left answer → Any
-no_job_refused left job answer p (by_definitions is) = not_both _ job.defs _ p.definitions is
-no_job_refused left job answer p (by_scripts {defs = defs} {fault = fault} is has) =
-    let d : defs ≡ job.defs = same_defs (definitions_in (left part.Definitions)) defs job.defs is p.definitions in
+pub no_job_refused : {Any : Type 0} (kinds : Kinds) (left : Part → List ℕ) (job : Job) (answer : Status) → IsJob kinds left job → Refuses kinds left answer → Any
+no_job_refused kinds left job answer p (by_definitions is) = not_both _ job.defs _ p.definitions is
+no_job_refused kinds left job answer p (by_scripts {defs = defs} {fault = fault} is has) =
+    let d : defs ≡ job.defs = same_defs (definitions_in kinds (left part.Definitions)) defs job.defs is p.definitions in
     absurd (apart job.defs (left part.Scripts) job.scripts fault (subst (λ (text : List ℕ). AreScriptsOf job.defs text job.scripts) p.text p.scripts)
     (subst (λ (x : Defs). HasFault x (left part.Scripts) fault) d has))
 
-pub one_answer : (left : Part → List ℕ) (a b : Status) → Refuses left a → Refuses left b → a ≡ b
-one_answer left a b (by_definitions p) (by_definitions q) = same_answer _ _ _ p q
-one_answer left a b (by_definitions p) (by_scripts q has) = not_both _ _ _ q p
-one_answer left a b (by_scripts p has) (by_definitions q) = not_both _ _ _ p q
-one_answer left a b (by_scripts {defs = d} {fault = f} p has) (by_scripts {defs = e} {fault = g} q has2) =
-    let same : d ≡ e = same_defs (definitions_in (left part.Definitions)) d e p q in
+pub one_answer : (kinds : Kinds) (left : Part → List ℕ) (a b : Status) → Refuses kinds left a → Refuses kinds left b → a ≡ b
+one_answer kinds left a b (by_definitions p) (by_definitions q) = same_answer _ _ _ p q
+one_answer kinds left a b (by_definitions p) (by_scripts q has) = not_both _ _ _ q p
+one_answer kinds left a b (by_scripts p has) (by_definitions q) = not_both _ _ _ p q
+one_answer kinds left a b (by_scripts {defs = d} {fault = f} p has) (by_scripts {defs = e} {fault = g} q has2) =
+    let same : d ≡ e = same_defs (definitions_in kinds (left part.Definitions)) d e p q in
     ap (λ (x : ScriptFault). status.Scripts x) (one_fault e (left part.Scripts) f g (subst (λ (x : Defs). HasFault x (left part.Scripts) f) same has) has2)
 
 -- what was read stands in the place of an answer that the parts have
-pub refused_or : (left : Part → List ℕ) (answer given : Status) → Refuses left answer → IsFault given ⊎ Refuses left given → IsOr answer given
-refused_or left answer given p (inl f) = inr f
-refused_or left answer given p (inr q) = inl (one_answer left given answer q p)
+pub refused_or : (kinds : Kinds) (left : Part → List ℕ) (answer given : Status) → Refuses kinds left answer → IsFault given ⊎ Refuses kinds left given → IsOr answer given
+refused_or kinds left answer given p (inl f) = inr f
+refused_or kinds left answer given p (inr q) = inl (one_answer kinds left given answer q p)
 
 -- where they are a job, it is a fault
-pub job_is_fault : (left : Part → List ℕ) (job : Job) (given : Status) → IsJob left job → IsFault given ⊎ Refuses left given → IsFault given
-job_is_fault left job given p (inl f) = f
-job_is_fault left job given p (inr q) = no_job_refused left job given p q
+pub job_is_fault : (kinds : Kinds) (left : Part → List ℕ) (job : Job) (given : Status) → IsJob kinds left job → IsFault given ⊎ Refuses kinds left given → IsFault given
+job_is_fault kinds left job given p (inl f) = f
+job_is_fault kinds left job given p (inr q) = no_job_refused kinds left job given p q
 
 -- ---- parts that are too long
 
-pub long_definitions : (text : List ℕ) → 1000000 < length text → definitions_in text ≡ Err (status.Definitions bad.TooLong)
+pub long_definitions : (kinds : Kinds) (text : List ℕ) → 1000000 < length text → definitions_in kinds text ≡ Err (status.Definitions bad.TooLong)
 unfolding definitions_in defs_of
-long_definitions text long = let e : nat_lt 1000000 (length text) ≡ true = grind (arith, nat_tests) in rw e refl
+long_definitions kinds text long = let e : nat_lt 1000000 (length text) ≡ true = grind (arith, nat_tests) in rw e refl
 
 -- ---- good definitions
 
-pub is_built : (text : List ℕ) (defs : Defs) → defs_of text ≡ Ok defs → are_built defs ≡ true → definitions_in text ≡ Ok defs
+pub is_built : (kinds : Kinds) (text : List ℕ) (defs : Defs) → defs_for kinds text ≡ Ok defs → are_built defs ≡ true → definitions_in kinds text ≡ Ok defs
 unfolding definitions_in
-is_built text defs e built = ap only_built e ∙ ap (λ (b : Bool). if b then Ok defs else Err (status.NotBuilt part.Definitions)) built
+is_built kinds text defs e built = ap only_built e ∙ ap (λ (b : Bool). if b then Ok defs else Err (status.NotBuilt part.Definitions)) built
 
-pub isnt_built : (text : List ℕ) (defs : Defs) → defs_of text ≡ Ok defs → are_built defs ≡ false → definitions_in text ≡ Err (status.NotBuilt part.Definitions)
+pub isnt_built : (kinds : Kinds) (text : List ℕ) (defs : Defs) → defs_for kinds text ≡ Ok defs → are_built defs ≡ false → definitions_in kinds text ≡ Err (status.NotBuilt part.Definitions)
 unfolding definitions_in
-isnt_built text defs e built = ap only_built e ∙ ap (λ (b : Bool). if b then Ok defs else Err (status.NotBuilt part.Definitions)) built
+isnt_built kinds text defs e built = ap only_built e ∙ ap (λ (b : Bool). if b then Ok defs else Err (status.NotBuilt part.Definitions)) built
 
 -- ---- answers of the parts in turn
 
-pub or_refused : (left : Part → List ℕ) (a : Status) → IsFault a ⊎ (definitions_in (left part.Definitions) ≡ Err a) → IsFault a ⊎ Refuses left a
-or_refused left a (inl f) = inl f
-or_refused left a (inr e) = inr (by_definitions e)
+pub or_refused : (kinds : Kinds) (left : Part → List ℕ) (a : Status) → IsFault a ⊎ (definitions_in kinds (left part.Definitions) ≡ Err a) → IsFault a ⊎ Refuses kinds left a
+or_refused kinds left a (inl f) = inl f
+or_refused kinds left a (inr e) = inr (by_definitions e)
 
-pub or_scripts : (left : Part → List ℕ) (defs : Defs) (text : List ℕ) (a : Status) → definitions_in (left part.Definitions) ≡ Ok defs → text ≡ left part.Scripts
-    → IsFault a ⊎ ((f : ScriptFault) × (a ≡ status.Scripts f) × HasFault defs text f) → IsFault a ⊎ Refuses left a
-or_scripts left defs text a e same (inl f) = inl f
-or_scripts left defs text a e same (inr (f, is, has)) = inr (subst (Refuses left) (sym is) (by_scripts e (subst (λ (t : List ℕ). HasFault defs t f) same has)))
+pub or_scripts : (kinds : Kinds) (left : Part → List ℕ) (defs : Defs) (text : List ℕ) (a : Status) → definitions_in kinds (left part.Definitions) ≡ Ok defs → text ≡ left part.Scripts
+    → IsFault a ⊎ ((f : ScriptFault) × (a ≡ status.Scripts f) × HasFault defs text f) → IsFault a ⊎ Refuses kinds left a
+or_scripts kinds left defs text a e same (inl f) = inl f
+or_scripts kinds left defs text a e same (inr (f, is, has)) = inr (subst (Refuses kinds left) (sym is) (by_scripts e (subst (λ (t : List ℕ). HasFault defs t f) same has)))

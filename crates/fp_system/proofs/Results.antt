@@ -7,14 +7,10 @@ pub ok_with : {A E : Type 0} (r : Result A E) (R Q : A → Type 0) → ((x : A) 
 ok_with (Ok x) R Q f h = f x h
 ok_with (Err e) R Q f h = tt
 
--- what holds in any case holds at a fault, and at a good answer
+-- what holds in any case holds at a fault
 pub at_err : {A E : Type 0} (r : Result A E) (Q : Type 0) → Q → OnErr r Q
 at_err (Ok x) Q q = tt
 at_err (Err e) Q q = q
-
-pub at_ok : {A E : Type 0} (r : Result A E) (Q : Type 0) → Q → OnOk r Q
-at_ok (Ok x) Q q = q
-at_ok (Err e) Q q = tt
 
 -- what holds of what there is, and of nothing
 pub at_some : {A : Type 0} (o : Option A) (x : A) (P : A → Type 0) → o ≡ Some x → IfSome o P → P x

@@ -1,5 +1,6 @@
 -- What the top call promises.
 use Rattle.std.specs.Prelude.{◌≡◌, ℕ, ◌≤◌, List, ◌++◌, map, Some, IsSome}
+use Rattle.fp_exits.specs.Kinds.{Kinds}
 use Rattle.fp_source.specs.declared.part.Part.{Part}
 use Rattle.fp_model.specs.declared.log.Entry.{Entry}
 use Rattle.fp_model.specs.LogText.{StartsWithFront}
@@ -10,15 +11,15 @@ use Rattle.fp_system.specs.declared.words.Command.{Command}
 use Rattle.fp_system.specs.Parts.{Job, IsJob, Refuses, front_for}
 use Rattle.fp_system.specs.Words.{command_of}
 
--- the words ask for this command, and the parts are this job
-pub record Asks (words : List (List ℕ)) (left : Part → List ℕ) (command : Command) (job : Job) : Type 0 where
+-- for an installation with these kinds of exit: the words ask for this command, and the parts are this job
+pub record Asks (kinds : Kinds) (words : List (List ℕ)) (left : Part → List ℕ) (command : Command) (job : Job) : Type 0 where
   pub command_is : command_of words ≡ Some command
-  pub job_is : IsJob left job
+  pub job_is : IsJob kinds left job
 
 -- the words ask for a command, and the parts are refused with this answer
-pub record IsRefused (words : List (List ℕ)) (left : Part → List ℕ) (answer : Status) : Type 0 where
+pub record IsRefused (kinds : Kinds) (words : List (List ℕ)) (left : Part → List ℕ) (answer : Status) : Type 0 where
   pub is_command : IsSome (command_of words)
-  pub refused : Refuses left answer
+  pub refused : Refuses kinds left answer
 
 -- the log doesn't begin with the open front of a job
 abbrev pub IsForeignTo : Job → Disk → Type 0

@@ -4,6 +4,8 @@ use Rattle.std.specs.Fmt.{decimal, signed_decimal}
 use Rattle.fp_defs.specs.declared.fault.DefsFault.{DefsFault}
 use Rattle.fp_defs.specs.declared.fault.DefsFault.TheVariants as bad
 use Rattle.fp_model.specs.Texts.{trimmed}
+use Rattle.fp_model.specs.declared.definitions.Kind.{Kind}
+use Rattle.fp_model.specs.declared.definitions.Kind.TheVariants.{Fold, Range}
 use Rattle.fp_source.specs.declared.part.Part.{Part}
 use Rattle.fp_source.specs.declared.part.Part.TheVariants as part
 use Rattle.fp_system.specs.declared.status.Status.{Status}
@@ -17,6 +19,10 @@ part_name part.Scripts = codes "scripts"
 part_name part.Schedule = codes "schedule"
 part_name part.Messages = codes "messages"
 
+abbrev pub kind_name : Kind → List ℕ
+kind_name Fold = codes "FOLD"
+kind_name Range = codes "RANGE"
+
 -- what is said of a fault of the definitions
 abbrev pub definitions_text : DefsFault → List ℕ
 definitions_text bad.NotToml = codes "not TOML"
@@ -25,6 +31,7 @@ definitions_text (bad.Unknown key) = codes "unknown " ++ key
 definitions_text (bad.OutOfLimit key value) = key ++ codes " out of limit: " ++ signed_decimal value
 definitions_text (bad.Twice text) = codes "twice " ++ text
 definitions_text (bad.BadField key) = codes "bad field " ++ key
+definitions_text (bad.NoExit kind) = codes "no exit " ++ kind_name kind
 definitions_text bad.TooLong = codes "too long"
 definitions_text bad.Memory = codes "no memory"
 

@@ -1,4 +1,5 @@
 //! The parts of the source: the definitions, and then the scripts.
+ghost use Rattle.fp_exits.specs.Kinds.{kinds_of};
 ghost use Rattle.fp_model.specs.WellFormed.{AreDefs};
 ghost use Rattle.fp_source.specs.Source.{ReadsOnly, Rose};
 ghost use Rattle.fp_source.specs.declared.part.Part.TheVariants as part;
@@ -58,16 +59,16 @@ fn are_built(defs: &Defs) -> bool
     defs.regions.as_slice() == [1].as_slice() && defs.dedbs.is_empty()
 }
 
-// The definitions that a text is, where they are built.
+// The definitions that a text is for these exits, where they are built.
 fn definitions_in(alloc: Global, text: &[u8], exits: &Exits) -> Result<Defs, Status>
-    ensures ok { IfOk result (λ defs. definitions_in text.now ≡ Ok defs) }
+    ensures ok { IfOk result (λ defs. definitions_in (kinds_of exits.now) text.now ≡ Ok defs) }
     ensures are { IfOk result AreDefs }
     ensures built { IfOk result (λ defs. are_built defs ≡ true) }
-    ensures refused { IfErr result (λ answer. IsFault answer ⊎ (definitions_in text.now ≡ Err answer)) }
+    ensures refused { IfErr result (λ answer. IsFault answer ⊎ (definitions_in (kinds_of exits.now) text.now ≡ Err answer)) }
     ensures early { IfErr result IsOfParts }
     ensures never { IsErrOf result status.ReadFault → ⊥ }
 {
-    let defs = match read_defs(alloc, text) {
+    let defs = match read_defs(alloc, text, exits) {
         Ok(defs) => defs,
         Err(fault) => return Err(definitions_status(fault)),
     };
@@ -79,11 +80,11 @@ fn definitions_in(alloc: Global, text: &[u8], exits: &Exits) -> Result<Defs, Sta
 
 // The definitions.
 fn read_definitions<S: Source>(alloc: Global, source: &mut S, exits: &Exits) -> Result<Defs, Status>
-    ensures ok { S.told source.old → IfOk result (λ defs. definitions_in (S.left source.old part.Definitions) ≡ Ok defs) }
+    ensures ok { S.told source.old → IfOk result (λ defs. definitions_in (kinds_of exits.now) (S.left source.old part.Definitions) ≡ Ok defs) }
     ensures are { IfOk result AreDefs }
     ensures built { IfOk result (λ defs. are_built defs ≡ true) }
     ensures refused { S.told source.old →
-        IfErr result (λ answer. IsFault answer ⊎ (definitions_in (S.left source.old part.Definitions) ≡ Err answer)) }
+        IfErr result (λ answer. IsFault answer ⊎ (definitions_in (kinds_of exits.now) (S.left source.old part.Definitions) ≡ Err answer)) }
     ensures early { IfErr result IsOfParts }
     ensures cause { IsErrOf result status.ReadFault → Rose (S.faults source.old) (S.faults source.new) }
     ensures source { ReadsOnly S.told S.left S.faults S.holds S.keeps part.Definitions source.old source.new }
@@ -157,11 +158,11 @@ pub(crate) fn read_setup<S: Source>(
     source: &mut S,
     exits: &Exits,
 ) -> Result<Setup, Status>
-    ensures job { S.told source.old → IfOk result (λ setup. IsJob (S.left source.old) (job_of setup)) }
+    ensures job { S.told source.old → IfOk result (λ setup. IsJob (kinds_of exits.now) (S.left source.old) (job_of setup)) }
     ensures setup { IfOk result IsSetup }
 
     // Otherwise it is the first reason why they are no job.
-    ensures refused { S.told source.old → IfErr result (λ answer. IsFault answer ⊎ Refuses (S.left source.old) answer) }
+    ensures refused { S.told source.old → IfErr result (λ answer. IsFault answer ⊎ Refuses (kinds_of exits.now) (S.left source.old) answer) }
     ensures early { IfErr result IsOfParts }
     ensures cause { IsErrOf result status.ReadFault → Rose (S.faults source.old) (S.faults source.new) }
 

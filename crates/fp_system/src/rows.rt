@@ -1,6 +1,6 @@
 //! Whole runs over a site in memory: what is sent, and what the log holds.
-use crate::{Status, ims};
-use fp_exits::Exits;
+use crate::Status;
+use crate::tests::answer;
 use fp_model::Bytes;
 use fp_site::{MemorySite, Site};
 use fp_source::MemorySource;
@@ -64,12 +64,8 @@ fn run(
         Bytes::new(alloc),
         Bytes::from_slice(alloc, messages)?,
     ];
-    let exits = Exits::new(Vec::new(alloc), Vec::new(alloc));
     let mut source = MemorySource::new(alloc, parts, failing)?;
-    let mut words = Vec::new(alloc);
-    words.push(command.to_string(alloc)?)?;
-    words.push("D".to_string(alloc)?)?;
-    Ok(ims(alloc, &words, &mut source, site, &exits))
+    answer(alloc, &[command, "D"], &mut source, site)
 }
 
 // A new site, and the answer of a run on it.

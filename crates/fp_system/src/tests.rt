@@ -1,8 +1,12 @@
 //! The text and the number of each answer, and answers that come before the site is looked at.
+ghost use Rattle.std.specs.Prelude.{◌≡◌};
+ghost use Rattle.fp_exits.specs.Ranges.{IsRoutable};
+ghost use Rattle.fp_model.specs.Exits.{route};
+
 use crate::{Status, fault_text, ims};
 use fp_defs::DefsFault;
-use fp_exits::Exits;
-use fp_model::{Bytes, Name};
+use fp_exits::{Exits, Router, Routing, fold_group};
+use fp_model::{Bytes, Kind, Name};
 use fp_site::MemorySite;
 use fp_source::{MemorySource, Part};
 use std::alloc::{AllocError, Global};
@@ -19,6 +23,30 @@ fn said(alloc: Global, status: &Status) -> Result<String, AllocError> {
     format!(in alloc; "{text}|{number}")
 }
 
+// What a command answers over parts and a site, where the exits are one router, FOLD.
+pub(crate) fn answer(
+    alloc: Global,
+    words: &[&str],
+    source: &mut MemorySource,
+    site: &mut MemorySite,
+) -> Result<Status, AllocError> {
+    let fold: Routing = Box::new(
+        alloc,
+        |tran: &Name, n: u64| -> u64
+            requires { IsRoutable tran.now n }
+            ensures { result ≡ route Kind.Fold n tran.now }
+        { fold_group(tran, n) },
+    )?;
+    let mut routers = Vec::new(alloc);
+    routers.push(Router::new(Kind::Fold, fold))?;
+    let exits = Exits::new(Vec::new(alloc), routers);
+    let mut texts = Vec::new(alloc);
+    for word in words {
+        texts.push(word.to_string(alloc)?)?;
+    }
+    Ok(ims(alloc, &texts, source, site, &exits))
+}
+
 // What a command says over these parts and a new site, and whether it left the site as it was.
 fn refused(
     alloc: Global,
@@ -32,14 +60,9 @@ fn refused(
         Bytes::new(alloc),
         Bytes::new(alloc),
     ];
-    let exits = Exits::new(Vec::new(alloc), Vec::new(alloc));
     let mut source = MemorySource::new(alloc, parts, &[])?;
     let mut site = MemorySite::new(alloc, &[])?;
-    let mut texts = Vec::new(alloc);
-    for word in words {
-        texts.push(word.to_string(alloc)?)?;
-    }
-    let status = ims(alloc, &texts, &mut source, &mut site, &exits);
+    let status = answer(alloc, words, &mut source, &mut site)?;
     Ok((said(alloc, &status)?, site.contents(0).is_empty()))
 }
 
@@ -105,6 +128,7 @@ fn faults_of_definitions_have_their_texts(rt: HostRuntime) -> Result<(), Fail> {
         ),
         (DefsFault::Twice(key()?), "definitions: twice pool|2"),
         (DefsFault::BadField(key()?), "definitions: bad field pool|2"),
+        (DefsFault::NoExit(Kind::Fold), "definitions: no exit FOLD|2"),
         (DefsFault::TooLong, "definitions: too long|2"),
     ] {
         assert_eq!(rt; said(alloc, &Status::Definitions(fault))?.as_str(), wanted);
@@ -150,6 +174,12 @@ fn the_first_fault_of_the_parts_is_told(rt: HostRuntime) -> Result<(), Fail> {
             "regions = [1, 1]\nrouter = \"FOLD\"\n",
             "BOGUS\n",
             "not built: definitions|11",
+        ),
+        (
+            "run",
+            "regions = [1]\nrouter = \"RANGE\"\n",
+            "BOGUS\n",
+            "definitions: no exit RANGE|2",
         ),
         (
             "run",

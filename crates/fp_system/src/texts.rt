@@ -1,11 +1,11 @@
 //! What is said of each fault on standard error.
 ghost use Rattle.fp_model.specs.Texts.{trimmed};
-ghost use Rattle.fp_system.specs.Texts.{definitions_text, part_name, scripts_text};
+ghost use Rattle.fp_system.specs.Texts.{definitions_text, kind_name, part_name, scripts_text};
 ghost use Rattle.std.specs.Fmt.{decimal, signed_decimal};
 ghost use Rattle.std.specs.Prelude.{◌≡◌, ◌++◌, IfOk, codes};
 
 use fp_defs::DefsFault;
-use fp_model::{Bytes, Name};
+use fp_model::{Bytes, Kind, Name};
 use fp_source::Part;
 use std::alloc::{AllocError, Global};
 use txn_lang::ScriptFault;
@@ -37,6 +37,16 @@ pub(crate) fn part_name(part: Part) -> &'static [u8]
     }
 }
 
+// The name of a kind of exits.
+fn kind_name(kind: Kind) -> &'static [u8]
+    ensures { result.now ≡ kind_name kind }
+{
+    match kind {
+        Kind::Fold => b"FOLD",
+        Kind::Range => b"RANGE",
+    }
+}
+
 /// What is said of a fault of the definitions.
 pub(crate) fn definitions_text(alloc: Global, fault: &DefsFault) -> Result<Bytes, AllocError>
     ensures { IfOk result (λ text. text ≡ codes "definitions: " ++ definitions_text fault.now) }
@@ -48,6 +58,9 @@ pub(crate) fn definitions_text(alloc: Global, fault: &DefsFault) -> Result<Bytes
         DefsFault::OutOfLimit(key, value) => limit_text(alloc, key, *value),
         DefsFault::Twice(text) => joined(alloc, b"definitions: twice ", text.as_slice(), b""),
         DefsFault::BadField(key) => joined(alloc, b"definitions: bad field ", key.as_slice(), b""),
+        DefsFault::NoExit(kind) => {
+            joined(alloc, b"definitions: no exit ", kind_name(*kind), b"")
+        }
         DefsFault::TooLong => Bytes::from_slice(alloc, b"definitions: too long"),
         DefsFault::Memory => Bytes::from_slice(alloc, b"definitions: no memory"),
     }

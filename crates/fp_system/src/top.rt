@@ -1,4 +1,5 @@
 //! The top call.
+ghost use Rattle.fp_exits.specs.Kinds.{kinds_of};
 ghost use Rattle.fp_model.specs.Messages.{lines_of};
 ghost use Rattle.fp_model.specs.declared.log.Entry.{Entry};
 ghost use Rattle.fp_restart.specs.Restarts.{IsBadAt};
@@ -33,7 +34,7 @@ use std::alloc::Global;
 ///
 /// # What contracts say
 ///
-/// `Asks` says that the words are a command and the parts are a job for it. Want of memory (`NoMemory`) may come at
+/// `Asks` says that the words are a command and the parts, with the kinds of exit that there are, are a job for it. Want of memory (`NoMemory`) may come at
 /// any place. A fault comes only where the count of its object rose.
 pub fn ims<S: Source, T: Site>(
     alloc: Global,
@@ -44,50 +45,50 @@ pub fn ims<S: Source, T: Site>(
 ) -> Status
     // When each answer comes.
     ensures usage { (result ≡ status.Usage) ↔ (command_of (map string_bytes words.now) ≡ None) }
-    ensures refusal { S.told source.old → IsRefusal result → IsRefused (map string_bytes words.now) (S.left source.old) result }
-    ensures refused { (answer : StatusOf) → S.told source.old → IsRefused (map string_bytes words.now) (S.left source.old) answer →
+    ensures refusal { S.told source.old → IsRefusal result → IsRefused (kinds_of exits.now) (map string_bytes words.now) (S.left source.old) result }
+    ensures refused { (answer : StatusOf) → S.told source.old → IsRefused (kinds_of exits.now) (map string_bytes words.now) (S.left source.old) answer →
         IsOr answer result }
     ensures read_fault { result ≡ status.ReadFault → Rose (S.faults source.old) (S.faults source.new) }
     ensures site_fault { result ≡ status.SiteFault → Rose (T.faults site.old) (T.faults site.new) }
     ensures foreign { S.told source.old → T.told site.old → result ≡ status.Foreign →
-        (job : Job) × Asks (map string_bytes words.now) (S.left source.old) command.Run job × IsForeignTo job (T.disk site.old) }
-    ensures only_foreign { (job : Job) → S.told source.old → T.told site.old → Asks (map string_bytes words.now) (S.left source.old) command.Run job
+        (job : Job) × Asks (kinds_of exits.now) (map string_bytes words.now) (S.left source.old) command.Run job × IsForeignTo job (T.disk site.old) }
+    ensures only_foreign { (job : Job) → S.told source.old → T.told site.old → Asks (kinds_of exits.now) (map string_bytes words.now) (S.left source.old) command.Run job
         → IsForeignTo job (T.disk site.old) → IsOr status.Foreign result }
     ensures damaged { (set at : ℕ) → S.told source.old → T.told site.old → result ≡ status.Damaged set at →
-        (job : Job) × Asks (map string_bytes words.now) (S.left source.old) command.Run job × (set ≡ 0) × IsBadAt job.defs ((T.disk site.old).contents 0) at }
+        (job : Job) × Asks (kinds_of exits.now) (map string_bytes words.now) (S.left source.old) command.Run job × (set ≡ 0) × IsBadAt job.defs ((T.disk site.old).contents 0) at }
     ensures line { (number : ℕ) → S.told source.old → result ≡ status.Line number →
-        (job : Job) × Asks (map string_bytes words.now) (S.left source.old) command.Run job × (faulty_line (S.left source.old part.Messages) ≡ Some number) }
+        (job : Job) × Asks (kinds_of exits.now) (map string_bytes words.now) (S.left source.old) command.Run job × (faulty_line (S.left source.old part.Messages) ≡ Some number) }
 
     // What stays. Up to `Foreign` nothing is written, and where there is no job the site isn't touched.
     ensures untouched { IsEarly result → site.new ≡ site.old }
-    ensures no_job { S.told source.old → ((job : Job) → IsJob (S.left source.old) job → ⊥) → site.new ≡ site.old }
+    ensures no_job { S.told source.old → ((job : Job) → IsJob (kinds_of exits.now) (S.left source.old) job → ⊥) → site.new ≡ site.old }
     ensures unchanged { T.told site.old → result ≡ status.Foreign → IsUnchanged (T.disk site.old) (T.disk site.new) }
 
     // `run` from a safe site: each line up to the first that isn't taken is answered, or a fault came. Whatever the answer
     // is, the site stays safe, and every crash since the call's start keeps what stood.
-    ensures complete { (job : Job) (earlier : ListOf Entry) → S.told source.old → T.told site.old → Asks (map string_bytes words.now) (S.left source.old) command.Run job
+    ensures complete { (job : Job) (earlier : ListOf Entry) → S.told source.old → T.told site.old → Asks (kinds_of exits.now) (map string_bytes words.now) (S.left source.old) command.Run job
         → IsSafe job.defs job.scripts job.scripts_text (T.disk site.old) earlier → faulty_line (S.left source.old part.Messages) ≡ None → IsOr status.Done result }
-    ensures stopped { (job : Job) (earlier : ListOf Entry) (number : ℕ) → S.told source.old → T.told site.old → Asks (map string_bytes words.now) (S.left source.old) command.Run job
+    ensures stopped { (job : Job) (earlier : ListOf Entry) (number : ℕ) → S.told source.old → T.told site.old → Asks (kinds_of exits.now) (map string_bytes words.now) (S.left source.old) command.Run job
         → IsSafe job.defs job.scripts job.scripts_text (T.disk site.old) earlier → faulty_line (S.left source.old part.Messages) ≡ Some number →
         IsOr (status.Line number) result }
-    ensures answered { (job : Job) (earlier : ListOf Entry) → S.told source.old → T.told site.old → Asks (map string_bytes words.now) (S.left source.old) command.Run job
+    ensures answered { (job : Job) (earlier : ListOf Entry) → S.told source.old → T.told site.old → Asks (kinds_of exits.now) (map string_bytes words.now) (S.left source.old) command.Run job
         → IsSafe job.defs job.scripts job.scripts_text (T.disk site.old) earlier → result ≡ status.Done →
         IsAnswered job earlier (lines_of (S.left source.old part.Messages)) (T.disk site.old) (T.disk site.new) }
-    ensures before { (job : Job) (earlier : ListOf Entry) (number : ℕ) → S.told source.old → T.told site.old → Asks (map string_bytes words.now) (S.left source.old) command.Run job
+    ensures before { (job : Job) (earlier : ListOf Entry) (number : ℕ) → S.told source.old → T.told site.old → Asks (kinds_of exits.now) (map string_bytes words.now) (S.left source.old) command.Run job
         → IsSafe job.defs job.scripts job.scripts_text (T.disk site.old) earlier → result ≡ status.Line number →
         IsAnswered job earlier (take (number - 1) (lines_of (S.left source.old part.Messages))) (T.disk site.old) (T.disk site.new) }
-    ensures safe { (job : Job) (earlier : ListOf Entry) → S.told source.old → T.told site.old → Asks (map string_bytes words.now) (S.left source.old) command.Run job
+    ensures safe { (job : Job) (earlier : ListOf Entry) → S.told source.old → T.told site.old → Asks (kinds_of exits.now) (map string_bytes words.now) (S.left source.old) command.Run job
         → IsSafe job.defs job.scripts job.scripts_text (T.disk site.old) earlier → Halts job earlier (T.disk site.old) (T.disk site.new) }
-    ensures kept { (job : Job) (earlier : ListOf Entry) → S.told source.old → T.told site.old → Asks (map string_bytes words.now) (S.left source.old) command.Run job
+    ensures kept { (job : Job) (earlier : ListOf Entry) → S.told source.old → T.told site.old → Asks (kinds_of exits.now) (map string_bytes words.now) (S.left source.old) command.Run job
         → IsSafe job.defs job.scripts job.scripts_text (T.disk site.old) earlier →
         Through (T.disk site.old) (T.disk site.new) (IsKept job.defs job.scripts job.scripts_text (T.disk site.old) earlier) }
 
     // `define`: a safe site without entries, or a fault. A crash at any moment leaves the log as a sync might have left it
     // before, or with no open front, or new.
-    ensures made { (job : Job) → S.told source.old → Asks (map string_bytes words.now) (S.left source.old) command.Define job → IsOr status.Done result }
-    ensures new { (job : Job) → S.told source.old → T.told site.old → Asks (map string_bytes words.now) (S.left source.old) command.Define job → result ≡ status.Done →
+    ensures made { (job : Job) → S.told source.old → Asks (kinds_of exits.now) (map string_bytes words.now) (S.left source.old) command.Define job → IsOr status.Done result }
+    ensures new { (job : Job) → S.told source.old → T.told site.old → Asks (kinds_of exits.now) (map string_bytes words.now) (S.left source.old) command.Define job → result ≡ status.Done →
         IsSafe job.defs job.scripts job.scripts_text (T.disk site.new) [] }
-    ensures crash { (job : Job) → S.told source.old → T.told site.old → Asks (map string_bytes words.now) (S.left source.old) command.Define job →
+    ensures crash { (job : Job) → S.told source.old → T.told site.old → Asks (kinds_of exits.now) (map string_bytes words.now) (S.left source.old) command.Define job →
         Through (T.disk site.old) (T.disk site.new) (IsBeforeOrMade (T.disk site.old) (front_for job)) }
 
     // `define` reads no messages.

@@ -1,4 +1,5 @@
 use Rattle.std.proofs.Common.{◌≡◌, ℕ, List, Some, sym, ap, subst, ◌∙◌, inr, map, string_bytes}
+use Rattle.fp_exits.specs.Kinds.{kinds_of}
 use Rattle.fp_model.specs.Messages.{lines_of}
 use Rattle.fp_site.specs.Moments.{Through}
 use Rattle.log_groups.specs.Kept.{IsKept, IsSafe}
@@ -20,7 +21,7 @@ returns-in-Define-clause-refused g c answer s refused =
     let left = g.S.Source.left c.args.source.now in
     let mine = job_of c.in-Ok.setup in
     let is = c.in-Ok.ensures.job s in
-    no_job_refused left mine answer is refused.refused
+    no_job_refused (kinds_of c.args.exits.now) left mine answer is refused.refused
 
 pub returns-in-Define-clause-no_job : goal.returns-in-Define-clause-no_job
 returns-in-Define-clause-no_job g c s none =
@@ -34,7 +35,7 @@ returns-in-Ok-clause-refused g c answer s refused =
     let left = g.S.Source.left c.args.source.now in
     let mine = job_of c.in-Ok.setup in
     let is = c.in-Ok.ensures.job s in
-    no_job_refused left mine answer is refused.refused
+    no_job_refused (kinds_of c.args.exits.now) left mine answer is refused.refused
 
 pub returns-in-Ok-clause-no_job : goal.returns-in-Ok-clause-no_job
 returns-in-Ok-clause-no_job g c s none =
@@ -48,7 +49,7 @@ returns-in-Define-clause-new g c job s t asks done =
     let left = g.S.Source.left c.args.source.now in
     let mine = job_of c.in-Ok.setup in
     let is = c.in-Ok.ensures.job s in
-    let same : mine ≡ job = one_job left mine job is asks.job_is in
+    let same : mine ≡ job = one_job (kinds_of c.args.exits.now) left mine job is asks.job_is in
     subst (λ (j : Job). IsSafe j.defs j.scripts j.scripts_text (g.T.Site.disk c.define_on.new.site) []) same (c.define_on.ensures.safe t done)
 
 pub returns-in-Ok-clause-damaged : goal.returns-in-Ok-clause-damaged
@@ -65,7 +66,7 @@ returns-in-Ok-clause-complete g c job earlier s t asks safe none =
     let left = g.S.Source.left c.args.source.now in
     let mine = job_of c.in-Ok.setup in
     let is = c.in-Ok.ensures.job s in
-    let same : mine ≡ job = one_job left mine job is asks.job_is in
+    let same : mine ≡ job = one_job (kinds_of c.args.exits.now) left mine job is asks.job_is in
     let old = g.T.Site.disk c.args.site.now in
     let new = g.T.Site.disk c.run_on.new.site in
     let s1 = c.read_setup.ensures.told s in
@@ -78,7 +79,7 @@ returns-in-Ok-clause-stopped g c job earlier number s t asks safe one =
     let left = g.S.Source.left c.args.source.now in
     let mine = job_of c.in-Ok.setup in
     let is = c.in-Ok.ensures.job s in
-    let same : mine ≡ job = one_job left mine job is asks.job_is in
+    let same : mine ≡ job = one_job (kinds_of c.args.exits.now) left mine job is asks.job_is in
     let old = g.T.Site.disk c.args.site.now in
     let new = g.T.Site.disk c.run_on.new.site in
     let s1 = c.read_setup.ensures.told s in
@@ -91,7 +92,7 @@ returns-in-Ok-clause-answered g c job earlier s t asks safe done =
     let left = g.S.Source.left c.args.source.now in
     let mine = job_of c.in-Ok.setup in
     let is = c.in-Ok.ensures.job s in
-    let same : mine ≡ job = one_job left mine job is asks.job_is in
+    let same : mine ≡ job = one_job (kinds_of c.args.exits.now) left mine job is asks.job_is in
     let old = g.T.Site.disk c.args.site.now in
     let new = g.T.Site.disk c.run_on.new.site in
     let s1 = c.read_setup.ensures.told s in
@@ -105,7 +106,7 @@ returns-in-Ok-clause-before g c job earlier number s t asks safe line =
     let left = g.S.Source.left c.args.source.now in
     let mine = job_of c.in-Ok.setup in
     let is = c.in-Ok.ensures.job s in
-    let same : mine ≡ job = one_job left mine job is asks.job_is in
+    let same : mine ≡ job = one_job (kinds_of c.args.exits.now) left mine job is asks.job_is in
     let old = g.T.Site.disk c.args.site.now in
     let new = g.T.Site.disk c.run_on.new.site in
     let s1 = c.read_setup.ensures.told s in
@@ -120,7 +121,7 @@ returns-in-Ok-clause-safe g c job earlier s t asks safe =
     let left = g.S.Source.left c.args.source.now in
     let mine = job_of c.in-Ok.setup in
     let is = c.in-Ok.ensures.job s in
-    let same : mine ≡ job = one_job left mine job is asks.job_is in
+    let same : mine ≡ job = one_job (kinds_of c.args.exits.now) left mine job is asks.job_is in
     let old = g.T.Site.disk c.args.site.now in
     let new = g.T.Site.disk c.run_on.new.site in
     let s1 = c.read_setup.ensures.told s in
@@ -133,7 +134,7 @@ returns-in-Ok-clause-kept g c job earlier s t asks safe =
     let left = g.S.Source.left c.args.source.now in
     let mine = job_of c.in-Ok.setup in
     let is = c.in-Ok.ensures.job s in
-    let same : mine ≡ job = one_job left mine job is asks.job_is in
+    let same : mine ≡ job = one_job (kinds_of c.args.exits.now) left mine job is asks.job_is in
     let old = g.T.Site.disk c.args.site.now in
     let new = g.T.Site.disk c.run_on.new.site in
     let s1 = c.read_setup.ensures.told s in
@@ -145,31 +146,31 @@ pub returns-clause-refused : goal.returns-clause-refused
 returns-clause-refused g c answer s refused =
     let left = g.S.Source.left c.args.source.now in
     let given = c.in-Err.ensures.refused s in
-    refused_or left answer c.in-Err.answer refused.refused given
+    refused_or (kinds_of c.args.exits.now) left answer c.in-Err.answer refused.refused given
 
 pub returns-clause-only_foreign : goal.returns-clause-only_foreign
 returns-clause-only_foreign g c job s t asks foreign =
     let left = g.S.Source.left c.args.source.now in
     let given = c.in-Err.ensures.refused s in
-    inr (job_is_fault left job c.in-Err.answer asks.job_is given)
+    inr (job_is_fault (kinds_of c.args.exits.now) left job c.in-Err.answer asks.job_is given)
 
 pub returns-clause-complete : goal.returns-clause-complete
 returns-clause-complete g c job earlier s t asks safe none =
     let left = g.S.Source.left c.args.source.now in
     let given = c.in-Err.ensures.refused s in
-    inr (job_is_fault left job c.in-Err.answer asks.job_is given)
+    inr (job_is_fault (kinds_of c.args.exits.now) left job c.in-Err.answer asks.job_is given)
 
 pub returns-clause-stopped : goal.returns-clause-stopped
 returns-clause-stopped g c job earlier number s t asks safe one =
     let left = g.S.Source.left c.args.source.now in
     let given = c.in-Err.ensures.refused s in
-    inr (job_is_fault left job c.in-Err.answer asks.job_is given)
+    inr (job_is_fault (kinds_of c.args.exits.now) left job c.in-Err.answer asks.job_is given)
 
 pub returns-clause-made : goal.returns-clause-made
 returns-clause-made g c job s asks =
     let left = g.S.Source.left c.args.source.now in
     let given = c.in-Err.ensures.refused s in
-    inr (job_is_fault left job c.in-Err.answer asks.job_is given)
+    inr (job_is_fault (kinds_of c.args.exits.now) left job c.in-Err.answer asks.job_is given)
 
 pub returns-clause-safe : goal.returns-clause-safe
 returns-clause-safe g c job earlier s t asks safe =
