@@ -8,3 +8,4 @@ pub mod Areas
 pub mod Dedbs
 pub mod Whole
 pub mod Sample
+pub mod Exits

@@ -1,7 +1,7 @@
 //! Why a text is no definitions.
 ghost use Rattle.std.specs.Prelude.{◌≡◌, ◌≢◌};
 
-use fp_model::Bytes;
+use fp_model::{Bytes, Kind};
 use std::alloc::{AllocError, Global};
 
 /// Why a text isn't read as definitions. Of several reasons it is the first.
@@ -20,6 +20,8 @@ pub enum DefsFault {
     Twice(Bytes),
     /// A value isn't what its key has.
     BadField(Bytes),
+    /// The installation has no exit of this kind, which routes transactions or spreads the keys of a database.
+    NoExit(Kind),
     /// The text has more than 1,000,000 bytes.
     TooLong,
     /// There was no memory.

@@ -3,6 +3,7 @@
 
 mod areas;
 mod dedbs;
+mod exits;
 mod fault;
 mod fields;
 mod keys;

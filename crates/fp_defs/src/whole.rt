@@ -3,15 +3,19 @@ ghost use Rattle.std.specs.Prelude.{◌≡◌, ◌≢◌, ◌≤◌, ◌==◌, [
 ghost use Rattle.std.specs.List.{list_any};
 ghost use Rattle.toml.specs.View.{array_view, table_view};
 ghost use Rattle.fp_model.specs.WellFormed.{AreDefs};
+ghost use Rattle.fp_exits.specs.Kinds.{kinds_of};
 ghost use Rattle.fp_defs.specs.Readings.{Gives, in_turn};
 ghost use Rattle.fp_defs.specs.Whole.{items_in, group_of, greatest, missing_group, no_gap, groups_in, regions_at, databases_of, defs_in, document_of, defs_of};
+ghost use Rattle.fp_defs.specs.Exits.{defs_for};
 
 use crate::dedbs::dedbs_of;
+use crate::exits::lacking;
 use crate::fault::{DefsFault, bad_field, out_of_limit};
 use crate::keys::{
     Form, count_within, exit_at, needed, number_or, number_within, only, tables_or_none,
 };
 use crate::msdbs::msdbs_of;
+use fp_exits::Exits;
 use fp_model::{Bytes, DedbDef, Defs, List, MsdbDef};
 use std::alloc::Global;
 use toml::{Table, Value};
@@ -143,9 +147,9 @@ fn defs_in(alloc: Global, text: &[u8], table: &Table) -> Result<Defs, DefsFault>
     })
 }
 
-/// The definitions of a text, or its first fault.
+/// The definitions of a text, or its first fault, whatever exits there are.
 #[tactic(auto, unfolding(crate::specs::Whole::defs_of, crate::specs::Whole::document_of))]
-pub fn read_defs(alloc: Global, bytes: &[u8]) -> Result<Defs, DefsFault>
+fn read_text(alloc: Global, bytes: &[u8]) -> Result<Defs, DefsFault>
     // At Ok it is what the text means, and at a fault it is the text's first fault. Want of memory alone is free.
     ensures ok { IfOk result (λ defs. defs_of bytes.now ≡ Ok defs) }
     ensures fault { IfErr result (λ fault. fault ≢ DefsFault.Memory → defs_of bytes.now ≡ Err fault) }
@@ -165,5 +169,22 @@ pub fn read_defs(alloc: Global, bytes: &[u8]) -> Result<Defs, DefsFault>
                 Err(DefsFault::NotToml)
             }
         }
+    }
+}
+
+/// The definitions of a text for an installation with these exits, or the first fault: those of the text, and then the
+/// first kind without its exit, the router's before the randomizers'.
+pub fn read_defs(alloc: Global, bytes: &[u8], exits: &Exits) -> Result<Defs, DefsFault>
+    // At Ok it is what the text means, and the exits are there; at a fault it is the first. Want of memory alone is free.
+    ensures ok { IfOk result (λ defs. defs_for (kinds_of exits.now) bytes.now ≡ Ok defs) }
+    ensures fault { IfErr result (λ fault. fault ≢ DefsFault.Memory → defs_for (kinds_of exits.now) bytes.now ≡ Err fault) }
+
+    // All rules and limits hold of it.
+    ensures valid { IfOk result AreDefs }
+{
+    let defs = read_text(alloc, bytes)?;
+    match lacking(exits, &defs) {
+        Some(kind) => Err(DefsFault::NoExit(kind)),
+        None => Ok(defs),
     }
 }

@@ -7,7 +7,7 @@ use Rattle.fp_defs.specs.declared.fault.DefsFault.{DefsFault}
 use Rattle.fp_defs.specs.declared.fault.DefsFault.TheVariants.{Memory}
 use Rattle.fp_defs.proofs.WholeLemmas.{read_document, read_nothing}
 use Rattle.fp_defs.proofs.WholeKeeps.{given_are_defs}
-use Rattle.fp_defs.proofs.whole.read_defs.Goals as goal
+use Rattle.fp_defs.proofs.whole.read_text.Goals as goal
 
 given_ok : (text : List ℕ) (result : Result Defs DefsFault) → Gives {X = Defs} {Y = Defs} (λ defs. defs) result (defs_of text) → IfOk result (λ defs. defs_of text ≡ Ok defs)
 given_ok text (Ok defs) gives = gives
