@@ -179,3 +179,20 @@ returns-clause-safe g c job earlier s t asks safe =
 pub returns-clause-kept : goal.returns-clause-kept
 returns-clause-kept g c job earlier s t asks safe =
     kept_safe job (g.T.Site.disk c.args.site.now) earlier (g.met.T.Site.lawful c.args.site.now t)
+
+pub returns-in-Ok-clause-foreign : goal.returns-in-Ok-clause-foreign
+returns-in-Ok-clause-foreign g c s t foreign =
+    let left = g.S.Source.left c.args.source.now in
+    let mine = job_of c.in-Ok.setup in
+    let is = c.in-Ok.ensures.job s in
+    let named : command_of (map string_bytes c.args.words.now) ≡ Some command.Run = cc in
+    (mine, record { command_is = named; job_is = is }, c.run_on.ensures.foreign t foreign)
+
+pub returns-in-Ok-clause-line : goal.returns-in-Ok-clause-line
+returns-in-Ok-clause-line g c number s line =
+    let left = g.S.Source.left c.args.source.now in
+    let mine = job_of c.in-Ok.setup in
+    let is = c.in-Ok.ensures.job s in
+    let named : command_of (map string_bytes c.args.words.now) ≡ Some command.Run = cc in
+    let s1 = c.read_setup.ensures.told s in
+    (mine, record { command_is = named; job_is = is }, ap faulty_line (sym (c.read_setup.ensures.messages s)) ∙ c.run_on.ensures.line number s1 line)
