@@ -1,4 +1,8 @@
 //! Texts from outside: the sample, each fault, two faults at once, and every limit at its value and one past it.
+ghost use Rattle.std.specs.Prelude.{◌≡◌};
+ghost use Rattle.fp_model.specs.Exits.{route, spread};
+ghost use Rattle.fp_exits.specs.Ranges.{IsRoutable, IsSpreadable};
+
 use crate::{DefsFault, read_defs};
 use fp_exits::{
     Exits, Router, Routing, Spreader, Spreading, fold_group, fold_place, range_group, range_place,
@@ -30,20 +34,54 @@ fn read_with(
 ) -> Result<Result<Defs, DefsFault>, AllocError> {
     let mut routers = Vec::new(alloc);
     if has(routing, Kind::Fold) {
-        let f: Routing = Box::new(alloc, fold_group)?;
+        let f: Routing = Box::new(
+            alloc,
+            |tran: &Name, n: u64| -> u64
+                requires { IsRoutable tran.now n }
+                ensures { result ≡ route Kind.Fold n tran.now }
+            { fold_group(tran, n) },
+        )?;
         routers.push(Router::new(Kind::Fold, f))?;
     }
     if has(routing, Kind::Range) {
-        let f: Routing = Box::new(alloc, range_group)?;
+        let f: Routing = Box::new(
+            alloc,
+            |tran: &Name, n: u64| -> u64
+                requires { IsRoutable tran.now n }
+                ensures { result ≡ route Kind.Range n tran.now }
+            { range_group(tran, n) },
+        )?;
         routers.push(Router::new(Kind::Range, f))?;
     }
+    read_routed(alloc, bytes, routers, spreading)
+}
+
+// What is read where there are these routers, and spreaders of these kinds.
+fn read_routed(
+    alloc: Global,
+    bytes: &[u8],
+    routers: Vec<Router>,
+    spreading: &[Kind],
+) -> Result<Result<Defs, DefsFault>, AllocError> {
     let mut spreaders = Vec::new(alloc);
     if has(spreading, Kind::Fold) {
-        let f: Spreading = Box::new(alloc, fold_place)?;
+        let f: Spreading = Box::new(
+            alloc,
+            |key: &[u8], n: u64| -> u64
+                requires { IsSpreadable key.now n }
+                ensures { result ≡ spread Kind.Fold n key.now }
+            { fold_place(key, n) },
+        )?;
         spreaders.push(Spreader::new(Kind::Fold, f))?;
     }
     if has(spreading, Kind::Range) {
-        let f: Spreading = Box::new(alloc, range_place)?;
+        let f: Spreading = Box::new(
+            alloc,
+            |key: &[u8], n: u64| -> u64
+                requires { IsSpreadable key.now n }
+                ensures { result ≡ spread Kind.Range n key.now }
+            { range_place(key, n) },
+        )?;
         spreaders.push(Spreader::new(Kind::Range, f))?;
     }
     Ok(read_defs(alloc, bytes, &Exits::new(spreaders, routers)))
