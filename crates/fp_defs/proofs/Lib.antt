@@ -18,3 +18,4 @@ pub mod PlaceLemmas
 pub mod RowLemmas
 pub mod NumberLemmas
 pub mod TextLemmas
+pub mod ExitLemmas

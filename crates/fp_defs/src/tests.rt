@@ -1,5 +1,12 @@
 //! Texts from outside: the sample, each fault, two faults at once, and every limit at its value and one past it.
+ghost use Rattle.std.specs.Prelude.{◌≡◌};
+ghost use Rattle.fp_model.specs.Exits.{route, spread};
+ghost use Rattle.fp_exits.specs.Ranges.{IsRoutable, IsSpreadable};
+
 use crate::{DefsFault, read_defs};
+use fp_exits::{
+    Exits, Router, Routing, Spreader, Spreading, fold_group, fold_place, range_group, range_place,
+};
 use fp_model::{Bytes, Defs, FieldKind, Kind, Name};
 use std::alloc::{AllocError, Global};
 use std::test::Fail;
@@ -9,9 +16,86 @@ fn text_of(bytes: &Bytes) -> &str {
     std::str::from_utf8(bytes.as_slice()).unwrap_or("?")
 }
 
-// What is said of a text.
-fn said(alloc: Global, text: &str) -> Result<String, AllocError> {
-    match read_defs(alloc, text.as_bytes()) {
+fn has(kinds: &[Kind], kind: Kind) -> bool {
+    for one in kinds {
+        if *one == kind {
+            return true;
+        }
+    }
+    false
+}
+
+// What is read where there are routers and spreaders of these kinds.
+fn read_with(
+    alloc: Global,
+    bytes: &[u8],
+    routing: &[Kind],
+    spreading: &[Kind],
+) -> Result<Result<Defs, DefsFault>, AllocError> {
+    let mut routers = Vec::new(alloc);
+    if has(routing, Kind::Fold) {
+        let f: Routing = Box::new(
+            alloc,
+            |tran: &Name, n: u64| -> u64
+                requires { IsRoutable tran.now n }
+                ensures { result ≡ route Kind.Fold n tran.now }
+            { fold_group(tran, n) },
+        )?;
+        routers.push(Router::new(Kind::Fold, f))?;
+    }
+    if has(routing, Kind::Range) {
+        let f: Routing = Box::new(
+            alloc,
+            |tran: &Name, n: u64| -> u64
+                requires { IsRoutable tran.now n }
+                ensures { result ≡ route Kind.Range n tran.now }
+            { range_group(tran, n) },
+        )?;
+        routers.push(Router::new(Kind::Range, f))?;
+    }
+    read_routed(alloc, bytes, routers, spreading)
+}
+
+// What is read where there are these routers, and spreaders of these kinds.
+fn read_routed(
+    alloc: Global,
+    bytes: &[u8],
+    routers: Vec<Router>,
+    spreading: &[Kind],
+) -> Result<Result<Defs, DefsFault>, AllocError> {
+    let mut spreaders = Vec::new(alloc);
+    if has(spreading, Kind::Fold) {
+        let f: Spreading = Box::new(
+            alloc,
+            |key: &[u8], n: u64| -> u64
+                requires { IsSpreadable key.now n }
+                ensures { result ≡ spread Kind.Fold n key.now }
+            { fold_place(key, n) },
+        )?;
+        spreaders.push(Spreader::new(Kind::Fold, f))?;
+    }
+    if has(spreading, Kind::Range) {
+        let f: Spreading = Box::new(
+            alloc,
+            |key: &[u8], n: u64| -> u64
+                requires { IsSpreadable key.now n }
+                ensures { result ≡ spread Kind.Range n key.now }
+            { range_place(key, n) },
+        )?;
+        spreaders.push(Spreader::new(Kind::Range, f))?;
+    }
+    Ok(read_defs(alloc, bytes, &Exits::new(spreaders, routers)))
+}
+
+// What is read where there are all exits.
+fn read(alloc: Global, bytes: &[u8]) -> Result<Result<Defs, DefsFault>, AllocError> {
+    let kinds = [Kind::Fold, Kind::Range];
+    read_with(alloc, bytes, &kinds, &kinds)
+}
+
+// What is said of a text that was read.
+fn said(alloc: Global, found: Result<Defs, DefsFault>) -> Result<String, AllocError> {
+    match found {
         Ok(_) => format!(in alloc; "ok"),
         Err(DefsFault::NotToml) => format!(in alloc; "not TOML"),
         Err(DefsFault::Missing(key)) => format!(in alloc; "missing {}", text_of(&key)),
@@ -22,6 +106,8 @@ fn said(alloc: Global, text: &str) -> Result<String, AllocError> {
         ),
         Err(DefsFault::Twice(name)) => format!(in alloc; "twice {}", text_of(&name)),
         Err(DefsFault::BadField(key)) => format!(in alloc; "bad field {}", text_of(&key)),
+        Err(DefsFault::NoExit(Kind::Fold)) => format!(in alloc; "no exit FOLD"),
+        Err(DefsFault::NoExit(Kind::Range)) => format!(in alloc; "no exit RANGE"),
         Err(DefsFault::TooLong) => format!(in alloc; "too long"),
         Err(DefsFault::Memory) => format!(in alloc; "no memory"),
     }
@@ -33,7 +119,7 @@ fn first_wrong(alloc: Global, front: &str, rows: &str) -> Result<String, AllocEr
     for row in rows.split("\n\n") {
         let (wanted, text) = row.split_once('\n').unwrap_or((row, ""));
         let whole = format!(in alloc; "{front}{text}\n")?;
-        let found = said(alloc, whole.as_str())?;
+        let found = said(alloc, read(alloc, whole.as_bytes())?)?;
         if found.as_str() != wanted {
             return format!(in alloc; "{found} in place of {row}");
         }
@@ -1575,7 +1661,7 @@ overflow = 0"#;
 
 #[test]
 fn the_sample(rt: HostRuntime) -> Result<(), Fail> {
-    let defs = read_defs(rt.alloc(), SAMPLE.as_bytes())?;
+    let defs = read(rt.alloc(), SAMPLE.as_bytes())??;
     assert!(rt; defs.regions.as_slice() == [1, 1].as_slice());
     assert_eq!(rt; defs.router, Kind::Fold);
     assert_eq!(rt; defs.log_group, 100);
@@ -1687,16 +1773,83 @@ fn a_text_has_at_most_1000000_bytes(rt: HostRuntime) -> Result<(), Fail> {
     for _ in 0..100_000 {
         text.push_str("#########\n")?;
     }
-    let most = said(rt.alloc(), text.as_str())?;
+    let most = said(rt.alloc(), read(rt.alloc(), text.as_bytes())?)?;
     assert_eq!(rt; most.as_str(), "missing regions");
     text.push('#')?;
-    let more = said(rt.alloc(), text.as_str())?;
+    let more = said(rt.alloc(), read(rt.alloc(), text.as_bytes())?)?;
     assert_eq!(rt; more.as_str(), "too long");
     Ok(())
 }
 
 #[test]
-fn bytes_that_are_no_text(rt: HostRuntime) {
-    let found = read_defs(rt.alloc(), b"a = '\xff'\n").err();
+fn bytes_that_are_no_text(rt: HostRuntime) -> Result<(), Fail> {
+    let found = read(rt.alloc(), b"a = '\xff'\n")?.err();
     assert_eq!(rt; found, Some(DefsFault::NotToml));
+    Ok(())
+}
+
+// A router that folds, and databases that are spread by range and by folding.
+const OF_BOTH_KINDS: &str = r#"regions = [1]
+router = "FOLD"
+[[dedb]]
+name = "D"
+randomizer = "RANGE"
+ci = 512
+[[dedb.segment]]
+name = "R"
+fields = [["K", "C", 4]]
+[[dedb.area]]
+name = "A"
+uows = 1
+base = 1
+overflow = 0
+[[dedb]]
+name = "E"
+randomizer = "FOLD"
+ci = 512
+[[dedb.segment]]
+name = "R"
+fields = [["K", "C", 4]]
+[[dedb.area]]
+name = "B"
+uows = 1
+base = 1
+overflow = 0
+"#;
+
+#[test]
+fn the_first_exit_that_is_lacking(rt: HostRuntime) -> Result<(), Fail> {
+    let alloc = rt.alloc();
+    let (fold, range) = ([Kind::Fold], [Kind::Range]);
+    let both = [Kind::Fold, Kind::Range];
+    let rows: [(&[Kind], &[Kind], &str); 7] = [
+        (&[], &both, "no exit FOLD"),
+        (&range, &[], "no exit FOLD"),
+        (&fold, &[], "no exit RANGE"),
+        (&both, &fold, "no exit RANGE"),
+        (&both, &range, "no exit FOLD"),
+        (&fold, &both, "ok"),
+        (&both, &both, "ok"),
+    ];
+    for (routing, spreading, wanted) in rows {
+        let found = read_with(alloc, OF_BOTH_KINDS.as_bytes(), routing, spreading)?;
+        let text = said(alloc, found)?;
+        assert_eq!(rt; text.as_str(), wanted);
+    }
+    Ok(())
+}
+
+#[test]
+fn a_lacking_exit_is_said_behind_all_else(rt: HostRuntime) -> Result<(), Fail> {
+    let alloc = rt.alloc();
+    for (text, wanted) in [
+        ("regions = ", "not TOML"),
+        (MSDB, "missing name"),
+        (DEDB, "missing name"),
+        (TOP, "no exit FOLD"),
+    ] {
+        let found = said(alloc, read_with(alloc, text.as_bytes(), &[], &[])?)?;
+        assert_eq!(rt; found.as_str(), wanted);
+    }
+    Ok(())
 }
