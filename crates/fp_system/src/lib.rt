@@ -15,4 +15,6 @@ pub use top::ims;
 #[cfg(test)]
 mod rows;
 #[cfg(test)]
+mod stops;
+#[cfg(test)]
 mod tests;

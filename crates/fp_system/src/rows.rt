@@ -20,7 +20,7 @@ fields = [[\"TNO\", \"C\", 4], [\"CASH\", \"F\", 4]]
 load = [[\"T001\", \"0\"]]
 ";
 
-const SCRIPTS: &str = "TRAN DEPOSIT
+pub(crate) const SCRIPTS: &str = "TRAN DEPOSIT
 FLD ACCTS KEY(#1) BAL + #2
 IF STATUS NE ''
 ROLB 1
@@ -42,6 +42,13 @@ TRAN SETBAL
 GHU ACCTS KEY(#1)
 REPL ACCTS BAL=#2
 REPLY 'SET'
+TRAN TWICE
+FLD ACCTS KEY(#1) BAL + #2
+IF STATUS NE ''
+ROLB 2
+END
+FLD ACCTS KEY(#1) BAL + #2
+REPLY 'TWO'
 TRAN HIRE
 ISRT TELLERS TNO=#1 CASH=0
 SET A STATUS
@@ -50,7 +57,7 @@ REPLY A '/ ' STATUS
 ";
 
 // What a command answers over the definitions, these scripts and messages, and a site; the reads with these numbers fail.
-fn run(
+pub(crate) fn run(
     alloc: Global,
     command: &str,
     scripts: &str,
@@ -93,6 +100,14 @@ fn messages_have_their_replies(rt: HostRuntime) -> Result<(), Fail> {
         ),
         ("T1 WDRAW A002 60\n", "T1 NO ROLB 7\n"),
         (
+            "T1 SETBAL A001 9999999\nT2 DEPOSIT A001 1\nT3 TWICE A001 9\nT3 TWICE A002 9\nT4 ASK A002\n",
+            "T1 OK SET\nT2 NO ROLB 1\nT3 NO ROLB 2\nT3 OK TWO\nT4 OK 68\n",
+        ),
+        (
+            "T1 SETBAL A001 9999990\nT3 TWICE A001 9\nT4 ASK A001\n",
+            "T1 OK SET\nT3 NO VERIFY\nT4 OK 9999990\n",
+        ),
+        (
             "T1 NOSUCH\n\nT2 ASK A009\n",
             "T1 NO UNKNOWN\n? NO UNKNOWN\nT2 OK NONE\n",
         ),
@@ -105,15 +120,30 @@ fn messages_have_their_replies(rt: HostRuntime) -> Result<(), Fail> {
     Ok(())
 }
 
+// The bytes of a log of one run behind its front.
+fn groups_behind(alloc: Global, message: &[u8]) -> Result<Bytes, AllocError> {
+    let (_, site) = new_run(alloc, message)?;
+    let log = site.contents(0);
+    Bytes::from_slice(alloc, log.get(first_gate()..).unwrap_or(b""))
+}
+
 #[test]
 fn a_deposit_is_this_group(rt: HostRuntime) -> Result<(), Fail> {
-    let (_, site) = new_run(rt.alloc(), b"T1 DEPOSIT A001 10\n")?;
-    let log = site.contents(0);
-    let group = log.get(first_gate()..).unwrap_or(b"");
+    let group = groups_behind(rt.alloc(), b"T1 DEPOSIT A001 10\n")?;
     let wanted = b"\x01\x00\x00\x00\x00\x00\x00\x00\x4b\x00\x00\x00\x00\x00\x00\x00\x43\
 \x00\x00\x00\x00\x00\x00\x00\x00\x00\x00\x12T1 DEPOSIT A001 10\x00\x03NEW\x00\x00\x00\x01\
 \x00\x00\x00\x00\x00\x00\x00\x00\x00\x00\x00\x01\x01\x00\x04A001\x00\x08A001\x00\x00\x11\x0c\x00";
-    assert_eq!(rt; group, wanted.as_slice());
+    assert_eq!(rt; group.as_slice(), wanted.as_slice());
+    Ok(())
+}
+
+#[test]
+fn a_rollback_is_this_group(rt: HostRuntime) -> Result<(), Fail> {
+    let group = groups_behind(rt.alloc(), b"T1 DEPOSIT A009 10\n")?;
+    let wanted = b"\x01\x00\x00\x00\x00\x00\x00\x00\x39\x00\x00\x00\x00\x00\x00\x00\x31\
+\x00\x00\x00\x00\x00\x00\x00\x00\x02\x00\x01\x00\x12T1 DEPOSIT A009 10\x00\x00\x00\x00\x00\x01\
+\x00\x00\x00\x00\x00\x00\x00\x00\x00\x00\x00\x00\x00";
+    assert_eq!(rt; group.as_slice(), wanted.as_slice());
     Ok(())
 }
 
