@@ -2,9 +2,11 @@
 #![tactic(auto)]
 
 mod keyed;
+mod staged;
 mod store;
 mod table;
 
+pub use staged::{Staged, VerifyFault};
 pub use store::MsdbStore;
 
 #[cfg(test)]

@@ -5,25 +5,31 @@ ghost use Rattle.fp_model.specs.WellFormed.{IsMsdbDef};
 ghost use Rattle.std.specs.List.{AllZip};
 ghost use Rattle.std.specs.Prelude.{◌≡◌, IfOk};
 
+use crate::staged::{Staged, VerifyFault};
 use crate::table::Table;
-use fp_model::{Bytes, Defs, Item, List, Msdb, MsdbDef};
+use fp_model::{Bytes, Deferred, Defs, Item, List, Msdb, MsdbDef};
 use std::alloc::{AllocError, Global};
 use std::marker::Model;
 
-/// The segments of the main storage databases, by key. Contracts see the fields of each database's segments, and the
-/// databases. The database of number n is the one that the definitions have in place n, counted from 0.
+/// The segments of the main storage databases, by key. Contracts see the fields of each database's segments, the
+/// databases, and how many segments each of them takes without more memory. The database of number n is the one that
+/// the definitions have in place n, counted from 0.
 #[derive(Debug, Drop)]
 pub struct MsdbStore {
     tables: Vec<Table>,
 }
 
 impl Model for MsdbStore {
-    ghost use Rattle.std.specs.Prelude.{map};
-    ghost use Rattle.msdb_store.specs.Store.{Stored};
+    ghost use Rattle.std.specs.Prelude.{◌-◌, ◌^◌, length, map, min, vec_capacity};
+    ghost use Rattle.msdb_store.specs.Store.{Stored, least};
 
     ghost Value = { Stored };
 
-    ghost view = { λ s. record { layouts = map (λ t. t.fields) s.tables.items; msdbs = map (λ t. record { segments = t.segments.items }) s.tables.items } };
+    ghost view = { λ s. record {
+      layouts = map (λ t. t.fields) s.tables.items;
+      msdbs = map (λ t. record { segments = t.segments.items }) s.tables.items;
+      spare = least (map (λ t. min (vec_capacity t.segments) (2 ^ 32 - 1) - length t.segments.items) s.tables.items);
+    } };
 }
 
 // The table of a database.
@@ -163,5 +169,54 @@ impl MsdbStore {
             return Ok(());
         }
         self.tables[at].put(bytes.copy()?)
+    }
+}
+
+impl MsdbStore {
+    ghost use Rattle.fp_model.specs.Items.{with_items};
+    ghost use Rattle.fp_model.specs.Settle.{settle};
+    ghost use Rattle.fp_model.specs.declared.definitions.MsdbDef.{MsdbDef as DefOf};
+    ghost use Rattle.msdb_store.specs.Settling.{CanSettle, HasItem, IsAnswer, IsNamed, IsStaged};
+    ghost use Rattle.msdb_store.specs.Store.{IsOf};
+    ghost use Rattle.std.specs.List.{AllByRecursion};
+    ghost use Rattle.std.specs.Prelude.{◌+◌, ◌<◌, ◌≤◌, ◌^◌, ◌↔◌, ℕ, List as ListOf, OnOk, length};
+
+    /// Settles a queue of deferred calls in its order, each on what those before it left, beside the databases. They
+    /// stay as they are. Verify says that a field call fails, and which is the first.
+    pub fn check(&self, deferred: &List<Deferred>) -> Result<Staged, VerifyFault>
+        requires fit { (defs : ListOf DefOf) × CanSettle defs self.now deferred.now }
+        requires few { length deferred.now < 2 ^ 32 }
+        ensures answer { (defs : ListOf DefOf) → CanSettle defs self.now deferred.now → IsAnswer defs self.now.msdbs result (settle defs self.now.msdbs deferred.now) }
+        ensures staged { (defs : ListOf DefOf) → CanSettle defs self.now deferred.now → IfOk result (IsStaged defs self.now.msdbs) }
+        ensures keys { (defs : ListOf DefOf) → CanSettle defs self.now deferred.now
+            → IfOk result (λ staged. (number : ℕ) → (key : ListOf ℕ) → (HasItem staged.items number key) ↔ (IsNamed defs deferred.now number key)) }
+    {
+        let _ = deferred;
+        Err(VerifyFault::Memory)
+    }
+
+    /// Makes room, so that each database takes so many segments more without memory. It fails for want of memory, and
+    /// where a database would have 2^32 segments. The databases stay as they are.
+    pub fn reserve(&mut self, n: u32) -> Result<(), AllocError>
+        ensures spare { OnOk result (n ≤ self.new.spare) }
+        ensures more { self.old.spare ≤ self.new.spare }
+        ensures layouts { self.new.layouts ≡ self.old.layouts }
+        ensures msdbs { self.new.msdbs ≡ self.old.msdbs }
+    {
+        let _ = n;
+        Err(AllocError)
+    }
+
+    /// Gives the databases what was staged. Takes no memory. It was staged on the databases as they are, and there is
+    /// room for the segments that they lack.
+    pub fn publish(&mut self, staged: Staged)
+        requires staged { (defs : ListOf DefOf) × IsOf defs self.old × IsStaged defs self.old.msdbs staged }
+        requires room { staged.inserts ≤ self.old.spare }
+        ensures msdbs { (defs : ListOf DefOf) → IsOf defs self.old → IsStaged defs self.old.msdbs staged → self.new.msdbs ≡ with_items defs self.old.msdbs staged.items }
+        ensures of { (defs : ListOf DefOf) → IsOf defs self.old → IsStaged defs self.old.msdbs staged → IsOf defs self.new }
+        ensures spare { self.old.spare ≤ self.new.spare + staged.inserts }
+        ensures few { AllByRecursion (λ msdb. length msdb.segments < 2 ^ 32) self.old.msdbs → AllByRecursion (λ msdb. length msdb.segments < 2 ^ 32) self.new.msdbs }
+    {
+        let _ = staged;
     }
 }
