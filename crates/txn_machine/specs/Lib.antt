@@ -1,0 +1,3 @@
+pub mod Knowing
+pub mod Places
+pub mod Running

@@ -1,0 +1,8 @@
+//! Runs scripts: a program is a script on its way, and gives one call at a time.
+#![tactic(auto)]
+
+mod frame;
+mod known;
+mod program;
+
+pub use program::{Next, Program};
