@@ -1,0 +1,2 @@
+mod Needs
+mod Steps

@@ -10,7 +10,7 @@ use Rattle.fp_model.specs.declared.scripts.Script.{Script}
 use Rattle.fp_model.specs.Commit.{settlement}
 use Rattle.fp_model.specs.Product.{cost_of, rules_of}
 use Rattle.fp_model.specs.Programs.{script_of}
-use Rattle.fp_model.specs.Serial.{Ended, Roll, goes, serial_run, settled_as}
+use Rattle.fp_model.specs.Serial.{Ended, Roll, begun, goes, serial_run, settled_as}
 use Rattle.fp_model.specs.Workspace.{Workspace}
 use Rattle.fp_model.specs.FitCalls.{are_fit}
 use Rattle.fp_model.specs.WellFormed.{IsMsdbDef}
@@ -30,12 +30,12 @@ pub record IsPlain (defs : Defs) (from : ℕ) (work : Progress) : Type 0 where
   pub notes : AllByRecursion (λ note. note ≡ from) work.notes
 
 -- Whatever the states before, run alone on one with these databases the transaction comes, with its notes, to where it is:
--- it was given these answers, and may make so many calls more.
-abbrev pub ComesTo : Defs → List Script → Message → List Msdb → ℕ → Progress → List Answer → ℕ → Type 0
-ComesTo defs scripts message msdbs from work answers rest =
-    (past : List Db) (now : Db) → now.msdbs ≡ msdbs → length past ≡ from → (more : List ℕ)
-    → serial_run (rules_of defs scripts) now (past ++ now ∷ []) message (work.notes ++ more)
-    ≡ goes (rules_of defs scripts) now (past ++ now ∷ []) message (suc rest) (record { answers = answers; own = work.own }) more
+-- it was given these answers.
+abbrev pub ComesTo : Defs → List Script → Message → List Msdb → ℕ → Progress → List Answer → Type 0
+ComesTo defs scripts message msdbs from work answers =
+    (past : List Db) (now : Db) → now.msdbs ≡ msdbs → length past ≡ from → (n : ℕ) (more : List ℕ)
+    → goes (rules_of defs scripts) now (past ++ now ∷ []) message (length answers + n) (begun (rules_of defs scripts)) (work.notes ++ more)
+    ≡ goes (rules_of defs scripts) now (past ++ now ∷ []) message n (record { answers = answers; own = work.own }) more
 
 -- what a run rests on: definitions of main storage databases alone, scripts that were read under them, and their store
 pub record IsReady (defs : Defs) (scripts : List Script) (store : Stored) : Type 0 where
@@ -55,9 +55,8 @@ pub record IsUnderway (defs : Defs) (scripts : List Script) (message : Message) 
   pub plain : IsPlain defs from t.work
   pub few : length t.work.notes ≤ length answers
   pub left_is : left + length answers ≡ 10000
-  pub rest : ℕ
-  pub rest_is : rest + length answers ≡ cost_of scripts message
-  pub comes : ComesTo defs scripts message msdbs from t.work answers rest
+  pub within : length answers ≤ cost_of scripts message
+  pub comes : ComesTo defs scripts message msdbs from t.work answers
 
 -- what a transaction comes to whose script ended so
 abbrev pub ended_as : Defs → Db → Workspace → End → Ended
