@@ -1,3 +1,5 @@
+pub mod Alike
+pub mod Fit
 pub mod Knowing
 pub mod Places
 pub mod Running

@@ -1,46 +1,29 @@
 -- A program on its way through a script.
-use Rattle.std.specs.Prelude.{◌≡◌, ⊤, ℕ, ◌<◌, List, [], ◌∷◌, ◌++◌, length, Option, Some, None, IfSome}
-use Rattle.std.specs.List.{AllByRecursion}
+use Rattle.std.specs.Prelude.{◌≡◌, ⊤, ℕ, List, [], ◌∷◌, ◌++◌, length, Option, Some, None, IfSome}
 use Rattle.fp_model.specs.declared.definitions.Defs.{Defs}
 use Rattle.fp_model.specs.declared.definitions.MsdbDef.{MsdbDef}
 use Rattle.fp_model.specs.declared.calls.Message.{Message}
 use Rattle.fp_model.specs.declared.calls.Answer.{Answer}
 use Rattle.fp_model.specs.declared.calls.Call.{Call}
-use Rattle.fp_model.specs.declared.calls.Call.TheVariants as call
 use Rattle.fp_model.specs.declared.scripts.Statement.{Statement}
-use Rattle.fp_model.specs.Programs.{Env, ShownSegment, Ask, Asks, Replies, Rolls, Way, goes_on, called, ended, ask}
-use Rattle.fp_model.specs.FitCalls.{OfMsdb, IsShownOn, IsMsdbCall}
-use Rattle.txn_machine.specs.declared.known.Known.{Known}
-use Rattle.txn_machine.specs.declared.known.Newest.{Newest}
+use Rattle.fp_model.specs.Programs.{Ask, Asks, Replies, Rolls, Way, goes_on, called, ended, ask}
+use Rattle.fp_model.specs.FitCalls.{IsMsdbCall}
 use Rattle.txn_machine.specs.declared.program.Program.{Program}
 use Rattle.txn_machine.specs.declared.program.Wait.{Wait}
-use Rattle.txn_machine.specs.declared.known.Lesson.{Lesson}
-use Rattle.txn_machine.specs.declared.known.Lesson.TheVariants as lesson
 use Rattle.txn_machine.specs.declared.program.Next.{Next}
 use Rattle.txn_machine.specs.declared.program.Next.TheVariants as next
-use Rattle.txn_machine.specs.Knowing.{env_of, segments_of}
+use Rattle.txn_machine.specs.Knowing.{HasPlace, env_of, lesson_of}
+use Rattle.txn_machine.specs.Fit.{AreShown}
 use Rattle.txn_machine.specs.Places.{block_at, from_place, around, end_from}
 
 -- ---- answers
-
--- what the answer to a call is good for, beside its status
-abbrev pub lesson_of : Call → Lesson
-lesson_of (call.Get get hold db ssas) = lesson.Segment db
-lesson_of (call.Fld db key fsas) = lesson.Letters
-lesson_of (call.Isrt db ssas bytes) = lesson.Nothing
-lesson_of (call.Repl db bytes) = lesson.Nothing
-lesson_of (call.Dlet db) = lesson.Nothing
-
--- there is a place for the newest segment among the older ones
-abbrev pub HasPlace : Known → Type 0
-HasPlace known = IfSome known.newest (λ newest. newest.db < length known.older)
 
 -- the program has given this call, and waits for its answer
 pub record WaitsFor (asked : Call) (program : Program) : Type 0 where
   pub wait : Wait
   pub is : program.wait ≡ Some wait
   pub lesson : wait.lesson ≡ lesson_of asked
-  pub place : HasPlace program.known
+  pub place : HasPlace program.known.gets
 
 -- it has given a call
 abbrev pub IsWaiting : Program → Type 0
@@ -84,13 +67,9 @@ Awaits (next.Roll code) program = ⊤
 
 -- ---- fit
 
--- a segment shown is one of its main storage database
-abbrev pub IsShownSegment : List MsdbDef → ShownSegment → Type 0
-IsShownSegment defs shown = OfMsdb defs shown.db (IsShownOn shown.type_number shown.bytes)
-
 -- every segment that the program was shown is one of its main storage database
 pub record IsFit (defs : List MsdbDef) (program : Program) : Type 0 where
-  pub shown : AllByRecursion (IsShownSegment defs) (segments_of program.known.newest program.known.older)
+  pub shown : AreShown defs program.known.gets
 
 -- a call fits its main storage database
 abbrev pub IsFitNext : List MsdbDef → Next → Type 0

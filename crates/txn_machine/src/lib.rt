@@ -4,5 +4,6 @@
 mod frame;
 mod known;
 mod program;
+mod shown;
 
 pub use program::{Next, Program};

@@ -42,7 +42,6 @@ pub(crate) struct Wait {
 /// The blocks that it is in stand as frames, the outermost first; the place is one in the innermost.
 #[derive(Debug, Drop)]
 pub struct Program {
-    alloc: Global,
     /// The number of the script.
     number: u32,
     frames: List<Frame>,
@@ -68,7 +67,6 @@ impl Program {
         ensures fit { IfOk result (λ program. (msdbs : List MsdbDef) → IsFit msdbs program) }
     {
         Ok(Program {
-            alloc,
             number,
             frames: List::new(alloc),
             place: 0,
@@ -123,6 +121,10 @@ impl Program {
             → FitsAnswer msdbs asked answer
             → IsFit msdbs self.new }
     {
-        let _ = answer;
+        let Some(wait) = self.wait.take() else {
+            unreachable!()
+        };
+        self.place = wait.behind;
+        self.known.learn(wait.lesson, answer);
     }
 }

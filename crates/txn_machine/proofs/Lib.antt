@@ -1,0 +1,5 @@
+pub mod AlikeLemmas
+pub mod ShownLemmas
+pub mod SettingLemmas
+pub mod LessonLemmas
+pub mod PlaceLemmas
