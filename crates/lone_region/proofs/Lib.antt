@@ -1,2 +1,9 @@
+mod Comings
+mod Found
+mod Making
 mod Needs
+mod Plain
+mod Replies
+mod Results
 mod Steps
+mod Transactions

@@ -1,5 +1,5 @@
 -- Once its one lock is gained, a call to a main storage database needs none.
-use Rattle.std.proofs.Common.{◌≡◌, ◌∙◌, refl, sym, ap, arith, ℕ, List, Bool, true, false, Option, Some, None, if◌then◌else◌}
+use Rattle.std.proofs.Common.{◌≡◌, ◌∙◌, refl, sym, ap, arith, ℕ, ◌-◌, List, length, Bool, true, false, Option, Some, None, if◌then◌else◌}
 use Rattle.std.specs.Prelude.{not, ◌&&◌, ◌==◌}
 use Rattle.std.specs.Option.{option_map_or}
 use Rattle.std.specs.Cmp.Lexicographic.{bytes_decides}
@@ -55,7 +55,7 @@ msdb_need_of : (defs : Defs) (db : Db) (own : Workspace) (held : Resource → Op
     → need_of defs db own held c ≡ option_map_or (unless_held held) (msdb_need fits.0 (database_of c) own c) None
 unfolding need_of
 msdb_need_of defs db own held c fits =
-    ap (λ (o : Option MsdbDef). need_on (option_map_or (λ (def : MsdbDef). OnMsdb def (database_of c)) o (dedb_target defs (database_of c))) db own held c) fits.1
+    ap (λ (o : Option MsdbDef). need_on (option_map_or (λ (def : MsdbDef). OnMsdb def (database_of c)) o (dedb_target defs (database_of c - length defs.msdbs))) db own held c) fits.1
 
 -- a value that isn't left out
 is_left : (b : Bool) (n needed : Needed) → (if b then None else Some n) ≡ Some needed → n ≡ needed

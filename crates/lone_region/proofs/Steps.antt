@@ -1,5 +1,6 @@
 -- How a transaction that runs alone goes on.
-use Rattle.std.proofs.Common.{◌≡◌, refl, sym, ◌∙◌, ap, ℕ, suc, ◌+◌, List, [], ◌∷◌, ◌++◌, length, Bool, true, false, arith, append_assoc, length-append}
+use Rattle.std.proofs.lemmas.List.{append-nil}
+use Rattle.std.proofs.Common.{◌≡◌, refl, sym, ◌∙◌, ap, ℕ, suc, ◌+◌, ◌-◌, ◌≤◌, List, [], ◌∷◌, ◌++◌, length, Bool, true, false, arith, append_assoc, length-append}
 use Rattle.std.specs.Prelude.{slice_get, Some}
 use Rattle.std.specs.Prelude.{unwrap_or}
 use Rattle.fp_model.specs.declared.database.Db.{Db}
@@ -8,7 +9,7 @@ use Rattle.fp_model.specs.declared.calls.Call.{Call}
 use Rattle.fp_model.specs.declared.calls.Message.{Message}
 use Rattle.fp_model.specs.Programs.{Ask, Asks}
 use Rattle.fp_model.specs.Rules.{Rules}
-use Rattle.fp_model.specs.Serial.{Part, state_at, with_reply, after_call, begun, called, asked, goes}
+use Rattle.fp_model.specs.Serial.{Ended, Part, state_at, with_reply, after_call, begun, called, asked, goes, serial_run}
 use Rattle.fp_model.specs.Workspace.{Workspace}
 use Rattle.dli_calls.specs.Progress.{noted}
 
@@ -62,3 +63,17 @@ module _ (rules : Rules) (message : Message) (past : List Db) (now : Db) where
   call_comes answers own own2 notes call a asks replies before n more =
       ap (λ (k : ℕ). goes rules now states message k (begun rules) (noted (rules.looks own call) (length past) notes ++ more)) (one_more answers a n)
       ∙ goes_on (rules.looks own call) answers own own2 notes call a refl asks replies before n more
+
+  -- How it ends from here is how it ends alone.
+  pub ends_alone : (answers : List Answer) (own : Workspace) (notes : List ℕ) (ended : Ended)
+      → Comes answers own notes
+      → length answers ≤ rules.budget message
+      → ((n : ℕ) → goes rules now states message (suc n) (record { answers = answers; own = own }) [] ≡ ended)
+      → serial_run rules now states message notes ≡ ended
+  ends_alone answers own notes ended comes few ends =
+      let left : ℕ = rules.budget message - length answers in
+      let count : suc (rules.budget message) ≡ length answers + suc left = omega (arith, few) in
+      ap (λ (k : ℕ). goes rules now states message k (begun rules) notes) count
+      ∙ ap (λ (xs : List ℕ). goes rules now states message (length answers + suc left) (begun rules) xs) (sym (append-nil notes))
+      ∙ comes (suc left) []
+      ∙ ends left

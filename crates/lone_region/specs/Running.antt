@@ -54,6 +54,7 @@ pub record IsUnderway (defs : Defs) (scripts : List Script) (message : Message) 
   pub fit : IsFit defs.msdbs t.program
   pub plain : IsPlain defs from t.work
   pub few : length t.work.notes ≤ length answers
+  pub queued : length t.work.own.deferred ≤ length answers
   pub left_is : left + length answers ≡ 10000
   pub within : length answers ≤ cost_of scripts message
   pub comes : ComesTo defs scripts message msdbs from t.work answers
@@ -72,6 +73,7 @@ IsShortEnd (end.Roll code) = ⊤
 pub record HasEnded (defs : Defs) (scripts : List Script) (message : Message) (msdbs : List Msdb) (from : ℕ) (work : Progress) (end : End) : Type 0 where
   pub plain : IsPlain defs from work
   pub few : length work.notes ≤ 10000
+  pub queued : length work.own.deferred ≤ 10000
   pub short : IsShortEnd end
   pub comes : (past : List Db) (now : Db) → now.msdbs ≡ msdbs → length past ≡ from
       → serial_run (rules_of defs scripts) now (past ++ now ∷ []) message work.notes ≡ ended_as defs now work.own end

@@ -21,7 +21,7 @@ ghost use Rattle.dli_calls.specs.declared.answering.Ready.TheVariants as readies
 ghost use Rattle.msdb_store.specs.Store.{IsOf};
 
 use dli_calls::{Ready, Work, answer};
-use fp_model::{Answer, Bytes, Call, Defs, Message, Resource};
+use fp_model::{Answer, Bytes, Call, Defs, Message, Resource, calls_are_fewer_than_the_cost};
 use msdb_store::MsdbStore;
 use std::alloc::{AllocError, Global};
 use txn_lang::Scripts;
@@ -140,6 +140,7 @@ impl Transaction {
     {
         match self.program.next(scripts, defs)? {
             Next::Call(call) => {
+                calls_are_fewer_than_the_cost(); // so the count of calls that are left isn't used up
                 let given = answer_alone(alloc, &mut self.work, &call, store, defs, from)?;
                 self.program.give(given);
                 Ok(None)

@@ -19,6 +19,7 @@ returns c script msdbs from cheap named numbered =
         notes = rw c.in_ok-work.ensures.notes tt;
       };
       few = rw c.in_ok-work.ensures.notes (omega arith);
+      queued = rw fresh (omega arith);
       left_is = refl;
       within = omega arith;
       comes = λ past now e l n more. let z : 0 + n ≡ n = omega arith in rw (fresh, c.in_ok-work.ensures.notes, z) refl;
