@@ -1,2 +1,3 @@
 pub mod Progress
 pub mod Readiness
+pub mod Replies

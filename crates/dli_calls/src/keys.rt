@@ -1,7 +1,11 @@
 //! Keys of the main storage databases, in order.
-ghost use Rattle.std.specs.Prelude.{◌≡◌, []};
+ghost use Rattle.std.specs.Prelude.{◌≡◌, ◌||◌, [], IfOk, OnErr, OnOk};
+ghost use Rattle.fp_model.specs.Waiting.{same_resource};
+ghost use Rattle.fp_model.specs.declared.calls.Resource.{Resource as ResourceOf};
+ghost use Rattle.fp_model.specs.declared.calls.Resource.TheVariants.{Segment};
+ghost use Rattle.dli_calls.specs.Progress.{is_among};
 
-use std::alloc::Global;
+use std::alloc::{AllocError, Global};
 use std::collections::BTreeSet;
 use std::marker::Model;
 
@@ -35,5 +39,22 @@ impl Keys {
         Keys {
             keys: BTreeSet::new(alloc),
         }
+    }
+
+    // Whether a key is among them.
+    pub(crate) fn has(&self, key: &SegmentKey) -> bool
+        ensures { result ≡ is_among self.now (Segment key.now.msdb key.now.key.items) }
+    {
+        self.keys.contains(key)
+    }
+
+    // Puts a key among them; it may be there already.
+    pub(crate) fn put(&mut self, key: SegmentKey) -> Result<(), AllocError>
+        ensures ok { OnOk result ((resource : ResourceOf)
+            → is_among self.new resource ≡ (same_resource (Segment key.msdb key.key.items) resource || is_among self.old resource)) }
+        ensures err { OnErr result (self.new ≡ self.old) }
+    {
+        self.keys.insert(key)?;
+        Ok(())
     }
 }

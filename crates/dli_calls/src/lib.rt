@@ -2,7 +2,9 @@
 #![tactic(auto)]
 
 mod answering;
+mod database;
 mod keys;
+mod reply;
 mod work;
 
 pub use answering::{Ready, answer};
