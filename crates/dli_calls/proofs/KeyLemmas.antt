@@ -14,12 +14,10 @@ use Rattle.fp_model.specs.declared.calls.Resource.{Resource}
 use Rattle.fp_model.specs.declared.calls.Resource.TheVariants.{Segment, Anchor}
 use Rattle.fp_model.specs.Texts.{same_text}
 use Rattle.fp_model.specs.Waiting.{same_resource}
+use Rattle.dli_calls.specs.Keys.{resource_of}
 use Rattle.dli_calls.specs.Progress.{is_among}
 use Rattle.dli_calls.specs.declared.keys.SegmentKey.{SegmentKey}
 use Rattle.dli_calls.specs.contracts.keys.SegmentKeyOrd.TheImpl.{cmp-value}
-
-abbrev pub resource_of : SegmentKey → Resource
-resource_of key = Segment key.msdb key.key.items
 
 same_number : (m n : ℕ) → is_eq (nat_cmp m n) ≡ (m == n)
 same_number m n = grind (arith, nat_tests)

@@ -15,6 +15,7 @@ use Rattle.fp_model.specs.FitCalls.{FitsKey, FitsSegment, IsFsaList, IsShownOn}
 use Rattle.fp_model.specs.MsdbCalls.{held_key, is_put_or_dropped, unheld, with_position}
 use Rattle.fp_model.specs.State.{key_of}
 use Rattle.fp_model.specs.Texts.{same_text, trimmed}
+use Rattle.fp_model.specs.Waiting.{same_resource}
 use Rattle.fp_model.specs.WellFormed.{IsMsdbDef}
 use Rattle.fp_model.specs.Workspace.{Workspace}
 use Rattle.msdb_store.specs.Store.{IsOf}
@@ -74,6 +75,14 @@ mark_of def (deferred.Fld m key fsas) = None
 mark_of def (deferred.Repl m bytes) = None
 mark_of def (deferred.Isrt m bytes) = Some (Segment m (key_of def.fields bytes))
 mark_of def (deferred.Dlet m key) = Some (Segment m key)
+
+abbrev pub mark_in : MsdbDef → Change → Option Resource
+mark_in def change.Nothing = None
+mark_in def (change.Found key hold) = None
+mark_in def (change.Queued d) = mark_of def d
+
+abbrev pub is_marked : Option Resource → Resource → Bool
+is_marked mark resource = option_map_or (λ marked. same_resource marked resource) mark false
 
 -- ---- answers
 

@@ -1,12 +1,12 @@
 //! The answer to a call, or the lock that it needs first.
 ghost use Rattle.std.specs.List.{AllByRecursion};
-ghost use Rattle.std.specs.Prelude.{◌≡◌, IfOk, OnErr};
+ghost use Rattle.std.specs.Prelude.{◌≡◌, ◌++◌, ◌∷◌, [], IfOk, OnErr, if◌then◌else◌};
 ghost use Rattle.fp_model.specs.Calls.{looks_unheld, need_of, reply_to};
 ghost use Rattle.fp_model.specs.FitCalls.{FitsAnswer, IsMsdbCall};
 ghost use Rattle.fp_model.specs.WellFormed.{IsMsdbDef};
 ghost use Rattle.fp_model.specs.declared.database.Db.{Db as DbOf};
 ghost use Rattle.msdb_store.specs.Store.{IsOf};
-ghost use Rattle.dli_calls.specs.Progress.{IsWorkOf, held_in, noted};
+ghost use Rattle.dli_calls.specs.Progress.{IsWorkOf, held_in};
 ghost use Rattle.dli_calls.specs.Readiness.{IfAnswer, OnNeed, needed_in};
 
 use crate::work::Work;
@@ -47,7 +47,7 @@ pub fn answer(
     ensures answer { (db : DbOf) → db.msdbs ≡ msdbs.now.msdbs → IfOk result (λ ready. IfAnswer ready (λ answer.
         reply_to defs.now db db work.old.own call.now ≡ record { answer = answer; own = work.new.own })) }
     ensures notes { IfOk result (λ ready. IfAnswer ready (λ answer.
-        work.new.notes ≡ noted (looks_unheld defs.now work.old.own call.now) count work.old.notes)) }
+        work.new.notes ≡ (if looks_unheld defs.now work.old.own call.now then work.old.notes ++ count ∷ [] else work.old.notes))) }
     ensures fits { IfOk result (λ ready. IfAnswer ready (FitsAnswer defs.now.msdbs call.now)) }
 
     ensures holds { work.new.holds ≡ work.old.holds }

@@ -1,5 +1,5 @@
 use Rattle.std.proofs.Common.{ap, ◌∙◌}
-use Rattle.fp_model.specs.declared.calls.Resource.TheVariants.{Segment}
+use Rattle.dli_calls.specs.Keys.{resource_of}
 use Rattle.dli_calls.specs.Progress.{is_among}
 use Rattle.dli_calls.proofs.KeyLemmas.{among_is_contained}
 use Rattle.dli_calls.proofs.keys.Keys.has.Goals as goal
@@ -8,4 +8,4 @@ pub returns : goal.returns
 returns c =
     c.contains.ensures
     ∙ among_is_contained c.self.inside.keys.keys c.args.key.now
-    ∙ ap (λ keys. is_among keys (Segment c.args.key.now.msdb c.args.key.now.key.items)) c.self.view_is
+    ∙ ap (λ keys. is_among keys (resource_of c.args.key.now)) c.self.view_is
