@@ -4,7 +4,9 @@
 mod answering;
 mod database;
 mod keys;
+mod letters;
 mod reply;
+mod replying;
 mod work;
 
 pub use answering::{Ready, answer};
