@@ -1,3 +1,4 @@
+pub mod FitLemmas
 pub mod HoldLemmas
 pub mod KeyLemmas
 pub mod LetterLemmas

@@ -89,3 +89,10 @@ is_marked mark resource = option_map_or (λ marked. same_resource marked resourc
 -- an answer that says that it found shows a segment of the database
 abbrev pub ShowsSegment : MsdbDef → Answer → Type 0
 ShowsSegment def answer = same_text (trimmed answer.status) [] ≡ true → IsShownOn answer.segment answer.bytes def
+
+abbrev pub ShowsFound : MsdbDef → Call → Answer → Type 0
+ShowsFound def (call.Get get hold db ssas) answer = ShowsSegment def answer
+ShowsFound def (call.Fld db key fsas) answer = ⊤
+ShowsFound def (call.Isrt db ssas bytes) answer = ⊤
+ShowsFound def (call.Repl db bytes) answer = ⊤
+ShowsFound def (call.Dlet db) answer = ⊤
