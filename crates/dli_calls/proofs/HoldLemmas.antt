@@ -1,6 +1,6 @@
 -- Locks that are held, and a transaction as it begins.
 use Rattle.std.proofs.Common.{refl, ◌≡◌, ℕ, zero, suc, List, [], ◌∷◌, map, length, replicate, Bool, true, false, ◌||◌, if◌then◌else◌, Option, Some, None, ap, sym, ◌∙◌, subst}
-use Rattle.std.specs.Prelude.{find, OnOk, Result, Ok, Err}
+use Rattle.std.specs.Prelude.{find, IfOk, OnOk, Result, Ok, Err}
 use Rattle.std.specs.List.{AllZip}
 use Rattle.std.specs.Option.{option_map}
 use Rattle.fp_model.specs.declared.calls.Mode.{Mode}
@@ -60,3 +60,7 @@ fresh_all n positions defs is e = is ∙ ap (λ m. replicate m no_msdb_position)
 pub on_ok : {A E P Q : Type 0} (r : Result A E) → OnOk r P → (P → Q) → OnOk r Q
 on_ok (Ok a) p f = f p
 on_ok (Err e) p f = tt
+
+pub if_ok : {A E : Type 0} {P Q : A → Type 0} (r : Result A E) → IfOk r P → ((a : A) → P a → Q a) → IfOk r Q
+if_ok (Ok a) p f = f a p
+if_ok (Err e) p f = tt
