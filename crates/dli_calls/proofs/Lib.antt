@@ -3,3 +3,4 @@ pub mod HoldLemmas
 pub mod KeyLemmas
 pub mod LetterLemmas
 pub mod StoreLemmas
+pub mod WorkLemmas

@@ -61,13 +61,17 @@ module _ (def : MsdbDef) (msdb : ℕ) where
   FitsChange (change.Found key hold) = FitsKey key def
   FitsChange (change.Queued d) = FitsQueue d
 
-  -- whether the queue inserts or deletes the segment that the call is to change
+  -- the key of the segment that the call is to change
+  abbrev pub key_to_change : Workspace → Call → Option (List ℕ)
+  key_to_change own (call.Get get hold db ssas) = None
+  key_to_change own (call.Fld db key fsas) = Some key
+  key_to_change own (call.Repl db bytes) = held_key def msdb own
+  key_to_change own (call.Isrt db ssas bytes) = Some (key_of def.fields bytes)
+  key_to_change own (call.Dlet db) = held_key def msdb own
+
+  -- whether the queue inserts or deletes it
   abbrev pub is_changed : Workspace → Call → Bool
-  is_changed own (call.Get get hold db ssas) = false
-  is_changed own (call.Fld db key fsas) = is_put_or_dropped def msdb own key
-  is_changed own (call.Repl db bytes) = option_map_or (is_put_or_dropped def msdb own) (held_key def msdb own) false
-  is_changed own (call.Isrt db ssas bytes) = is_put_or_dropped def msdb own (key_of def.fields bytes)
-  is_changed own (call.Dlet db) = option_map_or (is_put_or_dropped def msdb own) (held_key def msdb own) false
+  is_changed own c = option_map_or (is_put_or_dropped def msdb own) (key_to_change own c) false
 
 -- the key whose segment a deferred call inserts or deletes
 abbrev pub mark_of : MsdbDef → Deferred → Option Resource

@@ -1,16 +1,27 @@
 //! The answer to a call, or the lock that it needs first.
 ghost use Rattle.std.specs.List.{AllByRecursion};
-ghost use Rattle.std.specs.Prelude.{◌≡◌, ◌++◌, ◌∷◌, [], IfOk, OnErr, if◌then◌else◌};
-ghost use Rattle.fp_model.specs.Calls.{looks_unheld, need_of, reply_to};
+ghost use Rattle.std.specs.Option.{option_copied, option_map, option_map_or};
+ghost use Rattle.std.specs.Prelude.{◌≡◌, ◌<◌, ◌++◌, ◌∷◌, [], IfOk, List as ListOf, OnErr, if◌then◌else◌, length, option_and_then, ℕ};
+ghost use Rattle.fp_model.specs.Answers.{unless_held};
+ghost use Rattle.fp_model.specs.Calls.{database_of, looks_unheld, need_of, reply_to};
 ghost use Rattle.fp_model.specs.FitCalls.{FitsAnswer, IsMsdbCall};
+ghost use Rattle.fp_model.specs.MsdbCalls.{exclusively, is_put_or_dropped, msdb_looks, msdb_need};
 ghost use Rattle.fp_model.specs.WellFormed.{IsMsdbDef};
+ghost use Rattle.fp_model.specs.Workspace.{Workspace};
+ghost use Rattle.fp_model.specs.declared.calls.Resource.TheVariants.{Segment};
 ghost use Rattle.fp_model.specs.declared.database.Db.{Db as DbOf};
+ghost use Rattle.fp_model.specs.declared.definitions.MsdbDef.{MsdbDef as DefOf};
 ghost use Rattle.msdb_store.specs.Store.{IsOf};
-ghost use Rattle.dli_calls.specs.Progress.{IsWorkOf, held_in};
-ghost use Rattle.dli_calls.specs.Readiness.{IfAnswer, OnNeed, needed_in};
+ghost use Rattle.dli_calls.specs.Progress.{IsWorkOf, held_in, is_among};
+ghost use Rattle.dli_calls.specs.Readiness.{IfAnswer, OnNeed, needed_exclusive, needed_in};
+ghost use Rattle.dli_calls.specs.Replies.{is_changed, key_to_change};
 
+use crate::database::{Database, key_in};
+use crate::keys::SegmentKey;
+use crate::reply::Reply;
+use crate::replying::key_named;
 use crate::work::Work;
-use fp_model::{Answer, Call, Defs, Mode, Resource};
+use fp_model::{Answer, Call, Defs, Get, Mode, Resource};
 use msdb_store::MsdbStore;
 use std::alloc::{AllocError, Global};
 
@@ -20,6 +31,112 @@ pub enum Ready {
     Answer(Answer),
     /// The lock that it needs first, and that the transaction doesn't hold.
     Need(Resource, Mode),
+}
+
+// The database that a call names.
+fn database_of(call: &Call) -> u8
+    ensures { result ≡ database_of call.now }
+{
+    match call {
+        Call::Get { db, .. }
+        | Call::Fld { db, .. }
+        | Call::Isrt { db, .. }
+        | Call::Repl { db, .. }
+        | Call::Dlet { db } => *db,
+    }
+}
+
+// Whether a call looks without a hold.
+fn looks(call: &Call, changed: bool) -> bool
+    ensures { (def : DefOf) (msdb : ℕ) (own : Workspace) → is_changed def msdb own call.now ≡ changed → result ≡ msdb_looks def msdb own call.now }
+{
+    match call {
+        Call::Get { get, hold, .. } => !hold && !matches!(get, Get::NextInParent),
+        Call::Fld { .. } => !changed,
+        Call::Isrt { .. } | Call::Repl { .. } | Call::Dlet { .. } => false,
+    }
+}
+
+// The note of a call that looks so.
+fn note(call: &Call, changed: bool, count: u64) -> Option<u64>
+    ensures { (def : DefOf) (msdb : ℕ) (own : Workspace) → is_changed def msdb own call.now ≡ changed
+        → result ≡ (if msdb_looks def msdb own call.now then Some count else None) }
+{
+    if looks(call, changed) {
+        Some(count)
+    } else {
+        None
+    }
+}
+
+impl Database<'_> {
+    // The key of the segment that a call is to change.
+    fn key_to_change<'a>(&self, work: &'a Work, call: &'a Call) -> Option<&'a [u8]>
+        requires { self.now.number < length work.now.own.msdbs }
+        ensures { option_copied result ≡ key_to_change self.now.def.now self.now.number work.now.own call.now }
+    {
+        match call {
+            Call::Get { .. } => None,
+            Call::Fld { key, .. } => Some(key.as_slice()),
+            Call::Isrt { bytes, .. } => Some(key_in(self.def, bytes.as_slice())),
+            Call::Repl { .. } | Call::Dlet { .. } => work.position(self.number).held_key(),
+        }
+    }
+
+    // Whether the queue inserts or deletes that segment. It fails only for want of memory.
+    fn is_changed(&self, alloc: Global, work: &Work, call: &Call) -> Result<bool, AllocError>
+        requires positions { self.now.number < length work.now.own.msdbs }
+        requires changes { (key : ListOf ℕ) → is_among work.now.changed (Segment self.now.number key)
+            ≡ is_put_or_dropped self.now.def.now self.now.number work.now.own key }
+        ensures { IfOk result (λ changed. is_changed self.now.def.now self.now.number work.now.own call.now ≡ changed) }
+    {
+        let Some(key) = self.key_to_change(work, call) else {
+            return Ok(false);
+        };
+        let key = SegmentKey::new(alloc, self.number, key)?;
+        Ok(work.changes(&key))
+    }
+
+    // The key that a call has to hold Exclusive.
+    fn needed_key<'a>(&self, call: &'a Call, changed: bool) -> Option<&'a [u8]>
+        ensures { (own : Workspace) → is_changed self.now.def.now self.now.number own call.now ≡ changed
+            → option_and_then (exclusively self.now.def.now self.now.number) (option_copied result) ≡ msdb_need self.now.def.now self.now.number own call.now }
+    {
+        match call {
+            Call::Get {
+                get: Get::Unique,
+                hold: true,
+                ssas,
+                ..
+            } => key_named(ssas),
+            Call::Isrt { bytes, .. } if self.def.dynamic && !changed => {
+                Some(key_in(self.def, bytes.as_slice()))
+            }
+            _ => None,
+        }
+    }
+
+    // That key, unless it is held. It fails only for want of memory.
+    fn need(
+        &self,
+        alloc: Global,
+        work: &Work,
+        call: &Call,
+        changed: bool,
+    ) -> Result<Option<Resource>, AllocError>
+        requires { is_changed self.now.def.now self.now.number work.now.own call.now ≡ changed }
+        ensures { IfOk result (λ resource. option_map needed_exclusive resource
+            ≡ option_map_or (unless_held (held_in work.now.holds)) (msdb_need self.now.def.now self.now.number work.now.own call.now) None) }
+    {
+        let Some(key) = self.needed_key(call, changed) else {
+            return Ok(None);
+        };
+        let key = SegmentKey::new(alloc, self.number, key)?;
+        if work.holds(&key) {
+            return Ok(None);
+        }
+        Ok(Some(key.into_resource()))
+    }
 }
 
 /// Answers a call on the committed segments, or says which lock it needs first. `count` is the number of entries that
@@ -57,5 +174,17 @@ pub fn answer(
     ensures needing { IfOk result (λ ready. OnNeed ready (work.new ≡ work.old)) }
     ensures err { OnErr result (work.new ≡ work.old) }
 {
-    Err(AllocError)
+    let number = database_of(call);
+    let database = Database {
+        number,
+        def: &defs.msdbs.as_slice()[usize::from(number)],
+        store: msdbs,
+    };
+    let changed = database.is_changed(alloc, work, call)?;
+    if let Some(resource) = database.need(alloc, work, call, changed)? {
+        return Ok(Ready::Need(resource, Mode::Exclusive));
+    }
+    let Reply { answer, change } = database.reply(alloc, work, call, changed)?;
+    work.settle(database.def, number, change, note(call, changed, count))?;
+    Ok(Ready::Answer(answer))
 }

@@ -8,6 +8,7 @@ use fp_model::MsdbDef;
 use msdb_store::MsdbStore;
 
 // Its number, its definition, and the store that has its segments.
+#[derive(Drop)]
 pub(crate) struct Database<'a> {
     pub(crate) number: u8,
     pub(crate) def: &'a MsdbDef,
