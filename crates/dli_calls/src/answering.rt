@@ -1,20 +1,21 @@
 //! The answer to a call, or the lock that it needs first.
 ghost use Rattle.std.specs.List.{AllByRecursion};
 ghost use Rattle.std.specs.Option.{option_copied, option_map, option_map_or};
-ghost use Rattle.std.specs.Prelude.{◌≡◌, ◌<◌, ◌++◌, ◌∷◌, [], IfOk, List as ListOf, OnErr, if◌then◌else◌, length, option_and_then, ℕ};
+ghost use Rattle.std.specs.Prelude.{◌≡◌, ◌<◌, ◌++◌, ◌∷◌, [], IfOk, List as ListOf, OnErr, if◌then◌else◌, length, option_and_then, slice_get, ℕ};
 ghost use Rattle.fp_model.specs.Answers.{unless_held};
 ghost use Rattle.fp_model.specs.Calls.{database_of, looks_unheld, need_of, reply_to};
-ghost use Rattle.fp_model.specs.FitCalls.{FitsAnswer, IsMsdbCall};
-ghost use Rattle.fp_model.specs.MsdbCalls.{exclusively, is_put_or_dropped, msdb_looks, msdb_need};
+ghost use Rattle.fp_model.specs.FitCalls.{FitsAnswer, FitsCall, IsMsdbCall};
+ghost use Rattle.fp_model.specs.MsdbCalls.{exclusively, is_put_or_dropped, msdb_looks, msdb_need, msdb_reply, position_of};
 ghost use Rattle.fp_model.specs.WellFormed.{IsMsdbDef};
 ghost use Rattle.fp_model.specs.Workspace.{Workspace};
 ghost use Rattle.fp_model.specs.declared.calls.Resource.TheVariants.{Segment};
 ghost use Rattle.fp_model.specs.declared.database.Db.{Db as DbOf};
+ghost use Rattle.fp_model.specs.declared.definitions.Defs.{Defs as DefsOf};
 ghost use Rattle.fp_model.specs.declared.definitions.MsdbDef.{MsdbDef as DefOf};
 ghost use Rattle.msdb_store.specs.Store.{IsOf};
-ghost use Rattle.dli_calls.specs.Progress.{IsWorkOf, held_in, is_among};
+ghost use Rattle.dli_calls.specs.Progress.{FitsPosition, IsWorkOf, held_in, is_among};
 ghost use Rattle.dli_calls.specs.Readiness.{IfAnswer, OnNeed, needed_exclusive, needed_in};
-ghost use Rattle.dli_calls.specs.Replies.{is_changed, key_to_change};
+ghost use Rattle.dli_calls.specs.Replies.{IsDatabase, ShowsFound, is_changed, key_to_change, segments_in};
 
 use crate::database::{Database, key_in};
 use crate::keys::SegmentKey;
@@ -137,6 +138,41 @@ impl Database<'_> {
         }
         Ok(Some(key.into_resource()))
     }
+
+    // What a call comes to. It fails only for want of memory; then, and where a lock is needed, nothing changes.
+    fn ready(
+        &self,
+        alloc: Global,
+        work: &mut Work,
+        call: &Call,
+        count: u64,
+    ) -> Result<Ready, AllocError>
+        requires database { IsDatabase self.now }
+        requires call { FitsCall call.now self.now.def.now }
+        requires positions { self.now.number < length work.old.own.msdbs }
+        requires position { FitsPosition self.now.def.now (position_of self.now.def.now self.now.number work.old.own) }
+        requires changes { (key : ListOf ℕ) → is_among work.old.changed (Segment self.now.number key)
+            ≡ is_put_or_dropped self.now.def.now self.now.number work.old.own key }
+        ensures need { IfOk result (λ ready. needed_in ready
+            ≡ option_map_or (unless_held (held_in work.old.holds)) (msdb_need self.now.def.now self.now.number work.old.own call.now) None) }
+        ensures answer { IfOk result (λ ready. IfAnswer ready (λ answer.
+            msdb_reply self.now.def.now self.now.number (segments_in self.now) (segments_in self.now) work.old.own call.now ≡ record { answer = answer; own = work.new.own })) }
+        ensures notes { IfOk result (λ ready. IfAnswer ready (λ answer. work.new.notes
+            ≡ (if msdb_looks self.now.def.now self.now.number work.old.own call.now then work.old.notes ++ count ∷ [] else work.old.notes))) }
+        ensures shown { IfOk result (λ ready. IfAnswer ready (ShowsFound self.now.def.now call.now)) }
+        ensures holds { work.new.holds ≡ work.old.holds }
+        ensures of { (defs : DefsOf) → slice_get defs.msdbs self.now.number ≡ Some self.now.def.now → IsWorkOf defs work.old → IsWorkOf defs work.new }
+        ensures needing { IfOk result (λ ready. OnNeed ready (work.new ≡ work.old)) }
+        ensures err { OnErr result (work.new ≡ work.old) }
+    {
+        let changed = self.is_changed(alloc, work, call)?;
+        if let Some(resource) = self.need(alloc, work, call, changed)? {
+            return Ok(Ready::Need(resource, Mode::Exclusive));
+        }
+        let Reply { answer, change } = self.reply(alloc, work, call, changed)?;
+        work.settle(self.def, self.number, change, note(call, changed, count))?;
+        Ok(Ready::Answer(answer))
+    }
 }
 
 /// Answers a call on the committed segments, or says which lock it needs first. `count` is the number of entries that
@@ -180,11 +216,5 @@ pub fn answer(
         def: &defs.msdbs.as_slice()[usize::from(number)],
         store: msdbs,
     };
-    let changed = database.is_changed(alloc, work, call)?;
-    if let Some(resource) = database.need(alloc, work, call, changed)? {
-        return Ok(Ready::Need(resource, Mode::Exclusive));
-    }
-    let Reply { answer, change } = database.reply(alloc, work, call, changed)?;
-    work.settle(database.def, number, change, note(call, changed, count))?;
-    Ok(Ready::Answer(answer))
+    database.ready(alloc, work, call, count)
 }
