@@ -68,6 +68,7 @@ same_resources (Segment m k) (Segment n l) same =
   where
     equal : (m n : ℕ) → (m == n) ≡ true → m ≡ n
     equal m n e = grind (arith, nat_tests)
+
     parted : {P Q : Type 0} → (p q : Bool) → (p && q) ≡ true → (p ≡ true → P) → (q ≡ true → Q) → P × Q
     parted true q both there back = (there refl, back both)
     parted false q both there back = absurd (cc)
@@ -86,9 +87,11 @@ among-insert (x ∷ xs) key r = by (cmp-value.it key x) refl (among-insert xs ke
     swapped true false c d e = e
     swapped false true c d e = refl
     swapped false false c d e = e
+
     twice : (a b : Bool) → (a || b) ≡ (a || (a || b))
     twice true b = refl
     twice false b = refl
+
     by : (o : Ordering) → cmp-value.it key x ≡ o
         → is_among (map resource_of (insert_key cmp-value.it xs key)) r ≡ (same_resource (resource_of key) r || is_among (map resource_of xs) r)
         → is_among (map resource_of (match_ordering o (key ∷ x ∷ xs) (x ∷ xs) (x ∷ insert_key cmp-value.it xs key))) r

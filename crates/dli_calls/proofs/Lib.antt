@@ -1,3 +1,4 @@
+pub mod AnswerLemmas
 pub mod FitLemmas
 pub mod HoldLemmas
 pub mod KeyLemmas

@@ -66,10 +66,12 @@ module _ (defs : List MsdbDef) (def : MsdbDef) (n : ℕ) (there : slice_get defs
     where
       equal : (a b : ℕ) → (a == b) ≡ true → a ≡ b
       equal a b e = grind (arith, nat_tests)
+
       its : (number == m) ≡ true → def ≡ other
       its same =
           let e : slice_get defs n ≡ slice_get defs m = ap (λ one. slice_get defs one) (sym fits.0 ∙ equal number m same) in
           cc
+
       by : (same : Bool) → (same ≡ true → same_text (key_of def.fields bytes) key ≡ same_text (key_of other.fields bytes) key)
           → (same && same_text (key_of def.fields bytes) key) ≡ (same && same_text (key_of other.fields bytes) key)
       by true e = e refl

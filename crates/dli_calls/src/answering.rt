@@ -47,6 +47,21 @@ fn database_of(call: &Call) -> u8
     }
 }
 
+// That database.
+fn database_for<'a>(call: &Call, msdbs: &'a MsdbStore, defs: &'a Defs) -> Database<'a>
+    requires { IsMsdbCall defs.now.msdbs call.now }
+    ensures number { result.number ≡ database_of call.now }
+    ensures def { slice_get defs.now.msdbs result.number ≡ Some result.def.now }
+    ensures store { result.store.now ≡ msdbs.now }
+{
+    let number = database_of(call);
+    Database {
+        number,
+        def: &defs.msdbs.as_slice()[usize::from(number)],
+        store: msdbs,
+    }
+}
+
 // Whether a call looks without a hold.
 fn looks(call: &Call, changed: bool) -> bool
     ensures { (def : DefOf) (msdb : ℕ) (own : Workspace) → is_changed def msdb own call.now ≡ changed → result ≡ msdb_looks def msdb own call.now }
@@ -210,11 +225,6 @@ pub fn answer(
     ensures needing { IfOk result (λ ready. OnNeed ready (work.new ≡ work.old)) }
     ensures err { OnErr result (work.new ≡ work.old) }
 {
-    let number = database_of(call);
-    let database = Database {
-        number,
-        def: &defs.msdbs.as_slice()[usize::from(number)],
-        store: msdbs,
-    };
+    let database = database_for(call, msdbs, defs);
     database.ready(alloc, work, call, count)
 }

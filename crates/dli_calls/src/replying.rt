@@ -19,12 +19,19 @@ use std::alloc::{AllocError, Global};
 
 // The status letters.
 const NO_SEGMENT: [u8; 2] = *b"GE";
+
 const NO_NEXT: [u8; 2] = *b"GB";
+
 const BAD_ARGUMENT: [u8; 2] = *b"FE";
+
 const CHANGED: [u8; 2] = *b"XP";
+
 const NOT_HELD: [u8; 2] = *b"DJ";
+
 const KEY_CHANGED: [u8; 2] = *b"DA";
+
 const NOT_SO: [u8; 2] = *b"AM";
+
 const THERE: [u8; 2] = *b"II";
 
 // The key that search arguments name.
@@ -72,12 +79,7 @@ impl Database<'_> {
     }
 
     // GU, and GHU with a hold.
-    fn unique(
-        &self,
-        alloc: Global,
-        hold: bool,
-        key: Option<&[u8]>,
-    ) -> Result<Reply, AllocError>
+    fn unique(&self, alloc: Global, hold: bool, key: Option<&[u8]>) -> Result<Reply, AllocError>
         requires { IsDatabase self.now }
         ensures reply { IfOk result (λ reply. (own : Workspace) → replied_by self.now.def.now self.now.number reply own
             ≡ get_reply self.now.def.now self.now.number (segments_in self.now) (segments_in self.now) own get.Unique hold (option_copied key.entry)) }
@@ -128,7 +130,7 @@ impl Database<'_> {
         ensures reply { IfOk result (λ reply. (own : Workspace) → is_put_or_dropped self.now.def.now self.now.number own key.now ≡ changed
             → replied_by self.now.def.now self.now.number reply own
             ≡ (if changed then refused self.now.def.now self.now.number own (codes "XP")
-                else fld_reply self.now.def.now self.now.number own key.now fsas.now (segment_of self.now.def.now (segments_in self.now) key.now))) }
+            else fld_reply self.now.def.now self.now.number own key.now fsas.now (segment_of self.now.def.now (segments_in self.now) key.now))) }
         ensures change { IfOk result (λ reply. FitsChange self.now.def.now self.now.number reply.change) }
     {
         if changed {
@@ -211,17 +213,12 @@ impl Database<'_> {
         ))
     }
 
-    fn dlet(
-        &self,
-        alloc: Global,
-        held: Option<&[u8]>,
-        changed: bool,
-    ) -> Result<Reply, AllocError>
+    fn dlet(&self, alloc: Global, held: Option<&[u8]>, changed: bool) -> Result<Reply, AllocError>
         requires { ForSome (option_copied held) (λ key. FitsKey key self.now.def.now) }
         ensures reply { IfOk result (λ reply. (own : Workspace) → option_map_or (is_put_or_dropped self.now.def.now self.now.number own) (option_copied held.entry) false ≡ changed
             → replied_by self.now.def.now self.now.number reply own
             ≡ (if not self.now.def.now.dynamic then refused self.now.def.now self.now.number own (codes "AM")
-                else if_held self.now.def.now self.now.number own (dlet_reply self.now.def.now self.now.number own) (option_copied held.entry))) }
+            else if_held self.now.def.now self.now.number own (dlet_reply self.now.def.now self.now.number own) (option_copied held.entry))) }
         ensures change { IfOk result (λ reply. FitsChange self.now.def.now self.now.number reply.change) }
     {
         if !self.def.dynamic {
@@ -266,7 +263,10 @@ impl Database<'_> {
         let position = work.position(self.number);
         match call {
             Call::Get {
-                get, hold, ssas, ..
+                get,
+                hold,
+                ssas,
+                ..
             } => self.get(alloc, *get, *hold, key_named(ssas), position),
             Call::Fld { key, fsas, .. } => self.fld(alloc, key, fsas, changed),
             Call::Repl { bytes, .. } => self.repl(alloc, position.held_key(), bytes, changed),

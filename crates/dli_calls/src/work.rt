@@ -93,10 +93,10 @@ impl Model for Work {
     ghost coded = { Prim.hlevel (codes, node.the_row.coded) };
 
     ghost view = { λ w. record {
-        own = record { msdbs = w.positions.items; dedbs = []; changes = []; deferred = w.deferred; inserts = [] };
-        holds = map (λ resource. record { resource = resource; mode = Exclusive }) w.held;
-        changed = w.changed;
-        notes = w.notes;
+      own = record { msdbs = w.positions.items; dedbs = []; changes = []; deferred = w.deferred; inserts = [] };
+      holds = map (λ resource. record { resource = resource; mode = Exclusive }) w.held;
+      changed = w.changed;
+      notes = w.notes;
     } };
 }
 
@@ -242,8 +242,11 @@ impl Work {
     // Holds no segment of the database.
     fn let_go(&mut self, msdb: u8)
         requires { msdb < length self.old.own.msdbs }
-        ensures { self.new ≡ record self.old { own = record self.old.own {
-            msdbs = slice_set self.old.own.msdbs msdb (record (unwrap_or (slice_get self.old.own.msdbs msdb) no_msdb_position) { held = false }) } } }
+        ensures { self.new ≡ record self.old {
+          own = record self.old.own {
+            msdbs = slice_set self.old.own.msdbs msdb (record (unwrap_or (slice_get self.old.own.msdbs msdb) no_msdb_position) { held = false });
+          };
+        } }
     {
         self.positions[msdb as usize].held = false;
     }
@@ -292,9 +295,7 @@ fn marked_by(
             *msdb,
             key_in(def, bytes.as_slice()),
         )?)),
-        Deferred::Dlet { msdb, key } => {
-            Ok(Some(SegmentKey::new(alloc, *msdb, key.as_slice())?))
-        }
+        Deferred::Dlet { msdb, key } => { Ok(Some(SegmentKey::new(alloc, *msdb, key.as_slice())?)) }
         Deferred::Fld { .. } | Deferred::Repl { .. } => Ok(None),
     }
 }
