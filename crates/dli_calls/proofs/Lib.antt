@@ -3,5 +3,6 @@ pub mod FitLemmas
 pub mod HoldLemmas
 pub mod KeyLemmas
 pub mod LetterLemmas
+pub mod Samples
 pub mod StoreLemmas
 pub mod WorkLemmas

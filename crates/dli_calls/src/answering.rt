@@ -29,6 +29,7 @@ use std::alloc::{AllocError, Global};
 /// What a call comes to.
 #[derive(Debug, Drop)]
 pub enum Ready {
+    /// It is answered.
     Answer(Answer),
     /// The lock that it needs first, and that the transaction doesn't hold.
     Need(Resource, Mode),
