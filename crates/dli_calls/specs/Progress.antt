@@ -1,5 +1,5 @@
 -- What contracts see of a transaction under way.
-use Rattle.std.specs.Prelude.{ℕ, ◌≡◌, List, [], ◌∷◌, ◌++◌, find, Bool, if◌then◌else◌, Option, Some, IfSome, slice_get}
+use Rattle.std.specs.Prelude.{ℕ, ◌≡◌, List, [], ◌∷◌, ◌++◌, find, Bool, Option, Some, None, IfSome, slice_get}
 use Rattle.std.specs.List.{AllByRecursion, AllZip, list_any}
 use Rattle.std.specs.Option.{option_map}
 use Rattle.fp_model.specs.declared.definitions.Defs.{Defs}
@@ -44,6 +44,7 @@ pub record IsWorkOf (defs : Defs) (work : Progress) : Type 0 where
   pub changes : (msdb : ℕ) (def : MsdbDef) → slice_get defs.msdbs msdb ≡ Some def → (key : List ℕ)
       → is_among work.changed (Segment msdb key) ≡ is_put_or_dropped def msdb work.own key
 
--- the notes behind a call: one more, if it looks unheld
-abbrev pub noted : Bool → ℕ → List ℕ → List ℕ
-noted looks count notes = if looks then notes ++ count ∷ [] else notes
+-- with one more note, if there is one
+abbrev pub noted : Option ℕ → List ℕ → List ℕ
+noted None notes = notes
+noted (Some count) notes = notes ++ count ∷ []

@@ -1,9 +1,15 @@
 -- What a call comes to: its answer, or the lock that it needs first.
 use Rattle.std.specs.Prelude.{⊤, Option, Some, None}
 use Rattle.fp_model.specs.declared.calls.Answer.{Answer}
+use Rattle.fp_model.specs.declared.calls.Mode.TheVariants.{Exclusive}
+use Rattle.fp_model.specs.declared.calls.Resource.{Resource}
 use Rattle.fp_model.specs.Answers.{Needed}
 use Rattle.dli_calls.specs.declared.answering.Ready.{Ready}
 use Rattle.dli_calls.specs.declared.answering.Ready.TheVariants as ready
+
+-- a resource that is needed Exclusive
+abbrev pub needed_exclusive : Resource → Needed
+needed_exclusive resource = record { resource = resource; mode = Exclusive }
 
 -- the lock, if one is needed
 abbrev pub needed_in : Ready → Option Needed
