@@ -1,4 +1,6 @@
 pub mod Changes
 pub mod Places
 pub mod Settling
+pub mod Steps
 pub mod Store
+pub mod Touches

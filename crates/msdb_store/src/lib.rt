@@ -3,6 +3,7 @@
 
 mod keyed;
 mod staged;
+mod staging;
 mod store;
 mod table;
 
