@@ -1,8 +1,9 @@
 -- What one call of a queue comes to, from what it makes of its segment.
-use Rattle.std.proofs.Common.{◌≡◌, refl, sym, ◌∙◌, ap, subst, arith, ℕ, zero, suc, ◌<◌, ◌≤◌, List, [], ◌∷◌, length, take, true, false, Option, Some, None, slice_get, slice_set, inl, inr}
-use Rattle.std.specs.Prelude.{Result, Ok, Err, ⊤}
+use Rattle.std.proofs.Common.{◌≡◌, refl, sym, ◌∙◌, ap, subst, arith, ℕ, zero, suc, ◌<◌, ◌≤◌, List, [], ◌∷◌, length, map, slice_index_or, take, Bool, true, false, Option, Some, None, slice_get, slice_set, inl, inr, Bor}
+use Rattle.std.specs.Prelude.{Result, Ok, Err, ⊤, IsTrue, ◌↔◌, is_none}
+use Rattle.std.specs.Option.{option_copied}
 use Rattle.std.specs.List.{AllZip, AllByRecursion}
-use Rattle.std.proofs.lemmas.List.{length-take-le}
+use Rattle.std.proofs.lemmas.List.{length-map, length-take-le}
 use Rattle.fld_calls.specs.Settling.{IsSettled}
 use Rattle.fld_calls.specs.declared.arguments.SettleFault.{SettleFault}
 use Rattle.fld_calls.specs.declared.arguments.SettleFault.TheVariants as fault
@@ -17,14 +18,16 @@ use Rattle.fp_model.specs.WellFormed.{IsMsdbDef}
 use Rattle.fp_model.specs.declared.calls.Deferred.{Deferred}
 use Rattle.fp_model.specs.declared.calls.Deferred.TheVariants.{Fld, Repl, Isrt, Dlet}
 use Rattle.fp_model.specs.declared.database.Msdb.{Msdb}
+use Rattle.fp_model.specs.declared.definitions.FieldDef.{FieldDef}
 use Rattle.fp_model.specs.declared.definitions.MsdbDef.{MsdbDef}
 use Rattle.fp_model.specs.declared.log.Item.TheVariants.{Segment}
-use Rattle.msdb_store.specs.Settling.{key_in}
-use Rattle.msdb_store.specs.Steps.{IsGiven, given_as}
-use Rattle.msdb_store.specs.Store.{IsFitSegment, segment_in}
+use Rattle.msdb_store.specs.Settling.{has_bytes, key_in}
+use Rattle.msdb_store.specs.Steps.{IsChanged, IsGiven, given_as}
+use Rattle.msdb_store.specs.Store.{IsFitSegment, IsOf, Stored, segment_in}
 use Rattle.msdb_store.specs.Touches.{Touch}
-use Rattle.msdb_store.proofs.Ascending.{same_is}
-use Rattle.msdb_store.proofs.Databases.{Partner, in_at, partner, with_at}
+use Rattle.msdb_store.proofs.Ascending.{not_both, same_is, stands_there}
+use Rattle.msdb_store.proofs.Tables.{belongs, stored, with_room}
+use Rattle.msdb_store.proofs.Databases.{Partner, in_as, in_at, in_database, partner, with_at}
 use Rattle.msdb_store.proofs.Kept.{HasKey, Keyed, has_key, list_keeps}
 use Rattle.msdb_store.proofs.Lookups.{found_has, found_is}
 
@@ -154,3 +157,75 @@ module _ (defs : List MsdbDef) (now : List Msdb) (of : AllZip IsMsdbOf defs now)
 
   pub given_dlet : (number : ℕ) (key : List ℕ) → IsFitDeferred defs (Dlet number key) → IsGiven defs now (Dlet number key) (Ok [])
   given_dlet number key fit = (fits_none defs number fit.0 key fit.1 fit.2, refl)
+
+-- from what the changes came to
+pub given_changed : (defs : List MsdbDef) (now : List Msdb) (of : AllZip IsMsdbOf defs now) (defined : AllByRecursion IsMsdbDef defs) (number : ℕ) (key fsas segment : List ℕ) (r : Result (List ℕ) SettleFault)
+    → IsFitDeferred defs (Fld number key fsas) → segment_in defs now number key ≡ Some segment
+    → ((def : MsdbDef) → slice_get defs number ≡ Some def → IsChanged def (fsas_in fsas) segment r) → IsGiven defs now (Fld number key fsas) r
+given_changed defs now of defined number key fsas segment (Ok new) fit e changed =
+    given_fld defs now of defined number key fsas segment new (Ok tt) fit e (changed fit.0.0 fit.0.1).1 (λ def there. (changed def there).0)
+given_changed defs now of defined number key fsas segment (Err why) fit e changed = given_fld defs now of defined number key fsas segment segment (Err why) fit e refl changed
+
+-- ---- places
+
+pub got_within : {X : Type 0} (xs : List X) (n : ℕ) (x : X) → slice_get xs n ≡ Some x → n < length xs
+got_within [] n x e = cc
+got_within (y ∷ ys) zero x e = omega arith
+got_within (y ∷ ys) (suc n) x e = omega (arith, got_within ys n x e)
+
+pub within_msdbs : (defs : List MsdbDef) (msdbs : List Msdb) (n : ℕ) (def : MsdbDef) → AllZip IsMsdbOf defs msdbs → slice_get defs n ≡ Some def → n < length msdbs
+within_msdbs defs msdbs n def of there = let p = partner IsMsdbOf defs msdbs n def of there in got_within msdbs n p.y p.there
+
+pub key_by : (defs : List MsdbDef) (n : ℕ) (def : MsdbDef) (bytes : List ℕ) → slice_get defs n ≡ Some def → key_in defs n bytes ≡ key_of def.fields bytes
+key_by defs n def bytes there = rw (there, key_in) refl
+
+-- the database that a call names
+abbrev pub database : Deferred → ℕ
+database (Fld number key fsas) = number
+database (Repl number bytes) = number
+database (Isrt number bytes) = number
+database (Dlet number key) = number
+
+pub call_within : (defs : List MsdbDef) (msdbs : List Msdb) (call : Deferred) → AllZip IsMsdbOf defs msdbs → IsFitDeferred defs call → database call < length msdbs
+call_within defs msdbs (Fld number key fsas) of fit = within_msdbs defs msdbs number fit.0.0 of fit.0.1
+call_within defs msdbs (Repl number bytes) of fit = within_msdbs defs msdbs number fit.0 of fit.1
+call_within defs msdbs (Isrt number bytes) of fit = within_msdbs defs msdbs number fit.0 of fit.1
+call_within defs msdbs (Dlet number key) of fit = within_msdbs defs msdbs number fit.0 of fit.1
+
+get_past : {X : Type 0} (xs : List X) (n : ℕ) → length xs ≤ n → slice_get xs n ≡ None
+get_past [] n past = refl
+get_past (x ∷ xs) zero past = absurd (omega (arith, past))
+get_past (x ∷ xs) (suc n) past = get_past xs n (omega (arith, past))
+
+-- a database that isn't there has no segment
+pub none_past : (defs : List MsdbDef) (msdbs : List Msdb) (n : ℕ) (key : List ℕ) → length msdbs ≤ n → segment_in defs msdbs n key ≡ None
+none_past defs msdbs n key past = in_as defs msdbs n key ∙ ap (in_database defs key (slice_get defs n)) (get_past msdbs n past) ∙ by (slice_get defs n)
+  where
+    by : (d : Option MsdbDef) → in_database defs key d None ≡ None
+    by None = refl
+    by (Some def) = refl
+
+-- ---- items that add a segment
+
+pub some_bytes : (r : Bool) (bytes : List ℕ) → (IsTrue r ↔ (bytes ≡ [])) → r ≡ false → has_bytes bytes ≡ true
+some_bytes r [] iff e = let yes_it_is : r ≡ true = iff.1 refl in absurd (not_both (sym yes_it_is ∙ e))
+some_bytes r (b ∷ bytes) iff e = refl
+
+pub no_bytes : (r : Bool) (bytes : List ℕ) → (IsTrue r ↔ (bytes ≡ [])) → r ≡ true → has_bytes bytes ≡ false
+no_bytes r bytes iff e = ap has_bytes (iff.0 e)
+
+pub copied_none : {X : Type 0} (o : Option (Bor X)) → is_none o ≡ is_none (option_copied o)
+copied_none None = refl
+copied_none (Some x) = refl
+
+-- the fields of a table are those of its definition
+pub fields_at : {T : Type 0} (fields : T → List FieldDef) (msdb : T → Msdb) (defs : List MsdbDef) (store : Stored) (tables : List T) (n : ℕ) (t : T) (def : MsdbDef) → stored fields msdb tables ≡ record store { spare = 0 } → IsOf defs store
+    → t ≡ slice_index_or tables n t → slice_get defs n ≡ Some def → fields t ≡ def.fields
+fields_at fields msdb defs store tables n t def is of at there =
+    let its : IsOf defs (stored fields msdb tables) = subst (IsOf defs) (sym is) (with_room 0 of) in
+    let within : n < length tables = omega (arith, within_msdbs defs (map msdb tables) n def its.each there, length-map tables msdb) in
+    let b = belongs fields msdb defs tables n t its (stands_there tables n t within ∙ ap Some (sym at)) in
+    b.same ∙ ap (λ d. d.fields) (same_def b.def (sym b.there ∙ there))
+  where
+    same_def : (d : MsdbDef) → Some d ≡ Some def → d ≡ def
+    same_def d e = cc

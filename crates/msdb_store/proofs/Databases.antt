@@ -96,12 +96,12 @@ module _ (defs : List MsdbDef) where
   pub in_at : (msdbs : List Msdb) (n : ℕ) (def : MsdbDef) (msdb : Msdb) (j : List ℕ) → slice_get defs n ≡ Some def → slice_get msdbs n ≡ Some msdb → segment_in defs msdbs n j ≡ segment_of def msdb j
   in_at msdbs n def msdb j there at = rw (there, segment_in) (rw at refl)
 
-  abbrev in_database : List ℕ → Option MsdbDef → Option Msdb → Option (List ℕ)
+  abbrev pub in_database : List ℕ → Option MsdbDef → Option Msdb → Option (List ℕ)
   in_database j None msdb = None
   in_database j (Some def) None = None
   in_database j (Some def) (Some msdb) = segment_of def msdb j
 
-  in_as : (msdbs : List Msdb) (n : ℕ) (j : List ℕ) → segment_in defs msdbs n j ≡ in_database j (slice_get defs n) (slice_get msdbs n)
+  pub in_as : (msdbs : List Msdb) (n : ℕ) (j : List ℕ) → segment_in defs msdbs n j ≡ in_database j (slice_get defs n) (slice_get msdbs n)
   in_as msdbs n j = by (slice_get defs n) (slice_get msdbs n) refl refl
     where
       by : (d : Option MsdbDef) (m : Option Msdb) → slice_get defs n ≡ d → slice_get msdbs n ≡ m → segment_in defs msdbs n j ≡ in_database j d m

@@ -4,5 +4,7 @@ mod Databases
 mod Kept
 mod Loads
 mod Lookups
+mod Names
+mod Queues
 mod Stagings
 mod Tables

@@ -27,17 +27,17 @@ use Rattle.msdb_store.proofs.Databases.{at_item, beside_item, item_good, same_da
 
 -- ---- numbers and keys
 
-number_is : (a b : ℕ) → (a == b) ≡ true → a ≡ b
+pub number_is : (a b : ℕ) → (a == b) ≡ true → a ≡ b
 number_is a b e = grind arith
 
-is_number : (a : ℕ) → (a == a) ≡ true
+pub is_number : (a : ℕ) → (a == a) ≡ true
 is_number a = grind arith
 
-first_true : (a b : Bool) → (a && b) ≡ true → a ≡ true
+pub first_true : (a b : Bool) → (a && b) ≡ true → a ≡ true
 first_true true b e = refl
 first_true false b e = e
 
-second_true : (a b : Bool) → (a && b) ≡ true → b ≡ true
+pub second_true : (a b : Bool) → (a && b) ≡ true → b ≡ true
 second_true true b e = e
 second_true false b e = absurd (not_both (sym e))
 
@@ -68,7 +68,7 @@ ties_itself : (t : Touch) → touch_cmp t t ≡ Equal
 ties_itself t = ap (λ a. ordering_then a (slice_cmp nat_cmp t.key t.key)) (tied_itself nat_cmp_total t.number) ∙ tied_itself nat_list_cmp_total t.key
 
 -- and two that have the same tie
-ties : (t u : Touch) (n : ℕ) (k : List ℕ) → has_key t n k ≡ true → has_key u n k ≡ true → touch_cmp t u ≡ Equal
+pub ties : (t u : Touch) (n : ℕ) (k : List ℕ) → has_key t n k ≡ true → has_key u n k ≡ true → touch_cmp t u ≡ Equal
 ties t u n k a b =
     ap (λ (m : ℕ). ordering_then (nat_cmp m u.number) (slice_cmp nat_cmp t.key u.key)) (key_number t n k a ∙ sym (key_number u n k b))
     ∙ ap (λ (j : List ℕ). ordering_then (nat_cmp u.number u.number) (slice_cmp nat_cmp j u.key)) (key_text t n k a ∙ sym (key_text u n k b))
@@ -207,7 +207,7 @@ behind_item defs now of t fit n k = by (has_key t n k) (same_text t.key k) (t.nu
         beside_item defs now of t.number t.key t.bytes fit n k (λ is. not_both (sym (subst (λ m. (t.number == m) ≡ true) is (is_number t.number)) ∙ ec))
         ∙ ap (λ (x : Bool). if x then made t.bytes else segment_in defs now n k) (sym other)
 
-abbrev shown : Option (List ℕ) → Option (List ℕ) → Option (List ℕ)
+abbrev pub shown : Option (List ℕ) → Option (List ℕ) → Option (List ℕ)
 shown base o = elim o [ None ↦ base | Some bytes ↦ made bytes ]
 
 one_of : (base : Option (List ℕ)) (bytes : List ℕ) (o : Option (List ℕ)) (a : Bool) → (if a then made bytes else shown base o) ≡ shown base (if a then Some bytes else o)

@@ -1,4 +1,5 @@
 pub mod Changes
+pub mod Faults
 pub mod Places
 pub mod Settling
 pub mod Steps

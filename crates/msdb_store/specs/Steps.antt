@@ -1,9 +1,11 @@
 -- Settling call by call, with the touched segments staged.
-use Rattle.std.specs.Prelude.{◌≡◌, ⊤, ℕ, List, Result, Ok, Err}
+use Rattle.std.specs.Prelude.{◌≡◌, ⊤, ℕ, List, length, Result, Ok, Err}
 use Rattle.std.specs.List.{AllZip, AllByRecursion}
 use Rattle.fld_calls.specs.declared.arguments.SettleFault.{SettleFault}
 use Rattle.fld_calls.specs.declared.arguments.SettleFault.TheVariants as fault
 use Rattle.fp_model.specs.CheckpointText.{IsMsdbOf}
+use Rattle.fld_calls.specs.Settling.{IsSettled}
+use Rattle.fp_model.specs.Fsas.{Fsa}
 use Rattle.fp_model.specs.FitCalls.{IsFitDeferred}
 use Rattle.fp_model.specs.Items.{with_item}
 use Rattle.fp_model.specs.Settle.{Becomes, Fails, applied}
@@ -47,3 +49,8 @@ IsStep defs now call old new (Err fault.Memory) = ⊤
 abbrev pub given_as : Result ⊤ SettleFault → List ℕ → Result (List ℕ) SettleFault
 given_as (Ok done) new = Ok new
 given_as (Err why) new = Err why
+
+-- a segment with the changes of a list of arguments, or how the list fails; the length stays
+abbrev pub IsChanged : MsdbDef → List Fsa → List ℕ → Result (List ℕ) SettleFault → Type 0
+IsChanged def fsas segment (Ok new) = IsSettled def fsas segment (Ok tt) new × (length new ≡ length segment)
+IsChanged def fsas segment (Err why) = IsSettled def fsas segment (Err why) segment

@@ -2,6 +2,7 @@
 #![tactic(auto)]
 
 mod keyed;
+mod settling;
 mod staged;
 mod staging;
 mod store;

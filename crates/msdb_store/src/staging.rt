@@ -15,6 +15,18 @@ pub(crate) struct SegmentKey {
     pub(crate) key: Vec<u8>,
 }
 
+impl SegmentKey {
+    // The key of these bytes. It fails only for want of memory.
+    pub(crate) fn new(alloc: Global, msdb: u8, key: &[u8]) -> Result<SegmentKey, AllocError>
+        ensures { IfOk result (λ made. (made.msdb ≡ msdb) × (made.key.items ≡ key.now)) }
+    {
+        Ok(SegmentKey {
+            msdb,
+            key: Vec::from_slice(alloc, key)?,
+        })
+    }
+}
+
 // What the segments are that settling has touched so far: by key their bytes, none where a segment is taken away.
 #[derive(Drop)]
 pub(crate) struct Staging {
