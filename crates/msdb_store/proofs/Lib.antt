@@ -1,3 +1,10 @@
 mod Ascending
+mod Calls
+mod Databases
+mod Kept
 mod Loads
+mod Lookups
+mod Names
+mod Queues
+mod Stagings
 mod Tables

@@ -1,4 +1,7 @@
 pub mod Changes
+pub mod Faults
 pub mod Places
 pub mod Settling
+pub mod Steps
 pub mod Store
+pub mod Touches

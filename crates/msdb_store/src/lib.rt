@@ -2,7 +2,9 @@
 #![tactic(auto)]
 
 mod keyed;
+mod settling;
 mod staged;
+mod staging;
 mod store;
 mod table;
 

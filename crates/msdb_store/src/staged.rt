@@ -1,7 +1,9 @@
 //! What settling a queue comes to, before the databases have it.
 ghost use Rattle.std.specs.Prelude.{◌≡◌, IfOk};
+ghost use Rattle.msdb_store.specs.Faults.{fault_at};
 ghost use Rattle.msdb_store.specs.declared.staged.VerifyFault.TheVariants as fault;
 
+use fld_calls::SettleFault;
 use fp_model::{Bytes, Item, List};
 use std::alloc::AllocError;
 use std::marker::Model;
@@ -25,13 +27,28 @@ impl From<AllocError> for VerifyFault {
     }
 }
 
+impl VerifyFault {
+    // How the call of this place in the queue fails.
+    pub(crate) fn at(call: u32, fault: SettleFault) -> VerifyFault
+        ensures { result ≡ fault_at call fault }
+    {
+        match fault {
+            SettleFault::Bad { place, found } => VerifyFault::Verify {
+                call,
+                fsa: place,
+                found,
+            },
+            SettleFault::Memory => VerifyFault::Memory,
+        }
+    }
+}
+
 /// The segments that a settled queue names, as it leaves them: an item for each, ascending by database and key, and how
 /// many of them the databases lack.
 #[derive(Debug, Drop)]
 pub struct Staged {
     pub(crate) items: List<Item>,
     pub(crate) inserts: u32,
-    ghost never: { ⊥ },
 }
 
 impl Model for Staged {

@@ -5,9 +5,9 @@ ghost use Rattle.fp_model.specs.WellFormed.{IsMsdbDef};
 ghost use Rattle.std.specs.List.{AllZip};
 ghost use Rattle.std.specs.Prelude.{◌≡◌, IfOk};
 
-use crate::staged::{Staged, VerifyFault};
+use crate::staged::Staged;
 use crate::table::Table;
-use fp_model::{Bytes, Deferred, Defs, Item, List, Msdb, MsdbDef};
+use fp_model::{Bytes, Defs, Item, List, Msdb, MsdbDef};
 use std::alloc::{AllocError, Global};
 use std::marker::Model;
 
@@ -16,7 +16,7 @@ use std::marker::Model;
 /// the definitions have in place n, counted from 0.
 #[derive(Debug, Drop)]
 pub struct MsdbStore {
-    tables: Vec<Table>,
+    pub(crate) tables: Vec<Table>,
 }
 
 impl Model for MsdbStore {
@@ -174,26 +174,11 @@ impl MsdbStore {
 
 impl MsdbStore {
     ghost use Rattle.fp_model.specs.Items.{with_items};
-    ghost use Rattle.fp_model.specs.Settle.{settle};
     ghost use Rattle.fp_model.specs.declared.definitions.MsdbDef.{MsdbDef as DefOf};
-    ghost use Rattle.msdb_store.specs.Settling.{CanSettle, HasItem, IsAnswer, IsNamed, IsStaged};
+    ghost use Rattle.msdb_store.specs.Settling.{IsStaged};
     ghost use Rattle.msdb_store.specs.Store.{IsOf};
     ghost use Rattle.std.specs.List.{AllByRecursion};
-    ghost use Rattle.std.specs.Prelude.{◌+◌, ◌<◌, ◌≤◌, ◌^◌, ◌↔◌, ℕ, List as ListOf, OnOk, length};
-
-    /// Settles a queue of deferred calls in its order, each on what those before it left, beside the databases. They
-    /// stay as they are. Verify says that a field call fails, and which is the first.
-    pub fn check(&self, deferred: &List<Deferred>) -> Result<Staged, VerifyFault>
-        requires fit { (defs : ListOf DefOf) × CanSettle defs self.now deferred.now }
-        requires few { length deferred.now < 2 ^ 32 }
-        ensures answer { (defs : ListOf DefOf) → CanSettle defs self.now deferred.now → IsAnswer defs self.now.msdbs result (settle defs self.now.msdbs deferred.now) }
-        ensures staged { (defs : ListOf DefOf) → CanSettle defs self.now deferred.now → IfOk result (IsStaged defs self.now.msdbs) }
-        ensures keys { (defs : ListOf DefOf) → CanSettle defs self.now deferred.now
-            → IfOk result (λ staged. (number : ℕ) → (key : ListOf ℕ) → (HasItem staged.items number key) ↔ (IsNamed defs deferred.now number key)) }
-    {
-        let _ = deferred;
-        Err(VerifyFault::Memory)
-    }
+    ghost use Rattle.std.specs.Prelude.{◌+◌, ◌<◌, ◌≤◌, ◌^◌, List as ListOf, OnOk, length};
 
     /// Makes room, so that each database takes so many segments more without memory. It fails for want of memory, and
     /// where a database would have 2^32 segments. The databases stay as they are.

@@ -16,7 +16,7 @@ pub(crate) struct Table {
 }
 
 impl Table {
-    fn key_length(&self) -> usize
+    pub(crate) fn key_length(&self) -> usize
         ensures { result ≡ key_length self.now.fields }
     {
         match self.fields.as_slice().first() {
