@@ -12,8 +12,8 @@ use Rattle.fp_model.specs.declared.database.Msdb.{Msdb}
 use Rattle.fp_model.specs.declared.definitions.Defs.{Defs}
 use Rattle.fp_model.specs.declared.definitions.MsdbDef.{MsdbDef}
 use Rattle.fp_model.specs.Answers.{unless_held}
-use Rattle.fp_model.specs.Calls.{OnMsdb, database_of, dedb_target, looks_on, looks_unheld, msdb_at, need_of, need_on, reply_on, reply_to, target_of}
-use Rattle.fp_model.specs.FitCalls.{FitsAnswer, FitsCall, IsMsdbCall}
+use Rattle.fp_model.specs.Calls.{OnMsdb, database_of, dedb_target, looks_on, looks_unheld, need_of, need_on, reply_on, reply_to, target_of}
+use Rattle.fp_model.specs.FitCalls.{FitsAnswer, IsMsdbCall}
 use Rattle.fp_model.specs.MsdbCalls.{msdb_looks, msdb_need, msdb_reply}
 use Rattle.fp_model.specs.Workspace.{Workspace}
 use Rattle.dli_calls.specs.declared.answering.Ready.{Ready}

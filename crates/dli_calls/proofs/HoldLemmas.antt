@@ -1,17 +1,16 @@
 -- Locks that are held, and a transaction as it begins.
-use Rattle.std.proofs.Common.{refl, ◌≡◌, ℕ, zero, suc, List, [], ◌∷◌, map, length, replicate, Bool, true, false, ◌||◌, if◌then◌else◌, Option, Some, None, ap, sym, ◌∙◌, subst}
+use Rattle.std.proofs.Common.{refl, ◌≡◌, ℕ, List, [], ◌∷◌, map, length, replicate, Bool, true, false, ◌||◌, if◌then◌else◌, Option, Some, None, ap, sym, ◌∙◌}
 use Rattle.std.specs.Prelude.{find, IfOk, OnOk, Result, Ok, Err}
 use Rattle.std.specs.List.{AllZip}
 use Rattle.std.specs.Option.{option_map}
 use Rattle.fp_model.specs.declared.calls.Mode.{Mode}
 use Rattle.fp_model.specs.declared.calls.Mode.TheVariants.{Exclusive}
 use Rattle.fp_model.specs.declared.calls.Resource.{Resource}
-use Rattle.fp_model.specs.declared.definitions.Defs.{Defs}
 use Rattle.fp_model.specs.declared.definitions.MsdbDef.{MsdbDef}
 use Rattle.fp_model.specs.Answers.{serves}
 use Rattle.fp_model.specs.Waiting.{same_resource}
 use Rattle.fp_model.specs.Workspace.{MsdbPosition, no_msdb_position}
-use Rattle.dli_calls.specs.Progress.{FitsPosition, Hold, IsWorkOf, held_in, is_among}
+use Rattle.dli_calls.specs.Progress.{FitsPosition, Hold, held_in, is_among}
 
 abbrev pub exclusive : Resource → Hold
 exclusive resource = record { resource = resource; mode = Exclusive }

@@ -1,5 +1,5 @@
 -- The keys in the ordered set, as resources among others.
-use Rattle.std.proofs.Common.{refl, arith, ◌≡◌, ℕ, List, [], ◌∷◌, map, Bool, true, false, cond, ◌&&◌, ◌||◌, ◌==◌, ap, sym, ◌∙◌}
+use Rattle.std.proofs.Common.{refl, arith, ◌≡◌, ℕ, List, [], ◌∷◌, map, Bool, true, false, ◌&&◌, ◌||◌, ◌==◌, ap, sym, ◌∙◌}
 use Rattle.std.proofs.lemmas.Bool.Decides.{nat_tests}
 use Rattle.std.specs.List.{list_any}
 use Rattle.std.specs.declared.cmp.Ordering.{Ordering}

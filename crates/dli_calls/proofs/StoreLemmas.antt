@@ -1,5 +1,5 @@
 -- The segments of a database in the store.
-use Rattle.std.proofs.Common.{refl, ◌≡◌, ℕ, zero, suc, ◌<◌, List, [], ◌∷◌, length, Bool, true, false, Option, Some, None, ap, sym, ◌∙◌, subst, slice_get, unwrap_or, Bor}
+use Rattle.std.proofs.Common.{refl, ◌≡◌, ℕ, zero, suc, ◌<◌, List, [], ◌∷◌, length, Bool, true, false, Option, Some, None, sym, ◌∙◌, subst, slice_get, unwrap_or, Bor}
 use Rattle.std.specs.Prelude.{find, if◌then◌else◌, IfSome}
 use Rattle.std.specs.List.{AllByRecursion, AllZip}
 use Rattle.std.specs.Option.{option_copied}
@@ -8,7 +8,7 @@ use Rattle.fp_model.specs.CheckpointText.{IsMsdbOf}
 use Rattle.fp_model.specs.declared.database.Msdb.{Msdb}
 use Rattle.fp_model.specs.declared.definitions.MsdbDef.{MsdbDef}
 use Rattle.fp_model.specs.State.{segment_after, segment_of}
-use Rattle.msdb_store.specs.Store.{IsOf, found, found_after}
+use Rattle.msdb_store.specs.Store.{found, found_after}
 use Rattle.dli_calls.specs.declared.database.Database.{Database}
 use Rattle.dli_calls.specs.Replies.{IsDatabase, segments_in}
 

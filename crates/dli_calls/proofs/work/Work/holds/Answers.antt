@@ -3,7 +3,7 @@ use Rattle.fp_model.specs.declared.calls.Mode.TheVariants.{Exclusive}
 use Rattle.fp_model.specs.Answers.{serves}
 use Rattle.dli_calls.specs.Keys.{resource_of}
 use Rattle.dli_calls.specs.Progress.{held_in, is_among}
-use Rattle.dli_calls.proofs.HoldLemmas.{held-exclusive, mode_if, serves-mode_if}
+use Rattle.dli_calls.proofs.HoldLemmas.{held-exclusive, serves-mode_if}
 use Rattle.dli_calls.proofs.work.Work.holds.Goals as goal
 
 pub returns : goal.returns

@@ -1,4 +1,4 @@
-use Rattle.std.proofs.Common.{arith, ◌≡◌, [], length, replicate, map, ap, sym, ◌∙◌, subst, Bool, false}
+use Rattle.std.proofs.Common.{arith, ◌≡◌, [], length, replicate, map, ap, sym, ◌∙◌, subst}
 use Rattle.std.specs.List.{AllZip, AllByRecursion, list_any}
 use Rattle.fp_model.specs.FitCalls.{IsFitDeferred}
 use Rattle.fp_model.specs.declared.calls.Resource.TheVariants.{Segment}
