@@ -5,6 +5,8 @@ mod Kept
 mod Loads
 mod Lookups
 mod Names
+mod Publishing
 mod Queues
+mod Rooms
 mod Stagings
 mod Tables

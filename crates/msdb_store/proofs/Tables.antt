@@ -55,14 +55,14 @@ module _ {T : Type 0} (fields : T → List FieldDef) (msdb : T → Msdb) where
   belongs defs tables n t of at = belongs_at defs tables n t of.layouts of.each at
 
   -- with another table at a place, of the same fields and good
-  each_with : (defs : List MsdbDef) (tables : List T) (n : ℕ) (t : T) (def : MsdbDef) → slice_get defs n ≡ Some def → IsMsdbOf def (msdb t) → AllZip IsMsdbOf defs (map msdb tables) → AllZip IsMsdbOf defs (map msdb (slice_set tables n t))
+  pub each_with : (defs : List MsdbDef) (tables : List T) (n : ℕ) (t : T) (def : MsdbDef) → slice_get defs n ≡ Some def → IsMsdbOf def (msdb t) → AllZip IsMsdbOf defs (map msdb tables) → AllZip IsMsdbOf defs (map msdb (slice_set tables n t))
   each_with [] [] n t def at good each = tt
   each_with [] (x ∷ xs) n t def at good each = absurd each
   each_with (d ∷ ds) [] n t def at good each = absurd each
   each_with (d ∷ ds) (x ∷ xs) zero t def at good each = (subst (λ e. IsMsdbOf e (msdb t)) (sym (some_is d def at)) good, each.1)
   each_with (d ∷ ds) (x ∷ xs) (suc n) t def at good each = (each.0, each_with ds xs n t def at good each.1)
 
-  fields_with : (tables : List T) (n : ℕ) (old t : T) → slice_get tables n ≡ Some old → fields t ≡ fields old → map fields (slice_set tables n t) ≡ map fields tables
+  pub fields_with : (tables : List T) (n : ℕ) (old t : T) → slice_get tables n ≡ Some old → fields t ≡ fields old → map fields (slice_set tables n t) ≡ map fields tables
   fields_with [] n old t at same = refl
   fields_with (x ∷ xs) zero old t at same = ap (λ f. f ∷ map fields xs) (same ∙ ap fields (sym (some_is x old at)))
   fields_with (x ∷ xs) (suc n) old t at same = ap (λ fs. fields x ∷ fs) (fields_with xs n old t at same)

@@ -1,9 +1,10 @@
 -- What contracts see of a store of segments.
-use Rattle.std.specs.Prelude.{◌≡◌, ⊤, ℕ, ◌^◌, ◌-◌, min, List, [], ◌∷◌, map, Option, Some, None, slice_get}
+use Rattle.std.specs.Prelude.{◌≡◌, ⊤, ℕ, ◌^◌, ◌-◌, min, List, [], ◌∷◌, map, Option, Some, None, slice_get, Bool, find, is_none}
 use Rattle.std.specs.List.{AllZip}
 use Rattle.fp_model.specs.CheckpointText.{IsMsdbOf}
 use Rattle.fp_model.specs.Items.{FitsMsdb}
-use Rattle.fp_model.specs.State.{segment_of, segment_after}
+use Rattle.fp_model.specs.State.{key_of, segment_of, segment_after}
+use Rattle.fp_model.specs.Texts.{same_text}
 use Rattle.fp_model.specs.declared.database.Msdb.{Msdb}
 use Rattle.fp_model.specs.declared.log.Item.{Item}
 use Rattle.fp_model.specs.declared.log.Item.TheVariants.{Segment, Image}
@@ -15,6 +16,10 @@ pub record Stored : Type 0 where
   pub layouts : List (List FieldDef)
   pub msdbs : List Msdb
   pub spare : ℕ
+
+-- how many more elements there is room for, where 2^32 of them are too many
+abbrev pub room : ℕ → ℕ → ℕ
+room capacity count = min capacity (2 ^ 32 - 1) - count
 
 -- the least of some numbers that are below 2^32
 abbrev pub least : List ℕ → ℕ
@@ -48,3 +53,7 @@ found_after defs store number key = elim (slice_get defs number) [
 abbrev pub IsFitSegment : List MsdbDef → Item → Type 0
 IsFitSegment defs (Segment number key bytes) = (def : MsdbDef) × (slice_get defs number ≡ Some def) × FitsMsdb def key bytes
 IsFitSegment defs (Image set ci bytes) = ⊤
+
+-- whether segments lack the key of one
+abbrev pub lacks : List FieldDef → List (List ℕ) → List ℕ → Bool
+lacks fields segments segment = is_none (find (λ s. same_text (key_of fields s) (key_of fields segment)) segments)
