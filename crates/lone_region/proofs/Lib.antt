@@ -6,4 +6,5 @@ mod Plain
 mod Replies
 mod Results
 mod Steps
+mod Stores
 mod Transactions

@@ -21,7 +21,7 @@ use Rattle.fp_model.specs.MsdbCalls as msdbs
 use Rattle.fp_model.specs.State.{key_of, segment_of, segment_after}
 use Rattle.fp_model.specs.Texts.{same_text}
 use Rattle.fp_model.specs.Workspace.{Workspace}
-use Rattle.dli_calls.specs.Progress.{noted}
+use Rattle.lone_region.specs.Running.{noted}
 
 module _ (def : MsdbDef) (msdb : ℕ) (own : Workspace) where
   abbrev pub Keeps : Replied → Type 0

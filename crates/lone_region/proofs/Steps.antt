@@ -11,7 +11,7 @@ use Rattle.fp_model.specs.Programs.{Ask, Asks}
 use Rattle.fp_model.specs.Rules.{Rules}
 use Rattle.fp_model.specs.Serial.{Ended, Part, state_at, with_reply, after_call, begun, called, asked, goes, serial_run}
 use Rattle.fp_model.specs.Workspace.{Workspace}
-use Rattle.dli_calls.specs.Progress.{noted}
+use Rattle.lone_region.specs.Running.{noted}
 
 -- the state behind those past
 last_state : (start : Db) (past : List Db) (now : Db) → state_at start (past ++ now ∷ []) (length past) ≡ now

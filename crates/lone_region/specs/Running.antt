@@ -1,5 +1,5 @@
 -- A transaction that runs alone: on its way, and at the end of its script.
-use Rattle.std.specs.Prelude.{◌≡◌, ⊤, ℕ, suc, ◌+◌, ◌≤◌, List, [], ◌∷◌, ◌++◌, length, Some, slice_get, true}
+use Rattle.std.specs.Prelude.{◌≡◌, ⊤, ℕ, suc, ◌+◌, ◌≤◌, List, [], ◌∷◌, ◌++◌, length, Bool, true, if◌then◌else◌, Some, slice_get}
 use Rattle.std.specs.List.{AllByRecursion}
 use Rattle.fp_model.specs.declared.calls.Answer.{Answer}
 use Rattle.fp_model.specs.declared.calls.Message.{Message}
@@ -36,6 +36,10 @@ ComesTo defs scripts message msdbs from work answers =
     (past : List Db) (now : Db) → now.msdbs ≡ msdbs → length past ≡ from → (n : ℕ) (more : List ℕ)
     → goes (rules_of defs scripts) now (past ++ now ∷ []) message (length answers + n) (begun (rules_of defs scripts)) (work.notes ++ more)
     ≡ goes (rules_of defs scripts) now (past ++ now ∷ []) message n (record { answers = answers; own = work.own }) more
+
+-- the notes behind a call: one more, if it looks unheld
+abbrev pub noted : Bool → ℕ → List ℕ → List ℕ
+noted looks count notes = if looks then notes ++ count ∷ [] else notes
 
 -- what a run rests on: definitions of main storage databases alone, scripts that were read under them, and their store
 pub record IsReady (defs : Defs) (scripts : List Script) (store : Stored) : Type 0 where

@@ -1,7 +1,7 @@
 //! One transaction's script, run to its end on the databases as they stand. Each lock is gained as it is needed.
 ghost use Rattle.std.specs.List.{AllByRecursion};
 ghost use Rattle.std.specs.Prelude.{◌≡◌, ◌<◌, ℕ, [], IfNone, IfOk, IfSome, List as ListOf, None, OnOk, Some, if◌then◌else◌, length, slice_get};
-ghost use Rattle.dli_calls.specs.Progress.{IsWorkOf, held_in, noted};
+ghost use Rattle.dli_calls.specs.Progress.{IsWorkOf, held_in};
 ghost use Rattle.dli_calls.specs.Readiness.{needed_in};
 ghost use Rattle.fp_model.specs.Calls.{looks_unheld, reply_to};
 ghost use Rattle.fp_model.specs.FitCalls.{FitsAnswer, IsMsdbCall};
@@ -16,7 +16,7 @@ ghost use Rattle.fp_model.specs.declared.scripts.Script.{Script};
 ghost use Rattle.fp_model.specs.declared.calls.Message.{Message as MessageOf};
 ghost use Rattle.fp_model.specs.declared.database.Msdb.{Msdb};
 ghost use Rattle.fp_model.specs.declared.definitions.Defs.{Defs as DefsOf};
-ghost use Rattle.lone_region.specs.Running.{HasEnded, IsCheap, IsReady, IsStepped, IsUnderway};
+ghost use Rattle.lone_region.specs.Running.{HasEnded, IsCheap, IsReady, IsStepped, IsUnderway, noted};
 ghost use Rattle.dli_calls.specs.declared.answering.Ready.TheVariants as readies;
 ghost use Rattle.msdb_store.specs.Store.{IsOf};
 
