@@ -3,3 +3,5 @@ pub mod ShownLemmas
 pub mod SettingLemmas
 pub mod LessonLemmas
 pub mod PlaceLemmas
+pub mod TrimLemmas
+pub mod WordLemmas

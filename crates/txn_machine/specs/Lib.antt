@@ -1,5 +1,6 @@
 pub mod Alike
 pub mod Fit
+pub mod Giving
 pub mod Knowing
 pub mod Places
 pub mod Running

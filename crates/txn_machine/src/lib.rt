@@ -5,5 +5,7 @@ mod frame;
 mod known;
 mod program;
 mod shown;
+mod stop;
+mod values;
 
 pub use program::{Next, Program};
