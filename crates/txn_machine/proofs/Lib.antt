@@ -5,3 +5,4 @@ pub mod LessonLemmas
 pub mod PlaceLemmas
 pub mod TrimLemmas
 pub mod WordLemmas
+pub mod FieldLemmas

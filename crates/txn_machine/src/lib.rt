@@ -1,8 +1,11 @@
 //! Runs scripts: a program is a script on its way, and gives one call at a time.
 #![tactic(auto)]
 
+mod calls;
+mod fields;
 mod frame;
 mod known;
+mod operands;
 mod program;
 mod shown;
 mod stop;

@@ -156,8 +156,8 @@ fn product_text(alloc: Global, m: i128, n: i128) -> Result<Bytes, Stop>
     }
 }
 
-// The number that a text is, if it is one.
-fn number(text: &[u8]) -> Result<i128, Stop>
+/// The number that a text is, if it is one.
+pub(crate) fn number(text: &[u8]) -> Result<i128, Stop>
     ensures exact { Gives result (number_in text.now) }
     ensures small { IfOk result (λ n. unsigned_abs n < 10 ^ 31) }
 {

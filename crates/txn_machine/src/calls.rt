@@ -1,0 +1,207 @@
+//! Calls: what the statements that make them ask.
+ghost use Rattle.std.specs.Prelude.{◌≡◌, [], IfErr, IfOk, Some, length};
+ghost use Rattle.std.specs.List.{AllByRecursion};
+ghost use Rattle.fp_model.specs.declared.calls.Call.{Call};
+ghost use Rattle.fp_model.specs.declared.calls.Call.TheVariants as call;
+ghost use Rattle.fp_model.specs.Fsas.{IsFsa};
+ghost use Rattle.fp_model.specs.Programs as programs;
+ghost use Rattle.fp_model.specs.Programs.{filled, fsas_given, fld_call, get_call, isrt_call, new_type, repl_call, shown_on, ssa_of, ssas_of};
+ghost use Rattle.fld_calls.specs.Forms.{IsShort, forms};
+ghost use Rattle.txn_machine.specs.Giving.{Gives, GivesAs, Stops};
+ghost use Rattle.txn_machine.specs.Knowing.{env_of};
+
+use crate::fields::{empty_segment, field_of, layout_of, value_bytes, with_field};
+use crate::known::Known;
+use crate::stop::Stop;
+use fld_calls::{Fsa, write_list};
+use fp_model::{
+    Bytes, Call, Defs, FieldDef, FieldText, FsaText, Get, List, Operand, Ssa, SsaText,
+};
+
+// The number of the type that the last argument names; 0 where there is none.
+fn new_type(ssas: &[SsaText]) -> u8
+    ensures { result ≡ new_type ssas.now }
+{
+    match ssas {
+        [.., last] => last.segment,
+        [] => 0,
+    }
+}
+
+impl Known {
+    // A segment search argument with its key worked out.
+    fn ssa_of(&self, defs: &Defs, db: u8, ssa: &SsaText) -> Result<Ssa, Stop>
+        ensures { Gives result (ssa_of defs.now self.now.message (env_of self.now []) db ssa.now) }
+    {
+        let key = match &ssa.key {
+            Some(operand) => Some(self.key_text(defs, db, ssa.segment, operand)?),
+            None => None,
+        };
+        Ok(Ssa {
+            segment: ssa.segment,
+            key,
+        })
+    }
+
+    // Segment search arguments with their keys.
+    fn ssas_of(&self, defs: &Defs, db: u8, ssas: &[SsaText]) -> Result<List<Ssa>, Stop>
+        ensures { Gives result (ssas_of defs.now self.now.message (env_of self.now []) db ssas.now) }
+    {
+        let mut found = List::new(self.alloc);
+        for ssa in ssas {
+            found.push(self.ssa_of(defs, db, ssa)?)?;
+        }
+        Ok(found)
+    }
+
+    // A field search argument with its operand worked out.
+    fn fsa_of(&self, defs: &Defs, fsa: &FsaText) -> Result<Fsa, Stop>
+    {
+        Ok(Fsa {
+            field: fsa.field,
+            status: b' ',
+            op: fsa.op,
+            operand: self.text_of(defs, &fsa.operand)?,
+        })
+    }
+
+    // Field search arguments with their operands.
+    fn fsas_of(&self, defs: &Defs, fsas: &[FsaText]) -> Result<List<Fsa>, Stop>
+        ensures gives { GivesAs forms result (fsas_given defs.now self.now.message (env_of self.now []) fsas.now) }
+        ensures short { IfOk result (λ list. AllByRecursion IsShort list) }
+        ensures spelled { IfOk result (λ list. AllByRecursion IsFsa (forms list)) }
+    {
+        let mut given = List::new(self.alloc);
+        for fsa in fsas {
+            given.push(self.fsa_of(defs, fsa)?)?;
+        }
+        Ok(given)
+    }
+
+    // A segment with one value put into its field.
+    fn with_value(
+        &self,
+        defs: &Defs,
+        fields: &[FieldDef],
+        value: &FieldText,
+        segment: &Bytes,
+    ) -> Result<Bytes, Stop>
+    {
+        let field = field_of(fields, &value.field)?;
+        let text = self.text_of(defs, &value.value)?;
+        let bytes = value_bytes(self.alloc, &field, text.as_slice())?;
+        Ok(with_field(
+            self.alloc,
+            &field,
+            bytes.as_slice(),
+            segment.as_slice(),
+        )?)
+    }
+
+    // A segment with values put into its fields.
+    fn filled(
+        &self,
+        defs: &Defs,
+        fields: &[FieldDef],
+        values: &[FieldText],
+        segment: Bytes,
+    ) -> Result<Bytes, Stop>
+        ensures { Gives result (filled defs.now self.now.message (env_of self.now []) fields.now values.now segment) }
+    {
+        let mut segment = segment;
+        for value in values {
+            segment = self.with_value(defs, fields, value, &segment)?;
+        }
+        Ok(segment)
+    }
+
+    /// A get.
+    pub(crate) fn get_call(
+        &self,
+        defs: &Defs,
+        get: Get,
+        hold: bool,
+        db: u8,
+        ssas: &List<SsaText>,
+    ) -> Result<Call, Stop>
+        ensures { Gives result (get_call defs.now self.now.message (env_of self.now []) (call.Get get hold db) db ssas.now) }
+    {
+        let ssas = self.ssas_of(defs, db, ssas.as_slice())?;
+        Ok(Call::Get {
+            get,
+            hold,
+            db,
+            ssas,
+        })
+    }
+
+    /// A field call.
+    pub(crate) fn fld_call(
+        &self,
+        defs: &Defs,
+        db: u8,
+        key: &Operand,
+        fsas: &List<FsaText>,
+    ) -> Result<Call, Stop>
+        ensures { Gives result (fld_call defs.now self.now.message (env_of self.now []) db key.now fsas.now) }
+    {
+        let key = self.key_text(defs, db, 0, key)?;
+        let given = self.fsas_of(defs, fsas.as_slice())?;
+        let fsas = write_list(self.alloc, &given)?;
+        Ok(Call::Fld { db, key, fsas })
+    }
+
+    /// An insert.
+    pub(crate) fn isrt_call(
+        &self,
+        defs: &Defs,
+        db: u8,
+        ssas: &List<SsaText>,
+        fields: &List<FieldText>,
+    ) -> Result<Call, Stop>
+        ensures { Gives result (isrt_call defs.now self.now.message (env_of self.now []) db ssas.now fields.now) }
+    {
+        let found = self.ssas_of(defs, db, ssas.as_slice())?;
+        let layout = layout_of(defs, db, new_type(ssas.as_slice()))?;
+        let segment = empty_segment(self.alloc, layout.fields)?;
+        let bytes = self.filled(defs, layout.fields, fields.as_slice(), segment)?;
+        Ok(Call::Isrt {
+            db,
+            ssas: found,
+            bytes,
+        })
+    }
+
+    /// A replacement.
+    pub(crate) fn repl_call(
+        &self,
+        defs: &Defs,
+        db: u8,
+        fields: &List<FieldText>,
+    ) -> Result<Call, Stop>
+        ensures { Gives result (repl_call defs.now self.now.message (env_of self.now []) db fields.now) }
+    {
+        let Some(shown) = self.shown_on(db) else {
+            return Err(Stop::NoValue);
+        };
+        let layout = layout_of(defs, db, shown.segment)?;
+        let bytes = shown.bytes.copy()?;
+        let bytes = self.filled(defs, layout.fields, fields.as_slice(), bytes)?;
+        Ok(Call::Repl { db, bytes })
+    }
+
+    // The segment that the last successful get on a database showed.
+    fn shown_on(&self, db: u8) -> Option<&Shown>
+    {
+        let Some(gets) = &self.gets else {
+            return None;
+        };
+        if gets.db == db {
+            return Some(&gets.newest);
+        }
+        match gets.older.get(usize::from(db)) {
+            Some(Some(shown)) => Some(shown),
+            _ => None,
+        }
+    }
+}
