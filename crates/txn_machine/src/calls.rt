@@ -1,30 +1,47 @@
 //! Calls: what the statements that make them ask.
-ghost use Rattle.std.specs.Prelude.{◌≡◌, [], IfErr, IfOk, Some, length};
+ghost use Rattle.std.specs.Prelude.{◌≡◌, ◌≤◌, [], length, IfErr, IfOk, MatchOption, None, Some};
 ghost use Rattle.std.specs.List.{AllByRecursion};
-ghost use Rattle.fp_model.specs.declared.calls.Call.{Call};
 ghost use Rattle.fp_model.specs.declared.calls.Call.TheVariants as call;
+ghost use Rattle.fp_model.specs.declared.calls.Message.{Message};
+ghost use Rattle.fp_model.specs.declared.definitions.Defs.{Defs};
 ghost use Rattle.fp_model.specs.Fsas.{IsFsa};
-ghost use Rattle.fp_model.specs.Programs as programs;
-ghost use Rattle.fp_model.specs.Programs.{filled, fsas_given, fld_call, get_call, isrt_call, new_type, repl_call, shown_on, ssa_of, ssas_of};
-ghost use Rattle.fld_calls.specs.Forms.{IsShort, forms};
+ghost use Rattle.fp_model.specs.Programs.{filled, fsas_given, fld_call, get_call, isrt_call, layout_of, new_type, repl_call, shown_on, ssa_of, ssas_of};
+ghost use Rattle.fld_calls.specs.Forms.{IsShort, form_of, forms};
+ghost use Rattle.txn_machine.specs.Filling.{fsa_given, with_value};
 ghost use Rattle.txn_machine.specs.Giving.{Gives, GivesAs, Stops};
-ghost use Rattle.txn_machine.specs.Knowing.{env_of};
+ghost use Rattle.txn_machine.specs.Knowing.{env_of, segment_on};
 
-use crate::fields::{empty_segment, field_of, layout_of, value_bytes, with_field};
+use crate::fields::{Layout, empty_segment, field_of, layout_of, value_bytes, with_field};
 use crate::known::Known;
+use crate::shown::Shown;
 use crate::stop::Stop;
 use fld_calls::{Fsa, write_list};
 use fp_model::{
-    Bytes, Call, Defs, FieldDef, FieldText, FsaText, Get, List, Operand, Ssa, SsaText,
+    Bytes, Call, Defs, FieldDef, FieldText, FsaText, Get, List, Name, Operand, Ssa, SsaText,
 };
 
 // The number of the type that the last argument names; 0 where there is none.
 fn new_type(ssas: &[SsaText]) -> u8
-    ensures { result ≡ new_type ssas.now }
+    ensures { (defs : Defs) (message : Message) → result ≡ new_type defs message ssas.now }
 {
     match ssas {
         [.., last] => last.segment,
         [] => 0,
+    }
+}
+
+// A field search argument that has no answer yet.
+fn unanswered(field: Name, op: u8, operand: Bytes) -> Fsa
+    requires { length operand ≤ 1024 }
+    ensures form { form_of result ≡ record { field = field.0; status = 32; op = op; operand = operand } }
+    ensures short { IsShort result }
+    ensures spelled { IsFsa (form_of result) }
+{
+    Fsa {
+        field,
+        status: b' ',
+        op,
+        operand,
     }
 }
 
@@ -56,13 +73,12 @@ impl Known {
 
     // A field search argument with its operand worked out.
     fn fsa_of(&self, defs: &Defs, fsa: &FsaText) -> Result<Fsa, Stop>
+        ensures gives { GivesAs form_of result (fsa_given defs.now self.now.message (env_of self.now []) fsa.now) }
+        ensures short { IfOk result (λ fsa. IsShort fsa) }
+        ensures spelled { IfOk result (λ fsa. IsFsa (form_of fsa)) }
     {
-        Ok(Fsa {
-            field: fsa.field,
-            status: b' ',
-            op: fsa.op,
-            operand: self.text_of(defs, &fsa.operand)?,
-        })
+        let operand = self.text_of(defs, &fsa.operand)?;
+        Ok(unanswered(fsa.field, fsa.op, operand))
     }
 
     // Field search arguments with their operands.
@@ -86,19 +102,16 @@ impl Known {
         value: &FieldText,
         segment: &Bytes,
     ) -> Result<Bytes, Stop>
+        ensures { Gives result (with_value defs.now self.now.message (env_of self.now []) fields.now value.now segment.now) }
     {
         let field = field_of(fields, &value.field)?;
         let text = self.text_of(defs, &value.value)?;
         let bytes = value_bytes(self.alloc, &field, text.as_slice())?;
-        Ok(with_field(
-            self.alloc,
-            &field,
-            bytes.as_slice(),
-            segment.as_slice(),
-        )?)
+        Ok(with_field(self.alloc, &field, bytes.as_slice(), segment.as_slice())?)
     }
 
     // A segment with values put into its fields.
+    #[tactic(auto, using(crate::proofs::FieldLemmas::filled_none, crate::proofs::FieldLemmas::filled_more))]
     fn filled(
         &self,
         defs: &Defs,
@@ -151,6 +164,15 @@ impl Known {
         Ok(Call::Fld { db, key, fsas })
     }
 
+    // The segment type that an insert names.
+    fn new_layout<'a>(&self, defs: &'a Defs, db: u8, ssas: &[SsaText]) -> Result<Layout<'a>, Stop>
+        ensures ok { IfOk result (λ layout. layout_of defs.now db (new_type defs.now self.now.message ssas.now)
+            ≡ Some (record { fields = layout.fields.now; has_key = layout.has_key })) }
+        ensures err { IfErr result (λ e. Stops e (layout_of defs.now db (new_type defs.now self.now.message ssas.now))) }
+    {
+        layout_of(defs, db, new_type(ssas))
+    }
+
     /// An insert.
     pub(crate) fn isrt_call(
         &self,
@@ -162,7 +184,7 @@ impl Known {
         ensures { Gives result (isrt_call defs.now self.now.message (env_of self.now []) db ssas.now fields.now) }
     {
         let found = self.ssas_of(defs, db, ssas.as_slice())?;
-        let layout = layout_of(defs, db, new_type(ssas.as_slice()))?;
+        let layout = self.new_layout(defs, db, ssas.as_slice())?;
         let segment = empty_segment(self.alloc, layout.fields)?;
         let bytes = self.filled(defs, layout.fields, fields.as_slice(), segment)?;
         Ok(Call::Isrt {
@@ -192,16 +214,11 @@ impl Known {
 
     // The segment that the last successful get on a database showed.
     fn shown_on(&self, db: u8) -> Option<&Shown>
+        ensures { MatchOption result (shown_on db (env_of self.now []) ≡ None) (λ shown. shown_on db (env_of self.now []) ≡ Some (segment_on db shown.now)) }
     {
-        let Some(gets) = &self.gets else {
-            return None;
-        };
-        if gets.db == db {
-            return Some(&gets.newest);
-        }
-        match gets.older.get(usize::from(db)) {
-            Some(Some(shown)) => Some(shown),
-            _ => None,
+        match &self.gets {
+            Some(gets) => gets.on(db),
+            None => None,
         }
     }
 }

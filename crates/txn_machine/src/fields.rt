@@ -84,7 +84,10 @@ fn behind(bytes: &[u8], count: usize) -> &[u8]
 pub(crate) fn field_bytes<'a>(field: &FieldDef, segment: &'a [u8]) -> &'a [u8]
     ensures { result.now ≡ field_bytes field.now segment.now }
 {
-    front(behind(segment, usize::from(field.at)), usize::from(field.length))
+    front(
+        behind(segment, usize::from(field.at)),
+        usize::from(field.length),
+    )
 }
 
 /// A segment with other bytes in a field. Fails only for want of memory.

@@ -1,5 +1,5 @@
 //! Operands, and what statements make of them.
-ghost use Rattle.std.specs.Prelude.{◌≡◌, [], IfOk, map};
+ghost use Rattle.std.specs.Prelude.{◌≡◌, ◌≤◌, [], IfOk, length, map};
 ghost use Rattle.std.specs.List.{list_all};
 ghost use Rattle.fp_model.specs.Programs.{chosen, joined_texts, key_text, reply_text, set_text, short_enough, shown_field, shown_letter, text_of};
 ghost use Rattle.fp_model.specs.Texts.{is_printable};
@@ -21,7 +21,8 @@ const LONGEST_REPLY: usize = 1000;
 
 // A copy of a text, if it may be a value.
 fn copied(alloc: Global, text: &[u8]) -> Result<Bytes, Stop>
-    ensures { Gives result (short_enough text.now) }
+    ensures gives { Gives result (short_enough text.now) }
+    ensures small { IfOk result (λ text. length text ≤ 1024) }
 {
     if text.len() > LONGEST_VALUE {
         return Err(Stop::NoValue);
@@ -31,7 +32,8 @@ fn copied(alloc: Global, text: &[u8]) -> Result<Bytes, Stop>
 
 // A text itself, if it may be a value.
 fn short(text: Bytes) -> Result<Bytes, Stop>
-    ensures { Gives result (short_enough text) }
+    ensures gives { Gives result (short_enough text) }
+    ensures small { IfOk result (λ text. length text ≤ 1024) }
 {
     if text.len() > LONGEST_VALUE {
         return Err(Stop::NoValue);
@@ -83,7 +85,8 @@ impl Known {
 
     /// The text of an operand.
     pub(crate) fn text_of(&self, defs: &Defs, operand: &Operand) -> Result<Bytes, Stop>
-        ensures { Gives result (text_of defs.now self.now.message (env_of self.now []) operand.now) }
+        ensures small { IfOk result (λ text. length text ≤ 1024) }
+        ensures gives { Gives result (text_of defs.now self.now.message (env_of self.now []) operand.now) }
     {
         let alloc = self.alloc;
         match operand {
