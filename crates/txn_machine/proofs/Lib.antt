@@ -6,3 +6,5 @@ pub mod PlaceLemmas
 pub mod TrimLemmas
 pub mod WordLemmas
 pub mod FieldLemmas
+pub mod WorkLemmas
+pub mod EndLemmas

@@ -5,3 +5,4 @@ pub mod Giving
 pub mod Knowing
 pub mod Places
 pub mod Running
+pub mod Work

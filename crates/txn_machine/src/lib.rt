@@ -3,9 +3,9 @@
 
 mod calls;
 mod fields;
-mod frame;
 mod known;
 mod operands;
+mod place;
 mod program;
 mod shown;
 mod stop;

@@ -13,8 +13,8 @@ ghost use Rattle.fp_model.specs.FitCalls.{FitsAnswer, are_fit};
 ghost use Rattle.fp_model.specs.WellFormed.{IsMsdbDef};
 ghost use Rattle.txn_machine.specs.Running.{Awaits, IsAsked, IsAt, IsFit, IsFitNext, IsWaiting, WaitsFor};
 
-use crate::frame::Frame;
 use crate::known::{Known, Lesson};
+use crate::place::Place;
 use fp_model::{Answer, Bytes, Call, Defs, List, Message};
 use std::alloc::{AllocError, Global};
 use txn_lang::Scripts;
@@ -38,14 +38,11 @@ pub(crate) struct Wait {
 }
 
 /// A script on its way: where it is, and what it knows.
-///
-/// The blocks that it is in stand as frames, the outermost first; the place is one in the innermost.
 #[derive(Debug, Drop)]
 pub struct Program {
     /// The number of the script.
     number: u32,
-    frames: List<Frame>,
-    place: usize,
+    place: Place,
     known: Known,
     /// The call that was given last, if it has no answer yet.
     wait: Option<Wait>,
@@ -68,8 +65,10 @@ impl Program {
     {
         Ok(Program {
             number,
-            frames: List::new(alloc),
-            place: 0,
+            place: Place {
+                frames: List::new(alloc),
+                at: 0,
+            },
             known: Known::new(alloc, message)?,
             wait: None,
         })
@@ -124,7 +123,7 @@ impl Program {
         let Some(wait) = self.wait.take() else {
             unreachable!()
         };
-        self.place = wait.behind;
+        self.place.at = wait.behind;
         self.known.learn(wait.lesson, answer);
     }
 }
