@@ -1,4 +1,5 @@
 pub mod Alike
+pub mod Doing
 pub mod Filling
 pub mod Fit
 pub mod Giving

@@ -1,10 +1,10 @@
 //! Calls: what the statements that make them ask.
-ghost use Rattle.std.specs.Prelude.{◌≡◌, ◌≤◌, [], length, IfErr, IfOk, MatchOption, None, Some};
+ghost use Rattle.std.specs.Prelude.{◌≡◌, ◌≤◌, [], length, List, IfErr, IfOk, MatchOption, None, Some};
 ghost use Rattle.std.specs.List.{AllByRecursion};
 ghost use Rattle.fp_model.specs.declared.calls.Call.TheVariants as call;
 ghost use Rattle.fp_model.specs.declared.calls.Message.{Message};
 ghost use Rattle.fp_model.specs.declared.definitions.Defs.{Defs};
-ghost use Rattle.fp_model.specs.Fsas.{IsFsa};
+ghost use Rattle.fp_model.specs.Fsas.{Fsa as Argument, IsFsa};
 ghost use Rattle.fp_model.specs.Programs.{filled, fsas_given, fld_call, get_call, isrt_call, layout_of, new_type, repl_call, shown_on, ssa_of, ssas_of};
 ghost use Rattle.fld_calls.specs.Forms.{IsShort, form_of, forms};
 ghost use Rattle.txn_machine.specs.Filling.{fsa_given, with_value};
@@ -156,7 +156,10 @@ impl Known {
         key: &Operand,
         fsas: &List<FsaText>,
     ) -> Result<Call, Stop>
-        ensures { Gives result (fld_call defs.now self.now.message (env_of self.now []) db key.now fsas.now) }
+        ensures gives { Gives result (fld_call defs.now self.now.message (env_of self.now []) db key.now fsas.now) }
+        ensures spelled { IfOk result (λ asked. (list : List Argument)
+            → fsas_given defs.now self.now.message (env_of self.now []) fsas.now ≡ Some list
+            → AllByRecursion IsFsa list) }
     {
         let key = self.key_text(defs, db, 0, key)?;
         let given = self.fsas_of(defs, fsas.as_slice())?;

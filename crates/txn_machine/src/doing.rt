@@ -1,7 +1,7 @@
 //! What a statement does, by what the program knows.
-ghost use Rattle.std.specs.Prelude.{IfErr, IfOk};
-ghost use Rattle.fp_model.specs.declared.scripts.Statement.TheOpen as statement;
-ghost use Rattle.txn_machine.specs.Doing.{Does, DoesNothing};
+ghost use Rattle.std.specs.Prelude.{◌≡◌, IfOk};
+ghost use Rattle.fp_model.specs.declared.scripts.Statement.{out-Statement};
+ghost use Rattle.txn_machine.specs.Doing.{Does, IsCall, Spells, Tries, deed_of_loop};
 
 use crate::known::Known;
 use crate::stop::Stop;
@@ -32,11 +32,22 @@ pub(crate) enum Deed {
     Ask(Call),
 }
 
+// A loop: it runs once, and the other times more.
+fn repeated(times: u32) -> Deed
+    ensures { result ≡ deed_of_loop times }
+{
+    if times == 0 {
+        Deed::Pass
+    } else {
+        Deed::Repeat(times - 1)
+    }
+}
+
 impl Known {
     // What a statement does, where its values are there.
     fn tried(&self, defs: &Defs, statement: &Statement) -> Result<Deed, Stop>
-        ensures ok { IfOk result (λ did. Does defs.now self.now statement.now did) }
-        ensures err { IfErr result (λ e. StopsAt e defs.now self.now statement.now) }
+        ensures does { Tries defs.now self.now statement.now result }
+        ensures spelled { IfOk result (λ did. Spells defs.now self.now (out-Statement statement.now)) }
     {
         match statement {
             Statement::Set {
@@ -59,7 +70,32 @@ impl Known {
             Statement::Break => Ok(Deed::Leave),
             Statement::Reply(operands) => Ok(Deed::Reply(self.reply_text(defs, operands)?)),
             Statement::Roll(code) => Ok(Deed::Roll(*code)),
-            _ => Ok(Deed::Ask(self.call(defs, statement)?)),
+            Statement::Get {
+                get,
+                hold,
+                db,
+                ssas,
+            } => Ok(Deed::Ask(self.get_call(defs, *get, *hold, *db, ssas)?)),
+            Statement::Fld { db, key, fsas } => {
+                Ok(Deed::Ask(self.fld_call(defs, *db, key, fsas)?))
+            }
+            Statement::Isrt { db, ssas, fields } => {
+                Ok(Deed::Ask(self.isrt_call(defs, *db, ssas, fields)?))
+            }
+            Statement::Repl { db, fields } => Ok(Deed::Ask(self.repl_call(defs, *db, fields)?)),
+            Statement::Dlet { db } => Ok(Deed::Ask(Call::Dlet { db: *db })),
+        }
+    }
+
+    /// What a statement does. It ends the script with code 99 where there is no value. Fails only for want of memory.
+    pub(crate) fn deed(&self, defs: &Defs, statement: &Statement) -> Result<Deed, AllocError>
+        ensures does { IfOk result (λ did. Does defs.now self.now statement.now did) }
+        ensures spelled { IfOk result (λ did. IsCall did → Spells defs.now self.now (out-Statement statement.now)) }
+    {
+        match self.tried(defs, statement) {
+            Ok(did) => Ok(did),
+            Err(Stop::NoValue) => Ok(Deed::Roll(NO_VALUE)),
+            Err(Stop::Memory) => Err(AllocError),
         }
     }
 }

@@ -2,6 +2,7 @@
 #![tactic(auto)]
 
 mod calls;
+mod doing;
 mod fields;
 mod known;
 mod operands;
