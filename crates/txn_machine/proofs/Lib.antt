@@ -8,3 +8,4 @@ pub mod WordLemmas
 pub mod FieldLemmas
 pub mod WorkLemmas
 pub mod EndLemmas
+pub mod StatementLemmas

@@ -6,4 +6,5 @@ pub mod Giving
 pub mod Knowing
 pub mod Places
 pub mod Running
+pub mod Stepping
 pub mod Work

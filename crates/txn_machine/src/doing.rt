@@ -2,6 +2,7 @@
 ghost use Rattle.std.specs.Prelude.{◌≡◌, IfOk};
 ghost use Rattle.fp_model.specs.declared.scripts.Statement.{out-Statement};
 ghost use Rattle.txn_machine.specs.Doing.{Does, IsCall, Spells, Tries, deed_of_loop};
+ghost use Rattle.txn_machine.specs.Stepping.{Costs};
 
 use crate::known::Known;
 use crate::stop::Stop;
@@ -47,6 +48,7 @@ impl Known {
     // What a statement does, where its values are there.
     fn tried(&self, defs: &Defs, statement: &Statement) -> Result<Deed, Stop>
         ensures does { Tries defs.now self.now statement.now result }
+        ensures costs { IfOk result (λ did. Costs statement.now did) }
         ensures spelled { IfOk result (λ did. Spells defs.now self.now (out-Statement statement.now)) }
     {
         match statement {
@@ -90,6 +92,7 @@ impl Known {
     /// What a statement does. It ends the script with code 99 where there is no value. Fails only for want of memory.
     pub(crate) fn deed(&self, defs: &Defs, statement: &Statement) -> Result<Deed, AllocError>
         ensures does { IfOk result (λ did. Does defs.now self.now statement.now did) }
+        ensures costs { IfOk result (λ did. Costs statement.now did) }
         ensures spelled { IfOk result (λ did. IsCall did → Spells defs.now self.now (out-Statement statement.now)) }
     {
         match self.tried(defs, statement) {

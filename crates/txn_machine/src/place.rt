@@ -1,5 +1,5 @@
 //! Where a program is in its script.
-ghost use Rattle.std.specs.Prelude.{◌≡◌, ◌≢◌, ◌<◌, ◌++◌, ◌∷◌, [], if◌then◌else◌, IsFalse, IsTrue, List, MatchOption};
+ghost use Rattle.std.specs.Prelude.{◌≡◌, ◌≢◌, ◌<◌, ◌++◌, ◌∷◌, [], if◌then◌else◌, IsFalse, IsTrue, List, MatchOption, OnErr, OnOk};
 ghost use Rattle.fp_model.specs.declared.calls.Message.{Message};
 ghost use Rattle.fp_model.specs.declared.definitions.Defs.{Defs};
 ghost use Rattle.fp_model.specs.declared.scripts.Statement.{Statement, out-Statement};
@@ -9,7 +9,7 @@ ghost use Rattle.txn_machine.specs.Places.{around, choice_in, end_from, inner, l
 ghost use Rattle.txn_machine.specs.Work.{work};
 
 use fp_model::{List, Statement};
-use std::alloc::{AllocError, Global};
+use std::alloc::AllocError;
 
 /// An open block: the place behind the statement that opened it, in the block around it, and what it is there.
 #[derive(Clone, Copy, Debug)]
@@ -130,7 +130,7 @@ impl Place {
         }
     }
 
-    // Behind the innermost block. False where no block is open: then the script is at its end.
+    /// Behind the innermost block. False where no block is open: then the script is at its end.
     pub(crate) fn end_block(&mut self) -> bool
         ensures leads { (defs : Defs) (message : Message) (statements : List Statement) (env : Env)
             → ended (around defs message self.old.frames statements (Goes env)) ≡ (if result then end_from defs message statements self.new env else Replies []) }
@@ -144,6 +144,17 @@ impl Place {
             }
             None => false,
         }
+    }
+
+    /// Into a block of the innermost one. After want of memory the place is as before.
+    pub(crate) fn enter(&mut self, frame: Frame) -> Result<(), AllocError>
+        ensures ok { OnOk result (self.new.frames ≡ self.old.frames ++ frame ∷ []) }
+        ensures at { OnOk result (self.new.at ≡ 0) }
+        ensures err { OnErr result (self.new ≡ self.old) }
+    {
+        self.frames.push(frame)?;
+        self.at = 0;
+        Ok(())
     }
 
     /// Behind the innermost loop. False where none is open: then the script is at its end.

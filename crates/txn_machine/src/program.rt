@@ -1,5 +1,5 @@
 //! A script that runs.
-ghost use Rattle.std.specs.Prelude.{◌≡◌, ◌<◌, ◌++◌, ◌∷◌, [], ℕ, List, length, true, Some, IfOk, slice_get};
+ghost use Rattle.std.specs.Prelude.{◌≡◌, ◌<◌, ◌++◌, ◌∷◌, [], ℕ, List, length, ◌+◌, true, None, Some, IfOk, IfSome, OnErr, OnOk, slice_get};
 ghost use Rattle.std.specs.List.{AllByRecursion};
 ghost use Rattle.fp_model.specs.declared.definitions.Defs.{Defs};
 ghost use Rattle.fp_model.specs.declared.definitions.MsdbDef.{MsdbDef};
@@ -11,11 +11,15 @@ ghost use Rattle.fp_model.specs.declared.scripts.Script.{Script};
 ghost use Rattle.fp_model.specs.Programs.{ask};
 ghost use Rattle.fp_model.specs.FitCalls.{FitsAnswer, are_fit};
 ghost use Rattle.fp_model.specs.WellFormed.{IsMsdbDef};
-ghost use Rattle.txn_machine.specs.Running.{Awaits, IsAsked, IsAt, IsFit, IsFitNext, IsWaiting, WaitsFor};
+ghost use Rattle.txn_machine.specs.Running.{Awaits, IsAsked, IsAt, IsFit, IsFitNext, IsWaiting, StandsAtCall, WaitsFor, end_of};
+ghost use Rattle.txn_machine.specs.Knowing.{env_of, lesson_of, segments_of};
+ghost use Rattle.txn_machine.specs.Stepping.{ComesAlike, IsDeed, IsGivenBy};
+ghost use Rattle.txn_machine.specs.Work.{work};
 
+use crate::doing::Deed;
 use crate::known::{Known, Lesson};
-use crate::place::Place;
-use fp_model::{Answer, Bytes, Call, Defs, List, Message};
+use crate::place::{Frame, Place, block_at};
+use fp_model::{Answer, Bytes, Call, Defs, List, Message, Statement};
 use std::alloc::{AllocError, Global};
 use txn_lang::Scripts;
 
@@ -46,6 +50,17 @@ pub struct Program {
     known: Known,
     /// The call that was given last, if it has no answer yet.
     wait: Option<Wait>,
+}
+
+// What the answer to a call is good for, beside its status.
+fn lesson_of(asked: &Call) -> Lesson
+    ensures { result ≡ lesson_of asked.now }
+{
+    match asked {
+        Call::Get { db, .. } => Lesson::Segment(*db),
+        Call::Fld { .. } => Lesson::Letters,
+        Call::Isrt { .. } | Call::Repl { .. } | Call::Dlet { .. } => Lesson::Nothing,
+    }
 }
 
 impl Program {
@@ -102,7 +117,104 @@ impl Program {
             → IfOk result (λ next. IsFitNext defs.now.msdbs next) }
         ensures fit { (msdbs : List MsdbDef) → IsFit msdbs self.old → IsFit msdbs self.new }
     {
-        Err(AllocError)
+        self.wait = None;
+        let statements = scripts.script(self.number).statements.as_slice();
+        loop {
+            if let Some(next) = self.step(statements, defs)? {
+                return Ok(next);
+            }
+        }
+    }
+
+    // The reply of a script that ends without one.
+    fn end(&self) -> Next
+        ensures { result ≡ Next.Reply [] }
+    {
+        Next::Reply(Bytes::new(self.known.alloc))
+    }
+
+    // Gives a call, and waits for its answer. After want of memory it waits for none.
+    fn ask(&mut self, asked: Call, behind: usize) -> Result<Next, AllocError>
+        ensures number { self.new.number ≡ self.old.number }
+        ensures place { self.new.place ≡ self.old.place }
+        ensures env { (answers : List Answer) → env_of self.new.known answers ≡ env_of self.old.known answers }
+        ensures message { self.new.known.message ≡ self.old.known.message }
+        ensures call { IfOk result (λ next. next ≡ Next.Call asked) }
+        ensures waits { OnOk result (WaitsFor asked self.new) }
+        ensures wait { OnOk result (self.new.wait ≡ Some (record { behind = behind; lesson = lesson_of asked })) }
+        ensures none { OnErr result (self.new.wait ≡ self.old.wait) }
+    {
+        self.known.make_place()?;
+        self.wait = Some(Wait {
+            behind,
+            lesson: lesson_of(&asked),
+        });
+        Ok(Next::Call(asked))
+    }
+
+    // Does what the statement at the place does. What the script gives, where it gives something there.
+    fn act(&mut self, deed: Deed, behind: usize) -> Result<Option<Next>, AllocError>
+        requires behind { behind ≡ self.old.place.at + 1 }
+        requires none { self.old.wait ≡ None }
+        ensures number { self.new.number ≡ self.old.number }
+        ensures alike { (defs : Defs) (statements : List Statement) → IsDeed defs statements self.old deed → ComesAlike defs statements self.old self.new }
+        ensures asked { (defs : Defs) (statements : List Statement) → IsDeed defs statements self.old deed
+            → IfOk result (λ given. IfSome given (λ next. IsAsked next (end_of defs statements self.old.known.message self.old []))) }
+        ensures call { (defs : Defs) (statements : List Statement) → IsDeed defs statements self.old deed
+            → IfSome self.new.wait (StandsAtCall defs statements self.new) }
+        ensures less { (defs : Defs) (statements : List Statement) → IsDeed defs statements self.old deed
+            → IfOk result (λ given. given ≡ None → work statements self.new.place < work statements self.old.place) }
+        ensures open { IfOk result (λ given. given ≡ None → self.new.wait ≡ None) }
+        ensures waits { IfOk result (λ given. IfSome given (λ next. Awaits next self.new)) }
+        ensures shown { segments_of self.new.known.gets ≡ segments_of self.old.known.gets }
+        ensures given { IfOk result (λ given. IfSome given (IsGivenBy deed)) }
+    {
+        match deed {
+            Deed::Set(name, text) => {
+                self.known.set(name, text)?;
+                self.place.at = behind;
+            }
+            Deed::Pass => self.place.at = behind,
+            Deed::Choose(holds) => self.place.enter(Frame::Choice { behind, holds })?,
+            Deed::Repeat(left) => self.place.enter(Frame::Loop { behind, left })?,
+            Deed::Leave => {
+                if !self.place.leave_loop() {
+                    return Ok(Some(self.end()));
+                }
+            }
+            Deed::Reply(text) => return Ok(Some(Next::Reply(text))),
+            Deed::Roll(code) => return Ok(Some(Next::Roll(code))),
+            Deed::Ask(asked) => return Ok(Some(self.ask(asked, behind)?)),
+        }
+        Ok(None)
+    }
+
+    // One step: a statement, or the end of a block. What the script gives, where it gives something there.
+    fn step(
+        &mut self,
+        statements: &[Statement],
+        defs: &Defs,
+    ) -> Result<Option<Next>, AllocError>
+        requires { self.old.wait ≡ None }
+        ensures number { self.new.number ≡ self.old.number }
+        ensures alike { ComesAlike defs.now statements.now self.old self.new }
+        ensures asked { IfOk result (λ given. IfSome given (λ next. IsAsked next (end_of defs.now statements.now self.old.known.message self.old []))) }
+        ensures call { IfSome self.new.wait (StandsAtCall defs.now statements.now self.new) }
+        ensures less { IfOk result (λ given. given ≡ None → work statements.now self.new.place < work statements.now self.old.place) }
+        ensures open { IfOk result (λ given. given ≡ None → self.new.wait ≡ None) }
+        ensures waits { IfOk result (λ given. IfSome given (λ next. Awaits next self.new)) }
+        ensures shown { segments_of self.new.known.gets ≡ segments_of self.old.known.gets }
+    {
+        let block = block_at(statements, self.place.frames.as_slice());
+        if self.place.at < block.len() {
+            let behind = self.place.at + 1;
+            let deed = self.known.deed(defs, &block[self.place.at])?;
+            return self.act(deed, behind);
+        }
+        if self.place.end_block() {
+            return Ok(None);
+        }
+        Ok(Some(self.end()))
     }
 
     /// Takes the answer to the call that `next` gave last. Takes no memory.
