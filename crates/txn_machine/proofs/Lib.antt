@@ -9,3 +9,4 @@ pub mod FieldLemmas
 pub mod WorkLemmas
 pub mod EndLemmas
 pub mod StatementLemmas
+pub mod ActLemmas

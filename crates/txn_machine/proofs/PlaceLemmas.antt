@@ -1,12 +1,13 @@
 -- Blocks in blocks: one more, and what stands around an end.
-use Rattle.std.proofs.Common.{◌≡◌, ◌∙◌, refl, sym, ap, subst, ℕ, zero, suc, ◌+◌, List, [], ◌∷◌, ◌++◌, map, drop, append_assoc, Bool, true, false, Option, Some, None}
+use Rattle.std.proofs.Common.{◌≡◌, ◌∙◌, refl, sym, ap, subst, ℕ, zero, suc, ◌+◌, List, [], ◌∷◌, ◌++◌, map, drop, append_assoc, length, arith, Bool, true, false, Option, Some, None}
 use Rattle.std.specs.Prelude.{IfSome}
+use Rattle.std.proofs.lemmas.List.{drop_all}
 use Rattle.fp_model.specs.declared.calls.Message.{Message}
 use Rattle.fp_model.specs.declared.calls.Answer.{Answer}
 use Rattle.fp_model.specs.declared.calls.Call.{Call}
 use Rattle.fp_model.specs.declared.definitions.Defs.{Defs}
 use Rattle.fp_model.specs.declared.scripts.Statement.{Statement}
-use Rattle.fp_model.specs.Programs.{Env, Way, Goes, Leaves, Ends, Ask, ask, ended, goes_on, called, learned}
+use Rattle.fp_model.specs.Programs.{Env, Way, Goes, Leaves, Ends, Ask, ask, ended, goes_on, in_order, run, called, learned}
 use Rattle.txn_machine.specs.declared.place.Frame.{Frame}
 use Rattle.txn_machine.specs.declared.place.Frame.TheVariants as frame
 use Rattle.txn_machine.specs.declared.known.Known.{Known}
@@ -97,3 +98,11 @@ module _ (defs : Defs) (message : Message) where
       ap (λ (fs : List Frame). around defs message fs statements (Leaves env)) (is ∙ ap (λ (g : Frame). new.frames ++ g ∷ []) kind)
       ∙ around_push defs message new.frames (frame.Loop behind left) statements (Leaves env)
       ∙ ap (λ (place : ℕ). around defs message new.frames statements (from_place defs message place (block_at new.frames statements) env)) (sym at)
+
+  -- and without a loop the script is at its end
+  pub left_all : (statements : List Statement) (old new : List Frame) (end : ℕ) (env : Env) → old ≡ [] → new ≡ [] → end ≡ length statements
+      → ended (around defs message old statements (Leaves env)) ≡ end_from defs message statements (record { frames = new; at = end }) env
+  left_all statements old new end env none empty is =
+      ap (λ (fs : List Frame). ended (around defs message fs statements (Leaves env))) none
+      ∙ sym (ap (λ (rest : List Statement). ended (in_order (map (run defs message) rest) env)) (drop_all end statements (omega arith)))
+      ∙ ap (λ (fs : List Frame). end_from defs message statements (record { frames = fs; at = end }) env) (sym empty)

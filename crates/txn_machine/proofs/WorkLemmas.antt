@@ -1,6 +1,13 @@
 -- Each step leaves less to do.
-use Rattle.std.proofs.Common.{◌≡◌, ◌∙◌, refl, sym, ap, subst, arith, ℕ, zero, suc, ◌+◌, ◌*◌, ◌<◌, ◌≤◌, List, [], ◌∷◌, ◌++◌, map, drop, add_assoc}
-use Rattle.std.specs.Prelude.{sum}
+use Rattle.std.proofs.Common.{◌≡◌, ◌∙◌, refl, sym, ap, subst, arith, ℕ, zero, suc, ◌+◌, ◌*◌, ◌<◌, ◌≤◌, List, [], ◌∷◌, ◌++◌, map, drop, length, Some}
+use Rattle.std.specs.Prelude.{sum, slice_get}
+use Rattle.std.proofs.lemmas.List.{drop_all}
+use Rattle.std.proofs.lemmas.List.Sums.{sum_by-cons}
+use Rattle.fp_model.specs.declared.scripts.Statement.{out-Statement, map-Statement}
+use Rattle.fp_model.specs.declared.scripts.Statement.TheOpen.{Statement-F, Set, If, Repeat, Break, Reply, Roll, Get, Fld, Isrt, Repl, Dlet}
+use Rattle.fp_model.specs.declared.scripts.Statement.TheFolds.{fold_out-Statement}
+use Rattle.txn_machine.specs.Work.{work_step}
+use Rattle.txn_machine.proofs.EndLemmas.{drop_here}
 use Rattle.fp_model.specs.declared.scripts.Statement.{Statement}
 use Rattle.txn_machine.specs.declared.place.Place.{Place}
 use Rattle.txn_machine.specs.declared.place.Frame.{Frame}
@@ -52,3 +59,31 @@ left_less statements old new f behind left is kind to =
         ap (λ (fs : List Frame). work_around fs statements) (is ∙ ap (λ (g : Frame). new.frames ++ g ∷ []) kind) ∙ work_push new.frames (frame.Loop behind left) statements in
     let b : work statements new ≡ work_around new.frames statements + work_from behind (block_at new.frames statements) = ap (λ (n : ℕ). work_around new.frames statements + work_from n (block_at new.frames statements)) to in
     omega (arith, a, b)
+
+-- nothing is left at the end of a script
+pub left_nothing : (statements : List Statement) (old new : List Frame) (end : ℕ) → new ≡ [] → end ≡ length statements → work statements (record { frames = new; at = end }) ≤ work_around old statements
+left_nothing statements old new end empty is =
+    let a : work statements (record { frames = new; at = end }) ≡ 0 =
+        ap (λ (fs : List Frame). work statements (record { frames = fs; at = end })) empty ∙ ap (λ (rest : List Statement). 0 + sum (map statement_work rest)) (drop_all end statements (omega arith)) in
+    omega (arith, a)
+
+-- every statement is some work
+step_some : (d : Statement-F ℕ) → 1 ≤ work_step d
+step_some (Set variable first rest) = omega arith
+step_some (If left comparison right taken otherwise) = omega arith
+step_some (Repeat n body) = omega arith
+step_some Break = omega arith
+step_some (Reply operands) = omega arith
+step_some (Roll code) = omega arith
+step_some (Get get hold db ssas) = omega arith
+step_some (Fld db key fsas) = omega arith
+step_some (Isrt db ssas fields) = omega arith
+step_some (Repl db fields) = omega arith
+step_some (Dlet db) = omega arith
+
+pub some_work : (s : Statement) → 1 ≤ statement_work s
+some_work s = let a : statement_work s ≡ work_step (map-Statement Statement ℕ statement_work (out-Statement s)) = fold_out-Statement ℕ work_step s in let b = step_some (map-Statement Statement ℕ statement_work (out-Statement s)) in omega (arith, a, b)
+
+-- a statement, and the rest of its block
+pub work_here : (block : List Statement) (at : ℕ) (s : Statement) → slice_get block at ≡ Some s → work_from at block ≡ statement_work s + work_from (at + 1) block
+work_here block at s here = ap (λ (ss : List Statement). sum (map statement_work ss)) (drop_here block at s here) ∙ sum_by-cons (λ (n : ℕ). n) (statement_work s) (map statement_work (drop (at + 1) block))

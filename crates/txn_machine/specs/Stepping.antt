@@ -1,5 +1,5 @@
 -- What one step of a program does.
-use Rattle.std.specs.Prelude.{◌≡◌, ⊤, ℕ, suc, ◌+◌, ◌*◌, ◌≤◌, List, [], Option, Some, slice_get}
+use Rattle.std.specs.Prelude.{◌≡◌, ⊤, ℕ, suc, ◌+◌, ◌*◌, ◌≤◌, List, [], length, Some, slice_get}
 use Rattle.fp_model.specs.declared.definitions.Defs.{Defs}
 use Rattle.fp_model.specs.declared.calls.Answer.{Answer}
 use Rattle.fp_model.specs.declared.scripts.Statement.{Statement, out-Statement}
@@ -40,8 +40,9 @@ pub record ComesAlike (defs : Defs) (statements : List Statement) (old new : Pro
   pub message : new.known.message ≡ old.known.message
   pub comes : (more : List Answer) → end_of defs statements old.known.message old more ≡ end_of defs statements old.known.message new more
 
--- the deed of the statement at the place
-pub record IsDeed (defs : Defs) (statements : List Statement) (program : Program) (did : Deed) : Type 0 where
+-- the deed of the statement at the place, in a script of so many statements
+pub record IsDeed (defs : Defs) (statements : List Statement) (end : ℕ) (program : Program) (did : Deed) : Type 0 where
+  pub ends : end ≡ length statements
   pub statement : Statement
   pub here : StandsHere statements program.place statement
   pub does : Does defs program.known statement did

@@ -1,12 +1,12 @@
 //! Where a program is in its script.
-ghost use Rattle.std.specs.Prelude.{◌≡◌, ◌≢◌, ◌<◌, ◌++◌, ◌∷◌, [], if◌then◌else◌, IsFalse, IsTrue, List, MatchOption, OnErr, OnOk};
+ghost use Rattle.std.specs.Prelude.{◌≡◌, ◌≢◌, ◌<◌, ◌≤◌, ◌++◌, ◌∷◌, [], if◌then◌else◌, IsFalse, IsTrue, List, length, MatchOption, OnErr, OnOk};
 ghost use Rattle.fp_model.specs.declared.calls.Message.{Message};
 ghost use Rattle.fp_model.specs.declared.definitions.Defs.{Defs};
 ghost use Rattle.fp_model.specs.declared.scripts.Statement.{Statement, out-Statement};
 ghost use Rattle.fp_model.specs.Programs.{Env, Goes, Leaves, Replies, ended};
 ghost use Rattle.txn_machine.specs.Places as places;
 ghost use Rattle.txn_machine.specs.Places.{around, choice_in, end_from, inner, loop_in, way_from};
-ghost use Rattle.txn_machine.specs.Work.{work};
+ghost use Rattle.txn_machine.specs.Work.{work, work_around};
 
 use fp_model::{List, Statement};
 use std::alloc::AllocError;
@@ -157,18 +157,18 @@ impl Place {
         Ok(())
     }
 
-    /// Behind the innermost loop. False where none is open: then the script is at its end.
-    pub(crate) fn leave_loop(&mut self) -> bool
-        ensures leads { (defs : Defs) (message : Message) (statements : List Statement) (env : Env)
-            → ended (around defs message self.old.frames statements (Leaves env)) ≡ (if result then end_from defs message statements self.new env else Replies []) }
-        ensures less { (statements : List Statement) → IsTrue result → work statements self.new < work statements self.old }
+    /// Behind the innermost loop; where none is open, to the end of the script, which has so many statements.
+    pub(crate) fn leave_loop(&mut self, end: usize)
+        ensures leads { (defs : Defs) (message : Message) (statements : List Statement) (env : Env) → end ≡ length statements
+            → ended (around defs message self.old.frames statements (Leaves env)) ≡ end_from defs message statements self.new env }
+        ensures less { (statements : List Statement) → end ≡ length statements → work statements self.new ≤ work_around self.old.frames statements }
     {
         while let Some(frame) = self.frames.pop() {
             if let Frame::Loop { behind, .. } = frame {
                 self.at = behind;
-                return true;
+                return;
             }
         }
-        false
+        self.at = end;
     }
 }
