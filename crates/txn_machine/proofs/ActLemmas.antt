@@ -24,12 +24,15 @@ use Rattle.txn_machine.specs.Doing.{way_of, block_of}
 use Rattle.txn_machine.specs.Knowing.{env_of, lesson_of}
 use Rattle.txn_machine.specs.Places.{block_at, block_in, choice_in, loop_in, inner, from_place, beyond, around, end_from, way_from}
 use Rattle.txn_machine.specs.Running.{end_of, end_at_call, StandsAtCall, IsAsked}
-use Rattle.txn_machine.specs.Stepping.{ComesAlike, IsDeed}
+use Rattle.txn_machine.specs.Stepping.{ComesAlike, Costs, IsDeed}
 use Rattle.txn_machine.specs.Work.{statement_work, work_from, work_beyond, work_around, work}
 use Rattle.txn_machine.proofs.AlikeLemmas.{same_end}
 use Rattle.txn_machine.proofs.EndLemmas.{drop_here}
 use Rattle.txn_machine.proofs.PlaceLemmas.{around_push, around_end, block_push}
 use Rattle.txn_machine.proofs.WorkLemmas.{work_here, work_push, work_at, some_work}
+
+suc_times : (n m : ℕ) → suc n * m ≡ n * m + m
+suc_times n m = omega arith
 
 module _ (defs : Defs) (statements : List Statement) (end : ℕ) (old : Program) (did : Deed) (d : IsDeed defs statements end old did) where
   abbrev message_of : Message
@@ -184,3 +187,59 @@ module _ (defs : Defs) (statements : List Statement) (end : ℕ) (old : Program)
 
   pub asked_is : (asked : Call) (given : Next) → did ≡ deed.Ask asked → given ≡ next.Call asked → IsAsked given (end_of defs statements message_of old [])
   asked_is asked given is to = subst (λ (n : Next). IsAsked n (end_of defs statements message_of old [])) (sym to) (here (deed.Ask asked) is [] ∙ ap ended (around_end defs message_of old.place.frames statements (Asks asked)))
+
+  -- ---- less work in a block
+
+  chose_work : (place : Place) (behind : ℕ) (holds : Bool) → behind ≡ old.place.at + 1 → did ≡ deed.Choose holds → place ≡ record { frames = old.place.frames ++ frame.Choice behind holds ∷ []; at = 0 }
+      → work statements place < work statements old.place
+  chose_work place behind holds next is to =
+      let a = work_at old.place.frames (frame.Choice behind holds) 0 statements place (ap (λ (p : Place). p.frames) to) (ap (λ (p : Place). p.at) to) in
+      let b : work_from 0 (inner (frame.Choice behind holds) block_of_old) ≡ work_from 0 (choice_in holds (out-Statement d.statement)) = ap (work_from 0) (inner_choice behind holds next) in
+      let c : 2 + work_from 0 (choice_in holds (out-Statement d.statement)) ≤ statement_work d.statement = subst (λ (x : Deed). Costs d.statement x) is d.costs in
+      let e : work_from behind block_of_old ≡ work_from (old.place.at + 1) block_of_old = ap (λ (n : ℕ). work_from n block_of_old) next in
+      let f = work_old in
+      omega (arith, a, b, c, e, f)
+
+  repeats_work : (place : Place) (behind left : ℕ) → behind ≡ old.place.at + 1 → did ≡ deed.Repeat left → place ≡ record { frames = old.place.frames ++ frame.Loop behind left ∷ []; at = 0 }
+      → work statements place < work statements old.place
+  repeats_work place behind left next is to =
+      let w = work_from 0 (loop_in (out-Statement d.statement)) in
+      let a = work_at old.place.frames (frame.Loop behind left) 0 statements place (ap (λ (p : Place). p.frames) to) (ap (λ (p : Place). p.at) to) in
+      let b : work_from 0 (inner (frame.Loop behind left) block_of_old) ≡ w = ap (work_from 0) (inner_loop behind left next) in
+      let b2 : left * (1 + work_from 0 (inner (frame.Loop behind left) block_of_old)) ≡ left * (1 + w) = ap (λ (n : ℕ). left * (1 + n)) b in
+      let c : 2 + suc left * (1 + w) ≤ statement_work d.statement = subst (λ (x : Deed). Costs d.statement x) is d.costs in
+      let c2 : suc left * (1 + w) ≡ left * (1 + w) + (1 + w) = suc_times left (1 + w) in
+      let e : work_from behind block_of_old ≡ work_from (old.place.at + 1) block_of_old = ap (λ (n : ℕ). work_from n block_of_old) next in
+      let f = work_old in
+      omega (arith, a, b, b2, c, c2, e, f)
+
+  pub chose_less : (r : Result (Option Next) AllocError) (new : Program) (behind : ℕ) (holds : Bool) → behind ≡ old.place.at + 1 → did ≡ deed.Choose holds
+      → OnOk r (new ≡ record old { place = record { frames = old.place.frames ++ frame.Choice behind holds ∷ []; at = 0 } })
+      → IfOk r (λ given. given ≡ None → work statements new.place < work statements old.place)
+  chose_less (Ok given) new behind holds next is to = λ nothing. chose_work new.place behind holds next is (ap (λ (p : Program). p.place) to)
+  chose_less (Err e) new behind holds next is to = tt
+
+  pub repeats_less : (r : Result (Option Next) AllocError) (new : Program) (behind left : ℕ) → behind ≡ old.place.at + 1 → did ≡ deed.Repeat left
+      → OnOk r (new ≡ record old { place = record { frames = old.place.frames ++ frame.Loop behind left ∷ []; at = 0 } })
+      → IfOk r (λ given. given ≡ None → work statements new.place < work statements old.place)
+  repeats_less (Ok given) new behind left next is to = λ nothing. repeats_work new.place behind left next is (ap (λ (p : Program). p.place) to)
+  repeats_less (Err e) new behind left next is to = tt
+
+  -- ---- a call
+
+  pub stands : (new : Program) (asked : Call) (behind : ℕ) → behind ≡ old.place.at + 1 → did ≡ deed.Ask asked → new.known.message ≡ old.known.message → new.place ≡ old.place
+      → ((more : List Answer) → env_of new.known more ≡ env_of old.known more) → new.wait ≡ Some (record { behind = behind; lesson = lesson_of asked })
+      → IfSome new.wait (StandsAtCall defs statements new)
+  stands new asked behind next is same to env waits =
+      subst (λ (w : Option Wait). IfSome w (StandsAtCall defs statements new)) (sym waits) (record {
+        asked = asked;
+        lesson = refl;
+        comes = λ more.
+            ap (λ (m : Message). end_of defs statements m new more) same
+            ∙ sym ((unchanged new same to env).comes more)
+            ∙ here (deed.Ask asked) is more
+            ∙ ap (λ (n : ℕ). end_at_call defs statements message_of old asked n more) (sym next)
+            ∙ ap (λ (place : Place). ended (around defs message_of place.frames statements (goes_on (called asked (env_of old.known more)) (from_place defs message_of behind (block_at place.frames statements))))) (sym to)
+            ∙ ap (λ (e : Env). ended (around defs message_of new.place.frames statements (goes_on (called asked e) (from_place defs message_of behind (block_at new.place.frames statements))))) (sym (env more))
+            ∙ ap (λ (m : Message). end_at_call defs statements m new asked behind more) (sym same);
+      })
