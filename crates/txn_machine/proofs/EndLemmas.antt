@@ -37,3 +37,8 @@ drop_here {X} (y ∷ ys) zero x is = let e : y ≡ x = cc in ap (λ (z : X). z �
 drop_here {X} (y ∷ ys) (suc i) x is =
     let next : suc i + 1 ≡ suc (i + 1) = omega arith in
     drop_here ys i x is ∙ ap (λ (n : ℕ). x ∷ drop n (y ∷ ys)) (sym next)
+
+pub stands_at : {X : Type 0} (xs : List X) (i : ℕ) (x : X) → i < length xs → x ≡ get_or xs i x → slice_get xs i ≡ Some x
+stands_at [] i x lt is = absurd (omega arith)
+stands_at {X} (y ∷ ys) zero x lt is = ap (λ (z : X). Some z) (sym is)
+stands_at (y ∷ ys) (suc i) x lt is = stands_at ys i x (omega arith) is

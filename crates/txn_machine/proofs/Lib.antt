@@ -10,3 +10,5 @@ pub mod WorkLemmas
 pub mod EndLemmas
 pub mod StatementLemmas
 pub mod ActLemmas
+pub mod NextLemmas
+pub mod FitLemmas

@@ -58,12 +58,12 @@ IsCall deed.Leave = ⊥
 IsCall (deed.Reply text) = ⊥
 IsCall (deed.Roll code) = ⊥
 
--- the search arguments of a field call have a spelling
+-- a call is that of a statement without blocks, and the search arguments of a field call have a spelling
 abbrev pub Spells : Defs → Known → Statement-F Statement → Type 0
 Spells defs known (Fld db key fsas) = (list : List Fsa) → fsas_given defs known.message (env_of known []) fsas ≡ Some list → AllByRecursion IsFsa list
 Spells defs known (Set variable first rest) = ⊤
-Spells defs known (If left comparison right taken otherwise) = ⊤
-Spells defs known (Repeat n body) = ⊤
+Spells defs known (If left comparison right taken otherwise) = ⊥
+Spells defs known (Repeat n body) = ⊥
 Spells defs known Break = ⊤
 Spells defs known (Reply operands) = ⊤
 Spells defs known (Roll code) = ⊤

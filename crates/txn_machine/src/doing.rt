@@ -35,7 +35,8 @@ pub(crate) enum Deed {
 
 // A loop: it runs once, and the other times more.
 fn repeated(times: u32) -> Deed
-    ensures { result ≡ deed_of_loop times }
+    ensures loops { result ≡ deed_of_loop times }
+    ensures no_call { IsCall result → ⊥ }
 {
     if times == 0 {
         Deed::Pass
@@ -49,7 +50,7 @@ impl Known {
     fn tried(&self, defs: &Defs, statement: &Statement) -> Result<Deed, Stop>
         ensures does { Tries defs.now self.now statement.now result }
         ensures costs { IfOk result (λ did. Costs statement.now did) }
-        ensures spelled { IfOk result (λ did. Spells defs.now self.now (out-Statement statement.now)) }
+        ensures spelled { IfOk result (λ did. IsCall did → Spells defs.now self.now (out-Statement statement.now)) }
     {
         match statement {
             Statement::Set {

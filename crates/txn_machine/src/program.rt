@@ -13,6 +13,7 @@ ghost use Rattle.fp_model.specs.FitCalls.{FitsAnswer, are_fit};
 ghost use Rattle.fp_model.specs.WellFormed.{IsMsdbDef};
 ghost use Rattle.txn_machine.specs.Running.{Awaits, IsAsked, IsAt, IsFit, IsFitNext, IsWaiting, StandsAtCall, WaitsFor, end_of};
 ghost use Rattle.txn_machine.specs.Alike.{AreAlike};
+ghost use Rattle.txn_machine.specs.Fit.{AreShown};
 ghost use Rattle.txn_machine.specs.Places.{around, end_from};
 ghost use Rattle.txn_machine.specs.Knowing.{env_of, lesson_of, segments_of};
 ghost use Rattle.txn_machine.specs.Stepping.{ComesAlike, IsDeed, IsGivenBy};
@@ -249,6 +250,10 @@ impl Program {
         ensures open { IfOk result (λ given. given ≡ None → self.new.wait ≡ None) }
         ensures waits { IfOk result (λ given. IfSome given (λ next. Awaits next self.new)) }
         ensures shown { segments_of self.new.known.gets ≡ segments_of self.old.known.gets }
+        ensures fit_call { AllByRecursion IsMsdbDef defs.now.msdbs
+            → are_fit defs.now statements.now ≡ true
+            → AreShown defs.now.msdbs self.old.known.gets
+            → IfOk result (λ given. IfSome given (IsFitNext defs.now.msdbs)) }
     {
         let block = block_at(statements, self.place.frames.as_slice());
         if self.place.at < block.len() {

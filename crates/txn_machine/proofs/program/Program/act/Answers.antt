@@ -6,7 +6,7 @@ use Rattle.txn_machine.proofs.program.Program.act.Goals as goal
 
 pub returns-in-Set-clause-alike : goal.returns-in-Set-clause-alike
 returns-in-Set-clause-alike c = λ defs statements d.
-    set_alike_program defs statements c.args.end c.args.self.now c.args.deed d c.set.result c.set.new.self c.args.behind c.in-Set.field-0 c.in-Set.field-1 c.requires.behind c.in-Set.is c.set.ensures.message
+    set_alike_program defs statements c.args.end c.args.self.now c.args.deed d c.set.result c.set.new.self c.args.behind c.in-Set.name c.in-Set.text c.requires.behind c.in-Set.is c.set.ensures.message
     c.set.ensures.at c.set.ensures.stays c.set.ensures.ok c.set.ensures.err
 
 pub returns-in-Set-clause-less : goal.returns-in-Set-clause-less
