@@ -12,3 +12,4 @@ pub mod StatementLemmas
 pub mod ActLemmas
 pub mod NextLemmas
 pub mod FitLemmas
+pub mod FitStatements

@@ -1,8 +1,11 @@
-use Rattle.std.proofs.Common.{◌≡◌, ◌∙◌, sym, ap, arith, refl, length, List, Some}
+use Rattle.std.proofs.Common.{◌≡◌, ◌∙◌, sym, ap, arith, refl, subst, length, List, Some}
 use Rattle.std.specs.Prelude.{slice_get}
 use Rattle.fp_model.specs.declared.scripts.Statement.{Statement}
 use Rattle.txn_machine.specs.declared.place.Frame.{Frame}
 use Rattle.txn_machine.specs.Places.{block_at}
+use Rattle.txn_machine.specs.declared.doing.Deed.{Deed}
+use Rattle.txn_machine.specs.Doing.{Does, IsCall}
+use Rattle.txn_machine.proofs.FitStatements.{fit_at, fit_block, result_fits, statement_fit}
 use Rattle.txn_machine.specs.Stepping.{IsDeed}
 use Rattle.txn_machine.proofs.EndLemmas.{stands_at}
 use Rattle.txn_machine.proofs.program.Program.step.Goals as goal
@@ -28,3 +31,13 @@ returns-then-self-block-clause-call c = c.act.ensures.call c.args.defs.now c.arg
 
 pub returns-then-self-block-clause-less : goal.returns-then-self-block-clause-less
 returns-then-self-block-clause-less c = c.act.ensures.less c.args.defs.now c.args.statements.now (deed_here c)
+
+pub returns-then-self-block-clause-fit_call : goal.returns-then-self-block-clause-fit_call
+unfolding deed_here
+returns-then-self-block-clause-fit_call c = λ well fit shown.
+    let d = deed_here c in
+    result_fits c.args.defs.now.msdbs c.in_ok-deed.deed c.act.result c.act.ensures.given (λ asked is.
+    statement_fit c.args.defs.now c.args.self.now.known asked well shown c.index-block-self.result
+    (fit_at c.args.defs.now (block_at c.args.self.now.place.frames c.args.statements.now) c.args.self.now.place.at c.index-block-self.result (fit_block c.args.defs.now c.args.self.now.place.frames c.args.statements.now fit) d.here)
+    (c.in_ok-deed.ensures.spelled (subst (λ (x : Deed). IsCall x) (sym is) tt))
+    (subst (λ (x : Deed). Does c.args.defs.now c.args.self.now.known c.index-block-self.result x) is c.in_ok-deed.ensures.does))
