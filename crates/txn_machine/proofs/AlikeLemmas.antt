@@ -22,9 +22,10 @@ use Rattle.fp_model.specs.declared.scripts.Statement.TheFolds.{fold-roll-Stateme
 use Rattle.fp_model.specs.Texts.{same_text, trimmed}
 use Rattle.fp_model.specs.Programs.{◌>>=◌, Env, Setting, ShownSegment, Layout, layout_of, new_type, empty_segment, Way, Goes, Leaves, Ends, Ask, Asks, Replies, Rolls, or_rolls, goes_on, in_order, loops_on, times, called, learned, run, run_step, ended, with_setting, setting_of, shown_on, shown_letter, shown_field, short_enough, text_named, text_of, set_text, chosen, joined_texts, reply_text, key_text, ssa_of, ssas_of, fsas_given, filled, get_call, fld_call, isrt_call, repl_call}
 use Rattle.txn_machine.specs.Alike.{AreAlike, AreTwins, LeadAlike, both_go, both_leave, both_end}
-use Rattle.txn_machine.specs.declared.frame.Frame.{Frame}
-use Rattle.txn_machine.specs.declared.frame.Frame.TheVariants as frame
-use Rattle.txn_machine.specs.Places.{inner, block_at, from_place, behind, around, end_from}
+use Rattle.txn_machine.specs.declared.place.Place.{Place}
+use Rattle.txn_machine.specs.declared.place.Frame.{Frame}
+use Rattle.txn_machine.specs.declared.place.Frame.TheVariants as frame
+use Rattle.txn_machine.specs.Places.{inner, block_at, from_place, beyond, around, end_from}
 
 -- ---- values that there may be
 
@@ -232,16 +233,16 @@ module _ (defs : Defs) (message : Message) where
   block_respects [] a b h = both_go h
   block_respects (s ∷ ss) a b h = goes_on_alike _ (statement_makes s a b h) (block_respects ss)
 
-  behind_alike : (f : Frame) (block : List Statement) {v w : Way} → LeadAlike v w → LeadAlike (behind defs message f block v) (behind defs message f block w)
-  behind_alike (frame.Choice place holds) block h = goes_on_alike _ h (block_respects (drop (place + 1) block))
-  behind_alike (frame.Loop place left) block h =
-      goes_on_alike _ (loops_on_alike _ h (times_respects left _ (block_respects (drop 0 (inner (frame.Loop place left) block))))) (block_respects (drop (place + 1) block))
+  beyond_alike : (f : Frame) (block : List Statement) {v w : Way} → LeadAlike v w → LeadAlike (beyond defs message f block v) (beyond defs message f block w)
+  beyond_alike (frame.Choice behind holds) block h = goes_on_alike _ h (block_respects (drop behind block))
+  beyond_alike (frame.Loop behind left) block h =
+      goes_on_alike _ (loops_on_alike _ h (times_respects left _ (block_respects (drop 0 (inner (frame.Loop behind left) block))))) (block_respects (drop behind block))
 
   -- what stands around is led to the same
   pub around_alike : (frames : List Frame) (block : List Statement) {v w : Way} → LeadAlike v w → LeadAlike (around defs message frames block v) (around defs message frames block w)
   around_alike [] block h = h
-  around_alike (f ∷ fs) block h = behind_alike f block (around_alike fs (inner f block) h)
+  around_alike (f ∷ fs) block h = beyond_alike f block (around_alike fs (inner f block) h)
 
   -- what is alike comes to the same from a place on
-  pub same_end : (statements : List Statement) (frames : List Frame) (place : ℕ) (a b : Env) → AreTwins a b → end_from defs message statements frames place a ≡ end_from defs message statements frames place b
-  same_end statements frames place a b h = alike_ends (around_alike frames statements (block_respects (drop place (block_at frames statements)) a b h))
+  pub same_end : (statements : List Statement) (place : Place) (a b : Env) → AreTwins a b → end_from defs message statements place a ≡ end_from defs message statements place b
+  same_end statements place a b h = alike_ends (around_alike place.frames statements (block_respects (drop place.at (block_at place.frames statements)) a b h))

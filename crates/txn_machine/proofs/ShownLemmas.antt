@@ -1,21 +1,47 @@
 -- Lists with a place for each database: what is found there, and what a write changes.
 use Rattle.std.proofs.Common.{◌≡◌, ◌∙◌, refl, sym, ap, subst, arith, ℕ, zero, suc, ◌+◌, ◌<◌, List, [], ◌∷◌, ◌++◌, length, Bool, true, false, cond, Option, Some, None}
-use Rattle.std.specs.Prelude.{slice_set, find, ◌==◌}
+use Rattle.std.specs.Prelude.{slice_get, slice_set, find, option_map, ◌==◌}
 use Rattle.std.specs.List.{AllByRecursion}
-use Rattle.std.proofs.lemmas.Bool.{eqb-true, eqb-false, ne_eqb}
+use Rattle.std.proofs.lemmas.Bool.{eqb-true, eq-eqb, ne_eqb}
 use Rattle.fp_model.specs.Programs.{ShownSegment}
 use Rattle.txn_machine.specs.declared.shown.Shown.{Shown}
 use Rattle.txn_machine.specs.declared.shown.Gets.{Gets}
 use Rattle.fp_model.specs.declared.definitions.MsdbDef.{MsdbDef}
 use Rattle.txn_machine.specs.Fit.{AreShown, IsShownSegment}
 use Rattle.txn_machine.specs.Alike.{ShowAlike}
-use Rattle.txn_machine.specs.Knowing.{segment_on, segments_from}
+use Rattle.txn_machine.specs.Knowing.{in_place, segment_on, segments_from}
 
 -- an empty place more
 pub segments_push : (db : ℕ) (places : List (Option Shown)) → segments_from db (places ++ None ∷ []) ≡ segments_from db places
 segments_push db [] = refl
 segments_push db (None ∷ others) = segments_push (db + 1) others
 segments_push db (Some shown ∷ others) = ap (λ (rest : List ShownSegment). segment_on db shown ∷ rest) (segments_push (db + 1) others)
+
+-- ---- a look
+
+-- an earlier database isn't found
+none_below : (places : List (Option Shown)) (db k : ℕ) → k < db → find (λ s. s.db == k) (segments_from db places) ≡ None
+none_below [] db k lt = refl
+none_below (None ∷ others) db k lt = none_below others (db + 1) k (omega arith)
+none_below (Some shown ∷ others) db k lt =
+    let other : (db == k) ≡ false = ne_eqb db k (λ e. absurd (omega arith)) in
+    rw other (none_below others (db + 1) k (omega arith))
+
+-- what is found stands at its place
+pub found_from : (places : List (Option Shown)) (i db k : ℕ) → k ≡ db + i
+    → find (λ s. s.db == k) (segments_from db places) ≡ option_map (segment_on k) (in_place (slice_get places i))
+found_from [] i db k is = refl
+found_from (None ∷ others) zero db k is = none_below others (db + 1) k (omega arith)
+found_from (Some shown ∷ others) zero db k is = let e : k ≡ db = omega arith in let same : (db == k) ≡ true = eq-eqb db k (sym e) in rw (same, e) refl
+found_from (None ∷ others) (suc i) db k is = found_from others i (db + 1) k (omega arith)
+found_from (Some shown ∷ others) (suc i) db k is =
+    let other : (db == k) ≡ false = ne_eqb db k (λ e. absurd (omega arith)) in
+    rw other (found_from others i (db + 1) k (omega arith))
+
+-- a segment of another database in front
+pub found_behind : (s : ShownSegment) (places : List (Option Shown)) (k : ℕ) → (s.db == k) ≡ false
+    → find (λ s. s.db == k) (s ∷ segments_from 0 places) ≡ option_map (segment_on k) (in_place (slice_get places k))
+found_behind s places k other = rw other (found_from places k 0 k (omega arith))
 
 -- ---- a write
 

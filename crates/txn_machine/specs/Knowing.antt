@@ -26,6 +26,11 @@ segments_from db [] = []
 segments_from db (None ∷ others) = segments_from (db + 1) others
 segments_from db (Some shown ∷ others) = segment_on db shown ∷ segments_from (db + 1) others
 
+-- what there is in a place, where there is a place
+abbrev pub in_place : Option (Option Shown) → Option Shown
+in_place None = None
+in_place (Some place) = place
+
 -- the newest segment first
 abbrev pub segments_of : Option Gets → List ShownSegment
 segments_of None = []

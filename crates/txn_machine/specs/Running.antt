@@ -33,19 +33,25 @@ IsWaiting program = (asked : Call) × WaitsFor asked program
 
 -- From where the program is, the script comes to this.
 abbrev pub end_of : Defs → List Statement → Message → Program → List Answer → Ask
-end_of defs statements message program more = end_from defs message statements program.frames program.place (env_of program.known more)
+end_of defs statements message program more = end_from defs message statements program.place (env_of program.known more)
 
 -- and from a call on, which stands before a place
 abbrev pub end_at_call : Defs → List Statement → Message → Program → Call → ℕ → List Answer → Ask
 end_at_call defs statements message program asked place more =
-    ended (around defs message program.frames statements
-    (goes_on (called asked (env_of program.known more)) (from_place defs message place (block_at program.frames statements))))
+    ended (around defs message program.place.frames statements
+    (goes_on (called asked (env_of program.known more)) (from_place defs message place (block_at program.place.frames statements))))
 
 -- the program stands at a call
 pub record IsAtCall (defs : Defs) (statements : List Statement) (message : Message) (answers : List Answer) (program : Program) (wait : Wait) : Type 0 where
   pub asked : Call
   pub lesson : wait.lesson ≡ lesson_of asked
   pub comes : (more : List Answer) → ask defs statements message (answers ++ more) ≡ end_at_call defs statements message program asked wait.behind more
+
+-- where a program stands, its script comes to what follows behind this call
+pub record StandsAtCall (defs : Defs) (statements : List Statement) (program : Program) (wait : Wait) : Type 0 where
+  pub asked : Call
+  pub lesson : wait.lesson ≡ lesson_of asked
+  pub comes : (more : List Answer) → end_of defs statements program.known.message program more ≡ end_at_call defs statements program.known.message program asked wait.behind more
 
 -- The program, given these answers, is where the script is: whatever is answered further, both come to the same.
 pub record IsAt (defs : Defs) (statements : List Statement) (message : Message) (answers : List Answer) (program : Program) : Type 0 where

@@ -6,7 +6,7 @@ ghost use Rattle.fp_model.specs.Programs.{at_top, setting_of, with_setting};
 ghost use Rattle.fp_model.specs.Texts.{same_text, trimmed};
 ghost use Rattle.txn_machine.specs.Alike.{AreAlike, AreTwins};
 ghost use Rattle.txn_machine.specs.Fit.{AreShown, FitsLesson, IsShownSegment};
-ghost use Rattle.txn_machine.specs.Knowing.{HasPlace, env_of, segment_on, showing, taught};
+ghost use Rattle.txn_machine.specs.Knowing.{HasPlace, env_of, segment_on, segments_of, showing, taught};
 
 use crate::shown::{Gets, Shown};
 use fp_model::{Answer, Bytes, Message, Name};
@@ -87,6 +87,7 @@ impl Known {
     pub(crate) fn make_place(&mut self) -> Result<(), AllocError>
         ensures place { OnOk result (HasPlace self.new.gets) }
         ensures same { (answers : List Answer) → env_of self.new answers ≡ env_of self.old answers }
+        ensures shown { segments_of self.new.gets ≡ segments_of self.old.gets }
         ensures message { self.new.message ≡ self.old.message }
     {
         if let Some(gets) = &mut self.gets {

@@ -1,7 +1,7 @@
 //! The segments that a program was shown.
-ghost use Rattle.std.specs.Prelude.{◌≡◌, ◌∷◌, [], List, OnOk, Some};
+ghost use Rattle.std.specs.Prelude.{◌≡◌, ◌==◌, ◌∷◌, [], List, MatchOption, None, OnOk, Some, find, slice_get};
 ghost use Rattle.fp_model.specs.declared.definitions.MsdbDef.{MsdbDef};
-ghost use Rattle.txn_machine.specs.Knowing.{HasPlace, segment_on, segments_of};
+ghost use Rattle.txn_machine.specs.Knowing.{HasPlace, in_place, segment_on, segments_of};
 ghost use Rattle.txn_machine.specs.Alike.{ShowAlike};
 ghost use Rattle.txn_machine.specs.Fit.{AreShown, IsShownSegment};
 
@@ -22,6 +22,16 @@ pub(crate) struct Gets {
     pub(crate) db: u8,
     pub(crate) newest: Shown,
     pub(crate) older: List<Option<Shown>>,
+}
+
+// The segment at the place of a database.
+fn shown_at(places: &List<Option<Shown>>, db: u8) -> Option<&Shown>
+    ensures { MatchOption result (in_place (slice_get places.now db) ≡ None) (λ shown. in_place (slice_get places.now db) ≡ Some shown.now) }
+{
+    match places.get(usize::from(db)) {
+        Some(Some(shown)) => Some(shown),
+        _ => None,
+    }
 }
 
 impl Gets {
@@ -72,5 +82,19 @@ impl Gets {
             self.older.push(None)?;
         }
         Ok(())
+    }
+
+    /// The last segment that was shown of a database.
+    pub(crate) fn on(&self, db: u8) -> Option<&Shown>
+        ensures { MatchOption result (find (λ s. s.db == db) (segments_of (Some self.now)) ≡ None)
+            (λ shown. find (λ s. s.db == db) (segments_of (Some self.now)) ≡ Some (segment_on db shown.now)) }
+    {
+        if self.db == db {
+            return Some(&self.newest);
+        }
+        match shown_at(&self.older, db) {
+            Some(shown) => Some(shown),
+            None => None,
+        }
     }
 }
