@@ -131,8 +131,7 @@ module _ (defs : List MsdbDef) (now : List Msdb) (of : AllZip IsMsdbOf defs now)
       let whole = whole_in defs now of number def there key segment e in
       let s = settled def there in
       let kept = list_keeps def key (fsas_in fsas) segment def.length has.stand (record { long = fit.0.2; its = whole.its }) in
-      let is : key_of def.fields new ≡ key = ap (key_of def.fields) s.1 ∙ kept.its in
-      (
+      let is : key_of def.fields new ≡ key = ap (key_of def.fields) s.1 ∙ kept.its in (
         fits_whole defs number def key new there fit.0.2 (long ∙ whole.long) is,
         fld_good defs now of number def there key fsas segment new e s.0 s.1 (omega (arith, has.some, long, whole.long)),
       )
@@ -143,8 +142,7 @@ module _ (defs : List MsdbDef) (now : List Msdb) (of : AllZip IsMsdbOf defs now)
       → IsFitSegment defs (Segment number (key_in defs number bytes) bytes) × (with_msdb defs number (λ def msdb. with_segment def bytes msdb) now ≡ with_item defs now (Segment number (key_in defs number bytes) bytes))
   put_given number bytes def there whole =
       let has = has_key def (all_got IsMsdbDef defs number def defined there) in
-      let here = key_here defs now of number def there bytes in
-      (
+      let here = key_here defs now of number def there bytes in (
         fits_whole defs number def (key_in defs number bytes) bytes there (ap length here ∙ key_long def bytes has whole) whole (sym here),
         put_is defs now of number def there (key_in defs number bytes) bytes (omega (arith, has.some, whole)),
       )

@@ -100,7 +100,7 @@ module _ {X : Type 0} (key : X → List ℕ) where
   same_list (x ∷ xs) [] upx upy same = absurd (none_is_not_some x (sym (same (key x)) ∙ at_first (key x) x xs (is_same (key x))))
   same_list (x ∷ xs) (y ∷ ys) upx upy same =
       let head : x ≡ y = heads x y (first_is x y ys upy (sym (same (key x)) ∙ at_first (key x) x xs (is_same (key x))))
-          (first_is y x xs upx (same (key y) ∙ at_first (key y) y ys (is_same (key y)))) in
+      (first_is y x xs upx (same (key y) ∙ at_first (key y) y ys (is_same (key y)))) in
       ap (λ z. z ∷ xs) head ∙ ap (λ zs. y ∷ zs) (same_list xs ys (tail_ascends key x xs upx) (tail_ascends key y ys upy) (λ j. tails j (same_text (key x) j) refl head))
     where
       tails : (j : List ℕ) (b : Bool) → same_text (key x) j ≡ b → x ≡ y → at j xs ≡ at j ys

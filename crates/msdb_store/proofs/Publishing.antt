@@ -89,7 +89,7 @@ count_behind defs store n k bytes of fit (Segment m j b ∷ rest) segments behin
     let t : Touch = record { number = n; key = k; bytes = bytes } in
     let apart : (n == m && same_text k j) ≡ false = differs n k m j (split n k m j behind.0) in
     let same : segment_in defs (with_item defs store.msdbs (Segment n k bytes)) m j ≡ segment_in defs store.msdbs m j =
-        behind_item defs store.msdbs of.each t fit m j ∙ ap (λ (x : Bool). if x then made bytes else segment_in defs store.msdbs m j) apart in
+    behind_item defs store.msdbs of.each t fit m j ∙ ap (λ (x : Bool). if x then made bytes else segment_in defs store.msdbs m j) apart in
     let one : adds defs (with_item defs store.msdbs (Segment n k bytes)) (Segment m j b) ≡ adds defs store.msdbs (Segment m j b) = ap (λ o. has_bytes b && is_none o) same in
     count_more (adds defs (with_item defs store.msdbs (Segment n k bytes))) (adds defs store.msdbs) (Segment m j b) rest one (count_behind defs store n k bytes of fit rest segments.1 behind.1)
   where

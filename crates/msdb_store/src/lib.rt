@@ -13,3 +13,6 @@ pub use store::MsdbStore;
 
 #[cfg(test)]
 mod tests;
+
+#[cfg(test)]
+mod settling_tests;

@@ -42,8 +42,7 @@ loop-table-preserved c =
     let tables = c.loop-table.tables in
     let i = c.loop-table.table-index in
     let at : slice_get tables i ≡ Some (slice_index_or tables i c.table-item.result) = stands_there tables i c.table-item.result (search rules) in
-    let more : take (i + 1) (slice_set tables i c.reserve.new.self) ≡ take i tables ++ c.reserve.new.self ∷ [] = take_more_set tables i c.reserve.new.self (search rules) in
-    (
+    let more : take (i + 1) (slice_set tables i c.reserve.new.self) ≡ take i tables ++ c.reserve.new.self ∷ [] = take_more_set tables i c.reserve.new.self (search rules) in (
       search rules,
       subst (λ ts. c.args.n ≤ least (map room_of ts)) (sym more) (least_push room_of c.args.n (take i tables) c.reserve.new.self c.requires c.loop-table.invariant.1 c.in_ok-reserve.ensures.ok),
       omega (arith, c.loop-table.invariant.2, no_less tables i (slice_index_or tables i c.table-item.result) c.reserve.new.self at c.reserve.ensures.capacity c.reserve.ensures.segments),

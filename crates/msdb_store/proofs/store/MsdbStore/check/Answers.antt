@@ -38,14 +38,13 @@ loop-at-preserved c =
     let within : i < length all = omega (arith, ap length same) in
     let is : call ≡ slice_index_or all i call = subst (λ calls. call ≡ slice_index_or calls i call) same (search rules) in
     let rest : drop i all ≡ call ∷ drop (i + 1) all = here all i call within is in
-    let longer : take (i + 1) all ≡ take i all ++ call ∷ [] = take_more all i call within ∙ ap (λ x. take i all ++ x ∷ []) (sym is) in
-    (
+    let longer : take (i + 1) all ≡ take i all ++ call ∷ [] = take_more all i call within ∙ ap (λ x. take i all ++ x ∷ []) (sym is) in (
       (let can = c.requires.fit.1 in
-      let defs = c.requires.fit.0 in
-      let s : IsSettling defs msdbs all (take i all) i (call ∷ drop (i + 1) all) c.loop-at.staging = subst (λ r. IsSettling defs msdbs all (take i all) i r c.loop-at.staging) rest (c.loop-at.invariant.1 defs can) in
-      let at : AtCall defs c.args.self.now c.loop-at.staging s.now call = record { of = can.of; defined = can.defined; stages = s.stages; fit = subst (IsFitDeferred defs) (sym is) (all_at (IsFitDeferred defs) all i call can.fit within) } in
-      let step = c.in-Ok.ensures defs s.now at in
-      omega (arith, c.loop-at.invariant.0, step_long defs s.now call c.loop-at.staging c.settle_call.new.staging step)),
+          let defs = c.requires.fit.0 in
+          let s : IsSettling defs msdbs all (take i all) i (call ∷ drop (i + 1) all) c.loop-at.staging = subst (λ r. IsSettling defs msdbs all (take i all) i r c.loop-at.staging) rest (c.loop-at.invariant.1 defs can) in
+          let at : AtCall defs c.args.self.now c.loop-at.staging s.now call = record { of = can.of; defined = can.defined; stages = s.stages; fit = subst (IsFitDeferred defs) (sym is) (all_at (IsFitDeferred defs) all i call can.fit within) } in
+          let step = c.in-Ok.ensures defs s.now at in
+          omega (arith, c.loop-at.invariant.0, step_long defs s.now call c.loop-at.staging c.settle_call.new.staging step)),
       λ defs can.
           let s : IsSettling defs msdbs all (take i all) i (call ∷ drop (i + 1) all) c.loop-at.staging = subst (λ r. IsSettling defs msdbs all (take i all) i r c.loop-at.staging) rest (c.loop-at.invariant.1 defs can) in
           let at : AtCall defs c.args.self.now c.loop-at.staging s.now call = record { of = can.of; defined = can.defined; stages = s.stages; fit = subst (IsFitDeferred defs) (sym is) (all_at (IsFitDeferred defs) all i call can.fit within) } in
