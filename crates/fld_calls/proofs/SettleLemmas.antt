@@ -1,5 +1,5 @@
 -- A list of arguments up to the first bad one.
-use Rattle.std.proofs.Common.{◌≡◌, refl, sym, ap, ◌∙◌, subst, arith, ℕ, zero, suc, ◌<◌, ◌≤◌, ◌+◌, ◌*◌, ◌^◌, All, ◌++◌, length-append, slice_index_or, List, [], ◌∷◌, map, length, drop, Bool, true, false, ◌==◌, if◌then◌else◌, Option, Some, None}
+use Rattle.std.proofs.Common.{◌≡◌, refl, sym, ap, ◌∙◌, arith, ℕ, zero, suc, ◌<◌, ◌≤◌, ◌+◌, ◌*◌, ◌^◌, All, length-append, slice_index_or, List, [], ◌∷◌, length, drop, Bool, true, false, ◌==◌, if◌then◌else◌, Some, None}
 use Rattle.std.specs.Prelude.{Result, Ok, Err, ⊤, is_err}
 use Rattle.fp_model.specs.declared.definitions.FieldDef.{FieldDef}
 use Rattle.fp_model.specs.declared.definitions.MsdbDef.{MsdbDef}

@@ -10,10 +10,9 @@ use Rattle.fld_calls.specs.declared.arguments.SettleFault.TheVariants as fault
 use Rattle.fp_model.specs.CheckpointText.{IsMsdbOf}
 use Rattle.fp_model.specs.FitCalls.{IsFitDeferred}
 use Rattle.fp_model.specs.Fsas.{Failure, first_failure, fsas_in, list_on}
-use Rattle.fp_model.specs.Items.{FitsMsdb, with_bytes, with_item}
+use Rattle.fp_model.specs.Items.{with_bytes, with_item}
 use Rattle.fp_model.specs.Settle.{Applied, Becomes, Fails, absent, applied, fld_failure, fld_on, with_field_changes, with_msdb}
 use Rattle.fp_model.specs.State.{key_length, key_of, segment_of, with_segment}
-use Rattle.fp_model.specs.Texts.{same_text}
 use Rattle.fp_model.specs.WellFormed.{IsMsdbDef}
 use Rattle.fp_model.specs.declared.calls.Deferred.{Deferred}
 use Rattle.fp_model.specs.declared.calls.Deferred.TheVariants.{Fld, Repl, Isrt, Dlet}
@@ -24,11 +23,10 @@ use Rattle.fp_model.specs.declared.log.Item.TheVariants.{Segment}
 use Rattle.msdb_store.specs.Settling.{has_bytes, key_in}
 use Rattle.msdb_store.specs.Steps.{IsChanged, IsGiven, given_as}
 use Rattle.msdb_store.specs.Store.{IsFitSegment, IsOf, Stored, segment_in}
-use Rattle.msdb_store.specs.Touches.{Touch}
 use Rattle.msdb_store.proofs.Ascending.{not_both, same_is, stands_there}
 use Rattle.msdb_store.proofs.Tables.{belongs, stored, with_room}
 use Rattle.msdb_store.proofs.Databases.{Partner, in_as, in_at, in_database, partner, with_at}
-use Rattle.msdb_store.proofs.Kept.{HasKey, Keyed, has_key, list_keeps}
+use Rattle.msdb_store.proofs.Kept.{HasKey, has_key, list_keeps}
 use Rattle.msdb_store.proofs.Lookups.{found_has, found_is}
 
 pub all_got : {X : Type 0} (P : X → Type 0) (xs : List X) (n : ℕ) (x : X) → AllByRecursion P xs → slice_get xs n ≡ Some x → P x

@@ -1,16 +1,15 @@
 -- The segments of databases by number and key: what an item changes, and that they make up the databases.
-use Rattle.std.proofs.Common.{◌≡◌, refl, sym, ◌∙◌, ap, subst, ℕ, zero, suc, List, [], ◌∷◌, map, length, take, Bool, true, false, Option, Some, None, slice_get, slice_set, inl, inr}
-use Rattle.std.specs.Prelude.{if◌then◌else◌, find, fold, ◌⊎◌}
-use Rattle.std.specs.List.{AllZip, AllByRecursion}
+use Rattle.std.proofs.Common.{◌≡◌, refl, sym, ◌∙◌, ap, subst, ℕ, zero, suc, List, [], ◌∷◌, length, take, Bool, true, false, Option, Some, None, slice_get, slice_set, inl, inr}
+use Rattle.std.specs.Prelude.{if◌then◌else◌, ◌⊎◌}
+use Rattle.std.specs.List.{AllZip}
 use Rattle.fp_model.specs.CheckpointText.{IsMsdbOf}
-use Rattle.fp_model.specs.Items.{FitsMsdb, with_bytes, with_item, with_items}
+use Rattle.fp_model.specs.Items.{FitsMsdb, with_bytes, with_item}
 use Rattle.fp_model.specs.Settle.{with_msdb}
-use Rattle.fp_model.specs.State.{ascend, drop_key, key_of, key_length, segment_of}
+use Rattle.fp_model.specs.State.{drop_key, key_of, key_length, segment_of}
 use Rattle.fp_model.specs.Texts.{same_text}
 use Rattle.fp_model.specs.declared.database.Msdb.{Msdb}
 use Rattle.fp_model.specs.declared.definitions.MsdbDef.{MsdbDef}
-use Rattle.fp_model.specs.declared.log.Item.{Item}
-use Rattle.fp_model.specs.declared.log.Item.TheVariants.{Segment, Image}
+use Rattle.fp_model.specs.declared.log.Item.TheVariants.{Segment}
 use Rattle.msdb_store.specs.Store.{IsFitSegment, segment_in}
 use Rattle.msdb_store.specs.Touches.{made}
 use Rattle.msdb_store.proofs.Ascending.{differ}

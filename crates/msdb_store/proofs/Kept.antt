@@ -1,14 +1,12 @@
 -- A list of field search arguments keeps the key of its segment.
-use Rattle.std.proofs.Common.{◌≡◌, refl, sym, ◌∙◌, ap, subst, arith, ℕ, zero, suc, ◌<◌, ◌≤◌, ◌+◌, List, [], ◌∷◌, ◌++◌, length, take, drop, Bool, true, false, ◌&&◌, ◌||◌, ◌==◌, Option, Some, None, nat_le}
+use Rattle.std.proofs.Common.{◌≡◌, refl, sym, ◌∙◌, ap, subst, arith, ℕ, zero, suc, ◌≤◌, ◌+◌, List, [], ◌∷◌, ◌++◌, length, take, drop, Bool, true, false, ◌&&◌, ◌||◌, ◌==◌, Option, Some, None, nat_le}
 use Rattle.std.specs.Prelude.{if◌then◌else◌, IsTrue}
 use Rattle.std.proofs.lemmas.Bool.Decides.{nat_tests}
-use Rattle.fp_model.specs.Fsas.{Fsa, changed, changed_by, field_bytes, field_of, first_letter, fsa_on, is_change, is_key, is_sum, is_text, is_verify, letter_of, letter_on, list_on, with_change, with_field}
+use Rattle.fp_model.specs.Fsas.{Fsa, changed, changed_by, field_bytes, field_of, fsa_on, is_change, is_key, is_sum, is_text, is_verify, letter_of, letter_on, list_on, with_change, with_field}
 use Rattle.fp_model.specs.State.{key_length, key_of}
 use Rattle.fp_model.specs.Texts.{same_text}
 use Rattle.fp_model.specs.WellFormed.{BeginsWithKey, IsMsdbDef, StandFrom, is_field_length}
 use Rattle.fp_model.specs.declared.definitions.FieldDef.{FieldDef}
-use Rattle.fp_model.specs.declared.definitions.FieldKind.{FieldKind}
-use Rattle.fp_model.specs.declared.definitions.FieldKind.TheVariants.{C}
 use Rattle.fp_model.specs.declared.definitions.MsdbDef.{MsdbDef}
 use Rattle.msdb_store.proofs.Ascending.{not_both}
 

@@ -8,5 +8,6 @@ mod Names
 mod Publishing
 mod Queues
 mod Rooms
+mod Samples
 mod Stagings
 mod Tables

@@ -1,5 +1,5 @@
 -- The keys that a queue names, and those of staged segments.
-use Rattle.std.proofs.Common.{◌≡◌, refl, sym, ◌∙◌, ap, subst, arith, ℕ, zero, suc, ◌<◌, List, [], ◌∷◌, map, length, Bool, true, false, ◌||◌, ◌==◌, ◌&&◌, Option, Some, None, slice_index_or, Contains}
+use Rattle.std.proofs.Common.{◌≡◌, refl, sym, ◌∙◌, ap, subst, arith, ℕ, zero, suc, ◌<◌, List, [], ◌∷◌, map, length, Bool, true, false, ◌||◌, ◌==◌, ◌&&◌, Some, slice_index_or}
 use Rattle.std.specs.Prelude.{if◌then◌else◌, is_some, ◌↔◌}
 use Rattle.std.specs.List.{list_any}
 use Rattle.fp_model.specs.Texts.{same_text}
@@ -9,7 +9,7 @@ use Rattle.fp_model.specs.declared.log.Item.{Item}
 use Rattle.fp_model.specs.declared.log.Item.TheVariants.{Segment, Image}
 use Rattle.msdb_store.specs.Settling.{HasItem, IsNamed, named}
 use Rattle.msdb_store.specs.Touches.{Touch, bytes_at, has_key, item_of}
-use Rattle.msdb_store.proofs.Ascending.{is_same, not_both, same_is}
+use Rattle.msdb_store.proofs.Ascending.{is_same, same_is}
 use Rattle.msdb_store.proofs.Queues.{names}
 use Rattle.msdb_store.proofs.Stagings.{first_true, is_number, number_is, second_true}
 

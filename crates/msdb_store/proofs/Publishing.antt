@@ -8,7 +8,6 @@ use Rattle.fp_model.specs.Items.{with_item, with_items}
 use Rattle.fp_model.specs.LogText.{is_ascending, precedes}
 use Rattle.fp_model.specs.State.{is_below}
 use Rattle.fp_model.specs.Texts.{same_text}
-use Rattle.fp_model.specs.declared.database.Msdb.{Msdb}
 use Rattle.fp_model.specs.declared.definitions.MsdbDef.{MsdbDef}
 use Rattle.fp_model.specs.declared.log.Item.{Item}
 use Rattle.fp_model.specs.declared.log.Item.TheVariants.{Segment, Image}
@@ -17,7 +16,7 @@ use Rattle.msdb_store.specs.Putting.{AreFew, CanPut, KeepsRoom}
 use Rattle.msdb_store.specs.Settling.{IsSegmentItem, IsStaged, adds, has_bytes}
 use Rattle.msdb_store.specs.Store.{IsFitSegment, IsOf, Stored, segment_in}
 use Rattle.msdb_store.specs.Touches.{Touch, made}
-use Rattle.msdb_store.proofs.Ascending.{below_differs, below_trans, first_of, not_both}
+use Rattle.msdb_store.proofs.Ascending.{below_differs, below_trans, not_both}
 use Rattle.msdb_store.proofs.Stagings.{behind_item, first_true, is_number, number_is, second_true}
 
 -- ---- the order of items

@@ -1,6 +1,6 @@
 -- A queue settled call by call.
-use Rattle.std.proofs.Common.{◌≡◌, refl, sym, ◌∙◌, ap, subst, arith, ℕ, zero, suc, ◌<◌, ◌≤◌, ◌+◌, List, [], ◌∷◌, ◌++◌, map, length, take, drop, Bool, true, false, ◌||◌, ◌==◌, ◌&&◌, Option, Some, None, nat_lt}
-use Rattle.std.specs.Prelude.{Result, Ok, Err, ⊤, if◌then◌else◌, is_some, count_by}
+use Rattle.std.proofs.Common.{◌≡◌, refl, sym, ◌∙◌, ap, subst, arith, ℕ, ◌≤◌, ◌+◌, List, [], ◌∷◌, ◌++◌, map, length, Bool, true, false, ◌||◌, ◌==◌, ◌&&◌, Option, Some, None, nat_lt}
+use Rattle.std.specs.Prelude.{Ok, Err, if◌then◌else◌, is_some, count_by}
 use Rattle.std.specs.declared.cmp.Ordering.TheVariants.{Less, Equal, Greater}
 use Rattle.std.specs.declared.cmp.Ordering.{Ordering}
 use Rattle.std.specs.Ordering.{is_lt, nat_cmp, ordering_then}
@@ -19,10 +19,9 @@ use Rattle.fp_model.specs.declared.calls.Deferred.{Deferred}
 use Rattle.fp_model.specs.declared.database.Msdb.{Msdb}
 use Rattle.fp_model.specs.declared.definitions.MsdbDef.{MsdbDef}
 use Rattle.fp_model.specs.declared.log.Item.{Item}
-use Rattle.fp_model.specs.declared.log.Item.TheVariants.{Segment}
 use Rattle.msdb_store.specs.Settling.{IsAnswer, IsSegmentItem, IsStaged, adds, named}
 use Rattle.msdb_store.specs.Faults.{fault_at}
-use Rattle.msdb_store.specs.Steps.{IsGiven, IsStep, Stages}
+use Rattle.msdb_store.specs.Steps.{IsStep, Stages}
 use Rattle.msdb_store.specs.Store.{IsFitSegment, segment_in}
 use Rattle.msdb_store.specs.Touches.{AreInOrder, Touch, bytes_at, has_key, item_of, made, put_touch, seen, touch_cmp}
 use Rattle.msdb_store.proofs.Databases.{item_good, same_databases}

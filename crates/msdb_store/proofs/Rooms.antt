@@ -1,18 +1,15 @@
 -- Room for more segments, and how a change of one table leaves it.
-use Rattle.std.proofs.Common.{◌≡◌, refl, sym, ◌∙◌, ap, subst, arith, ℕ, zero, suc, ◌<◌, ◌≤◌, ◌+◌, ◌-◌, ◌^◌, List, [], ◌∷◌, ◌++◌, map, length, take, Bool, true, false, ◌&&◌, Option, Some, None, slice_get, slice_set, min, inl, inr}
-use Rattle.std.specs.Prelude.{if◌then◌else◌, find, is_none, ◌⊎◌}
-use Rattle.std.specs.List.{AllByRecursion}
-use Rattle.std.proofs.lemmas.Grind.{common_steps}
+use Rattle.std.proofs.Common.{◌≡◌, refl, sym, ◌∙◌, ap, subst, arith, ℕ, zero, suc, ◌<◌, ◌≤◌, ◌+◌, ◌-◌, ◌^◌, List, [], ◌∷◌, ◌++◌, map, length, take, true, Some, None, slice_get, slice_set, min, inl, inr}
+use Rattle.std.specs.Prelude.{find, is_none, ◌⊎◌}
 use Rattle.fp_model.specs.Items.{FitsMsdb}
-use Rattle.fp_model.specs.State.{key_length, key_of, segment_of}
+use Rattle.fp_model.specs.State.{key_of}
 use Rattle.fp_model.specs.Texts.{same_text}
-use Rattle.fp_model.specs.declared.database.Msdb.{Msdb}
 use Rattle.fp_model.specs.declared.definitions.FieldDef.{FieldDef}
 use Rattle.fp_model.specs.declared.definitions.MsdbDef.{MsdbDef}
 use Rattle.fp_model.specs.declared.log.Item.TheVariants.{Segment}
 use Rattle.msdb_store.specs.Putting.{AreFew}
 use Rattle.msdb_store.specs.Settling.{adds, has_bytes}
-use Rattle.msdb_store.specs.Store.{IsFitSegment, IsOf, lacks, least, room, segment_in}
+use Rattle.msdb_store.specs.Store.{IsFitSegment, IsOf, lacks, least, room}
 use Rattle.msdb_store.proofs.Databases.{in_at, key_is}
 use Rattle.msdb_store.proofs.Tables.{belongs, msdb_in, stored}
 use Rattle.std.proofs.lemmas.Option.{slice_get-map}

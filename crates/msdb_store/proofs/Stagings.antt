@@ -1,6 +1,6 @@
 -- Staged segments: what a search finds behind a change, and what they make of the databases.
-use Rattle.std.proofs.Common.{◌≡◌, refl, sym, ◌∙◌, ap, subst, arith, ℕ, ◌+◌, ◌≤◌, List, [], ◌∷◌, map, length, Bool, true, false, ◌&&◌, ◌==◌, Option, Some, None, eqb}
-use Rattle.std.specs.Prelude.{if◌then◌else◌, fold}
+use Rattle.std.proofs.Common.{◌≡◌, refl, sym, ◌∙◌, ap, subst, arith, ℕ, ◌+◌, ◌≤◌, List, [], ◌∷◌, map, length, Bool, true, false, ◌&&◌, ◌==◌, Option, Some, None}
+use Rattle.std.specs.Prelude.{if◌then◌else◌}
 use Rattle.std.specs.declared.cmp.Ordering.{Ordering}
 use Rattle.std.specs.declared.cmp.Ordering.TheVariants.{Less, Equal, Greater}
 use Rattle.std.specs.List.{AllZip, AllByRecursion}
@@ -14,7 +14,7 @@ use Rattle.std.specs.BTreeMap.{insert_entry, is_at}
 use Rattle.std.specs.List.Sorted.{IsStrictlySortedBy}
 use Rattle.std.specs.Map.{keys_of, lookup}
 use Rattle.fp_model.specs.CheckpointText.{IsMsdbOf}
-use Rattle.fp_model.specs.Items.{with_item, with_items}
+use Rattle.fp_model.specs.Items.{with_item}
 use Rattle.fp_model.specs.Texts.{same_text}
 use Rattle.fp_model.specs.declared.database.Msdb.{Msdb}
 use Rattle.fp_model.specs.declared.definitions.MsdbDef.{MsdbDef}
@@ -23,7 +23,7 @@ use Rattle.msdb_store.specs.Store.{IsFitSegment, segment_in}
 use Rattle.msdb_store.specs.Touches.{AreInOrder, Touch, bytes_at, has_key, item_of, made, put_touch, seen, touch_cmp}
 use Rattle.msdb_store.specs.Steps.{Stages}
 use Rattle.msdb_store.proofs.Ascending.{is_same, not_both, same_is}
-use Rattle.msdb_store.proofs.Databases.{at_item, beside_item, item_good, same_databases}
+use Rattle.msdb_store.proofs.Databases.{at_item, beside_item, item_good}
 
 -- ---- numbers and keys
 

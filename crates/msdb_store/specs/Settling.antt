@@ -1,5 +1,5 @@
 -- Settling: which queues may be settled, what is staged of one, and what an answer says.
-use Rattle.std.specs.Prelude.{◌≡◌, ⊤, ℕ, ◌<◌, ◌^◌, List, [], ◌∷◌, length, map, count_by, Contains, Bool, true, false, not, ◌&&◌, is_none, IsTrue, Result, Ok, Err, None, Some, slice_get}
+use Rattle.std.specs.Prelude.{◌≡◌, ⊤, ℕ, List, [], ◌∷◌, map, count_by, Contains, Bool, true, false, ◌&&◌, is_none, IsTrue, Result, Ok, Err, None, Some, slice_get}
 use Rattle.std.specs.List.{AllByRecursion}
 use Rattle.fp_model.specs.FitCalls.{IsFitDeferred}
 use Rattle.fp_model.specs.Items.{with_items}

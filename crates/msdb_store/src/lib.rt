@@ -12,7 +12,6 @@ pub use staged::{Staged, VerifyFault};
 pub use store::MsdbStore;
 
 #[cfg(test)]
-mod tests;
-
-#[cfg(test)]
 mod settling_tests;
+#[cfg(test)]
+mod tests;

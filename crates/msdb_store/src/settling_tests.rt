@@ -97,12 +97,7 @@ fn delete(alloc: Global, key: [u8; 4]) -> Result<Deferred, AllocError>
 }
 
 // Settles two calls.
-fn settle(
-    alloc: Global,
-    store: &MsdbStore,
-    a: Deferred,
-    b: Deferred,
-) -> Result<Staged, VerifyFault>
+fn settle(alloc: Global, store: &MsdbStore, a: Deferred, b: Deferred) -> Result<Staged, VerifyFault>
     requires { (defs : ListOf DefOf) × IsOf defs store.now × AllByRecursion IsMsdbDef defs × IsFitDeferred defs a × IsFitDeferred defs b }
     ensures { (defs : ListOf DefOf) → IsOf defs store.now → AllByRecursion IsMsdbDef defs → IsFitDeferred defs a → IsFitDeferred defs b → IfOk result (IsStaged defs store.now.msdbs) }
 {
@@ -163,12 +158,18 @@ fn calls_meet_what_those_before_left(rt: HostRuntime) -> Result<(), Fail> {
     let credit = field_call(alloc, *b"A001", b'+', b"10")?;
     let items = commit(alloc, &mut store, opened, credit)?;
     assert_eq!(rt; items.len(), 1);
-    assert_eq!(rt; segments(alloc, &store)?.as_slice(), b"A001\x00\x00\x11\x0c".as_slice());
+    assert_eq!(rt;
+        segments(alloc, &store)?.as_slice(),
+        b"A001\x00\x00\x11\x0c".as_slice()
+    );
     let opened = insert(alloc, *b"B002\x00\x00\x00\x0c")?;
     let closed = delete(alloc, *b"B002")?;
     let items = commit(alloc, &mut store, opened, closed)?;
     assert_eq!(rt; items.len(), 1);
-    assert_eq!(rt; segments(alloc, &store)?.as_slice(), b"A001\x00\x00\x11\x0c".as_slice());
+    assert_eq!(rt;
+        segments(alloc, &store)?.as_slice(),
+        b"A001\x00\x00\x11\x0c".as_slice()
+    );
     Ok(())
 }
 
@@ -180,15 +181,24 @@ fn the_first_failure_is_told(rt: HostRuntime) -> Result<(), Fail> {
     let absent = field_call(alloc, *b"A001", b'+', b"1")?;
     let opened = insert(alloc, *b"A001\x00\x00\x10\x0c")?;
     let outcome = settle(alloc, &store, absent, opened);
-    assert_eq!(rt; fault(alloc, outcome)?.as_slice(), b"\x00\x00\x00\x00\xff\xff".as_slice());
+    assert_eq!(rt;
+        fault(alloc, outcome)?.as_slice(),
+        b"\x00\x00\x00\x00\xff\xff".as_slice()
+    );
     let opened = insert(alloc, *b"A001\x00\x00\x10\x0c")?;
     let verify = field_call(alloc, *b"A001", b'H', b"101")?;
     let outcome = settle(alloc, &store, opened, verify);
-    assert_eq!(rt; fault(alloc, outcome)?.as_slice(), b"\x00\x00\x00\x01\x00\x00\x00\x00\x10\x0c".as_slice());
+    assert_eq!(rt;
+        fault(alloc, outcome)?.as_slice(),
+        b"\x00\x00\x00\x01\x00\x00\x00\x00\x10\x0c".as_slice()
+    );
     let opened = insert(alloc, *b"A001\x99\x99\x99\x9c")?;
     let overflow = field_call(alloc, *b"A001", b'+', b"1")?;
     let outcome = settle(alloc, &store, opened, overflow);
-    assert_eq!(rt; fault(alloc, outcome)?.as_slice(), b"\x00\x00\x00\x01\x00\x00\x99\x99\x99\x9c".as_slice());
+    assert_eq!(rt;
+        fault(alloc, outcome)?.as_slice(),
+        b"\x00\x00\x00\x01\x00\x00\x99\x99\x99\x9c".as_slice()
+    );
     assert_eq!(rt; segments(alloc, &store)?.len(), 0);
     Ok(())
 }

@@ -1,9 +1,5 @@
-use Rattle.std.proofs.Common.{◌≡◌, ◌∙◌, ◌+◌, ◌∷◌, ◌==◌, ap, sym, subst, true, false, drop, length, arith, rules}
-use Rattle.std.specs.Prelude.{Result, Ok, Err, ⊤, is_err}
+use Rattle.std.proofs.Common.{◌≡◌, ◌∙◌, ◌+◌, ◌∷◌, ◌==◌, ap, sym, subst, drop, length, arith, rules}
 use Rattle.std.proofs.lemmas.List.{drop_all}
-use Rattle.fld_calls.specs.declared.field.Refusal.{Refusal}
-use Rattle.fld_calls.specs.Forms.{form_of, of_fields}
-use Rattle.fld_calls.specs.Refusals.{letter_in}
 use Rattle.fld_calls.proofs.SettleLemmas.{IsSettling, all_good, bad_letter, bad_one, good_letter, here, one_more}
 use Rattle.fld_calls.proofs.settling.settle_fsas.Goals as goal
 

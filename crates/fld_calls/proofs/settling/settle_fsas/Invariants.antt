@@ -1,5 +1,4 @@
 use Rattle.std.proofs.Common.{◌≡◌, length, drop}
-use Rattle.fld_calls.specs.Forms.{forms}
 use Rattle.fld_calls.proofs.SettleLemmas.{IsSettling}
 use Rattle.fld_calls.proofs.settling.settle_fsas.Given as goal
 

@@ -1,6 +1,3 @@
-use Rattle.std.proofs.Common.{subst, sym}
-use Rattle.fld_calls.specs.Forms.{forms}
-use Rattle.fld_calls.specs.Settling.{IsSettled}
 use Rattle.fld_calls.proofs.SettleLemmas.{only_memory, text_read, text_short}
 use Rattle.fld_calls.proofs.settling.settle_list.Goals as goal
 

@@ -1,13 +1,11 @@
-use Rattle.std.proofs.Common.{◌≡◌, ◌∙◌, ◌+◌, ◌<◌, ◌≤◌, ◌∷◌, ◌++◌, [], List, ap, sym, subst, take, drop, length, slice_index_or, arith, rules}
+use Rattle.std.proofs.Common.{◌≡◌, ◌∙◌, ◌+◌, ◌<◌, ◌≤◌, ◌∷◌, ◌++◌, [], ap, sym, subst, take, drop, length, slice_index_or, arith, rules}
 use Rattle.std.specs.Prelude.{Err}
 use Rattle.std.proofs.lemmas.List.{drop_all, take_all, take_more}
 use Rattle.fld_calls.proofs.SettleLemmas.{here}
 use Rattle.fp_model.specs.FitCalls.{IsFitDeferred}
 use Rattle.fp_model.specs.Settle.{settle}
-use Rattle.fp_model.specs.declared.database.Msdb.{Msdb}
-use Rattle.fp_model.specs.declared.definitions.MsdbDef.{MsdbDef}
-use Rattle.msdb_store.specs.Settling.{CanSettle, IsAnswer}
-use Rattle.msdb_store.specs.Steps.{AtCall, Stages}
+use Rattle.msdb_store.specs.Settling.{IsAnswer}
+use Rattle.msdb_store.specs.Steps.{AtCall}
 use Rattle.msdb_store.proofs.Ascending.{all_at}
 use Rattle.msdb_store.proofs.Names.{same_keys}
 use Rattle.msdb_store.proofs.Queues.{IsSettling, bad_answer, good_answer, one_more, staged_of, step_long}

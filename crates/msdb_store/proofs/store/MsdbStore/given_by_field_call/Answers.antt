@@ -1,4 +1,4 @@
-use Rattle.std.proofs.Common.{◌≡◌, ◌∙◌, ◌<◌, sym, ap, subst, length, arith}
+use Rattle.std.proofs.Common.{◌∙◌, ◌<◌, sym, ap, subst, length, arith}
 use Rattle.std.proofs.lemmas.List.{length-map}
 use Rattle.fp_model.specs.WellFormed.{IsMsdbDef, StandFrom}
 use Rattle.fp_model.specs.declared.calls.Deferred.TheVariants.{Fld}

@@ -1,4 +1,4 @@
-use Rattle.std.proofs.Common.{◌≡◌, ◌∙◌, ◌<◌, sym, ap, subst, take, Some, length}
+use Rattle.std.proofs.Common.{◌∙◌, ◌<◌, sym, ap, subst, take, Some, length}
 use Rattle.std.proofs.lemmas.List.{length-map}
 use Rattle.fp_model.specs.State.{key_of as key_of_fields}
 use Rattle.fp_model.specs.declared.database.Msdb.{Msdb}

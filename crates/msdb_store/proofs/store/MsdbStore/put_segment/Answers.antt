@@ -1,17 +1,15 @@
 use Rattle.std.proofs.Common.{◌≡◌, ◌∙◌, ◌≤◌, ◌+◌, ◌<◌, ◌^◌, ℕ, sym, ap, subst, refl, List, Some, Bool, true, false, OnOk, length, map, slice_get, slice_set, arith, rules, vec_capacity}
-use Rattle.std.specs.Prelude.{if◌then◌else◌, IsOk}
+use Rattle.std.specs.Prelude.{if◌then◌else◌}
 use Rattle.std.proofs.lemmas.Grind.{common_steps}
 use Rattle.fp_model.specs.Items.{with_item}
-use Rattle.fp_model.specs.State.{ascend, drop_key, key_of, put_by_key}
-use Rattle.fp_model.specs.declared.database.Msdb.{Msdb}
+use Rattle.fp_model.specs.State.{ascend, key_of}
 use Rattle.fp_model.specs.declared.definitions.FieldDef.{FieldDef}
-use Rattle.fp_model.specs.declared.definitions.MsdbDef.{MsdbDef}
 use Rattle.fp_model.specs.declared.log.Item.TheVariants.{Segment}
-use Rattle.msdb_store.specs.Putting.{CanPut, KeepsRoom}
+use Rattle.msdb_store.specs.Putting.{KeepsRoom}
 use Rattle.msdb_store.specs.Settling.{adds}
-use Rattle.msdb_store.specs.Store.{IsFitSegment, IsOf, Stored, lacks, least, room}
+use Rattle.msdb_store.specs.Store.{IsOf, Stored, lacks, least, room}
 use Rattle.msdb_store.specs.declared.table.Table.{Table}
-use Rattle.msdb_store.proofs.Tables.{Changed, belongs, msdb_in, put_into, stored, taken_away, with_room}
+use Rattle.msdb_store.proofs.Tables.{belongs, msdb_in, put_into, taken_away, with_room}
 use Rattle.msdb_store.proofs.Ascending.{stands_there}
 use Rattle.msdb_store.proofs.Calls.{some_bytes}
 use Rattle.msdb_store.proofs.Rooms.{adds_lacks, few_set, least_at, least_set, room_has, room_less}

@@ -1,4 +1,4 @@
-use Rattle.std.proofs.Common.{◌≡◌, ◌∙◌, ap, subst, take, ℕ, Bool, true, length, arith}
+use Rattle.std.proofs.Common.{◌≡◌, ◌∙◌, ap, subst, take, ℕ, Bool, true, arith}
 use Rattle.std.specs.Prelude.{if◌then◌else◌, is_none}
 use Rattle.msdb_store.specs.Store.{lacks}
 use Rattle.fp_model.specs.State.{key_of}
