@@ -1,5 +1,5 @@
 #!/bin/sh
-# Makes the small sample's databases in a folder of its own, runs its one message, and prints the reply.
+# Makes the small sample's databases in a folder of its own, runs its messages, and prints the replies.
 # The first time it proves and builds the program.
 set -e
 cd "$(dirname "$0")/../crates/ims_fp"

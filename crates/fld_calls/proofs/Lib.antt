@@ -4,5 +4,6 @@ pub mod Letters
 pub mod ListLemmas
 pub mod NumberSizes
 pub mod ReadLemmas
+pub mod SettleLemmas
 pub mod TryLemmas
 pub mod WriteLemmas

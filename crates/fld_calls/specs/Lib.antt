@@ -1,3 +1,4 @@
 pub mod Forms
 pub mod Operations
 pub mod Refusals
+pub mod Settling

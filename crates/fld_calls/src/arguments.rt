@@ -1,6 +1,7 @@
 //! Field search arguments, and why bytes aren't a list of them.
 ghost use Rattle.std.specs.Prelude.{◌≡◌};
 ghost use Rattle.fld_calls.specs.declared.arguments.FsaFault.TheVariants as fault;
+ghost use Rattle.fld_calls.specs.declared.arguments.SettleFault.TheVariants as settle;
 
 use fp_model::{Bytes, Name};
 use std::alloc::AllocError;
@@ -34,5 +35,23 @@ impl From<AllocError> for FsaFault {
 
     fn from(_: AllocError) -> FsaFault {
         FsaFault::Memory
+    }
+}
+
+/// Why a list of arguments isn't settled.
+#[derive(Debug, PartialEq, Eq, Drop)]
+pub enum SettleFault {
+    /// The place of the first bad argument, counted from 0, and the bytes of its field as it met them: none where there
+    /// is no such field.
+    Bad { place: u16, found: Bytes },
+    /// There was no memory.
+    Memory,
+}
+
+impl From<AllocError> for SettleFault {
+    ghost from_gives = { λ _ e. e ≡ settle.Memory };
+
+    fn from(_: AllocError) -> SettleFault {
+        SettleFault::Memory
     }
 }

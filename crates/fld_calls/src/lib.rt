@@ -30,10 +30,12 @@ mod field;
 mod layout;
 mod operand;
 mod operation;
+mod settling;
 mod trying;
 
-pub use arguments::{Fsa, FsaFault};
+pub use arguments::{Fsa, FsaFault, SettleFault};
 pub use layout::{read_list, write_list};
+pub use settling::settle_list;
 pub use trying::try_fsas;
 
 #[cfg(test)]

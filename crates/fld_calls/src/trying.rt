@@ -2,7 +2,7 @@
 ghost use Rattle.std.specs.Prelude.{◌≡◌, ◌+◌, ◌≤◌, OnErr, OnOk, length};
 ghost use Rattle.fp_model.specs.Fsas.{all_blank, field_bytes, field_of, fsa_on, letter_of, letter_on, list_on};
 ghost use Rattle.fp_model.specs.WellFormed.{StandFrom};
-ghost use Rattle.fld_calls.specs.Forms.{form_of, forms, with_letters};
+ghost use Rattle.fld_calls.specs.Forms.{form_of, forms, of_fields, with_letters};
 ghost use Rattle.fld_calls.specs.Operations.{byte_of};
 ghost use Rattle.fld_calls.specs.Refusals.{letter_in, segment_behind};
 
@@ -12,10 +12,10 @@ use crate::operation::Operation;
 use fp_model::{FieldDef, List, MsdbDef, Name};
 
 // The field of a name.
-fn find_field(def: &MsdbDef, name: &Name) -> Option<FieldDef>
-    ensures { result ≡ field_of def.now.fields name.now.0 }
+pub(crate) fn find_field(fields: &List<FieldDef>, name: &Name) -> Option<FieldDef>
+    ensures { result ≡ field_of fields.now name.now.0 }
 {
-    for field in def.fields.as_slice() {
+    for field in fields.as_slice() {
         if field.name == *name {
             return Some(*field);
         }
@@ -58,16 +58,16 @@ fn try_at(
 }
 
 // One argument. A good change is made, and a bad argument leaves the segment.
-fn try_fsa(def: &MsdbDef, fsa: &Fsa, segment: &mut [u8]) -> Result<(), Refusal>
-    requires fields { StandFrom 0 def.now.fields def.now.length }
-    requires whole { length segment.old ≡ def.now.length }
-    ensures letter { letter_in result ≡ letter_of def.now (form_of fsa.now) segment.old }
-    ensures segment { segment.new ≡ (fsa_on def.now (form_of fsa.now) segment.old).segment }
+pub(crate) fn try_fsa(fields: &List<FieldDef>, fsa: &Fsa, segment: &mut [u8]) -> Result<(), Refusal>
+    requires { StandFrom 0 fields.now (length segment.old) }
+    ensures letter { letter_in result ≡ letter_of (of_fields fields.now) (form_of fsa.now) segment.old }
+    ensures segment { segment.new ≡ (fsa_on (of_fields fields.now) (form_of fsa.now) segment.old).segment }
+    ensures err { OnErr result (segment.new ≡ segment.old) }
 {
     let Some(operation) = Operation::of(fsa.op) else {
         return Err(Refusal::Operation);
     };
-    let Some(field) = find_field(def, &fsa.field) else {
+    let Some(field) = find_field(fields, &fsa.field) else {
         return Err(Refusal::NoField);
     };
     try_at(&field, operation, fsa.operand.as_slice(), segment)
@@ -86,7 +86,7 @@ pub fn try_fsas(def: &MsdbDef, fsas: &mut List<Fsa>, segment: &mut [u8]) -> bool
     let mut good = true;
     for at in 0..fsas.len() {
         let fsa = fsas.item_mut(at);
-        let outcome = try_fsa(def, fsa, segment);
+        let outcome = try_fsa(&def.fields, fsa, segment);
         fsa.status = letter(outcome);
         good &= outcome.is_ok();
     }

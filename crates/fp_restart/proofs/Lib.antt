@@ -6,3 +6,4 @@ mod Looking
 pub mod Replays
 mod Results
 mod Samples
+mod NoDedbs

@@ -1,7 +1,12 @@
 //! The state of all databases, copied out of the parts that a restart gives.
 ghost use Rattle.fp_model.specs.State.{anchors_in, formatted, start};
+ghost use Rattle.fp_model.specs.History.{IsSerialHistory};
+ghost use Rattle.fp_model.specs.Product.{rules_of};
+ghost use Rattle.fp_model.specs.declared.database.Db.{Db as DbOf};
+ghost use Rattle.fp_model.specs.declared.log.Entry.{Entry};
+ghost use Rattle.fp_model.specs.declared.scripts.Script.{Script};
 ghost use Rattle.fp_restart.specs.declared.fault.RestartFault.TheVariants as faults;
-ghost use Rattle.std.specs.Prelude.{◌≡◌, ◌++◌, ◌*◌, [], IfOk, IsErrOf, OnErr, OnOk, replicate};
+ghost use Rattle.std.specs.Prelude.{◌≡◌, ◌++◌, ◌*◌, [], IfOk, IsErrOf, List as ListOf, OnErr, OnOk, replicate};
 
 use crate::RestartFault;
 use crate::restarting::Parts;
@@ -19,6 +24,11 @@ pub fn whole_db<T: Site>(
 ) -> Result<Db, RestartFault>
     ensures msdbs { IfOk result (λ db. db.msdbs ≡ parts.old.0.msdbs) }
     ensures dedbs { IfOk result (λ db. db.dedbs ≡ (start defs.now).dedbs) }
+
+    // Where the store has the segments of the state that entries lead to, and no data entry databases are defined, it is
+    // that state.
+    ensures means { (scripts : ListOf Script) (entries : ListOf Entry) (last : DbOf) → defs.now.dedbs ≡ [] → IsSerialHistory (rules_of defs.now scripts) entries last
+        → parts.old.0.msdbs ≡ last.msdbs → IfOk result (λ db. db ≡ last) }
     ensures cause { OnErr result (IsErrOf result faults.Memory) }
     ensures parts { parts.new ≡ parts.old }
     ensures site { site.new ≡ site.old }

@@ -78,6 +78,7 @@ impl Lines {
     pub fn new(alloc: Global) -> Result<Lines, AllocError>
         ensures lines { IfOk result (λ it. (left : List ℕ) → lines_ahead it left ≡ lines_of left) }
         ensures fault { IfOk result (λ it. (left : List ℕ) → fault_ahead it left ≡ line_fault left) }
+        ensures given { IfOk result (λ it. lines_given it ≡ 0) }
     {
         Ok(Lines {
             alloc,
@@ -99,6 +100,10 @@ impl Lines {
             fault_ahead self.old (S.left source.old Part.Messages) ≡ fault_ahead self.new (S.left source.new Part.Messages))) }
         ensures short { IfOk result (λ next. IfSome next (λ line. length line ≤ 2100)) }
 
+        // It counts as one, and 1,000,000 are given at most.
+        ensures given { IfOk result (λ next. IfSome next (λ line. lines_given self.new ≡ lines_given self.old + 1)) }
+        ensures few { IfOk result (λ next. IfSome next (λ line. lines_given self.new ≤ 1000000)) }
+
         // At the end there is nothing ahead, and it stays so.
         ensures none { S.told source.old → IfOk result (λ next. IfNone next
             (to_come self.old (S.left source.old Part.Messages) ≡ [])) }
@@ -111,6 +116,10 @@ impl Lines {
         ensures too_many { S.told source.old → (n : ℕ) → IsErrOf result (LineFault.TooMany n) →
             fault_ahead self.old (S.left source.old Part.Messages) ≡ Some (TooManyLines n) }
         ensures cause { IsErrOf result LineFault.Failed → Rose (S.faults source.old) (S.faults source.new) }
+
+        // The line of a fault is the next one.
+        ensures long_number { (n : ℕ) → IsErrOf result (LineFault.TooLong n) → n ≡ lines_given self.old + 1 }
+        ensures last_number { (n : ℕ) → IsErrOf result (LineFault.TooMany n) → n ≡ lines_given self.old + 1 }
 
         // Of the source only the messages were read.
         ensures source { ReadsOnly S.told S.left S.faults S.holds S.keeps Part.Messages source.old source.new }

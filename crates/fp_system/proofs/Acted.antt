@@ -1,7 +1,6 @@
 -- What restarting and then serving leave of a safe site.
 use Rattle.std.proofs.Common.{◌≡◌, inl, inr, refl, sym, ap, subst, ◌∙◌, arith, ℕ, List, [], ◌++◌, length, take}
 use Rattle.std.proofs.lemmas.List.{append-nil, take_all}
-use Rattle.fp_model.specs.declared.definitions.Defs.{Defs}
 use Rattle.fp_model.specs.declared.log.Entry.{Entry}
 use Rattle.fp_model.specs.LogText.{Front, first_gate}
 use Rattle.fp_model.specs.State.{start}
@@ -18,10 +17,11 @@ use Rattle.log_groups.specs.Log.{LogState}
 use Rattle.msdb_store.specs.Store.{Stored}
 use Rattle.fp_system.specs.declared.parts.Setup.{Setup}
 use Rattle.fp_system.specs.declared.status.Status.TheVariants as status
-use Rattle.fp_system.specs.Ims.{IsAnswered, IsOr, status_of_fault}
+use Rattle.fp_system.specs.Answers.{IsOr, IsFault, status_of_fault}
+use Rattle.fp_system.specs.Ims.{IsAnswered}
 use Rattle.fp_system.specs.Parts.{Job, front_for}
 use Rattle.fp_system.specs.Serving.{IsAccount, StandsAt, Serves, Halts}
-use Rattle.fp_system.specs.Setups.{IsSetupOf}
+use Rattle.fp_system.specs.Setups.{IsSetup, job_of}
 use Rattle.fp_system.proofs.Stands.{safe_at_rest}
 
 -- ---- faults of storage
@@ -32,11 +32,11 @@ or_foreign fault.SiteFault never = inr tt
 or_foreign (fault.Damaged set at) never = absurd (never set at refl)
 or_foreign fault.Memory never = inr tt
 
-pub or_done : (f : RestartFault) → (f ≡ fault.Foreign → ⊥) → ((set at : ℕ) → f ≡ fault.Damaged set at → ⊥) → IsOr status.Done (status_of_fault f)
-or_done fault.Foreign never never2 = absurd (never refl)
-or_done fault.SiteFault never never2 = inr tt
-or_done (fault.Damaged set at) never never2 = absurd (never2 set at refl)
-or_done fault.Memory never never2 = inr tt
+pub is_fault : (f : RestartFault) → (f ≡ fault.Foreign → ⊥) → ((set at : ℕ) → f ≡ fault.Damaged set at → ⊥) → IsFault (status_of_fault f)
+is_fault fault.Foreign never never2 = absurd (never refl)
+is_fault fault.SiteFault never never2 = tt
+is_fault (fault.Damaged set at) never never2 = absurd (never2 set at refl)
+is_fault fault.Memory never never2 = tt
 
 pub damaged_is : (f : RestartFault) (set at : ℕ) → status_of_fault f ≡ status.Damaged set at → f ≡ fault.Damaged set at
 damaged_is fault.Foreign set at e = absurd cc
@@ -50,29 +50,30 @@ no_account : (job : Job) → IsAccount job []
 no_account job = record { last = start job.defs; history = ([], (refl, refl)); fit = tt; made = refl }
 
 -- a new log is safe
-pub made_safe : (job : Job) (setup : Setup) (disk : Disk) → IsSetupOf job setup → IsAtRest disk (texts_of setup.front) [] (first_gate (texts_of setup.front)) → IsSafe job.defs job.scripts job.scripts_text disk []
-made_safe job setup disk is rest = safe_at_rest job [] disk [] (first_gate (front_for job)) (no_account job) refl (subst (λ (f : Front). IsAtRest disk f [] (first_gate f)) is.front rest)
+pub made_safe : (setup : Setup) (disk : Disk) → IsSetup setup → IsAtRest disk (texts_of setup.front) [] (first_gate (texts_of setup.front))
+    → IsSafe setup.defs setup.scripts.scripts setup.scripts.text disk []
+made_safe setup disk is rest =
+    let job = job_of setup in
+    safe_at_rest job [] disk [] (first_gate (front_for job)) (no_account job) refl (subst (λ (f : Front). IsAtRest disk f [] (first_gate f)) is.front rest)
 
 -- ---- restarting
 
-module _ (job : Job) (setup : Setup) (is : IsSetupOf job setup) where
-  scripts_same : (texts_of setup.front).scripts ≡ job.scripts_text
+module _ (setup : Setup) (is : IsSetup setup) where
+  abbrev its_job : Job
+  its_job = job_of setup
+
+  scripts_same : (texts_of setup.front).scripts ≡ setup.scripts.text
   scripts_same = ap (λ (f : Front). f.scripts) is.front
 
-  pub to_setup : (bytes : List ℕ) (entries : List Entry) → IsSound job.defs job.scripts job.scripts_text bytes entries → IsSound setup.defs job.scripts (texts_of setup.front).scripts bytes entries
-  to_setup bytes entries sound =
-      subst (λ (d : Defs). IsSound d job.scripts (texts_of setup.front).scripts bytes entries) (sym is.defs)
-      (subst (λ (t : List ℕ). IsSound job.defs job.scripts t bytes entries) (sym scripts_same) sound)
-
-  from_setup : (disk : Disk) (entries : List Entry) (store : Stored) (log : LogState) → StandsFor setup.defs job.scripts (texts_of setup.front) disk entries store log → StandsFor job.defs job.scripts (front_for job) disk entries store log
-  from_setup disk entries store log stands =
-      subst (λ (f : Front). StandsFor job.defs job.scripts f disk entries store log) is.front
-      (subst (λ (d : Defs). StandsFor d job.scripts (texts_of setup.front) disk entries store log) is.defs stands)
+  pub to_setup : (bytes : List ℕ) (entries : List Entry) → IsSound setup.defs setup.scripts.scripts setup.scripts.text bytes entries
+      → IsSound setup.defs setup.scripts.scripts (texts_of setup.front).scripts bytes entries
+  to_setup bytes entries sound = subst (λ (t : List ℕ). IsSound setup.defs setup.scripts.scripts t bytes entries) (sym scripts_same) sound
 
   -- what restart gives of a safe site stands at its entries
-  pub stands_restarted : (h h1 : Disk) (entries : List Entry) (store : Stored) (log : LogState) → IsSafe job.defs job.scripts job.scripts_text h entries → StandsFor setup.defs job.scripts (texts_of setup.front) h1 entries store log → StandsAt job entries h1 store log
+  pub stands_restarted : (h h1 : Disk) (entries : List Entry) (store : Stored) (log : LogState) → IsSafe setup.defs setup.scripts.scripts setup.scripts.text h entries
+      → StandsFor setup.defs setup.scripts.scripts (texts_of setup.front) h1 entries store log → StandsAt its_job entries h1 store log
   stands_restarted h h1 entries store log safe found =
-      let f = from_setup h1 entries store log found in
+      let f = subst (λ (f : Front). StandsFor setup.defs setup.scripts.scripts f h1 entries store log) is.front found in
       record {
         account = record { last = safe.now.last; history = safe.now.history; fit = safe.now.fit; made = safe.now.made };
         groups = f.groups;

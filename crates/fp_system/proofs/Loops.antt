@@ -1,9 +1,7 @@
 -- One message after another.
-use Rattle.std.proofs.Common.{◌≡◌, refl, sym, ap, subst, ◌∙◌, arith, ℕ, zero, suc, ◌+◌, ◌≤◌, ◌<◌, List, [], ◌∷◌, ◌++◌, length, map, take, get_or, append_assoc}
-use Rattle.std.specs.List.{AllByRecursion}
-use Rattle.std.proofs.lemmas.List.{append-nil, map-append, take_more, take_all}
+use Rattle.std.proofs.Common.{◌≡◌, refl, sym, ap, subst, ◌∙◌, arith, ℕ, suc, ◌+◌, ◌-◌, List, [], ◌∷◌, ◌++◌, length, map, take, append_assoc, length-append}
+use Rattle.std.proofs.lemmas.List.{append-nil, map-append, take_at, take_all}
 use Rattle.std.proofs.lemmas.List.Concat.{flat_map-append}
-use Rattle.fp_model.specs.declared.calls.Message.{Message}
 use Rattle.fp_model.specs.declared.log.Entry.{Entry}
 use Rattle.fp_model.specs.ReplyLine.{line_of}
 use Rattle.fp_site.specs.Disk.{Disk, Snapshot, IsLawful}
@@ -12,8 +10,13 @@ use Rattle.fp_site.proofs.Runs.{joined, weaker}
 use Rattle.log_groups.specs.Kept.{IsSound, IsSafe, GoesOn, lines_of_entries}
 use Rattle.log_groups.specs.Log.{LogState}
 use Rattle.msdb_store.specs.Store.{Stored}
+use Rattle.fp_source.specs.declared.lines.LineFault.{LineFault}
+use Rattle.fp_source.specs.declared.lines.LineFault.TheVariants as fault
+use Rattle.fp_system.specs.Answers.{status_of_line}
+use Rattle.fp_system.specs.declared.status.Status.TheVariants as status
 use Rattle.fp_system.specs.Parts.{Job}
 use Rattle.fp_system.specs.Serving.{StandsAt, Serves, Halts}
+use Rattle.fp_system.proofs.Stands.{safe_at_rest}
 use Rattle.fp_system.proofs.Steps.{stays_here}
 
 -- some messages were served, and every moment since was one of that
@@ -87,22 +90,53 @@ module _ (job : Job) (entries : List Entry) (h0 h h1 : Disk) (lines : List (List
     moments = moments_more run;
   }
 
--- ---- the list of messages
+  -- however far it came, it may end there
+  pub halts_going : Halts job entries h0 h
+  halts_going = record {
+    later = so_far;
+    safe = safe_at_rest job (entries ++ so_far) h going.serves.stands.groups log.gate going.serves.stands.account going.serves.stands.all going.serves.stands.at_rest;
+    count = length (lines_of_entries so_far);
+    sent = going.serves.sent ∙ ap (λ (t : List ℕ). h0.sent ++ t) (sym (take_all (length (lines_of_entries so_far)) (lines_of_entries so_far) (omega arith)));
+  }
 
--- each of them has what all have
-pub at_place : {X : Type 0} (Q : X → Type 0) (xs : List X) (i : ℕ) (d : X) → i < length xs → AllByRecursion Q xs → Q (get_or xs i d)
-at_place Q [] i d lt all = absurd (omega arith)
-at_place Q (x ∷ xs) zero d lt all = all.0
-at_place Q (x ∷ xs) (suc i) d lt all = at_place Q xs i d (omega arith) all.1
+-- ---- the lines
 
-abbrev pub lines_in : List Message → List (List ℕ)
-lines_in messages = map (λ m. m.line) messages
+-- the first of all lines were served, and these are ahead
+pub record HasServed (job : Job) (entries : List Entry) (old now : Disk) (whole ahead : List (List ℕ)) (given : ℕ) (store : Stored) (log : LogState) : Type 0 where
+  pub served : List (List ℕ)
+  pub splits : whole ≡ served ++ ahead
+  pub count : length served ≡ given
+  pub going : Going job entries old now served store log
 
--- the lines of one message more
-pub one_line_more : (messages : List Message) (i : ℕ) (m : Message) → i < length messages → m ≡ get_or messages i m → lines_in (take (i + 1) messages) ≡ lines_in (take i messages) ++ m.line ∷ []
-one_line_more messages i m lt is =
-    ap lines_in (take_more messages i m lt) ∙ map-append (λ (x : Message). x.line) (take i messages) (get_or messages i m ∷ [])
-    ∙ ap (λ (x : Message). lines_in (take i messages) ++ x.line ∷ []) (sym is)
+pub served_none : (job : Job) (entries : List Entry) (h : Disk) (whole ahead : List (List ℕ)) (given : ℕ) (store : Stored) (log : LogState) → ahead ≡ whole → given ≡ 0
+    → Going job entries h h [] store log → HasServed job entries h h whole ahead given store log
+served_none job entries h whole ahead given store log all none going = record { served = []; splits = sym all; count = sym none; going = going }
 
-pub all_lines : (messages : List Message) (i : ℕ) → length messages ≤ i → lines_in (take i messages) ≡ lines_in messages
-all_lines messages i le = ap lines_in (take_all i messages le)
+module _ (job : Job) (entries : List Entry) (h0 h : Disk) (whole ahead : List (List ℕ)) (given : ℕ) (store : Stored) (log : LogState) (so : HasServed job entries h0 h whole ahead given store log) where
+  pub served_more : (h1 : Disk) (line : List ℕ) (ahead1 : List (List ℕ)) (given1 : ℕ) (store1 : Stored) (log1 : LogState) → ahead ≡ line ∷ ahead1 → given1 ≡ given + 1
+      → Serves job (entries ++ so.going.serves.later) h h1 (line ∷ []) store1 log1 → Through h h1 (GoesOn job.defs job.scripts job.scripts_text h (entries ++ so.going.serves.later))
+      → HasServed job entries h0 h1 whole ahead1 given1 store1 log1
+  served_more h1 line ahead1 given1 store1 log1 next more one run = record {
+    served = so.served ++ line ∷ [];
+    splits = so.splits ∙ ap (λ (ls : List (List ℕ)). so.served ++ ls) next ∙ sym (append_assoc so.served (line ∷ []) ahead1);
+    count = let n = length-append so.served (line ∷ []) in omega (arith, n, so.count, more);
+    going = going_more job entries h0 h h1 so.served store log so.going line store1 log1 one run;
+  }
+
+  -- at the end all were served
+  pub served_all : ahead ≡ [] → Serves job entries h0 h whole store log
+  served_all none = subst (λ (ls : List (List ℕ)). Serves job entries h0 h ls store log) (sym (so.splits ∙ ap (λ (ls : List (List ℕ)). so.served ++ ls) none ∙ append-nil so.served)) so.going.serves
+
+  -- and where a line isn't taken, those before it
+  pub served_before : (number : ℕ) → number ≡ given + 1 → Serves job entries h0 h (take (number - 1) whole) store log
+  served_before number is =
+      let n : length so.served ≡ number - 1 = omega (arith, so.count, is) in
+      subst (λ (ls : List (List ℕ)). Serves job entries h0 h ls store log) (sym (ap (take (number - 1)) so.splits ∙ take_at so.served ahead (number - 1) n)) so.going.serves
+
+-- ---- the number of a line that isn't taken
+
+pub number_is : (f : LineFault) (number next : ℕ) → status_of_line f ≡ status.Line number → ((n : ℕ) → f ≡ fault.TooLong n → n ≡ next) → ((n : ℕ) → f ≡ fault.TooMany n → n ≡ next) → number ≡ next
+number_is (fault.TooLong n) number next e long many = let same : number ≡ n = cc in same ∙ long n refl
+number_is (fault.TooMany n) number next e long many = let same : number ≡ n = cc in same ∙ many n refl
+number_is fault.Failed number next e long many = absurd cc
+number_is fault.Memory number next e long many = absurd cc

@@ -1,5 +1,6 @@
 -- What holds of a good answer.
-use Rattle.std.specs.Prelude.{Result, Ok, Err, IfOk, OnErr, OnOk}
+use Rattle.std.proofs.Common.{◌≡◌, subst}
+use Rattle.std.specs.Prelude.{Result, Ok, Err, IfOk, OnErr, OnOk, Option, Some, None, IfSome, IfNone}
 
 -- of a good answer more is said
 pub ok_with : {A E : Type 0} (r : Result A E) (R Q : A → Type 0) → ((x : A) → R x → Q x) → IfOk r R → IfOk r Q
@@ -14,3 +15,10 @@ at_err (Err e) Q q = q
 pub at_ok : {A E : Type 0} (r : Result A E) (Q : Type 0) → Q → OnOk r Q
 at_ok (Ok x) Q q = q
 at_ok (Err e) Q q = tt
+
+-- what holds of what there is, and of nothing
+pub at_some : {A : Type 0} (o : Option A) (x : A) (P : A → Type 0) → o ≡ Some x → IfSome o P → P x
+at_some o x P e h = subst (λ v. IfSome v P) e h
+
+pub at_none : {A : Type 0} (o : Option A) (P : Type 0) → o ≡ None → IfNone o P → P
+at_none o P e h = subst (λ v. IfNone v P) e h

@@ -4,10 +4,8 @@ use Rattle.std.specs.List.{AllByRecursion}
 use Rattle.std.proofs.lemmas.List.{append-nil}
 use Rattle.std.proofs.lemmas.Grind.{fold-append}
 use Rattle.std.proofs.lemmas.List.Concat.{flat_map-append, flat_map-cons}
-use Rattle.fp_model.specs.declared.definitions.Defs.{Defs}
 use Rattle.fp_model.specs.declared.log.Entry.{Entry}
 use Rattle.fp_model.specs.declared.log.Item.{Item}
-use Rattle.fp_model.specs.declared.log.Item.TheVariants.{Segment, Image}
 use Rattle.fp_model.specs.Groups.{entries_of}
 use Rattle.fp_model.specs.Items.{IsFit, with_item, with_items}
 use Rattle.fp_model.specs.Product.{rules_of}
@@ -16,11 +14,12 @@ use Rattle.fp_model.proofs.HistoryLemmas.{join, states_counted}
 use Rattle.fp_site.specs.Disk.{Disk}
 use Rattle.fp_site.proofs.Images.{durable_settles}
 use Rattle.log_groups.specs.Images.{IsLog, IsAtRest}
+use Rattle.lone_region.specs.Next.{ComesNext, IsServed}
 use Rattle.log_groups.specs.Kept.{IsSound, IsSafe, items_of}
-use Rattle.msdb_store.specs.Store.{IsFitSegment}
 use Rattle.fp_system.specs.Parts.{Job, front_for}
-use Rattle.fp_system.specs.Next.{ComesNext}
-use Rattle.fp_system.specs.Serving.{IsAccount}
+use Rattle.fp_system.specs.Serving.{IsAccount, IsReady}
+use Rattle.log_groups.specs.Log.{LogState}
+use Rattle.msdb_store.specs.Store.{Stored, IsOf}
 
 -- a log of these groups is sound, where their entries may stand in one
 pub sound_log : (job : Job) (entries : List Entry) (bytes : List ℕ) (groups : List (List Entry)) (gate : ℕ) → IsAccount job entries → entries ≡ entries_of groups → IsLog (front_for job) bytes groups gate → IsSound job.defs job.scripts job.scripts_text bytes entries
@@ -76,8 +75,19 @@ account_more job entries account line e next = record {
       ∙ ap (λ ms. with_items job.defs.msdbs ms e.items) account.made ∙ next.made;
 }
 
--- items that are fit may be put in a store
-pub fit_segments : (defs : Defs) (items : List Item) → AllByRecursion (IsFit defs) items → AllByRecursion (IsFitSegment defs.msdbs) items
-fit_segments defs [] all = tt
-fit_segments defs (Segment msdb key bytes ∷ items) all = (all.0, fit_segments defs items all.1)
-fit_segments defs (Image set ci bytes ∷ items) all = (tt, fit_segments defs items all.1)
+-- a line that was answered is ready to be sealed
+pub ready_of : (job : Job) (entries : List Entry) (account : IsAccount job entries) (line reply : List ℕ) (old new : LogState) (store : Stored)
+    → IsOf job.defs.msdbs store → old.unsealed ≡ [] → old.sealed ≡ length entries
+    → IsServed job.defs job.scripts account.history.0 account.last line reply old new store → IsReady job entries line reply old.gate store new
+unfolding account_more
+ready_of job entries account line reply old new store of none count served = record {
+  entry = served.entry;
+  of_line = served.comes.of_line;
+  reply_is = served.reply_is;
+  account = account_more job entries account line served.entry served.comes;
+  unsealed = served.unsealed ∙ ap (λ (es : List Entry). es ++ served.entry ∷ []) none;
+  sealed = served.sealed ∙ count;
+  gate_is = served.gate;
+  of = of;
+  segments = served.segments;
+}

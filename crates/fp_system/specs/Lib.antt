@@ -1,10 +1,6 @@
 pub mod Words
 pub mod Texts
-pub mod Small
-pub mod Deposits
-pub mod Next
-pub mod Definitions
-pub mod Scripts
+pub mod Answers
 pub mod Parts
 pub mod Setups
 pub mod Serving

@@ -1,18 +1,18 @@
--- What the parts of a source ask for, or the first of them that isn't built.
-use Rattle.std.specs.Prelude.{ℕ, List, length, Bool, ◌&&◌, nat_le, if◌then◌else◌, Option, Some, None}
-use Rattle.std.specs.List.{list_all}
-use Rattle.fp_source.specs.declared.part.Part.{Part}
-use Rattle.fp_source.specs.declared.part.Part.TheVariants.{Definitions, Scripts, Messages}
+-- What the parts of a source come to: a job, or the first reason why there is none.
+use Rattle.std.specs.Prelude.{◌≡◌, ℕ, List, [], ◌∷◌, length, Bool, ◌&&◌, ◌==◌, if◌then◌else◌, Result, Ok, Err}
+use Rattle.fp_defs.specs.Whole.{defs_of}
+use Rattle.fp_defs.specs.declared.fault.DefsFault.{DefsFault}
+use Rattle.fp_model.specs.LogText.{Front}
+use Rattle.fp_model.specs.Recovery.{front_of}
+use Rattle.fp_model.specs.Texts.{same_text}
 use Rattle.fp_model.specs.declared.definitions.Defs.{Defs}
 use Rattle.fp_model.specs.declared.scripts.Script.{Script}
-use Rattle.fp_model.specs.LogText.{Front}
-use Rattle.fp_model.specs.Messages.{lines_of}
-use Rattle.fp_model.specs.Recovery.{front_of}
-use Rattle.fp_system.specs.declared.words.Command.{Command}
-use Rattle.fp_system.specs.declared.words.Command.TheVariants.{Define, Run}
-use Rattle.fp_system.specs.Definitions.{defs_in}
-use Rattle.fp_system.specs.Scripts.{scripts_in}
-use Rattle.fp_system.specs.Small.{is_taken}
+use Rattle.fp_source.specs.declared.part.Part.{Part}
+use Rattle.fp_source.specs.declared.part.Part.TheVariants as part
+use Rattle.fp_system.specs.declared.status.Status.{Status}
+use Rattle.fp_system.specs.declared.status.Status.TheVariants as status
+use Rattle.txn_lang.specs.Grammar.{AreScriptsOf, HasFault}
+use Rattle.txn_lang.specs.declared.fault.ScriptFault.{ScriptFault}
 
 -- definitions and scripts, and the text of the scripts
 pub record Job : Type 0 where
@@ -24,45 +24,27 @@ pub record Job : Type 0 where
 abbrev pub front_for : Job → Front
 front_for job = front_of job.defs job.scripts_text
 
--- what parts come to: a job, or the part that asks for what isn't built
-pub data Reading : Type 0 where
-  Refuses : Part → Reading
-  Gives : Job → Reading
+-- whether definitions are built: one region, and no data entry database
+abbrev pub are_built : Defs → Bool
+are_built defs = same_text defs.regions (1 ∷ []) && length defs.dedbs == 0
 
--- whether a part has at most 1,000,000 bytes
-abbrev pub is_short : List ℕ → Bool
-is_short bytes = nat_le (length bytes) 1000000
+-- what was read, where it is built
+abbrev pub only_built : Result Defs DefsFault → Result Defs Status
+only_built (Ok defs) = if are_built defs then Ok defs else Err (status.NotBuilt part.Definitions)
+only_built (Err fault) = Err (status.Definitions fault)
 
--- the definitions that a part is
-abbrev pub definitions_of : List ℕ → Option Defs
-definitions_of bytes = if is_short bytes then defs_in bytes else None
+-- the definitions that a text is, or the answer that it has instead
+unfoldable pub definitions_in : List ℕ → Result Defs Status
+definitions_in text = only_built (defs_of text)
 
--- the scripts that a part is under definitions
-abbrev pub scripts_of : Defs → List ℕ → Option (List Script)
-scripts_of defs bytes = if is_short bytes then scripts_in defs bytes else None
+-- the parts are this job
+pub record IsJob (left : Part → List ℕ) (job : Job) : Type 0 where
+  pub definitions : definitions_in (left part.Definitions) ≡ Ok job.defs
+  pub text : job.scripts_text ≡ left part.Scripts
+  pub scripts : AreScriptsOf job.defs job.scripts_text job.scripts
 
-abbrev pub with_scripts : Defs → List ℕ → Option (List Script) → Reading
-with_scripts defs bytes None = Refuses Scripts
-with_scripts defs bytes (Some scripts) = Gives (record { defs = defs; scripts = scripts; scripts_text = bytes })
-
-abbrev pub with_definitions : Option Defs → List ℕ → Reading
-with_definitions None bytes = Refuses Definitions
-with_definitions (Some defs) bytes = with_scripts defs bytes (scripts_of defs bytes)
-
--- the definitions, and then the scripts
-abbrev pub setup_of : (Part → List ℕ) → Reading
-setup_of left = with_definitions (definitions_of (left Definitions)) (left Scripts)
-
--- whether each line of the messages is taken
-abbrev pub are_taken : Job → List ℕ → Bool
-are_taken job bytes = is_short bytes && list_all (is_taken job.defs job.scripts) (lines_of bytes)
-
--- behind them the messages
-abbrev pub with_messages : Reading → List ℕ → Reading
-with_messages (Refuses part) bytes = Refuses part
-with_messages (Gives job) bytes = if are_taken job bytes then Gives job else Refuses Messages
-
--- what a command asks of the parts, in their order: `define` reads no messages
-abbrev pub asked : Command → (Part → List ℕ) → Reading
-asked Define left = setup_of left
-asked Run left = with_messages (setup_of left) (left Messages)
+-- the parts are no job, and this is the answer: that of the definitions, or behind good ones the first fault of the scripts
+pub data Refuses (left : Part → List ℕ) : Status → Type 0 where
+  by_definitions : {answer : Status} → definitions_in (left part.Definitions) ≡ Err answer → Refuses left answer
+  by_scripts : {defs : Defs} {fault : ScriptFault} → definitions_in (left part.Definitions) ≡ Ok defs → HasFault defs (left part.Scripts) fault
+      → Refuses left (status.Scripts fault)

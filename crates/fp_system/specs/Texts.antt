@@ -1,25 +1,53 @@
 -- What the program says on standard error.
 use Rattle.std.specs.Prelude.{ℕ, List, [], ◌++◌, codes}
-use Rattle.std.specs.Fmt.{decimal}
+use Rattle.std.specs.Fmt.{decimal, signed_decimal}
+use Rattle.fp_defs.specs.declared.fault.DefsFault.{DefsFault}
+use Rattle.fp_defs.specs.declared.fault.DefsFault.TheVariants as bad
+use Rattle.fp_model.specs.Texts.{trimmed}
 use Rattle.fp_source.specs.declared.part.Part.{Part}
-use Rattle.fp_source.specs.declared.part.Part.TheVariants.{Definitions, Scripts, Schedule, Messages}
+use Rattle.fp_source.specs.declared.part.Part.TheVariants as part
 use Rattle.fp_system.specs.declared.status.Status.{Status}
-use Rattle.fp_system.specs.declared.status.Status.TheVariants.{Done, Usage, ReadFault, SiteFault, Foreign, Damaged, NoMemory, NotBuilt}
+use Rattle.fp_system.specs.declared.status.Status.TheVariants.{Done, Usage, Definitions, Scripts, ReadFault, SiteFault, Foreign, Damaged, Line, NoMemory, NotBuilt}
+use Rattle.txn_lang.specs.declared.fault.ScriptFault.{ScriptFault}
+use Rattle.txn_lang.specs.declared.fault.ScriptFault.TheVariants as wrong
 
 abbrev pub part_name : Part → List ℕ
-part_name Definitions = codes "definitions"
-part_name Scripts = codes "scripts"
-part_name Schedule = codes "schedule"
-part_name Messages = codes "messages"
+part_name part.Definitions = codes "definitions"
+part_name part.Scripts = codes "scripts"
+part_name part.Schedule = codes "schedule"
+part_name part.Messages = codes "messages"
+
+-- what is said of a fault of the definitions
+abbrev pub definitions_text : DefsFault → List ℕ
+definitions_text bad.NotToml = codes "not TOML"
+definitions_text (bad.Missing key) = codes "missing " ++ key
+definitions_text (bad.Unknown key) = codes "unknown " ++ key
+definitions_text (bad.OutOfLimit key value) = key ++ codes " out of limit: " ++ signed_decimal value
+definitions_text (bad.Twice text) = codes "twice " ++ text
+definitions_text (bad.BadField key) = codes "bad field " ++ key
+definitions_text bad.TooLong = codes "too long"
+definitions_text bad.Memory = codes "no memory"
+
+-- what is said of a fault of the scripts
+abbrev pub scripts_text : ScriptFault → List ℕ
+scripts_text (wrong.Syntax line) = codes "syntax at line " ++ decimal line
+scripts_text (wrong.UnknownName line) = codes "unknown name at line " ++ decimal line
+scripts_text (wrong.TooDear name cost) = codes "transaction " ++ trimmed name.0 ++ codes " costs " ++ decimal cost
+scripts_text (wrong.Twice name) = codes "transaction " ++ trimmed name.0 ++ codes " twice"
+scripts_text wrong.TooLong = codes "too long"
+scripts_text wrong.Memory = codes "no memory"
 
 -- what is said of a status, without a newline; nothing of Done
 abbrev pub fault_text : Status → List ℕ
 fault_text Done = []
 fault_text Usage = codes "usage: ims_fp define DIR | run DIR"
+fault_text (Definitions fault) = codes "definitions: " ++ definitions_text fault
+fault_text (Scripts fault) = codes "scripts: " ++ scripts_text fault
 fault_text ReadFault = codes "read fault"
 fault_text SiteFault = codes "site fault"
 fault_text Foreign = codes "foreign log"
 fault_text (Damaged set at) = codes "damaged: data set " ++ decimal set ++ codes " at " ++ decimal at
+fault_text (Line number) = codes "messages: line " ++ decimal number
 fault_text NoMemory = codes "no memory"
 fault_text (NotBuilt part) = codes "not built: " ++ part_name part
 
@@ -27,9 +55,12 @@ fault_text (NotBuilt part) = codes "not built: " ++ part_name part
 abbrev pub number_of : Status → ℕ
 number_of Done = 0
 number_of Usage = 1
+number_of (Definitions fault) = 2
+number_of (Scripts fault) = 3
 number_of ReadFault = 5
 number_of SiteFault = 6
 number_of Foreign = 7
 number_of (Damaged set at) = 8
+number_of (Line number) = 9
 number_of NoMemory = 10
 number_of (NotBuilt part) = 11

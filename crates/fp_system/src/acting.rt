@@ -1,28 +1,27 @@
 //! What the commands do on the site, once the parts are read.
-ghost use Rattle.fp_model.specs.LogText.{StartsWithFront};
-ghost use Rattle.fp_model.specs.declared.calls.Message.{Message as MessageOf};
+ghost use Rattle.fp_model.specs.Messages.{lines_of};
 ghost use Rattle.fp_model.specs.declared.log.Entry.{Entry};
 ghost use Rattle.fp_restart.specs.Restarts.{IsBadAt};
 ghost use Rattle.fp_site.specs.Disk.{Disk};
 ghost use Rattle.fp_site.specs.Moments.{Through};
 ghost use Rattle.fp_source.specs.Source.{Rose};
-ghost use Rattle.fp_system.specs.Deposits.{IsTaken};
-ghost use Rattle.fp_system.specs.Ims.{status_of_fault, IsAnswered, IsEarly, IsFault, IsForeignTo, IsOr, IsUnchanged};
-ghost use Rattle.fp_system.specs.Parts.{Job, front_for};
+ghost use Rattle.fp_source.specs.declared.part.Part.TheVariants as part;
+ghost use Rattle.fp_system.specs.Answers.{IsEarly, IsOr, faulty_line, status_of_fault};
+ghost use Rattle.fp_system.specs.Ims.{IsAnswered, IsForeignTo, IsSame, IsUnchanged};
+ghost use Rattle.fp_system.specs.Parts.{front_for};
 ghost use Rattle.fp_system.specs.Serving.{Halts};
-ghost use Rattle.fp_system.specs.Setups.{IsSetup, IsSetupOf};
+ghost use Rattle.fp_system.specs.Setups.{IsSetup, job_of};
 ghost use Rattle.fp_system.specs.declared.status.Status.TheVariants as status;
 ghost use Rattle.log_groups.specs.Images.{IsBeforeOrMade};
 ghost use Rattle.log_groups.specs.Kept.{IsKept, IsSafe};
-ghost use Rattle.std.specs.List.{AllByRecursion};
-ghost use Rattle.std.specs.Prelude.{◌≡◌, ◌≤◌, ℕ, [], List as ListOf, map};
+ghost use Rattle.std.specs.Prelude.{◌≡◌, ◌≤◌, ◌-◌, ℕ, [], List as ListOf, None, Some, take};
 
 use crate::Status;
 use crate::parts::Setup;
-use crate::server::{Server, Stop};
-use fp_model::Message;
+use crate::server::Server;
 use fp_restart::{RestartFault, define, restart};
 use fp_site::Site;
+use fp_source::Source;
 use std::alloc::Global;
 
 // The status of a fault of storage.
@@ -41,18 +40,16 @@ fn fault_status(fault: RestartFault) -> Status
 pub(crate) fn define_on<T: Site>(alloc: Global, site: &mut T, setup: &Setup) -> Status
     requires { IsSetup setup.now }
     ensures outcome { IsOr status.Done result }
-    ensures safe { (job : Job) → T.told site.old → IsSetupOf job setup.now → result ≡ status.Done →
-        IsSafe job.defs job.scripts job.scripts_text (T.disk site.new) [] }
+    ensures safe { T.told site.old → result ≡ status.Done →
+        IsSafe setup.now.defs setup.now.scripts.scripts setup.now.scripts.text (T.disk site.new) [] }
     ensures early { IsEarly result → ⊥ }
+    ensures never { result ≡ status.ReadFault → ⊥ }
     ensures cause { result ≡ status.SiteFault → Rose (T.faults site.old) (T.faults site.new) }
 
     // A crash at any moment leaves the log as a sync might have left it before, or with no open front, or made.
-    ensures crash { (job : Job) → T.told site.old → IsSetupOf job setup.now →
-        Through (T.disk site.old) (T.disk site.new) (IsBeforeOrMade (T.disk site.old) (front_for job)) }
-    ensures later { T.faults site.old ≤ T.faults site.new }
-    ensures told { T.told site.old → T.told site.new }
-    ensures holds { T.holds site.new ≡ T.holds site.old }
-    ensures keeps { (first : T) → T.keeps first site.old → T.keeps first site.new }
+    ensures crash { T.told site.old →
+        Through (T.disk site.old) (T.disk site.new) (IsBeforeOrMade (T.disk site.old) (front_for (job_of setup.now))) }
+    ensures site { IsSame T.told T.faults T.holds T.keeps site.old site.new }
 {
     match define(alloc, &setup.defs, &setup.front, site) {
         Ok(()) => Status::Done,
@@ -60,55 +57,53 @@ pub(crate) fn define_on<T: Site>(alloc: Global, site: &mut T, setup: &Setup) -> 
     }
 }
 
-/// Restarts, and serves the messages.
-pub(crate) fn run_on<T: Site>(
+/// Restarts, and serves the message lines.
+pub(crate) fn run_on<S: Source, T: Site>(
     alloc: Global,
+    source: &mut S,
     site: &mut T,
-    setup: Setup,
-    messages: &[Message],
+    setup: &Setup,
 ) -> Status
-    requires setup { IsSetup setup }
-    requires takes { AllByRecursion (IsTaken setup.deposit) messages.now }
+    requires { IsSetup setup.now }
     ensures early { IsEarly result → ⊥ }
-    ensures cause { result ≡ status.SiteFault → Rose (T.faults site.old) (T.faults site.new) }
+    ensures source_cause { result ≡ status.ReadFault → Rose (S.faults source.old) (S.faults source.new) }
+    ensures site_cause { result ≡ status.SiteFault → Rose (T.faults site.old) (T.faults site.new) }
 
     // Foreign exactly where the log doesn't begin with the front; then nothing has changed.
-    ensures foreign { (job : Job) → T.told site.old → IsSetupOf job setup → result ≡ status.Foreign → IsForeignTo job (T.disk site.old) }
-    ensures only_foreign { (job : Job) → T.told site.old → IsSetupOf job setup → IsForeignTo job (T.disk site.old) → IsOr status.Foreign result }
+    ensures foreign { T.told site.old → result ≡ status.Foreign → IsForeignTo (job_of setup.now) (T.disk site.old) }
+    ensures only_foreign { T.told site.old → IsForeignTo (job_of setup.now) (T.disk site.old) → IsOr status.Foreign result }
     ensures unchanged { T.told site.old → result ≡ status.Foreign → IsUnchanged (T.disk site.old) (T.disk site.new) }
-    ensures damaged { (job : Job) (set at : ℕ) → T.told site.old → IsSetupOf job setup → result ≡ status.Damaged set at →
-        (set ≡ 0) × IsBadAt job.defs ((T.disk site.old).contents 0) at }
+    ensures damaged { (set at : ℕ) → T.told site.old → result ≡ status.Damaged set at →
+        (set ≡ 0) × IsBadAt setup.now.defs ((T.disk site.old).contents 0) at }
 
-    // From a safe site: every line is answered, or a fault came; the site stays safe, and keeps what it had at every moment.
-    ensures complete { (job : Job) (earlier : ListOf Entry) → T.told site.old → IsSetupOf job setup → IsSafe job.defs job.scripts job.scripts_text (T.disk site.old) earlier → IsOr status.Done result }
-    ensures done { (job : Job) (earlier : ListOf Entry) → T.told site.old → IsSetupOf job setup → IsSafe job.defs job.scripts job.scripts_text (T.disk site.old) earlier → result ≡ status.Done →
-        IsAnswered job earlier (map (λ (m : MessageOf). m.line) messages.now) (T.disk site.old) (T.disk site.new) }
-    ensures safe { (job : Job) (earlier : ListOf Entry) → T.told site.old → IsSetupOf job setup → IsSafe job.defs job.scripts job.scripts_text (T.disk site.old) earlier →
-        Halts job earlier (T.disk site.old) (T.disk site.new) }
-    ensures crash { (job : Job) (earlier : ListOf Entry) → T.told site.old → IsSetupOf job setup → IsSafe job.defs job.scripts job.scripts_text (T.disk site.old) earlier →
-        Through (T.disk site.old) (T.disk site.new) (IsKept job.defs job.scripts job.scripts_text (T.disk site.old) earlier) }
-    ensures later { T.faults site.old ≤ T.faults site.new }
-    ensures told { T.told site.old → T.told site.new }
-    ensures holds { T.holds site.new ≡ T.holds site.old }
-    ensures keeps { (first : T) → T.keeps first site.old → T.keeps first site.new }
+    // A line only where it is the first that isn't taken.
+    ensures line { (number : ℕ) → S.told source.old → result ≡ status.Line number → faulty_line (S.left source.old part.Messages) ≡ Some number }
+
+    // From a safe site: every line up to the first that isn't taken is answered, or a fault came; the site stays safe, and
+    // keeps what it had at every moment.
+    ensures complete { (earlier : ListOf Entry) → S.told source.old → T.told site.old → IsSafe setup.now.defs setup.now.scripts.scripts setup.now.scripts.text (T.disk site.old) earlier
+        → faulty_line (S.left source.old part.Messages) ≡ None → IsOr status.Done result }
+    ensures stopped { (earlier : ListOf Entry) (number : ℕ) → S.told source.old → T.told site.old → IsSafe setup.now.defs setup.now.scripts.scripts setup.now.scripts.text (T.disk site.old) earlier
+        → faulty_line (S.left source.old part.Messages) ≡ Some number → IsOr (status.Line number) result }
+    ensures done { (earlier : ListOf Entry) → S.told source.old → T.told site.old → IsSafe setup.now.defs setup.now.scripts.scripts setup.now.scripts.text (T.disk site.old) earlier
+        → result ≡ status.Done → IsAnswered (job_of setup.now) earlier (lines_of (S.left source.old part.Messages)) (T.disk site.old) (T.disk site.new) }
+    ensures before { (earlier : ListOf Entry) (number : ℕ) → S.told source.old → T.told site.old → IsSafe setup.now.defs setup.now.scripts.scripts setup.now.scripts.text (T.disk site.old) earlier
+        → result ≡ status.Line number →
+        IsAnswered (job_of setup.now) earlier (take (number - 1) (lines_of (S.left source.old part.Messages))) (T.disk site.old) (T.disk site.new) }
+    ensures safe { (earlier : ListOf Entry) → S.told source.old → T.told site.old → IsSafe setup.now.defs setup.now.scripts.scripts setup.now.scripts.text (T.disk site.old) earlier →
+        Halts (job_of setup.now) earlier (T.disk site.old) (T.disk site.new) }
+    ensures crash { (earlier : ListOf Entry) → S.told source.old → T.told site.old → IsSafe setup.now.defs setup.now.scripts.scripts setup.now.scripts.text (T.disk site.old) earlier →
+        Through (T.disk site.old) (T.disk site.new) (IsKept setup.now.defs setup.now.scripts.scripts setup.now.scripts.text (T.disk site.old) earlier) }
+    ensures source { IsSame S.told S.faults S.holds S.keeps source.old source.new }
+    ensures site { IsSame T.told T.faults T.holds T.keeps site.old site.new }
 {
-    let Setup {
-        defs,
-        deposit,
-        front,
-    } = setup;
-    let (store, log) = match restart(alloc, &defs, &front, site) {
+    let (store, log) = match restart(alloc, &setup.defs, &setup.front, site) {
         Ok(parts) => parts,
         Err(fault) => return fault_status(fault),
     };
-    let mut server = Server {
-        deposit,
-        store,
-        log,
-    };
-    match server.serve_all(alloc, site, messages) {
+    let mut server = Server { store, log };
+    match server.serve_all(alloc, setup, source, site) {
         Ok(()) => Status::Done,
-        Err(Stop::SiteFault) => Status::SiteFault,
-        Err(Stop::Memory) => Status::NoMemory,
+        Err(answer) => answer,
     }
 }

@@ -2,19 +2,17 @@
 #![tactic(auto)]
 
 mod acting;
-mod definitions;
-mod deposit;
-mod messages;
-mod operands;
 mod parts;
-mod scripts;
 mod server;
 mod status;
+mod texts;
 mod top;
 mod words;
 
 pub use status::{Status, fault_text};
 pub use top::ims;
 
+#[cfg(test)]
+mod rows;
 #[cfg(test)]
 mod tests;

@@ -1,19 +1,26 @@
 //! How the program ends.
-ghost use Rattle.std.specs.Fmt.{decimal};
-ghost use Rattle.std.specs.Prelude.{◌≡◌, ◌++◌, IfOk, OnOk, codes};
-ghost use Rattle.fp_system.specs.Texts.{fault_text, number_of, part_name};
+ghost use Rattle.std.specs.Prelude.{◌≡◌, IfOk};
+ghost use Rattle.fp_system.specs.Texts.{fault_text, number_of};
 
+use crate::texts::{damage_text, definitions_text, joined, line_text, part_name, scripts_text};
+use fp_defs::DefsFault;
 use fp_model::Bytes;
-use fp_source::Part;
+use fp_source::{LineFault, Part};
+use log_groups::SealFault;
 use std::alloc::{AllocError, Global};
+use txn_lang::ScriptFault;
 
 /// How the program ends.
-#[derive(Clone, Copy, Debug, PartialEq, Eq)]
+#[derive(Debug, PartialEq, Eq, Drop)]
 pub enum Status {
     /// All was done.
     Done,
     /// The words are no command.
     Usage,
+    /// The definitions have this fault.
+    Definitions(DefsFault),
+    /// The scripts have this fault.
+    Scripts(ScriptFault),
     /// A read of a part failed.
     ReadFault,
     /// The site failed.
@@ -27,10 +34,59 @@ pub enum Status {
         /// The place of the group's gate, in bytes from the data set's beginning.
         at: u64,
     },
+    /// The message line of this number, counted from 1, is too long, or one too many.
+    Line {
+        /// The number of the line.
+        number: u64,
+    },
     /// There was no memory.
     NoMemory,
     /// The part asks for something that isn't built yet.
     NotBuilt(Part),
+}
+
+impl From<AllocError> for Status {
+    ghost use Rattle.fp_system.specs.declared.status.Status.TheVariants as status;
+
+    ghost from_gives = { λ _ e. e ≡ status.NoMemory };
+
+    fn from(_: AllocError) -> Status {
+        Status::NoMemory
+    }
+}
+
+impl From<fp_site::Failed> for Status {
+    ghost use Rattle.fp_system.specs.declared.status.Status.TheVariants as status;
+
+    ghost from_gives = { λ _ e. e ≡ status.SiteFault };
+
+    fn from(_: fp_site::Failed) -> Status {
+        Status::SiteFault
+    }
+}
+
+impl From<SealFault> for Status {
+    ghost use Rattle.fp_system.specs.declared.status.Status.TheVariants as status;
+
+    ghost from_gives = { λ _ e. e ≡ status.SiteFault };
+
+    fn from(_: SealFault) -> Status {
+        Status::SiteFault
+    }
+}
+
+impl From<LineFault> for Status {
+    ghost use Rattle.fp_system.specs.Answers.{status_of_line};
+
+    ghost from_gives = { λ fault e. e ≡ status_of_line fault };
+
+    fn from(fault: LineFault) -> Status {
+        match fault {
+            LineFault::TooLong(number) | LineFault::TooMany(number) => Status::Line { number },
+            LineFault::Failed => Status::ReadFault,
+            LineFault::Memory => Status::NoMemory,
+        }
+    }
 }
 
 impl Status {
@@ -41,25 +97,16 @@ impl Status {
         match self {
             Status::Done => 0,
             Status::Usage => 1,
+            Status::Definitions(_) => 2,
+            Status::Scripts(_) => 3,
             Status::ReadFault => 5,
             Status::SiteFault => 6,
             Status::Foreign => 7,
             Status::Damaged { .. } => 8,
+            Status::Line { .. } => 9,
             Status::NoMemory => 10,
             Status::NotBuilt(_) => 11,
         }
-    }
-}
-
-// The name of a part in texts.
-fn part_name(part: Part) -> &'static [u8]
-    ensures { result.now ≡ part_name part }
-{
-    match part {
-        Part::Definitions => b"definitions",
-        Part::Scripts => b"scripts",
-        Part::Schedule => b"schedule",
-        Part::Messages => b"messages",
     }
 }
 
@@ -70,31 +117,14 @@ pub fn fault_text(alloc: Global, status: &Status) -> Result<Bytes, AllocError>
     match status {
         Status::Done => Ok(Bytes::new(alloc)),
         Status::Usage => Bytes::from_slice(alloc, b"usage: ims_fp define DIR | run DIR"),
+        Status::Definitions(fault) => definitions_text(alloc, fault),
+        Status::Scripts(fault) => scripts_text(alloc, *fault),
         Status::ReadFault => Bytes::from_slice(alloc, b"read fault"),
         Status::SiteFault => Bytes::from_slice(alloc, b"site fault"),
         Status::Foreign => Bytes::from_slice(alloc, b"foreign log"),
         Status::Damaged { set, at } => damage_text(alloc, *set, *at),
+        Status::Line { number } => line_text(alloc, *number),
         Status::NoMemory => Bytes::from_slice(alloc, b"no memory"),
-        Status::NotBuilt(part) => not_built_text(alloc, *part),
+        Status::NotBuilt(part) => joined(alloc, b"not built: ", part_name(*part), b""),
     }
-}
-
-fn damage_text(alloc: Global, set: u16, at: u64) -> Result<Bytes, AllocError>
-    ensures { IfOk result (λ text. text ≡ codes "damaged: data set " ++ decimal set ++ codes " at " ++ decimal at) }
-{
-    let set = set.to_string(alloc)?;
-    let at = at.to_string(alloc)?;
-    let mut text = Bytes::from_slice(alloc, b"damaged: data set ")?;
-    text.append(set.as_bytes())?;
-    text.append(b" at ")?;
-    text.append(at.as_bytes())?;
-    Ok(text)
-}
-
-fn not_built_text(alloc: Global, part: Part) -> Result<Bytes, AllocError>
-    ensures { IfOk result (λ text. text ≡ codes "not built: " ++ part_name part) }
-{
-    let mut text = Bytes::from_slice(alloc, b"not built: ")?;
-    text.append(part_name(part))?;
-    Ok(text)
 }

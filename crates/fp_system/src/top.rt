@@ -5,57 +5,48 @@ ghost use Rattle.fp_restart.specs.Restarts.{IsBadAt};
 ghost use Rattle.fp_site.specs.Disk.{Disk};
 ghost use Rattle.fp_site.specs.Moments.{Through};
 ghost use Rattle.fp_source.specs.Source.{Rose};
-ghost use Rattle.fp_source.specs.declared.part.Part.{Part as PartOf};
 ghost use Rattle.fp_source.specs.declared.part.Part.TheVariants as part;
-ghost use Rattle.fp_system.specs.Ims.{Asks, IsAnswered, IsEarly, IsForeignTo, IsOr, IsSame, IsUnchanged, reading_for, status_of_refusal};
-ghost use Rattle.fp_system.specs.Parts.{Job, Refuses, front_for};
+ghost use Rattle.fp_system.specs.Answers.{IsEarly, IsOr, IsRefusal, faulty_line};
+ghost use Rattle.fp_system.specs.Ims.{Asks, IsAnswered, IsForeignTo, IsRefused, IsSame, IsUnchanged};
+ghost use Rattle.fp_system.specs.Parts.{IsJob, Job, front_for};
 ghost use Rattle.fp_system.specs.Serving.{Halts};
 ghost use Rattle.fp_system.specs.Words.{command_of};
+ghost use Rattle.fp_system.specs.declared.status.Status.{Status as StatusOf};
 ghost use Rattle.fp_system.specs.declared.status.Status.TheVariants as status;
 ghost use Rattle.fp_system.specs.declared.words.Command.TheVariants as command;
 ghost use Rattle.log_groups.specs.Images.{IsBeforeOrMade};
 ghost use Rattle.log_groups.specs.Kept.{IsKept, IsSafe};
-ghost use Rattle.std.specs.Prelude.{◌≡◌, ◌↔◌, ℕ, [], List as ListOf, None, Some, map, string_bytes};
+ghost use Rattle.std.specs.Prelude.{◌≡◌, ◌↔◌, ◌-◌, ℕ, [], List as ListOf, None, Some, map, string_bytes, take};
 
 use crate::Status;
 use crate::acting::{define_on, run_on};
-use crate::parts::{Refusal, read_run, read_setup};
+use crate::parts::read_setup;
 use crate::words::{Command, command_of};
+use fp_exits::Exits;
 use fp_site::Site;
 use fp_source::Source;
 use std::alloc::Global;
 
-// The status of a refusal.
-fn refusal_status(refusal: Refusal) -> Status
-    ensures { result ≡ status_of_refusal refusal }
-{
-    match refusal {
-        Refusal::NotBuilt(part) => Status::NotBuilt(part),
-        Refusal::ReadFault => Status::ReadFault,
-        Refusal::Memory => Status::NoMemory,
-    }
-}
-
 /// All that the program does. `words` are those behind its name: `define DIR` makes the site anew from the parts
 /// Definitions and Scripts; `run DIR` restarts and answers each line of the part Messages, behind what the log has.
-/// Words are judged first, then the parts in their order, then the site.
+/// Words are judged first, then the definitions, then the scripts, then the site; the message lines are read one by one.
 ///
 /// # What contracts say
 ///
-/// `Asks` says that the words are a command and the parts give a job for it. Want of memory (`NoMemory`) may come at
+/// `Asks` says that the words are a command and the parts are a job for it. Want of memory (`NoMemory`) may come at
 /// any place. A fault comes only where the count of its object rose.
 pub fn ims<S: Source, T: Site>(
     alloc: Global,
     words: &[String],
     source: &mut S,
     site: &mut T,
+    exits: &Exits,
 ) -> Status
     // When each answer comes.
     ensures usage { (result ≡ status.Usage) ↔ (command_of (map string_bytes words.now) ≡ None) }
-    ensures not_built { (p : PartOf) → S.told source.old → result ≡ status.NotBuilt p →
-        reading_for (map string_bytes words.now) (S.left source.old) ≡ Some (Refuses p) }
-    ensures refused { (p : PartOf) → S.told source.old → reading_for (map string_bytes words.now) (S.left source.old) ≡ Some (Refuses p) →
-        IsOr (status.NotBuilt p) result }
+    ensures refusal { S.told source.old → IsRefusal result → IsRefused (map string_bytes words.now) (S.left source.old) result }
+    ensures refused { (answer : StatusOf) → S.told source.old → IsRefused (map string_bytes words.now) (S.left source.old) answer →
+        IsOr answer result }
     ensures read_fault { result ≡ status.ReadFault → Rose (S.faults source.old) (S.faults source.new) }
     ensures site_fault { result ≡ status.SiteFault → Rose (T.faults site.old) (T.faults site.new) }
     ensures foreign { S.told source.old → T.told site.old → result ≡ status.Foreign →
@@ -64,18 +55,27 @@ pub fn ims<S: Source, T: Site>(
         → IsForeignTo job (T.disk site.old) → IsOr status.Foreign result }
     ensures damaged { (set at : ℕ) → S.told source.old → T.told site.old → result ≡ status.Damaged set at →
         (job : Job) × Asks (map string_bytes words.now) (S.left source.old) command.Run job × (set ≡ 0) × IsBadAt job.defs ((T.disk site.old).contents 0) at }
+    ensures line { (number : ℕ) → S.told source.old → result ≡ status.Line number →
+        (job : Job) × Asks (map string_bytes words.now) (S.left source.old) command.Run job × (faulty_line (S.left source.old part.Messages) ≡ Some number) }
 
-    // What stays. Up to `Foreign` nothing is written.
+    // What stays. Up to `Foreign` nothing is written, and where there is no job the site isn't touched.
     ensures untouched { IsEarly result → site.new ≡ site.old }
+    ensures no_job { S.told source.old → ((job : Job) → IsJob (S.left source.old) job → ⊥) → site.new ≡ site.old }
     ensures unchanged { T.told site.old → result ≡ status.Foreign → IsUnchanged (T.disk site.old) (T.disk site.new) }
 
-    // `run` from a safe site: each line is answered, or a fault came. Whatever the answer is, the site stays safe, and
-    // every crash since the call's start keeps what stood.
+    // `run` from a safe site: each line up to the first that isn't taken is answered, or a fault came. Whatever the answer
+    // is, the site stays safe, and every crash since the call's start keeps what stood.
     ensures complete { (job : Job) (earlier : ListOf Entry) → S.told source.old → T.told site.old → Asks (map string_bytes words.now) (S.left source.old) command.Run job
-        → IsSafe job.defs job.scripts job.scripts_text (T.disk site.old) earlier → IsOr status.Done result }
+        → IsSafe job.defs job.scripts job.scripts_text (T.disk site.old) earlier → faulty_line (S.left source.old part.Messages) ≡ None → IsOr status.Done result }
+    ensures stopped { (job : Job) (earlier : ListOf Entry) (number : ℕ) → S.told source.old → T.told site.old → Asks (map string_bytes words.now) (S.left source.old) command.Run job
+        → IsSafe job.defs job.scripts job.scripts_text (T.disk site.old) earlier → faulty_line (S.left source.old part.Messages) ≡ Some number →
+        IsOr (status.Line number) result }
     ensures answered { (job : Job) (earlier : ListOf Entry) → S.told source.old → T.told site.old → Asks (map string_bytes words.now) (S.left source.old) command.Run job
         → IsSafe job.defs job.scripts job.scripts_text (T.disk site.old) earlier → result ≡ status.Done →
         IsAnswered job earlier (lines_of (S.left source.old part.Messages)) (T.disk site.old) (T.disk site.new) }
+    ensures before { (job : Job) (earlier : ListOf Entry) (number : ℕ) → S.told source.old → T.told site.old → Asks (map string_bytes words.now) (S.left source.old) command.Run job
+        → IsSafe job.defs job.scripts job.scripts_text (T.disk site.old) earlier → result ≡ status.Line number →
+        IsAnswered job earlier (take (number - 1) (lines_of (S.left source.old part.Messages))) (T.disk site.old) (T.disk site.new) }
     ensures safe { (job : Job) (earlier : ListOf Entry) → S.told source.old → T.told site.old → Asks (map string_bytes words.now) (S.left source.old) command.Run job
         → IsSafe job.defs job.scripts job.scripts_text (T.disk site.old) earlier → Halts job earlier (T.disk site.old) (T.disk site.new) }
     ensures kept { (job : Job) (earlier : ListOf Entry) → S.told source.old → T.told site.old → Asks (map string_bytes words.now) (S.left source.old) command.Run job
@@ -90,18 +90,20 @@ pub fn ims<S: Source, T: Site>(
     ensures crash { (job : Job) → S.told source.old → T.told site.old → Asks (map string_bytes words.now) (S.left source.old) command.Define job →
         Through (T.disk site.old) (T.disk site.new) (IsBeforeOrMade (T.disk site.old) (front_for job)) }
 
+    // `define` reads no messages.
+    ensures messages { S.told source.old → command_of (map string_bytes words.now) ≡ Some command.Define →
+        S.left source.new part.Messages ≡ S.left source.old part.Messages }
     ensures source { IsSame S.told S.faults S.holds S.keeps source.old source.new }
     ensures site { IsSame T.told T.faults T.holds T.keeps site.old site.new }
 {
-    match command_of(words) {
-        None => Status::Usage,
-        Some(Command::Define) => match read_setup(alloc, source) {
-            Ok(setup) => define_on(alloc, site, &setup),
-            Err(refusal) => refusal_status(refusal),
+    let Some(command) = command_of(words) else {
+        return Status::Usage;
+    };
+    match read_setup(alloc, source, exits) {
+        Ok(setup) => match command {
+            Command::Define => define_on(alloc, site, &setup),
+            Command::Run => run_on(alloc, source, site, &setup),
         },
-        Some(Command::Run) => match read_run(alloc, source) {
-            Ok((setup, messages)) => run_on(alloc, site, setup, messages.as_slice()),
-            Err(refusal) => refusal_status(refusal),
-        },
+        Err(answer) => answer,
     }
 }

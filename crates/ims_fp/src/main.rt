@@ -18,8 +18,13 @@ mod tests;
 use file_site::FileSite;
 use file_source::FileSource;
 use folder::Folder;
+use fp_exits::{
+    Exits, Router, Routing, Spreader, Spreading, fold_group, fold_place, range_group, range_place,
+};
+use fp_model::Kind;
 use fp_site::Failed;
 use fp_system::{Status, fault_text, ims};
+use std::alloc::AllocError;
 use std::process::ExitCode;
 use std::{env, io};
 
@@ -44,7 +49,7 @@ fn report(rt: &HostRuntime, status: &Status) {
 // A word that isn't UTF-8 is no word of a command.
 fn status_of(rt: &HostRuntime) -> Status {
     match words(rt) {
-        Ok(words) => served(rt, &words),
+        Ok(words) => with_exits(rt, &words).unwrap_or(Status::NoMemory),
         Err(e) if e.kind() == io::ErrorKind::OutOfMemory => Status::NoMemory,
         Err(_) => Status::Usage,
     }
@@ -55,15 +60,31 @@ fn words(rt: &HostRuntime) -> io::Result<Vec<String>> {
     Ok(env::args(rt)?.skip(1).collect(rt.alloc())?)
 }
 
+// Makes the installation's exits, one of each kind for keys and for transactions, and does what the words say.
+fn with_exits(rt: &HostRuntime, words: &[String]) -> Result<Status, AllocError> {
+    let alloc = rt.alloc();
+    let fold: Spreading = Box::new(alloc, fold_place)?;
+    let range: Spreading = Box::new(alloc, range_place)?;
+    let mut spreaders = Vec::new(alloc);
+    spreaders.push(Spreader::new(Kind::Fold, fold))?;
+    spreaders.push(Spreader::new(Kind::Range, range))?;
+    let fold: Routing = Box::new(alloc, fold_group)?;
+    let range: Routing = Box::new(alloc, range_group)?;
+    let mut routers = Vec::new(alloc);
+    routers.push(Router::new(Kind::Fold, fold))?;
+    routers.push(Router::new(Kind::Range, range))?;
+    Ok(served(rt, words, &Exits::new(spreaders, routers)))
+}
+
 // Does what the words say. What was sent is written before it answers, or it isn't `Done`.
-fn served(rt: &HostRuntime, words: &[String]) -> Status {
+fn served(rt: &HostRuntime, words: &[String], exits: &Exits) -> Status {
     let alloc = rt.alloc();
     let dir = words.last().map_or("", |word| word.as_str());
     let Ok(mut site) = FileSite::new(alloc, Folder::new(rt, alloc, dir), io::writer(rt)) else {
         return Status::NoMemory;
     };
     let mut source = FileSource::new(Folder::new(rt, alloc, dir));
-    let status = ims(alloc, words, &mut source, &mut site);
+    let status = ims(alloc, words, &mut source, &mut site, exits);
     after(status, site.finish())
 }
 

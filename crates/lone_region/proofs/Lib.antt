@@ -1,0 +1,10 @@
+mod Comings
+mod Found
+mod Making
+mod Needs
+mod Plain
+mod Replies
+mod Results
+mod Steps
+mod Stores
+mod Transactions

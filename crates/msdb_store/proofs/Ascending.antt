@@ -14,23 +14,23 @@ use Rattle.msdb_store.specs.Places.{IsPlace, if_same}
 
 -- ---- tests
 
-not_both : true ≡ false → ⊥
+pub not_both : true ≡ false → ⊥
 not_both e = cc
 
-first_of : (a b : Bool) → (a && b) ≡ true → a ≡ true
+pub first_of : (a b : Bool) → (a && b) ≡ true → a ≡ true
 first_of true b e = refl
 first_of false b e = e
 
-second_of : (a b : Bool) → (a && b) ≡ true → b ≡ true
+pub second_of : (a b : Bool) → (a && b) ≡ true → b ≡ true
 second_of true b e = e
 second_of false b e = absurd (not_both (sym e))
 
 -- ---- keys
 
-same_is : (a b : List ℕ) → same_text a b ≡ true → a ≡ b
+pub same_is : (a b : List ℕ) → same_text a b ≡ true → a ≡ b
 same_is a b e = (bytes_eq-Decides a b).0 e
 
-is_same : (a : List ℕ) → same_text a a ≡ true
+pub is_same : (a : List ℕ) → same_text a a ≡ true
 is_same a = (bytes_eq-Decides a a).1 refl
 
 lt_less : (o : Ordering) → is_lt o ≡ true → o ≡ Less
@@ -38,14 +38,14 @@ lt_less Less e = refl
 lt_less Equal e = absurd (not_both (sym e))
 lt_less Greater e = absurd (not_both (sym e))
 
-below_trans : (a b c : List ℕ) → is_below a b ≡ true → is_below b c ≡ true → is_below a c ≡ true
+pub below_trans : (a b c : List ℕ) → is_below a b ≡ true → is_below b c ≡ true → is_below a c ≡ true
 below_trans a b c ab bc = ap is_lt (nat_list_cmp_total.trans a b c (lt_less _ ab) (lt_less _ bc))
 
-not_below_itself : (a : List ℕ) → is_below a a ≡ false
+pub not_below_itself : (a : List ℕ) → is_below a a ≡ false
 not_below_itself a = ap is_lt (tied_itself nat_list_cmp_total a)
 
 -- what is below isn't the same
-below_differs : (a b : List ℕ) → is_below a b ≡ true → same_text a b ≡ false
+pub below_differs : (a b : List ℕ) → is_below a b ≡ true → same_text a b ≡ false
 below_differs a b less = by (same_text a b) refl
   where
     by : (t : Bool) → same_text a b ≡ t → t ≡ false
@@ -68,7 +68,7 @@ same_or_above a b below same = by (is_below b a) refl
     by false e = absurd (not_both (sym (is_same b) ∙ ap (λ k. same_text k b) (sym (exact_bytes a b (neither (slice_cmp nat_cmp a b) (slice_cmp nat_cmp b a) (nat_list_cmp_total.antisymm a b) below e))) ∙ same))
 
 -- what is below is not above
-not_above : (a b : List ℕ) → is_below a b ≡ true → is_below b a ≡ false
+pub not_above : (a b : List ℕ) → is_below a b ≡ true → is_below b a ≡ false
 not_above a b less = by (is_below b a) refl
   where
     by : (t : Bool) → is_below b a ≡ t → t ≡ false
@@ -82,10 +82,10 @@ differs_back a b e = by (same_text b a) refl
     by true f = absurd (not_both (sym (is_same b) ∙ ap (λ k. same_text k b) (same_is b a f) ∙ e))
     by false f = refl
 
-some_is : {A : Type 0} (x y : A) → Some x ≡ Some y → x ≡ y
+pub some_is : {A : Type 0} (x y : A) → Some x ≡ Some y → x ≡ y
 some_is x y e = cc
 
-none_is_not_some : {A : Type 0} (x : A) → None ≡ Some x → ⊥
+pub none_is_not_some : {A : Type 0} (x : A) → None ≡ Some x → ⊥
 none_is_not_some x e = cc
 
 take_nothing : {A : Type 0} (n : ℕ) → take {A = A} n [] ≡ []
@@ -98,7 +98,7 @@ drop_nothing (suc n) = refl
 
 -- ---- elements
 
-all_at : {X : Type 0} (P : X → Type 0) (xs : List X) (i : ℕ) (d : X) → AllByRecursion P xs → i < length xs → P (slice_index_or xs i d)
+pub all_at : {X : Type 0} (P : X → Type 0) (xs : List X) (i : ℕ) (d : X) → AllByRecursion P xs → i < length xs → P (slice_index_or xs i d)
 all_at P [] i d all within = absurd (omega (arith, within))
 all_at P (x ∷ xs) zero d all within = all.0
 all_at P (x ∷ xs) (suc i) d all within = all_at P xs i d all.1 (omega (arith, within))
@@ -108,7 +108,7 @@ module _ {X : Type 0} (key : X → List ℕ) where
   IsAscending xs = ascend (map key xs) ≡ true
 
   -- behind an element all are above it
-  all_above : (x : X) (xs : List X) → IsAscending (x ∷ xs) → AllByRecursion (λ y. is_below (key x) (key y) ≡ true) xs
+  pub all_above : (x : X) (xs : List X) → IsAscending (x ∷ xs) → AllByRecursion (λ y. is_below (key x) (key y) ≡ true) xs
   all_above x [] up = tt
   all_above x (y ∷ ys) up =
       let first = first_of (is_below (key x) (key y)) (ascend (map key (y ∷ ys))) up in
@@ -119,7 +119,7 @@ module _ {X : Type 0} (key : X → List ℕ) where
       above [] all less = tt
       above (z ∷ zs) all less = (below_trans (key x) (key y) (key z) less all.0, above zs all.1 less)
 
-  tail_ascends : (x : X) (xs : List X) → IsAscending (x ∷ xs) → IsAscending xs
+  pub tail_ascends : (x : X) (xs : List X) → IsAscending (x ∷ xs) → IsAscending xs
   tail_ascends x [] up = refl
   tail_ascends x (y ∷ ys) up = second_of (is_below (key x) (key y)) (ascend (map key (y ∷ ys))) up
 
@@ -136,7 +136,7 @@ module _ {X : Type 0} (key : X → List ℕ) where
   place_behind k x xs n p = (λ i d low high. p.0 (suc i) d (omega (arith)) (omega (arith, high)), λ i d low high. p.1 (suc i) d (omega (arith, low)) (omega (arith, high)))
 
   -- behind one that isn't below a key there is none with that key
-  none_behind : (k : List ℕ) (x : X) (xs : List X) → is_below (key x) k ≡ false → AllByRecursion (λ y. is_below (key x) (key y) ≡ true) xs → find (λ y. same_text (key y) k) xs ≡ None
+  pub none_behind : (k : List ℕ) (x : X) (xs : List X) → is_below (key x) k ≡ false → AllByRecursion (λ y. is_below (key x) (key y) ≡ true) xs → find (λ y. same_text (key y) k) xs ≡ None
   none_behind k x [] not_less all = refl
   none_behind k x (y ∷ ys) not_less all = by (same_text (key y) k) refl (none_behind k x ys not_less all.1)
     where
@@ -238,7 +238,7 @@ module _ {X : Type 0} (key : X → List ℕ) where
   pub all_but : (P : X → Type 0) (k : List ℕ) (xs : List X) → AllByRecursion P xs → AllByRecursion P (drop_key key k xs)
   all_but P k xs all = all_kept P k xs all
 
-  differ : (k : List ℕ) (xs : List X) → AllByRecursion (λ y. same_text (key y) k ≡ false) (drop_key key k xs)
+  pub differ : (k : List ℕ) (xs : List X) → AllByRecursion (λ y. same_text (key y) k ≡ false) (drop_key key k xs)
   differ k [] = tt
   differ k (x ∷ xs) = by (same_text (key x) k) refl (differ k xs)
     where

@@ -1,3 +1,13 @@
 mod Ascending
+mod Calls
+mod Databases
+mod Kept
 mod Loads
+mod Lookups
+mod Names
+mod Publishing
+mod Queues
+mod Rooms
+mod Samples
+mod Stagings
 mod Tables

@@ -6,7 +6,7 @@ use Rattle.fp_model.specs.CheckpointText.{IsMsdbOf}
 use Rattle.fp_model.specs.declared.database.Msdb.{Msdb}
 use Rattle.fp_model.specs.declared.definitions.FieldDef.{FieldDef}
 use Rattle.fp_model.specs.declared.definitions.MsdbDef.{MsdbDef}
-use Rattle.msdb_store.specs.Store.{Stored, IsOf, IsFitSegment, found, found_after}
+use Rattle.msdb_store.specs.Store.{Stored, IsOf, IsFitSegment, found, found_after, segment_in}
 use Rattle.std.proofs.Common.{inl, inr}
 use Rattle.std.specs.Prelude.{find, true, take, ◌⊎◌, Result, Ok, Err, OnOk, OnErr}
 use Rattle.fp_model.specs.Items.{with_item}
@@ -27,10 +27,14 @@ tail_is x y xs ys e = cc
 some_is : {A : Type 0} (x y : A) → Some x ≡ Some y → x ≡ y
 some_is x y e = cc
 
+-- what a store is of doesn't rest on its room
+pub with_room : {defs : List MsdbDef} {store : Stored} (room : ℕ) → IsOf defs store → IsOf defs (record store { spare = room })
+with_room room of = record { layouts = of.layouts; each = of.each }
+
 module _ {T : Type 0} (fields : T → List FieldDef) (msdb : T → Msdb) where
-  -- the store that tables are
+  -- the store that tables are, but for its room
   abbrev pub stored : List T → Stored
-  stored tables = record { layouts = map fields tables; msdbs = map msdb tables }
+  stored tables = record { layouts = map fields tables; msdbs = map msdb tables; spare = 0 }
 
   -- a table and its definition
   pub record Belongs (defs : List MsdbDef) (n : ℕ) (t : T) : Type 0 where
@@ -51,14 +55,14 @@ module _ {T : Type 0} (fields : T → List FieldDef) (msdb : T → Msdb) where
   belongs defs tables n t of at = belongs_at defs tables n t of.layouts of.each at
 
   -- with another table at a place, of the same fields and good
-  each_with : (defs : List MsdbDef) (tables : List T) (n : ℕ) (t : T) (def : MsdbDef) → slice_get defs n ≡ Some def → IsMsdbOf def (msdb t) → AllZip IsMsdbOf defs (map msdb tables) → AllZip IsMsdbOf defs (map msdb (slice_set tables n t))
+  pub each_with : (defs : List MsdbDef) (tables : List T) (n : ℕ) (t : T) (def : MsdbDef) → slice_get defs n ≡ Some def → IsMsdbOf def (msdb t) → AllZip IsMsdbOf defs (map msdb tables) → AllZip IsMsdbOf defs (map msdb (slice_set tables n t))
   each_with [] [] n t def at good each = tt
   each_with [] (x ∷ xs) n t def at good each = absurd each
   each_with (d ∷ ds) [] n t def at good each = absurd each
   each_with (d ∷ ds) (x ∷ xs) zero t def at good each = (subst (λ e. IsMsdbOf e (msdb t)) (sym (some_is d def at)) good, each.1)
   each_with (d ∷ ds) (x ∷ xs) (suc n) t def at good each = (each.0, each_with ds xs n t def at good each.1)
 
-  fields_with : (tables : List T) (n : ℕ) (old t : T) → slice_get tables n ≡ Some old → fields t ≡ fields old → map fields (slice_set tables n t) ≡ map fields tables
+  pub fields_with : (tables : List T) (n : ℕ) (old t : T) → slice_get tables n ≡ Some old → fields t ≡ fields old → map fields (slice_set tables n t) ≡ map fields tables
   fields_with [] n old t at same = refl
   fields_with (x ∷ xs) zero old t at same = ap (λ f. f ∷ map fields xs) (same ∙ ap fields (sym (some_is x old at)))
   fields_with (x ∷ xs) (suc n) old t at same = ap (λ fs. fields x ∷ fs) (fields_with xs n old t at same)
@@ -68,7 +72,7 @@ module _ {T : Type 0} (fields : T → List FieldDef) (msdb : T → Msdb) where
       record { layouts = fields_with tables n old t at same ∙ of.layouts; each = each_with defs tables n t def there good of.each }
 
 use_found : {T : Type 0} (fields : T → List FieldDef) (msdb : T → Msdb) (defs : List MsdbDef) (tables : List T) (n : ℕ) (t : T) (def : MsdbDef) (k : List ℕ) → slice_get tables n ≡ Some t → slice_get defs n ≡ Some def → found defs (stored fields msdb tables) n k ≡ segment_of def (msdb t) k
-use_found fields msdb defs tables n t def k at there = rw (there, found) (rw (slice_get-map msdb tables n) (rw at refl))
+use_found fields msdb defs tables n t def k at there = rw (there, segment_in) (rw (slice_get-map msdb tables n) (rw at refl))
 
 -- a search by the fields of a table is one by its definition
 pub found_in : {T : Type 0} (fields : T → List FieldDef) (msdb : T → Msdb) (defs : List MsdbDef) (tables : List T) (n : ℕ) (t : T) (k : List ℕ) (result : Option (List ℕ)) → IsOf defs (stored fields msdb tables) → slice_get tables n ≡ Some t

@@ -1,2 +1,9 @@
+pub mod Changes
+pub mod Faults
 pub mod Places
+pub mod Putting
+pub mod Rooms
+pub mod Settling
+pub mod Steps
 pub mod Store
+pub mod Touches

@@ -2,10 +2,16 @@
 #![tactic(auto)]
 
 mod keyed;
+mod settling;
+mod staged;
+mod staging;
 mod store;
 mod table;
 
+pub use staged::{Staged, VerifyFault};
 pub use store::MsdbStore;
 
+#[cfg(test)]
+mod settling_tests;
 #[cfg(test)]
 mod tests;

@@ -3,27 +3,35 @@ ghost use Rattle.fp_model.specs.CheckpointText.{IsMsdbOf};
 ghost use Rattle.fp_model.specs.State.{loaded as load_of, start};
 ghost use Rattle.fp_model.specs.WellFormed.{IsMsdbDef};
 ghost use Rattle.std.specs.List.{AllZip};
-ghost use Rattle.std.specs.Prelude.{◌≡◌, IfOk};
+ghost use Rattle.msdb_store.specs.Rooms.{msdb_of, room_of};
+ghost use Rattle.msdb_store.specs.Store.{least};
+ghost use Rattle.std.specs.Prelude.{◌≡◌, ◌≤◌, ◌<◌, ◌^◌, IfOk, OnOk, length, map};
 
+use crate::staged::Staged;
 use crate::table::Table;
 use fp_model::{Bytes, Defs, Item, List, Msdb, MsdbDef};
 use std::alloc::{AllocError, Global};
 use std::marker::Model;
 
-/// The segments of the main storage databases, by key. Contracts see the fields of each database's segments, and the
-/// databases. The database of number n is the one that the definitions have in place n, counted from 0.
+/// The segments of the main storage databases, by key. Contracts see the fields of each database's segments, the
+/// databases, and how many segments each of them takes without more memory. The database of number n is the one that
+/// the definitions have in place n, counted from 0.
 #[derive(Debug, Drop)]
 pub struct MsdbStore {
-    tables: Vec<Table>,
+    pub(crate) tables: Vec<Table>,
 }
 
 impl Model for MsdbStore {
-    ghost use Rattle.std.specs.Prelude.{map};
-    ghost use Rattle.msdb_store.specs.Store.{Stored};
+    ghost use Rattle.std.specs.Prelude.{length, map, vec_capacity};
+    ghost use Rattle.msdb_store.specs.Store.{Stored, least, room};
 
     ghost Value = { Stored };
 
-    ghost view = { λ s. record { layouts = map (λ t. t.fields) s.tables.items; msdbs = map (λ t. record { segments = t.segments.items }) s.tables.items } };
+    ghost view = { λ s. record {
+      layouts = map (λ t. t.fields) s.tables.items;
+      msdbs = map (λ t. record { segments = t.segments.items }) s.tables.items;
+      spare = least (map (λ t. room (vec_capacity t.segments) (length t.segments.items)) s.tables.items);
+    } };
 }
 
 // The table of a database.
@@ -54,12 +62,28 @@ fn loaded(alloc: Global, def: &MsdbDef) -> Result<Table, AllocError>
     Ok(table)
 }
 
+// Makes room for so many segments more in each table.
+fn make_room(tables: &mut [Table], n: usize) -> Result<(), AllocError>
+    requires { n < 2 ^ 32 }
+    ensures ok { OnOk result (n ≤ least (map room_of tables.new)) }
+    ensures more { least (map room_of tables.old) ≤ least (map room_of tables.new) }
+    ensures layouts { map (λ t. t.fields) tables.new ≡ map (λ t. t.fields) tables.old }
+    ensures msdbs { map msdb_of tables.new ≡ map msdb_of tables.old }
+{
+    for table in tables.iter_mut() {
+        table.reserve(n)?;
+    }
+    Ok(())
+}
+
 impl MsdbStore {
     ghost use Rattle.fp_model.specs.Items.{with_item, with_items};
+    ghost use Rattle.msdb_store.specs.Putting.{CanPut, KeepsRoom};
+    ghost use Rattle.msdb_store.specs.Settling.{adds};
     ghost use Rattle.msdb_store.specs.Store.{IsFitSegment, IsOf, found, found_after};
     ghost use Rattle.std.specs.List.{AllByRecursion};
     ghost use Rattle.std.specs.Option.{option_copied, option_map};
-    ghost use Rattle.std.specs.Prelude.{◌<◌, List as ListOf, OnOk, length};
+    ghost use Rattle.std.specs.Prelude.{IsOk, List as ListOf};
     ghost use Rattle.fp_model.specs.declared.definitions.MsdbDef.{MsdbDef as DefOf};
     ghost use Rattle.fp_model.specs.declared.log.Item.TheVariants.{Segment};
 
@@ -142,26 +166,83 @@ impl MsdbStore {
         ensures count { length self.new.msdbs ≡ length self.old.msdbs }
     {
         match item {
-            Item::Segment { msdb, key, bytes } => self.put_segment(*msdb, key, bytes),
+            Item::Segment { msdb, key, bytes } => {
+                self.put_segment(*msdb, key.as_slice(), bytes.copy()?)
+            }
             Item::Image { .. } => Ok(()),
         }
     }
 
-    // Puts a segment in place of that of its key, or takes that one away where there are no bytes.
-    fn put_segment(&mut self, msdb: u8, key: &Bytes, bytes: &Bytes) -> Result<(), AllocError>
-        ensures msdbs { (defs : ListOf DefOf) → IsOf defs self.old → IsFitSegment defs (Segment msdb key.now bytes.now)
-            → OnOk result (self.new.msdbs ≡ with_item defs self.old.msdbs (Segment msdb key.now bytes.now)) }
-        ensures of { (defs : ListOf DefOf) → IsOf defs self.old → IsFitSegment defs (Segment msdb key.now bytes.now) → IsOf defs self.new }
+    // Puts a segment in place of that of its key, or takes that one away where there are no bytes. It fails for want of
+    // memory, where it adds a segment and there is no room for it.
+    fn put_segment(&mut self, msdb: u8, key: &[u8], bytes: Bytes) -> Result<(), AllocError>
+        ensures msdbs { (defs : ListOf DefOf) → IsOf defs self.old → IsFitSegment defs (Segment msdb key.now bytes)
+            → OnOk result (self.new.msdbs ≡ with_item defs self.old.msdbs (Segment msdb key.now bytes)) }
+        ensures of { (defs : ListOf DefOf) → IsOf defs self.old → IsFitSegment defs (Segment msdb key.now bytes) → IsOf defs self.new }
         ensures count { length self.new.msdbs ≡ length self.old.msdbs }
+        ensures done { (defs : ListOf DefOf) → CanPut defs self.old (Segment msdb key.now bytes) → IsOk result }
+        ensures room { (defs : ListOf DefOf) → CanPut defs self.old (Segment msdb key.now bytes) → KeepsRoom self.old self.new (adds defs self.old.msdbs (Segment msdb key.now bytes)) }
     {
         let at = msdb as usize;
         if at >= self.tables.len() {
             return Ok(());
         }
         if bytes.is_empty() {
-            self.tables[at].take_away(key.as_slice());
+            self.tables[at].take_away(key);
             return Ok(());
         }
-        self.tables[at].put(bytes.copy()?)
+        self.tables[at].put(bytes)
+    }
+}
+
+impl MsdbStore {
+    ghost use Rattle.fp_model.specs.Items.{with_item, with_items};
+    ghost use Rattle.fp_model.specs.declared.definitions.MsdbDef.{MsdbDef as DefOf};
+    ghost use Rattle.msdb_store.specs.Putting.{CanPut, KeepsRoom};
+    ghost use Rattle.msdb_store.specs.Settling.{IsStaged, adds};
+    ghost use Rattle.msdb_store.specs.Store.{IsOf};
+    ghost use Rattle.std.specs.List.{AllByRecursion};
+    ghost use Rattle.std.specs.Prelude.{◌+◌, List as ListOf};
+
+    /// Makes room, so that each database takes so many segments more without memory. It fails for want of memory, and
+    /// where a database would have 2^32 segments. The databases stay as they are.
+    pub fn reserve(&mut self, n: u32) -> Result<(), AllocError>
+        ensures spare { OnOk result (n ≤ self.new.spare) }
+        ensures more { self.old.spare ≤ self.new.spare }
+        ensures layouts { self.new.layouts ≡ self.old.layouts }
+        ensures msdbs { self.new.msdbs ≡ self.old.msdbs }
+    {
+        make_room(&mut self.tables, n as usize)
+    }
+
+    /// Gives the databases what was staged. Takes no memory. It was staged on the databases as they are, and there is
+    /// room for the segments that they lack.
+    pub fn publish(&mut self, staged: Staged)
+        requires staged { (defs : ListOf DefOf) × IsOf defs self.old × IsStaged defs self.old.msdbs staged }
+        requires room { staged.inserts ≤ self.old.spare }
+        ensures msdbs { (defs : ListOf DefOf) → IsOf defs self.old → IsStaged defs self.old.msdbs staged → self.new.msdbs ≡ with_items defs self.old.msdbs staged.items }
+        ensures of { (defs : ListOf DefOf) → IsOf defs self.old → IsStaged defs self.old.msdbs staged → IsOf defs self.new }
+        ensures spare { self.old.spare ≤ self.new.spare + staged.inserts }
+        ensures few { AllByRecursion (λ msdb. length msdb.segments < 2 ^ 32) self.old.msdbs → AllByRecursion (λ msdb. length msdb.segments < 2 ^ 32) self.new.msdbs }
+    {
+        let Staged { items, inserts: _ } = staged;
+        for item in items.into_vec() {
+            self.publish_item(item);
+        }
+    }
+
+    // Gives the databases the segment of one item.
+    fn publish_item(&mut self, item: Item)
+        ensures msdbs { (defs : ListOf DefOf) → CanPut defs self.old item → self.new.msdbs ≡ with_item defs self.old.msdbs item }
+        ensures of { (defs : ListOf DefOf) → CanPut defs self.old item → IsOf defs self.new }
+        ensures room { (defs : ListOf DefOf) → CanPut defs self.old item → KeepsRoom self.old self.new (adds defs self.old.msdbs item) }
+    {
+        match item {
+            Item::Segment { msdb, key, bytes } => {
+                // There is room for it, so it takes no memory and is done.
+                let _ = self.put_segment(msdb, key.as_slice(), bytes);
+            }
+            Item::Image { .. } => {}
+        }
     }
 }

@@ -3,7 +3,8 @@ ghost use Rattle.fp_model.specs.State.{ascend, drop_key, is_below, key_length, k
 ghost use Rattle.fp_model.specs.Texts.{same_text};
 ghost use Rattle.msdb_store.specs.Places.{IsPlaced, IsWithin};
 ghost use Rattle.std.specs.Option.{option_copied};
-ghost use Rattle.std.specs.Prelude.{slice_get, ◌≡◌, IfOk, OnErr, OnOk, find, length, map, true};
+ghost use Rattle.msdb_store.specs.Store.{lacks, room};
+ghost use Rattle.std.specs.Prelude.{slice_get, ◌≡◌, ◌+◌, ◌<◌, ◌≤◌, IfOk, IsOk, OnErr, OnOk, find, if◌then◌else◌, length, map, true, vec_capacity};
 
 use crate::keyed::{Place, count_below, key_in};
 use fp_model::{Bytes, FieldDef, List, Msdb};
@@ -16,7 +17,7 @@ pub(crate) struct Table {
 }
 
 impl Table {
-    fn key_length(&self) -> usize
+    pub(crate) fn key_length(&self) -> usize
         ensures { result ≡ key_length self.now.fields }
     {
         match self.fields.as_slice().first() {
@@ -88,6 +89,11 @@ impl Table {
             ≡ put_by_key (key_of self.old.fields) segment (drop_key (key_of self.old.fields) (key_of self.old.fields segment) self.old.segments.items)) }
         ensures err { OnErr result (self.new.segments.items ≡ self.old.segments.items) }
         ensures fields { self.new.fields ≡ self.old.fields }
+        ensures done { ascend (map (key_of self.old.fields) self.old.segments.items) ≡ true
+            → (lacks self.old.fields self.old.segments.items segment ≡ true → length self.old.segments.items < vec_capacity self.old.segments) → IsOk result }
+        ensures long { ascend (map (key_of self.old.fields) self.old.segments.items) ≡ true
+            → length self.new.segments.items ≤ length self.old.segments.items + (if lacks self.old.fields self.old.segments.items segment then 1 else 0) }
+        ensures capacity { vec_capacity self.old.segments ≤ vec_capacity self.new.segments }
     {
         let place = self.place(key_in(&segment, self.key_length()));
         match place {
@@ -102,6 +108,8 @@ impl Table {
         ensures segments { ascend (map (key_of self.old.fields) self.old.segments.items) ≡ true
             → self.new.segments.items ≡ drop_key (key_of self.old.fields) key.now self.old.segments.items }
         ensures fields { self.new.fields ≡ self.old.fields }
+        ensures shorter { length self.new.segments.items ≤ length self.old.segments.items }
+        ensures capacity { vec_capacity self.new.segments ≡ vec_capacity self.old.segments }
     {
         match self.place(key) {
             Place::Stands(at) => {
@@ -109,6 +117,20 @@ impl Table {
             }
             Place::Lacks(_) => {}
         }
+    }
+
+    // Makes room for so many segments more, unless there would be 2^32 of them.
+    pub(crate) fn reserve(&mut self, n: usize) -> Result<(), AllocError>
+        ensures ok { OnOk result (n ≤ room (vec_capacity self.new.segments) (length self.new.segments.items)) }
+        ensures segments { self.new.segments.items ≡ self.old.segments.items }
+        ensures capacity { vec_capacity self.old.segments ≤ vec_capacity self.new.segments }
+        ensures fields { self.new.fields ≡ self.old.fields }
+    {
+        let most = u32::MAX as usize;
+        if self.segments.len() > most || n > most - self.segments.len() {
+            return Err(AllocError);
+        }
+        self.segments.reserve(n)
     }
 
     // The segments once more.

@@ -2,8 +2,8 @@
 ghost use Rattle.fp_model.specs.declared.definitions.MsdbDef.{MsdbDef as DefOf};
 ghost use Rattle.std.specs.Prelude.{◌≡◌, ◌∷◌, [], IfOk, length};
 
-use crate::MsdbStore;
-use fp_model::{Bytes, Defs, FieldDef, FieldKind, Item, Kind, List, Msdb, MsdbDef, Name};
+use crate::{MsdbStore, VerifyFault};
+use fp_model::{Bytes, Deferred, Defs, FieldDef, FieldKind, Item, Kind, List, Msdb, MsdbDef, Name};
 use std::alloc::{AllocError, Global};
 use std::test::Fail;
 

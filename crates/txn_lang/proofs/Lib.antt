@@ -10,3 +10,4 @@ pub mod TextLemmas
 pub mod NumberLemmas
 pub mod ParseLemmas
 pub mod OneMeaning
+pub mod Fitting

@@ -33,7 +33,7 @@ mod token;
 mod tokens;
 
 pub use fault::ScriptFault;
-pub use laws::{a_text_has_one_meaning, definitions_have_byte_numbers};
+pub use laws::{a_text_has_one_meaning, definitions_have_byte_numbers, what_was_read_fits};
 pub use parsing::parse;
 pub use rows::{
     a_dear_script_is_a_fault, a_field_call_has_these_tokens, a_name_twice_is_a_fault,

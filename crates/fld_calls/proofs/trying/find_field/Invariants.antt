@@ -4,4 +4,4 @@ use Rattle.fld_calls.proofs.trying.find_field.Given as goal
 
 -- the fields so far have other names
 abbrev pub invariant-loop-field : goal.invariant-loop-field
-invariant-loop-field l = field_of l.def.fields l.name.0 ≡ field_of (drop l.field-index l.field-items) l.name.0
+invariant-loop-field l = field_of l.fields l.name.0 ≡ field_of (drop l.field-index l.field-items) l.name.0

@@ -1,8 +1,12 @@
-use Rattle.std.proofs.Common.{rules, ◌<◌, ◌+◌, ◌∙◌, length, arith, sym, drop, take}
+use Rattle.std.proofs.Common.{rules, ◌<◌, ◌+◌, ◌∙◌, length, arith, sym, subst, drop, take}
 use Rattle.std.proofs.lemmas.List.{take_more_set, drop-set-lt, take_all, drop_all}
+use Rattle.fp_model.specs.WellFormed.{StandFrom}
 use Rattle.fld_calls.specs.declared.arguments.Fsa.{Fsa as Argument}
 use Rattle.fld_calls.proofs.ListLemmas.{trying-step, trying-end, drop_got}
 use Rattle.fld_calls.proofs.trying.try_fsas.Goals as goal
+
+pub try_fsa-outcome-requires : goal.try_fsa-outcome-requires
+try_fsa-outcome-requires c = subst (StandFrom 0 c.args.def.now.fields) (sym c.loop-at.invariant.whole) c.requires.fields
 
 pub loop-at-preserved : goal.loop-at-preserved
 loop-at-preserved c =

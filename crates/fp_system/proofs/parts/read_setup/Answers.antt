@@ -1,29 +1,18 @@
-use Rattle.std.proofs.Common.{◌≡◌, subst, ◌∙◌}
-use Rattle.fp_source.specs.declared.part.Part.TheVariants.{Definitions, Scripts}
-use Rattle.fp_system.specs.Parts.{Job, setup_of}
-use Rattle.fp_system.specs.Setups.{IsSetupOf}
-use Rattle.fp_system.proofs.SetupLemmas.{setup_is, same_job}
+use Rattle.std.proofs.Common.{◌≡◌}
+use Rattle.std.proofs.lemmas.Result.{err_from_is_err_and}
+use Rattle.fp_source.specs.declared.part.Part.TheVariants as part
+use Rattle.fp_system.proofs.Jobs.{or_refused, or_scripts}
 use Rattle.fp_system.proofs.parts.read_setup.Goals as goal
 
-pub returns-clause-given : goal.returns-clause-given
-returns-clause-given g c t =
-    let read = c.in_ok-deposit.ensures.read in
-    let aside = c.in_ok-defs.ensures.source.others t Scripts (λ (e : Scripts ≡ Definitions). cc) in
-    let text = c.in_ok-deposit.ensures.found (c.in_ok-defs.ensures.source.stays_told t) ∙ aside in (
-      record { defs = c.in_ok-defs.defs; scripts = read.scripts; scripts_text = c.in_ok-deposit.text },
-      setup_is (g.S.Source.left c.args.source.now) c.in_ok-defs.defs read.scripts c.in_ok-deposit.text (c.in_ok-defs.ensures.found t) text c.in_ok-deposit.ensures.short read.is,
-    )
+pub returns-in_err-defs-clause-refused : goal.returns-in_err-defs-clause-refused
+returns-in_err-defs-clause-refused g c t =
+    let left = g.S.Source.left c.args.source.now in
+    let p = err_from_is_err_and c.from_residual.result c.from_residual.ensures.1 in
+    rw (p.1, p.2) (or_refused left _ (c.in_err-defs.ensures.refused t))
 
-pub returns-clause-setup : goal.returns-clause-setup
-returns-clause-setup g c =
-    let read = c.in_ok-deposit.ensures.read in
-    (record { defs = c.in_ok-defs.defs; scripts = read.scripts; scripts_text = c.in_ok-deposit.text }, c.in_ok-setup_with.ensures read.scripts read.is)
-
-pub returns-clause-ok : goal.returns-clause-ok
-returns-clause-ok g c job t e =
-    let read = c.in_ok-deposit.ensures.read in
-    let aside = c.in_ok-defs.ensures.source.others t Scripts (λ (e : Scripts ≡ Definitions). cc) in
-    let text = c.in_ok-deposit.ensures.found (c.in_ok-defs.ensures.source.stays_told t) ∙ aside in
-    let one : Job = record { defs = c.in_ok-defs.defs; scripts = read.scripts; scripts_text = c.in_ok-deposit.text } in
-    let is = setup_is (g.S.Source.left c.args.source.now) c.in_ok-defs.defs read.scripts c.in_ok-deposit.text (c.in_ok-defs.ensures.found t) text c.in_ok-deposit.ensures.short read.is in
-    subst (λ (j : Job). IsSetupOf j c.in_ok-setup_with.field-0) (same_job (setup_of (g.S.Source.left c.args.source.now)) one job is e) (c.in_ok-setup_with.ensures read.scripts read.is)
+pub returns-in_err-scripts-clause-refused : goal.returns-in_err-scripts-clause-refused
+returns-in_err-scripts-clause-refused g c t =
+    let left = g.S.Source.left c.args.source.now in
+    let aside = c.in_ok-defs.ensures.source.others t part.Scripts (λ (e : part.Scripts ≡ part.Definitions). cc) in
+    let p = err_from_is_err_and c.from_residual-in_err-scripts.result c.from_residual-in_err-scripts.ensures.1 in
+    rw (p.1, p.2) (or_scripts left c.in_ok-defs.defs _ _ (c.in_ok-defs.ensures.ok t) aside (c.in_err-scripts.ensures.refused (c.in_ok-defs.ensures.source.stays_told t)))

@@ -5,24 +5,28 @@ use Rattle.fp_site.specs.Moments.{Through}
 use Rattle.log_groups.specs.Images.{IsAtRest, IsBeforeOrAfter, IsWithOrWithout, with_group}
 use Rattle.fp_system.specs.Parts.{front_for}
 use Rattle.fp_system.specs.Serving.{IsReady, Serves, Halts}
+use Rattle.fp_system.specs.Setups.{job_of}
 use Rattle.fp_system.proofs.Results.{at_err}
 use Rattle.fp_system.proofs.Steps.{halts_here, stays_here, after_seal, halts_unsealed, after_send, halts_sent, serves_one}
 use Rattle.fp_system.proofs.server.Server.serve.Goals as goal
 
 pub returns-in_err-reply-clause-err : goal.returns-in_err-reply-clause-err
-returns-in_err-reply-clause-err g c job entries t small stands =
+returns-in_err-reply-clause-err g c entries t stands =
+    let job = job_of c.args.setup.now in
     at_err c.from_residual.result (Halts job entries (g.T.Site.disk c.args.site.now) (g.T.Site.disk c.args.site.now))
     (halts_here job entries (g.T.Site.disk c.args.site.now) (g.T.Site.disk c.args.site.now) c.args.self.now.store c.args.self.now.log refl stands)
 
 pub returns-in_err-reply-clause-crash : goal.returns-in_err-reply-clause-crash
-returns-in_err-reply-clause-crash g c job entries t small stands = stays_here job entries (g.T.Site.disk c.args.site.now) c.args.self.now.store c.args.self.now.log (g.met.T.Site.lawful c.args.site.now t) stands
+returns-in_err-reply-clause-crash g c entries t stands =
+    let job = job_of c.args.setup.now in stays_here job entries (g.T.Site.disk c.args.site.now) c.args.self.now.store c.args.self.now.log (g.met.T.Site.lawful c.args.site.now t) stands
 
 pub returns-in_err-seal-clause-err : goal.returns-in_err-seal-clause-err
-returns-in_err-seal-clause-err g c job entries t small stands =
+returns-in_err-seal-clause-err g c entries t stands =
+    let job = job_of c.args.setup.now in
     let h = g.T.Site.disk c.args.site.now in
     let h1 = g.T.Site.disk c.seal.new.site in
     let law = g.met.T.Site.lawful c.args.site.now t in
-    let ready : IsReady job entries c.args.message.now.line c.in_ok-reply.reply c.args.self.now.log.gate c.prepare.new.self.store c.prepare.new.self.log = c.in_ok-reply.ensures.ready job entries stands.account small stands.of stands.segments stands.unsealed stands.sealed in
+    let ready : IsReady job entries c.args.line.now c.in_ok-reply.reply c.args.self.now.log.gate c.prepare.new.self.store c.prepare.new.self.log = c.in_ok-reply.ensures.ready entries stands.account stands.segments stands.unsealed stands.sealed in
     let e = ready.entry in
     let rest : IsAtRest h (front_for job) stands.groups c.prepare.new.self.log.gate = subst (IsAtRest h (front_for job) stands.groups) (sym ready.gate_is) stands.at_rest in
     let only = c.seal.ensures.only t in
@@ -37,11 +41,12 @@ returns-in_err-seal-clause-err g c job entries t small stands =
     at_err c.from_residual-in_err-seal.result (Halts job entries h h1) (halts_unsealed job entries h c.args.self.now.store c.args.self.now.log law stands e ready.account h1 only run law1 settles)
 
 pub returns-in_err-seal-clause-crash : goal.returns-in_err-seal-clause-crash
-returns-in_err-seal-clause-crash g c job entries t small stands =
+returns-in_err-seal-clause-crash g c entries t stands =
+    let job = job_of c.args.setup.now in
     let h = g.T.Site.disk c.args.site.now in
     let h1 = g.T.Site.disk c.seal.new.site in
     let law = g.met.T.Site.lawful c.args.site.now t in
-    let ready : IsReady job entries c.args.message.now.line c.in_ok-reply.reply c.args.self.now.log.gate c.prepare.new.self.store c.prepare.new.self.log = c.in_ok-reply.ensures.ready job entries stands.account small stands.of stands.segments stands.unsealed stands.sealed in
+    let ready : IsReady job entries c.args.line.now c.in_ok-reply.reply c.args.self.now.log.gate c.prepare.new.self.store c.prepare.new.self.log = c.in_ok-reply.ensures.ready entries stands.account stands.segments stands.unsealed stands.sealed in
     let e = ready.entry in
     let rest : IsAtRest h (front_for job) stands.groups c.prepare.new.self.log.gate = subst (IsAtRest h (front_for job) stands.groups) (sym ready.gate_is) stands.at_rest in
     let only = c.seal.ensures.only t in
@@ -53,11 +58,12 @@ returns-in_err-seal-clause-crash g c job entries t small stands =
     after_seal job entries h c.args.self.now.store c.args.self.now.log law stands e ready.account h1 only run
 
 pub returns-in_err-send-clause-err : goal.returns-in_err-send-clause-err
-returns-in_err-send-clause-err g c job entries t small stands =
+returns-in_err-send-clause-err g c entries t stands =
+    let job = job_of c.args.setup.now in
     let h = g.T.Site.disk c.args.site.now in
     let h1 = g.T.Site.disk c.seal.new.site in
     let law = g.met.T.Site.lawful c.args.site.now t in
-    let ready : IsReady job entries c.args.message.now.line c.in_ok-reply.reply c.args.self.now.log.gate c.prepare.new.self.store c.prepare.new.self.log = c.in_ok-reply.ensures.ready job entries stands.account small stands.of stands.segments stands.unsealed stands.sealed in
+    let ready : IsReady job entries c.args.line.now c.in_ok-reply.reply c.args.self.now.log.gate c.prepare.new.self.store c.prepare.new.self.log = c.in_ok-reply.ensures.ready entries stands.account stands.segments stands.unsealed stands.sealed in
     let e = ready.entry in
     let rest : IsAtRest h (front_for job) stands.groups c.prepare.new.self.log.gate = subst (IsAtRest h (front_for job) stands.groups) (sym ready.gate_is) stands.at_rest in
     let only = c.seal.ensures.only t in
@@ -78,11 +84,12 @@ returns-in_err-send-clause-err g c job entries t small stands =
     at_err c.from_residual-in_err-send.result (Halts job entries h h2) (halts_sent job entries h c.args.self.now.store c.args.self.now.log law stands e ready.account h1 only run law1 gate1 rest1 line is h2 law2 (c.send.ensures.same t1) (c.send.ensures.crash t1) part.0 part.1)
 
 pub returns-in_err-send-clause-crash : goal.returns-in_err-send-clause-crash
-returns-in_err-send-clause-crash g c job entries t small stands =
+returns-in_err-send-clause-crash g c entries t stands =
+    let job = job_of c.args.setup.now in
     let h = g.T.Site.disk c.args.site.now in
     let h1 = g.T.Site.disk c.seal.new.site in
     let law = g.met.T.Site.lawful c.args.site.now t in
-    let ready : IsReady job entries c.args.message.now.line c.in_ok-reply.reply c.args.self.now.log.gate c.prepare.new.self.store c.prepare.new.self.log = c.in_ok-reply.ensures.ready job entries stands.account small stands.of stands.segments stands.unsealed stands.sealed in
+    let ready : IsReady job entries c.args.line.now c.in_ok-reply.reply c.args.self.now.log.gate c.prepare.new.self.store c.prepare.new.self.log = c.in_ok-reply.ensures.ready entries stands.account stands.segments stands.unsealed stands.sealed in
     let e = ready.entry in
     let rest : IsAtRest h (front_for job) stands.groups c.prepare.new.self.log.gate = subst (IsAtRest h (front_for job) stands.groups) (sym ready.gate_is) stands.at_rest in
     let only = c.seal.ensures.only t in
@@ -102,11 +109,12 @@ returns-in_err-send-clause-crash g c job entries t small stands =
     after_send job entries h c.args.self.now.store c.args.self.now.log law stands e ready.account h1 only run law1 gate1 rest1 line is h2 law2 (c.send.ensures.same t1) (c.send.ensures.crash t1)
 
 pub returns-clause-crash : goal.returns-clause-crash
-returns-clause-crash g c job entries t small stands =
+returns-clause-crash g c entries t stands =
+    let job = job_of c.args.setup.now in
     let h = g.T.Site.disk c.args.site.now in
     let h1 = g.T.Site.disk c.seal.new.site in
     let law = g.met.T.Site.lawful c.args.site.now t in
-    let ready : IsReady job entries c.args.message.now.line c.in_ok-reply.reply c.args.self.now.log.gate c.prepare.new.self.store c.prepare.new.self.log = c.in_ok-reply.ensures.ready job entries stands.account small stands.of stands.segments stands.unsealed stands.sealed in
+    let ready : IsReady job entries c.args.line.now c.in_ok-reply.reply c.args.self.now.log.gate c.prepare.new.self.store c.prepare.new.self.log = c.in_ok-reply.ensures.ready entries stands.account stands.segments stands.unsealed stands.sealed in
     let e = ready.entry in
     let rest : IsAtRest h (front_for job) stands.groups c.prepare.new.self.log.gate = subst (IsAtRest h (front_for job) stands.groups) (sym ready.gate_is) stands.at_rest in
     let only = c.seal.ensures.only t in
@@ -129,11 +137,12 @@ pub returns-clause-keeps : goal.returns-clause-keeps
 returns-clause-keeps g c first k = c.send.ensures.keeps first (c.seal.ensures.keeps first k)
 
 pub returns-clause-ok : goal.returns-clause-ok
-returns-clause-ok g c job entries t small stands =
+returns-clause-ok g c entries t stands =
+    let job = job_of c.args.setup.now in
     let h = g.T.Site.disk c.args.site.now in
     let h1 = g.T.Site.disk c.seal.new.site in
     let law = g.met.T.Site.lawful c.args.site.now t in
-    let ready : IsReady job entries c.args.message.now.line c.in_ok-reply.reply c.args.self.now.log.gate c.prepare.new.self.store c.prepare.new.self.log = c.in_ok-reply.ensures.ready job entries stands.account small stands.of stands.segments stands.unsealed stands.sealed in
+    let ready : IsReady job entries c.args.line.now c.in_ok-reply.reply c.args.self.now.log.gate c.prepare.new.self.store c.prepare.new.self.log = c.in_ok-reply.ensures.ready entries stands.account stands.segments stands.unsealed stands.sealed in
     let e = ready.entry in
     let rest : IsAtRest h (front_for job) stands.groups c.prepare.new.self.log.gate = subst (IsAtRest h (front_for job) stands.groups) (sym ready.gate_is) stands.at_rest in
     let only = c.seal.ensures.only t in

@@ -1,95 +1,135 @@
-use Rattle.std.proofs.Common.{◌++◌, List, ℕ, take, get_or, refl, sym, subst, ◌∙◌, arith}
-use Rattle.fp_model.specs.declared.calls.Message.{Message}
-use Rattle.fp_system.specs.declared.deposit.Deposit.{Deposit}
-use Rattle.fp_system.specs.Deposits.{IsTaken}
-use Rattle.fp_system.specs.Serving.{Halts, Serves}
-use Rattle.fp_system.specs.Small.{IsSmall}
-use Rattle.fp_system.proofs.Results.{at_err}
-use Rattle.fp_system.proofs.Loops.{Going, going_none, going_more, moments_more, halts_more, at_place, lines_in, one_line_more, all_lines}
+use Rattle.std.proofs.Common.{◌≡◌, ◌++◌, ◌+◌, [], ◌∷◌, ℕ, List, refl, sym, ap, ◌∙◌, arith, rules}
+use Rattle.std.specs.Prelude.{Err, None}
+use Rattle.std.proofs.lemmas.Result.{err_from_is_err_and}
+use Rattle.fp_model.specs.Messages.{lines_of}
+use Rattle.fp_source.specs.Lines.{lines_ahead, lines_given, fault_ahead, to_come}
+use Rattle.fp_source.specs.declared.lines.LineFault.{LineFault}
+use Rattle.fp_source.specs.declared.part.Part.TheVariants as part
+use Rattle.fp_system.specs.Answers.{status_of_line}
+use Rattle.fp_system.specs.Serving.{Halts}
+use Rattle.fp_system.specs.Setups.{job_of}
+use Rattle.fp_system.specs.declared.status.Status.TheVariants as status
+use Rattle.fp_system.proofs.Loops.{going_none, halts_going, halts_more, moments_more, served_none, served_more, served_all, served_before, number_is}
+use Rattle.fp_system.proofs.Results.{at_err, at_some, at_none}
+use Rattle.fp_system.proofs.Steps.{halts_here, stays_here}
 use Rattle.fp_system.proofs.server.Server.serve_all.Goals as goal
 
-pub loop-message-init : goal.loop-message-init
-loop-message-init g c = record {
+pub returns-in_err-lines-clause-err : goal.returns-in_err-lines-clause-err
+returns-in_err-lines-clause-err g c entries s t stands =
+    let h = g.T.Site.disk c.args.site.now in
+    let job = job_of c.args.setup.now in
+    at_err c.from_residual.result (Halts job entries h h) (halts_here job entries h h c.args.self.now.store c.args.self.now.log refl stands)
+
+pub returns-in_err-lines-clause-crash : goal.returns-in_err-lines-clause-crash
+returns-in_err-lines-clause-crash g c entries s t stands =
+    stays_here (job_of c.args.setup.now) entries (g.T.Site.disk c.args.site.now) c.args.self.now.store c.args.self.now.log (g.met.T.Site.lawful c.args.site.now t) stands
+
+pub loop-lines-init : goal.loop-lines-init
+loop-lines-init g c = record {
   store = c.requires.store;
-  deposit = refl;
-  told = λ t. t;
-  holds = refl;
-  keeps = λ first k. k;
-  count = omega arith;
-  going = λ job entries t small stands. going_none job entries (g.T.Site.disk c.args.site.now) c.args.self.now.store c.args.self.now.log (g.met.T.Site.lawful c.args.site.now t) stands;
+  site = record { later = omega arith; still_told = λ t. t; reference = refl; kept = λ first k. k };
+  source = record { later = omega arith; still_told = λ s. s; reference = refl; kept = λ first k. k };
+  fault = λ s. c.in_ok-lines.ensures.fault (g.S.Source.left c.args.source.now part.Messages);
+  served = λ entries s t stands.
+      let h = g.T.Site.disk c.args.site.now in
+      let left = g.S.Source.left c.args.source.now part.Messages in
+      let job = job_of c.args.setup.now in
+      served_none job entries h (lines_of left) (lines_ahead c.in_ok-lines.lines left) (lines_given c.in_ok-lines.lines) c.args.self.now.store c.args.self.now.log
+      (c.in_ok-lines.ensures.lines left) c.in_ok-lines.ensures.given
+      (going_none job entries h c.args.self.now.store c.args.self.now.log (g.met.T.Site.lawful c.args.site.now t) stands);
 }
 
-pub serve-requires-clause-takes : goal.serve-requires-clause-takes
-serve-requires-clause-takes g c =
-    let m = c.message-item.result in
-    let d = c.loop-message.self.deposit in
-    let there = at_place (IsTaken c.args.self.now.deposit) c.args.messages.now c.loop-message.message-index m c.loop-message-test.true c.requires.takes in
-    subst (λ (x : Message). IsTaken d x) (sym c.message-item.is)
-    (subst (λ (y : Deposit). IsTaken y (get_or c.args.messages.now c.loop-message.message-index m)) (sym c.loop-message.invariant.deposit) there)
+pub returns-in_err-line-clause-before : goal.returns-in_err-line-clause-before
+returns-in_err-line-clause-before g c entries number s t stands e =
+    let inv = c.loop-lines.invariant in
+    let left = g.S.Source.left c.args.source.now part.Messages in
+    let now = g.S.Source.left c.loop-lines.source part.Messages in
+    let f : LineFault = c.in_err-line.field-0.0 in
+    let p = err_from_is_err_and c.from_residual-in_err-line.result c.from_residual-in_err-line.ensures.1 in
+    let same : status_of_line f ≡ status.Line number = cc (p.1, p.2, e) in
+    let given = lines_given c.loop-lines.lines in
+    let next : number ≡ given + 1 =
+    number_is f number (given + 1) same (λ n is. c.in_err-line.ensures.long_number n (ap (λ x. Err x) is)) (λ n is. c.in_err-line.ensures.last_number n (ap (λ x. Err x) is)) in
+    served_before (job_of c.args.setup.now) entries (g.T.Site.disk c.args.site.now) (g.T.Site.disk c.loop-lines.site) (lines_of left) (lines_ahead c.loop-lines.lines now) given
+    c.loop-lines.self.store c.loop-lines.self.log (inv.served entries s t stands) number next
 
-pub serve-requires-clause-store : goal.serve-requires-clause-store
-serve-requires-clause-store g c = c.loop-message.invariant.store
+pub returns-in_err-line-clause-err : goal.returns-in_err-line-clause-err
+returns-in_err-line-clause-err g c entries s t stands =
+    let so = c.loop-lines.invariant.served entries s t stands in
+    let job = job_of c.args.setup.now in
+    let h0 = g.T.Site.disk c.args.site.now in
+    let h = g.T.Site.disk c.loop-lines.site in
+    at_err c.from_residual-in_err-line.result (Halts job entries h0 h) (halts_going job entries h0 h h so.served c.loop-lines.self.store c.loop-lines.self.log so.going)
+
+pub returns-in_err-line-clause-crash : goal.returns-in_err-line-clause-crash
+returns-in_err-line-clause-crash g c entries s t stands = (c.loop-lines.invariant.served entries s t stands).going.moments
 
 pub returns-in_err-serve-clause-err : goal.returns-in_err-serve-clause-err
-returns-in_err-serve-clause-err g c job entries t small stands =
-    let inv = c.loop-message.invariant in
-    let so = inv.going job entries t small stands in
-    let t1 = inv.told t in
+returns-in_err-serve-clause-err g c entries s t stands =
+    let inv = c.loop-lines.invariant in
+    let so = inv.served entries s t stands in
+    let t1 = inv.site.still_told t in
+    let job = job_of c.args.setup.now in
     let h0 = g.T.Site.disk c.args.site.now in
-    let h = g.T.Site.disk c.loop-message.site in
+    let h = g.T.Site.disk c.loop-lines.site in
     let h1 = g.T.Site.disk c.serve.new.site in
-    let messages = c.args.messages.now in
-    let i = c.loop-message.message-index in
-    let small1 = subst (λ (d : Deposit). IsSmall job.defs job.scripts d) (sym inv.deposit) small in
-    let lines = lines_in (take i messages) in
-    let run = c.serve.ensures.crash job (entries ++ so.serves.later) t1 small1 so.serves.stands in
-    at_err c.from_residual.result (Halts job entries h0 h1) (halts_more job entries h0 h h1 lines c.loop-message.self.store c.loop-message.self.log so (c.in_err-serve.ensures.err job (entries ++ so.serves.later) t1 small1 so.serves.stands))
+    at_err c.from_residual-in_err-serve.result (Halts job entries h0 h1)
+    (halts_more job entries h0 h h1 so.served c.loop-lines.self.store c.loop-lines.self.log so.going (c.in_err-serve.ensures.err (entries ++ so.going.serves.later) t1 so.going.serves.stands))
 
 pub returns-in_err-serve-clause-crash : goal.returns-in_err-serve-clause-crash
-returns-in_err-serve-clause-crash g c job entries t small stands =
-    let inv = c.loop-message.invariant in
-    let so = inv.going job entries t small stands in
-    let t1 = inv.told t in
-    let h0 = g.T.Site.disk c.args.site.now in
-    let h = g.T.Site.disk c.loop-message.site in
-    let h1 = g.T.Site.disk c.serve.new.site in
-    let messages = c.args.messages.now in
-    let i = c.loop-message.message-index in
-    let small1 = subst (λ (d : Deposit). IsSmall job.defs job.scripts d) (sym inv.deposit) small in
-    let lines = lines_in (take i messages) in
-    let run = c.serve.ensures.crash job (entries ++ so.serves.later) t1 small1 so.serves.stands in
-    moments_more job entries h0 h h1 lines c.loop-message.self.store c.loop-message.self.log so run
+returns-in_err-serve-clause-crash g c entries s t stands =
+    let inv = c.loop-lines.invariant in
+    let so = inv.served entries s t stands in
+    let t1 = inv.site.still_told t in
+    moments_more (job_of c.args.setup.now) entries (g.T.Site.disk c.args.site.now) (g.T.Site.disk c.loop-lines.site) (g.T.Site.disk c.serve.new.site) so.served
+    c.loop-lines.self.store c.loop-lines.self.log so.going (c.serve.ensures.crash (entries ++ so.going.serves.later) t1 so.going.serves.stands)
 
-pub loop-message-preserved : goal.loop-message-preserved
-loop-message-preserved g c = record {
-  store = c.in_ok-serve.ensures.store;
-  deposit = c.serve.ensures.deposit ∙ c.loop-message.invariant.deposit;
-  told = λ t. c.serve.ensures.told (c.loop-message.invariant.told t);
-  holds = c.serve.ensures.holds ∙ c.loop-message.invariant.holds;
-  keeps = λ first k. c.serve.ensures.keeps first (c.loop-message.invariant.keeps first k);
-  count = omega (arith, c.serve.ensures.later, c.loop-message.invariant.count);
-  going = λ job entries t small stands.
-      let inv = c.loop-message.invariant in
-      let so = inv.going job entries t small stands in
-      let t1 = inv.told t in
-      let h0 = g.T.Site.disk c.args.site.now in
-      let h = g.T.Site.disk c.loop-message.site in
-      let h1 = g.T.Site.disk c.serve.new.site in
-      let messages = c.args.messages.now in
-      let i = c.loop-message.message-index in
-      let small1 = subst (λ (d : Deposit). IsSmall job.defs job.scripts d) (sym inv.deposit) small in
-      let lines = lines_in (take i messages) in
-      let run = c.serve.ensures.crash job (entries ++ so.serves.later) t1 small1 so.serves.stands in
-      let m = c.message-item.result in
-      let one = c.in_ok-serve.ensures.ok job (entries ++ so.serves.later) t1 small1 so.serves.stands in
-      subst (λ (ls : List (List ℕ)). Going job entries h0 h1 ls c.serve.new.self.store c.serve.new.self.log) (sym (one_line_more messages i m c.loop-message-test.true c.message-item.is))
-      (going_more job entries h0 h h1 lines c.loop-message.self.store c.loop-message.self.log so m.line c.serve.new.self.store c.serve.new.self.log one run);
-}
+pub loop-lines-preserved : goal.loop-lines-preserved
+loop-lines-preserved g c =
+    let inv = c.loop-lines.invariant in
+    let read = c.in_ok-line.ensures in
+    let line : List ℕ = c.in-Some.line in
+    let left = g.S.Source.left c.args.source.now part.Messages in
+    let now = g.S.Source.left c.loop-lines.source part.Messages in
+    let next = g.S.Source.left c.next.new.source part.Messages in
+    let lines = c.loop-lines.lines in
+    let lines1 = c.next.new.self in
+    record {
+      store = c.serve.ensures.store;
+      site = record {
+        later = omega (arith, c.serve.ensures.later, inv.site.later);
+        still_told = λ t. c.serve.ensures.told (inv.site.still_told t);
+        reference = c.serve.ensures.holds ∙ inv.site.reference;
+        kept = λ first k. c.serve.ensures.keeps first (inv.site.kept first k);
+      };
+      source = record {
+        later = omega (arith, read.source.later, inv.source.later);
+        still_told = λ s. read.source.stays_told (inv.source.still_told s);
+        reference = read.source.same_reference ∙ inv.source.reference;
+        kept = λ first k. read.source.kept first (inv.source.kept first k);
+      };
+      fault = λ s. sym (at_some c.in_ok-line.field-0 line (λ (l : List ℕ). fault_ahead lines now ≡ fault_ahead lines1 next) c.in-Some.is (read.fair (inv.source.still_told s))) ∙ inv.fault s;
+      served = λ entries s t stands.
+          let so = inv.served entries s t stands in
+          let t1 = inv.site.still_told t in
+          let ahead = at_some c.in_ok-line.field-0 line (λ (l : List ℕ). lines_ahead lines now ≡ l ∷ lines_ahead lines1 next) c.in-Some.is (read.line (inv.source.still_told s)) in
+          let more = at_some c.in_ok-line.field-0 line (λ (l : List ℕ). lines_given lines1 ≡ lines_given lines + 1) c.in-Some.is read.given in
+          let one = c.in_ok-serve.ensures.ok (entries ++ so.going.serves.later) t1 so.going.serves.stands in
+          let run = c.serve.ensures.crash (entries ++ so.going.serves.later) t1 so.going.serves.stands in
+          served_more (job_of c.args.setup.now) entries (g.T.Site.disk c.args.site.now) (g.T.Site.disk c.loop-lines.site) (lines_of left) (lines_ahead lines now) (lines_given lines)
+          c.loop-lines.self.store c.loop-lines.self.log so (g.T.Site.disk c.serve.new.site) line (lines_ahead lines1 next) (lines_given lines1) c.serve.new.self.store c.serve.new.self.log ahead more one run;
+    }
 
 pub returns-clause-ok : goal.returns-clause-ok
-returns-clause-ok g c job entries t small stands =
-    let so = c.loop-message.invariant.going job entries t small stands in
-    subst (λ (ls : List (List ℕ)). Serves job entries (g.T.Site.disk c.args.site.now) (g.T.Site.disk c.loop-message.site) ls c.loop-message.self.store c.loop-message.self.log) (all_lines c.args.messages.now c.loop-message.message-index (omega arith)) so.serves
+returns-clause-ok g c entries s t stands =
+    let inv = c.loop-lines.invariant in
+    let left = g.S.Source.left c.args.source.now part.Messages in
+    let now = g.S.Source.left c.loop-lines.source part.Messages in
+    let lines = c.loop-lines.lines in
+    let none : c.in_ok-line.field-0 ≡ None = first_of (search rules, grind rules, cc) in
+    let ahead = at_none c.in_ok-line.field-0 (to_come lines now ≡ []) none (c.in_ok-line.ensures.none (inv.source.still_told s)) in
+    served_all (job_of c.args.setup.now) entries (g.T.Site.disk c.args.site.now) (g.T.Site.disk c.loop-lines.site) (lines_of left) (lines_ahead lines now) (lines_given lines)
+    c.loop-lines.self.store c.loop-lines.self.log (inv.served entries s t stands) (ap lines_of ahead)
 
 pub returns-clause-crash : goal.returns-clause-crash
-returns-clause-crash g c job entries t small stands = (c.loop-message.invariant.going job entries t small stands).moments
+returns-clause-crash g c entries s t stands = (c.loop-lines.invariant.served entries s t stands).going.moments

@@ -1,20 +1,24 @@
-use Rattle.std.proofs.Common.{◌≡◌, ◌≤◌, List, take}
+use Rattle.std.proofs.Common.{◌≡◌, ◌-◌, List}
+use Rattle.fp_model.specs.Messages.{lines_of, line_fault}
 use Rattle.fp_model.specs.declared.log.Entry.{Entry}
-use Rattle.fp_system.specs.Deposits.{IsFor}
-use Rattle.fp_system.specs.Parts.{Job}
+use Rattle.fp_source.specs.Lines.{lines_ahead, lines_given, fault_ahead}
+use Rattle.fp_source.specs.declared.part.Part.TheVariants as part
+use Rattle.fp_system.specs.Ims.{IsSame}
 use Rattle.fp_system.specs.Serving.{StandsAt}
-use Rattle.fp_system.specs.Small.{IsSmall}
-use Rattle.fp_system.proofs.Loops.{Going, lines_in}
+use Rattle.fp_system.specs.Setups.{job_of}
+use Rattle.fp_system.proofs.Loops.{HasServed}
+use Rattle.msdb_store.specs.Store.{IsOf}
 use Rattle.fp_system.proofs.server.Server.serve_all.Given as goal
 
--- the messages so far were served
-abbrev pub invariant-loop-message : goal.invariant-loop-message
-invariant-loop-message g l = record {
-  store : IsFor l.self.deposit l.self.store;
-  deposit : l.self.deposit ≡ l.initial.self.deposit;
-  told : g.T.Site.told l.initial.site → g.T.Site.told l.site;
-  holds : g.T.Site.holds l.site ≡ g.T.Site.holds l.initial.site;
-  keeps : (first : _) → g.T.Site.keeps first l.initial.site → g.T.Site.keeps first l.site;
-  count : g.T.Site.faults l.initial.site ≤ g.T.Site.faults l.site;
-  going : (job : Job) (entries : List Entry) → g.T.Site.told l.initial.site → IsSmall job.defs job.scripts l.initial.self.deposit → StandsAt job entries (g.T.Site.disk l.initial.site) l.initial.self.store l.initial.self.log → Going job entries (g.T.Site.disk l.initial.site) (g.T.Site.disk l.site) (lines_in (take l.message-index l.messages)) l.self.store l.self.log;
+-- the lines so far were served
+abbrev pub invariant-loop-lines : goal.invariant-loop-lines
+invariant-loop-lines g l = record {
+  store : IsOf l.setup.defs.msdbs l.self.store;
+  site : IsSame g.T.Site.told g.T.Site.faults g.T.Site.holds g.T.Site.keeps l.initial.site l.site;
+  source : IsSame g.S.Source.told g.S.Source.faults g.S.Source.holds g.S.Source.keeps l.initial.source l.source;
+  fault : g.S.Source.told l.initial.source → fault_ahead l.lines (g.S.Source.left l.source part.Messages) ≡ line_fault (g.S.Source.left l.initial.source part.Messages);
+  served : (entries : List Entry) → g.S.Source.told l.initial.source → g.T.Site.told l.initial.site → StandsAt (job_of l.setup) entries (g.T.Site.disk l.initial.site) l.initial.self.store l.initial.self.log → HasServed (job_of l.setup) entries (g.T.Site.disk l.initial.site) (g.T.Site.disk l.site) (lines_of (g.S.Source.left l.initial.source part.Messages)) (lines_ahead l.lines (g.S.Source.left l.source part.Messages)) (lines_given l.lines) l.self.store l.self.log;
 }
+
+abbrev pub decreases-loop-lines : goal.decreases-loop-lines
+decreases-loop-lines g l = 1000000 - lines_given l.lines

@@ -4,7 +4,7 @@ use Rattle.fp_model.specs.declared.database.Msdb.{Msdb}
 use Rattle.msdb_store.specs.declared.table.Table.{Table}
 use Rattle.std.specs.Option.{option_copied}
 use Rattle.msdb_store.specs.Store.{IsOf, found}
-use Rattle.msdb_store.proofs.Tables.{found_in}
+use Rattle.msdb_store.proofs.Tables.{found_in, with_room}
 use Rattle.msdb_store.proofs.Ascending.{stands_there}
 use Rattle.msdb_store.proofs.store.MsdbStore.look.Goals as goal
 
@@ -15,5 +15,5 @@ returns c defs of =
     let within : c.args.msdb < length tables = subst (λ n. c.args.msdb < n) (ap (λ s. length s.msdbs) (sym c.self.view_is) ∙ length-map tables msdb) c.requires in
     subst (λ s. option_copied c.look.result ≡ found defs s c.args.msdb c.args.key.now) c.self.view_is
     (found_in (λ t. t.fields) msdb defs tables c.args.msdb c.index.result.now c.args.key.now (option_copied c.look.result)
-    (subst (IsOf defs) (sym c.self.view_is) of)
+    (with_room 0 (subst (IsOf defs) (sym c.self.view_is) of))
     (stands_there tables c.args.msdb c.index.result.now within ∙ ap Some (sym c.index.ensures)) c.look.ensures)

@@ -1,0 +1,8 @@
+pub mod AnswerLemmas
+pub mod FitLemmas
+pub mod HoldLemmas
+pub mod KeyLemmas
+pub mod LetterLemmas
+pub mod Samples
+pub mod StoreLemmas
+pub mod WorkLemmas

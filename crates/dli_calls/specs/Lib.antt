@@ -1,0 +1,4 @@
+pub mod Keys
+pub mod Progress
+pub mod Readiness
+pub mod Replies

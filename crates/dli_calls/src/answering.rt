@@ -1,0 +1,231 @@
+//! The answer to a call, or the lock that it needs first.
+ghost use Rattle.std.specs.List.{AllByRecursion};
+ghost use Rattle.std.specs.Option.{option_copied, option_map, option_map_or};
+ghost use Rattle.std.specs.Prelude.{◌≡◌, ◌<◌, ◌++◌, ◌∷◌, [], IfOk, List as ListOf, OnErr, if◌then◌else◌, length, option_and_then, slice_get, ℕ};
+ghost use Rattle.fp_model.specs.Answers.{unless_held};
+ghost use Rattle.fp_model.specs.Calls.{database_of, looks_unheld, need_of, reply_to};
+ghost use Rattle.fp_model.specs.FitCalls.{FitsAnswer, FitsCall, IsMsdbCall};
+ghost use Rattle.fp_model.specs.MsdbCalls.{exclusively, is_put_or_dropped, msdb_looks, msdb_need, msdb_reply, position_of};
+ghost use Rattle.fp_model.specs.WellFormed.{IsMsdbDef};
+ghost use Rattle.fp_model.specs.Workspace.{Workspace};
+ghost use Rattle.fp_model.specs.declared.calls.Resource.TheVariants.{Segment};
+ghost use Rattle.fp_model.specs.declared.database.Db.{Db as DbOf};
+ghost use Rattle.fp_model.specs.declared.definitions.Defs.{Defs as DefsOf};
+ghost use Rattle.fp_model.specs.declared.definitions.MsdbDef.{MsdbDef as DefOf};
+ghost use Rattle.msdb_store.specs.Store.{IsOf};
+ghost use Rattle.dli_calls.specs.Progress.{FitsPosition, IsWorkOf, held_in, is_among};
+ghost use Rattle.dli_calls.specs.Readiness.{IfAnswer, OnNeed, needed_exclusive, needed_in};
+ghost use Rattle.dli_calls.specs.Replies.{IsDatabase, ShowsFound, is_changed, key_to_change, segments_in};
+
+use crate::database::{Database, key_in};
+use crate::keys::SegmentKey;
+use crate::reply::Reply;
+use crate::replying::key_named;
+use crate::work::Work;
+use fp_model::{Answer, Call, Defs, Get, Mode, Resource};
+use msdb_store::MsdbStore;
+use std::alloc::{AllocError, Global};
+
+/// What a call comes to.
+#[derive(Debug, Drop)]
+pub enum Ready {
+    /// It is answered.
+    Answer(Answer),
+    /// The lock that it needs first, and that the transaction doesn't hold.
+    Need(Resource, Mode),
+}
+
+// The database that a call names.
+fn database_of(call: &Call) -> u8
+    ensures { result ≡ database_of call.now }
+{
+    match call {
+        Call::Get { db, .. }
+        | Call::Fld { db, .. }
+        | Call::Isrt { db, .. }
+        | Call::Repl { db, .. }
+        | Call::Dlet { db } => *db,
+    }
+}
+
+// That database.
+fn database_for<'a>(call: &Call, msdbs: &'a MsdbStore, defs: &'a Defs) -> Database<'a>
+    requires { IsMsdbCall defs.now.msdbs call.now }
+    ensures number { result.number ≡ database_of call.now }
+    ensures def { slice_get defs.now.msdbs result.number ≡ Some result.def.now }
+    ensures store { result.store.now ≡ msdbs.now }
+{
+    let number = database_of(call);
+    Database {
+        number,
+        def: &defs.msdbs.as_slice()[usize::from(number)],
+        store: msdbs,
+    }
+}
+
+// Whether a call looks without a hold.
+fn looks(call: &Call, changed: bool) -> bool
+    ensures { (def : DefOf) (msdb : ℕ) (own : Workspace) → is_changed def msdb own call.now ≡ changed → result ≡ msdb_looks def msdb own call.now }
+{
+    match call {
+        Call::Get { get, hold, .. } => !hold && !matches!(get, Get::NextInParent),
+        Call::Fld { .. } => !changed,
+        Call::Isrt { .. } | Call::Repl { .. } | Call::Dlet { .. } => false,
+    }
+}
+
+// The note of a call that looks so.
+fn note(call: &Call, changed: bool, count: u64) -> Option<u64>
+    ensures { (def : DefOf) (msdb : ℕ) (own : Workspace) → is_changed def msdb own call.now ≡ changed
+        → result ≡ (if msdb_looks def msdb own call.now then Some count else None) }
+{
+    if looks(call, changed) {
+        Some(count)
+    } else {
+        None
+    }
+}
+
+impl Database<'_> {
+    // The key of the segment that a call is to change.
+    fn key_to_change<'a>(&self, work: &'a Work, call: &'a Call) -> Option<&'a [u8]>
+        requires { self.now.number < length work.now.own.msdbs }
+        ensures { option_copied result ≡ key_to_change self.now.def.now self.now.number work.now.own call.now }
+    {
+        match call {
+            Call::Get { .. } => None,
+            Call::Fld { key, .. } => Some(key.as_slice()),
+            Call::Isrt { bytes, .. } => Some(key_in(self.def, bytes.as_slice())),
+            Call::Repl { .. } | Call::Dlet { .. } => work.position(self.number).held_key(),
+        }
+    }
+
+    // Whether the queue inserts or deletes that segment. It fails only for want of memory.
+    fn is_changed(&self, alloc: Global, work: &Work, call: &Call) -> Result<bool, AllocError>
+        requires positions { self.now.number < length work.now.own.msdbs }
+        requires changes { (key : ListOf ℕ) → is_among work.now.changed (Segment self.now.number key)
+            ≡ is_put_or_dropped self.now.def.now self.now.number work.now.own key }
+        ensures { IfOk result (λ changed. is_changed self.now.def.now self.now.number work.now.own call.now ≡ changed) }
+    {
+        let Some(key) = self.key_to_change(work, call) else {
+            return Ok(false);
+        };
+        let key = SegmentKey::new(alloc, self.number, key)?;
+        Ok(work.changes(&key))
+    }
+
+    // The key that a call has to hold Exclusive.
+    fn needed_key<'a>(&self, call: &'a Call, changed: bool) -> Option<&'a [u8]>
+        ensures { (own : Workspace) → is_changed self.now.def.now self.now.number own call.now ≡ changed
+            → option_and_then (exclusively self.now.def.now self.now.number) (option_copied result) ≡ msdb_need self.now.def.now self.now.number own call.now }
+    {
+        match call {
+            Call::Get {
+                get: Get::Unique,
+                hold: true,
+                ssas,
+                ..
+            } => key_named(ssas),
+            Call::Isrt { bytes, .. } if self.def.dynamic && !changed => {
+                Some(key_in(self.def, bytes.as_slice()))
+            }
+            _ => None,
+        }
+    }
+
+    // That key, unless it is held. It fails only for want of memory.
+    fn need(
+        &self,
+        alloc: Global,
+        work: &Work,
+        call: &Call,
+        changed: bool,
+    ) -> Result<Option<Resource>, AllocError>
+        requires { is_changed self.now.def.now self.now.number work.now.own call.now ≡ changed }
+        ensures { IfOk result (λ resource. option_map needed_exclusive resource
+            ≡ option_map_or (unless_held (held_in work.now.holds)) (msdb_need self.now.def.now self.now.number work.now.own call.now) None) }
+    {
+        let Some(key) = self.needed_key(call, changed) else {
+            return Ok(None);
+        };
+        let key = SegmentKey::new(alloc, self.number, key)?;
+        if work.holds(&key) {
+            return Ok(None);
+        }
+        Ok(Some(key.into_resource()))
+    }
+
+    // What a call comes to. It fails only for want of memory; then, and where a lock is needed, nothing changes.
+    fn ready(
+        &self,
+        alloc: Global,
+        work: &mut Work,
+        call: &Call,
+        count: u64,
+    ) -> Result<Ready, AllocError>
+        requires database { IsDatabase self.now }
+        requires call { FitsCall call.now self.now.def.now }
+        requires positions { self.now.number < length work.old.own.msdbs }
+        requires position { FitsPosition self.now.def.now (position_of self.now.def.now self.now.number work.old.own) }
+        requires changes { (key : ListOf ℕ) → is_among work.old.changed (Segment self.now.number key)
+            ≡ is_put_or_dropped self.now.def.now self.now.number work.old.own key }
+        ensures need { IfOk result (λ ready. needed_in ready
+            ≡ option_map_or (unless_held (held_in work.old.holds)) (msdb_need self.now.def.now self.now.number work.old.own call.now) None) }
+        ensures answer { IfOk result (λ ready. IfAnswer ready (λ answer.
+            msdb_reply self.now.def.now self.now.number (segments_in self.now) (segments_in self.now) work.old.own call.now ≡ record { answer = answer; own = work.new.own })) }
+        ensures notes { IfOk result (λ ready. IfAnswer ready (λ answer. work.new.notes
+            ≡ (if msdb_looks self.now.def.now self.now.number work.old.own call.now then work.old.notes ++ count ∷ [] else work.old.notes))) }
+        ensures shown { IfOk result (λ ready. IfAnswer ready (ShowsFound self.now.def.now call.now)) }
+        ensures holds { work.new.holds ≡ work.old.holds }
+        ensures of { (defs : DefsOf) → slice_get defs.msdbs self.now.number ≡ Some self.now.def.now → IsWorkOf defs work.old → IsWorkOf defs work.new }
+        ensures needing { IfOk result (λ ready. OnNeed ready (work.new ≡ work.old)) }
+        ensures err { OnErr result (work.new ≡ work.old) }
+    {
+        let changed = self.is_changed(alloc, work, call)?;
+        if let Some(resource) = self.need(alloc, work, call, changed)? {
+            return Ok(Ready::Need(resource, Mode::Exclusive));
+        }
+        let Reply { answer, change } = self.reply(alloc, work, call, changed)?;
+        work.settle(self.def, self.number, change, note(call, changed, count))?;
+        Ok(Ready::Answer(answer))
+    }
+}
+
+/// Answers a call on the committed segments, or says which lock it needs first. `count` is the number of entries that
+/// stand; an unheld look notes it. It fails only for want of memory; then, and where a lock is needed, nothing changes.
+///
+/// Condition: definitions that were read, their store, a transaction under way under them, and a call that fits the
+/// main storage database which it names.
+pub fn answer(
+    alloc: Global,
+    work: &mut Work,
+    call: &Call,
+    msdbs: &MsdbStore,
+    defs: &Defs,
+    count: u64,
+) -> Result<Ready, AllocError>
+    requires defs { AllByRecursion IsMsdbDef defs.now.msdbs }
+    requires store { IsOf defs.now.msdbs msdbs.now }
+    requires work { IsWorkOf defs.now work.old }
+    requires call { IsMsdbCall defs.now.msdbs call.now }
+
+    // On any database with these segments: a lock is needed exactly where the definitions say so; else the answer and
+    // what the transaction keeps are theirs.
+    ensures need { (db : DbOf) → db.msdbs ≡ msdbs.now.msdbs
+        → IfOk result (λ ready. needed_in ready ≡ need_of defs.now db work.old.own (held_in work.old.holds) call.now) }
+    ensures answer { (db : DbOf) → db.msdbs ≡ msdbs.now.msdbs → IfOk result (λ ready. IfAnswer ready (λ answer.
+        reply_to defs.now db db work.old.own call.now ≡ record { answer = answer; own = work.new.own })) }
+    ensures notes { IfOk result (λ ready. IfAnswer ready (λ answer.
+        work.new.notes ≡ (if looks_unheld defs.now work.old.own call.now then work.old.notes ++ count ∷ [] else work.old.notes))) }
+    ensures fits { IfOk result (λ ready. IfAnswer ready (FitsAnswer defs.now.msdbs call.now)) }
+
+    ensures holds { work.new.holds ≡ work.old.holds }
+    ensures of { IsWorkOf defs.now work.new }
+
+    // Where no answer is given nothing changes.
+    ensures needing { IfOk result (λ ready. OnNeed ready (work.new ≡ work.old)) }
+    ensures err { OnErr result (work.new ≡ work.old) }
+{
+    let database = database_for(call, msdbs, defs);
+    database.ready(alloc, work, call, count)
+}

@@ -1,0 +1,301 @@
+//! What a transaction keeps until it commits.
+ghost use Rattle.std.specs.Option.{option_copied, option_map};
+ghost use Rattle.std.specs.Prelude.{◌≡◌, ◌<◌, ◌++◌, ◌∷◌, ◌||◌, [], IfOk, List as ListOf, OnErr, OnOk, if◌then◌else◌, length, slice_get, slice_set, unwrap_or, ℕ, false, Some};
+ghost use Rattle.fp_model.specs.Answers.{serves};
+ghost use Rattle.fp_model.specs.Waiting.{same_resource};
+ghost use Rattle.fp_model.specs.Workspace.{fresh, no_msdb_position};
+ghost use Rattle.fp_model.specs.declared.calls.Resource.{Resource as ResourceOf};
+ghost use Rattle.fp_model.specs.declared.calls.Resource.TheVariants.{Segment};
+ghost use Rattle.fp_model.specs.declared.calls.Mode.TheVariants.{Exclusive};
+ghost use Rattle.fp_model.specs.declared.definitions.Defs.{Defs as DefsOf};
+ghost use Rattle.dli_calls.specs.Keys.{resource_of};
+ghost use Rattle.dli_calls.specs.Progress.{IsWorkOf, held_in, is_among, noted};
+ghost use Rattle.dli_calls.specs.Replies.{is_marked, mark_in, mark_of, own_behind};
+
+use crate::database::key_in;
+use crate::keys::{Keys, SegmentKey};
+use crate::reply::Change;
+use fp_model::{Bytes, Deferred, Defs, List, MsdbDef};
+use std::alloc::{AllocError, Global};
+use std::marker::Model;
+
+// Of one main storage database: the key of the segment found last, and whether the last call to the database was a
+// hold get that found it.
+#[derive(Debug, Drop)]
+pub(crate) struct Position {
+    key: Option<Bytes>,
+    held: bool,
+}
+
+impl Model for Position {
+    ghost use Rattle.fp_model.specs.Workspace.{MsdbPosition};
+
+    ghost Value = { MsdbPosition };
+
+    ghost view = { λ p. record { key = p.key; held = p.held } };
+}
+
+impl Position {
+    fn new() -> Position
+        ensures { result ≡ no_msdb_position }
+    {
+        Position {
+            key: None,
+            held: false,
+        }
+    }
+
+    pub(crate) fn key(&self) -> Option<&[u8]>
+        ensures { option_copied result ≡ self.now.key }
+    {
+        match &self.key {
+            Some(key) => Some(key.as_slice()),
+            None => None,
+        }
+    }
+
+    // The key of the segment that is held.
+    pub(crate) fn held_key(&self) -> Option<&[u8]>
+        ensures { option_copied result ≡ (if self.now.held then self.now.key else None) }
+    {
+        if self.held { self.key() } else { None }
+    }
+}
+
+// Without its last element.
+fn drop_last<T: Drop>(list: &mut List<T>)
+    ensures { (front : ListOf T) (last : T) → list.old ≡ front ++ last ∷ [] → list.new ≡ front }
+{
+    let _ = list.pop();
+}
+
+/// What one transaction keeps to itself until it commits: its positions, the locks that it was told of, its deferred
+/// calls, and its notes.
+#[derive(Debug, Drop)]
+pub struct Work {
+    positions: Vec<Position>,
+    held: Keys,
+    // Those whose segments the queue inserts or deletes.
+    changed: Keys,
+    deferred: List<Deferred>,
+    notes: List<u64>,
+}
+
+impl Model for Work {
+    ghost use Rattle.std.specs.Coded.{codes};
+    ghost use Rattle.std.specs.Prelude.{[], map};
+    ghost use Rattle.fp_model.specs.contracts.database.Node as node;
+    ghost use Rattle.fp_model.specs.declared.calls.Mode.TheVariants.{Exclusive};
+    ghost use Rattle.dli_calls.specs.Progress.{Progress};
+
+    ghost Value = { Progress };
+
+    ghost coded = { Prim.hlevel (codes, node.the_row.coded) };
+
+    ghost view = { λ w. record {
+      own = record { msdbs = w.positions.items; dedbs = []; changes = []; deferred = w.deferred; inserts = [] };
+      holds = map (λ resource. record { resource = resource; mode = Exclusive }) w.held;
+      changed = w.changed;
+      notes = w.notes;
+    } };
+}
+
+impl Work {
+    /// As a transaction begins: no positions, nothing held, nothing deferred, no notes. It fails only for want of
+    /// memory.
+    pub fn new(alloc: Global, defs: &Defs) -> Result<Work, AllocError>
+        ensures of { IfOk result (IsWorkOf defs.now) }
+        ensures own { defs.now.dedbs ≡ [] → IfOk result (λ work. work.own ≡ fresh defs.now) }
+        ensures holds { IfOk result (λ work. work.holds ≡ []) }
+        ensures notes { IfOk result (λ work. work.notes ≡ []) }
+    {
+        let mut positions = Vec::new(alloc);
+        for _ in 0..defs.msdbs.len() {
+            positions.push(Position::new())?;
+        }
+        Ok(Work {
+            positions,
+            held: Keys::new(alloc),
+            changed: Keys::new(alloc),
+            deferred: List::new(alloc),
+            notes: List::new(alloc),
+        })
+    }
+
+    /// Tells it of a lock gained: a key of a main storage database, held Exclusive. It fails only for want of memory,
+    /// and then nothing changes.
+    pub fn hold_segment(&mut self, msdb: u8, key: &[u8]) -> Result<(), AllocError>
+        ensures held { OnOk result ((resource : ResourceOf)
+            → held_in self.new.holds resource ≡ (if same_resource (Segment msdb key.now) resource then Some Exclusive else held_in self.old.holds resource)) }
+        ensures own { self.new.own ≡ self.old.own }
+        ensures notes { self.new.notes ≡ self.old.notes }
+        ensures of { (defs : DefsOf) → IsWorkOf defs self.old → IsWorkOf defs self.new }
+        ensures err { OnErr result (self.new ≡ self.old) }
+    {
+        let alloc = *self.positions.allocator();
+        self.held.put(SegmentKey::new(alloc, msdb, key)?)
+    }
+
+    /// The deferred calls, in call order.
+    pub fn deferred(&self) -> &List<Deferred>
+        ensures { result.now ≡ self.now.own.deferred }
+    {
+        &self.deferred
+    }
+
+    /// The notes, in call order: of each unheld look at a main storage database, how many entries stood.
+    pub fn notes(&self) -> &List<u64>
+        ensures { result.now ≡ self.now.notes }
+    {
+        &self.notes
+    }
+
+    // The position in a database.
+    pub(crate) fn position(&self, msdb: u8) -> &Position
+        requires { msdb < length self.now.own.msdbs }
+        ensures { slice_get self.now.own.msdbs msdb ≡ Some result.now }
+    {
+        &self.positions[msdb as usize]
+    }
+
+    // Whether it holds a key Exclusive.
+    pub(crate) fn holds(&self, key: &SegmentKey) -> bool
+        ensures { result ≡ serves (held_in self.now.holds (resource_of key.now)) Exclusive }
+    {
+        self.held.has(key)
+    }
+
+    // Whether its queue inserts or deletes the segment of a key.
+    pub(crate) fn changes(&self, key: &SegmentKey) -> bool
+        ensures { result ≡ is_among self.now.changed (resource_of key.now) }
+    {
+        self.changed.has(key)
+    }
+
+    // What becomes of it behind an answer, and one more note if the call looked unheld. It fails only for want of
+    // memory, and then nothing changes.
+    pub(crate) fn settle(
+        &mut self,
+        def: &MsdbDef,
+        msdb: u8,
+        change: Change,
+        note: Option<u64>,
+    ) -> Result<(), AllocError>
+        requires { msdb < length self.old.own.msdbs }
+        ensures own { OnOk result (self.new.own ≡ own_behind def.now msdb change self.old.own) }
+        ensures notes { OnOk result (self.new.notes ≡ noted note self.old.notes) }
+        ensures changed { OnOk result ((resource : ResourceOf)
+            → is_among self.new.changed resource ≡ (is_marked (mark_in def.now change) resource || is_among self.old.changed resource)) }
+        ensures holds { self.new.holds ≡ self.old.holds }
+        ensures err { OnErr result (self.new ≡ self.old) }
+    {
+        self.note(note)?;
+        if let Err(error) = self.make(def, msdb, change) {
+            self.forget(note);
+            return Err(error);
+        }
+        Ok(())
+    }
+}
+
+// The parts of settling.
+impl Work {
+    fn note(&mut self, note: Option<u64>) -> Result<(), AllocError>
+        ensures ok { OnOk result (self.new ≡ record self.old { notes = noted note self.old.notes }) }
+        ensures err { OnErr result (self.new ≡ self.old) }
+    {
+        match note {
+            Some(count) => self.notes.push(count),
+            None => Ok(()),
+        }
+    }
+
+    // Takes a note back.
+    fn forget(&mut self, note: Option<u64>)
+        ensures { (notes : ListOf ℕ) → self.old.notes ≡ noted note notes → self.new ≡ record self.old { notes = notes } }
+    {
+        if note.is_some() {
+            drop_last(&mut self.notes);
+        }
+    }
+
+    fn make(&mut self, def: &MsdbDef, msdb: u8, change: Change) -> Result<(), AllocError>
+        requires { msdb < length self.old.own.msdbs }
+        ensures own { OnOk result (self.new.own ≡ own_behind def.now msdb change self.old.own) }
+        ensures notes { OnOk result (self.new.notes ≡ self.old.notes) }
+        ensures changed { OnOk result ((resource : ResourceOf)
+            → is_among self.new.changed resource ≡ (is_marked (mark_in def.now change) resource || is_among self.old.changed resource)) }
+        ensures holds { OnOk result (self.new.holds ≡ self.old.holds) }
+        ensures err { OnErr result (self.new ≡ self.old) }
+    {
+        match change {
+            Change::Nothing => self.let_go(msdb),
+            Change::Found { key, hold } => self.find(msdb, key, hold),
+            Change::Queued(deferred) => {
+                self.queue(def, deferred)?;
+                self.let_go(msdb);
+            }
+        }
+        Ok(())
+    }
+
+    // Holds no segment of the database.
+    fn let_go(&mut self, msdb: u8)
+        requires { msdb < length self.old.own.msdbs }
+        ensures { self.new ≡ record self.old {
+          own = record self.old.own {
+            msdbs = slice_set self.old.own.msdbs msdb (record (unwrap_or (slice_get self.old.own.msdbs msdb) no_msdb_position) { held = false });
+          };
+        } }
+    {
+        self.positions[msdb as usize].held = false;
+    }
+
+    // Is at a segment, and holds it or not.
+    fn find(&mut self, msdb: u8, key: Bytes, hold: bool)
+        requires { msdb < length self.old.own.msdbs }
+        ensures { self.new ≡ record self.old { own = record self.old.own { msdbs = slice_set self.old.own.msdbs msdb (record { key = Some key; held = hold }) } } }
+    {
+        self.positions[msdb as usize] = Position {
+            key: Some(key),
+            held: hold,
+        };
+    }
+
+    // Puts a call at the end of the queue, and marks the key whose segment it inserts or deletes.
+    fn queue(&mut self, def: &MsdbDef, deferred: Deferred) -> Result<(), AllocError>
+        ensures own { OnOk result (self.new.own ≡ record self.old.own { deferred = self.old.own.deferred ++ deferred ∷ [] }) }
+        ensures notes { self.new.notes ≡ self.old.notes }
+        ensures changed { OnOk result ((resource : ResourceOf)
+            → is_among self.new.changed resource ≡ (is_marked (mark_of def.now deferred) resource || is_among self.old.changed resource)) }
+        ensures holds { self.new.holds ≡ self.old.holds }
+        ensures err { OnErr result (self.new ≡ self.old) }
+    {
+        let mark = marked_by(*self.positions.allocator(), def, &deferred)?;
+        self.deferred.push(deferred)?;
+        if let Err(error) = self.changed.put_some(mark) {
+            drop_last(&mut self.deferred);
+            return Err(error);
+        }
+        Ok(())
+    }
+}
+
+// The key whose segment a deferred call inserts or deletes.
+fn marked_by(
+    alloc: Global,
+    def: &MsdbDef,
+    deferred: &Deferred,
+) -> Result<Option<SegmentKey>, AllocError>
+    ensures { IfOk result (λ mark. option_map resource_of mark ≡ mark_of def.now deferred.now) }
+{
+    match deferred {
+        Deferred::Isrt { msdb, bytes } => Ok(Some(SegmentKey::new(
+            alloc,
+            *msdb,
+            key_in(def, bytes.as_slice()),
+        )?)),
+        Deferred::Dlet { msdb, key } => { Ok(Some(SegmentKey::new(alloc, *msdb, key.as_slice())?)) }
+        Deferred::Fld { .. } | Deferred::Repl { .. } => Ok(None),
+    }
+}

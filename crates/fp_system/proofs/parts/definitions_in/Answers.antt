@@ -1,0 +1,24 @@
+use Rattle.std.proofs.Common.{◌≡◌, inr, true, false, sym, subst, rules}
+use Rattle.std.specs.Prelude.{◌⊎◌, Err}
+use Rattle.fp_defs.specs.Whole.{defs_of}
+use Rattle.fp_system.proofs.Jobs.{fault_is_answer, is_built, isnt_built}
+use Rattle.fp_system.specs.Answers.{IsFault}
+use Rattle.fp_system.specs.Parts.{are_built, definitions_in}
+use Rattle.fp_system.specs.declared.status.Status.{Status}
+use Rattle.fp_system.proofs.parts.definitions_in.Goals as goal
+
+pub returns-in-Err-clause-refused : goal.returns-in-Err-clause-refused
+unfolding definitions_in
+returns-in-Err-clause-refused g c =
+    subst (λ (s : Status). IsFault s ⊎ (definitions_in c.args.text.now ≡ Err s)) (sym c.definitions_status.ensures)
+    (fault_is_answer (defs_of c.args.text.now) c.in-Err.fault c.in-Err.ensures.fault)
+
+pub returns-then-not-are_built-clause-refused : goal.returns-then-not-are_built-clause-refused
+returns-then-not-are_built-clause-refused g c =
+    let e : are_built c.in-Ok.defs ≡ false = grind rules in
+    inr (isnt_built c.args.text.now c.in-Ok.defs c.in-Ok.ensures.ok e)
+
+pub returns-clause-ok : goal.returns-clause-ok
+returns-clause-ok g c =
+    let e : are_built c.in-Ok.defs ≡ true = grind rules in
+    is_built c.args.text.now c.in-Ok.defs c.in-Ok.ensures.ok e

@@ -1,0 +1,98 @@
+-- Which answers come where.
+use Rattle.std.specs.Prelude.{◌≡◌, ◌⊎◌, ⊤, ℕ, List, Option, option_map}
+use Rattle.fp_defs.specs.declared.fault.DefsFault.{DefsFault}
+use Rattle.fp_defs.specs.declared.fault.DefsFault.TheVariants as bad
+use Rattle.fp_model.specs.Messages.{LineFault, LineTooLong, TooManyLines, line_fault}
+use Rattle.fp_restart.specs.declared.fault.RestartFault.{RestartFault}
+use Rattle.fp_restart.specs.declared.fault.RestartFault.TheVariants as fault
+use Rattle.fp_source.specs.declared.lines.LineFault.{LineFault as Stopped}
+use Rattle.fp_source.specs.declared.lines.LineFault.TheVariants as stopped
+use Rattle.fp_system.specs.declared.status.Status.{Status}
+use Rattle.fp_system.specs.declared.status.Status.TheVariants.{Usage, Definitions, Scripts, ReadFault, SiteFault, Foreign, Damaged, Line, NoMemory, NotBuilt}
+use Rattle.txn_lang.specs.declared.fault.ScriptFault.{ScriptFault}
+use Rattle.txn_lang.specs.declared.fault.ScriptFault.TheVariants as wrong
+
+-- an answer that may stand in the place of another: a fault that was counted, or want of memory
+abbrev pub IsFault : Status → Type 0
+IsFault ReadFault = ⊤
+IsFault SiteFault = ⊤
+IsFault NoMemory = ⊤
+IsFault _ = ⊥
+
+-- this answer, or a fault in its place
+abbrev pub IsOr : Status → Status → Type 0
+IsOr status result = (result ≡ status) ⊎ IsFault result
+
+-- an answer that the parts are refused with
+abbrev pub IsRefusal : Status → Type 0
+IsRefusal (Definitions fault) = ⊤
+IsRefusal (Scripts fault) = ⊤
+IsRefusal (NotBuilt part) = ⊤
+IsRefusal _ = ⊥
+
+-- an answer that comes before the site is looked at, and never behind that
+abbrev pub IsEarly : Status → Type 0
+IsEarly Usage = ⊤
+IsEarly (Definitions fault) = ⊤
+IsEarly (Scripts fault) = ⊤
+IsEarly (NotBuilt part) = ⊤
+IsEarly _ = ⊥
+
+-- an answer to the parts
+abbrev pub IsOfParts : Status → Type 0
+IsOfParts (Definitions fault) = ⊤
+IsOfParts (Scripts fault) = ⊤
+IsOfParts (NotBuilt part) = ⊤
+IsOfParts ReadFault = ⊤
+IsOfParts NoMemory = ⊤
+IsOfParts _ = ⊥
+
+-- an answer that ends a message
+abbrev pub IsOfSite : Status → Type 0
+IsOfSite SiteFault = ⊤
+IsOfSite NoMemory = ⊤
+IsOfSite _ = ⊥
+
+-- an answer that ends a run before its last line
+abbrev pub IsStop : Status → Type 0
+IsStop ReadFault = ⊤
+IsStop SiteFault = ⊤
+IsStop (Line number) = ⊤
+IsStop NoMemory = ⊤
+IsStop _ = ⊥
+
+-- ---- the answer to each fault
+
+-- of the definitions
+abbrev pub status_of_definitions : DefsFault → Status
+status_of_definitions bad.Memory = NoMemory
+status_of_definitions fault = Definitions fault
+
+-- of the scripts
+abbrev pub status_of_scripts : ScriptFault → Status
+status_of_scripts wrong.Memory = NoMemory
+status_of_scripts fault = Scripts fault
+
+-- of storage
+abbrev pub status_of_fault : RestartFault → Status
+status_of_fault fault.Foreign = Foreign
+status_of_fault fault.SiteFault = SiteFault
+status_of_fault (fault.Damaged set at) = Damaged set at
+status_of_fault fault.Memory = NoMemory
+
+-- of the message lines
+abbrev pub status_of_line : Stopped → Status
+status_of_line (stopped.TooLong number) = Line number
+status_of_line stopped.Failed = ReadFault
+status_of_line (stopped.TooMany number) = Line number
+status_of_line stopped.Memory = NoMemory
+
+-- ---- the first line that isn't taken
+
+abbrev pub number_of_fault : LineFault → ℕ
+number_of_fault (LineTooLong number) = number
+number_of_fault (TooManyLines number) = number
+
+-- its number, if there is one
+abbrev pub faulty_line : List ℕ → Option ℕ
+faulty_line bytes = option_map number_of_fault (line_fault bytes)

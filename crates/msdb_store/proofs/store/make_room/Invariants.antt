@@ -1,0 +1,13 @@
+use Rattle.std.proofs.Common.{◌≡◌, ◌≤◌, length, map, take}
+use Rattle.msdb_store.specs.Rooms.{msdb_of, room_of}
+use Rattle.msdb_store.specs.Store.{least}
+use Rattle.msdb_store.proofs.store.make_room.Given as goal
+
+-- the tables so far have the room, and none lost any
+abbrev pub invariant-loop-table : goal.invariant-loop-table
+invariant-loop-table l =
+    (length l.tables ≡ length l.initial.tables)
+    × (l.n ≤ least (map room_of (take l.table-index l.tables)))
+    × (least (map room_of l.initial.tables) ≤ least (map room_of l.tables))
+    × (map (λ t. t.fields) l.tables ≡ map (λ t. t.fields) l.initial.tables)
+    × (map msdb_of l.tables ≡ map msdb_of l.initial.tables)

@@ -1,0 +1,15 @@
+pub mod AlikeLemmas
+pub mod ShownLemmas
+pub mod SettingLemmas
+pub mod LessonLemmas
+pub mod PlaceLemmas
+pub mod TrimLemmas
+pub mod WordLemmas
+pub mod FieldLemmas
+pub mod WorkLemmas
+pub mod EndLemmas
+pub mod StatementLemmas
+pub mod ActLemmas
+pub mod NextLemmas
+pub mod FitLemmas
+pub mod FitStatements

@@ -1,0 +1,7 @@
+use Rattle.std.proofs.Common.{Option, subst}
+use Rattle.txn_machine.specs.declared.shown.Gets.{Gets}
+use Rattle.txn_machine.specs.Fit.{AreShown}
+use Rattle.txn_machine.proofs.shown.Gets.show.Goals as goal
+
+pub returns-in-Some-clause-fit : goal.returns-in-Some-clause-fit
+returns-in-Some-clause-fit c = λ msdbs all h. c.next.ensures.fit msdbs (subst (λ (gets : Option Gets). AreShown msdbs gets) c.in-Some.is all) h

@@ -1,0 +1,10 @@
+pub mod Alike
+pub mod Doing
+pub mod Filling
+pub mod Fit
+pub mod Giving
+pub mod Knowing
+pub mod Places
+pub mod Running
+pub mod Stepping
+pub mod Work

@@ -1,0 +1,84 @@
+-- A program on its way through a script.
+use Rattle.std.specs.Prelude.{◌≡◌, ⊤, ℕ, List, [], ◌∷◌, ◌++◌, length, Option, Some, None, IfSome}
+use Rattle.fp_model.specs.declared.definitions.Defs.{Defs}
+use Rattle.fp_model.specs.declared.definitions.MsdbDef.{MsdbDef}
+use Rattle.fp_model.specs.declared.calls.Message.{Message}
+use Rattle.fp_model.specs.declared.calls.Answer.{Answer}
+use Rattle.fp_model.specs.declared.calls.Call.{Call}
+use Rattle.fp_model.specs.declared.scripts.Statement.{Statement}
+use Rattle.fp_model.specs.Programs.{Ask, Asks, Replies, Rolls, Way, goes_on, called, ended, ask}
+use Rattle.fp_model.specs.FitCalls.{IsMsdbCall}
+use Rattle.txn_machine.specs.declared.program.Program.{Program}
+use Rattle.txn_machine.specs.declared.program.Wait.{Wait}
+use Rattle.txn_machine.specs.declared.program.Next.{Next}
+use Rattle.txn_machine.specs.declared.program.Next.TheVariants as next
+use Rattle.txn_machine.specs.Knowing.{HasPlace, env_of, lesson_of}
+use Rattle.txn_machine.specs.Fit.{AreShown}
+use Rattle.txn_machine.specs.Places.{block_at, from_place, around, end_from}
+
+-- ---- answers
+
+-- the program has given this call, and waits for its answer
+pub record WaitsFor (asked : Call) (program : Program) : Type 0 where
+  pub wait : Wait
+  pub is : program.wait ≡ Some wait
+  pub lesson : wait.lesson ≡ lesson_of asked
+  pub place : HasPlace program.known.gets
+
+-- it has given a call
+abbrev pub IsWaiting : Program → Type 0
+IsWaiting program = (asked : Call) × WaitsFor asked program
+
+-- ---- where the script is
+
+-- From where the program is, the script comes to this.
+abbrev pub end_of : Defs → List Statement → Message → Program → List Answer → Ask
+end_of defs statements message program more = end_from defs message statements program.place (env_of program.known more)
+
+-- and from a call on, which stands before a place
+abbrev pub end_at_call : Defs → List Statement → Message → Program → Call → ℕ → List Answer → Ask
+end_at_call defs statements message program asked place more =
+    ended (around defs message program.place.frames statements
+    (goes_on (called asked (env_of program.known more)) (from_place defs message place (block_at program.place.frames statements))))
+
+-- the program stands at a call
+pub record IsAtCall (defs : Defs) (statements : List Statement) (message : Message) (answers : List Answer) (program : Program) (wait : Wait) : Type 0 where
+  pub asked : Call
+  pub lesson : wait.lesson ≡ lesson_of asked
+  pub comes : (more : List Answer) → ask defs statements message (answers ++ more) ≡ end_at_call defs statements message program asked wait.behind more
+
+-- where a program stands, its script comes to what follows behind this call
+pub record StandsAtCall (defs : Defs) (statements : List Statement) (program : Program) (wait : Wait) : Type 0 where
+  pub asked : Call
+  pub lesson : wait.lesson ≡ lesson_of asked
+  pub comes : (more : List Answer) → end_of defs statements program.known.message program more ≡ end_at_call defs statements program.known.message program asked wait.behind more
+
+-- The program, given these answers, is where the script is: whatever is answered further, both come to the same.
+pub record IsAt (defs : Defs) (statements : List Statement) (message : Message) (answers : List Answer) (program : Program) : Type 0 where
+  pub heard : program.known.message ≡ message
+  pub comes : (more : List Answer) → ask defs statements message (answers ++ more) ≡ end_of defs statements message program more
+  pub waits : IfSome program.wait (IsAtCall defs statements message answers program)
+
+-- what is given is what the script asks
+abbrev pub IsAsked : Next → Ask → Type 0
+IsAsked (next.Call asked) end = end ≡ Asks asked
+IsAsked (next.Reply text) end = end ≡ Replies text
+IsAsked (next.Roll code) end = end ≡ Rolls code
+
+-- at a call the program waits for it
+abbrev pub Awaits : Next → Program → Type 0
+Awaits (next.Call asked) program = WaitsFor asked program
+Awaits (next.Reply text) program = ⊤
+Awaits (next.Roll code) program = ⊤
+
+-- ---- fit
+
+-- every segment that the program was shown is one of its main storage database
+pub record IsFit (defs : List MsdbDef) (program : Program) : Type 0 where
+  pub shown : AreShown defs program.known.gets
+
+-- a call fits its main storage database
+abbrev pub IsFitNext : List MsdbDef → Next → Type 0
+IsFitNext defs (next.Call asked) = IsMsdbCall defs asked
+IsFitNext defs (next.Reply text) = ⊤
+IsFitNext defs (next.Roll code) = ⊤

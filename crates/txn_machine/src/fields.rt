@@ -1,0 +1,211 @@
+//! Segments and their fields: what a field holds as a text, and what a text is as the bytes of a field.
+ghost use Rattle.std.specs.Prelude.{◌≡◌, ◌++◌, [], IfErr, IfOk, Some, drop, length, replicate, take};
+ghost use Rattle.fp_model.specs.Fsas as fsas;
+ghost use Rattle.fp_model.specs.Fsas.{field_bytes, field_of, with_field};
+ghost use Rattle.fp_model.specs.Numbers.{bytes_of, number};
+ghost use Rattle.fp_model.specs.Programs as programs;
+ghost use Rattle.fp_model.specs.Programs.{empty_field, empty_segment, fitted, fitted_key, layout_of, value_bytes, value_text};
+ghost use Rattle.fp_model.specs.State.{key_length};
+ghost use Rattle.txn_machine.specs.Giving.{Gives, Stops};
+
+use crate::stop::Stop;
+use crate::values::{decimal_text, number, without_blanks};
+use fp_model::{Bytes, Defs, FieldDef, FieldKind, Name};
+use packed_dec::{read_number, write_number};
+use std::alloc::{AllocError, Global};
+
+/// A segment type: its fields, and whether the first of them is a key.
+#[derive(Clone, Copy, Debug)]
+pub(crate) struct Layout<'a> {
+    pub(crate) fields: &'a [FieldDef],
+    pub(crate) has_key: bool,
+}
+
+/// The segment type of a number in a database; a main storage database has one.
+pub(crate) fn layout_of(defs: &Defs, db: u8, type_number: u8) -> Result<Layout<'_>, Stop>
+    ensures ok { IfOk result (λ layout. layout_of defs.now db type_number
+        ≡ Some (record { fields = layout.fields.now; has_key = layout.has_key })) }
+    ensures err { IfErr result (λ e. Stops e (layout_of defs.now db type_number)) }
+{
+    let db = usize::from(db);
+    if let Some(def) = defs.msdbs.get(db) {
+        return Ok(Layout {
+            fields: def.fields.as_slice(),
+            has_key: true,
+        });
+    }
+    let Some(def) = defs.dedbs.get(db.saturating_sub(defs.msdbs.len())) else {
+        return Err(Stop::NoValue);
+    };
+    let Some(segment) = def.segments.get(usize::from(type_number)) else {
+        return Err(Stop::NoValue);
+    };
+    Ok(Layout {
+        fields: segment.fields.as_slice(),
+        has_key: !segment.sequential,
+    })
+}
+
+/// The field of a name.
+pub(crate) fn field_of(fields: &[FieldDef], name: &Name) -> Result<FieldDef, Stop>
+    ensures { Gives result (field_of fields.now name.now.0) }
+{
+    for field in fields {
+        if field.name == *name {
+            return Ok(*field);
+        }
+    }
+    Err(Stop::NoValue)
+}
+
+// The first bytes, as far as there are so many.
+fn front(bytes: &[u8], count: usize) -> &[u8]
+    ensures { result.now ≡ take count bytes.now }
+{
+    if count < bytes.len() {
+        &bytes[..count]
+    } else {
+        bytes
+    }
+}
+
+// What stands behind the first bytes.
+fn behind(bytes: &[u8], count: usize) -> &[u8]
+    ensures { result.now ≡ drop count bytes.now }
+{
+    if count < bytes.len() {
+        &bytes[count..]
+    } else {
+        &[]
+    }
+}
+
+/// The bytes of a field.
+pub(crate) fn field_bytes<'a>(field: &FieldDef, segment: &'a [u8]) -> &'a [u8]
+    ensures { result.now ≡ field_bytes field.now segment.now }
+{
+    front(
+        behind(segment, usize::from(field.at)),
+        usize::from(field.length),
+    )
+}
+
+/// A segment with other bytes in a field. Fails only for want of memory.
+pub(crate) fn with_field(
+    alloc: Global,
+    field: &FieldDef,
+    bytes: &[u8],
+    segment: &[u8],
+) -> Result<Bytes, AllocError>
+    ensures { IfOk result (λ new. new ≡ with_field field.now bytes.now segment.now) }
+{
+    let at = usize::from(field.at);
+    let mut new = Bytes::from_slice(alloc, front(segment, at))?;
+    new.append(bytes)?;
+    new.append(behind(segment, at + bytes.len()))?;
+    Ok(new)
+}
+
+// Whether a kind is characters.
+fn is_text(kind: FieldKind) -> bool
+    ensures { result ≡ fsas.is_text kind }
+{
+    matches!(kind, FieldKind::C)
+}
+
+// A text with blanks behind it, if it isn't longer than so many bytes.
+fn fitted(alloc: Global, count: usize, text: &[u8]) -> Result<Bytes, Stop>
+    ensures { Gives result (fitted count text.now) }
+{
+    if text.len() > count {
+        return Err(Stop::NoValue);
+    }
+    let blanks = vec![in alloc; b' '; count - text.len()]?;
+    let mut bytes = Bytes::from_slice(alloc, text)?;
+    bytes.append(blanks.as_slice())?;
+    Ok(bytes)
+}
+
+// A number as the bytes of a field of so many, if it fits.
+fn number_bytes(alloc: Global, kind: FieldKind, count: usize, n: i128) -> Result<Bytes, Stop>
+    ensures { Gives result (bytes_of kind count n) }
+{
+    let mut bytes = vec![in alloc; 0; count]?;
+    if write_number(kind, bytes.as_mut_slice(), n) {
+        Ok(Bytes::from_vec(bytes))
+    } else {
+        Err(Stop::NoValue)
+    }
+}
+
+/// A text as the bytes of a field, if it fits.
+pub(crate) fn value_bytes(alloc: Global, field: &FieldDef, text: &[u8]) -> Result<Bytes, Stop>
+    ensures { Gives result (value_bytes field.now text.now) }
+{
+    let count = usize::from(field.length);
+    if is_text(field.kind) {
+        fitted(alloc, count, text)
+    } else {
+        number_bytes(alloc, field.kind, count, number(text)?)
+    }
+}
+
+// A field before a value is put there.
+fn empty_field(alloc: Global, field: &FieldDef) -> Result<Bytes, Stop>
+    ensures { Gives result (empty_field field.now) }
+{
+    let count = usize::from(field.length);
+    if is_text(field.kind) {
+        fitted(alloc, count, &[])
+    } else {
+        number_bytes(alloc, field.kind, count, 0)
+    }
+}
+
+/// The bytes of a field as a text. None where they are to be a number and aren't.
+pub(crate) fn value_text(alloc: Global, field: &FieldDef, bytes: &[u8]) -> Result<Bytes, Stop>
+    ensures { Gives result (value_text field.now bytes.now) }
+{
+    if is_text(field.kind) {
+        return Ok(Bytes::from_slice(alloc, without_blanks(bytes))?);
+    }
+    match read_number(field.kind, bytes) {
+        Some(n) => Ok(decimal_text(alloc, n)?),
+        None => Err(Stop::NoValue),
+    }
+}
+
+/// A segment before values are put there: blanks and zeros.
+pub(crate) fn empty_segment(alloc: Global, fields: &[FieldDef]) -> Result<Bytes, Stop>
+    ensures { Gives result (empty_segment fields.now) }
+{
+    let mut segment = Bytes::new(alloc);
+    for field in fields {
+        let bytes = empty_field(alloc, field)?;
+        segment.append(bytes.as_slice())?;
+    }
+    Ok(segment)
+}
+
+// The length of the first field.
+fn key_length(fields: &[FieldDef]) -> u16
+    ensures { result ≡ key_length fields.now }
+{
+    match fields {
+        [first, ..] => first.length,
+        [] => 0,
+    }
+}
+
+impl Layout<'_> {
+    /// A text as a key, with blanks behind it; a type without keys takes it as it is.
+    pub(crate) fn fitted_key(&self, alloc: Global, text: &[u8]) -> Result<Bytes, Stop>
+        ensures { Gives result (fitted_key (record { fields = self.now.fields.now; has_key = self.now.has_key }) text.now) }
+    {
+        if self.has_key {
+            fitted(alloc, usize::from(key_length(self.fields)), text)
+        } else {
+            Ok(Bytes::from_slice(alloc, text)?)
+        }
+    }
+}

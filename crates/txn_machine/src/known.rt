@@ -1,0 +1,132 @@
+//! What a program knows: its message, its variables, and what its calls were answered.
+ghost use Rattle.std.specs.Prelude.{◌≡◌, [], IfOk, OnErr, OnOk, List};
+ghost use Rattle.fp_model.specs.declared.calls.Answer.{Answer};
+ghost use Rattle.fp_model.specs.declared.definitions.MsdbDef.{MsdbDef};
+ghost use Rattle.fp_model.specs.Programs.{at_top, setting_of, with_setting};
+ghost use Rattle.fp_model.specs.Texts.{same_text, trimmed};
+ghost use Rattle.txn_machine.specs.Alike.{AreAlike, AreTwins};
+ghost use Rattle.txn_machine.specs.Fit.{AreShown, FitsLesson, IsShownSegment};
+ghost use Rattle.txn_machine.specs.Knowing.{HasPlace, env_of, segment_on, segments_of, showing, taught};
+
+use crate::shown::{Gets, Shown};
+use fp_model::{Answer, Bytes, Message, Name};
+use std::alloc::{AllocError, Global};
+use std::collections::BTreeMap;
+
+/// What the answer to a call is good for, beside its status.
+#[derive(Clone, Copy, Debug)]
+pub(crate) enum Lesson {
+    /// A segment of a database.
+    Segment(u8),
+    /// The letters of a field call.
+    Letters,
+    Nothing,
+}
+
+/// What a program knows.
+#[derive(Debug, Drop)]
+pub(crate) struct Known {
+    pub(crate) alloc: Global,
+    pub(crate) message: Message,
+    /// The variables that were set.
+    pub(crate) settings: BTreeMap<Name, Bytes>,
+    /// The status of the last call. None before the first.
+    pub(crate) status: Option<[u8; 2]>,
+    /// The letters of the last field call.
+    pub(crate) letters: Bytes,
+    /// The segments that were shown. None before the first.
+    pub(crate) gets: Option<Gets>,
+}
+
+// Whether a status says that all is well.
+fn is_blank(status: &[u8; 2]) -> bool
+    ensures { result ≡ same_text (trimmed status.now) [] }
+{
+    let [first, second] = status;
+    *first == b' ' && *second == b' '
+}
+
+impl Known {
+    /// At the beginning. Fails only for want of memory.
+    pub(crate) fn new(alloc: Global, message: &Message) -> Result<Known, AllocError>
+        ensures message { IfOk result (λ known. known.message ≡ message.now) }
+        ensures nothing { IfOk result (λ known. (answers : List Answer) → env_of known answers ≡ at_top answers) }
+    {
+        Ok(Known {
+            alloc,
+            message: message.clone()?,
+            settings: BTreeMap::new(alloc),
+            status: None,
+            letters: Bytes::new(alloc),
+            gets: None,
+        })
+    }
+
+    /// The text of a variable; one that was not set is empty.
+    pub(crate) fn setting(&self, name: &Name) -> &[u8]
+        ensures { result.now ≡ setting_of name.now.0 (env_of self.now []) }
+    {
+        match self.settings.get(name) {
+            Some(text) => text.as_slice(),
+            None => &[],
+        }
+    }
+
+    /// Sets a variable. After want of memory all is as before.
+    pub(crate) fn set(&mut self, name: Name, text: Bytes) -> Result<(), AllocError>
+        ensures ok { (answers : List Answer) → OnOk result (AreAlike (with_setting name.0 text (env_of self.old answers)) (env_of self.new answers)) }
+        ensures err { (answers : List Answer) → OnErr result (env_of self.new answers ≡ env_of self.old answers) }
+        ensures message { self.new.message ≡ self.old.message }
+        ensures gets { self.new.gets ≡ self.old.gets }
+    {
+        let _ = self.settings.insert(name, text)?;
+        Ok(())
+    }
+
+    /// Makes room for what a get may show. Nothing else changes.
+    pub(crate) fn make_place(&mut self) -> Result<(), AllocError>
+        ensures place { OnOk result (HasPlace self.new.gets) }
+        ensures same { (answers : List Answer) → env_of self.new answers ≡ env_of self.old answers }
+        ensures shown { segments_of self.new.gets ≡ segments_of self.old.gets }
+        ensures message { self.new.message ≡ self.old.message }
+    {
+        if let Some(gets) = &mut self.gets {
+            gets.make_place()?;
+        }
+        Ok(())
+    }
+
+    // A segment that a get on a database showed. Takes no memory.
+    fn show(&mut self, db: u8, shown: Shown)
+        requires { HasPlace self.old.gets }
+        ensures shows { (answers : List Answer) → AreTwins (showing (segment_on db shown) (env_of self.old answers)) (env_of self.new answers) }
+        ensures fit { (msdbs : List MsdbDef) → AreShown msdbs self.old.gets → IsShownSegment msdbs (segment_on db shown) → AreShown msdbs self.new.gets }
+        ensures message { self.new.message ≡ self.old.message }
+    {
+        let gets = Gets::show(self.gets.take(), self.alloc, db, shown);
+        self.gets = Some(gets);
+    }
+
+    /// Takes in the answer to a call. Takes no memory.
+    pub(crate) fn learn(&mut self, lesson: Lesson, answer: Answer)
+        requires { HasPlace self.old.gets }
+        ensures learns { (answers : List Answer)
+            → AreTwins (taught lesson answer (record (env_of self.old answers) { status = answer.status })) (env_of self.new answers) }
+        ensures fit { (msdbs : List MsdbDef) → AreShown msdbs self.old.gets → FitsLesson msdbs lesson answer → AreShown msdbs self.new.gets }
+        ensures message { self.new.message ≡ self.old.message }
+    {
+        let Answer {
+            status,
+            segment,
+            bytes,
+            letters,
+        } = answer;
+        let found = is_blank(&status);
+        self.status = Some(status);
+        match lesson {
+            Lesson::Segment(db) if found => self.show(db, Shown { segment, bytes }),
+            Lesson::Letters => self.letters = letters,
+            _ => {}
+        }
+    }
+}

@@ -1,0 +1,173 @@
+//! Operands, and what statements make of them.
+ghost use Rattle.std.specs.Prelude.{◌≡◌, ◌≤◌, [], IfOk, length, map};
+ghost use Rattle.std.specs.List.{list_all};
+ghost use Rattle.fp_model.specs.Programs.{chosen, joined_texts, key_text, reply_text, set_text, short_enough, shown_field, shown_letter, text_of};
+ghost use Rattle.fp_model.specs.Texts.{is_printable};
+ghost use Rattle.txn_machine.specs.Giving.{Gives};
+ghost use Rattle.txn_machine.specs.Knowing.{env_of, status_of};
+
+use crate::fields::{field_bytes, field_of, layout_of, value_text};
+use crate::known::Known;
+use crate::stop::Stop;
+use crate::values::{compares, operated, without_blanks, word_of};
+use fp_model::{Bytes, Comparison, Defs, List, Name, Operand, Operation};
+use std::alloc::{AllocError, Global};
+
+// How many bytes a value has at most.
+const LONGEST_VALUE: usize = 1024;
+
+// How many bytes a reply has at most.
+const LONGEST_REPLY: usize = 1000;
+
+// A copy of a text, if it may be a value.
+fn copied(alloc: Global, text: &[u8]) -> Result<Bytes, Stop>
+    ensures gives { Gives result (short_enough text.now) }
+    ensures small { IfOk result (λ text. length text ≤ 1024) }
+{
+    if text.len() > LONGEST_VALUE {
+        return Err(Stop::NoValue);
+    }
+    Ok(Bytes::from_slice(alloc, text)?)
+}
+
+// A text itself, if it may be a value.
+fn short(text: Bytes) -> Result<Bytes, Stop>
+    ensures gives { Gives result (short_enough text) }
+    ensures small { IfOk result (λ text. length text ≤ 1024) }
+{
+    if text.len() > LONGEST_VALUE {
+        return Err(Stop::NoValue);
+    }
+    Ok(text)
+}
+
+// The letters of a field call, with `-` for a blank.
+fn shown_letters(alloc: Global, letters: &[u8]) -> Result<Bytes, AllocError>
+    ensures { IfOk result (λ text. text ≡ map shown_letter letters.now) }
+{
+    let text = letters
+        .iter()
+        .map(|letter| if *letter == b' ' { b'-' } else { *letter })
+        .collect(alloc)?;
+    Ok(Bytes::from_vec(text))
+}
+
+// Whether all bytes of a text are printable.
+fn is_printable(text: &[u8]) -> bool
+    ensures { result ≡ list_all is_printable text.now }
+{
+    text.iter().all(|byte| matches!(*byte, b' '..=b'~'))
+}
+
+impl Known {
+    // A field of the segment that was shown last.
+    fn shown_field(&self, defs: &Defs, name: &Name) -> Result<Bytes, Stop>
+        ensures { Gives result (shown_field defs.now self.now.message name.now.0 (env_of self.now [])) }
+    {
+        let Some(gets) = &self.gets else {
+            return Err(Stop::NoValue);
+        };
+        let layout = layout_of(defs, gets.db, gets.newest.segment)?;
+        let field = field_of(layout.fields, name)?;
+        let bytes = field_bytes(&field, gets.newest.bytes.as_slice());
+        value_text(self.alloc, &field, bytes)
+    }
+
+    // The letters of the last status; none before the first call.
+    fn status(&self) -> &[u8]
+        ensures { result.now ≡ status_of self.now.status }
+    {
+        match &self.status {
+            Some(letters) => letters,
+            None => &[],
+        }
+    }
+
+    /// The text of an operand.
+    pub(crate) fn text_of(&self, defs: &Defs, operand: &Operand) -> Result<Bytes, Stop>
+        ensures small { IfOk result (λ text. length text ≤ 1024) }
+        ensures gives { Gives result (text_of defs.now self.now.message (env_of self.now []) operand.now) }
+    {
+        let alloc = self.alloc;
+        match operand {
+            Operand::Text(text) => copied(alloc, text.as_slice()),
+            Operand::Word(number) => copied(alloc, word_of(self.message.text.as_slice(), *number)),
+            Operand::Field(name) => short(self.shown_field(defs, name)?),
+            Operand::Status => copied(alloc, without_blanks(self.status())),
+            Operand::Fsas => short(shown_letters(alloc, self.letters.as_slice())?),
+            Operand::Variable(name) => copied(alloc, self.setting(name)),
+        }
+    }
+
+    /// The text that SET gives.
+    pub(crate) fn set_text(
+        &self,
+        defs: &Defs,
+        first: &Operand,
+        rest: &Option<(Operation, Operand)>,
+    ) -> Result<Bytes, Stop>
+        ensures { Gives result (set_text defs.now self.now.message (env_of self.now []) first.now rest.now) }
+    {
+        let a = self.text_of(defs, first)?;
+        match rest {
+            Some((operation, second)) => {
+                let b = self.text_of(defs, second)?;
+                operated(self.alloc, *operation, a.as_slice(), b.as_slice())
+            }
+            None => Ok(a),
+        }
+    }
+
+    /// Whether IF takes its first block.
+    pub(crate) fn chosen(
+        &self,
+        defs: &Defs,
+        left: &Operand,
+        comparison: Comparison,
+        right: &Operand,
+    ) -> Result<bool, Stop>
+        ensures { Gives result (chosen defs.now self.now.message (env_of self.now []) left.now comparison right.now) }
+    {
+        let a = self.text_of(defs, left)?;
+        let b = self.text_of(defs, right)?;
+        compares(comparison, a.as_slice(), b.as_slice())
+    }
+
+    // Operands joined.
+    fn joined_texts(&self, defs: &Defs, operands: &[Operand]) -> Result<Bytes, Stop>
+        ensures { Gives result (joined_texts defs.now self.now.message (env_of self.now []) operands.now) }
+    {
+        let mut joined = Bytes::new(self.alloc);
+        for operand in operands {
+            let text = self.text_of(defs, operand)?;
+            joined.append(text.as_slice())?;
+        }
+        Ok(joined)
+    }
+
+    /// The text of a reply.
+    pub(crate) fn reply_text(&self, defs: &Defs, operands: &List<Operand>) -> Result<Bytes, Stop>
+        ensures { Gives result (reply_text defs.now self.now.message (env_of self.now []) operands.now) }
+    {
+        let text = self.joined_texts(defs, operands.as_slice())?;
+        if text.len() > LONGEST_REPLY || !is_printable(text.as_slice()) {
+            return Err(Stop::NoValue);
+        }
+        Ok(text)
+    }
+
+    /// The key that an operand gives in a segment type.
+    pub(crate) fn key_text(
+        &self,
+        defs: &Defs,
+        db: u8,
+        type_number: u8,
+        operand: &Operand,
+    ) -> Result<Bytes, Stop>
+        ensures { Gives result (key_text defs.now self.now.message (env_of self.now []) db type_number operand.now) }
+    {
+        let text = self.text_of(defs, operand)?;
+        let layout = layout_of(defs, db, type_number)?;
+        layout.fitted_key(self.alloc, text.as_slice())
+    }
+}
