@@ -19,3 +19,4 @@ pub mod RowLemmas
 pub mod NumberLemmas
 pub mod TextLemmas
 pub mod ExitLemmas
+pub mod ReadLemmas
