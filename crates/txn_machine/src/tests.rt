@@ -1,6 +1,6 @@
 //! Scripts run by hand: their calls are answered as a database would. What is wanted is taken from the language's
 //! description.
-ghost use Rattle.std.specs.Prelude.{IsTrue};
+ghost use Rattle.std.specs.Prelude.{◌<◌, IfSome, IsTrue, length};
 ghost use Rattle.txn_lang.specs.Lookups.{HaveByteNumbers};
 
 use crate::{Next, Program};
@@ -158,8 +158,36 @@ fn answer(alloc: Global, status: [u8; 2], bytes: &[u8]) -> Result<Answer, AllocE
     })
 }
 
-// What the transaction A of a text comes to: its first calls are answered with these letters and segments. Each call
-// is asked for twice.
+// The number of the transaction A.
+fn number_of(scripts: &Scripts) -> Option<u32>
+    ensures { IfSome result (λ number. number < length scripts.now.scripts) }
+{
+    scripts.find(&named("A"))
+}
+
+// What a script comes to whose first calls are answered with these letters and segments. Each call is asked for twice.
+fn run(
+    scripts: &Scripts,
+    defs: &Defs,
+    program: Program,
+    answers: &[([u8; 2], &[u8])],
+    alloc: Global,
+) -> Result<Next, AllocError>
+    requires { program.number < length scripts.now.scripts }
+{
+    let mut program = program;
+    for (status, bytes) in answers {
+        let answer = answer(alloc, *status, bytes)?;
+        let _ = program.next(scripts, defs)?;
+        match program.next(scripts, defs)? {
+            Next::Call(_) => program.give(answer),
+            end => return Ok(end),
+        }
+    }
+    program.next(scripts, defs)
+}
+
+// What the transaction A of a text comes to.
 fn outcome(
     alloc: Global,
     text: &str,
@@ -168,17 +196,15 @@ fn outcome(
 ) -> Result<Next, Fail> {
     let defs = sample(alloc)?;
     let scripts = read(alloc, &defs, text)?;
-    let number = scripts.find(&named("A")).ok_or("no A")?;
+    let number = number_of(&scripts).ok_or("no A")?;
     let words = message(alloc, words)?;
-    let mut program = Program::start(alloc, &scripts, number, &words)?;
-    for (status, bytes) in answers {
-        let _ = program.next(&scripts, &defs)?;
-        match program.next(&scripts, &defs)? {
-            Next::Call(_) => program.give(answer(alloc, *status, bytes)?),
-            end => return Ok(end),
-        }
-    }
-    Ok(program.next(&scripts, &defs)?)
+    let program = Program::start(alloc, &scripts, number, &words)?;
+    Ok(run(&scripts, &defs, program, answers, alloc)?)
+}
+
+// A transaction of some lines.
+fn script(alloc: Global, lines: &str) -> Result<String, AllocError> {
+    format!(in alloc; "TRAN A\n{lines}\n")
 }
 
 // Whether a script comes to this reply.
@@ -197,9 +223,8 @@ fn rolls(alloc: Global, text: &str, words: &str, wanted: u16) -> Result<bool, Fa
     }
 }
 
-#[test]
-fn values(rt: HostRuntime) -> Result<(), Fail> {
-    let cases = [
+fn value_cases() -> [(&'static str, &'static str); 11] {
+    [
         ("REPLY 007", "7"),
         ("REPLY -0", "0"),
         ("REPLY #0 '.' #1 '.' #2 '.' #3", " ab cd .ab.cd."),
@@ -220,9 +245,13 @@ fn values(rt: HostRuntime) -> Result<(), Fail> {
             "number",
         ),
         ("SET V 1", ""),
-    ];
-    for (line, reply) in cases {
-        let text = format!(in rt.alloc(); "TRAN A\n{line}\n")?;
+    ]
+}
+
+#[test]
+fn values(rt: HostRuntime) -> Result<(), Fail> {
+    for (line, reply) in value_cases() {
+        let text = script(rt.alloc(), line)?;
         assert!(rt;
             replies(rt.alloc(), text.as_str(), " ab cd ", reply)?,
             "{line}"
@@ -231,9 +260,8 @@ fn values(rt: HostRuntime) -> Result<(), Fail> {
     Ok(())
 }
 
-#[test]
-fn no_values(rt: HostRuntime) -> Result<(), Fail> {
-    let cases = [
+fn no_value_cases() -> [(&'static str, u16); 11] {
+    [
         ("SET V #1 + 1", 99),
         ("SET V 9999999999999999999999999999999 + 1", 99),
         (
@@ -254,17 +282,20 @@ fn no_values(rt: HostRuntime) -> Result<(), Fail> {
             99,
         ),
         ("ROLB 98", 98),
-    ];
-    for (line, code) in cases {
-        let text = format!(in rt.alloc(); "TRAN A\n{line}\n")?;
-        assert!(rt; rolls(rt.alloc(), text.as_str(), "ab", code)?, "{line}");
+    ]
+}
+
+#[test]
+fn no_values(rt: HostRuntime) -> Result<(), Fail> {
+    for (line, code) in no_value_cases() {
+        let text = script(rt.alloc(), line)?;
+        assert!(rt; rolls(rt.alloc(), text.as_str(), "ab", code)?);
     }
     Ok(())
 }
 
-#[test]
-fn loops(rt: HostRuntime) -> Result<(), Fail> {
-    let cases = [
+fn loop_cases() -> [(&'static str, &'static str); 4] {
+    [
         ("REPEAT 3\nSET V V & 'x'\nEND\nREPLY V", "xxx"),
         ("REPEAT 10000\nEND\nREPLY 'done'", "done"),
         (
@@ -275,10 +306,14 @@ fn loops(rt: HostRuntime) -> Result<(), Fail> {
             "REPEAT 9\nIF V EQ 'xx'\nBREAK\nELSE\nSET V V & 'x'\nEND\nEND\nREPLY V '.'",
             "xx.",
         ),
-    ];
-    for (line, reply) in cases {
-        let text = format!(in rt.alloc(); "TRAN A\n{line}\n")?;
-        assert!(rt; replies(rt.alloc(), text.as_str(), "", reply)?, "{line}");
+    ]
+}
+
+#[test]
+fn loops(rt: HostRuntime) -> Result<(), Fail> {
+    for (line, reply) in loop_cases() {
+        let text = script(rt.alloc(), line)?;
+        assert!(rt; replies(rt.alloc(), text.as_str(), "", reply)?);
     }
     Ok(())
 }
