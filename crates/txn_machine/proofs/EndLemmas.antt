@@ -4,7 +4,6 @@ use Rattle.std.specs.Prelude.{slice_set, slice_get}
 use Rattle.std.proofs.Math.Seq.{take-suc, take-append_seam}
 use Rattle.std.proofs.lemmas.List.{take_all, length-append}
 
-
 pub last_of : {X : Type 0} (xs : List X) (d : X) → 0 < length xs → (front : List X) × (xs ≡ front ++ get_or xs (length xs - 1) d ∷ [])
 last_of xs d lt =
     let at : suc (length xs - 1) ≡ length xs = omega arith in

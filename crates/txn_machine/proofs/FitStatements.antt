@@ -143,7 +143,7 @@ module _ (defs : Defs) (message : Message) (env : Env) (well : AllByRecursion Is
       let def = defined db h in
       let found = made (ssas_of defs message env db ssas) (λ f. layout_of defs db (new_type defs message ssas) >>= (λ l. empty_segment l.fields >>= (λ s. filled defs message env l.fields fields s >>= (λ b. Some (call.Isrt db f b))))) asked is in
       let layout : (empty_segment def.0.fields >>= (λ s. filled defs message env def.0.fields fields s >>= (λ b. Some (call.Isrt db found.0 b)))) ≡ Some asked =
-          sym (ap (λ (o : Option Layout). o >>= (λ l. empty_segment l.fields >>= (λ s. filled defs message env l.fields fields s >>= (λ b. Some (call.Isrt db found.0 b))))) (layout_is defs db (new_type defs message ssas) def.0 def.1)) ∙ found.2 in
+      sym (ap (λ (o : Option Layout). o >>= (λ l. empty_segment l.fields >>= (λ s. filled defs message env l.fields fields s >>= (λ b. Some (call.Isrt db found.0 b))))) (layout_is defs db (new_type defs message ssas) def.0 def.1)) ∙ found.2 in
       let segment = made (empty_segment def.0.fields) (λ s. filled defs message env def.0.fields fields s >>= (λ b. Some (call.Isrt db found.0 b))) asked layout in
       let bytes = made (filled defs message env def.0.fields fields segment.0) (λ b. Some (call.Isrt db found.0 b)) asked segment.2 in
       let same : call.Isrt db found.0 bytes.0 ≡ asked = let e = bytes.2 in cc in
@@ -158,7 +158,7 @@ module _ (defs : Defs) (message : Message) (env : Env) (well : AllByRecursion Is
       let def : MsdbDef = its.0.0 in
       let at : slice_get defs.msdbs db ≡ Some def = ap (slice_get defs.msdbs) (sym its.1) ∙ its.0.1 in
       let layout : (filled defs message env def.fields fields shown.0.bytes >>= (λ b. Some (call.Repl db b))) ≡ Some asked =
-          sym (ap (λ (o : Option Layout). o >>= (λ l. filled defs message env l.fields fields shown.0.bytes >>= (λ b. Some (call.Repl db b)))) (layout_is defs db shown.0.type_number def at)) ∙ shown.2 in
+      sym (ap (λ (o : Option Layout). o >>= (λ l. filled defs message env l.fields fields shown.0.bytes >>= (λ b. Some (call.Repl db b)))) (layout_is defs db shown.0.type_number def at)) ∙ shown.2 in
       let bytes = made (filled defs message env def.fields fields shown.0.bytes) (λ b. Some (call.Repl db b)) asked layout in
       let same : call.Repl db bytes.0 ≡ asked = let e = bytes.2 in cc in
       subst (λ (c : Call). IsMsdbCall defs.msdbs c) same (def, at, filled_length defs message env def.fields def.length fields shown.0.bytes bytes.0 (stand db def at) its.0.2.whole bytes.1)

@@ -36,7 +36,7 @@ pub goes_on_at : (defs : Defs) (statements : List Statement) (message : Message)
 goes_on_at defs statements message answers old now at alike waits =
     let heard : now.known.message ≡ message = alike.message ∙ at.heard in
     let comes = λ (more : List Answer).
-        at.comes more ∙ ap (λ (m : Message). end_of defs statements m old more) (sym at.heard) ∙ alike.comes more ∙ ap (λ (m : Message). end_of defs statements m now more) at.heard in
+    at.comes more ∙ ap (λ (m : Message). end_of defs statements m old more) (sym at.heard) ∙ alike.comes more ∙ ap (λ (m : Message). end_of defs statements m now more) at.heard in
     record { heard = heard; comes = comes; waits = waits_at defs statements message answers now now.wait heard comes waits }
 
 -- what is asked from a place on is what the script asks
@@ -44,8 +44,8 @@ pub asked_at : (defs : Defs) (statements : List Statement) (message : Message) (
     → IsAt defs statements message answers old → ComesAlike defs statements old now → IsAsked given (end_of defs statements now.known.message now []) → IsAsked given (ask defs statements message answers)
 asked_at defs statements message answers old now given at alike asked =
     let is : ask defs statements message answers ≡ end_of defs statements now.known.message now [] =
-        ap (ask defs statements message) (sym (append-nil answers)) ∙ at.comes [] ∙ ap (λ (m : Message). end_of defs statements m old []) (sym at.heard)
-        ∙ alike.comes [] ∙ ap (λ (m : Message). end_of defs statements m now []) (sym alike.message) in
+    ap (ask defs statements message) (sym (append-nil answers)) ∙ at.comes [] ∙ ap (λ (m : Message). end_of defs statements m old []) (sym at.heard)
+    ∙ alike.comes [] ∙ ap (λ (m : Message). end_of defs statements m now []) (sym alike.message) in
     subst (λ (end : Ask). IsAsked given end) (sym is) asked
 
 -- a call that was given before makes no difference

@@ -26,7 +26,7 @@ pub work_at : (front : List Frame) (f : Frame) (at : ℕ) (statements : List Sta
 work_at front f at statements place is here =
     let a : work_around place.frames statements ≡ work_around front statements + work_beyond f (block_at front statements) = ap (λ (fs : List Frame). work_around fs statements) is ∙ work_push front f statements in
     let b : work_from place.at (block_at place.frames statements) ≡ work_from at (inner f (block_at front statements)) =
-        ap (λ (n : ℕ). work_from n (block_at place.frames statements)) here ∙ ap (λ (fs : List Frame). work_from at (block_at fs statements)) is ∙ ap (work_from at) (block_push front f statements) in
+    ap (λ (n : ℕ). work_from n (block_at place.frames statements)) here ∙ ap (λ (fs : List Frame). work_from at (block_at fs statements)) is ∙ ap (work_from at) (block_push front f statements) in
     omega (arith, a, b)
 
 pub closed_less : (front : List Frame) (f : Frame) (behind : ℕ) (statements : List Statement) (old new : Place) → old.frames ≡ front ++ f ∷ [] → new.frames ≡ front → new.at ≡ behind
@@ -56,7 +56,7 @@ pub left_less : (statements : List Statement) (old : List Frame) (new : Place) (
     → work statements new < work_around old statements
 left_less statements old new f behind left is kind to =
     let a : work_around old statements ≡ work_around new.frames statements + work_beyond (frame.Loop behind left) (block_at new.frames statements) =
-        ap (λ (fs : List Frame). work_around fs statements) (is ∙ ap (λ (g : Frame). new.frames ++ g ∷ []) kind) ∙ work_push new.frames (frame.Loop behind left) statements in
+    ap (λ (fs : List Frame). work_around fs statements) (is ∙ ap (λ (g : Frame). new.frames ++ g ∷ []) kind) ∙ work_push new.frames (frame.Loop behind left) statements in
     let b : work statements new ≡ work_around new.frames statements + work_from behind (block_at new.frames statements) = ap (λ (n : ℕ). work_around new.frames statements + work_from n (block_at new.frames statements)) to in
     omega (arith, a, b)
 
@@ -64,7 +64,7 @@ left_less statements old new f behind left is kind to =
 pub left_nothing : (statements : List Statement) (old new : List Frame) (end : ℕ) → new ≡ [] → end ≡ length statements → work statements (record { frames = new; at = end }) ≤ work_around old statements
 left_nothing statements old new end empty is =
     let a : work statements (record { frames = new; at = end }) ≡ 0 =
-        ap (λ (fs : List Frame). work statements (record { frames = fs; at = end })) empty ∙ ap (λ (rest : List Statement). 0 + sum (map statement_work rest)) (drop_all end statements (omega arith)) in
+    ap (λ (fs : List Frame). work statements (record { frames = fs; at = end })) empty ∙ ap (λ (rest : List Statement). 0 + sum (map statement_work rest)) (drop_all end statements (omega arith)) in
     omega (arith, a)
 
 -- every statement is some work

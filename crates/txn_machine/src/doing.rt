@@ -63,12 +63,7 @@ impl Known {
                 comparison,
                 right,
                 ..
-            } => Ok(Deed::Choose(self.chosen(
-                defs,
-                left,
-                *comparison,
-                right,
-            )?)),
+            } => Ok(Deed::Choose(self.chosen(defs, left, *comparison, right)?)),
             Statement::Repeat { times, .. } => Ok(repeated(*times)),
             Statement::Break => Ok(Deed::Leave),
             Statement::Reply(operands) => Ok(Deed::Reply(self.reply_text(defs, operands)?)),

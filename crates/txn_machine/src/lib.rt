@@ -10,6 +10,8 @@ mod place;
 mod program;
 mod shown;
 mod stop;
+#[cfg(test)]
+mod tests;
 mod values;
 
 pub use program::{Next, Program};

@@ -236,11 +236,7 @@ impl Program {
     }
 
     // One step: a statement, or the end of a block. What the script gives, where it gives something there.
-    fn step(
-        &mut self,
-        statements: &[Statement],
-        defs: &Defs,
-    ) -> Result<Option<Next>, AllocError>
+    fn step(&mut self, statements: &[Statement], defs: &Defs) -> Result<Option<Next>, AllocError>
         requires { self.old.wait ≡ None }
         ensures number { self.new.number ≡ self.old.number }
         ensures alike { ComesAlike defs.now statements.now self.old self.new }
