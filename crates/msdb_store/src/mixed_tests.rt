@@ -255,15 +255,14 @@ fn make(
     step: Step,
     call: u32,
 ) -> Result<(), VerifyFault> {
+    let Step {
+        action: _,
+        key,
+        amount,
+    } = step;
     match step.action {
-        Action::Insert | Action::Replace => put(
-            accounts,
-            Account {
-                key: step.key,
-                amount: step.amount,
-            },
-        )?,
-        Action::Delete => close(accounts, step.key),
+        Action::Insert | Action::Replace => put(accounts, Account { key, amount })?,
+        Action::Delete => close(accounts, key),
         Action::Set | Action::Add => change(alloc, accounts, step, call)?,
     }
     Ok(())
@@ -334,6 +333,20 @@ fn told(outcome: Result<(), VerifyFault>) -> Result<Option<VerifyFault>, VerifyF
     }
 }
 
+// Settles a queue of one or two calls on the store: None, or which call fails.
+fn settled(
+    alloc: Global,
+    store: &mut MsdbStore,
+    first: Step,
+    second: Option<Step>,
+) -> Result<Option<VerifyFault>, VerifyFault>
+    requires { (defs : ListOf DefOf) × (def : DefOf) × (defs ≡ def ∷ []) × IsMsdbDef def × (def.length ≡ 8) × (key_length def.fields ≡ 4) × IsOf defs store.old }
+    ensures { (defs : ListOf DefOf) → (def : DefOf) → defs ≡ def ∷ [] → IsMsdbDef def → def.length ≡ 8 → key_length def.fields ≡ 4 → IsOf defs store.old → IsOf defs store.new }
+{
+    let queue = queue(alloc, first, second)?;
+    told(settle(store, &queue))
+}
+
 // One queue, settled by both.
 fn round(
     rt: &impl Abort,
@@ -347,7 +360,7 @@ fn round(
 {
     let first = random.step();
     let second = random.perhaps_step();
-    let outcome = told(settle(store, &queue(alloc, first, second)?))?;
+    let outcome = settled(alloc, store, first, second)?;
     let expected = told(settle_plainly(alloc, accounts, first, second))?;
     assert_eq!(rt; outcome, expected, "{first:?} {second:?}");
     assert!(rt; are_held(store, accounts), "{first:?} {second:?}");
