@@ -12,6 +12,8 @@ pub use staged::{Staged, VerifyFault};
 pub use store::MsdbStore;
 
 #[cfg(test)]
+mod mixed_tests;
+#[cfg(test)]
 mod settling_tests;
 #[cfg(test)]
 mod tests;

@@ -43,7 +43,7 @@ fn accounts(alloc: Global) -> Result<MsdbDef, AllocError>
     })
 }
 
-fn defs(alloc: Global) -> Result<Defs, AllocError>
+pub(crate) fn defs(alloc: Global) -> Result<Defs, AllocError>
     ensures { IfOk result (λ defs. (def : DefOf) × (defs.msdbs ≡ def ∷ []) × IsMsdbDef def × (def.length ≡ 8) × (key_length def.fields ≡ 4)) }
 {
     let mut msdbs = List::new(alloc);
@@ -60,7 +60,12 @@ fn defs(alloc: Global) -> Result<Defs, AllocError>
 }
 
 // A field call with one argument on the balance.
-fn field_call(alloc: Global, key: [u8; 4], op: u8, operand: &[u8]) -> Result<Deferred, AllocError>
+pub(crate) fn field_call(
+    alloc: Global,
+    key: [u8; 4],
+    op: u8,
+    operand: &[u8],
+) -> Result<Deferred, AllocError>
     requires { length operand.now < 65536 }
     ensures { (defs : ListOf DefOf) → (def : DefOf) → defs ≡ def ∷ [] → key_length def.fields ≡ 4 → IfOk result (IsFitDeferred defs) }
 {
@@ -78,7 +83,7 @@ fn field_call(alloc: Global, key: [u8; 4], op: u8, operand: &[u8]) -> Result<Def
     })
 }
 
-fn insert(alloc: Global, segment: [u8; 8]) -> Result<Deferred, AllocError>
+pub(crate) fn insert(alloc: Global, segment: [u8; 8]) -> Result<Deferred, AllocError>
     ensures { (defs : ListOf DefOf) → (def : DefOf) → defs ≡ def ∷ [] → def.length ≡ 8 → IfOk result (IsFitDeferred defs) }
 {
     Ok(Deferred::Isrt {
@@ -87,7 +92,7 @@ fn insert(alloc: Global, segment: [u8; 8]) -> Result<Deferred, AllocError>
     })
 }
 
-fn delete(alloc: Global, key: [u8; 4]) -> Result<Deferred, AllocError>
+pub(crate) fn delete(alloc: Global, key: [u8; 4]) -> Result<Deferred, AllocError>
     ensures { (defs : ListOf DefOf) → (def : DefOf) → defs ≡ def ∷ [] → key_length def.fields ≡ 4 → IfOk result (IsFitDeferred defs) }
 {
     Ok(Deferred::Dlet {
