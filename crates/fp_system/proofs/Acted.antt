@@ -17,7 +17,7 @@ use Rattle.log_groups.specs.Log.{LogState}
 use Rattle.msdb_store.specs.Store.{Stored}
 use Rattle.fp_system.specs.declared.parts.Setup.{Setup}
 use Rattle.fp_system.specs.declared.status.Status.TheVariants as status
-use Rattle.fp_system.specs.Answers.{IsOr, IsFault, status_of_fault}
+use Rattle.fp_system.specs.Answers.{IsFault, status_of_fault}
 use Rattle.fp_system.specs.Ims.{IsAnswered}
 use Rattle.fp_system.specs.Parts.{Job, front_for}
 use Rattle.fp_system.specs.Serving.{IsAccount, StandsAt, Serves, Halts}

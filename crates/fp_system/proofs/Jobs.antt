@@ -1,26 +1,23 @@
 -- Parts have one meaning: one job, or one answer.
-use Rattle.std.proofs.Common.{◌≡◌, inl, inr, refl, sym, ap, subst, ◌∙◌, arith, ℕ, ◌<◌, List, [], ◌∷◌, length, Bool, true, false, if◌then◌else◌}
-use Rattle.std.specs.Prelude.{◌≢◌, ◌⊎◌, ◌==◌, ◌&&◌, nat_lt, Result, Ok, Err}
+use Rattle.std.proofs.Common.{◌≡◌, inl, inr, refl, sym, ap, subst, ◌∙◌, arith, ℕ, ◌<◌, List, length, Bool, true, false, if◌then◌else◌}
+use Rattle.std.specs.Prelude.{◌≢◌, ◌⊎◌, nat_lt, Result, Ok, Err}
 use Rattle.std.proofs.lemmas.Bool.Decides.{nat_tests}
 use Rattle.fp_defs.specs.Exits.{defs_for}
 use Rattle.fp_defs.specs.Whole.{defs_of}
 use Rattle.fp_exits.specs.Kinds.{Kinds}
 use Rattle.fp_defs.specs.declared.fault.DefsFault.{DefsFault}
 use Rattle.fp_defs.specs.declared.fault.DefsFault.TheVariants as bad
-use Rattle.fp_model.specs.declared.definitions.DedbDef.{DedbDef}
 use Rattle.fp_model.specs.declared.definitions.Defs.{Defs}
 use Rattle.fp_model.specs.declared.scripts.Script.{Script}
 use Rattle.fp_source.specs.declared.part.Part.{Part}
 use Rattle.fp_source.specs.declared.part.Part.TheVariants as part
-use Rattle.fp_system.specs.Answers.{IsFault, IsOr, status_of_definitions, status_of_scripts}
+use Rattle.fp_system.specs.Answers.{IsFault, IsOr, status_of_definitions}
 use Rattle.fp_system.specs.Parts.{Job, IsJob, Refuses, by_definitions, by_scripts, are_built, only_built, definitions_in}
 use Rattle.fp_system.specs.declared.status.Status.{Status}
 use Rattle.fp_system.specs.declared.status.Status.TheVariants as status
 use Rattle.txn_lang.proofs.OneMeaning.{one_list, one_fault, apart}
-use Rattle.txn_lang.specs.Building.{Refuses as RefusesFor}
 use Rattle.txn_lang.specs.Grammar.{AreScriptsOf, HasFault}
 use Rattle.txn_lang.specs.declared.fault.ScriptFault.{ScriptFault}
-use Rattle.txn_lang.specs.declared.fault.ScriptFault.TheVariants as wrong
 
 -- ---- definitions
 

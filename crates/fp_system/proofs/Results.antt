@@ -1,6 +1,6 @@
 -- What holds of a good answer.
 use Rattle.std.proofs.Common.{◌≡◌, subst}
-use Rattle.std.specs.Prelude.{Result, Ok, Err, IfOk, OnErr, OnOk, Option, Some, None, IfSome, IfNone}
+use Rattle.std.specs.Prelude.{Result, Ok, Err, IfOk, OnErr, Option, Some, None, IfSome, IfNone}
 
 -- of a good answer more is said
 pub ok_with : {A E : Type 0} (r : Result A E) (R Q : A → Type 0) → ((x : A) → R x → Q x) → IfOk r R → IfOk r Q
