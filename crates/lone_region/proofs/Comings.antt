@@ -94,12 +94,18 @@ module _ (defs : Defs) (scripts : List Script) (past : List Db) (now : Db) (line
     fit = tt;
     made = refl;
     still = refl;
+    alone = tt;
+    from_here = sym l;
+    notes_here = tt;
     of_line = refl;
   }
 
   module _ (message : Message) (msdbs : List Msdb) (from : ℕ) (work : Progress) (is_request : request_of scripts line ≡ Some message) (same : now.msdbs ≡ msdbs) (l : length past ≡ from) where
     in_order : IsPlain defs from work → NeverFalls from work.notes (length past)
     in_order plain = subst (NeverFalls from work.notes) (sym l) (notes_at from work.notes plain.notes)
+
+    notes_here : IsPlain defs from work → AllByRecursion (λ note. note ≡ length past) work.notes
+    notes_here plain = subst (λ (place : ℕ). AllByRecursion (λ note. note ≡ place) work.notes) (sym l) plain.notes
 
     -- the entry of one that is rolled back
     pub roll_comes : (code : ℕ) → HasEnded defs scripts message msdbs from work (end.Roll code) → ComesNext defs scripts past now line (refused_entry from (outcome.Roll code) line work.notes)
@@ -112,6 +118,9 @@ module _ (defs : Defs) (scripts : List Script) (past : List Db) (now : Db) (line
       fit = tt;
       made = refl;
       still = refl;
+      alone = tt;
+      from_here = sym l;
+      notes_here = notes_here h.plain;
       of_line = refl;
     }
 
@@ -130,6 +139,9 @@ module _ (defs : Defs) (scripts : List Script) (past : List Db) (now : Db) (line
             fit = tt;
             made = refl;
             still = refl;
+            alone = tt;
+            from_here = sym l;
+            notes_here = notes_here h.plain;
             of_line = refl;
           }
 
@@ -148,5 +160,8 @@ module _ (defs : Defs) (scripts : List Script) (past : List Db) (now : Db) (line
             fit = items_fit defs items fit segments;
             made = ap (λ (ms : List Msdb). with_items defs.msdbs ms items) same;
             still = refl;
+            alone = tt;
+            from_here = sym l;
+            notes_here = notes_here h.plain;
             of_line = refl;
           }

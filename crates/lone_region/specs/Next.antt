@@ -1,9 +1,11 @@
 -- The entry that a line comes to, and what it makes of the databases.
-use Rattle.std.specs.Prelude.{◌≡◌, ℕ, List, [], ◌∷◌, ◌++◌}
+use Rattle.std.specs.Prelude.{◌≡◌, ⊤, ℕ, List, [], ◌∷◌, ◌++◌, length}
 use Rattle.std.specs.List.{AllByRecursion}
 use Rattle.fp_model.specs.declared.database.Db.{Db}
 use Rattle.fp_model.specs.declared.definitions.Defs.{Defs}
 use Rattle.fp_model.specs.declared.log.Entry.{Entry}
+use Rattle.fp_model.specs.declared.log.Outcome.{Outcome}
+use Rattle.fp_model.specs.declared.log.Outcome.TheVariants.{Done, Verify, Roll, Unknown}
 use Rattle.fp_model.specs.declared.scripts.Script.{Script}
 use Rattle.fp_model.specs.History.{Comes}
 use Rattle.fp_model.specs.Items.{IsFit, with_items}
@@ -12,14 +14,25 @@ use Rattle.fp_model.specs.ReplyLine.{line_of}
 use Rattle.log_groups.specs.Log.{LogState}
 use Rattle.msdb_store.specs.Store.{Stored}
 
--- The entry of a line, that may come where now is the state and past are those before it. Its items may be applied, and
--- make of the main storage databases those of the state that it leads to; data entry databases stay.
+-- an outcome of a line that is served alone: no other region, no area and no purge has a part in it
+abbrev pub IsAlone : Outcome → Type 0
+IsAlone Done = ⊤
+IsAlone (Verify call fsa found) = ⊤
+IsAlone (Roll code) = ⊤
+IsAlone Unknown = ⊤
+IsAlone _ = ⊥
+
+-- The entry of a line, that may come where now is the state and past are those before it, and began and looked there. Its
+-- items may be applied, and make of the main storage databases those of the state that it leads to; data entry databases stay.
 pub record ComesNext (defs : Defs) (scripts : List Script) (past : List Db) (now : Db) (line : List ℕ) (e : Entry) : Type 0 where
   pub next : Db
   pub comes : Comes (rules_of defs scripts) past now e next
   pub fit : AllByRecursion (IsFit defs) e.items
   pub made : with_items defs.msdbs now.msdbs e.items ≡ next.msdbs
   pub still : next.dedbs ≡ now.dedbs
+  pub alone : IsAlone e.outcome
+  pub from_here : e.from ≡ length past
+  pub notes_here : AllByRecursion (λ note. note ≡ length past) e.notes
   pub of_line : e.line ≡ line
 
 -- A line was answered: its entry waits to be sealed, the store has the segments behind it, and the reply is its line.
