@@ -177,6 +177,7 @@ fn an_open_gate_before_zeros_is_damage(rt: HostRuntime) -> Result<(), Fail> {
     let alloc = rt.alloc();
     let (_, mut site) = new_run(alloc, b"")?;
     let at = first_gate() as u64;
+    assert!(rt; at < 1 << 20);
     let _ = site.write_at(0, at, b"\x01\0\0\0\0\0\0\0\0\0\0\0");
     let status = run(alloc, "run", SCRIPTS, b"", &[], &mut site)?;
     assert_eq!(rt; status, Status::Damaged { set: 0, at });
