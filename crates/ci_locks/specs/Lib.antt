@@ -1,0 +1,4 @@
+pub mod Holdings
+pub mod Regions
+pub mod Standing
+pub mod Table
