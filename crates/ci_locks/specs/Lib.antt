@@ -1,3 +1,4 @@
+pub mod Graph
 pub mod Holdings
 pub mod Regions
 pub mod Standing

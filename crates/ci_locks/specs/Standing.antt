@@ -22,6 +22,19 @@ pub record Shows (s : Standing) (locks requests : List Lock) : Type 0 where
   pub within : (lock : Lock) → Contains locks lock → (1 ≤ lock.region) × (lock.region ≤ s.regions)
   pub standing : (request : Lock) → Contains requests request ↔ (s.asks request.region ≡ Some request)
 
+-- whether a lock that is held so stands in the way of a request
+abbrev pub is_in_conflict : Option Mode → Mode → Bool
+is_in_conflict None mode = false
+is_in_conflict (Some held) mode = is_exclusive held || is_exclusive mode
+
+-- whether a region stands in the way of a request
+abbrev pub in_way : Standing → Lock → ℕ → Bool
+in_way s wanted region = not (region == wanted.region) && is_in_conflict (s.holds region wanted.resource) wanted.mode
+
+-- the regions that stand in the way of a request, ascending
+abbrev pub blocking : Standing → Lock → List ℕ
+blocking s wanted = filter (in_way s wanted) (numbers_up s.regions 1)
+
 -- the mode after a request for one: Exclusive stays
 abbrev pub raised : Option Mode → Mode → Mode
 raised None mode = mode

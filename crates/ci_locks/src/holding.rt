@@ -68,4 +68,46 @@ impl Holding {
         self.anchors.clear();
         self.segments.clear();
     }
+
+    // Makes room for the segments of a database. What is held stays.
+    fn make_table(&mut self, msdb: u8) -> Result<(), AllocError>
+        ensures same { (resource : Resource) → holding_mode self.new resource ≡ holding_mode self.old resource }
+        ensures long { OnOk result (msdb + 1 ≤ length self.new.segments.items) }
+    {
+        let alloc = *self.segments.allocator();
+        while self.segments.len() <= usize::from(msdb) {
+            self.segments.push(BTreeMap::new(alloc))?;
+        }
+        Ok(())
+    }
+
+    // Holds a resource so, however it was held. Want of memory changes nothing.
+    fn put(&mut self, resource: &Resource, mode: Mode) -> Result<(), AllocError>
+        ensures ok { OnOk result ((other : Resource) → holding_mode self.new other ≡ (if same_resource resource.now other then Some mode else holding_mode self.old other)) }
+        ensures err { OnErr result ((other : Resource) → holding_mode self.new other ≡ holding_mode self.old other) }
+    {
+        match resource {
+            Resource::Anchor { dedb, anchor } => {
+                self.anchors.insert((*dedb, *anchor), mode)?;
+            }
+            Resource::Segment { msdb, key } => {
+                let alloc = *self.segments.allocator();
+                let key = Vec::from_slice(alloc, key.as_slice())?;
+                self.make_table(*msdb)?;
+                self.segments[usize::from(*msdb)].insert(key, mode)?;
+            }
+        }
+        Ok(())
+    }
+
+    // Gains a lock: Exclusive stays. Want of memory changes nothing.
+    pub(crate) fn gain(&mut self, resource: &Resource, mode: Mode) -> Result<(), AllocError>
+        ensures ok { OnOk result ((other : Resource) → holding_mode self.new other ≡ (if same_resource resource.now other then Some (raised (holding_mode self.old resource.now) mode) else holding_mode self.old other)) }
+        ensures err { OnErr result ((other : Resource) → holding_mode self.new other ≡ holding_mode self.old other) }
+    {
+        if let Some(Mode::Exclusive) = self.mode_of(resource) {
+            return Ok(());
+        }
+        self.put(resource, mode)
+    }
 }

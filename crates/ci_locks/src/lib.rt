@@ -6,5 +6,6 @@
 
 mod holding;
 mod locks;
+mod search;
 
 pub use locks::{Grant, Locks};

@@ -1,0 +1,3 @@
+pub mod Bridge
+pub mod Regions
+pub mod Trails

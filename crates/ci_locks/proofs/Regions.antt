@@ -1,0 +1,87 @@
+-- The regions of the code, and those that stand in the way.
+use Rattle.std.proofs.Common.{refl, arith, ◌≡◌, ℕ, zero, suc, ◌+◌, ◌<◌, ◌≤◌, List, [], ◌∷◌, ◌++◌, length, filter, Bool, true, false, cond, not, ◌&&◌, ◌||◌, ◌==◌, Option, Some, None, get_or, add-one, append-nil, ap, sym, subst, ◌∙◌}
+use Rattle.std.specs.Prelude.{if◌then◌else◌, slice_get}
+use Rattle.std.specs.List.{list_any}
+use Rattle.std.proofs.lemmas.List.Elements.{filter-append}
+use Rattle.std.proofs.lemmas.Bool.Decides.{nat_tests}
+use Rattle.fp_model.specs.State.{numbers_up}
+use Rattle.fp_model.specs.Waiting.{Lock}
+use Rattle.ci_locks.specs.Graph.{is_in, next, next_of}
+use Rattle.ci_locks.specs.Holdings.{holding_mode}
+use Rattle.ci_locks.specs.Regions.{region_at, region_mode, standing_of}
+use Rattle.ci_locks.specs.Standing.{Standing, blocking, in_way, is_in_conflict}
+use Rattle.ci_locks.specs.declared.locks.Region.{Region}
+
+numbers_last : (n from : ℕ) → numbers_up (suc n) from ≡ numbers_up n from ++ (from + n) ∷ []
+numbers_last zero from = let e : from ≡ from + 0 = omega arith in ap (λ k. k ∷ []) e
+numbers_last (suc n) from = let e : from + 1 + n ≡ from + suc n = omega arith in ap (λ ks. from ∷ ks) (numbers_last n (from + 1) ∙ ap (λ k. numbers_up n (from + 1) ++ k ∷ []) e)
+
+filter_one : (p : ℕ → Bool) (n : ℕ) → filter p (n ∷ []) ≡ (if p n then n ∷ [] else [])
+filter_one p n = refl
+
+pub filter_last : (p : ℕ → Bool) (n : ℕ) → filter p (numbers_up (n + 1) 1) ≡ filter p (numbers_up n 1) ++ (if p (n + 1) then (n + 1) ∷ [] else [])
+filter_last p n =
+    let e : 1 + n ≡ n + 1 = omega arith in
+    ap (λ k. filter p (numbers_up k 1)) (add-one n)
+    ∙ ap (filter p) (numbers_last n 1)
+    ∙ filter-append p (numbers_up n 1) ((1 + n) ∷ [])
+    ∙ ap (λ k. filter p (numbers_up n 1) ++ filter p (k ∷ [])) e
+
+pub get_here : (regions : List Region) (place : ℕ) (r : Region) → place < length regions → r ≡ get_or regions place r → slice_get regions place ≡ Some r
+get_here [] place r h is = absurd (omega (arith, h))
+get_here (x ∷ xs) zero r h is = ap Some (sym is)
+get_here (x ∷ xs) (suc place) r h is = get_here xs place r (omega (arith, h)) is
+
+pub in_way_at : (regions : List Region) (wanted : Lock) (place : ℕ) (r : Region) → place < length regions → r ≡ get_or regions place r
+    → in_way (standing_of regions) wanted (place + 1) ≡ (not ((place + 1) == wanted.region) && is_in_conflict (holding_mode r.held wanted.resource) wanted.mode)
+in_way_at regions wanted place r h is =
+    ap (λ k. not ((place + 1) == wanted.region) && is_in_conflict (region_mode (region_at regions k) wanted.resource) wanted.mode) (add-one place)
+    ∙ ap (λ o. not ((place + 1) == wanted.region) && is_in_conflict (region_mode o wanted.resource) wanted.mode) (get_here regions place r h is)
+
+-- the list with one more place
+pub list_more : (regions : List Region) (wanted : Lock) (place : ℕ) (r : Region) (b : Bool) → place < length regions → r ≡ get_or regions place r
+    → b ≡ (not ((place + 1) == wanted.region) && is_in_conflict (holding_mode r.held wanted.resource) wanted.mode)
+    → filter (in_way (standing_of regions) wanted) (numbers_up (place + 1) 1) ≡ filter (in_way (standing_of regions) wanted) (numbers_up place 1) ++ (if b then (place + 1) ∷ [] else [])
+list_more regions wanted place r b h is e =
+    filter_last (in_way (standing_of regions) wanted) place
+    ∙ ap (λ q. filter (in_way (standing_of regions) wanted) (numbers_up place 1) ++ (if q then (place + 1) ∷ [] else [])) (in_way_at regions wanted place r h is ∙ sym e)
+
+pub yes_more : (xs : List ℕ) (n : ℕ) (b : Bool) → b ≡ true → xs ++ (if b then n ∷ [] else []) ≡ xs ++ n ∷ []
+yes_more xs n b e = ap (λ q. xs ++ (if q then n ∷ [] else [])) e
+
+pub no_more : (xs : List ℕ) (n : ℕ) (b : Bool) → b ≡ false → xs ++ (if b then n ∷ [] else []) ≡ xs
+no_more xs n b e = ap (λ q. xs ++ (if q then n ∷ [] else [])) e ∙ append-nil xs
+
+-- ---- those that a region waits for are regions
+
+in_numbers : (n from b : ℕ) → is_in (numbers_up n from) b ≡ true → (from ≤ b) × (b < from + n)
+in_numbers zero from b e = absurd (cc)
+in_numbers (suc n) from b e = by (b == from) refl e
+  where
+    by : (t : Bool) → (b == from) ≡ t → (t || is_in (numbers_up n (from + 1)) b) ≡ true → (from ≤ b) × (b < from + suc n)
+    by true same e2 = let h : b ≡ from = grind arith in (omega (arith, h), omega (arith, h))
+    by false other e2 = let r = in_numbers n (from + 1) b e2 in (omega (arith, r.0), omega (arith, r.1))
+
+in_filter : (p : ℕ → Bool) (xs : List ℕ) (b : ℕ) → is_in (filter p xs) b ≡ true → is_in xs b ≡ true
+in_filter p [] b e = e
+in_filter p (x ∷ xs) b e = by (p x) e
+  where
+    or_right : (a c : Bool) → c ≡ true → (a || c) ≡ true
+    or_right true c e2 = refl
+    or_right false c e2 = e2
+    or_under : (a c d : Bool) → (c ≡ true → d ≡ true) → (a || c) ≡ true → (a || d) ≡ true
+    or_under true c d under e2 = refl
+    or_under false c d under e2 = under e2
+    by : (q : Bool) → is_in (cond q (x ∷ filter p xs) (filter p xs)) b ≡ true → (b == x || is_in xs b) ≡ true
+    by true e2 = or_under (b == x) (is_in (filter p xs) b) (is_in xs b) (in_filter p xs b) e2
+    by false e2 = or_right (b == x) (is_in xs b) (in_filter p xs b e2)
+
+pub blocking_within : (s : Standing) (wanted : Lock) (b : ℕ) → is_in (blocking s wanted) b ≡ true → (1 ≤ b) × (b ≤ s.regions)
+blocking_within s wanted b e = let r = in_numbers s.regions 1 b (in_filter (in_way s wanted) (numbers_up s.regions 1) b e) in (omega (arith, r.0), omega (arith, r.1))
+
+pub next_within : (s : Standing) (a b : ℕ) → is_in (next s a) b ≡ true → (1 ≤ b) × (b ≤ s.regions)
+next_within s a b e = by (s.asks a) e
+  where
+    by : (o : Option Lock) → is_in (next_of s o) b ≡ true → (1 ≤ b) × (b ≤ s.regions)
+    by None e2 = absurd (cc)
+    by (Some wanted) e2 = blocking_within s wanted b e2
