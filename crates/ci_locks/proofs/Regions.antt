@@ -56,25 +56,27 @@ no_more xs n b e = ap (λ q. xs ++ (if q then n ∷ [] else [])) e ∙ append-ni
 
 in_numbers : (n from b : ℕ) → is_in (numbers_up n from) b ≡ true → (from ≤ b) × (b < from + n)
 in_numbers zero from b e = absurd (cc)
-in_numbers (suc n) from b e = by (b == from) refl e
+in_numbers (suc n) from b e = by (b == from) refl (in_numbers n (from + 1) b) e
   where
-    by : (t : Bool) → (b == from) ≡ t → (t || is_in (numbers_up n (from + 1)) b) ≡ true → (from ≤ b) × (b < from + suc n)
-    by true same e2 = let h : b ≡ from = grind arith in (omega (arith, h), omega (arith, h))
-    by false other e2 = let r = in_numbers n (from + 1) b e2 in (omega (arith, r.0), omega (arith, r.1))
+    by : (t : Bool) → (b == from) ≡ t → (is_in (numbers_up n (from + 1)) b ≡ true → (from + 1 ≤ b) × (b < from + 1 + n)) → (t || is_in (numbers_up n (from + 1)) b) ≡ true → (from ≤ b) × (b < from + suc n)
+    by true same rest e2 = let h : b ≡ from = grind arith in (omega (arith, h), omega (arith, h))
+    by false other rest e2 = let r = rest e2 in (omega (arith, r.0), omega (arith, r.1))
+
+or_right : (a c : Bool) → c ≡ true → (a || c) ≡ true
+or_right true c e = refl
+or_right false c e = e
+
+or_under : (a c d : Bool) → (c ≡ true → d ≡ true) → (a || c) ≡ true → (a || d) ≡ true
+or_under true c d under e = refl
+or_under false c d under e = under e
+
+in_filter_by : (q : Bool) (x b : ℕ) (kept xs : List ℕ) → (is_in kept b ≡ true → is_in xs b ≡ true) → is_in (cond q (x ∷ kept) kept) b ≡ true → (b == x || is_in xs b) ≡ true
+in_filter_by true x b kept xs under e = or_under (b == x) (is_in kept b) (is_in xs b) under e
+in_filter_by false x b kept xs under e = or_right (b == x) (is_in xs b) (under e)
 
 in_filter : (p : ℕ → Bool) (xs : List ℕ) (b : ℕ) → is_in (filter p xs) b ≡ true → is_in xs b ≡ true
 in_filter p [] b e = e
-in_filter p (x ∷ xs) b e = by (p x) e
-  where
-    or_right : (a c : Bool) → c ≡ true → (a || c) ≡ true
-    or_right true c e2 = refl
-    or_right false c e2 = e2
-    or_under : (a c d : Bool) → (c ≡ true → d ≡ true) → (a || c) ≡ true → (a || d) ≡ true
-    or_under true c d under e2 = refl
-    or_under false c d under e2 = under e2
-    by : (q : Bool) → is_in (cond q (x ∷ filter p xs) (filter p xs)) b ≡ true → (b == x || is_in xs b) ≡ true
-    by true e2 = or_under (b == x) (is_in (filter p xs) b) (is_in xs b) (in_filter p xs b) e2
-    by false e2 = or_right (b == x) (is_in xs b) (in_filter p xs b e2)
+in_filter p (x ∷ xs) b e = in_filter_by (p x) x b (filter p xs) xs (in_filter p xs b) e
 
 pub blocking_within : (s : Standing) (wanted : Lock) (b : ℕ) → is_in (blocking s wanted) b ≡ true → (1 ≤ b) × (b ≤ s.regions)
 blocking_within s wanted b e = let r = in_numbers s.regions 1 b (in_filter (in_way s wanted) (numbers_up s.regions 1) b e) in (omega (arith, r.0), omega (arith, r.1))

@@ -5,7 +5,7 @@ use Rattle.fp_model.specs.declared.calls.Mode.{Mode}
 use Rattle.fp_model.specs.declared.calls.Mode.TheVariants.{Share, Exclusive}
 use Rattle.fp_model.specs.declared.calls.Resource.{Resource}
 use Rattle.fp_model.specs.State.{numbers_up}
-use Rattle.fp_model.specs.Waiting.{Lock, held_as, is_blocked, is_exclusive, blockers, waits, IsCycle, without_region, with_request}
+use Rattle.fp_model.specs.Waiting.{Lock, held_as, is_blocked, is_exclusive, same_resource, blockers, waits, IsCycle, without_region, with_request}
 use Rattle.ci_locks.specs.declared.locks.Grant.{Grant}
 use Rattle.ci_locks.specs.declared.locks.Grant.TheVariants as grant
 
@@ -75,3 +75,19 @@ abbrev pub requests_after : Grant → Lock → List Lock → List Lock
 requests_after grant.Held wanted requests = without_region wanted.region requests
 requests_after (grant.Wait holders) wanted requests = with_request wanted requests
 requests_after (grant.Cycle list) wanted requests = without_region wanted.region requests
+
+-- with another request of a region, or none
+abbrev pub asking : Standing → ℕ → Option Lock → Standing
+asking s region request = record s { asks = λ other. if other == region then request else s.asks other }
+
+-- with a lock gained, and no request of its region
+pub record Gains (s t : Standing) (wanted : Lock) : Type 0 where
+  pub regions : t.regions ≡ s.regions
+  pub holds : (region : ℕ) (resource : Resource) → t.holds region resource ≡ (if region == wanted.region && same_resource wanted.resource resource then Some (raised (s.holds wanted.region wanted.resource) wanted.mode) else s.holds region resource)
+  pub asks : (region : ℕ) → t.asks region ≡ (if region == wanted.region then None else s.asks region)
+
+-- with nothing of a region
+pub record Frees (s t : Standing) (region : ℕ) : Type 0 where
+  pub regions : t.regions ≡ s.regions
+  pub holds : (other : ℕ) (resource : Resource) → t.holds other resource ≡ (if other == region then None else s.holds other resource)
+  pub asks : (other : ℕ) → t.asks other ≡ (if other == region then None else s.asks other)

@@ -9,3 +9,6 @@ mod locks;
 mod search;
 
 pub use locks::{Grant, Locks};
+
+#[cfg(test)]
+mod tests;
