@@ -1,3 +1,5 @@
+pub mod Asking
 pub mod Bridge
 pub mod Regions
+pub mod Shown
 pub mod Trails

@@ -80,6 +80,11 @@ requests_after (grant.Cycle list) wanted requests = without_region wanted.region
 abbrev pub asking : Standing → ℕ → Option Lock → Standing
 asking s region request = record s { asks = λ other. if other == region then request else s.asks other }
 
+pub record Asks (s t : Standing) (region : ℕ) (request : Option Lock) : Type 0 where
+  pub regions : t.regions ≡ s.regions
+  pub holds : (other : ℕ) (resource : Resource) → t.holds other resource ≡ s.holds other resource
+  pub asks : (other : ℕ) → t.asks other ≡ (if other == region then request else s.asks other)
+
 -- with a lock gained, and no request of its region
 pub record Gains (s t : Standing) (wanted : Lock) : Type 0 where
   pub regions : t.regions ≡ s.regions

@@ -3,7 +3,7 @@ ghost use Rattle.ci_locks.specs.Graph.{Along, next};
 ghost use Rattle.ci_locks.specs.Regions.{standing_of};
 ghost use Rattle.ci_locks.specs.Table.{lock_of, standing};
 ghost use Rattle.std.specs.List.{IsDistinct};
-ghost use Rattle.ci_locks.specs.Standing.{Frees, Gains, IsGrant, asking, Shows, locks_after, requests_after};
+ghost use Rattle.ci_locks.specs.Standing.{Asks, Frees, Gains, IsGrant, asking, Shows, locks_after, requests_after};
 ghost use Rattle.fp_model.specs.Waiting.{Lock, held_as, without_region};
 ghost use Rattle.fp_model.specs.declared.calls.Resource.TheVariants.{Anchor};
 ghost use Rattle.std.specs.Prelude.{◌≡◌, ◌≤◌, ◌==◌, ◌∷◌, Some, None, MatchOption, OnOk, is_some, if◌then◌else◌, length, ℕ, List as ListOf, ◌↔◌, [], IfOk, IsSome, IsTrue, OnErr};
@@ -45,7 +45,7 @@ fn put_request(regions: &mut [Region], region: u8, request: Option<Request>) -> 
     requires some { 1 ≤ region }
     requires within { region ≤ length regions.old }
 
-    ensures after { standing_of regions.new ≡ asking (standing_of regions.old) region (lock_of region request) }
+    ensures after { Asks (standing_of regions.old) (standing_of regions.new) region (lock_of region request) }
     ensures old { lock_of region result ≡ (standing_of regions.old).asks region }
 {
     replace(&mut regions[usize::from(region) - 1].request, request)

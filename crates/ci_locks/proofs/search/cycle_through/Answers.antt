@@ -1,4 +1,4 @@
-use Rattle.std.proofs.Common.{refl, ◌≡◌, ◌∷◌, [], ◌+◌, ◌<◌, ◌≤◌, length, true, false, List, sym, ap, subst, ◌∙◌, arith, get_or, ◌++◌, ◌==◌}
+use Rattle.std.proofs.Common.{◌≡◌, ◌∷◌, [], ◌<◌, ◌≤◌, length, true, List, sym, ap, subst, ◌∙◌, arith, ◌++◌, ◌==◌}
 use Rattle.std.specs.List.{list_any}
 use Rattle.ci_locks.specs.Graph.{is_end, is_in, next}
 use Rattle.ci_locks.specs.Regions.{standing_of}
