@@ -1,5 +1,5 @@
 -- The rows that contracts see say the same as the code's regions.
-use Rattle.std.proofs.Common.{refl, ◌≡◌, ℕ, zero, suc, List, [], ◌∷◌, length, map, Bool, cond, Option, Some, None, ap, sym, ◌∙◌}
+use Rattle.std.proofs.Common.{refl, ◌≡◌, ℕ, zero, suc, List, [], ◌∷◌, length, map, Bool, cond, Option, Some, None, ap, sym, subst, ◌∙◌}
 use mathlib.Core.Path.{fun_ext}
 use Rattle.std.specs.Prelude.{slice_get}
 use Rattle.std.specs.BTreeMap.{BTreeMap, is_at}
@@ -14,8 +14,8 @@ use Rattle.fp_model.specs.Waiting.{Lock}
 use Rattle.ci_locks.specs.Holdings as code
 use Rattle.ci_locks.specs.Holdings.{holding_mode}
 use Rattle.ci_locks.specs.Regions.{region_at, region_mode, region_request, standing_of}
-use Rattle.ci_locks.specs.Standing.{Standing}
-use Rattle.ci_locks.specs.Table.{key_mode, row_of, row_mode, row_at, mode_of, request_of, standing}
+use Rattle.ci_locks.specs.Standing.{Standing, Shows}
+use Rattle.ci_locks.specs.Table.{Row, key_mode, row_of, row_mode, row_at, mode_of, request_of, standing}
 use Rattle.ci_locks.specs.declared.locks.Region.{Region}
 
 lookup_by : {K V : Type 0} (bytes : K → List ℕ) (test : List ℕ → Bool) (es : List (K × V)) → lookup test (map (λ (e : K × V). (bytes e.0, e.1)) es) ≡ lookup (λ k. test (bytes k)) es
@@ -57,3 +57,9 @@ standing_is regions =
     ap (λ n. record { regions = n; holds = λ region. mode_of (row_at (map row_of regions) region); asks = λ region. request_of region (row_at (map row_of regions) region) }) (length-map regions row_of)
     ∙ ap (λ (h : ℕ → Resource → Option Mode). record { regions = length regions; holds = h; asks = λ region. request_of region (row_at (map row_of regions) region) }) (fun_ext (λ region. fun_ext (λ resource. mode_is regions region resource)))
     ∙ ap (λ (a : ℕ → Option Lock). record { regions = length regions; holds = λ region. region_mode (region_at regions region); asks = a }) (fun_ext (λ region. request_is regions region))
+
+pub shows_code : (regions : List Region) (rows : List Row) (locks requests : List Lock) → map row_of regions ≡ rows → Shows (standing rows) locks requests → Shows (standing_of regions) locks requests
+shows_code regions rows locks requests e sh = let P : Standing → Type 0 = λ s. Shows s locks requests in subst P (ap standing (sym e) ∙ standing_is regions) sh
+
+pub shows_rows : (regions : List Region) (locks requests : List Lock) → Shows (standing_of regions) locks requests → Shows (standing (map row_of regions)) locks requests
+shows_rows regions locks requests sh = let P : Standing → Type 0 = λ s. Shows s locks requests in subst P (sym (standing_is regions)) sh

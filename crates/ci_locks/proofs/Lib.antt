@@ -1,5 +1,6 @@
 pub mod Asking
 pub mod Bridge
+pub mod Holdings
 pub mod Regions
 pub mod Shown
 pub mod Trails

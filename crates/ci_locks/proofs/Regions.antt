@@ -1,15 +1,17 @@
 -- The regions of the code, and those that stand in the way.
-use Rattle.std.proofs.Common.{refl, arith, ◌≡◌, ℕ, zero, suc, ◌+◌, ◌<◌, ◌≤◌, List, [], ◌∷◌, ◌++◌, length, filter, Bool, true, false, cond, not, ◌&&◌, ◌||◌, ◌==◌, Option, Some, None, get_or, add-one, append-nil, ap, sym, subst, ◌∙◌}
-use Rattle.std.specs.Prelude.{if◌then◌else◌, slice_get}
+use Rattle.std.proofs.Common.{refl, arith, ◌≡◌, ℕ, zero, suc, ◌+◌, ◌<◌, ◌≤◌, List, [], ◌∷◌, ◌++◌, length, filter, Bool, true, false, cond, not, ◌&&◌, ◌||◌, ◌==◌, Option, Some, None, get_or, add-one, append-nil, ⊎_elim, ap, sym, subst, ◌∙◌}
+use Rattle.std.specs.Prelude.{if◌then◌else◌, slice_get, slice_set}
 use Rattle.std.specs.List.{list_any}
+use Rattle.std.proofs.lemmas.Bool.{cases_eq}
+use Rattle.ci_locks.specs.Table.{lock_of}
 use Rattle.std.proofs.lemmas.List.Elements.{filter-append}
 use Rattle.std.proofs.lemmas.Bool.Decides.{nat_tests}
 use Rattle.fp_model.specs.State.{numbers_up}
 use Rattle.fp_model.specs.Waiting.{Lock}
 use Rattle.ci_locks.specs.Graph.{is_in, next, next_of}
 use Rattle.ci_locks.specs.Holdings.{holding_mode}
-use Rattle.ci_locks.specs.Regions.{region_at, region_mode, standing_of}
-use Rattle.ci_locks.specs.Standing.{Standing, blocking, in_way, is_in_conflict}
+use Rattle.ci_locks.specs.Regions.{region_at, region_mode, region_request, standing_of}
+use Rattle.ci_locks.specs.Standing.{Asks, Standing, blocking, in_way, is_in_conflict}
 use Rattle.ci_locks.specs.declared.locks.Region.{Region}
 
 numbers_last : (n from : ℕ) → numbers_up (suc n) from ≡ numbers_up n from ++ (from + n) ∷ []
@@ -87,3 +89,58 @@ next_within s a b e = by (s.asks a) e
     by : (o : Option Lock) → is_in (next_of s o) b ≡ true → (1 ≤ b) × (b ≤ s.regions)
     by None e2 = absurd (cc)
     by (Some wanted) e2 = blocking_within s wanted b e2
+
+-- ---- one region is changed
+
+set_here : (regions : List Region) (place : ℕ) (next : Region) → place < length regions → slice_get (slice_set regions place next) place ≡ Some next
+set_here [] place next h = absurd (omega (arith, h))
+set_here (x ∷ xs) zero next h = refl
+set_here (x ∷ xs) (suc place) next h = set_here xs place next (omega (arith, h))
+
+set_other : (regions : List Region) (place other : ℕ) (next : Region) → (other ≡ place → ⊥) → slice_get (slice_set regions place next) other ≡ slice_get regions other
+set_other [] place other next ne = refl
+set_other (x ∷ xs) zero zero next ne = absurd (ne refl)
+set_other (x ∷ xs) zero (suc other) next ne = refl
+set_other (x ∷ xs) (suc place) zero next ne = refl
+set_other (x ∷ xs) (suc place) (suc other) next ne = set_other xs place other next (λ e. ne (ap suc e))
+
+set_long : (regions : List Region) (place : ℕ) (next : Region) → length (slice_set regions place next) ≡ length regions
+set_long [] place next = refl
+set_long (x ∷ xs) zero next = refl
+set_long (x ∷ xs) (suc place) next = ap suc (set_long xs place next)
+
+at_here : (regions : List Region) (place region : ℕ) (next : Region) → place < length regions → region ≡ suc place → region_at (slice_set regions place next) region ≡ Some next
+at_here regions place region next h e = ap (region_at (slice_set regions place next)) e ∙ set_here regions place next h
+
+at_other : (regions : List Region) (place region other : ℕ) (next : Region) → region ≡ suc place → (other ≡ region → ⊥) → region_at (slice_set regions place next) other ≡ region_at regions other
+at_other regions place region zero next e ne = refl
+at_other regions place region (suc other) next e ne = set_other regions place other next (λ same. ne (ap suc same ∙ sym e))
+
+pub at_old : (regions : List Region) (place region : ℕ) (r : Region) → place < length regions → region ≡ suc place → r ≡ get_or regions place r → region_at regions region ≡ Some r
+at_old regions place region r h e is = ap (region_at regions) e ∙ get_here regions place r h is
+
+pub asked : (regions : List Region) (place region : ℕ) (r next : Region) → place < length regions → region ≡ suc place → r ≡ get_or regions place r → next.held ≡ r.held
+    → Asks (standing_of regions) (standing_of (slice_set regions place next)) region (lock_of region next.request)
+asked regions place region r next h e is same = record {
+  regions = set_long regions place next;
+  holds = λ other resource. ⊎_elim
+      (λ (here : other ≡ region).
+        ap (λ n. region_mode (region_at (slice_set regions place next) n) resource) here
+        ∙ ap (λ o. region_mode o resource) (at_here regions place region next h e)
+        ∙ ap (λ held. holding_mode held resource) same
+        ∙ sym (ap (λ o. region_mode o resource) (at_old regions place region r h e is))
+        ∙ sym (ap (λ n. region_mode (region_at regions n) resource) here))
+      (λ (ne : other ≡ region → ⊥). ap (λ o. region_mode o resource) (at_other regions place region other next e ne))
+      (cases_eq other region);
+  asks = λ other. ⊎_elim
+      (λ (here : other ≡ region).
+        let t : (other == region) ≡ true = grind (arith, nat_tests) in
+        ap (λ n. region_request n (region_at (slice_set regions place next) n)) here
+        ∙ ap (region_request region) (at_here regions place region next h e)
+        ∙ sym (ap (λ b. if b then lock_of region next.request else region_request other (region_at regions other)) t))
+      (λ (ne : other ≡ region → ⊥).
+        let t : (other == region) ≡ false = grind (arith, nat_tests) in
+        ap (region_request other) (at_other regions place region other next e ne)
+        ∙ sym (ap (λ b. if b then lock_of region next.request else region_request other (region_at regions other)) t))
+      (cases_eq other region)
+}

@@ -121,13 +121,13 @@ module _ (s : Standing) (locks requests : List Lock) (shows : Shows s locks requ
   -- a lock in the way shows in what its region holds
   lock_counts : (wanted lock : Lock) → In locks lock → conflicts wanted lock ≡ true → in_way s wanted lock.region ≡ true
   lock_counts wanted lock i e =
-      let p = both (not (lock.region == wanted.region)) (same_resource lock.resource wanted.resource && (is_exclusive lock.mode || is_exclusive wanted.mode)) e in
-      let q = both (same_resource lock.resource wanted.resource) (is_exclusive lock.mode || is_exclusive wanted.mode) p.1 in
+      let o = both (not (lock.region == wanted.region) && same_resource lock.resource wanted.resource) (is_exclusive lock.mode || is_exclusive wanted.mode) e in
+      let p = both (not (lock.region == wanted.region)) (same_resource lock.resource wanted.resource) o.0 in
       let here = held_some locks lock i in
-      let same : lock.resource ≡ wanted.resource = resource_is lock.resource wanted.resource q.0 in
+      let same : lock.resource ≡ wanted.resource = resource_is lock.resource wanted.resource p.1 in
       let held : s.holds lock.region wanted.resource ≡ Some here.0 = ap (s.holds lock.region) (sym same) ∙ sym (shows.held lock.region lock.resource) ∙ here.1 in
       and_true (not (lock.region == wanted.region)) (is_in_conflict (s.holds lock.region wanted.resource) wanted.mode) p.0
-          (by lock.mode wanted.mode here.0 q.1 held (λ x. ap (s.holds lock.region) (sym same) ∙ shows.strongest lock (from_in locks lock i) x))
+          (by lock.mode wanted.mode here.0 o.1 held (λ x. ap (s.holds lock.region) (sym same) ∙ shows.strongest lock (from_in locks lock i) x))
     where
       by : (mode asked found : Mode) → (is_exclusive mode || is_exclusive asked) ≡ true → s.holds lock.region wanted.resource ≡ Some found
           → (mode ≡ Exclusive → s.holds lock.region wanted.resource ≡ Some Exclusive) → is_in_conflict (s.holds lock.region wanted.resource) asked ≡ true
@@ -148,8 +148,8 @@ module _ (s : Standing) (locks requests : List Lock) (shows : Shows s locks requ
       by (Some mode) is e2 apart =
           let lock : Lock = record { region = region; resource = wanted.resource; mode = mode } in
           (lock, held_in locks region wanted.resource mode (shows.held region wanted.resource ∙ is), refl,
-            and_true (not (region == wanted.region)) (same_resource wanted.resource wanted.resource && (is_exclusive mode || is_exclusive wanted.mode)) apart
-            (and_true (same_resource wanted.resource wanted.resource) (is_exclusive mode || is_exclusive wanted.mode) (is_resource wanted.resource) e2))
+            and_true (not (region == wanted.region) && same_resource wanted.resource wanted.resource) (is_exclusive mode || is_exclusive wanted.mode)
+            (and_true (not (region == wanted.region)) (same_resource wanted.resource wanted.resource) apart (is_resource wanted.resource)) e2)
 
   -- the regions in the way, by the lists and by what stands
   pub same_way : (wanted : Lock) (region : ℕ) → list_any (λ lock. lock.region == region && conflicts wanted lock) locks ≡ in_way s wanted region
@@ -166,3 +166,83 @@ module _ (s : Standing) (locks requests : List Lock) (shows : Shows s locks requ
 
   pub held_is : (region : ℕ) (resource : Resource) → s.holds region resource ≡ held_as locks region resource
   held_is region resource = sym (shows.held region resource)
+
+-- ---- a region is freed
+
+in_filter : (p : Lock → Bool) (xs : List Lock) (x : Lock) → In (filter p xs) x → In xs x × (p x ≡ true)
+in_filter p [] x i = absurd i
+in_filter p (y ∷ ys) x i = by (p y) refl i (in_filter p ys x)
+  where
+    by : (b : Bool) → p y ≡ b → In (cond b (y ∷ filter p ys) (filter p ys)) x → (In (filter p ys) x → In ys x × (p x ≡ true)) → ((y ≡ x) ⊎ In ys x) × (p x ≡ true)
+    by true is (inl same) rest = (inl same, ap p (sym same) ∙ is)
+    by true is (inr j) rest = let r = rest j in (inr r.0, r.1)
+    by false is j rest = let r = rest j in (inr r.0, r.1)
+
+filter_in : (p : Lock → Bool) (xs : List Lock) (x : Lock) → In xs x → p x ≡ true → In (filter p xs) x
+filter_in p [] x i e = absurd i
+filter_in p (y ∷ ys) x i e = by (p y) refl i (λ j. filter_in p ys x j e)
+  where
+    by : (b : Bool) → p y ≡ b → (y ≡ x) ⊎ In ys x → (In ys x → In (filter p ys) x) → In (cond b (y ∷ filter p ys) (filter p ys)) x
+    by true is (inl same) rest = inl same
+    by true is (inr j) rest = inr (rest j)
+    by false is (inl same) rest = absurd (let t : p y ≡ true = ap p same ∙ e in cc)
+    by false is (inr j) rest = rest j
+
+held_without : (region : ℕ) (locks : List Lock) (other : ℕ) (resource : Resource) → held_as (without_region region locks) other resource ≡ (if other == region then None else held_as locks other resource)
+held_without region [] other resource = by (other == region) None
+  where
+    by : (b : Bool) (o : Option Mode) → o ≡ (if b then o else o)
+    by true o = refl
+    by false o = refl
+held_without region (l ∷ ls) other resource = by (l.region == region) (other == region) refl refl (held_without region ls other resource)
+  where
+    one : (b c : Bool) → b ≡ false → (x y : Option Mode) → (if b && c then x else y) ≡ y
+    one true c e x y = absurd (cc)
+    one false c e x y = refl
+    by : (b c : Bool) → (l.region == region) ≡ b → (other == region) ≡ c
+        → held_as (without_region region ls) other resource ≡ (if c then None else held_as ls other resource)
+        → held_as (cond (not b) (l ∷ without_region region ls) (without_region region ls)) other resource ≡ (if c then None else (if l.region == other && same_resource l.resource resource then Some l.mode else held_as ls other resource))
+    by true true is here rest = rest
+    by true false is apart rest =
+        let h : l.region ≡ region = number_is l.region region is in
+        let o : (l.region == other) ≡ false = grind (arith, nat_tests) in
+        rest ∙ sym (one (l.region == other) (same_resource l.resource resource) o (Some l.mode) (held_as ls other resource))
+    by false true is here rest =
+        let h : other ≡ region = number_is other region here in
+        let o : (l.region == other) ≡ false = grind (arith, nat_tests) in
+        one (l.region == other) (same_resource l.resource resource) o (Some l.mode) (held_as (without_region region ls) other resource) ∙ rest
+    by false false is apart rest = ap (λ v. if l.region == other && same_resource l.resource resource then Some l.mode else v) rest
+
+not_true : (b : Bool) → not b ≡ true → b ≡ false
+not_true true e = absurd (cc)
+not_true false e = refl
+
+false_not : (b : Bool) → b ≡ false → not b ≡ true
+false_not true e = absurd (cc)
+false_not false e = refl
+
+pub freed : (s t : Standing) (region : ℕ) (locks requests : List Lock) → Frees s t region → Shows s locks requests → Shows t (without_region region locks) (without_region region requests)
+freed s t region locks requests frees sh = record {
+  held = λ other resource. held_without region locks other resource ∙ ap (λ v. if other == region then None else v) (sh.held other resource) ∙ sym (frees.holds other resource);
+  strongest = λ lock c e. let i = in_filter (λ l. not (l.region == region)) locks lock (to_in _ lock c) in
+      frees.holds lock.region lock.resource ∙ ap (λ b. if b then None else s.holds lock.region lock.resource) (not_true (lock.region == region) i.1) ∙ sh.strongest lock (from_in locks lock i.0) e;
+  within = λ lock c. let i = in_filter (λ l. not (l.region == region)) locks lock (to_in _ lock c) in
+      let w = sh.within lock (from_in locks lock i.0) in (w.0, let r : t.regions ≡ s.regions = frees.regions in omega (arith, w.1, r));
+  standing = λ request. (
+      (λ c. let i = in_filter (λ l. not (l.region == region)) requests request (to_in _ request c) in
+          frees.asks request.region ∙ ap (λ b. if b then None else s.asks request.region) (not_true (request.region == region) i.1) ∙ (sh.standing request).0 (from_in requests request i.0)),
+      (λ e. by request (request.region == region) refl (sym (frees.asks request.region) ∙ e)))
+}
+  where
+    by : (request : Lock) (b : Bool) → (request.region == region) ≡ b → (if b then None else s.asks request.region) ≡ Some request → Contains (without_region region requests) request
+    by request true is e = absurd (cc)
+    by request false is e = from_in (without_region region requests) request (filter_in (λ l. not (l.region == region)) requests request (to_in requests request ((sh.standing request).1 e)) (false_not (request.region == region) is))
+
+-- nothing is held, and nothing asked for
+pub nothing : (s : Standing) → ((region : ℕ) (resource : Resource) → s.holds region resource ≡ None) → ((region : ℕ) → s.asks region ≡ None) → Shows s [] []
+nothing s holds asks = record {
+  held = λ region resource. sym (holds region resource);
+  strongest = λ lock c e. absurd (to_in [] lock c);
+  within = λ lock c. absurd (to_in [] lock c);
+  standing = λ request. ((λ c. absurd (to_in [] request c)), (λ e. absurd (let n = asks request.region in cc)))
+}
