@@ -1,5 +1,5 @@
 -- A request that is put and taken back.
-use Rattle.std.proofs.Common.{refl, arith, ◌≡◌, ◌≢◌, ℕ, Bool, true, false, ◌==◌, Option, Some, None, ap, sym, subst, ◌∙◌}
+use Rattle.std.proofs.Common.{refl, arith, ◌≡◌, ℕ, Bool, true, false, ◌==◌, Option, ap, sym, ◌∙◌}
 use mathlib.Core.Path.{fun_ext}
 use Rattle.std.specs.Prelude.{if◌then◌else◌}
 use Rattle.fp_model.specs.declared.calls.Mode.{Mode}

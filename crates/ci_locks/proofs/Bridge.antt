@@ -1,5 +1,5 @@
 -- The rows that contracts see say the same as the code's regions.
-use Rattle.std.proofs.Common.{refl, ◌≡◌, ℕ, zero, suc, List, [], ◌∷◌, length, map, Bool, cond, Option, Some, None, ap, sym, subst, ◌∙◌}
+use Rattle.std.proofs.Common.{refl, ◌≡◌, ℕ, zero, suc, List, [], ◌∷◌, length, map, Bool, cond, Option, Some, ap, sym, subst, ◌∙◌}
 use mathlib.Core.Path.{fun_ext}
 use Rattle.std.specs.Prelude.{slice_get}
 use Rattle.std.specs.BTreeMap.{BTreeMap, is_at}

@@ -1,7 +1,6 @@
 -- The regions of the code, and those that stand in the way.
-use Rattle.std.proofs.Common.{refl, arith, ◌≡◌, ℕ, zero, suc, ◌+◌, ◌<◌, ◌≤◌, List, [], ◌∷◌, ◌++◌, length, filter, Bool, true, false, cond, not, ◌&&◌, ◌||◌, ◌==◌, Option, Some, None, get_or, add-one, append-nil, ⊎_elim, ap, sym, subst, ◌∙◌}
+use Rattle.std.proofs.Common.{refl, arith, ◌≡◌, ℕ, zero, suc, ◌+◌, ◌<◌, ◌≤◌, List, [], ◌∷◌, ◌++◌, length, filter, Bool, true, false, cond, not, ◌&&◌, ◌||◌, ◌==◌, Option, Some, None, get_or, add-one, append-nil, ⊎_elim, ap, sym, ◌∙◌}
 use Rattle.std.specs.Prelude.{if◌then◌else◌, slice_get, slice_set}
-use Rattle.std.specs.List.{list_any}
 use Rattle.std.proofs.lemmas.Bool.{cases_eq}
 use Rattle.ci_locks.specs.Table.{lock_of}
 use Rattle.std.proofs.lemmas.List.Elements.{filter-append}
@@ -144,3 +143,14 @@ asked regions place region r next h e is same = record {
         ∙ sym (ap (λ b. if b then lock_of region next.request else region_request other (region_at regions other)) t))
       (cases_eq other region)
 }
+
+get_push : (P : Option Region → Type 0) (regions : List Region) (r : Region) (place : ℕ) → P (slice_get regions place) → P (Some r) → P (slice_get (regions ++ r ∷ []) place)
+get_push P [] r zero old one = one
+get_push P [] r (suc place) old one = old
+get_push P (x ∷ xs) r zero old one = old
+get_push P (x ∷ xs) r (suc place) old one = get_push P xs r place old one
+
+-- what holds of each region and of none holds with one more
+pub at_push : (P : Option Region → Type 0) (regions : List Region) (r : Region) (region : ℕ) → P (region_at regions region) → P (Some r) → P (region_at (regions ++ r ∷ []) region)
+at_push P regions r zero old one = old
+at_push P regions r (suc place) old one = get_push P regions r place old one

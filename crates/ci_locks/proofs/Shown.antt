@@ -1,6 +1,6 @@
 -- Lists of locks and requests, and what stands.
-use Rattle.std.proofs.Common.{refl, arith, ◌≡◌, ◌≢◌, ℕ, zero, suc, ◌+◌, ◌<◌, ◌≤◌, List, [], ◌∷◌, ◌++◌, length, map, filter, Bool, true, false, cond, not, ◌&&◌, ◌||◌, ◌==◌, Option, Some, None, inl, inr, ◌⊎◌, ⊎_elim, ap, sym, subst, ◌∙◌}
-use Rattle.std.specs.Prelude.{if◌then◌else◌, Contains, ◌↔◌, slice_index_or, flat_map}
+use Rattle.std.proofs.Common.{refl, arith, ◌≡◌, ℕ, zero, suc, ◌<◌, List, [], ◌∷◌, length, filter, Bool, true, false, cond, not, ◌&&◌, ◌||◌, ◌==◌, Option, Some, None, inl, inr, ◌⊎◌, ap, sym, subst, ◌∙◌}
+use Rattle.std.specs.Prelude.{if◌then◌else◌, Contains, slice_index_or}
 use Rattle.std.specs.List.{list_any}
 use Rattle.std.specs.Cmp.Lexicographic.{bytes_decides}
 use Rattle.std.proofs.lemmas.Bool.Decides.{nat_tests}
@@ -11,8 +11,7 @@ use Rattle.fp_model.specs.declared.calls.Resource.{Resource}
 use Rattle.fp_model.specs.declared.calls.Resource.TheVariants.{Segment, Anchor}
 use Rattle.fp_model.specs.State.{numbers_up}
 use Rattle.fp_model.specs.Texts.{same_text}
-use Rattle.fp_model.specs.Waiting.{Lock, held_as, conflicts, is_exclusive, same_resource, blockers, is_blocked, waits, without_region, with_request, WaitsAlong, IsCycle}
-use Rattle.ci_locks.specs.Graph.{Along, is_in, next}
+use Rattle.fp_model.specs.Waiting.{Lock, held_as, conflicts, is_exclusive, same_resource, blockers, without_region}
 use Rattle.ci_locks.specs.Standing.{Standing, Shows, Frees, blocking, in_way, is_in_conflict}
 
 -- ---- elements

@@ -10,7 +10,6 @@ use Rattle.fp_model.specs.declared.calls.Resource.TheVariants.{Segment, Anchor}
 use Rattle.fp_model.specs.Waiting.{Lock}
 use Rattle.ci_locks.specs.Holdings.{anchor_cmp}
 use Rattle.ci_locks.specs.Standing.{Standing}
-use Rattle.ci_locks.specs.declared.holding.Holding.{Holding}
 use Rattle.ci_locks.specs.declared.locks.Region.{Region}
 use Rattle.ci_locks.specs.declared.locks.Request.{Request}
 
