@@ -51,7 +51,6 @@ request_is : (regions : List Region) (region : ℕ) → request_of region (row_a
 request_is regions zero = refl
 request_is regions (suc place) = request_at regions place (suc place)
 
-
 pub standing_is : (regions : List Region) → standing (map row_of regions) ≡ standing_of regions
 standing_is regions =
     ap (λ n. record { regions = n; holds = λ region. mode_of (row_at (map row_of regions) region); asks = λ region. request_of region (row_at (map row_of regions) region) }) (length-map regions row_of)

@@ -59,7 +59,7 @@ flipped a b = by (same_text a b) (same_text b a) (λ e. is_same b a (sym (same_i
 module _ {K : Type 0} (bytes : K → List ℕ) where
   pub lookup_put : (es : List (K × Mode)) (key : K) (mode : Mode) (k : List ℕ)
       → lookup (λ v. is_eq (slice_cmp nat_cmp k (bytes v))) (insert_entry (λ a b. slice_cmp nat_cmp (bytes a) (bytes b)) es key mode)
-        ≡ cond (same_text (bytes key) k) (Some mode) (lookup (λ v. is_eq (slice_cmp nat_cmp k (bytes v))) es)
+      ≡ cond (same_text (bytes key) k) (Some mode) (lookup (λ v. is_eq (slice_cmp nat_cmp k (bytes v))) es)
   lookup_put [] key mode k = ap (λ b. cond b (Some mode) None) (text_test k (bytes key) ∙ flipped k (bytes key))
   lookup_put (e ∷ es) key mode k = by (slice_cmp nat_cmp (bytes key) (bytes e.0)) refl (lookup_put es key mode k)
     where
@@ -68,26 +68,28 @@ module _ {K : Type 0} (bytes : K → List ℕ) where
       three true false a m r e2 = absurd (cc)
       three false true a m r e2 = absurd (cc)
       three false false a m r e2 = refl
+
       swap : (t s : Bool) (a m r : Option Mode) → (t ≡ true → s ≡ true → ⊥) → cond t a (cond s m r) ≡ cond s m (cond t a r)
       swap true true a m r ne = absurd (ne refl refl)
       swap true false a m r ne = refl
       swap false s a m r ne = refl
+
       by : (o : Ordering) → slice_cmp nat_cmp (bytes key) (bytes e.0) ≡ o
           → lookup (λ v. is_eq (slice_cmp nat_cmp k (bytes v))) (insert_entry (λ a b. slice_cmp nat_cmp (bytes a) (bytes b)) es key mode) ≡ cond (same_text (bytes key) k) (Some mode) (lookup (λ v. is_eq (slice_cmp nat_cmp k (bytes v))) es)
           → lookup (λ v. is_eq (slice_cmp nat_cmp k (bytes v))) (match_ordering o ((key, mode) ∷ e ∷ es) ((e.0, mode) ∷ es) (e ∷ insert_entry (λ a b. slice_cmp nat_cmp (bytes a) (bytes b)) es key mode))
-            ≡ cond (same_text (bytes key) k) (Some mode) (cond (is_eq (slice_cmp nat_cmp k (bytes e.0))) (Some e.1) (lookup (λ v. is_eq (slice_cmp nat_cmp k (bytes v))) es))
+          ≡ cond (same_text (bytes key) k) (Some mode) (cond (is_eq (slice_cmp nat_cmp k (bytes e.0))) (Some e.1) (lookup (λ v. is_eq (slice_cmp nat_cmp k (bytes v))) es))
       by Less is rest = ap (λ b. cond b (Some mode) (cond (is_eq (slice_cmp nat_cmp k (bytes e.0))) (Some e.1) (lookup (λ v. is_eq (slice_cmp nat_cmp k (bytes v))) es))) (text_test k (bytes key) ∙ flipped k (bytes key))
       by Equal is rest =
           let same : bytes key ≡ bytes e.0 = same_is (bytes key) (bytes e.0) (sym (text_test (bytes key) (bytes e.0)) ∙ ap is_eq is) in
           three (is_eq (slice_cmp nat_cmp k (bytes e.0))) (same_text (bytes key) k) (Some e.1) (Some mode) (lookup (λ v. is_eq (slice_cmp nat_cmp k (bytes v))) es)
-            (text_test k (bytes e.0) ∙ flipped k (bytes e.0) ∙ ap (λ t. same_text t k) (sym same))
+          (text_test k (bytes e.0) ∙ flipped k (bytes e.0) ∙ ap (λ t. same_text t k) (sym same))
       by Greater is rest =
           ap (cond (is_eq (slice_cmp nat_cmp k (bytes e.0))) (Some e.1)) rest
           ∙ swap (is_eq (slice_cmp nat_cmp k (bytes e.0))) (same_text (bytes key) k) (Some e.1) (Some mode) (lookup (λ v. is_eq (slice_cmp nat_cmp k (bytes v))) es)
-            (λ t s. let here : k ≡ bytes e.0 = same_is k (bytes e.0) (sym (text_test k (bytes e.0)) ∙ t) in
-                let there : bytes key ≡ k = same_is (bytes key) k s in
-                let yes : is_eq Greater ≡ true = ap is_eq (sym is) ∙ text_test (bytes key) (bytes e.0) ∙ is_same (bytes key) (bytes e.0) (there ∙ here) in
-                let no : false ≡ true = yes in cc)
+          (λ t s. let here : k ≡ bytes e.0 = same_is k (bytes e.0) (sym (text_test k (bytes e.0)) ∙ t) in
+          let there : bytes key ≡ k = same_is (bytes key) k s in
+          let yes : is_eq Greater ≡ true = ap is_eq (sym is) ∙ text_test (bytes key) (bytes e.0) ∙ is_same (bytes key) (bytes e.0) (there ∙ here) in
+          let no : false ≡ true = yes in cc)
 
   key_here : (tables : List (BTreeMap K Mode)) (m : ℕ) (new : BTreeMap K Mode) (k : List ℕ) → m < length tables → key_mode bytes k (slice_get (slice_set tables m new) m) ≡ get_by (λ other. slice_cmp nat_cmp k (bytes other)) new
   key_here [] m new k h = absurd (omega (arith, h))
@@ -114,18 +116,18 @@ module _ {K : Type 0} (bytes : K → List ℕ) where
       sym (ap (λ r. if same_resource r (Anchor e b) then Some mode else mode_in bytes anchors tables (Anchor e b)) is)
   put_segment anchors tables old new resource m text key mode is spelled h was entries (Segment n k) =
       ⊎_elim
-        (λ (e : n ≡ m).
-          let yes : (m == n) ≡ true = grind arith in
-          ap (λ i. key_mode bytes k (slice_get (slice_set tables m new) i)) e
-          ∙ key_here tables m new k h
-          ∙ ap (λ es. lookup (λ v. is_eq (slice_cmp nat_cmp k (bytes v))) es) entries
-          ∙ lookup_put old.entries key mode k
-          ∙ ap (λ t. cond (same_text t k) (Some mode) (lookup (λ v. is_eq (slice_cmp nat_cmp k (bytes v))) old.entries)) spelled
-          ∙ ap (λ v. cond (same_text text k) (Some mode) v) (sym (key_old tables m old k h was) ∙ sym (ap (λ i. key_mode bytes k (slice_get tables i)) e))
-          ∙ sym (ap (λ b. cond (b && same_text text k) (Some mode) (mode_in bytes anchors tables (Segment n k))) yes))
-        (λ (ne : n ≡ m → ⊥).
-          let no : (m == n) ≡ false = grind (arith, nat_tests) in
-          ap (key_mode bytes k) (get_other tables m n new ne)
-          ∙ sym (ap (λ b. cond (b && same_text text k) (Some mode) (mode_in bytes anchors tables (Segment n k))) no))
-        (cases_eq n m)
+      (λ (e : n ≡ m).
+      let yes : (m == n) ≡ true = grind arith in
+      ap (λ i. key_mode bytes k (slice_get (slice_set tables m new) i)) e
+      ∙ key_here tables m new k h
+      ∙ ap (λ es. lookup (λ v. is_eq (slice_cmp nat_cmp k (bytes v))) es) entries
+      ∙ lookup_put old.entries key mode k
+      ∙ ap (λ t. cond (same_text t k) (Some mode) (lookup (λ v. is_eq (slice_cmp nat_cmp k (bytes v))) old.entries)) spelled
+      ∙ ap (λ v. cond (same_text text k) (Some mode) v) (sym (key_old tables m old k h was) ∙ sym (ap (λ i. key_mode bytes k (slice_get tables i)) e))
+      ∙ sym (ap (λ b. cond (b && same_text text k) (Some mode) (mode_in bytes anchors tables (Segment n k))) yes))
+      (λ (ne : n ≡ m → ⊥).
+      let no : (m == n) ≡ false = grind (arith, nat_tests) in
+      ap (key_mode bytes k) (get_other tables m n new ne)
+      ∙ sym (ap (λ b. cond (b && same_text text k) (Some mode) (mode_in bytes anchors tables (Segment n k))) no))
+      (cases_eq n m)
       ∙ sym (ap (λ r. if same_resource r (Segment n k) then Some mode else mode_in bytes anchors tables (Segment n k)) is)

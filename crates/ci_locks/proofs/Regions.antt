@@ -6,11 +6,12 @@ use Rattle.ci_locks.specs.Table.{lock_of}
 use Rattle.std.proofs.lemmas.List.Elements.{filter-append}
 use Rattle.std.proofs.lemmas.Bool.Decides.{nat_tests}
 use Rattle.fp_model.specs.State.{numbers_up}
-use Rattle.fp_model.specs.Waiting.{Lock}
+use Rattle.fp_model.specs.Waiting.{Lock, same_resource}
+use Rattle.fp_model.specs.declared.calls.Resource.{Resource}
 use Rattle.ci_locks.specs.Graph.{is_in, next, next_of}
 use Rattle.ci_locks.specs.Holdings.{holding_mode}
 use Rattle.ci_locks.specs.Regions.{region_at, region_mode, region_request, standing_of}
-use Rattle.ci_locks.specs.Standing.{Asks, Standing, blocking, in_way, is_in_conflict}
+use Rattle.ci_locks.specs.Standing.{Asks, Gains, Standing, blocking, in_way, is_in_conflict, raised}
 use Rattle.ci_locks.specs.declared.locks.Region.{Region}
 
 numbers_last : (n from : ℕ) → numbers_up (suc n) from ≡ numbers_up n from ++ (from + n) ∷ []
@@ -124,24 +125,24 @@ asked regions place region r next h e is same = record {
   regions = set_long regions place next;
   holds = λ other resource. ⊎_elim
       (λ (here : other ≡ region).
-        ap (λ n. region_mode (region_at (slice_set regions place next) n) resource) here
-        ∙ ap (λ o. region_mode o resource) (at_here regions place region next h e)
-        ∙ ap (λ held. holding_mode held resource) same
-        ∙ sym (ap (λ o. region_mode o resource) (at_old regions place region r h e is))
-        ∙ sym (ap (λ n. region_mode (region_at regions n) resource) here))
+      ap (λ n. region_mode (region_at (slice_set regions place next) n) resource) here
+      ∙ ap (λ o. region_mode o resource) (at_here regions place region next h e)
+      ∙ ap (λ held. holding_mode held resource) same
+      ∙ sym (ap (λ o. region_mode o resource) (at_old regions place region r h e is))
+      ∙ sym (ap (λ n. region_mode (region_at regions n) resource) here))
       (λ (ne : other ≡ region → ⊥). ap (λ o. region_mode o resource) (at_other regions place region other next e ne))
       (cases_eq other region);
   asks = λ other. ⊎_elim
       (λ (here : other ≡ region).
-        let t : (other == region) ≡ true = grind (arith, nat_tests) in
-        ap (λ n. region_request n (region_at (slice_set regions place next) n)) here
-        ∙ ap (region_request region) (at_here regions place region next h e)
-        ∙ sym (ap (λ b. if b then lock_of region next.request else region_request other (region_at regions other)) t))
+      let t : (other == region) ≡ true = grind (arith, nat_tests) in
+      ap (λ n. region_request n (region_at (slice_set regions place next) n)) here
+      ∙ ap (region_request region) (at_here regions place region next h e)
+      ∙ sym (ap (λ b. if b then lock_of region next.request else region_request other (region_at regions other)) t))
       (λ (ne : other ≡ region → ⊥).
-        let t : (other == region) ≡ false = grind (arith, nat_tests) in
-        ap (region_request other) (at_other regions place region other next e ne)
-        ∙ sym (ap (λ b. if b then lock_of region next.request else region_request other (region_at regions other)) t))
-      (cases_eq other region)
+      let t : (other == region) ≡ false = grind (arith, nat_tests) in
+      ap (region_request other) (at_other regions place region other next e ne)
+      ∙ sym (ap (λ b. if b then lock_of region next.request else region_request other (region_at regions other)) t))
+      (cases_eq other region);
 }
 
 get_push : (P : Option Region → Type 0) (regions : List Region) (r : Region) (place : ℕ) → P (slice_get regions place) → P (Some r) → P (slice_get (regions ++ r ∷ []) place)
@@ -154,3 +155,40 @@ get_push P (x ∷ xs) r (suc place) old one = get_push P xs r place old one
 pub at_push : (P : Option Region → Type 0) (regions : List Region) (r : Region) (region : ℕ) → P (region_at regions region) → P (Some r) → P (region_at (regions ++ r ∷ []) region)
 at_push P regions r zero old one = old
 at_push P regions r (suc place) old one = get_push P regions r place old one
+
+-- a lock gained in one region, whose request goes
+pub gained : (regions : List Region) (place : ℕ) (r next : Region) (wanted : Lock) → place < length regions → wanted.region ≡ suc place → r ≡ get_or regions place r
+    → ((resource : Resource) → holding_mode next.held resource ≡ (if same_resource wanted.resource resource then Some (raised (holding_mode r.held wanted.resource) wanted.mode) else holding_mode r.held resource))
+    → next.request ≡ None → Gains (standing_of regions) (standing_of (slice_set regions place next)) wanted
+gained regions place r next wanted h e is modes none = record {
+  regions = set_long regions place next;
+  holds = λ other resource.
+      let old : region_mode (region_at regions wanted.region) wanted.resource ≡ holding_mode r.held wanted.resource = ap (λ o. region_mode o wanted.resource) (at_old regions place wanted.region r h e is) in
+      ⊎_elim
+      (λ (here : other ≡ wanted.region).
+      let t : (other == wanted.region) ≡ true = grind (arith, nat_tests) in
+      ap (λ n. region_mode (region_at (slice_set regions place next) n) resource) here
+      ∙ ap (λ o. region_mode o resource) (at_here regions place wanted.region next h e)
+      ∙ modes resource
+      ∙ ap (λ m. if same_resource wanted.resource resource then Some (raised m wanted.mode) else holding_mode r.held resource) (sym old)
+      ∙ ap (λ m. if same_resource wanted.resource resource then Some (raised (region_mode (region_at regions wanted.region) wanted.resource) wanted.mode) else m)
+      (sym (ap (λ o. region_mode o resource) (at_old regions place wanted.region r h e is)) ∙ sym (ap (λ n. region_mode (region_at regions n) resource) here))
+      ∙ sym (ap (λ b. if b && same_resource wanted.resource resource then Some (raised (region_mode (region_at regions wanted.region) wanted.resource) wanted.mode) else region_mode (region_at regions other) resource) t))
+      (λ (ne : other ≡ wanted.region → ⊥).
+      let t : (other == wanted.region) ≡ false = grind (arith, nat_tests) in
+      ap (λ o. region_mode o resource) (at_other regions place wanted.region other next e ne)
+      ∙ sym (ap (λ b. if b && same_resource wanted.resource resource then Some (raised (region_mode (region_at regions wanted.region) wanted.resource) wanted.mode) else region_mode (region_at regions other) resource) t))
+      (cases_eq other wanted.region);
+  asks = λ other. ⊎_elim
+      (λ (here : other ≡ wanted.region).
+      let t : (other == wanted.region) ≡ true = grind (arith, nat_tests) in
+      ap (λ n. region_request n (region_at (slice_set regions place next) n)) here
+      ∙ ap (region_request wanted.region) (at_here regions place wanted.region next h e)
+      ∙ ap (lock_of wanted.region) none
+      ∙ sym (ap (λ b. if b then None else region_request other (region_at regions other)) t))
+      (λ (ne : other ≡ wanted.region → ⊥).
+      let t : (other == wanted.region) ≡ false = grind (arith, nat_tests) in
+      ap (region_request other) (at_other regions place wanted.region other next e ne)
+      ∙ sym (ap (λ b. if b then None else region_request other (region_at regions other)) t))
+      (cases_eq other wanted.region);
+}

@@ -86,8 +86,8 @@ held_in (l ∷ ls) region resource mode e = by (l.region == region && same_resou
         let p = both (l.region == region) (same_resource l.resource resource) is in
         let m : l.mode ≡ mode = cc in
         inl (ap (λ r. record { region = r; resource = l.resource; mode = l.mode }) (number_is l.region region p.0)
-          ∙ ap (λ r. record { region = region; resource = r; mode = l.mode }) (resource_is l.resource resource p.1)
-          ∙ ap (λ r. record { region = region; resource = resource; mode = r }) m)
+        ∙ ap (λ r. record { region = region; resource = r; mode = l.mode }) (resource_is l.resource resource p.1)
+        ∙ ap (λ r. record { region = region; resource = resource; mode = r }) m)
     by false is e2 rest = inr (rest e2)
 
 any_in : (p : Lock → Bool) (locks : List Lock) (lock : Lock) → In locks lock → p lock ≡ true → list_any p locks ≡ true
@@ -126,7 +126,7 @@ module _ (s : Standing) (locks requests : List Lock) (shows : Shows s locks requ
       let same : lock.resource ≡ wanted.resource = resource_is lock.resource wanted.resource p.1 in
       let held : s.holds lock.region wanted.resource ≡ Some here.0 = ap (s.holds lock.region) (sym same) ∙ sym (shows.held lock.region lock.resource) ∙ here.1 in
       and_true (not (lock.region == wanted.region)) (is_in_conflict (s.holds lock.region wanted.resource) wanted.mode) p.0
-          (by lock.mode wanted.mode here.0 o.1 held (λ x. ap (s.holds lock.region) (sym same) ∙ shows.strongest lock (from_in locks lock i) x))
+      (by lock.mode wanted.mode here.0 o.1 held (λ x. ap (s.holds lock.region) (sym same) ∙ shows.strongest lock (from_in locks lock i) x))
     where
       by : (mode asked found : Mode) → (is_exclusive mode || is_exclusive asked) ≡ true → s.holds lock.region wanted.resource ≡ Some found
           → (mode ≡ Exclusive → s.holds lock.region wanted.resource ≡ Some Exclusive) → is_in_conflict (s.holds lock.region wanted.resource) asked ≡ true
@@ -145,20 +145,23 @@ module _ (s : Standing) (locks requests : List Lock) (shows : Shows s locks requ
           → (lock : Lock) × In locks lock × (lock.region ≡ region) × (conflicts wanted lock ≡ true)
       by None is e2 apart = absurd (cc)
       by (Some mode) is e2 apart =
-          let lock : Lock = record { region = region; resource = wanted.resource; mode = mode } in
-          (lock, held_in locks region wanted.resource mode (shows.held region wanted.resource ∙ is), refl,
+          let lock : Lock = record { region = region; resource = wanted.resource; mode = mode } in (
+            lock,
+            held_in locks region wanted.resource mode (shows.held region wanted.resource ∙ is),
+            refl,
             and_true (not (region == wanted.region) && same_resource wanted.resource wanted.resource) (is_exclusive mode || is_exclusive wanted.mode)
-            (and_true (not (region == wanted.region)) (same_resource wanted.resource wanted.resource) apart (is_resource wanted.resource)) e2)
+                (and_true (not (region == wanted.region)) (same_resource wanted.resource wanted.resource) apart (is_resource wanted.resource)) e2,
+          )
 
   -- the regions in the way, by the lists and by what stands
   pub same_way : (wanted : Lock) (region : ℕ) → list_any (λ lock. lock.region == region && conflicts wanted lock) locks ≡ in_way s wanted region
   same_way wanted region = bools (list_any (λ lock. lock.region == region && conflicts wanted lock) locks) (in_way s wanted region)
       (λ e. let l = in_any (λ lock. lock.region == region && conflicts wanted lock) locks e in
-          let p = both (l.0.region == region) (conflicts wanted l.0) l.2 in
-          ap (in_way s wanted) (sym (number_is l.0.region region p.0)) ∙ lock_counts wanted l.0 l.1 p.1)
+      let p = both (l.0.region == region) (conflicts wanted l.0) l.2 in
+      ap (in_way s wanted) (sym (number_is l.0.region region p.0)) ∙ lock_counts wanted l.0 l.1 p.1)
       (λ e. let l = way_counts wanted region e in
-          any_in (λ lock. lock.region == region && conflicts wanted lock) locks l.0 l.1
-            (and_true (l.0.region == region) (conflicts wanted l.0) (ap (λ n. n == region) l.2 ∙ is_number region) l.3))
+      any_in (λ lock. lock.region == region && conflicts wanted lock) locks l.0 l.1
+      (and_true (l.0.region == region) (conflicts wanted l.0) (ap (λ n. n == region) l.2 ∙ is_number region) l.3))
 
   pub blockers_are : (wanted : Lock) → blockers s.regions locks wanted ≡ blocking s wanted
   blockers_are wanted = filter_agree (λ region. list_any (λ lock. lock.region == region && conflicts wanted lock) locks) (in_way s wanted) (same_way wanted) (numbers_up s.regions 1)
@@ -198,6 +201,7 @@ held_without region (l ∷ ls) other resource = by (l.region == region) (other =
     one : (b c : Bool) → b ≡ false → (x y : Option Mode) → (if b && c then x else y) ≡ y
     one true c e x y = absurd (cc)
     one false c e x y = refl
+
     by : (b c : Bool) → (l.region == region) ≡ b → (other == region) ≡ c
         → held_as (without_region region ls) other resource ≡ (if c then None else held_as ls other resource)
         → held_as (cond (not b) (l ∷ without_region region ls) (without_region region ls)) other resource ≡ (if c then None else (if l.region == other && same_resource l.resource resource then Some l.mode else held_as ls other resource))
@@ -228,9 +232,10 @@ freed s t region locks requests frees sh = record {
   within = λ lock c. let i = in_filter (λ l. not (l.region == region)) locks lock (to_in _ lock c) in
       let w = sh.within lock (from_in locks lock i.0) in (w.0, let r : t.regions ≡ s.regions = frees.regions in omega (arith, w.1, r));
   standing = λ request. (
-      (λ c. let i = in_filter (λ l. not (l.region == region)) requests request (to_in _ request c) in
-          frees.asks request.region ∙ ap (λ b. if b then None else s.asks request.region) (not_true (request.region == region) i.1) ∙ (sh.standing request).0 (from_in requests request i.0)),
-      (λ e. by request (request.region == region) refl (sym (frees.asks request.region) ∙ e)))
+    (λ c. let i = in_filter (λ l. not (l.region == region)) requests request (to_in _ request c) in
+        frees.asks request.region ∙ ap (λ b. if b then None else s.asks request.region) (not_true (request.region == region) i.1) ∙ (sh.standing request).0 (from_in requests request i.0)),
+    (λ e. by request (request.region == region) refl (sym (frees.asks request.region) ∙ e)),
+  );
 }
   where
     by : (request : Lock) (b : Bool) → (request.region == region) ≡ b → (if b then None else s.asks request.region) ≡ Some request → Contains (without_region region requests) request
@@ -243,5 +248,5 @@ nothing s holds asks = record {
   held = λ region resource. sym (holds region resource);
   strongest = λ lock c e. absurd (to_in [] lock c);
   within = λ lock c. absurd (to_in [] lock c);
-  standing = λ request. ((λ c. absurd (to_in [] request c)), (λ e. absurd (let n = asks request.region in cc)))
+  standing = λ request. ((λ c. absurd (to_in [] request c)), (λ e. absurd (let n = asks request.region in cc)));
 }

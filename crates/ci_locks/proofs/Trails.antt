@@ -160,12 +160,15 @@ module _ (next : ℕ → List ℕ) (asker : ℕ) where
       record {
         good = each_last (Good (ts ++ t ∷ [])) ts t
             (each_weaker (Good ts) (Good (ts ++ t ∷ [])) (λ u g. record { walk = g.walk; inside = λ x h. more_ends ts t x (g.inside x h); apart = g.apart }) ts f.good)
-            (record { walk = p.walk b edge; inside = λ x h. more_ends ts t x (p.inside x h);
-              apart = IsDistinct-push nat_eq_equiv path b p.apart (not_in (is_in path b) (is_end ts b) (p.inside b) fresh) });
+            (record {
+              walk = p.walk b edge;
+              inside = λ x h. more_ends ts t x (p.inside x h);
+              apart = IsDistinct-push nat_eq_equiv path b p.apart (not_in (is_in path b) (is_end ts b) (p.inside b) fresh);
+            });
         ends = let P : List ℕ → Type 0 = IsDistinct ◌==◌ in subst P (sym (ends_of_more ts t)) (IsDistinct-push nat_eq_equiv (map (λ u. u.end) ts) b f.ends (ends_in ts b ∙ fresh));
         within = λ x h. or_elim (is_end ts x) ((b == x) || false) (sym (list_any-append (λ u. u.end == x) ts (t ∷ [])) ∙ h) (f.within x)
             (λ h2. or_elim (b == x) false h2 (λ h3. let P : ℕ → Type 0 = λ y. (1 ≤ y) × (y ≤ n) in subst P (number_is b x h3) inside) (λ h3. absurd (cc)));
-        asker_in = more_ends ts t asker f.asker_in
+        asker_in = more_ends ts t asker f.asker_in;
       }
 
   pub record Added (n : ℕ) (path : List ℕ) (e : ℕ) (rs : List ℕ) (old new : List Trail) : Type 0 where
@@ -186,7 +189,7 @@ module _ (next : ℕ → List ℕ) (asker : ℕ) where
       record {
         found = add n ts path e b f p edge inside fresh;
         grows = record { ends = λ x h. more_ends ts t x h; long = omega (arith, length-append ts (t ∷ [])); same = λ j d h. at_before ts (t ∷ []) j d h };
-        has = λ x h. or_elim (x == b) false h (λ h2. let P : ℕ → Type 0 = λ y. is_end (ts ++ t ∷ []) y ≡ true in subst P (sym (number_is x b h2)) (last_end ts t)) (λ h2. absurd (cc))
+        has = λ x h. or_elim (x == b) false h (λ h2. let P : ℕ → Type 0 = λ y. is_end (ts ++ t ∷ []) y ≡ true in subst P (sym (number_is x b h2)) (last_end ts t)) (λ h2. absurd (cc));
       }
 
   pub all_more : (n : ℕ) (rs : List ℕ) (ts : List Trail) (path : List ℕ) (e : ℕ) → Found n ts → Path ts path e
@@ -197,11 +200,11 @@ module _ (next : ℕ → List ℕ) (asker : ℕ) where
       let first : is_in (r ∷ rs) r ≡ true = or_left (r == r) (is_in rs r) (is_number r) in
       let one : Added n path e (r ∷ []) ts (with_trail path ts r) = one_more n ts path e r f p (edges r first) (inside r first) (is_end ts r) refl in
       let rest : Added n path e rs (with_trail path ts r) (extended path rs (with_trail path ts r)) = all_more n rs (with_trail path ts r) path e one.found (longer n ts (with_trail path ts r) path e p one.grows)
-            (λ b h. edges b (or_right (b == r) (is_in rs b) h)) (λ b h. inside b (or_right (b == r) (is_in rs b) h)) in
+      (λ b h. edges b (or_right (b == r) (is_in rs b) h)) (λ b h. inside b (or_right (b == r) (is_in rs b) h)) in
       record {
         found = rest.found;
         grows = joined ts (with_trail path ts r) (extended path rs (with_trail path ts r)) one.grows rest.grows;
-        has = λ b h. or_elim (b == r) (is_in rs b) h (λ h2. rest.grows.ends b (one.has b (or_left (b == r) false h2))) (rest.has b)
+        has = λ b h. or_elim (b == r) (is_in rs b) h (λ h2. rest.grows.ends b (one.has b (or_left (b == r) false h2))) (rest.has b);
       }
 
   -- the first trail alone
@@ -210,7 +213,7 @@ module _ (next : ℕ → List ℕ) (asker : ℕ) where
     good = (record { walk = refl; inside = λ x h. absurd (cc); apart = IsDistinct-push nat_eq_equiv [] asker none_twice refl }, tt);
     ends = IsDistinct-push nat_eq_equiv [] asker none_twice refl;
     within = λ x h. or_elim (asker == x) false h (λ h2. let P : ℕ → Type 0 = λ y. (1 ≤ y) × (y ≤ n) in subst P (number_is asker x h2) (some, most)) (λ h2. absurd (cc));
-    asker_in = or_left (asker == asker) false (is_number asker)
+    asker_in = or_left (asker == asker) false (is_number asker);
   }
 
   pub path_of : (n : ℕ) (ts : List Trail) (i : ℕ) (d : Trail) → i < length ts → Found n ts → Path ts ((get_or ts i d).through ++ (get_or ts i d).end ∷ []) (get_or ts i d).end
@@ -221,7 +224,7 @@ module _ (next : ℕ → List ℕ) (asker : ℕ) where
         walk = λ b edge. walk_more t.through t.end b g.walk edge;
         inside = λ x e. or_elim (is_in t.through x) ((x == t.end) || false) (sym (list_any-append (λ y. x == y) t.through (t.end ∷ [])) ∙ e) (g.inside x)
             (λ e2. or_elim (x == t.end) false e2 (λ e3. let P : ℕ → Type 0 = λ y. is_end ts y ≡ true in subst P (sym (number_is x t.end e3)) (end_at ts i d h)) (λ e3. absurd (cc)));
-        apart = g.apart
+        apart = g.apart;
       }
 
   -- a step
@@ -229,11 +232,12 @@ module _ (next : ℕ → List ℕ) (asker : ℕ) where
       → ((b : ℕ) → is_in (next (get_or ts k d).end) b ≡ true → (is_end us b ≡ true) × (b ≢ asker)) → Closed (k + 1) us
   closed_more n ts us k d h old g here j e under b edge =
       elim_le j k under
-        (λ below. let o = old j e below b (let P : Trail → Type 0 = λ t. is_in (next t.end) b ≡ true in subst P (g.same j e (omega (arith, below, h))) edge) in (g.ends b o.0, o.1))
-        (λ same. here b (let P : Trail → Type 0 = λ t. is_in (next t.end) b ≡ true in subst P (g.same k e h ∙ default ts k e d h) (let Q : ℕ → Type 0 = λ i. is_in (next (get_or us i e).end) b ≡ true in subst Q same edge)))
+      (λ below. let o = old j e below b (let P : Trail → Type 0 = λ t. is_in (next t.end) b ≡ true in subst P (g.same j e (omega (arith, below, h))) edge) in (g.ends b o.0, o.1))
+      (λ same. here b (let P : Trail → Type 0 = λ t. is_in (next t.end) b ≡ true in subst P (g.same k e h ∙ default ts k e d h) (let Q : ℕ → Type 0 = λ i. is_in (next (get_or us i e).end) b ≡ true in subst Q same edge)))
     where
       elim_le : {P : Type 0} (j k : ℕ) → j < k + 1 → (j < k → P) → (j ≡ k → P) → P
       elim_le j k under below same = ⊎_elim (λ h. below h) (λ h. same (omega (arith, h, under))) (cases_lt j k)
+
       default : (ts : List Trail) (i : ℕ) (d e : Trail) → i < length ts → get_or ts i d ≡ get_or ts i e
       default [] i d e h = absurd (omega (arith, h))
       default (x ∷ xs) zero d e h = refl
@@ -297,7 +301,7 @@ module _ (next : ℕ → List ℕ) (asker : ℕ) where
         closed = closed_more n ts us i t h closed a.grows (subst R is (λ b edge.
             let among : is_in rs b ≡ true = ap (λ q. is_in q b) behind ∙ edge in
             (a.has b among, λ same. let S : ℕ → Type 0 = λ x. is_in rs x ≡ true in absurd (let yes : is_in rs asker ≡ true = subst S same among in cc))));
-        long = a.grows.long
+        long = a.grows.long;
       }
 
 pub flip_any : (xs : List ℕ) (n : ℕ) → list_any (λ m. m == n) xs ≡ is_in xs n

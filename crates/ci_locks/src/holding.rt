@@ -4,7 +4,21 @@ ghost use Rattle.ci_locks.specs.Standing.{raised};
 ghost use Rattle.fp_model.specs.Waiting.{same_resource};
 ghost use Rattle.fp_model.specs.declared.calls.Resource.TheVariants.{Anchor};
 ghost use Rattle.std.specs.Prelude.{
-    if◌then◌else◌, ◌≡◌, ◌≤◌, ◌+◌, true, false, length, ℕ, ◌↔◌, IsSome, IsTrue, None, OnErr, OnOk, Some,
+  if◌then◌else◌,
+  ◌≡◌,
+  ◌≤◌,
+  ◌+◌,
+  true,
+  false,
+  length,
+  ℕ,
+  ◌↔◌,
+  IsSome,
+  IsTrue,
+  None,
+  OnErr,
+  OnOk,
+  Some,
 };
 
 use fp_model::{Mode, Resource};

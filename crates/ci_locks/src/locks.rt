@@ -52,7 +52,12 @@ fn put_request(regions: &mut [Region], region: u8, request: Option<Request>) -> 
 }
 
 // Gains a lock, and drops the region's request. Want of memory changes nothing.
-fn gain(regions: &mut [Region], region: u8, resource: &Resource, mode: Mode) -> Result<(), AllocError>
+fn gain(
+    regions: &mut [Region],
+    region: u8,
+    resource: &Resource,
+    mode: Mode,
+) -> Result<(), AllocError>
     requires some { 1 ≤ region }
     requires within { region ≤ length regions.old }
 
@@ -157,7 +162,7 @@ impl Locks {
         // What these lists become.
         ensures after { (locks requests : ListOf Lock) → Shows (standing self.old) locks requests
             → IfOk result (λ grant. Shows (standing self.new) (locks_after grant (record { region = region; resource = resource.now; mode = mode }) locks)
-                (requests_after grant (record { region = region; resource = resource.now; mode = mode }) requests)) }
+            (requests_after grant (record { region = region; resource = resource.now; mode = mode }) requests)) }
         ensures regions { length self.new ≡ length self.old }
         ensures err { OnErr result (standing self.new ≡ standing self.old) }
     {

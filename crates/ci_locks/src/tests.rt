@@ -14,9 +14,15 @@ fn three_regions_want_one_anchor(rt: HostRuntime) -> Result<(), Fail> {
     let both = Bytes::from_slice(alloc, &[1, 2])?;
     assert_eq!(rt; locks.ask(3, &anchor, Mode::Exclusive)?, Grant::Wait(both));
     let second = Bytes::from_slice(alloc, &[2])?;
-    assert_eq!(rt; locks.ask(1, &anchor, Mode::Exclusive)?, Grant::Wait(second));
+    assert_eq!(rt;
+        locks.ask(1, &anchor, Mode::Exclusive)?,
+        Grant::Wait(second)
+    );
     let cycle = Bytes::from_slice(alloc, &[2, 1])?;
-    assert_eq!(rt; locks.ask(2, &anchor, Mode::Exclusive)?, Grant::Cycle(cycle));
+    assert_eq!(rt;
+        locks.ask(2, &anchor, Mode::Exclusive)?,
+        Grant::Cycle(cycle)
+    );
 
     locks.release_all(2);
     assert_eq!(rt; locks.holds(2, &anchor), None);

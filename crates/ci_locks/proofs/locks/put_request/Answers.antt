@@ -16,7 +16,7 @@ returns-clause-after c =
     let next : Region = record { held = (slice_index_or c.args.regions.now (c.from.result - 1) c.index-regions-from.result).held; request = c.replace.new.dest } in
     let P : Option Lock → Type 0 = Asks (standing_of c.args.regions.now) (standing_of (slice_set c.args.regions.now (c.from.result - 1) next)) c.args.region in
     subst P (ap (lock_of c.args.region) c.replace.ensures.after)
-        (asked c.args.regions.now (c.from.result - 1) c.args.region c.index-regions-from.result next within number c.index-regions-from.is (ap (λ (r : Region). r.held) (sym c.index-regions-from.is)))
+    (asked c.args.regions.now (c.from.result - 1) c.args.region c.index-regions-from.result next within number c.index-regions-from.is (ap (λ (r : Region). r.held) (sym c.index-regions-from.is)))
 
 pub returns-clause-old : goal.returns-clause-old
 returns-clause-old c =

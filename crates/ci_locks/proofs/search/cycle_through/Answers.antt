@@ -10,12 +10,12 @@ use Rattle.ci_locks.proofs.search.cycle_through.Goals as goal
 pub loop-place-init : goal.loop-place-init
 loop-place-init c =
     let is : c.push.new.self.items ≡ (record { through = []; end = c.args.region }) ∷ [] =
-        c.in_ok-push.ensures.items ∙ ap (λ trails. trails ++ (record { through = c.new.result; end = c.args.region }) ∷ []) c.new-trails.ensures.items ∙ ap (λ through. (record { through = through; end = c.args.region }) ∷ []) c.new.ensures in
+    c.in_ok-push.ensures.items ∙ ap (λ trails. trails ++ (record { through = c.new.result; end = c.args.region }) ∷ []) c.new-trails.ensures.items ∙ ap (λ through. (record { through = through; end = c.args.region }) ∷ []) c.new.ensures in
     let P : List Trail → Type 0 = Found (next (standing_of c.args.regions.now)) c.args.region (length c.args.regions.now) in
     record {
       found = subst P (sym is) (begins (next (standing_of c.args.regions.now)) c.args.region (length c.args.regions.now) c.requires.some c.requires.within);
       closed = λ j d h. absurd (omega (arith, h));
-      within = omega arith
+      within = omega arith;
     }
 
 pub waits_for-requires-clause-some : goal.waits_for-requires-clause-some
@@ -33,8 +33,10 @@ waits_for-requires-clause-within c =
 pub returns-then-contains : goal.returns-then-contains
 returns-then-contains c =
     let here : c.loop-place.place < length c.loop-place.trails.items = omega arith in
-    record { found = finish (next (standing_of c.args.regions.now)) c.args.region (length c.args.regions.now) c.loop-place.trails.items c.loop-place.place c.index-trail.result.now c.in_ok-path.path here c.index-trail.ensures c.loop-place.invariant.found c.in_ok-path.ensures
-        (ap (λ list. is_in list c.args.region) (sym c.in_ok-found.ensures) ∙ sym (flip_any c.in_ok-found.found c.args.region) ∙ ap (λ list. list_any (λ m. m == c.args.region) list) (sym c.as_slice.ensures) ∙ sym c.contains.ensures.value ∙ c.if-contains.true) }
+    record {
+      found = finish (next (standing_of c.args.regions.now)) c.args.region (length c.args.regions.now) c.loop-place.trails.items c.loop-place.place c.index-trail.result.now c.in_ok-path.path here c.index-trail.ensures c.loop-place.invariant.found c.in_ok-path.ensures
+          (ap (λ list. is_in list c.args.region) (sym c.in_ok-found.ensures) ∙ sym (flip_any c.in_ok-found.found c.args.region) ∙ ap (λ list. list_any (λ m. m == c.args.region) list) (sym c.as_slice.ensures) ∙ sym c.contains.ensures.value ∙ c.if-contains.true);
+    }
 
 pub loop-place-smaller : goal.loop-place-smaller
 loop-place-smaller c =
@@ -46,9 +48,9 @@ pub loop-place-preserved : goal.loop-place-preserved
 loop-place-preserved c =
     let here : c.loop-place.place < length c.loop-place.trails.items = omega arith in
     let more = step (next (standing_of c.args.regions.now)) c.args.region (length c.args.regions.now) c.loop-place.trails.items c.go_on.new.trails.items c.loop-place.place c.index-trail.result.now c.in_ok-path.path c.in_ok-found.found here c.index-trail.ensures c.loop-place.invariant.found c.loop-place.invariant.closed
-        c.in_ok-path.ensures c.in_ok-found.ensures
-        (sym (flip_any c.in_ok-found.found c.args.region) ∙ ap (λ list. list_any (λ m. m == c.args.region) list) (sym c.as_slice.ensures) ∙ sym c.contains.ensures.value ∙ c.if-contains.false)
-        (next_within (standing_of c.args.regions.now)) c.in_ok-go_on.ensures in
+    c.in_ok-path.ensures c.in_ok-found.ensures
+    (sym (flip_any c.in_ok-found.found c.args.region) ∙ ap (λ list. list_any (λ m. m == c.args.region) list) (sym c.as_slice.ensures) ∙ sym c.contains.ensures.value ∙ c.if-contains.false)
+    (next_within (standing_of c.args.regions.now)) c.in_ok-go_on.ensures in
     record { found = more.found; closed = more.closed; within = omega (arith, here, more.long) }
 
 pub returns : goal.returns

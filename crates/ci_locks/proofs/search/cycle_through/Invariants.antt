@@ -8,7 +8,7 @@ abbrev pub invariant-loop-place : goal.invariant-loop-place
 invariant-loop-place l = record {
   found : Found (next (standing_of l.regions)) l.region (length l.regions) l.trails.items;
   closed : Closed (next (standing_of l.regions)) l.region l.place l.trails.items;
-  within : l.place ≤ length l.trails.items
+  within : l.place ≤ length l.trails.items;
 }
 
 abbrev pub decreases-loop-place : goal.decreases-loop-place

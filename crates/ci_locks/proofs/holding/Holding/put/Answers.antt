@@ -16,6 +16,6 @@ returns-in_ok-insert-in-Segment-clause-ok c = λ other.
     let place : c.from.result ≡ c.in-Segment.msdb = c.from.ensures in
     ap (λ i. holding_mode (record { anchors = c.make_table.new.self.anchors; segments = with_item c.make_table.new.self.segments i c.insert-in-Segment.new.self }) other) place
     ∙ put_segment (λ key. key.items) c.make_table.new.self.anchors c.make_table.new.self.segments.items c.index_mut.result.now c.insert-in-Segment.new.self c.args.resource.now c.in-Segment.msdb c.in-Segment.key c.in_ok-key-in-Segment.key c.args.mode
-        c.in-Segment.is (c.in_ok-key-in-Segment.ensures.items ∙ c.as_slice.ensures) within (c.index_mut.ensures.value ∙ ap (λ i. slice_index_or c.make_table.new.self.segments.items i c.index_mut.result.now) place)
-        c.in_ok-insert-in-Segment.ensures.entries other
+    c.in-Segment.is (c.in_ok-key-in-Segment.ensures.items ∙ c.as_slice.ensures) within (c.index_mut.ensures.value ∙ ap (λ i. slice_index_or c.make_table.new.self.segments.items i c.index_mut.result.now) place)
+    c.in_ok-insert-in-Segment.ensures.entries other
     ∙ ap (λ v. if same_resource c.args.resource.now other then Some c.args.mode else v) (c.in_ok-make_table-in-Segment.ensures.same other)

@@ -15,7 +15,7 @@ loop-preserved c =
       holds = λ region resource. ap (λ regions. region_mode (region_at regions region) resource) pushed
           ∙ at_push (λ o. region_mode o resource ≡ None) c.loop.made.items made region (c.loop.invariant.holds region resource) (c.new.ensures resource);
       asks = λ region. ap (λ regions. region_request region (region_at regions region)) pushed
-          ∙ at_push (λ o. region_request region o ≡ None) c.loop.made.items made region (c.loop.invariant.asks region) refl
+          ∙ at_push (λ o. region_request region o ≡ None) c.loop.made.items made region (c.loop.invariant.asks region) refl;
     }
 
 pub returns-clause-none : goal.returns-clause-none

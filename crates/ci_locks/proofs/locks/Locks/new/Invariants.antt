@@ -8,5 +8,5 @@ abbrev pub invariant-loop : goal.invariant-loop
 invariant-loop l = record {
   long : length l.made.items ≡ l.counter;
   holds : (region : ℕ) (resource : Resource) → (standing_of l.made.items).holds region resource ≡ None;
-  asks : (region : ℕ) → (standing_of l.made.items).asks region ≡ None
+  asks : (region : ℕ) → (standing_of l.made.items).asks region ≡ None;
 }
