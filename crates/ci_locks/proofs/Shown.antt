@@ -33,18 +33,18 @@ from_in [] x i = absurd i
 from_in (y ∷ ys) x (inl e) = (0, omega arith, e)
 from_in (y ∷ ys) x (inr i) = let c = from_in ys x i in (suc c.0, omega (arith, c.1), c.2)
 
-both : (a b : Bool) → (a && b) ≡ true → (a ≡ true) × (b ≡ true)
+pub both : (a b : Bool) → (a && b) ≡ true → (a ≡ true) × (b ≡ true)
 both true b e = (refl, e)
 both false b e = absurd (cc)
 
-and_true : (a b : Bool) → a ≡ true → b ≡ true → (a && b) ≡ true
+pub and_true : (a b : Bool) → a ≡ true → b ≡ true → (a && b) ≡ true
 and_true true b e f = f
 and_true false b e f = absurd (cc)
 
-number_is : (a b : ℕ) → (a == b) ≡ true → a ≡ b
+pub number_is : (a b : ℕ) → (a == b) ≡ true → a ≡ b
 number_is a b e = grind arith
 
-is_number : (a : ℕ) → (a == a) ≡ true
+pub is_number : (a : ℕ) → (a == a) ≡ true
 is_number a = grind arith
 
 -- ---- resources
@@ -90,7 +90,7 @@ held_in (l ∷ ls) region resource mode e = by (l.region == region && same_resou
         ∙ ap (λ r. record { region = region; resource = resource; mode = r }) m)
     by false is e2 rest = inr (rest e2)
 
-any_in : (p : Lock → Bool) (locks : List Lock) (lock : Lock) → In locks lock → p lock ≡ true → list_any p locks ≡ true
+pub any_in : {X : Type 0} (p : X → Bool) (locks : List X) (lock : X) → In locks lock → p lock ≡ true → list_any p locks ≡ true
 any_in p [] lock i e = absurd i
 any_in p (l ∷ ls) lock (inl same) e = or_left (p l) (list_any p ls) (ap p same ∙ e)
   where
@@ -103,22 +103,22 @@ any_in p (l ∷ ls) lock (inr i) e = or_right (p l) (list_any p ls) (any_in p ls
     or_right true b e = refl
     or_right false b e = e
 
-in_any : (p : Lock → Bool) (locks : List Lock) → list_any p locks ≡ true → (lock : Lock) × In locks lock × (p lock ≡ true)
+pub in_any : {X : Type 0} (p : X → Bool) (locks : List X) → list_any p locks ≡ true → (lock : X) × In locks lock × (p lock ≡ true)
 in_any p [] e = absurd (cc)
-in_any p (l ∷ ls) e = by (p l) refl e (in_any p ls)
+in_any {X = X} p (l ∷ ls) e = by (p l) refl e (in_any p ls)
   where
-    by : (b : Bool) → p l ≡ b → (b || list_any p ls) ≡ true → (list_any p ls ≡ true → (lock : Lock) × In ls lock × (p lock ≡ true)) → (lock : Lock) × ((l ≡ lock) ⊎ In ls lock) × (p lock ≡ true)
+    by : (b : Bool) → p l ≡ b → (b || list_any p ls) ≡ true → (list_any p ls ≡ true → (lock : X) × In ls lock × (p lock ≡ true)) → (lock : X) × ((l ≡ lock) ⊎ In ls lock) × (p lock ≡ true)
     by true is e2 rest = (l, inl refl, is)
     by false is e2 rest = let r = rest e2 in (r.0, inr r.1, r.2)
 
-bools : (a b : Bool) → (a ≡ true → b ≡ true) → (b ≡ true → a ≡ true) → a ≡ b
+pub bools : (a b : Bool) → (a ≡ true → b ≡ true) → (b ≡ true → a ≡ true) → a ≡ b
 bools true b there back = sym (there refl)
 bools false true there back = back refl
 bools false false there back = refl
 
 module _ (s : Standing) (locks requests : List Lock) (shows : Shows s locks requests) where
   -- a lock in the way shows in what its region holds
-  lock_counts : (wanted lock : Lock) → In locks lock → conflicts wanted lock ≡ true → in_way s wanted lock.region ≡ true
+  pub lock_counts : (wanted lock : Lock) → In locks lock → conflicts wanted lock ≡ true → in_way s wanted lock.region ≡ true
   lock_counts wanted lock i e =
       let o = both (not (lock.region == wanted.region) && same_resource lock.resource wanted.resource) (is_exclusive lock.mode || is_exclusive wanted.mode) e in
       let p = both (not (lock.region == wanted.region)) (same_resource lock.resource wanted.resource) o.0 in
@@ -136,7 +136,7 @@ module _ (s : Standing) (locks requests : List Lock) (shows : Shows s locks requ
       by Share Share found e2 held strong = absurd (cc)
 
   -- what a region holds in the way is a lock in the list
-  way_counts : (wanted : Lock) (region : ℕ) → in_way s wanted region ≡ true → (lock : Lock) × In locks lock × (lock.region ≡ region) × (conflicts wanted lock ≡ true)
+  pub way_counts : (wanted : Lock) (region : ℕ) → in_way s wanted region ≡ true → (lock : Lock) × In locks lock × (lock.region ≡ region) × (conflicts wanted lock ≡ true)
   way_counts wanted region e =
       let p = both (not (region == wanted.region)) (is_in_conflict (s.holds region wanted.resource) wanted.mode) e in
       by (s.holds region wanted.resource) refl p.1 p.0
@@ -171,7 +171,7 @@ module _ (s : Standing) (locks requests : List Lock) (shows : Shows s locks requ
 
 -- ---- a region is freed
 
-in_filter : (p : Lock → Bool) (xs : List Lock) (x : Lock) → In (filter p xs) x → In xs x × (p x ≡ true)
+pub in_filter : {X : Type 0} (p : X → Bool) (xs : List X) (x : X) → In (filter p xs) x → In xs x × (p x ≡ true)
 in_filter p [] x i = absurd i
 in_filter p (y ∷ ys) x i = by (p y) refl i (in_filter p ys x)
   where
@@ -180,7 +180,7 @@ in_filter p (y ∷ ys) x i = by (p y) refl i (in_filter p ys x)
     by true is (inr j) rest = let r = rest j in (inr r.0, r.1)
     by false is j rest = let r = rest j in (inr r.0, r.1)
 
-filter_in : (p : Lock → Bool) (xs : List Lock) (x : Lock) → In xs x → p x ≡ true → In (filter p xs) x
+pub filter_in : {X : Type 0} (p : X → Bool) (xs : List X) (x : X) → In xs x → p x ≡ true → In (filter p xs) x
 filter_in p [] x i e = absurd i
 filter_in p (y ∷ ys) x i e = by (p y) refl i (λ j. filter_in p ys x j e)
   where
@@ -216,11 +216,11 @@ held_without region (l ∷ ls) other resource = by (l.region == region) (other =
         one (l.region == other) (same_resource l.resource resource) o (Some l.mode) (held_as (without_region region ls) other resource) ∙ rest
     by false false is apart rest = ap (λ v. if l.region == other && same_resource l.resource resource then Some l.mode else v) rest
 
-not_true : (b : Bool) → not b ≡ true → b ≡ false
+pub not_true : (b : Bool) → not b ≡ true → b ≡ false
 not_true true e = absurd (cc)
 not_true false e = refl
 
-false_not : (b : Bool) → b ≡ false → not b ≡ true
+pub false_not : (b : Bool) → b ≡ false → not b ≡ true
 false_not true e = absurd (cc)
 false_not false e = refl
 
