@@ -12,10 +12,11 @@ use Rattle.fp_model.specs.Waiting.{Lock, held_as, conflicts, is_blocked, same_re
 use Rattle.ci_locks.specs.Graph.{Along, is_in, next, next_of}
 use Rattle.ci_locks.specs.Regions.{region_at, region_request, standing_of}
 use Rattle.ci_locks.specs.Standing.{Standing, Shows, Gains, IsGrant, asking, blocking, gained, gained_over, in_way, raised}
-use Rattle.ci_locks.specs.Table.{lock_of}
+use Rattle.ci_locks.specs.Table.{Row, lock_of, row_of, standing}
 use Rattle.ci_locks.specs.declared.locks.Grant.TheVariants as grant
 use Rattle.ci_locks.specs.declared.locks.Region.{Region}
 use Rattle.ci_locks.specs.declared.locks.Request.{Request}
+use Rattle.ci_locks.proofs.Bridge.{standing_is}
 use Rattle.ci_locks.proofs.Shown.{In, to_in, from_in, any_in, in_any, in_filter, filter_in, both, and_true, number_is, is_number, not_true, false_not, resource_is, is_resource, lock_counts, way_counts, blockers_are}
 
 -- ---- numbers in lists
@@ -303,3 +304,11 @@ module _ (s : Standing) (locks requests : List Lock) (wanted : Lock) (sh : Shows
     of_along (asking s wanted.region (Some wanted)) locks (with_request wanted requests) (asked s locks requests wanted sh) (owns_asking s wanted owns) cycle wanted.region wanted.region along,
     (let P : List ℕ → Type 0 = λ l. IsDistinct ◌==◌ l in subst P is apart),
   )
+
+-- ---- the code's regions, by what contracts see
+
+pub stands : (given regions : List Region) (rows : List Row) → given ≡ regions → map row_of regions ≡ rows → standing_of given ≡ standing rows
+stands given regions rows e v = ap standing_of e ∙ sym (standing_is regions) ∙ ap standing v
+
+pub ends : (ended new : List Region) → ended ≡ new → standing (map row_of ended) ≡ standing_of new
+ends ended new e = ap (λ regions. standing (map row_of regions)) e ∙ standing_is new

@@ -40,6 +40,22 @@ pub(crate) struct Region {
     pub(crate) request: Option<Request>,
 }
 
+// The same resource. It fails only for want of memory.
+fn copy_of(resource: &Resource) -> Result<Resource, AllocError>
+    ensures { IfOk result (λ copy. copy ≡ resource.now) }
+{
+    match resource {
+        Resource::Segment { msdb, key } => Ok(Resource::Segment {
+            msdb: *msdb,
+            key: key.copy()?,
+        }),
+        Resource::Anchor { dedb, anchor } => Ok(Resource::Anchor {
+            dedb: *dedb,
+            anchor: *anchor,
+        }),
+    }
+}
+
 // Puts a request in the place of the region's old one, which comes back.
 fn put_request(regions: &mut [Region], region: u8, request: Option<Request>) -> Option<Request>
     requires some { 1 ≤ region }
@@ -173,13 +189,13 @@ impl Locks {
             return Ok(Grant::Held);
         }
         let wanted = Request {
-            resource: resource.clone()?,
+            resource: copy_of(resource)?,
             mode,
         };
-        match wait_or_close(alloc, &mut self.regions, region, wanted)? {
-            Some(cycle) => Ok(Grant::Cycle(cycle)),
-            None => Ok(Grant::Wait(found)),
+        if let Some(cycle) = wait_or_close(alloc, &mut self.regions, region, wanted)? {
+            return Ok(Grant::Cycle(cycle));
         }
+        Ok(Grant::Wait(found))
     }
 
     /// How a region holds a resource. `None` where it doesn't. Takes no memory.
