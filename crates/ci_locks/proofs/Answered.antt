@@ -268,7 +268,7 @@ module _ (s : Standing) (locks requests : List Lock) (wanted : Lock) (sh : Shows
 
 -- ---- the answers
 
-pub owns_code : (regions : List Region) → Owns (standing_of regions)
+owns_code : (regions : List Region) → Owns (standing_of regions)
 owns_code regions a q e = by (region_at regions a) e
   where
     of_request : (o : Option Request) → lock_of a o ≡ Some q → q.region ≡ a
@@ -312,3 +312,6 @@ stands given regions rows e v = ap standing_of e ∙ sym (standing_is regions) �
 
 pub ends : (ended new : List Region) → ended ≡ new → standing (map row_of ended) ≡ standing_of new
 ends ended new e = ap (λ regions. standing (map row_of regions)) e ∙ standing_is new
+
+pub owns_rows : (regions : List Region) (rows : List Row) → map row_of regions ≡ rows → Owns (standing rows)
+owns_rows regions rows e = let P : Standing → Type 0 = λ s. Owns s in subst P (sym (standing_is regions) ∙ ap standing e) (owns_code regions)
