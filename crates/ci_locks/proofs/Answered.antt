@@ -89,7 +89,6 @@ flat_in f (z ∷ xs) x y (inr i) j = in_right (f z) (flat_map f xs) y (flat_in f
 abbrev pair : ℕ → ℕ → ℕ × ℕ
 pair a b = (a, b)
 
-
 -- a request that stands is its region's
 abbrev pub Owns : Standing → Type 0
 Owns s = (a : ℕ) (q : Lock) → s.asks a ≡ Some q → q.region ≡ a

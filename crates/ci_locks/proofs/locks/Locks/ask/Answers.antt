@@ -1,4 +1,4 @@
-use Rattle.std.proofs.Common.{rules, refl, ◌≡◌, ◌==◌, ◌∙◌, sym, ap, subst, ◌∷◌, ℕ, List, [], true, false, Some, None}
+use Rattle.std.proofs.Common.{rules, ◌≡◌, ◌==◌, ◌∙◌, sym, ap, subst, ◌∷◌, ℕ, List, true, false, Some, None}
 use Rattle.std.proofs.lemmas.List.{with_items_is, places}
 use Rattle.std.specs.List.{IsDistinct}
 use Rattle.fp_model.specs.declared.calls.Resource.{Resource}
