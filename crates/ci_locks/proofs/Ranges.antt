@@ -1,5 +1,5 @@
 -- The anchors of a range.
-use Rattle.std.proofs.Common.{refl, arith, ◌≡◌, ◌≤◌, ℕ, List, [], ◌∷◌, Bool, true, false, ◌&&◌, ◌||◌, Option, Some, None, ap, sym, subst, ◌∙◌}
+use Rattle.std.proofs.Common.{refl, arith, ◌≡◌, ◌+◌, ◌<◌, ◌≤◌, ℕ, zero, suc, List, [], ◌∷◌, length, map, get_or, ⊎_elim, true, false, Option, Some, None, ap, sym, subst, ◌∙◌}
 use Rattle.std.specs.Prelude.{IsSome, MatchOption, is_some, slice_get}
 use Rattle.std.specs.BTreeMap.{BTreeMap, get}
 use Rattle.std.specs.BTreeMap.Range.{IsRangeOf, IsEntryInRange}
@@ -8,10 +8,19 @@ use Rattle.std.specs.Ordering.{is_eq, is_gt, nat_cmp, ordering_then}
 use Rattle.std.specs.declared.cmp.Ordering.{Ordering}
 use Rattle.std.specs.declared.cmp.Ordering.TheVariants.{Less, Equal, Greater}
 use Rattle.std.specs.declared.ops.Bound.TheVariants.{Included}
+use Rattle.std.proofs.lemmas.Bool.{cases_eq, cases_lt}
 use Rattle.std.proofs.lemmas.Bool.Decides.{nat_tests}
 use Rattle.std.proofs.lemmas.Map.Keys.{le_from_not_gt}
 use Rattle.fp_model.specs.declared.calls.Mode.{Mode}
-use Rattle.ci_locks.specs.Holdings.{anchor_cmp}
+use Rattle.fp_model.specs.declared.calls.Resource.{Resource}
+use Rattle.fp_model.specs.declared.calls.Resource.TheVariants.{Anchor}
+use Rattle.ci_locks.specs.Holdings.{anchor_cmp, holding_mode}
+use Rattle.ci_locks.specs.Regions.{region_at, region_mode}
+use Rattle.ci_locks.specs.Standing.{Standing}
+use Rattle.ci_locks.specs.Table.{Row, row_of, standing}
+use Rattle.ci_locks.specs.declared.locks.Region.{Region}
+use Rattle.ci_locks.proofs.Bridge.{standing_is}
+use Rattle.ci_locks.proofs.Regions.{get_here}
 
 not_gt : (a b : ℕ) → a ≤ b → is_gt (nat_cmp a b) ≡ false
 not_gt a b h = grind (arith, nat_tests)
@@ -84,3 +93,51 @@ left_of (Some x) P Q is m = absurd (cc)
 pub right_of : {T : Type 0} (o : Option T) (P : Type 0) (Q : T → Type 0) → is_some o ≡ true → MatchOption o P Q → (x : T) × Q x
 right_of None P Q is m = absurd (cc)
 right_of (Some x) P Q is m = (x, m)
+
+-- ---- of all regions
+
+modes_are : (regions : List Region) (rows : List Row) (number : ℕ) (resource : Resource) → map row_of regions ≡ rows → (standing rows).holds number resource ≡ region_mode (region_at regions number) resource
+modes_are regions rows number resource is = ap (λ (s : Standing). s.holds number resource) (ap standing (sym is) ∙ standing_is regions)
+
+-- one more region that holds none
+pub none_more : (regions : List Region) (place : ℕ) (r : Region) (d first last : ℕ) → place < length regions → r ≡ get_or regions place r
+    → ((anchor : ℕ) → first ≤ anchor → anchor ≤ last → holding_mode r.held (Anchor d anchor) ≡ None)
+    → ((k : ℕ) → k < place → (anchor : ℕ) → first ≤ anchor → anchor ≤ last → region_mode (slice_get regions k) (Anchor d anchor) ≡ None)
+    → (k : ℕ) → k < place + 1 → (anchor : ℕ) → first ≤ anchor → anchor ≤ last → region_mode (slice_get regions k) (Anchor d anchor) ≡ None
+none_more regions place r d first last h is here below k within anchor from to =
+    ⊎_elim
+    (λ (e : k ≡ place). ap (λ n. region_mode (slice_get regions n) (Anchor d anchor)) e ∙ ap (λ o. region_mode o (Anchor d anchor)) (get_here regions place r h is) ∙ here anchor from to)
+    (λ (ne : k ≡ place → ⊥). below k (omega (arith, ne, within)) anchor from to)
+    (cases_eq k place)
+
+past_end : (regions : List Region) (place : ℕ) (resource : Resource) → length regions ≤ place → region_mode (slice_get regions place) resource ≡ None
+past_end [] place resource h = refl
+past_end (r ∷ rs) zero resource h = absurd (omega (arith, h))
+past_end (r ∷ rs) (suc place) resource h = past_end rs place resource (omega (arith, h))
+
+none_at : (regions : List Region) (place number : ℕ) (resource : Resource) → length regions ≤ place → ((k : ℕ) → k < place → region_mode (slice_get regions k) resource ≡ None) → region_mode (region_at regions number) resource ≡ None
+none_at regions place zero resource long below = refl
+none_at regions place (suc k) resource long below =
+    ⊎_elim
+    (λ (h : k < place). below k h)
+    (λ (h : place ≤ k). past_end regions k resource (omega (arith, h, long)))
+    (cases_lt k place)
+
+not_some : (o : Option Mode) → o ≡ None → IsSome o → ⊥
+not_some o e some = let P : Option Mode → Type 0 = IsSome in let wrong : false ≡ true = subst P e some in cc
+
+-- no region holds one
+pub none_held : (regions : List Region) (rows : List Row) (place : ℕ) (d first last : ℕ) → map row_of regions ≡ rows → length regions ≤ place
+    → ((k : ℕ) → k < place → (anchor : ℕ) → first ≤ anchor → anchor ≤ last → region_mode (slice_get regions k) (Anchor d anchor) ≡ None)
+    → ((number anchor : ℕ) × (first ≤ anchor) × (anchor ≤ last) × IsSome ((standing rows).holds number (Anchor d anchor))) → ⊥
+none_held regions rows place d first last is long below (number, anchor, from, to, some) =
+    not_some ((standing rows).holds number (Anchor d anchor)) (modes_are regions rows number (Anchor d anchor) is ∙ none_at regions place number (Anchor d anchor) long (λ k h. below k h anchor from to)) some
+
+-- a region holds one
+pub one_held : (regions : List Region) (rows : List Row) (place : ℕ) (r : Region) (d first last : ℕ) → map row_of regions ≡ rows → place < length regions → r ≡ get_or regions place r
+    → ((anchor : ℕ) × (first ≤ anchor) × (anchor ≤ last) × IsSome (holding_mode r.held (Anchor d anchor)))
+    → (number anchor : ℕ) × (first ≤ anchor) × (anchor ≤ last) × IsSome ((standing rows).holds number (Anchor d anchor))
+one_held regions rows place r d first last is h here (anchor, from, to, some) =
+    let same : (standing rows).holds (suc place) (Anchor d anchor) ≡ holding_mode r.held (Anchor d anchor) = modes_are regions rows (suc place) (Anchor d anchor) is ∙ ap (λ o. region_mode o (Anchor d anchor)) (get_here regions place r h here) in
+    let P : Option Mode → Type 0 = IsSome in
+    (suc place, anchor, from, to, subst P (sym same) some)

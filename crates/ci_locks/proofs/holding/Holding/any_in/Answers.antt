@@ -1,6 +1,4 @@
-use Rattle.std.proofs.Common.{rules, ◌≡◌, ◌∙◌, sym, true, false, length, ℕ, [], ◌∷◌}
-use Rattle.ci_locks.specs.Holdings.{holding_mode}
-use Rattle.fp_model.specs.declared.calls.Resource.TheVariants.{Anchor}
+use Rattle.std.proofs.Common.{rules, ◌∙◌, sym}
 use Rattle.ci_locks.proofs.Ranges.{first_is, none_is, left_of, right_of}
 use Rattle.ci_locks.proofs.holding.Holding.any_in.Goals as goal
 
