@@ -1,0 +1,133 @@
+-- A lock that is put into what a region holds.
+use Rattle.std.proofs.Common.{refl, arith, ◌≡◌, ◌<◌, ℕ, zero, suc, List, [], ◌∷◌, length, ⊎_elim, Bool, true, false, cond, ◌&&◌, ◌==◌, Option, Some, None, ap, sym, ◌∙◌}
+use Rattle.std.specs.Prelude.{if◌then◌else◌, slice_get, slice_set, slice_index_or}
+use Rattle.std.specs.BTreeMap.{BTreeMap, get, get_by, insert_entry, is_at}
+use Rattle.std.specs.Map.{lookup}
+use Rattle.std.specs.Cmp.Lexicographic.{slice_cmp, bytes_decides}
+use Rattle.std.proofs.lemmas.Cmp.{same_from_slice_cmp}
+use Rattle.std.proofs.lemmas.Bool.{cases_eq}
+use Rattle.fp_model.specs.Texts.{same_text}
+use Rattle.std.specs.Ordering.{is_eq, match_ordering, nat_cmp, ordering_then}
+use Rattle.std.specs.declared.cmp.Ordering.{Ordering}
+use Rattle.std.specs.declared.cmp.Ordering.TheVariants.{Less, Equal, Greater}
+use Rattle.std.proofs.lemmas.Bool.Decides.{nat_tests}
+use Rattle.fp_model.specs.declared.calls.Mode.{Mode}
+use Rattle.fp_model.specs.declared.calls.Resource.{Resource}
+use Rattle.fp_model.specs.declared.calls.Resource.TheVariants.{Segment, Anchor}
+use Rattle.fp_model.specs.Waiting.{same_resource}
+use Rattle.ci_locks.specs.Holdings.{anchor_cmp, key_mode, mode_in}
+
+then_test : (o p : Ordering) → is_eq (ordering_then o p) ≡ (is_eq o && is_eq p)
+then_test Less p = refl
+then_test Equal p = refl
+then_test Greater p = refl
+
+number_test : (a b : ℕ) → is_eq (nat_cmp a b) ≡ (a == b)
+number_test a b = grind (arith, nat_tests)
+
+pub anchor_test : (d a e b : ℕ) → is_at (anchor_cmp (d, a)) (e, b) ≡ (d == e && a == b)
+anchor_test d a e b = then_test (nat_cmp d e) (nat_cmp a b) ∙ ap (λ t. t && is_eq (nat_cmp a b)) (number_test d e) ∙ ap (λ t. (d == e) && t) (number_test a b)
+
+pub put_anchor : {K : Type 0} (bytes : K → List ℕ) (old new : BTreeMap (ℕ × ℕ) Mode) (segments : List (BTreeMap K Mode)) (resource : Resource) (d a : ℕ) (mode : Mode)
+    → resource ≡ Anchor d a
+    → ((q : ℕ × ℕ) → get anchor_cmp new q ≡ cond (is_at (anchor_cmp (d, a)) q) (Some mode) (get anchor_cmp old q))
+    → (other : Resource) → mode_in bytes new segments other ≡ (if same_resource resource other then Some mode else mode_in bytes old segments other)
+put_anchor bytes old new segments resource d a mode is updates (Segment m k) = sym (ap (λ r. if same_resource r (Segment m k) then Some mode else mode_in bytes old segments (Segment m k)) is)
+put_anchor bytes old new segments resource d a mode is updates (Anchor e b) =
+    updates (e, b) ∙ ap (λ t. cond t (Some mode) (get anchor_cmp old (e, b))) (anchor_test d a e b)
+    ∙ sym (ap (λ r. if same_resource r (Anchor e b) then Some mode else mode_in bytes old segments (Anchor e b)) is)
+
+-- ---- segments
+
+text_test : (a b : List ℕ) → is_eq (slice_cmp nat_cmp a b) ≡ same_text a b
+text_test a b = same_from_slice_cmp nat_cmp is_eq same_text refl (λ _ _. refl) (λ _ _. refl) (λ x y xs ys o h. grind (arith, nat_tests)) a b _ refl
+
+same_is : (a b : List ℕ) → same_text a b ≡ true → a ≡ b
+same_is a b e = (bytes_decides a b).0 e
+
+is_same : (a b : List ℕ) → a ≡ b → same_text a b ≡ true
+is_same a b e = (bytes_decides a b).1 e
+
+flipped : (a b : List ℕ) → same_text a b ≡ same_text b a
+flipped a b = by (same_text a b) (same_text b a) (λ e. is_same b a (sym (same_is a b e))) (λ e. is_same a b (sym (same_is b a e)))
+  where
+    by : (p q : Bool) → (p ≡ true → q ≡ true) → (q ≡ true → p ≡ true) → p ≡ q
+    by true q there back = sym (there refl)
+    by false true there back = back refl
+    by false false there back = refl
+
+module _ {K : Type 0} (bytes : K → List ℕ) where
+  pub lookup_put : (es : List (K × Mode)) (key : K) (mode : Mode) (k : List ℕ)
+      → lookup (λ v. is_eq (slice_cmp nat_cmp k (bytes v))) (insert_entry (λ a b. slice_cmp nat_cmp (bytes a) (bytes b)) es key mode)
+      ≡ cond (same_text (bytes key) k) (Some mode) (lookup (λ v. is_eq (slice_cmp nat_cmp k (bytes v))) es)
+  lookup_put [] key mode k = ap (λ b. cond b (Some mode) None) (text_test k (bytes key) ∙ flipped k (bytes key))
+  lookup_put (e ∷ es) key mode k = by (slice_cmp nat_cmp (bytes key) (bytes e.0)) refl (lookup_put es key mode k)
+    where
+      three : (t s : Bool) (a m r : Option Mode) → t ≡ s → cond t m r ≡ cond s m (cond t a r)
+      three true true a m r e2 = refl
+      three true false a m r e2 = absurd (cc)
+      three false true a m r e2 = absurd (cc)
+      three false false a m r e2 = refl
+
+      swap : (t s : Bool) (a m r : Option Mode) → (t ≡ true → s ≡ true → ⊥) → cond t a (cond s m r) ≡ cond s m (cond t a r)
+      swap true true a m r ne = absurd (ne refl refl)
+      swap true false a m r ne = refl
+      swap false s a m r ne = refl
+
+      by : (o : Ordering) → slice_cmp nat_cmp (bytes key) (bytes e.0) ≡ o
+          → lookup (λ v. is_eq (slice_cmp nat_cmp k (bytes v))) (insert_entry (λ a b. slice_cmp nat_cmp (bytes a) (bytes b)) es key mode) ≡ cond (same_text (bytes key) k) (Some mode) (lookup (λ v. is_eq (slice_cmp nat_cmp k (bytes v))) es)
+          → lookup (λ v. is_eq (slice_cmp nat_cmp k (bytes v))) (match_ordering o ((key, mode) ∷ e ∷ es) ((e.0, mode) ∷ es) (e ∷ insert_entry (λ a b. slice_cmp nat_cmp (bytes a) (bytes b)) es key mode))
+          ≡ cond (same_text (bytes key) k) (Some mode) (cond (is_eq (slice_cmp nat_cmp k (bytes e.0))) (Some e.1) (lookup (λ v. is_eq (slice_cmp nat_cmp k (bytes v))) es))
+      by Less is rest = ap (λ b. cond b (Some mode) (cond (is_eq (slice_cmp nat_cmp k (bytes e.0))) (Some e.1) (lookup (λ v. is_eq (slice_cmp nat_cmp k (bytes v))) es))) (text_test k (bytes key) ∙ flipped k (bytes key))
+      by Equal is rest =
+          let same : bytes key ≡ bytes e.0 = same_is (bytes key) (bytes e.0) (sym (text_test (bytes key) (bytes e.0)) ∙ ap is_eq is) in
+          three (is_eq (slice_cmp nat_cmp k (bytes e.0))) (same_text (bytes key) k) (Some e.1) (Some mode) (lookup (λ v. is_eq (slice_cmp nat_cmp k (bytes v))) es)
+          (text_test k (bytes e.0) ∙ flipped k (bytes e.0) ∙ ap (λ t. same_text t k) (sym same))
+      by Greater is rest =
+          ap (cond (is_eq (slice_cmp nat_cmp k (bytes e.0))) (Some e.1)) rest
+          ∙ swap (is_eq (slice_cmp nat_cmp k (bytes e.0))) (same_text (bytes key) k) (Some e.1) (Some mode) (lookup (λ v. is_eq (slice_cmp nat_cmp k (bytes v))) es)
+          (λ t s. let here : k ≡ bytes e.0 = same_is k (bytes e.0) (sym (text_test k (bytes e.0)) ∙ t) in
+          let there : bytes key ≡ k = same_is (bytes key) k s in
+          let yes : is_eq Greater ≡ true = ap is_eq (sym is) ∙ text_test (bytes key) (bytes e.0) ∙ is_same (bytes key) (bytes e.0) (there ∙ here) in
+          let no : false ≡ true = yes in cc)
+
+  key_here : (tables : List (BTreeMap K Mode)) (m : ℕ) (new : BTreeMap K Mode) (k : List ℕ) → m < length tables → key_mode bytes k (slice_get (slice_set tables m new) m) ≡ get_by (λ other. slice_cmp nat_cmp k (bytes other)) new
+  key_here [] m new k h = absurd (omega (arith, h))
+  key_here (t ∷ ts) zero new k h = refl
+  key_here (t ∷ ts) (suc m) new k h = key_here ts m new k (omega (arith, h))
+
+  key_old : (tables : List (BTreeMap K Mode)) (m : ℕ) (old : BTreeMap K Mode) (k : List ℕ) → m < length tables → old ≡ slice_index_or tables m old → key_mode bytes k (slice_get tables m) ≡ get_by (λ other. slice_cmp nat_cmp k (bytes other)) old
+  key_old [] m old k h is = absurd (omega (arith, h))
+  key_old (t ∷ ts) zero old k h is = ap (λ table. get_by (λ other. slice_cmp nat_cmp k (bytes other)) table) (sym is)
+  key_old (t ∷ ts) (suc m) old k h is = key_old ts m old k (omega (arith, h)) is
+
+  get_other : (tables : List (BTreeMap K Mode)) (m n : ℕ) (new : BTreeMap K Mode) → (n ≡ m → ⊥) → slice_get (slice_set tables m new) n ≡ slice_get tables n
+  get_other [] m n new ne = refl
+  get_other (t ∷ ts) zero zero new ne = absurd (ne refl)
+  get_other (t ∷ ts) zero (suc n) new ne = refl
+  get_other (t ∷ ts) (suc m) zero new ne = refl
+  get_other (t ∷ ts) (suc m) (suc n) new ne = get_other ts m n new (λ e. ne (ap suc e))
+
+  pub put_segment : (anchors : BTreeMap (ℕ × ℕ) Mode) (tables : List (BTreeMap K Mode)) (old new : BTreeMap K Mode) (resource : Resource) (m : ℕ) (text : List ℕ) (key : K) (mode : Mode)
+      → resource ≡ Segment m text → bytes key ≡ text → m < length tables → old ≡ slice_index_or tables m old
+      → new.entries ≡ insert_entry (λ a b. slice_cmp nat_cmp (bytes a) (bytes b)) old.entries key mode
+      → (other : Resource) → mode_in bytes anchors (slice_set tables m new) other ≡ (if same_resource resource other then Some mode else mode_in bytes anchors tables other)
+  put_segment anchors tables old new resource m text key mode is spelled h was entries (Anchor e b) =
+      sym (ap (λ r. if same_resource r (Anchor e b) then Some mode else mode_in bytes anchors tables (Anchor e b)) is)
+  put_segment anchors tables old new resource m text key mode is spelled h was entries (Segment n k) =
+      ⊎_elim
+      (λ (e : n ≡ m).
+      let yes : (m == n) ≡ true = grind arith in
+      ap (λ i. key_mode bytes k (slice_get (slice_set tables m new) i)) e
+      ∙ key_here tables m new k h
+      ∙ ap (λ es. lookup (λ v. is_eq (slice_cmp nat_cmp k (bytes v))) es) entries
+      ∙ lookup_put old.entries key mode k
+      ∙ ap (λ t. cond (same_text t k) (Some mode) (lookup (λ v. is_eq (slice_cmp nat_cmp k (bytes v))) old.entries)) spelled
+      ∙ ap (λ v. cond (same_text text k) (Some mode) v) (sym (key_old tables m old k h was) ∙ sym (ap (λ i. key_mode bytes k (slice_get tables i)) e))
+      ∙ sym (ap (λ b. cond (b && same_text text k) (Some mode) (mode_in bytes anchors tables (Segment n k))) yes))
+      (λ (ne : n ≡ m → ⊥).
+      let no : (m == n) ≡ false = grind (arith, nat_tests) in
+      ap (key_mode bytes k) (get_other tables m n new ne)
+      ∙ sym (ap (λ b. cond (b && same_text text k) (Some mode) (mode_in bytes anchors tables (Segment n k))) no))
+      (cases_eq n m)
+      ∙ sym (ap (λ r. if same_resource r (Segment n k) then Some mode else mode_in bytes anchors tables (Segment n k)) is)

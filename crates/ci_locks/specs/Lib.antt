@@ -1,0 +1,5 @@
+pub mod Graph
+pub mod Holdings
+pub mod Regions
+pub mod Standing
+pub mod Table
