@@ -3,6 +3,7 @@ use Rattle.std.proofs.Common.{◌≡◌, inl, inr, refl, sym, ap, subst, ◌∙�
 use Rattle.std.proofs.lemmas.List.{append-nil, take_all}
 use Rattle.fp_model.specs.declared.log.Entry.{Entry}
 use Rattle.fp_model.specs.LogText.{Front, first_gate}
+use Rattle.fp_model.specs.Recovery.{Holds}
 use Rattle.fp_model.specs.State.{start}
 use Rattle.fp_restart.specs.declared.fault.RestartFault.{RestartFault}
 use Rattle.fp_restart.specs.declared.fault.RestartFault.TheVariants as fault
@@ -132,6 +133,8 @@ module _ (job : Job) (h h1 : Disk) (entries : List Entry) (law1 : IsLawful h1) (
         alone = serves.alone;
         groups = stands.groups;
         before = sym stands.all;
+        old_gate = log0.gate;
+        held = subst (λ (l : List ℕ). Holds (front_for job) l stands.groups log0.gate) (contents 0) stands.at_rest.log.holds;
         gate = log.gate;
         at_rest = subst (λ (gs : List (List Entry)). IsAtRest h2 (front_for job) gs log.gate) serves.groups serves.stands.at_rest;
         safe = safe_at_rest job (entries ++ serves.later) h2 serves.stands.groups log.gate serves.stands.account serves.stands.all serves.stands.at_rest;

@@ -70,7 +70,8 @@ pub fn ims<S: Source, T: Site>(
         → IsForeignTo job (T.disk site.old) → IsUnchanged (T.disk site.old) (T.disk site.new) }
 
     // `run` from a safe site: each line up to the first that isn't taken is answered, or a fault came. Whatever the answer
-    // is, the site stays safe, and every crash since the call's start keeps what stood.
+    // is, the site stays safe with entries of a first part of the lines, and every crash since the call's start keeps what
+    // stood.
     ensures complete { (job : Job) (earlier : ListOf Entry) → S.told source.old → T.told site.old → Asks (kinds_of exits.now) (map string_bytes words.now) (S.left source.old) command.Run job
         → IsSafe job.defs job.scripts job.scripts_text (T.disk site.old) earlier → faulty_line (S.left source.old part.Messages) ≡ None → IsOr status.Done result }
     ensures stopped { (job : Job) (earlier : ListOf Entry) (number : ℕ) → S.told source.old → T.told site.old → Asks (kinds_of exits.now) (map string_bytes words.now) (S.left source.old) command.Run job
