@@ -1,14 +1,15 @@
 -- What restarting and then serving leave of a safe site.
-use Rattle.std.proofs.Common.{◌≡◌, inl, inr, refl, sym, ap, subst, ◌∙◌, arith, ℕ, List, [], ◌++◌, length, take}
+use Rattle.std.proofs.Common.{◌≡◌, inl, inr, refl, sym, ap, subst, ◌∙◌, arith, ℕ, List, [], ◌++◌, length, map, take}
 use Rattle.std.proofs.lemmas.List.{append-nil, take_all}
 use Rattle.fp_model.specs.declared.log.Entry.{Entry}
 use Rattle.fp_model.specs.LogText.{Front, first_gate}
+use Rattle.fp_model.specs.Recovery.{Holds}
 use Rattle.fp_model.specs.State.{start}
 use Rattle.fp_restart.specs.declared.fault.RestartFault.{RestartFault}
 use Rattle.fp_restart.specs.declared.fault.RestartFault.TheVariants as fault
 use Rattle.fp_restart.specs.Restarts.{StandsFor}
 use Rattle.fp_site.specs.Disk.{Disk, Snapshot, Settles, Syncs, IsLawful}
-use Rattle.fp_site.specs.Moments.{Through}
+use Rattle.fp_site.specs.Moments.{OnlyOn, Through}
 use Rattle.fp_site.proofs.Images.{settles_again, settles_left}
 use Rattle.fp_site.proofs.Runs.{started, joined, weaker}
 use Rattle.log_groups.specs.Images.{IsAtRest, texts_of}
@@ -18,7 +19,7 @@ use Rattle.msdb_store.specs.Store.{Stored}
 use Rattle.fp_system.specs.declared.parts.Setup.{Setup}
 use Rattle.fp_system.specs.declared.status.Status.TheVariants as status
 use Rattle.fp_system.specs.Answers.{IsFault, status_of_fault}
-use Rattle.fp_system.specs.Ims.{IsAnswered}
+use Rattle.fp_system.specs.Ims.{IsAnswered, IsUnchanged}
 use Rattle.fp_system.specs.Parts.{Job, front_for}
 use Rattle.fp_system.specs.Serving.{IsAccount, StandsAt, Serves, Halts}
 use Rattle.fp_system.specs.Setups.{IsSetup, job_of}
@@ -93,9 +94,12 @@ module _ (job : Job) (h h1 : Disk) (entries : List Entry) (law1 : IsLawful h1) (
     crash = λ image settles. safe.crash image (settles_again h h1 0 image synced settles);
   }
 
-  pub halts_synced : Halts job entries h h1
-  halts_synced = record {
+  pub halts_synced : (lines : List (List ℕ)) → Halts job entries lines h h1
+  halts_synced lines = record {
     later = [];
+    rest = lines;
+    of_lines = refl;
+    alone = tt;
     safe = subst (IsSafe job.defs job.scripts job.scripts_text h1) (sym (append-nil entries)) safe_synced;
     count = 0;
     sent = sent ∙ sym (append-nil h.sent);
@@ -118,22 +122,32 @@ module _ (job : Job) (h h1 : Disk) (entries : List Entry) (law1 : IsLawful h1) (
     pub kept_served : Through h1 h2 (GoesOn job.defs job.scripts job.scripts_text h1 entries) → Through h h2 Kept
     kept_served served = joined Kept h h1 h2 kept_synced (weaker (GoesOn job.defs job.scripts job.scripts_text h1 entries) Kept h1 h2 from_old served)
 
-    pub halts_served : Halts job entries h1 h2 → Halts job entries h h2
-    halts_served halts = record { later = halts.later; safe = halts.safe; count = halts.count; sent = halts.sent ∙ ap (λ (t : List ℕ). t ++ take halts.count (lines_of_entries halts.later)) sent }
+    pub halts_served : (lines : List (List ℕ)) → Halts job entries lines h1 h2 → Halts job entries lines h h2
+    halts_served lines halts = record { later = halts.later; rest = halts.rest; of_lines = halts.of_lines; alone = halts.alone; safe = halts.safe; count = halts.count; sent = halts.sent ∙ ap (λ (t : List ℕ). t ++ take halts.count (lines_of_entries halts.later)) sent }
 
-    module _ (lines : List (List ℕ)) (store : Stored) (log : LogState) (serves : Serves job entries h1 h2 lines store log) where
+    module _ (store0 : Stored) (log0 : LogState) (lines : List (List ℕ)) (store : Stored) (log : LogState) (stands : StandsAt job entries h1 store0 log0) (serves : Serves job entries stands.groups h1 h2 lines store log) where
       pub answered : IsAnswered job entries lines h h2
       answered = record {
         later = serves.later;
         of_lines = serves.of_lines;
+        alone = serves.alone;
+        groups = stands.groups;
+        before = sym stands.all;
+        old_gate = log0.gate;
+        held = subst (λ (l : List ℕ). Holds (front_for job) l stands.groups log0.gate) (contents 0) stands.at_rest.log.holds;
+        gate = log.gate;
+        at_rest = subst (λ (gs : List (List Entry)). IsAtRest h2 (front_for job) gs log.gate) serves.groups serves.stands.at_rest;
         safe = safe_at_rest job (entries ++ serves.later) h2 serves.stands.groups log.gate serves.stands.account serves.stands.all serves.stands.at_rest;
         sent = serves.sent ∙ ap (λ (t : List ℕ). t ++ lines_of_entries serves.later) sent;
       }
 
-      pub halts_answered : Halts job entries h h2
+      pub halts_answered : Halts job entries lines h h2
       unfolding answered
       halts_answered = record {
         later = serves.later;
+        rest = [];
+        of_lines = sym (append-nil (map (λ (e : Entry). e.line) serves.later) ∙ serves.of_lines);
+        alone = serves.alone;
         safe = answered.safe;
         count = length (lines_of_entries serves.later);
         sent = answered.sent ∙ ap (λ (t : List ℕ). h.sent ++ t) (sym (take_all (length (lines_of_entries serves.later)) (lines_of_entries serves.later) (omega arith)));
@@ -141,9 +155,12 @@ module _ (job : Job) (h h1 : Disk) (entries : List Entry) (law1 : IsLawful h1) (
 
 -- ---- where nothing was done
 
-pub halts_safe : (job : Job) (h : Disk) (entries : List Entry) → IsSafe job.defs job.scripts job.scripts_text h entries → Halts job entries h h
-halts_safe job h entries safe = record {
+pub halts_safe : (job : Job) (h : Disk) (entries : List Entry) (lines : List (List ℕ)) → IsSafe job.defs job.scripts job.scripts_text h entries → Halts job entries lines h h
+halts_safe job h entries lines safe = record {
   later = [];
+  rest = lines;
+  of_lines = refl;
+  alone = tt;
   safe = subst (IsSafe job.defs job.scripts job.scripts_text h) (sym (append-nil entries)) safe;
   count = 0;
   sent = sym (append-nil h.sent);
@@ -155,3 +172,12 @@ same_synced h s left = record { before = s; left = left; this = settles_left h 0
 
 pub kept_safe : (job : Job) (h : Disk) (entries : List Entry) → IsLawful h → Through h h (IsKept job.defs job.scripts job.scripts_text h entries)
 kept_safe job h entries law = started (IsKept job.defs job.scripts job.scripts_text h entries) h law (λ s left. inl (same_synced h s left))
+
+pub unchanged_same : (h : Disk) → IsLawful h → IsUnchanged h h
+unchanged_same h law = record { contents = λ set. refl; sent = refl; crash = started (Syncs h 0) h law (same_synced h) }
+
+pub only_same : (h : Disk) → OnlyOn 0 h h
+only_same h = record {
+  now = record { contents = λ k other. refl; sent = refl };
+  crash = record { later = omega arith; keeps = λ t s earlier left. left; nothing_else = λ t s earlier left. inl left; tells_sent = λ told. told };
+}

@@ -84,6 +84,7 @@ ready_of job entries account line reply old new store of none count served = rec
   entry = served.entry;
   of_line = served.comes.of_line;
   reply_is = served.reply_is;
+  alone = served.comes.alone;
   account = account_more job entries account line served.entry served.comes;
   unsealed = served.unsealed ∙ ap (λ (es : List Entry). es ++ served.entry ∷ []) none;
   sealed = served.sealed ∙ count;

@@ -1,5 +1,5 @@
 -- One message: what each call leaves, at every moment.
-use Rattle.std.proofs.Common.{◌≡◌, inl, inr, ⊎_elim, refl, sym, ap, subst, ◌∙◌, ℕ, List, [], ◌∷◌, ◌++◌, length, take}
+use Rattle.std.proofs.Common.{◌≡◌, inl, inr, ⊎_elim, refl, sym, ap, subst, ◌∙◌, ℕ, List, [], ◌∷◌, ◌++◌, length, map, take}
 use Rattle.std.specs.Prelude.{◌⊎◌}
 use Rattle.std.proofs.lemmas.List.{append-nil}
 use Rattle.std.proofs.lemmas.List.Concat.{flat_map-cons}
@@ -14,9 +14,10 @@ use Rattle.fp_site.proofs.Runs.{started, goes_on, both, weaker}
 use Rattle.log_groups.specs.Images.{IsLog, IsAtRest, IsBeforeOrAfter, IsWithOrWithout}
 use Rattle.log_groups.specs.Kept.{IsSound, IsSafe, GoesOn, lines_of_entries}
 use Rattle.log_groups.specs.Log.{LogState}
+use Rattle.lone_region.specs.Next.{IsAlone}
 use Rattle.msdb_store.specs.Store.{Stored, IsOf}
 use Rattle.fp_system.specs.Parts.{Job, front_for}
-use Rattle.fp_system.specs.Serving.{IsAccount, StandsAt, Serves, Halts}
+use Rattle.fp_system.specs.Serving.{AreAlone, IsAccount, StandsAt, Serves, Halts}
 use Rattle.fp_system.proofs.Stands.{sound_log, safe_at_rest, one_group}
 
 -- the line of one entry
@@ -37,9 +38,12 @@ module _ (job : Job) (entries : List Entry) where
   }
 
   -- a disk at rest where nothing was done
-  pub halts_here : (h h1 : Disk) (store : Stored) (log : LogState) → h1 ≡ h → StandsAt job entries h store log → Halts job entries h h1
-  halts_here h h1 store log same stands = subst (λ (x : Disk). Halts job entries h x) (sym same) (record {
+  pub halts_here : (lines : List (List ℕ)) (h h1 : Disk) (store : Stored) (log : LogState) → h1 ≡ h → StandsAt job entries h store log → Halts job entries lines h h1
+  halts_here lines h h1 store log same stands = subst (λ (x : Disk). Halts job entries lines h x) (sym same) (record {
     later = [];
+    rest = lines;
+    of_lines = refl;
+    alone = tt;
     safe = subst (IsSafe job.defs job.scripts job.scripts_text h) (sym (append-nil entries)) (safe_at_rest job entries h stands.groups log.gate stands.account stands.all stands.at_rest);
     count = 0;
     sent = sym (append-nil h.sent);
@@ -53,7 +57,7 @@ module _ (job : Job) (entries : List Entry) where
       (subst (λ (l : List ℕ). Sound l entries) (sym (stands.at_rest.durable s left)) (sound_log job entries (h.contents 0) stands.groups log.gate stands.account stands.all stands.at_rest.log))
       (λ told. law.sent_now told s left))
 
-  module _ (h : Disk) (store : Stored) (log : LogState) (law : IsLawful h) (stands : StandsAt job entries h store log) (e : Entry) (account : IsAccount job (entries ++ e ∷ [])) where
+  module _ (h : Disk) (store : Stored) (log : LogState) (law : IsLawful h) (stands : StandsAt job entries h store log) (e : Entry) (alone : IsAlone e.outcome) (account : IsAccount job (entries ++ e ∷ [])) where
     abbrev P : Snapshot → Type 0
     P = GoesOn job.defs job.scripts job.scripts_text h entries
 
@@ -84,12 +88,12 @@ module _ (job : Job) (entries : List Entry) where
         left_sound : (image : List ℕ) → Settles h1 0 image → (left : List Entry) × Sound image left
         left_sound image s = ⊎_elim (λ sound. (entries, sound)) (λ sound. (entries ++ e ∷ [], sound)) (either_sound image (settles image s))
 
-        safe_by : (later : List Entry) → Sound (h1.contents 0) (entries ++ later) → Halts job entries h h1
-        safe_by later sound = record { later = later; safe = record { now = sound; crash = left_sound }; count = 0; sent = only.now.sent ∙ sym (append-nil h.sent) }
+        safe_by : (later : List Entry) (rest : List (List ℕ)) → e.line ∷ [] ≡ map (λ (x : Entry). x.line) later ++ rest → AreAlone later → Sound (h1.contents 0) (entries ++ later) → Halts job entries (e.line ∷ []) h h1
+        safe_by later rest lines only_one sound = record { later = later; rest = rest; of_lines = lines; alone = only_one; safe = record { now = sound; crash = left_sound }; count = 0; sent = only.now.sent ∙ sym (append-nil h.sent) }
 
-        pub halts_unsealed : Halts job entries h h1
+        pub halts_unsealed : Halts job entries (e.line ∷ []) h h1
         halts_unsealed =
-            ⊎_elim (λ sound. safe_by [] (subst (Sound (h1.contents 0)) (sym (append-nil entries)) sound)) (λ sound. safe_by (e ∷ []) sound)
+            ⊎_elim (λ sound. safe_by [] (e.line ∷ []) refl tt (subst (Sound (h1.contents 0)) (sym (append-nil entries)) sound)) (λ sound. safe_by (e ∷ []) [] refl (alone, tt) sound)
             (either_sound (h1.contents 0) (settles (h1.contents 0) (settles_contents h1 0 law1)))
 
       -- and where it didn't
@@ -117,19 +121,23 @@ module _ (job : Job) (entries : List Entry) where
           log = subst (λ (f : ℕ → List ℕ). IsLog (front_for job) (f 0) more gate1) (sym same) rest.log;
         }
 
-        pub halts_sent : (n : ℕ) → h2.sent ≡ h1.sent ++ take n line → Halts job entries h h2
+        pub halts_sent : (n : ℕ) → h2.sent ≡ h1.sent ++ take n line → Halts job entries (e.line ∷ []) h h2
         halts_sent n text = record {
           later = e ∷ [];
+          rest = [];
+          of_lines = refl;
+          alone = (alone, tt);
           safe = safe_at_rest job (entries ++ e ∷ []) h2 more gate1 account all_more rest_sent;
           count = n;
           sent = text ∙ ap (λ (t : List ℕ). t ++ take n line) only.now.sent ∙ ap (λ (t : List ℕ). h.sent ++ take n t) line_is;
         }
 
         pub serves_one : (store2 : Stored) (log2 : LogState) → (log2.gate ≡ gate1) → log2.unsealed ≡ [] → log2.sealed ≡ length (entries ++ e ∷ []) → IsOf job.defs.msdbs store2 → store2.msdbs ≡ account.last.msdbs → h2.sent ≡ h1.sent ++ line
-            → Serves job entries h h2 (e.line ∷ []) store2 log2
+            → Serves job entries stands.groups h h2 (e.line ∷ []) store2 log2
         serves_one store2 log2 gate none count of segments text = record {
           later = e ∷ [];
           of_lines = refl;
+          alone = (alone, tt);
           stands = record {
             account = account;
             groups = more;
@@ -140,5 +148,6 @@ module _ (job : Job) (entries : List Entry) where
             of = of;
             segments = segments;
           };
+          groups = refl;
           sent = text ∙ ap (λ (t : List ℕ). t ++ line) only.now.sent ∙ ap (λ (t : List ℕ). h.sent ++ t) line_is;
         }

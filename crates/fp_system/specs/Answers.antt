@@ -38,6 +38,12 @@ IsEarly (Scripts fault) = ⊤
 IsEarly (NotBuilt part) = ⊤
 IsEarly _ = ⊥
 
+-- an answer to the log that was found
+abbrev pub IsOfLog : Status → Type 0
+IsOfLog Foreign = ⊤
+IsOfLog (Damaged set at) = ⊤
+IsOfLog _ = ⊥
+
 -- an answer to the parts
 abbrev pub IsOfParts : Status → Type 0
 IsOfParts (Definitions fault) = ⊤

@@ -3,12 +3,17 @@ use Rattle.std.specs.Prelude.{◌≡◌, ℕ, ◌≤◌, List, ◌++◌, map, So
 use Rattle.fp_exits.specs.Kinds.{Kinds}
 use Rattle.fp_source.specs.declared.part.Part.{Part}
 use Rattle.fp_model.specs.declared.log.Entry.{Entry}
+use Rattle.fp_model.specs.Groups.{entries_of}
 use Rattle.fp_model.specs.LogText.{StartsWithFront}
-use Rattle.fp_site.specs.Disk.{Disk}
+use Rattle.fp_model.specs.Recovery.{Holds}
+use Rattle.fp_site.specs.Disk.{Disk, Syncs}
+use Rattle.fp_site.specs.Moments.{Through}
+use Rattle.log_groups.specs.Images.{IsAtRest}
 use Rattle.log_groups.specs.Kept.{IsSafe, lines_of_entries}
 use Rattle.fp_system.specs.declared.status.Status.{Status}
 use Rattle.fp_system.specs.declared.words.Command.{Command}
 use Rattle.fp_system.specs.Parts.{Job, IsJob, Refuses, front_for}
+use Rattle.fp_system.specs.Serving.{AreAlone, one_each}
 use Rattle.fp_system.specs.Words.{command_of}
 
 -- for an installation with these kinds of exit: the words ask for this command, and the parts are this job
@@ -25,16 +30,26 @@ pub record IsRefused (kinds : Kinds) (words : List (List ℕ)) (left : Part → 
 abbrev pub IsForeignTo : Job → Disk → Type 0
 IsForeignTo job disk = ¬ (StartsWithFront (disk.contents 0) (front_for job))
 
--- each data set and the bytes sent are as they were
+-- Each data set and the bytes sent are as they were. A crash at any moment leaves what it might have left before, the log as
+-- a sync might have left it.
 pub record IsUnchanged (old new : Disk) : Type 0 where
   pub contents : (set : ℕ) → new.contents set ≡ old.contents set
   pub sent : new.sent ≡ old.sent
+  pub crash : Through old new (Syncs old 0)
 
--- these lines are answered: behind the entries that stood before, the site safely holds one for each in order, and just
--- their reply lines were sent
+-- These lines are answered: behind the entries that stood before, the site safely holds one for each in order, in which no
+-- other region had a part, and just their reply lines were sent. The log is at rest, and has a group for each of these entries
+-- behind the groups that it held.
 pub record IsAnswered (job : Job) (earlier : List Entry) (lines : List (List ℕ)) (old new : Disk) : Type 0 where
   pub later : List Entry
   pub of_lines : map (λ e. e.line) later ≡ lines
+  pub alone : AreAlone later
+  pub groups : List (List Entry)
+  pub before : entries_of groups ≡ earlier
+  pub old_gate : ℕ
+  pub held : Holds (front_for job) (old.contents 0) groups old_gate
+  pub gate : ℕ
+  pub at_rest : IsAtRest new (front_for job) (groups ++ one_each later) gate
   pub safe : IsSafe job.defs job.scripts job.scripts_text new (earlier ++ later)
   pub sent : new.sent ≡ old.sent ++ lines_of_entries later
 

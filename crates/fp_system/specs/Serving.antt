@@ -13,8 +13,17 @@ use Rattle.fp_site.specs.Disk.{Disk}
 use Rattle.log_groups.specs.Images.{IsAtRest}
 use Rattle.log_groups.specs.Kept.{IsSafe, items_of, lines_of_entries}
 use Rattle.log_groups.specs.Log.{LogState}
+use Rattle.lone_region.specs.Next.{IsAlone}
 use Rattle.msdb_store.specs.Store.{Stored, IsOf}
 use Rattle.fp_system.specs.Parts.{Job, front_for}
+
+-- no other region, no area and no purge had a part in these entries
+abbrev pub AreAlone : List Entry → Type 0
+AreAlone entries = AllByRecursion (λ (e : Entry). IsAlone e.outcome) entries
+
+-- each of these entries as a group of its own
+abbrev pub one_each : List Entry → List (List Entry)
+one_each entries = map (λ (e : Entry). e ∷ []) entries
 
 -- Entries that may stand in a log: a serial history, whose items are fit and make of the segments loaded those of its last state.
 pub record IsAccount (job : Job) (entries : List Entry) : Type 0 where
@@ -35,16 +44,23 @@ pub record StandsAt (job : Job) (entries : List Entry) (disk : Disk) (store : St
   pub of : IsOf job.defs.msdbs store
   pub segments : store.msdbs ≡ account.last.msdbs
 
--- Messages were served: for each line in order there is one entry more, and just their reply lines were sent.
-pub record Serves (job : Job) (entries : List Entry) (old new : Disk) (lines : List (List ℕ)) (store : Stored) (log : LogState) : Type 0 where
+-- Messages were served behind these groups: for each line in order there is one entry more, in a group of its own, and just
+-- their reply lines were sent.
+pub record Serves (job : Job) (entries : List Entry) (before : List (List Entry)) (old new : Disk) (lines : List (List ℕ)) (store : Stored) (log : LogState) : Type 0 where
   pub later : List Entry
   pub of_lines : map (λ e. e.line) later ≡ lines
+  pub alone : AreAlone later
   pub stands : StandsAt job (entries ++ later) new store log
+  pub groups : stands.groups ≡ before ++ one_each later
   pub sent : new.sent ≡ old.sent ++ lines_of_entries later
 
--- However it ended: the site is safe with some entries more, and a first part of their reply lines was sent.
-pub record Halts (job : Job) (entries : List Entry) (old new : Disk) : Type 0 where
+-- However it ended: the site is safe with some entries more, which are those of a first part of the lines, and a first part
+-- of their reply lines was sent.
+pub record Halts (job : Job) (entries : List Entry) (lines : List (List ℕ)) (old new : Disk) : Type 0 where
   pub later : List Entry
+  pub rest : List (List ℕ)
+  pub of_lines : lines ≡ map (λ e. e.line) later ++ rest
+  pub alone : AreAlone later
   pub safe : IsSafe job.defs job.scripts job.scripts_text new (entries ++ later)
   pub count : ℕ
   pub sent : new.sent ≡ old.sent ++ take count (lines_of_entries later)
@@ -55,6 +71,7 @@ pub record IsReady (job : Job) (entries : List Entry) (line reply : List ℕ) (g
   pub entry : Entry
   pub of_line : entry.line ≡ line
   pub reply_is : reply ≡ line_of entry
+  pub alone : IsAlone entry.outcome
   pub account : IsAccount job (entries ++ entry ∷ [])
   pub unsealed : log.unsealed ≡ entry ∷ []
   pub sealed : log.sealed ≡ length entries

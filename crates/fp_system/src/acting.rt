@@ -1,12 +1,13 @@
 //! What the commands do on the site, once the parts are read.
+ghost use Rattle.fp_model.specs.LogText.{first_gate};
 ghost use Rattle.fp_model.specs.Messages.{lines_of};
 ghost use Rattle.fp_model.specs.declared.log.Entry.{Entry};
-ghost use Rattle.fp_restart.specs.Restarts.{IsBadAt};
+ghost use Rattle.fp_restart.specs.Replayed.{IsFirstBadAt};
 ghost use Rattle.fp_site.specs.Disk.{Disk};
-ghost use Rattle.fp_site.specs.Moments.{Through};
+ghost use Rattle.fp_site.specs.Moments.{OnlyOn, Through};
 ghost use Rattle.fp_source.specs.Source.{Rose};
 ghost use Rattle.fp_source.specs.declared.part.Part.TheVariants as part;
-ghost use Rattle.fp_system.specs.Answers.{IsEarly, IsOr, faulty_line, status_of_fault};
+ghost use Rattle.fp_system.specs.Answers.{IsEarly, IsOfLog, IsOr, faulty_line, status_of_fault};
 ghost use Rattle.fp_system.specs.Ims.{IsAnswered, IsForeignTo, IsSame, IsUnchanged};
 ghost use Rattle.fp_system.specs.Parts.{front_for};
 ghost use Rattle.fp_system.specs.Serving.{Halts};
@@ -46,7 +47,9 @@ pub(crate) fn define_on<T: Site>(alloc: Global, site: &mut T, setup: &Setup) -> 
     ensures never { result ≡ status.ReadFault → ⊥ }
     ensures cause { result ≡ status.SiteFault → Rose (T.faults site.old) (T.faults site.new) }
 
-    // A crash at any moment leaves the log as a sync might have left it before, or with no open front, or made.
+    // No other data set changes, and nothing is sent. A crash at any moment leaves the log as a sync might have left it
+    // before, or with no open front, or made.
+    ensures only { T.told site.old → OnlyOn 0 (T.disk site.old) (T.disk site.new) }
     ensures crash { T.told site.old →
         Through (T.disk site.old) (T.disk site.new) (IsBeforeOrMade (T.disk site.old) (front_for (job_of setup.now))) }
     ensures site { IsSame T.told T.faults T.holds T.keeps site.old site.new }
@@ -69,12 +72,14 @@ pub(crate) fn run_on<S: Source, T: Site>(
     ensures source_cause { result ≡ status.ReadFault → Rose (S.faults source.old) (S.faults source.new) }
     ensures site_cause { result ≡ status.SiteFault → Rose (T.faults site.old) (T.faults site.new) }
 
-    // Foreign exactly where the log doesn't begin with the front; then nothing has changed.
+    // Foreign exactly where the log doesn't begin with the front; then nothing has changed, whatever the answer is, and
+    // the same is so where the log is damaged.
     ensures foreign { T.told site.old → result ≡ status.Foreign → IsForeignTo (job_of setup.now) (T.disk site.old) }
     ensures only_foreign { T.told site.old → IsForeignTo (job_of setup.now) (T.disk site.old) → IsOr status.Foreign result }
-    ensures unchanged { T.told site.old → result ≡ status.Foreign → IsUnchanged (T.disk site.old) (T.disk site.new) }
+    ensures unchanged { T.told site.old → IsOfLog result → IsUnchanged (T.disk site.old) (T.disk site.new) }
+    ensures stays { T.told site.old → IsForeignTo (job_of setup.now) (T.disk site.old) → IsUnchanged (T.disk site.old) (T.disk site.new) }
     ensures damaged { (set at : ℕ) → T.told site.old → result ≡ status.Damaged set at →
-        (set ≡ 0) × IsBadAt setup.now.defs ((T.disk site.old).contents 0) at }
+        (set ≡ 0) × IsFirstBadAt setup.now.defs ((T.disk site.old).contents 0) (first_gate (front_for (job_of setup.now))) at }
 
     // A line only where it is the first that isn't taken.
     ensures line { (number : ℕ) → S.told source.old → result ≡ status.Line number → faulty_line (S.left source.old part.Messages) ≡ Some number }
@@ -91,7 +96,7 @@ pub(crate) fn run_on<S: Source, T: Site>(
         → result ≡ status.Line number →
         IsAnswered (job_of setup.now) earlier (take (number - 1) (lines_of (S.left source.old part.Messages))) (T.disk site.old) (T.disk site.new) }
     ensures safe { (earlier : ListOf Entry) → S.told source.old → T.told site.old → IsSafe setup.now.defs setup.now.scripts.scripts setup.now.scripts.text (T.disk site.old) earlier →
-        Halts (job_of setup.now) earlier (T.disk site.old) (T.disk site.new) }
+        Halts (job_of setup.now) earlier (lines_of (S.left source.old part.Messages)) (T.disk site.old) (T.disk site.new) }
     ensures crash { (earlier : ListOf Entry) → S.told source.old → T.told site.old → IsSafe setup.now.defs setup.now.scripts.scripts setup.now.scripts.text (T.disk site.old) earlier →
         Through (T.disk site.old) (T.disk site.new) (IsKept setup.now.defs setup.now.scripts.scripts setup.now.scripts.text (T.disk site.old) earlier) }
     ensures source { IsSame S.told S.faults S.holds S.keeps source.old source.new }

@@ -63,15 +63,15 @@ impl Server {
         requires setup { IsSetup setup.now }
         requires store { IsOf setup.now.defs.msdbs self.old.store }
         requires short { length line.now ≤ 2100 }
-        ensures ok { (entries : ListOf Entry) → T.told site.old → StandsAt (job_of setup.now) entries (T.disk site.old) self.old.store self.old.log →
-            OnOk result (Serves (job_of setup.now) entries (T.disk site.old) (T.disk site.new) (line.now ∷ []) self.new.store self.new.log) }
+        ensures ok { (entries : ListOf Entry) → T.told site.old → (stands : StandsAt (job_of setup.now) entries (T.disk site.old) self.old.store self.old.log) →
+            OnOk result (Serves (job_of setup.now) entries stands.groups (T.disk site.old) (T.disk site.new) (line.now ∷ []) self.new.store self.new.log) }
         ensures store { IsOf setup.now.defs.msdbs self.new.store }
         ensures stop { IfErr result IsOfSite }
         ensures cause { IsErrOf result status.SiteFault → Rose (T.faults site.old) (T.faults site.new) }
 
         // However it ends.
         ensures err { (entries : ListOf Entry) → T.told site.old → StandsAt (job_of setup.now) entries (T.disk site.old) self.old.store self.old.log →
-            OnErr result (Halts (job_of setup.now) entries (T.disk site.old) (T.disk site.new)) }
+            OnErr result (Halts (job_of setup.now) entries (line.now ∷ []) (T.disk site.old) (T.disk site.new)) }
         ensures later { T.faults site.old ≤ T.faults site.new }
         ensures told { T.told site.old → T.told site.new }
         ensures holds { T.holds site.new ≡ T.holds site.old }
@@ -99,15 +99,15 @@ impl Server {
         requires store { IsOf setup.now.defs.msdbs self.old.store }
         // At `Ok` each has an entry, and all reply lines were sent.
         ensures ok { (entries : ListOf Entry) → S.told source.old → T.told site.old
-            → StandsAt (job_of setup.now) entries (T.disk site.old) self.old.store self.old.log →
-            OnOk result (Serves (job_of setup.now) entries (T.disk site.old) (T.disk site.new) (lines_of (S.left source.old part.Messages)) self.new.store self.new.log) }
+            → (stands : StandsAt (job_of setup.now) entries (T.disk site.old) self.old.store self.old.log) →
+            OnOk result (Serves (job_of setup.now) entries stands.groups (T.disk site.old) (T.disk site.new) (lines_of (S.left source.old part.Messages)) self.new.store self.new.log) }
         ensures all { S.told source.old → OnOk result (faulty_line (S.left source.old part.Messages) ≡ None) }
 
         // A line ends it exactly where it is the first that isn't taken; those before it were served.
         ensures line { (number : ℕ) → S.told source.old → IsErrOf result (status.Line number) → faulty_line (S.left source.old part.Messages) ≡ Some number }
         ensures before { (entries : ListOf Entry) (number : ℕ) → S.told source.old → T.told site.old
-            → StandsAt (job_of setup.now) entries (T.disk site.old) self.old.store self.old.log → IsErrOf result (status.Line number) →
-            Serves (job_of setup.now) entries (T.disk site.old) (T.disk site.new) (take (number - 1) (lines_of (S.left source.old part.Messages))) self.new.store self.new.log }
+            → (stands : StandsAt (job_of setup.now) entries (T.disk site.old) self.old.store self.old.log) → IsErrOf result (status.Line number) →
+            Serves (job_of setup.now) entries stands.groups (T.disk site.old) (T.disk site.new) (take (number - 1) (lines_of (S.left source.old part.Messages))) self.new.store self.new.log }
         ensures stop { IfErr result IsStop }
         ensures site_cause { IsErrOf result status.SiteFault → Rose (T.faults site.old) (T.faults site.new) }
         ensures source_cause { IsErrOf result status.ReadFault → Rose (S.faults source.old) (S.faults source.new) }
@@ -115,7 +115,7 @@ impl Server {
         // However it ends.
         ensures err { (entries : ListOf Entry) → S.told source.old → T.told site.old
             → StandsAt (job_of setup.now) entries (T.disk site.old) self.old.store self.old.log →
-            OnErr result (Halts (job_of setup.now) entries (T.disk site.old) (T.disk site.new)) }
+            OnErr result (Halts (job_of setup.now) entries (lines_of (S.left source.old part.Messages)) (T.disk site.old) (T.disk site.new)) }
         ensures source { IsSame S.told S.faults S.holds S.keeps source.old source.new }
         ensures site { IsSame T.told T.faults T.holds T.keeps site.old site.new }
 

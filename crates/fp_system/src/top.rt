@@ -1,13 +1,14 @@
 //! The top call.
 ghost use Rattle.fp_exits.specs.Kinds.{kinds_of};
+ghost use Rattle.fp_model.specs.LogText.{first_gate};
 ghost use Rattle.fp_model.specs.Messages.{lines_of};
 ghost use Rattle.fp_model.specs.declared.log.Entry.{Entry};
-ghost use Rattle.fp_restart.specs.Restarts.{IsBadAt};
+ghost use Rattle.fp_restart.specs.Replayed.{IsFirstBadAt};
 ghost use Rattle.fp_site.specs.Disk.{Disk};
-ghost use Rattle.fp_site.specs.Moments.{Through};
+ghost use Rattle.fp_site.specs.Moments.{OnlyOn, Through};
 ghost use Rattle.fp_source.specs.Source.{Rose};
 ghost use Rattle.fp_source.specs.declared.part.Part.TheVariants as part;
-ghost use Rattle.fp_system.specs.Answers.{IsEarly, IsOr, IsRefusal, faulty_line};
+ghost use Rattle.fp_system.specs.Answers.{IsEarly, IsOfLog, IsOr, IsRefusal, faulty_line};
 ghost use Rattle.fp_system.specs.Ims.{Asks, IsAnswered, IsForeignTo, IsRefused, IsSame, IsUnchanged};
 ghost use Rattle.fp_system.specs.Parts.{IsJob, Job, front_for};
 ghost use Rattle.fp_system.specs.Serving.{Halts};
@@ -55,17 +56,22 @@ pub fn ims<S: Source, T: Site>(
     ensures only_foreign { (job : Job) → S.told source.old → T.told site.old → Asks (kinds_of exits.now) (map string_bytes words.now) (S.left source.old) command.Run job
         → IsForeignTo job (T.disk site.old) → IsOr status.Foreign result }
     ensures damaged { (set at : ℕ) → S.told source.old → T.told site.old → result ≡ status.Damaged set at →
-        (job : Job) × Asks (kinds_of exits.now) (map string_bytes words.now) (S.left source.old) command.Run job × (set ≡ 0) × IsBadAt job.defs ((T.disk site.old).contents 0) at }
+        (job : Job) × Asks (kinds_of exits.now) (map string_bytes words.now) (S.left source.old) command.Run job × (set ≡ 0) ×
+        IsFirstBadAt job.defs ((T.disk site.old).contents 0) (first_gate (front_for job)) at }
     ensures line { (number : ℕ) → S.told source.old → result ≡ status.Line number →
         (job : Job) × Asks (kinds_of exits.now) (map string_bytes words.now) (S.left source.old) command.Run job × (faulty_line (S.left source.old part.Messages) ≡ Some number) }
 
-    // What stays. Up to `Foreign` nothing is written, and where there is no job the site isn't touched.
+    // What stays. Where there is no job the site isn't touched. Where the log is another's, whatever the answer is, or
+    // damaged, it is synced and nothing is written.
     ensures untouched { IsEarly result → site.new ≡ site.old }
     ensures no_job { S.told source.old → ((job : Job) → IsJob (kinds_of exits.now) (S.left source.old) job → ⊥) → site.new ≡ site.old }
-    ensures unchanged { T.told site.old → result ≡ status.Foreign → IsUnchanged (T.disk site.old) (T.disk site.new) }
+    ensures unchanged { T.told site.old → IsOfLog result → IsUnchanged (T.disk site.old) (T.disk site.new) }
+    ensures stays { (job : Job) → S.told source.old → T.told site.old → Asks (kinds_of exits.now) (map string_bytes words.now) (S.left source.old) command.Run job
+        → IsForeignTo job (T.disk site.old) → IsUnchanged (T.disk site.old) (T.disk site.new) }
 
     // `run` from a safe site: each line up to the first that isn't taken is answered, or a fault came. Whatever the answer
-    // is, the site stays safe, and every crash since the call's start keeps what stood.
+    // is, the site stays safe with entries of a first part of the lines, and every crash since the call's start keeps what
+    // stood.
     ensures complete { (job : Job) (earlier : ListOf Entry) → S.told source.old → T.told site.old → Asks (kinds_of exits.now) (map string_bytes words.now) (S.left source.old) command.Run job
         → IsSafe job.defs job.scripts job.scripts_text (T.disk site.old) earlier → faulty_line (S.left source.old part.Messages) ≡ None → IsOr status.Done result }
     ensures stopped { (job : Job) (earlier : ListOf Entry) (number : ℕ) → S.told source.old → T.told site.old → Asks (kinds_of exits.now) (map string_bytes words.now) (S.left source.old) command.Run job
@@ -78,7 +84,8 @@ pub fn ims<S: Source, T: Site>(
         → IsSafe job.defs job.scripts job.scripts_text (T.disk site.old) earlier → result ≡ status.Line number →
         IsAnswered job earlier (take (number - 1) (lines_of (S.left source.old part.Messages))) (T.disk site.old) (T.disk site.new) }
     ensures safe { (job : Job) (earlier : ListOf Entry) → S.told source.old → T.told site.old → Asks (kinds_of exits.now) (map string_bytes words.now) (S.left source.old) command.Run job
-        → IsSafe job.defs job.scripts job.scripts_text (T.disk site.old) earlier → Halts job earlier (T.disk site.old) (T.disk site.new) }
+        → IsSafe job.defs job.scripts job.scripts_text (T.disk site.old) earlier →
+        Halts job earlier (lines_of (S.left source.old part.Messages)) (T.disk site.old) (T.disk site.new) }
     ensures kept { (job : Job) (earlier : ListOf Entry) → S.told source.old → T.told site.old → Asks (kinds_of exits.now) (map string_bytes words.now) (S.left source.old) command.Run job
         → IsSafe job.defs job.scripts job.scripts_text (T.disk site.old) earlier →
         Through (T.disk site.old) (T.disk site.new) (IsKept job.defs job.scripts job.scripts_text (T.disk site.old) earlier) }
@@ -90,6 +97,10 @@ pub fn ims<S: Source, T: Site>(
         IsSafe job.defs job.scripts job.scripts_text (T.disk site.new) [] }
     ensures crash { (job : Job) → S.told source.old → T.told site.old → Asks (kinds_of exits.now) (map string_bytes words.now) (S.left source.old) command.Define job →
         Through (T.disk site.old) (T.disk site.new) (IsBeforeOrMade (T.disk site.old) (front_for job)) }
+
+    // It changes no other data set than the log's, and sends nothing. A read fault leaves the site as it was.
+    ensures only { T.told site.old → command_of (map string_bytes words.now) ≡ Some command.Define → OnlyOn 0 (T.disk site.old) (T.disk site.new) }
+    ensures unread { command_of (map string_bytes words.now) ≡ Some command.Define → result ≡ status.ReadFault → site.new ≡ site.old }
 
     // `define` reads no messages.
     ensures messages { S.told source.old → command_of (map string_bytes words.now) ≡ Some command.Define →

@@ -6,13 +6,13 @@ use Rattle.log_groups.specs.Kept.{IsKept, IsSafe}
 use Rattle.std.specs.Prelude.{take, ◌-◌, []}
 use Rattle.fp_source.specs.declared.part.Part.TheVariants as part
 use Rattle.fp_system.specs.Answers.{faulty_line}
-use Rattle.fp_system.specs.Ims.{IsAnswered}
+use Rattle.fp_system.specs.Ims.{IsAnswered, IsForeignTo}
 use Rattle.fp_system.specs.Parts.{Job}
 use Rattle.fp_system.specs.Serving.{Halts}
 use Rattle.fp_system.specs.Setups.{job_of}
 use Rattle.fp_system.specs.Words.{command_of}
 use Rattle.fp_system.specs.declared.words.Command.TheVariants as command
-use Rattle.fp_system.proofs.Acted.{halts_safe, kept_safe}
+use Rattle.fp_system.proofs.Acted.{halts_safe, kept_safe, only_same, unchanged_same}
 use Rattle.fp_system.proofs.Jobs.{one_job, no_job_refused, refused_or, job_is_fault}
 use Rattle.fp_system.proofs.top.ims.Goals as goal
 
@@ -60,6 +60,20 @@ returns-in-Ok-clause-damaged g c set at s t broken =
     let named : command_of (map string_bytes c.args.words.now) ≡ Some command.Run = cc in
     let d = c.run_on.ensures.damaged set at t broken in
     (mine, record { command_is = named; job_is = is }, d.0, d.1)
+
+pub returns-in-Ok-clause-stays : goal.returns-in-Ok-clause-stays
+returns-in-Ok-clause-stays g c job s t asks foreign =
+    let left = g.S.Source.left c.args.source.now in
+    let mine = job_of c.in-Ok.setup in
+    let is = c.in-Ok.ensures.job s in
+    let same : mine ≡ job = one_job (kinds_of c.args.exits.now) left mine job is asks.job_is in
+    c.run_on.ensures.stays t (subst (λ (j : Job). IsForeignTo j (g.T.Site.disk c.args.site.now)) (sym same) foreign)
+
+pub returns-clause-stays : goal.returns-clause-stays
+returns-clause-stays g c job s t asks foreign = unchanged_same (g.T.Site.disk c.args.site.now) (g.met.T.Site.lawful c.args.site.now t)
+
+pub returns-clause-only : goal.returns-clause-only
+returns-clause-only g c t named = only_same (g.T.Site.disk c.args.site.now)
 
 pub returns-in-Ok-clause-complete : goal.returns-in-Ok-clause-complete
 returns-in-Ok-clause-complete g c job earlier s t asks safe none =
@@ -127,7 +141,8 @@ returns-in-Ok-clause-safe g c job earlier s t asks safe =
     let s1 = c.read_setup.ensures.told s in
     let messages = c.read_setup.ensures.messages s in
     let safe1 = subst (λ (j : Job). IsSafe j.defs j.scripts j.scripts_text old earlier) (sym same) safe in
-    subst (λ (j : Job). Halts j earlier old new) same (c.run_on.ensures.safe earlier s1 t safe1)
+    subst (λ (text : List ℕ). Halts job earlier (lines_of text) old new) messages
+    (subst (λ (j : Job). Halts j earlier (lines_of (g.S.Source.left c.read_setup.new.source part.Messages)) old new) same (c.run_on.ensures.safe earlier s1 t safe1))
 
 pub returns-in-Ok-clause-kept : goal.returns-in-Ok-clause-kept
 returns-in-Ok-clause-kept g c job earlier s t asks safe =
@@ -174,7 +189,7 @@ returns-clause-made g c job s asks =
 
 pub returns-clause-safe : goal.returns-clause-safe
 returns-clause-safe g c job earlier s t asks safe =
-    halts_safe job (g.T.Site.disk c.args.site.now) earlier safe
+    halts_safe job (g.T.Site.disk c.args.site.now) earlier (lines_of (g.S.Source.left c.args.source.now part.Messages)) safe
 
 pub returns-clause-kept : goal.returns-clause-kept
 returns-clause-kept g c job earlier s t asks safe =

@@ -13,8 +13,8 @@ use Rattle.fp_system.proofs.server.Server.serve.Goals as goal
 pub returns-in_err-reply-clause-err : goal.returns-in_err-reply-clause-err
 returns-in_err-reply-clause-err g c entries t stands =
     let job = job_of c.args.setup.now in
-    at_err c.from_residual.result (Halts job entries (g.T.Site.disk c.args.site.now) (g.T.Site.disk c.args.site.now))
-    (halts_here job entries (g.T.Site.disk c.args.site.now) (g.T.Site.disk c.args.site.now) c.args.self.now.store c.args.self.now.log refl stands)
+    at_err c.from_residual.result (Halts job entries (c.args.line.now ∷ []) (g.T.Site.disk c.args.site.now) (g.T.Site.disk c.args.site.now))
+    (halts_here job entries (c.args.line.now ∷ []) (g.T.Site.disk c.args.site.now) (g.T.Site.disk c.args.site.now) c.args.self.now.store c.args.self.now.log refl stands)
 
 pub returns-in_err-reply-clause-crash : goal.returns-in_err-reply-clause-crash
 returns-in_err-reply-clause-crash g c entries t stands =
@@ -38,7 +38,8 @@ returns-in_err-seal-clause-err g c entries t stands =
     let settles : (image : List ℕ) → Settles h1 0 image → IsWithOrWithout (front_for job) stands.groups c.args.self.now.log.gate (e ∷ []) image = λ image s.
     subst (λ (n : ℕ). IsWithOrWithout (front_for job) stands.groups n (e ∷ []) image) ready.gate_is
     (subst (λ (es : List Entry). IsWithOrWithout (front_for job) stands.groups c.prepare.new.self.log.gate (take 1 es) image) ready.unsealed (c.seal.ensures.settles (front_for job) stands.groups image t rest s)) in
-    at_err c.from_residual-in_err-seal.result (Halts job entries h h1) (halts_unsealed job entries h c.args.self.now.store c.args.self.now.log law stands e ready.account h1 only run law1 settles)
+    at_err c.from_residual-in_err-seal.result (Halts job entries (c.args.line.now ∷ []) h h1)
+    (subst (λ (l : List ℕ). Halts job entries (l ∷ []) h h1) ready.of_line (halts_unsealed job entries h c.args.self.now.store c.args.self.now.log law stands e ready.alone ready.account h1 only run law1 settles))
 
 pub returns-in_err-seal-clause-crash : goal.returns-in_err-seal-clause-crash
 returns-in_err-seal-clause-crash g c entries t stands =
@@ -55,7 +56,7 @@ returns-in_err-seal-clause-crash g c entries t stands =
     (subst (λ (es : List Entry). Through h h1 (IsBeforeOrAfter (front_for job) stands.groups c.prepare.new.self.log.gate (take 1 es))) ready.unsealed (c.seal.ensures.crash (front_for job) stands.groups t rest)) in
     let t1 = c.seal.ensures.told t in
     let law1 = g.met.T.Site.lawful c.seal.new.site t1 in
-    after_seal job entries h c.args.self.now.store c.args.self.now.log law stands e ready.account h1 only run
+    after_seal job entries h c.args.self.now.store c.args.self.now.log law stands e ready.alone ready.account h1 only run
 
 pub returns-in_err-send-clause-err : goal.returns-in_err-send-clause-err
 returns-in_err-send-clause-err g c entries t stands =
@@ -81,7 +82,9 @@ returns-in_err-send-clause-err g c entries t stands =
     let line = c.as_slice.result.now in
     let is = c.as_slice.ensures ∙ ready.reply_is in
     let part = c.in_err-send.ensures.part t1 in
-    at_err c.from_residual-in_err-send.result (Halts job entries h h2) (halts_sent job entries h c.args.self.now.store c.args.self.now.log law stands e ready.account h1 only run law1 gate1 rest1 line is h2 law2 (c.send.ensures.same t1) (c.send.ensures.crash t1) part.0 part.1)
+    at_err c.from_residual-in_err-send.result (Halts job entries (c.args.line.now ∷ []) h h2)
+    (subst (λ (l : List ℕ). Halts job entries (l ∷ []) h h2) ready.of_line
+    (halts_sent job entries h c.args.self.now.store c.args.self.now.log law stands e ready.alone ready.account h1 only run law1 gate1 rest1 line is h2 law2 (c.send.ensures.same t1) (c.send.ensures.crash t1) part.0 part.1))
 
 pub returns-in_err-send-clause-crash : goal.returns-in_err-send-clause-crash
 returns-in_err-send-clause-crash g c entries t stands =
@@ -106,7 +109,7 @@ returns-in_err-send-clause-crash g c entries t stands =
     let law2 = g.met.T.Site.lawful c.send.new.self (c.send.ensures.told t1) in
     let line = c.as_slice.result.now in
     let is = c.as_slice.ensures ∙ ready.reply_is in
-    after_send job entries h c.args.self.now.store c.args.self.now.log law stands e ready.account h1 only run law1 gate1 rest1 line is h2 law2 (c.send.ensures.same t1) (c.send.ensures.crash t1)
+    after_send job entries h c.args.self.now.store c.args.self.now.log law stands e ready.alone ready.account h1 only run law1 gate1 rest1 line is h2 law2 (c.send.ensures.same t1) (c.send.ensures.crash t1)
 
 pub returns-clause-crash : goal.returns-clause-crash
 returns-clause-crash g c entries t stands =
@@ -131,7 +134,7 @@ returns-clause-crash g c entries t stands =
     let law2 = g.met.T.Site.lawful c.send.new.self (c.send.ensures.told t1) in
     let line = c.as_slice.result.now in
     let is = c.as_slice.ensures ∙ ready.reply_is in
-    after_send job entries h c.args.self.now.store c.args.self.now.log law stands e ready.account h1 only run law1 gate1 rest1 line is h2 law2 (c.send.ensures.same t1) (c.send.ensures.crash t1)
+    after_send job entries h c.args.self.now.store c.args.self.now.log law stands e ready.alone ready.account h1 only run law1 gate1 rest1 line is h2 law2 (c.send.ensures.same t1) (c.send.ensures.crash t1)
 
 pub returns-clause-keeps : goal.returns-clause-keeps
 returns-clause-keeps g c first k = c.send.ensures.keeps first (c.seal.ensures.keeps first k)
@@ -162,5 +165,5 @@ returns-clause-ok g c entries t stands =
     let one : c.in_ok-seal.field-0 ≡ 1 = let n = c.in_ok-seal.ensures.count in let k = ap length ready.unsealed in omega (arith, n, k) in
     let none : c.seal.new.self.unsealed ≡ [] = c.in_ok-seal.ensures.unsealed ∙ ap (λ (es : List Entry). drop c.in_ok-seal.field-0 es) ready.unsealed ∙ ap (λ (n : ℕ). drop n (e ∷ [])) one in
     let count : c.seal.new.self.sealed ≡ length (entries ++ e ∷ []) = let s = c.in_ok-seal.ensures.sealed in let k = length-append entries (e ∷ []) in omega (arith, s, one, ready.sealed, k) in
-    subst (λ (l : List ℕ). Serves job entries h h2 (l ∷ []) c.prepare.new.self.store c.seal.new.self) ready.of_line
-    (serves_one job entries h c.args.self.now.store c.args.self.now.log law stands e ready.account h1 only run law1 gate1 rest1 line is h2 law2 (c.send.ensures.same t1) (c.send.ensures.crash t1) c.prepare.new.self.store c.seal.new.self refl none count ready.of ready.segments (c.in_ok-send.ensures.sent t1))
+    subst (λ (l : List ℕ). Serves job entries stands.groups h h2 (l ∷ []) c.prepare.new.self.store c.seal.new.self) ready.of_line
+    (serves_one job entries h c.args.self.now.store c.args.self.now.log law stands e ready.alone ready.account h1 only run law1 gate1 rest1 line is h2 law2 (c.send.ensures.same t1) (c.send.ensures.crash t1) c.prepare.new.self.store c.seal.new.self refl none count ready.of ready.segments (c.in_ok-send.ensures.sent t1))

@@ -18,7 +18,8 @@ pub returns-in_err-lines-clause-err : goal.returns-in_err-lines-clause-err
 returns-in_err-lines-clause-err g c entries s t stands =
     let h = g.T.Site.disk c.args.site.now in
     let job = job_of c.args.setup.now in
-    at_err c.from_residual.result (Halts job entries h h) (halts_here job entries h h c.args.self.now.store c.args.self.now.log refl stands)
+    let lines = lines_of (g.S.Source.left c.args.source.now part.Messages) in
+    at_err c.from_residual.result (Halts job entries lines h h) (halts_here job entries lines h h c.args.self.now.store c.args.self.now.log refl stands)
 
 pub returns-in_err-lines-clause-crash : goal.returns-in_err-lines-clause-crash
 returns-in_err-lines-clause-crash g c entries s t stands =
@@ -34,7 +35,7 @@ loop-lines-init g c = record {
       let h = g.T.Site.disk c.args.site.now in
       let left = g.S.Source.left c.args.source.now part.Messages in
       let job = job_of c.args.setup.now in
-      served_none job entries h (lines_of left) (lines_ahead c.in_ok-lines.lines left) (lines_given c.in_ok-lines.lines) c.args.self.now.store c.args.self.now.log
+      served_none job entries stands.groups h (lines_of left) (lines_ahead c.in_ok-lines.lines left) (lines_given c.in_ok-lines.lines) c.args.self.now.store c.args.self.now.log
       (c.in_ok-lines.ensures.lines left) c.in_ok-lines.ensures.given
       (going_none job entries h c.args.self.now.store c.args.self.now.log (g.met.T.Site.lawful c.args.site.now t) stands);
 }
@@ -50,7 +51,7 @@ returns-in_err-line-clause-before g c entries number s t stands e =
     let given = lines_given c.loop-lines.lines in
     let next : number ≡ given + 1 =
     number_is f number (given + 1) same (λ n is. c.in_err-line.ensures.long_number n (ap (λ x. Err x) is)) (λ n is. c.in_err-line.ensures.last_number n (ap (λ x. Err x) is)) in
-    served_before (job_of c.args.setup.now) entries (g.T.Site.disk c.args.site.now) (g.T.Site.disk c.loop-lines.site) (lines_of left) (lines_ahead c.loop-lines.lines now) given
+    served_before (job_of c.args.setup.now) entries stands.groups (g.T.Site.disk c.args.site.now) (g.T.Site.disk c.loop-lines.site) (lines_of left) (lines_ahead c.loop-lines.lines now) given
     c.loop-lines.self.store c.loop-lines.self.log (inv.served entries s t stands) number next
 
 pub returns-in_err-line-clause-err : goal.returns-in_err-line-clause-err
@@ -59,7 +60,10 @@ returns-in_err-line-clause-err g c entries s t stands =
     let job = job_of c.args.setup.now in
     let h0 = g.T.Site.disk c.args.site.now in
     let h = g.T.Site.disk c.loop-lines.site in
-    at_err c.from_residual-in_err-line.result (Halts job entries h0 h) (halts_going job entries h0 h h so.served c.loop-lines.self.store c.loop-lines.self.log so.going)
+    let whole = lines_of (g.S.Source.left c.args.source.now part.Messages) in
+    let now = g.S.Source.left c.loop-lines.source part.Messages in
+    at_err c.from_residual-in_err-line.result (Halts job entries whole h0 h)
+    (halts_going job entries stands.groups h0 h h so.served c.loop-lines.self.store c.loop-lines.self.log so.going whole (lines_ahead c.loop-lines.lines now) so.splits)
 
 pub returns-in_err-line-clause-crash : goal.returns-in_err-line-clause-crash
 returns-in_err-line-clause-crash g c entries s t stands = (c.loop-lines.invariant.served entries s t stands).going.moments
@@ -73,15 +77,23 @@ returns-in_err-serve-clause-err g c entries s t stands =
     let h0 = g.T.Site.disk c.args.site.now in
     let h = g.T.Site.disk c.loop-lines.site in
     let h1 = g.T.Site.disk c.serve.new.site in
-    at_err c.from_residual-in_err-serve.result (Halts job entries h0 h1)
-    (halts_more job entries h0 h h1 so.served c.loop-lines.self.store c.loop-lines.self.log so.going (c.in_err-serve.ensures.err (entries ++ so.going.serves.later) t1 so.going.serves.stands))
+    let whole = lines_of (g.S.Source.left c.args.source.now part.Messages) in
+    let now = g.S.Source.left c.loop-lines.source part.Messages in
+    let next = g.S.Source.left c.next.new.source part.Messages in
+    let lines = c.loop-lines.lines in
+    let lines1 = c.next.new.self in
+    let line : List ℕ = c.in-Some.line in
+    let ahead = at_some c.in_ok-line.field-0 line (λ (l : List ℕ). lines_ahead lines now ≡ l ∷ lines_ahead lines1 next) c.in-Some.is (c.in_ok-line.ensures.line (inv.source.still_told s)) in
+    at_err c.from_residual-in_err-serve.result (Halts job entries whole h0 h1)
+    (halts_more job entries stands.groups h0 h h1 so.served c.loop-lines.self.store c.loop-lines.self.log so.going whole (lines_ahead lines1 next) line
+    (so.splits ∙ ap (λ (ls : List (List ℕ)). so.served ++ ls) ahead) (c.in_err-serve.ensures.err (entries ++ so.going.serves.later) t1 so.going.serves.stands))
 
 pub returns-in_err-serve-clause-crash : goal.returns-in_err-serve-clause-crash
 returns-in_err-serve-clause-crash g c entries s t stands =
     let inv = c.loop-lines.invariant in
     let so = inv.served entries s t stands in
     let t1 = inv.site.still_told t in
-    moments_more (job_of c.args.setup.now) entries (g.T.Site.disk c.args.site.now) (g.T.Site.disk c.loop-lines.site) (g.T.Site.disk c.serve.new.site) so.served
+    moments_more (job_of c.args.setup.now) entries stands.groups (g.T.Site.disk c.args.site.now) (g.T.Site.disk c.loop-lines.site) (g.T.Site.disk c.serve.new.site) so.served
     c.loop-lines.self.store c.loop-lines.self.log so.going (c.serve.ensures.crash (entries ++ so.going.serves.later) t1 so.going.serves.stands)
 
 pub loop-lines-preserved : goal.loop-lines-preserved
@@ -116,7 +128,7 @@ loop-lines-preserved g c =
           let more = at_some c.in_ok-line.field-0 line (λ (l : List ℕ). lines_given lines1 ≡ lines_given lines + 1) c.in-Some.is read.given in
           let one = c.in_ok-serve.ensures.ok (entries ++ so.going.serves.later) t1 so.going.serves.stands in
           let run = c.serve.ensures.crash (entries ++ so.going.serves.later) t1 so.going.serves.stands in
-          served_more (job_of c.args.setup.now) entries (g.T.Site.disk c.args.site.now) (g.T.Site.disk c.loop-lines.site) (lines_of left) (lines_ahead lines now) (lines_given lines)
+          served_more (job_of c.args.setup.now) entries stands.groups (g.T.Site.disk c.args.site.now) (g.T.Site.disk c.loop-lines.site) (lines_of left) (lines_ahead lines now) (lines_given lines)
           c.loop-lines.self.store c.loop-lines.self.log so (g.T.Site.disk c.serve.new.site) line (lines_ahead lines1 next) (lines_given lines1) c.serve.new.self.store c.serve.new.self.log ahead more one run;
     }
 
@@ -128,7 +140,7 @@ returns-clause-ok g c entries s t stands =
     let lines = c.loop-lines.lines in
     let none : c.in_ok-line.field-0 ≡ None = first_of (search rules, grind rules, cc) in
     let ahead = at_none c.in_ok-line.field-0 (to_come lines now ≡ []) none (c.in_ok-line.ensures.none (inv.source.still_told s)) in
-    served_all (job_of c.args.setup.now) entries (g.T.Site.disk c.args.site.now) (g.T.Site.disk c.loop-lines.site) (lines_of left) (lines_ahead lines now) (lines_given lines)
+    served_all (job_of c.args.setup.now) entries stands.groups (g.T.Site.disk c.args.site.now) (g.T.Site.disk c.loop-lines.site) (lines_of left) (lines_ahead lines now) (lines_given lines)
     c.loop-lines.self.store c.loop-lines.self.log (inv.served entries s t stands) (ap lines_of ahead)
 
 pub returns-clause-crash : goal.returns-clause-crash
