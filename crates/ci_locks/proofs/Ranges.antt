@@ -75,9 +75,10 @@ module _ (held : BTreeMap (ℕ × ℕ) Mode) (d first last : ℕ) where
   pub none_is : (low high : ℕ × ℕ) (es : List ((ℕ × ℕ) × Mode)) → low ≡ (d, first) → high ≡ (d, last) → IsRangeOf anchor_cmp (Included low) (Included high) held es → es ≡ []
       → (anchor : ℕ) → first ≤ anchor → anchor ≤ last → get anchor_cmp held (d, anchor) ≡ None
   none_is low high es low_is high_is range empty anchor from to =
-      range.5 empty (d, anchor)
-      ((ap (λ k. is_gt (anchor_cmp k (d, anchor))) low_is ∙ both_not_gt (nat_cmp d d) (nat_cmp first anchor) (not_gt d d (search arith)) (not_gt first anchor from)),
-      (ap (λ k. is_gt (anchor_cmp (d, anchor) k)) high_is ∙ both_not_gt (nat_cmp d d) (nat_cmp anchor last) (not_gt d d (search arith)) (not_gt anchor last to)))
+      range.5 empty (d, anchor) (
+        (ap (λ k. is_gt (anchor_cmp k (d, anchor))) low_is ∙ both_not_gt (nat_cmp d d) (nat_cmp first anchor) (not_gt d d (search arith)) (not_gt first anchor from)),
+        (ap (λ k. is_gt (anchor_cmp (d, anchor) k)) high_is ∙ both_not_gt (nat_cmp d d) (nat_cmp anchor last) (not_gt d d (search arith)) (not_gt anchor last to)),
+      )
 
   -- so an entry that the range begins with is one
   pub first_is : (low high : ℕ × ℕ) (es : List ((ℕ × ℕ) × Mode)) (e : (ℕ × ℕ) × Mode) (rest : List ((ℕ × ℕ) × Mode)) → low ≡ (d, first) → high ≡ (d, last) → IsRangeOf anchor_cmp (Included low) (Included high) held es → es ≡ e ∷ rest
