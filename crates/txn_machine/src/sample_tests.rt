@@ -298,7 +298,7 @@ fn runs(alloc: Global, tran: &str, text: &str, turns: &[Turn], end: End) -> Resu
 fn deposit(rt: HostRuntime) -> Result<(), Fail> {
     let asked = b"FLD 0 A001,BAL      +\x00\x0210 ";
     let done = [lettered(asked, b"  ", b" ")];
-    let failed = [lettered(asked, b"FE", b"E")];
+    let failed = [lettered(asked, b"FE", b"G")];
     assert!(rt; runs(rt.alloc(), "DEPOSIT", "A001 10", &done, End::Reply("NEW"))?);
     assert!(rt; runs(rt.alloc(), "DEPOSIT", "A001 10", &failed, End::Roll(1))?);
     Ok(())

@@ -1,6 +1,5 @@
-use Rattle.std.proofs.Common.{◌≡◌, ◌∙◌, sym, ap, refl, subst, ℕ, ◌<◌, List, length, Bool, true, false, cond, Option, Some, None, nat_lt}
-use Rattle.std.specs.Prelude.{IfSome, position}
-use Rattle.std.specs.List.{position_or_len}
+use Rattle.std.proofs.Common.{◌≡◌, sym, refl, subst, ℕ, ◌<◌, length, Bool, true, false, cond, Option, Some, None, nat_lt}
+use Rattle.std.specs.Prelude.{IfSome}
 use Rattle.std.proofs.lemmas.Bool.{ltb-true}
 use Rattle.txn_machine.proofs.sample_tests.number_of.Goals as goal
 
