@@ -13,7 +13,7 @@ use std::test::Fail;
 use txn_lang::{ScriptFault, Scripts, parse};
 
 // The name with these letters, at most 8.
-fn named(letters: &str) -> Name {
+pub(crate) fn named(letters: &str) -> Name {
     let mut name = [b' '; 8];
     for (place, byte) in name.iter_mut().zip(letters.as_bytes()) {
         *place = *byte;
@@ -62,7 +62,7 @@ fn segment(name: &str, parent: Option<u8>, sequential: bool, fields: List<FieldD
 }
 
 // The sample's databases: ACCTS 0, TELLERS 1, and CUST 2 with CUSTOMER, AUDIT and LOAN.
-fn sample(alloc: Global) -> Result<Defs, AllocError> {
+pub(crate) fn sample(alloc: Global) -> Result<Defs, AllocError> {
     let mut msdbs = List::new(alloc);
     let accts = two_fields(
         alloc,
@@ -133,14 +133,14 @@ fn fits(defs: &Defs) -> bool
 }
 
 // What a text is by the sample's definitions.
-fn read(alloc: Global, defs: &Defs, text: &str) -> Result<Scripts, ScriptFault> {
+pub(crate) fn read(alloc: Global, defs: &Defs, text: &str) -> Result<Scripts, ScriptFault> {
     if !fits(defs) {
         return Err(ScriptFault::Memory);
     }
     parse(alloc, text.as_bytes(), defs)
 }
 
-fn message(alloc: Global, text: &str) -> Result<Message, AllocError> {
+pub(crate) fn message(alloc: Global, text: &str) -> Result<Message, AllocError> {
     Ok(Message {
         lterm: named("T1"),
         tran: named("A"),
