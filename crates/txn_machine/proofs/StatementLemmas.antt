@@ -1,5 +1,5 @@
--- What a choice and a field call do.
-use Rattle.std.proofs.Common.{◌≡◌, ◌∙◌, refl, sym, ap, subst, ℕ, List, [], map, Bool, true, false, if◌then◌else◌, Option, Some, None, Result, Ok, Err}
+-- What a choice, a loop and a field call do.
+use Rattle.std.proofs.Common.{◌≡◌, ◌∙◌, refl, sym, ap, subst, ℕ, zero, suc, List, [], ◌∷◌, map, Bool, true, false, if◌then◌else◌, Option, Some, None, Result, Ok, Err}
 use Rattle.fp_model.specs.declared.calls.Message.{Message}
 use Rattle.fp_model.specs.declared.calls.Call.{Call}
 use Rattle.fp_model.specs.declared.definitions.Defs.{Defs}
@@ -7,19 +7,20 @@ use Rattle.fp_model.specs.declared.scripts.Operand.{Operand}
 use Rattle.fp_model.specs.declared.scripts.Comparison.{Comparison}
 use Rattle.fp_model.specs.declared.scripts.FsaText.{FsaText}
 use Rattle.fp_model.specs.declared.scripts.Statement.{Statement, out-Statement, map-Statement}
-use Rattle.fp_model.specs.declared.scripts.Statement.TheVariants.{If, Fld, rolls-If, rolls-Fld}
+use Rattle.fp_model.specs.declared.scripts.Statement.TheVariants.{If, Repeat, Fld, rolls-If, rolls-Repeat, rolls-Fld}
 use Rattle.fp_model.specs.declared.scripts.Statement.{out-roll-Statement}
 use Rattle.fp_model.specs.declared.scripts.Statement.TheOpen as open_statement
-use Rattle.fp_model.specs.Programs.{Env, Way, Ends, Rolls, or_rolls, in_order, called, run, run_step, chosen, fld_call}
+use Rattle.fp_model.specs.Programs.{Env, Way, Goes, Ends, Rolls, or_rolls, in_order, loops_on, times, called, run, run_step, chosen, fld_call}
 use Rattle.fp_model.specs.declared.scripts.Statement.TheFolds.{fold_out-Statement}
 use Rattle.txn_machine.specs.declared.doing.Deed.{Deed}
+use Rattle.txn_machine.specs.declared.doing.Deed.TheVariants as deed
 use Rattle.txn_machine.specs.declared.known.Known.{Known}
 use Rattle.txn_machine.specs.declared.stop.Stop.{Stop}
 use Rattle.txn_machine.specs.declared.stop.Stop.TheVariants as stop
-use Rattle.txn_machine.specs.Doing.{Tries, Does, block_of}
+use Rattle.txn_machine.specs.Doing.{Tries, Does, block_of, deed_of_loop, way_of}
 use Rattle.txn_machine.specs.Giving.{Stops}
 use Rattle.txn_machine.specs.Knowing.{env_of}
-use Rattle.txn_machine.specs.Places.{choice_in}
+use Rattle.txn_machine.specs.Places.{choice_in, loop_in}
 
 pub is_choice : (s : Statement) (left : Operand) (comparison : Comparison) (right : Operand) (taken otherwise : List Statement) → s ≡ If left comparison right taken otherwise
     → out-Statement s ≡ open_statement.If left comparison right taken otherwise
@@ -27,6 +28,14 @@ is_choice s left comparison right taken otherwise is = ap out-Statement (is ∙ 
 
 pub is_fld : (s : Statement) (db : ℕ) (key : Operand) (fsas : List FsaText) → s ≡ Fld db key fsas → out-Statement s ≡ open_statement.Fld db key fsas
 is_fld s db key fsas is = ap out-Statement (is ∙ sym (rolls-Fld db key fsas)) ∙ out-roll-Statement (open_statement.Fld db key fsas)
+
+pub is_loop : (s : Statement) (n : ℕ) (body : List Statement) → s ≡ Repeat n body → out-Statement s ≡ open_statement.Repeat n body
+is_loop s n body is = ap out-Statement (is ∙ sym (rolls-Repeat n body)) ∙ out-roll-Statement (open_statement.Repeat n body)
+
+-- so many turns of nothing are nothing
+turns_of_nothing : (n : ℕ) (env : Env) → times n (in_order []) env ≡ Goes env
+turns_of_nothing zero env = refl
+turns_of_nothing (suc n) env = turns_of_nothing n env
 
 module _ (defs : Defs) (message : Message) where
   -- a statement's run, as one step over the runs of the statements in it
@@ -56,6 +65,17 @@ module _ (defs : Defs) (message : Message) where
   choice_none s left comparison right taken otherwise env is none =
       run_out s (open_statement.If left comparison right taken otherwise) env is
       ∙ ap (λ (o : Option Bool). or_rolls o (λ b. (if b then in_order (map (run defs message) taken) else in_order (map (run defs message) otherwise)) env)) none
+
+  -- a loop
+  loop_way : (s : Statement) (n : ℕ) (body : List Statement) (env : Env) → out-Statement s ≡ open_statement.Repeat n body → times n (in_order (map (run defs message) body)) env ≡ way_of defs message s (deed_of_loop n body) env
+  loop_way s n [] env is = turns_of_nothing n env
+  loop_way s zero (b ∷ body) env is = refl
+  loop_way s (suc n) (b ∷ body) env is = ap (λ (d : open_statement.Statement-F Statement). loops_on (block_of defs message (loop_in d) env) (times n (block_of defs message (loop_in d)))) (sym is)
+
+  pub loop_runs : (s : Statement) (n : ℕ) (body : List Statement) (did : Deed) (env : Env) → out-Statement s ≡ open_statement.Repeat n body → did ≡ deed_of_loop n body
+      → run defs message s env ≡ way_of defs message s did env
+  loop_runs s n body did env is to =
+      run_out s (open_statement.Repeat n body) env is ∙ loop_way s n body env is ∙ ap (λ (x : Deed). way_of defs message s x env) (sym to)
 
   -- a field call
   pub fld_runs : (s : Statement) (db : ℕ) (key : Operand) (fsas : List FsaText) (asked : Call) (env : Env)

@@ -1,5 +1,5 @@
 -- What a statement does, as the code says it.
-use Rattle.std.specs.Prelude.{◌≡◌, ⊤, ℕ, zero, suc, List, [], map, Bool, Some, Result, Ok, Err}
+use Rattle.std.specs.Prelude.{◌≡◌, ⊤, ℕ, zero, suc, List, [], ◌∷◌, map, Bool, Some, Result, Ok, Err}
 use Rattle.std.specs.List.{AllByRecursion}
 use Rattle.fp_model.specs.Fsas.{Fsa, IsFsa}
 use Rattle.fp_model.specs.declared.scripts.Statement.TheOpen.{Statement-F, Set, If, Repeat, Break, Reply, Roll, Get, Fld, Isrt, Repl, Dlet}
@@ -36,10 +36,11 @@ module _ (defs : Defs) (message : Message) where
 abbrev pub Does : Defs → Known → Statement → Deed → Type 0
 Does defs known s did = (more : List Answer) → run defs known.message s (env_of known more) ≡ way_of defs known.message s did (env_of known more)
 
--- what REPEAT does: it runs once, and the other times more
-abbrev pub deed_of_loop : ℕ → Deed
-deed_of_loop zero = deed.Pass
-deed_of_loop (suc n) = deed.Repeat n
+-- what REPEAT does: its block runs once, and the other times more; an empty block is passed, whatever the times
+abbrev pub deed_of_loop : ℕ → List Statement → Deed
+deed_of_loop times [] = deed.Pass
+deed_of_loop zero (s ∷ body) = deed.Pass
+deed_of_loop (suc n) (s ∷ body) = deed.Repeat n
 
 -- what a try says of it; code 99 where there is no value, and nothing after want of memory
 abbrev pub Tries : Defs → Known → Statement → Result Deed Stop → Type 0

@@ -17,7 +17,7 @@ const NO_VALUE: u16 = 99;
 pub(crate) enum Deed {
     /// Sets a variable.
     Set(Name, Bytes),
-    /// Nothing: a loop that runs no time.
+    /// Nothing: a loop that runs no time, or has an empty block.
     Pass,
     /// Runs the first block of an IF where it holds, and else the other.
     Choose(bool),
@@ -33,12 +33,13 @@ pub(crate) enum Deed {
     Ask(Call),
 }
 
-// A loop: it runs once, and the other times more.
-fn repeated(times: u32) -> Deed
-    ensures loops { result ≡ deed_of_loop times }
+// A loop: its block runs once, and the other times more. An empty block is passed at once, so that a step of a script
+// is never for nothing.
+fn repeated(times: u32, body: &[Statement]) -> Deed
+    ensures loops { result ≡ deed_of_loop times body.now }
     ensures no_call { IsCall result → ⊥ }
 {
-    if times == 0 {
+    if times == 0 || body.is_empty() {
         Deed::Pass
     } else {
         Deed::Repeat(times - 1)
@@ -64,7 +65,7 @@ impl Known {
                 right,
                 ..
             } => Ok(Deed::Choose(self.chosen(defs, left, *comparison, right)?)),
-            Statement::Repeat { times, .. } => Ok(repeated(*times)),
+            Statement::Repeat { times, body } => Ok(repeated(*times, body.as_slice())),
             Statement::Break => Ok(Deed::Leave),
             Statement::Reply(operands) => Ok(Deed::Reply(self.reply_text(defs, operands)?)),
             Statement::Roll(code) => Ok(Deed::Roll(*code)),

@@ -294,10 +294,12 @@ fn no_values(rt: HostRuntime) -> Result<(), Fail> {
     Ok(())
 }
 
-fn loop_cases() -> [(&'static str, &'static str); 4] {
+fn loop_cases() -> [(&'static str, &'static str); 5] {
     [
         ("REPEAT 3\nSET V V & 'x'\nEND\nREPLY V", "xxx"),
         ("REPEAT 10000\nEND\nREPLY 'done'", "done"),
+        // The inner loops together are 90,000,000 turns of nothing.
+        ("REPEAT 9000\nREPEAT 10000\nEND\nEND\nREPLY 'done'", "done"),
         (
             "REPEAT 2\nREPEAT 3\nSET V V & 'i'\nBREAK\nEND\nSET V V & 'o'\nEND\nREPLY V",
             "ioio",

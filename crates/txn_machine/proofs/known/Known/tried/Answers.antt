@@ -1,8 +1,9 @@
 use Rattle.std.proofs.Common.{rules, ◌≡◌, Err}
 use Rattle.fp_model.specs.declared.scripts.Statement.{out-Statement}
 use Rattle.fp_model.specs.declared.scripts.Statement.TheOpen as open_statement
+use Rattle.txn_machine.specs.Doing.{deed_of_loop}
 use Rattle.txn_machine.specs.Knowing.{env_of}
-use Rattle.txn_machine.proofs.StatementLemmas.{choice_runs, choice_stops, fld_runs, fld_stops, is_choice, is_fld}
+use Rattle.txn_machine.proofs.StatementLemmas.{choice_runs, choice_stops, fld_runs, fld_stops, is_choice, is_fld, is_loop, loop_runs}
 use Rattle.txn_machine.proofs.known.Known.tried.Goals as goal
 
 pub returns-in_ok-chosen-in-If-clause-does : goal.returns-in_ok-chosen-in-If-clause-does
@@ -30,3 +31,9 @@ returns-in_err-fld_call-in-Fld-clause-does c =
     let to : c.from_residual-in_err-fld_call-in-Fld.result ≡ Err e = search rules in
     let is : out-Statement c.args.statement.now ≡ open_statement.Fld c.in-Fld.db c.in-Fld.key c.in-Fld.fsas = is_fld c.args.statement.now c.in-Fld.db c.in-Fld.key c.in-Fld.fsas c.in-Fld.is in
     fld_stops c.args.defs.now c.args.self.now c.args.statement.now c.in-Fld.db c.in-Fld.key c.in-Fld.fsas e _ is c.in_err-fld_call-in-Fld.ensures.gives to
+
+pub returns-in-Repeat-clause-does : goal.returns-in-Repeat-clause-does
+returns-in-Repeat-clause-does c = λ more.
+    let is : out-Statement c.args.statement.now ≡ open_statement.Repeat c.in-Repeat.times c.in-Repeat.body = is_loop c.args.statement.now c.in-Repeat.times c.in-Repeat.body c.in-Repeat.is in
+    let to : c.repeated.result ≡ deed_of_loop c.in-Repeat.times c.in-Repeat.body = search rules in
+    loop_runs c.args.defs.now c.args.self.now.message c.args.statement.now c.in-Repeat.times c.in-Repeat.body c.repeated.result (env_of c.args.self.now more) is to
