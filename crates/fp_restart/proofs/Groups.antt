@@ -1,5 +1,5 @@
 -- Groups that were read one after another, and what a whole reading has of them.
-use Rattle.std.proofs.Common.{◌≡◌, ◌≢◌, ℕ, ◌+◌, ◌<◌, ◌≤◌, ◌^◌, List, [], ◌∷◌, ◌++◌, length, drop, refl, sym, ◌∙◌, ap, arith, append_assoc}
+use Rattle.std.proofs.Common.{◌≡◌, ◌≢◌, ◌⊎◌, inl, inr, ⊎_elim, ℕ, ◌+◌, ◌<◌, ◌≤◌, ◌^◌, List, [], ◌∷◌, ◌++◌, length, drop, refl, sym, ◌∙◌, ap, arith, append_assoc}
 use Rattle.std.specs.Prelude.{slice_index}
 use Rattle.std.specs.List.{AllByRecursion}
 use Rattle.std.proofs.lemmas.List.{length-append, length-drop}
@@ -31,35 +31,30 @@ stands_further bytes at es next has small =
     let next_is = has.next_is in
     (omega (arith, long), omega (arith, long, all, length-drop at bytes), omega (arith, long))
 
--- ---- what a whole reading has
+-- ---- two ways through the same bytes
 
--- bytes that begin with no group
-abbrev Stops : List ℕ → Type 0
-Stops bytes = (entries : List Entry) (rest : List ℕ) → IsGroup entries → bytes ≢ group_text entries ++ rest
-
-groups-cons : (es : List Entry) (gs : List (List Entry)) (rest : List ℕ) → groups_text (es ∷ gs) ++ rest ≡ group_text es ++ (groups_text gs ++ rest)
+pub groups-cons : (es : List Entry) (gs : List (List Entry)) (rest : List ℕ) → groups_text (es ∷ gs) ++ rest ≡ group_text es ++ (groups_text gs ++ rest)
 groups-cons es gs rest = ap (λ (t : List ℕ). t ++ rest) (flat_map-cons group_text es gs) ∙ append_assoc (group_text es) (groups_text gs) rest
 
--- of two lists of groups over the same bytes, the one that goes on until none begins has the other in front
-goes_further : (gs hs : List (List Entry)) (x y : List ℕ) → AllByRecursion IsGroup gs → AllByRecursion IsGroup hs → Stops y → groups_text gs ++ x ≡ groups_text hs ++ y
-    → (more : List (List Entry)) × (hs ≡ gs ++ more)
-goes_further [] hs x y hg hh sy h = (hs, refl)
-goes_further (es ∷ gs) [] x y hg hh sy h = absurd (sy es (groups_text gs ++ x) hg.0 (sym h ∙ groups-cons es gs x))
-goes_further (es ∷ gs) (fs ∷ hs) x y hg hh sy h =
+-- the second list of groups goes on where the first ends, over what is left there
+abbrev pub GoesFurther : (gs hs : List (List Entry)) (x y : List ℕ) → Type 0
+GoesFurther gs hs x y = (more : List (List Entry)) × (hs ≡ gs ++ more) × (x ≡ groups_text more ++ y) × AllByRecursion IsGroup more
+
+-- of two lists of groups over the same bytes one goes on where the other ends
+pub one_goes_further : (gs hs : List (List Entry)) (x y : List ℕ) → AllByRecursion IsGroup gs → AllByRecursion IsGroup hs → groups_text gs ++ x ≡ groups_text hs ++ y
+    → GoesFurther gs hs x y ⊎ GoesFurther hs gs y x
+one_goes_further [] hs x y hg hh h = inl (hs, refl, h, hh)
+one_goes_further (es ∷ gs) [] x y hg hh h = inr (es ∷ gs, refl, sym h, hg)
+one_goes_further (es ∷ gs) (fs ∷ hs) x y hg hh h =
     let a = one_group es fs (groups_text gs ++ x) (groups_text hs ++ y) hg.0 hh.0 (sym (groups-cons es gs x) ∙ h ∙ groups-cons fs hs y) in
-    let b = goes_further gs hs x y hg.1 hh.1 sy a.1 in
-    (b.0, ap (λ e. e ∷ hs) (sym a.0) ∙ ap (λ l. es ∷ l) b.1)
+    ⊎_elim
+    (λ (b : GoesFurther gs hs x y). inl (b.0, ap (λ e. e ∷ hs) (sym a.0) ∙ ap (λ l. es ∷ l) b.1, b.2, b.3))
+    (λ (b : GoesFurther hs gs y x). inr (b.0, ap (λ e. e ∷ gs) a.0 ∙ ap (λ l. fs ∷ l) b.1, b.2, b.3))
+    (one_goes_further gs hs x y hg.1 hh.1 a.1)
 
--- where the gate isn't open no group begins
-closed_stops : (bytes : List ℕ) (gate : ℕ) → slice_index bytes gate ≢ 1 → Stops (drop gate bytes)
-closed_stops bytes gate closed es rest group h = closed (head_is bytes gate 1 (be64 (length (body_text es)) ++ body_text es ++ rest) h)
-
--- a whole reading has the groups that were read, the next one, and more
-pub has_next : (bytes : List ℕ) (first : ℕ) (gs hs : List (List Entry)) (at gate next : ℕ) (es : List Entry) → HoldsGroups bytes first gs at → HasGroup bytes at es next → Reads bytes first (Groups hs gate)
-    → (more : List (List Entry)) × (hs ≡ (gs ++ es ∷ []) ++ more)
-has_next bytes first gs hs at gate next es holds has reads =
-    let both = groups_more bytes first gs at es next holds has in
-    goes_further (gs ++ es ∷ []) hs (drop next bytes) (drop gate bytes) both.each reads.0.each (closed_stops bytes gate reads.1) (sym both.text ∙ reads.0.text)
+-- a group that begins there opens the gate
+pub group_opens : (bytes : List ℕ) (gate : ℕ) (es : List Entry) (rest : List ℕ) → drop gate bytes ≡ group_text es ++ rest → slice_index bytes gate ≡ 1
+group_opens bytes gate es rest h = head_is bytes gate 1 (be64 (length (body_text es)) ++ body_text es ++ rest) h
 
 -- ---- one reading
 

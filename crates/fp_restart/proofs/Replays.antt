@@ -1,8 +1,9 @@
 -- Reading a log group by group, and what that gives of a sound log.
-use Rattle.std.proofs.Common.{◌≡◌, ◌≢◌, ⊎_elim, ℕ, ◌+◌, List, [], ◌∷◌, ◌++◌, length, refl, sym, ◌∙◌, ap, subst, arith}
+use Rattle.std.proofs.Common.{◌≡◌, ◌≢◌, ⊎_elim, ℕ, ◌+◌, List, [], ◌∷◌, ◌++◌, length, drop, refl, sym, ◌∙◌, ap, subst, arith}
 use Rattle.std.specs.Prelude.{slice_index}
 use Rattle.std.specs.List.{AllByRecursion}
-use Rattle.std.proofs.lemmas.List.{length-append}
+use Rattle.std.proofs.lemmas.List.{append-nil, length-append}
+use Rattle.std.proofs.lemmas.List.Concat.{flat_map-cons}
 use Rattle.std.proofs.lemmas.List.Sums.{fold-append}
 use Rattle.fp_model.proofs.HistoryLemmas.{one_end}
 use Rattle.fp_model.specs.declared.definitions.Defs.{Defs}
@@ -12,24 +13,24 @@ use Rattle.fp_model.specs.declared.log.Entry.{Entry}
 use Rattle.fp_model.specs.declared.log.Item.{Item}
 use Rattle.fp_model.specs.declared.log.Item.TheVariants.{Segment, Image}
 use Rattle.fp_model.specs.declared.scripts.Script.{Script}
-use Rattle.fp_model.specs.Groups.{Groups, Damage, IsDamaged, entries_of}
+use Rattle.fp_model.specs.Groups.{HoldsGroups, IsDamaged, IsGroup, entries_of}
 use Rattle.fp_model.specs.Items.{IsFit, with_item, with_items}
-use Rattle.fp_model.specs.LogText.{Front, StartsWithFront, first_gate}
+use Rattle.fp_model.specs.LogText.{Front, StartsWithFront, first_gate, group_text, groups_text}
 use Rattle.fp_model.specs.Product.{rules_of}
 use Rattle.fp_model.specs.Recovery.{Holds, front_of}
 use Rattle.fp_model.specs.State.{start}
 use Rattle.fp_site.specs.Disk.{Disk, IsDurable}
 use Rattle.fp_site.proofs.Images.{durable_settles}
-use Rattle.log_format.proofs.GroupLaws.{one_reading}
+use Rattle.log_format.proofs.GroupLaws.{one_group}
 use Rattle.log_groups.proofs.LogImages.{all-append, groups_more}
 use Rattle.log_groups.specs.Images.{IsAtRest, IsLog}
 use Rattle.log_groups.specs.Kept.{IsSafe, IsSound, items_of}
 use Rattle.log_groups.specs.Log.{LogState}
 use Rattle.msdb_store.specs.Store.{IsFitSegment, IsOf, Stored}
-use Rattle.fp_restart.specs.Replayed.{IsFirstBadAt, IsReplayed, IsTaken}
+use Rattle.fp_restart.specs.Replayed.{IsFirstBadAt, IsReadable, IsReplayed, IsTaken}
 use Rattle.fp_restart.specs.Restarts.{HasUnfit, IsBadAt, StandsFor}
 use Rattle.fp_restart.proofs.Fits.{all-back, all-front, entries-append, entries-more, items-append}
-use Rattle.fp_restart.proofs.Groups.{has_next, same_reading}
+use Rattle.fp_restart.proofs.Groups.{GoesFurther, group_opens, groups-cons, one_goes_further, same_reading}
 
 -- fit items are fit for the store
 pub fit_segments : (defs : Defs) (items : List Item) → AllByRecursion (IsFit defs) items → AllByRecursion (IsFitSegment defs.msdbs) items
@@ -71,6 +72,63 @@ module _ (defs : Defs) (log : List ℕ) where
   pub first_bad : (first at count : ℕ) (before now : List Msdb) → IsReplayed defs log (record { first = first; at = at; count = count }) before now → IsBadAt defs log at → IsFirstBadAt defs log first at
   first_bad first at count before now so_far bad = record { groups = so_far.groups; holds = so_far.holds; bad = bad }
 
+  -- groups behind others: the next one has items that fit
+  next_fits : (gs : List (List Entry)) (es : List Entry) (more : List (List Entry)) → AllByRecursion (IsFit defs) (items_of (entries_of (gs ++ es ∷ more))) → AllByRecursion (IsFit defs) (items_of es)
+  next_fits gs es more all =
+      let behind = all-back (IsFit defs) (items_of (entries_of gs)) (items_of (entries_of (es ∷ more)))
+          (subst (AllByRecursion (IsFit defs)) (ap items_of (entries-append gs (es ∷ more)) ∙ items-append (entries_of gs) (entries_of (es ∷ more))) all) in
+      all-front (IsFit defs) (items_of es) (items_of (entries_of more))
+      (subst (AllByRecursion (IsFit defs)) (ap items_of (flat_map-cons (λ (x : List Entry). x) es more) ∙ items-append es (entries_of more)) behind)
+
+  -- a place where a group stands whose items fit isn't bad
+  fit_not_bad : (at : ℕ) (es : List Entry) (rest : List ℕ) → IsGroup es → drop at log ≡ group_text es ++ rest → AllByRecursion (IsFit defs) (items_of es) → IsBadAt defs log at → ⊥
+  fit_not_bad at es rest group text fit bad =
+      ⊎_elim
+      (λ (d : IsDamaged log at). d.no_group es rest group text)
+      (λ (u : HasUnfit defs log at). u.unfit (subst (λ l. AllByRecursion (IsFit defs) (items_of l)) (one_group es u.entries rest (drop u.next log) group u.group.group (sym text ∙ u.group.text)).0 fit))
+      bad
+
+  -- groups that fit and go on behind a place show that it isn't bad, unless there is none
+  further_not_bad : (at : ℕ) (gs hs : List (List Entry)) (y : List ℕ) → GoesFurther gs hs (drop at log) y → AllByRecursion (IsFit defs) (items_of (entries_of hs)) → IsBadAt defs log at → hs ≡ gs
+  further_not_bad at gs hs y ([], same, text, all) fit bad = same ∙ append-nil gs
+  further_not_bad at gs hs y (es ∷ more, same, text, all) fit bad =
+      absurd (fit_not_bad at es (groups_text more ++ y) all.0 (text ∙ groups-cons es more y) (next_fits gs es more (subst (λ l. AllByRecursion (IsFit defs) (items_of (entries_of l))) same fit)) bad)
+
+  -- a bad place has an open gate
+  bad_is_open : (at : ℕ) → IsBadAt defs log at → slice_index log at ≡ 1
+  bad_is_open at bad = ⊎_elim (λ (d : IsDamaged log at). d.gate) (λ (u : HasUnfit defs log at). group_opens log at u.entries (drop u.next log) u.group.text) bad
+
+  -- the same groups from the same gate end at the same place
+  same_end_of : (first at gate : ℕ) (gs hs : List (List Entry)) → HoldsGroups log first gs at → HoldsGroups log first hs gate → hs ≡ gs → gate ≡ at
+  same_end_of first at gate gs hs p q same = q.next ∙ ap (λ l. first + length (groups_text l)) same ∙ sym p.next
+
+  -- a log that can be read to its end is bad nowhere
+  pub readable_not_bad : (first at : ℕ) → IsReadable defs log first → IsFirstBadAt defs log first at → ⊥
+  readable_not_bad first at it bad =
+      ⊎_elim
+      (λ (b : GoesFurther bad.groups it.groups (drop at log) (drop it.gate log)).
+          let same = further_not_bad at bad.groups it.groups (drop it.gate log) b it.holds.fit bad.bad in
+          let ends = same_end_of first at it.gate bad.groups it.groups bad.holds.holds it.holds.holds same in
+          it.closed (ap (slice_index log) ends ∙ bad_is_open at bad.bad))
+      (λ (b : GoesFurther it.groups bad.groups (drop it.gate log) (drop at log)). closed_ends b)
+      (one_goes_further bad.groups it.groups (drop at log) (drop it.gate log) bad.holds.holds.each it.holds.holds.each (sym bad.holds.holds.text ∙ it.holds.holds.text))
+    where
+      closed_ends : GoesFurther it.groups bad.groups (drop it.gate log) (drop at log) → ⊥
+      closed_ends ([], same, text, all) =
+          let ends = same_end_of first it.gate at it.groups bad.groups it.holds.holds bad.holds.holds (same ∙ append-nil it.groups) in
+          it.closed (ap (slice_index log) (sym ends) ∙ bad_is_open at bad.bad)
+      closed_ends (es ∷ more, same, text, all) = it.closed (group_opens log it.gate es (groups_text more ++ drop at log) (text ∙ groups-cons es more (drop at log)))
+
+  -- and it is first bad at one place at most
+  pub one_first_bad : (first at other : ℕ) → IsFirstBadAt defs log first at → IsFirstBadAt defs log first other → other ≡ at
+  one_first_bad first at other a b =
+      ⊎_elim
+      (λ (more : GoesFurther a.groups b.groups (drop at log) (drop other log)).
+          same_end_of first at other a.groups b.groups a.holds.holds b.holds.holds (further_not_bad at a.groups b.groups (drop other log) more b.holds.fit a.bad))
+      (λ (more : GoesFurther b.groups a.groups (drop other log) (drop at log)).
+          sym (same_end_of first other at b.groups a.groups b.holds.holds a.holds.holds (further_not_bad other b.groups a.groups (drop at log) more a.holds.fit b.bad)))
+      (one_goes_further a.groups b.groups (drop at log) (drop other log) a.holds.holds.each b.holds.holds.each (sym a.holds.holds.text ∙ b.holds.holds.text))
+
 -- ---- of a sound log
 
 module _ (defs : Defs) (scripts : List Script) (front : Front) (is : front.defs ≡ defs.text) (log : List ℕ) (entries : List Entry) (sound : IsSound defs scripts front.scripts log entries) where
@@ -84,27 +142,17 @@ module _ (defs : Defs) (scripts : List Script) (front : Front) (is : front.defs 
   pub sound_begins : StartsWithFront log front
   sound_begins = held.begins
 
-  -- and is bad nowhere
+  -- and can be read to its end, so that it is bad nowhere
+  sound_readable : IsReadable defs log (first_gate front)
+  sound_readable = record {
+    groups = sound.groups;
+    gate = sound.gate;
+    holds = record { holds = held.reads.0; fit = subst (λ l. AllByRecursion (IsFit defs) (items_of l)) sound.all sound.fit };
+    closed = held.reads.1;
+  }
+
   pub sound_not_bad : (at : ℕ) → IsFirstBadAt defs log (first_gate front) at → ⊥
-  sound_not_bad at it = ⊎_elim damaged unfit it.bad
-    where
-      no_damage : (gs : List (List Entry)) (gate at : ℕ) → Groups gs gate ≡ Damage at → ⊥
-      no_damage gs gate at e = cc
-
-      damaged : IsDamaged log at → ⊥
-      damaged d = no_damage sound.groups sound.gate at (one_reading log (first_gate front) (Groups sound.groups sound.gate) (Damage at) held.reads (it.groups, it.holds.holds, d))
-
-      unfit : HasUnfit defs log at → ⊥
-      unfit u =
-          let gs = it.groups in
-          let es = u.entries in
-          let next = has_next log (first_gate front) gs sound.groups at sound.gate u.next es it.holds.holds u.group held.reads in
-          let more = next.0 in
-          let all : entries ≡ (entries_of gs ++ es) ++ entries_of more =
-          sound.all ∙ ap entries_of next.1 ∙ entries-append (gs ++ es ∷ []) more ∙ ap (λ l. l ++ entries_of more) (entries-more gs es) in
-          let fit = subst (λ l. AllByRecursion (IsFit defs) (items_of l)) all sound.fit in
-          let front_fit = all-front (IsFit defs) (items_of (entries_of gs ++ es)) (items_of (entries_of more)) (subst (AllByRecursion (IsFit defs)) (items-append (entries_of gs ++ es) (entries_of more)) fit) in
-          u.unfit (all-back (IsFit defs) (items_of (entries_of gs)) (items_of es) (subst (AllByRecursion (IsFit defs)) (items-append (entries_of gs) es) front_fit))
+  sound_not_bad at it = readable_not_bad defs log (first_gate front) at sound_readable it
 
   -- what was read of it to its end stands for it
   pub sound_stands : (disk : Disk) (store : Stored) (l : LogState) → IsDurable disk 0 → disk.contents 0 ≡ log → IsOf defs.msdbs store → l.unsealed ≡ []

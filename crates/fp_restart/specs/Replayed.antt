@@ -1,5 +1,5 @@
 -- What reading the groups of a log makes of the databases.
-use Rattle.std.specs.Prelude.{◌≡◌, ℕ, List, length}
+use Rattle.std.specs.Prelude.{◌≡◌, ◌≢◌, ℕ, List, length, slice_index}
 use Rattle.std.specs.List.{AllByRecursion}
 use Rattle.fp_model.specs.declared.definitions.Defs.{Defs}
 use Rattle.fp_model.specs.declared.database.Msdb.{Msdb}
@@ -36,6 +36,13 @@ module _ (defs : Defs) (log : List ℕ) where
     pub fit : AllByRecursion (IsFit defs) (items_of entries)
     pub count_is : count ≡ length entries
     pub msdbs : now ≡ with_items defs.msdbs before (items_of entries)
+
+  -- from the first gate on whole groups stand, up to a gate that isn't open; all their items fit
+  pub record IsReadable (first : ℕ) : Type 0 where
+    pub groups : List (List Entry)
+    pub gate : ℕ
+    pub holds : HoldsFit first gate groups
+    pub closed : slice_index log gate ≢ 1
 
   -- the first place, from that gate on, where no group stands that restart may take
   pub record IsFirstBadAt (first at : ℕ) : Type 0 where

@@ -1,5 +1,5 @@
 -- What a restart gives, and when the log is damaged.
-use Rattle.std.specs.Prelude.{◌≡◌, ◌⊎◌, ℕ, List, [], length}
+use Rattle.std.specs.Prelude.{◌≡◌, ◌⊎◌, ⊤, ℕ, List, [], length, Result, Ok, Err}
 use Rattle.std.specs.List.{AllByRecursion}
 use Rattle.fp_site.specs.Disk.{Disk}
 use Rattle.fp_model.specs.declared.definitions.Defs.{Defs}
@@ -16,6 +16,8 @@ use Rattle.log_groups.specs.Kept.{items_of}
 use Rattle.log_groups.specs.Log.{LogState}
 use Rattle.log_groups.specs.Reads.{HasGroup}
 use Rattle.msdb_store.specs.Store.{Stored, IsOf}
+use Rattle.fp_restart.specs.declared.fault.RestartFault.{RestartFault}
+use Rattle.fp_restart.specs.declared.fault.RestartFault.TheVariants as fault
 
 -- The store and the open log stand for these entries: the store has the segments of the state behind them, all of them
 -- are sealed, and the log on the disk is at rest and holds them.
@@ -27,6 +29,14 @@ pub record StandsFor (defs : Defs) (scripts : List Script) (front : Front) (disk
   pub groups : List (List Entry)
   pub all : entries ≡ entries_of groups
   pub at_rest : IsAtRest disk front groups log.gate
+
+-- the log is damaged at this place, or a fault of the site or want of memory stands in the place of that
+abbrev pub IsDamageOr : {X : Type 0} → ℕ → Result X RestartFault → Type 0
+IsDamageOr at (Ok x) = ⊥
+IsDamageOr at (Err fault.Foreign) = ⊥
+IsDamageOr at (Err fault.SiteFault) = ⊤
+IsDamageOr at (Err (fault.Damaged set place)) = (set ≡ 0) × (place ≡ at)
+IsDamageOr at (Err fault.Memory) = ⊤
 
 -- the group there has an item that restart may not apply
 pub record HasUnfit (defs : Defs) (log : List ℕ) (at : ℕ) : Type 0 where

@@ -3,7 +3,7 @@ ghost use Rattle.fp_model.specs.Items.{IsFit, with_items};
 ghost use Rattle.fp_model.specs.State.{start};
 ghost use Rattle.fp_model.specs.LogText.{FitsFront, StartsWithFront, first_gate};
 ghost use Rattle.fp_model.specs.WellFormed.{IsMsdbDef};
-ghost use Rattle.fp_restart.specs.Replayed.{IsFirstBadAt, IsReplayed, IsTaken};
+ghost use Rattle.fp_restart.specs.Replayed.{IsFirstBadAt, IsReadable, IsReplayed, IsTaken};
 ghost use Rattle.fp_restart.specs.Restarts.{IsBadAt};
 ghost use Rattle.fp_restart.specs.declared.fault.RestartFault.TheVariants as faults;
 ghost use Rattle.fp_site.specs.Disk.{Stays};
@@ -48,6 +48,7 @@ pub(crate) fn read_parts<T: Site>(
     ensures replayed { T.told site.old → IfOk result (λ parts. IsReplayed defs.now ((T.disk site.old).contents 0)
         (record { first = first_gate (texts_of front.now); at = parts.1.gate; count = parts.1.sealed }) (start defs.now).msdbs parts.0.msdbs) }
     ensures closed { T.told site.old → IfOk result (λ parts. slice_index ((T.disk site.old).contents 0) parts.1.gate ≢ 1) }
+    ensures readable { T.told site.old → OnOk result (IsReadable defs.now ((T.disk site.old).contents 0) (first_gate (texts_of front.now))) }
     ensures unsealed { IfOk result (λ parts. parts.1.unsealed ≡ []) }
     ensures of { IfOk result (λ parts. IsOf defs.now.msdbs parts.0) }
 

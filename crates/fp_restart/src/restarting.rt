@@ -3,8 +3,8 @@ ghost use Rattle.fp_model.specs.LogText.{FitsFront, StartsWithFront, first_gate}
 ghost use Rattle.fp_model.specs.WellFormed.{IsMsdbDef};
 ghost use Rattle.fp_model.specs.declared.log.Entry.{Entry};
 ghost use Rattle.fp_model.specs.declared.scripts.Script.{Script};
-ghost use Rattle.fp_restart.specs.Replayed.{IsFirstBadAt};
-ghost use Rattle.fp_restart.specs.Restarts.{IsBadAt, StandsFor};
+ghost use Rattle.fp_restart.specs.Replayed.{IsFirstBadAt, IsReadable};
+ghost use Rattle.fp_restart.specs.Restarts.{IsBadAt, IsDamageOr, StandsFor};
 ghost use Rattle.fp_restart.specs.declared.fault.RestartFault.TheVariants as faults;
 ghost use Rattle.fp_site.specs.Disk.{Syncs};
 ghost use Rattle.fp_site.specs.Moments.{Through};
@@ -27,8 +27,8 @@ pub type Parts = (MsdbStore, Log);
 
 /// The state that the log means: its groups up to the first gate that isn't open, read once, in order. Nothing is
 /// written; the log is synced. `Foreign` comes exactly where the log doesn't begin with the open front, and
-/// `Damaged` only where its bytes at that gate are outside the format or don't fit the definitions; a fault of the
-/// site and want of memory may stand in the place of both.
+/// `Damaged` exactly where a gate is the first whose bytes are outside the format or don't fit the definitions; a fault
+/// of the site and want of memory may stand in the place of both.
 pub fn restart<T: Site>(
     alloc: Global,
     defs: &Defs,
@@ -57,6 +57,11 @@ pub fn restart<T: Site>(
     ensures begun { (set at : ℕ) → T.told site.old → IsErrOf result (faults.Damaged set at) → StartsWithFront ((T.disk site.old).contents 0) (texts_of front.now) }
     ensures place { (set at : ℕ) → T.told site.old → IsErrOf result (faults.Damaged set at) →
         IsFirstBadAt defs.now ((T.disk site.old).contents 0) (first_gate (texts_of front.now)) at }
+
+    // A log that begins with the front and is bad at a place is answered so, unless a fault comes.
+    ensures only_damaged { (at : ℕ) → T.told site.old → StartsWithFront ((T.disk site.old).contents 0) (texts_of front.now)
+        → IsFirstBadAt defs.now ((T.disk site.old).contents 0) (first_gate (texts_of front.now)) at → IsDamageOr at result }
+    ensures readable { T.told site.old → OnOk result (IsReadable defs.now ((T.disk site.old).contents 0) (first_gate (texts_of front.now))) }
     ensures cause { IsErrOf result faults.SiteFault → (T.faults site.old < T.faults site.new) ⊎ (T.faults site.new ≡ 2 ^ 64 - 1) }
     ensures later { T.faults site.old ≤ T.faults site.new }
 

@@ -1,5 +1,5 @@
 -- What restarting and then serving leave of a safe site.
-use Rattle.std.proofs.Common.{◌≡◌, inl, inr, refl, sym, ap, subst, ◌∙◌, arith, ℕ, List, [], ◌++◌, length, map, take}
+use Rattle.std.proofs.Common.{◌≡◌, inl, inr, refl, sym, ap, subst, ◌∙◌, arith, ℕ, List, [], ◌++◌, length, map, take, Result, Err}
 use Rattle.std.proofs.lemmas.List.{append-nil, take_all}
 use Rattle.fp_model.specs.declared.log.Entry.{Entry}
 use Rattle.fp_model.specs.LogText.{Front, first_gate}
@@ -7,25 +7,28 @@ use Rattle.fp_model.specs.Recovery.{Holds}
 use Rattle.fp_model.specs.State.{start}
 use Rattle.fp_restart.specs.declared.fault.RestartFault.{RestartFault}
 use Rattle.fp_restart.specs.declared.fault.RestartFault.TheVariants as fault
-use Rattle.fp_restart.specs.Restarts.{StandsFor}
+use Rattle.fp_restart.specs.Restarts.{IsDamageOr, StandsFor}
 use Rattle.fp_site.specs.Disk.{Disk, Snapshot, Settles, Syncs, IsLawful}
 use Rattle.fp_site.specs.Moments.{OnlyOn, Through}
 use Rattle.fp_site.proofs.Images.{settles_again, settles_left}
 use Rattle.fp_site.proofs.Runs.{started, joined, weaker}
 use Rattle.log_groups.specs.Images.{IsAtRest, texts_of}
-use Rattle.log_groups.specs.Kept.{IsSound, IsSafe, IsKept, GoesOn, lines_of_entries}
+use Rattle.log_groups.specs.Kept.{IsSound, IsSafe, lines_of_entries}
 use Rattle.log_groups.specs.Log.{LogState}
 use Rattle.msdb_store.specs.Store.{Stored}
 use Rattle.fp_system.specs.declared.parts.Setup.{Setup}
 use Rattle.fp_system.specs.declared.status.Status.TheVariants as status
-use Rattle.fp_system.specs.Answers.{IsFault, status_of_fault}
+use Rattle.fp_system.specs.Answers.{IsFault, IsOr, status_of_fault}
 use Rattle.fp_system.specs.Ims.{IsAnswered, IsUnchanged}
 use Rattle.fp_system.specs.Parts.{Job, front_for}
-use Rattle.fp_system.specs.Serving.{IsAccount, StandsAt, Serves, Halts}
+use Rattle.fp_system.specs.Serving.{GoesOnBy, IsAccount, IsKeptBy, StandsAt, Serves, Halts}
 use Rattle.fp_system.specs.Setups.{IsSetup, job_of}
 use Rattle.fp_system.proofs.Stands.{safe_at_rest}
 
 -- ---- faults of storage
+
+abbrev pub faulty : RestartFault → Result (Stored × LogState) RestartFault
+faulty f = Err f
 
 pub is_fault : (f : RestartFault) → (f ≡ fault.Foreign → ⊥) → ((set at : ℕ) → f ≡ fault.Damaged set at → ⊥) → IsFault (status_of_fault f)
 is_fault fault.Foreign never never2 = absurd (never refl)
@@ -38,6 +41,13 @@ damaged_is fault.Foreign set at e = absurd cc
 damaged_is fault.SiteFault set at e = absurd cc
 damaged_is (fault.Damaged s a) set at e = cc
 damaged_is fault.Memory set at e = absurd cc
+
+-- damage is answered as such, or by a fault in its place
+pub damage_status : (f : RestartFault) (at : ℕ) → IsDamageOr at (faulty f) → IsOr (status.Damaged 0 at) (status_of_fault f)
+damage_status fault.Foreign at h = absurd h
+damage_status fault.SiteFault at h = inr tt
+damage_status (fault.Damaged set place) at h = let same = h.0 in let here = h.1 in inl cc
+damage_status fault.Memory at h = inr tt
 
 -- ---- no entries
 
@@ -81,8 +91,8 @@ module _ (setup : Setup) (is : IsSetup setup) where
       }
 
 module _ (job : Job) (h h1 : Disk) (entries : List Entry) (law1 : IsLawful h1) (safe : IsSafe job.defs job.scripts job.scripts_text h entries) (contents : (set : ℕ) → h1.contents set ≡ h.contents set) (sent : h1.sent ≡ h.sent) (run : Through h h1 (Syncs h 0)) where
-  abbrev Kept : Snapshot → Type 0
-  Kept = IsKept job.defs job.scripts job.scripts_text h entries
+  abbrev Kept : List (List ℕ) → Snapshot → Type 0
+  Kept lines = IsKeptBy job lines h entries
 
   synced : (s : Snapshot) → h1.may_leave s → Settles h 0 (s.images 0)
   synced s left = (run.each s (law1.earlier h.moment h1.moment s run.later (law1.counts_now s left))).this
@@ -105,22 +115,27 @@ module _ (job : Job) (h h1 : Disk) (entries : List Entry) (law1 : IsLawful h1) (
     sent = sent ∙ sym (append-nil h.sent);
   }
 
-  pub kept_synced : Through h h1 Kept
-  kept_synced = weaker (Syncs h 0) Kept h h1 (λ s d. inl d) run
+  pub kept_synced : (lines : List (List ℕ)) → Through h h1 (Kept lines)
+  kept_synced lines = weaker (Syncs h 0) (Kept lines) h h1 (λ s d. inl d) run
 
   -- ---- and then serving
 
   module _ (h2 : Disk) where
-    from_old : (s : Snapshot) → GoesOn job.defs job.scripts job.scripts_text h1 entries s → Kept s
-    from_old s goes = inr (record {
-      later = goes.later;
-      sound = goes.sound;
-      count = goes.count;
-      sent = λ told. goes.sent (run.tells_sent told) ∙ ap (λ (t : List ℕ). t ++ take goes.count (lines_of_entries goes.later)) sent;
+    from_old : (lines : List (List ℕ)) (s : Snapshot) → GoesOnBy job lines h1 entries s → Kept lines s
+    from_old lines s by = inr (record {
+      goes = record {
+        later = by.goes.later;
+        sound = by.goes.sound;
+        count = by.goes.count;
+        sent = λ told. by.goes.sent (run.tells_sent told) ∙ ap (λ (t : List ℕ). t ++ take by.goes.count (lines_of_entries by.goes.later)) sent;
+      };
+      rest = by.rest;
+      of_lines = by.of_lines;
+      alone = by.alone;
     })
 
-    pub kept_served : Through h1 h2 (GoesOn job.defs job.scripts job.scripts_text h1 entries) → Through h h2 Kept
-    kept_served served = joined Kept h h1 h2 kept_synced (weaker (GoesOn job.defs job.scripts job.scripts_text h1 entries) Kept h1 h2 from_old served)
+    pub kept_served : (lines : List (List ℕ)) → Through h1 h2 (GoesOnBy job lines h1 entries) → Through h h2 (Kept lines)
+    kept_served lines served = joined (Kept lines) h h1 h2 (kept_synced lines) (weaker (GoesOnBy job lines h1 entries) (Kept lines) h1 h2 (from_old lines) served)
 
     pub halts_served : (lines : List (List ℕ)) → Halts job entries lines h1 h2 → Halts job entries lines h h2
     halts_served lines halts = record { later = halts.later; rest = halts.rest; of_lines = halts.of_lines; alone = halts.alone; safe = halts.safe; count = halts.count; sent = halts.sent ∙ ap (λ (t : List ℕ). t ++ take halts.count (lines_of_entries halts.later)) sent }
@@ -170,8 +185,8 @@ halts_safe job h entries lines safe = record {
 same_synced : (h : Disk) (s : Snapshot) → h.may_leave s → Syncs h 0 s
 same_synced h s left = record { before = s; left = left; this = settles_left h 0 s left; others = λ k ne. refl; sent = λ told. refl }
 
-pub kept_safe : (job : Job) (h : Disk) (entries : List Entry) → IsLawful h → Through h h (IsKept job.defs job.scripts job.scripts_text h entries)
-kept_safe job h entries law = started (IsKept job.defs job.scripts job.scripts_text h entries) h law (λ s left. inl (same_synced h s left))
+pub kept_safe : (job : Job) (lines : List (List ℕ)) (h : Disk) (entries : List Entry) → IsLawful h → Through h h (IsKeptBy job lines h entries)
+kept_safe job lines h entries law = started (IsKeptBy job lines h entries) h law (λ s left. inl (same_synced h s left))
 
 pub unchanged_same : (h : Disk) → IsLawful h → IsUnchanged h h
 unchanged_same h law = record { contents = λ set. refl; sent = refl; crash = started (Syncs h 0) h law (same_synced h) }

@@ -7,7 +7,7 @@ use Rattle.fp_model.specs.ReplyLine.{line_of}
 use Rattle.fp_site.specs.Disk.{Disk, Snapshot, IsLawful}
 use Rattle.fp_site.specs.Moments.{Through}
 use Rattle.fp_site.proofs.Runs.{joined, weaker}
-use Rattle.log_groups.specs.Kept.{IsSound, IsSafe, GoesOn, lines_of_entries}
+use Rattle.log_groups.specs.Kept.{IsSound, IsSafe, lines_of_entries}
 use Rattle.log_groups.specs.Log.{LogState}
 use Rattle.lone_region.specs.Next.{IsAlone}
 use Rattle.msdb_store.specs.Store.{Stored}
@@ -16,19 +16,33 @@ use Rattle.fp_source.specs.declared.lines.LineFault.TheVariants as fault
 use Rattle.fp_system.specs.Answers.{status_of_line}
 use Rattle.fp_system.specs.declared.status.Status.TheVariants as status
 use Rattle.fp_system.specs.Parts.{Job}
-use Rattle.fp_system.specs.Serving.{StandsAt, Serves, Halts, one_each}
+use Rattle.fp_system.specs.Serving.{GoesOnBy, StandsAt, Serves, Halts, one_each}
 use Rattle.fp_system.proofs.Stands.{all_append, safe_at_rest}
 use Rattle.fp_system.proofs.Steps.{stays_here}
 
 -- some messages were served, and every moment since was one of that
 pub record Going (job : Job) (entries : List Entry) (before : List (List Entry)) (old now : Disk) (lines : List (List ℕ)) (store : Stored) (log : LogState) : Type 0 where
   pub serves : Serves job entries before old now lines store log
-  pub moments : Through old now (GoesOn job.defs job.scripts job.scripts_text old entries)
+  pub moments : Through old now (GoesOnBy job lines old entries)
 
 -- with the same entries, the groups stay
 stands_with : (job : Job) (h : Disk) (store : Stored) (log : LogState) (groups : List (List Entry)) (es es1 : List Entry) → es ≡ es1 → (stands : StandsAt job es h store log) → stands.groups ≡ groups
     → (stands1 : StandsAt job es1 h store log) × (stands1.groups ≡ groups)
 stands_with job h store log groups es es1 same stands is = subst (λ (xs : List Entry). (s : StandsAt job xs h store log) × (s.groups ≡ groups)) same (stands, is)
+
+-- what goes on by a first part of some lines does so by one of more
+goes_by_more : (job : Job) (entries : List Entry) (lines more : List (List ℕ)) (before : Disk) (s : Snapshot) → GoesOnBy job lines before entries s → GoesOnBy job (lines ++ more) before entries s
+goes_by_more job entries lines more before s by = record {
+  goes = by.goes;
+  rest = by.rest ++ more;
+  of_lines = ap (λ (ls : List (List ℕ)). ls ++ more) by.of_lines ∙ append_assoc (map (λ (e : Entry). e.line) by.goes.later) by.rest more;
+  alone = by.alone;
+}
+
+-- and so in every moment
+pub moments_by : (job : Job) (entries : List Entry) (lines more whole : List (List ℕ)) (h0 h : Disk) → whole ≡ lines ++ more → Through h0 h (GoesOnBy job lines h0 entries) → Through h0 h (GoesOnBy job whole h0 entries)
+moments_by job entries lines more whole h0 h splits run =
+    subst (λ (ls : List (List ℕ)). Through h0 h (GoesOnBy job ls h0 entries)) (sym splits) (weaker (GoesOnBy job lines h0 entries) (GoesOnBy job (lines ++ more) h0 entries) h0 h (goes_by_more job entries lines more h0) run)
 
 -- before the first
 pub going_none : (job : Job) (entries : List Entry) (h : Disk) (store : Stored) (log : LogState) → IsLawful h → (stands : StandsAt job entries h store log) → Going job entries stands.groups h h [] store log
@@ -41,7 +55,7 @@ going_none job entries h store log law stands = record {
     groups = (stands_with job h store log (stands.groups ++ []) entries (entries ++ []) (sym (append-nil entries)) stands (sym (append-nil stands.groups))).1;
     sent = sym (append-nil h.sent);
   };
-  moments = stays_here job entries h store log law stands;
+  moments = stays_here job entries [] h store log law stands;
 }
 
 take_into : (a b : List ℕ) (n : ℕ) → take (length a + n) (a ++ b) ≡ a ++ take n b
@@ -62,22 +76,30 @@ module _ (job : Job) (entries : List Entry) (before : List (List Entry)) (h0 h h
       ∙ append_assoc h0.sent (lines_of_entries so_far) (take count (lines_of_entries more))
       ∙ ap (λ (t : List ℕ). h0.sent ++ t) (sym (take_into (lines_of_entries so_far) (lines_of_entries more) count) ∙ ap (take (length (lines_of_entries so_far) + count)) (sym (lines_join so_far more)))
 
-  goes_more : (s : Snapshot) → GoesOn job.defs job.scripts job.scripts_text h (entries ++ so_far) s → GoesOn job.defs job.scripts job.scripts_text h0 entries s
-  goes_more s goes = record {
-    later = so_far ++ goes.later;
-    sound = subst (IsSound job.defs job.scripts job.scripts_text (s.images 0)) (append_assoc entries so_far goes.later) goes.sound;
-    count = length (lines_of_entries so_far) + goes.count;
-    sent = λ told. sent_on s.sent goes.later goes.count (goes.sent (going.moments.tells_sent told));
-  }
-
-  pub moments_more : Through h h1 (GoesOn job.defs job.scripts job.scripts_text h (entries ++ so_far)) → Through h0 h1 (GoesOn job.defs job.scripts job.scripts_text h0 entries)
-  moments_more run =
-      joined (GoesOn job.defs job.scripts job.scripts_text h0 entries) h0 h h1 going.moments
-      (weaker (GoesOn job.defs job.scripts job.scripts_text h (entries ++ so_far)) (GoesOn job.defs job.scripts job.scripts_text h0 entries) h h1 goes_more run)
-
   -- the lines of the entries so far, and of more
   lines_more : (more : List Entry) → map (λ (e : Entry). e.line) (so_far ++ more) ≡ lines ++ map (λ (e : Entry). e.line) more
   lines_more more = map-append (λ (e : Entry). e.line) so_far more ∙ ap (λ (ls : List (List ℕ)). ls ++ map (λ (e : Entry). e.line) more) going.serves.of_lines
+
+  goes_more : (line : List ℕ) (s : Snapshot) → GoesOnBy job (line ∷ []) h (entries ++ so_far) s → GoesOnBy job (lines ++ line ∷ []) h0 entries s
+  goes_more line s by = record {
+    goes = record {
+      later = so_far ++ by.goes.later;
+      sound = subst (IsSound job.defs job.scripts job.scripts_text (s.images 0)) (append_assoc entries so_far by.goes.later) by.goes.sound;
+      count = length (lines_of_entries so_far) + by.goes.count;
+      sent = λ told. sent_on s.sent by.goes.later by.goes.count (by.goes.sent (going.moments.tells_sent told));
+    };
+    rest = by.rest;
+    of_lines =
+        ap (λ (ls : List (List ℕ)). lines ++ ls) by.of_lines
+        ∙ sym (append_assoc lines (map (λ (e : Entry). e.line) by.goes.later) by.rest)
+        ∙ ap (λ (ls : List (List ℕ)). ls ++ by.rest) (sym (lines_more by.goes.later));
+    alone = all_append (λ (e : Entry). IsAlone e.outcome) so_far by.goes.later going.serves.alone by.alone;
+  }
+
+  pub moments_more : (line : List ℕ) → Through h h1 (GoesOnBy job (line ∷ []) h (entries ++ so_far)) → Through h0 h1 (GoesOnBy job (lines ++ line ∷ []) h0 entries)
+  moments_more line run =
+      joined (GoesOnBy job (lines ++ line ∷ []) h0 entries) h0 h h1 (moments_by job entries lines (line ∷ []) (lines ++ line ∷ []) h0 h refl going.moments)
+      (weaker (GoesOnBy job (line ∷ []) h (entries ++ so_far)) (GoesOnBy job (lines ++ line ∷ []) h0 entries) h h1 (goes_more line) run)
 
   pub halts_more : (whole ahead : List (List ℕ)) (line : List ℕ) → whole ≡ lines ++ line ∷ ahead → Halts job (entries ++ so_far) (line ∷ []) h h1 → Halts job entries whole h0 h1
   halts_more whole ahead line splits halts = record {
@@ -105,7 +127,7 @@ module _ (job : Job) (entries : List Entry) (before : List (List Entry)) (h0 h h
   stood store1 log1 more stands is =
       stands_with job h1 store1 log1 (before ++ one_each (so_far ++ more)) ((entries ++ so_far) ++ more) (entries ++ (so_far ++ more)) (append_assoc entries so_far more) stands (is ∙ groups_more more)
 
-  pub going_more : (line : List ℕ) (store1 : Stored) (log1 : LogState) → Serves job (entries ++ so_far) going.serves.stands.groups h h1 (line ∷ []) store1 log1 → Through h h1 (GoesOn job.defs job.scripts job.scripts_text h (entries ++ so_far))
+  pub going_more : (line : List ℕ) (store1 : Stored) (log1 : LogState) → Serves job (entries ++ so_far) going.serves.stands.groups h h1 (line ∷ []) store1 log1 → Through h h1 (GoesOnBy job (line ∷ []) h (entries ++ so_far))
       → Going job entries before h0 h1 (lines ++ line ∷ []) store1 log1
   going_more line store1 log1 one run = record {
     serves = record {
@@ -119,7 +141,7 @@ module _ (job : Job) (entries : List Entry) (before : List (List Entry)) (h0 h h
           ∙ append_assoc h0.sent (lines_of_entries so_far) (lines_of_entries one.later)
           ∙ ap (λ (t : List ℕ). h0.sent ++ t) (sym (lines_join so_far one.later));
     };
-    moments = moments_more run;
+    moments = moments_more line run;
   }
 
   -- however far it came, it may end there
@@ -149,7 +171,7 @@ served_none job entries before h whole ahead given store log all none going = re
 
 module _ (job : Job) (entries : List Entry) (before : List (List Entry)) (h0 h : Disk) (whole ahead : List (List ℕ)) (given : ℕ) (store : Stored) (log : LogState) (so : HasServed job entries before h0 h whole ahead given store log) where
   pub served_more : (h1 : Disk) (line : List ℕ) (ahead1 : List (List ℕ)) (given1 : ℕ) (store1 : Stored) (log1 : LogState) → ahead ≡ line ∷ ahead1 → given1 ≡ given + 1
-      → Serves job (entries ++ so.going.serves.later) so.going.serves.stands.groups h h1 (line ∷ []) store1 log1 → Through h h1 (GoesOn job.defs job.scripts job.scripts_text h (entries ++ so.going.serves.later))
+      → Serves job (entries ++ so.going.serves.later) so.going.serves.stands.groups h h1 (line ∷ []) store1 log1 → Through h h1 (GoesOnBy job (line ∷ []) h (entries ++ so.going.serves.later))
       → HasServed job entries before h0 h1 whole ahead1 given1 store1 log1
   served_more h1 line ahead1 given1 store1 log1 next more one run = record {
     served = so.served ++ line ∷ [];
@@ -157,6 +179,16 @@ module _ (job : Job) (entries : List Entry) (before : List (List Entry)) (h0 h :
     count = let n = length-append so.served (line ∷ []) in omega (arith, n, so.count, more);
     going = going_more job entries before h0 h h1 so.served store log so.going line store1 log1 one run;
   }
+
+  -- at every moment the log went on by a first part of all lines
+  pub moments_served : Through h0 h (GoesOnBy job whole h0 entries)
+  moments_served = moments_by job entries so.served ahead whole h0 h so.splits so.going.moments
+
+  -- so too within the next line
+  pub moments_within : (h1 : Disk) (line : List ℕ) (ahead1 : List (List ℕ)) → ahead ≡ line ∷ ahead1 → Through h h1 (GoesOnBy job (line ∷ []) h (entries ++ so.going.serves.later)) → Through h0 h1 (GoesOnBy job whole h0 entries)
+  moments_within h1 line ahead1 next run =
+      moments_by job entries (so.served ++ line ∷ []) ahead1 whole h0 h1 (so.splits ∙ ap (λ (ls : List (List ℕ)). so.served ++ ls) next ∙ sym (append_assoc so.served (line ∷ []) ahead1))
+      (moments_more job entries before h0 h h1 so.served store log so.going line run)
 
   -- at the end all were served
   pub served_all : ahead ≡ [] → Serves job entries before h0 h whole store log

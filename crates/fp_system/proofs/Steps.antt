@@ -17,7 +17,7 @@ use Rattle.log_groups.specs.Log.{LogState}
 use Rattle.lone_region.specs.Next.{IsAlone}
 use Rattle.msdb_store.specs.Store.{Stored, IsOf}
 use Rattle.fp_system.specs.Parts.{Job, front_for}
-use Rattle.fp_system.specs.Serving.{AreAlone, IsAccount, StandsAt, Serves, Halts}
+use Rattle.fp_system.specs.Serving.{AreAlone, GoesOnBy, IsAccount, StandsAt, Serves, Halts}
 use Rattle.fp_system.proofs.Stands.{sound_log, safe_at_rest, one_group}
 
 -- the line of one entry
@@ -29,12 +29,17 @@ module _ (job : Job) (entries : List Entry) where
   Sound = IsSound job.defs job.scripts job.scripts_text
 
   -- what stands goes on by nothing
-  pub goes_none : (before : Disk) (s : Snapshot) → Sound (s.images 0) entries → (before.tells_sent → s.sent ≡ before.sent) → GoesOn job.defs job.scripts job.scripts_text before entries s
-  goes_none before s sound text = record {
-    later = [];
-    sound = subst (Sound (s.images 0)) (sym (append-nil entries)) sound;
-    count = 0;
-    sent = λ told. text told ∙ sym (append-nil before.sent);
+  pub goes_none : (lines : List (List ℕ)) (before : Disk) (s : Snapshot) → Sound (s.images 0) entries → (before.tells_sent → s.sent ≡ before.sent) → GoesOnBy job lines before entries s
+  goes_none lines before s sound text = record {
+    goes = record {
+      later = [];
+      sound = subst (Sound (s.images 0)) (sym (append-nil entries)) sound;
+      count = 0;
+      sent = λ told. text told ∙ sym (append-nil before.sent);
+    };
+    rest = lines;
+    of_lines = refl;
+    alone = tt;
   }
 
   -- a disk at rest where nothing was done
@@ -50,16 +55,16 @@ module _ (job : Job) (entries : List Entry) where
   })
 
   -- and its moments
-  pub stays_here : (h : Disk) (store : Stored) (log : LogState) → IsLawful h → StandsAt job entries h store log → Through h h (GoesOn job.defs job.scripts job.scripts_text h entries)
-  stays_here h store log law stands =
-      started (GoesOn job.defs job.scripts job.scripts_text h entries) h law
-      (λ s left. goes_none h s
+  pub stays_here : (lines : List (List ℕ)) (h : Disk) (store : Stored) (log : LogState) → IsLawful h → StandsAt job entries h store log → Through h h (GoesOnBy job lines h entries)
+  stays_here lines h store log law stands =
+      started (GoesOnBy job lines h entries) h law
+      (λ s left. goes_none lines h s
       (subst (λ (l : List ℕ). Sound l entries) (sym (stands.at_rest.durable s left)) (sound_log job entries (h.contents 0) stands.groups log.gate stands.account stands.all stands.at_rest.log))
       (λ told. law.sent_now told s left))
 
   module _ (h : Disk) (store : Stored) (log : LogState) (law : IsLawful h) (stands : StandsAt job entries h store log) (e : Entry) (alone : IsAlone e.outcome) (account : IsAccount job (entries ++ e ∷ [])) where
     abbrev P : Snapshot → Type 0
-    P = GoesOn job.defs job.scripts job.scripts_text h entries
+    P = GoesOnBy job (e.line ∷ []) h entries
 
     abbrev Either : Snapshot → Type 0
     Either = IsBeforeOrAfter (front_for job) stands.groups log.gate (e ∷ [])
@@ -75,9 +80,18 @@ module _ (job : Job) (entries : List Entry) where
     either_sound image (inl before) = inl (sound_log job entries image stands.groups log.gate stands.account stands.all before)
     either_sound image (inr after) = inr (sound_log job (entries ++ e ∷ []) image more _ account (one_group stands.groups entries e stands.all) after)
 
+    -- the log goes on by the entry
+    with_entry : (s : Snapshot) (goes : GoesOn job.defs job.scripts job.scripts_text h entries s) → goes.later ≡ e ∷ [] → P s
+    with_entry s goes is = record {
+      goes = goes;
+      rest = [];
+      of_lines = ap (λ (es : List Entry). map (λ (x : Entry). x.line) es ++ []) (sym is);
+      alone = subst AreAlone (sym is) (alone, tt);
+    }
+
     goes_by : (s : Snapshot) → (h.tells_sent → s.sent ≡ h.sent) → Sound (s.images 0) entries ⊎ Sound (s.images 0) (entries ++ e ∷ []) → P s
-    goes_by s text (inl sound) = goes_none h s sound text
-    goes_by s text (inr sound) = record { later = e ∷ []; sound = sound; count = 0; sent = λ told. text told ∙ sym (append-nil h.sent) }
+    goes_by s text (inl sound) = goes_none (e.line ∷ []) h s sound text
+    goes_by s text (inr sound) = with_entry s (record { later = e ∷ []; sound = sound; count = 0; sent = λ told. text told ∙ sym (append-nil h.sent) }) refl
 
     module _ (h1 : Disk) (only : OnlyOn 0 h h1) (run : Through h h1 Either) where
       pub after_seal : Through h h1 P
@@ -105,12 +119,12 @@ module _ (job : Job) (entries : List Entry) where
         all_more = one_group stands.groups entries e stands.all
 
         with_line : (s : Snapshot) → Sends h1 line s → P s
-        with_line s d = record {
+        with_line s d = with_entry s (record {
           later = e ∷ [];
           sound = subst (λ (l : List ℕ). Sound l (entries ++ e ∷ [])) (sym (ap (λ (f : ℕ → List ℕ). f 0) d.images ∙ rest.durable d.before d.left)) (sound_log job (entries ++ e ∷ []) (h1.contents 0) more gate1 account all_more rest.log);
           count = d.count;
           sent = λ told. let told1 = after_seal.tells_sent told in d.sent told1 ∙ ap (λ (t : List ℕ). t ++ take d.count line) (law1.sent_now told1 d.before d.left ∙ only.now.sent) ∙ ap (λ (t : List ℕ). h.sent ++ take d.count t) line_is;
-        }
+        }) refl
 
         pub after_send : Through h h2 P
         after_send = goes_on P h h1 h2 (Sends h1 line) after_seal send with_line

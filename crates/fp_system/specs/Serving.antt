@@ -1,5 +1,5 @@
 -- Where a run stands between messages, and where it may end.
-use Rattle.std.specs.Prelude.{◌≡◌, ℕ, List, [], ◌∷◌, ◌++◌, length, map, take}
+use Rattle.std.specs.Prelude.{◌≡◌, ◌⊎◌, ℕ, List, [], ◌∷◌, ◌++◌, length, map, take}
 use Rattle.std.specs.List.{AllByRecursion}
 use Rattle.fp_model.specs.declared.database.Db.{Db}
 use Rattle.fp_model.specs.declared.log.Entry.{Entry}
@@ -9,9 +9,9 @@ use Rattle.fp_model.specs.Items.{IsFit, with_items}
 use Rattle.fp_model.specs.Product.{rules_of}
 use Rattle.fp_model.specs.ReplyLine.{line_of}
 use Rattle.fp_model.specs.State.{start}
-use Rattle.fp_site.specs.Disk.{Disk}
+use Rattle.fp_site.specs.Disk.{Disk, Snapshot, Syncs}
 use Rattle.log_groups.specs.Images.{IsAtRest}
-use Rattle.log_groups.specs.Kept.{IsSafe, items_of, lines_of_entries}
+use Rattle.log_groups.specs.Kept.{GoesOn, IsSafe, items_of, lines_of_entries}
 use Rattle.log_groups.specs.Log.{LogState}
 use Rattle.lone_region.specs.Next.{IsAlone}
 use Rattle.msdb_store.specs.Store.{Stored, IsOf}
@@ -64,6 +64,18 @@ pub record Halts (job : Job) (entries : List Entry) (lines : List (List ℕ)) (o
   pub safe : IsSafe job.defs job.scripts job.scripts_text new (entries ++ later)
   pub count : ℕ
   pub sent : new.sent ≡ old.sent ++ take count (lines_of_entries later)
+
+-- A snapshot goes on from what stood: its log by entries of a first part of the lines, in which no other region had a part, and
+-- a first part of their reply lines was sent.
+pub record GoesOnBy (job : Job) (lines : List (List ℕ)) (before : Disk) (entries : List Entry) (s : Snapshot) : Type 0 where
+  pub goes : GoesOn job.defs job.scripts job.scripts_text before entries s
+  pub rest : List (List ℕ)
+  pub of_lines : lines ≡ map (λ e. e.line) goes.later ++ rest
+  pub alone : AreAlone goes.later
+
+-- A snapshot keeps what stood: it is one that a crash might have left then, but for a sync of the log, or it goes on from it.
+abbrev pub IsKeptBy : Job → List (List ℕ) → Disk → List Entry → Snapshot → Type 0
+IsKeptBy job lines before entries s = Syncs before 0 s ⊎ GoesOnBy job lines before entries s
 
 -- A message's entry waits to be sealed, and its reply line is ready: with it the entries may stand in a log, and the store
 -- has the segments behind it.

@@ -1,5 +1,5 @@
 //! What the commands do on the site, once the parts are read.
-ghost use Rattle.fp_model.specs.LogText.{first_gate};
+ghost use Rattle.fp_model.specs.LogText.{StartsWithFront, first_gate};
 ghost use Rattle.fp_model.specs.Messages.{lines_of};
 ghost use Rattle.fp_model.specs.declared.log.Entry.{Entry};
 ghost use Rattle.fp_restart.specs.Replayed.{IsFirstBadAt};
@@ -10,11 +10,11 @@ ghost use Rattle.fp_source.specs.declared.part.Part.TheVariants as part;
 ghost use Rattle.fp_system.specs.Answers.{IsEarly, IsOfLog, IsOr, faulty_line, status_of_fault};
 ghost use Rattle.fp_system.specs.Ims.{IsAnswered, IsForeignTo, IsSame, IsUnchanged};
 ghost use Rattle.fp_system.specs.Parts.{front_for};
-ghost use Rattle.fp_system.specs.Serving.{Halts};
+ghost use Rattle.fp_system.specs.Serving.{Halts, IsKeptBy};
 ghost use Rattle.fp_system.specs.Setups.{IsSetup, job_of};
 ghost use Rattle.fp_system.specs.declared.status.Status.TheVariants as status;
 ghost use Rattle.log_groups.specs.Images.{IsBeforeOrMade};
-ghost use Rattle.log_groups.specs.Kept.{IsKept, IsSafe};
+ghost use Rattle.log_groups.specs.Kept.{IsSafe};
 ghost use Rattle.std.specs.Prelude.{◌≡◌, ◌≤◌, ◌-◌, ℕ, [], List as ListOf, None, Some, take};
 
 use crate::Status;
@@ -80,6 +80,8 @@ pub(crate) fn run_on<S: Source, T: Site>(
     ensures stays { T.told site.old → IsForeignTo (job_of setup.now) (T.disk site.old) → IsUnchanged (T.disk site.old) (T.disk site.new) }
     ensures damaged { (set at : ℕ) → T.told site.old → result ≡ status.Damaged set at →
         (set ≡ 0) × IsFirstBadAt setup.now.defs ((T.disk site.old).contents 0) (first_gate (front_for (job_of setup.now))) at }
+    ensures only_damaged { (at : ℕ) → T.told site.old → StartsWithFront ((T.disk site.old).contents 0) (front_for (job_of setup.now))
+        → IsFirstBadAt setup.now.defs ((T.disk site.old).contents 0) (first_gate (front_for (job_of setup.now))) at → IsOr (status.Damaged 0 at) result }
 
     // A line only where it is the first that isn't taken.
     ensures line { (number : ℕ) → S.told source.old → result ≡ status.Line number → faulty_line (S.left source.old part.Messages) ≡ Some number }
@@ -98,7 +100,7 @@ pub(crate) fn run_on<S: Source, T: Site>(
     ensures safe { (earlier : ListOf Entry) → S.told source.old → T.told site.old → IsSafe setup.now.defs setup.now.scripts.scripts setup.now.scripts.text (T.disk site.old) earlier →
         Halts (job_of setup.now) earlier (lines_of (S.left source.old part.Messages)) (T.disk site.old) (T.disk site.new) }
     ensures crash { (earlier : ListOf Entry) → S.told source.old → T.told site.old → IsSafe setup.now.defs setup.now.scripts.scripts setup.now.scripts.text (T.disk site.old) earlier →
-        Through (T.disk site.old) (T.disk site.new) (IsKept setup.now.defs setup.now.scripts.scripts setup.now.scripts.text (T.disk site.old) earlier) }
+        Through (T.disk site.old) (T.disk site.new) (IsKeptBy (job_of setup.now) (lines_of (S.left source.old part.Messages)) (T.disk site.old) earlier) }
     ensures source { IsSame S.told S.faults S.holds S.keeps source.old source.new }
     ensures site { IsSame T.told T.faults T.holds T.keeps site.old site.new }
 {

@@ -7,10 +7,9 @@ ghost use Rattle.fp_source.specs.Source.{Rose};
 ghost use Rattle.fp_source.specs.declared.part.Part.TheVariants as part;
 ghost use Rattle.fp_system.specs.Answers.{IsOfSite, IsStop, faulty_line};
 ghost use Rattle.fp_system.specs.Ims.{IsSame};
-ghost use Rattle.fp_system.specs.Serving.{Halts, IsAccount, IsReady, Serves, StandsAt};
+ghost use Rattle.fp_system.specs.Serving.{GoesOnBy, Halts, IsAccount, IsReady, Serves, StandsAt};
 ghost use Rattle.fp_system.specs.Setups.{IsSetup, job_of};
 ghost use Rattle.fp_system.specs.declared.status.Status.TheVariants as status;
-ghost use Rattle.log_groups.specs.Kept.{GoesOn};
 ghost use Rattle.msdb_store.specs.Store.{IsOf};
 ghost use Rattle.std.specs.Prelude.{◌≡◌, ◌≤◌, ◌-◌, ◌∷◌, ℕ, [], IfErr, IfOk, IsErrOf, List as ListOf, None, OnErr, OnOk, Some, length, take};
 
@@ -79,7 +78,7 @@ impl Server {
 
         // A crash at any moment leaves the entries and no more sent, or these with the new one, and a part of its line.
         ensures crash { (entries : ListOf Entry) → T.told site.old → StandsAt (job_of setup.now) entries (T.disk site.old) self.old.store self.old.log →
-            Through (T.disk site.old) (T.disk site.new) (GoesOn setup.now.defs setup.now.scripts.scripts setup.now.scripts.text (T.disk site.old) entries) }
+            Through (T.disk site.old) (T.disk site.new) (GoesOnBy (job_of setup.now) (line.now ∷ []) (T.disk site.old) entries) }
     {
         let reply = self.prepare(alloc, setup, line)?;
         self.log.seal(site, 1)?;
@@ -119,10 +118,10 @@ impl Server {
         ensures source { IsSame S.told S.faults S.holds S.keeps source.old source.new }
         ensures site { IsSame T.told T.faults T.holds T.keeps site.old site.new }
 
-        // A crash at any moment leaves the entries and some more, and a first part of the lines of those.
+        // A crash at any moment leaves the entries and more of a first part of the lines, and sent a first part of their replies.
         ensures crash { (entries : ListOf Entry) → S.told source.old → T.told site.old
             → StandsAt (job_of setup.now) entries (T.disk site.old) self.old.store self.old.log →
-            Through (T.disk site.old) (T.disk site.new) (GoesOn setup.now.defs setup.now.scripts.scripts setup.now.scripts.text (T.disk site.old) entries) }
+            Through (T.disk site.old) (T.disk site.new) (GoesOnBy (job_of setup.now) (lines_of (S.left source.old part.Messages)) (T.disk site.old) entries) }
     {
         let mut lines = Lines::new(alloc)?;
         while let Some(line) = lines.next(source)? {

@@ -1,6 +1,6 @@
 //! The top call.
 ghost use Rattle.fp_exits.specs.Kinds.{kinds_of};
-ghost use Rattle.fp_model.specs.LogText.{first_gate};
+ghost use Rattle.fp_model.specs.LogText.{StartsWithFront, first_gate};
 ghost use Rattle.fp_model.specs.Messages.{lines_of};
 ghost use Rattle.fp_model.specs.declared.log.Entry.{Entry};
 ghost use Rattle.fp_restart.specs.Replayed.{IsFirstBadAt};
@@ -11,13 +11,13 @@ ghost use Rattle.fp_source.specs.declared.part.Part.TheVariants as part;
 ghost use Rattle.fp_system.specs.Answers.{IsEarly, IsOfLog, IsOr, IsRefusal, faulty_line};
 ghost use Rattle.fp_system.specs.Ims.{Asks, IsAnswered, IsForeignTo, IsRefused, IsSame, IsUnchanged};
 ghost use Rattle.fp_system.specs.Parts.{IsJob, Job, front_for};
-ghost use Rattle.fp_system.specs.Serving.{Halts};
+ghost use Rattle.fp_system.specs.Serving.{Halts, IsKeptBy};
 ghost use Rattle.fp_system.specs.Words.{command_of};
 ghost use Rattle.fp_system.specs.declared.status.Status.{Status as StatusOf};
 ghost use Rattle.fp_system.specs.declared.status.Status.TheVariants as status;
 ghost use Rattle.fp_system.specs.declared.words.Command.TheVariants as command;
 ghost use Rattle.log_groups.specs.Images.{IsBeforeOrMade};
-ghost use Rattle.log_groups.specs.Kept.{IsKept, IsSafe};
+ghost use Rattle.log_groups.specs.Kept.{IsSafe};
 ghost use Rattle.std.specs.Prelude.{◌≡◌, ◌↔◌, ◌-◌, ℕ, [], List as ListOf, None, Some, map, string_bytes, take};
 
 use crate::Status;
@@ -58,6 +58,9 @@ pub fn ims<S: Source, T: Site>(
     ensures damaged { (set at : ℕ) → S.told source.old → T.told site.old → result ≡ status.Damaged set at →
         (job : Job) × Asks (kinds_of exits.now) (map string_bytes words.now) (S.left source.old) command.Run job × (set ≡ 0) ×
         IsFirstBadAt job.defs ((T.disk site.old).contents 0) (first_gate (front_for job)) at }
+    ensures only_damaged { (job : Job) (at : ℕ) → S.told source.old → T.told site.old → Asks (kinds_of exits.now) (map string_bytes words.now) (S.left source.old) command.Run job
+        → StartsWithFront ((T.disk site.old).contents 0) (front_for job) → IsFirstBadAt job.defs ((T.disk site.old).contents 0) (first_gate (front_for job)) at →
+        IsOr (status.Damaged 0 at) result }
     ensures line { (number : ℕ) → S.told source.old → result ≡ status.Line number →
         (job : Job) × Asks (kinds_of exits.now) (map string_bytes words.now) (S.left source.old) command.Run job × (faulty_line (S.left source.old part.Messages) ≡ Some number) }
 
@@ -88,7 +91,7 @@ pub fn ims<S: Source, T: Site>(
         Halts job earlier (lines_of (S.left source.old part.Messages)) (T.disk site.old) (T.disk site.new) }
     ensures kept { (job : Job) (earlier : ListOf Entry) → S.told source.old → T.told site.old → Asks (kinds_of exits.now) (map string_bytes words.now) (S.left source.old) command.Run job
         → IsSafe job.defs job.scripts job.scripts_text (T.disk site.old) earlier →
-        Through (T.disk site.old) (T.disk site.new) (IsKept job.defs job.scripts job.scripts_text (T.disk site.old) earlier) }
+        Through (T.disk site.old) (T.disk site.new) (IsKeptBy job (lines_of (S.left source.old part.Messages)) (T.disk site.old) earlier) }
 
     // `define`: a safe site without entries, or a fault. A crash at any moment leaves the log as a sync might have left it
     // before, or with no open front, or new.

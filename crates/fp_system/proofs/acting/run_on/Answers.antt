@@ -2,13 +2,13 @@ use Rattle.std.proofs.Common.{sym, ap, subst, ◌∙◌, inr}
 use Rattle.std.specs.Prelude.{Err}
 use Rattle.fp_system.specs.declared.status.Status.{Status}
 use Rattle.fp_system.specs.declared.status.Status.TheVariants as status
-use Rattle.fp_model.specs.LogText.{Front, first_gate}
+use Rattle.fp_model.specs.LogText.{Front, StartsWithFront, first_gate}
 use Rattle.fp_model.specs.Messages.{lines_of}
 use Rattle.fp_restart.specs.Replayed.{IsFirstBadAt}
 use Rattle.fp_source.specs.declared.part.Part.TheVariants as part
 use Rattle.fp_system.specs.Answers.{IsOr}
 use Rattle.fp_system.specs.Setups.{job_of}
-use Rattle.fp_system.proofs.Acted.{is_fault, damaged_is, to_setup, stands_restarted, halts_synced, kept_served, halts_served, answered, halts_answered}
+use Rattle.fp_system.proofs.Acted.{is_fault, damage_status, damaged_is, to_setup, stands_restarted, halts_synced, kept_served, halts_served, answered, halts_answered}
 use Rattle.fp_system.proofs.acting.run_on.Goals as goal
 
 pub returns-in-Err-clause-damaged : goal.returns-in-Err-clause-damaged
@@ -23,6 +23,25 @@ returns-in-Err-clause-unchanged g c t is = record { contents = c.restart.ensures
 
 pub returns-in-Err-clause-stays : goal.returns-in-Err-clause-stays
 returns-in-Err-clause-stays g c t is = record { contents = c.restart.ensures.contents t; sent = c.restart.ensures.sent t; crash = c.restart.ensures.crash t }
+
+pub returns-in-Err-clause-only_damaged : goal.returns-in-Err-clause-only_damaged
+returns-in-Err-clause-only_damaged g c at t begins bad =
+    let setup = c.args.setup.now in
+    let log = (g.T.Site.disk c.args.site.now).contents 0 in
+    let found = c.in-Err.ensures.only_damaged at t (subst (λ (front : Front). StartsWithFront log front) (sym c.requires.front) begins) (subst (λ (front : Front). IsFirstBadAt setup.defs log (first_gate front) at) (sym c.requires.front) bad) in
+    subst (λ (s : Status). IsOr (status.Damaged 0 at) s) (sym c.fault_status.ensures) (damage_status c.in-Err.fault at found)
+
+pub returns-in-Ok-serve_all-clause-only_damaged : goal.returns-in-Ok-serve_all-clause-only_damaged
+returns-in-Ok-serve_all-clause-only_damaged g c at t begins bad =
+    let setup = c.args.setup.now in
+    let log = (g.T.Site.disk c.args.site.now).contents 0 in
+    absurd (c.in-Ok.ensures.only_damaged at t (subst (λ (front : Front). StartsWithFront log front) (sym c.requires.front) begins) (subst (λ (front : Front). IsFirstBadAt setup.defs log (first_gate front) at) (sym c.requires.front) bad))
+
+pub returns-clause-only_damaged : goal.returns-clause-only_damaged
+returns-clause-only_damaged g c at t begins bad =
+    let setup = c.args.setup.now in
+    let log = (g.T.Site.disk c.args.site.now).contents 0 in
+    absurd (c.in-Ok.ensures.only_damaged at t (subst (λ (front : Front). StartsWithFront log front) (sym c.requires.front) begins) (subst (λ (front : Front). IsFirstBadAt setup.defs log (first_gate front) at) (sym c.requires.front) bad))
 
 pub returns-in-Err-clause-complete : goal.returns-in-Err-clause-complete
 returns-in-Err-clause-complete g c earlier s t safe none =
@@ -77,7 +96,7 @@ returns-in-Ok-serve_all-clause-crash g c earlier s t safe =
     let h2 = g.T.Site.disk c.serve_all.new.site in
     let found = c.in-Ok.ensures.sound setup.scripts.scripts earlier t (to_setup setup c.requires (h.contents 0) earlier safe.now) in
     let stands = stands_restarted setup c.requires h h1 earlier c.in-Ok.parts.0 c.in-Ok.parts.1 safe found in
-    kept_served (job_of setup) h h1 earlier law1 safe (c.restart.ensures.contents t) (c.restart.ensures.sent t) (c.restart.ensures.crash t) h2 (c.serve_all.ensures.crash earlier s t1 stands)
+    kept_served (job_of setup) h h1 earlier law1 safe (c.restart.ensures.contents t) (c.restart.ensures.sent t) (c.restart.ensures.crash t) h2 (lines_of (g.S.Source.left c.args.source.now part.Messages)) (c.serve_all.ensures.crash earlier s t1 stands)
 
 pub returns-clause-before : goal.returns-clause-before
 returns-clause-before g c earlier number s t safe is =
@@ -113,4 +132,4 @@ returns-clause-crash g c earlier s t safe =
     let h2 = g.T.Site.disk c.serve_all.new.site in
     let found = c.in-Ok.ensures.sound setup.scripts.scripts earlier t (to_setup setup c.requires (h.contents 0) earlier safe.now) in
     let stands = stands_restarted setup c.requires h h1 earlier c.in-Ok.parts.0 c.in-Ok.parts.1 safe found in
-    kept_served (job_of setup) h h1 earlier law1 safe (c.restart.ensures.contents t) (c.restart.ensures.sent t) (c.restart.ensures.crash t) h2 (c.serve_all.ensures.crash earlier s t1 stands)
+    kept_served (job_of setup) h h1 earlier law1 safe (c.restart.ensures.contents t) (c.restart.ensures.sent t) (c.restart.ensures.crash t) h2 (lines_of (g.S.Source.left c.args.source.now part.Messages)) (c.serve_all.ensures.crash earlier s t1 stands)

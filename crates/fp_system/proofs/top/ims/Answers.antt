@@ -1,14 +1,16 @@
 use Rattle.std.proofs.Common.{◌≡◌, ℕ, List, Some, sym, ap, subst, ◌∙◌, inr, map, string_bytes}
 use Rattle.fp_exits.specs.Kinds.{kinds_of}
+use Rattle.fp_model.specs.LogText.{StartsWithFront, first_gate}
 use Rattle.fp_model.specs.Messages.{lines_of}
+use Rattle.fp_restart.specs.Replayed.{IsFirstBadAt}
 use Rattle.fp_site.specs.Moments.{Through}
-use Rattle.log_groups.specs.Kept.{IsKept, IsSafe}
+use Rattle.log_groups.specs.Kept.{IsSafe}
 use Rattle.std.specs.Prelude.{take, ◌-◌, []}
 use Rattle.fp_source.specs.declared.part.Part.TheVariants as part
 use Rattle.fp_system.specs.Answers.{faulty_line}
 use Rattle.fp_system.specs.Ims.{IsAnswered, IsForeignTo}
-use Rattle.fp_system.specs.Parts.{Job}
-use Rattle.fp_system.specs.Serving.{Halts}
+use Rattle.fp_system.specs.Parts.{Job, front_for}
+use Rattle.fp_system.specs.Serving.{Halts, IsKeptBy}
 use Rattle.fp_system.specs.Setups.{job_of}
 use Rattle.fp_system.specs.Words.{command_of}
 use Rattle.fp_system.specs.declared.words.Command.TheVariants as command
@@ -101,6 +103,15 @@ returns-in-Ok-clause-stopped g c job earlier number s t asks safe one =
     let safe1 = subst (λ (j : Job). IsSafe j.defs j.scripts j.scripts_text old earlier) (sym same) safe in
     c.run_on.ensures.stopped earlier number s1 t safe1 (ap faulty_line messages ∙ one)
 
+pub returns-in-Ok-clause-only_damaged : goal.returns-in-Ok-clause-only_damaged
+returns-in-Ok-clause-only_damaged g c job at s t asks begins bad =
+    let left = g.S.Source.left c.args.source.now in
+    let mine = job_of c.in-Ok.setup in
+    let is = c.in-Ok.ensures.job s in
+    let same : mine ≡ job = one_job (kinds_of c.args.exits.now) left mine job is asks.job_is in
+    let log = (g.T.Site.disk c.args.site.now).contents 0 in
+    c.run_on.ensures.only_damaged at t (subst (λ (j : Job). StartsWithFront log (front_for j)) (sym same) begins) (subst (λ (j : Job). IsFirstBadAt j.defs log (first_gate (front_for j)) at) (sym same) bad)
+
 pub returns-in-Ok-clause-answered : goal.returns-in-Ok-clause-answered
 returns-in-Ok-clause-answered g c job earlier s t asks safe done =
     let left = g.S.Source.left c.args.source.now in
@@ -155,7 +166,8 @@ returns-in-Ok-clause-kept g c job earlier s t asks safe =
     let s1 = c.read_setup.ensures.told s in
     let messages = c.read_setup.ensures.messages s in
     let safe1 = subst (λ (j : Job). IsSafe j.defs j.scripts j.scripts_text old earlier) (sym same) safe in
-    subst (λ (j : Job). Through old new (IsKept j.defs j.scripts j.scripts_text old earlier)) same (c.run_on.ensures.crash earlier s1 t safe1)
+    subst (λ (text : List ℕ). Through old new (IsKeptBy job (lines_of text) old earlier)) messages
+    (subst (λ (j : Job). Through old new (IsKeptBy j (lines_of (g.S.Source.left c.read_setup.new.source part.Messages)) old earlier)) same (c.run_on.ensures.crash earlier s1 t safe1))
 
 pub returns-clause-refused : goal.returns-clause-refused
 returns-clause-refused g c answer s refused =
@@ -165,6 +177,12 @@ returns-clause-refused g c answer s refused =
 
 pub returns-clause-only_foreign : goal.returns-clause-only_foreign
 returns-clause-only_foreign g c job s t asks foreign =
+    let left = g.S.Source.left c.args.source.now in
+    let given = c.in-Err.ensures.refused s in
+    inr (job_is_fault (kinds_of c.args.exits.now) left job c.in-Err.answer asks.job_is given)
+
+pub returns-clause-only_damaged : goal.returns-clause-only_damaged
+returns-clause-only_damaged g c job at s t asks begins bad =
     let left = g.S.Source.left c.args.source.now in
     let given = c.in-Err.ensures.refused s in
     inr (job_is_fault (kinds_of c.args.exits.now) left job c.in-Err.answer asks.job_is given)
@@ -193,7 +211,7 @@ returns-clause-safe g c job earlier s t asks safe =
 
 pub returns-clause-kept : goal.returns-clause-kept
 returns-clause-kept g c job earlier s t asks safe =
-    kept_safe job (g.T.Site.disk c.args.site.now) earlier (g.met.T.Site.lawful c.args.site.now t)
+    kept_safe job (lines_of (g.S.Source.left c.args.source.now part.Messages)) (g.T.Site.disk c.args.site.now) earlier (g.met.T.Site.lawful c.args.site.now t)
 
 pub returns-in-Ok-clause-foreign : goal.returns-in-Ok-clause-foreign
 returns-in-Ok-clause-foreign g c s t foreign =

@@ -4,7 +4,7 @@ use Rattle.fp_site.specs.Disk.{Settles}
 use Rattle.fp_site.specs.Moments.{Through}
 use Rattle.log_groups.specs.Images.{IsAtRest, IsBeforeOrAfter, IsWithOrWithout, with_group}
 use Rattle.fp_system.specs.Parts.{front_for}
-use Rattle.fp_system.specs.Serving.{IsReady, Serves, Halts}
+use Rattle.fp_system.specs.Serving.{GoesOnBy, IsReady, Serves, Halts}
 use Rattle.fp_system.specs.Setups.{job_of}
 use Rattle.fp_system.proofs.Results.{at_err}
 use Rattle.fp_system.proofs.Steps.{halts_here, stays_here, after_seal, halts_unsealed, after_send, halts_sent, serves_one}
@@ -18,7 +18,7 @@ returns-in_err-reply-clause-err g c entries t stands =
 
 pub returns-in_err-reply-clause-crash : goal.returns-in_err-reply-clause-crash
 returns-in_err-reply-clause-crash g c entries t stands =
-    let job = job_of c.args.setup.now in stays_here job entries (g.T.Site.disk c.args.site.now) c.args.self.now.store c.args.self.now.log (g.met.T.Site.lawful c.args.site.now t) stands
+    let job = job_of c.args.setup.now in stays_here job entries (c.args.line.now ∷ []) (g.T.Site.disk c.args.site.now) c.args.self.now.store c.args.self.now.log (g.met.T.Site.lawful c.args.site.now t) stands
 
 pub returns-in_err-seal-clause-err : goal.returns-in_err-seal-clause-err
 returns-in_err-seal-clause-err g c entries t stands =
@@ -56,7 +56,7 @@ returns-in_err-seal-clause-crash g c entries t stands =
     (subst (λ (es : List Entry). Through h h1 (IsBeforeOrAfter (front_for job) stands.groups c.prepare.new.self.log.gate (take 1 es))) ready.unsealed (c.seal.ensures.crash (front_for job) stands.groups t rest)) in
     let t1 = c.seal.ensures.told t in
     let law1 = g.met.T.Site.lawful c.seal.new.site t1 in
-    after_seal job entries h c.args.self.now.store c.args.self.now.log law stands e ready.alone ready.account h1 only run
+    subst (λ (l : List ℕ). Through h h1 (GoesOnBy job (l ∷ []) h entries)) ready.of_line (after_seal job entries h c.args.self.now.store c.args.self.now.log law stands e ready.alone ready.account h1 only run)
 
 pub returns-in_err-send-clause-err : goal.returns-in_err-send-clause-err
 returns-in_err-send-clause-err g c entries t stands =
@@ -109,7 +109,8 @@ returns-in_err-send-clause-crash g c entries t stands =
     let law2 = g.met.T.Site.lawful c.send.new.self (c.send.ensures.told t1) in
     let line = c.as_slice.result.now in
     let is = c.as_slice.ensures ∙ ready.reply_is in
-    after_send job entries h c.args.self.now.store c.args.self.now.log law stands e ready.alone ready.account h1 only run law1 gate1 rest1 line is h2 law2 (c.send.ensures.same t1) (c.send.ensures.crash t1)
+    subst (λ (l : List ℕ). Through h h2 (GoesOnBy job (l ∷ []) h entries)) ready.of_line
+    (after_send job entries h c.args.self.now.store c.args.self.now.log law stands e ready.alone ready.account h1 only run law1 gate1 rest1 line is h2 law2 (c.send.ensures.same t1) (c.send.ensures.crash t1))
 
 pub returns-clause-crash : goal.returns-clause-crash
 returns-clause-crash g c entries t stands =
@@ -134,7 +135,8 @@ returns-clause-crash g c entries t stands =
     let law2 = g.met.T.Site.lawful c.send.new.self (c.send.ensures.told t1) in
     let line = c.as_slice.result.now in
     let is = c.as_slice.ensures ∙ ready.reply_is in
-    after_send job entries h c.args.self.now.store c.args.self.now.log law stands e ready.alone ready.account h1 only run law1 gate1 rest1 line is h2 law2 (c.send.ensures.same t1) (c.send.ensures.crash t1)
+    subst (λ (l : List ℕ). Through h h2 (GoesOnBy job (l ∷ []) h entries)) ready.of_line
+    (after_send job entries h c.args.self.now.store c.args.self.now.log law stands e ready.alone ready.account h1 only run law1 gate1 rest1 line is h2 law2 (c.send.ensures.same t1) (c.send.ensures.crash t1))
 
 pub returns-clause-keeps : goal.returns-clause-keeps
 returns-clause-keeps g c first k = c.send.ensures.keeps first (c.seal.ensures.keeps first k)

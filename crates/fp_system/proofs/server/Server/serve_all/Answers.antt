@@ -9,7 +9,7 @@ use Rattle.fp_system.specs.Answers.{status_of_line}
 use Rattle.fp_system.specs.Serving.{Halts}
 use Rattle.fp_system.specs.Setups.{job_of}
 use Rattle.fp_system.specs.declared.status.Status.TheVariants as status
-use Rattle.fp_system.proofs.Loops.{going_none, halts_going, halts_more, moments_more, served_none, served_more, served_all, served_before, number_is}
+use Rattle.fp_system.proofs.Loops.{going_none, halts_going, halts_more, moments_served, moments_within, served_none, served_more, served_all, served_before, number_is}
 use Rattle.fp_system.proofs.Results.{at_err, at_some, at_none}
 use Rattle.fp_system.proofs.Steps.{halts_here, stays_here}
 use Rattle.fp_system.proofs.server.Server.serve_all.Goals as goal
@@ -23,7 +23,7 @@ returns-in_err-lines-clause-err g c entries s t stands =
 
 pub returns-in_err-lines-clause-crash : goal.returns-in_err-lines-clause-crash
 returns-in_err-lines-clause-crash g c entries s t stands =
-    stays_here (job_of c.args.setup.now) entries (g.T.Site.disk c.args.site.now) c.args.self.now.store c.args.self.now.log (g.met.T.Site.lawful c.args.site.now t) stands
+    stays_here (job_of c.args.setup.now) entries (lines_of (g.S.Source.left c.args.source.now part.Messages)) (g.T.Site.disk c.args.site.now) c.args.self.now.store c.args.self.now.log (g.met.T.Site.lawful c.args.site.now t) stands
 
 pub loop-lines-init : goal.loop-lines-init
 loop-lines-init g c = record {
@@ -66,7 +66,9 @@ returns-in_err-line-clause-err g c entries s t stands =
     (halts_going job entries stands.groups h0 h h so.served c.loop-lines.self.store c.loop-lines.self.log so.going whole (lines_ahead c.loop-lines.lines now) so.splits)
 
 pub returns-in_err-line-clause-crash : goal.returns-in_err-line-clause-crash
-returns-in_err-line-clause-crash g c entries s t stands = (c.loop-lines.invariant.served entries s t stands).going.moments
+returns-in_err-line-clause-crash g c entries s t stands =
+    moments_served (job_of c.args.setup.now) entries stands.groups (g.T.Site.disk c.args.site.now) (g.T.Site.disk c.loop-lines.site) (lines_of (g.S.Source.left c.args.source.now part.Messages))
+    (lines_ahead c.loop-lines.lines (g.S.Source.left c.loop-lines.source part.Messages)) (lines_given c.loop-lines.lines) c.loop-lines.self.store c.loop-lines.self.log (c.loop-lines.invariant.served entries s t stands)
 
 pub returns-in_err-serve-clause-err : goal.returns-in_err-serve-clause-err
 returns-in_err-serve-clause-err g c entries s t stands =
@@ -93,8 +95,14 @@ returns-in_err-serve-clause-crash g c entries s t stands =
     let inv = c.loop-lines.invariant in
     let so = inv.served entries s t stands in
     let t1 = inv.site.still_told t in
-    moments_more (job_of c.args.setup.now) entries stands.groups (g.T.Site.disk c.args.site.now) (g.T.Site.disk c.loop-lines.site) (g.T.Site.disk c.serve.new.site) so.served
-    c.loop-lines.self.store c.loop-lines.self.log so.going (c.serve.ensures.crash (entries ++ so.going.serves.later) t1 so.going.serves.stands)
+    let now = g.S.Source.left c.loop-lines.source part.Messages in
+    let next = g.S.Source.left c.next.new.source part.Messages in
+    let lines = c.loop-lines.lines in
+    let lines1 = c.next.new.self in
+    let line : List ℕ = c.in-Some.line in
+    let ahead = at_some c.in_ok-line.field-0 line (λ (l : List ℕ). lines_ahead lines now ≡ l ∷ lines_ahead lines1 next) c.in-Some.is (c.in_ok-line.ensures.line (inv.source.still_told s)) in
+    moments_within (job_of c.args.setup.now) entries stands.groups (g.T.Site.disk c.args.site.now) (g.T.Site.disk c.loop-lines.site) (lines_of (g.S.Source.left c.args.source.now part.Messages)) (lines_ahead lines now) (lines_given lines)
+    c.loop-lines.self.store c.loop-lines.self.log so (g.T.Site.disk c.serve.new.site) line (lines_ahead lines1 next) ahead (c.serve.ensures.crash (entries ++ so.going.serves.later) t1 so.going.serves.stands)
 
 pub loop-lines-preserved : goal.loop-lines-preserved
 loop-lines-preserved g c =
@@ -144,4 +152,6 @@ returns-clause-ok g c entries s t stands =
     c.loop-lines.self.store c.loop-lines.self.log (inv.served entries s t stands) (ap lines_of ahead)
 
 pub returns-clause-crash : goal.returns-clause-crash
-returns-clause-crash g c entries s t stands = (c.loop-lines.invariant.served entries s t stands).going.moments
+returns-clause-crash g c entries s t stands =
+    moments_served (job_of c.args.setup.now) entries stands.groups (g.T.Site.disk c.args.site.now) (g.T.Site.disk c.loop-lines.site) (lines_of (g.S.Source.left c.args.source.now part.Messages))
+    (lines_ahead c.loop-lines.lines (g.S.Source.left c.loop-lines.source part.Messages)) (lines_given c.loop-lines.lines) c.loop-lines.self.store c.loop-lines.self.log (c.loop-lines.invariant.served entries s t stands)
