@@ -4,6 +4,6 @@ mod Formats
 pub mod Groups
 mod Looking
 pub mod Replays
-mod Results
+pub mod Results
 mod Samples
 mod NoDedbs

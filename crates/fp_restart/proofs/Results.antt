@@ -2,6 +2,8 @@
 use Rattle.std.proofs.Common.{◌≡◌, refl}
 use Rattle.std.specs.Prelude.{ℕ, IfOk, IsErrOf, List, OnOk, Result, Ok, Err}
 use Rattle.fp_model.specs.declared.definitions.Defs.{Defs}
+use Rattle.fp_site.proofs.Images.{settles_left}
+use Rattle.fp_site.specs.Disk.{Disk, Snapshot, Syncs}
 use Rattle.fp_restart.proofs.Replays.{one_first_bad, readable_not_bad}
 use Rattle.fp_restart.specs.Replayed.{IsFirstBadAt, IsReadable}
 use Rattle.fp_restart.specs.Restarts.{IsDamageOr}
@@ -22,3 +24,7 @@ damage_or (Err fault.SiteFault) defs log first at readable foreign damaged bad =
 damage_or (Err (fault.Damaged set place)) defs log first at readable foreign damaged bad =
     let it = damaged set place refl in (it.0, one_first_bad defs log first at place bad it.1)
 damage_or (Err fault.Memory) defs log first at readable foreign damaged bad = tt
+
+-- what a crash may leave, a sync may leave
+pub same_synced : (h : Disk) (s : Snapshot) → h.may_leave s → Syncs h 0 s
+same_synced h s left = record { before = s; left = left; this = settles_left h 0 s left; others = λ k other. refl; sent = λ told. refl }

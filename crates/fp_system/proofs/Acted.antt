@@ -8,9 +8,10 @@ use Rattle.fp_model.specs.State.{start}
 use Rattle.fp_restart.specs.declared.fault.RestartFault.{RestartFault}
 use Rattle.fp_restart.specs.declared.fault.RestartFault.TheVariants as fault
 use Rattle.fp_restart.specs.Restarts.{IsDamageOr, StandsFor}
+use Rattle.fp_restart.proofs.Results.{same_synced}
 use Rattle.fp_site.specs.Disk.{Disk, Snapshot, Settles, Syncs, IsLawful}
 use Rattle.fp_site.specs.Moments.{OnlyOn, Through}
-use Rattle.fp_site.proofs.Images.{settles_again, settles_left}
+use Rattle.fp_site.proofs.Images.{settles_again}
 use Rattle.fp_site.proofs.Runs.{started, joined, weaker}
 use Rattle.log_groups.specs.Images.{IsAtRest, texts_of}
 use Rattle.log_groups.specs.Kept.{IsSound, IsSafe, lines_of_entries}
@@ -18,10 +19,10 @@ use Rattle.log_groups.specs.Log.{LogState}
 use Rattle.msdb_store.specs.Store.{Stored}
 use Rattle.fp_system.specs.declared.parts.Setup.{Setup}
 use Rattle.fp_system.specs.declared.status.Status.TheVariants as status
-use Rattle.fp_system.specs.Answers.{IsFault, IsOr, status_of_fault}
+use Rattle.fp_system.specs.Answers.{MayStandIn, IsOr, status_of_fault}
 use Rattle.fp_system.specs.Ims.{IsAnswered, IsUnchanged}
 use Rattle.fp_system.specs.Parts.{Job, front_for}
-use Rattle.fp_system.specs.Serving.{GoesOnBy, IsAccount, IsKeptBy, StandsAt, Serves, Halts}
+use Rattle.fp_system.specs.Serving.{GoesOnBy, IsAccount, IsKeptBy, StandsAt, Serves, StaysSafe}
 use Rattle.fp_system.specs.Setups.{IsSetup, job_of}
 use Rattle.fp_system.proofs.Stands.{safe_at_rest}
 
@@ -30,7 +31,7 @@ use Rattle.fp_system.proofs.Stands.{safe_at_rest}
 abbrev pub faulty : RestartFault → Result (Stored × LogState) RestartFault
 faulty f = Err f
 
-pub is_fault : (f : RestartFault) → (f ≡ fault.Foreign → ⊥) → ((set at : ℕ) → f ≡ fault.Damaged set at → ⊥) → IsFault (status_of_fault f)
+pub is_fault : (f : RestartFault) → (f ≡ fault.Foreign → ⊥) → ((set at : ℕ) → f ≡ fault.Damaged set at → ⊥) → MayStandIn (status_of_fault f)
 is_fault fault.Foreign never never2 = absurd (never refl)
 is_fault fault.SiteFault never never2 = tt
 is_fault (fault.Damaged set at) never never2 = absurd (never2 set at refl)
@@ -104,7 +105,7 @@ module _ (job : Job) (h h1 : Disk) (entries : List Entry) (law1 : IsLawful h1) (
     crash = λ image settles. safe.crash image (settles_again h h1 0 image synced settles);
   }
 
-  pub halts_synced : (lines : List (List ℕ)) → Halts job entries lines h h1
+  pub halts_synced : (lines : List (List ℕ)) → StaysSafe job entries lines h h1
   halts_synced lines = record {
     later = [];
     rest = lines;
@@ -137,7 +138,7 @@ module _ (job : Job) (h h1 : Disk) (entries : List Entry) (law1 : IsLawful h1) (
     pub kept_served : (lines : List (List ℕ)) → Through h1 h2 (GoesOnBy job lines h1 entries) → Through h h2 (Kept lines)
     kept_served lines served = joined (Kept lines) h h1 h2 (kept_synced lines) (weaker (GoesOnBy job lines h1 entries) (Kept lines) h1 h2 (from_old lines) served)
 
-    pub halts_served : (lines : List (List ℕ)) → Halts job entries lines h1 h2 → Halts job entries lines h h2
+    pub halts_served : (lines : List (List ℕ)) → StaysSafe job entries lines h1 h2 → StaysSafe job entries lines h h2
     halts_served lines halts = record { later = halts.later; rest = halts.rest; of_lines = halts.of_lines; alone = halts.alone; safe = halts.safe; count = halts.count; sent = halts.sent ∙ ap (λ (t : List ℕ). t ++ take halts.count (lines_of_entries halts.later)) sent }
 
     module _ (store0 : Stored) (log0 : LogState) (lines : List (List ℕ)) (store : Stored) (log : LogState) (stands : StandsAt job entries h1 store0 log0) (serves : Serves job entries stands.groups h1 h2 lines store log) where
@@ -156,7 +157,7 @@ module _ (job : Job) (h h1 : Disk) (entries : List Entry) (law1 : IsLawful h1) (
         sent = serves.sent ∙ ap (λ (t : List ℕ). t ++ lines_of_entries serves.later) sent;
       }
 
-      pub halts_answered : Halts job entries lines h h2
+      pub halts_answered : StaysSafe job entries lines h h2
       unfolding answered
       halts_answered = record {
         later = serves.later;
@@ -170,7 +171,7 @@ module _ (job : Job) (h h1 : Disk) (entries : List Entry) (law1 : IsLawful h1) (
 
 -- ---- where nothing was done
 
-pub halts_safe : (job : Job) (h : Disk) (entries : List Entry) (lines : List (List ℕ)) → IsSafe job.defs job.scripts job.scripts_text h entries → Halts job entries lines h h
+pub halts_safe : (job : Job) (h : Disk) (entries : List Entry) (lines : List (List ℕ)) → IsSafe job.defs job.scripts job.scripts_text h entries → StaysSafe job entries lines h h
 halts_safe job h entries lines safe = record {
   later = [];
   rest = lines;
@@ -180,10 +181,6 @@ halts_safe job h entries lines safe = record {
   count = 0;
   sent = sym (append-nil h.sent);
 }
-
--- what a crash may leave, a sync may leave
-same_synced : (h : Disk) (s : Snapshot) → h.may_leave s → Syncs h 0 s
-same_synced h s left = record { before = s; left = left; this = settles_left h 0 s left; others = λ k ne. refl; sent = λ told. refl }
 
 pub kept_safe : (job : Job) (lines : List (List ℕ)) (h : Disk) (entries : List Entry) → IsLawful h → Through h h (IsKeptBy job lines h entries)
 kept_safe job lines h entries law = started (IsKeptBy job lines h entries) h law (λ s left. inl (same_synced h s left))

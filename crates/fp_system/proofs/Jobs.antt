@@ -11,7 +11,7 @@ use Rattle.fp_model.specs.declared.definitions.Defs.{Defs}
 use Rattle.fp_model.specs.declared.scripts.Script.{Script}
 use Rattle.fp_source.specs.declared.part.Part.{Part}
 use Rattle.fp_source.specs.declared.part.Part.TheVariants as part
-use Rattle.fp_system.specs.Answers.{IsFault, IsOr, status_of_definitions}
+use Rattle.fp_system.specs.Answers.{MayStandIn, IsOr, status_of_definitions}
 use Rattle.fp_system.specs.Parts.{Job, IsJob, Refuses, by_definitions, by_scripts, are_built, only_built, definitions_in}
 use Rattle.fp_system.specs.declared.status.Status.{Status}
 use Rattle.fp_system.specs.declared.status.Status.TheVariants as status
@@ -32,7 +32,7 @@ same_answer r a b e f = cc
 
 -- the first fault that is read is the answer, unless memory ran out
 pub fault_is_answer : (read : Result Defs DefsFault) (fault : DefsFault) → (fault ≢ bad.Memory → read ≡ Err fault)
-    → IsFault (status_of_definitions fault) ⊎ (only_built read ≡ Err (status_of_definitions fault))
+    → MayStandIn (status_of_definitions fault) ⊎ (only_built read ≡ Err (status_of_definitions fault))
 fault_is_answer read bad.Memory is = inl tt
 fault_is_answer read bad.NotToml is = inr (ap only_built (is (λ e. cc)))
 fault_is_answer read (bad.Missing key) is = inr (ap only_built (is (λ e. cc)))
@@ -74,12 +74,12 @@ one_answer kinds left a b (by_scripts {defs = d} {fault = f} p has) (by_scripts 
     ap (λ (x : ScriptFault). status.Scripts x) (one_fault e (left part.Scripts) f g (subst (λ (x : Defs). HasFault x (left part.Scripts) f) same has) has2)
 
 -- what was read stands in the place of an answer that the parts have
-pub refused_or : (kinds : Kinds) (left : Part → List ℕ) (answer given : Status) → Refuses kinds left answer → IsFault given ⊎ Refuses kinds left given → IsOr answer given
+pub refused_or : (kinds : Kinds) (left : Part → List ℕ) (answer given : Status) → Refuses kinds left answer → MayStandIn given ⊎ Refuses kinds left given → IsOr answer given
 refused_or kinds left answer given p (inl f) = inr f
 refused_or kinds left answer given p (inr q) = inl (one_answer kinds left given answer q p)
 
 -- where they are a job, it is a fault
-pub job_is_fault : (kinds : Kinds) (left : Part → List ℕ) (job : Job) (given : Status) → IsJob kinds left job → IsFault given ⊎ Refuses kinds left given → IsFault given
+pub job_is_fault : (kinds : Kinds) (left : Part → List ℕ) (job : Job) (given : Status) → IsJob kinds left job → MayStandIn given ⊎ Refuses kinds left given → MayStandIn given
 job_is_fault kinds left job given p (inl f) = f
 job_is_fault kinds left job given p (inr q) = no_job_refused kinds left job given p q
 
@@ -101,11 +101,11 @@ isnt_built kinds text defs e built = ap only_built e ∙ ap (λ (b : Bool). if b
 
 -- ---- answers of the parts in turn
 
-pub or_refused : (kinds : Kinds) (left : Part → List ℕ) (a : Status) → IsFault a ⊎ (definitions_in kinds (left part.Definitions) ≡ Err a) → IsFault a ⊎ Refuses kinds left a
+pub or_refused : (kinds : Kinds) (left : Part → List ℕ) (a : Status) → MayStandIn a ⊎ (definitions_in kinds (left part.Definitions) ≡ Err a) → MayStandIn a ⊎ Refuses kinds left a
 or_refused kinds left a (inl f) = inl f
 or_refused kinds left a (inr e) = inr (by_definitions e)
 
 pub or_scripts : (kinds : Kinds) (left : Part → List ℕ) (defs : Defs) (text : List ℕ) (a : Status) → definitions_in kinds (left part.Definitions) ≡ Ok defs → text ≡ left part.Scripts
-    → IsFault a ⊎ ((f : ScriptFault) × (a ≡ status.Scripts f) × HasFault defs text f) → IsFault a ⊎ Refuses kinds left a
+    → MayStandIn a ⊎ ((f : ScriptFault) × (a ≡ status.Scripts f) × HasFault defs text f) → MayStandIn a ⊎ Refuses kinds left a
 or_scripts kinds left defs text a e same (inl f) = inl f
 or_scripts kinds left defs text a e same (inr (f, is, has)) = inr (subst (Refuses kinds left) (sym is) (by_scripts e (subst (λ (t : List ℕ). HasFault defs t f) same has)))

@@ -16,7 +16,7 @@ use Rattle.fp_source.specs.declared.lines.LineFault.TheVariants as fault
 use Rattle.fp_system.specs.Answers.{status_of_line}
 use Rattle.fp_system.specs.declared.status.Status.TheVariants as status
 use Rattle.fp_system.specs.Parts.{Job}
-use Rattle.fp_system.specs.Serving.{GoesOnBy, StandsAt, Serves, Halts, one_each}
+use Rattle.fp_system.specs.Serving.{GoesOnBy, StandsAt, Serves, StaysSafe, one_each}
 use Rattle.fp_system.proofs.Stands.{all_append, safe_at_rest}
 use Rattle.fp_system.proofs.Steps.{stays_here}
 
@@ -101,7 +101,7 @@ module _ (job : Job) (entries : List Entry) (before : List (List Entry)) (h0 h h
       joined (GoesOnBy job (lines ++ line ∷ []) h0 entries) h0 h h1 (moments_by job entries lines (line ∷ []) (lines ++ line ∷ []) h0 h refl going.moments)
       (weaker (GoesOnBy job (line ∷ []) h (entries ++ so_far)) (GoesOnBy job (lines ++ line ∷ []) h0 entries) h h1 (goes_more line) run)
 
-  pub halts_more : (whole ahead : List (List ℕ)) (line : List ℕ) → whole ≡ lines ++ line ∷ ahead → Halts job (entries ++ so_far) (line ∷ []) h h1 → Halts job entries whole h0 h1
+  pub halts_more : (whole ahead : List (List ℕ)) (line : List ℕ) → whole ≡ lines ++ line ∷ ahead → StaysSafe job (entries ++ so_far) (line ∷ []) h h1 → StaysSafe job entries whole h0 h1
   halts_more whole ahead line splits halts = record {
     later = so_far ++ halts.later;
     rest = halts.rest ++ ahead;
@@ -145,7 +145,7 @@ module _ (job : Job) (entries : List Entry) (before : List (List Entry)) (h0 h h
   }
 
   -- however far it came, it may end there
-  pub halts_going : (whole ahead : List (List ℕ)) → whole ≡ lines ++ ahead → Halts job entries whole h0 h
+  pub halts_going : (whole ahead : List (List ℕ)) → whole ≡ lines ++ ahead → StaysSafe job entries whole h0 h
   halts_going whole ahead splits = record {
     later = so_far;
     rest = ahead;

@@ -17,7 +17,7 @@ use Rattle.log_groups.specs.Images.{IsLog, IsAtRest}
 use Rattle.lone_region.specs.Next.{ComesNext, IsServed}
 use Rattle.log_groups.specs.Kept.{IsSound, IsSafe, items_of}
 use Rattle.fp_system.specs.Parts.{Job, front_for}
-use Rattle.fp_system.specs.Serving.{IsAccount, IsReady}
+use Rattle.fp_system.specs.Serving.{IsAccount, AwaitsSeal}
 use Rattle.log_groups.specs.Log.{LogState}
 use Rattle.msdb_store.specs.Store.{Stored, IsOf}
 
@@ -78,7 +78,7 @@ account_more job entries account line e next = record {
 -- a line that was answered is ready to be sealed
 pub ready_of : (job : Job) (entries : List Entry) (account : IsAccount job entries) (line reply : List ℕ) (old new : LogState) (store : Stored)
     → IsOf job.defs.msdbs store → old.unsealed ≡ [] → old.sealed ≡ length entries
-    → IsServed job.defs job.scripts account.history.0 account.last line reply old new store → IsReady job entries line reply old.gate store new
+    → IsServed job.defs job.scripts account.history.0 account.last line reply old new store → AwaitsSeal job entries line reply old.gate store new
 unfolding account_more
 ready_of job entries account line reply old new store of none count served = record {
   entry = served.entry;

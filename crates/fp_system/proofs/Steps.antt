@@ -17,7 +17,7 @@ use Rattle.log_groups.specs.Log.{LogState}
 use Rattle.lone_region.specs.Next.{IsAlone}
 use Rattle.msdb_store.specs.Store.{Stored, IsOf}
 use Rattle.fp_system.specs.Parts.{Job, front_for}
-use Rattle.fp_system.specs.Serving.{AreAlone, GoesOnBy, IsAccount, StandsAt, Serves, Halts}
+use Rattle.fp_system.specs.Serving.{AreAlone, GoesOnBy, IsAccount, StandsAt, Serves, StaysSafe}
 use Rattle.fp_system.proofs.Stands.{sound_log, safe_at_rest, one_group}
 
 -- the line of one entry
@@ -43,8 +43,8 @@ module _ (job : Job) (entries : List Entry) where
   }
 
   -- a disk at rest where nothing was done
-  pub halts_here : (lines : List (List ℕ)) (h h1 : Disk) (store : Stored) (log : LogState) → h1 ≡ h → StandsAt job entries h store log → Halts job entries lines h h1
-  halts_here lines h h1 store log same stands = subst (λ (x : Disk). Halts job entries lines h x) (sym same) (record {
+  pub halts_here : (lines : List (List ℕ)) (h h1 : Disk) (store : Stored) (log : LogState) → h1 ≡ h → StandsAt job entries h store log → StaysSafe job entries lines h h1
+  halts_here lines h h1 store log same stands = subst (λ (x : Disk). StaysSafe job entries lines h x) (sym same) (record {
     later = [];
     rest = lines;
     of_lines = refl;
@@ -102,10 +102,10 @@ module _ (job : Job) (entries : List Entry) where
         left_sound : (image : List ℕ) → Settles h1 0 image → (left : List Entry) × Sound image left
         left_sound image s = ⊎_elim (λ sound. (entries, sound)) (λ sound. (entries ++ e ∷ [], sound)) (either_sound image (settles image s))
 
-        safe_by : (later : List Entry) (rest : List (List ℕ)) → e.line ∷ [] ≡ map (λ (x : Entry). x.line) later ++ rest → AreAlone later → Sound (h1.contents 0) (entries ++ later) → Halts job entries (e.line ∷ []) h h1
+        safe_by : (later : List Entry) (rest : List (List ℕ)) → e.line ∷ [] ≡ map (λ (x : Entry). x.line) later ++ rest → AreAlone later → Sound (h1.contents 0) (entries ++ later) → StaysSafe job entries (e.line ∷ []) h h1
         safe_by later rest lines only_one sound = record { later = later; rest = rest; of_lines = lines; alone = only_one; safe = record { now = sound; crash = left_sound }; count = 0; sent = only.now.sent ∙ sym (append-nil h.sent) }
 
-        pub halts_unsealed : Halts job entries (e.line ∷ []) h h1
+        pub halts_unsealed : StaysSafe job entries (e.line ∷ []) h h1
         halts_unsealed =
             ⊎_elim (λ sound. safe_by [] (e.line ∷ []) refl tt (subst (Sound (h1.contents 0)) (sym (append-nil entries)) sound)) (λ sound. safe_by (e ∷ []) [] refl (alone, tt) sound)
             (either_sound (h1.contents 0) (settles (h1.contents 0) (settles_contents h1 0 law1)))
@@ -135,7 +135,7 @@ module _ (job : Job) (entries : List Entry) where
           log = subst (λ (f : ℕ → List ℕ). IsLog (front_for job) (f 0) more gate1) (sym same) rest.log;
         }
 
-        pub halts_sent : (n : ℕ) → h2.sent ≡ h1.sent ++ take n line → Halts job entries (e.line ∷ []) h h2
+        pub halts_sent : (n : ℕ) → h2.sent ≡ h1.sent ++ take n line → StaysSafe job entries (e.line ∷ []) h h2
         halts_sent n text = record {
           later = e ∷ [];
           rest = [];

@@ -12,16 +12,16 @@ use Rattle.fp_system.specs.declared.status.Status.TheVariants.{Usage, Definition
 use Rattle.txn_lang.specs.declared.fault.ScriptFault.{ScriptFault}
 use Rattle.txn_lang.specs.declared.fault.ScriptFault.TheVariants as wrong
 
--- an answer that may stand in the place of another: a fault that was counted, or want of memory
-abbrev pub IsFault : Status → Type 0
-IsFault ReadFault = ⊤
-IsFault SiteFault = ⊤
-IsFault NoMemory = ⊤
-IsFault _ = ⊥
+-- an answer that may stand in the place of any other: a fault that was counted, or want of memory
+abbrev pub MayStandIn : Status → Type 0
+MayStandIn ReadFault = ⊤
+MayStandIn SiteFault = ⊤
+MayStandIn NoMemory = ⊤
+MayStandIn _ = ⊥
 
 -- this answer, or a fault in its place
 abbrev pub IsOr : Status → Status → Type 0
-IsOr status result = (result ≡ status) ⊎ IsFault result
+IsOr status result = (result ≡ status) ⊎ MayStandIn result
 
 -- an answer that the parts are refused with
 abbrev pub IsRefusal : Status → Type 0

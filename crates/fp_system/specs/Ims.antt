@@ -54,7 +54,7 @@ pub record IsAnswered (job : Job) (earlier : List Entry) (lines : List (List ℕ
   pub sent : new.sent ≡ old.sent ++ lines_of_entries later
 
 -- By what is told and by the numbers: calls were made of a source or a site, and it is the same one.
-pub record IsSame {X : Type 0} (told : X → Type 0) (faults : X → ℕ) (holds : X → ℕ) (keeps : X → X → Type 0) (old new : X) : Type 0 where
+pub record IsContinued {X : Type 0} (told : X → Type 0) (faults : X → ℕ) (holds : X → ℕ) (keeps : X → X → Type 0) (old new : X) : Type 0 where
   pub later : faults old ≤ faults new
   pub still_told : told old → told new
   pub reference : holds new ≡ holds old

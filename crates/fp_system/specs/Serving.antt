@@ -56,7 +56,7 @@ pub record Serves (job : Job) (entries : List Entry) (before : List (List Entry)
 
 -- However it ended: the site is safe with some entries more, which are those of a first part of the lines, and a first part
 -- of their reply lines was sent.
-pub record Halts (job : Job) (entries : List Entry) (lines : List (List ℕ)) (old new : Disk) : Type 0 where
+pub record StaysSafe (job : Job) (entries : List Entry) (lines : List (List ℕ)) (old new : Disk) : Type 0 where
   pub later : List Entry
   pub rest : List (List ℕ)
   pub of_lines : lines ≡ map (λ e. e.line) later ++ rest
@@ -79,7 +79,7 @@ IsKeptBy job lines before entries s = Syncs before 0 s ⊎ GoesOnBy job lines be
 
 -- A message's entry waits to be sealed, and its reply line is ready: with it the entries may stand in a log, and the store
 -- has the segments behind it.
-pub record IsReady (job : Job) (entries : List Entry) (line reply : List ℕ) (gate : ℕ) (store : Stored) (log : LogState) : Type 0 where
+pub record AwaitsSeal (job : Job) (entries : List Entry) (line reply : List ℕ) (gate : ℕ) (store : Stored) (log : LogState) : Type 0 where
   pub entry : Entry
   pub of_line : entry.line ≡ line
   pub reply_is : reply ≡ line_of entry

@@ -8,9 +8,9 @@ ghost use Rattle.fp_site.specs.Moments.{OnlyOn, Through};
 ghost use Rattle.fp_source.specs.Source.{Rose};
 ghost use Rattle.fp_source.specs.declared.part.Part.TheVariants as part;
 ghost use Rattle.fp_system.specs.Answers.{IsEarly, IsOfLog, IsOr, faulty_line, status_of_fault};
-ghost use Rattle.fp_system.specs.Ims.{IsAnswered, IsForeignTo, IsSame, IsUnchanged};
+ghost use Rattle.fp_system.specs.Ims.{IsAnswered, IsForeignTo, IsContinued, IsUnchanged};
 ghost use Rattle.fp_system.specs.Parts.{front_for};
-ghost use Rattle.fp_system.specs.Serving.{Halts, IsKeptBy};
+ghost use Rattle.fp_system.specs.Serving.{StaysSafe, IsKeptBy};
 ghost use Rattle.fp_system.specs.Setups.{IsSetup, job_of};
 ghost use Rattle.fp_system.specs.declared.status.Status.TheVariants as status;
 ghost use Rattle.log_groups.specs.Images.{IsBeforeOrMade};
@@ -52,7 +52,7 @@ pub(crate) fn define_on<T: Site>(alloc: Global, site: &mut T, setup: &Setup) -> 
     ensures only { T.told site.old → OnlyOn 0 (T.disk site.old) (T.disk site.new) }
     ensures crash { T.told site.old →
         Through (T.disk site.old) (T.disk site.new) (IsBeforeOrMade (T.disk site.old) (front_for (job_of setup.now))) }
-    ensures site { IsSame T.told T.faults T.holds T.keeps site.old site.new }
+    ensures site { IsContinued T.told T.faults T.holds T.keeps site.old site.new }
 {
     match define(alloc, &setup.defs, &setup.front, site) {
         Ok(()) => Status::Done,
@@ -98,11 +98,11 @@ pub(crate) fn run_on<S: Source, T: Site>(
         → result ≡ status.Line number →
         IsAnswered (job_of setup.now) earlier (take (number - 1) (lines_of (S.left source.old part.Messages))) (T.disk site.old) (T.disk site.new) }
     ensures safe { (earlier : ListOf Entry) → S.told source.old → T.told site.old → IsSafe setup.now.defs setup.now.scripts.scripts setup.now.scripts.text (T.disk site.old) earlier →
-        Halts (job_of setup.now) earlier (lines_of (S.left source.old part.Messages)) (T.disk site.old) (T.disk site.new) }
+        StaysSafe (job_of setup.now) earlier (lines_of (S.left source.old part.Messages)) (T.disk site.old) (T.disk site.new) }
     ensures crash { (earlier : ListOf Entry) → S.told source.old → T.told site.old → IsSafe setup.now.defs setup.now.scripts.scripts setup.now.scripts.text (T.disk site.old) earlier →
         Through (T.disk site.old) (T.disk site.new) (IsKeptBy (job_of setup.now) (lines_of (S.left source.old part.Messages)) (T.disk site.old) earlier) }
-    ensures source { IsSame S.told S.faults S.holds S.keeps source.old source.new }
-    ensures site { IsSame T.told T.faults T.holds T.keeps site.old site.new }
+    ensures source { IsContinued S.told S.faults S.holds S.keeps source.old source.new }
+    ensures site { IsContinued T.told T.faults T.holds T.keeps site.old site.new }
 {
     let (store, log) = match restart(alloc, &setup.defs, &setup.front, site) {
         Ok(parts) => parts,

@@ -3,7 +3,7 @@ ghost use Rattle.fp_exits.specs.Kinds.{kinds_of};
 ghost use Rattle.fp_model.specs.WellFormed.{AreDefs};
 ghost use Rattle.fp_source.specs.Source.{ReadsOnly, Rose};
 ghost use Rattle.fp_source.specs.declared.part.Part.TheVariants as part;
-ghost use Rattle.fp_system.specs.Answers.{IsFault, IsOfParts, status_of_definitions, status_of_scripts};
+ghost use Rattle.fp_system.specs.Answers.{MayStandIn, IsOfParts, status_of_definitions, status_of_scripts};
 ghost use Rattle.fp_system.specs.Parts.{IsJob, Refuses, are_built, definitions_in};
 ghost use Rattle.fp_system.specs.Setups.{IsSetup, job_of};
 ghost use Rattle.fp_system.specs.declared.status.Status.TheVariants as status;
@@ -64,7 +64,7 @@ fn definitions_in(alloc: Global, text: &[u8], exits: &Exits) -> Result<Defs, Sta
     ensures ok { IfOk result (λ defs. definitions_in (kinds_of exits.now) text.now ≡ Ok defs) }
     ensures are { IfOk result AreDefs }
     ensures built { IfOk result (λ defs. are_built defs ≡ true) }
-    ensures refused { IfErr result (λ answer. IsFault answer ⊎ (definitions_in (kinds_of exits.now) text.now ≡ Err answer)) }
+    ensures refused { IfErr result (λ answer. MayStandIn answer ⊎ (definitions_in (kinds_of exits.now) text.now ≡ Err answer)) }
     ensures early { IfErr result IsOfParts }
     ensures never { IsErrOf result status.ReadFault → ⊥ }
 {
@@ -84,7 +84,7 @@ fn read_definitions<S: Source>(alloc: Global, source: &mut S, exits: &Exits) -> 
     ensures are { IfOk result AreDefs }
     ensures built { IfOk result (λ defs. are_built defs ≡ true) }
     ensures refused { S.told source.old →
-        IfErr result (λ answer. IsFault answer ⊎ (definitions_in (kinds_of exits.now) (S.left source.old part.Definitions) ≡ Err answer)) }
+        IfErr result (λ answer. MayStandIn answer ⊎ (definitions_in (kinds_of exits.now) (S.left source.old part.Definitions) ≡ Err answer)) }
     ensures early { IfErr result IsOfParts }
     ensures cause { IsErrOf result status.ReadFault → Rose (S.faults source.old) (S.faults source.new) }
     ensures source { ReadsOnly S.told S.left S.faults S.holds S.keeps part.Definitions source.old source.new }
@@ -102,7 +102,7 @@ fn scripts_in(alloc: Global, defs: &Defs, text: &[u8]) -> Result<Scripts, Status
     requires { AreDefs defs.now }
     ensures ok { IfOk result (λ scripts. scripts.text ≡ text.now) }
     ensures are { IfOk result (λ scripts. AreScriptsOf defs.now scripts.text scripts.scripts) }
-    ensures refused { IfErr result (λ answer. IsFault answer
+    ensures refused { IfErr result (λ answer. MayStandIn answer
         ⊎ ((fault : ScriptFaultOf) × (answer ≡ status.Scripts fault) × HasFault defs.now text.now fault)) }
     ensures early { IfErr result IsOfParts }
     ensures never { IsErrOf result status.ReadFault → ⊥ }
@@ -118,7 +118,7 @@ fn read_scripts<S: Source>(alloc: Global, source: &mut S, defs: &Defs) -> Result
     requires { AreDefs defs.now }
     ensures ok { S.told source.old → IfOk result (λ scripts. scripts.text ≡ S.left source.old part.Scripts) }
     ensures are { IfOk result (λ scripts. AreScriptsOf defs.now scripts.text scripts.scripts) }
-    ensures refused { S.told source.old → IfErr result (λ answer. IsFault answer
+    ensures refused { S.told source.old → IfErr result (λ answer. MayStandIn answer
         ⊎ ((fault : ScriptFaultOf) × (answer ≡ status.Scripts fault) × HasFault defs.now (S.left source.old part.Scripts) fault)) }
     ensures early { IfErr result IsOfParts }
     ensures cause { IsErrOf result status.ReadFault → Rose (S.faults source.old) (S.faults source.new) }
@@ -162,7 +162,7 @@ pub(crate) fn read_setup<S: Source>(
     ensures setup { IfOk result IsSetup }
 
     // Otherwise it is the first reason why they are no job.
-    ensures refused { S.told source.old → IfErr result (λ answer. IsFault answer ⊎ Refuses (kinds_of exits.now) (S.left source.old) answer) }
+    ensures refused { S.told source.old → IfErr result (λ answer. MayStandIn answer ⊎ Refuses (kinds_of exits.now) (S.left source.old) answer) }
     ensures early { IfErr result IsOfParts }
     ensures cause { IsErrOf result status.ReadFault → Rose (S.faults source.old) (S.faults source.new) }
 

@@ -6,8 +6,8 @@ ghost use Rattle.fp_site.specs.Moments.{Through};
 ghost use Rattle.fp_source.specs.Source.{Rose};
 ghost use Rattle.fp_source.specs.declared.part.Part.TheVariants as part;
 ghost use Rattle.fp_system.specs.Answers.{IsOfSite, IsStop, faulty_line};
-ghost use Rattle.fp_system.specs.Ims.{IsSame};
-ghost use Rattle.fp_system.specs.Serving.{GoesOnBy, Halts, IsAccount, IsReady, Serves, StandsAt};
+ghost use Rattle.fp_system.specs.Ims.{IsContinued};
+ghost use Rattle.fp_system.specs.Serving.{GoesOnBy, StaysSafe, IsAccount, AwaitsSeal, Serves, StandsAt};
 ghost use Rattle.fp_system.specs.Setups.{IsSetup, job_of};
 ghost use Rattle.fp_system.specs.declared.status.Status.TheVariants as status;
 ghost use Rattle.msdb_store.specs.Store.{IsOf};
@@ -38,7 +38,7 @@ impl Server {
         requires short { length line.now ≤ 2100 }
         ensures ready { (entries : ListOf Entry) (account : IsAccount (job_of setup.now) entries) → self.old.store.msdbs ≡ account.last.msdbs
             → self.old.log.unsealed ≡ [] → self.old.log.sealed ≡ length entries →
-            IfOk result (λ reply. IsReady (job_of setup.now) entries line.now reply self.old.log.gate self.new.store self.new.log) }
+            IfOk result (λ reply. AwaitsSeal (job_of setup.now) entries line.now reply self.old.log.gate self.new.store self.new.log) }
         ensures store { IsOf setup.now.defs.msdbs self.new.store }
     {
         serve_line(
@@ -70,7 +70,7 @@ impl Server {
 
         // However it ends.
         ensures err { (entries : ListOf Entry) → T.told site.old → StandsAt (job_of setup.now) entries (T.disk site.old) self.old.store self.old.log →
-            OnErr result (Halts (job_of setup.now) entries (line.now ∷ []) (T.disk site.old) (T.disk site.new)) }
+            OnErr result (StaysSafe (job_of setup.now) entries (line.now ∷ []) (T.disk site.old) (T.disk site.new)) }
         ensures later { T.faults site.old ≤ T.faults site.new }
         ensures told { T.told site.old → T.told site.new }
         ensures holds { T.holds site.new ≡ T.holds site.old }
@@ -114,9 +114,9 @@ impl Server {
         // However it ends.
         ensures err { (entries : ListOf Entry) → S.told source.old → T.told site.old
             → StandsAt (job_of setup.now) entries (T.disk site.old) self.old.store self.old.log →
-            OnErr result (Halts (job_of setup.now) entries (lines_of (S.left source.old part.Messages)) (T.disk site.old) (T.disk site.new)) }
-        ensures source { IsSame S.told S.faults S.holds S.keeps source.old source.new }
-        ensures site { IsSame T.told T.faults T.holds T.keeps site.old site.new }
+            OnErr result (StaysSafe (job_of setup.now) entries (lines_of (S.left source.old part.Messages)) (T.disk site.old) (T.disk site.new)) }
+        ensures source { IsContinued S.told S.faults S.holds S.keeps source.old source.new }
+        ensures site { IsContinued T.told T.faults T.holds T.keeps site.old site.new }
 
         // A crash at any moment leaves the entries and more of a first part of the lines, and sent a first part of their replies.
         ensures crash { (entries : ListOf Entry) → S.told source.old → T.told site.old

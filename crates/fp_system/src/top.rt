@@ -9,9 +9,9 @@ ghost use Rattle.fp_site.specs.Moments.{OnlyOn, Through};
 ghost use Rattle.fp_source.specs.Source.{Rose};
 ghost use Rattle.fp_source.specs.declared.part.Part.TheVariants as part;
 ghost use Rattle.fp_system.specs.Answers.{IsEarly, IsOfLog, IsOr, IsRefusal, faulty_line};
-ghost use Rattle.fp_system.specs.Ims.{Asks, IsAnswered, IsForeignTo, IsRefused, IsSame, IsUnchanged};
+ghost use Rattle.fp_system.specs.Ims.{Asks, IsAnswered, IsForeignTo, IsRefused, IsContinued, IsUnchanged};
 ghost use Rattle.fp_system.specs.Parts.{IsJob, Job, front_for};
-ghost use Rattle.fp_system.specs.Serving.{Halts, IsKeptBy};
+ghost use Rattle.fp_system.specs.Serving.{StaysSafe, IsKeptBy};
 ghost use Rattle.fp_system.specs.Words.{command_of};
 ghost use Rattle.fp_system.specs.declared.status.Status.{Status as StatusOf};
 ghost use Rattle.fp_system.specs.declared.status.Status.TheVariants as status;
@@ -88,7 +88,7 @@ pub fn ims<S: Source, T: Site>(
         IsAnswered job earlier (take (number - 1) (lines_of (S.left source.old part.Messages))) (T.disk site.old) (T.disk site.new) }
     ensures safe { (job : Job) (earlier : ListOf Entry) → S.told source.old → T.told site.old → Asks (kinds_of exits.now) (map string_bytes words.now) (S.left source.old) command.Run job
         → IsSafe job.defs job.scripts job.scripts_text (T.disk site.old) earlier →
-        Halts job earlier (lines_of (S.left source.old part.Messages)) (T.disk site.old) (T.disk site.new) }
+        StaysSafe job earlier (lines_of (S.left source.old part.Messages)) (T.disk site.old) (T.disk site.new) }
     ensures kept { (job : Job) (earlier : ListOf Entry) → S.told source.old → T.told site.old → Asks (kinds_of exits.now) (map string_bytes words.now) (S.left source.old) command.Run job
         → IsSafe job.defs job.scripts job.scripts_text (T.disk site.old) earlier →
         Through (T.disk site.old) (T.disk site.new) (IsKeptBy job (lines_of (S.left source.old part.Messages)) (T.disk site.old) earlier) }
@@ -108,8 +108,8 @@ pub fn ims<S: Source, T: Site>(
     // `define` reads no messages.
     ensures messages { S.told source.old → command_of (map string_bytes words.now) ≡ Some command.Define →
         S.left source.new part.Messages ≡ S.left source.old part.Messages }
-    ensures source { IsSame S.told S.faults S.holds S.keeps source.old source.new }
-    ensures site { IsSame T.told T.faults T.holds T.keeps site.old site.new }
+    ensures source { IsContinued S.told S.faults S.holds S.keeps source.old source.new }
+    ensures site { IsContinued T.told T.faults T.holds T.keeps site.old site.new }
 {
     let Some(command) = command_of(words) else {
         return Status::Usage;

@@ -3,13 +3,15 @@ use Rattle.std.specs.Prelude.{slice_index}
 use Rattle.fp_model.specs.LogText.{StartsWithFront, first_gate}
 use Rattle.fp_model.specs.State.{start}
 use Rattle.fp_site.proofs.Images.{durable_stays}
+use Rattle.fp_site.proofs.Runs.{now_one, of_call, stays_on}
+use Rattle.fp_site.specs.Disk.{Syncs}
 use Rattle.fp_restart.specs.Replayed.{IsFirstBadAt, IsReplayed}
 use Rattle.fp_restart.specs.Restarts.{StandsFor}
 use Rattle.log_groups.specs.Kept.{IsSound}
 use Rattle.log_groups.specs.Images.{texts_of}
 use Rattle.msdb_store.specs.Store.{IsOf}
 use Rattle.fp_restart.proofs.Replays.{sound_begins, sound_not_bad, sound_stands}
-use Rattle.fp_restart.proofs.Results.{of_four}
+use Rattle.fp_restart.proofs.Results.{damage_or, of_four, same_synced}
 use Rattle.fp_restart.proofs.restarting.restart.Goals as goal
 
 pub returns-clause-sound : goal.returns-clause-sound
@@ -58,3 +60,24 @@ returns-clause-place g c set at t is =
 pub returns-clause-begun : goal.returns-clause-begun
 returns-clause-begun g c set at t is =
     subst (λ l. StartsWithFront l (texts_of c.args.front.now)) (c.sync.ensures.same t) (c.read_parts.ensures.begun set at (c.sync.ensures.told t) is)
+
+pub returns-clause-only_damaged : goal.returns-clause-only_damaged
+returns-clause-only_damaged g c at t begins bad =
+    let defs = c.args.defs.now in
+    let front = texts_of c.args.front.now in
+    let bytes = (g.T.Site.disk c.sync.new.self).contents 0 in
+    let same = sym (c.sync.ensures.same t) in
+    let t1 = c.sync.ensures.told t in
+    damage_or c.read_parts.result defs bytes (first_gate front) at (c.read_parts.ensures.readable t1) (λ is. c.read_parts.ensures.foreign t1 is (subst (λ l. StartsWithFront l front) same begins))
+    (λ set place is. c.read_parts.ensures.damaged set place t1 is) (subst (λ l. IsFirstBadAt defs l (first_gate front) at) same bad)
+
+pub returns-clause-crash : goal.returns-clause-crash
+returns-clause-crash g c t =
+    let old = g.T.Site.disk c.args.site.now in
+    let mid = g.T.Site.disk c.sync.new.self in
+    let law = g.met.T.Site.lawful c.args.site.now t in
+    let t1 = c.sync.ensures.told t in
+    let law1 = g.met.T.Site.lawful c.sync.new.self t1 in
+    let crash = c.sync.ensures.crash t in
+    stays_on (Syncs old 0) old mid (g.T.Site.disk c.read_parts.new.site) law1 (of_call old mid (Syncs old 0) law crash (same_synced old)) (c.read_parts.ensures.stays t1)
+    (now_one old mid (Syncs old 0) law law1 crash (same_synced old))

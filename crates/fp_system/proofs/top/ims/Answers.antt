@@ -10,7 +10,7 @@ use Rattle.fp_source.specs.declared.part.Part.TheVariants as part
 use Rattle.fp_system.specs.Answers.{faulty_line}
 use Rattle.fp_system.specs.Ims.{IsAnswered, IsForeignTo}
 use Rattle.fp_system.specs.Parts.{Job, front_for}
-use Rattle.fp_system.specs.Serving.{Halts, IsKeptBy}
+use Rattle.fp_system.specs.Serving.{StaysSafe, IsKeptBy}
 use Rattle.fp_system.specs.Setups.{job_of}
 use Rattle.fp_system.specs.Words.{command_of}
 use Rattle.fp_system.specs.declared.words.Command.TheVariants as command
@@ -152,8 +152,8 @@ returns-in-Ok-clause-safe g c job earlier s t asks safe =
     let s1 = c.read_setup.ensures.told s in
     let messages = c.read_setup.ensures.messages s in
     let safe1 = subst (λ (j : Job). IsSafe j.defs j.scripts j.scripts_text old earlier) (sym same) safe in
-    subst (λ (text : List ℕ). Halts job earlier (lines_of text) old new) messages
-    (subst (λ (j : Job). Halts j earlier (lines_of (g.S.Source.left c.read_setup.new.source part.Messages)) old new) same (c.run_on.ensures.safe earlier s1 t safe1))
+    subst (λ (text : List ℕ). StaysSafe job earlier (lines_of text) old new) messages
+    (subst (λ (j : Job). StaysSafe j earlier (lines_of (g.S.Source.left c.read_setup.new.source part.Messages)) old new) same (c.run_on.ensures.safe earlier s1 t safe1))
 
 pub returns-in-Ok-clause-kept : goal.returns-in-Ok-clause-kept
 returns-in-Ok-clause-kept g c job earlier s t asks safe =

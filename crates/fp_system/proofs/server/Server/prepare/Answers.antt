@@ -1,7 +1,7 @@
 use Rattle.std.proofs.Common.{◌≡◌, ◌+◌, ℕ, length, ap, arith}
 use Rattle.std.specs.Prelude.{List}
 use Rattle.lone_region.specs.Next.{IsServed}
-use Rattle.fp_system.specs.Serving.{IsReady}
+use Rattle.fp_system.specs.Serving.{AwaitsSeal}
 use Rattle.fp_system.specs.Setups.{job_of}
 use Rattle.fp_system.proofs.Results.{ok_with}
 use Rattle.fp_system.proofs.Stands.{past_length, ready_of}
@@ -14,6 +14,6 @@ returns-clause-ready c entries account same none count =
     let past = account.history.0 in
     let before : old.sealed + length old.unsealed ≡ length past = omega (arith, ap length none, count, past_length job entries account) in
     ok_with c.serve_line.result (λ (reply : List ℕ). IsServed job.defs job.scripts past account.last c.args.line.now reply old c.serve_line.new.log c.serve_line.new.store)
-    (λ (reply : List ℕ). IsReady job entries c.args.line.now reply old.gate c.serve_line.new.store c.serve_line.new.log)
+    (λ (reply : List ℕ). AwaitsSeal job entries c.args.line.now reply old.gate c.serve_line.new.store c.serve_line.new.log)
     (λ reply served. ready_of job entries account c.args.line.now reply old c.serve_line.new.log c.serve_line.new.store c.serve_line.ensures.of none count served)
     (c.serve_line.ensures.served past account.last same before)

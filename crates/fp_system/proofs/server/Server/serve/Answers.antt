@@ -4,7 +4,7 @@ use Rattle.fp_site.specs.Disk.{Settles}
 use Rattle.fp_site.specs.Moments.{Through}
 use Rattle.log_groups.specs.Images.{IsAtRest, IsBeforeOrAfter, IsWithOrWithout, with_group}
 use Rattle.fp_system.specs.Parts.{front_for}
-use Rattle.fp_system.specs.Serving.{GoesOnBy, IsReady, Serves, Halts}
+use Rattle.fp_system.specs.Serving.{GoesOnBy, AwaitsSeal, Serves, StaysSafe}
 use Rattle.fp_system.specs.Setups.{job_of}
 use Rattle.fp_system.proofs.Results.{at_err}
 use Rattle.fp_system.proofs.Steps.{halts_here, stays_here, after_seal, halts_unsealed, after_send, halts_sent, serves_one}
@@ -13,7 +13,7 @@ use Rattle.fp_system.proofs.server.Server.serve.Goals as goal
 pub returns-in_err-reply-clause-err : goal.returns-in_err-reply-clause-err
 returns-in_err-reply-clause-err g c entries t stands =
     let job = job_of c.args.setup.now in
-    at_err c.from_residual.result (Halts job entries (c.args.line.now ∷ []) (g.T.Site.disk c.args.site.now) (g.T.Site.disk c.args.site.now))
+    at_err c.from_residual.result (StaysSafe job entries (c.args.line.now ∷ []) (g.T.Site.disk c.args.site.now) (g.T.Site.disk c.args.site.now))
     (halts_here job entries (c.args.line.now ∷ []) (g.T.Site.disk c.args.site.now) (g.T.Site.disk c.args.site.now) c.args.self.now.store c.args.self.now.log refl stands)
 
 pub returns-in_err-reply-clause-crash : goal.returns-in_err-reply-clause-crash
@@ -26,7 +26,7 @@ returns-in_err-seal-clause-err g c entries t stands =
     let h = g.T.Site.disk c.args.site.now in
     let h1 = g.T.Site.disk c.seal.new.site in
     let law = g.met.T.Site.lawful c.args.site.now t in
-    let ready : IsReady job entries c.args.line.now c.in_ok-reply.reply c.args.self.now.log.gate c.prepare.new.self.store c.prepare.new.self.log = c.in_ok-reply.ensures.ready entries stands.account stands.segments stands.unsealed stands.sealed in
+    let ready : AwaitsSeal job entries c.args.line.now c.in_ok-reply.reply c.args.self.now.log.gate c.prepare.new.self.store c.prepare.new.self.log = c.in_ok-reply.ensures.ready entries stands.account stands.segments stands.unsealed stands.sealed in
     let e = ready.entry in
     let rest : IsAtRest h (front_for job) stands.groups c.prepare.new.self.log.gate = subst (IsAtRest h (front_for job) stands.groups) (sym ready.gate_is) stands.at_rest in
     let only = c.seal.ensures.only t in
@@ -38,8 +38,8 @@ returns-in_err-seal-clause-err g c entries t stands =
     let settles : (image : List ℕ) → Settles h1 0 image → IsWithOrWithout (front_for job) stands.groups c.args.self.now.log.gate (e ∷ []) image = λ image s.
     subst (λ (n : ℕ). IsWithOrWithout (front_for job) stands.groups n (e ∷ []) image) ready.gate_is
     (subst (λ (es : List Entry). IsWithOrWithout (front_for job) stands.groups c.prepare.new.self.log.gate (take 1 es) image) ready.unsealed (c.seal.ensures.settles (front_for job) stands.groups image t rest s)) in
-    at_err c.from_residual-in_err-seal.result (Halts job entries (c.args.line.now ∷ []) h h1)
-    (subst (λ (l : List ℕ). Halts job entries (l ∷ []) h h1) ready.of_line (halts_unsealed job entries h c.args.self.now.store c.args.self.now.log law stands e ready.alone ready.account h1 only run law1 settles))
+    at_err c.from_residual-in_err-seal.result (StaysSafe job entries (c.args.line.now ∷ []) h h1)
+    (subst (λ (l : List ℕ). StaysSafe job entries (l ∷ []) h h1) ready.of_line (halts_unsealed job entries h c.args.self.now.store c.args.self.now.log law stands e ready.alone ready.account h1 only run law1 settles))
 
 pub returns-in_err-seal-clause-crash : goal.returns-in_err-seal-clause-crash
 returns-in_err-seal-clause-crash g c entries t stands =
@@ -47,7 +47,7 @@ returns-in_err-seal-clause-crash g c entries t stands =
     let h = g.T.Site.disk c.args.site.now in
     let h1 = g.T.Site.disk c.seal.new.site in
     let law = g.met.T.Site.lawful c.args.site.now t in
-    let ready : IsReady job entries c.args.line.now c.in_ok-reply.reply c.args.self.now.log.gate c.prepare.new.self.store c.prepare.new.self.log = c.in_ok-reply.ensures.ready entries stands.account stands.segments stands.unsealed stands.sealed in
+    let ready : AwaitsSeal job entries c.args.line.now c.in_ok-reply.reply c.args.self.now.log.gate c.prepare.new.self.store c.prepare.new.self.log = c.in_ok-reply.ensures.ready entries stands.account stands.segments stands.unsealed stands.sealed in
     let e = ready.entry in
     let rest : IsAtRest h (front_for job) stands.groups c.prepare.new.self.log.gate = subst (IsAtRest h (front_for job) stands.groups) (sym ready.gate_is) stands.at_rest in
     let only = c.seal.ensures.only t in
@@ -64,7 +64,7 @@ returns-in_err-send-clause-err g c entries t stands =
     let h = g.T.Site.disk c.args.site.now in
     let h1 = g.T.Site.disk c.seal.new.site in
     let law = g.met.T.Site.lawful c.args.site.now t in
-    let ready : IsReady job entries c.args.line.now c.in_ok-reply.reply c.args.self.now.log.gate c.prepare.new.self.store c.prepare.new.self.log = c.in_ok-reply.ensures.ready entries stands.account stands.segments stands.unsealed stands.sealed in
+    let ready : AwaitsSeal job entries c.args.line.now c.in_ok-reply.reply c.args.self.now.log.gate c.prepare.new.self.store c.prepare.new.self.log = c.in_ok-reply.ensures.ready entries stands.account stands.segments stands.unsealed stands.sealed in
     let e = ready.entry in
     let rest : IsAtRest h (front_for job) stands.groups c.prepare.new.self.log.gate = subst (IsAtRest h (front_for job) stands.groups) (sym ready.gate_is) stands.at_rest in
     let only = c.seal.ensures.only t in
@@ -82,8 +82,8 @@ returns-in_err-send-clause-err g c entries t stands =
     let line = c.as_slice.result.now in
     let is = c.as_slice.ensures ∙ ready.reply_is in
     let part = c.in_err-send.ensures.part t1 in
-    at_err c.from_residual-in_err-send.result (Halts job entries (c.args.line.now ∷ []) h h2)
-    (subst (λ (l : List ℕ). Halts job entries (l ∷ []) h h2) ready.of_line
+    at_err c.from_residual-in_err-send.result (StaysSafe job entries (c.args.line.now ∷ []) h h2)
+    (subst (λ (l : List ℕ). StaysSafe job entries (l ∷ []) h h2) ready.of_line
     (halts_sent job entries h c.args.self.now.store c.args.self.now.log law stands e ready.alone ready.account h1 only run law1 gate1 rest1 line is h2 law2 (c.send.ensures.same t1) (c.send.ensures.crash t1) part.0 part.1))
 
 pub returns-in_err-send-clause-crash : goal.returns-in_err-send-clause-crash
@@ -92,7 +92,7 @@ returns-in_err-send-clause-crash g c entries t stands =
     let h = g.T.Site.disk c.args.site.now in
     let h1 = g.T.Site.disk c.seal.new.site in
     let law = g.met.T.Site.lawful c.args.site.now t in
-    let ready : IsReady job entries c.args.line.now c.in_ok-reply.reply c.args.self.now.log.gate c.prepare.new.self.store c.prepare.new.self.log = c.in_ok-reply.ensures.ready entries stands.account stands.segments stands.unsealed stands.sealed in
+    let ready : AwaitsSeal job entries c.args.line.now c.in_ok-reply.reply c.args.self.now.log.gate c.prepare.new.self.store c.prepare.new.self.log = c.in_ok-reply.ensures.ready entries stands.account stands.segments stands.unsealed stands.sealed in
     let e = ready.entry in
     let rest : IsAtRest h (front_for job) stands.groups c.prepare.new.self.log.gate = subst (IsAtRest h (front_for job) stands.groups) (sym ready.gate_is) stands.at_rest in
     let only = c.seal.ensures.only t in
@@ -118,7 +118,7 @@ returns-clause-crash g c entries t stands =
     let h = g.T.Site.disk c.args.site.now in
     let h1 = g.T.Site.disk c.seal.new.site in
     let law = g.met.T.Site.lawful c.args.site.now t in
-    let ready : IsReady job entries c.args.line.now c.in_ok-reply.reply c.args.self.now.log.gate c.prepare.new.self.store c.prepare.new.self.log = c.in_ok-reply.ensures.ready entries stands.account stands.segments stands.unsealed stands.sealed in
+    let ready : AwaitsSeal job entries c.args.line.now c.in_ok-reply.reply c.args.self.now.log.gate c.prepare.new.self.store c.prepare.new.self.log = c.in_ok-reply.ensures.ready entries stands.account stands.segments stands.unsealed stands.sealed in
     let e = ready.entry in
     let rest : IsAtRest h (front_for job) stands.groups c.prepare.new.self.log.gate = subst (IsAtRest h (front_for job) stands.groups) (sym ready.gate_is) stands.at_rest in
     let only = c.seal.ensures.only t in
@@ -147,7 +147,7 @@ returns-clause-ok g c entries t stands =
     let h = g.T.Site.disk c.args.site.now in
     let h1 = g.T.Site.disk c.seal.new.site in
     let law = g.met.T.Site.lawful c.args.site.now t in
-    let ready : IsReady job entries c.args.line.now c.in_ok-reply.reply c.args.self.now.log.gate c.prepare.new.self.store c.prepare.new.self.log = c.in_ok-reply.ensures.ready entries stands.account stands.segments stands.unsealed stands.sealed in
+    let ready : AwaitsSeal job entries c.args.line.now c.in_ok-reply.reply c.args.self.now.log.gate c.prepare.new.self.store c.prepare.new.self.log = c.in_ok-reply.ensures.ready entries stands.account stands.segments stands.unsealed stands.sealed in
     let e = ready.entry in
     let rest : IsAtRest h (front_for job) stands.groups c.prepare.new.self.log.gate = subst (IsAtRest h (front_for job) stands.groups) (sym ready.gate_is) stands.at_rest in
     let only = c.seal.ensures.only t in

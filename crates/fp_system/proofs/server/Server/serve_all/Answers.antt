@@ -6,7 +6,7 @@ use Rattle.fp_source.specs.Lines.{lines_ahead, lines_given, fault_ahead, to_come
 use Rattle.fp_source.specs.declared.lines.LineFault.{LineFault}
 use Rattle.fp_source.specs.declared.part.Part.TheVariants as part
 use Rattle.fp_system.specs.Answers.{status_of_line}
-use Rattle.fp_system.specs.Serving.{Halts}
+use Rattle.fp_system.specs.Serving.{StaysSafe}
 use Rattle.fp_system.specs.Setups.{job_of}
 use Rattle.fp_system.specs.declared.status.Status.TheVariants as status
 use Rattle.fp_system.proofs.Loops.{going_none, halts_going, halts_more, moments_served, moments_within, served_none, served_more, served_all, served_before, number_is}
@@ -19,7 +19,7 @@ returns-in_err-lines-clause-err g c entries s t stands =
     let h = g.T.Site.disk c.args.site.now in
     let job = job_of c.args.setup.now in
     let lines = lines_of (g.S.Source.left c.args.source.now part.Messages) in
-    at_err c.from_residual.result (Halts job entries lines h h) (halts_here job entries lines h h c.args.self.now.store c.args.self.now.log refl stands)
+    at_err c.from_residual.result (StaysSafe job entries lines h h) (halts_here job entries lines h h c.args.self.now.store c.args.self.now.log refl stands)
 
 pub returns-in_err-lines-clause-crash : goal.returns-in_err-lines-clause-crash
 returns-in_err-lines-clause-crash g c entries s t stands =
@@ -62,7 +62,7 @@ returns-in_err-line-clause-err g c entries s t stands =
     let h = g.T.Site.disk c.loop-lines.site in
     let whole = lines_of (g.S.Source.left c.args.source.now part.Messages) in
     let now = g.S.Source.left c.loop-lines.source part.Messages in
-    at_err c.from_residual-in_err-line.result (Halts job entries whole h0 h)
+    at_err c.from_residual-in_err-line.result (StaysSafe job entries whole h0 h)
     (halts_going job entries stands.groups h0 h h so.served c.loop-lines.self.store c.loop-lines.self.log so.going whole (lines_ahead c.loop-lines.lines now) so.splits)
 
 pub returns-in_err-line-clause-crash : goal.returns-in_err-line-clause-crash
@@ -86,7 +86,7 @@ returns-in_err-serve-clause-err g c entries s t stands =
     let lines1 = c.next.new.self in
     let line : List ℕ = c.in-Some.line in
     let ahead = at_some c.in_ok-line.field-0 line (λ (l : List ℕ). lines_ahead lines now ≡ l ∷ lines_ahead lines1 next) c.in-Some.is (c.in_ok-line.ensures.line (inv.source.still_told s)) in
-    at_err c.from_residual-in_err-serve.result (Halts job entries whole h0 h1)
+    at_err c.from_residual-in_err-serve.result (StaysSafe job entries whole h0 h1)
     (halts_more job entries stands.groups h0 h h1 so.served c.loop-lines.self.store c.loop-lines.self.log so.going whole (lines_ahead lines1 next) line
     (so.splits ∙ ap (λ (ls : List (List ℕ)). so.served ++ ls) ahead) (c.in_err-serve.ensures.err (entries ++ so.going.serves.later) t1 so.going.serves.stands))
 
