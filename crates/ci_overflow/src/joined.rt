@@ -60,7 +60,7 @@ fn join<I: Intervals>(
 }
 
 /// Puts control with these last two numbers.
-fn put_counts<I: Intervals>(
+pub fn put_counts<I: Intervals>(
     i: &mut I,
     mut control: Interval,
     number: u64,
@@ -72,6 +72,7 @@ fn put_counts<I: Intervals>(
     requires interval { IsInterval control }
     ensures put { I.told i.old → OnOk result (PutsEnds control number first (I.intervals i.old) (I.intervals i.new)) }
     ensures never_failed { ¬ IsErrOf result SpaceFault.Failed }
+    ensures never_damaged { (n : ℕ) → result ≢ Err (SpaceFault.Damaged n) }
     ensures number { I.number i.new ≡ I.number i.old }
     ensures goes_on { GoesOn I.told I.size I.faults I.keeps i.old i.new }
 {

@@ -9,16 +9,18 @@
 //! an interval's head tells its list: the number of the unit of work plus 1, or 0 in the free chain.
 //! An interval joins a list at its front. Intervals in the free chain are empty.
 //!
-//! `find_room` keeps the lists so (`IsInOrder`). After a fault the object that holds the area is thrown
-//! away.
+//! `find_room` and `give_back` keep the lists so (`IsInOrder`). After a fault the object that holds the
+//! area is thrown away.
 #![tactic(auto)]
 
+mod freed;
 mod joined;
 mod places;
 mod reading;
 mod room;
 mod tried;
 
+pub use freed::give_back;
 pub use room::find_room;
 
 /// Why a call on an area's elements gives none. The object that holds the area is then thrown away.
