@@ -136,7 +136,7 @@ fn find_before<I: Intervals>(
     ci: u64,
 ) -> Result<Numbered, SpaceFault>
     requires { first_independent shape.now ≤ ci }
-    ensures before { I.told i.old → IfOk result (IsBefore shape.now (I.intervals i.old) uow ci) }
+    ensures before { I.told i.old → kind_of (bytes_at (I.intervals i.old) ci) ≡ 5 → IfOk result (IsBefore shape.now (I.intervals i.old) uow ci) }
     ensures below { IfOk result (λ before. before.ci < I.number i.old) }
     ensures interval { IfOk result (λ before. IsInterval before.interval) }
     ensures kind { IfOk result (λ before. (kind_of before.interval ≡ 2) ⊎ (kind_of before.interval ≡ 5)) }
