@@ -4,13 +4,15 @@ use Rattle.std.proofs.lemmas.Bool.{cases_lt}
 use Rattle.std.proofs.lemmas.List.{get_or_past}
 use Rattle.std.proofs.lemmas.Nat.{mul-le, mod-mul-add}
 use Rattle.ci_space.specs.declared.intervals.Shape.{Shape}
-use Rattle.ci_space.specs.Interval.{kind_of, IsInterval, IsEmpty}
+use Rattle.ci_space.specs.Interval.{kind_of, IsInterval, IsEmpty, Keeps}
 use Rattle.ci_space.proofs.Tilings.{size-bounds}
 use Rattle.ci_overflow.specs.Places.{first_base, first_sequential, first_independent, kind_at}
 use Rattle.ci_overflow.specs.Lists.{bytes_at, link_of, owner_of, counted, first_free, IsChain, Holds, IsOwned, IsListOf, HasList, IsInPlace, IsInOrder}
 use Rattle.ci_overflow.specs.Faults.{HasPlace, HoldsLink, in_base, in_control, in_list, IsShared, IsThere, IsNotThere, IsAtFault, misplaced, bad_link, circle, miscounted, in_use, no_unit, unlisted}
+use Rattle.ci_overflow.specs.Moves.{HasNoUnit}
 use Rattle.ci_overflow.specs.declared.reading.Place.{Place}
 use Rattle.ci_overflow.proofs.Joins.{kind-behind, owner-zero}
+use Rattle.ci_overflow.proofs.Tries.{keeps-owner}
 use Rattle.ci_overflow.proofs.Finds.{same_or}
 use Rattle.ci_overflow.proofs.Circles.{no-circle}
 
@@ -107,6 +109,22 @@ dependent-fault shape area uow j ci n e u l b h =
 
 pub control-fault : (shape : Shape) (area : List (List ℕ)) (n : ℕ) → IsNotThere area (record { ci = 0; kind = 1; owner = 0; from = 0 }) n → IsAtFault shape area n
 control-fault shape area n h = fixed-fault shape area (record { ci = 0; kind = 1; owner = 0; from = 0 }) n (inl (omega arith)) refl (λ x. omega (arith, x)) refl refl h
+
+-- an independent overflow interval that is in use and has no unit of work
+pub keeps-kind : (old new : List ℕ) → Keeps old new 0 32 → kind_of old ≡ kind_of new
+keeps-kind old new k = sym (k 0 (omega arith) (omega arith))
+
+pub unit-fault : (shape : Shape) (area : List (List ℕ)) (ci : ℕ) (interval : List ℕ) → Keeps (bytes_at area ci) interval 0 32 → ci < length area → kind_of interval ≡ 5 → ¬ IsEmpty (bytes_at area ci) → HasNoUnit shape ci interval
+    → IsAtFault shape area ci
+unit-fault shape area ci interval k b five n h = elim (cases_lt ci (first_independent shape)) as (λ _. IsAtFault shape area ci) [
+  | inl l ↦ misplaced (inl l) (λ p. kind-before shape ci l (sym p.is_kind ∙ keeps-kind (bytes_at area ci) interval k ∙ five))
+  | inr f ↦ (let owner : owner_of interval ≡ owner_of (bytes_at area ci) = keeps-owner (bytes_at area ci) interval k in
+      elim h as (λ _. IsAtFault shape area ci) [
+        | inl l ↦ absurd (omega (arith, f, l))
+        | inr (inl z) ↦ in_use (record { from = f; below = b; owned = sym owner ∙ z }) n
+        | inr (inr l) ↦ no_unit (owner_of interval) (record { from = f; below = b; owned = sym owner }) l
+      ])
+]
 
 -- an area in order has no interval at fault
 place_below : (shape : Shape) (area : List (List ℕ)) (ci : ℕ) → IsInOrder shape area → HasPlace shape area ci → ci < length area
