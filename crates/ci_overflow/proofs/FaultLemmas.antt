@@ -144,17 +144,17 @@ next_owned : (shape : Shape) (area : List (List ℕ)) (owner first : ℕ) (list 
 next_owned shape area owner first [] l z = absurd (z l.chain)
 next_owned shape area owner first (x ∷ rest) l z = let P : ℕ → Type 0 = λ d. IsOwned shape area owner d in subst P (sym l.chain.0) (l.owned x (inl refl))
 
-next_held : (area : List (List ℕ)) (first ci : ℕ) (list : List ℕ) → IsChain area first list → Holds list ci → link_of (bytes_at area ci) ≢ 0 → Holds list (link_of (bytes_at area ci))
-next_held area first ci [] c h z = absurd h
-next_held area first ci (x ∷ []) c (inl e) z = absurd (z (ap (λ d. link_of (bytes_at area d)) (sym e) ∙ c.2))
-next_held area first ci (x ∷ y ∷ rest) c (inl e) z = inr (inl (sym c.2.0 ∙ ap (λ d. link_of (bytes_at area d)) e))
-next_held area first ci (x ∷ rest) c (inr h) z = inr (next_held area (link_of (bytes_at area x)) ci rest c.2 h z)
+pub next-held : (area : List (List ℕ)) (first ci : ℕ) (list : List ℕ) → IsChain area first list → Holds list ci → link_of (bytes_at area ci) ≢ 0 → Holds list (link_of (bytes_at area ci))
+next-held area first ci [] c h z = absurd h
+next-held area first ci (x ∷ []) c (inl e) z = absurd (z (ap (λ d. link_of (bytes_at area d)) (sym e) ∙ c.2))
+next-held area first ci (x ∷ y ∷ rest) c (inl e) z = inr (inl (sym c.2.0 ∙ ap (λ d. link_of (bytes_at area d)) e))
+next-held area first ci (x ∷ rest) c (inr h) z = inr (next-held area (link_of (bytes_at area x)) ci rest c.2 h z)
 
 kept_shared : (shape : Shape) (area : List (List ℕ)) (owner ci : ℕ) → IsInOrder shape area → IsOwned shape area owner ci → IsShared shape area owner ci
 kept_shared shape area owner ci o w = record { owned = w; is_kind = (o.in_place ci w.below).is_kind ∙ kind-behind shape ci w.from }
 
 list_goes : (shape : Shape) (area : List (List ℕ)) (owner first ci : ℕ) → HasList shape area owner first → IsOwned shape area owner ci → link_of (bytes_at area ci) ≢ 0 → IsOwned shape area owner (link_of (bytes_at area ci))
-list_goes shape area owner first ci h w z = h.is_list.owned (link_of (bytes_at area ci)) (next_held area first ci h.list h.is_list.chain (h.is_list.each ci w) z)
+list_goes shape area owner first ci h w z = h.is_list.owned (link_of (bytes_at area ci)) (next-held area first ci h.list h.is_list.chain (h.is_list.each ci w) z)
 
 owned_goes : (shape : Shape) (area : List (List ℕ)) (owner ci : ℕ) → IsInOrder shape area → IsOwned shape area owner ci → link_of (bytes_at area ci) ≢ 0 → IsOwned shape area owner (link_of (bytes_at area ci))
 owned_goes shape area owner ci o w z = elim (same_or owner 0) as (λ _. IsOwned shape area owner (link_of (bytes_at area ci))) [

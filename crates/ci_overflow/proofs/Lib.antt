@@ -6,3 +6,5 @@ pub mod Orders
 pub mod Circles
 pub mod Moving
 pub mod FaultLemmas
+pub mod Givings
+pub mod MoveOrders
