@@ -8,3 +8,4 @@ pub mod Moving
 pub mod FaultLemmas
 pub mod Givings
 pub mod MoveOrders
+pub mod JoinFaults

@@ -12,6 +12,8 @@ pub loop-ci-preserved : goal.loop-ci-preserved
 loop-ci-preserved g c = record {
   goes_on = goes_on_joined _ _ _ _ _ _ _ c.loop-ci.invariant.goes_on c.try_take.ensures.goes_on;
   number = c.try_take.ensures.number ∙ c.loop-ci.invariant.number;
+  turns = omega (arith, c.loop-ci.invariant.turns);
+  walked = ?;
   same = λ t.
       let full = gives-full _ _ _ _ _ (c.in_ok-tried.ensures.tried (c.loop-ci.invariant.goes_on.tells t)) c.in_default.is in
       full.1 ∙ c.loop-ci.invariant.same t;
