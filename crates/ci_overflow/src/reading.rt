@@ -108,6 +108,7 @@ pub fn try_take<I: Intervals>(i: &mut I, place: Place, length: u16) -> Result<Tr
     requires owned { place.kind ≡ 5 → place.owner ≢ 0 }
     ensures tried { I.told i.old → IfOk result (IsTried (I.intervals i.old) (I.intervals i.new) place.ci length) }
     ensures below { OnOk result (place.ci < I.number i.old) }
+    ensures owner { I.told i.old → OnOk result (owner_of (bytes_at (I.intervals i.old) place.ci) ≡ place.owner) }
     ensures failed { IsErrOf result SpaceFault.Failed → Rose (I.faults i.old) (I.faults i.new) }
     ensures damaged { I.told i.old → (n : ℕ) → result ≡ Err (SpaceFault.Damaged n) → IsNotThere (I.intervals i.old) place n }
     ensures number { I.number i.new ≡ I.number i.old }
