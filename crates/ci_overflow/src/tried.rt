@@ -1,6 +1,6 @@
 //! The intervals that an anchor and its unit of work have, tried one after the other.
 
-ghost use Rattle.std.specs.Prelude.{◌≡◌, ◌<◌, ◌*◌, ℕ, List, IfOk, IfSome, IsErrOf};
+ghost use Rattle.std.specs.Prelude.{◌≡◌, ◌<◌, ◌*◌, ℕ, List, IfOk, IfSome, IfNone, IsErrOf};
 ghost use Rattle.ci_space.specs.Calls.{Rose, GoesOn};
 ghost use Rattle.ci_overflow.specs.Places.{first_base, first_dependent, uow_of};
 ghost use Rattle.ci_overflow.specs.Lists.{bytes_at, link_of, IsChain};
@@ -53,6 +53,7 @@ fn try_chain<I: Intervals>(
     length: u16,
 ) -> Result<Option<(u64, u16)>, SpaceFault>
     ensures tried { I.told i.old → (chain : List ℕ) → IsChain (I.intervals i.old) first chain → IfOk result (AreTried (I.intervals i.old) (I.intervals i.new) chain length) }
+    ensures full { I.told i.old → IfOk result (λ room. IfNone room (I.intervals i.new ≡ I.intervals i.old)) }
     ensures below { IfOk result (λ room. IfSome room (λ room. room.0 < I.number i.old)) }
     ensures failed { IsErrOf result SpaceFault.Failed → Rose (I.faults i.old) (I.faults i.new) }
     ensures damaged { I.told i.old → uow < shape.now.uows → base ≡ first_base shape.now uow → first ≡ link_of (bytes_at (I.intervals i.old) base)
@@ -94,6 +95,7 @@ pub fn try_standing<I: Intervals>(
     requires { anchor < shape.now.uows * shape.now.base }
     ensures tried { I.told i.old → (shared : List ℕ) → IsChain (I.intervals i.old) (link_of (bytes_at (I.intervals i.old) (first_base shape.now (uow_of shape.now anchor)))) shared
         → IfOk result (AreTried (I.intervals i.old) (I.intervals i.new) (places shape.now anchor shared) length) }
+    ensures full { I.told i.old → IfOk result (λ room. IfNone room (I.intervals i.new ≡ I.intervals i.old)) }
     ensures below { IfOk result (λ room. IfSome room (λ room. room.0 < I.number i.old)) }
     ensures failed { IsErrOf result SpaceFault.Failed → Rose (I.faults i.old) (I.faults i.new) }
     ensures damaged { I.told i.old → (n : ℕ) → result ≡ Err (SpaceFault.Damaged n) → IsAtFault shape.now (I.intervals i.old) n }
