@@ -27,20 +27,25 @@ record IsWithout (list rest : List ℕ) (ci : ℕ) : Type 0 where
 take_out : (ci : ℕ) (list : List ℕ) → IsOnce list → (rest : List ℕ) × IsWithout list rest ci
 take_out ci [] o = ([], record { held = λ k h. absurd h; once = tt; long = omega arith })
 take_out ci (x ∷ list) o = elim (same_or x ci) as (λ _. (rest : List ℕ) × IsWithout (x ∷ list) rest ci) [
-  | inl e ↦ (list, record {
+  | inl e ↦ (
+    list,
+    record {
       held = λ k h. (inr h, λ y. o.0 (let P : ℕ → Type 0 = λ d. Holds list d in subst P (y ∙ sym e) h));
       once = o.1;
       long = omega arith;
-    })
-  | inr n ↦ (let w : (rest : List ℕ) × IsWithout list rest ci = take_out ci list o.1 in
-      (x ∷ w.0, record {
-        held = λ k h. elim h as (λ _. Holds (x ∷ list) k × (k ≢ ci)) [
-          | inl y ↦ (inl y, λ z. n (y ∙ z))
-          | inr y ↦ (inr (w.1.held k y).0, (w.1.held k y).1)
-        ];
-        once = ((λ h. o.0 (w.1.held x h).0), w.1.once);
-        long = omega (arith, w.1.long);
-      }))
+    },
+  )
+  | inr n ↦ (let w : (rest : List ℕ) × IsWithout list rest ci = take_out ci list o.1 in (
+    x ∷ w.0,
+    record {
+      held = λ k h. elim h as (λ _. Holds (x ∷ list) k × (k ≢ ci)) [
+        | inl y ↦ (inl y, λ z. n (y ∙ z))
+        | inr y ↦ (inr (w.1.held k y).0, (w.1.held k y).1)
+      ];
+      once = ((λ h. o.0 (w.1.held x h).0), w.1.once);
+      long = omega (arith, w.1.long);
+    },
+  ))
 ]
 
 -- a list that holds each of its intervals once, all of them below a number, is no longer than that

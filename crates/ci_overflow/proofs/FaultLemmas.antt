@@ -168,7 +168,7 @@ link_goes shape area owner from link o (in_base uow u e f l) z =
     let h : HasList shape area (uow + 1) (link_of (bytes_at area (first_base shape uow))) = o.listed.of_uow uow u in
     let k : link ≡ link_of (bytes_at area (first_base shape uow)) = l ∙ ap (λ d. link_of (bytes_at area d)) f in
     let w : IsOwned shape area (uow + 1) (link_of (bytes_at area (first_base shape uow))) =
-        next_owned shape area (uow + 1) (link_of (bytes_at area (first_base shape uow))) h.list h.is_list (λ y. z (k ∙ y)) in
+    next_owned shape area (uow + 1) (link_of (bytes_at area (first_base shape uow))) h.list h.is_list (λ y. z (k ∙ y)) in
     rw (e, k) w
 link_goes shape area owner from link o (in_control e f l) z =
     let w : IsOwned shape area 0 (first_free area) = next_owned shape area 0 (first_free area) o.listed.of_free.list o.listed.of_free.is_list (λ y. z (l ∙ y)) in

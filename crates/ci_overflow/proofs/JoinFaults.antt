@@ -40,7 +40,7 @@ pub base-moved : (shape : Shape) (uow n : ℕ) (old new : List (List ℕ)) (cont
 base-moved shape uow n old new control number first u b p h =
     first-fault shape old uow (first_base shape uow) n refl u b
     (there-moved old new (record { ci = first_base shape uow; kind = 2; owner = 0; from = first_base shape uow }) n
-        (omega (arith, p.put.same_number)) (λ l. omega (arith, l, p.put.same_number)) (p.put.others (first_base shape uow) (λ e. omega (arith, e))) h)
+    (omega (arith, p.put.same_number)) (λ l. omega (arith, l, p.put.same_number)) (p.put.others (first_base shape uow) (λ e. omega (arith, e))) h)
 
 -- and after an interval was added before
 pub base-grown : (shape : Shape) (uow n size : ℕ) (old middle new : List (List ℕ)) (control : List ℕ) (number first : ℕ) → uow < shape.uows → 0 < shape.base → first_independent shape ≤ length old → IsGrown size old middle → PutsEnds control number first middle new
@@ -49,8 +49,8 @@ base-grown shape uow n size old middle new control number first u b f g p h =
     let front : first_base shape uow < first_independent shape = base-before shape uow u b in
     first-fault shape old uow (first_base shape uow) n refl u b
     (there-moved old new (record { ci = first_base shape uow; kind = 2; owner = 0; from = first_base shape uow }) n
-        (omega (arith, p.put.same_number, g.one_more)) (λ l. omega (arith, front, f))
-        (p.put.others (first_base shape uow) (λ e. omega (arith, e)) ∙ g.others (first_base shape uow) (λ e. omega (arith, e, front, f))) h)
+    (omega (arith, p.put.same_number, g.one_more)) (λ l. omega (arith, front, f))
+    (p.put.others (first_base shape uow) (λ e. omega (arith, e)) ∙ g.others (first_base shape uow) (λ e. omega (arith, e, front, f))) h)
 
 -- the free chain's first
 pub control-link : (shape : Shape) (area : List (List ℕ)) (control ends : List ℕ) → control ≡ bytes_at area 0 → ends ≡ ends_of control → HoldsLink shape area 0 0 (slice_index ends 3)

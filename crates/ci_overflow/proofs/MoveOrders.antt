@@ -31,17 +31,19 @@ module _ (old new : List (List ℕ)) (before ci : ℕ) (z : ci ≢ 0) (apart : b
       let behind : (x : ℕ) → Holds rest x → (x ≢ before) × (x ≢ ci) = λ x h.
       ((λ d. o.0 (inr (let P : ℕ → Type 0 = λ d. Holds rest d in subst P d h))), λ d. o.1.0 (let P : ℕ → Type 0 = λ d. Holds rest d in subst P (d ∙ sym e) h)) in
       let d : IsChain old (link_of (bytes_at old ci)) rest = rw e at c.2.2 in
-      let f : IsChain new (link_of (bytes_at old ci)) rest = chain-keeps old new rest (link_of (bytes_at old ci)) (λ x h. k x (inr h) (behind x h).0 (behind x h).1) d in
-      (before ∷ rest, record {
-        chain = (c.0, c.1, rw (← now) at f);
-        once = ((λ h. o.0 (inr h)), o.1.1);
-        held = λ x h. elim h as (λ _. Holds (before ∷ y ∷ rest) x × (x ≢ ci)) [ inl g ↦ (inl g, λ i. apart (g ∙ i)) | inr g ↦ (inr (inr g), (behind x g).1) ];
-        holds = λ x h n. elim h as (λ _. Holds (before ∷ rest) x) [
-          | inl g ↦ inl g
-          | inr (inl g) ↦ absurd (n (sym g ∙ e))
-          | inr (inr g) ↦ inr g
-        ];
-      })
+      let f : IsChain new (link_of (bytes_at old ci)) rest = chain-keeps old new rest (link_of (bytes_at old ci)) (λ x h. k x (inr h) (behind x h).0 (behind x h).1) d in (
+        before ∷ rest,
+        record {
+          chain = (c.0, c.1, rw (← now) at f);
+          once = ((λ h. o.0 (inr h)), o.1.1);
+          held = λ x h. elim h as (λ _. Holds (before ∷ y ∷ rest) x × (x ≢ ci)) [ inl g ↦ (inl g, λ i. apart (g ∙ i)) | inr g ↦ (inr (inr g), (behind x g).1) ];
+          holds = λ x h n. elim h as (λ _. Holds (before ∷ rest) x) [
+            | inl g ↦ inl g
+            | inr (inl g) ↦ absurd (n (sym g ∙ e))
+            | inr (inr g) ↦ inr g
+          ];
+        },
+      )
 
   -- the first of the list isn't the one that is removed
   not_first : (first : ℕ) (list : List ℕ) → IsChain old first list → IsOnce list → Holds list before → first ≢ ci
@@ -64,13 +66,15 @@ module _ (old new : List (List ℕ)) (before ci : ℕ) (z : ci ≢ 0) (apart : b
         let f : first ≢ ci = not_first first (x ∷ rest) c o h in
         let m : x ≢ ci = λ y. f (c.0 ∙ y) in
         let r : (left : List ℕ) × IsRemoved new (link_of (bytes_at old x)) ci rest left = removed (link_of (bytes_at old x)) rest c.2 o.1 g (λ y i. k y (inr i)) in
-        let e : link_of (bytes_at new x) ≡ link_of (bytes_at old x) = k x (inl refl) (λ y. n (sym y)) m in
-        (x ∷ r.0, record {
-          chain = (c.0, c.1, rw e r.1.chain);
-          once = ((λ i. o.0 (r.1.held x i).0), r.1.once);
-          held = λ y i. elim i as (λ _. Holds (x ∷ rest) y × (y ≢ ci)) [ inl j ↦ (inl j, λ q. m (j ∙ q)) | inr j ↦ (inr (r.1.held y j).0, (r.1.held y j).1) ];
-          holds = λ y i q. elim i as (λ _. Holds (x ∷ r.0) y) [ inl j ↦ inl j | inr j ↦ inr (r.1.holds y j q) ];
-        }))
+        let e : link_of (bytes_at new x) ≡ link_of (bytes_at old x) = k x (inl refl) (λ y. n (sym y)) m in (
+          x ∷ r.0,
+          record {
+            chain = (c.0, c.1, rw e r.1.chain);
+            once = ((λ i. o.0 (r.1.held x i).0), r.1.once);
+            held = λ y i. elim i as (λ _. Holds (x ∷ rest) y × (y ≢ ci)) [ inl j ↦ (inl j, λ q. m (j ∙ q)) | inr j ↦ (inr (r.1.held y j).0, (r.1.held y j).1) ];
+            holds = λ y i q. elim i as (λ _. Holds (x ∷ r.0) y) [ inl j ↦ inl j | inr j ↦ inr (r.1.holds y j q) ];
+          },
+        ))
   ]
 
 -- the list of a unit of work without it
@@ -162,14 +166,14 @@ module _ (shape : Shape) (old new : List (List ℕ)) (ci : ℕ) (interval : List
             let now : link_of (bytes_at new (first_base shape v.uow)) ≡ link_of (bytes_at old ci) = ap (λ d. link_of (bytes_at new d)) (sym e) ∙ next_now in
             let l : IsListOf shape old (v.uow + 1) ci h.list = rw leads at h.is_list in
             let x : HasList shape new (v.uow + 1) (link_of (bytes_at old ci)) = list-left shape old new (v.uow + 1) ci h.list some (λ y. gone v.uow ci y refl)
-                (λ k n y. stays (v.uow + 1) k n y) (λ k y. stood (v.uow + 1) k (gone v.uow k y) y)
-                (λ k n y. link_same (v.uow + 1) k (λ i. omega (arith, y.from, i, e, base_front)) n y) l in
+            (λ k n y. stays (v.uow + 1) k n y) (λ k y. stood (v.uow + 1) k (gone v.uow k y) y)
+            (λ k n y. link_same (v.uow + 1) k (λ i. omega (arith, y.from, i, e, base_front)) n y) l in
             rw now x)
         | inr w ↦ (let same : bytes_at new (first_base shape v.uow) ≡ bytes_at old (first_base shape v.uow) =
-              v.others (first_base shape v.uow) (λ y. omega (arith, y)) (λ y. omega (arith, y, w.from, base_front)) (λ y. omega (arith, y, v.from, base_front)) in
+            v.others (first_base shape v.uow) (λ y. omega (arith, y)) (λ y. omega (arith, y, w.from, base_front)) (λ y. omega (arith, y, v.from, base_front)) in
             let x : HasList shape new (v.uow + 1) (link_of (bytes_at old (first_base shape v.uow))) =
-                list-removed shape old new (v.uow + 1) (link_of (bytes_at old (first_base shape v.uow))) v.before ci h.list some v.apart v.leads next_now w (λ y. gone v.uow ci y refl)
-                (λ k n y. stays (v.uow + 1) k n y) (λ k y. stood (v.uow + 1) k (gone v.uow k y) y) (λ k m n y. link_same (v.uow + 1) k m n y) h.is_list in
+            list-removed shape old new (v.uow + 1) (link_of (bytes_at old (first_base shape v.uow))) v.before ci h.list some v.apart v.leads next_now w (λ y. gone v.uow ci y refl)
+            (λ k n y. stays (v.uow + 1) k n y) (λ k y. stood (v.uow + 1) k (gone v.uow k y) y) (λ k m n y. link_same (v.uow + 1) k m n y) h.is_list in
             rw same x)
       ]
 

@@ -12,7 +12,7 @@ ghost use Rattle.ci_overflow.specs.Faults.{IsAtFault};
 
 use crate::SpaceFault;
 use crate::joined::put_counts;
-use crate::places::{BASE, CONTROL, INDEPENDENT, first_base, first_independent};
+use crate::places::{BASE, CONTROL, INDEPENDENT, NO_UOW, first_base, first_independent};
 use crate::reading::{Place, get, read, write};
 use ci_space::{Head, Interval, Intervals, Shape};
 
@@ -22,12 +22,7 @@ use ci_space::{Head, Interval, Intervals, Shape};
 ///
 /// `Damaged(ci)` comes where no element is used there, as in an interval that the area hasn't or that
 /// has another kind. Else `Damaged` names an interval at fault.
-pub fn give_back<I: Intervals>(
-    i: &mut I,
-    shape: &Shape,
-    ci: u64,
-    at: u16,
-) -> Result<(), SpaceFault>
+pub fn give_back<I: Intervals>(i: &mut I, shape: &Shape, ci: u64, at: u16) -> Result<(), SpaceFault>
     // At `Ok` the element is gone, all else stays, and the lists are in order.
     ensures given { I.told i.old → IsInOrder shape.now (I.intervals i.old) → OnOk result (GivesBack shape.now (I.intervals i.old) (I.intervals i.new) ci at) }
     ensures lists { I.told i.old → IsInOrder shape.now (I.intervals i.old) → OnOk result (IsInOrder shape.now (I.intervals i.new)) }
@@ -228,7 +223,7 @@ fn put_free<I: Intervals>(
         kind: INDEPENDENT,
         root: (0, 0),
         link: ends[3],
-        owner: 0,
+        owner: NO_UOW,
     });
     write(i, ci, interval)
 }

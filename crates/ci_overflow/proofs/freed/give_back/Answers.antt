@@ -14,7 +14,7 @@ returns-then-is_empty-clause-given g c = λ t o.
     let same = c.in_ok-interval.ensures.same t in
     let below : c.args.ci < length (g.I.Intervals.intervals c.args.i.now) = omega (arith, g.met.I.Intervals.numbered c.args.i.now t, c.in_ok-interval.ensures.below) in
     let f : FreesAt (bytes_at (g.I.Intervals.intervals c.args.i.now) c.args.ci) c.free.new.self c.args.at =
-        frees _ _ _ _ (c.in_ok-interval.ensures.bytes t) c.in_ok-interval.ensures.used c.free.ensures.gone c.free.ensures.freed c.free.ensures.others c.free.ensures.head in
+    frees _ _ _ _ (c.in_ok-interval.ensures.bytes t) c.in_ok-interval.ensures.used c.free.ensures.gone c.free.ensures.freed c.free.ensures.others c.free.ensures.head in
     let five : kind_of (bytes_at (g.I.Intervals.intervals c.args.i.now) c.args.ci) ≡ 5 = keeps-kind _ _ f.head ∙ sym (ap (λ h. h.kind) c.head.ensures.head) ∙ c.if-head-eq-INDEPENDENT.true in
     let moved = rw same at (c.move_to_free.ensures.moved (c.read_used.ensures.goes_on.tells t)) in
     on_ok-map _ _ _ (λ v. given-moved _ _ _ _ _ c.free.new.self o below f five v) (moved f.head)
@@ -24,7 +24,7 @@ returns-then-is_empty-clause-lists g c = λ t o.
     let same = c.in_ok-interval.ensures.same t in
     let below : c.args.ci < length (g.I.Intervals.intervals c.args.i.now) = omega (arith, g.met.I.Intervals.numbered c.args.i.now t, c.in_ok-interval.ensures.below) in
     let f : FreesAt (bytes_at (g.I.Intervals.intervals c.args.i.now) c.args.ci) c.free.new.self c.args.at =
-        frees _ _ _ _ (c.in_ok-interval.ensures.bytes t) c.in_ok-interval.ensures.used c.free.ensures.gone c.free.ensures.freed c.free.ensures.others c.free.ensures.head in
+    frees _ _ _ _ (c.in_ok-interval.ensures.bytes t) c.in_ok-interval.ensures.used c.free.ensures.gone c.free.ensures.freed c.free.ensures.others c.free.ensures.head in
     let moved = rw same at (c.move_to_free.ensures.moved (c.read_used.ensures.goes_on.tells t)) in
     on_ok-map _ _ _ (λ v. order-moved _ _ _ _ c.free.new.self o below f.head v) (moved f.head)
 
@@ -32,7 +32,7 @@ pub returns-then-is_empty-clause-damaged : goal.returns-then-is_empty-clause-dam
 returns-then-is_empty-clause-damaged g c = λ t b u n e.
     let same = c.in_ok-interval.ensures.same t in
     let f : FreesAt (bytes_at (g.I.Intervals.intervals c.args.i.now) c.args.ci) c.free.new.self c.args.at =
-        frees _ _ _ _ (c.in_ok-interval.ensures.bytes t) c.in_ok-interval.ensures.used c.free.ensures.gone c.free.ensures.freed c.free.ensures.others c.free.ensures.head in
+    frees _ _ _ _ (c.in_ok-interval.ensures.bytes t) c.in_ok-interval.ensures.used c.free.ensures.gone c.free.ensures.freed c.free.ensures.others c.free.ensures.head in
     let damaged = rw same at (c.move_to_free.ensures.damaged (c.read_used.ensures.goes_on.tells t)) in
     damaged b f.head (used-not_empty _ c.args.at u) n e
 
@@ -44,7 +44,7 @@ returns-else-head-eq-INDEPENDENT-clause-given g c = λ t o.
     let same = c.in_ok-interval.ensures.same t in
     let below : c.args.ci < length (g.I.Intervals.intervals c.args.i.now) = omega (arith, g.met.I.Intervals.numbered c.args.i.now t, c.in_ok-interval.ensures.below) in
     let f : FreesAt (bytes_at (g.I.Intervals.intervals c.args.i.now) c.args.ci) c.free.new.self c.args.at =
-        frees _ _ _ _ (c.in_ok-interval.ensures.bytes t) c.in_ok-interval.ensures.used c.free.ensures.gone c.free.ensures.freed c.free.ensures.others c.free.ensures.head in
+    frees _ _ _ _ (c.in_ok-interval.ensures.bytes t) c.in_ok-interval.ensures.used c.free.ensures.gone c.free.ensures.freed c.free.ensures.others c.free.ensures.head in
     let stays : BecomesEmpty (bytes_at (g.I.Intervals.intervals c.args.i.now) c.args.ci) c.free.new.self → ⊥ = λ h.
     (elim c.else-head-eq-INDEPENDENT.branch [
       | else-head-eq-INDEPENDENT-via-then-head-eq-INDEPENDENT+else-is_empty w ↦ (let q : false ≡ true = w.if-is_empty.ensures.1 h.is_empty in cc)
@@ -57,5 +57,5 @@ returns-else-head-eq-INDEPENDENT-clause-lists g c = λ t o.
     let same = c.in_ok-interval.ensures.same t in
     let below : c.args.ci < length (g.I.Intervals.intervals c.args.i.now) = omega (arith, g.met.I.Intervals.numbered c.args.i.now t, c.in_ok-interval.ensures.below) in
     let f : FreesAt (bytes_at (g.I.Intervals.intervals c.args.i.now) c.args.ci) c.free.new.self c.args.at =
-        frees _ _ _ _ (c.in_ok-interval.ensures.bytes t) c.in_ok-interval.ensures.used c.free.ensures.gone c.free.ensures.freed c.free.ensures.others c.free.ensures.head in
+    frees _ _ _ _ (c.in_ok-interval.ensures.bytes t) c.in_ok-interval.ensures.used c.free.ensures.gone c.free.ensures.freed c.free.ensures.others c.free.ensures.head in
     on_ok-map _ _ _ (λ p. order-alone _ _ _ _ _ _ c.free.new.self o same below f p) (c.write.ensures.put (c.read_used.ensures.goes_on.tells t))

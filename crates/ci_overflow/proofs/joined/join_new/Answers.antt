@@ -36,11 +36,11 @@ returns-then-ci-first_independent-clause-damaged g c = λ t e f n i.
     let last = c.count-ci.ensures ∙ sym (g.met.I.Intervals.numbered c.args.i.now t) in
     named_fault (IsAtFault c.args.shape.now (g.I.Intervals.intervals c.args.i.now)) 0 n i
     (count-fault _ _ _ _ c.count-ci.result e c.ends-ends.ensures last
-        (elim c.then-ci-first_independent.branch [
-          | then-ci-first_independent-via-then-ci-first_independent w ↦ inl (omega (arith, w.if-ci-first_independent.true, c.first_independent.ensures.number))
-          | then-ci-first_independent-via-else-ci-first_independent+then-ends-ci w ↦ inr (λ x.
-            w.if-ends-ci.true (x ∙ ap (λ k. c.count-ci.result - k) (sym w.first_independent-else-ci-first_independent.ensures.number)))
-        ]))
+    (elim c.then-ci-first_independent.branch [
+      | then-ci-first_independent-via-then-ci-first_independent w ↦ inl (omega (arith, w.if-ci-first_independent.true, c.first_independent.ensures.number))
+      | then-ci-first_independent-via-else-ci-first_independent+then-ends-ci w ↦ inr (λ x.
+          w.if-ends-ci.true (x ∙ ap (λ k. c.count-ci.result - k) (sym w.first_independent-else-ci-first_independent.ensures.number)))
+    ]))
 
 pub returns-in_err-interval-clause-damaged : goal.returns-in_err-interval-clause-damaged
 returns-in_err-interval-clause-damaged g c = λ t e f n i.

@@ -62,10 +62,10 @@ returns-then-turns-eq0-clause-damaged g c = λ t u b f n e.
     named_fault (IsAtFault c.args.shape.now (g.I.Intervals.intervals c.args.i.now)) c.loop-ci.from n e
     (elim c.then-turns-eq0.branch [
       | then-turns-eq0-via-then-turns-eq0 w ↦
-        elim (cases_lt 0 (length (g.I.Intervals.intervals c.args.i.now))) as (λ _. IsAtFault c.args.shape.now (g.I.Intervals.intervals c.args.i.now) c.loop-ci.from) [
-          | inl l ↦ walk-round _ _ _ _ _ _ walked (omega (arith, numbered, w.if-turns-eq0.true, c.count-turns.ensures)) l
-          | inr l ↦ late-fault _ _ _ _ _ walked.holds c.loop-ci-test.true (omega (arith, l))
-        ]
+          elim (cases_lt 0 (length (g.I.Intervals.intervals c.args.i.now))) as (λ _. IsAtFault c.args.shape.now (g.I.Intervals.intervals c.args.i.now) c.loop-ci.from) [
+            | inl l ↦ walk-round _ _ _ _ _ _ walked (omega (arith, numbered, w.if-turns-eq0.true, c.count-turns.ensures)) l
+            | inr l ↦ late-fault _ _ _ _ _ walked.holds c.loop-ci-test.true (omega (arith, l))
+          ]
       | then-turns-eq0-via-else-turns-eq0+then-ci-first_independent w ↦ early-fault _ _ _ _ _ walked.holds c.loop-ci-test.true (omega (arith, w.if-ci-first_independent.true, w.first_independent.ensures.number))
     ])
 
