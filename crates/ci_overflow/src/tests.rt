@@ -201,7 +201,7 @@ fn an_element_goes_and_the_others_stay(rt: HostRuntime) -> Result<(), Fail> {
 fn an_emptied_interval_is_the_first_of_the_free_chain(rt: HostRuntime) -> Result<(), Fail> {
     // The list is 5, 4, 3. Its first, its middle and its last interval becomes empty, then the next.
     for (ci, links, then) in [
-        (5, [4, 0, 3, 0], 4),
+        (5u8, [4, 0, 3, 0], 4),
         (4, [5, 0, 0, 3], 3),
         (3, [5, 0, 0, 4], 5),
     ] {
@@ -209,7 +209,7 @@ fn an_emptied_interval_is_the_first_of_the_free_chain(rt: HostRuntime) -> Result
         for _ in 0..5 {
             assert!(rt; find_room(&mut memory, &shape(), 0, 400).is_ok());
         }
-        assert!(rt; give_back(&mut memory, &shape(), ci, 32).is_ok());
+        assert!(rt; give_back(&mut memory, &shape(), u64::from(ci), 32).is_ok());
         let all = memory.all();
         assert_eq!(rt; all.len(), 6);
         assert_eq!(rt; all[1].head().link, links[0]);
@@ -218,10 +218,10 @@ fn an_emptied_interval_is_the_first_of_the_free_chain(rt: HostRuntime) -> Result
         assert_eq!(rt; all[5].head().link, links[3]);
         assert_eq!(rt;
             &all[0].whole()[48..64],
-            [0, 0, 0, 0, 0, 0, 0, 3, 0, 0, 0, 0, 0, 0, 0, ci as u8].as_slice()
+            [0, 0, 0, 0, 0, 0, 0, 3, 0, 0, 0, 0, 0, 0, 0, ci].as_slice()
         );
         assert!(rt; give_back(&mut memory, &shape(), then, 32).is_ok());
-        for expected in [(then, 32), (ci, 32), (6, 32)] {
+        for expected in [(then, 32), (u64::from(ci), 32), (6, 32)] {
             assert_eq!(rt;
                 find_room(&mut memory, &shape(), 0, 400).ok(),
                 Some(expected)
