@@ -1,10 +1,8 @@
 -- Where links lead: a walk over a list holds no interval twice, or goes round in a circle.
-use Rattle.std.proofs.Common.{◌≡◌, ◌≢◌, ℕ, zero, suc, ◌+◌, ◌-◌, ◌<◌, ◌≤◌, ◌⊎◌, inl, inr, List, [], ◌∷◌, length, refl, sym, ap, ◌∙◌, subst, arith}
-use Rattle.std.proofs.lemmas.Bool.{cases_lt}
+use Rattle.std.proofs.Common.{◌≡◌, ◌≢◌, ℕ, zero, suc, ◌+◌, ◌<◌, ◌≤◌, ◌⊎◌, inl, inr, List, [], ◌∷◌, length, refl, sym, ◌∙◌, subst, arith}
 use Rattle.ci_space.specs.declared.intervals.Shape.{Shape}
-use Rattle.ci_overflow.specs.Places.{first_independent}
 use Rattle.ci_overflow.specs.Lists.{bytes_at, link_of, IsChain, Holds, IsOnce, IsOwned}
-use Rattle.ci_overflow.specs.Faults.{Leads, here, on, HoldsLink, in_list, IsAtFault, circle, IsShared}
+use Rattle.ci_overflow.specs.Faults.{Leads, here, on, HoldsLink, in_list, IsAtFault, circle}
 use Rattle.ci_overflow.proofs.Finds.{same_or}
 
 -- whether a list holds an interval

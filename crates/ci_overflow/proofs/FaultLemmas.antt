@@ -1,5 +1,5 @@
 -- Intervals at fault: what the calls see of them, and that an area in order has none.
-use Rattle.std.proofs.Common.{◌≡◌, ◌≢◌, ℕ, ◌+◌, ◌-◌, ◌*◌, ◌%◌, ◌<◌, ◌≤◌, ◌⊎◌, inl, inr, List, [], ◌∷◌, length, if◌then◌else◌, nat_lt, refl, sym, ap, ◌∙◌, subst, arith}
+use Rattle.std.proofs.Common.{◌≡◌, ◌≢◌, ℕ, ◌+◌, ◌-◌, ◌*◌, ◌%◌, ◌<◌, ◌≤◌, inl, inr, List, [], ◌∷◌, length, if◌then◌else◌, nat_lt, refl, sym, ap, ◌∙◌, subst, arith}
 use Rattle.std.proofs.lemmas.Bool.{cases_lt}
 use Rattle.std.proofs.lemmas.List.{get_or_past}
 use Rattle.std.proofs.lemmas.Nat.{mul-le, mod-mul-add}
@@ -7,7 +7,7 @@ use Rattle.ci_space.specs.declared.intervals.Shape.{Shape}
 use Rattle.ci_space.specs.Interval.{kind_of, IsInterval, IsEmpty, Keeps}
 use Rattle.ci_space.proofs.Tilings.{size-bounds}
 use Rattle.ci_overflow.specs.Places.{first_base, first_sequential, first_independent, kind_at}
-use Rattle.ci_overflow.specs.Lists.{bytes_at, link_of, owner_of, counted, first_free, IsChain, Holds, IsOwned, IsListOf, HasList, IsInPlace, IsInOrder}
+use Rattle.ci_overflow.specs.Lists.{bytes_at, link_of, owner_of, first_free, IsChain, Holds, IsOwned, IsListOf, HasList, IsInPlace, IsInOrder}
 use Rattle.ci_overflow.specs.Faults.{HasPlace, HoldsLink, in_base, in_control, in_list, IsShared, IsThere, IsNotThere, IsAtFault, misplaced, bad_link, circle, miscounted, in_use, no_unit, unlisted}
 use Rattle.ci_overflow.specs.Moves.{HasNoUnit}
 use Rattle.ci_overflow.specs.declared.reading.Place.{Place}

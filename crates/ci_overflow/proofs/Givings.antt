@@ -1,25 +1,22 @@
 -- An element is given back: what changes, and that the lists stay in order.
-use Rattle.std.proofs.Common.{◌≡◌, ◌≢◌, ℕ, ◌+◌, ◌-◌, ◌*◌, ◌<◌, ◌≤◌, ◌⊎◌, inl, inr, false, true, List, [], ◌∷◌, length, drop, slice_index, IsTrue, refl, sym, ap, ◌∙◌, subst, arith}
+use Rattle.std.proofs.Common.{◌≡◌, ◌≢◌, ℕ, ◌-◌, ◌<◌, ◌≤◌, inl, inr, false, true, List, [], ◌∷◌, length, slice_index, IsTrue, refl, sym, ap, ◌∙◌, subst, arith}
 use Rattle.std.proofs.lemmas.List.{get_or_past}
 use Rattle.std.proofs.lemmas.Bool.{cases_lt}
 use Rattle.ci_space.specs.declared.intervals.Shape.{Shape}
-use Rattle.ci_space.specs.declared.head.Head.{Head}
 use Rattle.ci_space.specs.Element.{Free}
 use Rattle.ci_space.specs.Interval.{kind_of, has_elements, HasUsed, IsUsed, IsInterval, IsEmpty, UsedIsFreed, OthersStay, Keeps}
-use Rattle.ci_space.specs.Head.{head_of, ends_of}
+use Rattle.ci_space.specs.Head.{head_of}
 use Rattle.ci_space.proofs.Tilings.{used-kind}
 use Rattle.ci_space.proofs.Standing.{used-stands}
-use Rattle.ci_overflow.specs.Places.{first_base, first_independent, kind_at}
-use Rattle.ci_overflow.specs.Lists.{bytes_at, link_of, owner_of, counted, first_free, IsOwned, IsInPlace, IsInOrder}
+use Rattle.ci_overflow.specs.Places.{first_independent, kind_at}
+use Rattle.ci_overflow.specs.Lists.{bytes_at, link_of, counted, IsInPlace, IsInOrder}
 use Rattle.ci_overflow.specs.Rooms.{KeepsUsed, IsInUse, IsPut, KeepsButLink}
 use Rattle.ci_overflow.specs.Freed.{BecomesEmpty, GivesBack}
 use Rattle.ci_overflow.specs.Moves.{Moves}
-use Rattle.ci_overflow.proofs.Tries.{keeps-owner}
-use Rattle.ci_overflow.proofs.Joins.{keeps-head, root-zero, link-zero, kind-behind}
+use Rattle.ci_overflow.proofs.Joins.{keeps-head, root-zero, link-zero}
 use Rattle.ci_overflow.proofs.Finds.{same_or, used-same, ends-same, but-link-same, head_link, root-same, root_at, root-known, control-first}
-use Rattle.ci_overflow.proofs.Orders.{ChangesBehind, order-changed, first_free-put, link-known, owner-known}
-use Rattle.ci_overflow.proofs.FaultLemmas.{kind-before, keeps-kind}
-use Rattle.ci_overflow.proofs.Moving.{before_some}
+use Rattle.ci_overflow.proofs.Orders.{order-changed, first_free-put, link-known, owner-known}
+use Rattle.ci_overflow.proofs.FaultLemmas.{kind-before}
 
 -- an element of an interval is freed
 pub record FreesAt (old new : List ℕ) (at : ℕ) : Type 0 where

@@ -1,5 +1,5 @@
 -- Faults that are seen where an interval joins a list.
-use Rattle.std.proofs.Common.{◌≡◌, ◌≢◌, ℕ, ◌+◌, ◌-◌, ◌<◌, ◌≤◌, ◌⊎◌, inl, inr, List, [], ◌∷◌, length, slice_index, get_or, IsTrue, refl, sym, ap, ◌∙◌, subst, arith}
+use Rattle.std.proofs.Common.{◌≡◌, ◌≢◌, ℕ, ◌-◌, ◌<◌, ◌≤◌, ◌⊎◌, inl, inr, List, [], ◌∷◌, length, slice_index, IsTrue, refl, sym, ap, ◌∙◌, arith}
 use Rattle.std.specs.List.{All}
 use Rattle.ci_space.specs.declared.intervals.Shape.{Shape}
 use Rattle.ci_space.specs.Element.{Element, Free, free_size, size_for}
@@ -8,9 +8,9 @@ use Rattle.ci_space.specs.Head.{ends_of}
 use Rattle.ci_space.proofs.Standing.{Tiles-unique}
 use Rattle.ci_space.proofs.Empties.{tiled-tiles, empty-interval, length-empty, kind-empty}
 use Rattle.ci_overflow.specs.Places.{first_base, first_independent}
-use Rattle.ci_overflow.specs.Lists.{bytes_at, owner_of, counted, first_free, IsOwned}
-use Rattle.ci_overflow.specs.Rooms.{IsPut, PutsEnds, IsGrown}
-use Rattle.ci_overflow.specs.Faults.{FitsEmpty, HoldsLink, in_control, IsThere, IsNotThere, IsAtFault, miscounted, in_use}
+use Rattle.ci_overflow.specs.Lists.{bytes_at, owner_of, first_free}
+use Rattle.ci_overflow.specs.Rooms.{PutsEnds, IsGrown}
+use Rattle.ci_overflow.specs.Faults.{FitsEmpty, HoldsLink, in_control, IsNotThere, IsAtFault, miscounted, in_use}
 use Rattle.ci_overflow.specs.declared.reading.Place.{Place}
 use Rattle.ci_overflow.proofs.Joins.{base-before, counted_is, first_free_is}
 use Rattle.ci_overflow.proofs.FaultLemmas.{first-fault}

@@ -1,9 +1,8 @@
 -- An interval leaves its list for the free chain: the lists stay in order.
-use Rattle.std.proofs.Common.{◌≡◌, ◌≢◌, ℕ, ◌+◌, ◌-◌, ◌*◌, ◌<◌, ◌≤◌, ◌⊎◌, inl, inr, List, [], ◌∷◌, length, slice_index, refl, sym, ap, ◌∙◌, subst, arith}
+use Rattle.std.proofs.Common.{◌≡◌, ◌≢◌, ℕ, ◌+◌, ◌<◌, ◌≤◌, inl, inr, List, [], ◌∷◌, length, refl, sym, ap, ◌∙◌, subst, arith}
 use Rattle.ci_space.specs.declared.intervals.Shape.{Shape}
 use Rattle.ci_space.specs.declared.head.Head.{Head}
-use Rattle.ci_space.specs.Interval.{kind_of, IsInterval, IsEmpty, Keeps}
-use Rattle.ci_space.specs.Head.{head_of, ends_of}
+use Rattle.ci_space.specs.Interval.{kind_of, IsEmpty, Keeps}
 use Rattle.ci_overflow.specs.Places.{first_base, first_independent, kind_at}
 use Rattle.ci_overflow.specs.Lists.{bytes_at, link_of, owner_of, counted, first_free, IsChain, Holds, IsOnce, IsOwned, IsListOf, HasList, IsInPlace, IsInOrder}
 use Rattle.ci_overflow.specs.Rooms.{ChangesLink}

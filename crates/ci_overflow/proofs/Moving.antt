@@ -3,7 +3,7 @@ use Rattle.std.proofs.Common.{◌≡◌, ◌≢◌, ℕ, ◌+◌, ◌-◌, ◌<�
 use Rattle.ci_space.specs.declared.intervals.Shape.{Shape}
 use Rattle.ci_space.specs.declared.head.Head.{Head}
 use Rattle.ci_space.specs.Element.{Element, Free}
-use Rattle.ci_space.specs.Interval.{kind_of, IsInterval, IsEmpty, Tiles, SameSize}
+use Rattle.ci_space.specs.Interval.{IsInterval, IsEmpty, Tiles, SameSize}
 use Rattle.ci_space.specs.Head.{head_of, ends_of}
 use Rattle.ci_overflow.specs.Places.{first_base, first_independent}
 use Rattle.ci_overflow.specs.Lists.{bytes_at, link_of, owner_of, counted, first_free, IsOwned}

@@ -1,11 +1,10 @@
 -- What changes where an element is given back.
-use Rattle.std.specs.Prelude.{◌≡◌, ◌≢◌, ◌⊎◌, ℕ, ◌+◌, ◌<◌, ◌≤◌, List, length}
+use Rattle.std.specs.Prelude.{◌≡◌, ◌≢◌, ℕ, List, length}
 use Rattle.ci_space.specs.declared.intervals.Shape.{Shape}
-use Rattle.ci_space.specs.Interval.{IsInterval, IsUsed, OthersStay, Keeps, IsEmpty, kind_of}
-use Rattle.ci_space.specs.Head.{head_of}
-use Rattle.ci_overflow.specs.Places.{first_base, first_independent, kind_at}
-use Rattle.ci_overflow.specs.Lists.{bytes_at, link_of, owner_of, counted, first_free, IsOwned}
-use Rattle.ci_overflow.specs.Rooms.{KeepsUsed, OnlyOneChanges, ChangesLink, ChangesEnds, KeepsEnds, KeepsButLink, KeepsRoots}
+use Rattle.ci_space.specs.Interval.{IsUsed, Keeps, IsEmpty, kind_of}
+use Rattle.ci_overflow.specs.Places.{kind_at}
+use Rattle.ci_overflow.specs.Lists.{bytes_at, link_of, owner_of, first_free}
+use Rattle.ci_overflow.specs.Rooms.{OnlyOneChanges, KeepsEnds, KeepsButLink, KeepsRoots}
 
 -- an independent overflow interval becomes empty
 pub record BecomesEmpty (old new : List ℕ) : Type 0 where

@@ -1,6 +1,5 @@
-use Rattle.std.proofs.Common.{◌≡◌, ◌≢◌, ◌⊎◌, ℕ, ◌+◌, ◌-◌, ◌<◌, ◌≤◌, length}
+use Rattle.std.proofs.Common.{◌≡◌, ◌≢◌, ◌⊎◌, ◌+◌, ◌-◌, ◌<◌, ◌≤◌, length}
 use Rattle.ci_space.specs.Calls.{GoesOn}
-use Rattle.ci_space.specs.Head.{head_of}
 use Rattle.ci_space.specs.Interval.{IsInterval, kind_of}
 use Rattle.ci_overflow.specs.Places.{first_base}
 use Rattle.ci_overflow.specs.Lists.{bytes_at, link_of, IsOwned}

@@ -1,6 +1,6 @@
-use Rattle.std.proofs.Common.{◌≡◌, ◌<◌, ◌≤◌, false, true, ℕ, inl, inr, ap, sym, ◌∙◌, length, slice_index_or, refl, arith}
+use Rattle.std.proofs.Common.{◌≡◌, ◌<◌, ◌≤◌, false, true, inl, inr, ap, length, slice_index_or, refl, arith}
 use Rattle.std.proofs.lemmas.Result.{err_from_is_err_and}
-use Rattle.ci_space.specs.Interval.{IsEmpty, IsFull}
+use Rattle.ci_space.specs.Interval.{IsEmpty}
 use Rattle.ci_overflow.specs.Places.{first_independent}
 use Rattle.ci_overflow.specs.Faults.{FitsEmpty, IsAtFault}
 use Rattle.ci_overflow.proofs.Going.{goes_on_joined, same_fault, named_fault}

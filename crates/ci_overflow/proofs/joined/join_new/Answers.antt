@@ -1,6 +1,6 @@
-use Rattle.std.proofs.Common.{◌≡◌, ◌≢◌, ◌<◌, ◌≤◌, ◌-◌, inl, inr, ℕ, ◌∙◌, length, sym, ap, refl, arith}
+use Rattle.std.proofs.Common.{◌≤◌, ◌-◌, inl, inr, ◌∙◌, length, sym, ap, arith}
 use Rattle.std.proofs.lemmas.Result.{err_from_is_err_and}
-use Rattle.ci_space.specs.Interval.{IsEmpty, IsFull, empty_bytes}
+use Rattle.ci_space.specs.Interval.{IsEmpty}
 use Rattle.ci_overflow.specs.Places.{first_independent}
 use Rattle.ci_overflow.specs.Lists.{bytes_at}
 use Rattle.ci_overflow.specs.Faults.{FitsEmpty, IsAtFault}

@@ -1,8 +1,8 @@
-use Rattle.std.proofs.Common.{◌≡◌, ◌<◌, ◌≤◌, ◌+◌, ◌∙◌, inl, inr, refl, sym, ap, length, arith}
+use Rattle.std.proofs.Common.{◌+◌, ◌∙◌, inl, inr, refl, sym, length, arith}
 use Rattle.std.proofs.lemmas.Result.{err_from_is_err_and}
 use Rattle.std.proofs.lemmas.Bool.{cases_lt}
 use Rattle.ci_space.proofs.Going.{goes-itself}
-use Rattle.ci_overflow.specs.Lists.{bytes_at, link_of, IsOwned}
+use Rattle.ci_overflow.specs.Lists.{IsOwned}
 use Rattle.ci_overflow.specs.Faults.{IsAtFault, in_base}
 use Rattle.ci_overflow.proofs.Going.{goes_on_joined, same_fault, named_fault}
 use Rattle.ci_overflow.proofs.Circles.{walk-begins, walk-on, walk-round}
