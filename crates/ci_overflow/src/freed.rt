@@ -20,12 +20,16 @@ use ci_space::{Head, Interval, Intervals, Shape};
 /// overflow interval that becomes empty leaves the list of its unit of work and becomes the first of
 /// the free chain.
 ///
-/// `Damaged(ci)` comes where no element is used there, as in an interval that the area hasn't or that
-/// has another kind. Else `Damaged` names an interval at fault.
+/// Where no element is used there, as in an interval that the area hasn't or that has another kind, it
+/// is `Damaged(ci)`. Else `Damaged` names an interval at fault: that with the bytes, the owner or the
+/// link that is wrong.
 pub fn give_back<I: Intervals>(i: &mut I, shape: &Shape, ci: u64, at: u16) -> Result<(), SpaceFault>
     // At `Ok` the element is gone, all else stays, and the lists are in order.
     ensures given { I.told i.old → IsInOrder shape.now (I.intervals i.old) → OnOk result (GivesBack shape.now (I.intervals i.old) (I.intervals i.new) ci at) }
     ensures lists { I.told i.old → IsInOrder shape.now (I.intervals i.old) → OnOk result (IsInOrder shape.now (I.intervals i.new)) }
+
+    // `Ok` comes only where an element is used there.
+    ensures used { I.told i.old → OnOk result (IsUsed (bytes_at (I.intervals i.old) ci) at) }
 
     // Where an element is used there, and the shape has base intervals, `Damaged` names an interval at
     // fault. An area in order has none.
