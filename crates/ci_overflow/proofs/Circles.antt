@@ -75,6 +75,12 @@ leads-held area from to (x ∷ rest) z (on f t n l) c =
     let d : IsChain area (link_of (bytes_at area f)) rest = rw (← c.0) at c.2 in
     inr (leads-held area (link_of (bytes_at area f)) t rest z l d)
 
+-- and leads to what it holds
+pub chain-leads : (area : List (List ℕ)) (first to : ℕ) (list : List ℕ) → IsChain area first list → Holds list to → Leads area first to
+chain-leads area first to [] c h = absurd h
+chain-leads area first to (x ∷ rest) c (inl e) = let P : ℕ → Type 0 = λ d. Leads area d to in subst P (sym (c.0 ∙ e)) (here to)
+chain-leads area first to (x ∷ rest) c (inr h) = let P : ℕ → Type 0 = λ d. Leads area d to in subst P (sym c.0) (on x to c.1 (chain-leads area (link_of (bytes_at area x)) to rest c.2 h))
+
 -- no chain that holds each interval once holds a circle
 pub no-circle : (area : List (List ℕ)) (first ci : ℕ) (list : List ℕ) → IsChain area first list → IsOnce list → Holds list ci → ci ≢ 0 → Leads area (link_of (bytes_at area ci)) ci → ⊥
 no-circle area first ci [] c o h z l = h

@@ -11,10 +11,10 @@ use Rattle.ci_overflow.specs.Lists.{bytes_at, link_of, owner_of, first_free, IsC
 use Rattle.ci_overflow.specs.Faults.{HasPlace, HoldsLink, in_base, in_control, in_list, IsShared, IsThere, IsNotThere, IsAtFault, misplaced, bad_link, circle, miscounted, in_use, no_unit, unlisted}
 use Rattle.ci_overflow.specs.Moves.{HasNoUnit}
 use Rattle.ci_overflow.specs.declared.reading.Place.{Place}
-use Rattle.ci_overflow.proofs.Joins.{kind-behind, owner-zero}
+use Rattle.ci_overflow.proofs.Joins.{kind-behind, link-zero, owner-zero}
 use Rattle.ci_overflow.proofs.Tries.{keeps-owner}
 use Rattle.ci_overflow.proofs.Finds.{same_or}
-use Rattle.ci_overflow.proofs.Circles.{no-circle}
+use Rattle.ci_overflow.proofs.Circles.{no-circle, chain-leads}
 
 -- no interval is past the end
 pub past-none : (area : List (List ℕ)) (ci : ℕ) → length area ≤ ci → IsInterval (bytes_at area ci) → ⊥
@@ -119,10 +119,14 @@ pub unit-fault : (shape : Shape) (area : List (List ℕ)) (ci : ℕ) (interval :
 unit-fault shape area ci interval k b five n h = elim (cases_lt ci (first_independent shape)) as (λ _. IsAtFault shape area ci) [
   | inl l ↦ misplaced (inl l) (λ p. kind-before shape ci l (sym p.is_kind ∙ keeps-kind (bytes_at area ci) interval k ∙ five))
   | inr f ↦ (let owner : owner_of interval ≡ owner_of (bytes_at area ci) = keeps-owner (bytes_at area ci) interval k in
-      elim h as (λ _. IsAtFault shape area ci) [
-        | inl l ↦ absurd (omega (arith, f, l))
-        | inr (inl z) ↦ in_use (record { from = f; below = b; owned = sym owner ∙ z }) n
-        | inr (inr l) ↦ no_unit (owner_of interval) (record { from = f; below = b; owned = sym owner }) l
+      elim (same_or (owner_of interval) 0) as (λ _. IsAtFault shape area ci) [
+        | inl z ↦ in_use (record { from = f; below = b; owned = sym owner ∙ z }) n
+        | inr z ↦ (let w : IsOwned shape area (owner_of interval) ci = record { from = f; below = b; owned = sym owner } in
+            elim h as (λ _. IsAtFault shape area ci) [
+              | inl l ↦ absurd (omega (arith, f, l))
+              | inr (inl e) ↦ absurd (z e)
+              | inr (inr x) ↦ no_unit (owner_of interval) z w x
+            ])
       ])
 ]
 
@@ -185,6 +189,39 @@ same_chain area first ci (x ∷ xs) (y ∷ ys) c d (inr h) =
     let f : IsChain area (link_of (bytes_at area x)) ys = rw e at d.2 in
     inr (same_chain area (link_of (bytes_at area x)) ci xs ys c.2 f h)
 
+-- a unit of work without base intervals owns nothing
+chain_some : (area : List (List ℕ)) (first k : ℕ) (list : List ℕ) → IsChain area first list → Holds list k → first ≢ 0
+chain_some area first k [] c h e = h
+chain_some area first k (x ∷ rest) c h e = c.1 (sym c.0 ∙ e)
+
+pub base_of_kind : (shape : Shape) (ci : ℕ) → kind_at shape ci ≡ 2 → 0 < shape.base
+base_of_kind shape ci k = grind arith
+
+first_low : (shape : Shape) (uow : ℕ) → uow < shape.uows → first_base shape uow ≤ first_independent shape
+first_low shape uow u =
+    let m : uow * (shape.base + shape.overflow) ≤ shape.uows * (shape.base + shape.overflow) = mul-le uow (shape.base + shape.overflow) shape.uows (shape.base + shape.overflow) (omega arith) (omega arith) in
+    omega (arith, m)
+
+none_owned : (shape : Shape) (area : List (List ℕ)) (owner ci : ℕ) → IsInOrder shape area → shape.base ≡ 0 → owner ≢ 0 → IsOwned shape area owner ci → ⊥
+none_owned shape area owner ci o z n w =
+    let first : ℕ = first_base shape (owner - 1) in
+    let h : HasList shape area owner (link_of (bytes_at area first)) = list_of shape area owner ci o w n in
+    let some : link_of (bytes_at area first) ≢ 0 = chain_some area (link_of (bytes_at area first)) ci h.list h.is_list.chain (h.is_list.each ci w) in
+    let u : owner - 1 < shape.uows = omega (arith, o.listed.owners ci w.from w.below, w.owned, n) in
+    let low : first ≤ first_independent shape = first_low shape (owner - 1) u in
+    let below : first < length area = omega (arith, low, w.from, w.below) in
+    elim (cases_lt first (first_independent shape)) as (λ _. ⊥) [
+      | inl l ↦ (let p : IsInPlace shape area first = o.in_place first below in
+          some (link-zero (bytes_at area first) p.is_interval.tiles.head (λ e. omega (arith, base_of_kind shape first (sym p.is_kind ∙ e), z)) (λ e. kind-before shape first l (sym p.is_kind ∙ e))))
+      | inr l ↦ (let mine : IsOwned shape area (owner_of (bytes_at area first)) first = record { from = l; below = below; owned = refl } in
+          let next : IsOwned shape area (owner_of (bytes_at area first)) (link_of (bytes_at area first)) = owned_goes shape area (owner_of (bytes_at area first)) first o mine some in
+          let theirs : IsOwned shape area owner (link_of (bytes_at area first)) = next_owned shape area owner (link_of (bytes_at area first)) h.list h.is_list some in
+          let it : IsOwned shape area owner first = record { from = l; below = below; owned = sym next.owned ∙ theirs.owned } in
+          let held : Holds h.list first = h.is_list.each first it in
+          no-circle area (link_of (bytes_at area first)) first h.list h.is_list.chain h.is_list.once held (λ e. omega (arith, e, l))
+          (chain-leads area (link_of (bytes_at area first)) first h.list h.is_list.chain held))
+    ]
+
 some_of : (shape : Shape) (area : List (List ℕ)) (owner ci : ℕ) → IsOwned shape area owner ci → ci ≢ 0
 some_of shape area owner ci w e = omega (arith, w.from, e)
 
@@ -200,7 +237,8 @@ in-order-sound shape area ci o (circle owner w l) = elim (same_or owner 0) as (�
 ]
 in-order-sound shape area ci o (miscounted e n) = n o.whole
 in-order-sound shape area ci o (in_use w n) = n (o.listed.empty ci w)
-in-order-sound shape area ci o (no_unit owner w l) = omega (arith, o.listed.owners ci w.from w.below, w.owned, l)
+in-order-sound shape area ci o (no_unit owner n w (inl l)) = omega (arith, o.listed.owners ci w.from w.below, w.owned, l)
+in-order-sound shape area ci o (no_unit owner n w (inr z)) = none_owned shape area owner ci o z n w
 in-order-sound shape area ci o (unlisted uow list u w c n) =
     let h : HasList shape area (uow + 1) (link_of (bytes_at area (first_base shape uow))) = o.listed.of_uow uow u in
     n (same_chain area (link_of (bytes_at area (first_base shape uow))) ci h.list list h.is_list.chain c (h.is_list.each ci w))

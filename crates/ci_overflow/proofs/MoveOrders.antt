@@ -11,7 +11,7 @@ use Rattle.ci_overflow.proofs.Tries.{keeps-link, keeps-owner}
 use Rattle.ci_overflow.proofs.Joins.{base-before, kind-behind}
 use Rattle.ci_overflow.proofs.Finds.{same_or}
 use Rattle.ci_overflow.proofs.Orders.{chain-keeps, list-stays, list-joined, list-left, counted-put, first_free-put, link-known, owner-known, kind-known, bases-apart}
-use Rattle.ci_overflow.proofs.FaultLemmas.{next-held, keeps-kind}
+use Rattle.ci_overflow.proofs.FaultLemmas.{next-held, keeps-kind, base_of_kind}
 
 -- a list without the interval that one of its intervals leads to
 record IsRemoved (new : List (List ℕ)) (first ci : ℕ) (list rest : List ℕ) : Type 0 where
@@ -100,9 +100,6 @@ same-owner old new link c = ap (λ (h : Head). h.owner) c.head
 
 same-kind : (old new : List ℕ) (link : ℕ) → ChangesLink old new link → kind_of new ≡ kind_of old
 same-kind old new link c = ap (λ (h : Head). h.kind) c.head
-
-base_of_kind : (shape : Shape) (ci : ℕ) → kind_at shape ci ≡ 2 → 0 < shape.base
-base_of_kind shape ci k = grind arith
 
 module _ (shape : Shape) (old new : List (List ℕ)) (ci : ℕ) (interval : List ℕ) (o : IsInOrder shape old) (b : ci < length old) (hd : Keeps (bytes_at old ci) interval 0 32) (v : Moves shape old new ci interval) where
   was : IsOwned shape old (v.uow + 1) ci

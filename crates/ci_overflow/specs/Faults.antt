@@ -48,8 +48,8 @@ pub data IsAtFault (shape : Shape) (area : List (List ℕ)) (ci : ℕ) : Type 0 
   miscounted : ci ≡ 0 → length area ≢ first_independent shape + counted area → IsAtFault shape area ci
   -- it has the owner of the free chain, and isn't empty
   in_use : IsOwned shape area 0 ci → ¬ IsEmpty (bytes_at area ci) → IsAtFault shape area ci
-  -- its owner is no unit of work
-  no_unit : (owner : ℕ) → IsOwned shape area owner ci → shape.uows < owner → IsAtFault shape area ci
+  -- its owner is no unit of work that has base intervals
+  no_unit : (owner : ℕ) → owner ≢ 0 → IsOwned shape area owner ci → (shape.uows < owner) ⊎ (shape.base ≡ 0) → IsAtFault shape area ci
   -- the list of the unit of work that is its owner ends, and doesn't hold it
   unlisted : (uow : ℕ) (list : List ℕ) → uow < shape.uows → IsOwned shape area (uow + 1) ci
       → IsChain area (link_of (bytes_at area (first_base shape uow))) list → ¬ Holds list ci → IsAtFault shape area ci

@@ -31,10 +31,9 @@ pub fn give_back<I: Intervals>(i: &mut I, shape: &Shape, ci: u64, at: u16) -> Re
     // `Ok` comes only where an element is used there.
     ensures used { I.told i.old → OnOk result (IsUsed (bytes_at (I.intervals i.old) ci) at) }
 
-    // Where an element is used there, and the shape has base intervals, `Damaged` names an interval at
-    // fault. An area in order has none.
-    ensures damaged { I.told i.old → 0 < shape.now.base → IsUsed (bytes_at (I.intervals i.old) ci) at → (n : ℕ) → result ≡ Err (SpaceFault.Damaged n) → IsAtFault shape.now (I.intervals i.old) n }
-    ensures sound { I.told i.old → IsInOrder shape.now (I.intervals i.old) → 0 < shape.now.base → IsUsed (bytes_at (I.intervals i.old) ci) at → (n : ℕ) → result ≢ Err (SpaceFault.Damaged n) }
+    // Where an element is used there, `Damaged` names an interval at fault. An area in order has none.
+    ensures damaged { I.told i.old → IsUsed (bytes_at (I.intervals i.old) ci) at → (n : ℕ) → result ≡ Err (SpaceFault.Damaged n) → IsAtFault shape.now (I.intervals i.old) n }
+    ensures sound { I.told i.old → IsInOrder shape.now (I.intervals i.old) → IsUsed (bytes_at (I.intervals i.old) ci) at → (n : ℕ) → result ≢ Err (SpaceFault.Damaged n) }
 
     // It fails only with what holds the intervals.
     ensures failed { IsErrOf result SpaceFault.Failed → Rose (I.faults i.old) (I.faults i.new) }
@@ -84,7 +83,7 @@ fn move_to_free<I: Intervals>(
     requires kind { kind_of interval ≡ 5 }
     requires empty { IsEmpty interval }
     ensures moved { I.told i.old → Keeps (bytes_at (I.intervals i.old) ci) interval 0 32 → OnOk result (Moves shape.now (I.intervals i.old) (I.intervals i.new) ci interval) }
-    ensures damaged { I.told i.old → 0 < shape.now.base → Keeps (bytes_at (I.intervals i.old) ci) interval 0 32 → ¬ IsEmpty (bytes_at (I.intervals i.old) ci)
+    ensures damaged { I.told i.old → Keeps (bytes_at (I.intervals i.old) ci) interval 0 32 → ¬ IsEmpty (bytes_at (I.intervals i.old) ci)
         → (n : ℕ) → result ≡ Err (SpaceFault.Damaged n) → IsAtFault shape.now (I.intervals i.old) n }
     ensures failed { IsErrOf result SpaceFault.Failed → Rose (I.faults i.old) (I.faults i.new) }
     ensures number { I.number i.new ≡ I.number i.old }
@@ -108,12 +107,14 @@ fn move_to_free<I: Intervals>(
 fn unit_of(shape: &Shape, ci: u64, interval: &Interval) -> Result<u32, SpaceFault>
     ensures unit { IfOk result (λ uow. owner_of interval.now ≡ uow + 1) }
     ensures bound { IfOk result (λ uow. uow < shape.now.uows) }
+    ensures has_base { OnOk result (0 < shape.now.base) }
     ensures from { OnOk result (first_independent shape.now ≤ ci) }
     ensures damaged { (n : ℕ) → result ≡ Err (SpaceFault.Damaged n) → (n ≡ ci) × HasNoUnit shape.now ci interval.now }
     ensures never_failed { ¬ IsErrOf result SpaceFault.Failed }
 {
     let owner = interval.head().owner;
-    if ci < first_independent(shape) || owner == 0 || owner > u64::from(shape.uows) {
+    let is_unit = owner != NO_UOW && owner <= u64::from(shape.uows) && shape.base != 0;
+    if ci < first_independent(shape) || !is_unit {
         return Err(SpaceFault::Damaged(ci));
     }
     Ok((owner - 1) as u32)

@@ -29,15 +29,15 @@ returns-then-is_empty-clause-lists g c = λ t o.
     on_ok-map _ _ _ (λ v. order-moved _ _ _ _ c.free.new.self o below f.head v) (moved f.head)
 
 pub returns-then-is_empty-clause-damaged : goal.returns-then-is_empty-clause-damaged
-returns-then-is_empty-clause-damaged g c = λ t b u n e.
+returns-then-is_empty-clause-damaged g c = λ t u n e.
     let same = c.in_ok-interval.ensures.same t in
     let f : FreesAt (bytes_at (g.I.Intervals.intervals c.args.i.now) c.args.ci) c.free.new.self c.args.at =
     frees _ _ _ _ (c.in_ok-interval.ensures.bytes t) c.in_ok-interval.ensures.used c.free.ensures.gone c.free.ensures.freed c.free.ensures.others c.free.ensures.head in
     let damaged = rw same at (c.move_to_free.ensures.damaged (c.read_used.ensures.goes_on.tells t)) in
-    damaged b f.head (used-not_empty _ c.args.at u) n e
+    damaged f.head (used-not_empty _ c.args.at u) n e
 
 pub returns-then-is_empty-clause-sound : goal.returns-then-is_empty-clause-sound
-returns-then-is_empty-clause-sound g c = λ t o b u n e. in-order-sound _ _ n o (returns-then-is_empty-clause-damaged g c t b u n e)
+returns-then-is_empty-clause-sound g c = λ t o u n e. in-order-sound _ _ n o (returns-then-is_empty-clause-damaged g c t u n e)
 
 pub returns-else-head-eq-INDEPENDENT-clause-given : goal.returns-else-head-eq-INDEPENDENT-clause-given
 returns-else-head-eq-INDEPENDENT-clause-given g c = λ t o.
