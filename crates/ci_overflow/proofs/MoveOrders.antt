@@ -3,7 +3,7 @@ use Rattle.std.proofs.Common.{◌≡◌, ◌≢◌, ℕ, ◌+◌, ◌<◌, ◌�
 use Rattle.ci_space.specs.declared.intervals.Shape.{Shape}
 use Rattle.ci_space.specs.declared.head.Head.{Head}
 use Rattle.ci_space.specs.Interval.{kind_of, IsEmpty, Keeps}
-use Rattle.ci_overflow.specs.Places.{first_base, first_independent, kind_at}
+use Rattle.ci_overflow.specs.Places.{first_base, first_independent}
 use Rattle.ci_overflow.specs.Lists.{bytes_at, link_of, owner_of, counted, first_free, IsChain, Holds, IsOnce, IsOwned, IsListOf, HasList, IsInPlace, IsInOrder}
 use Rattle.ci_overflow.specs.Rooms.{ChangesLink}
 use Rattle.ci_overflow.specs.Moves.{Moves}

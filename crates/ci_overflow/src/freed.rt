@@ -28,8 +28,9 @@ pub fn give_back<I: Intervals>(i: &mut I, shape: &Shape, ci: u64, at: u16) -> Re
     ensures given { I.told i.old → IsInOrder shape.now (I.intervals i.old) → OnOk result (GivesBack shape.now (I.intervals i.old) (I.intervals i.new) ci at) }
     ensures lists { I.told i.old → IsInOrder shape.now (I.intervals i.old) → OnOk result (IsInOrder shape.now (I.intervals i.new)) }
 
-    // `Ok` comes only where an element is used there.
+    // Where no element is used there, `Ok` doesn't come, and `Damaged` names this interval.
     ensures used { I.told i.old → OnOk result (IsUsed (bytes_at (I.intervals i.old) ci) at) }
+    ensures unused { I.told i.old → ¬ IsUsed (bytes_at (I.intervals i.old) ci) at → (n : ℕ) → result ≡ Err (SpaceFault.Damaged n) → n ≡ ci }
 
     // Where an element is used there, `Damaged` names an interval at fault. An area in order has none.
     ensures damaged { I.told i.old → IsUsed (bytes_at (I.intervals i.old) ci) at → (n : ℕ) → result ≡ Err (SpaceFault.Damaged n) → IsAtFault shape.now (I.intervals i.old) n }
@@ -58,6 +59,7 @@ fn read_used<I: Intervals>(i: &mut I, ci: u64, at: u16) -> Result<Interval, Spac
     ensures used { IfOk result (λ interval. IsUsed interval at) }
     ensures size { IfOk result (λ interval. length interval ≡ I.size i.old) }
     ensures damaged { I.told i.old → IsUsed (bytes_at (I.intervals i.old) ci) at → (n : ℕ) → result ≢ Err (SpaceFault.Damaged n) }
+    ensures named { I.told i.old → (n : ℕ) → result ≡ Err (SpaceFault.Damaged n) → n ≡ ci }
     ensures failed { IsErrOf result SpaceFault.Failed → Rose (I.faults i.old) (I.faults i.new) }
     ensures same { I.told i.old → I.intervals i.new ≡ I.intervals i.old }
     ensures number { I.number i.new ≡ I.number i.old }
