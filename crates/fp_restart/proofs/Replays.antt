@@ -76,7 +76,7 @@ module _ (defs : Defs) (log : List ℕ) where
   next_fits : (gs : List (List Entry)) (es : List Entry) (more : List (List Entry)) → AllByRecursion (IsFit defs) (items_of (entries_of (gs ++ es ∷ more))) → AllByRecursion (IsFit defs) (items_of es)
   next_fits gs es more all =
       let behind = all-back (IsFit defs) (items_of (entries_of gs)) (items_of (entries_of (es ∷ more)))
-          (subst (AllByRecursion (IsFit defs)) (ap items_of (entries-append gs (es ∷ more)) ∙ items-append (entries_of gs) (entries_of (es ∷ more))) all) in
+      (subst (AllByRecursion (IsFit defs)) (ap items_of (entries-append gs (es ∷ more)) ∙ items-append (entries_of gs) (entries_of (es ∷ more))) all) in
       all-front (IsFit defs) (items_of es) (items_of (entries_of more))
       (subst (AllByRecursion (IsFit defs)) (ap items_of (flat_map-cons (λ (x : List Entry). x) es more) ∙ items-append es (entries_of more)) behind)
 
@@ -107,9 +107,9 @@ module _ (defs : Defs) (log : List ℕ) where
   readable_not_bad first at it bad =
       ⊎_elim
       (λ (b : GoesFurther bad.groups it.groups (drop at log) (drop it.gate log)).
-          let same = further_not_bad at bad.groups it.groups (drop it.gate log) b it.holds.fit bad.bad in
-          let ends = same_end_of first at it.gate bad.groups it.groups bad.holds.holds it.holds.holds same in
-          it.closed (ap (slice_index log) ends ∙ bad_is_open at bad.bad))
+      let same = further_not_bad at bad.groups it.groups (drop it.gate log) b it.holds.fit bad.bad in
+      let ends = same_end_of first at it.gate bad.groups it.groups bad.holds.holds it.holds.holds same in
+      it.closed (ap (slice_index log) ends ∙ bad_is_open at bad.bad))
       (λ (b : GoesFurther it.groups bad.groups (drop it.gate log) (drop at log)). closed_ends b)
       (one_goes_further bad.groups it.groups (drop at log) (drop it.gate log) bad.holds.holds.each it.holds.holds.each (sym bad.holds.holds.text ∙ it.holds.holds.text))
     where
@@ -124,9 +124,9 @@ module _ (defs : Defs) (log : List ℕ) where
   one_first_bad first at other a b =
       ⊎_elim
       (λ (more : GoesFurther a.groups b.groups (drop at log) (drop other log)).
-          same_end_of first at other a.groups b.groups a.holds.holds b.holds.holds (further_not_bad at a.groups b.groups (drop other log) more b.holds.fit a.bad))
+      same_end_of first at other a.groups b.groups a.holds.holds b.holds.holds (further_not_bad at a.groups b.groups (drop other log) more b.holds.fit a.bad))
       (λ (more : GoesFurther b.groups a.groups (drop other log) (drop at log)).
-          sym (same_end_of first other at b.groups a.groups b.holds.holds a.holds.holds (further_not_bad other b.groups a.groups (drop at log) more a.holds.fit b.bad)))
+      sym (same_end_of first other at b.groups a.groups b.holds.holds a.holds.holds (further_not_bad other b.groups a.groups (drop at log) more a.holds.fit b.bad)))
       (one_goes_further a.groups b.groups (drop at log) (drop other log) a.holds.holds.each b.holds.holds.each (sym a.holds.holds.text ∙ b.holds.holds.text))
 
 -- ---- of a sound log
