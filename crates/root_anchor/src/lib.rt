@@ -1,0 +1,8 @@
+//! The roots of an anchor, as the elements of an area hold them.
+#![tactic(auto)]
+
+mod fault;
+mod putting;
+mod standing;
+
+pub use fault::AnchorFault;
