@@ -11,9 +11,9 @@ use Rattle.ci_space.proofs.Tilings.{size-bounds}
 use Rattle.ci_space.proofs.Standing.{used-stands}
 use Rattle.ci_space.proofs.Empties.{tiled-tiles}
 use Rattle.ci_overflow.specs.Places.{first_base, first_independent, uow_of}
-use Rattle.ci_overflow.specs.Lists.{bytes_at, link_of, first_free, IsChain, IsInOrder}
-use Rattle.ci_overflow.specs.Rooms.{places, AreFull, KeepsUsed, OnlyOneChanges, IsPut, TakesAt, AreTried, ChangesLink, ChangesEnds, KeepsEnds, KeepsButLink, Joins, JoinsFree, JoinsNew, JoinsNext, FindsRoom}
-use Rattle.ci_overflow.proofs.Joins.{base-before}
+use Rattle.ci_overflow.specs.Lists.{bytes_at, link_of, first_free, IsChain, IsInPlace, IsInOrder}
+use Rattle.ci_overflow.specs.Rooms.{places, AreFull, KeepsUsed, OnlyOneChanges, IsPut, TakesAt, AreTried, ChangesLink, ChangesEnds, KeepsEnds, KeepsButLink, KeepsRoots, Joins, JoinsFree, JoinsNew, JoinsNext, FindsRoom}
+use Rattle.ci_overflow.proofs.Joins.{base-before, keeps-head, root-zero, kind-behind}
 
 pub same_or : (a b : ℕ) → (a ≡ b) ⊎ (a ≢ b)
 same_or a b = elim (cases_lt a b) as (λ _. (a ≡ b) ⊎ (a ≢ b)) [
@@ -37,6 +37,16 @@ head_link old new link e = e ∙ ap (λ (l : ℕ). (let h : Head = record old { 
 but-link-same : (old new : List ℕ) → new ≡ old → KeepsButLink old new
 but-link-same old new e = record { rest = ap (λ xs. drop 32 xs) e; head = ap head_of e ∙ head_but (head_of old) (head_of new) (ap head_of e) }
 
+-- a root anchor point that stays
+pub root-same : (old new : List ℕ) → head_of new ≡ head_of old → (head_of new).root ≡ (head_of old).root
+root-same old new e = ap (λ (h : Head). h.root) e
+
+pub root_at : (old new : List (List ℕ)) (ci other : ℕ) → other ≡ ci → (head_of (bytes_at new ci)).root ≡ (head_of (bytes_at old ci)).root → (head_of (bytes_at new other)).root ≡ (head_of (bytes_at old other)).root
+root_at old new ci other e h = let P : ℕ → Type 0 = λ d. (head_of (bytes_at new d)).root ≡ (head_of (bytes_at old d)).root in subst P (sym e) h
+
+pub root-known : (bytes : List ℕ) (head : Head) → head_of bytes ≡ head → (head_of bytes).root ≡ head.root
+root-known bytes head e = ap (λ (h : Head). h.root) e
+
 pub control-first : (shape : Shape) (area : List (List ℕ)) → IsInOrder shape area → kind_of (bytes_at area 0) ≡ 1
 control-first shape area o = (o.in_place 0 (omega (arith, o.whole))).is_kind
 
@@ -57,6 +67,11 @@ found-standing shape old new anchor n room o u f =
       named = λ other _ _ h. a.others other h;
       ends = ends-same (bytes_at old 0) (bytes_at new 0) (a.others 0 z);
       base = λ h. but-link-same (bytes_at old (first_base shape (uow_of shape anchor))) (bytes_at new (first_base shape (uow_of shape anchor))) (a.others (first_base shape (uow_of shape anchor)) h);
+      roots = λ other. elim (same_or other room.0) as (λ _. (head_of (bytes_at new other)).root ≡ (head_of (bytes_at old other)).root) [
+        | inl e ↦ root_at old new room.0 other e (root-same (bytes_at old room.0) (bytes_at new room.0) (keeps-head (bytes_at old room.0) (bytes_at new room.0) a.head))
+        | inr h ↦ root-same (bytes_at old other) (bytes_at new other) (ap head_of (a.others other h))
+      ];
+      longer = omega (arith, a.same_number);
     }
 
 -- nothing is used past the end of an area, nor in an empty interval
@@ -79,11 +94,12 @@ pub record Changes (shape : Shape) (uow : ℕ) (old new : List (List ℕ)) (ci a
   pub named : (other : ℕ) → other ≢ 0 → other ≢ first_base shape uow → other ≢ ci → bytes_at new other ≡ bytes_at old other
   pub ends : KeepsEnds (bytes_at old 0) (bytes_at new 0)
   pub base : KeepsButLink (bytes_at old (first_base shape uow)) (bytes_at new (first_base shape uow))
+  pub roots : KeepsRoots old new
 
 pub changes : (shape : Shape) (uow ci n at number first : ℕ) (old g m new : List (List ℕ)) (control bytes : List ℕ) → uow < shape.uows → 0 < shape.base → first_independent shape ≤ ci
     → ((other : ℕ) → other ≢ ci → bytes_at g other ≡ bytes_at old other) → ChangesEnds (bytes_at old 0) control number first → IsPut g m 0 control → Joins shape uow m new ci bytes n at
-    → OthersStay (bytes_at old ci) (bytes_at new ci) at → Changes shape uow old new ci at
-changes shape uow ci n at number first old g m new control bytes u b l s e p j h =
+    → OthersStay (bytes_at old ci) (bytes_at new ci) at → (head_of (bytes_at old ci)).root ≡ (0, 0) → Changes shape uow old new ci at
+changes shape uow ci n at number first old g m new control bytes u b l s e p j h r =
     let behind : first_base shape uow < first_independent shape = base-before shape uow u b in
     let zf : 0 ≢ first_base shape uow = λ x. omega (arith, x) in
     let zc : 0 ≢ ci = λ x. omega (arith, x, l, behind) in
@@ -111,13 +127,26 @@ changes shape uow ci n at number first old g m new control bytes u b l s e p j h
         head = rw (← ez) at e.head;
       };
       base = record { rest = k.rest; head = head_link (head_of (bytes_at old (first_base shape uow))) (head_of (bytes_at new (first_base shape uow))) ci k.head };
+      roots = λ other. elim (same_or other 0) as (λ _. (head_of (bytes_at new other)).root ≡ (head_of (bytes_at old other)).root) [
+        | inl y ↦ root_at old new 0 other y (root-same (bytes_at old 0) (bytes_at new 0) (ap head_of ez ∙ keeps-head (bytes_at old 0) control e.head))
+        | inr y ↦ elim (same_or other (first_base shape uow)) as (λ _. (head_of (bytes_at new other)).root ≡ (head_of (bytes_at old other)).root) [
+          | inl z ↦ root_at old new (first_base shape uow) other z (root-known (bytes_at new (first_base shape uow)) _ k.head)
+          | inr z ↦ elim (same_or other ci) as (λ _. (head_of (bytes_at new other)).root ≡ (head_of (bytes_at old other)).root) [
+            | inl x ↦ root_at old new ci other x (root-known (bytes_at new ci) _ j.head ∙ sym r)
+            | inr x ↦ root-same (bytes_at old other) (bytes_at new other) (ap head_of (named other y z x))
+          ]
+        ]
+      ];
     }
 
-found_free : (shape : Shape) (old new : List (List ℕ)) (anchor n : ℕ) (room : ℕ × ℕ) → uow_of shape anchor < shape.uows → 0 < shape.base
+found_free : (shape : Shape) (old new : List (List ℕ)) (anchor n : ℕ) (room : ℕ × ℕ) → IsInOrder shape old → uow_of shape anchor < shape.uows → 0 < shape.base
     → (shared : List ℕ) → IsChain old (link_of (bytes_at old (first_base shape (uow_of shape anchor)))) shared → AreFull old n (places shape anchor shared) → first_free old ≢ 0
     → JoinsFree shape (uow_of shape anchor) old new n room → FindsRoom shape old new anchor n room
-found_free shape old new anchor n room u b shared c f z j =
-    let w : Changes shape (uow_of shape anchor) old new room.0 room.1 = changes shape (uow_of shape anchor) room.0 n room.1 _ _ old old j.middle new j.control _ u b j.from (λ other x. refl) j.ends j.put j.joins j.joins.takes.others in
+found_free shape old new anchor n room o u b shared c f z j =
+    let p : IsInPlace shape old room.0 = o.in_place room.0 j.below in
+    let k : kind_of (bytes_at old room.0) ≡ 5 = p.is_kind ∙ kind-behind shape room.0 j.from in
+    let r : (head_of (bytes_at old room.0)).root ≡ (0, 0) = root-zero (bytes_at old room.0) p.is_interval.tiles.head (λ e. omega (arith, k, e)) in
+    let w : Changes shape (uow_of shape anchor) old new room.0 room.1 = changes shape (uow_of shape anchor) room.0 n room.1 _ _ old old j.middle new j.control _ u b j.from (λ other x. refl) j.ends j.put j.joins j.joins.takes.others r in
     record {
       place = record { shared = shared; is_chain = c; is_first = inr (f, inl ((λ e. z (sym j.is_first ∙ e)), j.is_first)) };
       has_room = j.joins.takes.room;
@@ -126,6 +155,8 @@ found_free shape old new anchor n room u b shared c f z j =
       named = w.named;
       ends = w.ends;
       base = λ _. w.base;
+      roots = w.roots;
+      longer = omega (arith, j.joins.same_number, j.put.same_number);
     }
 
 found_new : (shape : Shape) (old new : List (List ℕ)) (anchor n : ℕ) (room : ℕ × ℕ) → uow_of shape anchor < shape.uows → 0 < shape.base
@@ -138,7 +169,7 @@ found_new shape old new anchor n room u b shared c f z j =
       none_comes = λ place segment content y x. absurd (none_empty j.size place segment content j.is_size (j.joins.takes.others.none_comes place segment content y x));
     } in
     let s : (other : ℕ) → other ≢ room.0 → bytes_at j.grown other ≡ bytes_at old other = λ other x. j.grows.others other (λ e. x (e ∙ sym j.is_last)) in
-    let w : Changes shape (uow_of shape anchor) old new room.0 room.1 = changes shape (uow_of shape anchor) room.0 n room.1 _ _ old j.grown j.middle new j.control _ u b j.from s j.ends j.put j.joins h in
+    let w : Changes shape (uow_of shape anchor) old new room.0 room.1 = changes shape (uow_of shape anchor) room.0 n room.1 _ _ old j.grown j.middle new j.control _ u b j.from s j.ends j.put j.joins h (ap (λ (xs : List ℕ). (head_of xs).root) past) in
     record {
       place = record { shared = shared; is_chain = c; is_first = inr (f, inr (z, j.is_last)) };
       has_room = j.joins.takes.room;
@@ -147,6 +178,8 @@ found_new shape old new anchor n room u b shared c f z j =
       named = w.named;
       ends = w.ends;
       base = λ _. w.base;
+      roots = w.roots;
+      longer = omega (arith, j.joins.same_number, j.put.same_number, j.grows.one_more);
     }
 
 pub found-next : (shape : Shape) (old m new : List (List ℕ)) (anchor n : ℕ) (room : ℕ × ℕ) → IsInOrder shape old → uow_of shape anchor < shape.uows → 0 < shape.base
@@ -160,7 +193,7 @@ found-next shape old m new anchor n room o u b f j =
     let k : JoinsNext shape (uow_of shape anchor) old new n room = rw e at j in
     elim (same_or (first_free old) 0) as (λ _. FindsRoom shape old new anchor n room) [
       | inl z ↦ found_new shape old new anchor n room u b shared c t.none.0 z (k.from_end z)
-      | inr z ↦ found_free shape old new anchor n room u b shared c t.none.0 z (k.from_free z)
+      | inr z ↦ found_free shape old new anchor n room o u b shared c t.none.0 z (k.from_free z)
     ]
 
 pub base-some : (a u b : ℕ) → a < u * b → 0 < b

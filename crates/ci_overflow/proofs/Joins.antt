@@ -5,13 +5,13 @@ use Rattle.std.proofs.lemmas.Nat.{mul-le}
 use Rattle.ci_space.specs.declared.intervals.Shape.{Shape}
 use Rattle.ci_space.specs.declared.head.Head.{Head}
 use Rattle.ci_space.specs.Element.{Element}
-use Rattle.ci_space.specs.Interval.{kind_of, Tiles, HasRoom, IsUsed, IsInterval, OthersStay, Keeps, Takes, IsEmpty, is_size, empty_bytes}
+use Rattle.ci_space.specs.Interval.{kind_of, Tiles, HasRoom, IsUsed, IsInterval, IsHead, OthersStay, Keeps, Takes, IsEmpty, is_size, empty_bytes}
 use Rattle.ci_space.specs.Head.{head_of, ends_of}
 use Rattle.ci_space.proofs.Heads.{ends-tiles}
 use Rattle.ci_space.proofs.Places.{big_from-keeps}
 use Rattle.ci_space.proofs.Standing.{stands-used, used-stands}
-use Rattle.ci_overflow.specs.Places.{first_base, first_independent}
-use Rattle.ci_overflow.specs.Lists.{bytes_at, link_of, counted, first_free}
+use Rattle.ci_overflow.specs.Places.{first_base, first_independent, kind_at}
+use Rattle.ci_overflow.specs.Lists.{bytes_at, link_of, owner_of, counted, first_free}
 use Rattle.ci_overflow.specs.Rooms.{KeepsUsed, TakesIn, IsPut, ChangesLink, ChangesEnds, PutsEnds, Joins, IsGrown, JoinsFree, JoinsNew, JoinsNext}
 
 -- an interval whose elements stay
@@ -48,6 +48,22 @@ keeps-head old new k =
     (big_from-keeps 2 12 old new (λ i x y. k i (omega arith) (omega arith)))
     (big_from-keeps 8 16 old new (λ i x y. k i (omega arith) (omega arith)))
     (big_from-keeps 8 24 old new (λ i x y. k i (omega arith) (omega arith)))
+
+-- what an interval's kind has no use for is 0
+root_pair : (a b : ℕ) → a ≡ 0 → b ≡ 0 → (let p : ℕ × ℕ = (a, b) in p) ≡ (0, 0)
+root_pair a b e f = rw (e, f) refl
+
+pub root-zero : (bytes : List ℕ) → IsHead bytes → kind_of bytes ≢ 2 → (head_of bytes).root ≡ (0, 0)
+root-zero bytes h n =
+    root_pair (head_of bytes).root.0 (head_of bytes).root.1 (big_from-keeps 8 4 [] bytes (λ k x y. h.root n k x (omega arith))) (big_from-keeps 2 12 [] bytes (λ k x y. h.root n k (omega arith) y))
+
+pub link-zero : (bytes : List ℕ) → IsHead bytes → kind_of bytes ≢ 2 → kind_of bytes ≢ 5 → link_of bytes ≡ 0
+unfolding link_of
+link-zero bytes h n m = big_from-keeps 8 16 [] bytes (h.link n m)
+
+pub owner-zero : (bytes : List ℕ) → IsHead bytes → kind_of bytes ≢ 5 → owner_of bytes ≡ 0
+unfolding owner_of
+owner-zero bytes h n = big_from-keeps 8 24 [] bytes (h.owner n)
 
 -- a link that changes
 pub changes-link : (old new : List ℕ) (link : ℕ) (head : Head) → IsInterval old → head ≡ head_of old → head_of new ≡ (record head { link = link }) → ((es : List Element) → Tiles old es → Tiles new es) → drop 32 new ≡ drop 32 old
@@ -131,6 +147,9 @@ base-before shape uow u b =
     let m : (uow + 1) * (shape.base + shape.overflow) ≤ shape.uows * (shape.base + shape.overflow) = mul-le (uow + 1) (shape.base + shape.overflow) shape.uows (shape.base + shape.overflow) (omega arith) (omega arith) in
     let e : (uow + 1) * (shape.base + shape.overflow) ≡ uow * (shape.base + shape.overflow) + (shape.base + shape.overflow) = grind arith in
     omega (arith, m, e, b)
+
+pub kind-behind : (shape : Shape) (ci : ℕ) → first_independent shape ≤ ci → kind_at shape ci ≡ 5
+kind-behind shape ci l = grind arith
 
 -- the first of the free chain
 first_free_is : (area : List (List ℕ)) (control ends : List ℕ) → control ≡ bytes_at area 0 → ends ≡ ends_of control → slice_index ends 3 ≡ first_free area

@@ -6,11 +6,11 @@ use Rattle.ci_space.specs.declared.intervals.Shape.{Shape}
 use Rattle.ci_space.specs.declared.head.Head.{Head}
 use Rattle.ci_space.specs.Interval.{kind_of, IsInterval, IsEmpty, Keeps}
 use Rattle.ci_space.specs.Head.{head_of, ends_of}
-use Rattle.ci_overflow.specs.Places.{first_base, first_independent, uow_of, kind_at}
+use Rattle.ci_overflow.specs.Places.{first_base, first_independent, uow_of}
 use Rattle.ci_overflow.specs.Lists.{bytes_at, link_of, owner_of, counted, first_free, IsChain, Holds, IsOwned, IsListOf, HasList, IsInPlace, IsInOrder}
 use Rattle.ci_overflow.specs.Rooms.{places, AreTried, TakesAt, ChangesLink, ChangesEnds, JoinsFree, JoinsNew, JoinsNext}
 use Rattle.ci_overflow.proofs.Tries.{keeps-link, keeps-owner}
-use Rattle.ci_overflow.proofs.Joins.{base-before}
+use Rattle.ci_overflow.proofs.Joins.{base-before, kind-behind}
 use Rattle.ci_overflow.proofs.Finds.{same_or, control-first, some_given}
 
 -- a chain depends on the links of its intervals alone
@@ -92,9 +92,6 @@ owner-known bytes head e = ap (λ (h : Head). h.owner) e
 
 kind-known : (bytes : List ℕ) (head : Head) → head_of bytes ≡ head → kind_of bytes ≡ head.kind
 kind-known bytes head e = ap (λ (h : Head). h.kind) e
-
-kind-behind : (shape : Shape) (ci : ℕ) → first_independent shape ≤ ci → kind_at shape ci ≡ 5
-kind-behind shape ci l = grind arith
 
 bases-apart : (shape : Shape) (v u : ℕ) → 0 < shape.base → v ≢ u → first_base shape v ≢ first_base shape u
 bases-apart shape v u b n e = elim (cases_lt v u) as (λ _. ⊥) [

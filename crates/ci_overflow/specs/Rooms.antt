@@ -171,6 +171,10 @@ pub record KeepsButLink (old new : List ℕ) : Type 0 where
   pub rest : drop 32 new ≡ drop 32 old
   pub head : head_of new ≡ (record (head_of old) { link = (head_of new).link })
 
+-- the root anchor points of all intervals stay
+abbrev pub KeepsRoots : List (List ℕ) → List (List ℕ) → Type 0
+KeepsRoots old new = (other : ℕ) → (head_of (bytes_at new other)).root ≡ (head_of (bytes_at old other)).root
+
 -- a new element of `n` bytes or more is there
 pub record FindsRoom (shape : Shape) (old new : List (List ℕ)) (anchor n : ℕ) (room : ℕ × ℕ) : Type 0 where
   -- its interval is the first in the stated order with room
@@ -185,3 +189,7 @@ pub record FindsRoom (shape : Shape) (old new : List (List ℕ)) (anchor n : ℕ
   -- control keeps its first two numbers, and the first base interval all but its link
   pub ends : KeepsEnds (bytes_at old 0) (bytes_at new 0)
   pub base : first_base shape (uow_of shape anchor) ≢ room.0 → KeepsButLink (bytes_at old (first_base shape (uow_of shape anchor))) (bytes_at new (first_base shape (uow_of shape anchor)))
+  -- the root anchor points stay
+  pub roots : KeepsRoots old new
+  -- no interval goes away
+  pub longer : length old ≤ length new
