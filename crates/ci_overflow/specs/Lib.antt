@@ -1,3 +1,5 @@
 pub mod Places
 pub mod Lists
 pub mod Rooms
+pub mod Freed
+pub mod Faults
