@@ -1,7 +1,9 @@
 //! The roots of an anchor, as the elements of an area hold them.
 #![tactic(auto)]
 
+mod building;
 mod fault;
+mod plan;
 mod putting;
 mod standing;
 
