@@ -3,6 +3,7 @@
 
 mod fault;
 mod putting;
+mod spelling;
 mod standing;
 
 pub use fault::AnchorFault;
