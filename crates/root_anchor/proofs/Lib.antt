@@ -1,3 +1,5 @@
 pub mod Apart
 pub mod Exchanging
 pub mod Steps
+pub mod PutLemmas
+pub mod SpellingLemmas

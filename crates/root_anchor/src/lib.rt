@@ -5,6 +5,7 @@ mod building;
 mod fault;
 mod plan;
 mod putting;
+mod spelling;
 mod standing;
 
 pub use fault::AnchorFault;
