@@ -1,2 +1,3 @@
 pub mod Members
 pub mod Framing
+pub mod OneChain
