@@ -1,3 +1,4 @@
 pub mod Members
 pub mod Framing
 pub mod OneChain
+pub mod Sound
