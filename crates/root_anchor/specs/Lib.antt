@@ -5,3 +5,4 @@ pub mod Formed
 pub mod Stored
 pub mod Puts
 pub mod Standing
+pub mod Reading
