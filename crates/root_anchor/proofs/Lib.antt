@@ -3,3 +3,7 @@ pub mod Exchanging
 pub mod Steps
 pub mod PutLemmas
 pub mod SpellingLemmas
+pub mod Members
+pub mod Framing
+pub mod OneChain
+pub mod Sound

@@ -7,3 +7,4 @@ pub mod Puts
 pub mod Standing
 pub mod Rebuilding
 pub mod Spelling
+pub mod Reading

@@ -2,6 +2,7 @@
 #![tactic(auto)]
 
 mod building;
+mod element;
 mod fault;
 mod plan;
 mod putting;
