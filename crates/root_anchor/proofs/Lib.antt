@@ -7,3 +7,4 @@ pub mod Members
 pub mod Framing
 pub mod OneChain
 pub mod Sound
+pub mod Rebuilt

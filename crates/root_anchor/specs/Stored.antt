@@ -12,7 +12,7 @@ use Rattle.fp_model.specs.Order.{child_types}
 use Rattle.fp_model.specs.Shape.{has_length, are_rows, seen_as}
 use Rattle.fp_model.specs.WellFormed.{HavePlaces, EachFits, has_sequential}
 use Rattle.root_anchor.specs.Elements.{Pointer}
-use Rattle.root_anchor.specs.Chains.{IsChain}
+use Rattle.root_anchor.specs.Chains.{IsChain, anchor_count}
 
 -- types of a database, each of which fits into an empty interval of this size
 pub record AreTypes (size : ℕ) (types : List SegDef) : Type 0 where
@@ -38,7 +38,7 @@ are_storable types roots = list_all (is_storable types) roots
 -- every other anchor keeps its roots, and the elements that they stand in
 abbrev pub OthersKeep : Shape → List SegDef → List (List ℕ) → List (List ℕ) → ℕ → Type 0
 OthersKeep shape types old new anchor =
-    (other : ℕ) (roots : List Root) (elements : List Pointer) → ¬ (other ≡ anchor) → IsChain shape types old other roots elements → IsChain shape types new other roots elements
+    (other : ℕ) (roots : List Root) (elements : List Pointer) → other < anchor_count shape → ¬ (other ≡ anchor) → IsChain shape types old other roots elements → IsChain shape types new other roots elements
 
 -- control keeps begin and end, and the sequential intervals stay
 pub record KeepsSequential (shape : Shape) (old new : List (List ℕ)) : Type 0 where
