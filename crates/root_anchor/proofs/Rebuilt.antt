@@ -14,8 +14,8 @@ use Rattle.root_anchor.specs.Formed.{IsFormed, HasChain, Meets, IsMet}
 use Rattle.root_anchor.specs.Puts.{PutsRoot}
 use Rattle.root_anchor.specs.Stored.{KeepsSequential, OthersKeep}
 use Rattle.root_anchor.specs.Rebuilding.{Exchanges, RootsStand, met_after}
-use Rattle.root_anchor.proofs.Apart.{contains-none, holds_or, met-cases}
-use Rattle.root_anchor.proofs.Exchanging.{sequential-joined, used-stays}
+use Rattle.root_anchor.proofs.Apart.{contains-none, holds_or, met-cases, met-now}
+use Rattle.root_anchor.proofs.Exchanging.{sequential-joined}
 use Rattle.root_anchor.proofs.Framing.{Stay, roots_stay}
 use Rattle.root_anchor.proofs.OneChain.{one_chain, chain_has, HasSome}
 use Rattle.root_anchor.proofs.PutLemmas.{base_before, root_keeps_order, root_keeps_used, root_keeps_segment, root_is_put, root_keeps_roots, root_keeps_sequential, segment_stays}
@@ -122,7 +122,24 @@ module _ (shape : Shape) (types : List SegDef) (old middle new : List (List ℕ)
     ]
 
     each-met : (at : Pointer) → IsUsed (bytes_at new at.0) at.1 → IsMet shape types new at
-    each-met = ?
+    each-met at u =
+        let f : (type : ℕ) (content : List ℕ) → HasUsed (bytes_at new at.0) at.1 type content → HasUsed (bytes_at middle at.0) at.1 type content =
+            λ type content. (root_keeps_used shape middle new anchor first it.put at.0).none_comes at.1 type content
+        in
+        elim (holds_or has at) as (λ _. IsMet shape types new at) [
+          | inl c ↦ record { anchor = anchor; below = it.below; meets = record { roots = roots; elements = met_after has []; is_chain = new-chain; met = met-now has [] at c } }
+          | inr n ↦
+              (let b = it.exchange.none_comes at u.segment u.content n (f u.segment u.content u.used) in
+              let m : IsMet shape types old at = formed.each_met at (record { segment = u.segment; content = u.content; used = b.1 }) in
+              elim (same_or m.anchor anchor) as (λ _. IsMet shape types new at) [
+                | inl e ↦ (let P : ℕ → Type 0 = λ c. Meets shape types old c at in absurd (b.0 (met-had at (subst P e m.meets))))
+                | inr d ↦ record {
+                  anchor = m.anchor;
+                  below = m.below;
+                  meets = record { roots = m.meets.roots; elements = m.meets.elements; is_chain = others-keep m.anchor m.meets.roots m.meets.elements m.below d m.meets.is_chain; met = m.meets.met };
+                }
+              ])
+        ]
 
     pub new-formed : IsFormed shape types new
     new-formed = record { in_order = new-order; chains = new-chains; apart = new-apart; each_met = each-met }
