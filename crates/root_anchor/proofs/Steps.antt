@@ -1,5 +1,5 @@
 -- What giving back an element, finding room and putting a segment exchange.
-use Rattle.std.proofs.Common.{◌≡◌, ◌≢◌, ℕ, zero, suc, ◌+◌, ◌-◌, ◌*◌, ◌%◌, ◌<◌, ◌≤◌, ◌⊎◌, inl, inr, Bool, true, false, IsTrue, List, [], ◌∷◌, ◌++◌, length, slice_index, Contains, nat_lt, ◌==◌, if◌then◌else◌, refl, sym, ap, ◌∙◌, subst, arith}
+use Rattle.std.proofs.Common.{◌≡◌, ◌≢◌, ℕ, zero, suc, ◌+◌, ◌-◌, ◌*◌, ◌%◌, ◌<◌, ◌≤◌, ◌⊎◌, inl, inr, Bool, true, false, IsTrue, List, [], ◌∷◌, ◌++◌, length, slice_index, Contains, Option, Some, None, nat_lt, ◌==◌, if◌then◌else◌, refl, sym, ap, ◌∙◌, subst, arith}
 use Rattle.std.proofs.lemmas.List.{get_or_past}
 use Rattle.std.proofs.lemmas.Bool.{cases_lt}
 use Rattle.std.proofs.lemmas.Nat.{mul-le}
@@ -12,13 +12,15 @@ use Rattle.ci_overflow.specs.Places.{first_base, first_sequential, kind_at, uow_
 use Rattle.ci_overflow.specs.Lists.{bytes_at, IsInOrder}
 use Rattle.ci_overflow.specs.Rooms.{KeepsUsed, OnlyOneChanges, KeepsEnds, FindsRoom}
 use Rattle.ci_overflow.specs.Freed.{GivesBack}
-use Rattle.ci_overflow.proofs.Finds.{same_or, control-first}
+use Rattle.ci_overflow.proofs.Finds.{same_or, control-first, base-some}
 use Rattle.ci_overflow.proofs.Joins.{keeps-head}
 use Rattle.fp_model.specs.declared.definitions.SegDef.{SegDef}
-use Rattle.root_anchor.specs.Elements.{Pointer, Segment}
+use Rattle.root_anchor.specs.Elements.{Pointer, Segment, content_length}
 use Rattle.root_anchor.specs.Puts.{PutsSegment}
 use Rattle.root_anchor.specs.Stored.{KeepsSequential}
-use Rattle.root_anchor.specs.Rebuilding.{Exchanges}
+use Rattle.root_anchor.specs.Rebuilding.{Exchanges, HaveRoom, TakesPlace}
+use Rattle.root_anchor.specs.Chains.{anchor_count}
+use Rattle.root_anchor.proofs.PutLemmas.{uow_below}
 use Rattle.root_anchor.proofs.Apart.{contains-none, contains-here, contains-one, pair_same}
 
 -- ---- where elements stand
@@ -147,3 +149,33 @@ puts-segment shape types old new type at s p i o u = record {
     intervals = λ ci k. p.elsewhere ci (used-not-sequential shape old at ci i u k);
   };
 }
+
+-- ---- a place for a segment
+
+pub keeps-place : (shape : Shape) (types : List SegDef) (area : List (List ℕ)) (type : ℕ) (planned : Option Pointer) (at : Pointer) → IsInOrder shape area → planned ≡ Some at → HaveRoom types area type planned
+    → TakesPlace shape types area area type planned at
+keeps-place shape types area type planned at o e h =
+    let P : Option Pointer → Type 0 = HaveRoom types area type in
+    let r : HasRoom (bytes_at area at.0) at.1 (content_length types type) = subst P e h in
+    let Q : Option Pointer → Type 0 = λ p. TakesPlace shape types area area type p at in
+    subst Q (sym e) (record {
+      exchange = record {
+        in_order = o;
+        stay = λ p t content n u. u;
+        none_comes = λ p t content n u. (n, u);
+        fresh = λ p c. inl c;
+        used = λ p c. is_at area p at (contains-one at p c) (record { segment = r.segment; content = r.content; used = r.used });
+        once = (contains-none at, tt);
+        roots = λ ci. refl;
+        sequential = record { ends = record { begin = refl; end = refl; head = λ k x y. refl }; intervals = λ ci k. refl };
+      };
+      room = r;
+    })
+
+pub finds-place : (shape : Shape) (types : List SegDef) (old new : List (List ℕ)) (type anchor n : ℕ) (planned : Option Pointer) (at : Pointer) → planned ≡ None → n ≡ content_length types type
+    → FindsRoom shape old new anchor n at → IsInOrder shape new → anchor < anchor_count shape
+    → TakesPlace shape types old new type planned at
+finds-place shape types old new type anchor n planned at e m f o b =
+    let Q : Option Pointer → Type 0 = λ p. TakesPlace shape types old new type p at in
+    let R : ℕ → Type 0 = λ n. HasRoom (bytes_at new at.0) at.1 n in
+    subst Q (sym e) (record { exchange = finds-room shape old new anchor n at f o (uow_below shape anchor b) (base-some anchor shape.uows shape.base b); room = subst R m f.has_room })

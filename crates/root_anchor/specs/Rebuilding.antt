@@ -47,10 +47,13 @@ reserved (p ∷ plan) = and_place p.at (reserved plan)
 abbrev pub types_of : List Planned → List ℕ
 types_of plan = map (λ p. p.segment) plan
 
--- each reserved place is a used element with room for the type that it is reserved for
+-- a place that is planned for a type is a used element with room for it
+abbrev pub HaveRoom : List SegDef → List (List ℕ) → ℕ → Option Pointer → Type 0
+HaveRoom types area type planned = IfSome planned (λ at. HasRoom (bytes_at area at.0) at.1 (content_length types type))
+
 abbrev pub HaveRooms : List SegDef → List (List ℕ) → List Planned → Type 0
 HaveRooms types area [] = ⊤
-HaveRooms types area (p ∷ plan) = IfSome p.at (λ at. HasRoom (bytes_at area at.0) at.1 (content_length types p.segment)) × HaveRooms types area plan
+HaveRooms types area (p ∷ plan) = HaveRoom types area p.segment p.at × HaveRooms types area plan
 
 -- places reserved, each for one segment
 pub record AreReserved (types : List SegDef) (area : List (List ℕ)) (plan : List Planned) : Type 0 where
@@ -114,6 +117,16 @@ pub record IsPlanned (shape : Shape) (types : List SegDef) (area : List (List �
   pub parts : plan ≡ before ++ used
   pub kinds_are : types_of used ≡ kinds
   pub are_reserved : AreReserved types area used
+
+-- the place that was planned is given, or one that is new, with room for the type
+pub record TakesPlace (shape : Shape) (types : List SegDef) (old new : List (List ℕ)) (type : ℕ) (planned : Option Pointer) (at : Pointer) : Type 0 where
+  pub exchange : Exchanges shape old new (and_place planned []) (at ∷ [])
+  pub room : HasRoom (bytes_at new at.0) at.1 (content_length types type)
+
+-- a segment is put into the place that was planned, or into a new one
+pub record PlacesSegment (shape : Shape) (types : List SegDef) (old new : List (List ℕ)) (type : ℕ) (planned : Option Pointer) (at : Pointer) (segment : Segment) : Type 0 where
+  pub exchange : Exchanges shape old new (and_place planned []) (at ∷ [])
+  pub has : HasSegment types new type at segment
 
 -- rows are built in the places that were reserved for them, and in new ones
 pub record BuildsRows (shape : Shape) (types : List SegDef) (old new : List (List ℕ)) (used : List Planned) (kinds : List ℕ) (firsts : List Pointer) (rows : List (List Node)) : Type 0 where

@@ -1,24 +1,28 @@
 //! An anchor's segments are built anew, in the places that a plan has for them and in new ones.
 //!
-//! A row is built from its last segment to its first, what is below a segment before the segment itself: so each pointer is
-//! known when it is written. The plan is in hierarchical order, and is used up from its end.
+//! A row is built from its last segment to its first, and what is below a segment before the segment itself: so each
+//! pointer is known when it is written. The plan is in hierarchical order, and is used up from its end.
 
-ghost use Rattle.std.specs.Prelude.{◌≡◌, ◌≢◌, ◌<◌, ◌≤◌, ◌++◌, ◌∷◌, [], ℕ, List, Err, IfOk, IsErrOf, length, true};
+ghost use Rattle.std.specs.Prelude.{◌≡◌, ◌≢◌, ◌<◌, ◌≤◌, ◌++◌, ◌∷◌, [], ℕ, List, Err, IfOk, OnOk, IsErrOf, length, map, true, false, option_and_then, Some};
 ghost use Rattle.ci_space.specs.Calls.{Rose, GoesOn};
-ghost use Rattle.ci_overflow.specs.Lists.{IsInOrder};
+ghost use Rattle.ci_space.specs.Interval.{HasRoom};
+ghost use Rattle.ci_overflow.specs.Lists.{bytes_at, IsInOrder};
 ghost use Rattle.fp_model.specs.Order.{child_types};
-ghost use Rattle.root_anchor.specs.Elements.{has_serial};
-ghost use Rattle.root_anchor.specs.Chains.{anchor_count};
-ghost use Rattle.root_anchor.specs.Stored.{AreTypes};
-ghost use Rattle.root_anchor.specs.Rebuilding.{IsDirect, IsPlanned, BuildsSegment, BuildsRows, BuildsRoots, types_of_row, types_of_rows, types_of_roots, types_of_segment};
+ghost use Rattle.fp_model.specs.Shape.{are_rows, is_row, seen_as, has_length};
+ghost use Rattle.root_anchor.specs.Elements.{HasSegment, content_length, has_serial, segment_length};
+ghost use Rattle.root_anchor.specs.Chains.{anchor_count, newest};
+ghost use Rattle.root_anchor.specs.Stored.{AreTypes, are_storable, is_newest};
+ghost use Rattle.root_anchor.specs.Rebuilding.{Exchanges, and_place, HaveRoom, TakesPlace, PlacesSegment, IsDirect, IsPlanned, BuildsSegment, BuildsRows, BuildsRoots, types_of_row, types_of_rows, types_of_roots, types_of_segment};
 ghost use Rattle.root_anchor.specs.declared.plan.Planned.{Planned as PlannedOf};
 
+use crate::element::content_length;
 use crate::fault::AnchorFault;
 use crate::plan::Planned;
 use crate::putting::{Saying, put_segment};
 use crate::standing::Pointer;
+use ci_overflow::{SpaceFault, find_room};
 use ci_space::{Intervals, Shape};
-use fp_model::{List, Node, SegDef};
+use fp_model::{Bytes, List, Node, Root, SegDef, SeqItem};
 use std::alloc::Global;
 use std::collections::VecDeque;
 
@@ -27,68 +31,45 @@ use std::collections::VecDeque;
 pub(crate) struct Home<'a> {
     pub(crate) shape: &'a Shape,
     pub(crate) segments: &'a List<SegDef>,
+    /// Counted from 0 within its area.
     pub(crate) anchor: u32,
 }
 
-/// Builds a row of segments of a type, and gives the pointer to the first.
-#[cycle(builds)]
-fn build_row<I: Intervals>(
-    alloc: Global,
-    i: &mut I,
-    home: &Home<'_>,
-    plan: &mut VecDeque<Planned>,
-    segment: u8,
-    row: &List<Node>,
-) -> Result<Pointer, AnchorFault>
-    ensures number { I.number i.old ≤ I.number i.new }
+/// The same fault, of a call on an anchor.
+pub(crate) fn fault_of(fault: SpaceFault) -> AnchorFault
+    ensures damaged { (ci : ℕ) → result ≡ AnchorFault.Damaged ci → fault ≡ SpaceFault.Damaged ci }
+    ensures failed { result ≡ AnchorFault.Failed → fault ≡ SpaceFault.Failed }
 {
-    let mut next = (0, 0);
-    let mut left = row.len();
-    while left > 0 {
-        left -= 1;
-        let node = &row.as_slice()[left];
-        next = build_segment(alloc, i, home, plan, segment, node, next)?;
+    match fault {
+        SpaceFault::Damaged(ci) => AnchorFault::Damaged(ci),
+        SpaceFault::Failed => AnchorFault::Failed,
+        SpaceFault::Memory => AnchorFault::Memory,
     }
-    Ok(next)
 }
 
-#[cycle(builds)]
-fn build_segment<I: Intervals>(
-    alloc: Global,
+/// The place that is planned, or a new element with room for a segment of the type.
+fn place_for<I: Intervals>(
     i: &mut I,
     home: &Home<'_>,
-    plan: &mut VecDeque<Planned>,
     segment: u8,
-    node: &Node,
-    next: Pointer,
+    planned: Option<Pointer>,
 ) -> Result<Pointer, AnchorFault>
+    requires anchor { home.now.anchor < anchor_count home.now.shape.now }
+    requires types { AreTypes (I.size i.old) home.now.segments.now }
+    requires direct { IsDirect home.now.segments.now segment }
+    ensures place { I.told i.old → IsInOrder home.now.shape.now (I.intervals i.old) → HaveRoom home.now.segments.now (I.intervals i.old) segment planned
+        → IfOk result (λ at. TakesPlace home.now.shape.now home.now.segments.now (I.intervals i.old) (I.intervals i.new) segment planned at) }
+    ensures sound { I.told i.old → IsInOrder home.now.shape.now (I.intervals i.old) → (ci : ℕ) → result ≢ Err (AnchorFault.Damaged ci) }
+    ensures failed { IsErrOf result AnchorFault.Failed → Rose (I.faults i.old) (I.faults i.new) }
     ensures number { I.number i.old ≤ I.number i.new }
+    ensures goes_on { GoesOn I.told I.size I.faults I.keeps i.old i.new }
 {
-    let _firsts = build_rows(alloc, i, home, plan, segment, &node.children)?;
-    Ok(next)
-}
-
-#[cycle(builds)]
-fn build_rows<I: Intervals>(
-    alloc: Global,
-    i: &mut I,
-    home: &Home<'_>,
-    plan: &mut VecDeque<Planned>,
-    _segment: u8,
-    rows: &List<List<Node>>,
-) -> Result<Vec<Pointer>, AnchorFault>
-    ensures number { I.number i.old ≤ I.number i.new }
-{
-    let mut firsts = Vec::new(alloc);
-    let mut left = rows.len();
-    while left > 0 {
-        left -= 1;
-        let row = &rows.as_slice()[left];
-        let first = build_row(alloc, i, home, plan, 1, row)?;
-        if firsts.push(first).is_err() {
-            return Err(AnchorFault::Memory);
-        }
+    if let Some(at) = planned {
+        return Ok(at);
     }
-    firsts.reverse();
-    Ok(firsts)
+    let length = content_length(home.segments, segment) as u16;
+    match find_room(i, home.shape, home.anchor, length) {
+        Ok(at) => Ok(at),
+        Err(fault) => Err(fault_of(fault)),
+    }
 }

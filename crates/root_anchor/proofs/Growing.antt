@@ -1,0 +1,281 @@
+-- The loops that build rows and roots from their ends: how far they have come, and one step on.
+use Rattle.std.proofs.Common.{◌≡◌, ◌≢◌, ℕ, zero, suc, ◌+◌, ◌-◌, ◌<◌, ◌≤◌, ◌⊎◌, inl, inr, List, [], ◌∷◌, ◌++◌, length, get_or, take, drop, set, map, flat_map, Contains, refl, sym, ap, ◌∙◌, subst, append_assoc, arith}
+use Rattle.std.proofs.Math.Seq.{take-suc, drop-cons}
+use Rattle.std.proofs.lemmas.List.{append-nil, map-append, drop_all, drop-set, take_all}
+use Rattle.std.proofs.lemmas.Grind.{flat_map-append}
+use Rattle.std.proofs.lemmas.List.Elements.{Contains-append_left, Contains-append_right}
+use Rattle.ci_space.specs.declared.intervals.Shape.{Shape}
+use Rattle.ci_space.specs.Interval.{HasUsed, IsUsed}
+use Rattle.ci_overflow.specs.Lists.{bytes_at, IsInOrder}
+use Rattle.fp_model.specs.declared.definitions.SegDef.{SegDef}
+use Rattle.fp_model.specs.declared.database.Node.{Node, out-Node}
+use Rattle.fp_model.specs.declared.database.Node.TheFolds.{fold_out-Node}
+use Rattle.fp_model.specs.declared.database.Root.{Root}
+use Rattle.fp_model.specs.Order.{child_types}
+use Rattle.root_anchor.specs.Elements.{Pointer, nothing, Segment, HasSegment}
+use Rattle.root_anchor.specs.Chains.{newest}
+use Rattle.root_anchor.specs.Rebuilding.{AreApart, Exchanges, reserved, types_of, IsPlanned, RowsStand, RootsStand, BuildsRows, BuildsRoots, BuildsSegment, types_step, types_below, types_in_rows, types_of_row, types_of_rows, types_of_segment, types_of_roots}
+use Rattle.root_anchor.specs.declared.plan.Planned.{Planned}
+use Rattle.root_anchor.proofs.Apart.{contains-none}
+use Rattle.root_anchor.proofs.PutLemmas.{segment_stays}
+use Rattle.root_anchor.proofs.Planning.{IsLeft, IsNext, IsFurther, next-part, further, none-left, exchange-none, all-left}
+use Rattle.root_anchor.proofs.Rows.{no-rows, row-ends, row-begins, row-before, rows-stay, no-roots, root-begins, roots-stay}
+
+-- ---- the types in one more segment or row
+
+pub types-below : (types : List SegDef) (type : ℕ) (node : Node) → types_below types node type ≡ types_of_segment types type (out-Node node).children
+types-below types type node = ap (λ (f : ℕ → List ℕ). f type) (fold_out-Node (ℕ → List ℕ) (types_step types) node)
+
+one_type : (types : List SegDef) (type : ℕ) (node : Node) → types_of_row types type (node ∷ []) ≡ types_of_segment types type (out-Node node).children
+one_type types type node = append-nil (types_below types node type) ∙ types-below types type node
+
+pub row-types : (types : List SegDef) (type : ℕ) (row : List Node) (k : ℕ) (node : Node) → k < length row → node ≡ get_or row k node
+    → types_of_row types type (take (suc k) row) ≡ types_of_row types type (take k row) ++ types_of_segment types type (out-Node node).children
+row-types types type row k node b e =
+    let t : take (suc k) row ≡ take k row ++ node ∷ [] = take-suc row k node b ∙ ap (λ n. take k row ++ n ∷ []) (sym e) in
+    ap (λ (r : List Node). types_of_row types type r) t
+    ∙ ap (λ (r : List (ℕ → List ℕ)). flat_map (λ node. node type) r) (map-append (types_below types) (take k row) (node ∷ []))
+    ∙ flat_map-append (λ (node : ℕ → List ℕ). node type) (map (types_below types) (take k row)) (map (types_below types) (node ∷ []))
+    ∙ ap (λ xs. types_of_row types type (take k row) ++ xs) (one_type types type node)
+
+in_rows_none : (kinds : List ℕ) → types_in_rows kinds [] ≡ []
+in_rows_none [] = refl
+in_rows_none (k ∷ kinds) = refl
+
+pub rows-types : (types : List SegDef) (kinds : List ℕ) (rows : List (List Node)) (k : ℕ) (row : List Node) → length rows ≡ length kinds → k < length rows → row ≡ get_or rows k row
+    → types_of_rows types (take (suc k) kinds) (take (suc k) rows) ≡ types_of_rows types (take k kinds) (take k rows) ++ types_of_row types (get_or kinds k 0) row
+rows-types types kinds [] k row l b e = absurd (omega (arith, b))
+rows-types types [] (r ∷ rows) k row l b e = absurd (omega (arith, l))
+rows-types types (t ∷ kinds) (r ∷ rows) zero row l b e =
+    ap (λ xs. types_of_row types t r ++ xs) (in_rows_none (take 0 kinds)) ∙ append-nil (types_of_row types t r) ∙ ap (λ x. types_of_row types t x) (sym e)
+rows-types types (t ∷ kinds) (r ∷ rows) (suc k) row l b e =
+    ap (λ xs. types_of_row types t r ++ xs) (rows-types types kinds rows k row (omega (arith, l)) (omega (arith, b)) e)
+    ∙ sym (append_assoc (types_of_row types t r) (types_of_rows types (take k kinds) (take k rows)) (types_of_row types (get_or kinds k 0) row))
+
+pub roots-types : (types : List SegDef) (roots : List Root) (k : ℕ) (root : Root) → k < length roots → root ≡ get_or roots k root
+    → types_of_roots types (take (suc k) roots) ≡ types_of_roots types (take k roots) ++ types_of_segment types 0 root.children
+roots-types types roots k root b e =
+    let t : take (suc k) roots ≡ take k roots ++ root ∷ [] = take-suc roots k root b ∙ ap (λ n. take k roots ++ n ∷ []) (sym e) in
+    ap (λ (r : List Root). types_of_roots types r) t
+    ∙ flat_map-append (λ (root : Root). types_of_segment types 0 root.children) (take k roots) (root ∷ [])
+    ∙ ap (λ xs. types_of_roots types (take k roots) ++ xs) (append-nil (types_of_segment types 0 root.children))
+
+-- ---- a row, from its end
+
+pub record RowDone (shape : Shape) (types : List SegDef) (old now : List (List ℕ)) (plan before used : List Planned) (type : ℕ) (row : List Node) (k : ℕ) (next : Pointer) : Type 0 where
+  pub left : List Planned
+  pub done : List Planned
+  pub rest : IsLeft plan before used left done (types_of_row types type (take k row))
+  pub built : BuildsRows shape types old now done (type ∷ []) (next ∷ []) (drop k row ∷ [])
+
+pub row-none : (shape : Shape) (types : List SegDef) (area : List (List ℕ)) (plan before used : List Planned) (type : ℕ) (row : List Node) → IsPlanned shape types area plan before used (types_of_row types type row)
+    → RowDone shape types area area plan before used type row (length row) nothing
+row-none shape types area plan before used type row p =
+    let t : take (length row) row ≡ row = take_all (length row) row (omega arith) in
+    let d : drop (length row) row ≡ [] = drop_all (length row) row (omega arith) in
+    let P : List Node → Type 0 = λ r. IsLeft plan before used used [] (types_of_row types type r) in
+    let Q : List Node → Type 0 = λ r. RowsStand types area (type ∷ []) (nothing ∷ []) (r ∷ []) [] in
+    record {
+      left = used;
+      done = [];
+      rest = subst P (sym t) (all-left shape types area plan before used (types_of_row types type row) p);
+      built = record { elements = []; exchange = exchange-none shape area p.in_order; stand = subst Q (sym d) (row-ends types area type) };
+    }
+
+-- the part of the plan for the segment that is next
+pub row-next : (shape : Shape) (types : List SegDef) (old now : List (List ℕ)) (plan0 plan before used : List Planned) (type : ℕ) (row : List Node) (k : ℕ) (next : Pointer) (node : Node)
+    → IsPlanned shape types old plan0 before used (types_of_row types type row) → (d : RowDone shape types old now plan before used type row (suc k) next) → k < length row → node ≡ get_or row k node
+    → IsNext shape types now plan before d.left (types_of_row types type (take k row)) (types_of_segment types type (out-Node node).children)
+row-next shape types old now plan0 plan before used type row k next node p d b e =
+    let P : List ℕ → Type 0 = λ kinds. IsLeft plan before used d.left d.done kinds in
+    next-part shape types old now plan0 plan before used d.left d.done (types_of_row types type row) (types_of_row types type (take k row)) (types_of_segment types type (out-Node node).children) d.built.elements p
+    (subst P (row-types types type row k node b e) d.rest) d.built.exchange
+
+pub row-step : (shape : Shape) (types : List SegDef) (old now new : List (List ℕ)) (plan0 plan plan2 before used : List Planned) (type : ℕ) (row : List Node) (k : ℕ) (next at : Pointer) (node : Node)
+    → IsPlanned shape types old plan0 before used (types_of_row types type row) → (d : RowDone shape types old now plan before used type row (suc k) next) → k < length row → node ≡ get_or row k node
+    → ((b u : List Planned) → IsPlanned shape types now plan b u (types_of_segment types type (out-Node node).children)
+      → (plan2 ≡ b) × BuildsSegment shape types now new u type at next 0 (out-Node node).bytes (out-Node node).children)
+    → RowDone shape types old new plan2 before used type row k at
+row-step shape types old now new plan0 plan plan2 before used type row k next at node p d b e f =
+    let first : List ℕ = types_of_row types type (take k row) in
+    let second : List ℕ = types_of_segment types type (out-Node node).children in
+    let P : List ℕ → Type 0 = λ kinds. IsLeft plan before used d.left d.done kinds in
+    let l : IsLeft plan before used d.left d.done (first ++ second) = subst P (row-types types type row k node b e) d.rest in
+    let n : IsNext shape types now plan before d.left first second = row-next shape types old now plan0 plan before used type row k next node p d b e in
+    let g : (plan2 ≡ before ++ n.rest) × BuildsSegment shape types now new n.part type at next 0 (out-Node node).bytes (out-Node node).children = f (before ++ n.rest) n.part n.planned in
+    let x : IsFurther shape types old now new plan2 before used n.rest (n.part ++ d.done) first d.built.elements (at ∷ g.1.below) =
+        further shape types old now new plan0 plan plan2 before used d.left d.done (types_of_row types type row) first second d.built.elements (at ∷ g.1.below) p l d.built.exchange n g.0 g.1.exchange
+    in
+    let others : RowsStand types new (type ∷ []) (next ∷ []) (drop (suc k) row ∷ []) d.built.elements =
+        rows-stay types now new (type ∷ []) (next ∷ []) (drop (suc k) row ∷ []) d.built.elements
+        (λ q c t s h. segment_stays types now new t q s (λ content. x.stay q t content c) h) d.built.stand
+    in
+    let all : RowsStand types new (type ∷ []) (at ∷ []) ((node ∷ drop (suc k) row) ∷ []) (at ∷ (g.1.below ++ d.built.elements)) =
+        row-begins types new type at (record { next = next; serial = 0; firsts = g.1.firsts; bytes = (out-Node node).bytes }) (out-Node node).children (drop (suc k) row) g.1.below d.built.elements node
+        g.1.has g.1.stand others x.exchange.once refl refl
+    in
+    let here : drop k row ≡ node ∷ drop (suc k) row = drop-cons row k node b ∙ ap (λ y. y ∷ drop (suc k) row) (sym e) in
+    let Q : List Node → Type 0 = λ r. RowsStand types new (type ∷ []) (at ∷ []) (r ∷ []) (at ∷ (g.1.below ++ d.built.elements)) in
+    record {
+      left = n.rest;
+      done = n.part ++ d.done;
+      rest = x.is_left;
+      built = record { elements = at ∷ (g.1.below ++ d.built.elements); exchange = x.exchange; stand = subst Q (sym here) all };
+    }
+
+pub row-whole : (shape : Shape) (types : List SegDef) (old now : List (List ℕ)) (plan before used : List Planned) (type : ℕ) (row : List Node) (first : Pointer) → RowDone shape types old now plan before used type row 0 first
+    → (plan ≡ before) × BuildsRows shape types old now used (type ∷ []) (first ∷ []) (row ∷ [])
+row-whole shape types old now plan before used type row first d =
+    let n : (plan ≡ before) × (d.done ≡ used) = none-left plan before used d.left d.done d.rest in
+    let P : List Planned → Type 0 = λ u. BuildsRows shape types old now u (type ∷ []) (first ∷ []) (row ∷ []) in
+    (n.0, subst P n.1 d.built)
+
+-- ---- a row of each child type, from the last
+
+pub record RowsDone (shape : Shape) (types : List SegDef) (old now : List (List ℕ)) (plan before used : List Planned) (kinds : List ℕ) (rows : List (List Node)) (k : ℕ) (firsts : List Pointer) : Type 0 where
+  pub left : List Planned
+  pub done : List Planned
+  pub rest : IsLeft plan before used left done (types_of_rows types (take k kinds) (take k rows))
+  pub built : BuildsRows shape types old now done (drop k kinds) (drop k firsts) (drop k rows)
+
+pub rows-none : (shape : Shape) (types : List SegDef) (area : List (List ℕ)) (plan before used : List Planned) (kinds : List ℕ) (rows : List (List Node)) (firsts : List Pointer)
+    → length rows ≡ length kinds → length firsts ≡ length rows → IsPlanned shape types area plan before used (types_of_rows types kinds rows)
+    → RowsDone shape types area area plan before used kinds rows (length rows) firsts
+rows-none shape types area plan before used kinds rows firsts m l p =
+    let t : take (length rows) rows ≡ rows = take_all (length rows) rows (omega arith) in
+    let s : take (length rows) kinds ≡ kinds = take_all (length rows) kinds (omega arith) in
+    let d : drop (length rows) rows ≡ [] = drop_all (length rows) rows (omega arith) in
+    let e : drop (length rows) kinds ≡ [] = drop_all (length rows) kinds (omega arith) in
+    let f : drop (length rows) firsts ≡ [] = drop_all (length rows) firsts (omega arith) in
+    let stand : RowsStand types area (drop (length rows) kinds) (drop (length rows) firsts) (drop (length rows) rows) [] = rw (d, e, f) (no-rows types area) in
+    record {
+      left = used;
+      done = [];
+      rest = rw (t, s) (all-left shape types area plan before used (types_of_rows types kinds rows) p);
+      built = record { elements = []; exchange = exchange-none shape area p.in_order; stand = stand };
+    }
+
+pub rows-next : (shape : Shape) (types : List SegDef) (old now : List (List ℕ)) (plan0 plan before used : List Planned) (kinds : List ℕ) (rows : List (List Node)) (k : ℕ) (firsts : List Pointer) (row : List Node) (type : ℕ)
+    → length rows ≡ length kinds → IsPlanned shape types old plan0 before used (types_of_rows types kinds rows) → (d : RowsDone shape types old now plan before used kinds rows (suc k) firsts)
+    → k < length rows → row ≡ get_or rows k row → type ≡ get_or kinds k 0
+    → IsNext shape types now plan before d.left (types_of_rows types (take k kinds) (take k rows)) (types_of_row types type row)
+rows-next shape types old now plan0 plan before used kinds rows k firsts row type m p d b e t =
+    let P : List ℕ → Type 0 = λ kinds. IsLeft plan before used d.left d.done kinds in
+    let g : types_of_rows types (take (suc k) kinds) (take (suc k) rows) ≡ types_of_rows types (take k kinds) (take k rows) ++ types_of_row types type row =
+        rows-types types kinds rows k row m b e ∙ ap (λ x. types_of_rows types (take k kinds) (take k rows) ++ types_of_row types x row) (sym t)
+    in
+    next-part shape types old now plan0 plan before used d.left d.done (types_of_rows types kinds rows) (types_of_rows types (take k kinds) (take k rows)) (types_of_row types type row) d.built.elements p
+    (subst P g d.rest) d.built.exchange
+
+pub rows-step : (shape : Shape) (types : List SegDef) (old now new : List (List ℕ)) (plan0 plan plan2 before used : List Planned) (kinds : List ℕ) (rows : List (List Node)) (k : ℕ) (firsts firsts2 : List Pointer) (row : List Node) (type : ℕ) (first : Pointer)
+    → length rows ≡ length kinds → length firsts ≡ length rows → IsPlanned shape types old plan0 before used (types_of_rows types kinds rows) → (d : RowsDone shape types old now plan before used kinds rows (suc k) firsts)
+    → k < length rows → row ≡ get_or rows k row → type ≡ get_or kinds k 0 → firsts2 ≡ set firsts k first
+    → ((b u : List Planned) → IsPlanned shape types now plan b u (types_of_row types type row) → (plan2 ≡ b) × BuildsRows shape types now new u (type ∷ []) (first ∷ []) (row ∷ []))
+    → RowsDone shape types old new plan2 before used kinds rows k firsts2
+rows-step shape types old now new plan0 plan plan2 before used kinds rows k firsts firsts2 row type first m w p d b e t s f =
+    let one : List ℕ = types_of_rows types (take k kinds) (take k rows) in
+    let two : List ℕ = types_of_row types type row in
+    let P : List ℕ → Type 0 = λ kinds. IsLeft plan before used d.left d.done kinds in
+    let h : types_of_rows types (take (suc k) kinds) (take (suc k) rows) ≡ one ++ two = rows-types types kinds rows k row m b e ∙ ap (λ x. one ++ types_of_row types x row) (sym t) in
+    let l : IsLeft plan before used d.left d.done (one ++ two) = subst P h d.rest in
+    let n : IsNext shape types now plan before d.left one two = rows-next shape types old now plan0 plan before used kinds rows k firsts row type m p d b e t in
+    let g : (plan2 ≡ before ++ n.rest) × BuildsRows shape types now new n.part (type ∷ []) (first ∷ []) (row ∷ []) = f (before ++ n.rest) n.part n.planned in
+    let x : IsFurther shape types old now new plan2 before used n.rest (n.part ++ d.done) one d.built.elements g.1.elements =
+        further shape types old now new plan0 plan plan2 before used d.left d.done (types_of_rows types kinds rows) one two d.built.elements g.1.elements p l d.built.exchange n g.0 g.1.exchange
+    in
+    let others : RowsStand types new (drop (suc k) kinds) (drop (suc k) firsts) (drop (suc k) rows) d.built.elements =
+        rows-stay types now new (drop (suc k) kinds) (drop (suc k) firsts) (drop (suc k) rows) d.built.elements
+        (λ q c t s h. segment_stays types now new t q s (λ content. x.stay q t content c) h) d.built.stand
+    in
+    let all : RowsStand types new (type ∷ drop (suc k) kinds) (first ∷ drop (suc k) firsts) (row ∷ drop (suc k) rows) (g.1.elements ++ d.built.elements) =
+        row-before types new type (drop (suc k) kinds) first (drop (suc k) firsts) row (drop (suc k) rows) g.1.elements d.built.elements g.1.stand others x.exchange.once
+    in
+    let q : k < length kinds = omega arith in
+    let u : k < length firsts = omega arith in
+    let a1 : drop k rows ≡ row ∷ drop (suc k) rows = drop-cons rows k row b ∙ ap (λ y. y ∷ drop (suc k) rows) (sym e) in
+    let a2 : drop k kinds ≡ type ∷ drop (suc k) kinds = drop-cons kinds k 0 q ∙ ap (λ y. y ∷ drop (suc k) kinds) (sym t) in
+    let sucs : k + 1 ≡ suc k = omega arith in
+    let a3 : drop k firsts2 ≡ first ∷ drop (suc k) firsts = ap (λ xs. drop k xs) s ∙ drop-set firsts k first u ∙ ap (λ j. first ∷ drop j firsts) sucs in
+    let stand : RowsStand types new (drop k kinds) (drop k firsts2) (drop k rows) (g.1.elements ++ d.built.elements) = rw (a1, a2, a3) all in
+    record {
+      left = n.rest;
+      done = n.part ++ d.done;
+      rest = x.is_left;
+      built = record { elements = g.1.elements ++ d.built.elements; exchange = x.exchange; stand = stand };
+    }
+
+pub rows-whole : (shape : Shape) (types : List SegDef) (old now : List (List ℕ)) (plan before used : List Planned) (kinds : List ℕ) (rows : List (List Node)) (firsts : List Pointer) → RowsDone shape types old now plan before used kinds rows 0 firsts
+    → (plan ≡ before) × BuildsRows shape types old now used kinds firsts rows
+rows-whole shape types old now plan before used kinds rows firsts d =
+    let P : List ℕ → Type 0 = λ xs. IsLeft plan before used d.left d.done xs in
+    let n : (plan ≡ before) × (d.done ≡ used) = none-left plan before used d.left d.done (subst P (in_rows_none (take 0 kinds)) d.rest) in
+    let Q : List Planned → Type 0 = λ u. BuildsRows shape types old now u kinds firsts rows in
+    (n.0, subst Q n.1 d.built)
+
+-- ---- roots, from the last
+
+pub record RootsDone (shape : Shape) (types : List SegDef) (old now : List (List ℕ)) (plan before used : List Planned) (roots : List Root) (k : ℕ) (next : Pointer) : Type 0 where
+  pub left : List Planned
+  pub done : List Planned
+  pub rest : IsLeft plan before used left done (types_of_roots types (take k roots))
+  pub built : BuildsRoots shape types old now done next (drop k roots)
+
+pub roots-none : (shape : Shape) (types : List SegDef) (area : List (List ℕ)) (plan before used : List Planned) (roots : List Root) → IsPlanned shape types area plan before used (types_of_roots types roots)
+    → RootsDone shape types area area plan before used roots (length roots) nothing
+roots-none shape types area plan before used roots p =
+    let t : take (length roots) roots ≡ roots = take_all (length roots) roots (omega arith) in
+    let d : drop (length roots) roots ≡ [] = drop_all (length roots) roots (omega arith) in
+    let P : List Root → Type 0 = λ r. IsLeft plan before used used [] (types_of_roots types r) in
+    let Q : List Root → Type 0 = λ r. RootsStand types area nothing r [] in
+    record {
+      left = used;
+      done = [];
+      rest = subst P (sym t) (all-left shape types area plan before used (types_of_roots types roots) p);
+      built = record { elements = []; exchange = exchange-none shape area p.in_order; stand = subst Q (sym d) (no-roots types area) };
+    }
+
+pub roots-next : (shape : Shape) (types : List SegDef) (old now : List (List ℕ)) (plan0 plan before used : List Planned) (roots : List Root) (k : ℕ) (next : Pointer) (root : Root)
+    → IsPlanned shape types old plan0 before used (types_of_roots types roots) → (d : RootsDone shape types old now plan before used roots (suc k) next) → k < length roots → root ≡ get_or roots k root
+    → IsNext shape types now plan before d.left (types_of_roots types (take k roots)) (types_of_segment types 0 root.children)
+roots-next shape types old now plan0 plan before used roots k next root p d b e =
+    let P : List ℕ → Type 0 = λ kinds. IsLeft plan before used d.left d.done kinds in
+    next-part shape types old now plan0 plan before used d.left d.done (types_of_roots types roots) (types_of_roots types (take k roots)) (types_of_segment types 0 root.children) d.built.elements p
+    (subst P (roots-types types roots k root b e) d.rest) d.built.exchange
+
+pub roots-step : (shape : Shape) (types : List SegDef) (old now new : List (List ℕ)) (plan0 plan plan2 before used : List Planned) (roots : List Root) (k : ℕ) (next at : Pointer) (root : Root) (serial : ℕ)
+    → IsPlanned shape types old plan0 before used (types_of_roots types roots) → (d : RootsDone shape types old now plan before used roots (suc k) next) → k < length roots → root ≡ get_or roots k root
+    → newest serial ≡ root.seqs
+    → ((b u : List Planned) → IsPlanned shape types now plan b u (types_of_segment types 0 root.children) → (plan2 ≡ b) × BuildsSegment shape types now new u 0 at next serial root.bytes root.children)
+    → RootsDone shape types old new plan2 before used roots k at
+roots-step shape types old now new plan0 plan plan2 before used roots k next at root serial p d b e w f =
+    let first : List ℕ = types_of_roots types (take k roots) in
+    let second : List ℕ = types_of_segment types 0 root.children in
+    let P : List ℕ → Type 0 = λ kinds. IsLeft plan before used d.left d.done kinds in
+    let l : IsLeft plan before used d.left d.done (first ++ second) = subst P (roots-types types roots k root b e) d.rest in
+    let n : IsNext shape types now plan before d.left first second = roots-next shape types old now plan0 plan before used roots k next root p d b e in
+    let g : (plan2 ≡ before ++ n.rest) × BuildsSegment shape types now new n.part 0 at next serial root.bytes root.children = f (before ++ n.rest) n.part n.planned in
+    let x : IsFurther shape types old now new plan2 before used n.rest (n.part ++ d.done) first d.built.elements (at ∷ g.1.below) =
+        further shape types old now new plan0 plan plan2 before used d.left d.done (types_of_roots types roots) first second d.built.elements (at ∷ g.1.below) p l d.built.exchange n g.0 g.1.exchange
+    in
+    let others : RootsStand types new next (drop (suc k) roots) d.built.elements =
+        roots-stay types now new next (drop (suc k) roots) d.built.elements
+        (λ q c t s h. segment_stays types now new t q s (λ content. x.stay q t content c) h) d.built.stand
+    in
+    let all : RootsStand types new at (root ∷ drop (suc k) roots) (at ∷ (g.1.below ++ d.built.elements)) =
+        root-begins types new at (record { next = next; serial = serial; firsts = g.1.firsts; bytes = root.bytes }) root (drop (suc k) roots) g.1.below d.built.elements g.1.has g.1.stand others x.exchange.once refl w
+    in
+    let here : drop k roots ≡ root ∷ drop (suc k) roots = drop-cons roots k root b ∙ ap (λ y. y ∷ drop (suc k) roots) (sym e) in
+    let Q : List Root → Type 0 = λ r. RootsStand types new at r (at ∷ (g.1.below ++ d.built.elements)) in
+    record {
+      left = n.rest;
+      done = n.part ++ d.done;
+      rest = x.is_left;
+      built = record { elements = at ∷ (g.1.below ++ d.built.elements); exchange = x.exchange; stand = subst Q (sym here) all };
+    }
+
+pub roots-whole : (shape : Shape) (types : List SegDef) (old now : List (List ℕ)) (plan before used : List Planned) (roots : List Root) (first : Pointer) → RootsDone shape types old now plan before used roots 0 first
+    → (plan ≡ before) × BuildsRoots shape types old now used first roots
+roots-whole shape types old now plan before used roots first d =
+    let n : (plan ≡ before) × (d.done ≡ used) = none-left plan before used d.left d.done d.rest in
+    let P : List Planned → Type 0 = λ u. BuildsRoots shape types old now u first roots in
+    (n.0, subst P n.1 d.built)
