@@ -14,11 +14,12 @@ use Rattle.fp_model.specs.declared.database.Root.{Root}
 use Rattle.fp_model.specs.Order.{child_types}
 use Rattle.root_anchor.specs.Elements.{Pointer, nothing, Segment, HasSegment}
 use Rattle.root_anchor.specs.Chains.{newest}
-use Rattle.root_anchor.specs.Rebuilding.{AreApart, Exchanges, reserved, types_of, IsPlanned, RowsStand, RootsStand, BuildsRows, BuildsRoots, BuildsSegment, types_step, types_below, types_in_rows, types_of_row, types_of_rows, types_of_segment, types_of_roots}
+use Rattle.root_anchor.specs.Rebuilding.{AreApart, Exchanges, HaveRoom, AreReserved, PlacesSegment, reserved, types_of, IsPlanned, RowsStand, RootsStand, BuildsRows, BuildsRoots, BuildsSegment, types_step, types_below, types_in_rows, types_of_row, types_of_rows, types_of_segment, types_of_roots}
 use Rattle.root_anchor.specs.declared.plan.Planned.{Planned}
 use Rattle.root_anchor.proofs.Apart.{contains-none}
+use Rattle.root_anchor.proofs.Exchanging.{exchange-both}
 use Rattle.root_anchor.proofs.PutLemmas.{segment_stays}
-use Rattle.root_anchor.proofs.Planning.{IsLeft, IsNext, IsFurther, next-part, further, none-left, exchange-none, all-left}
+use Rattle.root_anchor.proofs.Planning.{reserved-append, reserved-left, reserved-right, reserved-disjoint, rooms-used, still-reserved, IsLeft, IsNext, IsFurther, next-part, further, none-left, exchange-none, all-left}
 use Rattle.root_anchor.proofs.Rows.{no-rows, row-ends, row-begins, row-before, rows-stay, no-roots, root-begins, roots-stay}
 
 -- ---- the types in one more segment or row
@@ -279,3 +280,62 @@ roots-whole shape types old now plan before used roots first d =
     let n : (plan ≡ before) × (d.done ≡ used) = none-left plan before used d.left d.done d.rest in
     let P : List Planned → Type 0 = λ u. BuildsRoots shape types old now u first roots in
     (n.0, subst P n.1 d.built)
+
+-- ---- a segment and what is below it
+
+-- the part of a plan for a segment itself, and that for what is below it
+pub record IsParted (shape : Shape) (types : List SegDef) (old : List (List ℕ)) (plan before used : List Planned) (type : ℕ) (kinds : List ℕ) : Type 0 where
+  pub one : Planned
+  pub below : List Planned
+  pub parts : used ≡ one ∷ below
+  pub is_type : one.segment ≡ type
+  pub planned : IsPlanned shape types old plan (before ++ one ∷ []) below kinds
+
+pub parted : (shape : Shape) (types : List SegDef) (old : List (List ℕ)) (plan before used : List Planned) (type : ℕ) (kinds : List ℕ) → IsPlanned shape types old plan before used (type ∷ kinds)
+    → IsParted shape types old plan before used type kinds
+parted shape types old plan before [] type kinds p = absurd (let h = p.kinds_are in cc)
+parted shape types old plan before (one ∷ below) type kinds p =
+    let h = p.kinds_are in
+    let e : one.segment ≡ type = cc in
+    let f : types_of below ≡ kinds = cc in
+    record {
+      one = one;
+      below = below;
+      parts = refl;
+      is_type = e;
+      planned = record {
+        in_order = p.in_order;
+        parts = p.parts ∙ sym (append_assoc before (one ∷ []) below);
+        kinds_are = f;
+        are_reserved = reserved-right types old (one ∷ []) below p.are_reserved;
+      };
+    }
+
+module _ (shape : Shape) (types : List SegDef) (old mid : List (List ℕ)) (plan before used : List Planned) (type : ℕ) (kinds : List ℕ) (firsts : List Pointer) (rows : List (List Node))
+    (p : IsPlanned shape types old plan before used (type ∷ kinds)) (it : IsParted shape types old plan before used type kinds) (b : BuildsRows shape types old mid it.below (child_types types type) firsts rows) where
+  all_reserved : AreReserved types old ((it.one ∷ []) ++ it.below)
+  all_reserved = let P : List Planned → Type 0 = λ xs. AreReserved types old xs in subst P it.parts p.are_reserved
+
+  pub room-left : HaveRoom types mid type it.one.at
+  room-left =
+      let P : ℕ → Type 0 = λ t. HaveRoom types mid t it.one.at in
+      subst P it.is_type (still-reserved shape types old mid (it.one ∷ []) it.below b.elements all_reserved b.exchange).rooms.0
+
+  pub segment-whole : (new : List (List ℕ)) (at next : Pointer) (serial : ℕ) (bytes : List ℕ) → PlacesSegment shape types mid new type it.one.at at (record { next = next; serial = serial; firsts = firsts; bytes = bytes })
+      → BuildsSegment shape types old new used type at next serial bytes rows
+  segment-whole new at next serial bytes w =
+      let u : (q : Pointer) → Contains (reserved (it.one ∷ [])) q → IsUsed (bytes_at old q.0) q.1 = rooms-used types old (it.one ∷ []) (reserved-left types old (it.one ∷ []) it.below all_reserved).rooms in
+      let d : (q : Pointer) → Contains (reserved (it.one ∷ [])) q → ¬ Contains (reserved it.below) q = reserved-disjoint types old (it.one ∷ []) it.below all_reserved in
+      let x : Exchanges shape old new (reserved (it.one ∷ []) ++ reserved it.below) ((at ∷ []) ++ b.elements) = exchange-both shape old mid new (reserved it.below) b.elements (reserved (it.one ∷ [])) (at ∷ []) b.exchange w.exchange u d in
+      let P : List Pointer → Type 0 = λ had. Exchanges shape old new had (at ∷ b.elements) in
+      let e : reserved (it.one ∷ []) ++ reserved it.below ≡ reserved used = sym (reserved-append (it.one ∷ []) it.below) ∙ ap reserved (sym it.parts) in
+      let stay : (q : Pointer) (t : ℕ) (content : List ℕ) → Contains b.elements q → HasUsed (bytes_at mid q.0) q.1 t content → HasUsed (bytes_at new q.0) q.1 t content =
+          λ q t content c h. w.exchange.stay q t content (λ m. elim (b.exchange.fresh q c) as (λ _. ⊥) [ inl y ↦ d q m y | inr y ↦ y (u q m) ]) h
+      in
+      record {
+        firsts = firsts;
+        below = b.elements;
+        exchange = subst P e x;
+        has = w.has;
+        stand = rows-stay types mid new (child_types types type) firsts rows b.elements (λ q c t s h. segment_stays types mid new t q s (λ content. stay q t content c) h) b.stand;
+      }

@@ -18,9 +18,10 @@ use Rattle.fp_model.specs.declared.definitions.SegDef.{SegDef}
 use Rattle.root_anchor.specs.Elements.{Pointer, Segment, content_length}
 use Rattle.root_anchor.specs.Puts.{PutsSegment}
 use Rattle.root_anchor.specs.Stored.{KeepsSequential}
-use Rattle.root_anchor.specs.Rebuilding.{Exchanges, HaveRoom, TakesPlace}
+use Rattle.root_anchor.specs.Rebuilding.{Exchanges, and_place, HaveRoom, TakesPlace, PlacesSegment}
+use Rattle.root_anchor.proofs.Exchanging.{exchange-again}
 use Rattle.root_anchor.specs.Chains.{anchor_count}
-use Rattle.root_anchor.proofs.PutLemmas.{uow_below}
+use Rattle.root_anchor.proofs.PutLemmas.{uow_below, put_keeps_order}
 use Rattle.root_anchor.proofs.Apart.{contains-none, contains-here, contains-one, pair_same}
 
 -- ---- where elements stand
@@ -179,3 +180,13 @@ finds-place shape types old new type anchor n planned at e m f o b =
     let Q : Option Pointer → Type 0 = λ p. TakesPlace shape types old new type p at in
     let R : ℕ → Type 0 = λ n. HasRoom (bytes_at new at.0) at.1 n in
     subst Q (sym e) (record { exchange = finds-room shape old new anchor n at f o (uow_below shape anchor b) (base-some anchor shape.uows shape.base b); room = subst R m f.has_room })
+
+pub places-segment : (shape : Shape) (types : List SegDef) (old mid new : List (List ℕ)) (type : ℕ) (planned : Option Pointer) (at : Pointer) (s : Segment) → TakesPlace shape types old mid type planned at → PutsSegment types mid new type at s
+    → PlacesSegment shape types old new type planned at s
+places-segment shape types old mid new type planned at s t p =
+    let u : IsUsed (bytes_at mid at.0) at.1 = record { segment = t.room.segment; content = t.room.content; used = t.room.used } in
+    let o : IsInOrder shape new = put_keeps_order shape types mid new type at s t.exchange.in_order u p in
+    record {
+      exchange = exchange-again shape old mid new (and_place planned []) (at ∷ []) (at ∷ []) t.exchange (puts-segment shape types mid new type at s p t.exchange.in_order o u);
+      has = p.stands;
+    }
