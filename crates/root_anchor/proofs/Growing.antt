@@ -1,5 +1,5 @@
 -- The loops that build rows and roots from their ends: how far they have come, and one step on.
-use Rattle.std.proofs.Common.{◌≡◌, ◌≢◌, ℕ, zero, suc, ◌+◌, ◌-◌, ◌<◌, ◌≤◌, ◌⊎◌, inl, inr, List, [], ◌∷◌, ◌++◌, length, get_or, take, drop, set, map, flat_map, Contains, refl, sym, ap, ◌∙◌, subst, append_assoc, arith}
+use Rattle.std.proofs.Common.{◌≡◌, ◌≢◌, ℕ, zero, suc, ◌+◌, ◌-◌, ◌<◌, ◌≤◌, ◌⊎◌, inl, inr, List, [], ◌∷◌, ◌++◌, length, get_or, take, drop, set, map, flat_map, Contains, Option, Result, Ok, Err, IfOk, refl, sym, ap, ◌∙◌, subst, append_assoc, arith}
 use Rattle.std.proofs.Math.Seq.{take-suc, drop-cons}
 use Rattle.std.proofs.lemmas.List.{append-nil, map-append, drop_all, drop-set, take_all}
 use Rattle.std.proofs.lemmas.Grind.{flat_map-append}
@@ -14,6 +14,7 @@ use Rattle.fp_model.specs.declared.database.Root.{Root}
 use Rattle.fp_model.specs.Order.{child_types}
 use Rattle.root_anchor.specs.Elements.{Pointer, nothing, Segment, HasSegment}
 use Rattle.root_anchor.specs.Chains.{newest}
+use Rattle.root_anchor.specs.Stored.{AreTypes}
 use Rattle.root_anchor.specs.Rebuilding.{AreApart, Exchanges, HaveRoom, AreReserved, PlacesSegment, reserved, types_of, IsPlanned, RowsStand, RootsStand, BuildsRows, BuildsRoots, BuildsSegment, types_step, types_below, types_in_rows, types_of_row, types_of_rows, types_of_segment, types_of_roots}
 use Rattle.root_anchor.specs.declared.plan.Planned.{Planned}
 use Rattle.root_anchor.proofs.Apart.{contains-none}
@@ -339,3 +340,84 @@ module _ (shape : Shape) (types : List SegDef) (old mid : List (List ℕ)) (plan
         has = w.has;
         stand = rows-stay types mid new (child_types types type) firsts rows b.elements (λ q c t s h. segment_stays types mid new t q s (λ content. stay q t content c) h) b.stand;
       }
+
+-- ---- one step on, as the loops say it
+
+sucs : (left : ℕ) → 0 < left → suc (left - 1) ≡ left
+sucs left b = omega arith
+
+pub row-part : (shape : Shape) (types : List SegDef) (old now : List (List ℕ)) (plan0 plan before used : List Planned) (type : ℕ) (row xs : List Node) (left : ℕ) (next : Pointer) (node : Node)
+    → IsPlanned shape types old plan0 before used (types_of_row types type row) → RowDone shape types old now plan before used type row left next → 0 < left → left ≤ length row → xs ≡ row → node ≡ get_or xs (left - 1) node
+    → (b : List Planned) × (u : List Planned) × IsPlanned shape types now plan b u (types_of_segment types type (out-Node node).children)
+row-part shape types old now plan0 plan before used type row xs left next node p d z b x e =
+    let P : ℕ → Type 0 = λ k. RowDone shape types old now plan before used type row k next in
+    let n = row-next shape types old now plan0 plan before used type row (left - 1) next node p (subst P (sym (sucs left z)) d) (omega arith) (e ∙ ap (λ ys. get_or ys (left - 1) node) x) in
+    (before ++ n.rest, n.part, n.planned)
+
+pub row-on : (shape : Shape) (types : List SegDef) (old now new : List (List ℕ)) (plan0 plan plan2 before used : List Planned) (type : ℕ) (row xs : List Node) (left : ℕ) (next at : Pointer) (node : Node) (bytes : List ℕ)
+    → IsPlanned shape types old plan0 before used (types_of_row types type row) → RowDone shape types old now plan before used type row left next → 0 < left → left ≤ length row → xs ≡ row → node ≡ get_or xs (left - 1) node
+    → bytes ≡ (out-Node node).bytes
+    → ((b u : List Planned) → IsPlanned shape types now plan b u (types_of_segment types type (out-Node node).children) → (plan2 ≡ b) × BuildsSegment shape types now new u type at next 0 bytes (out-Node node).children)
+    → RowDone shape types old new plan2 before used type row (left - 1) at
+row-on shape types old now new plan0 plan plan2 before used type row xs left next at node bytes p d z b x e y f =
+    let P : ℕ → Type 0 = λ k. RowDone shape types old now plan before used type row k next in
+    row-step shape types old now new plan0 plan plan2 before used type row (left - 1) next at node p (subst P (sym (sucs left z)) d) (omega arith) (e ∙ ap (λ ys. get_or ys (left - 1) node) x)
+    (λ s u q. let g = f s u q in (g.0, (let Q : List ℕ → Type 0 = λ bs. BuildsSegment shape types now new u type at next 0 bs (out-Node node).children in subst Q y g.1)))
+
+pub rows-part : (shape : Shape) (types : List SegDef) (old now : List (List ℕ)) (plan0 plan before used : List Planned) (kinds : List ℕ) (rows xs : List (List Node)) (left : ℕ) (firsts : List Pointer) (row : List Node) (type : ℕ)
+    → length rows ≡ length kinds → IsPlanned shape types old plan0 before used (types_of_rows types kinds rows) → RowsDone shape types old now plan before used kinds rows left firsts → 0 < left → left ≤ length rows
+    → xs ≡ rows → row ≡ get_or xs (left - 1) row → type ≡ get_or kinds (left - 1) 0
+    → (b : List Planned) × (u : List Planned) × IsPlanned shape types now plan b u (types_of_row types type row)
+rows-part shape types old now plan0 plan before used kinds rows xs left firsts row type m p d z b x e t =
+    let P : ℕ → Type 0 = λ k. RowsDone shape types old now plan before used kinds rows k firsts in
+    let n = rows-next shape types old now plan0 plan before used kinds rows (left - 1) firsts row type m p (subst P (sym (sucs left z)) d) (omega arith) (e ∙ ap (λ ys. get_or ys (left - 1) row) x) t in
+    (before ++ n.rest, n.part, n.planned)
+
+pub rows-on : (shape : Shape) (types : List SegDef) (old now new : List (List ℕ)) (plan0 plan plan2 before used : List Planned) (kinds : List ℕ) (rows xs : List (List Node)) (left : ℕ) (firsts firsts2 : List Pointer) (row : List Node) (type : ℕ) (first : Pointer)
+    → length rows ≡ length kinds → length firsts ≡ length rows → IsPlanned shape types old plan0 before used (types_of_rows types kinds rows) → RowsDone shape types old now plan before used kinds rows left firsts → 0 < left → left ≤ length rows
+    → xs ≡ rows → row ≡ get_or xs (left - 1) row → type ≡ get_or kinds (left - 1) 0 → firsts2 ≡ set firsts (left - 1) first
+    → ((b u : List Planned) → IsPlanned shape types now plan b u (types_of_row types type row) → (plan2 ≡ b) × BuildsRows shape types now new u (type ∷ []) (first ∷ []) (row ∷ []))
+    → RowsDone shape types old new plan2 before used kinds rows (left - 1) firsts2
+rows-on shape types old now new plan0 plan plan2 before used kinds rows xs left firsts firsts2 row type first m w p d z b x e t s f =
+    let P : ℕ → Type 0 = λ k. RowsDone shape types old now plan before used kinds rows k firsts in
+    rows-step shape types old now new plan0 plan plan2 before used kinds rows (left - 1) firsts firsts2 row type first m w p (subst P (sym (sucs left z)) d) (omega arith) (e ∙ ap (λ ys. get_or ys (left - 1) row) x) t s f
+
+pub roots-part : (shape : Shape) (types : List SegDef) (old now : List (List ℕ)) (plan0 plan before used : List Planned) (roots xs : List Root) (left : ℕ) (next : Pointer) (root : Root)
+    → IsPlanned shape types old plan0 before used (types_of_roots types roots) → RootsDone shape types old now plan before used roots left next → 0 < left → left ≤ length roots → xs ≡ roots → root ≡ get_or xs (left - 1) root
+    → (b : List Planned) × (u : List Planned) × IsPlanned shape types now plan b u (types_of_segment types 0 root.children)
+roots-part shape types old now plan0 plan before used roots xs left next root p d z b x e =
+    let P : ℕ → Type 0 = λ k. RootsDone shape types old now plan before used roots k next in
+    let n = roots-next shape types old now plan0 plan before used roots (left - 1) next root p (subst P (sym (sucs left z)) d) (omega arith) (e ∙ ap (λ ys. get_or ys (left - 1) root) x) in
+    (before ++ n.rest, n.part, n.planned)
+
+pub roots-on : (shape : Shape) (types : List SegDef) (old now new : List (List ℕ)) (plan0 plan plan2 before used : List Planned) (roots xs : List Root) (left : ℕ) (next at : Pointer) (root : Root) (serial : ℕ) (bytes : List ℕ)
+    → IsPlanned shape types old plan0 before used (types_of_roots types roots) → RootsDone shape types old now plan before used roots left next → 0 < left → left ≤ length roots → xs ≡ roots → root ≡ get_or xs (left - 1) root
+    → newest serial ≡ root.seqs → bytes ≡ root.bytes
+    → ((b u : List Planned) → IsPlanned shape types now plan b u (types_of_segment types 0 root.children) → (plan2 ≡ b) × BuildsSegment shape types now new u 0 at next serial bytes root.children)
+    → RootsDone shape types old new plan2 before used roots (left - 1) at
+roots-on shape types old now new plan0 plan plan2 before used roots xs left next at root serial bytes p d z b x e w y f =
+    let P : ℕ → Type 0 = λ k. RootsDone shape types old now plan before used roots k next in
+    roots-step shape types old now new plan0 plan plan2 before used roots (left - 1) next at root serial p (subst P (sym (sucs left z)) d) (omega arith) (e ∙ ap (λ ys. get_or ys (left - 1) root) x) w
+    (λ s u q. let g = f s u q in (g.0, (let Q : List ℕ → Type 0 = λ bs. BuildsSegment shape types now new u 0 at next serial bs root.children in subst Q y g.1)))
+
+pub same-types : (a b : ℕ) (types : List SegDef) → b ≡ a → AreTypes a types → AreTypes b types
+same-types a b types e t = let P : ℕ → Type 0 = λ n. AreTypes n types in subst P (sym e) t
+
+-- a segment that is put in front of what was built below it
+pub room-planned : (shape : Shape) (types : List SegDef) (old mid : List (List ℕ)) (plan before used : List Planned) (type : ℕ) (firsts : List Pointer) (rows : List (List Node)) (planned : Option Pointer)
+    → (p : IsPlanned shape types old plan before used (types_of_segment types type rows)) → (it : IsParted shape types old plan before used type (types_of_rows types (child_types types type) rows))
+    → BuildsRows shape types old mid it.below (child_types types type) firsts rows → planned ≡ it.one.at → HaveRoom types mid type planned
+room-planned shape types old mid plan before used type firsts rows planned p it b e =
+    let P : Option Pointer → Type 0 = λ o. HaveRoom types mid type o in
+    subst P (sym e) (room-left shape types old mid plan before used type (types_of_rows types (child_types types type) rows) firsts rows p it b)
+
+pub segment-made : {E : Type 0} (shape : Shape) (types : List SegDef) (old mid new : List (List ℕ)) (plan plan2 before used : List Planned) (type : ℕ) (firsts said : List Pointer) (rows : List (List Node)) (planned : Option Pointer) (next : Pointer) (serial : ℕ) (bytes : List ℕ) (r : Result Pointer E)
+    → (p : IsPlanned shape types old plan before used (types_of_segment types type rows)) → (it : IsParted shape types old plan before used type (types_of_rows types (child_types types type) rows))
+    → BuildsRows shape types old mid it.below (child_types types type) firsts rows → planned ≡ it.one.at → plan2 ≡ before → said ≡ firsts
+    → IfOk r (λ at. PlacesSegment shape types mid new type planned at (record { next = next; serial = serial; firsts = said; bytes = bytes }))
+    → IfOk r (λ at. (plan2 ≡ before) × BuildsSegment shape types old new used type at next serial bytes rows)
+segment-made shape types old mid new plan plan2 before used type firsts said rows planned next serial bytes (Err x) p it b e q s w = tt
+segment-made shape types old mid new plan plan2 before used type firsts said rows planned next serial bytes (Ok at) p it b e q s w =
+    let P : Option Pointer → Type 0 = λ o. PlacesSegment shape types mid new type o at (record { next = next; serial = serial; firsts = said; bytes = bytes }) in
+    let Q : List Pointer → Type 0 = λ f. PlacesSegment shape types mid new type it.one.at at (record { next = next; serial = serial; firsts = f; bytes = bytes }) in
+    (q, segment-whole shape types old mid plan before used type (types_of_rows types (child_types types type) rows) firsts rows p it b new at next serial bytes (subst Q s (subst P e w)))

@@ -118,17 +118,13 @@ fn next_place(plan: &mut VecDeque<Planned>) -> Option<Pointer>
 }
 
 /// The direct child types of a type, in order of definition.
-fn types_below(
-    alloc: Global,
-    segments: &List<SegDef>,
-    parent: u8,
-) -> Result<Vec<u8>, AnchorFault>
+fn types_below(alloc: Global, segments: &[SegDef], parent: u8) -> Result<Vec<u8>, AnchorFault>
     requires few { length segments.now ≤ 15 }
     ensures types { IfOk result (λ types. types.items ≡ child_types segments.now parent) }
     ensures memory { IsErr result → result ≡ Err AnchorFault.Memory }
 {
     let mut types = Vec::new(alloc);
-    for (child, def) in segments.as_slice().iter().enumerate() {
+    for (child, def) in segments.iter().enumerate() {
         if is_child_of(def, parent) && types.push(child as u8).is_err() {
             return Err(AnchorFault::Memory);
         }
@@ -243,7 +239,7 @@ fn build_rows<I: Intervals>(
     ensures number { I.number i.old ≤ I.number i.new }
     ensures goes_on { GoesOn I.told I.size I.faults I.keeps i.old i.new }
 {
-    let types = types_below(alloc, home.segments, segment)?;
+    let types = types_below(alloc, home.segments.as_slice(), segment)?;
     let mut firsts = no_pointers(alloc, rows.len())?;
     let mut left = rows.len();
     while left > 0 {
