@@ -13,7 +13,9 @@ use Rattle.fp_model.specs.Order.{child_types}
 use Rattle.root_anchor.specs.Elements.{Pointer, nothing, Segment, HasSegment, content_length}
 use Rattle.root_anchor.specs.Chains.{AreRows, AreRoots}
 use Rattle.root_anchor.specs.Stored.{KeepsSequential}
+use Rattle.root_anchor.specs.Standing.{places_of}
 use Rattle.root_anchor.specs.declared.plan.Planned.{Planned}
+use Rattle.root_anchor.specs.declared.standing.Standing.{Standing}
 
 -- each of these once
 abbrev pub AreApart : List Pointer → Type 0
@@ -147,3 +149,34 @@ pub record BuildsSegment (shape : Shape) (types : List SegDef) (old new : List (
   pub exchange : Exchanges shape old new (reserved used) (at ∷ below)
   pub has : HasSegment types new type at (record { next = next; serial = serial; firsts = firsts; bytes = bytes })
   pub stand : RowsStand types new (child_types types type) firsts rows below
+
+-- ---- a plan
+
+-- an element of this type is taken out
+pub record TakesOut (old new : List Standing) (type : ℕ) (at : Pointer) : Type 0 where
+  pub before : List Standing
+  pub after : List Standing
+  pub taken : Standing
+  pub was : old ≡ before ++ taken ∷ after
+  pub now : new ≡ before ++ after
+  pub is_type : taken.segment ≡ type
+  pub is_at : taken.at ≡ at
+
+-- one of these elements, of this type
+pub record IsOneOf (all : List Standing) (type : ℕ) (at : Pointer) : Type 0 where
+  pub standing : Standing
+  pub held : Contains all standing
+  pub is_type : standing.segment ≡ type
+  pub is_at : standing.at ≡ at
+
+abbrev pub AreTyped : List Standing → List Planned → Type 0
+AreTyped all [] = ⊤
+AreTyped all (p ∷ plan) = IfSome p.at (IsOneOf all p.segment) × AreTyped all plan
+
+-- These elements are those of a plan and a rest, each in one of them: each planned place is that of an element of its type.
+pub record Shares (all : List Standing) (plan : List Planned) (rest : List Standing) : Type 0 where
+  pub typed : AreTyped all plan
+  pub of_rest : (s : Standing) → Contains rest s → Contains all s
+  pub once : AreApart (places_of all) → AreApart (reserved plan ++ places_of rest)
+  pub had : (at : Pointer) → Contains (places_of all) at → Contains (reserved plan ++ places_of rest) at
+  pub has : (at : Pointer) → Contains (reserved plan ++ places_of rest) at → Contains (places_of all) at

@@ -14,6 +14,7 @@ ghost use Rattle.root_anchor.specs.Chains.{anchor_count, newest};
 ghost use Rattle.root_anchor.specs.Stored.{AreTypes, are_storable, is_newest};
 ghost use Rattle.root_anchor.specs.Rebuilding.{Exchanges, and_place, HaveRoom, TakesPlace, PlacesSegment, IsDirect, IsPlanned, BuildsSegment, BuildsRows, BuildsRoots, types_of_row, types_of_rows, types_of_roots, types_of_segment};
 ghost use Rattle.root_anchor.specs.declared.plan.Planned.{Planned as PlannedOf};
+ghost use Rattle.fp_model.specs.declared.definitions.SegDef.{SegDef as SegDefOf};
 
 use crate::element::{content_length, is_child_of};
 use crate::fault::AnchorFault;
@@ -118,7 +119,7 @@ fn next_place(plan: &mut VecDeque<Planned>) -> Option<Pointer>
 }
 
 /// The direct child types of a type, in order of definition.
-fn types_below(alloc: Global, segments: &[SegDef], parent: u8) -> Result<Vec<u8>, AnchorFault>
+pub(crate) fn types_below(alloc: Global, segments: &[SegDef], parent: u8) -> Result<Vec<u8>, AnchorFault>
     requires few { length segments.now ≤ 15 }
     ensures types { IfOk result (λ types. types.items ≡ child_types segments.now parent) }
     ensures memory { IsErr result → result ≡ Err AnchorFault.Memory }
@@ -249,4 +250,47 @@ fn build_rows<I: Intervals>(
         firsts[left] = first;
     }
     Ok(firsts)
+}
+
+/// The newest serial of a root, 0 for none.
+fn newest_of(seqs: &List<SeqItem>) -> u64
+    ensures newest { (types : List SegDefOf) → is_newest types seqs.now ≡ true → newest result ≡ seqs.now }
+    ensures none { (types : List SegDefOf) → is_newest types seqs.now ≡ true → has_serial types 0 ≡ false → result ≡ 0 }
+{
+    let items = seqs.as_slice();
+    if items.is_empty() { 0 } else { items[0].serial }
+}
+
+/// Builds the roots of an anchor with all below them, and gives the pointer to the first.
+pub(crate) fn build_roots<I: Intervals>(
+    alloc: Global,
+    i: &mut I,
+    home: &Home<'_>,
+    plan: &mut VecDeque<Planned>,
+    roots: &List<Root>,
+) -> Result<Pointer, AnchorFault>
+    requires anchor { home.now.anchor < anchor_count home.now.shape.now }
+    requires types { AreTypes (I.size i.old) home.now.segments.now }
+    requires roots { are_storable home.now.segments.now roots.now ≡ true }
+    ensures built { I.told i.old → (before used : List PlannedOf) → IsPlanned home.now.shape.now home.now.segments.now (I.intervals i.old) plan.old.items before used (types_of_roots home.now.segments.now roots.now)
+        → IfOk result (λ first. (plan.new.items ≡ before) × BuildsRoots home.now.shape.now home.now.segments.now (I.intervals i.old) (I.intervals i.new) used first roots.now) }
+    ensures sound { I.told i.old → (before used : List PlannedOf) → IsPlanned home.now.shape.now home.now.segments.now (I.intervals i.old) plan.old.items before used (types_of_roots home.now.segments.now roots.now)
+        → (ci : ℕ) → result ≢ Err (AnchorFault.Damaged ci) }
+    ensures failed { IsErrOf result AnchorFault.Failed → Rose (I.faults i.old) (I.faults i.new) }
+    ensures number { I.number i.old ≤ I.number i.new }
+    ensures goes_on { GoesOn I.told I.size I.faults I.keeps i.old i.new }
+{
+    let mut next = (0, 0);
+    let mut left = roots.len();
+    while left > 0 {
+        left -= 1;
+        let root = &roots.as_slice()[left];
+        let itself = Itself {
+            next,
+            serial: newest_of(&root.seqs),
+            bytes: root.bytes.as_slice(),
+        };
+        next = build_segment(alloc, i, home, plan, 0, &itself, &root.children)?;
+    }
+    Ok(next)
 }
