@@ -21,7 +21,7 @@ sequential-joined shape a b c p q = record {
   intervals = λ ci k. q.intervals ci k ∙ p.intervals ci k;
 }
 
-used-stays : (old new : List ℕ) (at : ℕ) → ((type : ℕ) (content : List ℕ) → HasUsed old at type content → HasUsed new at type content) → IsUsed old at → IsUsed new at
+pub used-stays : (old new : List ℕ) (at : ℕ) → ((type : ℕ) (content : List ℕ) → HasUsed old at type content → HasUsed new at type content) → IsUsed old at → IsUsed new at
 used-stays old new at f u = record { segment = u.segment; content = u.content; used = f u.segment u.content u.used }
 
 -- an exchange of some elements, and then one of others

@@ -421,3 +421,45 @@ segment-made shape types old mid new plan plan2 before used type firsts said row
     let P : Option Pointer → Type 0 = λ o. PlacesSegment shape types mid new type o at (record { next = next; serial = serial; firsts = said; bytes = bytes }) in
     let Q : List Pointer → Type 0 = λ f. PlacesSegment shape types mid new type it.one.at at (record { next = next; serial = serial; firsts = f; bytes = bytes }) in
     (q, segment-whole shape types old mid plan before used type (types_of_rows types (child_types types type) rows) firsts rows p it b new at next serial bytes (subst Q s (subst P e w)))
+
+-- ---- the types of what is planned, from its end
+
+pub row-planned : (types : List SegDef) (type : ℕ) (row xs : List Node) (left : ℕ) (node : Node) → 0 < left → left ≤ length row → xs ≡ row → node ≡ get_or xs (left - 1) node
+    → types_of_row types type (drop (left - 1) row) ≡ types_of_segment types type (out-Node node).children ++ types_of_row types type (drop left row)
+row-planned types type row xs left node z b x e =
+    let here : drop (left - 1) row ≡ node ∷ drop left row =
+        drop-cons row (left - 1) node (omega arith) ∙ ap (λ y. y ∷ drop (suc (left - 1)) row) (sym (e ∙ ap (λ ys. get_or ys (left - 1) node) x)) ∙ ap (λ j. node ∷ drop j row) (sucs left z)
+    in
+    ap (λ (r : List Node). types_of_row types type r) here ∙ ap (λ ts. ts ++ types_of_row types type (drop left row)) (types-below types type node)
+
+pub rows-planned : (types : List SegDef) (kinds : List ℕ) (rows xs : List (List Node)) (left : ℕ) (row : List Node) (type : ℕ) → length rows ≡ length kinds → 0 < left → left ≤ length rows → xs ≡ rows → row ≡ get_or xs (left - 1) row
+    → type ≡ get_or kinds (left - 1) 0
+    → types_of_rows types (drop (left - 1) kinds) (drop (left - 1) rows) ≡ types_of_row types type row ++ types_of_rows types (drop left kinds) (drop left rows)
+rows-planned types kinds rows xs left row type m z b x e t =
+    let here : drop (left - 1) rows ≡ row ∷ drop left rows =
+        drop-cons rows (left - 1) row (omega arith) ∙ ap (λ y. y ∷ drop (suc (left - 1)) rows) (sym (e ∙ ap (λ ys. get_or ys (left - 1) row) x)) ∙ ap (λ j. row ∷ drop j rows) (sucs left z)
+    in
+    let there : drop (left - 1) kinds ≡ type ∷ drop left kinds =
+        drop-cons kinds (left - 1) 0 (omega (arith, m)) ∙ ap (λ y. y ∷ drop (suc (left - 1)) kinds) (sym t) ∙ ap (λ j. type ∷ drop j kinds) (sucs left z)
+    in
+    ap (λ (r : List (List Node)). types_of_rows types (drop (left - 1) kinds) r) here ∙ ap (λ (ks : List ℕ). types_of_rows types ks (row ∷ drop left rows)) there
+
+pub roots-planned : (types : List SegDef) (roots xs : List Root) (left : ℕ) (root : Root) → 0 < left → left ≤ length roots → xs ≡ roots → root ≡ get_or xs (left - 1) root
+    → types_of_roots types (drop (left - 1) roots) ≡ types_of_segment types 0 root.children ++ types_of_roots types (drop left roots)
+roots-planned types roots xs left root z b x e =
+    let here : drop (left - 1) roots ≡ root ∷ drop left roots =
+        drop-cons roots (left - 1) root (omega arith) ∙ ap (λ y. y ∷ drop (suc (left - 1)) roots) (sym (e ∙ ap (λ ys. get_or ys (left - 1) root) x)) ∙ ap (λ j. root ∷ drop j roots) (sucs left z)
+    in
+    ap (λ (r : List Root). types_of_roots types r) here
+
+pub planned-on : (new old first rest before part : List ℕ) → new ≡ part ++ old → old ≡ rest ++ before → first ≡ part ++ rest → new ≡ first ++ before
+planned-on new old first rest before part n o f = n ∙ ap (λ xs. part ++ xs) o ∙ sym (append_assoc part rest before) ∙ ap (λ xs. xs ++ before) (sym f)
+
+-- nothing is planned yet
+pub rows-unplanned : (types : List SegDef) (kinds : List ℕ) (rows : List (List Node)) (left : ℕ) → left ≡ length rows → types_of_rows types (drop left kinds) (drop left rows) ≡ []
+rows-unplanned types kinds rows left e =
+    let d : drop left rows ≡ [] = drop_all left rows (omega arith) in
+    ap (λ (r : List (List Node)). types_of_rows types (drop left kinds) r) d ∙ in_rows_none (drop left kinds)
+
+pub roots-unplanned : (types : List SegDef) (roots : List Root) (left : ℕ) → left ≡ length roots → types_of_roots types (drop left roots) ≡ []
+roots-unplanned types roots left e = let d : drop left roots ≡ [] = drop_all left roots (omega arith) in ap (λ (r : List Root). types_of_roots types r) d

@@ -146,10 +146,13 @@ above_parent [] place parent j h b p = absurd (omega (arith, b))
 above_parent (def ∷ defs) place parent zero h b p = omega (arith, is_parent def.parent parent place (and_left (is_child_of parent def) (not def.sequential) p) h.0.0)
 above_parent (def ∷ defs) place parent (suc j) h b p = omega (arith, above_parent defs (place + 1) parent j h.1 (omega (arith, b)) p)
 
-pub child-above : (size : ℕ) (types : List SegDef) (parent k : ℕ) → AreTypes size types → k < length (child_types types parent) → parent < get_or (child_types types parent) k 0
-child-above size types parent k a b =
+pub child-behind : (types : List SegDef) (parent k : ℕ) → HavePlaces 0 types → k < length (child_types types parent) → parent < get_or (child_types types parent) k 0
+child-behind types parent k h b =
     let p = child_passes types parent k b in
-    omega (arith, above_parent types 0 parent p.j a.places p.within p.passes, p.is_number)
+    omega (arith, above_parent types 0 parent p.j h p.within p.passes, p.is_number)
+
+pub child-above : (size : ℕ) (types : List SegDef) (parent k : ℕ) → AreTypes size types → k < length (child_types types parent) → parent < get_or (child_types types parent) k 0
+child-above size types parent k a b = child-behind types parent k a.places b
 
 no_serial : (types : List SegDef) (n : ℕ) → n ≢ 0 → has_serial types n ≡ false
 no_serial types n h = let e : (n == 0) ≡ false = grind arith in ap (λ (b : Bool). b && has_sequential types) e

@@ -180,3 +180,8 @@ pub record Shares (all : List Standing) (plan : List Planned) (rest : List Stand
   pub once : AreApart (places_of all) → AreApart (reserved plan ++ places_of rest)
   pub had : (at : Pointer) → Contains (places_of all) at → Contains (reserved plan ++ places_of rest) at
   pub has : (at : Pointer) → Contains (reserved plan ++ places_of rest) at → Contains (places_of all) at
+
+-- used elements, each once
+pub record AreGivable (area : List (List ℕ)) (places : List Pointer) : Type 0 where
+  pub used : (at : Pointer) → Contains places at → IsUsed (bytes_at area at.0) at.1
+  pub once : AreApart places
