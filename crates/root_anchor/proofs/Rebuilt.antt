@@ -12,10 +12,17 @@ use Rattle.root_anchor.specs.Elements.{Pointer, Segment, HasSegment}
 use Rattle.root_anchor.specs.Chains.{IsChain, AreRoots, anchor_count, root_of}
 use Rattle.root_anchor.specs.Formed.{IsFormed, HasChain, Meets, IsMet}
 use Rattle.root_anchor.specs.Puts.{PutsRoot}
-use Rattle.root_anchor.specs.Stored.{KeepsSequential, OthersKeep}
-use Rattle.root_anchor.specs.Rebuilding.{Exchanges, RootsStand, met_after}
-use Rattle.root_anchor.proofs.Apart.{contains-none, holds_or, met-cases, met-now}
-use Rattle.root_anchor.proofs.Exchanging.{sequential-joined}
+use Rattle.root_anchor.specs.Stored.{HasRoots, KeepsSequential, OthersKeep}
+use Rattle.std.proofs.lemmas.List.{append-nil}
+use Rattle.root_anchor.specs.Standing.{places_of, Stands, AreStanding}
+use Rattle.root_anchor.specs.declared.plan.Planned.{Planned}
+use Rattle.root_anchor.specs.declared.standing.Standing.{Standing}
+use Rattle.root_anchor.specs.Rebuilding.{Exchanges, RootsStand, met_after, reserved, types_of, types_of_roots, IsPlanned, BuildsRoots, AreGivable, IsRebuildable, Rebuilds, Shares}
+use Rattle.root_anchor.proofs.Planning.{rooms-stay, rooms-used}
+use Rattle.root_anchor.proofs.Sharing.{plan-reserved}
+use Rattle.std.proofs.lemmas.List.Elements.{Contains-append_right}
+use Rattle.root_anchor.proofs.Apart.{contains-none, holds_or, met-cases, met-now, apart-left, apart-right, apart-disjoint, apart-pairs}
+use Rattle.root_anchor.proofs.Exchanging.{sequential-joined, exchange-both}
 use Rattle.root_anchor.proofs.Framing.{Stay, roots_stay}
 use Rattle.root_anchor.proofs.OneChain.{one_chain, chain_has, HasSome}
 use Rattle.root_anchor.proofs.PutLemmas.{base_before, root_keeps_order, root_keeps_used, root_keeps_segment, root_is_put, root_keeps_roots, root_keeps_sequential, segment_stays}
@@ -143,3 +150,79 @@ module _ (shape : Shape) (types : List SegDef) (old middle new : List (List ℕ)
 
     pub new-formed : IsFormed shape types new
     new-formed = record { in_order = new-order; chains = new-chains; apart = new-apart; each_met = each-met }
+
+-- ---- the steps of a rebuilding
+
+pub givable : (shape : Shape) (types : List SegDef) (area : List (List ℕ)) (plan : List Planned) (rest : List Standing) (roots : List Root) → IsRebuildable shape types area plan rest roots → AreGivable area (places_of rest)
+givable shape types area plan rest roots r = record { used = r.used; once = apart-right (reserved plan) (places_of rest) r.once }
+
+pub still-planned : (shape : Shape) (types : List SegDef) (old mid : List (List ℕ)) (plan : List Planned) (rest : List Standing) (roots : List Root) → IsRebuildable shape types old plan rest roots → Exchanges shape old mid (places_of rest) []
+    → IsPlanned shape types mid plan [] plan (types_of_roots types roots)
+still-planned shape types old mid plan rest roots r e = record {
+  in_order = e.in_order;
+  parts = refl;
+  kinds_are = r.kinds_are;
+  are_reserved = record {
+    rooms = rooms-stay types old mid plan (λ at t content c h. e.stay at t content (apart-disjoint (reserved plan) (places_of rest) at r.once c) h) r.rooms;
+    once = apart-left (reserved plan) (places_of rest) r.once;
+  };
+}
+
+pub rebuilds : (shape : Shape) (types : List SegDef) (old mid mid2 new : List (List ℕ)) (anchor : ℕ) (plan : List Planned) (rest : List Standing) (roots : List Root) (first : Pointer)
+    → IsRebuildable shape types old plan rest roots → Exchanges shape old mid (places_of rest) [] → BuildsRoots shape types mid mid2 plan first roots → PutsRoot shape mid2 new anchor first
+    → Rebuilds shape types old new anchor plan rest roots
+rebuilds shape types old mid mid2 new anchor plan rest roots first r e b p =
+    let x : Exchanges shape old mid2 (reserved plan ++ places_of rest) (b.elements ++ []) =
+        exchange-both shape old mid mid2 (places_of rest) [] (reserved plan) b.elements e b.exchange (rooms-used types old plan r.rooms) (λ at c. apart-disjoint (reserved plan) (places_of rest) at r.once c)
+    in
+    let P : List Pointer → Type 0 = λ has. Exchanges shape old mid2 (reserved plan ++ places_of rest) has in
+    record { middle = mid2; first = first; elements = b.elements; exchange = subst P (append-nil b.elements) x; stand = b.stand; put = p }
+
+-- ---- from what an anchor had to its new roots
+
+pub rebuildable : (shape : Shape) (types : List SegDef) (area : List (List ℕ)) (anchor : ℕ) (all rest : List Standing) (plan : List Planned) (roots : List Root) → IsInOrder shape area → AreStanding shape types area anchor all
+    → Shares all plan rest → types_of plan ≡ types_of_roots types roots → IsRebuildable shape types area plan rest roots
+rebuildable shape types area anchor all rest plan roots o a s k = record {
+  in_order = o;
+  kinds_are = k;
+  rooms = (plan-reserved shape types area anchor all rest plan a s).rooms;
+  used = λ at c.
+      let h : HasSome types area at = chain_has a.is_chain at ((a.same at).0 (s.has at (Contains-append_right (reserved plan) (places_of rest) at c))) in
+      record { segment = h.type; content = h.has.content; used = h.has.used };
+  once = s.once (apart-pairs (places_of all) a.once);
+}
+
+-- what a store leaves in an area that was whole
+pub record IsStored (shape : Shape) (types : List SegDef) (old new : List (List ℕ)) (anchor : ℕ) (roots : List Root) : Type 0 where
+  pub stored : HasRoots shape types new anchor roots
+  pub others : OthersKeep shape types old new anchor
+  pub sequential : KeepsSequential shape old new
+  pub formed : IsFormed shape types new
+
+pub is-stored : (shape : Shape) (types : List SegDef) (old new : List (List ℕ)) (anchor : ℕ) (all rest : List Standing) (plan : List Planned) (roots : List Root) → anchor < anchor_count shape → IsFormed shape types old
+    → AreStanding shape types old anchor all → Shares all plan rest → Rebuilds shape types old new anchor plan rest roots → IsStored shape types old new anchor roots
+is-stored shape types old new anchor all rest plan roots b f a s r =
+    let had : List Pointer = reserved plan ++ places_of rest in
+    let it : IsRebuilt shape types old r.middle new anchor had r.elements r.first roots = record { below = b; exchange = r.exchange; stand = r.stand; put = r.put } in
+    let same : (at : Pointer) → Contains had at → Contains a.elements at = λ at c. (a.same at).0 (s.has at c) in
+    let back : (at : Pointer) → Contains a.elements at → Contains had at = λ at c. s.had at ((a.same at).1 c) in
+    record {
+      stored = record { elements = met_after r.elements []; is_chain = new-chain shape types old r.middle new anchor had r.elements r.first roots it };
+      others = others-keep shape types old r.middle new anchor had r.elements r.first roots it a.elements a.roots a.is_chain same back f;
+      sequential = new-sequential shape types old r.middle new anchor had r.elements r.first roots it;
+      formed = new-formed shape types old r.middle new anchor had r.elements r.first roots it a.elements a.roots a.is_chain same back f;
+    }
+
+pub ready : (shape : Shape) (types : List SegDef) (old now : List (List ℕ)) (anchor : ℕ) (all rest slice : List Standing) (plan : List Planned) (roots : List Root) → now ≡ old → slice ≡ rest → IsInOrder shape old
+    → AreStanding shape types old anchor all → Shares all plan rest → types_of plan ≡ types_of_roots types roots → IsRebuildable shape types now plan slice roots
+ready shape types old now anchor all rest slice plan roots e s o a h k =
+    let P : List (List ℕ) → Type 0 = λ area. IsRebuildable shape types area plan slice roots in
+    let Q : List Standing → Type 0 = λ xs. IsRebuildable shape types old plan xs roots in
+    subst P (sym e) (subst Q (sym s) (rebuildable shape types old anchor all rest plan roots o a h k))
+
+pub stores : (shape : Shape) (types : List SegDef) (old now new : List (List ℕ)) (anchor : ℕ) (all rest slice : List Standing) (plan : List Planned) (roots : List Root) → now ≡ old → slice ≡ rest → anchor < anchor_count shape
+    → IsFormed shape types old → AreStanding shape types old anchor all → Shares all plan rest → Rebuilds shape types now new anchor plan slice roots → IsStored shape types old new anchor roots
+stores shape types old now new anchor all rest slice plan roots e s b f a h r =
+    let P : List (List ℕ) → Type 0 = λ area. Rebuilds shape types area new anchor plan slice roots in
+    let Q : List Standing → Type 0 = λ xs. Rebuilds shape types old new anchor plan xs roots in
+    is-stored shape types old new anchor all rest plan roots b f a h (subst Q s (subst P e r))

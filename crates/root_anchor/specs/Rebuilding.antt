@@ -14,6 +14,7 @@ use Rattle.root_anchor.specs.Elements.{Pointer, nothing, Segment, HasSegment, co
 use Rattle.root_anchor.specs.Chains.{AreRows, AreRoots}
 use Rattle.root_anchor.specs.Stored.{KeepsSequential}
 use Rattle.root_anchor.specs.Standing.{places_of}
+use Rattle.root_anchor.specs.Puts.{PutsRoot}
 use Rattle.root_anchor.specs.declared.plan.Planned.{Planned}
 use Rattle.root_anchor.specs.declared.standing.Standing.{Standing}
 
@@ -185,3 +186,21 @@ pub record Shares (all : List Standing) (plan : List Planned) (rest : List Stand
 pub record AreGivable (area : List (List ℕ)) (places : List Pointer) : Type 0 where
   pub used : (at : Pointer) → Contains places at → IsUsed (bytes_at area at.0) at.1
   pub once : AreApart places
+
+-- An area in order, a plan for these roots, and the rest of what their anchor had: the places of both are used elements, each
+-- once, and those of the plan have room.
+pub record IsRebuildable (shape : Shape) (types : List SegDef) (area : List (List ℕ)) (plan : List Planned) (rest : List Standing) (roots : List Root) : Type 0 where
+  pub in_order : IsInOrder shape area
+  pub kinds_are : types_of plan ≡ types_of_roots types roots
+  pub rooms : HaveRooms types area plan
+  pub used : (at : Pointer) → Contains (places_of rest) at → IsUsed (bytes_at area at.0) at.1
+  pub once : AreApart (reserved plan ++ places_of rest)
+
+-- The places of a plan and a rest give way to the elements of these roots, and the root anchor point leads to them.
+pub record Rebuilds (shape : Shape) (types : List SegDef) (old new : List (List ℕ)) (anchor : ℕ) (plan : List Planned) (rest : List Standing) (roots : List Root) : Type 0 where
+  pub middle : List (List ℕ)
+  pub first : Pointer
+  pub elements : List Pointer
+  pub exchange : Exchanges shape old middle (reserved plan ++ places_of rest) elements
+  pub stand : RootsStand types middle first roots elements
+  pub put : PutsRoot shape middle new anchor first
