@@ -2,7 +2,7 @@
 //!
 //!     next twin 10 | newest serial 8, at a root where there is a sequential type | first child 10, of each child type | segment | zeros ..
 
-ghost use Rattle.std.specs.Prelude.{◌≡◌, ◌+◌, ◌*◌, ◌≤◌, length, slice_range, IsTrue};
+ghost use Rattle.std.specs.Prelude.{◌≡◌, ◌+◌, ◌*◌, ◌^◌, ◌<◌, ◌≤◌, length, slice_range, IsTrue};
 ghost use Rattle.byteorder.specs.Endian.{big_from};
 ghost use Rattle.ci_space.specs.Interval.{Keeps, IsZero};
 ghost use Rattle.ci_space.specs.Numbers.{PutsNumber};
@@ -100,6 +100,22 @@ fn put_bytes(content: &mut [u8], at: usize, bytes: &[u8])
     ensures above { Keeps content.old content.new (at + length bytes.now) (length content.old) }
 {
     content[at..at + bytes.len()].copy_from_slice(bytes);
+}
+
+/// Zeros to spell a content into: as many as the largest interval has bytes.
+pub(crate) fn zeros() -> [u8; 4096]
+    ensures { IsZero result 0 4096 }
+{
+    [0; 4096]
+}
+
+/// How many bytes say it.
+pub(crate) fn spelled_length(with_serial: bool, saying: Saying<'_>) -> usize
+    requires { length saying.firsts.now + length saying.bytes.now < 2 ^ 32 }
+    ensures { result ≡ firsts_at with_serial + 10 * length saying.entry.firsts.now + length saying.entry.bytes.now }
+{
+    let firsts = if with_serial { 18 } else { 10 };
+    firsts + 10 * saying.firsts.len() + saying.bytes.len()
 }
 
 /// Puts what an element is to say into zeros.
