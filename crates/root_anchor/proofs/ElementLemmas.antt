@@ -1,25 +1,25 @@
 -- An element of an interval that comes to say a segment.
-use Rattle.std.proofs.Common.{◌≡◌, ◌≢◌, ℕ, zero, suc, ◌+◌, ◌-◌, ◌*◌, ◌/◌, ◌^◌, ◌<◌, ◌≤◌, ◌↔◌, List, [], ◌∷◌, ◌++◌, length, get_or, take, drop, slice_range, slice_get, nat_le, nat_eq, ◌&&◌, Bool, true, false, IsTrue, Option, Some, None, IfSome, Result, Ok, Err, OnOk, if◌then◌else◌, refl, sym, ap, ◌∙◌, arith, rules}
+use Rattle.std.proofs.Common.{◌≡◌, ◌≢◌, ℕ, zero, suc, ◌+◌, ◌-◌, ◌*◌, ◌/◌, ◌^◌, ◌<◌, ◌≤◌, ◌↔◌, List, [], ◌∷◌, ◌++◌, length, take, drop, slice_range, slice_get, nat_le, nat_eq, ◌&&◌, Bool, true, false, IsTrue, Option, Some, IfSome, if◌then◌else◌, refl, sym, ap, ◌∙◌, arith}
 use Rattle.std.specs.Option.{option_map_or}
 use Rattle.std.proofs.lemmas.Bool.{leb-true, le-leb, eqb-true, and_parts}
-use Rattle.std.proofs.lemmas.List.{get_or-take, drop_all, append-nil, drop-take, take-take, length-take-le, get_or-replicate}
+use Rattle.std.proofs.lemmas.List.{get_or-take, drop_all, append-nil, drop-take, take-take, length-take-le}
 use Rattle.byteorder.specs.Endian.{big_from}
 use Rattle.ci_space.specs.declared.intervals.Shape.{Shape}
 use Rattle.ci_space.specs.declared.head.Head.{Head}
 use Rattle.ci_space.specs.Element.{Element, Used}
-use Rattle.ci_space.specs.Interval.{HasUsed, IsUsed, HasRoom, IsInterval, UsedBecomes, OthersStay, Keeps, IsZero, Tiles, is_size}
+use Rattle.ci_space.specs.Interval.{HasUsed, IsUsed, HasRoom, IsInterval, UsedBecomes, OthersStay, Keeps, Tiles, is_size}
 use Rattle.ci_space.specs.Head.{head_of}
 use Rattle.ci_space.proofs.Tilings.{size-bounds}
-use Rattle.ci_space.proofs.Contents.{IsWithin, room-within, room-fits, used-ends}
+use Rattle.ci_space.proofs.Contents.{IsWithin, room-within, used-ends}
 use Rattle.ci_space.proofs.Places.{big_from-keeps}
 use Rattle.ci_overflow.specs.Lists.{bytes_at}
 use Rattle.ci_overflow.specs.Places.{base_of}
 use Rattle.ci_overflow.proofs.Joins.{tiles-used, tiles-interval}
-use Rattle.ci_overflow.specs.Rooms.{KeepsUsed, OnlyOneChanges, IsPut}
+use Rattle.ci_overflow.specs.Rooms.{IsPut}
 use Rattle.fp_model.specs.declared.definitions.SegDef.{SegDef}
 use Rattle.fp_model.specs.Order.{child_types}
-use Rattle.fp_model.specs.WellFormed.{EachFits, stored_length, has_sequential}
-use Rattle.root_anchor.specs.Elements.{Pointer, Segment, HasSegment, pointer_at, pointers_from, has_serial, serial_length, prefix_length, segment_length, content_length, segment_in}
+use Rattle.fp_model.specs.WellFormed.{EachFits, stored_length}
+use Rattle.root_anchor.specs.Elements.{Pointer, Segment, HasSegment, pointers_from, has_serial, serial_length, prefix_length, segment_length, content_length}
 use Rattle.root_anchor.specs.Stored.{AreTypes}
 use Rattle.root_anchor.specs.Puts.{PutsSegment, PutsRoot}
 use Rattle.root_anchor.specs.Spelling.{Spells, Says, firsts_at, bytes_from, spelled_length}
@@ -41,9 +41,10 @@ no_damage area ci n i = not_bad area ci (within_area area ci i) n i
 
 -- what a test of its room tells
 pub room_is : (bytes : List ℕ) (at n : ℕ) (got : List ℕ) → IsUsed bytes at → ((type : ℕ) (content : List ℕ) → HasUsed bytes at type content → got ≡ content) → IsTrue (nat_le n (length got)) ↔ HasRoom bytes at n
-room_is bytes at n got u f =
-    ( (λ t. record { segment = u.segment; content = u.content; used = u.used; fits = omega (arith, leb-true n (length got) t, ap length (f u.segment u.content u.used)) })
-    , (λ r. le-leb n (length got) (omega (arith, r.fits, ap length (f r.segment r.content r.used)))) )
+room_is bytes at n got u f = (
+  (λ t. record { segment = u.segment; content = u.content; used = u.used; fits = omega (arith, leb-true n (length got) t, ap length (f u.segment u.content u.used)) }),
+  (λ r. le-leb n (length got) (omega (arith, r.fits, ap length (f r.segment r.content r.used)))),
+)
 
 -- its type is set
 pub typed_used : (old new : List ℕ) (at type : ℕ) (u : IsUsed old at) → UsedBecomes old new at (λ _ content. Used type content) → HasUsed new at type u.content

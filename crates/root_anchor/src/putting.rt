@@ -11,7 +11,7 @@ ghost use Rattle.root_anchor.specs.Elements.{Segment, content_length, has_serial
 ghost use Rattle.root_anchor.specs.Chains.{anchor_count};
 ghost use Rattle.root_anchor.specs.Puts.{PutsSegment, PutsRoot};
 ghost use Rattle.root_anchor.specs.Stored.{AreTypes};
-ghost use Rattle.root_anchor.specs.Spelling.{Says, firsts_at};
+ghost use Rattle.root_anchor.specs.Spelling.{Says, said, spelled_length};
 
 use crate::fault::AnchorFault;
 use crate::spelling::{has_serial, spell, spelled_length, zeros};
@@ -41,6 +41,7 @@ fn get<I: Intervals>(i: &mut I, ci: u64) -> Result<Interval, AnchorFault>
     ensures interval { IfOk result IsInterval }
     ensures size { IfOk result (λ interval. length interval ≡ I.size i.old) }
     ensures sound { I.told i.old → IsInterval (bytes_at (I.intervals i.old) ci) → (n : ℕ) → ¬ (result ≡ Err (AnchorFault.Damaged n)) }
+    ensures damaged { (n : ℕ) → result ≡ Err (AnchorFault.Damaged n) → n ≡ ci }
     ensures failed { IsErrOf result AnchorFault.Failed → Rose (I.faults i.old) (I.faults i.new) }
     ensures same { I.told i.old → I.intervals i.new ≡ I.intervals i.old }
     ensures number { I.number i.new ≡ I.number i.old }
@@ -99,15 +100,9 @@ fn rewrite(interval: &mut Interval, at: u16, segment: u8, content: &[u8]) -> boo
 }
 
 /// Lets the used element at `at` say this, and answers whether that changed it.
-fn say(
-    interval: &mut Interval,
-    at: u16,
-    segment: u8,
-    with_serial: bool,
-    saying: Saying<'_>,
-) -> bool
-    requires { HasRoom interval.old at (firsts_at with_serial + 10 * length saying.firsts.now + length saying.bytes.now) }
-    ensures says { Says interval.new at segment with_serial (record { next = saying.entry.next; serial = saying.entry.serial; firsts = saying.entry.firsts.now; bytes = saying.entry.bytes.now }) }
+fn say(interval: &mut Interval, at: u16, segment: u8, with_serial: bool, saying: Saying<'_>) -> bool
+    requires { HasRoom interval.old at (spelled_length with_serial (said saying)) }
+    ensures says { Says interval.new at segment with_serial (said saying.entry) }
     ensures others { OthersStay interval.old interval.new at }
     ensures head { Keeps interval.old interval.new 0 32 }
     ensures size { SameSize interval.old interval.new }
@@ -136,6 +131,7 @@ pub(crate) fn put_segment<I: Intervals>(
     ensures put { I.told i.old → HasRoom (bytes_at (I.intervals i.old) at.0) at.1 (content_length segments.now segment)
         → OnOk result (PutsSegment segments.now (I.intervals i.old) (I.intervals i.new) segment at (record { next = saying.entry.next; serial = saying.entry.serial; firsts = saying.entry.firsts.now; bytes = saying.entry.bytes.now })) }
     ensures sound { I.told i.old → HasRoom (bytes_at (I.intervals i.old) at.0) at.1 (content_length segments.now segment) → (ci : ℕ) → ¬ (result ≡ Err (AnchorFault.Damaged ci)) }
+    ensures damaged { (ci : ℕ) → result ≡ Err (AnchorFault.Damaged ci) → ci ≡ at.0 }
     ensures failed { IsErrOf result AnchorFault.Failed → Rose (I.faults i.old) (I.faults i.new) }
     ensures number { I.number i.new ≡ I.number i.old }
     ensures goes_on { GoesOn I.told I.size I.faults I.keeps i.old i.new }
@@ -172,6 +168,7 @@ pub(crate) fn put_root<I: Intervals>(
     requires anchor { anchor < anchor_count shape.now }
     ensures put { I.told i.old → IsInPlace shape.now (I.intervals i.old) (base_of shape.now anchor) → OnOk result (PutsRoot shape.now (I.intervals i.old) (I.intervals i.new) anchor at) }
     ensures sound { I.told i.old → IsInPlace shape.now (I.intervals i.old) (base_of shape.now anchor) → (ci : ℕ) → ¬ (result ≡ Err (AnchorFault.Damaged ci)) }
+    ensures damaged { (ci : ℕ) → result ≡ Err (AnchorFault.Damaged ci) → ci ≡ base_of shape.now anchor }
     ensures failed { IsErrOf result AnchorFault.Failed → Rose (I.faults i.old) (I.faults i.new) }
     ensures number { I.number i.new ≡ I.number i.old }
     ensures goes_on { GoesOn I.told I.size I.faults I.keeps i.old i.new }

@@ -8,7 +8,7 @@ ghost use Rattle.ci_space.specs.Interval.{Keeps, IsZero};
 ghost use Rattle.ci_space.specs.Numbers.{PutsNumber};
 ghost use Rattle.fp_model.specs.WellFormed.{has_sequential};
 ghost use Rattle.root_anchor.specs.Elements.{Segment, pointer_at, pointers_from, has_serial};
-ghost use Rattle.root_anchor.specs.Spelling.{Spells, firsts_at, spelled_length};
+ghost use Rattle.root_anchor.specs.Spelling.{Spells, firsts_at, said, spelled_length};
 
 use crate::putting::Saying;
 use crate::standing::Pointer;
@@ -112,7 +112,7 @@ pub(crate) fn zeros() -> [u8; 4096]
 /// How many bytes say it.
 pub(crate) fn spelled_length(with_serial: bool, saying: Saying<'_>) -> usize
     requires { length saying.firsts.now + length saying.bytes.now < 2 ^ 32 }
-    ensures { result ≡ firsts_at with_serial + 10 * length saying.entry.firsts.now + length saying.entry.bytes.now }
+    ensures { result ≡ spelled_length with_serial (said saying.entry) }
 {
     let firsts = if with_serial { 18 } else { 10 };
     firsts + 10 * saying.firsts.len() + saying.bytes.len()
@@ -122,8 +122,8 @@ pub(crate) fn spelled_length(with_serial: bool, saying: Saying<'_>) -> usize
 pub(crate) fn spell(content: &mut [u8], with_serial: bool, saying: Saying<'_>)
     requires zeros { IsZero content.old 0 (length content.old) }
     requires least { 18 ≤ length content.old }
-    requires room { firsts_at with_serial + 10 * length saying.firsts.now + length saying.bytes.now ≤ length content.old }
-    ensures { Spells content.new with_serial (record { next = saying.entry.next; serial = saying.entry.serial; firsts = saying.entry.firsts.now; bytes = saying.entry.bytes.now }) }
+    requires room { spelled_length with_serial (said saying) ≤ length content.old }
+    ensures { Spells content.new with_serial (said saying.entry) }
 {
     put_pointer(content, 0, saying.next);
     let from = put_serial(content, with_serial, saying.serial);

@@ -11,7 +11,7 @@ pub returns-then-head-ne-BASE-clause-sound : goal.returns-then-head-ne-BASE-clau
 returns-then-head-ne-BASE-clause-sound g c = λ t p ci e.
     c.if-head-ne-BASE.true
     (ap (λ h. h.kind) c.head-head.ensures.head ∙ ap kind_of (c.in_ok-interval.ensures.bytes t) ∙ ap (λ k. kind_of (bytes_at (g.I.Intervals.intervals c.args.i.now) k)) c.base_of-base.ensures
-      ∙ p.is_kind ∙ base_kind c.args.shape.now c.args.anchor c.requires.anchor)
+    ∙ p.is_kind ∙ base_kind c.args.shape.now c.args.anchor c.requires.anchor)
 
 pub returns-then-eq-clause-put : goal.returns-then-eq-clause-put
 returns-then-eq-clause-put g c = λ t p.
@@ -25,3 +25,6 @@ returns-clause-put g c = λ t p.
 
 pub returns-clause-goes_on : goal.returns-clause-goes_on
 returns-clause-goes_on g c = goes_on_joined _ _ _ _ _ _ _ c.get.ensures.goes_on c.put.ensures.goes_on
+
+pub returns-clause-damaged : goal.returns-clause-damaged
+returns-clause-damaged g c = λ ci e. absurd (c.put.ensures.sound ci e)

@@ -1,4 +1,4 @@
-use Rattle.std.proofs.Common.{◌≡◌, ◌∙◌, sym, ap}
+use Rattle.std.proofs.Common.{◌≡◌, ◌∙◌, ap}
 use Rattle.ci_overflow.proofs.Joins.{on_ok-map}
 use Rattle.root_anchor.specs.Elements.{has_serial}
 use Rattle.root_anchor.proofs.ElementLemmas.{parts_bound, puts_segment, stays_segment}
@@ -17,5 +17,5 @@ pub returns-clause-put : goal.returns-clause-put
 returns-clause-put g c = λ t r.
     let h : c.has_serial-with_serial.result ≡ has_serial c.args.segments.now c.args.segment = c.has_serial-with_serial.ensures ∙ ap (λ types. has_serial types c.args.segment) c.as_slice.ensures in
     on_ok-map _ _ _ (λ put. puts_segment _ _ _ _ _ _ _ _ _ _ (c.in_ok-interval.ensures.same t) (c.in_ok-interval.ensures.bytes t) put
-      h c.requires.firsts c.requires.bytes c.requires.serial c.say.ensures.says c.say.ensures.others c.say.ensures.head)
+    h c.requires.firsts c.requires.bytes c.requires.serial c.say.ensures.says c.say.ensures.others c.say.ensures.head)
     (c.put.ensures.put (c.get.ensures.goes_on.tells t))
