@@ -7,3 +7,6 @@ mod spelling;
 mod standing;
 
 pub use fault::AnchorFault;
+
+#[cfg(test)]
+mod putting_tests;

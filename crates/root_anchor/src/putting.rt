@@ -75,7 +75,7 @@ fn put<I: Intervals>(i: &mut I, ci: u64, interval: Interval) -> Result<(), Ancho
 }
 
 /// Whether a used element with room for so many bytes stands there.
-fn has_room(interval: &Interval, at: u16, length: usize) -> bool
+pub(crate) fn has_room(interval: &Interval, at: u16, length: usize) -> bool
     ensures { IsTrue result ↔ HasRoom interval.now at length }
 {
     interval.is_used(at) && length <= interval.content(at).len()
@@ -100,7 +100,13 @@ fn rewrite(interval: &mut Interval, at: u16, segment: u8, content: &[u8]) -> boo
 }
 
 /// Lets the used element at `at` say this, and answers whether that changed it.
-fn say(interval: &mut Interval, at: u16, segment: u8, with_serial: bool, saying: Saying<'_>) -> bool
+pub(crate) fn say(
+    interval: &mut Interval,
+    at: u16,
+    segment: u8,
+    with_serial: bool,
+    saying: Saying<'_>,
+) -> bool
     requires { HasRoom interval.old at (spelled_length with_serial (said saying)) }
     ensures says { Says interval.new at segment with_serial (said saying.entry) }
     ensures others { OthersStay interval.old interval.new at }
