@@ -120,7 +120,11 @@ pub(crate) fn say(
     rewrite(interval, at, segment, &content[..length])
 }
 
-/// Puts a segment of this type into the used element at a pointer, where it says something else.
+/// Puts a segment of this type into the used element at a pointer, where it says something else. An
+/// element that says it already is not written again.
+///
+/// `Damaged` names the interval of the pointer: it stands outside the area, its bytes are no interval,
+/// or no used element with room for the segment stands at the place.
 pub(crate) fn put_segment<I: Intervals>(
     i: &mut I,
     segments: &List<SegDef>,
@@ -164,7 +168,10 @@ fn base_of(shape: &Shape, anchor: u32) -> u64
     1 + u64::from(uow) * parts + u64::from(anchor % u32::from(shape.base))
 }
 
-/// Puts the root anchor point of an anchor.
+/// Puts the root anchor point of an anchor, where it is another one.
+///
+/// `Damaged` names the anchor's base interval: the area ends before it, or its bytes are no interval of
+/// kind 2.
 pub(crate) fn put_root<I: Intervals>(
     i: &mut I,
     shape: &Shape,
