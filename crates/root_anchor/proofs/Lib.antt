@@ -1,5 +1,6 @@
 pub mod Members
 pub mod Framing
 pub mod ReadLemmas
+pub mod WalkLemmas
 pub mod OneChain
 pub mod Sound

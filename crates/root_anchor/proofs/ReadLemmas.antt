@@ -3,6 +3,7 @@ use Rattle.std.proofs.Common.{IsTrue, ◌↔◌, ◌≡◌, ◌≢◌, ℕ, zero
 use Rattle.std.specs.List.{Contains}
 use Rattle.std.proofs.lemmas.List.{map-append, length-append, get_or_past}
 use Rattle.ci_space.specs.Interval.{IsInterval, HasUsed, IsUsed}
+use Rattle.ci_space.proofs.Contents.{used-within}
 use Rattle.ci_overflow.specs.Lists.{bytes_at}
 use Rattle.fp_model.specs.declared.definitions.SegDef.{SegDef}
 use Rattle.fp_model.specs.Order.{numbers_from}
@@ -67,6 +68,10 @@ none_typed {type = type} other same differs s h = differs (same type h.content h
 pub none_whole : {types : List SegDef} {bytes : List ℕ} {type at : ℕ} (content : List ℕ) → ((other : ℕ) (more : List ℕ) → HasUsed bytes at other more → content ≡ more)
     → ¬ IsWhole types type content → (s : Segment) → ¬ Holds types bytes type at s
 none_whole {types} {type = type} content same none s h = none (subst (λ c. IsWhole types type c) (sym (same type h.content h.used)) h.is_whole)
+
+-- a used element begins within the interval
+pub used_inside : (bytes : List ℕ) (at : ℕ) → IsUsed bytes at → at < 4096
+used_inside bytes at u = let w = used-within bytes at u in omega (arith, w.four, w.limit)
 
 -- a wrong pointer
 no_bytes : IsInterval [] → ⊥

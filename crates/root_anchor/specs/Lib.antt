@@ -6,3 +6,4 @@ pub mod Stored
 pub mod Puts
 pub mod Standing
 pub mod Reading
+pub mod Walking

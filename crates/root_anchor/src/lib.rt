@@ -5,5 +5,6 @@ mod element;
 mod fault;
 mod putting;
 mod standing;
+mod walk;
 
 pub use fault::AnchorFault;
