@@ -17,9 +17,11 @@ use Rattle.std.proofs.lemmas.Map.Steps.{length-le_from_distinct_below}
 use Rattle.std.proofs.lemmas.Map.Views.{Contains-from_any}
 use Rattle.root_anchor.specs.declared.standing.Standing.{Standing}
 use Rattle.root_anchor.specs.declared.walk.Walk.{Walk}
-use Rattle.root_anchor.specs.Elements.{Pointer}
-use Rattle.root_anchor.specs.Standing.{places_of}
-use Rattle.root_anchor.specs.Walking.{place_cmp, met_of, IsWalk}
+use Rattle.fp_model.specs.declared.definitions.SegDef.{SegDef}
+use Rattle.root_anchor.specs.Elements.{Pointer, Segment, HasSegment}
+use Rattle.root_anchor.specs.Damage.{IsWrong, leads_back}
+use Rattle.root_anchor.specs.Standing.{places_of, Stands}
+use Rattle.root_anchor.specs.Walking.{place_cmp, met_of, IsWalk, AllStand}
 use Rattle.root_anchor.proofs.Members.{none_in, front_in, behind_in, in_cases}
 
 -- ---- the other way round
@@ -143,3 +145,16 @@ few_met number walk w =
     let bound : length (map code places) ≤ number * 4096 =
     length-le_from_distinct_below (map code places) (number * 4096) distinct (λ q h. All-contains (λ n. n < number * 4096) (map code places) q below (Contains-from_any (λ x y. eqb-true x y) q (map code places) h)) in
     omega (arith, bound, length-map places code, length-map walk.met.items (λ s. s.at))
+
+-- ---- one element
+
+pub wrong_met : (types : List SegDef) (area : List (List ℕ)) (met : List Pointer) (from ci type : ℕ) (at : Pointer) → from ≡ ci → Contains met at → IsWrong types area met from type at ci
+wrong_met types area met from ci type at e m = subst (λ n. IsWrong types area met from type at n) e (leads_back m)
+
+pub all_stand_pushed : (types : List SegDef) (area : List (List ℕ)) (old new : Walk) (s : Standing) (segment : Segment) → HasSegment types area s.segment s.at segment
+    → new.met.items ≡ old.met.items ++ s ∷ [] → AllStand types area old → AllStand types area new
+all_stand_pushed types area old new s segment has e stand other m =
+    elim (Contains-push_cases old.met.items s other (subst (λ l. Contains l other) e m)) as (λ _. Stands types area other) [
+      | inl o ↦ stand other o
+      | inr same ↦ subst (λ x. Stands types area x) same (record { segment = segment; has = has })
+    ]

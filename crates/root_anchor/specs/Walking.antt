@@ -43,10 +43,12 @@ pub record IsLook {I : Type 0} (told : I → Type 0) (intervals : I → List (Li
   pub same_number : number new ≡ number old
   pub goes_on : GoesOn told size faults keeps old new
 
--- a pointer of this type leads to this row: whichever rows follow it, they follow it
+-- a pointer of this type leads to this row: whatever follows it, rows or a wrong pointer, follows it
 pub record IsRow (types : List SegDef) (area : List (List ℕ)) (met : List Pointer) (type : ℕ) (at : Pointer) (row : List Node) (after : List Pointer) : Type 0 where
   pub in_front : (more : List ℕ) (firsts : List Pointer) (rows : List (List Node)) (last : List Pointer)
       → AreRows types area after more firsts rows last → AreRows types area met (type ∷ more) (at ∷ firsts) (row ∷ rows) last
+  pub behind : (home from : ℕ) (more : List ℕ) (firsts : List Pointer) (ci : ℕ)
+      → RowsFail types area after home home more firsts ci → RowsFail types area met home from (type ∷ more) (at ∷ firsts) ci
 
 -- a pointer of this type in the interval `from` comes to a wrong one, whichever pointers follow it
 pub record RowFails (types : List SegDef) (area : List (List ℕ)) (met : List Pointer) (from type : ℕ) (at : Pointer) (ci : ℕ) : Type 0 where

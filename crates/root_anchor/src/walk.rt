@@ -102,3 +102,114 @@ impl Walk {
         self.meet(Standing { segment, at, key })
     }
 }
+
+/// Meets the element at a pointer in the interval `from`, and says what stands in it.
+fn visit<I: Intervals>(
+    alloc: Global,
+    i: &mut I,
+    walk: &mut Walk,
+    segments: &List<SegDef>,
+    segment: u8,
+    from: u64,
+    at: Pointer,
+) -> Result<Said, AnchorFault>
+    requires few { length segments.now ≤ 15 }
+    requires defined { segment < length segments.now }
+    requires walk { IsWalk (I.number i.old) walk.old }
+
+    // What the element says, which wasn't met before.
+    ensures says { I.told i.old → IfOk result (λ said. HasSegment segments.now (I.intervals i.old) segment at (segment_of said)) }
+    ensures types { IfOk result (λ said. types_of said.firsts.items ≡ child_types segments.now segment) }
+    ensures fresh { OnOk result (¬ Contains (met_of walk.old) at) }
+    ensures wrong { I.told i.old → (ci : ℕ) → result ≡ Err (AnchorFault.Damaged ci) → IsWrong segments.now (I.intervals i.old) (met_of walk.old) from segment at ci }
+    ensures failed { IsErrOf result AnchorFault.Failed → Rose (I.faults i.old) (I.faults i.new) }
+
+    // It is met now.
+    ensures met { OnOk result (met_of walk.new ≡ at ∷ met_of walk.old) }
+    ensures more { OnOk result (length walk.old.met.items < length walk.new.met.items) }
+    ensures walk { OnOk result (IsWalk (I.number i.old) walk.new) }
+    ensures stand { I.told i.old → AllStand segments.now (I.intervals i.old) walk.old → OnOk result (AllStand segments.now (I.intervals i.old) walk.new) }
+    ensures look { IsLook I.told I.intervals I.number I.size I.faults I.keeps i.old i.new }
+{
+    if walk.has_met(at) {
+        return Err(AnchorFault::Damaged(from));
+    }
+    let said = read_element(alloc, i, segments, segment, from, at)?;
+    walk.note(alloc, segments, segment, at, &said.bytes)?;
+    Ok(said)
+}
+
+/// The row of segments of a type to whose first one a pointer in the interval `home` leads, each with all below it.
+#[cycle(walk)]
+fn row<I: Intervals>(
+    alloc: Global,
+    i: &mut I,
+    walk: &mut Walk,
+    segments: &List<SegDef>,
+    segment: u8,
+    home: u64,
+    first: Pointer,
+) -> Result<List<Node>, AnchorFault>
+    requires few { length segments.now ≤ 15 }
+    requires places { HavePlaces 0 segments.now }
+    requires defined { segment < length segments.now }
+    requires walk { IsWalk (I.number i.old) walk.old }
+
+    ensures row { I.told i.old → IfOk result (λ row. IsRow segments.now (I.intervals i.old) (met_of walk.old) segment first row (met_of walk.new)) }
+    ensures damaged { I.told i.old → (ci : ℕ) → result ≡ Err (AnchorFault.Damaged ci) → RowFails segments.now (I.intervals i.old) (met_of walk.old) home segment first ci }
+    ensures failed { IsErrOf result AnchorFault.Failed → Rose (I.faults i.old) (I.faults i.new) }
+
+    ensures walk { OnOk result (WalksOn (I.number i.old) walk.old walk.new) }
+    ensures stand { I.told i.old → AllStand segments.now (I.intervals i.old) walk.old → OnOk result (AllStand segments.now (I.intervals i.old) walk.new) }
+    ensures look { IsLook I.told I.intervals I.number I.size I.faults I.keeps i.old i.new }
+{
+    let mut row = List::new(alloc);
+    let mut from = home;
+    let mut at = first;
+    while !is_nothing(at) {
+        let Said {
+            next,
+            serial: _,
+            firsts,
+            bytes,
+        } = visit(alloc, i, walk, segments, segment, from, at)?;
+        let children = rows(alloc, i, walk, segments, segment, at.0, firsts.as_slice())?;
+        row.push(Node { bytes, children })?;
+        from = at.0;
+        at = next;
+    }
+    Ok(row)
+}
+
+/// The rows below a segment of a type in the interval `home`, one for each direct child type.
+#[cycle(walk)]
+fn rows<I: Intervals>(
+    alloc: Global,
+    i: &mut I,
+    walk: &mut Walk,
+    segments: &List<SegDef>,
+    segment: u8,
+    home: u64,
+    firsts: &[First],
+) -> Result<List<List<Node>>, AnchorFault>
+    requires few { length segments.now ≤ 15 }
+    requires places { HavePlaces 0 segments.now }
+    requires defined { segment < length segments.now }
+    requires children { types_of firsts.now ≡ child_types segments.now segment }
+    requires walk { IsWalk (I.number i.old) walk.old }
+
+    ensures rows { I.told i.old → IfOk result (λ rows. AreRows segments.now (I.intervals i.old) (met_of walk.old) (types_of firsts.now) (pointers_of firsts.now) rows (met_of walk.new)) }
+    ensures damaged { I.told i.old → (ci : ℕ) → result ≡ Err (AnchorFault.Damaged ci) → RowsFail segments.now (I.intervals i.old) (met_of walk.old) home home (types_of firsts.now) (pointers_of firsts.now) ci }
+    ensures failed { IsErrOf result AnchorFault.Failed → Rose (I.faults i.old) (I.faults i.new) }
+
+    ensures walk { OnOk result (WalksOn (I.number i.old) walk.old walk.new) }
+    ensures stand { I.told i.old → AllStand segments.now (I.intervals i.old) walk.old → OnOk result (AllStand segments.now (I.intervals i.old) walk.new) }
+    ensures look { IsLook I.told I.intervals I.number I.size I.faults I.keeps i.old i.new }
+{
+    let mut rows = List::new(alloc);
+    for first in firsts {
+        let read = row(alloc, i, walk, segments, first.segment, home, first.at)?;
+        rows.push(read)?;
+    }
+    Ok(rows)
+}
