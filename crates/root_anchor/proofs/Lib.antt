@@ -1,3 +1,10 @@
 pub mod PutLemmas
 pub mod SpellingLemmas
 pub mod ElementLemmas
+pub mod Members
+pub mod Framing
+pub mod ReadLemmas
+pub mod WalkLemmas
+pub mod WalkSteps
+pub mod OneChain
+pub mod Sound

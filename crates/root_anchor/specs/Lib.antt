@@ -6,3 +6,5 @@ pub mod Stored
 pub mod Puts
 pub mod Standing
 pub mod Spelling
+pub mod Reading
+pub mod Walking

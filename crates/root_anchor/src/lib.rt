@@ -1,10 +1,12 @@
 //! The roots of an anchor, as the elements of an area hold them.
 #![tactic(auto)]
 
+mod element;
 mod fault;
 mod putting;
 mod spelling;
 mod standing;
+mod walk;
 
 pub use fault::AnchorFault;
 
