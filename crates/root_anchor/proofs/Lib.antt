@@ -3,8 +3,12 @@ pub mod Exchanging
 pub mod Steps
 pub mod PutLemmas
 pub mod SpellingLemmas
+pub mod ElementLemmas
 pub mod Members
 pub mod Framing
+pub mod ReadLemmas
+pub mod WalkLemmas
+pub mod WalkSteps
 pub mod OneChain
 pub mod Sound
 pub mod Rebuilt

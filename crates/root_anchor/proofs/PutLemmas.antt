@@ -6,7 +6,7 @@ use Rattle.std.proofs.lemmas.Bool.{cases_lt}
 use Rattle.ci_space.specs.declared.intervals.Shape.{Shape}
 use Rattle.ci_space.specs.declared.head.Head.{Head}
 use Rattle.ci_space.specs.Element.{Free}
-use Rattle.ci_space.specs.Interval.{kind_of, has_elements, HasUsed, IsUsed, IsInterval, IsEmpty}
+use Rattle.ci_space.specs.Interval.{kind_of, has_elements, HasUsed, IsUsed, HasRoom, IsInterval, IsEmpty}
 use Rattle.ci_space.specs.Head.{head_of, ends_of}
 use Rattle.ci_space.proofs.Standing.{used-stands, untiled-none, interval-bounds}
 use Rattle.ci_overflow.specs.Places.{first_base, first_sequential, first_independent, uow_of, base_of, kind_at}
@@ -17,7 +17,7 @@ use Rattle.ci_overflow.proofs.Joins.{keeps-head}
 use Rattle.ci_overflow.proofs.Finds.{same_or, control-first, base-some}
 use Rattle.ci_overflow.proofs.Orders.{list-stays}
 use Rattle.fp_model.specs.declared.definitions.SegDef.{SegDef}
-use Rattle.root_anchor.specs.Elements.{Pointer, Segment, HasSegment}
+use Rattle.root_anchor.specs.Elements.{Pointer, Segment, HasSegment, content_length}
 use Rattle.root_anchor.specs.Chains.{anchor_count, root_of}
 use Rattle.root_anchor.specs.Stored.{KeepsSequential}
 use Rattle.root_anchor.specs.Puts.{PutsSegment, PutsRoot}
@@ -201,6 +201,14 @@ put_adds_no_used types old new type at s g p t content n h = elim (same_or p.0 a
   | inr e ↦ (g.others.elsewhere p.0 e).none_comes p.1 t content h
 ]
 
+-- so do its room and that of the element that is put
+pub put_keeps_room : (types : List SegDef) (old new : List (List ℕ)) (type : ℕ) (at : Pointer) (s : Segment) → PutsSegment types old new type at s
+    → (p : Pointer) (n : ℕ) → p ≢ at → HasRoom (bytes_at old p.0) p.1 n → HasRoom (bytes_at new p.0) p.1 n
+put_keeps_room types old new type at s g p n a r = record { segment = r.segment; content = r.content; used = put_keeps_used types old new type at s g p r.segment r.content a r.used; fits = r.fits }
+
+pub put_has_room : (types : List SegDef) (old new : List (List ℕ)) (type : ℕ) (at : Pointer) (s : Segment) → PutsSegment types old new type at s → HasRoom (bytes_at new at.0) at.1 (content_length types type)
+put_has_room types old new type at s g = record { segment = type; content = g.stands.content; used = g.stands.used; fits = g.stands.fits }
+
 -- a segment stays where its element does
 pub segment_stays : (types : List SegDef) (old new : List (List ℕ)) (type : ℕ) (p : Pointer) (q : Segment) → ((content : List ℕ) → HasUsed (bytes_at old p.0) p.1 type content → HasUsed (bytes_at new p.0) p.1 type content)
     → HasSegment types old type p q → HasSegment types new type p q
@@ -275,6 +283,10 @@ root_keeps_used shape old new anchor at p ci = elim (same_or ci (base_of shape a
     none_comes = λ place segment content u. rw (p.elsewhere ci e) at u;
   }
 ]
+
+pub root_keeps_room : (shape : Shape) (old new : List (List ℕ)) (anchor : ℕ) (at : Pointer) → PutsRoot shape old new anchor at
+    → (p : Pointer) (n : ℕ) → HasRoom (bytes_at old p.0) p.1 n → HasRoom (bytes_at new p.0) p.1 n
+root_keeps_room shape old new anchor at g p n r = record { segment = r.segment; content = r.content; used = (root_keeps_used shape old new anchor at g p.0).stay p.1 r.segment r.content r.used; fits = r.fits }
 
 pub root_keeps_segment : (shape : Shape) (types : List SegDef) (old new : List (List ℕ)) (anchor : ℕ) (at : Pointer) → PutsRoot shape old new anchor at
     → (t : ℕ) (p : Pointer) (q : Segment) → HasSegment types old t p q → HasSegment types new t p q

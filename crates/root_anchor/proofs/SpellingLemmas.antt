@@ -1,13 +1,12 @@
 -- Parts that are put into an element's content.
-use Rattle.std.proofs.Common.{◌≡◌, ℕ, zero, suc, ◌+◌, ◌-◌, ◌*◌, ◌<◌, ◌≤◌, List, [], ◌∷◌, ◌++◌, length, get_or, take, drop, slice_range, slice_index, Bool, true, false, IsTrue, refl, sym, ap, ◌∙◌, arith, rules}
+use Rattle.std.proofs.Common.{◌≡◌, ℕ, zero, suc, ◌+◌, ◌*◌, ◌<◌, ◌≤◌, List, [], ◌∷◌, ◌++◌, length, get_or, take, slice_range, Bool, true, false, IsTrue, refl, sym, ap, ◌∙◌, arith}
 use Rattle.std.proofs.lemmas.List.{take_more}
 use Rattle.byteorder.specs.Endian.{big_from}
 use Rattle.ci_space.specs.Interval.{IsZero, Keeps}
 use Rattle.ci_space.specs.Numbers.{PutsNumber}
-use Rattle.ci_space.proofs.Chains.{range-keeps}
 use Rattle.ci_space.proofs.Places.{big_from-keeps}
 use Rattle.root_anchor.specs.Elements.{Pointer, Segment, nothing, pointer_at, pointers_from}
-use Rattle.root_anchor.specs.Spelling.{Spells, firsts_at, bytes_from, spelled_length}
+use Rattle.root_anchor.specs.Spelling.{Spells, firsts_at}
 use Rattle.root_anchor.proofs.PutLemmas.{same_pointer}
 
 -- ---- pointers

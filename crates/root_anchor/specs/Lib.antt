@@ -8,3 +8,4 @@ pub mod Standing
 pub mod Rebuilding
 pub mod Spelling
 pub mod Reading
+pub mod Walking

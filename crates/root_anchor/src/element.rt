@@ -6,7 +6,7 @@
 //! sequential type.
 
 ghost use Rattle.byteorder.specs.Endian.{big_from};
-ghost use Rattle.std.specs.Prelude.{if◌then◌else◌, List, ◌≡◌, ◌↔◌, ◌&&◌, not, ◌^◌, ◌+◌, ◌*◌, ◌≤◌, ◌<◌, ℕ, Err, length, IsTrue, IfOk, OnOk, IfSome, IfNone, IsErrOf, All, slice_range};
+ghost use Rattle.std.specs.Prelude.{if◌then◌else◌, List, ◌≡◌, ◌↔◌, ◌&&◌, not, ◌^◌, ◌+◌, ◌*◌, ◌≤◌, ◌<◌, ◌⊎◌, ℕ, Err, length, IsTrue, IfOk, OnOk, IfSome, IfNone, OnSome, IsErrOf, All, slice_range};
 ghost use Rattle.ci_space.specs.Calls.{Rose, GoesOn};
 ghost use Rattle.ci_space.specs.Interval.{IsInterval, IsZero};
 ghost use Rattle.ci_overflow.specs.Lists.{bytes_at};
@@ -83,7 +83,7 @@ fn has_sequential(segments: &[SegDef]) -> bool
 }
 
 /// Whether an element of a type has a newest serial.
-fn has_serial(segments: &List<SegDef>, segment: u8) -> bool
+pub(crate) fn has_serial(segments: &List<SegDef>, segment: u8) -> bool
     ensures { result ≡ has_serial segments.now segment }
 {
     segment == 0 && has_sequential(segments.as_slice())
@@ -228,6 +228,7 @@ fn said_at(
     requires defined { segment < length segments.now }
     ensures some { IfOk result (λ said. IfSome said (λ said. Holds segments.now interval.now segment at (segment_of said))) }
     ensures types { IfOk result (λ said. IfSome said (λ said. types_of said.firsts.items ≡ child_types segments.now segment)) }
+    ensures inside { IfOk result (λ said. OnSome said (at < 4096)) }
     ensures none { IfOk result (λ said. IfNone said ((s : Segment) → ¬ Holds segments.now interval.now segment at s)) }
 {
     if !interval.is_used(at) || interval.type_at(at) != segment {
@@ -250,7 +251,9 @@ pub(crate) fn interval_at<I: Intervals>(
     ensures bytes { I.told i.old → IfOk result (λ interval. interval ≡ bytes_at (I.intervals i.old) ci) }
     ensures below { OnOk result (ci < I.number i.old) }
     ensures interval { IfOk result IsInterval }
+    ensures size { IfOk result (λ interval. length interval ≡ I.size i.old) }
     ensures missing { I.told i.old → (n : ℕ) → result ≡ Err (AnchorFault.Damaged n) → IsMissing (I.intervals i.old) from ci n }
+    ensures named { (n : ℕ) → result ≡ Err (AnchorFault.Damaged n) → (n ≡ from) ⊎ (n ≡ ci) }
     ensures failed { IsErrOf result AnchorFault.Failed → Rose (I.faults i.old) (I.faults i.new) }
     ensures same { I.told i.old → I.intervals i.new ≡ I.intervals i.old }
     ensures number { I.number i.new ≡ I.number i.old }
@@ -281,6 +284,7 @@ pub(crate) fn read_element<I: Intervals>(
     ensures says { I.told i.old → IfOk result (λ said. HasSegment segments.now (I.intervals i.old) segment at (segment_of said)) }
     ensures types { IfOk result (λ said. types_of said.firsts.items ≡ child_types segments.now segment) }
     ensures below { OnOk result (at.0 < I.number i.old) }
+    ensures inside { OnOk result (at.1 < 4096) }
     ensures wrong { I.told i.old → (ci : ℕ) → result ≡ Err (AnchorFault.Damaged ci) → (met : List Pointer) → IsWrong segments.now (I.intervals i.old) met from segment at ci }
     ensures failed { IsErrOf result AnchorFault.Failed → Rose (I.faults i.old) (I.faults i.new) }
     ensures same { I.told i.old → I.intervals i.new ≡ I.intervals i.old }

@@ -8,5 +8,9 @@ mod plan;
 mod putting;
 mod spelling;
 mod standing;
+mod walk;
 
 pub use fault::AnchorFault;
+
+#[cfg(test)]
+mod putting_tests;

@@ -2,37 +2,16 @@
 //!
 //!     next twin 10 | newest serial 8, at a root where there is a sequential type | first child 10, of each child type | segment | zeros ..
 
-ghost use Rattle.std.specs.Prelude.{◌≡◌, ◌+◌, ◌*◌, ◌≤◌, length, slice_range, IsTrue};
+ghost use Rattle.std.specs.Prelude.{◌≡◌, ◌+◌, ◌*◌, ◌^◌, ◌<◌, ◌≤◌, length, slice_range, IsTrue};
 ghost use Rattle.byteorder.specs.Endian.{big_from};
 ghost use Rattle.ci_space.specs.Interval.{Keeps, IsZero};
 ghost use Rattle.ci_space.specs.Numbers.{PutsNumber};
-ghost use Rattle.fp_model.specs.WellFormed.{has_sequential};
-ghost use Rattle.root_anchor.specs.Elements.{Segment, pointer_at, pointers_from, has_serial};
-ghost use Rattle.root_anchor.specs.Spelling.{Spells, firsts_at, spelled_length};
+ghost use Rattle.root_anchor.specs.Elements.{pointer_at, pointers_from};
+ghost use Rattle.root_anchor.specs.Spelling.{Spells, firsts_at, said, spelled_length};
 
 use crate::putting::Saying;
 use crate::standing::Pointer;
 use byteorder::{BigEndian, ByteOrder};
-use fp_model::SegDef;
-
-/// Whether one of the types is sequential.
-fn has_sequential(segments: &[SegDef]) -> bool
-    ensures { result ≡ has_sequential segments.now }
-{
-    for def in segments {
-        if def.sequential {
-            return true;
-        }
-    }
-    false
-}
-
-/// Whether the elements of a type have a newest serial.
-pub(crate) fn has_serial(segments: &[SegDef], segment: u8) -> bool
-    ensures { result ≡ has_serial segments.now segment }
-{
-    segment == 0 && has_sequential(segments)
-}
 
 /// Puts a number into the 8 bytes from `at` on.
 fn put_number(content: &mut [u8], at: usize, number: u64)
@@ -102,12 +81,28 @@ fn put_bytes(content: &mut [u8], at: usize, bytes: &[u8])
     content[at..at + bytes.len()].copy_from_slice(bytes);
 }
 
+/// Zeros to spell a content into: as many as the largest interval has bytes.
+pub(crate) fn zeros() -> [u8; 4096]
+    ensures { IsZero result 0 4096 }
+{
+    [0; 4096]
+}
+
+/// How many bytes say it.
+pub(crate) fn spelled_length(with_serial: bool, saying: Saying<'_>) -> usize
+    requires { length saying.firsts.now + length saying.bytes.now < 2 ^ 32 }
+    ensures { result ≡ spelled_length with_serial (said saying.entry) }
+{
+    let firsts = if with_serial { 18 } else { 10 };
+    firsts + 10 * saying.firsts.len() + saying.bytes.len()
+}
+
 /// Puts what an element is to say into zeros.
 pub(crate) fn spell(content: &mut [u8], with_serial: bool, saying: Saying<'_>)
     requires zeros { IsZero content.old 0 (length content.old) }
     requires least { 18 ≤ length content.old }
-    requires room { firsts_at with_serial + 10 * length saying.firsts.now + length saying.bytes.now ≤ length content.old }
-    ensures { Spells content.new with_serial (record { next = saying.entry.next; serial = saying.entry.serial; firsts = saying.entry.firsts.now; bytes = saying.entry.bytes.now }) }
+    requires room { spelled_length with_serial (said saying) ≤ length content.old }
+    ensures { Spells content.new with_serial (said saying.entry) }
 {
     put_pointer(content, 0, saying.next);
     let from = put_serial(content, with_serial, saying.serial);
