@@ -13,7 +13,7 @@ use Rattle.fp_model.specs.declared.database.Root.{Root}
 use Rattle.fp_model.specs.Order.{child_types}
 use Rattle.root_anchor.specs.Elements.{Pointer, nothing, Segment, segment_in, HasSegment}
 use Rattle.root_anchor.specs.Chains.{AreRows, no_row, row_end, segment, newest, AreRoots, no_root, root, root_of, IsChain}
-use Rattle.root_anchor.specs.Damage.{IsWrong, leads_to_no_interval, leads_to_no_segment, leads_back, RowsFail, here, below, at_twin, next_row, RootsFail, root_here, below_root, next_root, ChainFails, no_base, wrong_pointer}
+use Rattle.root_anchor.specs.Damage.{IsWrong, leads_to_no_interval, leads_to_no_element, leads_to_no_segment, leads_back, RowsFail, here, below, at_twin, next_row, RootsFail, root_here, below_root, next_root, ChainFails, no_base, wrong_pointer}
 use Rattle.root_anchor.proofs.Members.{none_in, in_cases}
 
 -- ---- segments
