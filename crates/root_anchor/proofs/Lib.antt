@@ -5,3 +5,6 @@ pub mod WalkLemmas
 pub mod WalkSteps
 pub mod OneChain
 pub mod Sound
+pub mod PutLemmas
+pub mod SpellingLemmas
+pub mod ElementLemmas

@@ -7,3 +7,4 @@ pub mod Puts
 pub mod Standing
 pub mod Reading
 pub mod Walking
+pub mod Spelling

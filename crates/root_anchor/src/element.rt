@@ -18,6 +18,7 @@ ghost use Rattle.root_anchor.specs.Damage.{IsWrong};
 ghost use Rattle.root_anchor.specs.Stored.{AreTypes};
 
 use crate::fault::AnchorFault;
+use crate::spelling::has_serial;
 use crate::standing::Pointer;
 use byteorder::{BigEndian, ByteOrder};
 use ci_space::{GetFault, Interval, Intervals};
@@ -70,25 +71,6 @@ fn is_zero_from(bytes: &[u8], from: usize) -> bool
     all_zero(&bytes[from..bytes.len()])
 }
 
-/// Whether one of the types is sequential.
-fn has_sequential(segments: &[SegDef]) -> bool
-    ensures { result ≡ has_sequential segments.now }
-{
-    for def in segments {
-        if def.sequential {
-            return true;
-        }
-    }
-    false
-}
-
-/// Whether an element of a type has a newest serial.
-fn has_serial(segments: &List<SegDef>, segment: u8) -> bool
-    ensures { result ≡ has_serial segments.now segment }
-{
-    segment == 0 && has_sequential(segments.as_slice())
-}
-
 /// Whether a type is a direct child type of another, and no sequential one.
 fn is_child_of(def: &SegDef, parent: u8) -> bool
     ensures { result ≡ (is_child_of parent def.now && not def.now.sequential) }
@@ -115,7 +97,7 @@ fn serial_length(segments: &List<SegDef>, segment: u8) -> usize
     ensures exact { result ≡ serial_length segments.now segment }
     ensures small { result ≤ 8 }
 {
-    if has_serial(segments, segment) { 8 } else { 0 }
+    if has_serial(segments.as_slice(), segment) { 8 } else { 0 }
 }
 
 /// How many bytes stand in front of a segment of a type.
@@ -143,7 +125,7 @@ fn serial_in(segments: &List<SegDef>, segment: u8, content: &[u8]) -> u64
     requires { 10 + serial_length segments.now segment ≤ length content.now }
     ensures { result ≡ (if has_serial segments.now segment then big_from 10 8 content.now else 0) }
 {
-    if has_serial(segments, segment) {
+    if has_serial(segments.as_slice(), segment) {
         BigEndian::read_u64(&content[10..])
     } else {
         0

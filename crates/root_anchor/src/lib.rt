@@ -6,8 +6,12 @@ mod element;
 mod fault;
 mod loading;
 mod putting;
+mod spelling;
 mod standing;
 mod walk;
 
 pub use fault::AnchorFault;
 pub use loading::load;
+
+#[cfg(test)]
+mod putting_tests;
