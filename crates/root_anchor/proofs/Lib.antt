@@ -6,5 +6,6 @@ pub mod WalkSteps
 pub mod OneChain
 pub mod Sound
 pub mod PutLemmas
+pub mod BaseLemmas
 pub mod SpellingLemmas
 pub mod ElementLemmas

@@ -77,7 +77,7 @@ used_inside bytes at u = let w = used-within bytes at u in omega (arith, w.four,
 used_interval : {bytes : List ℕ} {at type : ℕ} {content : List ℕ} → HasUsed bytes at type content → IsInterval bytes
 used_interval {type = type} {content = content} u = record { elements = u.before ++ Used type content ∷ u.after; tiles = u.tiles }
 
-no_bytes : IsInterval [] → ⊥
+pub no_bytes : IsInterval [] → ⊥
 no_bytes i = let t : false ≡ true = i.tiles.size in cc
 
 pub wrong_missing : (types : List SegDef) (area : List (List ℕ)) (met : List Pointer) (from type : ℕ) (at : Pointer) (ci : ℕ) → IsMissing area from at.0 ci → IsWrong types area met from type at ci
