@@ -9,3 +9,4 @@ pub mod PutLemmas
 pub mod BaseLemmas
 pub mod SpellingLemmas
 pub mod ElementLemmas
+pub mod LawLemmas

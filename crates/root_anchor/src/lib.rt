@@ -4,6 +4,7 @@
 mod anchor;
 mod element;
 mod fault;
+mod laws;
 mod loading;
 mod putting;
 mod spelling;
@@ -11,6 +12,10 @@ mod standing;
 mod walk;
 
 pub use fault::AnchorFault;
+pub use laws::{
+    a_chain_stays_with_its_elements, a_chain_that_stands_does_not_fail, an_anchor_has_one_chain,
+    an_element_has_one_segment, each_element_has_a_segment,
+};
 pub use loading::load;
 
 #[cfg(test)]
