@@ -167,12 +167,12 @@ rows_have no_row p h = inl h
 rows_have (row_end next) p h = rows_have next p h
 rows_have {types} {area} (segment {met = met} {type = type} {at = at} s has fresh lower next) p h = elim (rows_have next p h) as (λ _. Contains met p ⊎ HasSome types area p) [
   | inl b ↦ elim (rows_have lower p b) as (λ _. Contains met p ⊎ HasSome types area p) [
-      | inl m ↦ elim (in_cases at met p m) as (λ _. Contains met p ⊎ HasSome types area p) [
-          | inl e ↦ inr (subst (λ q. HasSome types area q) e (record { type = type; segment = s; has = has }))
-          | inr old ↦ inl old
-        ]
-      | inr some ↦ inr some
+    | inl m ↦ elim (in_cases at met p m) as (λ _. Contains met p ⊎ HasSome types area p) [
+      | inl e ↦ inr (subst (λ q. HasSome types area q) e (record { type = type; segment = s; has = has }))
+      | inr old ↦ inl old
     ]
+    | inr some ↦ inr some
+  ]
   | inr some ↦ inr some
 ]
 
@@ -181,12 +181,12 @@ pub roots_have : {types : List SegDef} {area : List (List ℕ)} {met : List Poin
 roots_have no_root p h = inl h
 roots_have {types} {area} (root {met = met} {at = at} s has fresh lower next) p h = elim (roots_have next p h) as (λ _. Contains met p ⊎ HasSome types area p) [
   | inl b ↦ elim (rows_have lower p b) as (λ _. Contains met p ⊎ HasSome types area p) [
-      | inl m ↦ elim (in_cases at met p m) as (λ _. Contains met p ⊎ HasSome types area p) [
-          | inl e ↦ inr (subst (λ q. HasSome types area q) e (record { type = 0; segment = s; has = has }))
-          | inr old ↦ inl old
-        ]
-      | inr some ↦ inr some
+    | inl m ↦ elim (in_cases at met p m) as (λ _. Contains met p ⊎ HasSome types area p) [
+      | inl e ↦ inr (subst (λ q. HasSome types area q) e (record { type = 0; segment = s; has = has }))
+      | inr old ↦ inl old
     ]
+    | inr some ↦ inr some
+  ]
   | inr some ↦ inr some
 ]
 

@@ -60,9 +60,10 @@ refused {P = P} test fails p = let yes_then : IsTrue false = subst (λ b. IsTrue
 
 -- the test of a used element's type
 pub typed_test : {bytes : List ℕ} {type at other : ℕ} → IsUsed bytes at → ((kind : ℕ) (content : List ℕ) → HasUsed bytes at kind content → other ≡ kind) → IsTrue (other == type) ↔ IsOfType bytes type at
-typed_test {bytes} {type} {at} {other} u same =
-    (λ t. record { content = u.content; used = subst (λ k. HasUsed bytes at k u.content) (sym (same u.segment u.content u.used) ∙ eqb-true other type t) u.used },
-    λ e. eq-eqb other type (same type e.content e.used))
+typed_test {bytes} {type} {at} {other} u same = (
+  λ t. record { content = u.content; used = subst (λ k. HasUsed bytes at k u.content) (sym (same u.segment u.content u.used) ∙ eqb-true other type t) u.used },
+  λ e. eq-eqb other type (same type e.content e.used),
+)
 
 -- none stands there
 pub none_whole : {types : List SegDef} {bytes : List ℕ} {type at : ℕ} (content : List ℕ) → ((other : ℕ) (more : List ℕ) → HasUsed bytes at other more → content ≡ more)

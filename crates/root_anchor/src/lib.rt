@@ -20,3 +20,5 @@ pub use loading::load;
 
 #[cfg(test)]
 mod putting_tests;
+#[cfg(test)]
+mod tests;
