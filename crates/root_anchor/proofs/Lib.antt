@@ -12,3 +12,5 @@ pub mod WalkSteps
 pub mod OneChain
 pub mod Sound
 pub mod Rebuilt
+pub mod BaseLemmas
+pub mod LawLemmas

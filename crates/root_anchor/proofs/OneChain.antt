@@ -13,7 +13,7 @@ use Rattle.fp_model.specs.declared.database.Root.{Root}
 use Rattle.fp_model.specs.Order.{child_types}
 use Rattle.root_anchor.specs.Elements.{Pointer, nothing, Segment, segment_in, HasSegment}
 use Rattle.root_anchor.specs.Chains.{AreRows, no_row, row_end, segment, newest, AreRoots, no_root, root, root_of, IsChain}
-use Rattle.root_anchor.specs.Damage.{IsWrong, leads_to_no_interval, leads_to_no_segment, leads_back, RowsFail, here, below, at_twin, next_row, RootsFail, root_here, below_root, next_root, ChainFails, no_base, wrong_pointer}
+use Rattle.root_anchor.specs.Damage.{IsWrong, leads_to_no_interval, leads_to_no_element, leads_to_no_segment, leads_back, RowsFail, here, below, at_twin, next_row, RootsFail, root_here, below_root, next_root, ChainFails, no_base, wrong_pointer}
 use Rattle.root_anchor.proofs.Members.{none_in, in_cases}
 
 -- ---- segments
@@ -167,12 +167,12 @@ rows_have no_row p h = inl h
 rows_have (row_end next) p h = rows_have next p h
 rows_have {types} {area} (segment {met = met} {type = type} {at = at} s has fresh lower next) p h = elim (rows_have next p h) as (λ _. Contains met p ⊎ HasSome types area p) [
   | inl b ↦ elim (rows_have lower p b) as (λ _. Contains met p ⊎ HasSome types area p) [
-      | inl m ↦ elim (in_cases at met p m) as (λ _. Contains met p ⊎ HasSome types area p) [
-          | inl e ↦ inr (subst (λ q. HasSome types area q) e (record { type = type; segment = s; has = has }))
-          | inr old ↦ inl old
-        ]
-      | inr some ↦ inr some
+    | inl m ↦ elim (in_cases at met p m) as (λ _. Contains met p ⊎ HasSome types area p) [
+      | inl e ↦ inr (subst (λ q. HasSome types area q) e (record { type = type; segment = s; has = has }))
+      | inr old ↦ inl old
     ]
+    | inr some ↦ inr some
+  ]
   | inr some ↦ inr some
 ]
 
@@ -181,12 +181,12 @@ pub roots_have : {types : List SegDef} {area : List (List ℕ)} {met : List Poin
 roots_have no_root p h = inl h
 roots_have {types} {area} (root {met = met} {at = at} s has fresh lower next) p h = elim (roots_have next p h) as (λ _. Contains met p ⊎ HasSome types area p) [
   | inl b ↦ elim (rows_have lower p b) as (λ _. Contains met p ⊎ HasSome types area p) [
-      | inl m ↦ elim (in_cases at met p m) as (λ _. Contains met p ⊎ HasSome types area p) [
-          | inl e ↦ inr (subst (λ q. HasSome types area q) e (record { type = 0; segment = s; has = has }))
-          | inr old ↦ inl old
-        ]
-      | inr some ↦ inr some
+    | inl m ↦ elim (in_cases at met p m) as (λ _. Contains met p ⊎ HasSome types area p) [
+      | inl e ↦ inr (subst (λ q. HasSome types area q) e (record { type = 0; segment = s; has = has }))
+      | inr old ↦ inl old
     ]
+    | inr some ↦ inr some
+  ]
   | inr some ↦ inr some
 ]
 

@@ -1,7 +1,8 @@
 -- What is read of an element.
-use Rattle.std.proofs.Common.{IsTrue, ◌↔◌, ◌≡◌, ◌≢◌, ℕ, zero, suc, ◌+◌, ◌*◌, ◌<◌, ◌≤◌, inl, inr, List, [], ◌∷◌, ◌++◌, length, map, drop, get_or, Bool, true, false, refl, sym, ap, subst, ◌∙◌, append_assoc, add-one, arith, drop-cons}
-use Rattle.std.specs.List.{Contains}
+use Rattle.std.proofs.Common.{◌==◌, IsTrue, ◌↔◌, ◌≡◌, ◌≢◌, ℕ, zero, suc, ◌+◌, ◌*◌, ◌<◌, ◌≤◌, inl, inr, List, [], ◌∷◌, ◌++◌, length, map, drop, get_or, Bool, true, false, refl, sym, ap, subst, ◌∙◌, append_assoc, add-one, arith, drop-cons}
+use Rattle.std.proofs.lemmas.Bool.{eqb-true, eq-eqb}
 use Rattle.std.proofs.lemmas.List.{map-append, length-append, get_or_past}
+use Rattle.ci_space.specs.Element.{Used}
 use Rattle.ci_space.specs.Interval.{IsInterval, HasUsed, IsUsed}
 use Rattle.ci_space.proofs.Contents.{used-within}
 use Rattle.ci_overflow.specs.Lists.{bytes_at}
@@ -9,9 +10,9 @@ use Rattle.fp_model.specs.declared.definitions.SegDef.{SegDef}
 use Rattle.fp_model.specs.Order.{numbers_from}
 use Rattle.root_anchor.specs.Elements.{Pointer, Segment, pointer_at, pointers_from, HasSegment}
 use Rattle.root_anchor.specs.declared.element.First.{First}
-use Rattle.root_anchor.specs.Reading.{types_of, pointers_of, Holds, IsWhole, IsMissing}
-use Rattle.root_anchor.specs.Damage.{IsWrong, leads_to_no_interval, leads_to_no_segment}
-use Rattle.root_anchor.proofs.OneChain.{one_content, stands_in_interval}
+use Rattle.root_anchor.specs.Reading.{types_of, pointers_of, IsOfType, Holds, IsWhole, IsMissing}
+use Rattle.root_anchor.specs.Damage.{IsWrong, leads_to_no_interval, leads_to_no_element, leads_to_no_segment}
+use Rattle.root_anchor.proofs.OneChain.{one_content}
 
 -- one pointer more
 pub pointers_more : (content : List ℕ) (at n : ℕ) → pointers_from content at (suc n) ≡ pointers_from content at n ++ pointer_at content (at + 10 * n) ∷ []
@@ -57,14 +58,14 @@ pointers_pushed content start before now first n s h =
 pub refused : {b : Bool} {P : Type 0} → (IsTrue b ↔ P) → b ≡ false → P → ⊥
 refused {P = P} test fails p = let yes_then : IsTrue false = subst (λ b. IsTrue b) fails (test.1 p) in let e : false ≡ true = yes_then in cc
 
+-- the test of a used element's type
+pub typed_test : {bytes : List ℕ} {type at other : ℕ} → IsUsed bytes at → ((kind : ℕ) (content : List ℕ) → HasUsed bytes at kind content → other ≡ kind) → IsTrue (other == type) ↔ IsOfType bytes type at
+typed_test {bytes} {type} {at} {other} u same = (
+  λ t. record { content = u.content; used = subst (λ k. HasUsed bytes at k u.content) (sym (same u.segment u.content u.used) ∙ eqb-true other type t) u.used },
+  λ e. eq-eqb other type (same type e.content e.used),
+)
+
 -- none stands there
-pub none_used : {types : List SegDef} {bytes : List ℕ} {type at : ℕ} → ¬ IsUsed bytes at → (s : Segment) → ¬ Holds types bytes type at s
-none_used {type = type} none s h = none (record { segment = type; content = h.content; used = h.used })
-
-pub none_typed : {types : List SegDef} {bytes : List ℕ} {type at : ℕ} (other : ℕ) → ((type : ℕ) (content : List ℕ) → HasUsed bytes at type content → other ≡ type)
-    → other ≢ type → (s : Segment) → ¬ Holds types bytes type at s
-none_typed {type = type} other same differs s h = differs (same type h.content h.used)
-
 pub none_whole : {types : List SegDef} {bytes : List ℕ} {type at : ℕ} (content : List ℕ) → ((other : ℕ) (more : List ℕ) → HasUsed bytes at other more → content ≡ more)
     → ¬ IsWhole types type content → (s : Segment) → ¬ Holds types bytes type at s
 none_whole {types} {type = type} content same none s h = none (subst (λ c. IsWhole types type c) (sym (same type h.content h.used)) h.is_whole)
@@ -74,17 +75,27 @@ pub used_inside : (bytes : List ℕ) (at : ℕ) → IsUsed bytes at → at < 409
 used_inside bytes at u = let w = used-within bytes at u in omega (arith, w.four, w.limit)
 
 -- a wrong pointer
-no_bytes : IsInterval [] → ⊥
+used_interval : {bytes : List ℕ} {at type : ℕ} {content : List ℕ} → HasUsed bytes at type content → IsInterval bytes
+used_interval {type = type} {content = content} u = record { elements = u.before ++ Used type content ∷ u.after; tiles = u.tiles }
+
+pub no_bytes : IsInterval [] → ⊥
 no_bytes i = let t : false ≡ true = i.tiles.size in cc
 
 pub wrong_missing : (types : List SegDef) (area : List (List ℕ)) (met : List Pointer) (from type : ℕ) (at : Pointer) (ci : ℕ) → IsMissing area from at.0 ci → IsWrong types area met from type at ci
 wrong_missing types area met from type at ci (inl there) = subst (λ n. IsWrong types area met from type at n) (sym there.2) (leads_to_no_interval there.0 there.1)
 wrong_missing types area met from type at ci (inr past) =
-    subst (λ n. IsWrong types area met from type at n) (sym past.1) (leads_to_no_segment (λ below. absurd (omega (arith, past.0))) (λ s h. no_bytes (subst IsInterval (get_or_past area at.0 [] past.0) (stands_in_interval h))))
+    subst (λ n. IsWrong types area met from type at n) (sym past.1) (leads_to_no_element (λ below. absurd (omega (arith, past.0))) (λ content used. no_bytes (subst IsInterval (get_or_past area at.0 [] past.0) (used_interval used))))
 
-pub wrong_segment : (types : List SegDef) (area : List (List ℕ)) (met : List Pointer) (from ci type : ℕ) (at : Pointer) (bytes : List ℕ) → from ≡ ci → bytes ≡ bytes_at area at.0 → IsInterval bytes
-    → ((s : Segment) → ¬ Holds types bytes type at.1 s) → IsWrong types area met from type at ci
-wrong_segment types area met from ci type at bytes same e interval none =
+pub wrong_element : (types : List SegDef) (area : List (List ℕ)) (met : List Pointer) (from ci type : ℕ) (at : Pointer) (bytes : List ℕ) → from ≡ ci → bytes ≡ bytes_at area at.0 → IsInterval bytes
+    → ¬ IsOfType bytes type at.1 → IsWrong types area met from type at ci
+wrong_element types area met from ci type at bytes same e interval none =
     subst (λ n. IsWrong types area met from type at n) same
-    (leads_to_no_segment (λ below. subst IsInterval e interval)
+    (leads_to_no_element (λ below. subst IsInterval e interval)
+    (λ content used. none (record { content = content; used = subst (λ b. HasUsed b at.1 type content) (sym e) used })))
+
+pub wrong_segment : (types : List SegDef) (area : List (List ℕ)) (met : List Pointer) (from ci type : ℕ) (at : Pointer) (bytes : List ℕ) → at.0 ≡ ci → bytes ≡ bytes_at area at.0
+    → IsOfType bytes type at.1 → ((s : Segment) → ¬ Holds types bytes type at.1 s) → IsWrong types area met from type at ci
+wrong_segment types area met from ci type at bytes same e element none =
+    subst (λ n. IsWrong types area met from type at n) same
+    (leads_to_no_segment element.content (subst (λ b. HasUsed b at.1 type element.content) e element.used)
     (λ s h. none s (record { content = h.content; used = subst (λ b. HasUsed b at.1 type h.content) (sym e) h.used; is_whole = record { fits = h.fits; zeros = h.zeros }; says = h.says })))

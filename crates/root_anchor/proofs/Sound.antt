@@ -10,7 +10,7 @@ use Rattle.fp_model.specs.declared.database.Root.{Root}
 use Rattle.fp_model.specs.Order.{child_types}
 use Rattle.root_anchor.specs.Elements.{Pointer, nothing, Segment, HasSegment}
 use Rattle.root_anchor.specs.Chains.{AreRows, no_row, row_end, segment, AreRoots, no_root, root, IsChain}
-use Rattle.root_anchor.specs.Damage.{IsWrong, leads_to_no_interval, leads_to_no_segment, leads_back, RowsFail, here, below, at_twin, next_row, RootsFail, root_here, below_root, next_root, ChainFails, no_base, wrong_pointer}
+use Rattle.root_anchor.specs.Damage.{IsWrong, leads_to_no_interval, leads_to_no_element, leads_to_no_segment, leads_back, RowsFail, here, below, at_twin, next_row, RootsFail, root_here, below_root, next_root, ChainFails, no_base, wrong_pointer}
 use Rattle.root_anchor.specs.Formed.{HasChain}
 use Rattle.root_anchor.proofs.OneChain.{one_segment, none_at_nothing, stands_in_interval, one_rows}
 
@@ -18,7 +18,8 @@ use Rattle.root_anchor.proofs.OneChain.{one_segment, none_at_nothing, stands_in_
 right : {types : List SegDef} {area : List (List ℕ)} {met : List Pointer} {from type : ℕ} {at : Pointer} {ci : ℕ} (s : Segment)
     → HasSegment types area type at s → ¬ Contains met at → IsWrong types area met from type at ci → ⊥
 right s has fresh (leads_to_no_interval inside none) = none (stands_in_interval has)
-right s has fresh (leads_to_no_segment interval none) = none s has
+right s has fresh (leads_to_no_element interval none) = none has.content has.used
+right s has fresh (leads_to_no_segment content used none) = none s has
 right s has fresh (leads_back met) = fresh met
 
 -- ---- how rows fail

@@ -46,9 +46,10 @@ reverse_in (y ∷ ys) x h = elim (Contains-append_cases (reverse ys) (y ∷ []) 
 -- ---- a place is known exactly where it was met
 
 pub met_known : (number : ℕ) (walk : Walk) (at : Pointer) (known : Bool) → known ≡ contains place_cmp walk.places at → IsWalk number walk → IsTrue known ↔ Contains (met_of walk) at
-met_known number walk at known e w =
-    (λ t. in_reverse (places_of walk.met.items) at ((w.known at).0 (subst (λ b. IsTrue b) e t)),
-    λ m. subst (λ b. IsTrue b) (sym e) ((w.known at).1 (reverse_in (places_of walk.met.items) at m)))
+met_known number walk at known e w = (
+  λ t. in_reverse (places_of walk.met.items) at ((w.known at).0 (subst (λ b. IsTrue b) e t)),
+  λ m. subst (λ b. IsTrue b) (sym e) ((w.known at).1 (reverse_in (places_of walk.met.items) at m)),
+)
 
 then_test : (o p : Ordering) → is_eq (ordering_then o p) ≡ (is_eq o && is_eq p)
 then_test Less p = refl
@@ -87,16 +88,18 @@ known_pushed : (number : ℕ) (old new : Walk) (s : Standing) → IsWalk number 
 known_pushed number old new s w e u q =
     let places : places_of new.met.items ≡ places_of old.met.items ++ s.at ∷ [] = places_pushed old.met.items new.met.items s e in
     elim (cases_Bool (is_at (place_cmp s.at) q)) as (λ _. IsTrue (contains place_cmp new.places q) ↔ Contains (places_of new.met.items) q) [
-      | inl t ↦
-          (λ _. subst (λ l. Contains l q) (sym places) (subst (λ x. Contains (places_of old.met.items ++ s.at ∷ []) x) (one_place s.at q t) (Contains-push (places_of old.met.items) s.at)),
-          λ _. u q ∙ ap (λ b. cond b true (contains place_cmp old.places q)) t)
+      | inl t ↦ (
+        λ _. subst (λ l. Contains l q) (sym places) (subst (λ x. Contains (places_of old.met.items ++ s.at ∷ []) x) (one_place s.at q t) (Contains-push (places_of old.met.items) s.at)),
+        λ _. u q ∙ ap (λ b. cond b true (contains place_cmp old.places q)) t,
+      )
       | inr f ↦
-          (let same : contains place_cmp new.places q ≡ contains place_cmp old.places q = u q ∙ ap (λ b. cond b true (contains place_cmp old.places q)) f in
-          (λ t. subst (λ l. Contains l q) (sym places) (Contains-append_left (places_of old.met.items) (s.at ∷ []) q ((w.known q).0 (sym same ∙ t))),
-          λ m. same ∙ (elim (Contains-push_cases (places_of old.met.items) s.at q (subst (λ l. Contains l q) places m)) as (λ _. contains place_cmp old.places q ≡ true) [
-            | inl o ↦ (w.known q).1 o
-            | inr e ↦ (let z : false ≡ true = sym f ∙ subst (λ x. is_at (place_cmp s.at) x ≡ true) e (its_place s.at) in cc)
-          ])))
+          (let same : contains place_cmp new.places q ≡ contains place_cmp old.places q = u q ∙ ap (λ b. cond b true (contains place_cmp old.places q)) f in (
+            λ t. subst (λ l. Contains l q) (sym places) (Contains-append_left (places_of old.met.items) (s.at ∷ []) q ((w.known q).0 (sym same ∙ t))),
+            λ m. same ∙ (elim (Contains-push_cases (places_of old.met.items) s.at q (subst (λ l. Contains l q) places m)) as (λ _. contains place_cmp old.places q ≡ true) [
+              | inl o ↦ (w.known q).1 o
+              | inr e ↦ (let z : false ≡ true = sym f ∙ subst (λ x. is_at (place_cmp s.at) x ≡ true) e (its_place s.at) in cc)
+            ]),
+          ))
     ]
 
 pub walk_pushed : (number : ℕ) (old new : Walk) (s : Standing) → IsWalk number old → ¬ Contains (met_of old) s.at → s.at.0 < number → s.at.1 < 4096 → new.met.items ≡ old.met.items ++ s ∷ []

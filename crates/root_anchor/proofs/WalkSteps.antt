@@ -10,6 +10,7 @@ use Rattle.ci_space.proofs.Going.{goes-itself, goes-joined}
 use Rattle.fp_model.specs.declared.definitions.SegDef.{SegDef}
 use Rattle.fp_model.specs.declared.database.Node.{Node, roll-Node}
 use Rattle.fp_model.specs.declared.database.Root.{Root}
+use Rattle.fp_model.specs.declared.database.SeqItem.{SeqItem}
 use Rattle.fp_model.specs.Order.{child_types, is_child_of, numbers_from}
 use Rattle.fp_model.specs.WellFormed.{HasPlace, HavePlaces}
 use Rattle.root_anchor.specs.declared.element.First.{First}
@@ -185,15 +186,17 @@ pub roots_below : (types : List SegDef) (area mid : List (List ℕ)) (met met_no
 roots_below types area mid met met_now base from ci first at roots said list e along v h =
     along.fails ci (below_root (segment_of said) (visited_has v) v.fresh (visited_fails mid ci e v h))
 
-pub roots_next : (types : List SegDef) (area mid : List (List ℕ)) (met met_now between : List Pointer) (base from : ℕ) (first at : Pointer) (roots pushed : List Root) (said : Said) (list : List First) (children : List (List Node))
+pub roots_next : (types : List SegDef) (area mid : List (List ℕ)) (met met_now between : List Pointer) (base from : ℕ) (first at : Pointer) (roots pushed : List Root) (said : Said) (list : List First) (children : List (List Node)) (seqs : List SeqItem)
     → mid ≡ area → IsAlongRoots types area base first roots met from at → IsVisited types area met met_now 0 at said list
     → AreRows types mid met_now (types_of list) (pointers_of list) children between
-    → pushed ≡ roots ++ record { bytes = said.bytes; children = children; seqs = newest said.serial } ∷ []
+    → seqs ≡ newest said.serial
+    → pushed ≡ roots ++ record { bytes = said.bytes; children = children; seqs = seqs } ∷ []
     → IsAlongRoots types area base first pushed between at.0 said.next
-roots_next types area mid met met_now between base from first at roots pushed said list children e along v h p =
+roots_next types area mid met met_now between base from first at roots pushed said list children seqs e along v h q p =
     let one : Root = record { bytes = said.bytes; children = children; seqs = newest said.serial } in
     let lower : AreRows types area (at ∷ met) (child_types types 0) (segment_of said).firsts children between = visited_rows mid children between e v h in
-    subst (λ r. IsAlongRoots types area base first r between at.0 said.next) (sym p)
+    subst (λ r. IsAlongRoots types area base first r between at.0 said.next)
+    (sym (p ∙ ap (λ (l : List SeqItem). roots ++ record { bytes = said.bytes; children = children; seqs = l } ∷ []) q))
     (record {
       reads = λ rest after r.
           subst (λ l. AreRoots types area [] first l after) (sym (append_assoc roots (one ∷ []) rest))

@@ -8,6 +8,11 @@ use Rattle.fp_model.specs.declared.database.Root.{Root}
 use Rattle.root_anchor.specs.Elements.{Pointer}
 use Rattle.root_anchor.specs.Chains.{IsChain, anchor_count}
 
+-- an anchor has these roots
+pub record HasRoots (shape : Shape) (types : List SegDef) (area : List (List ℕ)) (anchor : ℕ) (roots : List Root) : Type 0 where
+  pub elements : List Pointer
+  pub is_chain : IsChain shape types area anchor roots elements
+
 -- an anchor has roots, and they stand in these elements
 pub record HasChain (shape : Shape) (types : List SegDef) (area : List (List ℕ)) (anchor : ℕ) : Type 0 where
   pub roots : List Root

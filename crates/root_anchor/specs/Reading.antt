@@ -23,7 +23,12 @@ pub record IsWhole (types : List SegDef) (type : ℕ) (content : List ℕ) : Typ
   pub fits : content_length types type ≤ length content
   pub zeros : IsZero content (content_length types type) (length content)
 
--- a used element of this type stands at `at` of an interval, and says this
+-- a used element of this type stands at `at` of an interval
+pub record IsOfType (bytes : List ℕ) (type at : ℕ) : Type 0 where
+  pub content : List ℕ
+  pub used : HasUsed bytes at type content
+
+-- it says this
 pub record Holds (types : List SegDef) (bytes : List ℕ) (type at : ℕ) (segment : Segment) : Type 0 where
   pub content : List ℕ
   pub used : HasUsed bytes at type content

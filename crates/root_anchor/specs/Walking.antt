@@ -3,14 +3,16 @@ use Rattle.std.specs.Prelude.{◌≡◌, ◌≢◌, ◌↔◌, ℕ, ◌<◌, ◌
 use Rattle.std.specs.Ordering.{nat_cmp, ordering_then}
 use Rattle.std.specs.declared.cmp.Ordering.{Ordering}
 use Rattle.std.specs.BTreeSet.{contains}
+use Rattle.ci_space.specs.declared.intervals.Shape.{Shape}
 use Rattle.ci_space.specs.Calls.{GoesOn}
 use Rattle.fp_model.specs.declared.definitions.SegDef.{SegDef}
 use Rattle.fp_model.specs.declared.database.Node.{Node}
 use Rattle.fp_model.specs.declared.database.Root.{Root}
 use Rattle.root_anchor.specs.declared.standing.Standing.{Standing}
 use Rattle.root_anchor.specs.declared.walk.Walk.{Walk}
+use Rattle.root_anchor.specs.declared.anchor.Walked.{Walked}
 use Rattle.root_anchor.specs.Elements.{Pointer}
-use Rattle.root_anchor.specs.Chains.{AreRows, AreRoots}
+use Rattle.root_anchor.specs.Chains.{AreRows, AreRoots, IsChain}
 use Rattle.root_anchor.specs.Damage.{RowsFail, RootsFail}
 use Rattle.root_anchor.specs.Standing.{places_of, Stands}
 
@@ -63,6 +65,12 @@ pub record IsAlong (types : List SegDef) (area : List (List ℕ)) (start : List 
 pub record IsAmong (types : List SegDef) (area : List (List ℕ)) (start : List Pointer) (home : ℕ) (all : List ℕ) (firsts : List Pointer) (rows : List (List Node)) (met : List Pointer) (left : List ℕ) (left_firsts : List Pointer) : Type 0 where
   pub reads : (rest : List (List Node)) (after : List Pointer) → AreRows types area met left left_firsts rest after → AreRows types area start all firsts (rows ++ rest) after
   pub fails : (ci : ℕ) → RowsFail types area met home home left left_firsts ci → RowsFail types area start home home all firsts ci
+
+-- the whole walk over an anchor: its roots, and its elements in hierarchical order, each once, with their types
+pub record IsWalked (shape : Shape) (types : List SegDef) (area : List (List ℕ)) (anchor : ℕ) (walked : Walked) : Type 0 where
+  pub is_chain : IsChain shape types area anchor walked.roots (reverse (places_of walked.met.items))
+  pub once : AllPairs (λ a b. a ≢ b) (places_of walked.met.items)
+  pub stand : (s : Standing) → Contains walked.met.items s → Stands types area s
 
 -- the walk along the roots has read so many, and is at this pointer, which stands in the interval `from`
 pub record IsAlongRoots (types : List SegDef) (area : List (List ℕ)) (base : ℕ) (first : Pointer) (roots : List Root) (met : List Pointer) (from : ℕ) (at : Pointer) : Type 0 where

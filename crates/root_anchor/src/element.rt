@@ -6,14 +6,14 @@
 //! sequential type.
 
 ghost use Rattle.byteorder.specs.Endian.{big_from};
-ghost use Rattle.std.specs.Prelude.{if◌then◌else◌, List, ◌≡◌, ◌↔◌, ◌&&◌, not, ◌^◌, ◌+◌, ◌*◌, ◌≤◌, ◌<◌, ◌⊎◌, ℕ, Err, length, IsTrue, IfOk, OnOk, IfSome, IfNone, OnSome, IsErrOf, All, slice_range};
+ghost use Rattle.std.specs.Prelude.{if◌then◌else◌, List, ◌≡◌, ◌↔◌, ◌&&◌, not, ◌^◌, ◌+◌, ◌*◌, ◌≤◌, ◌<◌, ◌⊎◌, ℕ, Err, length, IsTrue, IfOk, OnOk, IfSome, IfNone, OnSome, IsErrOf, All, slice_range, true};
 ghost use Rattle.ci_space.specs.Calls.{Rose, GoesOn};
 ghost use Rattle.ci_space.specs.Interval.{IsInterval, IsZero};
 ghost use Rattle.ci_overflow.specs.Lists.{bytes_at};
 ghost use Rattle.fp_model.specs.Order.{child_types, is_child_of, numbers_from};
 ghost use Rattle.fp_model.specs.WellFormed.{has_sequential};
 ghost use Rattle.root_anchor.specs.Elements.{Pointer, Segment, HasSegment, pointer_at, pointers_from, has_serial, serial_length, prefix_length, segment_length, content_length, segment_in};
-ghost use Rattle.root_anchor.specs.Reading.{types_of, pointers_of, segment_of, IsWhole, Holds, IsMissing};
+ghost use Rattle.root_anchor.specs.Reading.{types_of, pointers_of, segment_of, IsWhole, IsOfType, Holds, IsMissing};
 ghost use Rattle.root_anchor.specs.Damage.{IsWrong};
 ghost use Rattle.root_anchor.specs.Stored.{AreTypes};
 
@@ -90,7 +90,7 @@ pub(crate) fn has_serial(segments: &List<SegDef>, segment: u8) -> bool
 }
 
 /// Whether a type is a direct child type of another, and no sequential one.
-fn is_child_of(def: &SegDef, parent: u8) -> bool
+pub(crate) fn is_child_of(def: &SegDef, parent: u8) -> bool
     ensures { result ≡ (is_child_of parent def.now && not def.now.sequential) }
 {
     def.parent == Some(parent) && !def.sequential
@@ -115,7 +115,11 @@ fn serial_length(segments: &List<SegDef>, segment: u8) -> usize
     ensures exact { result ≡ serial_length segments.now segment }
     ensures small { result ≤ 8 }
 {
-    if has_serial(segments, segment) { 8 } else { 0 }
+    if has_serial(segments, segment) {
+        8
+    } else {
+        0
+    }
 }
 
 /// How many bytes stand in front of a segment of a type.
@@ -128,7 +132,7 @@ fn prefix_length(segments: &List<SegDef>, segment: u8) -> usize
 }
 
 /// How many bytes a segment of a type needs, with what stands in front of it.
-fn content_length(segments: &List<SegDef>, segment: u8) -> usize
+pub(crate) fn content_length(segments: &List<SegDef>, segment: u8) -> usize
     requires few { length segments.now ≤ 15 }
     requires defined { segment < length segments.now }
     ensures exact { result ≡ content_length segments.now segment }
@@ -216,7 +220,16 @@ fn is_whole(segments: &List<SegDef>, segment: u8, content: &[u8]) -> bool
     end <= content.len() && is_zero_from(content, end)
 }
 
-/// What the used element of a type at `at` says. None exactly where none stands there that is whole.
+/// Whether a used element of a type stands at `at`.
+fn is_of_type(interval: &Interval, segment: u8, at: u16) -> bool
+    ensures is { IsTrue result ↔ IsOfType interval.now segment at }
+    ensures inside { result ≡ true → at < 4096 }
+{
+    interval.is_used(at) && interval.type_at(at) == segment
+}
+
+/// What the used element of a type at `at` says. None exactly where it is too short for its type, or has a byte other
+/// than 0 behind the segment.
 fn said_at(
     alloc: Global,
     segments: &List<SegDef>,
@@ -226,14 +239,11 @@ fn said_at(
 ) -> Result<Option<Said>, AllocError>
     requires few { length segments.now ≤ 15 }
     requires defined { segment < length segments.now }
+    requires element { IsOfType interval.now segment at }
     ensures some { IfOk result (λ said. IfSome said (λ said. Holds segments.now interval.now segment at (segment_of said))) }
     ensures types { IfOk result (λ said. IfSome said (λ said. types_of said.firsts.items ≡ child_types segments.now segment)) }
-    ensures inside { IfOk result (λ said. OnSome said (at < 4096)) }
     ensures none { IfOk result (λ said. IfNone said ((s : Segment) → ¬ Holds segments.now interval.now segment at s)) }
 {
-    if !interval.is_used(at) || interval.type_at(at) != segment {
-        return Ok(None);
-    }
     let content = interval.content(at);
     if !is_whole(segments, segment, content) {
         return Ok(None);
@@ -292,8 +302,11 @@ pub(crate) fn read_element<I: Intervals>(
     ensures goes_on { GoesOn I.told I.size I.faults I.keeps i.old i.new }
 {
     let interval = interval_at(i, from, at.0)?;
+    if !is_of_type(&interval, segment, at.1) {
+        return Err(AnchorFault::Damaged(from));
+    }
     match said_at(alloc, segments, segment, &interval, at.1)? {
         Some(said) => Ok(said),
-        None => Err(AnchorFault::Damaged(from)),
+        None => Err(AnchorFault::Damaged(at.0)),
     }
 }

@@ -5,12 +5,22 @@ mod building;
 mod element;
 mod fault;
 mod plan;
+mod anchor;
+mod laws;
+mod loading;
 mod putting;
 mod spelling;
 mod standing;
 mod walk;
 
 pub use fault::AnchorFault;
+pub use laws::{
+    a_chain_stays_with_its_elements, a_chain_that_stands_does_not_fail, an_anchor_has_one_chain,
+    an_element_has_one_segment, each_element_has_a_segment,
+};
+pub use loading::load;
 
 #[cfg(test)]
 mod putting_tests;
+#[cfg(test)]
+mod tests;

@@ -7,6 +7,7 @@ ghost use Rattle.root_anchor.specs.Damage.{ChainFails};
 ghost use Rattle.root_anchor.specs.Standing.{AreStanding};
 ghost use Rattle.root_anchor.specs.Stored.{AreTypes};
 
+use crate::anchor::{Walked, walk_anchor};
 use crate::fault::AnchorFault;
 use ci_space::{Intervals, Shape};
 use fp_model::{Bytes, List, SegDef};
@@ -42,5 +43,6 @@ pub(crate) fn elements_of<I: Intervals>(
     ensures number { I.number i.new ≡ I.number i.old }
     ensures goes_on { GoesOn I.told I.size I.faults I.keeps i.old i.new }
 {
-    Err(AnchorFault::Memory)
+    let Walked { met, .. } = walk_anchor(alloc, i, shape, segments, anchor, true)?;
+    Ok(met)
 }

@@ -7,8 +7,8 @@ ghost use Rattle.ci_space.specs.Calls.{Rose, GoesOn};
 ghost use Rattle.fp_model.specs.Order.{child_types};
 ghost use Rattle.fp_model.specs.WellFormed.{HavePlaces};
 ghost use Rattle.root_anchor.specs.Elements.{HasSegment, nothing};
-ghost use Rattle.root_anchor.specs.Chains.{AreRows};
-ghost use Rattle.root_anchor.specs.Damage.{IsWrong, RowsFail};
+ghost use Rattle.root_anchor.specs.Chains.{AreRows, AreRoots, newest};
+ghost use Rattle.root_anchor.specs.Damage.{IsWrong, RowsFail, RootsFail};
 ghost use Rattle.root_anchor.specs.Reading.{types_of, pointers_of, segment_of};
 ghost use Rattle.root_anchor.specs.Walking.{met_of, IsWalk, WalksOn, AllStand, IsLook, IsRow, RowFails};
 
@@ -16,7 +16,7 @@ use crate::element::{First, Said, read_element};
 use crate::fault::AnchorFault;
 use crate::standing::{Pointer, Standing};
 use ci_space::Intervals;
-use fp_model::{Bytes, List, Node, SegDef};
+use fp_model::{Bytes, List, Node, Root, SegDef, SeqItem};
 use std::alloc::{AllocError, Global};
 use std::collections::BTreeSet;
 
@@ -212,4 +212,62 @@ fn rows<I: Intervals>(
         rows.push(read)?;
     }
     Ok(rows)
+}
+
+/// A newest serial as a root's sequential list.
+fn newest(alloc: Global, serial: u64) -> Result<List<SeqItem>, AllocError>
+    ensures { IfOk result (λ items. items ≡ newest serial) }
+{
+    let mut items = List::new(alloc);
+    if serial != 0 {
+        let bytes = Bytes::new(alloc);
+        items.push(SeqItem { serial, bytes })?;
+    }
+    Ok(items)
+}
+
+/// The roots to whose first one a pointer in the interval `base` leads, each with all below it.
+pub(crate) fn roots<I: Intervals>(
+    alloc: Global,
+    i: &mut I,
+    walk: &mut Walk,
+    segments: &List<SegDef>,
+    base: u64,
+    first: Pointer,
+) -> Result<List<Root>, AnchorFault>
+    requires few { length segments.now ≤ 15 }
+    requires places { HavePlaces 0 segments.now }
+    requires some { 0 < length segments.now }
+    requires walk { IsWalk (I.number i.old) walk.old }
+    requires none { walk.old.met.items ≡ [] }
+
+    ensures roots { I.told i.old → IfOk result (λ roots. AreRoots segments.now (I.intervals i.old) [] first roots (met_of walk.new)) }
+    ensures damaged { I.told i.old → (ci : ℕ) → result ≡ Err (AnchorFault.Damaged ci) → RootsFail segments.now (I.intervals i.old) [] base first ci }
+    ensures failed { IsErrOf result AnchorFault.Failed → Rose (I.faults i.old) (I.faults i.new) }
+
+    ensures walk { OnOk result (WalksOn (I.number i.old) walk.old walk.new) }
+    ensures stand { I.told i.old → OnOk result (AllStand segments.now (I.intervals i.old) walk.new) }
+    ensures look { IsLook I.told I.intervals I.number I.size I.faults I.keeps i.old i.new }
+{
+    let mut roots = List::new(alloc);
+    let mut from = base;
+    let mut at = first;
+    while !is_nothing(at) {
+        let Said {
+            next,
+            serial,
+            firsts,
+            bytes,
+        } = visit(alloc, i, walk, segments, 0, from, at)?;
+        let children = rows(alloc, i, walk, segments, 0, at.0, firsts.as_slice())?;
+        let seqs = newest(alloc, serial)?;
+        roots.push(Root {
+            bytes,
+            children,
+            seqs,
+        })?;
+        from = at.0;
+        at = next;
+    }
+    Ok(roots)
 }

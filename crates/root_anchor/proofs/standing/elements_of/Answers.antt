@@ -1,0 +1,6 @@
+use Rattle.std.proofs.Common.{refl}
+use Rattle.root_anchor.proofs.BaseLemmas.{standing_walked}
+use Rattle.root_anchor.proofs.standing.elements_of.Goals as goal
+
+pub returns-clause-standing : goal.returns-clause-standing
+returns-clause-standing g c = λ t. standing_walked _ _ _ _ c.in_ok-met.field-0 _ refl (c.in_ok-met.ensures.walked t)
