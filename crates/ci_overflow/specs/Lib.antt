@@ -1,5 +1,3 @@
 pub mod Places
 pub mod Lists
 pub mod Rooms
-pub mod Freed
-pub mod Faults

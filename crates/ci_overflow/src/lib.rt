@@ -13,14 +13,12 @@
 //! away.
 #![tactic(auto)]
 
-mod freed;
 mod joined;
 mod places;
 mod reading;
 mod room;
 mod tried;
 
-pub use freed::give_back;
 pub use room::find_room;
 
 /// Why a call on an area's elements gives none. The object that holds the area is then thrown away.

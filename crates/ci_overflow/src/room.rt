@@ -1,9 +1,8 @@
 //! Room for a new element.
 
-ghost use Rattle.std.specs.Prelude.{◌≡◌, ◌≢◌, ◌<◌, ◌≤◌, ◌+◌, ◌*◌, ℕ, IfOk, OnOk, IsErrOf};
+ghost use Rattle.std.specs.Prelude.{◌≡◌, ◌<◌, ◌≤◌, ◌+◌, ◌*◌, ℕ, IfOk, OnOk, IsErrOf};
 ghost use Rattle.ci_space.specs.Calls.{Rose, GoesOn};
 ghost use Rattle.ci_overflow.specs.Lists.{IsInOrder};
-ghost use Rattle.ci_overflow.specs.Faults.{FitsEmpty, IsAtFault};
 ghost use Rattle.ci_overflow.specs.Rooms.{FindsRoom, JoinsNext};
 
 use crate::SpaceFault;
@@ -35,24 +34,12 @@ pub fn find_room<I: Intervals>(
     ensures lists { I.told i.old → IsInOrder shape.now (I.intervals i.old) → OnOk result (IsInOrder shape.now (I.intervals i.new)) }
     ensures in_range { IfOk result (λ room. room.0 < I.number i.new) }
 
-    ensures damaged { I.told i.old → FitsEmpty (I.size i.old) length → (n : ℕ) → result ≡ Err (SpaceFault.Damaged n) → IsAtFault shape.now (I.intervals i.old) n }
-    ensures sound { I.told i.old → IsInOrder shape.now (I.intervals i.old) → FitsEmpty (I.size i.old) length → (n : ℕ) → result ≢ Err (SpaceFault.Damaged n) }
     // It fails only with what holds the intervals.
     ensures failed { IsErrOf result SpaceFault.Failed → Rose (I.faults i.old) (I.faults i.new) }
 
     // What stays, whatever the answer is.
     ensures number { I.number i.old ≤ I.number i.new }
     ensures goes_on { GoesOn I.told I.size I.faults I.keeps i.old i.new }
-{
-    return Err(SpaceFault::Memory);
-}
-fn find_room2<I: Intervals>(
-    i: &mut I,
-    shape: &Shape,
-    anchor: u32,
-    length: u16,
-) -> Result<(u64, u16), SpaceFault>
-    requires { anchor < shape.now.uows * shape.now.base }
 {
     let uow = uow_of(shape, anchor);
     match try_standing(i, shape, anchor, length)? {
