@@ -21,20 +21,20 @@ same_or a b = elim (cases_lt a b) as (λ _. (a ≡ b) ⊎ (a ≢ b)) [
   | inr l ↦ elim (cases_lt b a) as (λ _. (a ≡ b) ⊎ (a ≢ b)) [ inl m ↦ inr (λ e. omega (arith, m, e)) | inr m ↦ inl (omega (arith, l, m)) ]
 ]
 
-used-same : (old new : List ℕ) → new ≡ old → KeepsUsed old new
+pub used-same : (old new : List ℕ) → new ≡ old → KeepsUsed old new
 used-same old new e = record { stay = λ place segment content u. rw (← e) at u; none_comes = λ place segment content u. rw e at u }
 
-ends-same : (old new : List ℕ) → new ≡ old → KeepsEnds old new
+pub ends-same : (old new : List ℕ) → new ≡ old → KeepsEnds old new
 ends-same old new e = record { begin = ap (λ xs. slice_index (ends_of xs) 0) e; end = ap (λ xs. slice_index (ends_of xs) 1) e; head = λ k x y. ap (λ (xs : List ℕ). slice_index xs k) e }
 
 -- a head that changes at most in its link
 head_but : (old new : Head) → new ≡ old → old ≡ (record old { link = new.link })
 head_but old new e = ap (λ (l : ℕ). (let h : Head = record old { link = l } in h)) (sym (ap (λ (h : Head). h.link) e))
 
-head_link : (old new : Head) (link : ℕ) → new ≡ (record old { link = link }) → new ≡ (record old { link = new.link })
+pub head_link : (old new : Head) (link : ℕ) → new ≡ (record old { link = link }) → new ≡ (record old { link = new.link })
 head_link old new link e = e ∙ ap (λ (l : ℕ). (let h : Head = record old { link = l } in h)) (sym (ap (λ (h : Head). h.link) e))
 
-but-link-same : (old new : List ℕ) → new ≡ old → KeepsButLink old new
+pub but-link-same : (old new : List ℕ) → new ≡ old → KeepsButLink old new
 but-link-same old new e = record { rest = ap (λ xs. drop 32 xs) e; head = ap head_of e ∙ head_but (head_of old) (head_of new) (ap head_of e) }
 
 -- a root anchor point that stays

@@ -75,11 +75,11 @@ changes-link old new link head i e h f d = record {
   is_interval = tiles-interval old new i f;
 }
 
-link_is : (bytes : List ℕ) (head : Head) → head ≡ head_of bytes → head.link ≡ link_of bytes
+pub link_is : (bytes : List ℕ) (head : Head) → head ≡ head_of bytes → head.link ≡ link_of bytes
 unfolding link_of
 link_is bytes head e = ap (λ (x : Head). x.link) e
 
-link_is_number : (bytes : List ℕ) (link : ℕ) → link ≡ (head_of bytes).link → link ≡ link_of bytes
+pub link_is_number : (bytes : List ℕ) (link : ℕ) → link ≡ (head_of bytes).link → link ≡ link_of bytes
 unfolding link_of
 link_is_number bytes link e = e
 
@@ -152,11 +152,11 @@ pub kind-behind : (shape : Shape) (ci : ℕ) → first_independent shape ≤ ci 
 kind-behind shape ci l = grind arith
 
 -- the first of the free chain
-first_free_is : (area : List (List ℕ)) (control ends : List ℕ) → control ≡ bytes_at area 0 → ends ≡ ends_of control → slice_index ends 3 ≡ first_free area
+pub first_free_is : (area : List (List ℕ)) (control ends : List ℕ) → control ≡ bytes_at area 0 → ends ≡ ends_of control → slice_index ends 3 ≡ first_free area
 unfolding first_free
 first_free_is area control ends e f = ap (λ (xs : List ℕ). slice_index xs 3) f ∙ ap (λ (xs : List ℕ). slice_index (ends_of xs) 3) e
 
-counted_is : (area : List (List ℕ)) (control ends : List ℕ) → control ≡ bytes_at area 0 → ends ≡ ends_of control → slice_index ends 2 ≡ counted area
+pub counted_is : (area : List (List ℕ)) (control ends : List ℕ) → control ≡ bytes_at area 0 → ends ≡ ends_of control → slice_index ends 2 ≡ counted area
 unfolding counted
 counted_is area control ends e f = ap (λ (xs : List ℕ). slice_index xs 2) f ∙ ap (λ (xs : List ℕ). slice_index (ends_of xs) 2) e
 

@@ -3,3 +3,9 @@ pub mod Tries
 pub mod Joins
 pub mod Finds
 pub mod Orders
+pub mod Circles
+pub mod Moving
+pub mod FaultLemmas
+pub mod Givings
+pub mod MoveOrders
+pub mod JoinFaults

@@ -8,7 +8,7 @@ use Rattle.ci_space.specs.Interval.{kind_of, IsInterval, IsEmpty, Keeps}
 use Rattle.ci_space.specs.Head.{head_of, ends_of}
 use Rattle.ci_overflow.specs.Places.{first_base, first_independent, uow_of}
 use Rattle.ci_overflow.specs.Lists.{bytes_at, link_of, owner_of, counted, first_free, IsChain, Holds, IsOwned, IsListOf, HasList, IsInPlace, IsInOrder}
-use Rattle.ci_overflow.specs.Rooms.{places, AreTried, TakesAt, ChangesLink, ChangesEnds, JoinsFree, JoinsNew, JoinsNext}
+use Rattle.ci_overflow.specs.Rooms.{places, AreTried, IsInUse, TakesAt, ChangesLink, ChangesEnds, JoinsFree, JoinsNew, JoinsNext}
 use Rattle.ci_overflow.proofs.Tries.{keeps-link, keeps-owner}
 use Rattle.ci_overflow.proofs.Joins.{base-before, kind-behind}
 use Rattle.ci_overflow.proofs.Finds.{same_or, control-first, some_given}
@@ -73,27 +73,27 @@ first_free-same : (old new : List (List ℕ)) → bytes_at new 0 ≡ bytes_at ol
 unfolding first_free
 first_free-same old new e = ap (λ (xs : List ℕ). slice_index (ends_of xs) 3) e
 
-counted-put : (new : List (List ℕ)) (control old : List ℕ) (number first : ℕ) → bytes_at new 0 ≡ control → ChangesEnds old control number first → counted new ≡ number
+pub counted-put : (new : List (List ℕ)) (control old : List ℕ) (number first : ℕ) → bytes_at new 0 ≡ control → ChangesEnds old control number first → counted new ≡ number
 unfolding counted
 counted-put new control old number first e c = ap (λ (xs : List ℕ). slice_index (ends_of xs) 2) e ∙ ap (λ (xs : List ℕ). slice_index xs 2) c.ends
 
-first_free-put : (new : List (List ℕ)) (control old : List ℕ) (number first : ℕ) → bytes_at new 0 ≡ control → ChangesEnds old control number first → first_free new ≡ first
+pub first_free-put : (new : List (List ℕ)) (control old : List ℕ) (number first : ℕ) → bytes_at new 0 ≡ control → ChangesEnds old control number first → first_free new ≡ first
 unfolding first_free
 first_free-put new control old number first e c = ap (λ (xs : List ℕ). slice_index (ends_of xs) 3) e ∙ ap (λ (xs : List ℕ). slice_index xs 3) c.ends
 
 -- a head that is known
-link-known : (bytes : List ℕ) (head : Head) → head_of bytes ≡ head → link_of bytes ≡ head.link
+pub link-known : (bytes : List ℕ) (head : Head) → head_of bytes ≡ head → link_of bytes ≡ head.link
 unfolding link_of
 link-known bytes head e = ap (λ (h : Head). h.link) e
 
-owner-known : (bytes : List ℕ) (head : Head) → head_of bytes ≡ head → owner_of bytes ≡ head.owner
+pub owner-known : (bytes : List ℕ) (head : Head) → head_of bytes ≡ head → owner_of bytes ≡ head.owner
 unfolding owner_of
 owner-known bytes head e = ap (λ (h : Head). h.owner) e
 
-kind-known : (bytes : List ℕ) (head : Head) → head_of bytes ≡ head → kind_of bytes ≡ head.kind
+pub kind-known : (bytes : List ℕ) (head : Head) → head_of bytes ≡ head → kind_of bytes ≡ head.kind
 kind-known bytes head e = ap (λ (h : Head). h.kind) e
 
-bases-apart : (shape : Shape) (v u : ℕ) → 0 < shape.base → v ≢ u → first_base shape v ≢ first_base shape u
+pub bases-apart : (shape : Shape) (v u : ℕ) → 0 < shape.base → v ≢ u → first_base shape v ≢ first_base shape u
 bases-apart shape v u b n e = elim (cases_lt v u) as (λ _. ⊥) [
   | inl l ↦ (let m : (v + 1) * (shape.base + shape.overflow) ≤ u * (shape.base + shape.overflow) = mul-le (v + 1) (shape.base + shape.overflow) u (shape.base + shape.overflow) (omega (arith, l)) (omega arith) in
       let x : (v + 1) * (shape.base + shape.overflow) ≡ v * (shape.base + shape.overflow) + (shape.base + shape.overflow) = grind arith in
@@ -104,9 +104,17 @@ bases-apart shape v u b n e = elim (cases_lt v u) as (λ _. ⊥) [
       omega (arith, m, x, b, e))
 ]
 
--- an element is taken from an interval that stands
-pub order-taken : (shape : Shape) (old new : List (List ℕ)) (ci n at : ℕ) → kind_of (bytes_at old 0) ≡ 1 → IsInOrder shape old → TakesAt old new ci n at → IsInOrder shape new
-order-taken shape old new ci n at k0 o t =
+-- an interval in use changes behind its head, and no other changes
+pub record ChangesBehind (old new : List (List ℕ)) (ci : ℕ) : Type 0 where
+  pub below : ci < length old
+  pub is_in_use : IsInUse (bytes_at old ci)
+  pub is_interval : IsInterval (bytes_at new ci)
+  pub head : Keeps (bytes_at old ci) (bytes_at new ci) 0 32
+  pub others : (other : ℕ) → other ≢ ci → bytes_at new other ≡ bytes_at old other
+  pub same_number : length new ≡ length old
+
+pub order-changed : (shape : Shape) (old new : List (List ℕ)) (ci : ℕ) → kind_of (bytes_at old 0) ≡ 1 → IsInOrder shape old → ChangesBehind old new ci → IsInOrder shape new
+order-changed shape old new ci k0 o t =
     let z : 0 ≢ ci = λ e. t.is_in_use.is_no_control (ap (λ k. kind_of (bytes_at old k)) (sym e) ∙ k0) in
     let ez : bytes_at new 0 ≡ bytes_at old 0 = t.others 0 z in
     let keeps : (k : ℕ) → Keeps (bytes_at old k) (bytes_at new k) 0 32 = λ k. elim (same_or k ci) as (λ _. Keeps (bytes_at old k) (bytes_at new k) 0 32) [
@@ -125,7 +133,7 @@ order-taken shape old new ci n at k0 o t =
           let p : IsInPlace shape old k = o.in_place k (omega (arith, l, t.same_number)) in
           record {
             is_interval = elim (same_or k ci) as (λ _. IsInterval (bytes_at new k)) [
-              | inl e ↦ (let P : ℕ → Type 0 = λ d. IsInterval (bytes_at new d) in subst P (sym e) t.takes.is_interval)
+              | inl e ↦ (let P : ℕ → Type 0 = λ d. IsInterval (bytes_at new d) in subst P (sym e) t.is_interval)
               | inr e ↦ rw (← t.others k e) at p.is_interval
             ];
             is_kind = keeps k 0 (omega arith) (omega arith) ∙ p.is_kind;
@@ -143,6 +151,11 @@ order-taken shape old new ci n at k0 o t =
             rw (← t.others k a) at e;
       };
     }
+
+-- an element is taken from an interval that stands
+pub order-taken : (shape : Shape) (old new : List (List ℕ)) (ci n at : ℕ) → kind_of (bytes_at old 0) ≡ 1 → IsInOrder shape old → TakesAt old new ci n at → IsInOrder shape new
+order-taken shape old new ci n at k0 o t =
+    order-changed shape old new ci k0 o (record { below = t.below; is_in_use = t.is_in_use; is_interval = t.takes.is_interval; head = t.head; others = t.others; same_number = t.same_number })
 
 -- an interval joins a unit of work's list
 pub record IsJoined (shape : Shape) (uow : ℕ) (old new : List (List ℕ)) (ci : ℕ) : Type 0 where

@@ -1,3 +1,6 @@
 pub mod Places
 pub mod Lists
 pub mod Rooms
+pub mod Freed
+pub mod Moves
+pub mod Faults

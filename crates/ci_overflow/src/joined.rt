@@ -1,12 +1,13 @@
 //! An independent overflow interval that joins the list of a unit of work: the first of the free chain,
 //! or a new one.
 
-ghost use Rattle.std.specs.Prelude.{◌≡◌, ◌≢◌, ◌<◌, ◌≤◌, ◌+◌, ◌*◌, ◌^◌, ℕ, List, length, IfOk, OnOk, IsErrOf};
+ghost use Rattle.std.specs.Prelude.{◌≡◌, ◌≢◌, ◌⊎◌, ◌<◌, ◌≤◌, ◌+◌, ◌*◌, ◌^◌, ℕ, List, length, IfOk, OnOk, IsErrOf};
 ghost use Rattle.ci_space.specs.Calls.{Rose, GoesOn};
-ghost use Rattle.ci_space.specs.Interval.{IsInterval, kind_of};
+ghost use Rattle.ci_space.specs.Interval.{IsInterval, IsFull, kind_of};
 ghost use Rattle.ci_overflow.specs.Places.{first_base, first_independent};
 ghost use Rattle.ci_overflow.specs.Lists.{bytes_at, link_of, owner_of, counted, first_free};
 ghost use Rattle.ci_overflow.specs.Rooms.{Joins, PutsEnds, IsGrown, JoinsFree, JoinsNew};
+ghost use Rattle.ci_overflow.specs.Faults.{FitsEmpty, IsAtFault, IsNotThere};
 
 use crate::SpaceFault;
 use crate::places::{BASE, CONTROL, INDEPENDENT, first_base, first_independent};
@@ -30,6 +31,8 @@ fn join<I: Intervals>(
     requires behind { first_base shape.now uow < ci }
     ensures joined { I.told i.old → IfOk result (Joins shape.now uow (I.intervals i.old) (I.intervals i.new) ci interval needed) }
     ensures failed { IsErrOf result SpaceFault.Failed → Rose (I.faults i.old) (I.faults i.new) }
+    ensures damaged { I.told i.old → (n : ℕ) → result ≡ Err (SpaceFault.Damaged n)
+        → IsNotThere (I.intervals i.old) (record { ci = first_base shape.now uow; kind = 2; owner = 0; from = first_base shape.now uow }) n ⊎ ((n ≡ ci) × IsFull interval needed) }
     ensures number { I.number i.new ≡ I.number i.old }
     ensures goes_on { GoesOn I.told I.size I.faults I.keeps i.old i.new }
 {
@@ -60,7 +63,7 @@ fn join<I: Intervals>(
 }
 
 /// Puts control with these last two numbers.
-fn put_counts<I: Intervals>(
+pub fn put_counts<I: Intervals>(
     i: &mut I,
     mut control: Interval,
     number: u64,
@@ -72,6 +75,7 @@ fn put_counts<I: Intervals>(
     requires interval { IsInterval control }
     ensures put { I.told i.old → OnOk result (PutsEnds control number first (I.intervals i.old) (I.intervals i.new)) }
     ensures never_failed { ¬ IsErrOf result SpaceFault.Failed }
+    ensures never_damaged { (n : ℕ) → result ≢ Err (SpaceFault.Damaged n) }
     ensures number { I.number i.new ≡ I.number i.old }
     ensures goes_on { GoesOn I.told I.size I.faults I.keeps i.old i.new }
 {
@@ -96,6 +100,8 @@ pub fn join_free<I: Intervals>(
     ensures joined { I.told i.old → control ≡ bytes_at (I.intervals i.old) 0 → IfOk result (JoinsFree shape.now uow (I.intervals i.old) (I.intervals i.new) needed) }
     ensures in_range { IfOk result (λ room. room.0 < I.number i.new) }
     ensures failed { IsErrOf result SpaceFault.Failed → Rose (I.faults i.old) (I.faults i.new) }
+    ensures damaged { I.told i.old → control ≡ bytes_at (I.intervals i.old) 0 → first_free (I.intervals i.old) ≢ 0 → FitsEmpty (I.size i.old) needed
+        → (n : ℕ) → result ≡ Err (SpaceFault.Damaged n) → IsAtFault shape.now (I.intervals i.old) n }
     ensures number { I.number i.new ≡ I.number i.old }
     ensures goes_on { GoesOn I.told I.size I.faults I.keeps i.old i.new }
 {
@@ -136,6 +142,8 @@ pub fn join_new<I: Intervals>(
     ensures joined { I.told i.old → control ≡ bytes_at (I.intervals i.old) 0 → IfOk result (JoinsNew shape.now uow (I.intervals i.old) (I.intervals i.new) needed) }
     ensures in_range { IfOk result (λ room. room.0 < I.number i.new) }
     ensures failed { IsErrOf result SpaceFault.Failed → Rose (I.faults i.old) (I.faults i.new) }
+    ensures damaged { I.told i.old → control ≡ bytes_at (I.intervals i.old) 0 → FitsEmpty (I.size i.old) needed
+        → (n : ℕ) → result ≡ Err (SpaceFault.Damaged n) → IsAtFault shape.now (I.intervals i.old) n }
     ensures number { I.number i.old ≤ I.number i.new }
     ensures goes_on { GoesOn I.told I.size I.faults I.keeps i.old i.new }
 {
@@ -163,6 +171,7 @@ fn extend<I: Intervals>(i: &mut I) -> Result<(), SpaceFault>
     ensures one_more { OnOk result (I.number i.new ≡ I.number i.old + 1) }
     ensures bound { OnOk result (I.number i.new ≤ 2 ^ 62) }
     ensures failed { IsErrOf result SpaceFault.Failed → Rose (I.faults i.old) (I.faults i.new) }
+    ensures never_damaged { (n : ℕ) → result ≢ Err (SpaceFault.Damaged n) }
     ensures number { I.number i.old ≤ I.number i.new }
     ensures goes_on { GoesOn I.told I.size I.faults I.keeps i.old i.new }
 {

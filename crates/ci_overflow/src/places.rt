@@ -17,6 +17,9 @@ pub const DEPENDENT: u8 = 3;
 /// The kind of an independent overflow interval.
 pub const INDEPENDENT: u8 = 5;
 
+/// The owner of an interval in the free chain.
+pub const NO_UOW: u64 = 0;
+
 /// The first base interval of a unit of work.
 pub fn first_base(shape: &Shape, uow: u32) -> u64
     ensures number { result ≡ first_base shape.now uow }

@@ -7,6 +7,7 @@ ghost use Rattle.ci_space.specs.Interval.{IsInterval, kind_of};
 ghost use Rattle.ci_space.specs.Head.{head_of};
 ghost use Rattle.ci_overflow.specs.Lists.{bytes_at, owner_of};
 ghost use Rattle.ci_overflow.specs.Rooms.{IsPut, IsTried};
+ghost use Rattle.ci_overflow.specs.Faults.{IsNoInterval, IsNotThere};
 
 use crate::SpaceFault;
 use ci_space::{GetFault, Interval, Intervals};
@@ -22,6 +23,33 @@ pub struct Place {
     pub from: u64,
 }
 
+/// The interval of this number, which the interval `from` leads to.
+pub fn get<I: Intervals>(i: &mut I, ci: u64, from: u64) -> Result<Interval, SpaceFault>
+    ensures bytes { I.told i.old → IfOk result (λ interval. interval ≡ bytes_at (I.intervals i.old) ci) }
+    ensures below { OnOk result (ci < I.number i.old) }
+    ensures interval { IfOk result IsInterval }
+    ensures size { IfOk result (λ interval. length interval ≡ I.size i.old) }
+
+    // It fails only with what holds the intervals, or where no interval is there.
+    ensures failed { IsErrOf result SpaceFault.Failed → Rose (I.faults i.old) (I.faults i.new) }
+    ensures damaged { I.told i.old → (n : ℕ) → result ≡ Err (SpaceFault.Damaged n) → IsNoInterval (I.intervals i.old) ci from n }
+
+    // Nothing changes.
+    ensures same { I.told i.old → I.intervals i.new ≡ I.intervals i.old }
+    ensures number { I.number i.new ≡ I.number i.old }
+    ensures goes_on { GoesOn I.told I.size I.faults I.keeps i.old i.new }
+{
+    if i.count() <= ci {
+        return Err(SpaceFault::Damaged(from));
+    }
+    match i.get(ci) {
+        Ok(interval) => Ok(interval),
+        Err(GetFault::Failed) => Err(SpaceFault::Failed),
+        Err(GetFault::BadTiles(ci)) => Err(SpaceFault::Damaged(ci)),
+        Err(GetFault::Memory) => Err(SpaceFault::Memory),
+    }
+}
+
 /// The interval of this place.
 #[tactic(auto, unfolding(crate::specs::Lists::owner_of))]
 pub fn read<I: Intervals>(i: &mut I, place: Place) -> Result<Interval, SpaceFault>
@@ -32,23 +60,16 @@ pub fn read<I: Intervals>(i: &mut I, place: Place) -> Result<Interval, SpaceFaul
     ensures interval { IfOk result IsInterval }
     ensures size { IfOk result (λ interval. length interval ≡ I.size i.old) }
 
-    // It fails only with what holds the intervals.
+    // It fails only with what holds the intervals, or where no such interval is there.
     ensures failed { IsErrOf result SpaceFault.Failed → Rose (I.faults i.old) (I.faults i.new) }
+    ensures damaged { I.told i.old → (n : ℕ) → result ≡ Err (SpaceFault.Damaged n) → IsNotThere (I.intervals i.old) place n }
 
     // Nothing changes.
     ensures same { I.told i.old → I.intervals i.new ≡ I.intervals i.old }
     ensures number { I.number i.new ≡ I.number i.old }
     ensures goes_on { GoesOn I.told I.size I.faults I.keeps i.old i.new }
 {
-    if i.count() <= place.ci {
-        return Err(SpaceFault::Damaged(place.from));
-    }
-    let interval = match i.get(place.ci) {
-        Ok(interval) => interval,
-        Err(GetFault::Failed) => return Err(SpaceFault::Failed),
-        Err(GetFault::BadTiles(ci)) => return Err(SpaceFault::Damaged(ci)),
-        Err(GetFault::Memory) => return Err(SpaceFault::Memory),
-    };
+    let interval = get(i, place.ci, place.from)?;
     let head = interval.head();
     if head.kind != place.kind || head.owner != place.owner {
         return Err(SpaceFault::Damaged(place.from));
@@ -62,6 +83,7 @@ pub fn write<I: Intervals>(i: &mut I, ci: u64, interval: Interval) -> Result<(),
     requires size { length interval ≡ I.size i.old }
     ensures put { I.told i.old → OnOk result (IsPut (I.intervals i.old) (I.intervals i.new) ci interval) }
     ensures never_failed { ¬ IsErrOf result SpaceFault.Failed }
+    ensures never_damaged { (n : ℕ) → result ≢ Err (SpaceFault.Damaged n) }
     ensures number { I.number i.new ≡ I.number i.old }
     ensures goes_on { GoesOn I.told I.size I.faults I.keeps i.old i.new }
 {
@@ -86,7 +108,9 @@ pub fn try_take<I: Intervals>(i: &mut I, place: Place, length: u16) -> Result<Tr
     requires owned { place.kind ≡ 5 → place.owner ≢ 0 }
     ensures tried { I.told i.old → IfOk result (IsTried (I.intervals i.old) (I.intervals i.new) place.ci length) }
     ensures below { OnOk result (place.ci < I.number i.old) }
+    ensures owner { I.told i.old → OnOk result (owner_of (bytes_at (I.intervals i.old) place.ci) ≡ place.owner) }
     ensures failed { IsErrOf result SpaceFault.Failed → Rose (I.faults i.old) (I.faults i.new) }
+    ensures damaged { I.told i.old → (n : ℕ) → result ≡ Err (SpaceFault.Damaged n) → IsNotThere (I.intervals i.old) place n }
     ensures number { I.number i.new ≡ I.number i.old }
     ensures goes_on { GoesOn I.told I.size I.faults I.keeps i.old i.new }
 {

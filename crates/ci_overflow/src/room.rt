@@ -1,9 +1,10 @@
 //! Room for a new element.
 
-ghost use Rattle.std.specs.Prelude.{◌≡◌, ◌<◌, ◌≤◌, ◌+◌, ◌*◌, ℕ, IfOk, OnOk, IsErrOf};
+ghost use Rattle.std.specs.Prelude.{◌≡◌, ◌≢◌, ◌<◌, ◌≤◌, ◌+◌, ◌*◌, ℕ, IfOk, OnOk, IsErrOf};
 ghost use Rattle.ci_space.specs.Calls.{Rose, GoesOn};
 ghost use Rattle.ci_overflow.specs.Lists.{IsInOrder};
 ghost use Rattle.ci_overflow.specs.Rooms.{FindsRoom, JoinsNext};
+ghost use Rattle.ci_overflow.specs.Faults.{FitsEmpty, IsAtFault};
 
 use crate::SpaceFault;
 use crate::joined::{join_free, join_new};
@@ -34,6 +35,11 @@ pub fn find_room<I: Intervals>(
     ensures lists { I.told i.old → IsInOrder shape.now (I.intervals i.old) → OnOk result (IsInOrder shape.now (I.intervals i.new)) }
     ensures in_range { IfOk result (λ room. room.0 < I.number i.new) }
 
+    // Where an empty interval has room for `length`, `Damaged` names an interval at fault. An area in
+    // order has none.
+    ensures damaged { I.told i.old → FitsEmpty (I.size i.old) length → (n : ℕ) → result ≡ Err (SpaceFault.Damaged n) → IsAtFault shape.now (I.intervals i.old) n }
+    ensures sound { I.told i.old → IsInOrder shape.now (I.intervals i.old) → FitsEmpty (I.size i.old) length → (n : ℕ) → result ≢ Err (SpaceFault.Damaged n) }
+
     // It fails only with what holds the intervals.
     ensures failed { IsErrOf result SpaceFault.Failed → Rose (I.faults i.old) (I.faults i.new) }
 
@@ -60,6 +66,7 @@ fn join_next<I: Intervals>(
     ensures joined { I.told i.old → IfOk result (JoinsNext shape.now uow (I.intervals i.old) (I.intervals i.new) needed) }
     ensures in_range { IfOk result (λ room. room.0 < I.number i.new) }
     ensures failed { IsErrOf result SpaceFault.Failed → Rose (I.faults i.old) (I.faults i.new) }
+    ensures damaged { I.told i.old → FitsEmpty (I.size i.old) needed → (n : ℕ) → result ≡ Err (SpaceFault.Damaged n) → IsAtFault shape.now (I.intervals i.old) n }
     ensures number { I.number i.old ≤ I.number i.new }
     ensures goes_on { GoesOn I.told I.size I.faults I.keeps i.old i.new }
 {

@@ -1,5 +1,8 @@
-use Rattle.std.proofs.Common.{◌+◌, ap}
+use Rattle.std.proofs.Common.{◌≡◌, ◌+◌, inr, sym, ap}
+use Rattle.ci_space.specs.Interval.{IsFull}
+use Rattle.ci_overflow.proofs.Going.{goes_on_joined}
 use Rattle.ci_overflow.proofs.Joins.{joins}
+use Rattle.ci_overflow.proofs.JoinFaults.{full-behind}
 use Rattle.ci_overflow.proofs.joined.join.Goals as goal
 
 pub returns-in_ok-write-in-Some-2-clause-joined : goal.returns-in_ok-write-in-Some-2-clause-joined
@@ -11,3 +14,13 @@ returns-in_ok-write-in-Some-2-clause-joined g c = λ t.
     c.set_head-2.ensures.head (ap (λ n. n + 1) c.from.ensures) c.set_head-2.ensures.tiles
     c.in-Some.ensures.some c.in-Some.ensures.room c.in-Some.ensures.fresh c.in-Some.ensures.others c.take.ensures.head
     (c.in_ok-write-in-Some.ensures.put t1) (c.in_ok-write-in-Some-2.ensures.put t2)
+
+pub returns-in-None-clause-damaged : goal.returns-in-None-clause-damaged
+returns-in-None-clause-damaged g c = λ t n e.
+    let full : IsFull c.args.interval c.args.needed = full-behind _ _ _ c.requires.interval c.set_head-2.ensures.tiles c.in-None.ensures.full in
+    let k : c.args.ci ≡ n = cc in
+    inr (sym k, full)
+
+pub returns-in_ok-write-in-Some-2-clause-goes_on : goal.returns-in_ok-write-in-Some-2-clause-goes_on
+returns-in_ok-write-in-Some-2-clause-goes_on g c =
+    goes_on_joined _ _ _ _ _ _ _ (goes_on_joined _ _ _ _ _ _ _ c.read.ensures.goes_on c.write.ensures.goes_on) c.write-in-Some.ensures.goes_on

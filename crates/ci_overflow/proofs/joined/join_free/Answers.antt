@@ -1,6 +1,11 @@
-use Rattle.std.proofs.Common.{◌<◌, ◌≤◌, ap, length, slice_index_or, refl, arith}
+use Rattle.std.proofs.Common.{◌≡◌, ◌<◌, ◌≤◌, false, true, inl, inr, ap, length, slice_index_or, refl, arith}
+use Rattle.std.proofs.lemmas.Result.{err_from_is_err_and}
+use Rattle.ci_space.specs.Interval.{IsEmpty}
 use Rattle.ci_overflow.specs.Places.{first_independent}
-use Rattle.ci_overflow.proofs.Going.{goes_on_joined}
+use Rattle.ci_overflow.specs.Faults.{FitsEmpty, IsAtFault}
+use Rattle.ci_overflow.proofs.Going.{goes_on_joined, same_fault, named_fault}
+use Rattle.ci_overflow.proofs.FaultLemmas.{shared-fault, early-fault}
+use Rattle.ci_overflow.proofs.JoinFaults.{empty-fits, base-moved, control-link, control-some, free-fault}
 use Rattle.ci_overflow.proofs.Joins.{joins-free, base-before}
 use Rattle.ci_overflow.proofs.joined.join_free.Goals as goal
 
@@ -18,3 +23,37 @@ returns-clause-joined g c = λ t e.
     let below : slice_index_or c.ends-ends.result 3 0 < length (g.I.Intervals.intervals c.args.i.now) = omega (arith, g.met.I.Intervals.numbered c.args.i.now t, c.in_ok-interval.ensures.below) in
     joins-free _ _ _ _ _ _ _ _ _ _ _ _ _ e c.ends-ends.ensures refl from below (c.in_ok-interval.ensures.same t) (c.in_ok-interval.ensures.bytes t) (c.if-not-is_empty.ensures.0 refl)
     (ap (λ h. h.link) c.head-next.ensures.head) (c.in_ok-put_counts.ensures.put t1) (c.in_ok-at.ensures.joined t2)
+
+pub returns-then-ci-first_independent-clause-damaged : goal.returns-then-ci-first_independent-clause-damaged
+returns-then-ci-first_independent-clause-damaged g c = λ t e z f n i.
+    named_fault (IsAtFault c.args.shape.now (g.I.Intervals.intervals c.args.i.now)) 0 n i
+    (early-fault _ _ 0 0 _ (control-link _ _ _ _ e c.ends-ends.ensures) (control-some _ _ _ e c.ends-ends.ensures z) (omega (arith, c.if-ci-first_independent.true, c.first_independent.ensures.number)))
+
+pub returns-in_err-interval-clause-damaged : goal.returns-in_err-interval-clause-damaged
+returns-in_err-interval-clause-damaged g c = λ t e z f n i.
+    let p = err_from_is_err_and c.from_residual.result c.from_residual.ensures.1 in
+    shared-fault _ _ _ n (control-link _ _ _ _ e c.ends-ends.ensures) (control-some _ _ _ e c.ends-ends.ensures z) refl (c.in_err-interval.ensures.damaged t n (same_fault _ _ _ _ p.1 p.2 i))
+
+pub returns-then-not-is_empty-clause-damaged : goal.returns-then-not-is_empty-clause-damaged
+returns-then-not-is_empty-clause-damaged g c = λ t e z f n i.
+    let below : slice_index_or c.ends-ends.result 3 0 < length (g.I.Intervals.intervals c.args.i.now) = omega (arith, g.met.I.Intervals.numbered c.args.i.now t, c.in_ok-interval.ensures.below) in
+    let not_empty : IsEmpty c.in_ok-interval.interval → ⊥ = λ h. (let q : false ≡ true = c.if-not-is_empty.ensures.1 h in cc) in
+    named_fault (IsAtFault c.args.shape.now (g.I.Intervals.intervals c.args.i.now)) (slice_index_or c.ends-ends.result 3 0) n i
+    (free-fault _ _ _ _ (omega (arith, c.if-ci-first_independent.false, c.first_independent.ensures.number)) below (c.in_ok-interval.ensures.bytes t) c.in_ok-interval.ensures.owner not_empty)
+
+pub returns-in_err-put_counts-clause-damaged : goal.returns-in_err-put_counts-clause-damaged
+returns-in_err-put_counts-clause-damaged g c = λ t e z f n i.
+    let p = err_from_is_err_and c.from_residual-in_err-put_counts.result c.from_residual-in_err-put_counts.ensures.1 in
+    absurd (c.in_err-put_counts.ensures.never_damaged n (same_fault _ _ _ _ p.1 p.2 i))
+
+pub returns-in_err-at-clause-damaged : goal.returns-in_err-at-clause-damaged
+returns-in_err-at-clause-damaged g c = λ t e z f n i.
+    let p = err_from_is_err_and c.from_residual-in_err-at.result c.from_residual-in_err-at.ensures.1 in
+    let t1 = c.read.ensures.goes_on.tells t in
+    let t2 = c.put_counts.ensures.goes_on.tells t1 in
+    let put = rw (c.in_ok-interval.ensures.same t) at (c.in_ok-put_counts.ensures.put t1) in
+    let fits : FitsEmpty (length c.in_ok-interval.interval) c.args.needed = rw c.in_ok-interval.ensures.size f in
+    elim (c.in_err-at.ensures.damaged t2 n (same_fault _ _ _ _ p.1 p.2 i)) as (λ _. IsAtFault c.args.shape.now (g.I.Intervals.intervals c.args.i.now) n) [
+      | inl h ↦ base-moved _ _ _ _ _ _ _ _ c.requires.uow c.requires.base put h
+      | inr h ↦ absurd (empty-fits _ _ (c.if-not-is_empty.ensures.0 refl) fits h.1)
+    ]
