@@ -14,3 +14,10 @@ pub mod Sound
 pub mod Rebuilt
 pub mod BaseLemmas
 pub mod LawLemmas
+pub mod Rows
+pub mod Planning
+pub mod Growing
+pub mod TypeLemmas
+pub mod Exits
+pub mod Sharing
+pub mod Giving

@@ -1,16 +1,17 @@
 //! The roots of an anchor, as the elements of an area hold them.
 #![tactic(auto)]
 
+mod anchor;
 mod building;
 mod element;
 mod fault;
-mod plan;
-mod anchor;
 mod laws;
 mod loading;
+mod plan;
 mod putting;
 mod spelling;
 mod standing;
+mod storing;
 mod walk;
 
 pub use fault::AnchorFault;
@@ -19,6 +20,7 @@ pub use laws::{
     an_element_has_one_segment, each_element_has_a_segment,
 };
 pub use loading::load;
+pub use storing::store;
 
 #[cfg(test)]
 mod putting_tests;

@@ -32,7 +32,6 @@ fn give_back_all<I: Intervals>(
     shape: &Shape,
     elements: &[Standing],
 ) -> Result<(), AnchorFault>
-    requires base { 0 < shape.now.base }
     ensures given { I.told i.old → IsInOrder shape.now (I.intervals i.old) → AreGivable (I.intervals i.old) (places_of elements.now) → OnOk result (Exchanges shape.now (I.intervals i.old) (I.intervals i.new) (places_of elements.now) []) }
     ensures sound { I.told i.old → IsInOrder shape.now (I.intervals i.old) → AreGivable (I.intervals i.old) (places_of elements.now) → (ci : ℕ) → result ≢ Err (AnchorFault.Damaged ci) }
     ensures failed { IsErrOf result AnchorFault.Failed → Rose (I.faults i.old) (I.faults i.new) }
@@ -75,8 +74,11 @@ fn rebuild<I: Intervals>(
     put_root(i, home.shape, home.anchor, first)
 }
 
-/// Gives an anchor these roots: `roots_of` gives just them afterwards, keys ascending as they are here, each with its
-/// newest serial alone. An anchor is counted from 0 within its area.
+/// Gives an anchor these roots, in this order: `load` gives just them afterwards. A root's sequential list is its newest
+/// serial alone, in an item without bytes, or none. An anchor is counted from 0 within its area.
+///
+/// The root anchor point, pointers and segments are written where they change. What an element doesn't need any more is
+/// given back before room is looked for.
 ///
 /// `Damaged` names the interval that is damaged; in an area that is whole it never comes. `Failed` comes only with what
 /// holds the intervals. After a fault what holds them is thrown away.

@@ -18,7 +18,7 @@ returns-in-Err-clause-sound g c = λ told o a ci e.
     let x = c.loop-left.invariant.given told o a in
     let used = given-used _ _ _ c.args.elements.now c.loop-left.left c.index-elements-left.result a c.loop-left-test.true c.loop-left.invariant.within c.index-elements-left.is x in
     let P : Standing → Type 0 = λ s. IsUsed (bytes_at (g.I.Intervals.intervals c.loop-left.i) s.at.0) s.at.1 in
-    c.give_back.ensures.sound (c.loop-left.invariant.goes_on.tells told) x.in_order c.requires.base (subst P c.index-elements-left.is used) ci (c.in-Err.is ∙ ap Err was)
+    c.give_back.ensures.sound (c.loop-left.invariant.goes_on.tells told) x.in_order (subst P c.index-elements-left.is used) ci (c.in-Err.is ∙ ap Err was)
 
 pub loop-left-preserved : goal.loop-left-preserved
 loop-left-preserved g c = record {
