@@ -9,3 +9,4 @@ pub mod Rebuilding
 pub mod Spelling
 pub mod Reading
 pub mod Walking
+pub mod Samples

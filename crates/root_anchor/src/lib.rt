@@ -25,4 +25,6 @@ pub use storing::store;
 #[cfg(test)]
 mod putting_tests;
 #[cfg(test)]
+mod storing_tests;
+#[cfg(test)]
 mod tests;
