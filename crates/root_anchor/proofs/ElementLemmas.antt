@@ -23,19 +23,8 @@ use Rattle.root_anchor.specs.Elements.{Pointer, Segment, HasSegment, pointers_fr
 use Rattle.root_anchor.specs.Stored.{AreTypes}
 use Rattle.root_anchor.specs.Puts.{PutsSegment, PutsRoot}
 use Rattle.root_anchor.specs.Spelling.{Spells, Says, firsts_at, bytes_from, spelled_length}
-use Rattle.root_anchor.proofs.PutLemmas.{same_pointer, within_area}
+use Rattle.root_anchor.proofs.PutLemmas.{same_pointer}
 use Rattle.root_anchor.proofs.SpellingLemmas.{pointer_keeps, pointers_keep, firsts_bounds, firsts_behind}
-
--- ---- an interval that is got
-
--- one that isn't damaged
-not_bad : (area : List (List ℕ)) (ci : ℕ) → ci < length area → IfSome (slice_get area ci) (λ bytes. ¬ IsInterval bytes) → IsInterval (bytes_at area ci) → ⊥
-not_bad [] ci l n i = absurd (omega arith)
-not_bad (bytes ∷ area) zero l n i = n i
-not_bad (bytes ∷ area) (suc ci) l n i = not_bad area ci (omega arith) n i
-
-pub no_damage : (area : List (List ℕ)) (ci : ℕ) → IfSome (slice_get area ci) (λ bytes. ¬ IsInterval bytes) → IsInterval (bytes_at area ci) → ⊥
-no_damage area ci n i = not_bad area ci (within_area area ci i) n i
 
 -- ---- the element
 

@@ -1,3 +1,6 @@
+pub mod PutLemmas
+pub mod SpellingLemmas
+pub mod ElementLemmas
 pub mod Members
 pub mod Framing
 pub mod ReadLemmas
@@ -5,8 +8,5 @@ pub mod WalkLemmas
 pub mod WalkSteps
 pub mod OneChain
 pub mod Sound
-pub mod PutLemmas
 pub mod BaseLemmas
-pub mod SpellingLemmas
-pub mod ElementLemmas
 pub mod LawLemmas

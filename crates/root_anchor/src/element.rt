@@ -6,7 +6,7 @@
 //! sequential type.
 
 ghost use Rattle.byteorder.specs.Endian.{big_from};
-ghost use Rattle.std.specs.Prelude.{if◌then◌else◌, List, ◌≡◌, ◌↔◌, ◌&&◌, not, ◌^◌, ◌+◌, ◌*◌, ◌≤◌, ◌<◌, ℕ, Err, length, IsTrue, IfOk, OnOk, IfSome, IfNone, true, IsErrOf, All, slice_range};
+ghost use Rattle.std.specs.Prelude.{if◌then◌else◌, List, ◌≡◌, ◌↔◌, ◌&&◌, not, ◌^◌, ◌+◌, ◌*◌, ◌≤◌, ◌<◌, ◌⊎◌, ℕ, Err, length, IsTrue, IfOk, OnOk, IfSome, IfNone, true, IsErrOf, All, slice_range};
 ghost use Rattle.ci_space.specs.Calls.{Rose, GoesOn};
 ghost use Rattle.ci_space.specs.Interval.{IsInterval, IsZero};
 ghost use Rattle.ci_overflow.specs.Lists.{bytes_at};
@@ -18,7 +18,6 @@ ghost use Rattle.root_anchor.specs.Damage.{IsWrong};
 ghost use Rattle.root_anchor.specs.Stored.{AreTypes};
 
 use crate::fault::AnchorFault;
-use crate::spelling::has_serial;
 use crate::standing::Pointer;
 use byteorder::{BigEndian, ByteOrder};
 use ci_space::{GetFault, Interval, Intervals};
@@ -71,6 +70,25 @@ fn is_zero_from(bytes: &[u8], from: usize) -> bool
     all_zero(&bytes[from..bytes.len()])
 }
 
+/// Whether one of the types is sequential.
+fn has_sequential(segments: &[SegDef]) -> bool
+    ensures { result ≡ has_sequential segments.now }
+{
+    for def in segments {
+        if def.sequential {
+            return true;
+        }
+    }
+    false
+}
+
+/// Whether an element of a type has a newest serial.
+pub(crate) fn has_serial(segments: &List<SegDef>, segment: u8) -> bool
+    ensures { result ≡ has_serial segments.now segment }
+{
+    segment == 0 && has_sequential(segments.as_slice())
+}
+
 /// Whether a type is a direct child type of another, and no sequential one.
 fn is_child_of(def: &SegDef, parent: u8) -> bool
     ensures { result ≡ (is_child_of parent def.now && not def.now.sequential) }
@@ -97,7 +115,7 @@ fn serial_length(segments: &List<SegDef>, segment: u8) -> usize
     ensures exact { result ≡ serial_length segments.now segment }
     ensures small { result ≤ 8 }
 {
-    if has_serial(segments.as_slice(), segment) {
+    if has_serial(segments, segment) {
         8
     } else {
         0
@@ -129,7 +147,7 @@ fn serial_in(segments: &List<SegDef>, segment: u8, content: &[u8]) -> u64
     requires { 10 + serial_length segments.now segment ≤ length content.now }
     ensures { result ≡ (if has_serial segments.now segment then big_from 10 8 content.now else 0) }
 {
-    if has_serial(segments.as_slice(), segment) {
+    if has_serial(segments, segment) {
         BigEndian::read_u64(&content[10..])
     } else {
         0
@@ -243,7 +261,9 @@ pub(crate) fn interval_at<I: Intervals>(
     ensures bytes { I.told i.old → IfOk result (λ interval. interval ≡ bytes_at (I.intervals i.old) ci) }
     ensures below { OnOk result (ci < I.number i.old) }
     ensures interval { IfOk result IsInterval }
+    ensures size { IfOk result (λ interval. length interval ≡ I.size i.old) }
     ensures missing { I.told i.old → (n : ℕ) → result ≡ Err (AnchorFault.Damaged n) → IsMissing (I.intervals i.old) from ci n }
+    ensures named { (n : ℕ) → result ≡ Err (AnchorFault.Damaged n) → (n ≡ from) ⊎ (n ≡ ci) }
     ensures failed { IsErrOf result AnchorFault.Failed → Rose (I.faults i.old) (I.faults i.new) }
     ensures same { I.told i.old → I.intervals i.new ≡ I.intervals i.old }
     ensures number { I.number i.new ≡ I.number i.old }

@@ -1,22 +1,23 @@
 //! Segments and root anchor points that are put into an area.
 
-ghost use Rattle.std.specs.Prelude.{◌≡◌, ◌↔◌, ◌<◌, ◌+◌, ◌*◌, ℕ, List, Err, IfOk, OnOk, IsErrOf, IsTrue, IsFalse, false, length, IfSome, slice_get};
+ghost use Rattle.std.specs.Prelude.{◌≡◌, ◌↔◌, ◌<◌, ℕ, List, Err, IfOk, OnOk, IsErrOf, IsTrue, IsFalse, false, length, IfSome, slice_get};
 ghost use Rattle.ci_space.specs.Calls.{Rose, GoesOn};
-ghost use Rattle.ci_space.specs.Interval.{HasRoom, HasUsed, IsInterval, IsUsed, OthersStay, Keeps, SameSize};
+ghost use Rattle.ci_space.specs.Interval.{HasRoom, HasUsed, IsUsed, OthersStay, Keeps, SameSize};
 ghost use Rattle.ci_overflow.specs.Lists.{bytes_at, IsInPlace};
 ghost use Rattle.ci_overflow.specs.Places.{base_of};
 ghost use Rattle.ci_overflow.specs.Rooms.{IsPut};
 ghost use Rattle.fp_model.specs.Order.{child_types};
-ghost use Rattle.root_anchor.specs.Elements.{Segment, content_length, has_serial, segment_length};
+ghost use Rattle.root_anchor.specs.Elements.{content_length, has_serial, segment_length};
 ghost use Rattle.root_anchor.specs.Chains.{anchor_count};
 ghost use Rattle.root_anchor.specs.Puts.{PutsSegment, PutsRoot};
 ghost use Rattle.root_anchor.specs.Stored.{AreTypes};
 ghost use Rattle.root_anchor.specs.Spelling.{Says, said, spelled_length};
 
+use crate::element::{has_serial, interval_at};
 use crate::fault::AnchorFault;
-use crate::spelling::{has_serial, spell, spelled_length, zeros};
+use crate::spelling::{spell, spelled_length, zeros};
 use crate::standing::Pointer;
-use ci_space::{GetFault, Head, Interval, Intervals, Shape};
+use ci_space::{Head, Interval, Intervals, Shape};
 use fp_model::{List, SegDef};
 
 /// The kind of a base interval.
@@ -32,30 +33,6 @@ pub(crate) struct Saying<'a> {
     /// The first child of each direct child type.
     pub(crate) firsts: &'a [Pointer],
     pub(crate) bytes: &'a [u8],
-}
-
-/// The interval of this number.
-fn get<I: Intervals>(i: &mut I, ci: u64) -> Result<Interval, AnchorFault>
-    ensures bytes { I.told i.old → IfOk result (λ interval. interval ≡ bytes_at (I.intervals i.old) ci) }
-    ensures below { OnOk result (ci < I.number i.old) }
-    ensures interval { IfOk result IsInterval }
-    ensures size { IfOk result (λ interval. length interval ≡ I.size i.old) }
-    ensures sound { I.told i.old → IsInterval (bytes_at (I.intervals i.old) ci) → (n : ℕ) → ¬ (result ≡ Err (AnchorFault.Damaged n)) }
-    ensures damaged { (n : ℕ) → result ≡ Err (AnchorFault.Damaged n) → n ≡ ci }
-    ensures failed { IsErrOf result AnchorFault.Failed → Rose (I.faults i.old) (I.faults i.new) }
-    ensures same { I.told i.old → I.intervals i.new ≡ I.intervals i.old }
-    ensures number { I.number i.new ≡ I.number i.old }
-    ensures goes_on { GoesOn I.told I.size I.faults I.keeps i.old i.new }
-{
-    if i.count() <= ci {
-        return Err(AnchorFault::Damaged(ci));
-    }
-    match i.get(ci) {
-        Ok(interval) => Ok(interval),
-        Err(GetFault::BadTiles(ci)) => Err(AnchorFault::Damaged(ci)),
-        Err(GetFault::Failed) => Err(AnchorFault::Failed),
-        Err(GetFault::Memory) => Err(AnchorFault::Memory),
-    }
 }
 
 /// Puts the interval of this number.
@@ -146,8 +123,8 @@ pub(crate) fn put_segment<I: Intervals>(
     ensures number { I.number i.new ≡ I.number i.old }
     ensures goes_on { GoesOn I.told I.size I.faults I.keeps i.old i.new }
 {
-    let mut interval = get(i, at.0)?;
-    let with_serial = has_serial(segments.as_slice(), segment);
+    let mut interval = interval_at(i, at.0, at.0)?;
+    let with_serial = has_serial(segments, segment);
     let length = spelled_length(with_serial, saying);
     if !has_room(&interval, at.1, length) {
         return Err(AnchorFault::Damaged(at.0));
@@ -187,7 +164,7 @@ pub(crate) fn put_root<I: Intervals>(
     ensures goes_on { GoesOn I.told I.size I.faults I.keeps i.old i.new }
 {
     let base = base_of(shape, anchor);
-    let mut interval = get(i, base)?;
+    let mut interval = interval_at(i, base, base)?;
     let head = interval.head();
     if head.kind != BASE {
         return Err(AnchorFault::Damaged(base));

@@ -6,33 +6,12 @@ ghost use Rattle.std.specs.Prelude.{◌≡◌, ◌+◌, ◌*◌, ◌^◌, ◌<�
 ghost use Rattle.byteorder.specs.Endian.{big_from};
 ghost use Rattle.ci_space.specs.Interval.{Keeps, IsZero};
 ghost use Rattle.ci_space.specs.Numbers.{PutsNumber};
-ghost use Rattle.fp_model.specs.WellFormed.{has_sequential};
-ghost use Rattle.root_anchor.specs.Elements.{Segment, pointer_at, pointers_from, has_serial};
+ghost use Rattle.root_anchor.specs.Elements.{pointer_at, pointers_from};
 ghost use Rattle.root_anchor.specs.Spelling.{Spells, firsts_at, said, spelled_length};
 
 use crate::putting::Saying;
 use crate::standing::Pointer;
 use byteorder::{BigEndian, ByteOrder};
-use fp_model::SegDef;
-
-/// Whether one of the types is sequential.
-fn has_sequential(segments: &[SegDef]) -> bool
-    ensures { result ≡ has_sequential segments.now }
-{
-    for def in segments {
-        if def.sequential {
-            return true;
-        }
-    }
-    false
-}
-
-/// Whether the elements of a type have a newest serial.
-pub(crate) fn has_serial(segments: &[SegDef], segment: u8) -> bool
-    ensures { result ≡ has_serial segments.now segment }
-{
-    segment == 0 && has_sequential(segments)
-}
 
 /// Puts a number into the 8 bytes from `at` on.
 fn put_number(content: &mut [u8], at: usize, number: u64)

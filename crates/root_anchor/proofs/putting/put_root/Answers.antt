@@ -21,10 +21,10 @@ returns-then-eq-clause-put g c = λ t p.
 pub returns-clause-put : goal.returns-clause-put
 returns-clause-put g c = λ t p.
     on_ok-map _ _ _ (λ put. puts_root _ _ _ _ _ _ _ _ _ _ c.base_of-base.ensures (c.in_ok-interval.ensures.same t) (c.in_ok-interval.ensures.bytes t) put c.in_ok-interval.ensures.interval c.head-head.ensures.head c.set_head.ensures.head c.set_head.ensures.tiles)
-    (c.put.ensures.put (c.get.ensures.goes_on.tells t))
+    (c.put.ensures.put (c.interval_at.ensures.goes_on.tells t))
 
 pub returns-clause-goes_on : goal.returns-clause-goes_on
-returns-clause-goes_on g c = goes_on_joined _ _ _ _ _ _ _ c.get.ensures.goes_on c.put.ensures.goes_on
+returns-clause-goes_on g c = goes_on_joined _ _ _ _ _ _ _ c.interval_at.ensures.goes_on c.put.ensures.goes_on
 
 pub returns-clause-damaged : goal.returns-clause-damaged
 returns-clause-damaged g c = λ ci e. absurd (c.put.ensures.sound ci e)

@@ -1,6 +1,4 @@
-use Rattle.std.proofs.Common.{◌≡◌, ◌∙◌, ap}
 use Rattle.ci_overflow.proofs.Joins.{on_ok-map}
-use Rattle.root_anchor.specs.Elements.{has_serial}
 use Rattle.root_anchor.proofs.ElementLemmas.{parts_bound, puts_segment, stays_segment}
 use Rattle.root_anchor.proofs.putting.put_segment.Goals as goal
 
@@ -9,13 +7,11 @@ spelled_length-length-requires g c = parts_bound _ _ _ _ _ (g.met.I.Intervals.is
 
 pub returns-then-not-say-clause-put : goal.returns-then-not-say-clause-put
 returns-then-not-say-clause-put g c = λ t r.
-    let h : c.has_serial-with_serial.result ≡ has_serial c.args.segments.now c.args.segment = c.has_serial-with_serial.ensures ∙ ap (λ types. has_serial types c.args.segment) c.as_slice.ensures in
     stays_segment _ _ _ _ _ _ _ _ _ (c.in_ok-interval.ensures.same t) (c.in_ok-interval.ensures.bytes t) (c.say.ensures.same c.if-not-say.true)
-    h c.requires.firsts c.requires.bytes c.requires.serial c.say.ensures.says c.say.ensures.others c.say.ensures.head
+    c.has_serial-with_serial.ensures c.requires.firsts c.requires.bytes c.requires.serial c.say.ensures.says c.say.ensures.others c.say.ensures.head
 
 pub returns-clause-put : goal.returns-clause-put
 returns-clause-put g c = λ t r.
-    let h : c.has_serial-with_serial.result ≡ has_serial c.args.segments.now c.args.segment = c.has_serial-with_serial.ensures ∙ ap (λ types. has_serial types c.args.segment) c.as_slice.ensures in
     on_ok-map _ _ _ (λ put. puts_segment _ _ _ _ _ _ _ _ _ _ (c.in_ok-interval.ensures.same t) (c.in_ok-interval.ensures.bytes t) put
-    h c.requires.firsts c.requires.bytes c.requires.serial c.say.ensures.says c.say.ensures.others c.say.ensures.head)
-    (c.put.ensures.put (c.get.ensures.goes_on.tells t))
+    c.has_serial-with_serial.ensures c.requires.firsts c.requires.bytes c.requires.serial c.say.ensures.says c.say.ensures.others c.say.ensures.head)
+    (c.put.ensures.put (c.interval_at.ensures.goes_on.tells t))

@@ -4,7 +4,7 @@ use Rattle.root_anchor.proofs.putting.rewrite.Goals as goal
 
 pub write-requires : goal.write-requires
 write-requires c = record {
-  segment = c.args.segment;
+  segment = _;
   content = c.requires.used.content;
   used = typed_used _ _ _ _ c.requires.used c.set_type.ensures.becomes;
   fits = omega (arith, c.requires.whole c.requires.used.segment c.requires.used.content c.requires.used.used);
