@@ -14,7 +14,7 @@ use Rattle.root_anchor.specs.Elements.{Pointer}
 use Rattle.root_anchor.specs.Chains.{AreRoots, anchor_count, root_of}
 use Rattle.root_anchor.specs.Damage.{RootsFail, ChainFails, no_base, wrong_pointer}
 use Rattle.root_anchor.specs.Reading.{IsMissing}
-use Rattle.root_anchor.specs.Standing.{places_of, Stands, AreStanding}
+use Rattle.root_anchor.specs.Standing.{places_of, Stands, AreStanding, AreInTurn}
 use Rattle.root_anchor.specs.Walking.{met_of, WalksOn, AllStand, IsWalked}
 use Rattle.root_anchor.proofs.PutLemmas.{base_kind}
 use Rattle.root_anchor.proofs.ReadLemmas.{no_bytes}
@@ -71,3 +71,6 @@ standing_walked shape types area anchor walked list e w = subst (λ l. AreStandi
   once = w.once;
   typed = w.stand;
 })
+
+pub in_turn_walked : (shape : Shape) (types : List SegDef) (area : List (List ℕ)) (anchor : ℕ) (walked : Walked) (list : List Standing) → list ≡ walked.met.items → IsWalked shape types area anchor walked → AreInTurn shape types area anchor list
+in_turn_walked shape types area anchor walked list e w = subst (λ l. AreInTurn shape types area anchor l) (sym e) (record { roots = walked.roots; is_chain = w.is_chain })

@@ -1,5 +1,5 @@
 -- The elements in which an anchor's segments stand.
-use Rattle.std.specs.Prelude.{ℕ, ◌↔◌, ◌≢◌, List, map, Contains, AllPairs}
+use Rattle.std.specs.Prelude.{ℕ, ◌↔◌, ◌≢◌, List, map, reverse, Contains, AllPairs}
 use Rattle.ci_space.specs.declared.intervals.Shape.{Shape}
 use Rattle.ci_space.specs.Interval.{HasUsed}
 use Rattle.ci_overflow.specs.Lists.{bytes_at}
@@ -25,3 +25,8 @@ pub record AreStanding (shape : Shape) (types : List SegDef) (area : List (List 
   pub same : (at : Pointer) → Contains (places_of list) at ↔ Contains elements at
   pub once : AllPairs (λ a b. a ≢ b) (places_of list)
   pub typed : (s : Standing) → Contains list s → Stands types area s
+
+-- they come in hierarchical order: as the pointers of an anchor meet them
+pub record AreInTurn (shape : Shape) (types : List SegDef) (area : List (List ℕ)) (anchor : ℕ) (list : List Standing) : Type 0 where
+  pub roots : List Root
+  pub is_chain : IsChain shape types area anchor roots (reverse (places_of list))

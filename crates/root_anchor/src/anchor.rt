@@ -29,7 +29,7 @@ pub(crate) struct Walked {
 }
 
 /// The base interval of an anchor.
-fn base_of(shape: &Shape, anchor: u32) -> u64
+pub(crate) fn base_of(shape: &Shape, anchor: u32) -> u64
     requires { anchor < anchor_count shape.now }
     ensures { result ≡ base_of shape.now anchor }
 {

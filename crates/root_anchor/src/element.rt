@@ -6,7 +6,7 @@
 //! sequential type.
 
 ghost use Rattle.byteorder.specs.Endian.{big_from};
-ghost use Rattle.std.specs.Prelude.{if◌then◌else◌, List, ◌≡◌, ◌↔◌, ◌&&◌, not, ◌^◌, ◌+◌, ◌*◌, ◌≤◌, ◌<◌, ◌⊎◌, ℕ, Err, length, IsTrue, IfOk, OnOk, IfSome, IfNone, OnSome, IsErrOf, All, slice_range, true};
+ghost use Rattle.std.specs.Prelude.{if◌then◌else◌, List, ◌≡◌, ◌↔◌, ◌&&◌, not, ◌^◌, ◌+◌, ◌*◌, ◌≤◌, ◌<◌, ◌⊎◌, ℕ, Err, length, IsTrue, IfOk, OnOk, IfSome, IfNone, true, IsErrOf, All, slice_range};
 ghost use Rattle.ci_space.specs.Calls.{Rose, GoesOn};
 ghost use Rattle.ci_space.specs.Interval.{IsInterval, IsZero};
 ghost use Rattle.ci_overflow.specs.Lists.{bytes_at};

@@ -13,6 +13,7 @@ ghost use Rattle.root_anchor.specs.Puts.{PutsSegment, PutsRoot};
 ghost use Rattle.root_anchor.specs.Stored.{AreTypes};
 ghost use Rattle.root_anchor.specs.Spelling.{Says, said, spelled_length};
 
+use crate::anchor::base_of;
 use crate::element::{has_serial, interval_at};
 use crate::fault::AnchorFault;
 use crate::spelling::{spell, spelled_length, zeros};
@@ -133,16 +134,6 @@ pub(crate) fn put_segment<I: Intervals>(
         return Ok(());
     }
     put(i, at.0, interval)
-}
-
-/// The base interval of an anchor.
-fn base_of(shape: &Shape, anchor: u32) -> u64
-    requires { anchor < anchor_count shape.now }
-    ensures { result ≡ base_of shape.now anchor }
-{
-    let uow = anchor / u32::from(shape.base);
-    let parts = u64::from(shape.base) + u64::from(shape.overflow);
-    1 + u64::from(uow) * parts + u64::from(anchor % u32::from(shape.base))
 }
 
 /// Puts the root anchor point of an anchor, where it is another one.

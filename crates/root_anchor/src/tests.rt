@@ -18,6 +18,24 @@ struct RawArea {
     ghost have_size: { HaveSize 512 intervals.items },
 }
 
+impl RawArea {
+    /// An area of no intervals.
+    fn new(alloc: Global) -> RawArea {
+        RawArea {
+            alloc,
+            intervals: Vec::new(alloc),
+        }
+    }
+
+    /// Adds an interval.
+    fn add(&mut self, bytes: Vec<u8>) -> Result<(), AllocError>
+        requires { length bytes.items ≡ 512 }
+    {
+        self.intervals.push(Bytes::from_vec(bytes))?;
+        Ok(())
+    }
+}
+
 impl Intervals for RawArea {
     ghost told = { λ area. Unit {0} };
 
@@ -145,11 +163,11 @@ fn bytes(rt: &HostRuntime, front: &[u8]) -> Result<Vec<u8>, Fail>
 }
 
 /// A byte that is written over another: its interval, its place, its value.
-struct Change(u64, usize, u8);
+struct Change(usize, usize, u8);
 
 /// The area, with some bytes changed.
 fn area(rt: &HostRuntime, changes: &[Change]) -> Result<RawArea, Fail> {
-    let mut intervals = Vec::new(rt.alloc());
+    let mut area = RawArea::new(rt.alloc());
     let fronts: [&[u8]; 4] = [
         &[1],
         &BASE,
@@ -159,21 +177,16 @@ fn area(rt: &HostRuntime, changes: &[Change]) -> Result<RawArea, Fail> {
         ],
         &DEPENDENT,
     ];
-    let mut number = 0;
-    for front in fronts {
-        let mut bytes = bytes(rt, front)?;
+    for (number, front) in fronts.iter().enumerate() {
+        let mut bytes = bytes(rt, *front)?;
         for change in changes {
             if change.0 == number && change.1 < 512 {
                 bytes[change.1] = change.2;
             }
         }
-        intervals.push(Bytes::from_vec(bytes))?;
-        number += 1;
+        area.add(bytes)?;
     }
-    Ok(RawArea {
-        alloc: rt.alloc(),
-        intervals,
-    })
+    Ok(area)
 }
 
 /// A child with nothing below it.
