@@ -9,7 +9,8 @@ use Rattle.ci_overflow.specs.Rooms.{KeepsEnds}
 use Rattle.root_anchor.specs.Elements.{Pointer}
 use Rattle.root_anchor.specs.Stored.{KeepsSequential}
 use Rattle.root_anchor.specs.Rebuilding.{AreApart, Exchanges}
-use Rattle.root_anchor.proofs.Apart.{contains-none, holds_or, apart-both}
+use Rattle.root_anchor.proofs.Apart.{holds_or, apart-both}
+use Rattle.root_anchor.proofs.Members.{none_in}
 
 pub sequential-joined : (shape : Shape) (a b c : List (List ℕ)) → KeepsSequential shape a b → KeepsSequential shape b c → KeepsSequential shape a c
 sequential-joined shape a b c p q = record {

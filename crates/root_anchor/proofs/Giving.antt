@@ -11,7 +11,8 @@ use Rattle.root_anchor.specs.Elements.{Pointer}
 use Rattle.root_anchor.specs.Standing.{places_of}
 use Rattle.root_anchor.specs.Rebuilding.{AreApart, Exchanges, AreGivable}
 use Rattle.root_anchor.specs.declared.standing.Standing.{Standing}
-use Rattle.root_anchor.proofs.Apart.{contains-here, contains-one, apart-right}
+use Rattle.root_anchor.proofs.Apart.{contains-one, apart-right}
+use Rattle.root_anchor.proofs.Members.{front_in}
 use Rattle.root_anchor.proofs.Exchanging.{exchange-both, used-stays}
 use Rattle.root_anchor.proofs.Planning.{exchange-none}
 use Rattle.root_anchor.proofs.Steps.{gives-back}
@@ -41,7 +42,7 @@ next_place area all left one g z b e =
     let a : AreApart (one.at ∷ places_of (drop left all)) = apart-right (places_of (take (left - 1) all)) (one.at ∷ places_of (drop left all)) (subst P whole g.once) in
     record {
       here = here;
-      used = g.used one.at (subst Q (sym whole) (Contains-append_right (places_of (take (left - 1) all)) (one.at ∷ places_of (drop left all)) one.at (contains-here one.at (places_of (drop left all)))));
+      used = g.used one.at (subst Q (sym whole) (Contains-append_right (places_of (take (left - 1) all)) (one.at ∷ places_of (drop left all)) one.at (front_in one.at (places_of (drop left all)))));
       apart = a.0;
     }
 

@@ -17,7 +17,7 @@ use Rattle.root_anchor.specs.Chains.{newest}
 use Rattle.root_anchor.specs.Stored.{AreTypes}
 use Rattle.root_anchor.specs.Rebuilding.{AreApart, Exchanges, HaveRoom, AreReserved, PlacesSegment, reserved, types_of, IsPlanned, RowsStand, RootsStand, BuildsRows, BuildsRoots, BuildsSegment, types_step, types_below, types_in_rows, types_of_row, types_of_rows, types_of_segment, types_of_roots}
 use Rattle.root_anchor.specs.declared.plan.Planned.{Planned}
-use Rattle.root_anchor.proofs.Apart.{contains-none}
+use Rattle.root_anchor.proofs.Members.{none_in}
 use Rattle.root_anchor.proofs.Exchanging.{exchange-both}
 use Rattle.root_anchor.proofs.PutLemmas.{segment_stays}
 use Rattle.root_anchor.proofs.Planning.{reserved-append, reserved-left, reserved-right, reserved-disjoint, rooms-used, still-reserved, IsLeft, IsNext, IsFurther, next-part, further, none-left, exchange-none, all-left}

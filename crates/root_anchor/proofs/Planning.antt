@@ -10,7 +10,8 @@ use Rattle.fp_model.specs.declared.definitions.SegDef.{SegDef}
 use Rattle.root_anchor.specs.Elements.{Pointer, content_length}
 use Rattle.root_anchor.specs.Rebuilding.{AreApart, Exchanges, and_place, reserved, types_of, HaveRooms, AreReserved, IsPlanned}
 use Rattle.root_anchor.specs.declared.plan.Planned.{Planned}
-use Rattle.root_anchor.proofs.Apart.{contains-none, contains-here, contains-there, contains-cases, apart-left, apart-right, apart-disjoint}
+use Rattle.root_anchor.proofs.Apart.{apart-left, apart-right, apart-disjoint}
+use Rattle.root_anchor.proofs.Members.{none_in, front_in, behind_in, in_cases}
 
 -- ---- the parts of a plan
 
@@ -44,24 +45,24 @@ reserved-disjoint types area xs ys r at c = apart-disjoint (reserved xs) (reserv
 place_used : (types : List SegDef) (area : List (List ℕ)) (type : ℕ) (o : Option Pointer) (rest : List Pointer) (at : Pointer) → IfSome o (λ at. HasRoom (bytes_at area at.0) at.1 (content_length types type))
     → (Contains rest at → IsUsed (bytes_at area at.0) at.1) → Contains (and_place o rest) at → IsUsed (bytes_at area at.0) at.1
 place_used types area type None rest at h f c = f c
-place_used types area type (Some p) rest at h f c = elim (contains-cases p at rest c) as (λ _. IsUsed (bytes_at area at.0) at.1) [
+place_used types area type (Some p) rest at h f c = elim (in_cases p rest at c) as (λ _. IsUsed (bytes_at area at.0) at.1) [
   | inl e ↦ (let P : Pointer → Type 0 = λ q. IsUsed (bytes_at area q.0) q.1 in subst P e (record { segment = h.segment; content = h.content; used = h.used }))
   | inr d ↦ f d
 ]
 
 pub rooms-used : (types : List SegDef) (area : List (List ℕ)) (plan : List Planned) → HaveRooms types area plan → (at : Pointer) → Contains (reserved plan) at → IsUsed (bytes_at area at.0) at.1
-rooms-used types area [] h at c = absurd (contains-none at c)
+rooms-used types area [] h at c = absurd (none_in at c)
 rooms-used types area (p ∷ plan) h at c = place_used types area p.segment p.at (reserved plan) at h.0 (rooms-used types area plan h.1 at) c
 
 place_stays : (types : List SegDef) (old new : List (List ℕ)) (type : ℕ) (o : Option Pointer) (rest : List Pointer)
     → ((at : Pointer) (t : ℕ) (content : List ℕ) → Contains (and_place o rest) at → HasUsed (bytes_at old at.0) at.1 t content → HasUsed (bytes_at new at.0) at.1 t content)
     → IfSome o (λ at. HasRoom (bytes_at old at.0) at.1 (content_length types type)) → IfSome o (λ at. HasRoom (bytes_at new at.0) at.1 (content_length types type))
 place_stays types old new type None rest f h = tt
-place_stays types old new type (Some p) rest f h = record { segment = h.segment; content = h.content; used = f p h.segment h.content (contains-here p rest) h.used; fits = h.fits }
+place_stays types old new type (Some p) rest f h = record { segment = h.segment; content = h.content; used = f p h.segment h.content (front_in p rest) h.used; fits = h.fits }
 
 place_more : (o : Option Pointer) (rest : List Pointer) (at : Pointer) → Contains rest at → Contains (and_place o rest) at
 place_more None rest at c = c
-place_more (Some p) rest at c = contains-there p at rest c
+place_more (Some p) rest at c = behind_in p rest at c
 
 pub rooms-stay : (types : List SegDef) (old new : List (List ℕ)) (plan : List Planned)
     → ((at : Pointer) (t : ℕ) (content : List ℕ) → Contains (reserved plan) at → HasUsed (bytes_at old at.0) at.1 t content → HasUsed (bytes_at new at.0) at.1 t content)
@@ -173,7 +174,7 @@ exchange-none shape area o = record {
   stay = λ at type content n h. h;
   none_comes = λ at type content n h. (n, h);
   fresh = λ at c. inl c;
-  used = λ at c. absurd (contains-none at c);
+  used = λ at c. absurd (none_in at c);
   once = tt;
   roots = λ ci. refl;
   sequential = record { ends = record { begin = refl; end = refl; head = λ k x y. refl }; intervals = λ ci k. refl };

@@ -21,7 +21,8 @@ use Rattle.root_anchor.specs.Rebuilding.{Exchanges, RootsStand, met_after, reser
 use Rattle.root_anchor.proofs.Planning.{rooms-stay, rooms-used}
 use Rattle.root_anchor.proofs.Sharing.{plan-reserved}
 use Rattle.std.proofs.lemmas.List.Elements.{Contains-append_right}
-use Rattle.root_anchor.proofs.Apart.{contains-none, holds_or, met-cases, met-now, apart-left, apart-right, apart-disjoint, apart-pairs}
+use Rattle.root_anchor.proofs.Apart.{holds_or, met-cases, met-now, apart-left, apart-right, apart-disjoint, apart-pairs}
+use Rattle.root_anchor.proofs.Members.{none_in}
 use Rattle.root_anchor.proofs.Exchanging.{sequential-joined, exchange-both}
 use Rattle.root_anchor.proofs.Framing.{Stay, roots_stay}
 use Rattle.root_anchor.proofs.OneChain.{one_chain, chain_has, HasSome}
@@ -49,7 +50,7 @@ module _ (shape : Shape) (types : List SegDef) (old middle new : List (List ℕ)
 
   pub new-chain : IsChain shape types new anchor roots (met_after has [])
   new-chain =
-      let from : AreRoots types middle [] first roots (met_after has []) = it.stand [] (λ at c. contains-none at) in
+      let from : AreRoots types middle [] first roots (met_after has []) = it.stand [] (λ at c. none_in at) in
       let there : AreRoots types new [] first roots (met_after has []) = roots_stay from (record { each = λ p _ _ type s h. root_keeps_segment shape types middle new anchor first it.put type p s h }) in
       let P : Pointer → Type 0 = λ at. AreRoots types new [] at roots (met_after has []) in
       record {
@@ -85,7 +86,7 @@ module _ (shape : Shape) (types : List SegDef) (old middle new : List (List ℕ)
     met-new : (at : Pointer) → Meets shape types new anchor at → Contains has at
     met-new at m =
         let P : List Pointer → Type 0 = λ l. Contains l at in
-        elim (met-cases has [] at (subst P ((one_chain m.is_chain new-chain).1) m.met)) as (λ _. Contains has at) [ inl c ↦ c | inr c ↦ absurd (contains-none at c) ]
+        elim (met-cases has [] at (subst P ((one_chain m.is_chain new-chain).1) m.met)) as (λ _. Contains has at) [ inl c ↦ c | inr c ↦ absurd (none_in at c) ]
 
     met-before : (other : ℕ) (at : Pointer) → other < anchor_count shape → other ≢ anchor → Meets shape types new other at → Meets shape types old other at
     met-before other at b n m =

@@ -9,7 +9,8 @@ use Rattle.fp_model.specs.Order.{child_types}
 use Rattle.root_anchor.specs.Elements.{Pointer, nothing, Segment, HasSegment}
 use Rattle.root_anchor.specs.Chains.{AreRows, no_row, row_end, segment, newest, AreRoots, no_root, root}
 use Rattle.root_anchor.specs.Rebuilding.{AreApart, met_after, RowsStand, RootsStand}
-use Rattle.root_anchor.proofs.Apart.{contains-none, contains-here, contains-there, contains-cases, apart-left, apart-disjoint, met-cases, met-append}
+use Rattle.root_anchor.proofs.Apart.{apart-left, apart-disjoint, met-cases, met-append}
+use Rattle.root_anchor.proofs.Members.{none_in, front_in, behind_in, in_cases}
 use Rattle.root_anchor.proofs.Framing.{Stay, rows_stay, roots_stay}
 
 -- ---- rows
@@ -22,17 +23,17 @@ row-ends types area type met d = row_end no_row
 
 -- what is met in front of others, where each is met once
 front_apart : (at : Pointer) (xs ys met : List Pointer) → AreApart (at ∷ (xs ++ ys)) → ((p : Pointer) → Contains (at ∷ (xs ++ ys)) p → ¬ Contains met p) → (p : Pointer) → Contains xs p → ¬ Contains (at ∷ met) p
-front_apart at xs ys met a d p c m = elim (contains-cases at p met m) as (λ _. ⊥) [
+front_apart at xs ys met a d p c m = elim (in_cases at met p m) as (λ _. ⊥) [
   | inl e ↦ (let P : Pointer → Type 0 = λ q. Contains xs q in a.0 (Contains-append_left xs ys at (subst P (sym e) c)))
-  | inr n ↦ d p (contains-there at p (xs ++ ys) (Contains-append_left xs ys p c)) n
+  | inr n ↦ d p (behind_in at (xs ++ ys) p (Contains-append_left xs ys p c)) n
 ]
 
 back_apart : (at : Pointer) (xs ys met : List Pointer) → AreApart (at ∷ (xs ++ ys)) → ((p : Pointer) → Contains (at ∷ (xs ++ ys)) p → ¬ Contains met p) → (p : Pointer) → Contains ys p → ¬ Contains (met_after xs (at ∷ met)) p
 back_apart at xs ys met a d p c m = elim (met-cases xs (at ∷ met) p m) as (λ _. ⊥) [
   | inl n ↦ apart-disjoint xs ys p a.1 n c
-  | inr n ↦ elim (contains-cases at p met n) as (λ _. ⊥) [
+  | inr n ↦ elim (in_cases at met p n) as (λ _. ⊥) [
     | inl e ↦ (let P : Pointer → Type 0 = λ q. Contains ys q in a.0 (Contains-append_right xs ys at (subst P (sym e) c)))
-    | inr o ↦ d p (contains-there at p (xs ++ ys) (Contains-append_right xs ys p c)) o
+    | inr o ↦ d p (behind_in at (xs ++ ys) p (Contains-append_right xs ys p c)) o
   ]
 ]
 
@@ -46,7 +47,7 @@ row-begins types area type at s below row xs ys node h f g a b c met d =
     let Q : List Pointer → Type 0 = λ after. AreRows types area met (type ∷ []) (at ∷ []) ((node ∷ row) ∷ []) after in
     let R : Node → Type 0 = λ m. AreRows types area met (type ∷ []) (at ∷ []) ((m ∷ row) ∷ []) (met_after ys (met_after xs (at ∷ met))) in
     let all : AreRows types area met (type ∷ []) (at ∷ []) ((roll-Node (record { bytes = s.bytes; children = below }) ∷ row) ∷ []) (met_after ys (met_after xs (at ∷ met))) =
-        segment s h (d at (contains-here at (xs ++ ys))) (f (at ∷ met) (front_apart at xs ys met a d)) (g (met_after xs (at ∷ met)) (back_apart at xs ys met a d))
+        segment s h (d at (front_in at (xs ++ ys))) (f (at ∷ met) (front_apart at xs ys met a d)) (g (met_after xs (at ∷ met)) (back_apart at xs ys met a d))
     in
     subst Q (sym (met-append xs ys (at ∷ met))) (subst R n all)
 
@@ -91,7 +92,7 @@ root-begins types area at s first roots xs ys h f g a b c met d =
     let Q : List Pointer → Type 0 = λ after. AreRoots types area met at (first ∷ roots) after in
     let R : Root → Type 0 = λ r. AreRoots types area met at (r ∷ roots) (met_after ys (met_after xs (at ∷ met))) in
     let all : AreRoots types area met at (record { bytes = s.bytes; children = first.children; seqs = newest s.serial } ∷ roots) (met_after ys (met_after xs (at ∷ met))) =
-        root s h (d at (contains-here at (xs ++ ys))) (f (at ∷ met) (front_apart at xs ys met a d)) (g (met_after xs (at ∷ met)) (back_apart at xs ys met a d))
+        root s h (d at (front_in at (xs ++ ys))) (f (at ∷ met) (front_apart at xs ys met a d)) (g (met_after xs (at ∷ met)) (back_apart at xs ys met a d))
     in
     subst Q (sym (met-append xs ys (at ∷ met))) (subst R n all)
 

@@ -13,7 +13,8 @@ use Rattle.ci_overflow.specs.Lists.{bytes_at, IsInOrder}
 use Rattle.ci_overflow.specs.Rooms.{KeepsUsed, OnlyOneChanges, KeepsEnds, FindsRoom}
 use Rattle.ci_overflow.specs.Freed.{GivesBack}
 use Rattle.ci_overflow.proofs.Finds.{same_or, control-first, base-some}
-use Rattle.ci_overflow.proofs.Joins.{keeps-head}
+use Rattle.ci_overflow.proofs.FaultLemmas.{kind-base}
+use Rattle.ci_space.specs.declared.head.Head.{Head}
 use Rattle.fp_model.specs.declared.definitions.SegDef.{SegDef}
 use Rattle.root_anchor.specs.Elements.{Pointer, Segment, content_length}
 use Rattle.root_anchor.specs.Puts.{PutsSegment}
@@ -21,8 +22,10 @@ use Rattle.root_anchor.specs.Stored.{KeepsSequential}
 use Rattle.root_anchor.specs.Rebuilding.{Exchanges, and_place, HaveRoom, TakesPlace, PlacesSegment}
 use Rattle.root_anchor.proofs.Exchanging.{exchange-again}
 use Rattle.root_anchor.specs.Chains.{anchor_count}
-use Rattle.root_anchor.proofs.PutLemmas.{uow_below, put_keeps_order}
-use Rattle.root_anchor.proofs.Apart.{contains-none, contains-here, contains-one, pair_same}
+use Rattle.root_anchor.proofs.PutLemmas.{uow_below, put_keeps_order, put_keeps_head, put_keeps_sequential}
+use Rattle.root_anchor.proofs.Apart.{contains-one}
+use Rattle.root_anchor.proofs.Members.{none_in, front_in}
+use Rattle.root_anchor.proofs.PutLemmas.{same_pointer}
 
 -- ---- where elements stand
 
@@ -48,21 +51,11 @@ used-not-sequential shape area at ci o u k e =
     let f : false ≡ true = h in
     cc
 
-pub used-not-control : (shape : Shape) (area : List (List ℕ)) (at : Pointer) → IsInOrder shape area → IsUsed (bytes_at area at.0) at.1 → 0 ≢ at.0
-used-not-control shape area at o u e =
-    let h : has_elements 1 ≡ true = ap (λ c. has_elements (kind_at shape c)) e ∙ used-kind-at shape area at o u in
-    let f : false ≡ true = h in
-    cc
-
--- a sequential interval stands behind all units of work
-kind_before : (shape : Shape) (ci : ℕ) → ci < first_sequential shape → kind_at shape ci ≢ 4
-kind_before shape ci l k = grind arith
-
-pub behind-units : (shape : Shape) (uow ci : ℕ) → uow < shape.uows → 0 < shape.base → kind_at shape ci ≡ 4 → ci ≢ first_base shape uow
-behind-units shape uow ci u b k e =
-    let m : (uow + 1) * (shape.base + shape.overflow) ≤ shape.uows * (shape.base + shape.overflow) = mul-le (uow + 1) (shape.base + shape.overflow) shape.uows (shape.base + shape.overflow) (omega arith) (omega arith) in
-    let f : (uow + 1) * (shape.base + shape.overflow) ≡ uow * (shape.base + shape.overflow) + (shape.base + shape.overflow) = grind arith in
-    kind_before shape ci (omega (arith, m, f, b, e)) k
+-- a sequential interval is no base interval
+base_not_sequential : (shape : Shape) (uow ci : ℕ) → uow < shape.uows → 0 < shape.base → kind_at shape ci ≡ 4 → ci ≢ first_base shape uow
+base_not_sequential shape uow ci u b k e =
+    let z : first_base shape uow + 0 ≡ first_base shape uow = omega arith in
+    omega (arith, k, ap (kind_at shape) e, ap (kind_at shape) z, kind-base shape uow 0 u b)
 
 -- ---- elements that stay
 
@@ -71,7 +64,7 @@ one-stays old new at p type content o n h = elim (same_or p.0 at.0) as (λ _. Ha
   | inl e ↦
       let P : ℕ → Type 0 = λ c. HasUsed (bytes_at old c) p.1 type content in
       let Q : ℕ → Type 0 = λ c. HasUsed (bytes_at new c) p.1 type content in
-      subst Q (sym e) (o.here.stay p.1 type content (λ f. n (pair_same p at e f)) (subst P e h))
+      subst Q (sym e) (o.here.stay p.1 type content (λ f. n (same_pointer p at e f)) (subst P e h))
   | inr d ↦ (o.elsewhere p.0 d).stay p.1 type content h
 ]
 
@@ -80,7 +73,7 @@ one-comes old new at p type content o n h = elim (same_or p.0 at.0) as (λ _. Ha
   | inl e ↦
       let P : ℕ → Type 0 = λ c. HasUsed (bytes_at old c) p.1 type content in
       let Q : ℕ → Type 0 = λ c. HasUsed (bytes_at new c) p.1 type content in
-      subst P (sym e) (o.here.none_comes p.1 type content (λ f. n (pair_same p at e f)) (subst Q e h))
+      subst P (sym e) (o.here.none_comes p.1 type content (λ f. n (same_pointer p at e f)) (subst Q e h))
   | inr d ↦ (o.elsewhere p.0 d).none_comes p.1 type content h
 ]
 
@@ -91,7 +84,7 @@ not_one : (at p : Pointer) → p ≢ at → ¬ Contains (at ∷ []) p
 not_one at p n c = n (sym (contains-one at p c))
 
 not_in : (at p : Pointer) → ¬ Contains (at ∷ []) p → p ≢ at
-not_in at p n e = let P : Pointer → Type 0 = λ q. Contains (at ∷ []) q in n (subst P (sym e) (contains-here at []))
+not_in at p n e = let P : Pointer → Type 0 = λ q. Contains (at ∷ []) q in n (subst P (sym e) (front_in at []))
 
 -- ---- the steps
 
@@ -102,8 +95,8 @@ gives-back shape old new at g o = record {
   none_comes = λ p type content n h.
       let d : p ≢ at = λ e. g.gone (is_at new at p e (record { segment = type; content = content; used = h })) in
       (not_one at p d, one-comes old new at p type content g.others d h);
-  fresh = λ p c. absurd (contains-none p c);
-  used = λ p c. absurd (contains-none p c);
+  fresh = λ p c. absurd (none_in p c);
+  used = λ p c. absurd (none_in p c);
   once = tt;
   roots = g.roots;
   sequential = record { ends = g.ends; intervals = g.sequential };
@@ -116,15 +109,15 @@ finds-room shape old new anchor n room f o u b =
     record {
       in_order = o;
       stay = λ p type content _ h. one-stays old new room p type content f.others (λ e. f.fresh (is_at old room p e (record { segment = type; content = content; used = h }))) h;
-      none_comes = λ p type content m h. (contains-none p, one-comes old new room p type content f.others (not_in room p m) h);
+      none_comes = λ p type content m h. (none_in p, one-comes old new room p type content f.others (not_in room p m) h);
       fresh = λ p c. inr (λ x. f.fresh (is_at old room p (sym (contains-one room p c)) x));
       used = λ p c. is_at new p room (contains-one room p c) used;
-      once = (contains-none room, tt);
+      once = (none_in room, tt);
       roots = f.roots;
       sequential = record {
         ends = f.ends;
         intervals = λ ci k.
-            f.named ci (λ e. let h : 1 ≡ 4 = ap (kind_at shape) (sym e) ∙ k in cc) (behind-units shape (uow_of shape anchor) ci u b k) (used-not-sequential shape new room ci o used k);
+            f.named ci (λ e. let h : 1 ≡ 4 = ap (kind_at shape) (sym e) ∙ k in cc) (base_not_sequential shape (uow_of shape anchor) ci u b k) (used-not-sequential shape new room ci o used k);
       };
     }
 
@@ -136,19 +129,9 @@ puts-segment shape types old new type at s p i o u = record {
   none_comes = λ q t content n h. (n, one-comes old new at q t content p.others (not_in at q n) h);
   fresh = λ q c. inl c;
   used = λ q c. is_at new q at (contains-one at q c) (record { segment = type; content = p.stands.content; used = p.stands.used });
-  once = (contains-none at, tt);
-  roots = λ ci. elim (same_or ci at.0) as (λ _. (head_of (bytes_at new ci)).root ≡ (head_of (bytes_at old ci)).root) [
-    | inl e ↦
-        let P : ℕ → Type 0 = λ c. (head_of (bytes_at new c)).root ≡ (head_of (bytes_at old c)).root in
-        subst P (sym e) (ap (λ h. h.root) (keeps-head (bytes_at old at.0) (bytes_at new at.0) p.head))
-    | inr d ↦ ap (λ xs. (head_of xs).root) (p.elsewhere ci d)
-  ];
-  sequential = record {
-    ends =
-        let e : bytes_at new 0 ≡ bytes_at old 0 = p.elsewhere 0 (used-not-control shape old at i u) in
-        record { begin = ap (λ xs. slice_index (ends_of xs) 0) e; end = ap (λ xs. slice_index (ends_of xs) 1) e; head = λ k x y. ap (λ (xs : List ℕ). slice_index xs k) e };
-    intervals = λ ci k. p.elsewhere ci (used-not-sequential shape old at ci i u k);
-  };
+  once = (none_in at, tt);
+  roots = λ ci. ap (λ (h : Head). h.root) (put_keeps_head types old new type at s p ci);
+  sequential = put_keeps_sequential shape types old new type at s i u p;
 }
 
 -- ---- a place for a segment
@@ -166,7 +149,7 @@ keeps-place shape types area type planned at o e h =
         none_comes = λ p t content n u. (n, u);
         fresh = λ p c. inl c;
         used = λ p c. is_at area p at (contains-one at p c) (record { segment = r.segment; content = r.content; used = r.used });
-        once = (contains-none at, tt);
+        once = (none_in at, tt);
         roots = λ ci. refl;
         sequential = record { ends = record { begin = refl; end = refl; head = λ k x y. refl }; intervals = λ ci k. refl };
       };
