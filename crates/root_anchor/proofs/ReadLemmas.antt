@@ -1,5 +1,5 @@
 -- What is read of an element.
-use Rattle.std.proofs.Common.{◌==◌, IsTrue, ◌↔◌, ◌≡◌, ◌≢◌, ℕ, zero, suc, ◌+◌, ◌*◌, ◌<◌, ◌≤◌, inl, inr, List, [], ◌∷◌, ◌++◌, length, map, drop, get_or, Bool, true, false, refl, sym, ap, subst, ◌∙◌, append_assoc, add-one, arith, drop-cons}
+use Rattle.std.proofs.Common.{◌==◌, IsTrue, ◌↔◌, ◌≡◌, ℕ, zero, suc, ◌+◌, ◌*◌, ◌<◌, inl, inr, List, [], ◌∷◌, ◌++◌, length, drop, get_or, Bool, true, false, refl, sym, ap, subst, ◌∙◌, append_assoc, arith, drop-cons}
 use Rattle.std.proofs.lemmas.Bool.{eqb-true, eq-eqb}
 use Rattle.std.proofs.lemmas.List.{map-append, length-append, get_or_past}
 use Rattle.ci_space.specs.Element.{Used}
@@ -8,11 +8,10 @@ use Rattle.ci_space.proofs.Contents.{used-within}
 use Rattle.ci_overflow.specs.Lists.{bytes_at}
 use Rattle.fp_model.specs.declared.definitions.SegDef.{SegDef}
 use Rattle.fp_model.specs.Order.{numbers_from}
-use Rattle.root_anchor.specs.Elements.{Pointer, Segment, pointer_at, pointers_from, HasSegment}
+use Rattle.root_anchor.specs.Elements.{Pointer, Segment, pointer_at, pointers_from}
 use Rattle.root_anchor.specs.declared.element.First.{First}
 use Rattle.root_anchor.specs.Reading.{types_of, pointers_of, IsOfType, Holds, IsWhole, IsMissing}
 use Rattle.root_anchor.specs.Damage.{IsWrong, leads_to_no_interval, leads_to_no_element, leads_to_no_segment}
-use Rattle.root_anchor.proofs.OneChain.{one_content}
 
 -- one pointer more
 pub pointers_more : (content : List ℕ) (at n : ℕ) → pointers_from content at (suc n) ≡ pointers_from content at n ++ pointer_at content (at + 10 * n) ∷ []

@@ -1,9 +1,7 @@
 -- A chain that stands doesn't fail.
-use Rattle.std.proofs.Common.{◌≡◌, ◌≢◌, ◌⊎◌, inl, inr, ℕ, ◌<◌, List, [], ◌∷◌, length, refl, sym, subst}
+use Rattle.std.proofs.Common.{◌≡◌, ◌≢◌, ◌⊎◌, inl, inr, ℕ, List, [], ◌∷◌, refl, sym, subst}
 use Rattle.std.specs.List.{Contains}
 use Rattle.ci_space.specs.declared.intervals.Shape.{Shape}
-use Rattle.ci_space.specs.Interval.{IsInterval}
-use Rattle.ci_overflow.specs.Lists.{bytes_at}
 use Rattle.fp_model.specs.declared.definitions.SegDef.{SegDef}
 use Rattle.fp_model.specs.declared.database.Node.{Node}
 use Rattle.fp_model.specs.declared.database.Root.{Root}

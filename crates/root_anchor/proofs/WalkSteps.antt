@@ -1,11 +1,10 @@
 -- The steps of the walk: along a row, from row to row, along the roots.
-use Rattle.std.proofs.Common.{Bool, true, false, not, ◌&&◌, ◌==◌, inl, inr, Option, Some, None, ◌≡◌, ◌≢◌, ℕ, suc, ◌+◌, ◌-◌, ◌*◌, ◌<◌, ◌≤◌, List, [], ◌∷◌, ◌++◌, length, drop, get_or, refl, sym, ap, subst, ◌∙◌, append_assoc, add-one, drop-cons, arith}
+use Rattle.std.proofs.Common.{Bool, true, false, not, ◌&&◌, ◌==◌, inl, inr, Option, Some, None, ◌≡◌, ◌≢◌, ℕ, suc, ◌+◌, ◌-◌, ◌*◌, ◌<◌, ◌≤◌, List, [], ◌∷◌, ◌++◌, length, drop, get_or, refl, sym, ap, subst, ◌∙◌, append_assoc, drop-cons, arith}
 use Rattle.std.specs.List.{Contains, All}
 use Rattle.std.specs.Option.{option_map_or, IfSome}
 use Rattle.std.proofs.lemmas.Bool.{cases_Bool, eqb-true}
 use Rattle.std.proofs.lemmas.List.{append-nil, drop_all, length-map, get_or-map}
 use Rattle.std.proofs.lemmas.List.Elements.{All-nil, All-cons, All-weaker}
-use Rattle.ci_space.specs.Calls.{GoesOn}
 use Rattle.ci_space.proofs.Going.{goes-itself, goes-joined}
 use Rattle.fp_model.specs.declared.definitions.SegDef.{SegDef}
 use Rattle.fp_model.specs.declared.database.Node.{Node, roll-Node}
@@ -16,7 +15,7 @@ use Rattle.fp_model.specs.WellFormed.{HasPlace, HavePlaces}
 use Rattle.root_anchor.specs.declared.element.First.{First}
 use Rattle.root_anchor.specs.declared.element.Said.{Said}
 use Rattle.root_anchor.specs.declared.walk.Walk.{Walk}
-use Rattle.root_anchor.specs.Elements.{Pointer, nothing, Segment, HasSegment}
+use Rattle.root_anchor.specs.Elements.{Pointer, nothing, HasSegment}
 use Rattle.root_anchor.specs.Chains.{AreRows, no_row, row_end, segment, newest, AreRoots, no_root, root}
 use Rattle.root_anchor.specs.Damage.{IsWrong, RowsFail, here, below, at_twin, next_row, RootsFail, root_here, below_root, next_root}
 use Rattle.root_anchor.specs.Reading.{types_of, pointers_of, segment_of}

@@ -1,8 +1,6 @@
 -- The elements in which an anchor's segments stand.
 use Rattle.std.specs.Prelude.{ℕ, ◌↔◌, ◌≢◌, List, map, reverse, Contains, AllPairs}
 use Rattle.ci_space.specs.declared.intervals.Shape.{Shape}
-use Rattle.ci_space.specs.Interval.{HasUsed}
-use Rattle.ci_overflow.specs.Lists.{bytes_at}
 use Rattle.fp_model.specs.declared.definitions.SegDef.{SegDef}
 use Rattle.fp_model.specs.declared.database.Root.{Root}
 use Rattle.root_anchor.specs.Elements.{Pointer, Segment, HasSegment}

@@ -1,4 +1,10 @@
 //! The roots of an anchor, as the elements of an area hold them.
+//!
+//!     base interval          element of a root                element of a child
+//!     root anchor point -->  next root | first child .. -->   next twin | first child ..
+//!
+//! A pointer is the number of an interval and a place in it. `load` follows the pointers from an anchor's root anchor
+//! point, in hierarchical order, and meets no element twice.
 #![tactic(auto)]
 
 mod anchor;

@@ -1,4 +1,4 @@
-use Rattle.std.proofs.Common.{◌≡◌, refl}
+use Rattle.std.proofs.Common.{refl}
 use Rattle.std.proofs.lemmas.Result.{err_from_is_err_and}
 use Rattle.root_anchor.proofs.BaseLemmas.{anchor_fails, anchor_walked}
 use Rattle.root_anchor.proofs.anchor.walk_anchor.Goals as goal

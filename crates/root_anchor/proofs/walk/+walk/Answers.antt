@@ -1,4 +1,4 @@
-use Rattle.std.proofs.Common.{◌≡◌, ◌<◌, refl, length, get_or, sym, ◌∙◌, rules, arith}
+use Rattle.std.proofs.Common.{◌∙◌, rules, arith}
 use Rattle.std.proofs.lemmas.Result.{err_from_is_err_and}
 use Rattle.root_anchor.proofs.ReadLemmas.{refused}
 use Rattle.root_anchor.proofs.WalkSteps.{looks_joined, along_wrong, along_below, along_next, along_end, among_fails, among_next, among_end, less_left, walks_further, walks_joined, child_above, all_stand_on}

@@ -1,4 +1,4 @@
-use Rattle.std.proofs.Common.{◌≡◌, sym, ap, ◌∙◌}
+use Rattle.std.proofs.Common.{◌∙◌}
 use Rattle.std.proofs.lemmas.Result.{err_from_is_err_and}
 use Rattle.root_anchor.proofs.ReadLemmas.{refused}
 use Rattle.root_anchor.proofs.WalkSteps.{looks_joined, roots_wrong, roots_below, roots_next, roots_end, less_left, walks_further, all_stand_on}
