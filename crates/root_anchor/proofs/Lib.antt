@@ -8,5 +8,6 @@ pub mod WalkLemmas
 pub mod WalkSteps
 pub mod OneChain
 pub mod Sound
+pub mod OneDamage
 pub mod BaseLemmas
 pub mod LawLemmas

@@ -20,7 +20,7 @@ mod walk;
 pub use fault::AnchorFault;
 pub use laws::{
     a_chain_stays_with_its_elements, a_chain_that_stands_does_not_fail, an_anchor_has_one_chain,
-    an_element_has_one_segment, each_element_has_a_segment,
+    an_element_has_one_segment, each_element_has_a_segment, one_interval_is_damaged,
 };
 pub use loading::load;
 
