@@ -1,20 +1,20 @@
 -- Where an anchor's pointers fail, one interval is damaged.
-use Rattle.std.proofs.Common.{◌≡◌, ◌≢◌, ◌⊎◌, inl, inr, ℕ, ◌<◌, List, [], ◌∷◌, ◌++◌, length, refl, sym, subst, ◌∙◌}
+use Rattle.std.proofs.Common.{◌≡◌, inl, inr, ℕ, List, ◌∷◌, refl, sym, subst, ◌∙◌}
 use Rattle.std.specs.List.{Contains}
 use Rattle.ci_space.specs.declared.intervals.Shape.{Shape}
-use Rattle.ci_space.specs.Element.{Used}
-use Rattle.ci_space.specs.Interval.{IsInterval, HasUsed}
+use Rattle.ci_space.specs.Interval.{HasUsed}
 use Rattle.ci_space.proofs.Contents.{used-type}
 use Rattle.ci_overflow.specs.Lists.{bytes_at}
 use Rattle.fp_model.specs.declared.definitions.SegDef.{SegDef}
 use Rattle.fp_model.specs.declared.database.Node.{Node}
 use Rattle.fp_model.specs.Order.{child_types}
-use Rattle.root_anchor.specs.Elements.{Pointer, nothing, Segment, HasSegment}
+use Rattle.root_anchor.specs.Elements.{Pointer, Segment, HasSegment}
 use Rattle.root_anchor.specs.Chains.{AreRows}
 use Rattle.root_anchor.specs.Damage.{IsWrong, leads_to_no_interval, leads_to_no_element, leads_to_no_segment, leads_back, RowsFail, here, below, at_twin, next_row, RootsFail, root_here, below_root, next_root, ChainFails, no_base, wrong_pointer}
 use Rattle.root_anchor.proofs.Members.{none_in, in_cases}
+use Rattle.root_anchor.proofs.ReadLemmas.{content_interval}
 use Rattle.root_anchor.proofs.OneChain.{HasSome, one_segment, none_at_nothing, stands_in_interval, one_rows, rows_have}
-use Rattle.root_anchor.proofs.Sound.{right, Fail, FailsBelow, FailsAtTwin, fails_so, FailsAtNext, roots_fail_so, rows_sound}
+use Rattle.root_anchor.proofs.Sound.{right, fails_so, roots_fail_so, rows_sound}
 
 -- a segment stands in each element that was met
 pub record AllHave (types : List SegDef) (area : List (List ℕ)) (met : List Pointer) : Type 0 where
@@ -32,9 +32,6 @@ rows_more : {types : List SegDef} {area : List (List ℕ)} {met : List Pointer} 
     → AreRows types area met row_types firsts rows after → AllHave types area met → AllHave types area after
 rows_more {types} {area} r all = record { each = λ p m. elim (rows_have r p m) as (λ _. HasSome types area p) [ inl old ↦ all.each p old | inr some ↦ some ] }
 
-used_interval : {bytes : List ℕ} {at type : ℕ} {content : List ℕ} → HasUsed bytes at type content → IsInterval bytes
-used_interval {type = type} {content = content} u = record { elements = u.before ++ Used type content ∷ u.after; tiles = u.tiles }
-
 -- a used element of a type in which some segment stands holds one of that type
 some_segment : {types : List SegDef} {area : List (List ℕ)} {type : ℕ} {at : Pointer} {content : List ℕ} → HasUsed (bytes_at area at.0) at.1 type content → (h : HasSome types area at) → HasSegment types area type at h.segment
 some_segment {types} {area} {type} {at} {content} u h =
@@ -47,13 +44,13 @@ wrong_once : {types : List SegDef} {area : List (List ℕ)} {met : List Pointer}
     → IsWrong types area met from type at other → ci ≡ other
 wrong_once all (leads_to_no_interval i n) (leads_to_no_interval j m) = refl
 wrong_once all (leads_to_no_interval i n) (leads_to_no_element f u) = absurd (n (f i))
-wrong_once all (leads_to_no_interval i n) (leads_to_no_segment c u s) = absurd (n (used_interval u))
+wrong_once all (leads_to_no_interval i n) (leads_to_no_segment c u s) = absurd (n (content_interval u))
 wrong_once {at = at} all (leads_to_no_interval i n) (leads_back m) = absurd (n (stands_in_interval (all.each at m).has))
 wrong_once all (leads_to_no_element f u) (leads_to_no_interval i n) = absurd (n (f i))
 wrong_once all (leads_to_no_element f u) (leads_to_no_element g v) = refl
 wrong_once all (leads_to_no_element f u) (leads_to_no_segment c v s) = absurd (u c v)
 wrong_once all (leads_to_no_element f u) (leads_back m) = refl
-wrong_once all (leads_to_no_segment c v s) (leads_to_no_interval i n) = absurd (n (used_interval v))
+wrong_once all (leads_to_no_segment c v s) (leads_to_no_interval i n) = absurd (n (content_interval v))
 wrong_once all (leads_to_no_segment c v s) (leads_to_no_element f u) = absurd (u c v)
 wrong_once all (leads_to_no_segment c v s) (leads_to_no_segment d w z) = refl
 wrong_once {at = at} all (leads_to_no_segment c v s) (leads_back m) = absurd (s (all.each at m).segment (some_segment v (all.each at m)))

@@ -216,7 +216,7 @@ all_stand_on types area now old new e on h = subst (λ a. AllStand types a new) 
 -- ---- how far
 
 pub walks_itself : (number : ℕ) (walk : Walk) → IsWalk number walk → WalksOn number walk walk
-walks_itself number walk w = record { is_walk = w; more = omega arith }
+walks_itself number walk w = record { is_walk = w; more = omega arith; same_keyed = refl }
 
 -- a walk that met one more has less to meet, and goes on
 pub less_left : (number other : ℕ) (old visited new : Walk) → other ≡ number → length old.met.items < length visited.met.items → WalksOn other visited new
@@ -225,15 +225,16 @@ less_left number other old visited new e more on =
     let on_same : WalksOn number visited new = subst (λ n. WalksOn n visited new) e on in
     omega (arith, few_met number new on_same.is_walk, on_same.more, more)
 
-pub walks_further : (number other : ℕ) (start old visited new : Walk) → other ≡ number → WalksOn number start old → length old.met.items < length visited.met.items → WalksOn other visited new → WalksOn number start new
-walks_further number other start old visited new e first more on =
+pub walks_further : (number other : ℕ) (start old visited new : Walk) → other ≡ number → WalksOn number start old → length old.met.items < length visited.met.items → visited.keyed ≡ old.keyed → WalksOn other visited new
+    → WalksOn number start new
+walks_further number other start old visited new e first more keyed on =
     let on_same : WalksOn number visited new = subst (λ n. WalksOn n visited new) e on in
-    record { is_walk = on_same.is_walk; more = omega (arith, first.more, on_same.more, more) }
+    record { is_walk = on_same.is_walk; more = omega (arith, first.more, on_same.more, more); same_keyed = on_same.same_keyed ∙ keyed ∙ first.same_keyed }
 
 pub walks_joined : (number other : ℕ) (start old new : Walk) → other ≡ number → WalksOn number start old → WalksOn other old new → WalksOn number start new
 walks_joined number other start old new e first on =
     let on_same : WalksOn number old new = subst (λ n. WalksOn n old new) e on in
-    record { is_walk = on_same.is_walk; more = omega (arith, first.more, on_same.more) }
+    record { is_walk = on_same.is_walk; more = omega (arith, first.more, on_same.more); same_keyed = on_same.same_keyed ∙ first.same_keyed }
 
 -- ---- a child's type has a greater number
 

@@ -37,7 +37,7 @@ pub loop-alloc-preserved : goal.loop-alloc-preserved
 loop-alloc-preserved g c = record {
   look = looks_joined _ _ _ _ _ _ _ _ _ (looks_joined _ _ _ _ _ _ _ _ _ c.loop-alloc.invariant.look c.visit.ensures.look) c.rows.ensures.look;
   walk = walks_further (g.I.Intervals.number c.args.i.now) (g.I.Intervals.number c.visit.new.i) c.args.walk.now c.loop-alloc.walk c.visit.new.walk c.rows.new.walk
-      (c.visit.ensures.look.same_number ∙ c.loop-alloc.invariant.look.same_number) c.loop-alloc.invariant.walk c.in_ok-next.ensures.more c.in_ok-children.ensures.walk;
+      (c.visit.ensures.look.same_number ∙ c.loop-alloc.invariant.look.same_number) c.loop-alloc.invariant.walk c.in_ok-next.ensures.more c.in_ok-next.ensures.keyed c.in_ok-children.ensures.walk;
   along = λ t.
       let told = c.loop-alloc.invariant.look.goes_on.tells t in
       roots_next _ _ _ _ _ _ _ _ _ c.loop-alloc.at _ _ c.in_ok-next.field-0 c.as_slice.result.now _ _
