@@ -1,5 +1,5 @@
 -- An anchor's base interval, and the whole walk.
-use Rattle.std.proofs.Common.{◌≡◌, ◌≢◌, inl, inr, ℕ, ◌<◌, ◌≤◌, List, [], reverse, refl, sym, ap, subst, ◌∙◌, arith}
+use Rattle.std.proofs.Common.{Bool, true, ◌≡◌, ◌≢◌, inl, inr, ℕ, ◌<◌, List, [], reverse, sym, ap, subst, ◌∙◌}
 use Rattle.std.specs.List.{Contains, AllPairs}
 use Rattle.std.proofs.lemmas.List.{get_or_past}
 use Rattle.ci_space.specs.declared.intervals.Shape.{Shape}
@@ -14,7 +14,7 @@ use Rattle.root_anchor.specs.Elements.{Pointer}
 use Rattle.root_anchor.specs.Chains.{AreRoots, anchor_count, root_of}
 use Rattle.root_anchor.specs.Damage.{RootsFail, ChainFails, no_base, wrong_pointer}
 use Rattle.root_anchor.specs.Reading.{IsMissing}
-use Rattle.root_anchor.specs.Standing.{places_of, Stands, AreStanding, AreInTurn}
+use Rattle.root_anchor.specs.Standing.{places_of, Stands, AreStanding, AreInTurn, AreKeyed}
 use Rattle.root_anchor.specs.Walking.{met_of, WalksOn, AllStand, IsWalked}
 use Rattle.root_anchor.proofs.PutLemmas.{base_kind}
 use Rattle.root_anchor.proofs.ReadLemmas.{no_bytes}
@@ -59,7 +59,7 @@ anchor_walked shape types area now anchor number first start walk walked e g pla
         (subst (λ a. AreRoots types a [] (root_of shape area anchor) walked.roots (met_of walk)) e (subst (λ p. AreRoots types now [] p walked.roots (met_of walk)) g are));
   };
   once = subst (λ m. AllPairs (λ a b. a ≢ b) (places_of m.items)) (sym same) on.is_walk.once;
-  stand = λ s h. subst (λ a. Stands types a s) e (stand s (subst (λ m. Contains m.items s) same h));
+  stand = λ s h. subst (λ a. Stands types a s) e (stand.stand s (subst (λ m. Contains m.items s) same h));
 }
 
 pub standing_walked : (shape : Shape) (types : List SegDef) (area : List (List ℕ)) (anchor : ℕ) (walked : Walked) (list : List Standing) → list ≡ walked.met.items → IsWalked shape types area anchor walked → AreStanding shape types area anchor list
@@ -74,3 +74,7 @@ standing_walked shape types area anchor walked list e w = subst (λ l. AreStandi
 
 pub in_turn_walked : (shape : Shape) (types : List SegDef) (area : List (List ℕ)) (anchor : ℕ) (walked : Walked) (list : List Standing) → list ≡ walked.met.items → IsWalked shape types area anchor walked → AreInTurn shape types area anchor list
 in_turn_walked shape types area anchor walked list e w = subst (λ l. AreInTurn shape types area anchor l) (sym e) (record { roots = walked.roots; is_chain = w.is_chain })
+
+pub keys_walked : (types : List SegDef) (area now : List (List ℕ)) (number : ℕ) (start walk : Walk) (keyed : Bool) → now ≡ area → start.keyed ≡ keyed → keyed ≡ true → WalksOn number start walk → AllStand types now walk
+    → AreKeyed types area walk.met.items
+keys_walked types area now number start walk keyed e f wanted on all = subst (λ a. AreKeyed types a walk.met.items) e (all.keys (on.same_keyed ∙ f ∙ wanted))

@@ -8,7 +8,7 @@ use Rattle.fp_model.specs.declared.definitions.SegDef.{SegDef}
 use Rattle.fp_model.specs.declared.database.Root.{Root}
 use Rattle.root_anchor.specs.Elements.{Pointer, Segment, HasSegment}
 use Rattle.root_anchor.specs.Chains.{AreRoots, root_of, IsChain}
-use Rattle.root_anchor.proofs.Framing.{Stay, roots_stay}
+use Rattle.root_anchor.proofs.Framing.{roots_stay}
 use Rattle.root_anchor.proofs.OneChain.{HasSome, chain_has}
 
 pub chain_element : (shape : Shape) (types : List SegDef) (area : List (List ℕ)) (anchor : ℕ) (roots : List Root) (elements : List Pointer) (at : Pointer)

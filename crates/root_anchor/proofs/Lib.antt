@@ -12,6 +12,7 @@ pub mod WalkSteps
 pub mod OneChain
 pub mod Sound
 pub mod Rebuilt
+pub mod OneDamage
 pub mod BaseLemmas
 pub mod LawLemmas
 pub mod Rows

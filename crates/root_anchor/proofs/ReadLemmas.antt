@@ -1,5 +1,5 @@
 -- What is read of an element.
-use Rattle.std.proofs.Common.{◌==◌, IsTrue, ◌↔◌, ◌≡◌, ◌≢◌, ℕ, zero, suc, ◌+◌, ◌*◌, ◌<◌, ◌≤◌, inl, inr, List, [], ◌∷◌, ◌++◌, length, map, drop, get_or, Bool, true, false, refl, sym, ap, subst, ◌∙◌, append_assoc, add-one, arith, drop-cons}
+use Rattle.std.proofs.Common.{◌==◌, IsTrue, ◌↔◌, ◌≡◌, ℕ, suc, ◌+◌, ◌*◌, ◌<◌, inl, inr, List, [], ◌∷◌, ◌++◌, length, drop, get_or, Bool, true, false, refl, sym, ap, subst, ◌∙◌, append_assoc, arith, drop-cons}
 use Rattle.std.proofs.lemmas.Bool.{eqb-true, eq-eqb}
 use Rattle.std.proofs.lemmas.List.{map-append, length-append, get_or_past}
 use Rattle.ci_space.specs.Element.{Used}
@@ -8,18 +8,11 @@ use Rattle.ci_space.proofs.Contents.{used-within}
 use Rattle.ci_overflow.specs.Lists.{bytes_at}
 use Rattle.fp_model.specs.declared.definitions.SegDef.{SegDef}
 use Rattle.fp_model.specs.Order.{numbers_from}
-use Rattle.root_anchor.specs.Elements.{Pointer, Segment, pointer_at, pointers_from, HasSegment}
+use Rattle.root_anchor.specs.Elements.{Pointer, Segment, pointer_at, pointers_from}
 use Rattle.root_anchor.specs.declared.element.First.{First}
 use Rattle.root_anchor.specs.Reading.{types_of, pointers_of, IsOfType, Holds, IsWhole, IsMissing}
 use Rattle.root_anchor.specs.Damage.{IsWrong, leads_to_no_interval, leads_to_no_element, leads_to_no_segment}
-use Rattle.root_anchor.proofs.OneChain.{one_content}
-
--- one pointer more
-pub pointers_more : (content : List ℕ) (at n : ℕ) → pointers_from content at (suc n) ≡ pointers_from content at n ++ pointer_at content (at + 10 * n) ∷ []
-pointers_more content at zero = ap (λ k. pointer_at content k ∷ []) (omega arith)
-pointers_more content at (suc n) =
-    let e : at + 10 + 10 * n ≡ at + 10 * suc n = omega arith in
-    ap (λ l. pointer_at content at ∷ l) (pointers_more content (at + 10) n) ∙ ap (λ k. pointer_at content at ∷ (pointers_from content (at + 10) n ++ pointer_at content k ∷ [])) e
+use Rattle.root_anchor.proofs.SpellingLemmas.{pointers_more}
 
 -- a type that passes, and one that doesn't
 front_step : (test : SegDef → Bool) (types : List SegDef) (i : ℕ) (def : SegDef) → i < length types → def ≡ get_or types i def → numbers_from i test (drop i types) ≡ numbers_from i test (def ∷ drop (i + 1) types)
@@ -51,7 +44,7 @@ pointers_pushed content start before now first n s h =
     ap pointers_of n ∙ map-append (λ f. f.at) before (first ∷ [])
     ∙ ap (λ ps. ps ++ first.at ∷ []) h
     ∙ ap (λ p. pointers_from content start (length before) ++ p ∷ []) s
-    ∙ sym (pointers_more content start (length before))
+    ∙ sym (pointers_more (length before) content start)
     ∙ ap (λ k. pointers_from content start k) (sym l)
 
 -- a test that says no
@@ -75,8 +68,8 @@ pub used_inside : (bytes : List ℕ) (at : ℕ) → IsUsed bytes at → at < 409
 used_inside bytes at u = let w = used-within bytes at u in omega (arith, w.four, w.limit)
 
 -- a wrong pointer
-used_interval : {bytes : List ℕ} {at type : ℕ} {content : List ℕ} → HasUsed bytes at type content → IsInterval bytes
-used_interval {type = type} {content = content} u = record { elements = u.before ++ Used type content ∷ u.after; tiles = u.tiles }
+pub content_interval : {bytes : List ℕ} {at type : ℕ} {content : List ℕ} → HasUsed bytes at type content → IsInterval bytes
+content_interval {type = type} {content = content} u = record { elements = u.before ++ Used type content ∷ u.after; tiles = u.tiles }
 
 pub no_bytes : IsInterval [] → ⊥
 no_bytes i = let t : false ≡ true = i.tiles.size in cc
@@ -84,7 +77,7 @@ no_bytes i = let t : false ≡ true = i.tiles.size in cc
 pub wrong_missing : (types : List SegDef) (area : List (List ℕ)) (met : List Pointer) (from type : ℕ) (at : Pointer) (ci : ℕ) → IsMissing area from at.0 ci → IsWrong types area met from type at ci
 wrong_missing types area met from type at ci (inl there) = subst (λ n. IsWrong types area met from type at n) (sym there.2) (leads_to_no_interval there.0 there.1)
 wrong_missing types area met from type at ci (inr past) =
-    subst (λ n. IsWrong types area met from type at n) (sym past.1) (leads_to_no_element (λ below. absurd (omega (arith, past.0))) (λ content used. no_bytes (subst IsInterval (get_or_past area at.0 [] past.0) (used_interval used))))
+    subst (λ n. IsWrong types area met from type at n) (sym past.1) (leads_to_no_element (λ below. absurd (omega (arith, past.0))) (λ content used. no_bytes (subst IsInterval (get_or_past area at.0 [] past.0) (content_interval used))))
 
 pub wrong_element : (types : List SegDef) (area : List (List ℕ)) (met : List Pointer) (from ci type : ℕ) (at : Pointer) (bytes : List ℕ) → from ≡ ci → bytes ≡ bytes_at area at.0 → IsInterval bytes
     → ¬ IsOfType bytes type at.1 → IsWrong types area met from type at ci

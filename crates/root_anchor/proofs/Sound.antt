@@ -1,9 +1,7 @@
 -- A chain that stands doesn't fail.
-use Rattle.std.proofs.Common.{◌≡◌, ◌≢◌, ◌⊎◌, inl, inr, ℕ, ◌<◌, List, [], ◌∷◌, length, refl, sym, subst}
+use Rattle.std.proofs.Common.{◌≡◌, ◌≢◌, ◌⊎◌, inl, inr, ℕ, List, [], ◌∷◌, refl, sym, subst}
 use Rattle.std.specs.List.{Contains}
 use Rattle.ci_space.specs.declared.intervals.Shape.{Shape}
-use Rattle.ci_space.specs.Interval.{IsInterval}
-use Rattle.ci_overflow.specs.Lists.{bytes_at}
 use Rattle.fp_model.specs.declared.definitions.SegDef.{SegDef}
 use Rattle.fp_model.specs.declared.database.Node.{Node}
 use Rattle.fp_model.specs.declared.database.Root.{Root}
@@ -15,7 +13,7 @@ use Rattle.root_anchor.specs.Formed.{HasChain}
 use Rattle.root_anchor.proofs.OneChain.{one_segment, none_at_nothing, stands_in_interval, one_rows}
 
 -- a pointer to a new segment isn't wrong
-right : {types : List SegDef} {area : List (List ℕ)} {met : List Pointer} {from type : ℕ} {at : Pointer} {ci : ℕ} (s : Segment)
+pub right : {types : List SegDef} {area : List (List ℕ)} {met : List Pointer} {from type : ℕ} {at : Pointer} {ci : ℕ} (s : Segment)
     → HasSegment types area type at s → ¬ Contains met at → IsWrong types area met from type at ci → ⊥
 right s has fresh (leads_to_no_interval inside none) = none (stands_in_interval has)
 right s has fresh (leads_to_no_element interval none) = none has.content has.used
@@ -24,31 +22,33 @@ right s has fresh (leads_back met) = fresh met
 
 -- ---- how rows fail
 
-record FailsBelow (types : List SegDef) (area : List (List ℕ)) (met : List Pointer) (type : ℕ) (at : Pointer) (ci : ℕ) : Type 0 where
-  s : Segment
-  has : HasSegment types area type at s
-  fails : RowsFail types area (at ∷ met) at.0 at.0 (child_types types type) s.firsts ci
+pub record FailsBelow (types : List SegDef) (area : List (List ℕ)) (met : List Pointer) (type : ℕ) (at : Pointer) (ci : ℕ) : Type 0 where
+  pub s : Segment
+  pub has : HasSegment types area type at s
+  pub fresh : ¬ Contains met at
+  pub fails : RowsFail types area (at ∷ met) at.0 at.0 (child_types types type) s.firsts ci
 
-record FailsAtTwin (types : List SegDef) (area : List (List ℕ)) (met : List Pointer) (home type : ℕ) (more : List ℕ) (at : Pointer) (firsts : List Pointer) (ci : ℕ) : Type 0 where
-  s : Segment
-  rows : List (List Node)
-  between : List Pointer
-  has : HasSegment types area type at s
-  lower : AreRows types area (at ∷ met) (child_types types type) s.firsts rows between
-  fails : RowsFail types area between home at.0 (type ∷ more) (s.next ∷ firsts) ci
+pub record FailsAtTwin (types : List SegDef) (area : List (List ℕ)) (met : List Pointer) (home type : ℕ) (more : List ℕ) (at : Pointer) (firsts : List Pointer) (ci : ℕ) : Type 0 where
+  pub s : Segment
+  pub rows : List (List Node)
+  pub between : List Pointer
+  pub has : HasSegment types area type at s
+  pub fresh : ¬ Contains met at
+  pub lower : AreRows types area (at ∷ met) (child_types types type) s.firsts rows between
+  pub fails : RowsFail types area between home at.0 (type ∷ more) (s.next ∷ firsts) ci
 
-abbrev Fail : List SegDef → List (List ℕ) → List Pointer → ℕ → ℕ → List ℕ → List Pointer → ℕ → Type 0
+abbrev pub Fail : List SegDef → List (List ℕ) → List Pointer → ℕ → ℕ → List ℕ → List Pointer → ℕ → Type 0
 Fail types area met home from [] firsts ci = ⊥
 Fail types area met home from (type ∷ more) [] ci = ⊥
 Fail types area met home from (type ∷ more) (at ∷ firsts) ci =
     ((at ≢ nothing) × IsWrong types area met from type at ci)
     ⊎ (FailsBelow types area met type at ci ⊎ (FailsAtTwin types area met home type more at firsts ci ⊎ ((at ≡ nothing) × RowsFail types area met home home more firsts ci)))
 
-fails_so : {types : List SegDef} {area : List (List ℕ)} {met : List Pointer} {home from : ℕ} {row_types : List ℕ} {firsts : List Pointer} {ci : ℕ}
+pub fails_so : {types : List SegDef} {area : List (List ℕ)} {met : List Pointer} {home from : ℕ} {row_types : List ℕ} {firsts : List Pointer} {ci : ℕ}
     → RowsFail types area met home from row_types firsts ci → Fail types area met home from row_types firsts ci
 fails_so (here there wrong) = inl (there, wrong)
-fails_so (below s has fresh fails) = inr (inl (record { s = s; has = has; fails = fails }))
-fails_so (at_twin s {rows = rows} {between = between} has fresh lower fails) = inr (inr (inl (record { s = s; rows = rows; between = between; has = has; lower = lower; fails = fails })))
+fails_so (below s has fresh fails) = inr (inl (record { s = s; has = has; fresh = fresh; fails = fails }))
+fails_so (at_twin s {rows = rows} {between = between} has fresh lower fails) = inr (inr (inl (record { s = s; rows = rows; between = between; has = has; fresh = fresh; lower = lower; fails = fails })))
 fails_so (next_row fails) = inr (inr (inr (refl, fails)))
 
 pub rows_sound : {types : List SegDef} {area : List (List ℕ)} {met : List Pointer} {row_types : List ℕ} {firsts : List Pointer} {rows : List (List Node)} {after : List Pointer}
@@ -75,19 +75,20 @@ rows_sound {types} {area} (segment {met = met} {type = type} {more = more} {at =
 
 -- ---- how roots fail
 
-record FailsAtNext (types : List SegDef) (area : List (List ℕ)) (met : List Pointer) (at : Pointer) (ci : ℕ) : Type 0 where
-  s : Segment
-  rows : List (List Node)
-  between : List Pointer
-  has : HasSegment types area 0 at s
-  lower : AreRows types area (at ∷ met) (child_types types 0) s.firsts rows between
-  fails : RootsFail types area between at.0 s.next ci
+pub record FailsAtNext (types : List SegDef) (area : List (List ℕ)) (met : List Pointer) (at : Pointer) (ci : ℕ) : Type 0 where
+  pub s : Segment
+  pub rows : List (List Node)
+  pub between : List Pointer
+  pub has : HasSegment types area 0 at s
+  pub fresh : ¬ Contains met at
+  pub lower : AreRows types area (at ∷ met) (child_types types 0) s.firsts rows between
+  pub fails : RootsFail types area between at.0 s.next ci
 
-roots_fail_so : {types : List SegDef} {area : List (List ℕ)} {met : List Pointer} {from : ℕ} {at : Pointer} {ci : ℕ}
+pub roots_fail_so : {types : List SegDef} {area : List (List ℕ)} {met : List Pointer} {from : ℕ} {at : Pointer} {ci : ℕ}
     → RootsFail types area met from at ci → ((at ≢ nothing) × IsWrong types area met from 0 at ci) ⊎ (FailsBelow types area met 0 at ci ⊎ FailsAtNext types area met at ci)
 roots_fail_so (root_here there wrong) = inl (there, wrong)
-roots_fail_so (below_root s has fresh fails) = inr (inl (record { s = s; has = has; fails = fails }))
-roots_fail_so (next_root s {rows = rows} {between = between} has fresh lower fails) = inr (inr (record { s = s; rows = rows; between = between; has = has; lower = lower; fails = fails }))
+roots_fail_so (below_root s has fresh fails) = inr (inl (record { s = s; has = has; fresh = fresh; fails = fails }))
+roots_fail_so (next_root s {rows = rows} {between = between} has fresh lower fails) = inr (inr (record { s = s; rows = rows; between = between; has = has; fresh = fresh; lower = lower; fails = fails }))
 
 pub roots_sound : {types : List SegDef} {area : List (List ℕ)} {met : List Pointer} {at : Pointer} {roots : List Root} {after : List Pointer}
     → AreRoots types area met at roots after → (from ci : ℕ) → RootsFail types area met from at ci → ⊥

@@ -1,15 +1,14 @@
 -- What a walk has met.
-use Rattle.std.proofs.Common.{◌≡◌, ◌≢◌, ◌↔◌, ◌⊎◌, inl, inr, ℕ, suc, zero, ◌+◌, ◌*◌, ◌^◌, ◌<◌, ◌≤◌, List, [], ◌∷◌, ◌++◌, length, map, reverse, get_or, Bool, true, false, cond, ◌&&◌, ◌==◌, IsTrue, refl, sym, ap, subst, ◌∙◌, arith}
-use Rattle.std.specs.List.{Contains, All, AllPairs, IsDistinct, list_any}
-use Rattle.std.specs.Bool.{Decides}
+use Rattle.std.proofs.Common.{◌≡◌, ◌≢◌, ◌↔◌, inl, inr, ℕ, ◌+◌, ◌*◌, ◌<◌, ◌≤◌, List, [], ◌∷◌, ◌++◌, length, map, reverse, get_or, Bool, true, false, cond, ◌&&◌, ◌==◌, IsTrue, refl, sym, ap, subst, ◌∙◌, arith}
+use Rattle.std.specs.List.{Contains, All, AllPairs, IsDistinct}
 use Rattle.std.specs.Ordering.{is_eq, nat_cmp, ordering_then}
 use Rattle.std.specs.declared.cmp.Ordering.{Ordering}
 use Rattle.std.specs.declared.cmp.Ordering.TheVariants.{Less, Equal, Greater}
 use Rattle.std.specs.BTreeMap.{is_at}
-use Rattle.std.specs.BTreeSet.{BTreeSet, contains}
+use Rattle.std.specs.BTreeSet.{contains}
 use Rattle.std.proofs.lemmas.Bool.{cases_Bool, eqb-true, eq-eqb}
 use Rattle.std.proofs.lemmas.Bool.Decides.{nat_tests, Decides-eqb}
-use Rattle.std.proofs.lemmas.List.{map-append, length-append, reverse-append, length-map, get_or-map}
+use Rattle.std.proofs.lemmas.List.{map-append, reverse-append, length-map, get_or-map}
 use Rattle.std.proofs.lemmas.List.Elements.{Contains-append_left, Contains-append_right, Contains-append_cases, Contains-push, Contains-push_cases, All-push, All-map, All-contains, Contains-get_or}
 use Rattle.std.proofs.lemmas.List.Quantifiers.{all_pairs_push}
 use Rattle.std.proofs.lemmas.Map.Made.{IsDistinct-from_AllPairs}
@@ -18,10 +17,12 @@ use Rattle.std.proofs.lemmas.Map.Views.{Contains-from_any}
 use Rattle.root_anchor.specs.declared.standing.Standing.{Standing}
 use Rattle.root_anchor.specs.declared.walk.Walk.{Walk}
 use Rattle.fp_model.specs.declared.definitions.SegDef.{SegDef}
+use Rattle.fp_model.specs.Order.{key_in}
 use Rattle.root_anchor.specs.Elements.{Pointer, Segment, HasSegment}
 use Rattle.root_anchor.specs.Damage.{IsWrong, leads_back}
 use Rattle.root_anchor.specs.Standing.{places_of, Stands}
-use Rattle.root_anchor.specs.Walking.{place_cmp, met_of, IsWalk, AllStand}
+use Rattle.root_anchor.specs.Walking.{place_cmp, met_of, IsWalk, IsNoted, AllStand}
+use Rattle.root_anchor.proofs.OneChain.{one_segment}
 use Rattle.root_anchor.proofs.Members.{none_in, front_in, behind_in, in_cases}
 
 -- ---- the other way round
@@ -154,10 +155,21 @@ few_met number walk w =
 pub wrong_met : (types : List SegDef) (area : List (List ℕ)) (met : List Pointer) (from ci type : ℕ) (at : Pointer) → from ≡ ci → Contains met at → IsWrong types area met from type at ci
 wrong_met types area met from ci type at e m = subst (λ n. IsWrong types area met from type at n) e (leads_back m)
 
-pub all_stand_pushed : (types : List SegDef) (area : List (List ℕ)) (old new : Walk) (s : Standing) (segment : Segment) → HasSegment types area s.segment s.at segment
-    → new.met.items ≡ old.met.items ++ s ∷ [] → AllStand types area old → AllStand types area new
-all_stand_pushed types area old new s segment has e stand other m =
-    elim (Contains-push_cases old.met.items s other (subst (λ l. Contains l other) e m)) as (λ _. Stands types area other) [
-      | inl o ↦ stand other o
-      | inr same ↦ subst (λ x. Stands types area x) same (record { segment = segment; has = has })
-    ]
+pub all_stand_pushed : (types : List SegDef) (area : List (List ℕ)) (old new : Walk) (type : ℕ) (at : Pointer) (segment : Segment) → HasSegment types area type at segment
+    → IsNoted types old new type at segment.bytes → AllStand types area old → AllStand types area new
+all_stand_pushed types area old new type at segment has noted all =
+    let s : Standing = record { segment = type; at = at; key = noted.key } in
+    record {
+      stand = λ other m. elim (Contains-push_cases old.met.items s other (subst (λ l. Contains l other) noted.one_more m)) as (λ _. Stands types area other) [
+        | inl o ↦ all.stand other o
+        | inr same ↦ subst (λ x. Stands types area x) same (record { segment = segment; has = has })
+      ];
+      keys = λ wanted other said m h.
+          elim (Contains-push_cases old.met.items s other (subst (λ l. Contains l other) noted.one_more m)) as (λ _. other.key ≡ key_in types other.segment said.bytes) [
+            | inl o ↦ all.keys (sym noted.same_keyed ∙ wanted) other said o h
+            | inr same ↦
+                (let there : HasSegment types area type at said = subst (λ x. HasSegment types area x.segment x.at said) (sym same) h in
+                let key : noted.key ≡ key_in types type said.bytes = noted.is_key (sym noted.same_keyed ∙ wanted) ∙ ap (λ (x : Segment). key_in types type x.bytes) (one_segment has there) in
+                subst (λ x. x.key ≡ key_in types x.segment said.bytes) same key)
+          ];
+    }

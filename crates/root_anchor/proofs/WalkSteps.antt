@@ -1,11 +1,10 @@
 -- The steps of the walk: along a row, from row to row, along the roots.
-use Rattle.std.proofs.Common.{Bool, true, false, not, ◌&&◌, ◌==◌, inl, inr, Option, Some, None, ◌≡◌, ◌≢◌, ℕ, suc, ◌+◌, ◌-◌, ◌*◌, ◌<◌, ◌≤◌, List, [], ◌∷◌, ◌++◌, length, drop, get_or, refl, sym, ap, subst, ◌∙◌, append_assoc, add-one, drop-cons, arith}
+use Rattle.std.proofs.Common.{Bool, true, false, not, ◌&&◌, ◌==◌, inl, inr, Option, Some, None, ◌≡◌, ◌≢◌, ℕ, suc, ◌+◌, ◌-◌, ◌*◌, ◌<◌, ◌≤◌, List, [], ◌∷◌, ◌++◌, length, drop, get_or, refl, sym, ap, subst, ◌∙◌, append_assoc, drop-cons, arith}
 use Rattle.std.specs.List.{Contains, All}
 use Rattle.std.specs.Option.{option_map_or, IfSome}
 use Rattle.std.proofs.lemmas.Bool.{cases_Bool, eqb-true}
 use Rattle.std.proofs.lemmas.List.{append-nil, drop_all, length-map, get_or-map}
 use Rattle.std.proofs.lemmas.List.Elements.{All-nil, All-cons, All-weaker}
-use Rattle.ci_space.specs.Calls.{GoesOn}
 use Rattle.ci_space.proofs.Going.{goes-itself, goes-joined}
 use Rattle.fp_model.specs.declared.definitions.SegDef.{SegDef}
 use Rattle.fp_model.specs.declared.database.Node.{Node, roll-Node}
@@ -16,7 +15,7 @@ use Rattle.fp_model.specs.WellFormed.{HasPlace, HavePlaces}
 use Rattle.root_anchor.specs.declared.element.First.{First}
 use Rattle.root_anchor.specs.declared.element.Said.{Said}
 use Rattle.root_anchor.specs.declared.walk.Walk.{Walk}
-use Rattle.root_anchor.specs.Elements.{Pointer, nothing, Segment, HasSegment}
+use Rattle.root_anchor.specs.Elements.{Pointer, nothing, HasSegment}
 use Rattle.root_anchor.specs.Chains.{AreRows, no_row, row_end, segment, newest, AreRoots, no_root, root}
 use Rattle.root_anchor.specs.Damage.{IsWrong, RowsFail, here, below, at_twin, next_row, RootsFail, root_here, below_root, next_root}
 use Rattle.root_anchor.specs.Reading.{types_of, pointers_of, segment_of}
@@ -217,7 +216,7 @@ all_stand_on types area now old new e on h = subst (λ a. AllStand types a new) 
 -- ---- how far
 
 pub walks_itself : (number : ℕ) (walk : Walk) → IsWalk number walk → WalksOn number walk walk
-walks_itself number walk w = record { is_walk = w; more = omega arith }
+walks_itself number walk w = record { is_walk = w; more = omega arith; same_keyed = refl }
 
 -- a walk that met one more has less to meet, and goes on
 pub less_left : (number other : ℕ) (old visited new : Walk) → other ≡ number → length old.met.items < length visited.met.items → WalksOn other visited new
@@ -226,15 +225,16 @@ less_left number other old visited new e more on =
     let on_same : WalksOn number visited new = subst (λ n. WalksOn n visited new) e on in
     omega (arith, few_met number new on_same.is_walk, on_same.more, more)
 
-pub walks_further : (number other : ℕ) (start old visited new : Walk) → other ≡ number → WalksOn number start old → length old.met.items < length visited.met.items → WalksOn other visited new → WalksOn number start new
-walks_further number other start old visited new e first more on =
+pub walks_further : (number other : ℕ) (start old visited new : Walk) → other ≡ number → WalksOn number start old → length old.met.items < length visited.met.items → visited.keyed ≡ old.keyed → WalksOn other visited new
+    → WalksOn number start new
+walks_further number other start old visited new e first more keyed on =
     let on_same : WalksOn number visited new = subst (λ n. WalksOn n visited new) e on in
-    record { is_walk = on_same.is_walk; more = omega (arith, first.more, on_same.more, more) }
+    record { is_walk = on_same.is_walk; more = omega (arith, first.more, on_same.more, more); same_keyed = on_same.same_keyed ∙ keyed ∙ first.same_keyed }
 
 pub walks_joined : (number other : ℕ) (start old new : Walk) → other ≡ number → WalksOn number start old → WalksOn other old new → WalksOn number start new
 walks_joined number other start old new e first on =
     let on_same : WalksOn number old new = subst (λ n. WalksOn n old new) e on in
-    record { is_walk = on_same.is_walk; more = omega (arith, first.more, on_same.more) }
+    record { is_walk = on_same.is_walk; more = omega (arith, first.more, on_same.more); same_keyed = on_same.same_keyed ∙ first.same_keyed }
 
 -- ---- a child's type has a greater number
 

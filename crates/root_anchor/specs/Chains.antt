@@ -1,5 +1,5 @@
 -- The roots that the pointers from an anchor give, with all below them.
-use Rattle.std.specs.Prelude.{◌≡◌, ℕ, ◌*◌, ◌<◌, List, [], ◌∷◌, ◌==◌, if◌then◌else◌, Contains}
+use Rattle.std.specs.Prelude.{ℕ, ◌*◌, List, [], ◌∷◌, ◌==◌, if◌then◌else◌, Contains}
 use Rattle.ci_space.specs.declared.intervals.Shape.{Shape}
 use Rattle.ci_space.specs.Head.{head_of}
 use Rattle.ci_overflow.specs.Lists.{bytes_at, IsInPlace}

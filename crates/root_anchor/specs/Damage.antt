@@ -1,5 +1,5 @@
 -- Where the pointers from an anchor give no roots, and which interval is damaged then.
-use Rattle.std.specs.Prelude.{◌≡◌, ◌≢◌, ℕ, ◌<◌, List, [], ◌∷◌, length, Contains}
+use Rattle.std.specs.Prelude.{◌≢◌, ℕ, ◌<◌, List, [], ◌∷◌, length, Contains}
 use Rattle.ci_space.specs.declared.intervals.Shape.{Shape}
 use Rattle.ci_space.specs.Interval.{IsInterval, HasUsed}
 use Rattle.ci_overflow.specs.Lists.{bytes_at, IsInPlace}

@@ -1,10 +1,9 @@
 -- The elements in which an anchor's segments stand.
-use Rattle.std.specs.Prelude.{ℕ, ◌↔◌, ◌≢◌, List, map, reverse, Contains, AllPairs}
+use Rattle.std.specs.Prelude.{◌≡◌, ℕ, ◌↔◌, ◌≢◌, List, map, reverse, Contains, AllPairs}
 use Rattle.ci_space.specs.declared.intervals.Shape.{Shape}
-use Rattle.ci_space.specs.Interval.{HasUsed}
-use Rattle.ci_overflow.specs.Lists.{bytes_at}
 use Rattle.fp_model.specs.declared.definitions.SegDef.{SegDef}
 use Rattle.fp_model.specs.declared.database.Root.{Root}
+use Rattle.fp_model.specs.Order.{key_in}
 use Rattle.root_anchor.specs.Elements.{Pointer, Segment, HasSegment}
 use Rattle.root_anchor.specs.Chains.{IsChain}
 use Rattle.root_anchor.specs.declared.standing.Standing.{Standing}
@@ -30,3 +29,7 @@ pub record AreStanding (shape : Shape) (types : List SegDef) (area : List (List 
 pub record AreInTurn (shape : Shape) (types : List SegDef) (area : List (List ℕ)) (anchor : ℕ) (list : List Standing) : Type 0 where
   pub roots : List Root
   pub is_chain : IsChain shape types area anchor roots (reverse (places_of list))
+
+-- each has its segment's key
+abbrev pub AreKeyed : List SegDef → List (List ℕ) → List Standing → Type 0
+AreKeyed types area list = (s : Standing) (segment : Segment) → Contains list s → HasSegment types area s.segment s.at segment → s.key ≡ key_in types s.segment segment.bytes

@@ -1,5 +1,5 @@
 -- The walk over an anchor's elements.
-use Rattle.std.specs.Prelude.{◌≡◌, ◌≢◌, ◌↔◌, ℕ, ◌<◌, ◌≤◌, List, [], ◌∷◌, ◌++◌, length, reverse, All, AllPairs, Contains, IsTrue}
+use Rattle.std.specs.Prelude.{◌≡◌, ◌≢◌, ◌↔◌, ℕ, ◌<◌, ◌≤◌, true, List, [], ◌∷◌, ◌++◌, length, reverse, All, AllPairs, Contains, IsTrue}
 use Rattle.std.specs.Ordering.{nat_cmp, ordering_then}
 use Rattle.std.specs.declared.cmp.Ordering.{Ordering}
 use Rattle.std.specs.BTreeSet.{contains}
@@ -8,13 +8,14 @@ use Rattle.ci_space.specs.Calls.{GoesOn}
 use Rattle.fp_model.specs.declared.definitions.SegDef.{SegDef}
 use Rattle.fp_model.specs.declared.database.Node.{Node}
 use Rattle.fp_model.specs.declared.database.Root.{Root}
+use Rattle.fp_model.specs.Order.{key_in}
 use Rattle.root_anchor.specs.declared.standing.Standing.{Standing}
 use Rattle.root_anchor.specs.declared.walk.Walk.{Walk}
 use Rattle.root_anchor.specs.declared.anchor.Walked.{Walked}
 use Rattle.root_anchor.specs.Elements.{Pointer}
 use Rattle.root_anchor.specs.Chains.{AreRows, AreRoots, IsChain}
 use Rattle.root_anchor.specs.Damage.{RowsFail, RootsFail}
-use Rattle.root_anchor.specs.Standing.{places_of, Stands}
+use Rattle.root_anchor.specs.Standing.{places_of, Stands, AreKeyed}
 
 -- the order of places: by interval, then by place in it
 abbrev pub place_cmp : Pointer → Pointer → Ordering
@@ -30,14 +31,23 @@ pub record IsWalk (number : ℕ) (walk : Walk) : Type 0 where
   pub once : AllPairs (λ a b. a ≢ b) (places_of walk.met.items)
   pub in_range : All (λ at. (at.0 < number) × (at.1 < 4096)) (places_of walk.met.items)
 
--- a walk goes on: it is one still, and has met no fewer
+-- a walk has met one element more, in which a segment of this type and these bytes stands
+pub record IsNoted (types : List SegDef) (old new : Walk) (type : ℕ) (at : Pointer) (bytes : List ℕ) : Type 0 where
+  pub key : List ℕ
+  pub one_more : new.met.items ≡ old.met.items ++ record { segment = type; at = at; key = key } ∷ []
+  pub is_key : old.keyed ≡ true → key ≡ key_in types type bytes
+  pub same_keyed : new.keyed ≡ old.keyed
+
+-- a walk goes on: it is one still, and has met no fewer; whether keys are wanted stays
 pub record WalksOn (number : ℕ) (old new : Walk) : Type 0 where
   pub is_walk : IsWalk number new
   pub more : length old.met.items ≤ length new.met.items
+  pub same_keyed : new.keyed ≡ old.keyed
 
--- a segment of its type stands in each element that was met
-abbrev pub AllStand : List SegDef → List (List ℕ) → Walk → Type 0
-AllStand types area walk = (s : Standing) → Contains walk.met.items s → Stands types area s
+-- a segment of its type stands in each element that was met, and its key is there where it is wanted
+pub record AllStand (types : List SegDef) (area : List (List ℕ)) (walk : Walk) : Type 0 where
+  pub stand : (s : Standing) → Contains walk.met.items s → Stands types area s
+  pub keys : walk.keyed ≡ true → AreKeyed types area walk.met.items
 
 -- the intervals are looked at, and stay
 pub record IsLook {I : Type 0} (told : I → Type 0) (intervals : I → List (List ℕ)) (number size faults : I → ℕ) (keeps : I → I → Type 0) (old new : I) : Type 0 where

@@ -1,11 +1,12 @@
 //! The whole walk over an anchor, from its root anchor point on.
 
-ghost use Rattle.std.specs.Prelude.{◌≡◌, ◌<◌, ℕ, Err, IfOk, OnOk, IsErrOf};
+ghost use Rattle.std.specs.Prelude.{◌≡◌, true, ◌<◌, ℕ, Err, IfOk, OnOk, IsErrOf};
 ghost use Rattle.ci_space.specs.Calls.{Rose, GoesOn};
 ghost use Rattle.ci_overflow.specs.Lists.{IsInPlace};
 ghost use Rattle.ci_overflow.specs.Places.{base_of};
 ghost use Rattle.root_anchor.specs.Chains.{anchor_count, root_of};
 ghost use Rattle.root_anchor.specs.Damage.{ChainFails};
+ghost use Rattle.root_anchor.specs.Standing.{AreKeyed};
 ghost use Rattle.root_anchor.specs.Stored.{AreTypes};
 ghost use Rattle.root_anchor.specs.Walking.{IsLook, IsWalked};
 
@@ -73,6 +74,7 @@ pub(crate) fn walk_anchor<I: Intervals>(
     requires anchor { anchor < anchor_count shape.now }
     requires types { AreTypes (I.size i.old) segments.now }
     ensures walked { I.told i.old → IfOk result (IsWalked shape.now segments.now (I.intervals i.old) anchor) }
+    ensures keys { I.told i.old → keyed ≡ true → IfOk result (λ walked. AreKeyed segments.now (I.intervals i.old) walked.met.items) }
     ensures damaged { I.told i.old → (ci : ℕ) → result ≡ Err (AnchorFault.Damaged ci) → ChainFails shape.now segments.now (I.intervals i.old) anchor ci }
     ensures failed { IsErrOf result AnchorFault.Failed → Rose (I.faults i.old) (I.faults i.new) }
     ensures look { IsLook I.told I.intervals I.number I.size I.faults I.keeps i.old i.new }

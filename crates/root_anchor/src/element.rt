@@ -115,11 +115,7 @@ fn serial_length(segments: &List<SegDef>, segment: u8) -> usize
     ensures exact { result ≡ serial_length segments.now segment }
     ensures small { result ≤ 8 }
 {
-    if has_serial(segments, segment) {
-        8
-    } else {
-        0
-    }
+    if has_serial(segments, segment) { 8 } else { 0 }
 }
 
 /// How many bytes stand in front of a segment of a type.

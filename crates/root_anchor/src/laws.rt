@@ -38,6 +38,14 @@ pub fn a_chain_that_stands_does_not_fail()
         → ¬ ChainFails shape types area anchor ci }
 {}
 
+/// Where the pointers of an anchor give no roots, one interval is damaged.
+pub fn one_interval_is_damaged()
+    ensures { (shape : Shape) (types : List SegDef) (area : List (List ℕ)) (anchor ci other : ℕ)
+        → ChainFails shape types area anchor ci
+        → ChainFails shape types area anchor other
+        → ci ≡ other }
+{}
+
 /// A segment stands in each element of an anchor's roots.
 pub fn each_element_has_a_segment()
     ensures { (shape : Shape) (types : List SegDef) (area : List (List ℕ)) (anchor : ℕ) (roots : List Root) (elements : List Pointer) (at : Pointer)

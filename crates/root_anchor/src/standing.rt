@@ -4,7 +4,7 @@ ghost use Rattle.std.specs.Prelude.{◌≡◌, ◌<◌, ℕ, Err, IfOk, IsErrOf}
 ghost use Rattle.ci_space.specs.Calls.{Rose, GoesOn};
 ghost use Rattle.root_anchor.specs.Chains.{anchor_count};
 ghost use Rattle.root_anchor.specs.Damage.{ChainFails};
-ghost use Rattle.root_anchor.specs.Standing.{AreStanding, AreInTurn};
+ghost use Rattle.root_anchor.specs.Standing.{AreStanding, AreInTurn, AreKeyed};
 ghost use Rattle.root_anchor.specs.Stored.{AreTypes};
 
 use crate::anchor::{Walked, walk_anchor};
@@ -38,6 +38,7 @@ pub(crate) fn elements_of<I: Intervals>(
     requires types { AreTypes (I.size i.old) segments.now }
     ensures standing { I.told i.old → IfOk result (λ list. AreStanding shape.now segments.now (I.intervals i.old) anchor list.items) }
     ensures in_turn { I.told i.old → IfOk result (λ list. AreInTurn shape.now segments.now (I.intervals i.old) anchor list.items) }
+    ensures keys { I.told i.old → IfOk result (λ list. AreKeyed segments.now (I.intervals i.old) list.items) }
     ensures damaged { I.told i.old → (ci : ℕ) → result ≡ Err (AnchorFault.Damaged ci) → ChainFails shape.now segments.now (I.intervals i.old) anchor ci }
     ensures failed { IsErrOf result AnchorFault.Failed → Rose (I.faults i.old) (I.faults i.new) }
     ensures same { I.told i.old → I.intervals i.new ≡ I.intervals i.old }

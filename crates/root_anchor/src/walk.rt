@@ -2,15 +2,16 @@
 //!
 //! No element is met twice, so the walk ends whatever the pointers are: what was met are distinct places in the area.
 
-ghost use Rattle.std.specs.Prelude.{◌≡◌, ◌↔◌, ◌+◌, ◌≤◌, ◌<◌, ◌∷◌, ◌++◌, [], ℕ, Err, List, length, slice_get, All, Contains, IsTrue, IfOk, OnOk, IsErrOf};
+ghost use Rattle.std.specs.Prelude.{◌≡◌, ◌↔◌, ◌+◌, ◌≤◌, ◌<◌, ◌∷◌, ◌++◌, [], true, ℕ, Err, List, length, slice_get, All, Contains, IsTrue, IfOk, OnOk, IsErrOf};
 ghost use Rattle.ci_space.specs.Calls.{Rose, GoesOn};
-ghost use Rattle.fp_model.specs.Order.{child_types};
+ghost use Rattle.fp_model.specs.State.{key_of};
+ghost use Rattle.fp_model.specs.Order.{child_types, key_in};
 ghost use Rattle.fp_model.specs.WellFormed.{HavePlaces};
 ghost use Rattle.root_anchor.specs.Elements.{HasSegment, nothing};
 ghost use Rattle.root_anchor.specs.Chains.{AreRows, AreRoots, newest};
 ghost use Rattle.root_anchor.specs.Damage.{IsWrong, RowsFail, RootsFail};
 ghost use Rattle.root_anchor.specs.Reading.{types_of, pointers_of, segment_of};
-ghost use Rattle.root_anchor.specs.Walking.{met_of, IsWalk, WalksOn, AllStand, IsLook, IsRow, RowFails};
+ghost use Rattle.root_anchor.specs.Walking.{met_of, IsWalk, IsNoted, WalksOn, AllStand, IsLook, IsRow, RowFails};
 
 use crate::element::{First, Said, read_element};
 use crate::fault::AnchorFault;
@@ -39,7 +40,9 @@ pub(crate) fn is_nothing(at: Pointer) -> bool
 }
 
 /// The key of a segment: its first field, as far as the segment reaches.
-fn key_of(alloc: Global, def: &SegDef, bytes: &[u8]) -> Result<Bytes, AllocError> {
+fn key_of(alloc: Global, def: &SegDef, bytes: &[u8]) -> Result<Bytes, AllocError>
+    ensures { IfOk result (λ key. key ≡ key_of def.now.fields bytes.now) }
+{
     let length = match def.fields.as_slice().first() {
         Some(field) => usize::from(field.length).min(bytes.len()),
         None => 0,
@@ -52,6 +55,7 @@ impl Walk {
     pub(crate) fn new(alloc: Global, keyed: bool) -> Walk
         ensures walk { (number : ℕ) → IsWalk number result }
         ensures none { result.met.items ≡ [] }
+        ensures keyed { result.keyed ≡ keyed }
     {
         Walk {
             keyed,
@@ -71,10 +75,29 @@ impl Walk {
     fn meet(&mut self, standing: Standing) -> Result<(), AllocError>
         ensures met { OnOk result (self.new.met.items ≡ self.old.met.items ++ standing ∷ []) }
         ensures walk { (number : ℕ) → IsWalk number self.old → ¬ Contains (met_of self.old) standing.at → standing.at.0 < number → standing.at.1 < 4096 → OnOk result (IsWalk number self.new) }
+        ensures keyed { self.new.keyed ≡ self.old.keyed }
     {
         self.places.insert(standing.at)?;
         self.met.push(standing)?;
         Ok(())
+    }
+
+    /// The key of a segment of a type, where keys are wanted, else nothing.
+    fn wanted_key(
+        &self,
+        alloc: Global,
+        segments: &List<SegDef>,
+        segment: u8,
+        bytes: &Bytes,
+    ) -> Result<Bytes, AllocError>
+        requires { segment < length segments.now }
+        ensures { IfOk result (λ key. self.now.keyed ≡ true → key ≡ key_in segments.now segment bytes.now) }
+    {
+        if !self.keyed {
+            return Ok(Bytes::new(alloc));
+        }
+        let def = &segments.as_slice()[usize::from(segment)];
+        key_of(alloc, def, bytes.as_slice())
     }
 
     /// Notes that an element was met in which this segment stands.
@@ -87,18 +110,10 @@ impl Walk {
         bytes: &Bytes,
     ) -> Result<(), AllocError>
         requires defined { segment < length segments.now }
-        ensures met { OnOk result ((key : List ℕ) × (self.new.met.items ≡ self.old.met.items ++ record { segment = segment; at = at; key = key } ∷ [])) }
+        ensures met { OnOk result (IsNoted segments.now self.old self.new segment at bytes.now) }
         ensures walk { (number : ℕ) → IsWalk number self.old → ¬ Contains (met_of self.old) at → at.0 < number → at.1 < 4096 → OnOk result (IsWalk number self.new) }
     {
-        let key = if self.keyed {
-            key_of(
-                alloc,
-                &segments.as_slice()[usize::from(segment)],
-                bytes.as_slice(),
-            )?
-        } else {
-            Bytes::new(alloc)
-        };
+        let key = self.wanted_key(alloc, segments, segment, bytes)?;
         self.meet(Standing { segment, at, key })
     }
 }
@@ -127,6 +142,7 @@ fn visit<I: Intervals>(
     // It is met now.
     ensures met { OnOk result (met_of walk.new ≡ at ∷ met_of walk.old) }
     ensures more { OnOk result (length walk.old.met.items < length walk.new.met.items) }
+    ensures keyed { OnOk result (walk.new.keyed ≡ walk.old.keyed) }
     ensures walk { OnOk result (IsWalk (I.number i.old) walk.new) }
     ensures stand { I.told i.old → AllStand segments.now (I.intervals i.old) walk.old → OnOk result (AllStand segments.now (I.intervals i.old) walk.new) }
     ensures look { IsLook I.told I.intervals I.number I.size I.faults I.keeps i.old i.new }

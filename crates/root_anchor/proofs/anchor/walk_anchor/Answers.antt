@@ -1,6 +1,6 @@
-use Rattle.std.proofs.Common.{◌≡◌, refl}
+use Rattle.std.proofs.Common.{refl}
 use Rattle.std.proofs.lemmas.Result.{err_from_is_err_and}
-use Rattle.root_anchor.proofs.BaseLemmas.{anchor_fails, anchor_walked}
+use Rattle.root_anchor.proofs.BaseLemmas.{anchor_fails, anchor_walked, keys_walked}
 use Rattle.root_anchor.proofs.anchor.walk_anchor.Goals as goal
 
 pub roots-requires-clause-walk : goal.roots-requires-clause-walk
@@ -19,3 +19,8 @@ returns-clause-walked g c = λ t.
     anchor_walked c.args.shape.now c.args.segments.now _ _ c.args.anchor (g.I.Intervals.number c.root_anchor_point.new.i) c.in_ok-first.first c.new-walk.result c.roots.new.walk _
     (c.root_anchor_point.ensures.look.same t) (c.in_ok-first.ensures.root t) (c.in_ok-first.ensures.in_place t) refl
     (c.in_ok-roots.ensures.roots told) c.in_ok-roots.ensures.walk (c.in_ok-roots.ensures.stand told)
+
+pub returns-clause-keys : goal.returns-clause-keys
+returns-clause-keys g c = λ t wanted.
+    keys_walked c.args.segments.now _ _ (g.I.Intervals.number c.root_anchor_point.new.i) c.new-walk.result c.roots.new.walk c.args.keyed (c.root_anchor_point.ensures.look.same t) c.new-walk.ensures.keyed wanted
+    c.in_ok-roots.ensures.walk (c.in_ok-roots.ensures.stand (c.root_anchor_point.ensures.look.goes_on.tells t))

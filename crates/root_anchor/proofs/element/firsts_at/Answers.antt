@@ -1,6 +1,5 @@
-use Rattle.std.proofs.Common.{◌≡◌, ◌+◌, ◌*◌, ◌++◌, ◌∷◌, [], length, ap, sym, ◌∙◌, refl, arith}
+use Rattle.std.proofs.Common.{length, ap, ◌∙◌, refl, arith}
 use Rattle.std.proofs.lemmas.List.{length-append}
-use Rattle.root_anchor.specs.Reading.{types_of, pointers_of}
 use Rattle.root_anchor.proofs.ReadLemmas.{numbers_more, numbers_less, pointers_pushed}
 use Rattle.root_anchor.proofs.element.firsts_at.Goals as goal
 use Rattle.root_anchor.proofs.element.firsts_at.Goals.{then-is_child_of+in_ok-push, else-is_child_of}

@@ -1,4 +1,4 @@
-use Rattle.std.proofs.Common.{◌≡◌, ◌<◌, refl, length, get_or, sym, ◌∙◌, rules, arith}
+use Rattle.std.proofs.Common.{◌∙◌, rules, arith}
 use Rattle.std.proofs.lemmas.Result.{err_from_is_err_and}
 use Rattle.root_anchor.proofs.ReadLemmas.{refused}
 use Rattle.root_anchor.proofs.WalkSteps.{looks_joined, along_wrong, along_below, along_next, along_end, among_fails, among_next, among_end, less_left, walks_further, walks_joined, child_above, all_stand_on}
@@ -39,7 +39,7 @@ pub row-loop-alloc-preserved : goal.row-loop-alloc-preserved
 row-loop-alloc-preserved g m c = record {
   look = looks_joined _ _ _ _ _ _ _ _ _ (looks_joined _ _ _ _ _ _ _ _ _ c.loop-alloc.invariant.look c.visit.ensures.look) c.rows.ensures.look;
   walk = walks_further (g.I.Intervals.number c.args.i.now) (g.I.Intervals.number c.visit.new.i) c.args.walk.now c.loop-alloc.walk c.visit.new.walk c.rows.new.walk
-      (c.visit.ensures.look.same_number ∙ c.loop-alloc.invariant.look.same_number) c.loop-alloc.invariant.walk c.in_ok-next.ensures.more c.in_ok-children.ensures.walk;
+      (c.visit.ensures.look.same_number ∙ c.loop-alloc.invariant.look.same_number) c.loop-alloc.invariant.walk c.in_ok-next.ensures.more c.in_ok-next.ensures.keyed c.in_ok-children.ensures.walk;
   along = λ t.
       let told = c.loop-alloc.invariant.look.goes_on.tells t in
       along_next _ _ _ _ _ _ _ _ _ _ _ c.loop-alloc.at _ _ c.in_ok-next.field-0 c.as_slice.result.now _

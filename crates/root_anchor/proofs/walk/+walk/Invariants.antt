@@ -1,4 +1,4 @@
-use Rattle.std.proofs.Common.{◌≡◌, ◌+◌, ◌-◌, ◌*◌, ◌<◌, drop, length}
+use Rattle.std.proofs.Common.{◌+◌, ◌-◌, ◌*◌, drop, length}
 use Rattle.root_anchor.specs.Reading.{types_of, pointers_of}
 use Rattle.root_anchor.specs.Walking.{met_of, WalksOn, AllStand, IsLook, IsAlong, IsAmong}
 use Rattle.root_anchor.proofs.walk.+walk.Given as goal

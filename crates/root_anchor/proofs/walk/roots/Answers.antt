@@ -1,4 +1,4 @@
-use Rattle.std.proofs.Common.{◌≡◌, sym, ap, ◌∙◌}
+use Rattle.std.proofs.Common.{◌∙◌}
 use Rattle.std.proofs.lemmas.Result.{err_from_is_err_and}
 use Rattle.root_anchor.proofs.ReadLemmas.{refused}
 use Rattle.root_anchor.proofs.WalkSteps.{looks_joined, roots_wrong, roots_below, roots_next, roots_end, less_left, walks_further, all_stand_on}
@@ -37,7 +37,7 @@ pub loop-alloc-preserved : goal.loop-alloc-preserved
 loop-alloc-preserved g c = record {
   look = looks_joined _ _ _ _ _ _ _ _ _ (looks_joined _ _ _ _ _ _ _ _ _ c.loop-alloc.invariant.look c.visit.ensures.look) c.rows.ensures.look;
   walk = walks_further (g.I.Intervals.number c.args.i.now) (g.I.Intervals.number c.visit.new.i) c.args.walk.now c.loop-alloc.walk c.visit.new.walk c.rows.new.walk
-      (c.visit.ensures.look.same_number ∙ c.loop-alloc.invariant.look.same_number) c.loop-alloc.invariant.walk c.in_ok-next.ensures.more c.in_ok-children.ensures.walk;
+      (c.visit.ensures.look.same_number ∙ c.loop-alloc.invariant.look.same_number) c.loop-alloc.invariant.walk c.in_ok-next.ensures.more c.in_ok-next.ensures.keyed c.in_ok-children.ensures.walk;
   along = λ t.
       let told = c.loop-alloc.invariant.look.goes_on.tells t in
       roots_next _ _ _ _ _ _ _ _ _ c.loop-alloc.at _ _ c.in_ok-next.field-0 c.as_slice.result.now _ _

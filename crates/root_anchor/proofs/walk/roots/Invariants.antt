@@ -1,4 +1,4 @@
-use Rattle.std.proofs.Common.{◌≡◌, ◌-◌, ◌*◌, length}
+use Rattle.std.proofs.Common.{◌-◌, ◌*◌, length}
 use Rattle.root_anchor.specs.Walking.{met_of, WalksOn, AllStand, IsLook, IsAlongRoots}
 use Rattle.root_anchor.proofs.walk.roots.Given as goal
 

@@ -18,4 +18,4 @@ returns-clause-walk g c =
 
 pub returns-clause-stand : goal.returns-clause-stand
 returns-clause-stand g c = λ t stand.
-    all_stand_pushed _ _ c.args.walk.now c.note.new.self _ _ (c.in_ok-said.ensures.says t) c.in_ok-note.ensures.met.1 stand
+    all_stand_pushed _ _ c.args.walk.now c.note.new.self _ _ _ (c.in_ok-said.ensures.says t) c.in_ok-note.ensures.met stand
