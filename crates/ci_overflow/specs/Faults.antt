@@ -42,7 +42,7 @@ pub data IsAtFault (shape : Shape) (area : List (List ℕ)) (ci : ℕ) : Type 0 
   misplaced : HasPlace shape area ci → ¬ IsInPlace shape area ci → IsAtFault shape area ci
   -- it holds a link of a list that leads to no independent overflow interval with the list's owner
   bad_link : (owner link : ℕ) → HoldsLink shape area owner ci link → link ≢ 0 → ¬ IsShared shape area owner link → IsAtFault shape area ci
-  -- it is in a list, and its link leads back to it
+  -- it is an independent overflow interval, and its link leads back to it
   circle : (owner : ℕ) → IsOwned shape area owner ci → Leads area (link_of (bytes_at area ci)) ci → IsAtFault shape area ci
   -- it is control, and counts another number of independent overflow intervals than the area has
   miscounted : ci ≡ 0 → length area ≢ first_independent shape + counted area → IsAtFault shape area ci
