@@ -1,0 +1,14 @@
+use Rattle.std.proofs.Common.{◌≡◌, ◌≤◌, List, length, drop}
+use Rattle.root_anchor.specs.Rebuilding.{Shares, types_of, types_of_roots}
+use Rattle.root_anchor.proofs.plan.plan_roots.Given as goal
+
+-- the roots from `left` on are planned
+abbrev pub invariant-loop-left : goal.invariant-loop-left
+invariant-loop-left l = record {
+  within : l.left ≤ length l.roots;
+  types : types_of l.plan.items ≡ types_of_roots l.segments (drop l.left l.roots);
+  shares : Shares l.initial.standing.items l.plan.items l.standing.items;
+}
+
+abbrev pub decreases-loop-left : goal.decreases-loop-left
+decreases-loop-left l = l.left

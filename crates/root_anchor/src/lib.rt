@@ -1,0 +1,36 @@
+//! The roots of an anchor, as the elements of an area hold them.
+//!
+//!     base interval          element of a root                element of a child
+//!     root anchor point -->  next root | first child .. -->   next twin | first child ..
+//!
+//! A pointer is the number of an interval and a place in it. `load` follows the pointers from an anchor's root anchor
+//! point, in hierarchical order, and meets no element twice.
+#![tactic(auto)]
+
+mod anchor;
+mod building;
+mod element;
+mod fault;
+mod laws;
+mod loading;
+mod plan;
+mod putting;
+mod spelling;
+mod standing;
+mod storing;
+mod walk;
+
+pub use fault::AnchorFault;
+pub use laws::{
+    a_chain_stays_with_its_elements, a_chain_that_stands_does_not_fail, an_anchor_has_one_chain,
+    an_element_has_one_segment, each_element_has_a_segment, one_interval_is_damaged,
+};
+pub use loading::load;
+pub use storing::store;
+
+#[cfg(test)]
+mod putting_tests;
+#[cfg(test)]
+mod storing_tests;
+#[cfg(test)]
+mod tests;

@@ -1,0 +1,183 @@
+//! The places that a plan has for an anchor's new segments.
+//!
+//! Each new segment takes one of the elements in which the anchor's segments stood: one of its type and its key, if there
+//! is one that no other has taken. So what doesn't change isn't written again. Of several any will do.
+
+ghost use Rattle.std.specs.Prelude.{◌≡◌, ◌≢◌, ◌<◌, ◌≤◌, ◌++◌, ◌∷◌, [], ℕ, List, OnOk, IfOk, IsErr, Err, IfSome, IfNone, length, map, true, slice_index_or};
+ghost use Rattle.fp_model.specs.Order.{child_types};
+ghost use Rattle.fp_model.specs.Shape.{are_rows, is_row, seen_as};
+ghost use Rattle.fp_model.specs.WellFormed.{HavePlaces};
+ghost use Rattle.root_anchor.specs.Stored.{are_storable};
+ghost use Rattle.root_anchor.specs.Rebuilding.{types_of, types_of_row, types_of_rows, types_of_roots, types_of_segment, TakesOut, Shares};
+ghost use Rattle.root_anchor.specs.declared.standing.Standing.{Standing as StandingOf};
+
+use crate::building::types_below;
+use crate::fault::AnchorFault;
+use crate::standing::{Pointer, Standing};
+use fp_model::{Bytes, List, Node, Root, SegDef};
+use std::alloc::Global;
+use std::collections::VecDeque;
+
+/// The place that a segment of a type is to take: an element in which one of that type stands. None where it takes a new one.
+#[derive(Clone, Copy, Debug)]
+pub(crate) struct Planned {
+    pub(crate) segment: u8,
+    pub(crate) at: Option<Pointer>,
+}
+
+/// The key of a segment of a type: its first field.
+fn key_of<'a>(segments: &List<SegDef>, segment: u8, bytes: &'a [u8]) -> &'a [u8] {
+    let length = match segments.as_slice().get(usize::from(segment)) {
+        Some(def) => match def.fields.as_slice().first() {
+            Some(key) => usize::from(key.length),
+            None => 0,
+        },
+        None => 0,
+    };
+    &bytes[..length.min(bytes.len())]
+}
+
+/// The place of the last of these elements that has this type and this key.
+fn last_like(standing: &[Standing], segment: u8, key: &[u8]) -> Option<usize>
+    ensures { IfSome result (λ k. (k < length standing.now) × ((d : StandingOf) → (slice_index_or standing.now k d).segment ≡ segment)) }
+{
+    let mut left = standing.len();
+    while left > 0 {
+        left -= 1;
+        let element = &standing[left];
+        if element.segment == segment && element.key.as_slice() == key {
+            return Some(left);
+        }
+    }
+    None
+}
+
+/// Takes out the last of these elements that has this type and this key.
+fn take_like(standing: &mut Vec<Standing>, segment: u8, key: &[u8]) -> Option<Pointer>
+    ensures taken { IfSome result (TakesOut standing.old.items standing.new.items segment) }
+    ensures none { IfNone result (standing.new.items ≡ standing.old.items) }
+{
+    let place = last_like(standing.as_slice(), segment, key)?;
+    let taken = standing.remove(place);
+    Some(taken.at)
+}
+
+/// Plans the place of a segment itself, in front of what is planned.
+fn plan_itself(
+    segments: &List<SegDef>,
+    plan: &mut VecDeque<Planned>,
+    standing: &mut Vec<Standing>,
+    segment: u8,
+    bytes: &[u8],
+) -> Result<(), AnchorFault>
+    ensures types { OnOk result (types_of plan.new.items ≡ segment ∷ types_of plan.old.items) }
+    ensures shares { (all : List StandingOf) → Shares all plan.old.items standing.old.items → OnOk result (Shares all plan.new.items standing.new.items) }
+    ensures memory { IsErr result → result ≡ Err AnchorFault.Memory }
+{
+    let at = take_like(standing, segment, key_of(segments, segment, bytes));
+    match plan.push_front(Planned { segment, at }) {
+        Ok(()) => Ok(()),
+        Err(_) => Err(AnchorFault::Memory),
+    }
+}
+
+/// Plans the places of a segment and of all below it, in front of what is planned.
+#[cycle(plans)]
+fn plan_segment(
+    alloc: Global,
+    segments: &List<SegDef>,
+    plan: &mut VecDeque<Planned>,
+    standing: &mut Vec<Standing>,
+    segment: u8,
+    bytes: &Bytes,
+    children: &List<List<Node>>,
+) -> Result<(), AnchorFault>
+    requires few { length segments.now ≤ 15 }
+    requires places { HavePlaces 0 segments.now }
+    requires rows { are_rows segments.now (child_types segments.now segment) (map (map (seen_as segments.now)) children.now) ≡ true }
+    ensures types { OnOk result (types_of plan.new.items ≡ types_of_segment segments.now segment children.now ++ types_of plan.old.items) }
+    ensures shares { (all : List StandingOf) → Shares all plan.old.items standing.old.items → OnOk result (Shares all plan.new.items standing.new.items) }
+    ensures memory { IsErr result → result ≡ Err AnchorFault.Memory }
+{
+    plan_rows(alloc, segments, plan, standing, segment, children)?;
+    plan_itself(segments, plan, standing, segment, bytes.as_slice())
+}
+
+/// Plans the places of a row of segments of a type, and of all below them, from the last to the first.
+#[cycle(plans)]
+fn plan_row(
+    alloc: Global,
+    segments: &List<SegDef>,
+    plan: &mut VecDeque<Planned>,
+    standing: &mut Vec<Standing>,
+    segment: u8,
+    row: &List<Node>,
+) -> Result<(), AnchorFault>
+    requires few { length segments.now ≤ 15 }
+    requires places { HavePlaces 0 segments.now }
+    requires row { is_row segments.now segment (map (seen_as segments.now) row.now) ≡ true }
+    requires defined { segment < length segments.now }
+    ensures types { OnOk result (types_of plan.new.items ≡ types_of_row segments.now segment row.now ++ types_of plan.old.items) }
+    ensures shares { (all : List StandingOf) → Shares all plan.old.items standing.old.items → OnOk result (Shares all plan.new.items standing.new.items) }
+    ensures memory { IsErr result → result ≡ Err AnchorFault.Memory }
+{
+    let mut left = row.len();
+    while left > 0 {
+        left -= 1;
+        let node = &row.as_slice()[left];
+        plan_segment(alloc, segments, plan, standing, segment, &node.bytes, &node.children)?;
+    }
+    Ok(())
+}
+
+/// Plans the places of a row of each direct child type of a type, from the last type to the first.
+#[cycle(plans)]
+fn plan_rows(
+    alloc: Global,
+    segments: &List<SegDef>,
+    plan: &mut VecDeque<Planned>,
+    standing: &mut Vec<Standing>,
+    segment: u8,
+    rows: &List<List<Node>>,
+) -> Result<(), AnchorFault>
+    requires few { length segments.now ≤ 15 }
+    requires places { HavePlaces 0 segments.now }
+    requires rows { are_rows segments.now (child_types segments.now segment) (map (map (seen_as segments.now)) rows.now) ≡ true }
+    ensures types { OnOk result (types_of plan.new.items ≡ types_of_rows segments.now (child_types segments.now segment) rows.now ++ types_of plan.old.items) }
+    ensures shares { (all : List StandingOf) → Shares all plan.old.items standing.old.items → OnOk result (Shares all plan.new.items standing.new.items) }
+    ensures memory { IsErr result → result ≡ Err AnchorFault.Memory }
+{
+    let types = types_below(alloc, segments.as_slice(), segment)?;
+    let mut left = rows.len();
+    while left > 0 {
+        left -= 1;
+        let row = &rows.as_slice()[left];
+        plan_row(alloc, segments, plan, standing, types[left], row)?;
+    }
+    Ok(())
+}
+
+/// The places of an anchor's new roots and of all below them, in hierarchical order. What none of them takes is left in
+/// `standing`.
+pub(crate) fn plan_roots(
+    alloc: Global,
+    segments: &List<SegDef>,
+    standing: &mut Vec<Standing>,
+    roots: &List<Root>,
+) -> Result<VecDeque<Planned>, AnchorFault>
+    requires few { length segments.now ≤ 15 }
+    requires places { HavePlaces 0 segments.now }
+    requires roots { are_storable segments.now roots.now ≡ true }
+    ensures types { IfOk result (λ plan. types_of plan.items ≡ types_of_roots segments.now roots.now) }
+    ensures shares { IfOk result (λ plan. Shares standing.old.items plan.items standing.new.items) }
+    ensures memory { IsErr result → result ≡ Err AnchorFault.Memory }
+{
+    let mut plan = VecDeque::new(alloc);
+    let mut left = roots.len();
+    while left > 0 {
+        left -= 1;
+        let root = &roots.as_slice()[left];
+        plan_segment(alloc, segments, &mut plan, standing, 0, &root.bytes, &root.children)?;
+    }
+    Ok(plan)
+}

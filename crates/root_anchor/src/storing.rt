@@ -1,0 +1,121 @@
+//! An anchor is given other roots.
+//!
+//! Each new segment keeps the element of one of its type and its key, if the anchor had one. The other elements are given
+//! back before any room is looked for. Then the roots are built from the last to the first, and at the end the root anchor
+//! point is put. An element that says the same as before isn't written.
+
+ghost use Rattle.std.specs.Prelude.{◌≡◌, ◌≢◌, ◌<◌, ◌≤◌, ◌*◌, [], ℕ, List, Err, OnOk, IsErrOf, length, true, Contains};
+ghost use Rattle.ci_space.specs.Calls.{Rose, GoesOn};
+ghost use Rattle.ci_space.specs.Interval.{IsUsed};
+ghost use Rattle.ci_overflow.specs.Lists.{bytes_at, IsInOrder};
+ghost use Rattle.root_anchor.specs.Elements.{Pointer as PointerOf};
+ghost use Rattle.root_anchor.specs.Chains.{anchor_count};
+ghost use Rattle.root_anchor.specs.Formed.{IsFormed, HasChain};
+ghost use Rattle.root_anchor.specs.Stored.{AreTypes, are_storable, HasRoots, OthersKeep, KeepsSequential};
+ghost use Rattle.root_anchor.specs.Standing.{places_of};
+ghost use Rattle.root_anchor.specs.Rebuilding.{Exchanges, AreGivable, IsRebuildable, Rebuilds};
+
+use crate::building::{Home, build_roots, fault_of};
+use crate::fault::AnchorFault;
+use crate::plan::{Planned, plan_roots};
+use crate::putting::put_root;
+use crate::standing::{Standing, elements_of};
+use ci_overflow::give_back;
+use ci_space::{Intervals, Shape};
+use fp_model::{List, Root, SegDef};
+use std::alloc::Global;
+use std::collections::VecDeque;
+
+/// Gives these elements back.
+fn give_back_all<I: Intervals>(
+    i: &mut I,
+    shape: &Shape,
+    elements: &[Standing],
+) -> Result<(), AnchorFault>
+    ensures given { I.told i.old → IsInOrder shape.now (I.intervals i.old) → AreGivable (I.intervals i.old) (places_of elements.now) → OnOk result (Exchanges shape.now (I.intervals i.old) (I.intervals i.new) (places_of elements.now) []) }
+    ensures sound { I.told i.old → IsInOrder shape.now (I.intervals i.old) → AreGivable (I.intervals i.old) (places_of elements.now) → (ci : ℕ) → result ≢ Err (AnchorFault.Damaged ci) }
+    ensures failed { IsErrOf result AnchorFault.Failed → Rose (I.faults i.old) (I.faults i.new) }
+    ensures number { I.number i.new ≡ I.number i.old }
+    ensures goes_on { GoesOn I.told I.size I.faults I.keeps i.old i.new }
+{
+    let mut left = elements.len();
+    while left > 0 {
+        left -= 1;
+        let place = elements[left].at;
+        match give_back(i, shape, place.0, place.1) {
+            Ok(()) => {}
+            Err(fault) => return Err(fault_of(fault)),
+        }
+    }
+    Ok(())
+}
+
+/// Gives an anchor roots in the places that are planned for them and in new ones; the rest of what it had is given back.
+fn rebuild<I: Intervals>(
+    alloc: Global,
+    i: &mut I,
+    home: &Home<'_>,
+    plan: &mut VecDeque<Planned>,
+    rest: &[Standing],
+    roots: &List<Root>,
+) -> Result<(), AnchorFault>
+    requires anchor { home.now.anchor < anchor_count home.now.shape.now }
+    requires types { AreTypes (I.size i.old) home.now.segments.now }
+    requires roots { are_storable home.now.segments.now roots.now ≡ true }
+    ensures rebuilt { I.told i.old → IsRebuildable home.now.shape.now home.now.segments.now (I.intervals i.old) plan.old.items rest.now roots.now
+        → OnOk result (Rebuilds home.now.shape.now home.now.segments.now (I.intervals i.old) (I.intervals i.new) home.now.anchor plan.old.items rest.now roots.now) }
+    ensures sound { I.told i.old → IsRebuildable home.now.shape.now home.now.segments.now (I.intervals i.old) plan.old.items rest.now roots.now → (ci : ℕ) → result ≢ Err (AnchorFault.Damaged ci) }
+    ensures failed { IsErrOf result AnchorFault.Failed → Rose (I.faults i.old) (I.faults i.new) }
+    ensures number { I.number i.old ≤ I.number i.new }
+    ensures goes_on { GoesOn I.told I.size I.faults I.keeps i.old i.new }
+{
+    give_back_all(i, home.shape, rest)?;
+    let first = build_roots(alloc, i, home, plan, roots)?;
+    put_root(i, home.shape, home.anchor, first)
+}
+
+/// Gives an anchor these roots, in this order: `load` gives just them afterwards. A root's sequential list is its newest
+/// serial alone, in an item without bytes, or none. An anchor is counted from 0 within its area.
+///
+/// The root anchor point, pointers and segments are written where they change. What an element doesn't need any more is
+/// given back before room is looked for.
+///
+/// `Damaged` names the interval that is damaged; in an area that is whole it never comes. `Failed` comes only with what
+/// holds the intervals. After a fault what holds them is thrown away.
+pub fn store<I: Intervals>(
+    alloc: Global,
+    i: &mut I,
+    shape: &Shape,
+    segments: &List<SegDef>,
+    anchor: u32,
+    roots: &List<Root>,
+) -> Result<(), AnchorFault>
+    requires anchor { anchor < anchor_count shape.now }
+    requires types { AreTypes (I.size i.old) segments.now }
+    requires roots { are_storable segments.now roots.now ≡ true }
+
+    // In an area that is whole this anchor has these roots, all others keep theirs, and the area is whole again.
+    ensures stored { I.told i.old → IsFormed shape.now segments.now (I.intervals i.old) → OnOk result (HasRoots shape.now segments.now (I.intervals i.new) anchor roots.now) }
+    ensures others { I.told i.old → IsFormed shape.now segments.now (I.intervals i.old) → OnOk result (OthersKeep shape.now segments.now (I.intervals i.old) (I.intervals i.new) anchor) }
+    ensures sequential { I.told i.old → IsFormed shape.now segments.now (I.intervals i.old) → OnOk result (KeepsSequential shape.now (I.intervals i.old) (I.intervals i.new)) }
+    ensures formed { I.told i.old → IsFormed shape.now segments.now (I.intervals i.old) → OnOk result (IsFormed shape.now segments.now (I.intervals i.new)) }
+
+    // Where the area is in order and the anchor has roots, nothing is damaged.
+    ensures sound { I.told i.old → IsInOrder shape.now (I.intervals i.old) → HasChain shape.now segments.now (I.intervals i.old) anchor → (ci : ℕ) → result ≢ Err (AnchorFault.Damaged ci) }
+
+    // It fails only with what holds the intervals.
+    ensures failed { IsErrOf result AnchorFault.Failed → Rose (I.faults i.old) (I.faults i.new) }
+
+    // What stays, whatever the answer is.
+    ensures number { I.number i.old ≤ I.number i.new }
+    ensures goes_on { GoesOn I.told I.size I.faults I.keeps i.old i.new }
+{
+    let mut standing = elements_of(alloc, i, shape, segments, anchor)?;
+    let mut plan = plan_roots(alloc, segments, &mut standing, roots)?;
+    let home = Home {
+        shape,
+        segments,
+        anchor,
+    };
+    rebuild(alloc, i, &home, &mut plan, standing.as_slice(), roots)
+}
