@@ -119,7 +119,11 @@ fn next_place(plan: &mut VecDeque<Planned>) -> Option<Pointer>
 }
 
 /// The direct child types of a type, in order of definition.
-pub(crate) fn types_below(alloc: Global, segments: &[SegDef], parent: u8) -> Result<Vec<u8>, AnchorFault>
+pub(crate) fn types_below(
+    alloc: Global,
+    segments: &[SegDef],
+    parent: u8,
+) -> Result<Vec<u8>, AnchorFault>
     requires few { length segments.now ≤ 15 }
     ensures types { IfOk result (λ types. types.items ≡ child_types segments.now parent) }
     ensures memory { IsErr result → result ≡ Err AnchorFault.Memory }

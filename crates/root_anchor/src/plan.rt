@@ -125,7 +125,15 @@ fn plan_row(
     while left > 0 {
         left -= 1;
         let node = &row.as_slice()[left];
-        plan_segment(alloc, segments, plan, standing, segment, &node.bytes, &node.children)?;
+        plan_segment(
+            alloc,
+            segments,
+            plan,
+            standing,
+            segment,
+            &node.bytes,
+            &node.children,
+        )?;
     }
     Ok(())
 }
@@ -177,7 +185,15 @@ pub(crate) fn plan_roots(
     while left > 0 {
         left -= 1;
         let root = &roots.as_slice()[left];
-        plan_segment(alloc, segments, &mut plan, standing, 0, &root.bytes, &root.children)?;
+        plan_segment(
+            alloc,
+            segments,
+            &mut plan,
+            standing,
+            0,
+            &root.bytes,
+            &root.children,
+        )?;
     }
     Ok(plan)
 }

@@ -54,14 +54,14 @@ fn types(alloc: Global) -> Result<List<SegDef>, AllocError>
     Ok(types)
 }
 
-/// Two units of work, each of two base and one dependent overflow interval, and one sequential interval.
-fn shape() -> Shape
-    ensures uows { result.uows ≡ 2 }
+/// So many units of work, each of two base and one dependent overflow interval, and one sequential interval.
+fn shape(uows: u32) -> Shape
+    ensures uows { result.uows ≡ uows }
     ensures base { result.base ≡ 2 }
 {
     Shape {
         ci: 512,
-        uows: 2,
+        uows,
         base: 2,
         overflow: 1,
         seq_cis: 1,
@@ -157,32 +157,34 @@ fn roots(rt: &HostRuntime, customers: &[Customer]) -> Result<List<Root>, Fail>
 fn put<I: Intervals>(
     rt: &HostRuntime,
     i: &mut I,
+    uows: u32,
     anchor: u32,
     customers: &[Customer],
 ) -> Result<bool, Fail>
     requires size { I.size i.old ≡ 512 }
-    requires anchor { anchor < 4 }
+    requires anchor { anchor < uows * 2 }
     ensures size { I.size i.new ≡ 512 }
 {
     let types = types(rt.alloc())?;
     let roots = roots(rt, customers)?;
-    Ok(store(rt.alloc(), i, &shape(), &types, anchor, &roots).is_ok())
+    Ok(store(rt.alloc(), i, &shape(uows), &types, anchor, &roots).is_ok())
 }
 
 /// Whether an anchor has just these.
 fn has<I: Intervals>(
     rt: &HostRuntime,
     i: &mut I,
+    uows: u32,
     anchor: u32,
     customers: &[Customer],
 ) -> Result<bool, Fail>
     requires size { I.size i.old ≡ 512 }
-    requires anchor { anchor < 4 }
+    requires anchor { anchor < uows * 2 }
     ensures size { I.size i.new ≡ 512 }
 {
     let types = types(rt.alloc())?;
     let roots = roots(rt, customers)?;
-    Ok(load(rt.alloc(), i, &shape(), &types, anchor) == Ok(roots))
+    Ok(load(rt.alloc(), i, &shape(uows), &types, anchor) == Ok(roots))
 }
 
 /// Intervals that all have 512 bytes have the size 512.
@@ -212,8 +214,18 @@ fn add_unit(rt: &HostRuntime, intervals: &mut Vec<Interval>) -> Result<(), Fail>
     Ok(())
 }
 
+/// Adds the intervals of so many units of work.
+fn add_units(rt: &HostRuntime, intervals: &mut Vec<Interval>, uows: u32) -> Result<(), Fail>
+    ensures { HaveSize 512 intervals.old.items → 0 < length intervals.old.items → OnOk result (HaveSize 512 intervals.new.items × (0 < length intervals.new.items)) }
+{
+    for _ in 0..uows {
+        add_unit(rt, intervals)?;
+    }
+    Ok(())
+}
+
 /// The area of that shape as it is formatted.
-fn area(rt: &HostRuntime) -> Result<MemoryIntervals, Fail>
+fn area(rt: &HostRuntime, uows: u32) -> Result<MemoryIntervals, Fail>
     ensures each { IfOk result (λ memory. HaveSize 512 (intervals_of memory)) }
     ensures some { IfOk result (λ memory. 0 < length (intervals_of memory)) }
 {
@@ -221,8 +233,7 @@ fn area(rt: &HostRuntime) -> Result<MemoryIntervals, Fail>
     let mut control = Interval::empty(rt.alloc(), 512, 1)?;
     control.set_ends([1, 1, 0, 0]);
     add(&mut intervals, control)?;
-    add_unit(rt, &mut intervals)?;
-    add_unit(rt, &mut intervals)?;
+    add_units(rt, &mut intervals, uows)?;
     add(&mut intervals, Interval::empty(rt.alloc(), 512, 4)?)?;
     Ok(MemoryIntervals::new(rt.alloc(), intervals, &[])?)
 }
@@ -255,10 +266,10 @@ const FIRST: [u8; 48] = [
 
 #[test]
 fn a_chain_fills_the_intervals_of_its_unit(rt: HostRuntime) -> Result<(), Fail> {
-    let mut memory = area(&rt)?;
+    let mut memory = area(&rt, 2)?;
     have_size(&memory);
     let customers = customers(&rt, b'A')?;
-    assert!(rt; put(&rt, &mut memory, 2, &customers)?);
+    assert!(rt; put(&rt, &mut memory, 2, 2, &customers)?);
     let all = memory.all();
     assert_eq!(rt; all.len(), 9);
     let independent = |link, owner| Head {
@@ -275,15 +286,20 @@ fn a_chain_fills_the_intervals_of_its_unit(rt: HostRuntime) -> Result<(), Fail> 
     };
     assert_eq!(rt; all[4].head(), base((8, 32), 8));
     assert_eq!(rt; all[8].head(), independent(0, 2));
-    for (ci, at, is_used) in [(4, 464, true), (6, 464, true), (8, 32, true), (8, 80, false)] {
+    for (ci, at, is_used) in [
+        (4, 464, true),
+        (6, 464, true),
+        (8, 32, true),
+        (8, 80, false),
+    ] {
         assert_eq!(rt; all[ci].is_used(at), is_used);
     }
     let bytes = all[8].whole();
     assert_eq!(rt; bytes.len(), 512);
     assert_eq!(rt; &bytes[32..80], FIRST.as_slice());
-    assert!(rt; has(&rt, &mut memory, 2, &customers)?);
+    assert!(rt; has(&rt, &mut memory, 2, 2, &customers)?);
 
-    assert!(rt; put(&rt, &mut memory, 2, &[])?);
+    assert!(rt; put(&rt, &mut memory, 2, 2, &[])?);
     let all = memory.all();
     assert_eq!(rt; all.len(), 9);
     for ci in [4, 6, 8] {
@@ -291,8 +307,11 @@ fn a_chain_fills_the_intervals_of_its_unit(rt: HostRuntime) -> Result<(), Fail> 
     }
     assert_eq!(rt; all[4].head(), base((0, 0), 0));
     assert_eq!(rt; all[8].head(), independent(0, 0));
-    assert_eq!(rt; &all[0].whole()[48..64], [0, 0, 0, 0, 0, 0, 0, 1, 0, 0, 0, 0, 0, 0, 0, 8].as_slice());
-    assert!(rt; has(&rt, &mut memory, 2, &[])?);
+    assert_eq!(rt;
+        &all[0].whole()[48..64],
+        [0, 0, 0, 0, 0, 0, 0, 1, 0, 0, 0, 0, 0, 0, 0, 8].as_slice()
+    );
+    assert!(rt; has(&rt, &mut memory, 2, 2, &[])?);
     Ok(())
 }
 
@@ -307,12 +326,12 @@ fn bytes_of(rt: &HostRuntime, memory: &MemoryIntervals) -> Result<Vec<u8>, Fail>
 
 #[test]
 fn one_root_that_changes_is_written_alone(rt: HostRuntime) -> Result<(), Fail> {
-    let mut memory = area(&rt)?;
+    let mut memory = area(&rt, 2)?;
     have_size(&memory);
-    assert!(rt; put(&rt, &mut memory, 2, &customers(&rt, b'A')?)?);
+    assert!(rt; put(&rt, &mut memory, 2, 2, &customers(&rt, b'A')?)?);
     let before = bytes_of(&rt, &memory)?;
     let changed = customers(&rt, b'B')?;
-    assert!(rt; put(&rt, &mut memory, 2, &changed)?);
+    assert!(rt; put(&rt, &mut memory, 2, 2, &changed)?);
     let after = bytes_of(&rt, &memory)?;
     assert_eq!(rt; before.len(), after.len());
     let mut is_changed = false;
@@ -324,7 +343,7 @@ fn one_root_that_changes_is_written_alone(rt: HostRuntime) -> Result<(), Fail> {
         }
     }
     assert!(rt; is_changed);
-    assert!(rt; has(&rt, &mut memory, 2, &changed)?);
+    assert!(rt; has(&rt, &mut memory, 2, 2, &changed)?);
     Ok(())
 }
 
@@ -347,7 +366,11 @@ fn change(list: &mut Vec<Customer>, seed: u32) -> Result<(), Fail> {
         number,
         name: b'A' + (seed >> 24 & 15) as u8,
         newest: (seed >> 12 & 3) as u8,
-        loan: if seed & 0x800 == 0 { None } else { Some((seed >> 13 & 63) as u8) },
+        loan: if seed & 0x800 == 0 {
+            None
+        } else {
+            Some((seed >> 13 & 63) as u8)
+        },
     };
     let place = place_of(list, number);
     if place < list.len() && list[place].number == number {
@@ -371,9 +394,9 @@ fn all_hold<I: Intervals>(
     requires size { I.size i.old ≡ 512 }
     ensures size { I.size i.new ≡ 512 }
 {
-    for anchor in 0..4u32 {
+    for anchor in 0..8u32 {
         if let Some(list) = lists.get(anchor as usize) {
-            if !has(rt, i, anchor, list)? {
+            if !has(rt, i, 4, anchor, list)? {
                 return Ok(false);
             }
         }
@@ -381,21 +404,21 @@ fn all_hold<I: Intervals>(
     Ok(true)
 }
 
-/// A hundred stores, the anchor and the change taken from a fixed sequence of numbers.
+/// A hundred stores over eight anchors, the anchor and the change taken from a fixed sequence of numbers.
 fn mixed<I: Intervals>(rt: &HostRuntime, i: &mut I) -> Result<bool, Fail>
     requires size { I.size i.old ≡ 512 }
 {
     let mut lists = Vec::new(rt.alloc());
-    for _ in 0..4 {
+    for _ in 0..8 {
         lists.push(Vec::new(rt.alloc()))?;
     }
     let mut seed: u32 = 1977;
     'turns: for _ in 0..100 {
         seed = seed.wrapping_mul(1_664_525).wrapping_add(1_013_904_223);
-        let anchor = (seed >> 9) % 4;
+        let anchor = (seed >> 9) % 8;
         if let Some(list) = lists.get_mut(anchor as usize) {
             change(list, seed)?;
-            if !put(rt, i, anchor, list)? {
+            if !put(rt, i, 4, anchor, list)? {
                 return Ok(false);
             }
         }
@@ -408,7 +431,7 @@ fn mixed<I: Intervals>(rt: &HostRuntime, i: &mut I) -> Result<bool, Fail>
 
 #[test]
 fn each_anchor_keeps_its_roots(rt: HostRuntime) -> Result<(), Fail> {
-    let mut memory = area(&rt)?;
+    let mut memory = area(&rt, 4)?;
     have_size(&memory);
     assert!(rt; mixed(&rt, &mut memory)?);
     Ok(())
