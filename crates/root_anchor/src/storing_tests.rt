@@ -1,5 +1,5 @@
 //! Stores, against what is loaded then and against bytes written by hand.
-ghost use Rattle.std.specs.Prelude.{◌≡◌, ◌<◌, ◌≤◌, ◌+◌, List, [], true, length, map, IfOk, OnOk};
+ghost use Rattle.std.specs.Prelude.{◌≡◌, ◌<◌, ◌≤◌, ◌+◌, ◌*◌, List, [], true, length, map, IfOk, OnOk};
 ghost use Rattle.ci_space.specs.Calls.{HaveSize};
 ghost use Rattle.ci_space.specs.Memory.{intervals_of};
 ghost use Rattle.fp_model.specs.declared.definitions.SegDef.{SegDef as SegDefOf};
