@@ -9,7 +9,7 @@ use Rattle.root_anchor.specs.Rebuilding.{AreApart, met_after}
 -- ---- what a list holds
 
 pub contains-one : {X : Type 0} (x y : X) → Contains (x ∷ []) y → x ≡ y
-contains-one x y c = elim (in_cases x  [] y c) as (λ _. x ≡ y) [ inl e ↦ e | inr d ↦ absurd (none_in y d) ]
+contains-one x y c = elim (in_cases x [] y c) as (λ _. x ≡ y) [ inl e ↦ e | inr d ↦ absurd (none_in y d) ]
 
 pub holds_or : (xs : List Pointer) (at : Pointer) → Contains xs at ⊎ (¬ Contains xs at)
 holds_or [] at = inr (none_in at)
@@ -27,7 +27,7 @@ pub apart-both : (xs ys : List Pointer) → AreApart xs → AreApart ys → ((at
 apart-both [] ys a b d = b
 apart-both (x ∷ xs) ys a b d = (
   (λ c. elim (Contains-append_cases xs ys x c) as (λ _. ⊥) [ inl l ↦ a.0 l | inr r ↦ d x (front_in x xs) r ]),
-  apart-both xs ys a.1 b (λ at c. d at (behind_in x xs at c))
+  apart-both xs ys a.1 b (λ at c. d at (behind_in x xs at c)),
 )
 
 pub apart-left : (xs ys : List Pointer) → AreApart (xs ++ ys) → AreApart xs
@@ -49,7 +49,7 @@ pub apart-pairs : (xs : List Pointer) → AllPairs (λ a b. a ≢ b) xs → AreA
 apart-pairs [] h = tt
 apart-pairs (x ∷ xs) h = (
   (λ c. h 0 (suc c.0) x (omega arith) (omega (arith, c.1)) (sym c.2)),
-  apart-pairs xs (λ i j d l m. h (suc i) (suc j) d (omega arith) (omega arith))
+  apart-pairs xs (λ i j d l m. h (suc i) (suc j) d (omega arith) (omega arith)),
 )
 
 -- ---- met one after the other

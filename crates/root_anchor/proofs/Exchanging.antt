@@ -29,7 +29,7 @@ pub exchange-both : (shape : Shape) (a b c : List (List ℕ)) (had has more now 
 exchange-both shape a b c had has more now e f u d =
     let own : (at : Pointer) → Contains has at → ¬ Contains more at = λ at h m. elim (e.fresh at h) as (λ _. ⊥) [ inl x ↦ d at m x | inr x ↦ x (u at m) ] in
     let at_b : (at : Pointer) → ¬ Contains had at → IsUsed (bytes_at a at.0) at.1 → IsUsed (bytes_at b at.0) at.1 =
-        λ at n x. used-stays (bytes_at a at.0) (bytes_at b at.0) at.1 (λ type content. e.stay at type content n) x
+    λ at n x. used-stays (bytes_at a at.0) (bytes_at b at.0) at.1 (λ type content. e.stay at type content n) x
     in
     record {
       in_order = f.in_order;
@@ -65,7 +65,7 @@ exchange-both shape a b c had has more now e f u d =
 pub exchange-again : (shape : Shape) (a b c : List (List ℕ)) (had between has : List Pointer) → Exchanges shape a b had between → Exchanges shape b c between has → Exchanges shape a c had has
 exchange-again shape a b c had between has e f =
     let at_b : (at : Pointer) → ¬ Contains had at → IsUsed (bytes_at a at.0) at.1 → IsUsed (bytes_at b at.0) at.1 =
-        λ at n x. used-stays (bytes_at a at.0) (bytes_at b at.0) at.1 (λ type content. e.stay at type content n) x
+    λ at n x. used-stays (bytes_at a at.0) (bytes_at b at.0) at.1 (λ type content. e.stay at type content n) x
     in
     record {
       in_order = f.in_order;

@@ -35,7 +35,7 @@ next_place area all left one g z b e =
     let d : drop (left - 1) all ≡ one ∷ drop left all = drop-cons all (left - 1) one (omega arith) ∙ ap (λ y. y ∷ drop (suc (left - 1)) all) (sym e) ∙ ap (λ j. one ∷ drop j all) k in
     let here : places_of (drop (left - 1) all) ≡ one.at ∷ places_of (drop left all) = ap places_of d in
     let whole : places_of all ≡ places_of (take (left - 1) all) ++ (one.at ∷ places_of (drop left all)) =
-        ap places_of (sym (take-append-drop (left - 1) all)) ∙ map-append (λ (s : Standing). s.at) (take (left - 1) all) (drop (left - 1) all) ∙ ap (λ xs. places_of (take (left - 1) all) ++ xs) here
+    ap places_of (sym (take-append-drop (left - 1) all)) ∙ map-append (λ (s : Standing). s.at) (take (left - 1) all) (drop (left - 1) all) ∙ ap (λ xs. places_of (take (left - 1) all) ++ xs) here
     in
     let P : List Pointer → Type 0 = AreApart in
     let Q : List Pointer → Type 0 = λ xs. Contains xs one.at in
@@ -58,7 +58,7 @@ given-on shape old now new all left one g z b e x y o =
     let n = next_place old all left one g z b e in
     let u : (at : Pointer) → Contains (one.at ∷ []) at → IsUsed (bytes_at old at.0) at.1 = λ at c. let P : Pointer → Type 0 = λ p. IsUsed (bytes_at old p.0) p.1 in subst P (contains-one one.at at c) n.used in
     let d : (at : Pointer) → Contains (one.at ∷ []) at → ¬ Contains (places_of (drop left all)) at =
-        λ at c m. let P : Pointer → Type 0 = λ p. Contains (places_of (drop left all)) p in n.apart (subst P (sym (contains-one one.at at c)) m)
+    λ at c m. let P : Pointer → Type 0 = λ p. Contains (places_of (drop left all)) p in n.apart (subst P (sym (contains-one one.at at c)) m)
     in
     let P : List Pointer → Type 0 = λ had. Exchanges shape old new had [] in
     subst P (sym n.here) (exchange-both shape old now new (places_of (drop left all)) [] (one.at ∷ []) [] x (gives-back shape now new one.at y o) u d)

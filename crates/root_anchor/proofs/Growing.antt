@@ -94,7 +94,7 @@ row-next shape types old now plan0 plan before used type row k next node p d b e
 pub row-step : (shape : Shape) (types : List SegDef) (old now new : List (List ℕ)) (plan0 plan plan2 before used : List Planned) (type : ℕ) (row : List Node) (k : ℕ) (next at : Pointer) (node : Node)
     → IsPlanned shape types old plan0 before used (types_of_row types type row) → (d : RowDone shape types old now plan before used type row (suc k) next) → k < length row → node ≡ get_or row k node
     → ((b u : List Planned) → IsPlanned shape types now plan b u (types_of_segment types type (out-Node node).children)
-      → (plan2 ≡ b) × BuildsSegment shape types now new u type at next 0 (out-Node node).bytes (out-Node node).children)
+    → (plan2 ≡ b) × BuildsSegment shape types now new u type at next 0 (out-Node node).bytes (out-Node node).children)
     → RowDone shape types old new plan2 before used type row k at
 row-step shape types old now new plan0 plan plan2 before used type row k next at node p d b e f =
     let first : List ℕ = types_of_row types type (take k row) in
@@ -104,15 +104,15 @@ row-step shape types old now new plan0 plan plan2 before used type row k next at
     let n : IsNext shape types now plan before d.left first second = row-next shape types old now plan0 plan before used type row k next node p d b e in
     let g : (plan2 ≡ before ++ n.rest) × BuildsSegment shape types now new n.part type at next 0 (out-Node node).bytes (out-Node node).children = f (before ++ n.rest) n.part n.planned in
     let x : IsFurther shape types old now new plan2 before used n.rest (n.part ++ d.done) first d.built.elements (at ∷ g.1.below) =
-        further shape types old now new plan0 plan plan2 before used d.left d.done (types_of_row types type row) first second d.built.elements (at ∷ g.1.below) p l d.built.exchange n g.0 g.1.exchange
+    further shape types old now new plan0 plan plan2 before used d.left d.done (types_of_row types type row) first second d.built.elements (at ∷ g.1.below) p l d.built.exchange n g.0 g.1.exchange
     in
     let others : RowsStand types new (type ∷ []) (next ∷ []) (drop (suc k) row ∷ []) d.built.elements =
-        rows-stay types now new (type ∷ []) (next ∷ []) (drop (suc k) row ∷ []) d.built.elements
-        (λ q c t s h. segment_stays types now new t q s (λ content. x.stay q t content c) h) d.built.stand
+    rows-stay types now new (type ∷ []) (next ∷ []) (drop (suc k) row ∷ []) d.built.elements
+    (λ q c t s h. segment_stays types now new t q s (λ content. x.stay q t content c) h) d.built.stand
     in
     let all : RowsStand types new (type ∷ []) (at ∷ []) ((node ∷ drop (suc k) row) ∷ []) (at ∷ (g.1.below ++ d.built.elements)) =
-        row-begins types new type at (record { next = next; serial = 0; firsts = g.1.firsts; bytes = (out-Node node).bytes }) (out-Node node).children (drop (suc k) row) g.1.below d.built.elements node
-        g.1.has g.1.stand others x.exchange.once refl refl
+    row-begins types new type at (record { next = next; serial = 0; firsts = g.1.firsts; bytes = (out-Node node).bytes }) (out-Node node).children (drop (suc k) row) g.1.below d.built.elements node
+    g.1.has g.1.stand others x.exchange.once refl refl
     in
     let here : drop k row ≡ node ∷ drop (suc k) row = drop-cons row k node b ∙ ap (λ y. y ∷ drop (suc k) row) (sym e) in
     let Q : List Node → Type 0 = λ r. RowsStand types new (type ∷ []) (at ∷ []) (r ∷ []) (at ∷ (g.1.below ++ d.built.elements)) in
@@ -162,7 +162,7 @@ pub rows-next : (shape : Shape) (types : List SegDef) (old now : List (List ℕ)
 rows-next shape types old now plan0 plan before used kinds rows k firsts row type m p d b e t =
     let P : List ℕ → Type 0 = λ kinds. IsLeft plan before used d.left d.done kinds in
     let g : types_of_rows types (take (suc k) kinds) (take (suc k) rows) ≡ types_of_rows types (take k kinds) (take k rows) ++ types_of_row types type row =
-        rows-types types kinds rows k row m b e ∙ ap (λ x. types_of_rows types (take k kinds) (take k rows) ++ types_of_row types x row) (sym t)
+    rows-types types kinds rows k row m b e ∙ ap (λ x. types_of_rows types (take k kinds) (take k rows) ++ types_of_row types x row) (sym t)
     in
     next-part shape types old now plan0 plan before used d.left d.done (types_of_rows types kinds rows) (types_of_rows types (take k kinds) (take k rows)) (types_of_row types type row) d.built.elements p
     (subst P g d.rest) d.built.exchange
@@ -181,14 +181,14 @@ rows-step shape types old now new plan0 plan plan2 before used kinds rows k firs
     let n : IsNext shape types now plan before d.left one two = rows-next shape types old now plan0 plan before used kinds rows k firsts row type m p d b e t in
     let g : (plan2 ≡ before ++ n.rest) × BuildsRows shape types now new n.part (type ∷ []) (first ∷ []) (row ∷ []) = f (before ++ n.rest) n.part n.planned in
     let x : IsFurther shape types old now new plan2 before used n.rest (n.part ++ d.done) one d.built.elements g.1.elements =
-        further shape types old now new plan0 plan plan2 before used d.left d.done (types_of_rows types kinds rows) one two d.built.elements g.1.elements p l d.built.exchange n g.0 g.1.exchange
+    further shape types old now new plan0 plan plan2 before used d.left d.done (types_of_rows types kinds rows) one two d.built.elements g.1.elements p l d.built.exchange n g.0 g.1.exchange
     in
     let others : RowsStand types new (drop (suc k) kinds) (drop (suc k) firsts) (drop (suc k) rows) d.built.elements =
-        rows-stay types now new (drop (suc k) kinds) (drop (suc k) firsts) (drop (suc k) rows) d.built.elements
-        (λ q c t s h. segment_stays types now new t q s (λ content. x.stay q t content c) h) d.built.stand
+    rows-stay types now new (drop (suc k) kinds) (drop (suc k) firsts) (drop (suc k) rows) d.built.elements
+    (λ q c t s h. segment_stays types now new t q s (λ content. x.stay q t content c) h) d.built.stand
     in
     let all : RowsStand types new (type ∷ drop (suc k) kinds) (first ∷ drop (suc k) firsts) (row ∷ drop (suc k) rows) (g.1.elements ++ d.built.elements) =
-        row-before types new type (drop (suc k) kinds) first (drop (suc k) firsts) row (drop (suc k) rows) g.1.elements d.built.elements g.1.stand others x.exchange.once
+    row-before types new type (drop (suc k) kinds) first (drop (suc k) firsts) row (drop (suc k) rows) g.1.elements d.built.elements g.1.stand others x.exchange.once
     in
     let q : k < length kinds = omega arith in
     let u : k < length firsts = omega arith in
@@ -255,14 +255,14 @@ roots-step shape types old now new plan0 plan plan2 before used roots k next at 
     let n : IsNext shape types now plan before d.left first second = roots-next shape types old now plan0 plan before used roots k next root p d b e in
     let g : (plan2 ≡ before ++ n.rest) × BuildsSegment shape types now new n.part 0 at next serial root.bytes root.children = f (before ++ n.rest) n.part n.planned in
     let x : IsFurther shape types old now new plan2 before used n.rest (n.part ++ d.done) first d.built.elements (at ∷ g.1.below) =
-        further shape types old now new plan0 plan plan2 before used d.left d.done (types_of_roots types roots) first second d.built.elements (at ∷ g.1.below) p l d.built.exchange n g.0 g.1.exchange
+    further shape types old now new plan0 plan plan2 before used d.left d.done (types_of_roots types roots) first second d.built.elements (at ∷ g.1.below) p l d.built.exchange n g.0 g.1.exchange
     in
     let others : RootsStand types new next (drop (suc k) roots) d.built.elements =
-        roots-stay types now new next (drop (suc k) roots) d.built.elements
-        (λ q c t s h. segment_stays types now new t q s (λ content. x.stay q t content c) h) d.built.stand
+    roots-stay types now new next (drop (suc k) roots) d.built.elements
+    (λ q c t s h. segment_stays types now new t q s (λ content. x.stay q t content c) h) d.built.stand
     in
     let all : RootsStand types new at (root ∷ drop (suc k) roots) (at ∷ (g.1.below ++ d.built.elements)) =
-        root-begins types new at (record { next = next; serial = serial; firsts = g.1.firsts; bytes = root.bytes }) root (drop (suc k) roots) g.1.below d.built.elements g.1.has g.1.stand others x.exchange.once refl w
+    root-begins types new at (record { next = next; serial = serial; firsts = g.1.firsts; bytes = root.bytes }) root (drop (suc k) roots) g.1.below d.built.elements g.1.has g.1.stand others x.exchange.once refl w
     in
     let here : drop k roots ≡ root ∷ drop (suc k) roots = drop-cons roots k root b ∙ ap (λ y. y ∷ drop (suc k) roots) (sym e) in
     let Q : List Root → Type 0 = λ r. RootsStand types new at r (at ∷ (g.1.below ++ d.built.elements)) in
@@ -329,7 +329,7 @@ module _ (shape : Shape) (types : List SegDef) (old mid : List (List ℕ)) (plan
       let P : List Pointer → Type 0 = λ had. Exchanges shape old new had (at ∷ b.elements) in
       let e : reserved (it.one ∷ []) ++ reserved it.below ≡ reserved used = sym (reserved-append (it.one ∷ []) it.below) ∙ ap reserved (sym it.parts) in
       let stay : (q : Pointer) (t : ℕ) (content : List ℕ) → Contains b.elements q → HasUsed (bytes_at mid q.0) q.1 t content → HasUsed (bytes_at new q.0) q.1 t content =
-          λ q t content c h. w.exchange.stay q t content (λ m. elim (b.exchange.fresh q c) as (λ _. ⊥) [ inl y ↦ d q m y | inr y ↦ y (u q m) ]) h
+      λ q t content c h. w.exchange.stay q t content (λ m. elim (b.exchange.fresh q c) as (λ _. ⊥) [ inl y ↦ d q m y | inr y ↦ y (u q m) ]) h
       in
       record {
         firsts = firsts;
@@ -426,7 +426,7 @@ pub row-planned : (types : List SegDef) (type : ℕ) (row xs : List Node) (left 
     → types_of_row types type (drop (left - 1) row) ≡ types_of_segment types type (out-Node node).children ++ types_of_row types type (drop left row)
 row-planned types type row xs left node z b x e =
     let here : drop (left - 1) row ≡ node ∷ drop left row =
-        drop-cons row (left - 1) node (omega arith) ∙ ap (λ y. y ∷ drop (suc (left - 1)) row) (sym (e ∙ ap (λ ys. get_or ys (left - 1) node) x)) ∙ ap (λ j. node ∷ drop j row) (sucs left z)
+    drop-cons row (left - 1) node (omega arith) ∙ ap (λ y. y ∷ drop (suc (left - 1)) row) (sym (e ∙ ap (λ ys. get_or ys (left - 1) node) x)) ∙ ap (λ j. node ∷ drop j row) (sucs left z)
     in
     ap (λ (r : List Node). types_of_row types type r) here ∙ ap (λ ts. ts ++ types_of_row types type (drop left row)) (types-below types type node)
 
@@ -435,10 +435,10 @@ pub rows-planned : (types : List SegDef) (kinds : List ℕ) (rows xs : List (Lis
     → types_of_rows types (drop (left - 1) kinds) (drop (left - 1) rows) ≡ types_of_row types type row ++ types_of_rows types (drop left kinds) (drop left rows)
 rows-planned types kinds rows xs left row type m z b x e t =
     let here : drop (left - 1) rows ≡ row ∷ drop left rows =
-        drop-cons rows (left - 1) row (omega arith) ∙ ap (λ y. y ∷ drop (suc (left - 1)) rows) (sym (e ∙ ap (λ ys. get_or ys (left - 1) row) x)) ∙ ap (λ j. row ∷ drop j rows) (sucs left z)
+    drop-cons rows (left - 1) row (omega arith) ∙ ap (λ y. y ∷ drop (suc (left - 1)) rows) (sym (e ∙ ap (λ ys. get_or ys (left - 1) row) x)) ∙ ap (λ j. row ∷ drop j rows) (sucs left z)
     in
     let there : drop (left - 1) kinds ≡ type ∷ drop left kinds =
-        drop-cons kinds (left - 1) 0 (omega (arith, m)) ∙ ap (λ y. y ∷ drop (suc (left - 1)) kinds) (sym t) ∙ ap (λ j. type ∷ drop j kinds) (sucs left z)
+    drop-cons kinds (left - 1) 0 (omega (arith, m)) ∙ ap (λ y. y ∷ drop (suc (left - 1)) kinds) (sym t) ∙ ap (λ j. type ∷ drop j kinds) (sucs left z)
     in
     ap (λ (r : List (List Node)). types_of_rows types (drop (left - 1) kinds) r) here ∙ ap (λ (ks : List ℕ). types_of_rows types ks (row ∷ drop left rows)) there
 
@@ -446,7 +446,7 @@ pub roots-planned : (types : List SegDef) (roots xs : List Root) (left : ℕ) (r
     → types_of_roots types (drop (left - 1) roots) ≡ types_of_segment types 0 root.children ++ types_of_roots types (drop left roots)
 roots-planned types roots xs left root z b x e =
     let here : drop (left - 1) roots ≡ root ∷ drop left roots =
-        drop-cons roots (left - 1) root (omega arith) ∙ ap (λ y. y ∷ drop (suc (left - 1)) roots) (sym (e ∙ ap (λ ys. get_or ys (left - 1) root) x)) ∙ ap (λ j. root ∷ drop j roots) (sucs left z)
+    drop-cons roots (left - 1) root (omega arith) ∙ ap (λ y. y ∷ drop (suc (left - 1)) roots) (sym (e ∙ ap (λ ys. get_or ys (left - 1) root) x)) ∙ ap (λ j. root ∷ drop j roots) (sucs left z)
     in
     ap (λ (r : List Root). types_of_roots types r) here
 

@@ -69,7 +69,7 @@ pub rooms-stay : (types : List SegDef) (old new : List (List ℕ)) (plan : List 
 rooms-stay types old new [] f h = tt
 rooms-stay types old new (p ∷ plan) f h = (
   place_stays types old new p.segment p.at (reserved plan) f h.0,
-  rooms-stay types old new plan (λ at t content c. f at t content (place_more p.at (reserved plan) at c)) h.1
+  rooms-stay types old new plan (λ at t content c. f at t content (place_more p.at (reserved plan) at c)) h.1,
 )
 
 -- ---- a plan whose types are two lists has two parts

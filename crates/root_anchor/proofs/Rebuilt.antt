@@ -131,7 +131,7 @@ module _ (shape : Shape) (types : List SegDef) (old middle new : List (List ℕ)
     each-met : (at : Pointer) → IsUsed (bytes_at new at.0) at.1 → IsMet shape types new at
     each-met at u =
         let f : (type : ℕ) (content : List ℕ) → HasUsed (bytes_at new at.0) at.1 type content → HasUsed (bytes_at middle at.0) at.1 type content =
-            λ type content. (root_keeps_used shape middle new anchor first it.put at.0).none_comes at.1 type content
+        λ type content. (root_keeps_used shape middle new anchor first it.put at.0).none_comes at.1 type content
         in
         elim (holds_or has at) as (λ _. IsMet shape types new at) [
           | inl c ↦ record { anchor = anchor; below = it.below; meets = record { roots = roots; elements = met_after has []; is_chain = new-chain; met = met-now has [] at c } }
@@ -173,7 +173,7 @@ pub rebuilds : (shape : Shape) (types : List SegDef) (old mid mid2 new : List (L
     → Rebuilds shape types old new anchor plan rest roots
 rebuilds shape types old mid mid2 new anchor plan rest roots first r e b p =
     let x : Exchanges shape old mid2 (reserved plan ++ places_of rest) (b.elements ++ []) =
-        exchange-both shape old mid mid2 (places_of rest) [] (reserved plan) b.elements e b.exchange (rooms-used types old plan r.rooms) (λ at c. apart-disjoint (reserved plan) (places_of rest) at r.once c)
+    exchange-both shape old mid mid2 (places_of rest) [] (reserved plan) b.elements e b.exchange (rooms-used types old plan r.rooms) (λ at c. apart-disjoint (reserved plan) (places_of rest) at r.once c)
     in
     let P : List Pointer → Type 0 = λ has. Exchanges shape old mid2 (reserved plan ++ places_of rest) has in
     record { middle = mid2; first = first; elements = b.elements; exchange = subst P (append-nil b.elements) x; stand = b.stand; put = p }

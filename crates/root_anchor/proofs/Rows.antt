@@ -47,7 +47,7 @@ row-begins types area type at s below row xs ys node h f g a b c met d =
     let Q : List Pointer → Type 0 = λ after. AreRows types area met (type ∷ []) (at ∷ []) ((node ∷ row) ∷ []) after in
     let R : Node → Type 0 = λ m. AreRows types area met (type ∷ []) (at ∷ []) ((m ∷ row) ∷ []) (met_after ys (met_after xs (at ∷ met))) in
     let all : AreRows types area met (type ∷ []) (at ∷ []) ((roll-Node (record { bytes = s.bytes; children = below }) ∷ row) ∷ []) (met_after ys (met_after xs (at ∷ met))) =
-        segment s h (d at (front_in at (xs ++ ys))) (f (at ∷ met) (front_apart at xs ys met a d)) (g (met_after xs (at ∷ met)) (back_apart at xs ys met a d))
+    segment s h (d at (front_in at (xs ++ ys))) (f (at ∷ met) (front_apart at xs ys met a d)) (g (met_after xs (at ∷ met)) (back_apart at xs ys met a d))
     in
     subst Q (sym (met-append xs ys (at ∷ met))) (subst R n all)
 
@@ -92,7 +92,7 @@ root-begins types area at s first roots xs ys h f g a b c met d =
     let Q : List Pointer → Type 0 = λ after. AreRoots types area met at (first ∷ roots) after in
     let R : Root → Type 0 = λ r. AreRoots types area met at (r ∷ roots) (met_after ys (met_after xs (at ∷ met))) in
     let all : AreRoots types area met at (record { bytes = s.bytes; children = first.children; seqs = newest s.serial } ∷ roots) (met_after ys (met_after xs (at ∷ met))) =
-        root s h (d at (front_in at (xs ++ ys))) (f (at ∷ met) (front_apart at xs ys met a d)) (g (met_after xs (at ∷ met)) (back_apart at xs ys met a d))
+    root s h (d at (front_in at (xs ++ ys))) (f (at ∷ met) (front_apart at xs ys met a d)) (g (met_after xs (at ∷ met)) (back_apart at xs ys met a d))
     in
     subst Q (sym (met-append xs ys (at ∷ met))) (subst R n all)
 

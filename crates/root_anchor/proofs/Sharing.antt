@@ -20,8 +20,7 @@ use Rattle.root_anchor.proofs.Members.{front_in, behind_in, in_cases}
 pub apart-front : (ws zs : List Pointer) (a : Pointer) → AreApart (ws ++ (a ∷ zs)) → AreApart (a ∷ (ws ++ zs))
 apart-front [] zs a h = h
 apart-front (w ∷ ws) zs a h =
-    let i : AreApart (a ∷ (ws ++ zs)) = apart-front ws zs a h.1 in
-    (
+    let i : AreApart (a ∷ (ws ++ zs)) = apart-front ws zs a h.1 in (
       (λ c. elim (in_cases w (ws ++ zs) a c) as (λ _. ⊥) [
         | inl e ↦ (let P : Pointer → Type 0 = λ x. Contains (ws ++ (a ∷ zs)) x in h.0 (subst P (sym e) (Contains-append_right ws (a ∷ zs) a (front_in a zs))))
         | inr d ↦ i.0 d
@@ -31,8 +30,8 @@ apart-front (w ∷ ws) zs a h =
           | inl d ↦ Contains-append_left ws (a ∷ zs) w d
           | inr d ↦ Contains-append_right ws (a ∷ zs) w (behind_in a zs w d)
         ])),
-        i.1
-      )
+        i.1,
+      ),
     )
 
 pub to-front : {X : Type 0} (ws zs : List X) (a x : X) → Contains (ws ++ (a ∷ zs)) x → Contains (a ∷ (ws ++ zs)) x
@@ -77,19 +76,20 @@ shares_taken all plan old new type at s t =
     let ws : List Pointer = reserved plan ++ places_of t.before in
     let zs : List Pointer = places_of t.after in
     let was : reserved plan ++ places_of old ≡ ws ++ (at ∷ zs) =
-        ap (λ xs. reserved plan ++ places_of xs) t.was ∙ ap (λ xs. reserved plan ++ xs) (map-append (λ (x : Standing). x.at) t.before (t.taken ∷ t.after))
-        ∙ sym (append_assoc (reserved plan) (places_of t.before) (t.taken.at ∷ zs)) ∙ ap (λ a. ws ++ (a ∷ zs)) t.is_at
+    ap (λ xs. reserved plan ++ places_of xs) t.was ∙ ap (λ xs. reserved plan ++ xs) (map-append (λ (x : Standing). x.at) t.before (t.taken ∷ t.after))
+    ∙ sym (append_assoc (reserved plan) (places_of t.before) (t.taken.at ∷ zs)) ∙ ap (λ a. ws ++ (a ∷ zs)) t.is_at
     in
     let now : at ∷ (reserved plan ++ places_of new) ≡ at ∷ (ws ++ zs) =
-        ap (λ xs. at ∷ xs) (ap (λ xs. reserved plan ++ places_of xs) t.now ∙ ap (λ xs. reserved plan ++ xs) (map-append (λ (x : Standing). x.at) t.before t.after)
-          ∙ sym (append_assoc (reserved plan) (places_of t.before) zs))
+    ap (λ xs. at ∷ xs) (ap (λ xs. reserved plan ++ places_of xs) t.now ∙ ap (λ xs. reserved plan ++ xs) (map-append (λ (x : Standing). x.at) t.before t.after)
+    ∙ sym (append_assoc (reserved plan) (places_of t.before) zs))
     in
     let P : List Pointer → Type 0 = AreApart in
     record {
-      typed =
-          (let Q : List Standing → Type 0 = λ xs. Contains xs t.taken in
-          record { standing = t.taken; held = s.of_rest t.taken (subst Q (sym t.was) (Contains-append_right t.before (t.taken ∷ t.after) t.taken (front_in t.taken t.after))); is_type = t.is_type; is_at = t.is_at },
-          s.typed);
+      typed = (
+        let Q : List Standing → Type 0 = λ xs. Contains xs t.taken in
+            record { standing = t.taken; held = s.of_rest t.taken (subst Q (sym t.was) (Contains-append_right t.before (t.taken ∷ t.after) t.taken (front_in t.taken t.after))); is_type = t.is_type; is_at = t.is_at },
+        s.typed,
+      );
       of_rest = λ x c.
           let Q : List Standing → Type 0 = λ xs. Contains xs x in
           s.of_rest x (subst Q (sym t.was) (from-front t.before t.after t.taken x (behind_in t.taken (t.before ++ t.after) x (subst Q t.now c))));

@@ -52,7 +52,7 @@ fits_some size types type (Some def) e f s b =
     let i : in_fours (14 + serial_length types type + 10 * length (child_types types type) + def.length) ≤ size - 32 = rw (fits_direct types type def s) at (subst Q z h) in
     let l : segment_length types type ≡ def.length = ap (λ o. option_map_or (λ (d : SegDef). d.length) o 0) e in
     let m : in_fours (14 + serial_length types type + 10 * length (child_types types type) + def.length) ≡ size_for (content_length types type) =
-        same_rounded (serial_length types type) (10 * length (child_types types type)) def.length ∙ ap (λ n. size_for (10 + serial_length types type + 10 * length (child_types types type) + n)) (sym l)
+    same_rounded (serial_length types type) (10 * length (child_types types type)) def.length ∙ ap (λ n. size_for (10 + serial_length types type + 10 * length (child_types types type) + n)) (sym l)
     in
     let R : ℕ → Type 0 = λ n. n ≤ size - 32 in
     subst R m i
@@ -215,11 +215,11 @@ length-is types type bytes e = same_length types (slice_get types type) bytes e
 pub row-node : (types : List SegDef) (type : ℕ) (row : List Node) (k : ℕ) (node : Node) → is_row types type (map (seen_as types) row) ≡ true → k < length row → node ≡ get_or row k node → InShape types type node
 row-node types type row k node e b n =
     let all : list_all (λ seen. (seen type).in_shape) (map (seen_as types) row) ≡ true =
-        and_left (list_all (λ seen. (seen type).in_shape) (map (seen_as types) row)) (ascend (map (λ seen. key_in types type (seen type).bytes) (map (seen_as types) row))) e
+    and_left (list_all (λ seen. (seen type).in_shape) (map (seen_as types) row)) (ascend (map (λ seen. key_in types type (seen type).bytes) (map (seen_as types) row))) e
     in
     let here : (seen_as types node type).in_shape ≡ true = ap (λ x. (seen_as types x type).in_shape) n ∙ all_in_shape types type row k node all b in
     let step : (has_length types type (out-Node node).bytes && are_rows types (child_types types type) (map (map (seen_as types)) (out-Node node).children)) ≡ true =
-        sym (ap (λ (f : ℕ → Seen). (f type).in_shape) (fold_out-Node (ℕ → Seen) (seen_step types) node)) ∙ here
+    sym (ap (λ (f : ℕ → Seen). (f type).in_shape) (fold_out-Node (ℕ → Seen) (seen_step types) node)) ∙ here
     in
     record {
       bytes = length-is types type (out-Node node).bytes (and_left (has_length types type (out-Node node).bytes) (are_rows types (child_types types type) (map (map (seen_as types)) (out-Node node).children)) step);

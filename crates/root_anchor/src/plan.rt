@@ -3,7 +3,7 @@
 //! Each new segment takes one of the elements in which the anchor's segments stood: one of its type and its key, if there
 //! is one that no other has taken. So what doesn't change isn't written again. Of several any will do.
 
-ghost use Rattle.std.specs.Prelude.{◌≡◌, ◌≢◌, ◌<◌, ◌≤◌, ◌++◌, ◌∷◌, [], ℕ, List, OnOk, IfOk, IsErr, Err, IfSome, IfNone, length, map, true, slice_index_or};
+ghost use Rattle.std.specs.Prelude.{◌≡◌, ◌<◌, ◌≤◌, ◌++◌, ◌∷◌, List, OnOk, IfOk, IsErr, Err, IfSome, IfNone, length, map, true, slice_index_or};
 ghost use Rattle.fp_model.specs.Order.{child_types};
 ghost use Rattle.fp_model.specs.Shape.{are_rows, is_row, seen_as};
 ghost use Rattle.fp_model.specs.WellFormed.{HavePlaces};
@@ -125,7 +125,15 @@ fn plan_row(
     while left > 0 {
         left -= 1;
         let node = &row.as_slice()[left];
-        plan_segment(alloc, segments, plan, standing, segment, &node.bytes, &node.children)?;
+        plan_segment(
+            alloc,
+            segments,
+            plan,
+            standing,
+            segment,
+            &node.bytes,
+            &node.children,
+        )?;
     }
     Ok(())
 }
@@ -177,7 +185,15 @@ pub(crate) fn plan_roots(
     while left > 0 {
         left -= 1;
         let root = &roots.as_slice()[left];
-        plan_segment(alloc, segments, &mut plan, standing, 0, &root.bytes, &root.children)?;
+        plan_segment(
+            alloc,
+            segments,
+            &mut plan,
+            standing,
+            0,
+            &root.bytes,
+            &root.children,
+        )?;
     }
     Ok(plan)
 }

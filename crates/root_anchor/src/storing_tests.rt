@@ -275,7 +275,12 @@ fn a_chain_fills_the_intervals_of_its_unit(rt: HostRuntime) -> Result<(), Fail> 
     };
     assert_eq!(rt; all[4].head(), base((8, 32), 8));
     assert_eq!(rt; all[8].head(), independent(0, 2));
-    for (ci, at, is_used) in [(4, 464, true), (6, 464, true), (8, 32, true), (8, 80, false)] {
+    for (ci, at, is_used) in [
+        (4, 464, true),
+        (6, 464, true),
+        (8, 32, true),
+        (8, 80, false),
+    ] {
         assert_eq!(rt; all[ci].is_used(at), is_used);
     }
     let bytes = all[8].whole();
@@ -291,7 +296,10 @@ fn a_chain_fills_the_intervals_of_its_unit(rt: HostRuntime) -> Result<(), Fail> 
     }
     assert_eq!(rt; all[4].head(), base((0, 0), 0));
     assert_eq!(rt; all[8].head(), independent(0, 0));
-    assert_eq!(rt; &all[0].whole()[48..64], [0, 0, 0, 0, 0, 0, 0, 1, 0, 0, 0, 0, 0, 0, 0, 8].as_slice());
+    assert_eq!(rt;
+        &all[0].whole()[48..64],
+        [0, 0, 0, 0, 0, 0, 0, 1, 0, 0, 0, 0, 0, 0, 0, 8].as_slice()
+    );
     assert!(rt; has(&rt, &mut memory, 2, &[])?);
     Ok(())
 }
@@ -347,7 +355,11 @@ fn change(list: &mut Vec<Customer>, seed: u32) -> Result<(), Fail> {
         number,
         name: b'A' + (seed >> 24 & 15) as u8,
         newest: (seed >> 12 & 3) as u8,
-        loan: if seed & 0x800 == 0 { None } else { Some((seed >> 13 & 63) as u8) },
+        loan: if seed & 0x800 == 0 {
+            None
+        } else {
+            Some((seed >> 13 & 63) as u8)
+        },
     };
     let place = place_of(list, number);
     if place < list.len() && list[place].number == number {

@@ -16,10 +16,9 @@ pub build_row-build_segment-requires : goal.build_row-build_segment-requires
 build_row-build_segment-requires g t c κs within =
     let node = c.index-as_slice-left.result in
     let is = c.index-as_slice-left.is ∙ ap (λ xs. get_or xs (c.loop-left.left - 1) node) c.as_slice.ensures in
-    let shape = row-node _ _ _ _ node c.requires.row (omega (arith, c.loop-left.invariant.within, c.loop-left-test.true)) is in
-    (
+    let shape = row-node _ _ _ _ node c.requires.row (omega (arith, c.loop-left.invariant.within, c.loop-left-test.true)) is in (
       omega (arith, c.decreases, c.requires.direct.defined, c.requires.types.few),
-      (within, (c.requires.anchor, (same-types _ _ _ c.loop-left.invariant.goes_on.same_size c.requires.types, (c.requires.direct, (ap length c.as_slice-in-loop-left.ensures ∙ shape.bytes, ((λ _. refl), shape.rows))))))
+      (within, (c.requires.anchor, (same-types _ _ _ c.loop-left.invariant.goes_on.same_size c.requires.types, (c.requires.direct, (ap length c.as_slice-in-loop-left.ensures ∙ shape.bytes, ((λ _. refl), shape.rows)))))),
     )
 
 pub build_row-loop-left-init : goal.build_row-loop-left-init
@@ -97,10 +96,9 @@ build_rows-build_row-requires g t c κs within =
     let above = child-above (g.I.Intervals.size c.args.i.now) types c.args.segment k c.requires.types below in
     let direct = child-direct types c.args.segment k below in
     let P : ℕ → Type 0 = λ x. IsDirect types x in
-    let serial = child-serial (g.I.Intervals.size c.args.i.now) types c.args.segment k c.requires.types below in
-    (
+    let serial = child-serial (g.I.Intervals.size c.args.i.now) types c.args.segment k c.requires.types below in (
       omega (arith, c.decreases, above, type, direct.defined, c.requires.types.few),
-      (within, (c.requires.anchor, (same-types _ _ _ c.loop-left.invariant.goes_on.same_size c.requires.types, (subst P (sym type) direct, (ap (has_serial types) type ∙ serial, rows-row types kinds rows k row c.index.result.now c.requires.rows here is type)))))
+      (within, (c.requires.anchor, (same-types _ _ _ c.loop-left.invariant.goes_on.same_size c.requires.types, (subst P (sym type) direct, (ap (has_serial types) type ∙ serial, rows-row types kinds rows k row c.index.result.now c.requires.rows here is type))))),
     )
 
 pub build_rows-returns-in_err-first-clause-sound : goal.build_rows-returns-in_err-first-clause-sound

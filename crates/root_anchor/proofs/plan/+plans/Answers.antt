@@ -51,10 +51,9 @@ plan_rows-plan_row-requires t c =
     let is : row ≡ get_or rows k row = c.index-as_slice-left.is ∙ ap (λ xs. get_or xs k row) c.as_slice-in-loop-left.ensures in
     let type : c.index.result.now ≡ get_or kinds k 0 = get_or_read c.in_ok-types.types.items k c.index.result.now (omega (arith, n, below)) c.index.ensures 0 ∙ ap (λ xs. get_or xs k 0) are in
     let above = child-behind types c.args.segment k c.requires.places below in
-    let direct = child-direct types c.args.segment k below in
-    (
+    let direct = child-direct types c.args.segment k below in (
       omega (arith, c.decreases, above, type, direct.defined, c.requires.few),
-      (c.requires.few, (c.requires.places, (rows-row types kinds rows k row c.index.result.now c.requires.rows here is type, omega (arith, type, direct.defined))))
+      (c.requires.few, (c.requires.places, (rows-row types kinds rows k row c.index.result.now c.requires.rows here is type, omega (arith, type, direct.defined)))),
     )
 
 pub plan_rows-loop-left-preserved : goal.plan_rows-loop-left-preserved
