@@ -1,5 +1,5 @@
 -- Lists of pointers: what they hold, and that they hold it once.
-use Rattle.std.proofs.Common.{◌≡◌, ◌≢◌, ℕ, zero, suc, ◌+◌, ◌<◌, ◌⊎◌, inl, inr, List, [], ◌∷◌, ◌++◌, length, get_or, Contains, All, AllPairs, refl, sym, ap, ◌∙◌, subst, arith}
+use Rattle.std.proofs.Common.{◌≡◌, ◌≢◌, suc, ◌⊎◌, inl, inr, List, [], ◌∷◌, ◌++◌, Contains, AllPairs, refl, sym, subst, arith}
 use Rattle.std.proofs.lemmas.List.Elements.{Contains-append_left, Contains-append_right, Contains-append_cases}
 use Rattle.root_anchor.proofs.Members.{none_in, front_in, behind_in, in_cases}
 use Rattle.root_anchor.proofs.PutLemmas.{pointer_or}

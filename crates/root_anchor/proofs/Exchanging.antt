@@ -1,16 +1,13 @@
 -- Elements that give way to others, one exchange after another.
-use Rattle.std.proofs.Common.{◌≡◌, ◌≢◌, ℕ, ◌+◌, ◌<◌, ◌⊎◌, inl, inr, List, [], ◌∷◌, ◌++◌, length, slice_index, Contains, refl, sym, ap, ◌∙◌, subst, arith}
+use Rattle.std.proofs.Common.{ℕ, ◌⊎◌, inl, inr, List, ◌++◌, Contains, ◌∙◌}
 use Rattle.std.proofs.lemmas.List.Elements.{Contains-append_left, Contains-append_right, Contains-append_cases}
 use Rattle.ci_space.specs.declared.intervals.Shape.{Shape}
-use Rattle.ci_space.specs.Interval.{HasUsed, IsUsed, Keeps}
-use Rattle.ci_space.specs.Head.{ends_of}
+use Rattle.ci_space.specs.Interval.{HasUsed, IsUsed}
 use Rattle.ci_overflow.specs.Lists.{bytes_at}
-use Rattle.ci_overflow.specs.Rooms.{KeepsEnds}
 use Rattle.root_anchor.specs.Elements.{Pointer}
 use Rattle.root_anchor.specs.Stored.{KeepsSequential}
-use Rattle.root_anchor.specs.Rebuilding.{AreApart, Exchanges}
+use Rattle.root_anchor.specs.Rebuilding.{Exchanges}
 use Rattle.root_anchor.proofs.Apart.{holds_or, apart-both}
-use Rattle.root_anchor.proofs.Members.{none_in}
 
 pub sequential-joined : (shape : Shape) (a b c : List (List ℕ)) → KeepsSequential shape a b → KeepsSequential shape b c → KeepsSequential shape a c
 sequential-joined shape a b c p q = record {

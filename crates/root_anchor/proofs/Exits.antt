@@ -1,5 +1,5 @@
 -- A fault that `?` passes on.
-use Rattle.std.proofs.Common.{◌≡◌, Result, Ok, Err, sym, ap, ◌∙◌}
+use Rattle.std.proofs.Common.{◌≡◌, Result, Err, sym, ap, ◌∙◌}
 
 pub same_fault : {A B E : Type 0} (r : Result A E) (x y z : E) → r ≡ Err z → z ≡ x → r ≡ Err y → (let s : Result B E = Err x in s) ≡ Err y
 same_fault {A} {B} {E} r x y z p q e =

@@ -1,23 +1,21 @@
 -- The loops that build rows and roots from their ends: how far they have come, and one step on.
-use Rattle.std.proofs.Common.{◌≡◌, ◌≢◌, ℕ, zero, suc, ◌+◌, ◌-◌, ◌<◌, ◌≤◌, ◌⊎◌, inl, inr, List, [], ◌∷◌, ◌++◌, length, get_or, take, drop, set, map, flat_map, Contains, Option, Result, Ok, Err, IfOk, refl, sym, ap, ◌∙◌, subst, append_assoc, arith}
+use Rattle.std.proofs.Common.{◌≡◌, ℕ, zero, suc, ◌+◌, ◌-◌, ◌<◌, ◌≤◌, inl, inr, List, [], ◌∷◌, ◌++◌, length, get_or, take, drop, set, map, flat_map, Contains, Option, Result, Ok, Err, IfOk, refl, sym, ap, ◌∙◌, subst, append_assoc, arith}
 use Rattle.std.proofs.Math.Seq.{take-suc, drop-cons}
 use Rattle.std.proofs.lemmas.List.{append-nil, map-append, drop_all, drop-set, take_all}
 use Rattle.std.proofs.lemmas.Grind.{flat_map-append}
-use Rattle.std.proofs.lemmas.List.Elements.{Contains-append_left, Contains-append_right}
 use Rattle.ci_space.specs.declared.intervals.Shape.{Shape}
 use Rattle.ci_space.specs.Interval.{HasUsed, IsUsed}
-use Rattle.ci_overflow.specs.Lists.{bytes_at, IsInOrder}
+use Rattle.ci_overflow.specs.Lists.{bytes_at}
 use Rattle.fp_model.specs.declared.definitions.SegDef.{SegDef}
 use Rattle.fp_model.specs.declared.database.Node.{Node, out-Node}
 use Rattle.fp_model.specs.declared.database.Node.TheFolds.{fold_out-Node}
 use Rattle.fp_model.specs.declared.database.Root.{Root}
 use Rattle.fp_model.specs.Order.{child_types}
-use Rattle.root_anchor.specs.Elements.{Pointer, nothing, Segment, HasSegment}
+use Rattle.root_anchor.specs.Elements.{Pointer, nothing}
 use Rattle.root_anchor.specs.Chains.{newest}
 use Rattle.root_anchor.specs.Stored.{AreTypes}
-use Rattle.root_anchor.specs.Rebuilding.{AreApart, Exchanges, HaveRoom, AreReserved, PlacesSegment, reserved, types_of, IsPlanned, RowsStand, RootsStand, BuildsRows, BuildsRoots, BuildsSegment, types_step, types_below, types_in_rows, types_of_row, types_of_rows, types_of_segment, types_of_roots}
+use Rattle.root_anchor.specs.Rebuilding.{Exchanges, HaveRoom, AreReserved, PlacesSegment, reserved, types_of, IsPlanned, RowsStand, RootsStand, BuildsRows, BuildsRoots, BuildsSegment, types_step, types_below, types_in_rows, types_of_row, types_of_rows, types_of_segment, types_of_roots}
 use Rattle.root_anchor.specs.declared.plan.Planned.{Planned}
-use Rattle.root_anchor.proofs.Members.{none_in}
 use Rattle.root_anchor.proofs.Exchanging.{exchange-both}
 use Rattle.root_anchor.proofs.PutLemmas.{segment_stays}
 use Rattle.root_anchor.proofs.Planning.{reserved-append, reserved-left, reserved-right, reserved-disjoint, rooms-used, still-reserved, IsLeft, IsNext, IsFurther, next-part, further, none-left, exchange-none, all-left}

@@ -1,20 +1,19 @@
 -- An anchor that was rebuilt in an area that is whole: it has its new roots, the other anchors theirs, and the area is whole.
-use Rattle.std.proofs.Common.{◌≡◌, ◌≢◌, ◌↔◌, ℕ, ◌+◌, ◌<◌, ◌≤◌, ◌⊎◌, inl, inr, List, [], ◌∷◌, ◌++◌, length, Contains, refl, sym, ap, ◌∙◌, subst, arith}
+use Rattle.std.proofs.Common.{◌≡◌, ◌≢◌, ℕ, ◌<◌, inl, inr, List, [], ◌++◌, Contains, refl, sym, ◌∙◌, subst, arith}
 use Rattle.ci_space.specs.declared.intervals.Shape.{Shape}
 use Rattle.ci_space.specs.Interval.{HasUsed, IsUsed}
-use Rattle.ci_space.specs.Head.{head_of}
 use Rattle.ci_overflow.specs.Places.{base_of}
 use Rattle.ci_overflow.specs.Lists.{bytes_at, IsInOrder, IsInPlace}
 use Rattle.ci_overflow.proofs.Finds.{same_or}
 use Rattle.fp_model.specs.declared.definitions.SegDef.{SegDef}
 use Rattle.fp_model.specs.declared.database.Root.{Root}
-use Rattle.root_anchor.specs.Elements.{Pointer, Segment, HasSegment}
+use Rattle.root_anchor.specs.Elements.{Pointer}
 use Rattle.root_anchor.specs.Chains.{IsChain, AreRoots, anchor_count, root_of}
 use Rattle.root_anchor.specs.Formed.{IsFormed, HasChain, Meets, IsMet}
 use Rattle.root_anchor.specs.Puts.{PutsRoot}
 use Rattle.root_anchor.specs.Stored.{HasRoots, KeepsSequential, OthersKeep}
 use Rattle.std.proofs.lemmas.List.{append-nil}
-use Rattle.root_anchor.specs.Standing.{places_of, Stands, AreStanding}
+use Rattle.root_anchor.specs.Standing.{places_of, AreStanding}
 use Rattle.root_anchor.specs.declared.plan.Planned.{Planned}
 use Rattle.root_anchor.specs.declared.standing.Standing.{Standing}
 use Rattle.root_anchor.specs.Rebuilding.{Exchanges, RootsStand, met_after, reserved, types_of, types_of_roots, IsPlanned, BuildsRoots, AreGivable, IsRebuildable, Rebuilds, Shares}

@@ -1,6 +1,6 @@
 -- Rows of segments that stand, from the last segment to the first.
-use Rattle.std.proofs.Common.{◌≡◌, ◌≢◌, ℕ, ◌+◌, ◌<◌, ◌⊎◌, inl, inr, List, [], ◌∷◌, ◌++◌, length, Contains, refl, sym, ap, ◌∙◌, subst, arith}
-use Rattle.std.proofs.lemmas.List.Elements.{Contains-append_left, Contains-append_right, Contains-append_cases}
+use Rattle.std.proofs.Common.{◌≡◌, ℕ, inl, inr, List, [], ◌∷◌, ◌++◌, Contains, refl, sym, subst}
+use Rattle.std.proofs.lemmas.List.Elements.{Contains-append_left, Contains-append_right}
 use Rattle.fp_model.specs.declared.definitions.SegDef.{SegDef}
 use Rattle.fp_model.specs.declared.database.Node.{Node, out-Node, roll-Node}
 use Rattle.fp_model.specs.declared.database.Node.TheViews.{roll-out-Node}
@@ -9,9 +9,9 @@ use Rattle.fp_model.specs.Order.{child_types}
 use Rattle.root_anchor.specs.Elements.{Pointer, nothing, Segment, HasSegment}
 use Rattle.root_anchor.specs.Chains.{AreRows, no_row, row_end, segment, newest, AreRoots, no_root, root}
 use Rattle.root_anchor.specs.Rebuilding.{AreApart, met_after, RowsStand, RootsStand}
-use Rattle.root_anchor.proofs.Apart.{apart-left, apart-disjoint, met-cases, met-append}
-use Rattle.root_anchor.proofs.Members.{none_in, front_in, behind_in, in_cases}
-use Rattle.root_anchor.proofs.Framing.{Stay, rows_stay, roots_stay}
+use Rattle.root_anchor.proofs.Apart.{apart-disjoint, met-cases, met-append}
+use Rattle.root_anchor.proofs.Members.{front_in, behind_in, in_cases}
+use Rattle.root_anchor.proofs.Framing.{rows_stay, roots_stay}
 
 -- ---- rows
 

@@ -1,5 +1,5 @@
 -- The elements that an anchor had, shared out among a plan and a rest.
-use Rattle.std.proofs.Common.{◌≡◌, ◌≢◌, ℕ, zero, suc, ◌+◌, ◌<◌, ◌⊎◌, inl, inr, List, [], ◌∷◌, ◌++◌, length, get_or, take, drop, map, Contains, Option, Some, None, IfSome, IfNone, refl, sym, ap, ◌∙◌, subst, append_assoc, arith}
+use Rattle.std.proofs.Common.{◌≡◌, ℕ, suc, ◌+◌, ◌<◌, inl, inr, List, [], ◌∷◌, ◌++◌, length, get_or, take, drop, Contains, Option, Some, None, IfSome, IfNone, refl, sym, ap, ◌∙◌, subst, append_assoc, arith}
 use Rattle.std.proofs.Math.Seq.{drop-cons}
 use Rattle.std.proofs.lemmas.List.{map-append, take-append-drop}
 use Rattle.std.proofs.lemmas.List.Elements.{Contains-append_left, Contains-append_right, Contains-append_cases}
@@ -13,7 +13,7 @@ use Rattle.root_anchor.specs.Rebuilding.{AreApart, reserved, HaveRoom, HaveRooms
 use Rattle.root_anchor.specs.declared.plan.Planned.{Planned}
 use Rattle.root_anchor.specs.declared.standing.Standing.{Standing}
 use Rattle.root_anchor.proofs.Apart.{apart-left, apart-pairs}
-use Rattle.root_anchor.proofs.Members.{none_in, front_in, behind_in, in_cases}
+use Rattle.root_anchor.proofs.Members.{front_in, behind_in, in_cases}
 
 -- ---- an element in front of others
 

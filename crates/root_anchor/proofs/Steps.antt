@@ -1,24 +1,21 @@
 -- What giving back an element, finding room and putting a segment exchange.
-use Rattle.std.proofs.Common.{◌≡◌, ◌≢◌, ℕ, zero, suc, ◌+◌, ◌-◌, ◌*◌, ◌%◌, ◌<◌, ◌≤◌, ◌⊎◌, inl, inr, Bool, true, false, IsTrue, List, [], ◌∷◌, ◌++◌, length, slice_index, Contains, Option, Some, None, nat_lt, ◌==◌, if◌then◌else◌, refl, sym, ap, ◌∙◌, subst, arith}
+use Rattle.std.proofs.Common.{◌≡◌, ◌≢◌, ℕ, ◌+◌, ◌<◌, ◌≤◌, inl, inr, true, false, List, [], ◌∷◌, length, Contains, Option, Some, None, refl, sym, ap, ◌∙◌, subst, arith}
 use Rattle.std.proofs.lemmas.List.{get_or_past}
 use Rattle.std.proofs.lemmas.Bool.{cases_lt}
-use Rattle.std.proofs.lemmas.Nat.{mul-le}
 use Rattle.ci_space.specs.declared.intervals.Shape.{Shape}
 use Rattle.ci_space.specs.Element.{Used}
-use Rattle.ci_space.specs.Interval.{HasUsed, IsUsed, HasRoom, Keeps, IsInterval, kind_of, has_elements}
-use Rattle.ci_space.specs.Head.{head_of, ends_of}
+use Rattle.ci_space.specs.Interval.{HasUsed, IsUsed, HasRoom, kind_of, has_elements}
 use Rattle.ci_space.proofs.Tilings.{size-bounds, used-kind}
-use Rattle.ci_overflow.specs.Places.{first_base, first_sequential, kind_at, uow_of}
+use Rattle.ci_overflow.specs.Places.{first_base, kind_at, uow_of}
 use Rattle.ci_overflow.specs.Lists.{bytes_at, IsInOrder}
-use Rattle.ci_overflow.specs.Rooms.{KeepsUsed, OnlyOneChanges, KeepsEnds, FindsRoom}
+use Rattle.ci_overflow.specs.Rooms.{OnlyOneChanges, FindsRoom}
 use Rattle.ci_overflow.specs.Freed.{GivesBack}
-use Rattle.ci_overflow.proofs.Finds.{same_or, control-first, base-some}
+use Rattle.ci_overflow.proofs.Finds.{same_or, base-some}
 use Rattle.ci_overflow.proofs.FaultLemmas.{kind-base}
 use Rattle.ci_space.specs.declared.head.Head.{Head}
 use Rattle.fp_model.specs.declared.definitions.SegDef.{SegDef}
 use Rattle.root_anchor.specs.Elements.{Pointer, Segment, content_length}
 use Rattle.root_anchor.specs.Puts.{PutsSegment}
-use Rattle.root_anchor.specs.Stored.{KeepsSequential}
 use Rattle.root_anchor.specs.Rebuilding.{Exchanges, and_place, HaveRoom, TakesPlace, PlacesSegment}
 use Rattle.root_anchor.proofs.Exchanging.{exchange-again}
 use Rattle.root_anchor.specs.Chains.{anchor_count}

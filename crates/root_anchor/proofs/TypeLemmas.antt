@@ -1,5 +1,5 @@
 -- What the types of a database fit into, and which are direct.
-use Rattle.std.proofs.Common.{◌≡◌, ◌≢◌, ℕ, zero, suc, ◌+◌, ◌-◌, ◌*◌, ◌/◌, ◌^◌, ◌<◌, ◌≤◌, ◌⊎◌, inl, inr, Bool, true, false, not, ◌&&◌, ◌==◌, List, [], ◌∷◌, ◌++◌, length, slice_get, get_or, map, Contains, Option, Some, None, IfSome, if◌then◌else◌, refl, sym, ap, ◌∙◌, subst, arith}
+use Rattle.std.proofs.Common.{◌≡◌, ◌≢◌, ℕ, zero, suc, ◌+◌, ◌-◌, ◌*◌, ◌/◌, ◌^◌, ◌<◌, ◌≤◌, inl, inr, Bool, true, false, not, ◌&&◌, ◌==◌, List, [], ◌∷◌, length, slice_get, get_or, map, Option, Some, None, IfSome, if◌then◌else◌, refl, sym, ap, ◌∙◌, subst, arith}
 use Rattle.std.specs.List.{list_all}
 use Rattle.std.proofs.lemmas.Option.{slice_get_cases}
 use Rattle.fp_model.specs.declared.database.Node.{Node, out-Node}
@@ -13,7 +13,7 @@ use Rattle.ci_space.specs.Element.{size_for}
 use Rattle.ci_overflow.specs.Faults.{FitsEmpty}
 use Rattle.fp_model.specs.declared.definitions.SegDef.{SegDef}
 use Rattle.fp_model.specs.Order.{is_child_of, numbers_from, child_types}
-use Rattle.fp_model.specs.WellFormed.{HasPlace, HavePlaces, EachFits, stored_length, in_fours, has_sequential}
+use Rattle.fp_model.specs.WellFormed.{HavePlaces, EachFits, stored_length, in_fours, has_sequential}
 use Rattle.root_anchor.specs.Elements.{has_serial, serial_length, segment_length, content_length}
 use Rattle.root_anchor.specs.Stored.{AreTypes, is_newest, is_storable, are_storable}
 use Rattle.root_anchor.specs.Rebuilding.{IsDirect}

@@ -1,16 +1,16 @@
 -- How an anchor's segments are built anew: which elements they had, which they have, and what stays.
-use Rattle.std.specs.Prelude.{◌≡◌, ◌≢◌, ◌⊎◌, ℕ, ◌<◌, List, [], ◌∷◌, ◌++◌, length, map, flat_map, reverse, Contains, Bool, false, slice_get, Option, Some, None, IfSome, ⊤}
+use Rattle.std.specs.Prelude.{◌≡◌, ◌⊎◌, ℕ, ◌<◌, List, [], ◌∷◌, ◌++◌, length, map, flat_map, Contains, false, slice_get, Option, Some, None, IfSome, ⊤}
 use Rattle.ci_space.specs.declared.intervals.Shape.{Shape}
 use Rattle.ci_space.specs.Interval.{HasUsed, IsUsed, HasRoom}
 use Rattle.ci_overflow.specs.Lists.{bytes_at, IsInOrder}
 use Rattle.ci_overflow.specs.Rooms.{KeepsRoots}
 use Rattle.fp_model.specs.declared.definitions.SegDef.{SegDef}
-use Rattle.fp_model.specs.declared.database.Node.{Node, out-Node}
+use Rattle.fp_model.specs.declared.database.Node.{Node}
 use Rattle.fp_model.specs.declared.database.Node.TheOpen.{Node-F}
 use Rattle.fp_model.specs.declared.database.Node.TheFolds.{fold-Node}
 use Rattle.fp_model.specs.declared.database.Root.{Root}
 use Rattle.fp_model.specs.Order.{child_types}
-use Rattle.root_anchor.specs.Elements.{Pointer, nothing, Segment, HasSegment, content_length}
+use Rattle.root_anchor.specs.Elements.{Pointer, Segment, HasSegment, content_length}
 use Rattle.root_anchor.specs.Chains.{AreRows, AreRoots}
 use Rattle.root_anchor.specs.Stored.{KeepsSequential}
 use Rattle.root_anchor.specs.Standing.{places_of}

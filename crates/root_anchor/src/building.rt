@@ -3,16 +3,15 @@
 //! A row is built from its last segment to its first, and what is below a segment before the segment itself: so each
 //! pointer is known when it is written. The plan is in hierarchical order, and is used up from its end.
 
-ghost use Rattle.std.specs.Prelude.{◌≡◌, ◌≢◌, ◌<◌, ◌≤◌, ◌++◌, ◌∷◌, [], ℕ, List, Err, IfOk, OnOk, IsErrOf, IsErr, length, map, true, false, option_and_then, Some};
+ghost use Rattle.std.specs.Prelude.{◌≡◌, ◌≢◌, ◌<◌, ◌≤◌, ◌++◌, ◌∷◌, [], ℕ, List, Err, IfOk, IsErrOf, IsErr, length, map, true, false, Some};
 ghost use Rattle.ci_space.specs.Calls.{Rose, GoesOn};
-ghost use Rattle.ci_space.specs.Interval.{HasRoom};
-ghost use Rattle.ci_overflow.specs.Lists.{bytes_at, IsInOrder};
+ghost use Rattle.ci_overflow.specs.Lists.{IsInOrder};
 ghost use Rattle.fp_model.specs.Order.{child_types};
-ghost use Rattle.fp_model.specs.Shape.{are_rows, is_row, seen_as, has_length};
-ghost use Rattle.root_anchor.specs.Elements.{HasSegment, content_length, has_serial, segment_length};
+ghost use Rattle.fp_model.specs.Shape.{are_rows, is_row, seen_as};
+ghost use Rattle.root_anchor.specs.Elements.{content_length, has_serial, segment_length};
 ghost use Rattle.root_anchor.specs.Chains.{anchor_count, newest};
 ghost use Rattle.root_anchor.specs.Stored.{AreTypes, are_storable, is_newest};
-ghost use Rattle.root_anchor.specs.Rebuilding.{Exchanges, and_place, HaveRoom, TakesPlace, PlacesSegment, IsDirect, IsPlanned, BuildsSegment, BuildsRows, BuildsRoots, types_of_row, types_of_rows, types_of_roots, types_of_segment};
+ghost use Rattle.root_anchor.specs.Rebuilding.{HaveRoom, TakesPlace, PlacesSegment, IsDirect, IsPlanned, BuildsSegment, BuildsRows, BuildsRoots, types_of_row, types_of_rows, types_of_roots, types_of_segment};
 ghost use Rattle.root_anchor.specs.declared.plan.Planned.{Planned as PlannedOf};
 ghost use Rattle.fp_model.specs.declared.definitions.SegDef.{SegDef as SegDefOf};
 

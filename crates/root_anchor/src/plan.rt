@@ -3,7 +3,7 @@
 //! Each new segment takes one of the elements in which the anchor's segments stood: one of its type and its key, if there
 //! is one that no other has taken. So what doesn't change isn't written again. Of several any will do.
 
-ghost use Rattle.std.specs.Prelude.{◌≡◌, ◌≢◌, ◌<◌, ◌≤◌, ◌++◌, ◌∷◌, [], ℕ, List, OnOk, IfOk, IsErr, Err, IfSome, IfNone, length, map, true, slice_index_or};
+ghost use Rattle.std.specs.Prelude.{◌≡◌, ◌<◌, ◌≤◌, ◌++◌, ◌∷◌, List, OnOk, IfOk, IsErr, Err, IfSome, IfNone, length, map, true, slice_index_or};
 ghost use Rattle.fp_model.specs.Order.{child_types};
 ghost use Rattle.fp_model.specs.Shape.{are_rows, is_row, seen_as};
 ghost use Rattle.fp_model.specs.WellFormed.{HavePlaces};

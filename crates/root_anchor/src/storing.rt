@@ -4,11 +4,9 @@
 //! back before any room is looked for. Then the roots are built from the last to the first, and at the end the root anchor
 //! point is put. An element that says the same as before isn't written.
 
-ghost use Rattle.std.specs.Prelude.{◌≡◌, ◌≢◌, ◌<◌, ◌≤◌, ◌*◌, [], ℕ, List, Err, OnOk, IsErrOf, length, true, Contains};
+ghost use Rattle.std.specs.Prelude.{◌≡◌, ◌≢◌, ◌<◌, ◌≤◌, [], ℕ, List, Err, OnOk, IsErrOf, true};
 ghost use Rattle.ci_space.specs.Calls.{Rose, GoesOn};
-ghost use Rattle.ci_space.specs.Interval.{IsUsed};
-ghost use Rattle.ci_overflow.specs.Lists.{bytes_at, IsInOrder};
-ghost use Rattle.root_anchor.specs.Elements.{Pointer as PointerOf};
+ghost use Rattle.ci_overflow.specs.Lists.{IsInOrder};
 ghost use Rattle.root_anchor.specs.Chains.{anchor_count};
 ghost use Rattle.root_anchor.specs.Formed.{IsFormed, HasChain};
 ghost use Rattle.root_anchor.specs.Stored.{AreTypes, are_storable, HasRoots, OthersKeep, KeepsSequential};

@@ -1,4 +1,4 @@
-use Rattle.std.proofs.Common.{◌≡◌, ◌∙◌, ◌<◌, ◌≤◌, ◌-◌, ◌+◌, suc, length, get_or, Err, refl, sym, ap, subst, arith, rules}
+use Rattle.std.proofs.Common.{◌≡◌, ◌∙◌, ◌<◌, ◌-◌, length, get_or, refl, sym, ap, subst, arith}
 use Rattle.ci_space.proofs.Going.{goes-itself}
 use Rattle.ci_overflow.proofs.Going.{goes_on_joined}
 use Rattle.std.proofs.lemmas.Result.{err_from_is_err_and}
@@ -6,7 +6,6 @@ use Rattle.std.proofs.Common.{ℕ, List}
 use Rattle.std.proofs.lemmas.List.{get_or_read, length-set}
 use Rattle.root_anchor.specs.Elements.{has_serial}
 use Rattle.root_anchor.specs.Rebuilding.{IsPlanned, IsDirect, BuildsRows, types_of_rows}
-use Rattle.root_anchor.specs.declared.plan.Planned.{Planned}
 use Rattle.fp_model.specs.Order.{child_types}
 use Rattle.root_anchor.proofs.Exits.{same_fault}
 use Rattle.root_anchor.proofs.Growing.{row-none, row-part, row-on, row-whole, rows-none, rows-part, rows-on, rows-whole, RowDone, RowsDone, parted, room-planned, segment-made, same-types}

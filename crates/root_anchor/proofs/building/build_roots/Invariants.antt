@@ -1,4 +1,4 @@
-use Rattle.std.proofs.Common.{◌≡◌, ◌≤◌, List, length}
+use Rattle.std.proofs.Common.{◌≤◌, List, length}
 use Rattle.ci_space.specs.Calls.{GoesOn}
 use Rattle.root_anchor.specs.Rebuilding.{IsPlanned, types_of_roots}
 use Rattle.root_anchor.specs.declared.plan.Planned.{Planned}

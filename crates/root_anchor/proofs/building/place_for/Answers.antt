@@ -1,9 +1,7 @@
-use Rattle.std.proofs.Common.{◌≡◌, ◌<◌, ℕ, Err, sym, subst, ap, ◌∙◌, arith}
+use Rattle.std.proofs.Common.{◌≡◌, ℕ, Err, sym, subst, ap, ◌∙◌, arith}
 use Rattle.ci_space.proofs.Tilings.{size-bounds}
 use Rattle.ci_overflow.specs.Faults.{FitsEmpty}
-use Rattle.ci_overflow.specs.declared.SpaceFault.{SpaceFault}
 use Rattle.ci_overflow.specs.declared.SpaceFault.TheVariants.{Damaged as SpaceDamaged}
-use Rattle.root_anchor.specs.declared.fault.AnchorFault.{AnchorFault}
 use Rattle.root_anchor.specs.declared.fault.AnchorFault.TheVariants.{Damaged}
 use Rattle.root_anchor.proofs.TypeLemmas.{fits-empty, content-small}
 use Rattle.root_anchor.proofs.Steps.{finds-place, keeps-place}

@@ -1,4 +1,4 @@
-use Rattle.std.proofs.Common.{◌≡◌, ◌∙◌, List, sym, ap, subst, arith}
+use Rattle.std.proofs.Common.{◌∙◌, List, sym, ap, subst, arith}
 use Rattle.root_anchor.specs.Rebuilding.{types_of, Shares}
 use Rattle.root_anchor.specs.declared.plan.Planned.{Planned}
 use Rattle.root_anchor.proofs.Growing.{roots-unplanned}

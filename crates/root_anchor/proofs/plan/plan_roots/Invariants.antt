@@ -1,4 +1,4 @@
-use Rattle.std.proofs.Common.{◌≡◌, ◌≤◌, List, length, drop}
+use Rattle.std.proofs.Common.{◌≡◌, ◌≤◌, length, drop}
 use Rattle.root_anchor.specs.Rebuilding.{Shares, types_of, types_of_roots}
 use Rattle.root_anchor.proofs.plan.plan_roots.Given as goal
 

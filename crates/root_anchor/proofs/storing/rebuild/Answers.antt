@@ -1,9 +1,7 @@
-use Rattle.std.proofs.Common.{◌≡◌, ◌∙◌, ◌<◌, ℕ, [], sym, ap, subst, arith}
+use Rattle.std.proofs.Common.{[]}
 use Rattle.std.proofs.lemmas.Result.{err_from_is_err_and}
-use Rattle.ci_overflow.proofs.Finds.{base-some}
 use Rattle.ci_overflow.proofs.Joins.{on_ok-map}
 use Rattle.root_anchor.proofs.Exits.{same_fault}
-use Rattle.root_anchor.proofs.Growing.{same-types}
 use Rattle.root_anchor.proofs.Rebuilt.{base-in-place, givable, still-planned, rebuilds}
 use Rattle.root_anchor.proofs.storing.rebuild.Goals as goal
 
