@@ -226,3 +226,7 @@ stores shape types old now new anchor all rest slice plan roots e s b f a h r =
     let P : List (List ℕ) → Type 0 = λ area. Rebuilds shape types area new anchor plan slice roots in
     let Q : List Standing → Type 0 = λ xs. Rebuilds shape types old new anchor plan xs roots in
     is-stored shape types old new anchor all rest plan roots b f a h (subst Q s (subst P e r))
+
+-- an anchor has the roots that stand in its elements
+pub has_chain : {shape : Shape} {types : List SegDef} {area : List (List ℕ)} {anchor : ℕ} {list : List Standing} → AreStanding shape types area anchor list → HasChain shape types area anchor
+has_chain standing = record { roots = standing.roots; elements = standing.elements; is_chain = standing.is_chain }

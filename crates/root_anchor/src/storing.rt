@@ -8,6 +8,7 @@ ghost use Rattle.std.specs.Prelude.{◌≡◌, ◌≢◌, ◌<◌, ◌≤◌, []
 ghost use Rattle.ci_space.specs.Calls.{Rose, GoesOn};
 ghost use Rattle.ci_overflow.specs.Lists.{IsInOrder};
 ghost use Rattle.root_anchor.specs.Chains.{anchor_count};
+ghost use Rattle.root_anchor.specs.Damage.{ChainFails};
 ghost use Rattle.root_anchor.specs.Formed.{IsFormed, HasChain};
 ghost use Rattle.root_anchor.specs.Stored.{AreTypes, are_storable, HasRoots, OthersKeep, KeepsSequential};
 ghost use Rattle.root_anchor.specs.Standing.{places_of};
@@ -100,6 +101,10 @@ pub fn store<I: Intervals>(
 
     // Where the area is in order and the anchor has roots, nothing is damaged.
     ensures sound { I.told i.old → IsInOrder shape.now (I.intervals i.old) → HasChain shape.now segments.now (I.intervals i.old) anchor → (ci : ℕ) → result ≢ Err (AnchorFault.Damaged ci) }
+
+    // Where it has none, the interval that is damaged is named, and `Ok` doesn't come.
+    ensures damaged { I.told i.old → ¬ HasChain shape.now segments.now (I.intervals i.old) anchor → (ci : ℕ) → result ≡ Err (AnchorFault.Damaged ci) → ChainFails shape.now segments.now (I.intervals i.old) anchor ci }
+    ensures stood { I.told i.old → OnOk result (HasChain shape.now segments.now (I.intervals i.old) anchor) }
 
     // It fails only with what holds the intervals.
     ensures failed { IsErrOf result AnchorFault.Failed → Rose (I.faults i.old) (I.faults i.new) }

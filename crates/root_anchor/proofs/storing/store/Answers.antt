@@ -1,8 +1,8 @@
 use Rattle.std.proofs.lemmas.Result.{err_from_is_err_and}
 use Rattle.ci_overflow.proofs.Joins.{on_ok-map}
-use Rattle.root_anchor.proofs.Exits.{same_fault}
+use Rattle.root_anchor.proofs.Exits.{at_ok, same_fault}
 use Rattle.root_anchor.proofs.Sound.{chain_sound}
-use Rattle.root_anchor.proofs.Rebuilt.{ready, stores}
+use Rattle.root_anchor.proofs.Rebuilt.{has_chain, ready, stores}
 use Rattle.root_anchor.proofs.storing.store.Goals as goal
 
 pub returns-in_err-standing-clause-sound : goal.returns-in_err-standing-clause-sound
@@ -48,3 +48,17 @@ returns-clause-sound g c = λ told o h ci e.
     let standing = c.in_ok-standing.ensures.standing told in
     let is_ready = ready _ _ _ _ c.args.anchor _ _ _ _ _ same c.as_slice.ensures.value o standing c.in_ok-plan.ensures.shares c.in_ok-plan.ensures.types in
     c.rebuild.ensures.sound (c.elements_of.ensures.goes_on.tells told) is_ready ci e
+
+pub returns-in_err-standing-clause-damaged : goal.returns-in_err-standing-clause-damaged
+returns-in_err-standing-clause-damaged g c = λ told none ci e.
+    let f = err_from_is_err_and c.from_residual.result c.from_residual.ensures.1 in
+    c.in_err-standing.ensures.damaged told ci (same_fault _ _ _ _ f.1 f.2 e)
+
+pub returns-in_err-plan-clause-damaged : goal.returns-in_err-plan-clause-damaged
+returns-in_err-plan-clause-damaged g c = λ told none ci e. absurd (none (has_chain (c.in_ok-standing.ensures.standing told)))
+
+pub returns-clause-damaged : goal.returns-clause-damaged
+returns-clause-damaged g c = λ told none ci e. absurd (none (has_chain (c.in_ok-standing.ensures.standing told)))
+
+pub returns-clause-stood : goal.returns-clause-stood
+returns-clause-stood g c = λ told. at_ok c.rebuild.result _ (has_chain (c.in_ok-standing.ensures.standing told))
