@@ -214,14 +214,23 @@ fn add_unit(rt: &HostRuntime, intervals: &mut Vec<Interval>) -> Result<(), Fail>
     Ok(())
 }
 
-/// Adds the intervals of so many units of work.
-fn add_units(rt: &HostRuntime, intervals: &mut Vec<Interval>, uows: u32) -> Result<(), Fail>
-    ensures { HaveSize 512 intervals.old.items → 0 < length intervals.old.items → OnOk result (HaveSize 512 intervals.new.items × (0 < length intervals.new.items)) }
+/// Adds the intervals of two units of work.
+fn add_two(rt: &HostRuntime, intervals: &mut Vec<Interval>) -> Result<(), Fail>
+    ensures { HaveSize 512 intervals.old.items → OnOk result (HaveSize 512 intervals.new.items × (0 < length intervals.new.items)) }
 {
-    for _ in 0..uows {
-        add_unit(rt, intervals)?;
+    add_unit(rt, intervals)?;
+    add_unit(rt, intervals)
+}
+
+/// Adds the intervals of two or four units of work.
+fn add_units(rt: &HostRuntime, intervals: &mut Vec<Interval>, uows: u32) -> Result<(), Fail>
+    ensures { HaveSize 512 intervals.old.items → OnOk result (HaveSize 512 intervals.new.items × (0 < length intervals.new.items)) }
+{
+    add_two(rt, intervals)?;
+    if uows == 2 {
+        return Ok(());
     }
-    Ok(())
+    add_two(rt, intervals)
 }
 
 /// The area of that shape as it is formatted.

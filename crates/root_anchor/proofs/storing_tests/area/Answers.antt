@@ -8,7 +8,6 @@ new-requires c =
     let P : List (List ℕ) → Type 0 = HaveSize 512 in
     let none = subst P (sym c.new-intervals.ensures.items) (All-nil (λ bytes. length bytes ≡ 512)) in
     let one = c.in_ok-add.ensures none in
-    let two = c.in_ok-add_unit.ensures one.0 in
-    let three = c.in_ok-add_unit-2.ensures two.0 in
-    let four = c.in_ok-add-2.ensures three.0 in
-    record { size = 512; some = four.1; each = four.0 }
+    let two = c.in_ok-add_units.ensures one.0 in
+    let three = c.in_ok-add-2.ensures two.0 in
+    record { size = 512; some = three.1; each = three.0 }
