@@ -9,9 +9,9 @@ use Rattle.fp_model.specs.declared.definitions.SegDef.{SegDef}
 use Rattle.fp_model.specs.declared.database.Root.{Root}
 use Rattle.root_anchor.specs.Elements.{Pointer}
 use Rattle.root_anchor.specs.Chains.{IsChain, AreRoots, anchor_count, root_of}
-use Rattle.root_anchor.specs.Formed.{IsFormed, HasChain, Meets, IsMet}
+use Rattle.root_anchor.specs.Formed.{IsFormed, HasChain, HasRoots, Meets, IsMet}
 use Rattle.root_anchor.specs.Puts.{PutsRoot}
-use Rattle.root_anchor.specs.Stored.{HasRoots, KeepsSequential, OthersKeep}
+use Rattle.root_anchor.specs.Stored.{KeepsSequential, OthersKeep}
 use Rattle.std.proofs.lemmas.List.{append-nil}
 use Rattle.root_anchor.specs.Standing.{places_of, AreStanding}
 use Rattle.root_anchor.specs.declared.plan.Planned.{Planned}

@@ -35,11 +35,6 @@ is_storable types root =
 abbrev pub are_storable : List SegDef → List Root → Bool
 are_storable types roots = list_all (is_storable types) roots
 
--- an anchor has these roots
-pub record HasRoots (shape : Shape) (types : List SegDef) (area : List (List ℕ)) (anchor : ℕ) (roots : List Root) : Type 0 where
-  pub elements : List Pointer
-  pub is_chain : IsChain shape types area anchor roots elements
-
 -- every other anchor keeps its roots, and the elements that they stand in
 abbrev pub OthersKeep : Shape → List SegDef → List (List ℕ) → List (List ℕ) → ℕ → Type 0
 OthersKeep shape types old new anchor =

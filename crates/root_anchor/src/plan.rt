@@ -1,9 +1,11 @@
 //! The places that a plan has for an anchor's new segments.
 //!
-//! Each new segment takes one of the elements in which the anchor's segments stood: one of its type and its key, if there
-//! is one that no other has taken. So what doesn't change isn't written again. Of several any will do.
+//! Each new segment takes the element in which the segment of its type and its key stood, below the element that its
+//! parent takes. So what doesn't change isn't written again. New segments and elements are both in hierarchical order, and
+//! both are gone through once, from the last to the first: what is left to look at ends at `to`. What a plan promises doesn't rest on that order: only that no element
+//! is taken twice, and each by a segment of its type.
 
-ghost use Rattle.std.specs.Prelude.{◌≡◌, ◌<◌, ◌≤◌, ◌++◌, ◌∷◌, List, OnOk, IfOk, IsErr, Err, IfSome, IfNone, length, map, true, slice_index_or};
+ghost use Rattle.std.specs.Prelude.{◌≡◌, ◌<◌, ◌≤◌, ◌++◌, ◌∷◌, List, OnOk, IfOk, IsErr, Err, IfSome, IfNone, length, map, true};
 ghost use Rattle.fp_model.specs.Order.{child_types};
 ghost use Rattle.fp_model.specs.Shape.{are_rows, is_row, seen_as};
 ghost use Rattle.fp_model.specs.WellFormed.{HavePlaces};
@@ -16,6 +18,7 @@ use crate::fault::AnchorFault;
 use crate::standing::{Pointer, Standing};
 use fp_model::{Bytes, List, Node, Root, SegDef};
 use std::alloc::Global;
+use std::cmp::Ordering;
 use std::collections::VecDeque;
 
 /// The place that a segment of a type is to take: an element in which one of that type stands. None where it takes a new one.
@@ -37,44 +40,74 @@ fn key_of<'a>(segments: &List<SegDef>, segment: u8, bytes: &'a [u8]) -> &'a [u8]
     &bytes[..length.min(bytes.len())]
 }
 
-/// The place of the last of these elements that has this type and this key.
-fn last_like(standing: &[Standing], segment: u8, key: &[u8]) -> Option<usize>
-    ensures { IfSome result (λ k. (k < length standing.now) × ((d : StandingOf) → (slice_index_or standing.now k d).segment ≡ segment)) }
-{
-    let mut left = standing.len();
-    while left > 0 {
-        left -= 1;
-        let element = &standing[left];
-        if element.segment == segment && element.key.as_slice() == key {
-            return Some(left);
-        }
-    }
-    None
+/// Where a segment stood, if it did, and where what stood below it ends.
+#[derive(Clone, Copy)]
+struct Found {
+    place: Option<usize>,
+    end: usize,
 }
 
-/// Takes out the last of these elements that has this type and this key.
-fn take_like(standing: &mut Vec<Standing>, segment: u8, key: &[u8]) -> Option<Pointer>
+/// The element of this type and this key, between two places. Elements of the type are looked at from the last to the
+/// first, and none behind a lower key.
+fn find_like(standing: &[Standing], from: usize, to: usize, segment: u8, key: &[u8]) -> Found
+    ensures { IfSome result.place (λ k. k < length standing.now) }
+{
+    let mut end = to.min(standing.len());
+    let mut left = end;
+    while left > from {
+        left -= 1;
+        let element = &standing[left];
+        if element.segment == segment {
+            match element.key.as_slice().cmp(key) {
+                Ordering::Less => return Found { place: None, end },
+                Ordering::Equal => {
+                    return Found {
+                        place: Some(left),
+                        end,
+                    };
+                }
+                Ordering::Greater => end = left,
+            }
+        }
+    }
+    Found { place: None, end }
+}
+
+/// Where the elements below the one at a place begin. Below none there are none.
+fn below(standing: &[Standing], place: Option<usize>) -> usize
+    requires { IfSome place (λ k. k < length standing.now) }
+{
+    match place {
+        Some(place) => place + 1,
+        None => standing.len(),
+    }
+}
+
+/// Takes the element out that stands at a place, where it has this type.
+fn take_out(standing: &mut Vec<Standing>, place: Option<usize>, segment: u8) -> Option<Pointer>
     ensures taken { IfSome result (TakesOut standing.old.items standing.new.items segment) }
     ensures none { IfNone result (standing.new.items ≡ standing.old.items) }
 {
-    let place = last_like(standing.as_slice(), segment, key)?;
+    let place = place?;
+    if place >= standing.len() || standing[place].segment != segment {
+        return None;
+    }
     let taken = standing.remove(place);
     Some(taken.at)
 }
 
-/// Plans the place of a segment itself, in front of what is planned.
+/// Plans the place of a segment itself, in front of what is planned: that of the element at `place`, if there is one.
 fn plan_itself(
-    segments: &List<SegDef>,
     plan: &mut VecDeque<Planned>,
     standing: &mut Vec<Standing>,
+    place: Option<usize>,
     segment: u8,
-    bytes: &[u8],
 ) -> Result<(), AnchorFault>
     ensures types { OnOk result (types_of plan.new.items ≡ segment ∷ types_of plan.old.items) }
     ensures shares { (all : List StandingOf) → Shares all plan.old.items standing.old.items → OnOk result (Shares all plan.new.items standing.new.items) }
     ensures memory { IsErr result → result ≡ Err AnchorFault.Memory }
 {
-    let at = take_like(standing, segment, key_of(segments, segment, bytes));
+    let at = take_out(standing, place, segment);
     match plan.push_front(Planned { segment, at }) {
         Ok(()) => Ok(()),
         Err(_) => Err(AnchorFault::Memory),
@@ -88,6 +121,8 @@ fn plan_segment(
     segments: &List<SegDef>,
     plan: &mut VecDeque<Planned>,
     standing: &mut Vec<Standing>,
+    from: usize,
+    to: &mut usize,
     segment: u8,
     bytes: &Bytes,
     children: &List<List<Node>>,
@@ -99,8 +134,17 @@ fn plan_segment(
     ensures shares { (all : List StandingOf) → Shares all plan.old.items standing.old.items → OnOk result (Shares all plan.new.items standing.new.items) }
     ensures memory { IsErr result → result ≡ Err AnchorFault.Memory }
 {
-    plan_rows(alloc, segments, plan, standing, segment, children)?;
-    plan_itself(segments, plan, standing, segment, bytes.as_slice())
+    let key = key_of(segments, segment, bytes.as_slice());
+    let found = find_like(standing.as_slice(), from, *to, segment, key);
+    let first = below(standing.as_slice(), found.place);
+    let mut end = found.end;
+    plan_rows(
+        alloc, segments, plan, standing, first, &mut end, segment, children,
+    )?;
+    if let Some(place) = found.place {
+        *to = place;
+    }
+    plan_itself(plan, standing, found.place, segment)
 }
 
 /// Plans the places of a row of segments of a type, and of all below them, from the last to the first.
@@ -110,6 +154,8 @@ fn plan_row(
     segments: &List<SegDef>,
     plan: &mut VecDeque<Planned>,
     standing: &mut Vec<Standing>,
+    from: usize,
+    to: &mut usize,
     segment: u8,
     row: &List<Node>,
 ) -> Result<(), AnchorFault>
@@ -130,6 +176,8 @@ fn plan_row(
             segments,
             plan,
             standing,
+            from,
+            to,
             segment,
             &node.bytes,
             &node.children,
@@ -145,6 +193,8 @@ fn plan_rows(
     segments: &List<SegDef>,
     plan: &mut VecDeque<Planned>,
     standing: &mut Vec<Standing>,
+    from: usize,
+    to: &mut usize,
     segment: u8,
     rows: &List<List<Node>>,
 ) -> Result<(), AnchorFault>
@@ -160,7 +210,7 @@ fn plan_rows(
     while left > 0 {
         left -= 1;
         let row = &rows.as_slice()[left];
-        plan_row(alloc, segments, plan, standing, types[left], row)?;
+        plan_row(alloc, segments, plan, standing, from, to, types[left], row)?;
     }
     Ok(())
 }
@@ -181,6 +231,7 @@ pub(crate) fn plan_roots(
     ensures memory { IsErr result → result ≡ Err AnchorFault.Memory }
 {
     let mut plan = VecDeque::new(alloc);
+    let mut to = standing.len();
     let mut left = roots.len();
     while left > 0 {
         left -= 1;
@@ -190,6 +241,8 @@ pub(crate) fn plan_roots(
             segments,
             &mut plan,
             standing,
+            0,
+            &mut to,
             0,
             &root.bytes,
             &root.children,

@@ -9,8 +9,8 @@ ghost use Rattle.ci_space.specs.Calls.{Rose, GoesOn};
 ghost use Rattle.ci_overflow.specs.Lists.{IsInOrder};
 ghost use Rattle.root_anchor.specs.Chains.{anchor_count};
 ghost use Rattle.root_anchor.specs.Damage.{ChainFails};
-ghost use Rattle.root_anchor.specs.Formed.{IsFormed, HasChain};
-ghost use Rattle.root_anchor.specs.Stored.{AreTypes, are_storable, HasRoots, OthersKeep, KeepsSequential};
+ghost use Rattle.root_anchor.specs.Formed.{IsFormed, HasChain, HasRoots};
+ghost use Rattle.root_anchor.specs.Stored.{AreTypes, are_storable, OthersKeep, KeepsSequential};
 ghost use Rattle.root_anchor.specs.Standing.{places_of};
 ghost use Rattle.root_anchor.specs.Rebuilding.{Exchanges, AreGivable, IsRebuildable, Rebuilds};
 

@@ -115,16 +115,20 @@ fn serials(rt: &HostRuntime, newest: u8) -> Result<List<SeqItem>, Fail>
 }
 
 /// The root itself: its key, C and three digits, and its name.
-fn text(rt: &HostRuntime, customer: &Customer) -> Result<Bytes, Fail>
-    ensures { IfOk result (λ bytes. length bytes ≡ 16) }
-{
+fn segment_of(customer: &Customer) -> [u8; 16] {
     let mut text = [b' '; 16];
     text[0] = b'C';
     text[1] = b'0' + customer.number / 100;
     text[2] = b'0' + customer.number / 10 % 10;
     text[3] = b'0' + customer.number % 10;
     text[4] = customer.name;
-    Ok(Bytes::from_slice(rt.alloc(), &text)?)
+    text
+}
+
+fn text(rt: &HostRuntime, customer: &Customer) -> Result<Bytes, Fail>
+    ensures { IfOk result (λ bytes. length bytes ≡ 16) }
+{
+    Ok(Bytes::from_slice(rt.alloc(), &segment_of(customer))?)
 }
 
 /// A root with all below it.
@@ -240,7 +244,7 @@ fn area(rt: &HostRuntime, uows: u32) -> Result<MemoryIntervals, Fail>
 {
     let mut intervals = Vec::new(rt.alloc());
     let mut control = Interval::empty(rt.alloc(), 512, 1)?;
-    control.set_ends([1, 1, 0, 0]);
+    control.set_ends([1, 256, 0, 0]);
     add(&mut intervals, control)?;
     add_units(rt, &mut intervals, uows)?;
     add(&mut intervals, Interval::empty(rt.alloc(), 512, 4)?)?;
@@ -264,6 +268,69 @@ fn customers(rt: &HostRuntime, name: u8) -> Result<Vec<Customer>, Fail> {
         })?;
     }
     Ok(customers)
+}
+
+/// What control says, as bytes of its numbers that aren't greater than 65,535.
+fn counts(control: &Interval) -> [u16; 4] {
+    let mut numbers = [0; 4];
+    for (turn, number) in numbers.iter_mut().enumerate() {
+        let mut bytes = control.whole().iter().skip(38 + 8 * turn);
+        if let (Some(high), Some(low)) = (bytes.next(), bytes.next()) {
+            *number = u16::from_be_bytes([*high, *low]);
+        }
+    }
+    numbers
+}
+
+/// The element of a root without children, whose next twin is this one: its length, used, type 0; the pointer to the twin;
+/// the newest serial; no first child; the segment.
+fn element(customer: &Customer, next: (u64, u16)) -> [u8; 48] {
+    let mut bytes = [0; 48];
+    bytes[1] = 48;
+    bytes[2] = 1;
+    bytes[4..12].copy_from_slice(&next.0.to_be_bytes());
+    bytes[12..14].copy_from_slice(&next.1.to_be_bytes());
+    bytes[21] = customer.newest;
+    bytes[32..48].copy_from_slice(&segment_of(customer));
+    bytes
+}
+
+/// Whether an interval has these bytes at a place.
+fn has_bytes(interval: &Interval, at: u16, bytes: &[u8]) -> bool {
+    let mut there = interval.whole().iter().skip(usize::from(at));
+    for byte in bytes {
+        if there.next() != Some(byte) {
+            return false;
+        }
+    }
+    true
+}
+
+/// Whether these roots stand in the elements of three intervals, from the last root to the first: ten, ten and the rest.
+fn are_chained(first: &Interval, second: &Interval, third: &Interval, roots: &[Customer]) -> bool {
+    let mut next = (0, 0);
+    let mut at: u16 = 32;
+    let mut ci: u64 = 4;
+    for customer in roots.iter().rev() {
+        let interval = if ci == 4 {
+            first
+        } else if ci == 6 {
+            second
+        } else {
+            third
+        };
+        if !has_bytes(interval, at, &element(customer, next)) {
+            return false;
+        }
+        next = (ci, at);
+        if at == 464 {
+            at = 32;
+            ci = ci.wrapping_add(2);
+        } else {
+            at = at.wrapping_add(48);
+        }
+    }
+    true
 }
 
 /// C001 in the new interval: 48 bytes, used, type 0; its next twin in the dependent overflow interval at 464; the newest
@@ -303,6 +370,8 @@ fn a_chain_fills_the_intervals_of_its_unit(rt: HostRuntime) -> Result<(), Fail> 
     ] {
         assert_eq!(rt; all[ci].is_used(at), is_used);
     }
+    assert_eq!(rt; counts(&all[0]), [1, 256, 1, 0]);
+    assert!(rt; are_chained(&all[4], &all[6], &all[8], &customers));
     let bytes = all[8].whole();
     assert_eq!(rt; bytes.len(), 512);
     assert_eq!(rt; &bytes[32..80], FIRST.as_slice());
@@ -356,6 +425,88 @@ fn one_root_that_changes_is_written_alone(rt: HostRuntime) -> Result<(), Fail> {
     Ok(())
 }
 
+/// The intervals once more.
+fn copies(rt: &HostRuntime, memory: &MemoryIntervals) -> Result<Vec<Interval>, Fail> {
+    let mut copies = Vec::new(rt.alloc());
+    for interval in memory.all() {
+        copies.push(interval.copied(rt.alloc())?)?;
+    }
+    Ok(copies)
+}
+
+/// Whether an element that is used at a place stays.
+fn stays(old: &Interval, new: &Interval, at: u16) -> bool {
+    if !old.is_used(at) {
+        return true;
+    }
+    if !new.is_used(at) {
+        return false;
+    }
+    old.content(at) == new.content(at)
+}
+
+/// How many used elements of an interval don't stay.
+fn changed_within(old: &Interval, new: &Interval) -> u32 {
+    let mut changed: u32 = 0;
+    for place in 8..128u16 {
+        if !stays(old, new, place * 4) {
+            changed = changed.saturating_add(1);
+        }
+    }
+    changed
+}
+
+/// How many used elements of these intervals don't stay.
+fn changed_elements(old: &[Interval], new: &[Interval]) -> u32 {
+    let mut changed: u32 = 0;
+    for (old, new) in old.iter().zip(new) {
+        changed = changed.saturating_add(changed_within(old, new));
+    }
+    changed
+}
+
+/// Ten roots, each with a child of the same key.
+fn lenders(rt: &HostRuntime) -> Result<Vec<Customer>, Fail> {
+    let mut customers = Vec::new(rt.alloc());
+    for number in 0..10u8 {
+        customers.push(Customer {
+            number,
+            name: b'A',
+            newest: 0,
+            loan: Some(number),
+        })?;
+    }
+    Ok(customers)
+}
+
+#[test]
+fn a_root_that_comes_or_goes_moves_no_other(rt: HostRuntime) -> Result<(), Fail> {
+    let mut memory = area(&rt, 2)?;
+    have_size(&memory);
+    let mut customers = lenders(&rt)?;
+    assert!(rt; put(&rt, &mut memory, 2, 1, &customers)?);
+    let before = copies(&rt, &memory)?;
+    customers.push(Customer {
+        number: 99,
+        name: b'B',
+        newest: 0,
+        loan: Some(99),
+    })?;
+    assert!(rt; put(&rt, &mut memory, 2, 1, &customers)?);
+    // The twin before it points to it.
+    assert_eq!(rt; changed_elements(&before, memory.all()), 1);
+    assert!(rt; has(&rt, &mut memory, 2, 1, &customers)?);
+
+    let between = copies(&rt, &memory)?;
+    customers.pop();
+    assert!(rt; put(&rt, &mut memory, 2, 1, &customers)?);
+    // It goes with its child, and the twin before it points to nothing.
+    assert_eq!(rt; changed_elements(&between, memory.all()), 3);
+    assert_eq!(rt; changed_elements(&before, memory.all()), 0);
+    assert!(rt; has(&rt, &mut memory, 2, 1, &customers)?);
+    Ok(())
+}
+
 /// The place of the first in a list whose number isn't below this.
 fn place_of(list: &[Customer], number: u8) -> usize
     ensures { result ≤ length list.now }
@@ -383,13 +534,23 @@ fn change(list: &mut Vec<Customer>, seed: u32) -> Result<(), Fail> {
     };
     let place = place_of(list, number);
     if place < list.len() && list[place].number == number {
-        if seed >> 30 == 0 {
+        if seed >> 31 == 0 {
             list[place] = customer;
         } else {
             list.remove(place);
         }
     } else {
         list.insert(place, customer)?;
+    }
+    Ok(())
+}
+
+/// Eight changes, from a fixed sequence of numbers.
+fn change_eight(list: &mut Vec<Customer>, first: u32) -> Result<(), Fail> {
+    let mut seed = first;
+    for _ in 0..8 {
+        seed = seed.wrapping_mul(22_695_477).wrapping_add(1);
+        change(list, seed)?;
     }
     Ok(())
 }
@@ -426,7 +587,7 @@ fn mixed<I: Intervals>(rt: &HostRuntime, i: &mut I) -> Result<bool, Fail>
         seed = seed.wrapping_mul(1_664_525).wrapping_add(1_013_904_223);
         let anchor = (seed >> 9) % 8;
         if let Some(list) = lists.get_mut(anchor as usize) {
-            change(list, seed)?;
+            change_eight(list, seed)?;
             if !put(rt, i, 4, anchor, list)? {
                 return Ok(false);
             }
