@@ -126,9 +126,9 @@ pub fn try_standing<I: Intervals>(
 }
 
 /// The link of a unit of work's first base interval. It isn't read again where it is the interval
-/// `base`, whose link is known.
-fn list_link<I: Intervals>(i: &mut I, first: u64, base: u64, link: u64) -> Result<u64, SpaceFault>
-    ensures link { I.told i.old → link ≡ link_of (bytes_at (I.intervals i.old) base) → IfOk result (λ link. link ≡ link_of (bytes_at (I.intervals i.old) first)) }
+/// `base`, whose link is `known`.
+fn list_link<I: Intervals>(i: &mut I, first: u64, base: u64, known: u64) -> Result<u64, SpaceFault>
+    ensures link { I.told i.old → known ≡ link_of (bytes_at (I.intervals i.old) base) → IfOk result (λ link. link ≡ link_of (bytes_at (I.intervals i.old) first)) }
     ensures failed { IsErrOf result SpaceFault.Failed → Rose (I.faults i.old) (I.faults i.new) }
     ensures damaged { I.told i.old → (n : ℕ) → result ≡ Err (SpaceFault.Damaged n) → IsNotThere (I.intervals i.old) (record { ci = first; kind = 2; owner = 0; from = first }) n }
     ensures same { I.told i.old → I.intervals i.new ≡ I.intervals i.old }
@@ -136,7 +136,7 @@ fn list_link<I: Intervals>(i: &mut I, first: u64, base: u64, link: u64) -> Resul
     ensures goes_on { GoesOn I.told I.size I.faults I.keeps i.old i.new }
 {
     if base == first {
-        return Ok(link);
+        return Ok(known);
     }
     first_link(i, first)
 }
