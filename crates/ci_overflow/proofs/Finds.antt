@@ -1,5 +1,5 @@
 -- A new element, where it was looked for.
-use Rattle.std.proofs.Common.{◌≡◌, ◌≢◌, ℕ, zero, suc, ◌-◌, ◌*◌, ◌<◌, ◌≤◌, ◌⊎◌, inl, inr, List, [], ◌∷◌, length, drop, slice_index, Option, Some, None, IsTrue, refl, sym, ap, ◌∙◌, subst, arith}
+use Rattle.std.proofs.Common.{◌≡◌, ◌≢◌, ℕ, zero, suc, ◌-◌, ◌*◌, ◌<◌, ◌≤◌, ◌⊎◌, inl, inr, List, [], ◌∷◌, length, drop, slice_index, Option, Some, None, IfNone, IsTrue, refl, sym, ap, ◌∙◌, subst, arith}
 use Rattle.std.proofs.lemmas.List.{get_or_past}
 use Rattle.std.proofs.lemmas.Bool.{cases_lt}
 use Rattle.ci_space.specs.declared.intervals.Shape.{Shape}
@@ -11,9 +11,10 @@ use Rattle.ci_space.proofs.Tilings.{size-bounds}
 use Rattle.ci_space.proofs.Standing.{used-stands}
 use Rattle.ci_space.proofs.Empties.{tiled-tiles}
 use Rattle.ci_overflow.specs.Places.{first_base, first_independent, uow_of}
-use Rattle.ci_overflow.specs.Lists.{bytes_at, link_of, first_free, IsChain, IsInPlace, IsInOrder}
-use Rattle.ci_overflow.specs.Rooms.{places, AreFull, KeepsUsed, OnlyOneChanges, IsPut, TakesAt, AreTried, ChangesLink, ChangesEnds, KeepsEnds, KeepsButLink, KeepsRoots, Joins, JoinsFree, JoinsNew, JoinsNext, FindsRoom}
-use Rattle.ci_overflow.proofs.Joins.{base-before, keeps-head, root-zero, kind-behind}
+use Rattle.ci_overflow.specs.Lists.{bytes_at, link_of, first_free, IsChain, IsInOrder}
+use Rattle.ci_overflow.specs.Rooms.{places, IsNext, IsFirstPlace, KeepsUsed, OnlyOneChanges, IsPut, TakesAt, IsTaken, AreTried, ChangesLink, ChangesEnds, KeepsEnds, KeepsButLink, KeepsRoots, Joins, JoinsFree, JoinsNew, JoinsNext, TakesRoom, FindsRoom}
+use Rattle.ci_overflow.proofs.Joins.{base-before, keeps-head, root-zero}
+use Rattle.ci_overflow.proofs.Tries.{option_some, option_none}
 
 pub same_or : (a b : ℕ) → (a ≡ b) ⊎ (a ≢ b)
 same_or a b = elim (cases_lt a b) as (λ _. (a ≡ b) ⊎ (a ≢ b)) [
@@ -51,6 +52,40 @@ pub control-first : (shape : Shape) (area : List (List ℕ)) → IsInOrder shape
 control-first shape area o = (o.in_place 0 (omega (arith, o.whole))).is_kind
 
 -- an element of an interval that stands
+pub taken-standing : (shape : Shape) (old new : List (List ℕ)) (anchor n : ℕ) (room : ℕ × ℕ) → room.0 ≢ 0 → TakesAt old new room.0 n room.1 → TakesRoom shape old new anchor n room
+taken-standing shape old new anchor n room z a = record {
+  has_room = a.takes.room;
+  fresh = a.takes.fresh;
+  others = record { here = a.takes.others; elsewhere = λ other h. used-same (bytes_at old other) (bytes_at new other) (a.others other h) };
+  named = λ other _ _ h. a.others other h;
+  ends = ends-same (bytes_at old 0) (bytes_at new 0) (a.others 0 (λ e. z (sym e)));
+  base = λ h. but-link-same (bytes_at old (first_base shape (uow_of shape anchor))) (bytes_at new (first_base shape (uow_of shape anchor))) (a.others (first_base shape (uow_of shape anchor)) h);
+  roots = λ other. elim (same_or other room.0) as (λ _. (head_of (bytes_at new other)).root ≡ (head_of (bytes_at old other)).root) [
+    | inl e ↦ root_at old new room.0 other e (root-same (bytes_at old room.0) (bytes_at new room.0) (keeps-head (bytes_at old room.0) (bytes_at new room.0) a.head))
+    | inr h ↦ root-same (bytes_at old other) (bytes_at new other) (ap head_of (a.others other h))
+  ];
+  longer = omega (arith, a.same_number);
+}
+
+pub takes-standing : (shape : Shape) (old new : List (List ℕ)) (anchor n : ℕ) (o : Option (ℕ × ℕ)) (room : ℕ × ℕ) → o ≡ Some room → IsTaken old new n o → TakesRoom shape old new anchor n room
+takes-standing shape old new anchor n o room e t =
+    let h : (room.0 ≢ 0) × TakesAt old new room.0 n room.1 = option_some o room (λ room. (room.0 ≢ 0) × TakesAt old new room.0 n room.1) e t in
+    taken-standing shape old new anchor n room h.0 h.1
+
+-- a new element in the stated place
+pub finds : (shape : Shape) (old new : List (List ℕ)) (anchor n : ℕ) (room : ℕ × ℕ) → IsFirstPlace shape old anchor n room.0 → TakesRoom shape old new anchor n room → FindsRoom shape old new anchor n room
+finds shape old new anchor n room p t = record {
+  place = p;
+  has_room = t.has_room;
+  fresh = t.fresh;
+  others = t.others;
+  named = t.named;
+  ends = t.ends;
+  base = t.base;
+  roots = t.roots;
+  longer = t.longer;
+}
+
 pub found-standing : (shape : Shape) (old new : List (List ℕ)) (anchor n : ℕ) (room : ℕ × ℕ) → IsInOrder shape old → uow_of shape anchor < shape.uows
     → ((shared : List ℕ) → IsChain old (link_of (bytes_at old (first_base shape (uow_of shape anchor)))) shared → AreTried old new (places shape anchor shared) n (Some room)) → FindsRoom shape old new anchor n room
 found-standing shape old new anchor n room o u f =
@@ -58,21 +93,8 @@ found-standing shape old new anchor n room o u f =
     let c : IsChain old (link_of (bytes_at old (first_base shape (uow_of shape anchor)))) shared = (o.listed.of_uow (uow_of shape anchor) u).is_list.chain in
     let t : AreTried old new (places shape anchor shared) n (Some room) = f shared c in
     let a : TakesAt old new room.0 n room.1 = t.some.1 in
-    let z : 0 ≢ room.0 = λ e. a.is_in_use.is_no_control (ap (λ k. kind_of (bytes_at old k)) (sym e) ∙ control-first shape old o) in
-    record {
-      place = record { shared = shared; is_chain = c; is_first = inl t.some.0 };
-      has_room = a.takes.room;
-      fresh = a.takes.fresh;
-      others = record { here = a.takes.others; elsewhere = λ other h. used-same (bytes_at old other) (bytes_at new other) (a.others other h) };
-      named = λ other _ _ h. a.others other h;
-      ends = ends-same (bytes_at old 0) (bytes_at new 0) (a.others 0 z);
-      base = λ h. but-link-same (bytes_at old (first_base shape (uow_of shape anchor))) (bytes_at new (first_base shape (uow_of shape anchor))) (a.others (first_base shape (uow_of shape anchor)) h);
-      roots = λ other. elim (same_or other room.0) as (λ _. (head_of (bytes_at new other)).root ≡ (head_of (bytes_at old other)).root) [
-        | inl e ↦ root_at old new room.0 other e (root-same (bytes_at old room.0) (bytes_at new room.0) (keeps-head (bytes_at old room.0) (bytes_at new room.0) a.head))
-        | inr h ↦ root-same (bytes_at old other) (bytes_at new other) (ap head_of (a.others other h))
-      ];
-      longer = omega (arith, a.same_number);
-    }
+    let z : room.0 ≢ 0 = λ e. a.is_in_use.is_no_control (ap (λ k. kind_of (bytes_at old k)) e ∙ control-first shape old o) in
+    finds shape old new anchor n room (record { shared = shared; is_chain = c; is_first = inl t.some.0 }) (taken-standing shape old new anchor n room z a)
 
 -- nothing is used past the end of an area, nor in an empty interval
 none_past : (bytes : List ℕ) (at segment : ℕ) (content : List ℕ) → bytes ≡ [] → HasUsed bytes at segment content → ⊥
@@ -139,16 +161,11 @@ changes shape uow ci n at number first old g m new control bytes u b l s e p j h
       ];
     }
 
-found_free : (shape : Shape) (old new : List (List ℕ)) (anchor n : ℕ) (room : ℕ × ℕ) → IsInOrder shape old → uow_of shape anchor < shape.uows → 0 < shape.base
-    → (shared : List ℕ) → IsChain old (link_of (bytes_at old (first_base shape (uow_of shape anchor)))) shared → AreFull old n (places shape anchor shared) → first_free old ≢ 0
-    → JoinsFree shape (uow_of shape anchor) old new n room → FindsRoom shape old new anchor n room
-found_free shape old new anchor n room o u b shared c f z j =
-    let p : IsInPlace shape old room.0 = o.in_place room.0 j.below in
-    let k : kind_of (bytes_at old room.0) ≡ 5 = p.is_kind ∙ kind-behind shape room.0 j.from in
-    let r : (head_of (bytes_at old room.0)).root ≡ (0, 0) = root-zero (bytes_at old room.0) p.is_interval.tiles.head (λ e. omega (arith, k, e)) in
+taken_free : (shape : Shape) (old new : List (List ℕ)) (anchor n : ℕ) (room : ℕ × ℕ) → uow_of shape anchor < shape.uows → 0 < shape.base → JoinsFree shape (uow_of shape anchor) old new n room → TakesRoom shape old new anchor n room
+taken_free shape old new anchor n room u b j =
+    let r : (head_of (bytes_at old room.0)).root ≡ (0, 0) = root-zero (bytes_at old room.0) j.is_empty.head (λ e. omega (arith, j.is_kind, e)) in
     let w : Changes shape (uow_of shape anchor) old new room.0 room.1 = changes shape (uow_of shape anchor) room.0 n room.1 _ _ old old j.middle new j.control _ u b j.from (λ other x. refl) j.ends j.put j.joins j.joins.takes.others r in
     record {
-      place = record { shared = shared; is_chain = c; is_first = inr (f, inl ((λ e. z (sym j.is_first ∙ e)), j.is_first)) };
       has_room = j.joins.takes.room;
       fresh = j.joins.takes.fresh;
       others = w.others;
@@ -159,10 +176,8 @@ found_free shape old new anchor n room o u b shared c f z j =
       longer = omega (arith, j.joins.same_number, j.put.same_number);
     }
 
-found_new : (shape : Shape) (old new : List (List ℕ)) (anchor n : ℕ) (room : ℕ × ℕ) → uow_of shape anchor < shape.uows → 0 < shape.base
-    → (shared : List ℕ) → IsChain old (link_of (bytes_at old (first_base shape (uow_of shape anchor)))) shared → AreFull old n (places shape anchor shared) → first_free old ≡ 0
-    → JoinsNew shape (uow_of shape anchor) old new n room → FindsRoom shape old new anchor n room
-found_new shape old new anchor n room u b shared c f z j =
+taken_new : (shape : Shape) (old new : List (List ℕ)) (anchor n : ℕ) (room : ℕ × ℕ) → uow_of shape anchor < shape.uows → 0 < shape.base → JoinsNew shape (uow_of shape anchor) old new n room → TakesRoom shape old new anchor n room
+taken_new shape old new anchor n room u b j =
     let past : bytes_at old room.0 ≡ [] = get_or_past old room.0 [] (omega (arith, j.is_last)) in
     let h : OthersStay (bytes_at old room.0) (bytes_at new room.0) room.1 = record {
       stay = λ place segment content _ x. absurd (none_past (bytes_at old room.0) place segment content past x);
@@ -171,7 +186,6 @@ found_new shape old new anchor n room u b shared c f z j =
     let s : (other : ℕ) → other ≢ room.0 → bytes_at j.grown other ≡ bytes_at old other = λ other x. j.grows.others other (λ e. x (e ∙ sym j.is_last)) in
     let w : Changes shape (uow_of shape anchor) old new room.0 room.1 = changes shape (uow_of shape anchor) room.0 n room.1 _ _ old j.grown j.middle new j.control _ u b j.from s j.ends j.put j.joins h (ap (λ (xs : List ℕ). (head_of xs).root) past) in
     record {
-      place = record { shared = shared; is_chain = c; is_first = inr (f, inr (z, j.is_last)) };
       has_room = j.joins.takes.room;
       fresh = λ x. none_past (bytes_at old room.0) room.1 x.segment x.content past x.used;
       others = w.others;
@@ -182,6 +196,18 @@ found_new shape old new anchor n room u b shared c f z j =
       longer = omega (arith, j.joins.same_number, j.put.same_number, j.grows.one_more);
     }
 
+pub taken-next : (shape : Shape) (old new : List (List ℕ)) (anchor n : ℕ) (room : ℕ × ℕ) → uow_of shape anchor < shape.uows → 0 < shape.base → JoinsNext shape (uow_of shape anchor) old new n room → TakesRoom shape old new anchor n room
+taken-next shape old new anchor n room u b j = elim (same_or (first_free old) 0) as (λ _. TakesRoom shape old new anchor n room) [
+  | inl z ↦ taken_new shape old new anchor n room u b (j.from_end z)
+  | inr z ↦ taken_free shape old new anchor n room u b (j.from_free z)
+]
+
+is_next : (shape : Shape) (uow : ℕ) (old new : List (List ℕ)) (n : ℕ) (room : ℕ × ℕ) → JoinsNext shape uow old new n room → IsNext old room.0
+is_next shape uow old new n room j = elim (same_or (first_free old) 0) as (λ _. IsNext old room.0) [
+  | inl z ↦ inr (z, (j.from_end z).is_last)
+  | inr z ↦ inl ((λ e. z (sym (j.from_free z).is_first ∙ e)), (j.from_free z).is_first)
+]
+
 pub found-next : (shape : Shape) (old m new : List (List ℕ)) (anchor n : ℕ) (room : ℕ × ℕ) → IsInOrder shape old → uow_of shape anchor < shape.uows → 0 < shape.base
     → ((shared : List ℕ) → IsChain old (link_of (bytes_at old (first_base shape (uow_of shape anchor)))) shared → AreTried old m (places shape anchor shared) n None)
     → JoinsNext shape (uow_of shape anchor) m new n room → FindsRoom shape old new anchor n room
@@ -191,10 +217,13 @@ found-next shape old m new anchor n room o u b f j =
     let t : AreTried old m (places shape anchor shared) n None = f shared c in
     let e : m ≡ old = t.none.1 in
     let k : JoinsNext shape (uow_of shape anchor) old new n room = rw e at j in
-    elim (same_or (first_free old) 0) as (λ _. FindsRoom shape old new anchor n room) [
-      | inl z ↦ found_new shape old new anchor n room u b shared c t.none.0 z (k.from_end z)
-      | inr z ↦ found_free shape old new anchor n room o u b shared c t.none.0 z (k.from_free z)
-    ]
+    finds shape old new anchor n room (record { shared = shared; is_chain = c; is_first = inr (t.none.0, is_next shape (uow_of shape anchor) old new n room k) }) (taken-next shape old new anchor n room u b k)
+
+pub takes-next : (shape : Shape) (old m new : List (List ℕ)) (anchor n uow : ℕ) (o : Option (ℕ × ℕ)) (room : ℕ × ℕ) → uow ≡ uow_of shape anchor → uow < shape.uows → 0 < shape.base → o ≡ None → IfNone o (m ≡ old)
+    → JoinsNext shape uow m new n room → TakesRoom shape old new anchor n room
+takes-next shape old m new anchor n uow o room e u b s f j =
+    let k : JoinsNext shape (uow_of shape anchor) old new n room = rw (e, option_none o (m ≡ old) s f) at j in
+    taken-next shape old new anchor n room (rw e at u) b k
 
 pub base-some : (a u b : ℕ) → a < u * b → 0 < b
 base-some a u zero h = grind arith

@@ -1,6 +1,5 @@
 -- An element is given back: what changes, and that the lists stay in order.
-use Rattle.std.proofs.Common.{◌≡◌, ◌≢◌, ℕ, ◌-◌, ◌<◌, ◌≤◌, inl, inr, false, true, List, [], ◌∷◌, length, slice_index, IsTrue, refl, sym, ap, ◌∙◌, subst, arith}
-use Rattle.std.proofs.lemmas.List.{get_or_past}
+use Rattle.std.proofs.Common.{◌≡◌, ◌≢◌, ℕ, ◌-◌, ◌<◌, ◌≤◌, inl, inr, false, true, ◌+◌, List, [], ◌∷◌, length, slice_index, IsTrue, refl, sym, ap, ◌∙◌, subst, arith}
 use Rattle.std.proofs.lemmas.Bool.{cases_lt}
 use Rattle.ci_space.specs.declared.intervals.Shape.{Shape}
 use Rattle.ci_space.specs.Element.{Free}
@@ -8,15 +7,15 @@ use Rattle.ci_space.specs.Interval.{kind_of, has_elements, HasUsed, IsUsed, IsIn
 use Rattle.ci_space.specs.Head.{head_of}
 use Rattle.ci_space.proofs.Tilings.{used-kind}
 use Rattle.ci_space.proofs.Standing.{used-stands}
-use Rattle.ci_overflow.specs.Places.{first_independent, kind_at}
-use Rattle.ci_overflow.specs.Lists.{bytes_at, link_of, counted, IsInPlace, IsInOrder}
+use Rattle.ci_overflow.specs.Places.{first_base, first_independent, kind_at}
+use Rattle.ci_overflow.specs.Lists.{bytes_at, link_of, counted, IsInOrder}
 use Rattle.ci_overflow.specs.Rooms.{KeepsUsed, IsInUse, IsPut, KeepsButLink}
-use Rattle.ci_overflow.specs.Freed.{BecomesEmpty, GivesBack}
+use Rattle.ci_overflow.specs.Freed.{BecomesEmpty, TakesBack, GivesBack}
 use Rattle.ci_overflow.specs.Moves.{Moves}
-use Rattle.ci_overflow.proofs.Joins.{keeps-head, root-zero, link-zero}
+use Rattle.ci_overflow.proofs.Joins.{keeps-head, root-zero, kind-behind}
 use Rattle.ci_overflow.proofs.Finds.{same_or, used-same, ends-same, but-link-same, head_link, root-same, root_at, root-known, control-first}
 use Rattle.ci_overflow.proofs.Orders.{order-changed, first_free-put, link-known, owner-known}
-use Rattle.ci_overflow.proofs.FaultLemmas.{kind-before}
+use Rattle.ci_overflow.proofs.FaultLemmas.{kind-base, kind-before}
 
 -- an element of an interval is freed
 pub record FreesAt (old new : List ℕ) (at : ℕ) : Type 0 where
@@ -67,34 +66,36 @@ used_in_use shape area ci at o b u = record {
   is_owned = λ k z. used-not_empty (bytes_at area ci) at u (o.listed.empty ci (record { from = behind shape area ci o b k; below = b; owned = z }));
 }
 
--- the sequential intervals hold no link
-none_link : link_of [] ≡ 0
-unfolding link_of
-none_link = refl
-
-sequential_link : (shape : Shape) (area : List (List ℕ)) (other : ℕ) → IsInOrder shape area → kind_at shape other ≡ 4 → link_of (bytes_at area other) ≡ 0
-sequential_link shape area other o k = elim (cases_lt other (length area)) as (λ _. link_of (bytes_at area other) ≡ 0) [
-  | inl l ↦ (let p : IsInPlace shape area other = o.in_place other l in
-      let four : kind_of (bytes_at area other) ≡ 4 = p.is_kind ∙ k in
-      link-zero (bytes_at area other) p.is_interval.tiles.head (λ e. omega (arith, four, e)) (λ e. omega (arith, four, e)))
-  | inr l ↦ ap link_of (get_or_past area other [] l) ∙ none_link
-]
-
 sequential_apart : (shape : Shape) (area : List (List ℕ)) (ci at other : ℕ) → IsInOrder shape area → ci < length area → IsUsed (bytes_at area ci) at → kind_at shape other ≡ 4 → other ≢ ci
 sequential_apart shape area ci at other o b u k e =
     (used-kinds (bytes_at area ci) at u).1 ((o.in_place ci b).is_kind ∙ ap (kind_at shape) (sym e) ∙ k)
 
+-- an element that is given back, in an area in order
+pub given-back : (shape : Shape) (old new : List (List ℕ)) (ci at : ℕ) → IsInOrder shape old → ci < length old → TakesBack shape old new ci at → GivesBack shape old new ci at
+given-back shape old new ci at o b t = record {
+  was_used = t.was_used;
+  gone = t.gone;
+  others = t.others;
+  freed = t.freed;
+  kept = t.kept;
+  named = t.named;
+  links = t.links;
+  ends = t.ends (λ e. not_zero shape old ci at o t.was_used (sym e));
+  roots = t.roots;
+  sequential = λ other k. t.sequential other (sequential_apart shape old ci at other o b t.was_used k) k;
+  same_number = t.same_number;
+}
+
 -- an interval that stays where it is
-module _ (shape : Shape) (old m new : List (List ℕ)) (ci at : ℕ) (interval : List ℕ) (o : IsInOrder shape old) (e : m ≡ old) (b : ci < length old) (f : FreesAt (bytes_at old ci) interval at)
-    (p : IsPut m new ci interval) where
+module _ (shape : Shape) (old m new : List (List ℕ)) (ci at : ℕ) (interval : List ℕ) (e : m ≡ old) (f : FreesAt (bytes_at old ci) interval at) (p : IsPut m new ci interval) where
   put_others : (other : ℕ) → other ≢ ci → bytes_at new other ≡ bytes_at old other
   put_others other h = p.others other h ∙ ap (λ xs. bytes_at xs other) e
 
   put_frees : FreesAt (bytes_at old ci) (bytes_at new ci) at
   put_frees = rw p.here f
 
-  pub order-alone : IsInOrder shape new
-  order-alone = order-changed shape old new ci (control-first shape old o) o (record {
+  pub order-alone : IsInOrder shape old → ci < length old → IsInOrder shape new
+  order-alone o b = order-changed shape old new ci (control-first shape old o) o (record {
     below = b;
     is_in_use = used_in_use shape old ci at o b f.was_used;
     is_interval = put_frees.is_interval;
@@ -103,8 +104,8 @@ module _ (shape : Shape) (old m new : List (List ℕ)) (ci at : ℕ) (interval :
     same_number = p.same_number ∙ ap length e;
   })
 
-  pub given-alone : ¬ BecomesEmpty (bytes_at old ci) interval → GivesBack shape old new ci at
-  given-alone n = record {
+  pub taken-alone : ¬ BecomesEmpty (bytes_at old ci) interval → TakesBack shape old new ci at
+  taken-alone n = record {
     was_used = f.was_used;
     gone = put_frees.gone;
     others = record { here = put_frees.others; elsewhere = λ other h. used-same (bytes_at old other) (bytes_at new other) (put_others other h) };
@@ -112,12 +113,12 @@ module _ (shape : Shape) (old m new : List (List ℕ)) (ci at : ℕ) (interval :
     kept = λ _. record { head = put_frees.head; others = put_others };
     named = λ other _ h _. put_others other h;
     links = λ other _ h. but-link-same (bytes_at old other) (bytes_at new other) (put_others other h);
-    ends = ends-same (bytes_at old 0) (bytes_at new 0) (put_others 0 (not_zero shape old ci at o f.was_used));
+    ends = λ z. ends-same (bytes_at old 0) (bytes_at new 0) (put_others 0 (λ x. z (sym x)));
     roots = λ other. elim (same_or other ci) as (λ _. (head_of (bytes_at new other)).root ≡ (head_of (bytes_at old other)).root) [
       | inl x ↦ root_at old new ci other x (root-same (bytes_at old ci) (bytes_at new ci) (keeps-head (bytes_at old ci) (bytes_at new ci) put_frees.head))
       | inr x ↦ root-same (bytes_at old other) (bytes_at new other) (ap head_of (put_others other x))
     ];
-    sequential = λ other k. put_others other (sequential_apart shape old ci at other o b f.was_used k);
+    sequential = λ other h k. put_others other h;
     same_number = p.same_number ∙ ap length e;
   }
 
@@ -128,13 +129,20 @@ others_used old middle new at o k = record {
   none_comes = λ place segment content h u. o.none_comes place segment content h (k.none_comes place segment content u);
 }
 
-module _ (shape : Shape) (old new : List (List ℕ)) (ci at : ℕ) (interval : List ℕ) (o : IsInOrder shape old) (b : ci < length old) (f : FreesAt (bytes_at old ci) interval at)
+module _ (shape : Shape) (old new : List (List ℕ)) (ci at : ℕ) (interval : List ℕ) (f : FreesAt (bytes_at old ci) interval at)
     (five : kind_of (bytes_at old ci) ≡ 5) (v : Moves shape old new ci interval) where
   moved_named : (other : ℕ) → other ≢ 0 → other ≢ ci → link_of (bytes_at old other) ≢ ci → bytes_at new other ≡ bytes_at old other
   moved_named other z h l = v.others other z (λ y. l (ap (λ k. link_of (bytes_at old k)) y ∙ v.leads)) h
 
-  pub given-moved : GivesBack shape old new ci at
-  given-moved = record {
+  moved_apart : (other : ℕ) → kind_at shape other ≡ 4 → other ≢ v.before
+  moved_apart other k e = elim v.stands as (λ _. ⊥) [
+    | inl x ↦ (let z : first_base shape v.uow ≡ first_base shape v.uow + 0 = omega arith in
+        omega (arith, k, ap (kind_at shape) (e ∙ x ∙ z), kind-base shape v.uow 0 v.is_uow v.has_base))
+    | inr x ↦ omega (arith, k, ap (kind_at shape) e, kind-behind shape v.before x.from)
+  ]
+
+  pub taken-moved : TakesBack shape old new ci at
+  taken-moved = record {
     was_used = f.was_used;
     gone = λ u. used-not_empty (bytes_at new ci) at u v.is_empty;
     others = record {
@@ -159,7 +167,7 @@ module _ (shape : Shape) (old new : List (List ℕ)) (ci at : ℕ) (interval : L
           subst P (sym y) (record { rest = v.link.rest; head = head_link (head_of (bytes_at old v.before)) (head_of (bytes_at new v.before)) (link_of interval) v.link.head }))
       | inr y ↦ but-link-same (bytes_at old other) (bytes_at new other) (v.others other z y h)
     ];
-    ends = record {
+    ends = λ _. record {
       begin = ap (λ (xs : List ℕ). slice_index xs 0) v.ends.ends;
       end = ap (λ (xs : List ℕ). slice_index xs 1) v.ends.ends;
       head = v.ends.head;
@@ -170,12 +178,11 @@ module _ (shape : Shape) (old new : List (List ℕ)) (ci at : ℕ) (interval : L
         | inl z ↦ root_at old new v.before other z (root-known (bytes_at new v.before) _ v.link.head)
         | inr z ↦ elim (same_or other ci) as (λ _. (head_of (bytes_at new other)).root ≡ (head_of (bytes_at old other)).root) [
           | inl x ↦ root_at old new ci other x
-              (root-known (bytes_at new ci) _ v.head ∙ sym (root-zero (bytes_at old ci) (o.in_place ci b).is_interval.tiles.head (λ h. omega (arith, five, h))))
+              (root-known (bytes_at new ci) _ v.head ∙ sym (root-zero (bytes_at old ci) f.was_used.used.tiles.head (λ h. omega (arith, five, h))))
           | inr x ↦ root-same (bytes_at old other) (bytes_at new other) (ap head_of (v.others other y z x))
         ]
       ]
     ];
-    sequential = λ other k. moved_named other (λ z. omega (arith, sym k ∙ ap (kind_at shape) z)) (sequential_apart shape old ci at other o b f.was_used k)
-        (λ l. not_zero shape old ci at o f.was_used (sym (sequential_link shape old other o k) ∙ l));
+    sequential = λ other h k. v.others other (λ z. omega (arith, sym k ∙ ap (kind_at shape) z)) (moved_apart other k) h;
     same_number = v.same_number;
   }

@@ -161,13 +161,14 @@ unfolding counted
 counted_is area control ends e f = ap (λ (xs : List ℕ). slice_index xs 2) f ∙ ap (λ (xs : List ℕ). slice_index (ends_of xs) 2) e
 
 pub joins-free : (shape : Shape) (uow n ci at next : ℕ) (old m1 m2 new : List (List ℕ)) (control ends interval : List ℕ)
-    → control ≡ bytes_at old 0 → ends ≡ ends_of control → ci ≡ slice_index ends 3 → first_independent shape ≤ ci → ci < length old → m1 ≡ old → interval ≡ bytes_at old ci → IsEmpty interval
+    → control ≡ bytes_at old 0 → ends ≡ ends_of control → ci ≡ slice_index ends 3 → first_independent shape ≤ ci → ci < length old → m1 ≡ old → interval ≡ bytes_at old ci → kind_of interval ≡ 5 → IsEmpty interval
     → next ≡ (head_of interval).link → PutsEnds control (slice_index ends 2) next m1 m2 → Joins shape uow m2 new ci interval n at → JoinsFree shape uow old new n (ci, at)
-joins-free shape uow n ci at next old m1 m2 new control ends interval ce ee fe lf lb m ie em ne p j =
+joins-free shape uow n ci at next old m1 m2 new control ends interval ce ee fe lf lb m ie ke em ne p j =
     let l : next ≡ link_of (bytes_at old ci) = link_is_number interval next ne ∙ ap link_of ie in
     let s : slice_index ends 2 ≡ counted old = counted_is old control ends ce ee in
     let c : ChangesEnds (bytes_at old 0) p.bytes (counted old) (link_of (bytes_at old ci)) = rw (← ce, ← s, ← l) p.ends in
     let q : IsPut old m2 0 p.bytes = rw m at p.put in
+    let f : kind_of (bytes_at old ci) ≡ 5 = rw ie at ke in
     let e : IsEmpty (bytes_at old ci) = rw ie at em in
     let k : Joins shape uow m2 new ci (bytes_at old ci) n at = rw ie at j in
     record {
@@ -176,6 +177,7 @@ joins-free shape uow n ci at next old m1 m2 new control ends interval ce ee fe l
       from = lf;
       below = lb;
       is_first = fe ∙ first_free_is old control ends ce ee;
+      is_kind = f;
       is_empty = e;
       ends = c;
       put = q;

@@ -11,7 +11,7 @@ use Rattle.ci_overflow.proofs.Tries.{keeps-link, keeps-owner}
 use Rattle.ci_overflow.proofs.Joins.{base-before, kind-behind}
 use Rattle.ci_overflow.proofs.Finds.{same_or}
 use Rattle.ci_overflow.proofs.Orders.{chain-keeps, list-stays, list-joined, list-left, counted-put, first_free-put, link-known, owner-known, kind-known, bases-apart}
-use Rattle.ci_overflow.proofs.FaultLemmas.{next-held, keeps-kind, base_of_kind}
+use Rattle.ci_overflow.proofs.FaultLemmas.{next-held, keeps-kind}
 
 -- a list without the interval that one of its intervals leads to
 record IsRemoved (new : List (List ℕ)) (first ci : ℕ) (list rest : List ℕ) : Type 0 where
@@ -108,11 +108,8 @@ module _ (shape : Shape) (old new : List (List ℕ)) (ci : ℕ) (interval : List
   some : ci ≢ 0
   some e = omega (arith, v.from, e)
 
-  has_base : 0 < shape.base
-  has_base = base_of_kind shape (first_base shape v.uow) (sym (o.in_place (first_base shape v.uow) v.base_below).is_kind ∙ v.base_kind)
-
   base_front : first_base shape v.uow < first_independent shape
-  base_front = base-before shape v.uow v.is_uow has_base
+  base_front = base-before shape v.uow v.is_uow v.has_base
 
   before_some : v.before ≢ 0
   before_some e = elim v.stands as (λ _. ⊥) [ inl x ↦ omega (arith, x, e) | inr x ↦ omega (arith, x.from, e) ]
@@ -176,9 +173,9 @@ module _ (shape : Shape) (old new : List (List ℕ)) (ci : ℕ) (interval : List
   list_other : (u : ℕ) → u < shape.uows → u ≢ v.uow → HasList shape new (u + 1) (link_of (bytes_at new (first_base shape u)))
   list_other u l n =
       let h : HasList shape old (u + 1) (link_of (bytes_at old (first_base shape u))) = o.listed.of_uow u l in
-      let front : first_base shape u < first_independent shape = base-before shape u l has_base in
+      let front : first_base shape u < first_independent shape = base-before shape u l v.has_base in
       let other : u + 1 ≢ v.uow + 1 = λ e. n (omega (arith, e)) in
-      let not_before : first_base shape u ≢ v.before = λ y. elim v.stands as (λ _. ⊥) [ inl e ↦ bases-apart shape u v.uow has_base n (y ∙ e) | inr w ↦ omega (arith, y, w.from, front) ] in
+      let not_before : first_base shape u ≢ v.before = λ y. elim v.stands as (λ _. ⊥) [ inl e ↦ bases-apart shape u v.uow v.has_base n (y ∙ e) | inr w ↦ omega (arith, y, w.from, front) ] in
       let same : bytes_at new (first_base shape u) ≡ bytes_at old (first_base shape u) = v.others (first_base shape u) (λ y. omega (arith, y)) not_before (λ y. omega (arith, y, v.from, front)) in
       let x : HasList shape new (u + 1) (link_of (bytes_at old (first_base shape u))) = record {
         list = h.list;

@@ -45,9 +45,9 @@ before_some shape area uow before (inl e) z = omega (arith, e, z)
 before_some shape area uow before (inr o) z = omega (arith, o.from, z)
 
 pub moves : (shape : Shape) (uow ci link : ℕ) (old m1 m2 m3 new : List (List ℕ)) (interval control : List ℕ) (before : Numbered)
-    → uow < shape.uows → first_independent shape ≤ ci → owner_of interval ≡ uow + 1 → IsBefore shape old uow ci before → m1 ≡ old → control ≡ bytes_at m1 0 → m2 ≡ m1
+    → uow < shape.uows → 0 < shape.base → first_independent shape ≤ ci → owner_of interval ≡ uow + 1 → IsBefore shape old uow ci before → m1 ≡ old → control ≡ bytes_at m1 0 → m2 ≡ m1
     → link ≡ (head_of interval).link → PutsLink m2 m3 before link → PutsFree m3 new ci interval control → Moves shape old new ci interval
-moves shape uow ci link old m1 m2 m3 new interval control before u f o b e1 ce e2 le p q =
+moves shape uow ci link old m1 m2 m3 new interval control before u h f o b e1 ce e2 le p q =
     let z : before.ci ≢ 0 = before_some shape old uow before.ci b.stands in
     let zc : ci ≢ 0 = λ x. omega (arith, x, f) in
     let same : (other : ℕ) → bytes_at m2 other ≡ bytes_at old other = λ other. ap (λ xs. bytes_at xs other) (e2 ∙ e1) in
@@ -64,6 +64,7 @@ moves shape uow ci link old m1 m2 m3 new interval control before u f o b e1 ce e
       uow = uow;
       before = before.ci;
       is_uow = u;
+      has_base = h;
       from = f;
       owner = o;
       base_below = b.base_below;

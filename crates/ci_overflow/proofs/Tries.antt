@@ -148,7 +148,7 @@ tried-right old new n xs ys None f t = record { some = tt; none = (full-both old
 tried-right old new n xs ys (Some room) f t = record { some = (first-right old n room.0 xs ys f t.some.0, t.some.1); none = tt }
 
 -- what an interval gave that was tried
-option_some : {X : Type 0} (o : Option X) (x : X) (P : X → Type 0) → o ≡ Some x → IfSome o P → P x
+pub option_some : {X : Type 0} (o : Option X) (x : X) (P : X → Type 0) → o ≡ Some x → IfSome o P → P x
 option_some {X} o x P e h = let Q : Option X → Type 0 = λ o. IfSome o P in subst Q e h
 
 pub gives-taken : (old new : List (List ℕ)) (ci n at : ℕ) (tried : Tried) → IsTried old new ci n tried → tried.at ≡ Some at → TakesAt old new ci n at
@@ -160,7 +160,7 @@ tried-some old new all n ci at f t = record { some = (f, t); none = tt }
 pub tried-none : (old new : List (List ℕ)) (all : List ℕ) (n : ℕ) → AreFull old n all → new ≡ old → AreTried old new all n None
 tried-none old new all n f e = record { some = tt; none = (f, e) }
 
-option_none : {X : Type 0} (o : Option X) (Q : Type 0) → o ≡ None → IfNone o Q → Q
+pub option_none : {X : Type 0} (o : Option X) (Q : Type 0) → o ≡ None → IfNone o Q → Q
 option_none {X} o Q e h = let P : Option X → Type 0 = λ o. IfNone o Q in subst P e h
 
 pub gives-full : (old new : List (List ℕ)) (ci n : ℕ) (tried : Tried) → IsTried old new ci n tried → tried.at ≡ None → IsFull (bytes_at old ci) n × (new ≡ old)

@@ -60,12 +60,12 @@ pub record IsThere (area : List (List ℕ)) (place : Place) : Type 0 where
   pub is_kind : kind_of (bytes_at area place.ci) ≡ place.kind
   pub is_owner : owner_of (bytes_at area place.ci) ≡ place.owner
 
--- no interval is there: the bytes are none, which names the place itself, or the area ends before it
+-- no interval is there: the bytes are no interval, which names the place itself, or the area ends before it
 abbrev pub IsNoInterval : List (List ℕ) → ℕ → ℕ → ℕ → Type 0
 IsNoInterval area ci from n = ((n ≡ ci) × (ci < length area) × ¬ IsInterval (bytes_at area ci)) ⊎ ((n ≡ from) × (length area ≤ ci))
 
 -- the interval of this place is not there, which names the interval that holds the link to it, or the
--- bytes there are none, which names the place itself
+-- bytes there are no interval, which names the place itself
 abbrev pub IsNotThere : List (List ℕ) → Place → ℕ → Type 0
 IsNotThere area place n =
     ((n ≡ place.ci) × (place.ci < length area) × ¬ IsInterval (bytes_at area place.ci)) ⊎ ((n ≡ place.from) × ¬ IsThere area place)

@@ -22,7 +22,28 @@ pub record ChangesAlone (old new : List (List ℕ)) (ci : ℕ) : Type 0 where
   pub head : Keeps (bytes_at old ci) (bytes_at new ci) 0 32
   pub others : (other : ℕ) → other ≢ ci → bytes_at new other ≡ bytes_at old other
 
--- the used element at `at` of the interval `ci` is gone, and all else stays
+-- the used element at `at` of the interval `ci` is gone, and all else stays; in whatever order the lists
+-- are, and whatever `ci` is
+pub record TakesBack (shape : Shape) (old new : List (List ℕ)) (ci at : ℕ) : Type 0 where
+  pub was_used : IsUsed (bytes_at old ci) at
+  pub gone : ¬ IsUsed (bytes_at new ci) at
+  -- every other used element of every interval stays, and none comes
+  pub others : OnlyOneChanges old new ci at
+  -- an independent overflow interval that becomes empty is the first of the free chain now
+  pub freed : BecomesEmpty (bytes_at old ci) (bytes_at new ci) → IsFirstFree old new ci
+  -- any other keeps its head, and then it alone changes
+  pub kept : ¬ BecomesEmpty (bytes_at old ci) (bytes_at new ci) → ChangesAlone old new ci
+  -- beside it and control only that changes whose link led to it, and of that one the link alone
+  pub named : (other : ℕ) → other ≢ 0 → other ≢ ci → link_of (bytes_at old other) ≢ ci → bytes_at new other ≡ bytes_at old other
+  pub links : (other : ℕ) → other ≢ 0 → other ≢ ci → KeepsButLink (bytes_at old other) (bytes_at new other)
+  -- control keeps its first two numbers and its head, where the element isn't in its place
+  pub ends : ci ≢ 0 → KeepsEnds (bytes_at old 0) (bytes_at new 0)
+  -- the root anchor points stay, and in the sequential places all but the interval of the element
+  pub roots : KeepsRoots old new
+  pub sequential : (other : ℕ) → other ≢ ci → kind_at shape other ≡ 4 → bytes_at new other ≡ bytes_at old other
+  pub same_number : length new ≡ length old
+
+-- the same where the lists are in order: `ci` is then neither control nor a sequential interval
 pub record GivesBack (shape : Shape) (old new : List (List ℕ)) (ci at : ℕ) : Type 0 where
   pub was_used : IsUsed (bytes_at old ci) at
   pub gone : ¬ IsUsed (bytes_at new ci) at

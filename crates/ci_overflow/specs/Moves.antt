@@ -45,6 +45,7 @@ pub record Moves (shape : Shape) (old new : List (List ℕ)) (ci : ℕ) (interva
   pub uow : ℕ
   pub before : ℕ
   pub is_uow : uow < shape.uows
+  pub has_base : 0 < shape.base
   pub from : first_independent shape ≤ ci
   pub owner : owner_of interval ≡ uow + 1
   pub base_below : first_base shape uow < length old

@@ -86,6 +86,10 @@ pub record AreTried (old new : List (List ℕ)) (tried : List ℕ) (n : ℕ) (ro
   pub some : IfSome room (λ room. IsFirst old n tried room.0 × TakesAt old new room.0 n room.1)
   pub none : IfNone room (AreFull old n tried × (new ≡ old))
 
+-- where a place is given, an element is taken there, and not from control's place
+abbrev pub IsTaken : List (List ℕ) → List (List ℕ) → ℕ → Option (ℕ × ℕ) → Type 0
+IsTaken old new n room = IfSome room (λ room. (room.0 ≢ 0) × TakesAt old new room.0 n room.1)
+
 -- what is left to try of these intervals, those before being full
 pub record IsLeft (area : List (List ℕ)) (n : ℕ) (all left : List ℕ) : Type 0 where
   pub first : (ci : ℕ) → IsFirst area n left ci → IsFirst area n all ci
@@ -136,6 +140,7 @@ pub record JoinsFree (shape : Shape) (uow : ℕ) (old new : List (List ℕ)) (n 
   pub from : first_independent shape ≤ room.0
   pub below : room.0 < length old
   pub is_first : room.0 ≡ first_free old
+  pub is_kind : kind_of (bytes_at old room.0) ≡ 5
   pub is_empty : IsEmpty (bytes_at old room.0)
   pub ends : ChangesEnds (bytes_at old 0) control (counted old) (link_of (bytes_at old room.0))
   pub put : IsPut old middle 0 control
@@ -175,7 +180,24 @@ pub record KeepsButLink (old new : List ℕ) : Type 0 where
 abbrev pub KeepsRoots : List (List ℕ) → List (List ℕ) → Type 0
 KeepsRoots old new = (other : ℕ) → (head_of (bytes_at new other)).root ≡ (head_of (bytes_at old other)).root
 
--- a new element of `n` bytes or more is there
+-- a new element of `n` bytes or more is there, and all else stays
+pub record TakesRoom (shape : Shape) (old new : List (List ℕ)) (anchor n : ℕ) (room : ℕ × ℕ) : Type 0 where
+  -- it is a used element now, and was none before
+  pub has_room : HasRoom (bytes_at new room.0) room.1 n
+  pub fresh : ¬ IsUsed (bytes_at old room.0) room.1
+  -- every other used element stays
+  pub others : OnlyOneChanges old new room.0 room.1
+  -- only control, the first base interval of the unit of work and the one with the new element change
+  pub named : (other : ℕ) → other ≢ 0 → other ≢ first_base shape (uow_of shape anchor) → other ≢ room.0 → bytes_at new other ≡ bytes_at old other
+  -- control keeps its first two numbers, and the first base interval all but its link
+  pub ends : KeepsEnds (bytes_at old 0) (bytes_at new 0)
+  pub base : first_base shape (uow_of shape anchor) ≢ room.0 → KeepsButLink (bytes_at old (first_base shape (uow_of shape anchor))) (bytes_at new (first_base shape (uow_of shape anchor)))
+  -- the root anchor points stay
+  pub roots : KeepsRoots old new
+  -- no interval goes away
+  pub longer : length old ≤ length new
+
+-- where the lists are in order, it stands in the stated place too
 pub record FindsRoom (shape : Shape) (old new : List (List ℕ)) (anchor n : ℕ) (room : ℕ × ℕ) : Type 0 where
   -- its interval is the first in the stated order with room
   pub place : IsFirstPlace shape old anchor n room.0

@@ -6,7 +6,7 @@ ghost use Rattle.ci_space.specs.Calls.{Rose, GoesOn};
 ghost use Rattle.ci_space.specs.Interval.{IsInterval, IsUsed, IsEmpty, Keeps, kind_of};
 ghost use Rattle.ci_overflow.specs.Places.{first_independent};
 ghost use Rattle.ci_overflow.specs.Lists.{bytes_at, owner_of, IsInOrder};
-ghost use Rattle.ci_overflow.specs.Freed.{GivesBack};
+ghost use Rattle.ci_overflow.specs.Freed.{GivesBack, TakesBack};
 ghost use Rattle.ci_overflow.specs.Moves.{Moves, IsBefore, PutsLink, PutsFree, HasNoUnit};
 ghost use Rattle.ci_overflow.specs.Faults.{IsAtFault};
 
@@ -24,7 +24,9 @@ use ci_space::{Head, Interval, Intervals, Shape};
 /// is `Damaged(ci)`. Else `Damaged` names an interval at fault: that with the bytes, the owner or the
 /// link that is wrong.
 pub fn give_back<I: Intervals>(i: &mut I, shape: &Shape, ci: u64, at: u16) -> Result<(), SpaceFault>
-    // At `Ok` the element is gone, all else stays, and the lists are in order.
+    // At `Ok` the element is gone and all else stays, in whatever order the lists were. Where they were
+    // in order, they are so again.
+    ensures takes_back { I.told i.old → OnOk result (TakesBack shape.now (I.intervals i.old) (I.intervals i.new) ci at) }
     ensures given { I.told i.old → IsInOrder shape.now (I.intervals i.old) → OnOk result (GivesBack shape.now (I.intervals i.old) (I.intervals i.new) ci at) }
     ensures lists { I.told i.old → IsInOrder shape.now (I.intervals i.old) → OnOk result (IsInOrder shape.now (I.intervals i.new)) }
 

@@ -26,9 +26,14 @@ pub use room::find_room;
 /// Why a call on an area's elements gives none. The object that holds the area is then thrown away.
 #[derive(Clone, Copy, Debug, PartialEq, Eq)]
 pub enum SpaceFault {
-    /// This interval is damaged (`IsAtFault`): its bytes are none or not of the kind of its place, its
-    /// owner is wrong, a link in it leads outside the area, to a wrong interval or round in a circle,
-    /// or it is control and counts another number of intervals.
+    /// This interval is at fault (`IsAtFault`): its bytes are no interval, or not of the kind of its
+    /// place; a link in it leads to no interval of the link's list, or on and on back to it; it is
+    /// control, and counts another number of independent overflow intervals than there are; its owner
+    /// is that of the free chain, and it isn't empty; its owner is no unit of work that has base
+    /// intervals, or one whose list doesn't hold it.
+    ///
+    /// It need not be at fault in two cases: `give_back` found no used element at the place that it was
+    /// given, or `find_room` was given a length that not even an empty interval has room for.
     Damaged(u64),
 
     /// What holds the intervals failed. Its count of faults rose.

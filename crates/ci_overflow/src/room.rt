@@ -3,7 +3,7 @@
 ghost use Rattle.std.specs.Prelude.{◌≡◌, ◌≢◌, ◌<◌, ◌≤◌, ◌+◌, ◌*◌, ℕ, IfOk, OnOk, IsErrOf};
 ghost use Rattle.ci_space.specs.Calls.{Rose, GoesOn};
 ghost use Rattle.ci_overflow.specs.Lists.{IsInOrder};
-ghost use Rattle.ci_overflow.specs.Rooms.{FindsRoom, JoinsNext};
+ghost use Rattle.ci_overflow.specs.Rooms.{FindsRoom, TakesRoom, JoinsNext};
 ghost use Rattle.ci_overflow.specs.Faults.{FitsEmpty, IsAtFault};
 
 use crate::SpaceFault;
@@ -29,8 +29,11 @@ pub fn find_room<I: Intervals>(
 ) -> Result<(u64, u16), SpaceFault>
     requires { anchor < shape.now.uows * shape.now.base }
 
-    // At `Ok` a new element is there, in the first place of the stated order with room, and the lists
-    // are in order.
+    // At `Ok` a new element is there and all else stays, in whatever order the lists were.
+    ensures takes { I.told i.old → IfOk result (TakesRoom shape.now (I.intervals i.old) (I.intervals i.new) anchor length) }
+
+    // Where they were in order, it is in the first place of the stated order with room, and they are so
+    // again.
     ensures room { I.told i.old → IsInOrder shape.now (I.intervals i.old) → IfOk result (FindsRoom shape.now (I.intervals i.old) (I.intervals i.new) anchor length) }
     ensures lists { I.told i.old → IsInOrder shape.now (I.intervals i.old) → OnOk result (IsInOrder shape.now (I.intervals i.new)) }
     ensures in_range { IfOk result (λ room. room.0 < I.number i.new) }

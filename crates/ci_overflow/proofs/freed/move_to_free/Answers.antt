@@ -43,6 +43,6 @@ returns-clause-moved g c = λ t k.
     let t2 = c.read.ensures.goes_on.tells t1 in
     let t3 = c.put_link.ensures.goes_on.tells t2 in
     let five : kind_of (bytes_at (g.I.Intervals.intervals c.args.i.now) c.args.ci) ≡ 5 = keeps-kind _ _ k ∙ c.requires.kind in
-    on_ok-map _ _ _ (λ q. moves _ _ _ _ _ _ _ _ _ _ _ c.in_ok-before.before c.in_ok-uow.ensures.bound c.in_ok-uow.ensures.from c.in_ok-uow.ensures.unit (c.in_ok-before.ensures.before t five)
+    on_ok-map _ _ _ (λ q. moves _ _ _ _ _ _ _ _ _ _ _ c.in_ok-before.before c.in_ok-uow.ensures.bound c.in_ok-uow.ensures.has_base c.in_ok-uow.ensures.from c.in_ok-uow.ensures.unit (c.in_ok-before.ensures.before t five)
     (c.in_ok-before.ensures.same t) (c.in_ok-control.ensures.bytes t1) (c.in_ok-control.ensures.same t1)
     (ap (λ h. h.link) c.head.ensures.head) (c.in_ok-put_link.ensures.put t2) q) (c.put_free.ensures.put t3)

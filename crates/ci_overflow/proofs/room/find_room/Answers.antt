@@ -4,8 +4,16 @@ use Rattle.ci_overflow.proofs.Going.{same_fault}
 use Rattle.ci_overflow.proofs.FaultLemmas.{in-order-sound}
 use Rattle.ci_overflow.proofs.Tries.{if_ok-map}
 use Rattle.ci_overflow.proofs.Orders.{orders-standing, orders-next, if_ok-on}
-use Rattle.ci_overflow.proofs.Finds.{finds-standing, finds-next, base-some}
+use Rattle.ci_overflow.proofs.Finds.{takes-standing, takes-next, finds-standing, finds-next, base-some}
 use Rattle.ci_overflow.proofs.room.find_room.Goals as goal
+
+pub returns-in-Some-clause-takes : goal.returns-in-Some-clause-takes
+returns-in-Some-clause-takes g c = λ t. takes-standing _ _ _ _ _ _ _ c.in-Some.is (c.in_ok-room.ensures.taken t)
+
+pub returns-in-None-clause-takes : goal.returns-in-None-clause-takes
+returns-in-None-clause-takes g c = λ t.
+    if_ok-map _ _ _ (λ room j. takes-next _ _ _ _ _ _ _ _ room c.uow_of-uow.ensures.number c.uow_of-uow.ensures.bound (base-some _ _ _ c.requires) c.in-None.is (c.in_ok-room.ensures.full t) j)
+    (c.join_next.ensures.joined (c.try_standing.ensures.goes_on.tells t))
 
 pub returns-in-Some-clause-room : goal.returns-in-Some-clause-room
 returns-in-Some-clause-room g c = λ t o.

@@ -19,12 +19,13 @@ returns-clause-tried g c = λ t shared is_chain.
     let full = rw c.base_of-base.ensures at (gives-full _ _ _ _ _ (c.in_ok-tried.ensures.tried t) c.in_default.is) in
     let t1 = c.try_take.ensures.goes_on.tells t in
     let t2 = c.try_dependents.ensures.goes_on.tells t1 in
-    let t3 = c.first_link.ensures.goes_on.tells t2 in
+    let t3 = c.list_link.ensures.goes_on.tells t2 in
     let tried = rw c.uow_of-uow.ensures.number at (c.in_ok-room.ensures.tried t1) in
     let same2 = none-same _ _ _ _ _ tried c.in_default-2.is ∙ full.1 in
-    let same3 = c.first_link.ensures.same t2 in
+    let same3 = c.list_link.ensures.same t2 in
     let first = c.first_base-first.ensures.number ∙ ap (first_base c.args.shape.now) c.uow_of-uow.ensures.number in
-    let chain = chain-again _ _ _ _ _ _ shared same2 same3 first (c.in_ok-link.ensures.link t2) is_chain in
+    let known = (c.in_ok-tried.ensures.tried t).link ∙ ap (λ xs. link_of (bytes_at xs c.base_of-base.result)) (sym same2) in
+    let chain = chain-again _ _ _ _ _ _ shared same2 same3 first (c.in_ok-link.ensures.link t2 known) is_chain in
     if_ok-map _ _ _ (λ room u. standing-rest _ _ _ _ _ _ _ _ shared _ room full.0 full.1 tried c.in_default-2.is same3 u) (c.try_chain.ensures.tried t3 shared chain)
 
 pub returns-in_err-tried-clause-damaged : goal.returns-in_err-tried-clause-damaged
@@ -56,8 +57,9 @@ returns-clause-damaged g c = λ t n e.
     let full = gives-full _ _ _ _ _ (c.in_ok-tried.ensures.tried t) c.in_default.is in
     let t1 = c.try_take.ensures.goes_on.tells t in
     let t2 = c.try_dependents.ensures.goes_on.tells t1 in
-    let t3 = c.first_link.ensures.goes_on.tells t2 in
+    let t3 = c.list_link.ensures.goes_on.tells t2 in
     let same2 = none-same _ _ _ _ _ (c.in_ok-room.ensures.tried t1) c.in_default-2.is ∙ full.1 in
-    let same3 = c.first_link.ensures.same t2 in
-    let link = c.in_ok-link.ensures.link t2 ∙ ap (λ xs. link_of (bytes_at xs c.first_base-first.result)) (sym same3) in
+    let same3 = c.list_link.ensures.same t2 in
+    let known = (c.in_ok-tried.ensures.tried t).link ∙ ap (λ xs. link_of (bytes_at xs c.base_of-base.result)) (sym same2) in
+    let link = c.in_ok-link.ensures.link t2 known ∙ ap (λ xs. link_of (bytes_at xs c.first_base-first.result)) (sym same3) in
     rw (same3, same2) at (c.try_chain.ensures.damaged t3 c.uow_of-uow.ensures.bound c.first_base-first.ensures.number link n e)
