@@ -11,7 +11,7 @@ use Rattle.root_anchor.specs.Elements.{Pointer, nothing, Segment, HasSegment}
 use Rattle.root_anchor.specs.Chains.{AreRows, root_of}
 
 -- A pointer to a segment of a type that is wrong, and the interval that is damaged: the one that it leads to, where
--- that one's bytes are none or its element of that type is too short or has a tail that isn't zeros, else the one `from`
+-- that one's bytes are no interval or its element of that type is too short or has a tail that isn't zeros, else the one `from`
 -- that holds the pointer.
 pub data IsWrong (types : List SegDef) (area : List (List ℕ)) (met : List Pointer) (from type : ℕ) (at : Pointer) : ℕ → Type 0 where
   leads_to_no_interval : at.0 < length area → ¬ IsInterval (bytes_at area at.0) → IsWrong types area met from type at at.0

@@ -13,7 +13,7 @@ pub record HasRoots (shape : Shape) (types : List SegDef) (area : List (List ℕ
   pub elements : List Pointer
   pub is_chain : IsChain shape types area anchor roots elements
 
--- an anchor has roots, and they stand in these elements
+-- an anchor's chain stands: it has some roots, maybe none, in some elements
 pub record HasChain (shape : Shape) (types : List SegDef) (area : List (List ℕ)) (anchor : ℕ) : Type 0 where
   pub roots : List Root
   pub elements : List Pointer

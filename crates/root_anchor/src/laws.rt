@@ -31,7 +31,7 @@ pub fn an_anchor_has_one_chain()
         → elements ≡ more }
 {}
 
-/// Where an anchor has roots, none of its pointers is wrong.
+/// Where an anchor's chain stands, none of its pointers is wrong.
 pub fn a_chain_that_stands_does_not_fail()
     ensures { (shape : Shape) (types : List SegDef) (area : List (List ℕ)) (anchor ci : ℕ)
         → HasChain shape types area anchor

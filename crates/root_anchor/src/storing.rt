@@ -1,7 +1,7 @@
 //! An anchor is given other roots.
 //!
-//! Each new segment keeps the element of one of its type and its key, if the anchor had one. The other elements are given
-//! back before any room is looked for. Then the roots are built from the last to the first, and at the end the root anchor
+//! Each new segment keeps the element that it had below its parent's, if it had one. The other elements are given back
+//! before any room is looked for. Then the roots are built from the last to the first, and at the end the root anchor
 //! point is put. An element that says the same as before isn't written.
 
 ghost use Rattle.std.specs.Prelude.{◌≡◌, ◌≢◌, ◌<◌, ◌≤◌, [], ℕ, List, Err, OnOk, IsErrOf, true};
@@ -76,10 +76,10 @@ fn rebuild<I: Intervals>(
 /// Gives an anchor these roots, in this order: `load` gives just them afterwards. A root's sequential list is its newest
 /// serial alone, in an item without bytes, or none. An anchor is counted from 0 within its area.
 ///
-/// The root anchor point, pointers and segments are written where they change. What an element doesn't need any more is
-/// given back before room is looked for.
+/// The root anchor point, pointers and segments are written where they change. Elements that no segment keeps are given
+/// back before room is looked for.
 ///
-/// `Damaged` names the interval that is damaged; in an area that is whole it never comes. `Failed` comes only with what
+/// `Damaged` names the interval that is damaged, where the anchor's chain is broken; in a formed area it never comes. `Failed` comes only with what
 /// holds the intervals. After a fault what holds them is thrown away.
 pub fn store<I: Intervals>(
     alloc: Global,
@@ -93,16 +93,16 @@ pub fn store<I: Intervals>(
     requires types { AreTypes (I.size i.old) segments.now }
     requires roots { are_storable segments.now roots.now ≡ true }
 
-    // In an area that is whole this anchor has these roots, all others keep theirs, and the area is whole again.
+    // In a formed area this anchor has these roots, all others keep theirs, and the area is formed again.
     ensures stored { I.told i.old → IsFormed shape.now segments.now (I.intervals i.old) → OnOk result (HasRoots shape.now segments.now (I.intervals i.new) anchor roots.now) }
     ensures others { I.told i.old → IsFormed shape.now segments.now (I.intervals i.old) → OnOk result (OthersKeep shape.now segments.now (I.intervals i.old) (I.intervals i.new) anchor) }
     ensures sequential { I.told i.old → IsFormed shape.now segments.now (I.intervals i.old) → OnOk result (KeepsSequential shape.now (I.intervals i.old) (I.intervals i.new)) }
     ensures formed { I.told i.old → IsFormed shape.now segments.now (I.intervals i.old) → OnOk result (IsFormed shape.now segments.now (I.intervals i.new)) }
 
-    // Where the area is in order and the anchor has roots, nothing is damaged.
+    // Where the area is in order and the anchor's chain stands, nothing is damaged.
     ensures sound { I.told i.old → IsInOrder shape.now (I.intervals i.old) → HasChain shape.now segments.now (I.intervals i.old) anchor → (ci : ℕ) → result ≢ Err (AnchorFault.Damaged ci) }
 
-    // Where it has none, the interval that is damaged is named, and `Ok` doesn't come.
+    // Where its chain is broken, the interval that is damaged is named, and `Ok` doesn't come.
     ensures damaged { I.told i.old → ¬ HasChain shape.now segments.now (I.intervals i.old) anchor → (ci : ℕ) → result ≡ Err (AnchorFault.Damaged ci) → ChainFails shape.now segments.now (I.intervals i.old) anchor ci }
     ensures stood { I.told i.old → OnOk result (HasChain shape.now segments.now (I.intervals i.old) anchor) }
 
