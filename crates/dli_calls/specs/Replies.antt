@@ -12,7 +12,7 @@ use Rattle.fp_model.specs.declared.calls.Resource.{Resource}
 use Rattle.fp_model.specs.declared.calls.Resource.TheVariants.{Segment}
 use Rattle.fp_model.specs.Answers.{Replied}
 use Rattle.fp_model.specs.FitCalls.{FitsKey, FitsSegment, IsFsaList, IsShownOn}
-use Rattle.fp_model.specs.MsdbCalls.{held_key, is_put_or_dropped, unheld, with_position}
+use Rattle.fp_model.specs.MsdbCalls.{held_key, is_put_or_dropped, hold_ended, with_position}
 use Rattle.fp_model.specs.State.{key_of}
 use Rattle.fp_model.specs.Texts.{same_text, trimmed}
 use Rattle.fp_model.specs.Waiting.{same_resource}
@@ -42,9 +42,9 @@ segments_in database = unwrap_or (slice_get database.store.now.msdbs database.nu
 module _ (def : MsdbDef) (msdb : ℕ) where
   -- what a transaction keeps behind a change
   abbrev pub own_behind : Change → Workspace → Workspace
-  own_behind change.Nothing own = unheld def msdb own
+  own_behind change.Nothing own = hold_ended def msdb own
   own_behind (change.Found key hold) own = with_position def msdb (record { key = Some key; held = hold }) own
-  own_behind (change.Queued d) own = record (unheld def msdb own) { deferred = own.deferred ++ d ∷ [] }
+  own_behind (change.Queued d) own = record (hold_ended def msdb own) { deferred = own.deferred ++ d ∷ [] }
 
   abbrev pub replied_by : Reply → Workspace → Replied
   replied_by reply own = record { answer = reply.answer; own = own_behind reply.change own }

@@ -31,6 +31,15 @@ impl Bytes {
         }
     }
 
+    /// No bytes, with room for so many. Fails only for want of memory.
+    pub fn with_capacity(alloc: Global, capacity: usize) -> Result<Bytes, AllocError>
+        ensures { IfOk result (λ bytes. bytes ≡ []) }
+    {
+        Ok(Bytes {
+            bytes: Vec::with_capacity(alloc, capacity)?,
+        })
+    }
+
     /// The bytes of a `Vec`. Takes no memory.
     pub fn from_vec(bytes: Vec<u8>) -> Bytes
         ensures { result ≡ bytes.items }
@@ -74,6 +83,13 @@ impl Bytes {
         ensures { IsTrue result ↔ (self.now ≡ []) }
     {
         self.bytes.is_empty()
+    }
+
+    /// Makes room for so many more bytes, so that what adds them takes no memory. The bytes stay.
+    pub fn reserve(&mut self, additional: usize) -> Result<(), AllocError>
+        ensures { self.new ≡ self.old }
+    {
+        self.bytes.reserve(additional)
     }
 
     /// Puts a byte at the end. After want of memory the bytes are as before.

@@ -1,6 +1,6 @@
 //! Elements that contracts see as a list.
 ghost use Rattle.std.specs.Cmp.Lexicographic.{pointwise, lists_equiv, lists_per};
-ghost use Rattle.std.specs.Prelude.{◌≡◌, [], ◌∷◌, ◌++◌, ◌<◌, ◌↔◌, length, slice_get, slice_set, IsTrue, OnOk, OnErr, OnSome, MatchOption};
+ghost use Rattle.std.specs.Prelude.{◌≡◌, [], ◌∷◌, ◌++◌, ◌<◌, ◌≤◌, ◌↔◌, insert, length, remove, slice_get, slice_set, Some, IfOk, IsTrue, OnOk, OnErr, OnSome, MatchOption};
 ghost use Rattle.std.specs.Option.{option_copied};
 
 use std::alloc::{AllocError, Global};
@@ -31,6 +31,15 @@ impl<T> List<T> {
         List {
             items: Vec::new(alloc),
         }
+    }
+
+    /// No elements, with room for so many. Fails only for want of memory.
+    pub fn with_capacity(alloc: Global, capacity: usize) -> Result<List<T>, AllocError>
+        ensures { IfOk result (λ list. list ≡ []) }
+    {
+        Ok(List {
+            items: Vec::with_capacity(alloc, capacity)?,
+        })
     }
 
     /// The elements of a `Vec`. Takes no memory.
@@ -121,6 +130,33 @@ impl<T: Drop> List<T> {
         let List { items: mut others } = more;
         self.items.append(&mut others)?;
         Ok(())
+    }
+
+    /// Makes room for so many more elements, so that what adds them takes no memory. The elements stay.
+    pub fn reserve(&mut self, additional: usize) -> Result<(), AllocError>
+        ensures { self.new ≡ self.old }
+    {
+        self.items.reserve(additional)
+    }
+
+    /// Puts an element at a place, counted from 0; the later ones move up. Takes no memory where there is room.
+    /// After want of memory the list is as before, and the element is gone.
+    pub fn insert(&mut self, at: usize, item: T) -> Result<(), AllocError>
+        requires { at ≤ length self.old }
+        ensures ok { OnOk result (self.new ≡ insert self.old at item) }
+        ensures err { OnErr result (self.new ≡ self.old) }
+    {
+        self.items.insert(at, item)?;
+        Ok(())
+    }
+
+    /// Takes the element at a place out, counted from 0; the later ones move down. Takes no memory.
+    pub fn remove(&mut self, at: usize) -> T
+        requires { at < length self.old }
+        ensures value { slice_get self.old at ≡ Some result }
+        ensures others { self.new ≡ remove self.old at }
+    {
+        self.items.remove(at)
     }
 
     /// Takes the last element off. None exactly where there is none. Takes no memory.

@@ -2,3 +2,4 @@ pub mod HistoryLemmas
 pub mod FrameLemmas
 pub mod ProgramLemmas
 pub mod FsaLemmas
+mod RunLemmas

@@ -9,7 +9,8 @@ use Rattle.fp_model.specs.declared.definitions.Defs.{Defs}
 use Rattle.fp_model.specs.declared.scripts.Statement.{Statement, roll-Statement, map-Statement}
 use Rattle.fp_model.specs.declared.scripts.Statement.TheOpen.{Statement-F, Set, If, Repeat, Break, Reply, Roll, Get, Fld, Isrt, Repl, Dlet}
 use Rattle.fp_model.specs.declared.scripts.Statement.TheFolds.{fold-roll-Statement, ind-Statement}
-use Rattle.fp_model.specs.Programs.{Env, Way, Goes, Leaves, Ends, Ask, Asks, Replies, Rolls, or_rolls, goes_on, in_order, loops_on, times, called, learned, run, run_step, ended, ask, at_top, with_setting, set_text, chosen, reply_text, get_call, fld_call, isrt_call, repl_call, cost_step, statement_cost, full_cost}
+use Rattle.fp_model.specs.Operands.{Env, learned, at_top, with_setting, set_text, chosen, reply_text, get_call, fld_call, isrt_call, repl_call}
+use Rattle.fp_model.specs.Asking.{Way, Goes, Leaves, Ends, Ask, Asks, Replies, Rolls, or_rolls, goes_on, in_order, loops_on, times, called, run, run_step, ended, ask, cost_step, statement_cost, full_cost}
 
 -- a statement's run, as one step over the runs of the statements in it
 pub run_roll : (defs : Defs) (message : Message) (d : Statement-F Statement) (env : Env) → run defs message (roll-Statement d) env ≡ run_step defs message (map-Statement Statement (Env → Way) (run defs message) d) env

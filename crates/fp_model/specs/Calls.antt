@@ -40,14 +40,14 @@ abbrev pub msdb_at : Db → ℕ → Msdb
 msdb_at db msdb = unwrap_or (slice_get db.msdbs msdb) (record { segments = [] })
 
 abbrev pub reply_on : Target → Db → Db → Workspace → Call → Replied
-reply_on (OnMsdb def msdb) now shown own c = msdb_reply def msdb (msdb_at now msdb) (msdb_at shown msdb) own c
-reply_on (OnDedb def dedb) now shown own c = dedb_reply def dedb now own c
-reply_on Nowhere now shown own c = record { answer = answered (codes "AM"); own = own }
+reply_on (OnMsdb def msdb) now visible own c = msdb_reply def msdb (msdb_at now msdb) (msdb_at visible msdb) own c
+reply_on (OnDedb def dedb) now visible own c = dedb_reply def dedb now own c
+reply_on Nowhere now visible own c = record { answer = answered (codes "AM"); own = own }
 
 -- The answer to a call. Calls to data entry databases, holds and inserts look at the state now; unheld looks at a
--- main storage database look at the state shown.
+-- main storage database look at the state visible.
 unfoldable pub reply_to : Defs → Db → Db → Workspace → Call → Replied
-reply_to defs now shown own c = reply_on (target_of defs (database_of c)) now shown own c
+reply_to defs now visible own c = reply_on (target_of defs (database_of c)) now visible own c
 
 abbrev pub looks_on : Target → Workspace → Call → Bool
 looks_on (OnMsdb def msdb) own c = msdb_looks def msdb own c

@@ -14,7 +14,7 @@ use Rattle.fp_model.specs.declared.calls.Mode.{Mode}
 use Rattle.fp_model.specs.declared.calls.Mode.TheVariants.{Exclusive}
 use Rattle.fp_model.specs.declared.calls.Resource.{Resource}
 use Rattle.fp_model.specs.declared.calls.SeqInsert.{SeqInsert}
-use Rattle.fp_model.specs.State.{Area, areas_of, has_anchor, with_roots, change_key}
+use Rattle.fp_model.specs.State.{Area, anchors_in, areas_of, change_key, first_area_set, first_ends, has_anchor, with_roots}
 use Rattle.fp_model.specs.Settle.{Settled, Stands, VerifyFails, settle, resources}
 use Rattle.fp_model.specs.Order.{root_key}
 use Rattle.fp_model.specs.Workspace.{Workspace}
@@ -28,15 +28,15 @@ pub data Settlement : Type 0 where
 
 -- ---- areas
 
-abbrev pub no_ends : AreaEnds
-no_ends = record { begin = 1; end = 1 }
-
 -- the ends of an area
 abbrev pub ends_at : Db → Area → AreaEnds
-ends_at db area = option_map_or (λ d. unwrap_or (slice_get d.areas area.number) no_ends) (slice_get db.dedbs area.dedb) no_ends
+ends_at db area =
+    option_map_or (λ d. unwrap_or (slice_get d.areas area.number) first_ends) (slice_get db.dedbs area.dedb) first_ends
 
+-- with a data entry database changed
 abbrev pub with_dedb : ℕ → (Dedb → Dedb) → Db → Db
-with_dedb dedb change db = record db { dedbs = option_map_or (λ d. slice_set db.dedbs dedb (change d)) (slice_get db.dedbs dedb) db.dedbs }
+with_dedb dedb change db =
+    record db { dedbs = option_map_or (λ d. slice_set db.dedbs dedb (change d)) (slice_get db.dedbs dedb) db.dedbs }
 
 -- with other ends
 abbrev pub with_ends : Area → AreaEnds → Db → Db
@@ -56,7 +56,9 @@ first_full db inserts set [] = None
 first_full db inserts set (area ∷ areas) =
     let n : ℕ = length (filter (takes area) inserts) in
     let ends : AreaEnds = ends_at db area in
-    if nat_lt 0 n && is_too_full area.capacity ends n then Some (FillsPart set ends.begin ends.end n) else first_full db inserts (set + 1) areas
+    if nat_lt 0 n && is_too_full area.def.capacity ends n
+    then Some (FillsPart set ends.begin ends.end n)
+    else first_full db inserts (set + 1) areas
 
 -- ---- what a commit changes in data entry databases
 
@@ -68,18 +70,24 @@ abbrev pub types_of : Defs → ℕ → List SegDef
 types_of defs dedb = option_map_or (λ def. def.segments) (slice_get defs.dedbs dedb) []
 
 -- a sequential dependent in front of those of its root
-abbrev pub with_item : SeqItem → Root → Root
-with_item item root = record root { seqs = item ∷ root.seqs }
+abbrev pub with_newest : SeqItem → Root → Root
+with_newest item root = record root { seqs = item ∷ root.seqs }
 
+-- the same at its root, in the database
 abbrev pub with_dependent : Defs → SeqInsert → SeqItem → Db → Db
 with_dependent defs i item db =
-    with_dedb i.dedb (λ d. record d { anchors = option_map_or (λ roots. slice_set d.anchors i.anchor (change_key (root_key (types_of defs i.dedb)) i.key (with_item item) roots)) (slice_get d.anchors i.anchor) d.anchors }) db
+    let key : Root → List ℕ = root_key (types_of defs i.dedb) in
+    let changed : Dedb → Dedb = λ d. record d {
+      anchors = option_map_or (λ roots. slice_set d.anchors i.anchor (change_key key i.key (with_newest item) roots)) (slice_get d.anchors i.anchor) d.anchors;
+    } in
+    with_dedb i.dedb changed db
 
 -- the insert gets the serial at its area's end, and the end moves on
 abbrev pub numbered_at : Defs → SeqInsert → Area → Db → Db
 numbered_at defs i area db =
     let ends : AreaEnds = ends_at db area in
-    with_ends area (record ends { end = ends.end + 1 }) (with_dependent defs i (record { serial = ends.end; bytes = i.bytes }) db)
+    let item : SeqItem = record { serial = ends.end; bytes = i.bytes } in
+    with_ends area (record ends { end = ends.end + 1 }) (with_dependent defs i item db)
 
 abbrev pub with_insert : Defs → Db → SeqInsert → Db
 with_insert defs db i = option_map_or (λ area. numbered_at defs i area db) (find (λ area. takes area i) (areas_of defs)) db
@@ -99,7 +107,8 @@ committed defs own msdbs db = with_inserts defs own.inserts (with_anchors own.ch
 
 abbrev pub settled_to : Defs → Db → Workspace → Settled → Settlement
 settled_to defs db own (VerifyFails call fsa found) = FailsVerify call fsa found
-settled_to defs db own (Stands msdbs) = unwrap_or (first_full db own.inserts 3 (areas_of defs)) (Commits (committed defs own msdbs db))
+settled_to defs db own (Stands msdbs) =
+    unwrap_or (first_full db own.inserts first_area_set (areas_of defs)) (Commits (committed defs own msdbs db))
 
 -- The queue is settled first; then the sequential inserts of each area are counted.
 unfoldable pub settlement : Defs → Db → Workspace → Settlement
@@ -118,19 +127,22 @@ kept_from begin root = record root { seqs = filter (λ item. nat_le begin item.s
 -- the anchors of an area changed, the others as they are
 abbrev pub in_anchors : {X : Type 0} → Area → (X → X) → List X → List X
 in_anchors area change anchors =
-    take area.first_anchor anchors ++ map change (take area.anchors (drop area.first_anchor anchors)) ++ drop (area.first_anchor + area.anchors) anchors
+    let own : ℕ = anchors_in area.def in
+    take area.first_anchor anchors ++ map change (take own (drop area.first_anchor anchors)) ++ drop (area.first_anchor + own) anchors
 
 -- begin moves up by n, at most to the end, and older serials leave their roots
 abbrev pub purged_area : Area → ℕ → Db → Db
 purged_area area n db =
     let ends : AreaEnds = ends_at db area in
     let begin : ℕ = min ends.end (ends.begin + n) in
-    with_ends area (record ends { begin = begin }) (with_dedb area.dedb (λ d. record d { anchors = in_anchors area (map (kept_from begin)) d.anchors }) db)
+    let changed : Dedb → Dedb = λ d. record d { anchors = in_anchors area (map (kept_from begin)) d.anchors } in
+    with_ends area (record ends { begin = begin }) (with_dedb area.dedb changed db)
 
 -- the area of a data set
 abbrev pub area_of_set : Defs → ℕ → Option Area
-area_of_set defs set = if nat_lt set 3 then None else slice_get (areas_of defs) (set - 3)
+area_of_set defs set = if nat_lt set first_area_set then None else slice_get (areas_of defs) (set - first_area_set)
 
 -- the state after a Purge of a data set; None where it isn't an area with a sequential part
 unfoldable pub purged : Defs → ℕ → ℕ → Db → Option Db
-purged defs set n db = option_map_or (λ area. if nat_lt 0 area.capacity then Some (purged_area area n db) else None) (area_of_set defs set) None
+purged defs set n db =
+    option_map_or (λ area. if nat_lt 0 area.def.capacity then Some (purged_area area n db) else None) (area_of_set defs set) None

@@ -1,5 +1,5 @@
 -- Calls to a data entry database. The transaction sees its own direct changes, and not its own sequential inserts.
-use Rattle.std.specs.Prelude.{ℕ, ◌-◌, List, [], ◌∷◌, ◌++◌, length, map, codes, Bool, true, false, not, ◌&&◌, ◌||◌, ◌==◌, nat_lt, if◌then◌else◌, Option, Some, None, is_some, unwrap_or, option_and_then, slice_get, slice_set, find, filter, take}
+use Rattle.std.specs.Prelude.{ℕ, ◌-◌, List, [], ◌∷◌, ◌++◌, length, map, codes, Bool, true, false, not, ◌&&◌, ◌||◌, ◌==◌, nat_lt, if◌then◌else◌, Option, Some, None, is_some, option_map, unwrap_or, option_and_then, slice_get, slice_set, find, filter, take}
 use Rattle.std.specs.List.{list_all}
 use Rattle.std.specs.Option.{option_map_or}
 use Rattle.fp_model.specs.declared.definitions.DedbDef.{DedbDef}
@@ -19,8 +19,8 @@ use Rattle.fp_model.specs.declared.calls.Ssa.{Ssa}
 use Rattle.fp_model.specs.Texts.{same_text}
 use Rattle.fp_model.specs.State.{numbers_up, anchor_count, roots_at}
 use Rattle.fp_model.specs.Exits.{anchor_of}
-use Rattle.fp_model.specs.Order.{Step, Shown, Place, direct, key_in, is_sequential, line_to, is_above, first_admitted, bytes_at, edited, Edit, Inserts, Replaces, Deletes}
-use Rattle.fp_model.specs.Workspace.{DedbPosition, no_dedb_position, Workspace}
+use Rattle.fp_model.specs.Order.{Step, Occurrence, Place, direct, key_in, is_sequential, line_to, is_ancestor, first_admitted, bytes_at, edited, Edit, Inserts, Replaces, Deletes}
+use Rattle.fp_model.specs.Workspace.{DedbPosition, no_dedb_position, put_change, Workspace}
 use Rattle.fp_model.specs.Answers.{Replied, Needed, answered, showing, blank, serves, unless_held}
 
 abbrev pub is_qualified : Ssa → Bool
@@ -40,12 +40,12 @@ abbrev pub parents_in : List Step → List Step
 parents_in path = take (length path - 1) path
 
 -- the first anchor at which something is found, with it
-abbrev pub first_found : (ℕ → Option Shown) → List ℕ → Option (ℕ × Shown)
+abbrev pub first_found : (ℕ → Option Occurrence) → List ℕ → Option (ℕ × Occurrence)
 first_found look [] = None
 first_found look (anchor ∷ anchors) = option_map_or (λ s. Some (anchor, s)) (look anchor) (first_found look anchors)
 
 -- the first anchor that a search comes to without its lock
-abbrev pub first_unlocked : (ℕ → Bool) → (ℕ → Option Shown) → List ℕ → Option ℕ
+abbrev pub first_unlocked : (ℕ → Bool) → (ℕ → Option Occurrence) → List ℕ → Option ℕ
 first_unlocked is_locked look [] = None
 first_unlocked is_locked look (anchor ∷ anchors) =
     if not (is_locked anchor) then Some anchor
@@ -60,13 +60,14 @@ module _ (def : DedbDef) (dedb : ℕ) where
 
   -- the roots of an anchor, as the transaction has changed them
   abbrev pub roots_seen : Db → Workspace → ℕ → List Root
-  roots_seen db own anchor = option_map_or (λ c. c.roots) (find (is_change_of anchor) own.changes) (roots_at db dedb anchor)
+  roots_seen db own anchor =
+      option_map_or (λ c. c.roots) (find (is_change_of anchor) own.changes) (roots_at db dedb anchor)
 
   abbrev pub change_at : ℕ → List Root → AnchorChange
   change_at anchor roots = record { dedb = dedb; anchor = anchor; roots = roots }
 
   abbrev pub with_change : ℕ → List Root → Workspace → Workspace
-  with_change anchor roots own = record own { changes = filter (λ c. not (is_change_of anchor c)) own.changes ++ change_at anchor roots ∷ [] }
+  with_change anchor roots own = record own { changes = put_change (change_at anchor roots) own.changes }
 
   abbrev pub position_of : Workspace → DedbPosition
   position_of own = unwrap_or (slice_get own.dedbs dedb) no_dedb_position
@@ -75,23 +76,24 @@ module _ (def : DedbDef) (dedb : ℕ) where
   with_position p own = record own { dedbs = slice_set own.dedbs dedb p }
 
   -- Every answered call ends the hold.
-  abbrev pub unheld : Workspace → Workspace
-  unheld own = with_position (record (position_of own) { held = false }) own
+  abbrev pub hold_ended : Workspace → Workspace
+  hold_ended own = with_position (record (position_of own) { held = false }) own
 
   abbrev pub refused : Workspace → List ℕ → Replied
-  refused own status = record { answer = answered status; own = unheld own }
+  refused own status = record { answer = answered status; own = hold_ended own }
 
   -- ---- gets
 
   -- each type that the arguments name stands below the one before
-  abbrev pub leads_down : List Ssa → Bool
-  leads_down [] = true
-  leads_down (a ∷ []) = true
-  leads_down (a ∷ b ∷ rest) = is_above def.segments a.segment b.segment && leads_down (b ∷ rest)
+  abbrev pub are_descending : List Ssa → Bool
+  are_descending [] = true
+  are_descending (a ∷ []) = true
+  are_descending (a ∷ b ∷ rest) = is_ancestor def.segments a.segment b.segment && are_descending (b ∷ rest)
 
   -- The arguments name types on one line downwards, each at most once, and give the sequential type no key.
   abbrev pub are_get_arguments : List Ssa → Bool
-  are_get_arguments ssas = leads_down ssas && list_all (λ a. not (is_qualified a && is_sequential def.segments a.segment)) ssas
+  are_get_arguments ssas =
+      are_descending ssas && list_all (λ a. not (is_qualified a && is_sequential def.segments a.segment)) ssas
 
   -- the key of the root, where the arguments give it
   abbrev pub root_named : List Ssa → Option (List ℕ)
@@ -108,7 +110,8 @@ module _ (def : DedbDef) (dedb : ℕ) where
   anchors_searched p get.Unique None = anchors_up 0
   anchors_searched p get.Unique (Some key) = anchor_of def key ∷ []
   anchors_searched p get.Next None = anchors_up (anchor_at p.place)
-  anchors_searched p get.Next (Some key) = if nat_lt (anchor_of def key) (anchor_at p.place) then [] else anchor_of def key ∷ []
+  anchors_searched p get.Next (Some key) =
+      if nat_lt (anchor_of def key) (anchor_at p.place) then [] else anchor_of def key ∷ []
   anchors_searched p get.NextInParent None = anchor_at p.parent ∷ []
   anchors_searched p get.NextInParent (Some key) = anchor_of def key ∷ []
 
@@ -125,9 +128,10 @@ module _ (def : DedbDef) (dedb : ℕ) where
   stays_below p get.NextInParent = p.parent
 
   -- what a get finds at an anchor
-  abbrev pub look_at : Db → Workspace → Get → List Ssa → ℕ → Option Shown
+  abbrev pub look_at : Db → Workspace → Get → List Ssa → ℕ → Option Occurrence
   look_at db own get ssas anchor =
-      first_admitted def.segments anchor (roots_seen db own anchor) (begins_behind (position_of own) get) (stays_below (position_of own) get) ssas
+      let p : DedbPosition = position_of own in
+      first_admitted def.segments anchor (roots_seen db own anchor) (begins_behind p get) (stays_below p get) ssas
 
   abbrev pub not_found : Get → List Ssa → List ℕ
   not_found get.Unique ssas = codes "GE"
@@ -143,13 +147,14 @@ module _ (def : DedbDef) (dedb : ℕ) where
   abbrev pub type_of_path : List Step → ℕ
   type_of_path path = option_map_or (λ s. s.segment) (last_step path) 0
 
-  abbrev pub found_or : List ℕ → Get → Bool → Workspace → Option (ℕ × Shown) → Replied
+  abbrev pub found_or : List ℕ → Get → Bool → Workspace → Option (ℕ × Occurrence) → Replied
   found_or status get hold own None = refused own status
   found_or status get hold own (Some found) =
       let place : Place = record { anchor = found.0; path = found.1.path } in
+      let parent : Option Place = parent_after get (position_of own).parent place in
       record {
         answer = showing (type_of_path found.1.path) found.1.bytes;
-        own = with_position (record { place = Some place; parent = parent_after get (position_of own).parent place; held = hold }) own;
+        own = with_position (record { place = Some place; parent = parent; held = hold }) own;
       }
 
   -- a get below a parent, where there is none
@@ -162,7 +167,8 @@ module _ (def : DedbDef) (dedb : ℕ) where
   get_reply db own get hold ssas =
       if not (are_get_arguments ssas) then refused own (codes "AM")
       else if lacks_parent own get then refused own (codes "GP")
-      else found_or (not_found get ssas) get hold own (first_found (look_at db own get ssas) (anchors_searched (position_of own) get (root_named ssas)))
+      else found_or (not_found get ssas) get hold own
+      (first_found (look_at db own get ssas) (anchors_searched (position_of own) get (root_named ssas)))
 
   -- ---- ISRT
 
@@ -179,7 +185,8 @@ module _ (def : DedbDef) (dedb : ℕ) where
 
   -- The arguments name each parent of the new type by its key, from the root down, and last the type.
   abbrev pub are_insert_arguments : List Ssa → Bool
-  are_insert_arguments ssas = only_last_unqualified ssas && same_text (map (λ a. a.segment) ssas) (line_to def.segments (type_of_last ssas))
+  are_insert_arguments ssas =
+      only_last_unqualified ssas && same_text (map (λ a. a.segment) ssas) (line_to def.segments (type_of_last ssas))
 
   -- a step for each argument, the last with the key that the new segment begins with
   abbrev pub insert_path : List Ssa → List ℕ → List Step
@@ -205,20 +212,26 @@ module _ (def : DedbDef) (dedb : ℕ) where
       let place : Place = record { anchor = anchor; path = path } in
       record {
         answer = answered blank;
-        own = with_position (record { place = Some place; parent = (position_of own).parent; held = false }) (with_change anchor (edited def.segments roots path (Inserts bytes)) own);
+        own = with_position (record { place = Some place; parent = (position_of own).parent; held = false })
+            (with_change anchor (edited def.segments roots path (Inserts bytes)) own);
       }
+
+  abbrev pub queued_insert : Workspace → List Step → List ℕ → Replied
+  queued_insert own path bytes =
+      record { answer = answered blank; own = record (hold_ended own) { inserts = own.inserts ++ seq_insert path bytes ∷ [] } }
 
   abbrev pub isrt_at : List Root → Workspace → ℕ → List Step → List ℕ → Replied
   isrt_at roots own type path bytes =
       if not (stands_at roots (parents_in path)) then refused own (codes "GE")
-      else if is_sequential def.segments type then record { answer = answered blank; own = record (unheld own) { inserts = own.inserts ++ seq_insert path bytes ∷ [] } }
+      else if is_sequential def.segments type then queued_insert own path bytes
       else if stands_at roots path then refused own (codes "II")
       else inserted roots own path bytes
 
   abbrev pub isrt_reply : Db → Workspace → List Ssa → List ℕ → Replied
   isrt_reply db own ssas bytes =
       let path : List Step = insert_path ssas bytes in
-      if are_insert_arguments ssas then isrt_at (roots_seen db own (anchor_of_path path)) own (type_of_last ssas) path bytes
+      if are_insert_arguments ssas
+      then isrt_at (roots_seen db own (anchor_of_path path)) own (type_of_last ssas) path bytes
       else refused own (codes "AM")
 
   -- ---- REPL and DLET
@@ -228,7 +241,8 @@ module _ (def : DedbDef) (dedb : ℕ) where
   held_place own = if (position_of own).held then (position_of own).place else None
 
   abbrev pub edit_at : Db → Workspace → Place → Edit → Workspace
-  edit_at db own place edit = with_change place.anchor (edited def.segments (roots_seen db own place.anchor) place.path edit) (unheld own)
+  edit_at db own place edit =
+      with_change place.anchor (edited def.segments (roots_seen db own place.anchor) place.path edit) (hold_ended own)
 
   abbrev pub key_of_path : List Step → List ℕ
   key_of_path path = option_map_or (λ s. s.key) (last_step path) []
@@ -238,18 +252,21 @@ module _ (def : DedbDef) (dedb : ℕ) where
   repl_reply db own bytes (Some place) =
       let type : ℕ = type_of_path place.path in
       if is_sequential def.segments type then refused own (codes "AM")
-      else if same_text (key_in def.segments type bytes) (key_of_path place.path) then record { answer = answered blank; own = edit_at db own place (Replaces bytes) }
+      else if same_text (key_in def.segments type bytes) (key_of_path place.path)
+      then record { answer = answered blank; own = edit_at db own place (Replaces bytes) }
       else refused own (codes "DA")
 
   -- the path names a root, and the insert is of a dependent of it
   abbrev pub goes_with : Place → SeqInsert → Bool
-  goes_with place i = length place.path == 1 && i.dedb == dedb && i.anchor == place.anchor && same_text i.key (root_key_of place.path)
+  goes_with place i =
+      length place.path == 1 && i.dedb == dedb && i.anchor == place.anchor && same_text i.key (root_key_of place.path)
 
   -- the segment goes with all below it, and the parent is forgotten
   abbrev pub deleted : Db → Workspace → Place → Workspace
   deleted db own place =
       let after : Workspace = edit_at db own place Deletes in
-      with_position (record (position_of after) { parent = None }) (record after { inserts = filter (λ i. not (goes_with place i)) own.inserts })
+      with_position (record (position_of after) { parent = None })
+      (record after { inserts = filter (λ i. not (goes_with place i)) own.inserts })
 
   abbrev pub dlet_reply : Db → Workspace → Option Place → Replied
   dlet_reply db own None = refused own (codes "DJ")
@@ -279,7 +296,9 @@ module _ (def : DedbDef) (dedb : ℕ) where
   abbrev pub get_need : Db → Workspace → (Resource → Option Mode) → Get → Bool → List Ssa → Option Needed
   get_need db own held get hold ssas =
       if not (are_get_arguments ssas) || lacks_parent own get then None
-      else option_map_or (λ anchor. Some (anchor_lock (lock_of hold) anchor)) (first_unlocked (λ anchor. serves (held (Anchor dedb anchor)) (lock_of hold)) (look_at db own get ssas) (anchors_searched (position_of own) get (root_named ssas))) None
+      else option_map (anchor_lock (lock_of hold))
+      (first_unlocked (λ anchor. serves (held (Anchor dedb anchor)) (lock_of hold)) (look_at db own get ssas)
+      (anchors_searched (position_of own) get (root_named ssas)))
 
   -- the anchor of the segment that is held
   abbrev pub held_need : (Resource → Option Mode) → Option Place → Option Needed
@@ -289,6 +308,7 @@ module _ (def : DedbDef) (dedb : ℕ) where
   abbrev pub dedb_need : Db → Workspace → (Resource → Option Mode) → Call → Option Needed
   dedb_need db own held (call.Get get hold n ssas) = get_need db own held get hold ssas
   dedb_need db own held (call.Fld n key fsas) = None
-  dedb_need db own held (call.Isrt n ssas bytes) = if are_insert_arguments ssas then unless_locked held Exclusive (anchor_of_path (insert_path ssas bytes)) else None
+  dedb_need db own held (call.Isrt n ssas bytes) =
+      if are_insert_arguments ssas then unless_locked held Exclusive (anchor_of_path (insert_path ssas bytes)) else None
   dedb_need db own held (call.Repl n bytes) = held_need held (held_place own)
   dedb_need db own held (call.Dlet n) = held_need held (held_place own)

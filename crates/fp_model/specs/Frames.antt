@@ -23,10 +23,8 @@ pub record KeepsRegions (m m2 : Machine) : Type 0 where
   pub requests : m2.requests ≡ m.requests
 
 -- the entries, and the states that they lead through
-pub record KeepsEntries (m m2 : Machine) : Type 0 where
-  pub entries : m2.entries ≡ m.entries
-  pub past : m2.past ≡ m.past
-  pub now : m2.now ≡ m.now
+abbrev pub KeepsHistory : Machine → Machine → Type 0
+KeepsHistory m m2 = m2.history ≡ m.history
 
 -- the messages that wait
 abbrev pub KeepsQueues : Machine → Machine → Type 0
@@ -40,11 +38,11 @@ KeepsBusy m m2 = m2.busy ≡ m.busy
 abbrev pub Keeps : Event → Machine → Machine → Type 0
 Keeps event.In m m2 = KeepsSealed m m2 × KeepsRegions m m2
 Keeps (event.Region region) m m2 = KeepsLines m m2 × KeepsSealed m m2 × KeepsBusy m m2
-Keeps event.Log m m2 = KeepsLines m m2 × KeepsQueues m m2 × KeepsRegions m m2 × KeepsEntries m m2
+Keeps event.Log m m2 = KeepsLines m m2 × KeepsQueues m m2 × KeepsRegions m m2 × KeepsHistory m m2
 Keeps event.Out m m2 = m2 ≡ m
-Keeps event.Ckpt m m2 = KeepsLines m m2 × KeepsQueues m m2 × KeepsRegions m m2 × KeepsEntries m m2
+Keeps event.Ckpt m m2 = KeepsLines m m2 × KeepsQueues m m2 × KeepsRegions m m2 × KeepsHistory m m2
 Keeps (event.Purge set n) m m2 = KeepsLines m m2 × KeepsSealed m m2 × KeepsRegions m m2 × KeepsQueues m m2 × KeepsBusy m m2
 
 -- entries are only added
 abbrev pub AddsEntries : Machine → Machine → Type 0
-AddsEntries m m2 = (more : List Entry) × (m2.entries ≡ m.entries ++ more)
+AddsEntries m m2 = (more : List Entry) × (m2.history.entries ≡ m.history.entries ++ more)

@@ -1,12 +1,12 @@
 -- The bytes of the log: entries, groups and the front.
-use Rattle.std.specs.Prelude.{◌≡◌, ⊤, ℕ, ◌<◌, ◌^◌, List, [], ◌∷◌, ◌++◌, length, Bool, true, false, ◌&&◌, ◌||◌, ◌==◌, nat_lt, IsTrue, codes}
+use Rattle.std.specs.Prelude.{◌≡◌, ⊤, ℕ, ◌+◌, ◌<◌, ◌≤◌, ◌^◌, List, [], ◌∷◌, ◌++◌, length, IsTrue, Contains, codes}
 use Rattle.std.specs.List.{flat_map, AllByRecursion}
-use Rattle.fp_model.specs.State.{is_below}
+use Rattle.fp_model.specs.ItemTargets.{is_ascending}
 use Rattle.fp_model.specs.Spellings.{be16, be32, be64, short_text, long_text, part_text}
 use Rattle.fp_model.specs.declared.log.Item.{Item}
-use Rattle.fp_model.specs.declared.log.Item.TheVariants.{Segment, Image}
+use Rattle.fp_model.specs.declared.log.Item.TheVariants.{Segment, Image, Range}
 use Rattle.fp_model.specs.declared.log.Outcome.{Outcome}
-use Rattle.fp_model.specs.declared.log.Outcome.TheVariants.{Done, Verify, Roll, SeqFull, Deadlock, Device, Memory, Unknown, Purge}
+use Rattle.fp_model.specs.declared.log.Outcome.TheVariants.{Done, Verify, Roll, SeqFull, Deadlock, Device, Memory, Unknown, Purge, Old, Repeat, Format}
 use Rattle.fp_model.specs.declared.log.Entry.{Entry}
 
 -- the code of an outcome, and its detail
@@ -20,11 +20,15 @@ outcome_text Device = 5 ∷ []
 outcome_text Memory = 6 ∷ []
 outcome_text Unknown = 7 ∷ []
 outcome_text (Purge set n) = 8 ∷ be16 set ++ be64 n
+outcome_text (Old last) = 9 ∷ be64 last
+outcome_text (Repeat line) = 10 ∷ long_text line
+outcome_text Format = 11 ∷ []
 
 -- an item, behind a byte that says which
 abbrev pub item_text : Item → List ℕ
 item_text (Segment msdb key bytes) = 1 ∷ msdb ∷ short_text key ++ long_text bytes
 item_text (Image set ci bytes) = 2 ∷ be16 set ++ be64 ci ++ long_text bytes
+item_text (Range set ci at bytes) = 3 ∷ be16 set ++ be64 ci ++ be16 at ++ long_text bytes
 
 -- the notes, behind their number
 abbrev pub notes_text : List ℕ → List ℕ
@@ -56,22 +60,33 @@ group_text entries = 1 ∷ be64 (length (body_text entries)) ++ body_text entrie
 abbrev pub groups_text : List (List Entry) → List ℕ
 groups_text groups = flat_map group_text groups
 
--- what a log was made for: the texts of the definitions and of the scripts
+-- what a log was made for: its format, and the texts of the definitions and of the scripts
 pub record Front : Type 0 where
+  pub format : ℕ
   pub defs : List ℕ
   pub scripts : List ℕ
 
+-- the formats that there are
+abbrev pub IsFormat : ℕ → Type 0
+IsFormat format = Contains (1 ∷ 2 ∷ []) format
+
+-- letters, and the digit of a format
+abbrev pub of_format : List ℕ → ℕ → List ℕ
+of_format letters format = letters ++ (48 + format) ∷ []
+
 -- a front without its gate
 abbrev pub front_rest : Front → List ℕ
-front_rest front = codes "IMSFPLG1" ++ part_text front.defs ++ part_text front.scripts
+front_rest front = of_format (codes "IMSFPLG") front.format ++ part_text front.defs ++ part_text front.scripts
 
 -- a front: its gate, a byte that is 1 where the front is open, and the rest
 abbrev pub front_text : ℕ → Front → List ℕ
 front_text gate front = gate ∷ front_rest front
 
--- each length in a front fits its field
-abbrev pub FitsFront : Front → Type 0
-FitsFront front = (length front.defs < 2 ^ 32) × (length front.scripts < 2 ^ 32)
+-- the format is one that there is, and each length in a front fits its field
+pub record FitsFront (front : Front) : Type 0 where
+  pub is_format : IsFormat front.format
+  pub defs_fit : length front.defs < 2 ^ 32
+  pub scripts_fit : length front.scripts < 2 ^ 32
 
 -- the bytes of a log that was made for this front: they begin with it, open
 abbrev pub StartsWithFront : List ℕ → Front → Type 0
@@ -84,20 +99,6 @@ first_gate front = length (front_text 1 front)
 -- a log: the open front, its groups, and a closed gate
 abbrev pub log_text : Front → List (List Entry) → List ℕ
 log_text front groups = front_text 1 front ++ groups_text groups ++ 0 ∷ []
-
--- whether an item stands before another: segments first, by database and key, then images, by data set and
--- interval
-abbrev pub precedes : Item → Item → Bool
-precedes (Segment msdb key bytes) (Segment msdb2 key2 bytes2) = nat_lt msdb msdb2 || (msdb == msdb2 && is_below key key2)
-precedes (Segment msdb key bytes) (Image set ci bytes2) = true
-precedes (Image set ci bytes) (Segment msdb key bytes2) = false
-precedes (Image set ci bytes) (Image set2 ci2 bytes2) = nat_lt set set2 || (set == set2 && nat_lt ci ci2)
-
--- whether each item stands before the next
-abbrev pub is_ascending : List Item → Bool
-is_ascending [] = true
-is_ascending (item ∷ []) = true
-is_ascending (item ∷ next ∷ more) = precedes item next && is_ascending (next ∷ more)
 
 -- a reply stands in Done alone, and items stand in Done and Purge alone
 abbrev pub HasItsParts : Outcome → List ℕ → List Item → Type 0
@@ -114,12 +115,14 @@ pub record KeepsRules (e : Entry) : Type 0 where
 abbrev pub FitsOutcome : Outcome → Type 0
 FitsOutcome (Verify call fsa found) = length found < 2 ^ 16
 FitsOutcome (Deadlock cycle) = length cycle < 2 ^ 8
+FitsOutcome (Repeat line) = length line < 2 ^ 16
 FitsOutcome _ = ⊤
 
--- each length in an item fits its field
+-- each length in an item fits its field, and a range has some bytes
 abbrev pub FitsItem : Item → Type 0
 FitsItem (Segment msdb key bytes) = (length key < 2 ^ 8) × (length bytes < 2 ^ 16)
 FitsItem (Image set ci bytes) = length bytes < 2 ^ 16
+FitsItem (Range set ci at bytes) = (1 ≤ length bytes) × (length bytes < 2 ^ 16)
 
 -- each length in an entry fits its field, as who writes one has to see to
 pub record FitsEntry (e : Entry) : Type 0 where
@@ -141,12 +144,15 @@ IsOutcome (Roll code) = code < 2 ^ 16
 IsOutcome (SeqFull set begin end n) = (set < 2 ^ 16) × (begin < 2 ^ 64) × (end < 2 ^ 64) × (n < 2 ^ 64)
 IsOutcome (Deadlock cycle) = IsBytes cycle
 IsOutcome (Purge set n) = (set < 2 ^ 16) × (n < 2 ^ 64)
+IsOutcome (Old last) = last < 2 ^ 64
+IsOutcome (Repeat line) = IsBytes line
 IsOutcome _ = ⊤
 
 -- each number in an item is one of its type
 abbrev pub IsItem : Item → Type 0
 IsItem (Segment msdb key bytes) = (msdb < 2 ^ 8) × IsBytes key × IsBytes bytes
 IsItem (Image set ci bytes) = (set < 2 ^ 16) × (ci < 2 ^ 64) × IsBytes bytes
+IsItem (Range set ci at bytes) = (set < 2 ^ 16) × (ci < 2 ^ 64) × (at < 2 ^ 16) × IsBytes bytes
 
 -- each number in an entry is one of its type, as in every value that a program has
 pub record IsEntry (e : Entry) : Type 0 where

@@ -8,18 +8,20 @@ use Rattle.fp_model.specs.declared.calls.Message.{Message}
 use Rattle.fp_model.specs.declared.log.Entry.{Entry}
 use Rattle.fp_model.specs.declared.log.Item.{Item}
 use Rattle.fp_model.specs.declared.log.Outcome.{Outcome}
-use Rattle.fp_model.specs.declared.log.Outcome.TheVariants as outcome
 use Rattle.fp_model.specs.Texts.{same_text}
 use Rattle.fp_model.specs.Rules.{Rules}
-use Rattle.fp_model.specs.Serial.{Part}
+use Rattle.fp_model.specs.History.{History, Request, Accepts, Refuses, place_of, with_entry}
+use Rattle.fp_model.specs.Serial.{Ending, Point}
 use Rattle.fp_model.specs.Waiting.{Lock, without_region}
 
--- A transaction under way: how many entries stood as it began, its message, how far it has come, and its notes.
+-- A transaction under way: how many entries stood as its last try began, its message, the point that it has come to, its
+-- notes, and how often it was begun again.
 pub record Transaction : Type 0 where
   pub from : ℕ
   pub message : Message
-  pub part : Part
+  pub point : Point
   pub notes : List ℕ
+  pub tries : ℕ
 
 pub data Region : Type 0 where
   Idle : Region
@@ -32,8 +34,9 @@ pub record Machine : Type 0 where
   -- the messages of each balancing group, oldest first, and the terminals that wait for a reply
   pub queues : List (List Message)
   pub busy : List Name
-  -- all entries, how many of them are sealed, the groups sealed in this run, and the bytes sent in it
-  pub entries : List Entry
+  -- all entries with the states that they lead through, how many of them are sealed, the groups sealed in this run,
+  -- and the bytes sent in it
+  pub history : History
   pub sealed : ℕ
   pub groups : List (List Entry)
   pub sent : List ℕ
@@ -41,26 +44,21 @@ pub record Machine : Type 0 where
   pub regions : List Region
   pub locks : List Lock
   pub requests : List Lock
-  -- the states before the last entry, oldest first, and the state after it
-  pub past : List Db
-  pub now : Db
 
 -- Nothing is queued, held, busy or active, and all entries are sealed.
-abbrev pub at_rest : Rules → List (List ℕ) → List Entry → List Db → Db → Machine
-at_rest rules lines entries past now = record {
+abbrev pub at_rest : Rules → List (List ℕ) → History → Machine
+at_rest rules lines history = record {
   lines = lines;
   held = None;
   queues = replicate rules.group_count [];
   busy = [];
-  entries = entries;
-  sealed = length entries;
+  history = history;
+  sealed = length history.entries;
   groups = [];
   sent = [];
   regions = map (λ group. Idle) rules.regions;
   locks = [];
   requests = [];
-  past = past;
-  now = now;
 }
 
 -- ---- terminals
@@ -78,12 +76,13 @@ terminal_in (Some name) = name ∷ []
 -- ---- entries
 
 -- with an entry, which makes the next state
-abbrev pub with_entry : Entry → Db → Machine → Machine
-with_entry e next m = record m { entries = m.entries ++ e ∷ []; past = m.past ++ m.now ∷ []; now = next }
+abbrev pub with_entry_of : Entry → Db → Machine → Machine
+with_entry_of e next m = record m { history = with_entry e next m.history }
 
--- the entry of a transaction that ends
-abbrev pub entry_of : Transaction → Outcome → List ℕ → List ℕ → List Item → Entry
-entry_of t outcome reply notes items = record { from = t.from; outcome = outcome; line = t.message.line; reply = reply; notes = notes; items = items }
+-- the entry of a transaction that ends so
+abbrev pub entry_of : Transaction → Ending → List ℕ → List Item → Entry
+entry_of t ending notes items =
+    record { from = t.from; outcome = ending.outcome; line = t.message.line; reply = ending.reply; notes = notes; items = items }
 
 -- region k stands at place k - 1
 abbrev pub region_at : Machine → ℕ → Option Region
@@ -94,14 +93,19 @@ abbrev pub with_region : ℕ → Region → Machine → Machine
 with_region zero r m = m
 with_region (suc place) r m = record m { regions = slice_set m.regions place r }
 
--- The region's transaction ends: its locks and its request go, and the region is idle.
+-- The region's locks and its request go.
+abbrev pub without_locks : ℕ → Machine → Machine
+without_locks region m =
+    record m { locks = without_region region m.locks; requests = without_region region m.requests }
+
+-- The region's transaction ends with an entry: its locks and its request go, and the region is idle.
 abbrev pub ended_with : ℕ → Entry → Db → Machine → Machine
-ended_with region e next m =
-    with_entry e next (with_region region Idle (record m { locks = without_region region m.locks; requests = without_region region m.requests }))
+ended_with region e next m = with_entry_of e next (with_region region Idle (without_locks region m))
 
 -- an entry that no region makes, at its own place
 abbrev pub entry_here : Machine → Outcome → List ℕ → List Item → Entry
-entry_here m outcome line items = record { from = length m.entries; outcome = outcome; line = line; reply = []; notes = []; items = items }
+entry_here m outcome line items =
+    record { from = place_of m.history; outcome = outcome; line = line; reply = []; notes = []; items = items }
 
 -- ---- IN
 
@@ -118,18 +122,24 @@ queued_at queue message queues = option_map_or (λ messages. slice_set queues qu
 
 -- the message is queued, and its terminal waits
 abbrev pub with_message : Rules → Message → Machine → Machine
-with_message rules message m = record m { queues = queued_at (rules.group_of message - 1) message m.queues; busy = m.busy ++ message.lterm ∷ [] }
+with_message rules message m =
+    record m { queues = queued_at (rules.group_of message - 1) message m.queues; busy = m.busy ++ message.lterm ∷ [] }
 
--- the line is answered Unknown, and its terminal waits, if it can be read
-abbrev pub with_unknown : Rules → List ℕ → Machine → Machine
-with_unknown rules line m =
-    with_entry (entry_here m outcome.Unknown line []) m.now (record m { busy = m.busy ++ terminal_in (rules.terminal_of line) })
+-- the line is refused, and its terminal waits, if it can be read
+abbrev pub with_refusal : Rules → Outcome → List ℕ → Machine → Machine
+with_refusal rules outcome line m =
+    with_entry_of (entry_here m outcome line []) m.history.now
+    (record m { busy = m.busy ++ terminal_in (rules.terminal_of line) })
 
--- A line waits while its terminal does. Else it is queued, or answered Unknown where it asks for nothing.
+abbrev pub with_request_of : Rules → List ℕ → Request → Machine → Machine
+with_request_of rules line (Accepts message) m = with_message rules message m
+with_request_of rules line (Refuses outcome) m = with_refusal rules outcome line m
+
+-- A line waits while its terminal does. Else it is queued, or refused where it asks for nothing.
 abbrev pub with_line : Rules → List ℕ → Machine → Machine
 with_line rules line m =
     if list_any (is_among m.busy) (terminal_in (rules.terminal_of line)) then record m { held = Some line }
-    else option_map_or (λ message. with_message rules message m) (rules.request_of line) (with_unknown rules line m)
+    else with_request_of rules line (rules.request_of m.history line) m
 
 -- the machine after IN
 abbrev pub taken_in : Rules → Machine → Machine
@@ -139,7 +149,7 @@ taken_in rules m = option_map_or (λ line. with_line rules line (without_line m)
 
 -- the oldest entries that aren't sealed, as many as a group takes
 abbrev pub next_group : Rules → Machine → List Entry
-next_group rules m = take rules.log_group (drop m.sealed m.entries)
+next_group rules m = take rules.log_group (drop m.sealed m.history.entries)
 
 -- the terminals that are told of an entry
 abbrev pub told : Rules → List Entry → List Name
@@ -156,7 +166,7 @@ with_group rules group m = record m {
 
 -- the machine after LOG: nothing changes where every entry is sealed
 abbrev pub sealed_once : Rules → Machine → Machine
-sealed_once rules m = if nat_lt m.sealed (length m.entries) then with_group rules (next_group rules m) m else m
+sealed_once rules m = if nat_lt m.sealed (place_of m.history) then with_group rules (next_group rules m) m else m
 
 -- so many times
 abbrev pub sealed_times : ℕ → Rules → Machine → Machine
@@ -165,4 +175,4 @@ sealed_times (suc n) rules m = sealed_times n rules (sealed_once rules m)
 
 -- LOG again and again until every entry is sealed
 abbrev pub sealed_all : Rules → Machine → Machine
-sealed_all rules m = sealed_times (length m.entries - m.sealed) rules m
+sealed_all rules m = sealed_times (place_of m.history - m.sealed) rules m

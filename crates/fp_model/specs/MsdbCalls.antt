@@ -42,30 +42,33 @@ module _ (def : MsdbDef) (msdb : ℕ) where
   with_position p own = record own { msdbs = slice_set own.msdbs msdb p }
 
   -- Every answered call ends the hold.
-  abbrev pub unheld : Workspace → Workspace
-  unheld own = with_position (record (position_of own) { held = false }) own
+  abbrev pub hold_ended : Workspace → Workspace
+  hold_ended own = with_position (record (position_of own) { held = false }) own
 
   abbrev pub refused : Workspace → List ℕ → Replied
-  refused own status = record { answer = answered status; own = unheld own }
+  refused own status = record { answer = answered status; own = hold_ended own }
 
   abbrev pub queued : Workspace → Answer → Deferred → Replied
-  queued own answer d = record { answer = answer; own = record (unheld own) { deferred = own.deferred ++ d ∷ [] } }
+  queued own answer d = record { answer = answer; own = record (hold_ended own) { deferred = own.deferred ++ d ∷ [] } }
 
   -- a segment found, with a hold or without; or the letters that say that there is none
   abbrev pub found_or : List ℕ → Bool → Workspace → Option (List ℕ) → Replied
   found_or status hold own None = refused own status
   found_or status hold own (Some segment) =
-      record { answer = showing 0 segment; own = with_position (record { key = Some (key_of def.fields segment); held = hold }) own }
+      record {
+        answer = showing 0 segment;
+        own = with_position (record { key = Some (key_of def.fields segment); held = hold }) own;
+      }
 
   -- GU, GN and GHU of a key; the other gets are refused
   abbrev pub get_reply : Msdb → Msdb → Workspace → Get → Bool → Option (List ℕ) → Replied
-  get_reply now shown own get.Unique false (Some key) = found_or (codes "GE") false own (segment_of def shown key)
-  get_reply now shown own get.Unique false None = found_or (codes "GE") false own (segment_after def shown None)
-  get_reply now shown own get.Unique true (Some key) = found_or (codes "GE") true own (segment_of def now key)
-  get_reply now shown own get.Unique true None = refused own (codes "AM")
-  get_reply now shown own get.Next false key = found_or (codes "GB") false own (segment_after def shown (position_of own).key)
-  get_reply now shown own get.Next true key = refused own (codes "AM")
-  get_reply now shown own get.NextInParent hold key = refused own (codes "AM")
+  get_reply now visible own get.Unique false (Some key) = found_or (codes "GE") false own (segment_of def visible key)
+  get_reply now visible own get.Unique false None = found_or (codes "GE") false own (segment_after def visible None)
+  get_reply now visible own get.Unique true (Some key) = found_or (codes "GE") true own (segment_of def now key)
+  get_reply now visible own get.Unique true None = refused own (codes "AM")
+  get_reply now visible own get.Next false key = found_or (codes "GB") false own (segment_after def visible (position_of own).key)
+  get_reply now visible own get.Next true key = refused own (codes "AM")
+  get_reply now visible own get.NextInParent hold key = refused own (codes "AM")
 
   -- the letters on the segment, if it is there
   abbrev pub fld_reply : Workspace → List ℕ → List ℕ → Option (List ℕ) → Replied
@@ -74,7 +77,7 @@ module _ (def : MsdbDef) (msdb : ℕ) where
       let letters : List ℕ = (list_on def (fsas_in fsas) segment).letters in
       if all_blank letters
       then queued own (lettered blank letters) (deferred.Fld msdb key fsas)
-      else record { answer = lettered (codes "FE") letters; own = unheld own }
+      else record { answer = lettered (codes "FE") letters; own = hold_ended own }
 
   -- with the key of the segment that is held
   abbrev pub repl_reply : Workspace → List ℕ → List ℕ → Replied
@@ -91,7 +94,9 @@ module _ (def : MsdbDef) (msdb : ℕ) where
       else queued own (answered blank) (deferred.Isrt msdb bytes)
 
   abbrev pub dlet_reply : Workspace → List ℕ → Replied
-  dlet_reply own key = if is_put_or_dropped own key then refused own (codes "XP") else queued own (answered blank) (deferred.Dlet msdb key)
+  dlet_reply own key =
+      if is_put_or_dropped own key then refused own (codes "XP")
+      else queued own (answered blank) (deferred.Dlet msdb key)
 
   -- the key that is held, if the last call to the database was a hold get that found it
   abbrev pub held_key : Workspace → Option (List ℕ)
@@ -101,13 +106,16 @@ module _ (def : MsdbDef) (msdb : ℕ) where
   if_held own reply None = refused own (codes "DJ")
   if_held own reply (Some key) = reply key
 
-  -- The answer to a call: holds and inserts look at the database now, all else at the one shown.
+  -- The answer to a call: holds and inserts look at the database now, all else at the one visible.
   abbrev pub msdb_reply : Msdb → Msdb → Workspace → Call → Replied
-  msdb_reply now shown own (call.Get get hold db ssas) = get_reply now shown own get hold (key_named ssas)
-  msdb_reply now shown own (call.Fld db key fsas) = if is_put_or_dropped own key then refused own (codes "XP") else fld_reply own key fsas (segment_of def shown key)
-  msdb_reply now shown own (call.Repl db bytes) = if_held own (repl_reply own bytes) (held_key own)
-  msdb_reply now shown own (call.Isrt db ssas bytes) = isrt_reply now own bytes
-  msdb_reply now shown own (call.Dlet db) = if not def.dynamic then refused own (codes "AM") else if_held own (dlet_reply own) (held_key own)
+  msdb_reply now visible own (call.Get get hold db ssas) = get_reply now visible own get hold (key_named ssas)
+  msdb_reply now visible own (call.Fld db key fsas) =
+      if is_put_or_dropped own key then refused own (codes "XP")
+      else fld_reply own key fsas (segment_of def visible key)
+  msdb_reply now visible own (call.Repl db bytes) = if_held own (repl_reply own bytes) (held_key own)
+  msdb_reply now visible own (call.Isrt db ssas bytes) = isrt_reply now own bytes
+  msdb_reply now visible own (call.Dlet db) =
+      if not def.dynamic then refused own (codes "AM") else if_held own (dlet_reply own) (held_key own)
 
   -- GU, GN, and a FLD that isn't answered XP, look without a hold.
   abbrev pub msdb_looks : Workspace → Call → Bool
@@ -133,7 +141,9 @@ module _ (def : MsdbDef) (msdb : ℕ) where
   abbrev pub msdb_need : Workspace → Call → Option Needed
   msdb_need own (call.Get get hold db ssas) = for_get get hold (key_named ssas)
   msdb_need own (call.Isrt db ssas bytes) =
-      if def.dynamic && not (is_put_or_dropped own (key_of def.fields bytes)) then exclusively (key_of def.fields bytes) else None
+      if def.dynamic && not (is_put_or_dropped own (key_of def.fields bytes))
+      then exclusively (key_of def.fields bytes)
+      else None
   msdb_need own (call.Fld db key fsas) = None
   msdb_need own (call.Repl db bytes) = None
   msdb_need own (call.Dlet db) = None

@@ -23,7 +23,8 @@ is_child_of parent def = option_map_or (λ p. p == parent) def.parent false
 
 abbrev pub numbers_from : ℕ → (SegDef → Bool) → List SegDef → List ℕ
 numbers_from at test [] = []
-numbers_from at test (def ∷ defs) = if test def then at ∷ numbers_from (at + 1) test defs else numbers_from (at + 1) test defs
+numbers_from at test (def ∷ defs) =
+    if test def then at ∷ numbers_from (at + 1) test defs else numbers_from (at + 1) test defs
 
 -- the direct child types of a type, in order of definition
 abbrev pub child_types : List SegDef → ℕ → List ℕ
@@ -49,8 +50,8 @@ abbrev pub line_to : List SegDef → ℕ → List ℕ
 line_to types type = line_within (length types) types type
 
 -- a type stands above another
-abbrev pub is_above : List SegDef → ℕ → ℕ → Bool
-is_above types a b = not (a == b) && list_any (λ t. t == a) (line_to types b)
+abbrev pub is_ancestor : List SegDef → ℕ → ℕ → Bool
+is_ancestor types a b = not (a == b) && list_any (λ t. t == a) (line_to types b)
 
 -- ---- paths
 
@@ -60,8 +61,8 @@ pub record Step : Type 0 where
   pub key : List ℕ
   pub serial : ℕ
 
--- A segment with the steps that lead to it, from the root down.
-pub record Shown : Type 0 where
+-- A segment occurrence: its bytes, and the steps that lead to it, from the root down.
+pub record Occurrence : Type 0 where
   pub path : List Step
   pub bytes : List ℕ
 
@@ -75,8 +76,8 @@ abbrev pub same_step : Step → Step → Bool
 same_step a b = a.segment == b.segment && same_text a.key b.key && a.serial == b.serial
 
 -- types in order of definition, keys ascending, serials descending
-abbrev pub step_before : Step → Step → Bool
-step_before a b =
+abbrev pub step_precedes : Step → Step → Bool
+step_precedes a b =
     if a.segment == b.segment
     then (if same_text a.key b.key then nat_lt b.serial a.serial else is_below a.key b.key)
     else nat_lt a.segment b.segment
@@ -88,70 +89,70 @@ same_path (s ∷ ss) [] = false
 same_path (s ∷ ss) (t ∷ ts) = same_step s t && same_path ss ts
 
 -- a parent comes before what is below it
-abbrev pub path_before : List Step → List Step → Bool
-path_before ss [] = false
-path_before [] (t ∷ ts) = true
-path_before (s ∷ ss) (t ∷ ts) = if same_step s t then path_before ss ts else step_before s t
+abbrev pub path_precedes : List Step → List Step → Bool
+path_precedes ss [] = false
+path_precedes [] (t ∷ ts) = true
+path_precedes (s ∷ ss) (t ∷ ts) = if same_step s t then path_precedes ss ts else step_precedes s t
 
 -- the second path leads on from the first
-abbrev pub leads_below : List Step → List Step → Bool
-leads_below [] [] = false
-leads_below [] (t ∷ ts) = true
-leads_below (s ∷ ss) [] = false
-leads_below (s ∷ ss) (t ∷ ts) = same_step s t && leads_below ss ts
+abbrev pub is_proper_prefix : List Step → List Step → Bool
+is_proper_prefix [] [] = false
+is_proper_prefix [] (t ∷ ts) = true
+is_proper_prefix (s ∷ ss) [] = false
+is_proper_prefix (s ∷ ss) (t ∷ ts) = same_step s t && is_proper_prefix ss ts
 
 -- A place in a database: an anchor, and a path there.
 pub record Place : Type 0 where
   pub anchor : ℕ
   pub path : List Step
 
-abbrev pub place_before : Place → Place → Bool
-place_before a b = if a.anchor == b.anchor then path_before a.path b.path else nat_lt a.anchor b.anchor
+abbrev pub place_precedes : Place → Place → Bool
+place_precedes a b = if a.anchor == b.anchor then path_precedes a.path b.path else nat_lt a.anchor b.anchor
 
-abbrev pub place_below : Place → Place → Bool
-place_below a b = a.anchor == b.anchor && leads_below a.path b.path
+abbrev pub lies_within : Place → Place → Bool
+lies_within a b = a.anchor == b.anchor && is_proper_prefix a.path b.path
 
 -- ---- the hierarchical order of an anchor
 
-abbrev pub one_down : Step → Shown → Shown
+abbrev pub one_down : Step → Occurrence → Occurrence
 one_down step s = record s { path = step ∷ s.path }
 
 -- each with this step in front of its path
-abbrev pub under : Step → List Shown → List Shown
-under step shown = map (one_down step) shown
+abbrev pub under : Step → List Occurrence → List Occurrence
+under step occurrences = map (one_down step) occurrences
 
-abbrev pub at_end : List ℕ → Shown
+abbrev pub at_end : List ℕ → Occurrence
 at_end bytes = record { path = []; bytes = bytes }
 
-abbrev pub dependent : ℕ → SeqItem → Shown
+abbrev pub dependent : ℕ → SeqItem → Occurrence
 dependent type item = one_down (numbered type item.serial) (at_end item.bytes)
 
 -- the segments of each child type, the types in order
-abbrev pub rows_in_order : List ℕ → List (List (ℕ → List Shown)) → List Shown
+abbrev pub rows_in_order : List ℕ → List (List (ℕ → List Occurrence)) → List Occurrence
 rows_in_order [] rows = []
 rows_in_order (type ∷ types) [] = []
 rows_in_order (type ∷ types) (row ∷ rows) = flat_map (λ child. child type) row ++ rows_in_order types rows
 
 -- a segment of a type, and behind it all below it
-abbrev pub node_step : List SegDef → Node-F (ℕ → List Shown) → ℕ → List Shown
+abbrev pub node_step : List SegDef → Node-F (ℕ → List Occurrence) → ℕ → List Occurrence
 node_step types f type =
     under (direct type (key_in types type f.bytes)) (at_end f.bytes ∷ rows_in_order (child_types types type) f.children)
 
-abbrev pub node_order : List SegDef → Node → ℕ → List Shown
-node_order types = fold-Node (ℕ → List Shown) (node_step types)
+abbrev pub node_order : List SegDef → Node → ℕ → List Occurrence
+node_order types = fold-Node (ℕ → List Occurrence) (node_step types)
 
 -- the sequential dependents of a root, newest first
-abbrev pub sequentials : List SegDef → List SeqItem → List Shown
+abbrev pub sequentials : List SegDef → List SeqItem → List Occurrence
 sequentials types items = option_map_or (λ type. map (dependent type) items) (sequential_type types) []
 
 -- a root, its sequential dependents, and its direct dependents with all below them
-abbrev pub root_order : List SegDef → Root → List Shown
+abbrev pub root_order : List SegDef → Root → List Occurrence
 root_order types root =
     under (direct 0 (key_in types 0 root.bytes))
     (at_end root.bytes ∷ sequentials types root.seqs ++ rows_in_order (child_types types 0) (map (map (node_order types)) root.children))
 
 -- the segments of an anchor in hierarchical order
-abbrev pub sequence : List SegDef → List Root → List Shown
+abbrev pub sequence : List SegDef → List Root → List Occurrence
 sequence types roots = flat_map (root_order types) roots
 
 -- ---- search arguments
@@ -175,14 +176,17 @@ admits [] path = true
 admits (ssa ∷ ssas) path = ends_in (last_type ssa.segment ssas) path && list_all (stands_in path) (ssa ∷ ssas)
 
 -- the first segment of an anchor that is behind one place, below another, and admitted
-abbrev pub first_admitted : List SegDef → ℕ → List Root → Option Place → Option Place → List Ssa → Option Shown
+abbrev pub first_admitted : List SegDef → ℕ → List Root → Option Place → Option Place → List Ssa → Option Occurrence
 first_admitted types anchor roots behind within ssas =
-    let place : Shown → Place = λ s. record { anchor = anchor; path = s.path } in
-    find (λ s. option_map_or (λ p. place_before p (place s)) behind true && option_map_or (λ p. place_below p (place s)) within true && admits ssas s.path) (sequence types roots)
+    let place : Occurrence → Place = λ s. record { anchor = anchor; path = s.path } in
+    let is_behind : Occurrence → Bool = λ s. option_map_or (λ p. place_precedes p (place s)) behind true in
+    let is_within : Occurrence → Bool = λ s. option_map_or (λ p. lies_within p (place s)) within true in
+    find (λ s. is_behind s && is_within s && admits ssas s.path) (sequence types roots)
 
 -- the segment at a path
 abbrev pub bytes_at : List SegDef → List Root → List Step → Option (List ℕ)
-bytes_at types roots path = option_map_or (λ s. Some s.bytes) (find (λ s. same_path s.path path) (sequence types roots)) None
+bytes_at types roots path =
+    option_map_or (λ s. Some s.bytes) (find (λ s. same_path s.path path) (sequence types roots)) None
 
 -- ---- edits
 
@@ -200,22 +204,26 @@ node_key types type node = key_in types type (out-Node node).bytes
 
 -- the edit, among the segments of its type below one parent
 abbrev pub nodes_edited : List SegDef → Step → Edit → List Node → List Node
-nodes_edited types s (Inserts bytes) nodes = put_by_key (node_key types s.segment) (new_node types s.segment bytes) nodes
-nodes_edited types s (Replaces bytes) nodes = change_key (node_key types s.segment) s.key (λ n. roll-Node (record (out-Node n) { bytes = bytes })) nodes
+nodes_edited types s (Inserts bytes) nodes =
+    put_by_key (node_key types s.segment) (new_node types s.segment bytes) nodes
+nodes_edited types s (Replaces bytes) nodes =
+    change_key (node_key types s.segment) s.key (λ n. roll-Node (record (out-Node n) { bytes = bytes })) nodes
 nodes_edited types s Deletes nodes = drop_key (node_key types s.segment) s.key nodes
 
 -- the rows of a parent, that of a child type changed
 abbrev pub row_changed : List SegDef → ℕ → ℕ → (List Node → List Node) → List (List Node) → List (List Node)
 row_changed types parent type change rows =
-    option_map_or (λ at. option_map_or (λ row. slice_set rows at (change row)) (slice_get rows at) rows) (position (λ t. t == type) (child_types types parent)) rows
+    option_map_or (λ at. option_map_or (λ row. slice_set rows at (change row)) (slice_get rows at) rows)
+    (position (λ t. t == type) (child_types types parent)) rows
 
 -- the edit at the end of a path below a segment of a type
 abbrev pub below_edited : List SegDef → Edit → ℕ → List Step → List (List Node) → List (List Node)
 below_edited types edit parent [] rows = rows
 below_edited types edit parent (s ∷ []) rows = row_changed types parent s.segment (nodes_edited types s edit) rows
 below_edited types edit parent (s ∷ t ∷ ts) rows =
-    row_changed types parent s.segment
-    (change_key (node_key types s.segment) s.key (λ n. roll-Node (record (out-Node n) { children = below_edited types edit s.segment (t ∷ ts) (out-Node n).children }))) rows
+    let below : List (List Node) → List (List Node) = below_edited types edit s.segment (t ∷ ts) in
+    let changed : Node → Node = λ n. roll-Node (record (out-Node n) { children = below (out-Node n).children }) in
+    row_changed types parent s.segment (change_key (node_key types s.segment) s.key changed) rows
 
 abbrev pub root_key : List SegDef → Root → List ℕ
 root_key types root = key_in types 0 root.bytes
@@ -232,4 +240,5 @@ roots_edited types s Deletes roots = drop_key (root_key types) s.key roots
 abbrev pub edited : List SegDef → List Root → List Step → Edit → List Root
 edited types roots [] edit = roots
 edited types roots (s ∷ []) edit = roots_edited types s edit roots
-edited types roots (s ∷ t ∷ ts) edit = change_key (root_key types) s.key (λ r. record r { children = below_edited types edit 0 (t ∷ ts) r.children }) roots
+edited types roots (s ∷ t ∷ ts) edit =
+    change_key (root_key types) s.key (λ r. record r { children = below_edited types edit 0 (t ∷ ts) r.children }) roots

@@ -12,14 +12,15 @@ use Rattle.fp_model.specs.declared.log.Entry.{Entry}
 use Rattle.fp_model.specs.Workspace.{Workspace}
 use Rattle.fp_model.specs.Answers.{Replied, Needed}
 use Rattle.fp_model.specs.Commit.{Settlement}
-use Rattle.fp_model.specs.Programs.{Ask}
+use Rattle.fp_model.specs.History.{History, Request}
+use Rattle.fp_model.specs.Asking.{Ask}
 
 pub record Rules : Type 0 where
   -- the state before any transaction, and a workspace as a transaction begins
   pub start : Db
   pub fresh : Workspace
-  -- the message that a line is, if it is one and names a script
-  pub request_of : List ℕ → Option Message
+  -- what a line asks for behind a history
+  pub request_of : History → List ℕ → Request
   -- the terminal of a line, if it can be read
   pub terminal_of : List ℕ → Option Name
   -- the reply line of an entry
@@ -48,3 +49,5 @@ pub record Rules : Type 0 where
   pub group_of : Message → ℕ
   -- the most entries of a group
   pub log_group : ℕ
+  -- how often a transaction is run again, at most
+  pub tries : ℕ

@@ -13,7 +13,7 @@ use Rattle.fp_model.specs.declared.database.Node.TheOpen.{Node-F}
 use Rattle.fp_model.specs.declared.database.Node.TheFolds.{fold-Node}
 use Rattle.fp_model.specs.declared.database.Root.{Root}
 use Rattle.fp_model.specs.declared.database.SeqItem.{SeqItem}
-use Rattle.fp_model.specs.State.{Area, ascend, areas_from, has_anchor, anchor_count}
+use Rattle.fp_model.specs.State.{Area, anchors_in, ascend, areas_from, has_anchor, anchor_count}
 use Rattle.fp_model.specs.Exits.{anchor_of}
 use Rattle.fp_model.specs.Order.{key_in, child_types, root_key, sequential_type}
 use Rattle.fp_model.specs.CheckpointText.{IsMsdbOf}
@@ -82,15 +82,21 @@ are_ends capacity ends =
 
 -- the serials that stand at the roots of an area, numbered as one of its database alone
 abbrev pub serials_in : Area → Dedb → List ℕ
-serials_in area dedb = flat_map (λ roots. flat_map (λ root. map (λ item. item.serial) root.seqs) roots) (take area.anchors (drop area.first_anchor dedb.anchors))
+serials_in area dedb =
+    flat_map (λ roots. flat_map (λ root. map (λ item. item.serial) root.seqs) roots)
+    (take (anchors_in area.def) (drop area.first_anchor dedb.anchors))
 
--- Every anchor of every area is in shape, so are the ends of each area, and a serial stands at most once in its area. The areas are numbered here as those of one
--- database alone.
+-- Every anchor of every area is in shape, so are the ends of each area, and a serial stands at most once in its area.
+-- The areas are numbered here as those of one database alone.
 pub record IsDedbOf (def : DedbDef) (dedb : Dedb) : Type 0 where
   pub anchors : length dedb.anchors ≡ anchor_count def
   pub areas : AllZip (λ area ends. are_ends area.capacity ends ≡ true) def.areas dedb.areas
-  pub each_anchor : (area : Area) (ends : AreaEnds) (anchor : ℕ) (roots : List Root) → Contains (areas_from 0 0 0 def.areas) area → slice_get dedb.areas area.number ≡ Some ends
-      → has_anchor area 0 anchor ≡ true → slice_get dedb.anchors anchor ≡ Some roots → is_anchor def anchor ends roots ≡ true
+  pub each_anchor : (area : Area) (ends : AreaEnds) (anchor : ℕ) (roots : List Root)
+      → Contains (areas_from 0 0 0 def.areas) area
+      → slice_get dedb.areas area.number ≡ Some ends
+      → has_anchor area 0 anchor ≡ true
+      → slice_get dedb.anchors anchor ≡ Some roots
+      → is_anchor def anchor ends roots ≡ true
   pub serials : (area : Area) → Contains (areas_from 0 0 0 def.areas) area → IsDistinct ◌==◌ (serials_in area dedb)
 
 pub record IsDbOf (defs : Defs) (db : Db) : Type 0 where

@@ -67,7 +67,9 @@ segment_after def msdb (Some key) = find (λ segment. is_below key (key_of def.f
 
 -- with this segment in place of that of its key, or beside the others
 abbrev pub with_segment : MsdbDef → List ℕ → Msdb → Msdb
-with_segment def segment msdb = record { segments = put_by_key (key_of def.fields) segment (drop_key (key_of def.fields) (key_of def.fields segment) msdb.segments) }
+with_segment def segment msdb =
+    let key : List ℕ → List ℕ = key_of def.fields in
+    record { segments = put_by_key key segment (drop_key key (key segment) msdb.segments) }
 
 -- without the segment of a key
 abbrev pub without_segment : MsdbDef → List ℕ → Msdb → Msdb
@@ -83,32 +85,36 @@ anchors_in area = area.uows * area.base
 abbrev pub anchor_count : DedbDef → ℕ
 anchor_count def = sum_by anchors_in def.areas
 
--- an area of the installation: its database, its number there, the anchors before it, its own, and its capacity
+-- an area of the installation: its database, its number there, the anchors before it, and its definition
 pub record Area : Type 0 where
   pub dedb : ℕ
   pub number : ℕ
   pub first_anchor : ℕ
-  pub anchors : ℕ
-  pub capacity : ℕ
+  pub def : AreaDef
+
+-- the data set of the first area; the others follow, in order of definition
+abbrev pub first_area_set : ℕ
+first_area_set = 3
 
 -- the areas of a database from a given one on, behind so many anchors
 abbrev pub areas_from : ℕ → ℕ → ℕ → List AreaDef → List Area
 areas_from dedb number before [] = []
 areas_from dedb number before (a ∷ others) =
-    record { dedb = dedb; number = number; first_anchor = before; anchors = anchors_in a; capacity = a.capacity }
+    record { dedb = dedb; number = number; first_anchor = before; def = a }
     ∷ areas_from dedb (number + 1) (before + anchors_in a) others
 
 abbrev pub areas_of_all : ℕ → List DedbDef → List Area
 areas_of_all dedb [] = []
 areas_of_all dedb (d ∷ ds) = areas_from dedb 0 0 d.areas ++ areas_of_all (dedb + 1) ds
 
--- all areas in order of definition; the one at place i is data set 3 + i
+-- all areas in order of definition, as their data sets are numbered
 abbrev pub areas_of : Defs → List Area
 areas_of defs = areas_of_all 0 defs.dedbs
 
 -- whether an anchor of a database lies in the area
 abbrev pub has_anchor : Area → ℕ → ℕ → Bool
-has_anchor area dedb anchor = area.dedb == dedb && nat_le area.first_anchor anchor && nat_lt anchor (area.first_anchor + area.anchors)
+has_anchor area dedb anchor =
+    area.dedb == dedb && nat_le area.first_anchor anchor && nat_lt anchor (area.first_anchor + anchors_in area.def)
 
 -- the roots of an anchor
 abbrev pub roots_at : Db → ℕ → ℕ → List Root
@@ -117,7 +123,8 @@ roots_at db dedb anchor = option_map_or (λ d. unwrap_or (slice_get d.anchors an
 -- with other roots at an anchor
 abbrev pub with_roots : ℕ → ℕ → List Root → Db → Db
 with_roots dedb anchor roots db =
-    record db { dedbs = option_map_or (λ d. slice_set db.dedbs dedb (record d { anchors = slice_set d.anchors anchor roots })) (slice_get db.dedbs dedb) db.dedbs }
+    let changed : Dedb → Dedb = λ d. record d { anchors = slice_set d.anchors anchor roots } in
+    record db { dedbs = option_map_or (λ d. slice_set db.dedbs dedb (changed d)) (slice_get db.dedbs dedb) db.dedbs }
 
 -- ---- the start
 
@@ -125,9 +132,13 @@ with_roots dedb anchor roots db =
 abbrev pub loaded : MsdbDef → Msdb
 loaded def = record { segments = fold (λ segments segment. put_by_key (key_of def.fields) segment segments) [] def.load }
 
+-- the ends of a sequential part that never had a segment
+abbrev pub first_ends : AreaEnds
+first_ends = record { begin = 1; end = 1 }
+
 -- no roots, and no sequential dependents
 abbrev pub formatted : DedbDef → Dedb
-formatted def = record { anchors = replicate (anchor_count def) []; areas = map (λ area. let ends : AreaEnds = record { begin = 1; end = 1 } in ends) def.areas }
+formatted def = record { anchors = replicate (anchor_count def) []; areas = map (λ area. first_ends) def.areas }
 
 -- the state before any transaction
 abbrev pub start : Defs → Db

@@ -1,6 +1,6 @@
 -- The table of turns: what each event of a schedule does to the machine.
-use Rattle.std.specs.Prelude.{◌==◌, ◌≡◌, ℕ, ◌-◌, List, [], ◌∷◌, ◌++◌, length, map, Bool, true, false, Option, Some, None, option_map, unwrap_or, slice_get, slice_set}
-use Rattle.std.specs.List.{IsDistinct, list_any, list_all}
+use Rattle.std.specs.Prelude.{◌==◌, ◌≡◌, ⊤, ℕ, ◌+◌, ◌-◌, ◌<◌, ◌≤◌, List, [], ◌∷◌, ◌++◌, Bool, true, false, Option, Some, None, option_map, unwrap_or, slice_get, slice_set}
+use Rattle.std.specs.List.{IsDistinct, list_any}
 use Rattle.fp_model.specs.declared.database.Db.{Db}
 use Rattle.fp_model.specs.declared.calls.Call.{Call}
 use Rattle.fp_model.specs.declared.calls.Message.{Message}
@@ -10,15 +10,15 @@ use Rattle.fp_model.specs.declared.calls.Resource.{Resource}
 use Rattle.fp_model.specs.declared.events.Event.{Event}
 use Rattle.fp_model.specs.declared.events.Event.TheVariants as event
 use Rattle.fp_model.specs.declared.log.Item.{Item}
+use Rattle.fp_model.specs.declared.log.Outcome.{Outcome}
 use Rattle.fp_model.specs.declared.log.Outcome.TheVariants as outcome
 use Rattle.fp_model.specs.Answers.{Needed}
-use Rattle.fp_model.specs.State.{numbers_up}
-use Rattle.fp_model.specs.Programs.{Ask, Asks, Replies, Rolls}
-use Rattle.fp_model.specs.Commit.{Commits, FailsVerify, FillsPart}
+use Rattle.fp_model.specs.Asking.{Ask, Asks, Replies, Rolls}
 use Rattle.fp_model.specs.Rules.{Rules}
-use Rattle.fp_model.specs.Serial.{after_call, begun}
+use Rattle.fp_model.specs.History.{place_of}
+use Rattle.fp_model.specs.Serial.{Ending, refused_as, settled_as, after_call, begun}
 use Rattle.fp_model.specs.Waiting.{Lock, held_as, is_blocked, waits, IsCycle, without_region, with_request}
-use Rattle.fp_model.specs.Machine.{Transaction, Region, Idle, Active, Machine, region_at, with_region, with_entry, entry_of, entry_here, ended_with, taken_in, sealed_once, sealed_all}
+use Rattle.fp_model.specs.Machine.{Transaction, Region, Idle, Active, Machine, region_at, with_region, without_locks, with_entry_of, entry_of, entry_here, ended_with, taken_in, sealed_once, sealed_all}
 
 -- what befalls a turn: nothing, a fault of the device, or want of memory
 pub data Environment : Type 0 where
@@ -31,11 +31,20 @@ pub data Act : Type 0 where
   Answers : Call → Act
   Gains : Needed → Act
   Waits : Needed → Act
-  Closes : Needed → List ℕ → Act
-  Commits_with : (reply : List ℕ) (items : List Item) (next : Db) → Act
-  Fails_verify : (reply : List ℕ) (call fsa : ℕ) (found : List ℕ) → Act
-  Fills_part : (reply : List ℕ) (set begin end n : ℕ) → Act
-  Rolls_back : (code : ℕ) → Act
+  Deadlocks : Needed → (cycle : List ℕ) → Act
+  Retries_at_cycle : Needed → (cycle : List ℕ) → Act
+  Finishes : Ending → List Item → Act
+  Retries_at_verify : Ending → Act
+
+-- only what is done has items
+abbrev pub AreItemsFor : Outcome → List Item → Type 0
+AreItemsFor outcome.Done items = ⊤
+AreItemsFor _ items = items ≡ []
+
+-- an end that a further try may change
+abbrev pub is_verify_failure : Outcome → Bool
+is_verify_failure (outcome.Verify call fsa found) = true
+is_verify_failure _ = false
 
 module _ (rules : Rules) where
   abbrev pub holds : Machine → ℕ → Resource → Option Mode
@@ -43,12 +52,19 @@ module _ (rules : Rules) where
 
   -- the lock that the transaction needs next: for its call, or at its end
   abbrev pub wanted : Machine → ℕ → Transaction → Ask → Option Needed
-  wanted m region t (Asks call) = rules.need m.now t.part.own (holds m region) call
-  wanted m region t (Replies reply) = option_map (λ resource. record { resource = resource; mode = Exclusive }) (rules.lack t.part.own (holds m region))
+  wanted m region t (Asks call) = rules.need m.history.now t.point.own (holds m region) call
+  wanted m region t (Replies reply) =
+      option_map (λ resource. record { resource = resource; mode = Exclusive }) (rules.lack t.point.own (holds m region))
   wanted m region t (Rolls code) = None
 
   abbrev pub asks : Transaction → Ask
-  asks t = rules.ask t.message t.part.answers
+  asks t = rules.ask t.message t.point.answers
+
+  -- how the transaction ends where its script is at its end
+  abbrev pub ending_of : Db → Transaction → Ask → Option Ending
+  ending_of now t (Asks call) = None
+  ending_of now t (Replies reply) = Some (settled_as now reply (rules.settle now t.point.own))
+  ending_of now t (Rolls code) = Some (refused_as (outcome.Roll code) now)
 
   abbrev pub as_lock : ℕ → Needed → Lock
   as_lock region needed = record { region = region; resource = needed.resource; mode = needed.mode }
@@ -60,7 +76,34 @@ module _ (rules : Rules) where
 
   -- the transaction after a call that is answered now
   abbrev pub with_answer : Machine → Transaction → Call → Transaction
-  with_answer m t call = record t { part = after_call rules m.now m.now t.part call; notes = noted (rules.looks t.part.own call) t.notes (length m.entries) }
+  with_answer m t call = record t {
+    point = after_call rules m.history.now m.history.now t.point call;
+    notes = noted (rules.looks t.point.own call) t.notes (place_of m.history);
+  }
+
+  -- a message's transaction as its try of this number begins
+  abbrev pub begun_in : Machine → Message → ℕ → Transaction
+  begun_in m message tries =
+      record { from = place_of m.history; message = message; point = begun rules; notes = []; tries = tries }
+
+  -- The region gives up its locks and its request, and begins its message once more.
+  abbrev pub tried_again : ℕ → Transaction → Machine → Machine
+  tried_again region t m = with_region region (Active (begun_in m t.message (t.tries + 1))) (without_locks region m)
+
+  -- the requests with that of the region for a lock
+  abbrev pub requests_with : Machine → ℕ → Needed → List Lock
+  requests_with m region needed = with_request (as_lock region needed) m.requests
+
+  -- the lock that the transaction needs next would close this cycle, the region first
+  pub record ClosesCycle (m : Machine) (region : ℕ) (t : Transaction) (needed : Needed) (cycle : List ℕ) : Type 0 where
+    pub wants : wanted m region t (asks t) ≡ Some needed
+    pub closes : IsCycle (waits (requests_with m region needed) m.locks) (region ∷ cycle)
+    pub distinct : IsDistinct ◌==◌ (region ∷ cycle)
+
+  -- The transaction's script is at its end, all locks are had, and it ends so.
+  pub record IsAtEnd (m : Machine) (region : ℕ) (t : Transaction) (ending : Ending) : Type 0 where
+    pub lacks_none : wanted m region t (asks t) ≡ None
+    pub ends : ending_of m.history.now t (asks t) ≡ Some ending
 
   -- From m the active region does this and leads to m2.
   abbrev pub Does : Machine → ℕ → Transaction → Act → Machine → Type 0
@@ -75,31 +118,26 @@ module _ (rules : Rules) where
   Does m region t (Waits needed) m2 =
       (wanted m region t (asks t) ≡ Some needed)
       × (is_blocked m.locks (as_lock region needed) ≡ true)
-      × ((cycle : List ℕ) → ¬ IsCycle (waits (with_request (as_lock region needed) m.requests) m.locks) (region ∷ cycle))
-      × (m2 ≡ record m { requests = with_request (as_lock region needed) m.requests })
-  Does m region t (Closes needed cycle) m2 =
-      (wanted m region t (asks t) ≡ Some needed)
-      × IsCycle (waits (with_request (as_lock region needed) m.requests) m.locks) (region ∷ cycle)
-      × IsDistinct ◌==◌ (region ∷ cycle)
-      × (m2 ≡ ended_with region (entry_of t (outcome.Deadlock (region ∷ cycle)) [] [] []) m.now m)
-  Does m region t (Commits_with reply items next) m2 =
-      (asks t ≡ Replies reply)
-      × (wanted m region t (asks t) ≡ None)
-      × (rules.settle m.now t.part.own ≡ Commits next)
-      × (m2 ≡ ended_with region (entry_of t outcome.Done reply t.notes items) next m)
-  Does m region t (Fails_verify reply call fsa found) m2 =
-      (asks t ≡ Replies reply)
-      × (wanted m region t (asks t) ≡ None)
-      × (rules.settle m.now t.part.own ≡ FailsVerify call fsa found)
-      × (m2 ≡ ended_with region (entry_of t (outcome.Verify call fsa found) [] t.notes []) m.now m)
-  Does m region t (Fills_part reply set begin end n) m2 =
-      (asks t ≡ Replies reply)
-      × (wanted m region t (asks t) ≡ None)
-      × (rules.settle m.now t.part.own ≡ FillsPart set begin end n)
-      × (m2 ≡ ended_with region (entry_of t (outcome.SeqFull set begin end n) [] t.notes []) m.now m)
-  Does m region t (Rolls_back code) m2 =
-      (asks t ≡ Rolls code)
-      × (m2 ≡ ended_with region (entry_of t (outcome.Roll code) [] t.notes []) m.now m)
+      × ((cycle : List ℕ) → ¬ IsCycle (waits (requests_with m region needed) m.locks) (region ∷ cycle))
+      × (m2 ≡ record m { requests = requests_with m region needed })
+  Does m region t (Deadlocks needed cycle) m2 =
+      ClosesCycle m region t needed cycle
+      × (rules.tries ≤ t.tries)
+      × (m2 ≡ ended_with region (entry_of t (refused_as (outcome.Deadlock (region ∷ cycle)) m.history.now) [] []) m.history.now m)
+  Does m region t (Retries_at_cycle needed cycle) m2 =
+      ClosesCycle m region t needed cycle
+      × (t.tries < rules.tries)
+      × (m2 ≡ tried_again region t m)
+  Does m region t (Finishes ending items) m2 =
+      IsAtEnd m region t ending
+      × (is_verify_failure ending.outcome ≡ true → rules.tries ≤ t.tries)
+      × AreItemsFor ending.outcome items
+      × (m2 ≡ ended_with region (entry_of t ending t.notes items) ending.next m)
+  Does m region t (Retries_at_verify ending) m2 =
+      IsAtEnd m region t ending
+      × (is_verify_failure ending.outcome ≡ true)
+      × (t.tries < rules.tries)
+      × (m2 ≡ tried_again region t m)
 
   -- ---- a region's turn
 
@@ -110,14 +148,17 @@ module _ (rules : Rules) where
   abbrev pub messages_for : Machine → ℕ → List Message
   messages_for m region = unwrap_or (slice_get m.queues (queue_of_region region)) []
 
-  abbrev pub transaction_of : Machine → Message → Transaction
-  transaction_of m message = record { from = length m.entries; message = message; part = begun rules; notes = [] }
-
   -- the oldest message is taken, if there is one
   abbrev pub begins_in : Machine → ℕ → List Message → Machine
   begins_in m region [] = m
   begins_in m region (message ∷ messages) =
-      with_region region (Active (transaction_of m message)) (record m { queues = slice_set m.queues (queue_of_region region) messages })
+      with_region region (Active (begun_in m message 0))
+      (record m { queues = slice_set m.queues (queue_of_region region) messages })
+
+  -- The region's transaction is refused by what befalls it.
+  abbrev pub refused_with : Machine → ℕ → Transaction → Outcome → Machine
+  refused_with m region t outcome =
+      ended_with region (entry_of t (refused_as outcome m.history.now) [] []) m.history.now m
 
   -- An idle region takes a message, and has no turn where something befalls it. An active one acts, or is refused.
   abbrev pub RegionTurn : Machine → ℕ → Option Region → Environment → Machine → Type 0
@@ -126,8 +167,8 @@ module _ (rules : Rules) where
   RegionTurn m region (Some Idle) DeviceFault m2 = ⊥
   RegionTurn m region (Some Idle) OutOfMemory m2 = ⊥
   RegionTurn m region (Some (Active t)) NoFault m2 = (act : Act) × Does m region t act m2
-  RegionTurn m region (Some (Active t)) DeviceFault m2 = m2 ≡ ended_with region (entry_of t outcome.Device [] [] []) m.now m
-  RegionTurn m region (Some (Active t)) OutOfMemory m2 = m2 ≡ ended_with region (entry_of t outcome.Memory [] [] []) m.now m
+  RegionTurn m region (Some (Active t)) DeviceFault m2 = m2 ≡ refused_with m region t outcome.Device
+  RegionTurn m region (Some (Active t)) OutOfMemory m2 = m2 ≡ refused_with m region t outcome.Memory
 
   -- ---- PURGE
 
@@ -139,8 +180,8 @@ module _ (rules : Rules) where
   pub record Purges (m : Machine) (set n : ℕ) (m2 : Machine) : Type 0 where
     pub items : List Item
     pub next : Db
-    pub is_purged : rules.purged set n m.now ≡ Some next
-    pub after : m2 ≡ with_entry (entry_here m (outcome.Purge set n) [] items) next m
+    pub is_purged : rules.purged set n m.history.now ≡ Some next
+    pub after : m2 ≡ with_entry_of (entry_here m (outcome.Purge set n) [] items) next m
 
   abbrev pub PurgeTurn : Machine → ℕ → ℕ → Bool → Machine → Type 0
   PurgeTurn m set n true m2 = m2 ≡ m
@@ -164,37 +205,3 @@ module _ (rules : Rules) where
   Turn m (event.Purge set n) NoFault m2 = PurgeTurn m set n (is_area_held m set) m2
   Turn m (event.Purge set n) DeviceFault m2 = m2 ≡ m
   Turn m (event.Purge set n) OutOfMemory m2 = m2 ≡ m
-
-  -- a turn for each event, each in its environment
-  abbrev pub Runs : Machine → List Event → List Environment → Machine → Type 0
-  Runs m [] [] m2 = m2 ≡ m
-  Runs m [] (v ∷ vs) m2 = ⊥
-  Runs m (e ∷ es) [] m2 = ⊥
-  Runs m (e ∷ es) (v ∷ vs) m2 = (mid : Machine) × Turn m e v mid × Runs mid es vs m2
-
-  -- ---- the drain
-
-  -- IN, each region in turn, LOG
-  abbrev pub round : List Event
-  round = event.In ∷ map event.Region (numbers_up (length rules.regions) 1) ++ event.Log ∷ []
-
-  abbrev pub is_idle : Region → Bool
-  is_idle Idle = true
-  is_idle (Active t) = false
-
-  abbrev pub is_empty : {X : Type 0} → List X → Bool
-  is_empty [] = true
-  is_empty (x ∷ xs) = false
-
-  -- No line is left or held, no message is queued, no region is active, and no entry is unsealed.
-  pub record IsDrained (m : Machine) : Type 0 where
-    pub no_line : m.lines ≡ []
-    pub no_held : m.held ≡ None
-    pub no_message : list_all is_empty m.queues ≡ true
-    pub no_active : list_all is_idle m.regions ≡ true
-    pub no_unsealed : m.sealed ≡ length m.entries
-
-  -- rounds until the machine is drained
-  abbrev pub Drains : Machine → List (List Environment) → Machine → Type 0
-  Drains m [] m2 = IsDrained m × (m2 ≡ m)
-  Drains m (vs ∷ rest) m2 = (¬ IsDrained m) × ((mid : Machine) × Runs m round vs mid × Drains mid rest m2)

@@ -153,6 +153,7 @@ pub record IsAreaDef (types : List SegDef) (area : AreaDef) : Type 0 where
   pub base : Between 1 1000 area.base
   pub overflow : area.overflow ≤ 1000
   pub capacity : HasCapacity (has_sequential types) area.capacity
+  pub copies : Between 1 7 area.copies
 
 pub record IsDedbDef (def : DedbDef) : Type 0 where
   pub name : IsName def.name
@@ -179,6 +180,7 @@ pub record AreDefs (defs : Defs) : Type 0 where
   pub groups : AreGroups defs.regions
   pub log_group : Between 1 1000 defs.log_group
   pub pool : Between 1 100000 defs.pool
+  pub tries : defs.tries ≤ 100
   pub msdbs : length defs.msdbs ≤ 32
   pub each_msdb : AllByRecursion IsMsdbDef defs.msdbs
   pub dedbs : length defs.dedbs ≤ 16

@@ -7,7 +7,7 @@ ghost use Rattle.fp_model.specs.declared.calls.Answer.{Answer};
 ghost use Rattle.fp_model.specs.declared.calls.Call.{Call};
 ghost use Rattle.fp_model.specs.declared.scripts.Statement.{Statement};
 ghost use Rattle.fp_model.specs.Fsas.{Fsa, IsFsa, Whole, list_text, fsas_of, list_on, all_blank, first_failure};
-ghost use Rattle.fp_model.specs.Programs.{Asks, ask, full_cost};
+ghost use Rattle.fp_model.specs.Asking.{Asks, ask, full_cost};
 
 /// A list of field search arguments is read as it was written.
 pub fn a_written_list_is_read()

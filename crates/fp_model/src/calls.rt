@@ -15,6 +15,8 @@ pub struct Message {
     pub text: Bytes,
     /// The whole line that it was read from.
     pub line: Bytes,
+    /// The number that its terminal gave it, in a format that has numbers.
+    pub number: Option<u64>,
 }
 
 /// Which segment a get looks for.

@@ -76,6 +76,8 @@ pub struct AreaDef {
     pub overflow: u16,
     /// Sequential dependents that the area can hold; 0 where the database has no sequential type.
     pub capacity: u32,
+    /// How many copies of its data set there are, 1 to 7.
+    pub copies: u8,
 }
 
 /// A data entry database, cut into areas.
@@ -102,6 +104,8 @@ pub struct Defs {
     pub log_group: u32,
     /// The most clean intervals that are kept in main storage.
     pub pool: u32,
+    /// How often a transaction is run again, at most, that fails by a verify or would close a cycle.
+    pub tries: u32,
     pub msdbs: List<MsdbDef>,
     pub dedbs: List<DedbDef>,
     /// The text that they were read from.

@@ -26,7 +26,8 @@ pub use definitions::{AreaDef, DedbDef, Defs, FieldDef, FieldKind, Kind, MsdbDef
 pub use events::Event;
 pub use fp_lists::{Bytes, List};
 pub use laws::{
-    a_front_is_a_history, a_turn_keeps, entries_determine_states, histories_join, notes_never_fall,
+    a_front_is_a_history, a_turn_keeps, an_in_of_a_drained_machine_changes_nothing,
+    entries_determine_states, histories_join, notes_never_fall, steps_determine_the_last_machine,
 };
 pub use log::{Entry, Item, Outcome};
 pub use name::Name;

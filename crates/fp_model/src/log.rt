@@ -6,9 +6,24 @@ use fp_lists::{Bytes, List};
 #[derive(Clone, Debug, PartialEq, Eq, Drop)]
 pub enum Item {
     /// A segment of a main storage database; no bytes: the key was deleted.
-    Segment { msdb: u8, key: Bytes, bytes: Bytes },
+    Segment {
+        msdb: u8,
+        key: Bytes,
+        bytes: Bytes,
+    },
     /// A whole control interval of the data set of an area.
-    Image { set: u16, ci: u64, bytes: Bytes },
+    Image {
+        set: u16,
+        ci: u64,
+        bytes: Bytes,
+    },
+    /// Some bytes of a control interval, from a place in it on.
+    Range {
+        set: u16,
+        ci: u64,
+        at: u16,
+        bytes: Bytes,
+    },
 }
 
 /// How a transaction ended.
@@ -40,6 +55,12 @@ pub enum Outcome {
     Memory,
     /// The line was no message, or named no script.
     Unknown,
+    /// The message's number is below its terminal's last one, which this is.
+    Old(u64),
+    /// The message's number is its terminal's last one; the reply line of that message, without its newline.
+    Repeat(Bytes),
+    /// No transaction: from here on lines are read in format 2, in which messages may have numbers.
+    Format,
     /// No transaction: the sequential part of this data set begins n serials later, at most at its end.
     Purge {
         set: u16,

@@ -5,14 +5,13 @@ use Rattle.std.proofs.lemmas.List.{append-nil, take_more}
 use Rattle.std.proofs.lemmas.List.Concat.{flat_map-cons, flat_map-append}
 use Rattle.std.proofs.lemmas.List.Sums.{fold-append}
 use Rattle.fp_model.specs.Groups.{entries_of}
-use Rattle.fp_model.specs.Items.{with_item, with_items}
+use Rattle.fp_model.specs.Items.{with_item, with_items, items_of}
 use Rattle.fp_model.specs.declared.database.Msdb.{Msdb}
 use Rattle.fp_model.specs.declared.definitions.MsdbDef.{MsdbDef}
 use Rattle.fp_model.specs.declared.log.Entry.{Entry}
 use Rattle.fp_model.specs.declared.log.Item.{Item}
 use Rattle.log_format.proofs.Lists.{element}
 use Rattle.log_groups.proofs.LogImages.{all-append}
-use Rattle.log_groups.specs.Kept.{items_of}
 
 -- ---- items
 

@@ -17,10 +17,10 @@ use Rattle.fp_model.specs.declared.log.Outcome.{Outcome}
 use Rattle.fp_model.specs.declared.log.Outcome.TheVariants as outcome
 use Rattle.fp_model.specs.declared.scripts.Script.{Script}
 use Rattle.fp_model.specs.Commit.{Settlement, Commits, FailsVerify, FillsPart, area_of_set, committed, first_full, numbered_at, purged, purged_area, settled_to, settlement, takes, with_anchors, with_insert, with_inserts, with_msdbs}
-use Rattle.fp_model.specs.History.{History, IsSerialHistory, Leads}
+use Rattle.fp_model.specs.SerialHistory.{LeadsOn, IsSerialHistory, Leads}
 use Rattle.fp_model.specs.Product.{rules_of}
-use Rattle.fp_model.specs.Programs.{Ask, Asks, Replies, Rolls}
-use Rattle.fp_model.specs.Serial.{Ended, Done, Roll, VerifyFailed, SeqFull, Stuck, Part, after_call, asked, begun, called, goes, serial_run, settled_as, state_at, with_all}
+use Rattle.fp_model.specs.Asking.{Ask, Asks, Replies, Rolls}
+use Rattle.fp_model.specs.Serial.{Alone, Done, Roll, VerifyFailed, SeqFull, Stuck, Point, after_call, asked, begun, called, goes, serial_run, settled_as, state_at, with_all}
 use Rattle.fp_model.specs.Settle.{Settled, Stands, VerifyFails, settle}
 use Rattle.fp_model.specs.State.{Area, areas_of, areas_of_all, formatted, with_roots}
 use Rattle.fp_model.specs.Workspace.{Workspace}
@@ -47,7 +47,7 @@ module _ (defs : Defs) (none : defs.dedbs ≡ []) where
 
   module _ (scripts : List Script) (now : Db) (h : HasNone now) (states : List Db) (message : Message) where
     -- an end that commits to a state without any
-    abbrev EndsNone : Ended → Type 0
+    abbrev EndsNone : Alone → Type 0
     EndsNone (Done state reply) = HasNone state
     EndsNone (Roll code) = Unit {0}
     EndsNone (VerifyFailed call fsa found) = Unit {0}
@@ -62,21 +62,21 @@ module _ (defs : Defs) (none : defs.dedbs ≡ []) where
     unfolding settlement
     settlement_none own reply = settled_none own reply (settle defs.msdbs now.msdbs own.deferred)
 
-    all_none : (notes : List ℕ) (ended : Ended) → EndsNone ended → EndsNone (with_all notes ended)
+    all_none : (notes : List ℕ) (ended : Alone) → EndsNone ended → EndsNone (with_all notes ended)
     all_none [] ended g = g
     all_none (n ∷ notes) ended g = tt
 
-    called_none : (b : Bool) (part : Part) (call : Call) (notes : List ℕ) (rest : Part → List ℕ → Ended) → ((p : Part) (ns : List ℕ) → EndsNone (rest p ns)) → EndsNone (called (rules_of defs scripts) now states message b part call notes rest)
+    called_none : (b : Bool) (part : Point) (call : Call) (notes : List ℕ) (rest : Point → List ℕ → Alone) → ((p : Point) (ns : List ℕ) → EndsNone (rest p ns)) → EndsNone (called (rules_of defs scripts) now states message b part call notes rest)
     called_none true part call [] rest g = tt
     called_none true part call (note ∷ notes) rest g = g (after_call (rules_of defs scripts) now (state_at (rules_of defs scripts).start states note) part call) notes
     called_none false part call notes rest g = g (after_call (rules_of defs scripts) now now part call) notes
 
-    asked_none : (ask : Ask) (part : Part) (notes : List ℕ) (rest : Part → List ℕ → Ended) → ((p : Part) (ns : List ℕ) → EndsNone (rest p ns)) → EndsNone (asked (rules_of defs scripts) now states message ask part notes rest)
+    asked_none : (ask : Ask) (part : Point) (notes : List ℕ) (rest : Point → List ℕ → Alone) → ((p : Point) (ns : List ℕ) → EndsNone (rest p ns)) → EndsNone (asked (rules_of defs scripts) now states message ask part notes rest)
     asked_none (Asks call) part notes rest g = called_none ((rules_of defs scripts).looks part.own call) part call notes rest g
     asked_none (Replies reply) part notes rest g = all_none notes (settled_as reply (settlement defs now part.own)) (settlement_none part.own reply)
     asked_none (Rolls code) part notes rest g = all_none notes (Roll code) tt
 
-    goes_none : (n : ℕ) (part : Part) (notes : List ℕ) → EndsNone (goes (rules_of defs scripts) now states message n part notes)
+    goes_none : (n : ℕ) (part : Point) (notes : List ℕ) → EndsNone (goes (rules_of defs scripts) now states message n part notes)
     goes_none zero part notes = tt
     goes_none (suc n) part notes = asked_none ((rules_of defs scripts).ask message part.answers) part notes (goes (rules_of defs scripts) now states message n) (goes_none n)
 
@@ -104,7 +104,7 @@ module _ (defs : Defs) (none : defs.dedbs ≡ []) where
   leads_none scripts past now e outcome.Unknown next h l = rw l.1 h
   leads_none scripts past now e (outcome.Purge set n) next h l = no_purge set n now next l
 
-  history_none : (scripts : List Script) (past : List Db) (now : Db) (entries : List Entry) (before : List Db) (last : Db) → HasNone now → History (rules_of defs scripts) past now entries before last → HasNone last
+  history_none : (scripts : List Script) (past : List Db) (now : Db) (entries : List Entry) (before : List Db) (last : Db) → HasNone now → LeadsOn (rules_of defs scripts) past now entries before last → HasNone last
   history_none scripts past now [] before last h g = rw g.1 h
   history_none scripts past now (e ∷ es) before last h g =
       history_none scripts (past ++ now ∷ []) g.0 es before last (leads_none scripts past now e e.outcome g.0 h g.1.leads) g.2

@@ -14,7 +14,7 @@ use Rattle.fp_model.specs.declared.log.Item.{Item}
 use Rattle.fp_model.specs.declared.log.Item.TheVariants.{Segment, Image}
 use Rattle.fp_model.specs.declared.scripts.Script.{Script}
 use Rattle.fp_model.specs.Groups.{HoldsGroups, IsDamaged, IsGroup, entries_of}
-use Rattle.fp_model.specs.Items.{IsFit, with_item, with_items}
+use Rattle.fp_model.specs.Items.{IsFit, with_item, with_items, items_of}
 use Rattle.fp_model.specs.LogText.{Front, StartsWithFront, first_gate, group_text, groups_text}
 use Rattle.fp_model.specs.Product.{rules_of}
 use Rattle.fp_model.specs.Recovery.{Holds, front_of}
@@ -24,7 +24,7 @@ use Rattle.fp_site.proofs.Images.{durable_settles}
 use Rattle.log_format.proofs.GroupLaws.{one_group}
 use Rattle.log_groups.proofs.LogImages.{all-append, groups_more}
 use Rattle.log_groups.specs.Images.{IsAtRest, IsLog}
-use Rattle.log_groups.specs.Kept.{IsSafe, IsSound, items_of}
+use Rattle.log_groups.specs.Kept.{IsSafe, IsSound}
 use Rattle.log_groups.specs.Log.{LogState}
 use Rattle.msdb_store.specs.Store.{IsFitSegment, IsOf, Stored}
 use Rattle.fp_restart.specs.Replayed.{IsFirstBadAt, IsReadable, IsReplayed, IsTaken}

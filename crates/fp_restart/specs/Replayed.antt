@@ -5,8 +5,7 @@ use Rattle.fp_model.specs.declared.definitions.Defs.{Defs}
 use Rattle.fp_model.specs.declared.database.Msdb.{Msdb}
 use Rattle.fp_model.specs.declared.log.Entry.{Entry}
 use Rattle.fp_model.specs.Groups.{HoldsGroups, entries_of}
-use Rattle.fp_model.specs.Items.{IsFit, with_items}
-use Rattle.log_groups.specs.Kept.{items_of}
+use Rattle.fp_model.specs.Items.{IsFit, with_items, items_of}
 use Rattle.log_groups.specs.Reads.{HasGroup}
 use Rattle.fp_restart.specs.Restarts.{IsBadAt}
 

@@ -7,12 +7,11 @@ use Rattle.fp_model.specs.declared.database.Db.{Db}
 use Rattle.fp_model.specs.declared.log.Entry.{Entry}
 use Rattle.fp_model.specs.declared.scripts.Script.{Script}
 use Rattle.fp_model.specs.Groups.{IsDamaged, entries_of}
-use Rattle.fp_model.specs.History.{IsSerialHistory}
-use Rattle.fp_model.specs.Items.{IsFit}
+use Rattle.fp_model.specs.SerialHistory.{IsSerialHistory}
+use Rattle.fp_model.specs.Items.{IsFit, items_of}
 use Rattle.fp_model.specs.LogText.{Front}
 use Rattle.fp_model.specs.Product.{rules_of}
 use Rattle.log_groups.specs.Images.{IsAtRest}
-use Rattle.log_groups.specs.Kept.{items_of}
 use Rattle.log_groups.specs.Log.{LogState}
 use Rattle.log_groups.specs.Reads.{HasGroup}
 use Rattle.msdb_store.specs.Store.{Stored, IsOf}

@@ -1,7 +1,6 @@
 //! Whether the items of a group may be applied.
-ghost use Rattle.fp_model.specs.Items.{FitsMsdb, IsFit, area_sizes};
+ghost use Rattle.fp_model.specs.Items.{FitsMsdb, IsFit, area_sizes, items_of};
 ghost use Rattle.fp_model.specs.State.{key_length};
-ghost use Rattle.log_groups.specs.Kept.{items_of};
 ghost use Rattle.std.specs.List.{AllByRecursion};
 ghost use Rattle.std.specs.Prelude.{◌≡◌, ◌+◌, ◌*◌, ◌^◌, ◌≤◌, Some, false, length, slice_get, take, true};
 

@@ -1,5 +1,5 @@
 //! Reading the groups of a log, and putting their segments.
-ghost use Rattle.fp_model.specs.Items.{IsFit, with_items};
+ghost use Rattle.fp_model.specs.Items.{IsFit, with_items, items_of};
 ghost use Rattle.fp_model.specs.State.{start};
 ghost use Rattle.fp_model.specs.LogText.{FitsFront, StartsWithFront, first_gate};
 ghost use Rattle.fp_model.specs.WellFormed.{IsMsdbDef};
@@ -8,7 +8,6 @@ ghost use Rattle.fp_restart.specs.Restarts.{IsBadAt};
 ghost use Rattle.fp_restart.specs.declared.fault.RestartFault.TheVariants as faults;
 ghost use Rattle.fp_site.specs.Disk.{Stays};
 ghost use Rattle.log_groups.specs.Images.{texts_of};
-ghost use Rattle.log_groups.specs.Kept.{items_of};
 ghost use Rattle.log_groups.specs.Reads.{HasGroup};
 ghost use Rattle.fp_model.specs.declared.definitions.MsdbDef.{MsdbDef as DefOf};
 ghost use Rattle.msdb_store.specs.Store.{IsFitSegment, IsOf};

@@ -1,6 +1,6 @@
 //! The state of all databases, copied out of the parts that a restart gives.
 ghost use Rattle.fp_model.specs.State.{anchors_in, formatted, start};
-ghost use Rattle.fp_model.specs.History.{IsSerialHistory};
+ghost use Rattle.fp_model.specs.SerialHistory.{IsSerialHistory};
 ghost use Rattle.fp_model.specs.Product.{rules_of};
 ghost use Rattle.fp_model.specs.declared.database.Db.{Db as DbOf};
 ghost use Rattle.fp_model.specs.declared.log.Entry.{Entry};

@@ -8,7 +8,7 @@ use Rattle.fp_model.specs.declared.calls.Call.TheVariants as call
 use Rattle.fp_model.specs.declared.calls.Get.TheVariants.{Unique}
 use Rattle.fp_model.specs.declared.scripts.Statement.TheFolds.{fold-roll-Statement}
 use Rattle.fp_model.specs.Spellings.{be16}
-use Rattle.fp_model.specs.Programs.{Asks, Replies, ask, full_cost}
+use Rattle.fp_model.specs.Asking.{Asks, Replies, ask, full_cost}
 use Rattle.fp_rows.specs.Hex.{hex}
 use Rattle.fp_rows.specs.Sample.{sample_defs, deposit_script, wdraw_script, ask_script, two_script, message_for, lettered, showing}
 use Rattle.fp_model.proofs.ProgramLemmas.{run_roll}

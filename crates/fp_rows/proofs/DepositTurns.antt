@@ -15,7 +15,8 @@ use Rattle.fp_model.specs.Answers.{Needed}
 use Rattle.fp_model.specs.Calls.{reply_to, looks_unheld, need_of}
 use Rattle.fp_model.specs.Commit.{settlement, lacking}
 use Rattle.fp_model.specs.Machine.{Machine, Transaction, Active, taken_in, with_region, entry_of, ended_with, sealed_once}
-use Rattle.fp_model.specs.Turns.{NoFault, Answers, Gains, Commits_with, Runs, Does, begins_in, messages_for, with_answer, transaction_of, as_lock}
+use Rattle.fp_model.specs.Turns.{NoFault, Answers, Gains, Commits_with, Does, begins_in, messages_for, with_answer, begun_in, as_lock}
+use Rattle.fp_model.specs.Runs.{Runs}
 use Rattle.fp_rows.specs.Hex.{hex}
 use Rattle.fp_rows.specs.Sample as sample
 use Rattle.fp_rows.specs.States.{sample_rules, at_rest_with_a_deposit, with_balance}
@@ -26,7 +27,7 @@ abbrev taken : Machine
 taken = taken_in sample_rules at_rest_with_a_deposit
 
 abbrev transaction : Transaction
-transaction = transaction_of sample_rules at_rest_with_a_deposit (sample.message_for sample.deposit_script (codes "A001 10"))
+transaction = begun_in sample_rules at_rest_with_a_deposit (sample.message_for sample.deposit_script (codes "A001 10"))
 
 abbrev begun_by_one : Machine
 begun_by_one = begins_in sample_rules taken 1 (messages_for sample_rules taken 1)

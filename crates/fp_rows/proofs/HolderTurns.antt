@@ -11,10 +11,11 @@ use Rattle.fp_model.specs.Answers.{Needed}
 use Rattle.fp_model.specs.Calls.{reply_to, looks_unheld, need_of}
 use Rattle.fp_model.specs.Commit.{settlement, lacking}
 use Rattle.fp_model.specs.Settle.{settle_from}
-use Rattle.fp_model.specs.Programs.{Ask, Asks, Replies}
+use Rattle.fp_model.specs.Asking.{Ask, Asks, Replies}
 use Rattle.fp_model.specs.Waiting.{WaitsAlong, IsCycle}
 use Rattle.fp_model.specs.Machine.{Machine, Transaction, Active, taken_in, with_region, entry_of, ended_with, sealed_once}
-use Rattle.fp_model.specs.Turns.{NoFault, Answers, Gains, Waits, Closes, Commits_with, Runs, Does, begins_in, with_answer, transaction_of, asks, wanted}
+use Rattle.fp_model.specs.Turns.{NoFault, Answers, Gains, Waits, Closes, Commits_with, Does, begins_in, with_answer, begun_in, asks, wanted}
+use Rattle.fp_model.specs.Runs.{Runs}
 use Rattle.fp_rows.specs.Hex.{named}
 use Rattle.fp_rows.specs.Sample as sample
 use Rattle.fp_rows.specs.States.{sample_rules, at_rest_with_two_holders, with_two}
@@ -39,7 +40,7 @@ abbrev m2 : Machine
 m2 = taken_in sample_rules m1
 
 abbrev first0 : Transaction
-first0 = transaction_of sample_rules m2 first_asked
+first0 = begun_in sample_rules m2 first_asked
 
 abbrev m3 : Machine
 m3 = begins_in sample_rules m2 1 (first_asked ∷ second_asked ∷ [])
@@ -48,7 +49,7 @@ abbrev m4 : Machine
 m4 = gained 1 (of_anchor 6) m3
 
 abbrev second0 : Transaction
-second0 = transaction_of sample_rules m4 second_asked
+second0 = begun_in sample_rules m4 second_asked
 
 abbrev m5 : Machine
 m5 = begins_in sample_rules m4 2 (second_asked ∷ [])

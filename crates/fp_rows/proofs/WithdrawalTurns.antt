@@ -16,7 +16,8 @@ use Rattle.fp_model.specs.Answers.{Needed}
 use Rattle.fp_model.specs.Calls.{reply_to, looks_unheld, need_of}
 use Rattle.fp_model.specs.Commit.{settlement, lacking}
 use Rattle.fp_model.specs.Machine.{Machine, Transaction, Active, taken_in, with_region, entry_of, ended_with, sealed_once}
-use Rattle.fp_model.specs.Turns.{NoFault, Answers, Gains, Commits_with, Fails_verify, Runs, Does, begins_in, with_answer, transaction_of}
+use Rattle.fp_model.specs.Turns.{NoFault, Answers, Gains, Commits_with, Fails_verify, Does, begins_in, with_answer, begun_in}
+use Rattle.fp_model.specs.Runs.{Runs}
 use Rattle.fp_rows.specs.Hex.{hex, named}
 use Rattle.fp_rows.specs.Sample as sample
 use Rattle.fp_rows.specs.States.{sample_rules, at_rest_with_two_withdrawals, with_balance, segment_item}
@@ -44,13 +45,13 @@ abbrev m2 : Machine
 m2 = taken_in sample_rules m1
 
 abbrev first0 : Transaction
-first0 = transaction_of sample_rules m2 first_asked
+first0 = begun_in sample_rules m2 first_asked
 
 abbrev m3 : Machine
 m3 = begins_in sample_rules m2 1 (first_asked ∷ second_asked ∷ [])
 
 abbrev second0 : Transaction
-second0 = transaction_of sample_rules m3 second_asked
+second0 = begun_in sample_rules m3 second_asked
 
 abbrev m4 : Machine
 m4 = begins_in sample_rules m3 2 (second_asked ∷ [])

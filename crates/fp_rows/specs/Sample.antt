@@ -25,7 +25,7 @@ use Rattle.fp_model.specs.declared.scripts.Statement.TheOpen.{Set, If, Repeat, B
 use Rattle.fp_model.specs.declared.scripts.Script.{Script}
 use Rattle.fp_model.specs.Texts.{padded, trimmed}
 use Rattle.fp_model.specs.Fsas.{Fsa, list_text}
-use Rattle.fp_model.specs.Programs.{Ask, ask}
+use Rattle.fp_model.specs.Asking.{Ask, ask}
 use Rattle.fp_model.specs.declared.database.Msdb.{Msdb}
 use Rattle.fp_model.specs.declared.log.Entry.{Entry}
 use Rattle.fp_model.specs.declared.log.Item.TheVariants.{Segment}

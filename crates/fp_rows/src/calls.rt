@@ -14,7 +14,9 @@ ghost use Rattle.fp_model.specs.declared.scripts.Operation.TheVariants.{Add, Sub
 ghost use Rattle.fp_model.specs.declared.scripts.Comparison.TheVariants.{Equal, Less};
 ghost use Rattle.fp_model.specs.declared.scripts.Statement.{roll-Statement};
 ghost use Rattle.fp_model.specs.declared.scripts.Statement.TheOpen as stmt;
-ghost use Rattle.fp_model.specs.Programs.{Asks, Replies, Rolls, ask, cost, script_of, words, word_of, operated, compares, fitted, qualified};
+ghost use Rattle.fp_model.specs.Asking.{Asks, Replies, Rolls, ask, cost, script_of};
+ghost use Rattle.fp_model.specs.Values.{words, word_of, operated, compares, fitted};
+ghost use Rattle.fp_model.specs.Operands.{qualified};
 ghost use Rattle.fp_rows.specs.Hex.{hex, named};
 ghost use Rattle.fp_rows.specs.Sample.{accts, tellers, wide, sample_defs, sample_scripts, deposit_script, wdraw_script, ask_script, setbal_script, newcust_script, note_script, lend_script, showc_script, listc_script, hire_script, asked, asked_by, answered, showing, lettered, given, withdrawal, deposited, queued, held, unqualified, keyed, put, set, reply, fld_then_reply, two_gets};
 

@@ -17,7 +17,8 @@ ghost use Rattle.fp_rows.specs.Sample as sample;
 ghost use Rattle.fp_model.specs.Serial.{Done, VerifyFailed, serial_run};
 ghost use Rattle.fp_model.specs.declared.events.Event.TheVariants.{In, Region, Log};
 ghost use Rattle.fp_model.specs.Machine.{Machine};
-ghost use Rattle.fp_model.specs.Turns.{NoFault, Runs};
+ghost use Rattle.fp_model.specs.Turns.{NoFault};
+ghost use Rattle.fp_model.specs.Runs.{Runs};
 ghost use Rattle.fp_rows.specs.States.{with_three, next_customer, first, second, third, sample_rules, at_rest_with_a_deposit, at_rest_with_two_withdrawals, at_rest_with_two_holders, at_start, with_balance, a_customer, with_customers, with_audits};
 
 /// The randomizer of the sample's eight anchors.

@@ -7,7 +7,7 @@ use Rattle.std.proofs.lemmas.List.Concat.{flat_map-append, flat_map-cons}
 use Rattle.fp_model.specs.declared.log.Entry.{Entry}
 use Rattle.fp_model.specs.declared.log.Item.{Item}
 use Rattle.fp_model.specs.Groups.{entries_of}
-use Rattle.fp_model.specs.Items.{IsFit, with_item, with_items}
+use Rattle.fp_model.specs.Items.{IsFit, with_item, with_items, items_of}
 use Rattle.fp_model.specs.Product.{rules_of}
 use Rattle.fp_model.specs.State.{start}
 use Rattle.fp_model.proofs.HistoryLemmas.{join, states_counted}
@@ -15,7 +15,7 @@ use Rattle.fp_site.specs.Disk.{Disk}
 use Rattle.fp_site.proofs.Images.{durable_settles}
 use Rattle.log_groups.specs.Images.{IsLog, IsAtRest}
 use Rattle.lone_region.specs.Next.{ComesNext, IsServed}
-use Rattle.log_groups.specs.Kept.{IsSound, IsSafe, items_of}
+use Rattle.log_groups.specs.Kept.{IsSound, IsSafe}
 use Rattle.fp_system.specs.Parts.{Job, front_for}
 use Rattle.fp_system.specs.Serving.{IsAccount, AwaitsSeal}
 use Rattle.log_groups.specs.Log.{LogState}

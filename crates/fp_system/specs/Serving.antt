@@ -4,14 +4,14 @@ use Rattle.std.specs.List.{AllByRecursion}
 use Rattle.fp_model.specs.declared.database.Db.{Db}
 use Rattle.fp_model.specs.declared.log.Entry.{Entry}
 use Rattle.fp_model.specs.Groups.{entries_of}
-use Rattle.fp_model.specs.History.{IsSerialHistory}
-use Rattle.fp_model.specs.Items.{IsFit, with_items}
+use Rattle.fp_model.specs.SerialHistory.{IsSerialHistory}
+use Rattle.fp_model.specs.Items.{IsFit, with_items, items_of}
 use Rattle.fp_model.specs.Product.{rules_of}
 use Rattle.fp_model.specs.ReplyLine.{line_of}
 use Rattle.fp_model.specs.State.{start}
 use Rattle.fp_site.specs.Disk.{Disk, Snapshot, Syncs}
 use Rattle.log_groups.specs.Images.{IsAtRest}
-use Rattle.log_groups.specs.Kept.{GoesOn, IsSafe, items_of, lines_of_entries}
+use Rattle.log_groups.specs.Kept.{GoesOn, IsSafe, lines_of_entries}
 use Rattle.log_groups.specs.Log.{LogState}
 use Rattle.lone_region.specs.Next.{IsAlone}
 use Rattle.msdb_store.specs.Store.{Stored, IsOf}

@@ -6,7 +6,8 @@ use Rattle.fp_model.specs.declared.log.Item.{Item}
 use Rattle.fp_model.specs.declared.log.Outcome.{Outcome}
 use Rattle.fp_model.specs.declared.log.Outcome.TheVariants as outcome
 use Rattle.fp_model.specs.declared.log.Entry.{Entry}
-use Rattle.fp_model.specs.LogText.{is_ascending, HasItsParts, KeepsRules}
+use Rattle.fp_model.specs.ItemTargets.{is_ascending}
+use Rattle.fp_model.specs.LogText.{HasItsParts, KeepsRules}
 use Rattle.log_format.specs.EntryReading.{stands_before, has_its_parts, keeps_rules}
 
 -- a list ascends where its first item stands before the next, and the rest ascends

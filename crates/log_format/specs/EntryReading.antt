@@ -6,7 +6,7 @@ use Rattle.fp_model.specs.declared.log.Item.TheVariants.{Segment, Image}
 use Rattle.fp_model.specs.declared.log.Outcome.{Outcome}
 use Rattle.fp_model.specs.declared.log.Outcome.TheVariants as outcome
 use Rattle.fp_model.specs.declared.log.Entry.{Entry}
-use Rattle.fp_model.specs.LogText.{precedes, is_ascending}
+use Rattle.fp_model.specs.ItemTargets.{precedes, is_ascending}
 use Rattle.log_format.specs.Reading.{◌>>=◌, byte_at, number_at, part_at, short_at, long_at, counted_at}
 
 -- what stands behind the code of an outcome

@@ -4,7 +4,8 @@
 //! cut out by its length first, and must be used up. Then its rules are looked at: segments before images, each
 //! ascending; a reply in Done alone, items in Done and Purge alone. Each byte is read once.
 ghost use Rattle.fp_model.specs.State.{is_below};
-ghost use Rattle.fp_model.specs.LogText.{HasSpelling, precedes, is_ascending, body_text};
+ghost use Rattle.fp_model.specs.LogText.{HasSpelling, body_text};
+ghost use Rattle.fp_model.specs.ItemTargets.{precedes, is_ascending};
 ghost use Rattle.fp_model.specs.declared.log.Entry.{Entry as EntryOf};
 ghost use Rattle.log_format.specs.EntryReading.{detail_at, outcome_at, kind_at, item_at, rest_at, stands_before, has_its_parts, keeps_rules, whole_at, entry_at};
 ghost use Rattle.log_format.specs.Faults.{Spells, IsCause, IsReadAs};

@@ -14,11 +14,11 @@ use Rattle.fp_model.specs.declared.log.Item.TheVariants as item
 use Rattle.fp_model.specs.declared.log.Outcome.TheVariants as outcome
 use Rattle.fp_model.specs.declared.scripts.Script.{Script}
 use Rattle.fp_model.specs.Commit.{Settlement, Commits, FailsVerify, committed, first_full, settled_to, settlement, with_msdbs}
-use Rattle.fp_model.specs.History.{NeverFalls}
+use Rattle.fp_model.specs.SerialHistory.{NeverFalls}
 use Rattle.fp_model.specs.Items.{FitsMsdb, IsFit, with_items}
 use Rattle.fp_model.specs.LogText.{FitsItem}
 use Rattle.fp_model.specs.Product.{request_of, rules_of}
-use Rattle.fp_model.specs.Serial.{Ended, Done, VerifyFailed, settled_as}
+use Rattle.fp_model.specs.Serial.{Alone, Done, VerifyFailed, settled_as}
 use Rattle.fp_model.specs.Settle.{Settled, Stands, VerifyFails, settle}
 use Rattle.fp_model.specs.State.{areas_of, areas_of_all, key_length}
 use Rattle.fp_model.specs.WellFormed.{BeginsWithKey, IsMsdbDef}

@@ -14,7 +14,9 @@ use Rattle.fp_model.specs.declared.scripts.Statement.{Statement, roll-Statement,
 use Rattle.fp_model.specs.declared.scripts.Statement.TheOpen.{Statement-F, Set, If, Repeat, Break, Reply, Roll, Get, Fld, Isrt, Repl, Dlet}
 use Rattle.fp_model.specs.declared.scripts.Statement.TheFolds.{fold-roll-Statement, ind-Statement}
 use Rattle.fp_model.specs.Texts.{is_printable}
-use Rattle.fp_model.specs.Programs.{◌>>=◌, Env, Way, Goes, Leaves, Ends, Ask, Asks, Replies, Rolls, or_rolls, goes_on, in_order, loops_on, times, called, run, run_step, ended, ask, at_top, set_text, chosen, joined_texts, reply_text, get_call, fld_call, isrt_call, repl_call}
+use Rattle.fp_model.specs.Values.{◌>>=◌}
+use Rattle.fp_model.specs.Operands.{Env, at_top, set_text, chosen, joined_texts, reply_text, get_call, fld_call, isrt_call, repl_call}
+use Rattle.fp_model.specs.Asking.{Way, Goes, Leaves, Ends, Ask, Asks, Replies, Rolls, or_rolls, goes_on, in_order, loops_on, times, called, run, run_step, ended, ask}
 
 -- an end whose reply, if it has one, is short
 abbrev pub EndIsShort : Ask → Type 0

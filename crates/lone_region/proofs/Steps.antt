@@ -7,9 +7,9 @@ use Rattle.fp_model.specs.declared.database.Db.{Db}
 use Rattle.fp_model.specs.declared.calls.Answer.{Answer}
 use Rattle.fp_model.specs.declared.calls.Call.{Call}
 use Rattle.fp_model.specs.declared.calls.Message.{Message}
-use Rattle.fp_model.specs.Programs.{Ask, Asks}
+use Rattle.fp_model.specs.Asking.{Ask, Asks}
 use Rattle.fp_model.specs.Rules.{Rules}
-use Rattle.fp_model.specs.Serial.{Ended, Part, state_at, with_reply, after_call, begun, called, asked, goes, serial_run}
+use Rattle.fp_model.specs.Serial.{Alone, Point, state_at, with_reply, after_call, begun, called, asked, goes, serial_run}
 use Rattle.fp_model.specs.Workspace.{Workspace}
 use Rattle.lone_region.specs.Running.{noted}
 
@@ -40,7 +40,7 @@ module _ (rules : Rules) (message : Message) (past : List Db) (now : Db) where
       → (n : ℕ) (more : List ℕ) → goes rules now states message (length answers + suc n) (begun rules) (noted b (length past) notes ++ more)
       ≡ goes rules now states message n (record { answers = answers ++ a ∷ []; own = own2 }) more
   goes_on true answers own own2 notes call a looks asks replies before n more =
-      let part : Part = record { answers = answers; own = own } in
+      let part : Point = record { answers = answers; own = own } in
       ap (λ (xs : List ℕ). goes rules now states message (length answers + suc n) (begun rules) xs) (append_assoc notes (length past ∷ []) more)
       ∙ before (suc n) (length past ∷ more)
       ∙ ap (λ (x : Ask). asked rules now states message x part (length past ∷ more) (goes rules now states message n)) asks
@@ -48,7 +48,7 @@ module _ (rules : Rules) (message : Message) (past : List Db) (now : Db) where
       ∙ ap (λ (shown : Db). goes rules now states message n (after_call rules now shown part call) more) (last_state rules.start past now)
       ∙ ap (λ r. goes rules now states message n (with_reply part r) more) replies
   goes_on false answers own own2 notes call a looks asks replies before n more =
-      let part : Part = record { answers = answers; own = own } in
+      let part : Point = record { answers = answers; own = own } in
       before (suc n) more
       ∙ ap (λ (x : Ask). asked rules now states message x part more (goes rules now states message n)) asks
       ∙ ap (λ (b : Bool). called rules now states message b part call more (goes rules now states message n)) looks
@@ -65,7 +65,7 @@ module _ (rules : Rules) (message : Message) (past : List Db) (now : Db) where
       ∙ goes_on (rules.looks own call) answers own own2 notes call a refl asks replies before n more
 
   -- How it ends from here is how it ends alone.
-  pub ends_alone : (answers : List Answer) (own : Workspace) (notes : List ℕ) (ended : Ended)
+  pub ends_alone : (answers : List Answer) (own : Workspace) (notes : List ℕ) (ended : Alone)
       → Comes answers own notes
       → length answers ≤ rules.budget message
       → ((n : ℕ) → goes rules now states message (suc n) (record { answers = answers; own = own }) [] ≡ ended)

@@ -9,7 +9,7 @@ use Rattle.fp_model.specs.declared.calls.Message.{Message}
 use Rattle.fp_model.specs.declared.definitions.Defs.{Defs}
 use Rattle.fp_model.specs.declared.scripts.Script.{Script}
 use Rattle.fp_model.specs.Product.{asked_by, cost_of}
-use Rattle.fp_model.specs.Programs.{Replies, ask, full_cost, script_of}
+use Rattle.fp_model.specs.Asking.{Replies, ask, full_cost, script_of}
 
 -- what its message asks is what its script asks
 pub asked_is : (defs : Defs) (scripts : List Script) (message : Message) (script : Script) (answers : List Answer) → script_of scripts message.tran ≡ Some script → asked_by defs scripts message answers ≡ ask defs script.statements message answers

@@ -10,7 +10,7 @@ use Rattle.fp_model.specs.declared.log.Outcome.TheVariants.{Done, Unknown}
 use Rattle.fp_model.specs.declared.scripts.Script.{Script}
 use Rattle.fp_model.specs.LogText.{FitsEntry, KeepsRules}
 use Rattle.fp_model.specs.Product.{request_of}
-use Rattle.fp_model.specs.Programs.{script_of}
+use Rattle.fp_model.specs.Asking.{script_of}
 use Rattle.msdb_store.specs.Settling.{IsStaged}
 use Rattle.msdb_store.specs.Store.{IsOf, Stored}
 use Rattle.fp_model.specs.declared.definitions.MsdbDef.{MsdbDef}

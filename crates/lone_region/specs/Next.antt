@@ -7,7 +7,7 @@ use Rattle.fp_model.specs.declared.log.Entry.{Entry}
 use Rattle.fp_model.specs.declared.log.Outcome.{Outcome}
 use Rattle.fp_model.specs.declared.log.Outcome.TheVariants.{Done, Verify, Roll, Unknown}
 use Rattle.fp_model.specs.declared.scripts.Script.{Script}
-use Rattle.fp_model.specs.History.{Comes}
+use Rattle.fp_model.specs.SerialHistory.{Comes}
 use Rattle.fp_model.specs.Items.{IsFit, with_items}
 use Rattle.fp_model.specs.Product.{rules_of}
 use Rattle.fp_model.specs.ReplyLine.{line_of}

@@ -9,8 +9,8 @@ use Rattle.fp_model.specs.declared.definitions.Defs.{Defs}
 use Rattle.fp_model.specs.declared.scripts.Script.{Script}
 use Rattle.fp_model.specs.Commit.{settlement}
 use Rattle.fp_model.specs.Product.{cost_of, rules_of}
-use Rattle.fp_model.specs.Programs.{script_of}
-use Rattle.fp_model.specs.Serial.{Ended, Roll, begun, goes, serial_run, settled_as}
+use Rattle.fp_model.specs.Asking.{script_of}
+use Rattle.fp_model.specs.Serial.{Alone, Roll, begun, goes, serial_run, settled_as}
 use Rattle.fp_model.specs.Workspace.{Workspace}
 use Rattle.fp_model.specs.FitCalls.{are_fit}
 use Rattle.fp_model.specs.WellFormed.{IsMsdbDef}
@@ -64,7 +64,7 @@ pub record IsUnderway (defs : Defs) (scripts : List Script) (message : Message) 
   pub comes : ComesTo defs scripts message msdbs from t.work answers
 
 -- what a transaction comes to whose script ended so
-abbrev pub ended_as : Defs → Db → Workspace → End → Ended
+abbrev pub ended_as : Defs → Db → Workspace → End → Alone
 ended_as defs now own (end.Reply text) = settled_as text (settlement defs now own)
 ended_as defs now own (end.Roll code) = Roll code
 

@@ -1,7 +1,7 @@
 //! The entry of a line: what its transaction comes to, run alone.
 ghost use Rattle.std.specs.Prelude.{◌≡◌, ◌<◌, ◌≤◌, ◌^◌, ℕ, IfNone, IfOk, IfSome, IsErr, List as ListOf, None, Some, length};
 ghost use Rattle.fp_model.specs.Product.{request_of};
-ghost use Rattle.fp_model.specs.Programs.{script_of};
+ghost use Rattle.fp_model.specs.Asking.{script_of};
 ghost use Rattle.fp_model.specs.declared.calls.Message.{Message as MessageOf};
 ghost use Rattle.fp_model.specs.declared.definitions.Defs.{Defs as DefsOf};
 ghost use Rattle.fp_model.specs.declared.scripts.Script.{Script};

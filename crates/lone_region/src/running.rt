@@ -5,7 +5,7 @@ ghost use Rattle.dli_calls.specs.Progress.{IsWorkOf, held_in};
 ghost use Rattle.dli_calls.specs.Readiness.{needed_in};
 ghost use Rattle.fp_model.specs.Calls.{looks_unheld, reply_to};
 ghost use Rattle.fp_model.specs.FitCalls.{FitsAnswer, IsMsdbCall};
-ghost use Rattle.fp_model.specs.Programs.{script_of};
+ghost use Rattle.fp_model.specs.Asking.{script_of};
 ghost use Rattle.fp_model.specs.Waiting.{same_resource};
 ghost use Rattle.fp_model.specs.WellFormed.{IsMsdbDef};
 ghost use Rattle.fp_model.specs.declared.calls.Mode.TheVariants.{Exclusive};

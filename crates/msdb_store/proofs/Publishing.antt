@@ -5,7 +5,7 @@ use Rattle.std.specs.List.{AllByRecursion}
 use Rattle.std.proofs.lemmas.Bool.Decides.{nat_tests}
 use Rattle.std.proofs.lemmas.List.Sums.{sum_by-cons}
 use Rattle.fp_model.specs.Items.{with_item, with_items}
-use Rattle.fp_model.specs.LogText.{is_ascending, precedes}
+use Rattle.fp_model.specs.ItemTargets.{is_ascending, precedes}
 use Rattle.fp_model.specs.State.{is_below}
 use Rattle.fp_model.specs.Texts.{same_text}
 use Rattle.fp_model.specs.declared.definitions.MsdbDef.{MsdbDef}

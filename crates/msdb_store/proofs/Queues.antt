@@ -12,7 +12,7 @@ use Rattle.fld_calls.specs.declared.arguments.SettleFault.{SettleFault}
 use Rattle.fld_calls.specs.declared.arguments.SettleFault.TheVariants as fault
 use Rattle.fp_model.specs.CheckpointText.{IsMsdbOf}
 use Rattle.fp_model.specs.Items.{with_item, with_items}
-use Rattle.fp_model.specs.LogText.{is_ascending, precedes}
+use Rattle.fp_model.specs.ItemTargets.{is_ascending, precedes}
 use Rattle.fp_model.specs.Settle.{Applied, Becomes, Fails, Settled, Stands, VerifyFails, applied, settle_from}
 use Rattle.fp_model.specs.Texts.{same_text}
 use Rattle.fp_model.specs.declared.calls.Deferred.{Deferred}

@@ -3,7 +3,7 @@ use Rattle.std.specs.Prelude.{◌≡◌, ⊤, ℕ, List, [], ◌∷◌, map, cou
 use Rattle.std.specs.List.{AllByRecursion}
 use Rattle.fp_model.specs.FitCalls.{IsFitDeferred}
 use Rattle.fp_model.specs.Items.{with_items}
-use Rattle.fp_model.specs.LogText.{is_ascending}
+use Rattle.fp_model.specs.ItemTargets.{is_ascending}
 use Rattle.fp_model.specs.Settle.{Settled, Stands, VerifyFails}
 use Rattle.fp_model.specs.State.{key_of}
 use Rattle.fp_model.specs.WellFormed.{IsMsdbDef}

@@ -196,7 +196,6 @@ impl MsdbStore {
 }
 
 impl MsdbStore {
-    ghost use Rattle.fp_model.specs.Items.{with_item, with_items};
     ghost use Rattle.fp_model.specs.declared.definitions.MsdbDef.{MsdbDef as DefOf};
     ghost use Rattle.msdb_store.specs.Putting.{CanPut, KeepsRoom};
     ghost use Rattle.msdb_store.specs.Settling.{IsStaged, adds};

@@ -6,13 +6,12 @@ use Rattle.fp_model.specs.declared.database.Node.{Node, out-Node}
 use Rattle.fp_model.specs.declared.database.Node.TheFolds.{fold_out-Node}
 use Rattle.fp_model.specs.declared.database.Root.{Root}
 use Rattle.fp_model.specs.State.{ascend}
-use Rattle.fp_model.specs.Order.{key_in}
+use Rattle.fp_model.specs.Order.{key_in, is_child_of, numbers_from, child_types}
 use Rattle.fp_model.specs.Shape.{Seen, has_length, is_row, are_rows, seen_step, seen_as}
 use Rattle.std.specs.Option.{option_map_or}
 use Rattle.ci_space.specs.Element.{size_for}
 use Rattle.ci_overflow.specs.Faults.{FitsEmpty}
 use Rattle.fp_model.specs.declared.definitions.SegDef.{SegDef}
-use Rattle.fp_model.specs.Order.{is_child_of, numbers_from, child_types}
 use Rattle.fp_model.specs.WellFormed.{HavePlaces, EachFits, stored_length, in_fours, has_sequential}
 use Rattle.root_anchor.specs.Elements.{has_serial, serial_length, segment_length, content_length}
 use Rattle.root_anchor.specs.Stored.{AreTypes, is_newest, is_storable, are_storable}

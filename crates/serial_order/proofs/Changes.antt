@@ -17,7 +17,7 @@ use Rattle.fp_model.specs.declared.calls.Resource.TheVariants.{Segment, Anchor}
 use Rattle.fp_model.specs.declared.calls.SeqInsert.{SeqInsert}
 use Rattle.fp_model.specs.State.{Area, areas_of, has_anchor, roots_at, with_roots, change_key}
 use Rattle.fp_model.specs.Order.{root_key}
-use Rattle.fp_model.specs.Commit.{ends_at, with_dedb, with_ends, takes, with_anchors, types_of, with_item, with_dependent, numbered_at, with_insert, with_inserts, kept_from, in_anchors, purged_area, area_of_set, purged}
+use Rattle.fp_model.specs.Commit.{ends_at, with_dedb, with_ends, takes, with_anchors, types_of, with_newest, with_dependent, numbered_at, with_insert, with_inserts, kept_from, in_anchors, purged_area, area_of_set, purged}
 use Rattle.fp_model.specs.Product.{is_anchor_of_set}
 use Rattle.serial_order.specs.Laws.{RootsAre}
 use Rattle.serial_order.specs.ProductView.{seen_in}
@@ -78,13 +78,13 @@ module _ (dedb anchor : ℕ) where
   roots_with_insert defs db i ne = at (find (λ area. takes area i) (areas_of defs))
     where
       dependent : (item : SeqItem) → roots_at (with_dependent defs i item db) dedb anchor ≡ roots_at db dedb anchor
-      dependent item = roots_with_dedb i.dedb (λ d. record d { anchors = option_map_or (λ roots. slice_set d.anchors i.anchor (change_key (root_key (types_of defs i.dedb)) i.key (with_item item) roots)) (slice_get d.anchors i.anchor) d.anchors }) db
+      dependent item = roots_with_dedb i.dedb (λ d. record d { anchors = option_map_or (λ roots. slice_set d.anchors i.anchor (change_key (root_key (types_of defs i.dedb)) i.key (with_newest item) roots)) (slice_get d.anchors i.anchor) d.anchors }) db
           (λ d same. put d (slice_get d.anchors i.anchor) (λ e. ne (ap (λ (n : ℕ). Anchor n i.anchor) (sym same) ∙ ap (λ (n : ℕ). Anchor dedb n) (sym e))))
         where
           put : (d : Dedb) (o : Option (List Root)) → ¬ (anchor ≡ i.anchor)
-              → unwrap_or (slice_get (option_map_or (λ roots. slice_set d.anchors i.anchor (change_key (root_key (types_of defs i.dedb)) i.key (with_item item) roots)) o d.anchors) anchor) [] ≡ unwrap_or (slice_get d.anchors anchor) []
+              → unwrap_or (slice_get (option_map_or (λ roots. slice_set d.anchors i.anchor (change_key (root_key (types_of defs i.dedb)) i.key (with_newest item) roots)) o d.anchors) anchor) [] ≡ unwrap_or (slice_get d.anchors anchor) []
           put d None other = refl
-          put d (Some roots) other = ap (λ (o : Option (List Root)). unwrap_or o []) (get_set_other d.anchors i.anchor anchor (change_key (root_key (types_of defs i.dedb)) i.key (with_item item) roots) other)
+          put d (Some roots) other = ap (λ (o : Option (List Root)). unwrap_or o []) (get_set_other d.anchors i.anchor anchor (change_key (root_key (types_of defs i.dedb)) i.key (with_newest item) roots) other)
 
       at : (o : Option Area) → roots_at (option_map_or (λ area. numbered_at defs i area db) o db) dedb anchor ≡ roots_at db dedb anchor
       at None = refl

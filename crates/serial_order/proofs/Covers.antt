@@ -27,7 +27,7 @@ use Rattle.fp_model.specs.declared.calls.Ssa.{Ssa}
 use Rattle.fp_model.specs.Texts.{same_text}
 use Rattle.fp_model.specs.State.{key_of, segment_of, segment_after}
 use Rattle.fp_model.specs.Fsas.{fsas_in, list_on, all_blank}
-use Rattle.fp_model.specs.Order.{Shown, Place, Step, Edit, Replaces, Deletes, Inserts, is_sequential, key_in, edited}
+use Rattle.fp_model.specs.Order.{Occurrence, Place, Step, Edit, Replaces, Deletes, Inserts, is_sequential, key_in, edited}
 use Rattle.fp_model.specs.Workspace.{MsdbPosition, DedbPosition, no_msdb_position, Workspace, fresh}
 use Rattle.fp_model.specs.Answers.{Replied, answered, lettered, blank, unless_held}
 use Rattle.fp_model.specs.MsdbCalls as msdb
@@ -293,7 +293,7 @@ module _ (defs : Defs) (held : Resource → Option Mode) where
     either_dedb false x y p q = q refl
 
     -- a get
-    found_covers : (status : List ℕ) (g : Get) (hold : Bool) (o : Option (ℕ × Shown)) → Covers defs (dedb.found_or def number status g hold own o).own held
+    found_covers : (status : List ℕ) (g : Get) (hold : Bool) (o : Option (ℕ × Occurrence)) → Covers defs (dedb.found_or def number status g hold own o).own held
     found_covers status g hold None = refused_covers
     found_covers status g hold (Some found) = placed _ own c
 

@@ -22,7 +22,9 @@ use Rattle.fp_model.specs.declared.scripts.Statement.TheFolds.{fold-roll-Stateme
 use Rattle.fp_model.specs.Fsas.{Fsa, list_text}
 use Rattle.fp_model.specs.State.{key_length}
 use Rattle.fp_model.specs.Texts.{padded}
-use Rattle.fp_model.specs.Programs.{◌>>=◌, Env, Way, Goes, Leaves, Ends, Ask, Asks, Replies, Rolls, Layout, layout_of, fitted, fitted_key, or_rolls, goes_on, in_order, loops_on, times, called, run, run_step, ended, ask, at_top, text_of, key_text, fsas_given, set_text, chosen, reply_text, get_call, fld_call, isrt_call, repl_call, ssas_of, new_type, empty_segment, filled, shown_on, script_of}
+use Rattle.fp_model.specs.Values.{◌>>=◌, Layout, layout_of, fitted, fitted_key, empty_segment}
+use Rattle.fp_model.specs.Operands.{Env, at_top, text_of, key_text, fsas_given, set_text, chosen, reply_text, get_call, fld_call, isrt_call, repl_call, ssas_of, new_type, filled, shown_on}
+use Rattle.fp_model.specs.Asking.{Way, Goes, Leaves, Ends, Ask, Asks, Replies, Rolls, or_rolls, goes_on, in_order, loops_on, times, called, run, run_step, ended, ask, script_of}
 use Rattle.fp_model.specs.Product.{asked_by}
 use Rattle.serial_order.specs.ProductView.{is_whole, is_call}
 use Rattle.serial_order.proofs.Lists.{some_is, none_is_not_some}

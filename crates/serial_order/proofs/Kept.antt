@@ -8,14 +8,14 @@ use Rattle.fp_model.specs.declared.calls.Mode.{Mode}
 use Rattle.fp_model.specs.declared.calls.Mode.TheVariants.{Exclusive}
 use Rattle.fp_model.specs.declared.calls.Resource.{Resource}
 use Rattle.fp_model.specs.declared.log.Entry.{Entry}
-use Rattle.fp_model.specs.Programs.{Asks}
+use Rattle.fp_model.specs.Asking.{Asks}
 use Rattle.fp_model.specs.Rules.{Rules}
 use Rattle.fp_model.specs.Serial.{begun, goes, after_call}
-use Rattle.fp_model.specs.History.{NeverFalls, Comes, History}
+use Rattle.fp_model.specs.SerialHistory.{NeverFalls, Comes, LeadsOn}
 use Rattle.fp_model.specs.Waiting.{Lock, held_as, waits, IsCycle, without_region, with_request, is_blocked}
-use Rattle.fp_model.specs.Machine.{Transaction, Region, Idle, Active, Machine, region_at, with_region, with_entry, ended_with}
-use Rattle.fp_model.specs.Turns.{noted, with_answer, transaction_of}
-use Rattle.fp_model.specs.Frames.{KeepsRegions, KeepsEntries}
+use Rattle.fp_model.specs.Machine.{Transaction, Region, Idle, Active, Machine, region_at, with_region, with_entry_of, ended_with}
+use Rattle.fp_model.specs.Turns.{noted, with_answer, begun_in}
+use Rattle.fp_model.specs.Frames.{KeepsRegions, KeepsHistory}
 use Rattle.fp_model.proofs.HistoryLemmas.{join, states_counted}
 use Rattle.serial_order.specs.Laws.{View, IsExclusive, IsCovered, Laws}
 use Rattle.serial_order.specs.Kept.{IsRequest, GoesOn, Kept}
@@ -61,10 +61,10 @@ module _ (rules : Rules) (view : View) where
   counted m k = let e = states_counted rules [] rules.start m.entries m.past m.now k.history in omega (arith, e)
 
   -- a machine that is the same where it counts
-  pub alike : (m m2 : Machine) → m2.queues ≡ m.queues → KeepsRegions m m2 → KeepsEntries m m2 → Kept rules view m → Kept rules view m2
+  pub alike : (m m2 : Machine) → m2.queues ≡ m.queues → KeepsRegions m m2 → KeepsHistory m m2 → Kept rules view m → Kept rules view m2
   alike m m2 queues regions entries k = record {
-    history = subst (λ (q : List Entry). History rules [] rules.start q m2.past m2.now) (sym entries.entries)
-        (subst (λ (q : List Db). History rules [] rules.start m.entries q m2.now) (sym entries.past) (subst (λ (q : Db). History rules [] rules.start m.entries m.past q) (sym entries.now) k.history));
+    history = subst (λ (q : List Entry). LeadsOn rules [] rules.start q m2.past m2.now) (sym entries.entries)
+        (subst (λ (q : List Db). LeadsOn rules [] rules.start m.entries q m2.now) (sym entries.past) (subst (λ (q : Db). LeadsOn rules [] rules.start m.entries m.past q) (sym entries.now) k.history));
     queued = λ messages message c d. k.queued messages message (subst (λ (q : List (List Message)). Contains q messages) queues c) d;
     apart = rw regions.locks k.apart;
     sound = λ region t stands.
@@ -101,8 +101,8 @@ module _ (rules : Rules) (view : View) where
 
   -- a region begins
   pub begins_kept : Laws rules view → (m : Machine) (place : ℕ) (message : Message) → Kept rules view m → IsRequest rules message
-      → Kept rules view (with_region (suc place) (Active (transaction_of rules m message)) m)
-  begins_kept laws m place message k is = put_kept m place (transaction_of rules m message) k (record {
+      → Kept rules view (with_region (suc place) (Active (begun_in rules m message)) m)
+  begins_kept laws m place message k is = put_kept m place (begun_in rules m message) k (record {
     is_request = is;
     comes_to = λ db states same shown n rest. ap (λ (j : ℕ). goes rules db states message j (begun rules) rest) (omega arith);
     few = omega arith;
@@ -164,7 +164,7 @@ module _ (rules : Rules) (view : View) where
   -- ---- entries
 
   -- one entry more at the end
-  one_more : (m : Machine) (e : Entry) (next : Db) → Kept rules view m → Comes rules m.past m.now e next → History rules [] rules.start (m.entries ++ e ∷ []) (m.past ++ m.now ∷ []) next
+  one_more : (m : Machine) (e : Entry) (next : Db) → Kept rules view m → Comes rules m.past m.now e next → LeadsOn rules [] rules.start (m.entries ++ e ∷ []) (m.past ++ m.now ∷ []) next
   one_more m e next k comes = join rules [] rules.start m.entries (e ∷ []) m.past m.now (m.past ++ m.now ∷ []) next k.history (next, comes, (refl, refl))
 
   -- Another's entry leaves what is so of a transaction, if it changes nothing that this one holds.
@@ -206,7 +206,7 @@ module _ (rules : Rules) (view : View) where
   pub written_kept : (m : Machine) (e : Entry) (next : Db) → Kept rules view m
       → Comes rules m.past m.now e next
       → ((s : ℕ) (resource : Resource) → ¬ (held_as m.locks s resource ≡ None) → view.seen resource next ≡ view.seen resource m.now)
-      → Kept rules view (with_entry e next m)
+      → Kept rules view (with_entry_of e next m)
   written_kept m e next k comes leaves = record {
     history = one_more m e next k comes;
     queued = k.queued;

@@ -9,7 +9,7 @@ use Rattle.std.proofs.lemmas.Option.{slice_get_within, get_or_from_slice_get, sl
 use Rattle.std.proofs.Math.Seq.{get_or-append_seam}
 use Rattle.fp_model.specs.declared.database.Db.{Db}
 use Rattle.fp_model.specs.Serial.{state_at}
-use Rattle.fp_model.specs.History.{NeverFalls}
+use Rattle.fp_model.specs.SerialHistory.{NeverFalls}
 
 -- ---- numbers and tests
 

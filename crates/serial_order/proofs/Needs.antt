@@ -21,8 +21,8 @@ use Rattle.fp_model.specs.Texts.{is_printable}
 use Rattle.fp_model.specs.Messages.{MessageFault, TooLong, NotAscii, with_fair_text, message_by, message_of, terminal_of, tran_of, message_text}
 use Rattle.fp_model.specs.Settle.{resources}
 use Rattle.fp_model.specs.Commit.{lacking}
-use Rattle.fp_model.specs.Order.{Shown, Place}
-use Rattle.fp_model.specs.Programs.{Asks, Replies, ask, full_cost, script_of}
+use Rattle.fp_model.specs.Order.{Occurrence, Place}
+use Rattle.fp_model.specs.Asking.{Asks, Replies, ask, full_cost, script_of}
 use Rattle.fp_model.specs.Product.{if_script, request_of, asked_by, cost_of}
 use Rattle.fp_model.specs.Workspace.{Workspace}
 use Rattle.fp_model.specs.Answers.{Needed, serves, unless_held}
@@ -37,7 +37,7 @@ use Rattle.serial_order.proofs.Replies.{exclusive_serves, unless_some}
 -- ---- locks
 
 -- the first anchor without its lock
-first_is_unlocked : (is_locked : ℕ → Bool) (look : ℕ → Option Shown) (anchors : List ℕ) (anchor : ℕ) → dedb.first_unlocked is_locked look anchors ≡ Some anchor → is_locked anchor ≡ false
+first_is_unlocked : (is_locked : ℕ → Bool) (look : ℕ → Option Occurrence) (anchors : List ℕ) (anchor : ℕ) → dedb.first_unlocked is_locked look anchors ≡ Some anchor → is_locked anchor ≡ false
 first_is_unlocked is_locked look [] anchor e = absurd (none_is_not_some anchor e)
 first_is_unlocked is_locked look (a ∷ rest) anchor e = at (is_locked a) refl (is_some (look a)) e (λ f. first_is_unlocked is_locked look rest anchor f)
   where

@@ -7,9 +7,9 @@ use Rattle.fp_model.specs.declared.calls.Call.{Call}
 use Rattle.fp_model.specs.declared.calls.Message.{Message}
 use Rattle.fp_model.specs.declared.calls.Mode.{Mode}
 use Rattle.fp_model.specs.declared.calls.Resource.{Resource}
-use Rattle.fp_model.specs.Programs.{Ask, Asks}
+use Rattle.fp_model.specs.Asking.{Ask, Asks}
 use Rattle.fp_model.specs.Rules.{Rules}
-use Rattle.fp_model.specs.Serial.{Ended, Part, state_at, with_reply, after_call, begun, called, asked, goes, serial_run}
+use Rattle.fp_model.specs.Serial.{Alone, Point, state_at, with_reply, after_call, begun, called, asked, goes, serial_run}
 use Rattle.fp_model.specs.Machine.{Transaction}
 use Rattle.fp_model.specs.Turns.{noted}
 use Rattle.serial_order.specs.Laws.{View, IsSame, Laws}
@@ -22,7 +22,7 @@ one_more xs x n = let e : length (xs ++ x ∷ []) ≡ length xs + 1 = length-app
 
 module _ (rules : Rules) where
   -- one call more, alone
-  steps : (message : Message) (now db : Db) (states : List Db) (place : ℕ) (part : Part) (notes : List ℕ) (call : Call) (b : Bool)
+  steps : (message : Message) (now db : Db) (states : List Db) (place : ℕ) (part : Point) (notes : List ℕ) (call : Call) (b : Bool)
       → rules.looks part.own call ≡ b
       → rules.ask message part.answers ≡ Asks call
       → ((shown : Db) → (rules.looks part.own call ≡ true → shown ≡ now) → rules.reply_to db shown part.own call ≡ rules.reply_to now now part.own call)
@@ -34,12 +34,12 @@ module _ (rules : Rules) where
       ∙ before (suc n) (place ∷ rest)
       ∙ ap (λ (a : Ask). asked rules db states message a part (place ∷ rest) (goes rules db states message n)) asks
       ∙ ap (λ (b : Bool). called rules db states message b part call (place ∷ rest) (goes rules db states message n)) looks
-      ∙ ap (λ (p : Part). goes rules db states message n p rest) (ap (with_reply part) (same (state_at rules.start states place) (λ h. shown)))
+      ∙ ap (λ (p : Point). goes rules db states message n p rest) (ap (with_reply part) (same (state_at rules.start states place) (λ h. shown)))
   steps message now db states place part notes call false looks asks same shown before n rest =
       before (suc n) rest
       ∙ ap (λ (a : Ask). asked rules db states message a part rest (goes rules db states message n)) asks
       ∙ ap (λ (b : Bool). called rules db states message b part call rest (goes rules db states message n)) looks
-      ∙ ap (λ (p : Part). goes rules db states message n p rest) (ap (with_reply part) (same db (λ h. absurd (true_is_not_false (sym h ∙ looks)))))
+      ∙ ap (λ (p : Point). goes rules db states message n p rest) (ap (with_reply part) (same db (λ h. absurd (true_is_not_false (sym h ∙ looks)))))
 
   -- a call that is answered keeps what is so of its transaction
   pub call_comes_to : (view : View) (laws : Laws rules view) (past : List Db) (now : Db) (held : Resource → Option Mode) (t : Transaction) (call : Call)
@@ -59,7 +59,7 @@ module _ (rules : Rules) where
       (g.comes_to db states same shown) n rest
 
   -- How it ends now is how it ends alone.
-  pub ends_alone : (view : View) (past : List Db) (now : Db) (held : Resource → Option Mode) (t : Transaction) (ended : Ended)
+  pub ends_alone : (view : View) (past : List Db) (now : Db) (held : Resource → Option Mode) (t : Transaction) (ended : Alone)
       → GoesOn rules view past now held t
       → ((n : ℕ) → goes rules now (past ++ now ∷ []) t.message (suc n) t.part [] ≡ ended)
       → serial_run rules now (past ++ now ∷ []) t.message t.notes ≡ ended

@@ -20,7 +20,7 @@ use Rattle.fp_model.specs.declared.calls.Resource.TheVariants.{Segment, Anchor}
 use Rattle.fp_model.specs.declared.calls.Ssa.{Ssa}
 use Rattle.fp_model.specs.declared.scripts.Script.{Script}
 use Rattle.fp_model.specs.State.{Area}
-use Rattle.fp_model.specs.Order.{Shown, Place, first_admitted}
+use Rattle.fp_model.specs.Order.{Occurrence, Place, first_admitted}
 use Rattle.fp_model.specs.Workspace.{Workspace}
 use Rattle.fp_model.specs.Answers.{serves}
 use Rattle.fp_model.specs.DedbCalls as dedb
@@ -62,7 +62,7 @@ seen_with_ends defs area ends db (Segment msdb key) = refl
 seen_with_ends defs area ends db (Anchor dedb anchor) = ap (λ (roots : List Root). RootsAre roots) (roots_with_ends dedb anchor area ends db)
 
 -- a search over like looks
-unlocked_alike : (is_locked : ℕ → Bool) (look look2 : ℕ → Option Shown) (anchors : List ℕ) → ((anchor : ℕ) → look2 anchor ≡ look anchor) → dedb.first_unlocked is_locked look2 anchors ≡ dedb.first_unlocked is_locked look anchors
+unlocked_alike : (is_locked : ℕ → Bool) (look look2 : ℕ → Option Occurrence) (anchors : List ℕ) → ((anchor : ℕ) → look2 anchor ≡ look anchor) → dedb.first_unlocked is_locked look2 anchors ≡ dedb.first_unlocked is_locked look anchors
 unlocked_alike is_locked look look2 [] same = refl
 unlocked_alike is_locked look look2 (a ∷ rest) same = rw (same a, unlocked_alike is_locked look look2 rest same) refl
 
@@ -99,7 +99,7 @@ module _ (area : Area) (ends : AreaEnds) (db : Db) (own : Workspace) where
     needs_with_ends = target_need (database_of c) (database_of c - length defs.msdbs) (slice_get defs.msdbs (database_of c))
 
   -- a region that holds all needs no lock
-  none_unlocked : (look : ℕ → Option Shown) (anchors : List ℕ) → dedb.first_unlocked (λ (anchor : ℕ). true) look anchors ≡ None
+  none_unlocked : (look : ℕ → Option Occurrence) (anchors : List ℕ) → dedb.first_unlocked (λ (anchor : ℕ). true) look anchors ≡ None
   none_unlocked look [] = refl
   none_unlocked look (a ∷ rest) = by (is_some (look a)) (none_unlocked look rest)
     where

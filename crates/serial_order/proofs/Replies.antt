@@ -21,7 +21,7 @@ use Rattle.fp_model.specs.declared.calls.Resource.TheVariants.{Segment, Anchor}
 use Rattle.fp_model.specs.declared.calls.Ssa.{Ssa}
 use Rattle.fp_model.specs.Texts.{same_text}
 use Rattle.fp_model.specs.State.{key_of, segment_of, roots_at}
-use Rattle.fp_model.specs.Order.{Shown, Place, Edit, Replaces, Deletes, first_admitted, edited, is_sequential, key_in}
+use Rattle.fp_model.specs.Order.{Occurrence, Place, Edit, Replaces, Deletes, first_admitted, edited, is_sequential, key_in}
 use Rattle.fp_model.specs.Workspace.{Workspace}
 use Rattle.fp_model.specs.Answers.{Replied, Needed, answered, blank, serves, unless_held}
 use Rattle.fp_model.specs.MsdbCalls as msdb
@@ -120,14 +120,14 @@ module _ (def : MsdbDef) (number : ℕ) (held : Resource → Option Mode) (own :
 -- ---- data entry databases
 
 -- a search that comes to no anchor without its lock finds the same where the looks at those locked are
-pub found_alike : (is_locked : ℕ → Bool) (look look2 : ℕ → Option Shown) (anchors : List ℕ)
+pub found_alike : (is_locked : ℕ → Bool) (look look2 : ℕ → Option Occurrence) (anchors : List ℕ)
     → dedb.first_unlocked is_locked look anchors ≡ None
     → ((anchor : ℕ) → is_locked anchor ≡ true → look2 anchor ≡ look anchor)
     → dedb.first_found look2 anchors ≡ dedb.first_found look anchors
 found_alike is_locked look look2 [] none same = refl
 found_alike is_locked look look2 (a ∷ rest) none same = at (is_locked a) refl (look a) refl none (λ e. found_alike is_locked look look2 rest e same)
   where
-    at : (b : Bool) → is_locked a ≡ b → (o : Option Shown) → look a ≡ o
+    at : (b : Bool) → is_locked a ≡ b → (o : Option Occurrence) → look a ≡ o
         → (if not b then Some a else if is_some o then None else dedb.first_unlocked is_locked look rest) ≡ None
         → (dedb.first_unlocked is_locked look rest ≡ None → dedb.first_found look2 rest ≡ dedb.first_found look rest)
         → option_map_or (λ s. Some (a, s)) (look2 a) (dedb.first_found look2 rest) ≡ option_map_or (λ s. Some (a, s)) (look a) (dedb.first_found look rest)

@@ -10,7 +10,7 @@ use Rattle.fp_model.specs.declared.calls.Message.{Message}
 use Rattle.fp_model.specs.Spellings.{be16}
 use Rattle.fp_model.specs.Fsas.{list_text}
 use Rattle.fp_model.specs.Answers.{answered, showing, lettered, blank}
-use Rattle.fp_model.specs.Programs.{Asks, Replies, ask}
+use Rattle.fp_model.specs.Asking.{Asks, Replies, ask}
 use Rattle.fp_model.proofs.ProgramLemmas.{run_roll}
 use Rattle.serial_order.specs.Sample.{named, sample_defs, changing, crossing, verifying, upgrading}
 

@@ -15,10 +15,11 @@ use Rattle.fp_model.specs.Settle.{settle_from}
 use Rattle.fp_model.specs.Answers.{Needed}
 use Rattle.fp_model.specs.Calls.{reply_to, looks_unheld, need_of}
 use Rattle.fp_model.specs.Commit.{settlement, lacking, purged}
-use Rattle.fp_model.specs.Programs.{Ask, Asks, Replies}
+use Rattle.fp_model.specs.Asking.{Ask, Asks, Replies}
 use Rattle.fp_model.specs.Waiting.{without_region, with_request, WaitsAlong, IsCycle}
-use Rattle.fp_model.specs.Machine.{Machine, Transaction, Active, taken_in, with_region, with_entry, entry_here, entry_of, ended_with, sealed_once}
-use Rattle.fp_model.specs.Turns.{Answers, Gains, Waits, Closes, Commits_with, Fails_verify, Runs, Does, begins_in, with_answer, transaction_of, as_lock, asks, wanted}
+use Rattle.fp_model.specs.Machine.{Machine, Transaction, Active, taken_in, with_region, with_entry_of, entry_here, entry_of, ended_with, sealed_once}
+use Rattle.fp_model.specs.Turns.{Answers, Gains, Waits, Closes, Commits_with, Fails_verify, Does, begins_in, with_answer, begun_in, as_lock, asks, wanted}
+use Rattle.fp_model.specs.Runs.{Runs}
 use Rattle.serial_order.specs.Sample.{sample_defs, sample_rules, at_start, the_events, no_faults, the_entries}
 use Rattle.serial_order.proofs.Lists.{contains_nothing, contains_first, contains_later, contains_cases}
 use Rattle.serial_order.proofs.SampleAsks.{to_change, to_cross, to_verify, to_upgrade, hold_of, change_of_b, verify_of_b, root_get, change_asks_a, change_asks_b, change_asks_repl, change_replies, cross_asks_b, cross_asks_a, verify_asks, verify_replies, upgrade_looks, upgrade_holds, upgrade_replies}
@@ -59,20 +60,20 @@ abbrev m4 : Machine
 m4 = taken_in sample_rules m3
 
 abbrev change0 : Transaction
-change0 = transaction_of sample_rules m4 to_change
+change0 = begun_in sample_rules m4 to_change
 
 -- three regions begin
 abbrev m5 : Machine
 m5 = begins_in sample_rules m4 1 (to_change ∷ to_cross ∷ to_verify ∷ to_upgrade ∷ [])
 
 abbrev cross0 : Transaction
-cross0 = transaction_of sample_rules m5 to_cross
+cross0 = begun_in sample_rules m5 to_cross
 
 abbrev m6 : Machine
 m6 = begins_in sample_rules m5 2 (to_cross ∷ to_verify ∷ to_upgrade ∷ [])
 
 abbrev verify0 : Transaction
-verify0 = transaction_of sample_rules m6 to_verify
+verify0 = begun_in sample_rules m6 to_verify
 
 abbrev m7 : Machine
 m7 = begins_in sample_rules m6 3 (to_verify ∷ to_upgrade ∷ [])
@@ -136,7 +137,7 @@ abbrev m20 : Machine
 m20 = ended_with 3 (entry_of verify1 (outcome.Verify 0 0 (codes "1")) [] verify1.notes []) m19.now m19
 
 abbrev upgrade0 : Transaction
-upgrade0 = transaction_of sample_rules m20 to_upgrade
+upgrade0 = begun_in sample_rules m20 to_upgrade
 
 -- the first region takes the fourth line, shares the anchor and holds it
 abbrev m21 : Machine
@@ -165,7 +166,7 @@ m26 = ended_with 1 (entry_of upgrade2 outcome.Done (codes "HELD") upgrade2.notes
 
 -- the area is purged, and the entries are sealed
 abbrev m27 : Machine
-m27 = with_entry (entry_here m26 (outcome.Purge 3 1) [] []) changed m26
+m27 = with_entry_of (entry_here m26 (outcome.Purge 3 1) [] []) changed m26
 
 abbrev m28 : Machine
 m28 = sealed_once sample_rules m27

@@ -17,13 +17,14 @@ use Rattle.fp_model.specs.declared.log.Outcome.{Outcome}
 use Rattle.fp_model.specs.declared.log.Outcome.TheVariants as outcome
 use Rattle.fp_model.specs.Answers.{Needed}
 use Rattle.fp_model.specs.Commit.{Settlement, Commits, FailsVerify, FillsPart}
-use Rattle.fp_model.specs.Programs.{Ask, Asks, Replies, Rolls}
+use Rattle.fp_model.specs.Asking.{Ask, Asks, Replies, Rolls}
 use Rattle.fp_model.specs.Rules.{Rules}
-use Rattle.fp_model.specs.Serial.{Ended, Done, Roll, VerifyFailed, SeqFull, asked, goes, settled_as}
-use Rattle.fp_model.specs.History.{EndsAlone, Comes, History}
+use Rattle.fp_model.specs.Serial.{Alone, Done, Roll, VerifyFailed, SeqFull, asked, goes, settled_as}
+use Rattle.fp_model.specs.SerialHistory.{EndsAlone, Comes, LeadsOn}
 use Rattle.fp_model.specs.Waiting.{Lock, held_as}
-use Rattle.fp_model.specs.Machine.{Transaction, Region, Idle, Active, Machine, at_rest, region_at, entry_of, entry_here, ended_with, next_line, without_line, is_among, terminal_in, queued_at, with_message, with_unknown, with_line, taken_in}
-use Rattle.fp_model.specs.Turns.{Environment, NoFault, DeviceFault, OutOfMemory, Act, Answers, Gains, Waits, Closes, Commits_with, Fails_verify, Fills_part, Rolls_back, asks, wanted, as_lock, Does, queue_of_region, begins_in, RegionTurn, is_area_held, PurgeTurn, Turn, Runs}
+use Rattle.fp_model.specs.Machine.{Transaction, Region, Idle, Active, Machine, at_rest, region_at, entry_of, entry_here, ended_with, next_line, without_line, is_among, terminal_in, queued_at, with_message, with_refusal, with_line, taken_in}
+use Rattle.fp_model.specs.Turns.{Environment, NoFault, DeviceFault, OutOfMemory, Act, Answers, Gains, Waits, Closes, Commits_with, Fails_verify, Fills_part, Rolls_back, asks, wanted, as_lock, Does, queue_of_region, begins_in, RegionTurn, is_area_held, PurgeTurn, Turn}
+use Rattle.fp_model.specs.Runs.{Runs}
 use Rattle.fp_model.proofs.FrameLemmas.{turn_keeps as turn_leaves}
 use Rattle.serial_order.specs.Laws.{View, Laws}
 use Rattle.serial_order.specs.Kept.{IsRequest, GoesOn, Kept, IsAtRest}
@@ -74,7 +75,7 @@ module _ (rules : Rules) (view : View) (laws : Laws rules view) where
 
   module _ (m : Machine) (place : ℕ) (t : Transaction) (k : Kept rules view m) (g : GoesOn rules view m.past m.now (held_as m.locks (suc place)) t) where
     -- how it ends is how it ends alone
-    ends : (outcome : Outcome) (reply : List ℕ) (items : List Item) (ended : Ended)
+    ends : (outcome : Outcome) (reply : List ℕ) (items : List Item) (ended : Alone)
         → ((n : ℕ) → goes rules m.now (m.past ++ m.now ∷ []) t.message (suc n) t.part [] ≡ ended)
         → EndsAlone rules m.past m.now (entry_of t outcome reply t.notes items) ended
     ends outcome reply items ended so = record { message = t.message; is_request = g.is_request; in_order = g.in_order; ends = ends_alone rules view m.past m.now (held_as m.locks (suc place)) t ended g so }
@@ -168,7 +169,7 @@ module _ (rules : Rules) (view : View) (laws : Laws rules view) where
       ]
 
   -- a line that asks for nothing
-  unknown_kept : (m : Machine) (line : List ℕ) → rules.request_of line ≡ None → Kept rules view m → Kept rules view (with_unknown rules line m)
+  unknown_kept : (m : Machine) (line : List ℕ) → rules.request_of line ≡ None → Kept rules view m → Kept rules view (with_refusal rules line m)
   unknown_kept m line is k =
       let busier : Machine = record m { busy = m.busy ++ terminal_in (rules.terminal_of line) } in
       let same : Kept rules view busier = record { history = k.history; queued = k.queued; apart = k.apart; sound = k.sound; no_cycle = k.no_cycle } in
@@ -180,11 +181,11 @@ module _ (rules : Rules) (view : View) (laws : Laws rules view) where
   line_kept : (m : Machine) (line : List ℕ) → Kept rules view m → Kept rules view (with_line rules line m)
   line_kept m line k = either (list_any (is_among m.busy) (terminal_in (rules.terminal_of line)))
     where
-      requested : (o : Option Message) → rules.request_of line ≡ o → Kept rules view (option_map_or (λ message. with_message rules message m) o (with_unknown rules line m))
+      requested : (o : Option Message) → rules.request_of line ≡ o → Kept rules view (option_map_or (λ message. with_message rules message m) o (with_refusal rules line m))
       requested None is = unknown_kept m line is k
       requested (Some message) is = message_kept m message (subst (λ (q : List ℕ). rules.request_of q ≡ Some message) (sym (laws.lines line message is)) is) k
 
-      either : (b : Bool) → Kept rules view (if b then record m { held = Some line } else option_map_or (λ message. with_message rules message m) (rules.request_of line) (with_unknown rules line m))
+      either : (b : Bool) → Kept rules view (if b then record m { held = Some line } else option_map_or (λ message. with_message rules message m) (rules.request_of line) (with_refusal rules line m))
       either true = record { history = k.history; queued = k.queued; apart = k.apart; sound = k.sound; no_cycle = k.no_cycle }
       either false = requested (rules.request_of line) refl
 
@@ -243,7 +244,7 @@ module _ (rules : Rules) (view : View) (laws : Laws rules view) where
   run_kept m (e ∷ es) (v ∷ vs) m2 runs k = run_kept runs.0 es vs m2 runs.2 (turn_kept m e v runs.0 runs.1 k)
 
 -- a machine at rest
-pub at_rest_rests : (rules : Rules) (lines : List (List ℕ)) (entries : List Entry) (past : List Db) (now : Db) → History rules [] rules.start entries past now → IsAtRest rules (at_rest rules lines entries past now)
+pub at_rest_rests : (rules : Rules) (lines : List (List ℕ)) (entries : List Entry) (past : List Db) (now : Db) → LeadsOn rules [] rules.start entries past now → IsAtRest rules (at_rest rules lines entries past now)
 at_rest_rests rules lines entries past now history = record {
   history = history;
   queued = λ messages message c d. absurd (contains_nothing message (subst (λ (q : List Message). Contains q message) (replicated rules.group_count [] messages c) d));

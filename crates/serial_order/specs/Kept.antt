@@ -7,7 +7,7 @@ use Rattle.fp_model.specs.declared.calls.Mode.TheVariants.{Share}
 use Rattle.fp_model.specs.declared.calls.Resource.{Resource}
 use Rattle.fp_model.specs.Rules.{Rules}
 use Rattle.fp_model.specs.Serial.{state_at, begun, goes}
-use Rattle.fp_model.specs.History.{NeverFalls, History}
+use Rattle.fp_model.specs.SerialHistory.{NeverFalls, LeadsOn}
 use Rattle.fp_model.specs.Waiting.{Lock, held_as, waits, IsCycle}
 use Rattle.fp_model.specs.Machine.{Transaction, Active, Machine, region_at}
 use Rattle.serial_order.specs.Laws.{View, IsCovered, IsSame}
@@ -43,7 +43,7 @@ HaveNoCycle requests locks = (cycle : List ℕ) → ¬ IsCycle (waits requests l
 
 -- The entries are a serial history of the machine's states; active regions are where they would be alone; locks and waits are sound.
 pub record Kept (rules : Rules) (view : View) (m : Machine) : Type 0 where
-  pub history : History rules [] rules.start m.entries m.past m.now
+  pub history : LeadsOn rules [] rules.start m.entries m.past m.now
   pub queued : AreRequests rules m.queues
   pub apart : AreApart m.locks
   pub sound : (region : ℕ) (t : Transaction) → region_at m region ≡ Some (Active t) → GoesOn rules view m.past m.now (held_as m.locks region) t
@@ -51,7 +51,7 @@ pub record Kept (rules : Rules) (view : View) (m : Machine) : Type 0 where
 
 -- The entries are a serial history of the machine's states, no region is active, and nothing is locked.
 pub record IsAtRest (rules : Rules) (m : Machine) : Type 0 where
-  pub history : History rules [] rules.start m.entries m.past m.now
+  pub history : LeadsOn rules [] rules.start m.entries m.past m.now
   pub queued : AreRequests rules m.queues
   pub no_active : (region : ℕ) (t : Transaction) → ¬ (region_at m region ≡ Some (Active t))
   pub no_locks : m.locks ≡ []

@@ -12,7 +12,7 @@ use Rattle.fp_model.specs.declared.calls.Resource.{Resource}
 use Rattle.fp_model.specs.Workspace.{Workspace}
 use Rattle.fp_model.specs.Answers.{Needed}
 use Rattle.fp_model.specs.Commit.{Commits}
-use Rattle.fp_model.specs.Programs.{Asks}
+use Rattle.fp_model.specs.Asking.{Asks}
 use Rattle.fp_model.specs.Rules.{Rules}
 
 -- What a state has at a resource: the segment of a key, if it is there, or the roots of an anchor.

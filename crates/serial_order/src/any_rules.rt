@@ -4,9 +4,10 @@ ghost use Rattle.fp_model.specs.declared.database.Db.{Db};
 ghost use Rattle.fp_model.specs.declared.events.Event.{Event};
 ghost use Rattle.fp_model.specs.declared.log.Entry.{Entry};
 ghost use Rattle.fp_model.specs.Rules.{Rules};
-ghost use Rattle.fp_model.specs.History.{History, IsSerialHistory};
+ghost use Rattle.fp_model.specs.SerialHistory.{LeadsOn, IsSerialHistory};
 ghost use Rattle.fp_model.specs.Machine.{Machine, at_rest};
-ghost use Rattle.fp_model.specs.Turns.{Environment, Turn, Runs};
+ghost use Rattle.fp_model.specs.Turns.{Environment, Turn};
+ghost use Rattle.fp_model.specs.Runs.{Runs};
 ghost use Rattle.serial_order.specs.Laws.{View, Laws};
 ghost use Rattle.serial_order.specs.Kept.{AreApart, HaveNoCycle, IsAtRest, Kept};
 
@@ -17,7 +18,7 @@ pub fn every_run_is_serial()
         → Laws rules view
         → IsAtRest rules m
         → Runs rules m events environments m2
-        → History rules [] rules.start m2.entries m2.past m2.now }
+        → LeadsOn rules [] rules.start m2.entries m2.past m2.now }
     ensures serial { (rules : Rules) (view : View) (m : Machine) (events : List Event) (environments : List Environment) (m2 : Machine)
         → Laws rules view
         → IsAtRest rules m
@@ -55,6 +56,6 @@ pub fn a_rest_is_kept()
         → IsAtRest rules m
         → Kept rules view m }
     ensures rest { (rules : Rules) (lines : List (List ℕ)) (entries : List Entry) (past : List Db) (now : Db)
-        → History rules [] rules.start entries past now
+        → LeadsOn rules [] rules.start entries past now
         → IsAtRest rules (at_rest rules lines entries past now) }
 {}

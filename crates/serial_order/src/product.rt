@@ -16,12 +16,13 @@ ghost use Rattle.fp_model.specs.State.{Area};
 ghost use Rattle.fp_model.specs.Workspace.{Workspace, fresh};
 ghost use Rattle.fp_model.specs.Calls.{reply_to, looks_unheld, need_of};
 ghost use Rattle.fp_model.specs.Commit.{Commits, settlement, lacking, purged, with_ends};
-ghost use Rattle.fp_model.specs.Programs.{Asks};
+ghost use Rattle.fp_model.specs.Asking.{Asks};
 ghost use Rattle.fp_model.specs.WellFormed.{IsMsdbDef, AreDefs};
 ghost use Rattle.fp_model.specs.Product.{is_anchor_of_set, asked_by, rules_of};
-ghost use Rattle.fp_model.specs.History.{History, IsSerialHistory};
+ghost use Rattle.fp_model.specs.SerialHistory.{LeadsOn, IsSerialHistory};
 ghost use Rattle.fp_model.specs.Machine.{Machine};
-ghost use Rattle.fp_model.specs.Turns.{Environment, Turn, Runs};
+ghost use Rattle.fp_model.specs.Turns.{Environment, Turn};
+ghost use Rattle.fp_model.specs.Runs.{Runs};
 ghost use Rattle.serial_order.specs.Laws.{IsCovered, IsSame, Laws};
 ghost use Rattle.serial_order.specs.ProductView.{seen_in, is_call, view_of};
 ghost use Rattle.serial_order.specs.Kept.{AreApart, HaveNoCycle, IsAtRest, Kept};
@@ -89,7 +90,7 @@ pub fn every_run_of_the_system_is_serial()
         → AreDefs defs
         → IsAtRest (rules_of defs scripts) m
         → Runs (rules_of defs scripts) m events environments m2
-        → History (rules_of defs scripts) [] (rules_of defs scripts).start m2.entries m2.past m2.now }
+        → LeadsOn (rules_of defs scripts) [] (rules_of defs scripts).start m2.entries m2.past m2.now }
     ensures serial { (defs : Defs) (scripts : List Script) (m : Machine) (events : List Event) (environments : List Environment) (m2 : Machine)
         → AreDefs defs
         → IsAtRest (rules_of defs scripts) m

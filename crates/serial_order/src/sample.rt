@@ -1,7 +1,7 @@
 //! One run, so that the laws speak of something.
 ghost use Rattle.std.specs.Prelude.{◌≡◌};
 ghost use Rattle.fp_model.specs.Machine.{Machine};
-ghost use Rattle.fp_model.specs.Turns.{Runs};
+ghost use Rattle.fp_model.specs.Runs.{Runs};
 ghost use Rattle.serial_order.specs.Sample.{sample_rules, at_start, the_events, no_faults, the_entries};
 
 /// Three regions run four transactions in 28 turns: one waits, one closes a cycle, one has a verify that fails at its end, one

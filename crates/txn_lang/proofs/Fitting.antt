@@ -17,15 +17,14 @@ use Rattle.fp_model.specs.declared.scripts.Statement.{Statement, roll-Statement,
 use Rattle.fp_model.specs.declared.scripts.Statement.TheOpen.{Statement-F}
 use Rattle.fp_model.specs.declared.scripts.Statement.TheOpen as statement
 use Rattle.fp_model.specs.declared.scripts.Statement.TheFolds.{fold-roll-Statement}
-use Rattle.fp_model.specs.FitCalls.{are_fit, fits_statement, fits_step}
+use Rattle.fp_model.specs.FitCalls.{are_fit, fits_statement, fits_step, is_some_few}
 use Rattle.txn_lang.specs.declared.line.Line.{Line}
 use Rattle.txn_lang.specs.declared.line.Line.TheVariants as line
 use Rattle.std.specs.Prelude.{min, not}
 use Rattle.fp_model.specs.declared.calls.Get.{Get}
 use Rattle.fp_model.specs.declared.scripts.FsaText.{FsaText}
-use Rattle.fp_model.specs.FitCalls.{is_some_few}
 use Rattle.fp_model.specs.Messages.{lines_of}
-use Rattle.fp_model.specs.Programs.{cost, full_cost, script_of}
+use Rattle.fp_model.specs.Asking.{cost, full_cost, script_of}
 use Rattle.txn_lang.specs.declared.fault.ScriptFault.{ScriptFault}
 use Rattle.txn_lang.specs.declared.fault.ScriptFault.TheVariants as fault
 use Rattle.txn_lang.specs.declared.fault.LineFault.TheVariants.{Syntax, UnknownName}

@@ -11,7 +11,7 @@ use Rattle.fp_model.specs.declared.scripts.Comparison.{Comparison}
 use Rattle.fp_model.specs.declared.scripts.Statement.{Statement, roll-Statement}
 use Rattle.fp_model.specs.declared.scripts.Statement.TheOpen as statement
 use Rattle.fp_model.specs.declared.scripts.Statement.TheOpen.{Statement-F}
-use Rattle.fp_model.specs.Programs.{statement_cost}
+use Rattle.fp_model.specs.Asking.{statement_cost}
 use Rattle.fp_model.proofs.ProgramLemmas.{statement_cost_roll}
 use Rattle.txn_lang.specs.declared.token.Token.{Token}
 use Rattle.txn_lang.specs.declared.token.Token.TheVariants.{Word, Number, Text, Hash, Field, Sign}

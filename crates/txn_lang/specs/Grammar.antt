@@ -4,7 +4,7 @@ use Rattle.std.specs.List.{list_all}
 use Rattle.fp_model.specs.declared.definitions.Defs.{Defs}
 use Rattle.fp_model.specs.declared.scripts.Script.{Script}
 use Rattle.fp_model.specs.Messages.{lines_of}
-use Rattle.fp_model.specs.Programs.{cost, script_of}
+use Rattle.fp_model.specs.Asking.{cost, script_of}
 use Rattle.txn_lang.specs.declared.fault.ScriptFault.{ScriptFault}
 use Rattle.txn_lang.specs.declared.fault.ScriptFault.TheVariants as fault
 use Rattle.txn_lang.specs.declared.fault.LineFault.{LineFault}

@@ -11,7 +11,7 @@ use Rattle.fp_model.specs.declared.definitions.FieldDef.{FieldDef}
 use Rattle.fp_model.specs.declared.scripts.SsaText.{SsaText}
 use Rattle.fp_model.specs.declared.scripts.FieldText.{FieldText}
 use Rattle.fp_model.specs.Texts.{same_text}
-use Rattle.fp_model.specs.Programs.{layout_of}
+use Rattle.fp_model.specs.Values.{layout_of}
 use Rattle.txn_lang.specs.declared.fault.LineFault.TheVariants.{Syntax, UnknownName}
 use Rattle.txn_lang.specs.declared.token.Token.{Token}
 use Rattle.txn_lang.specs.declared.token.Token.TheVariants.{Word, Number, Text, Hash, Field, Sign}

@@ -5,7 +5,7 @@
 //! innermost last, and at most 64.
 ghost use Rattle.std.specs.Prelude.{◌≡◌, ◌∷◌, [], ◌++◌, ◌≤◌, ◌<◌, ◌+◌, ◌*◌, ◌^◌, List, max, min, length, IfOk, IfErr, IsSome, is_some, map, reverse, ◌&&◌, nat_lt};
 ghost use Rattle.std.specs.List.{list_any};
-ghost use Rattle.fp_model.specs.Programs.{statement_cost, cost};
+ghost use Rattle.fp_model.specs.Asking.{statement_cost, cost};
 ghost use Rattle.txn_lang.specs.Readings.{Gives};
 ghost use Rattle.txn_lang.specs.Lookups.{HaveByteNumbers};
 ghost use Rattle.txn_lang.specs.declared.line.Line.{Line};

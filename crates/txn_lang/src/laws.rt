@@ -4,7 +4,7 @@ ghost use Rattle.std.specs.Prelude.{◌≡◌, ◌≤◌, ℕ, List, [], true};
 ghost use Rattle.fp_model.specs.declared.definitions.Defs.{Defs};
 ghost use Rattle.fp_model.specs.declared.scripts.Script.{Script};
 ghost use Rattle.fp_model.specs.FitCalls.{are_fit};
-ghost use Rattle.fp_model.specs.Programs.{full_cost};
+ghost use Rattle.fp_model.specs.Asking.{full_cost};
 ghost use Rattle.fp_model.specs.WellFormed.{AreDefs};
 ghost use Rattle.txn_lang.specs.declared.fault.ScriptFault.{ScriptFault};
 ghost use Rattle.txn_lang.specs.Lookups.{HaveByteNumbers};

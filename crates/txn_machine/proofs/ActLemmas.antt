@@ -8,7 +8,8 @@ use Rattle.fp_model.specs.declared.calls.Answer.{Answer}
 use Rattle.fp_model.specs.declared.calls.Call.{Call}
 use Rattle.fp_model.specs.declared.definitions.Defs.{Defs}
 use Rattle.fp_model.specs.declared.scripts.Statement.{Statement, out-Statement}
-use Rattle.fp_model.specs.Programs.{Env, Way, Goes, Leaves, Ends, Ask, Asks, Replies, Rolls, ended, goes_on, in_order, loops_on, times, called, run, with_setting}
+use Rattle.fp_model.specs.Operands.{Env, with_setting}
+use Rattle.fp_model.specs.Asking.{Way, Goes, Leaves, Ends, Ask, Asks, Replies, Rolls, ended, goes_on, in_order, loops_on, times, called, run}
 use Rattle.txn_machine.specs.declared.doing.Deed.{Deed}
 use Rattle.txn_machine.specs.declared.doing.Deed.TheVariants as deed
 use Rattle.txn_machine.specs.declared.known.Known.{Known}

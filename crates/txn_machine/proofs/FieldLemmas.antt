@@ -2,7 +2,8 @@
 use Rattle.std.proofs.Common.{◌≡◌, ◌∙◌, refl, sym, ap, arith, ℕ, suc, ◌+◌, ◌-◌, ◌<◌, List, [], ◌∷◌, ◌++◌, length, drop, drop-cons, get_or, append_assoc, Option, Some, None}
 use Rattle.std.proofs.lemmas.List.{append-nil}
 use Rattle.fp_model.specs.declared.definitions.FieldDef.{FieldDef}
-use Rattle.fp_model.specs.Programs.{◌>>=◌, Env, empty_field, empty_segment, filled, new_type, text_of, value_bytes}
+use Rattle.fp_model.specs.Values.{◌>>=◌, empty_field, empty_segment, value_bytes}
+use Rattle.fp_model.specs.Operands.{Env, filled, new_type, text_of}
 use Rattle.fp_model.specs.Fsas.{field_of, with_field}
 use Rattle.fp_model.specs.declared.definitions.Defs.{Defs}
 use Rattle.fp_model.specs.declared.calls.Message.{Message}

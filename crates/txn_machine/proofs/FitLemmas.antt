@@ -24,7 +24,8 @@ use Rattle.fp_model.specs.Fsas.{Fsa, field_of, with_field, is_text}
 use Rattle.fp_model.specs.MsdbCalls.{key_named}
 use Rattle.fp_model.specs.WellFormed.{IsMsdbDef, StandFrom}
 use Rattle.fp_model.specs.FitCalls.{OfMsdb, FitsKey, FitsSegment, IsMsdbCall}
-use Rattle.fp_model.specs.Programs.{◌>>=◌, Env, Layout, ShownSegment, layout_of, text_of, fitted, fitted_key, key_text, ssa_of, ssas_of, fsas_given, value_bytes, empty_field, empty_segment, filled, shown_on}
+use Rattle.fp_model.specs.Values.{◌>>=◌, Layout, layout_of, fitted, fitted_key, value_bytes, empty_field, empty_segment}
+use Rattle.fp_model.specs.Operands.{Env, ShownSegment, text_of, key_text, ssa_of, ssas_of, fsas_given, filled, shown_on}
 use Rattle.packed_dec.proofs.ReadsBack.{reads_back}
 
 -- ---- values that there are

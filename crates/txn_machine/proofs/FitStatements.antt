@@ -15,7 +15,9 @@ use Rattle.fp_model.specs.declared.scripts.Statement.TheFolds.{fold_out-Statemen
 use Rattle.fp_model.specs.Fsas.{Fsa, IsFsa, list_text}
 use Rattle.fp_model.specs.WellFormed.{IsMsdbDef, StandFrom}
 use Rattle.fp_model.specs.FitCalls.{OfMsdb, FitsKey, FitsSegment, IsMsdbCall, are_fit, fits_statement, fits_step, is_some_few}
-use Rattle.fp_model.specs.Programs.{◌>>=◌, Env, Way, Goes, Leaves, Ends, Ask, Asks, Replies, Rolls, Layout, ShownSegment, or_rolls, called, run, run_step, in_order, layout_of, key_text, ssas_of, fsas_given, empty_segment, filled, shown_on, get_call, fld_call, isrt_call, repl_call, new_type, with_setting, set_text, reply_text}
+use Rattle.fp_model.specs.Values.{◌>>=◌, Layout, layout_of, empty_segment}
+use Rattle.fp_model.specs.Operands.{Env, ShownSegment, key_text, ssas_of, fsas_given, filled, shown_on, get_call, fld_call, isrt_call, repl_call, new_type, with_setting, set_text, reply_text}
+use Rattle.fp_model.specs.Asking.{Way, Goes, Leaves, Ends, Ask, Asks, Replies, Rolls, or_rolls, called, run, run_step, in_order}
 use Rattle.txn_machine.specs.declared.doing.Deed.{Deed}
 use Rattle.txn_machine.specs.declared.doing.Deed.TheVariants as deed
 use Rattle.txn_machine.specs.declared.known.Known.{Known}

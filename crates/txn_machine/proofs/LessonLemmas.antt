@@ -5,7 +5,7 @@ use Rattle.fp_model.specs.declared.calls.Call.{Call}
 use Rattle.fp_model.specs.declared.calls.Call.TheVariants as call
 use Rattle.fp_model.specs.declared.definitions.MsdbDef.{MsdbDef}
 use Rattle.fp_model.specs.Texts.{same_text, trimmed}
-use Rattle.fp_model.specs.Programs.{Env, learned}
+use Rattle.fp_model.specs.Operands.{Env, learned}
 use Rattle.fp_model.specs.FitCalls.{FitsAnswer}
 use Rattle.txn_machine.specs.declared.known.Lesson.{Lesson}
 use Rattle.txn_machine.specs.declared.known.Lesson.TheVariants as lesson

@@ -6,7 +6,7 @@ use Rattle.fp_model.specs.declared.calls.Message.{Message}
 use Rattle.fp_model.specs.declared.calls.Answer.{Answer}
 use Rattle.fp_model.specs.declared.definitions.Defs.{Defs}
 use Rattle.fp_model.specs.declared.scripts.Statement.{Statement}
-use Rattle.fp_model.specs.Programs.{Ask, ask}
+use Rattle.fp_model.specs.Asking.{Ask, ask}
 use Rattle.txn_machine.specs.declared.program.Program.{Program}
 use Rattle.txn_machine.specs.declared.program.Wait.{Wait}
 use Rattle.txn_machine.specs.declared.program.Next.{Next}

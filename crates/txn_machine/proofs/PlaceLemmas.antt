@@ -7,7 +7,8 @@ use Rattle.fp_model.specs.declared.calls.Answer.{Answer}
 use Rattle.fp_model.specs.declared.calls.Call.{Call}
 use Rattle.fp_model.specs.declared.definitions.Defs.{Defs}
 use Rattle.fp_model.specs.declared.scripts.Statement.{Statement}
-use Rattle.fp_model.specs.Programs.{Env, Way, Goes, Leaves, Ends, Ask, ask, ended, goes_on, in_order, run, called, learned}
+use Rattle.fp_model.specs.Operands.{Env, learned}
+use Rattle.fp_model.specs.Asking.{Way, Goes, Leaves, Ends, Ask, ask, ended, goes_on, in_order, run, called}
 use Rattle.txn_machine.specs.declared.place.Frame.{Frame}
 use Rattle.txn_machine.specs.declared.place.Frame.TheVariants as frame
 use Rattle.txn_machine.specs.declared.known.Known.{Known}

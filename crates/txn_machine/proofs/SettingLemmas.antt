@@ -8,7 +8,7 @@ use Rattle.std.specs.Map.{lookup}
 use Rattle.std.proofs.lemmas.Bool.{eqb-true, eqb-false}
 use Rattle.fp_model.specs.declared.name.Name.{Name}
 use Rattle.fp_model.specs.Texts.{same_text}
-use Rattle.fp_model.specs.Programs.{Env, Setting, with_setting, setting_of}
+use Rattle.fp_model.specs.Operands.{Env, Setting, with_setting, setting_of}
 use Rattle.txn_lang.specs.Numbers.{name_cmp}
 use Rattle.txn_machine.specs.declared.known.Known.{Known}
 use Rattle.txn_machine.specs.Knowing.{setting_in, env_of}

@@ -3,7 +3,7 @@ use Rattle.std.proofs.Common.{◌≡◌, ◌∙◌, refl, sym, ap, subst, arith,
 use Rattle.std.specs.Prelude.{slice_get, slice_set, find, option_map, ◌==◌}
 use Rattle.std.specs.List.{AllByRecursion}
 use Rattle.std.proofs.lemmas.Bool.{eqb-true, eq-eqb, ne_eqb}
-use Rattle.fp_model.specs.Programs.{ShownSegment}
+use Rattle.fp_model.specs.Operands.{ShownSegment}
 use Rattle.txn_machine.specs.declared.shown.Shown.{Shown}
 use Rattle.txn_machine.specs.declared.shown.Gets.{Gets}
 use Rattle.fp_model.specs.declared.definitions.MsdbDef.{MsdbDef}

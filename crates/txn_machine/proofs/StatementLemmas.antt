@@ -10,7 +10,8 @@ use Rattle.fp_model.specs.declared.scripts.Statement.{Statement, out-Statement, 
 use Rattle.fp_model.specs.declared.scripts.Statement.TheVariants.{If, Repeat, Fld, rolls-If, rolls-Repeat, rolls-Fld}
 use Rattle.fp_model.specs.declared.scripts.Statement.{out-roll-Statement}
 use Rattle.fp_model.specs.declared.scripts.Statement.TheOpen as open_statement
-use Rattle.fp_model.specs.Programs.{Env, Way, Goes, Ends, Rolls, or_rolls, in_order, loops_on, times, called, run, run_step, chosen, fld_call}
+use Rattle.fp_model.specs.Operands.{Env, chosen, fld_call}
+use Rattle.fp_model.specs.Asking.{Way, Goes, Ends, Rolls, or_rolls, in_order, loops_on, times, called, run, run_step}
 use Rattle.fp_model.specs.declared.scripts.Statement.TheFolds.{fold_out-Statement}
 use Rattle.txn_machine.specs.declared.doing.Deed.{Deed}
 use Rattle.txn_machine.specs.declared.doing.Deed.TheVariants as deed

@@ -5,7 +5,7 @@ use Rattle.std.proofs.lemmas.List.{drop_all, take_all, length-drop}
 use Rattle.std.proofs.lemmas.Bool.Decides.{nat_tests}
 use Rattle.std.proofs.Math.Bool.{false≢true}
 use Rattle.fp_model.specs.Messages.{is_separator}
-use Rattle.fp_model.specs.Programs.{words, at_front, begins_word}
+use Rattle.fp_model.specs.Values.{words, at_front, begins_word}
 
 abbrev pub is_other : ℕ → Bool
 is_other b = not (is_separator b)

@@ -1,6 +1,7 @@
 -- Two things that a script may know, and that make no difference to it.
 use Rattle.std.specs.Prelude.{◌≡◌, ◌==◌, ℕ, List, find, slice_get}
-use Rattle.fp_model.specs.Programs.{Env, ShownSegment, Way, Goes, Leaves, Ends, Ask, setting_of}
+use Rattle.fp_model.specs.Operands.{Env, ShownSegment, setting_of}
+use Rattle.fp_model.specs.Asking.{Way, Goes, Leaves, Ends, Ask}
 
 -- the newest, and the newest of each database, are the same
 pub record ShowAlike (a b : List ShownSegment) : Type 0 where

@@ -9,7 +9,8 @@ use Rattle.fp_model.specs.declared.calls.Message.{Message}
 use Rattle.fp_model.specs.declared.calls.Answer.{Answer}
 use Rattle.fp_model.specs.declared.definitions.Defs.{Defs}
 use Rattle.fp_model.specs.declared.scripts.Statement.{Statement, out-Statement}
-use Rattle.fp_model.specs.Programs.{Env, Way, Goes, Leaves, Ends, Replies, Rolls, in_order, loops_on, times, called, fsas_given, run, with_setting}
+use Rattle.fp_model.specs.Operands.{Env, fsas_given, with_setting}
+use Rattle.fp_model.specs.Asking.{Way, Goes, Leaves, Ends, Replies, Rolls, in_order, loops_on, times, called, run}
 use Rattle.txn_machine.specs.declared.doing.Deed.{Deed}
 use Rattle.txn_machine.specs.declared.doing.Deed.TheVariants as deed
 use Rattle.txn_machine.specs.declared.known.Known.{Known}

@@ -6,7 +6,8 @@ use Rattle.fp_model.specs.declared.definitions.FieldDef.{FieldDef}
 use Rattle.fp_model.specs.declared.scripts.FieldText.{FieldText}
 use Rattle.fp_model.specs.declared.scripts.FsaText.{FsaText}
 use Rattle.fp_model.specs.Fsas.{Fsa, field_of, with_field}
-use Rattle.fp_model.specs.Programs.{◌>>=◌, Env, text_of, value_bytes}
+use Rattle.fp_model.specs.Values.{◌>>=◌, value_bytes}
+use Rattle.fp_model.specs.Operands.{Env, text_of}
 
 -- one value of those that fill a segment
 abbrev pub with_value : Defs → Message → Env → List FieldDef → FieldText → List ℕ → Option (List ℕ)

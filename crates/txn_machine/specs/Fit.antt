@@ -4,7 +4,7 @@ use Rattle.std.specs.List.{AllByRecursion}
 use Rattle.fp_model.specs.declared.definitions.MsdbDef.{MsdbDef}
 use Rattle.fp_model.specs.declared.calls.Answer.{Answer}
 use Rattle.fp_model.specs.Texts.{same_text, trimmed}
-use Rattle.fp_model.specs.Programs.{ShownSegment}
+use Rattle.fp_model.specs.Operands.{ShownSegment}
 use Rattle.fp_model.specs.FitCalls.{OfMsdb, IsShownOn}
 use Rattle.txn_machine.specs.declared.shown.Gets.{Gets}
 use Rattle.txn_machine.specs.declared.known.Lesson.{Lesson}

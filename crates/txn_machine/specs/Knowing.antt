@@ -5,7 +5,7 @@ use Rattle.fp_model.specs.declared.calls.Answer.{Answer}
 use Rattle.fp_model.specs.declared.calls.Call.{Call}
 use Rattle.fp_model.specs.declared.calls.Call.TheVariants as call
 use Rattle.fp_model.specs.Texts.{same_text, trimmed}
-use Rattle.fp_model.specs.Programs.{Env, Setting, ShownSegment}
+use Rattle.fp_model.specs.Operands.{Env, Setting, ShownSegment}
 use Rattle.txn_machine.specs.declared.known.Known.{Known}
 use Rattle.txn_machine.specs.declared.shown.Shown.{Shown}
 use Rattle.txn_machine.specs.declared.shown.Gets.{Gets}

@@ -5,7 +5,8 @@ use Rattle.fp_model.specs.declared.calls.Message.{Message}
 use Rattle.fp_model.specs.declared.calls.Answer.{Answer}
 use Rattle.fp_model.specs.declared.scripts.Statement.{Statement, out-Statement}
 use Rattle.fp_model.specs.declared.scripts.Statement.TheOpen.{Statement-F, Set, If, Repeat, Break, Reply, Roll, Get, Fld, Isrt, Repl, Dlet}
-use Rattle.fp_model.specs.Programs.{Env, Way, Goes, Ask, goes_on, in_order, loops_on, times, run, ended}
+use Rattle.fp_model.specs.Operands.{Env}
+use Rattle.fp_model.specs.Asking.{Way, Goes, Ask, goes_on, in_order, loops_on, times, run, ended}
 use Rattle.txn_machine.specs.declared.place.Place.{Place}
 use Rattle.txn_machine.specs.declared.place.Frame.{Frame}
 use Rattle.txn_machine.specs.declared.place.Frame.TheVariants as frame

@@ -6,7 +6,7 @@ use Rattle.fp_model.specs.declared.calls.Message.{Message}
 use Rattle.fp_model.specs.declared.calls.Answer.{Answer}
 use Rattle.fp_model.specs.declared.calls.Call.{Call}
 use Rattle.fp_model.specs.declared.scripts.Statement.{Statement}
-use Rattle.fp_model.specs.Programs.{Ask, Asks, Replies, Rolls, Way, goes_on, called, ended, ask}
+use Rattle.fp_model.specs.Asking.{Ask, Asks, Replies, Rolls, Way, goes_on, called, ended, ask}
 use Rattle.fp_model.specs.FitCalls.{IsMsdbCall}
 use Rattle.txn_machine.specs.declared.program.Program.{Program}
 use Rattle.txn_machine.specs.declared.program.Wait.{Wait}

@@ -4,7 +4,7 @@ ghost use Rattle.fp_model.specs.Fsas as fsas;
 ghost use Rattle.fp_model.specs.Fsas.{field_bytes, field_of, with_field};
 ghost use Rattle.fp_model.specs.Numbers.{bytes_of, number};
 ghost use Rattle.fp_model.specs.Programs as programs;
-ghost use Rattle.fp_model.specs.Programs.{empty_field, empty_segment, fitted, fitted_key, layout_of, value_bytes, value_text};
+ghost use Rattle.fp_model.specs.Values.{empty_field, empty_segment, fitted, fitted_key, layout_of, value_bytes, value_text};
 ghost use Rattle.fp_model.specs.State.{key_length};
 ghost use Rattle.txn_machine.specs.Giving.{Gives, Stops};
 

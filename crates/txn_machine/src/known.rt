@@ -2,7 +2,7 @@
 ghost use Rattle.std.specs.Prelude.{◌≡◌, [], IfOk, OnErr, OnOk, List};
 ghost use Rattle.fp_model.specs.declared.calls.Answer.{Answer};
 ghost use Rattle.fp_model.specs.declared.definitions.MsdbDef.{MsdbDef};
-ghost use Rattle.fp_model.specs.Programs.{at_top, setting_of, with_setting};
+ghost use Rattle.fp_model.specs.Operands.{at_top, setting_of, with_setting};
 ghost use Rattle.fp_model.specs.Texts.{same_text, trimmed};
 ghost use Rattle.txn_machine.specs.Alike.{AreAlike, AreTwins};
 ghost use Rattle.txn_machine.specs.Fit.{AreShown, FitsLesson, IsShownSegment};

@@ -1,7 +1,8 @@
 //! Operands, and what statements make of them.
 ghost use Rattle.std.specs.Prelude.{◌≡◌, ◌≤◌, [], IfOk, length, map};
 ghost use Rattle.std.specs.List.{list_all};
-ghost use Rattle.fp_model.specs.Programs.{chosen, joined_texts, key_text, reply_text, set_text, short_enough, shown_field, shown_letter, text_of};
+ghost use Rattle.fp_model.specs.Operands.{chosen, joined_texts, key_text, reply_text, set_text, shown_field, shown_letter, text_of};
+ghost use Rattle.fp_model.specs.Values.{short_enough};
 ghost use Rattle.fp_model.specs.Texts.{is_printable};
 ghost use Rattle.txn_machine.specs.Giving.{Gives};
 ghost use Rattle.txn_machine.specs.Knowing.{env_of, status_of};

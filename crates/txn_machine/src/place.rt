@@ -3,7 +3,8 @@ ghost use Rattle.std.specs.Prelude.{◌≡◌, ◌≢◌, ◌<◌, ◌≤◌, �
 ghost use Rattle.fp_model.specs.declared.calls.Message.{Message};
 ghost use Rattle.fp_model.specs.declared.definitions.Defs.{Defs};
 ghost use Rattle.fp_model.specs.declared.scripts.Statement.{Statement, out-Statement};
-ghost use Rattle.fp_model.specs.Programs.{Env, Goes, Leaves, Replies, ended};
+ghost use Rattle.fp_model.specs.Operands.{Env};
+ghost use Rattle.fp_model.specs.Asking.{Goes, Leaves, Replies, ended};
 ghost use Rattle.txn_machine.specs.Places as places;
 ghost use Rattle.txn_machine.specs.Places.{around, choice_in, end_from, inner, loop_in, way_from};
 ghost use Rattle.txn_machine.specs.Work.{work, work_around};

@@ -2,7 +2,7 @@
 ghost use Rattle.std.specs.Prelude.{◌≡◌, ◌+ℤ◌, ◌-ℤ◌, ◌*ℤ◌, ◌++◌, ◌∷◌, ◌<◌, ◌^◌, [], IfNone, IfOk, IfSome, length, slice_get, unsigned_abs, unwrap_or};
 ghost use Rattle.std.specs.Ordering.{int_cmp};
 ghost use Rattle.fp_model.specs.Messages.{is_separator};
-ghost use Rattle.fp_model.specs.Programs.{compares, number_text, of_numbers, operated, short_enough, word_of, words};
+ghost use Rattle.fp_model.specs.Values.{compares, number_text, of_numbers, operated, short_enough, word_of, words};
 ghost use Rattle.fp_model.specs.Texts.{decimal_text, digits_number, number_in, same_text, trimmed};
 ghost use Rattle.txn_machine.specs.Giving.{Gives};
 

@@ -1,7 +1,6 @@
 use Rattle.std.specs.Prelude.{take}
 use Rattle.std.specs.List.{AllByRecursion}
-use Rattle.fp_model.specs.Items.{IsFit}
-use Rattle.log_groups.specs.Kept.{items_of}
+use Rattle.fp_model.specs.Items.{IsFit, items_of}
 use Rattle.fp_restart.proofs.fitting.are_fit.Given as goal
 
 -- the entries so far are fit

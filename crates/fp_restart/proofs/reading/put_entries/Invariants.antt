@@ -1,8 +1,7 @@
 use Rattle.std.specs.Prelude.{◌≡◌, List, take}
 use Rattle.std.specs.List.{AllByRecursion}
-use Rattle.fp_model.specs.Items.{with_items}
+use Rattle.fp_model.specs.Items.{with_items, items_of}
 use Rattle.fp_model.specs.declared.definitions.MsdbDef.{MsdbDef}
-use Rattle.log_groups.specs.Kept.{items_of}
 use Rattle.msdb_store.specs.Store.{IsFitSegment, IsOf}
 use Rattle.fp_restart.proofs.reading.put_entries.Given as goal
 

@@ -1,8 +1,7 @@
 use Rattle.std.proofs.Common.{sym, ap, subst, ◌∙◌}
 use Rattle.std.specs.List.{AllByRecursion}
-use Rattle.fp_model.specs.Items.{IsFit, with_items}
+use Rattle.fp_model.specs.Items.{IsFit, with_items, items_of}
 use Rattle.msdb_store.specs.Store.{IsFitSegment}
-use Rattle.log_groups.specs.Kept.{items_of}
 use Rattle.log_groups.specs.Reads.{HasGroup}
 use Rattle.fp_restart.proofs.Groups.{stands_further}
 use Rattle.fp_restart.proofs.Replays.{fit_segments}

@@ -1,6 +1,6 @@
 use Rattle.std.proofs.Common.{refl}
 use Rattle.fp_model.proofs.ProgramLemmas.{run_roll}
-use Rattle.fp_model.specs.Programs.{ask}
+use Rattle.fp_model.specs.Asking.{ask}
 use Rattle.fp_rows.proofs.calls.keys_are_fitted.Goals as goal
 
 pub returns-clause-padded : goal.returns-clause-padded

@@ -2,7 +2,7 @@ use Rattle.std.proofs.Common.{refl}
 use Rattle.std.specs.Fmt.{digits}
 use Rattle.fp_model.proofs.ProgramLemmas.{run_roll}
 use Rattle.fp_model.specs.Spellings.{be16}
-use Rattle.fp_model.specs.Programs.{ask}
+use Rattle.fp_model.specs.Asking.{ask}
 use Rattle.fp_rows.proofs.calls.replies_are_short_and_printable.Goals as goal
 
 pub returns-clause-longest : goal.returns-clause-longest

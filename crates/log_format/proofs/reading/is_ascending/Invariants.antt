@@ -1,5 +1,5 @@
 use Rattle.std.proofs.Common.{◌≡◌, length}
-use Rattle.fp_model.specs.LogText.{is_ascending}
+use Rattle.fp_model.specs.ItemTargets.{is_ascending}
 use Rattle.log_format.proofs.reading.is_ascending.Given as goal
 
 -- what is left ascends exactly where the whole does

@@ -1,5 +1,5 @@
 use Rattle.std.proofs.Common.{◌≡◌, drop}
-use Rattle.fp_model.specs.Programs.{empty_segment}
+use Rattle.fp_model.specs.Values.{empty_segment}
 use Rattle.txn_machine.proofs.FieldLemmas.{prefixed}
 use Rattle.txn_machine.proofs.fields.empty_segment.Given as goal
 

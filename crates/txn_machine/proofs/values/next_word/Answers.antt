@@ -3,7 +3,7 @@ use Rattle.std.proofs.lemmas.Iterator.{YieldsList-from_slice}
 use Rattle.std.proofs.lemmas.Iterator.Search.{position_from_yields_List}
 use Rattle.std.proofs.lemmas.Grind.{common_steps}
 use Rattle.fp_model.specs.Messages.{is_separator}
-use Rattle.fp_model.specs.Programs.{words}
+use Rattle.fp_model.specs.Values.{words}
 use Rattle.txn_machine.proofs.WordLemmas.{is_other, no_words, place_is, place_within, take_rest, whole_is, words_at, words_alone}
 use Rattle.txn_machine.proofs.values.next_word.Goals as goal
 

@@ -4,7 +4,7 @@ use Rattle.fp_model.specs.declared.calls.Answer.{Answer}
 use Rattle.fp_model.specs.Calls.{looks_unheld}
 use Rattle.fp_model.specs.FitCalls.{are_fit}
 use Rattle.fp_model.specs.Product.{asked_by, cost_of, rules_of}
-use Rattle.fp_model.specs.Programs.{Ask, Asks, Replies, Rolls, ask, full_cost}
+use Rattle.fp_model.specs.Asking.{Ask, Asks, Replies, Rolls, ask, full_cost}
 use Rattle.fp_model.specs.Serial.{asked, goes}
 use Rattle.lone_region.proofs.Plain.{call_keeps, noted_few, noted_here}
 use Rattle.lone_region.proofs.Replies.{replies_are_short}

@@ -1,5 +1,5 @@
 use Rattle.std.proofs.Common.{◌≡◌, drop, []}
-use Rattle.fp_model.specs.Programs.{filled}
+use Rattle.fp_model.specs.Operands.{filled}
 use Rattle.txn_machine.specs.Knowing.{env_of}
 use Rattle.txn_machine.proofs.known.Known.filled.Given as goal
 

@@ -1,7 +1,7 @@
 use Rattle.std.proofs.Common.{◌≡◌, drop, []}
 use Rattle.std.specs.List.{AllByRecursion}
 use Rattle.fp_model.specs.Fsas.{IsFsa}
-use Rattle.fp_model.specs.Programs.{fsas_given}
+use Rattle.fp_model.specs.Operands.{fsas_given}
 use Rattle.fld_calls.specs.Forms.{IsShort, forms}
 use Rattle.txn_machine.specs.Knowing.{env_of}
 use Rattle.txn_machine.proofs.FieldLemmas.{prefixed}

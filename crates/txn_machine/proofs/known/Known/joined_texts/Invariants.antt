@@ -1,5 +1,5 @@
 use Rattle.std.proofs.Common.{◌≡◌, drop, []}
-use Rattle.fp_model.specs.Programs.{joined_texts}
+use Rattle.fp_model.specs.Operands.{joined_texts}
 use Rattle.txn_machine.specs.Knowing.{env_of}
 use Rattle.txn_machine.proofs.FieldLemmas.{prefixed}
 use Rattle.txn_machine.proofs.known.Known.joined_texts.Given as goal

@@ -1,6 +1,7 @@
 use Rattle.std.proofs.Common.{◌≡◌, ℕ, subst, Some}
 use Rattle.std.specs.Prelude.{IfOk, IfErr}
-use Rattle.fp_model.specs.Programs.{new_type, layout_of}
+use Rattle.fp_model.specs.Operands.{new_type}
+use Rattle.fp_model.specs.Values.{layout_of}
 use Rattle.txn_machine.specs.Giving.{Stops}
 use Rattle.txn_machine.proofs.known.Known.new_layout.Goals as goal
 

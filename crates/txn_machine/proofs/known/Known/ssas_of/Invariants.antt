@@ -1,5 +1,5 @@
 use Rattle.std.proofs.Common.{◌≡◌, drop, []}
-use Rattle.fp_model.specs.Programs.{ssas_of}
+use Rattle.fp_model.specs.Operands.{ssas_of}
 use Rattle.txn_machine.specs.Knowing.{env_of}
 use Rattle.txn_machine.proofs.FieldLemmas.{prefixed}
 use Rattle.txn_machine.proofs.known.Known.ssas_of.Given as goal

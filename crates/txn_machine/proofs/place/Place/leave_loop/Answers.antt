@@ -1,5 +1,5 @@
 use Rattle.std.proofs.Common.{◌≡◌, ◌∙◌, refl, ap, arith}
-use Rattle.fp_model.specs.Programs.{Way, ended}
+use Rattle.fp_model.specs.Asking.{Way, ended}
 use Rattle.txn_machine.specs.declared.place.Place.{Place}
 use Rattle.txn_machine.proofs.PlaceLemmas.{left_choice, left_loop, left_all}
 use Rattle.txn_machine.proofs.WorkLemmas.{popped_less, left_less, left_nothing}

@@ -2,7 +2,8 @@ use Rattle.std.proofs.Common.{◌≡◌, ◌≤◌, List, length}
 use Rattle.fp_model.specs.declared.calls.Message.{Message}
 use Rattle.fp_model.specs.declared.definitions.Defs.{Defs}
 use Rattle.fp_model.specs.declared.scripts.Statement.{Statement}
-use Rattle.fp_model.specs.Programs.{Env, Leaves}
+use Rattle.fp_model.specs.Operands.{Env}
+use Rattle.fp_model.specs.Asking.{Leaves}
 use Rattle.txn_machine.specs.Places.{around}
 use Rattle.txn_machine.specs.Work.{work_around}
 use Rattle.txn_machine.proofs.place.Place.leave_loop.Given as goal

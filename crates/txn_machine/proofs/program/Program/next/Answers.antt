@@ -2,7 +2,7 @@ use Rattle.std.proofs.Common.{◌≡◌, ◌∙◌, sym, ap, subst, rules, List,
 use Rattle.std.specs.Prelude.{slice_get, IfSome}
 use Rattle.fp_model.specs.declared.scripts.Script.{Script}
 use Rattle.fp_model.specs.declared.scripts.Statement.{Statement}
-use Rattle.fp_model.specs.Programs.{ask}
+use Rattle.fp_model.specs.Asking.{ask}
 use Rattle.txn_machine.specs.declared.program.Next.{Next}
 use Rattle.txn_machine.specs.Running.{IsAt, IsAsked, IsFit, IsFitNext, end_of}
 use Rattle.txn_machine.proofs.NextLemmas.{alike_then, asked_at, from_unwaited, goes_on_at, to_unwaited}

@@ -1,6 +1,7 @@
 use Rattle.std.proofs.Common.{◌≡◌, ◌∙◌, ap, sym, subst, List, []}
 use Rattle.fp_model.specs.declared.calls.Answer.{Answer}
-use Rattle.fp_model.specs.Programs.{ask, Env}
+use Rattle.fp_model.specs.Asking.{ask}
+use Rattle.fp_model.specs.Operands.{Env}
 use Rattle.txn_machine.specs.declared.place.Frame.{Frame}
 use Rattle.txn_machine.specs.Places.{end_from}
 use Rattle.txn_machine.specs.Knowing.{env_of}

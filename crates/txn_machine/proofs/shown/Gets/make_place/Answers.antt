@@ -1,5 +1,5 @@
 use Rattle.std.proofs.Common.{◌≡◌, ◌∙◌, ap, refl, List, ◌∷◌, arith}
-use Rattle.fp_model.specs.Programs.{ShownSegment}
+use Rattle.fp_model.specs.Operands.{ShownSegment}
 use Rattle.txn_machine.specs.Knowing.{segment_on, segments_from}
 use Rattle.txn_machine.proofs.ShownLemmas.{segments_push}
 use Rattle.txn_machine.proofs.shown.Gets.make_place.Goals as goal
