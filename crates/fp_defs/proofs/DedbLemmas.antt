@@ -13,7 +13,7 @@ use Rattle.fp_model.specs.Names.{IsName}
 use Rattle.fp_model.specs.WellFormed.{Between, BeginsWithKey, IsTypeName, IsSegDef, has_sequential, HasCapacity, IsAreaDef}
 use Rattle.fp_defs.specs.Readings.{or_fault}
 use Rattle.fp_defs.specs.Values.{as_name}
-use Rattle.fp_defs.specs.Keys.{occurs, only, needed, name_at, once, new_name, within, number_at, number_within, flag_at}
+use Rattle.fp_defs.specs.Keys.{occurs, only, needed, name_at, once, new_name, within, number_at, number_within, number_or, flag_at}
 use Rattle.fp_defs.specs.Segments.{segment_names, not_KEY, segment_name, no_limit, says_sequential, place_of, parent_in, parent_at, at_its_place, sequential_at, segment_of}
 use Rattle.fp_defs.specs.Areas.{area_names, capacity_in, capacity_at, area_of}
 use Rattle.fp_defs.specs.declared.fault.DefsFault.{DefsFault}
@@ -40,6 +40,20 @@ number_at-within key low high table n e =
     let value = ok_step (needed key table) _ n e in
     let read = ok_step (or_fault (BadField key) (as_integer value.0)) (within key low high) n value.2 in
     within-any key low high read.0 n read.2
+
+pub number_within-within : (key : List ℕ) (low high : ℕ) (d : Data) (n : ℕ) → number_within key low high d ≡ Ok n → Between low high n
+unfolding number_within
+number_within-within key low high d n e =
+    let read = ok_step (or_fault (BadField key) (as_integer d)) (within key low high) n e in
+    within-any key low high read.0 n read.2
+
+number_or-by : (default : ℕ) (key : List ℕ) (low high : ℕ) (value : Option Data) (n : ℕ) → Between low high default → option_map_or (number_within key low high) value (Ok default) ≡ Ok n → Between low high n
+number_or-by default key low high None n fair e = let same : default ≡ n = cc in subst (Between low high) same fair
+number_or-by default key low high (Some d) n fair e = number_within-within key low high d n e
+
+pub number_or-within : (default : ℕ) (key : List ℕ) (low high : ℕ) (table : Members) (n : ℕ) → Between low high default → number_or default key low high table ≡ Ok n → Between low high n
+unfolding number_or
+number_or-within default key low high table n fair e = number_or-by default key low high (get_member key table) n fair e
 
 capacity_has : (sequential : Bool) (z : ℤ) (n : ℕ) → capacity_in sequential z ≡ Ok n → HasCapacity sequential n
 capacity_has false (pos zero) n e = cc
@@ -68,8 +82,9 @@ area_keeps types others before table def e =
     let b = ok_step (number_at (codes "base") 1 1000 table) _ def u.2 in
     let v = ok_step (number_at (codes "overflow") 0 1000 table) _ def b.2 in
     let c = ok_step (capacity_at (has_sequential types) table) _ def v.2 in
-    let read : AreaDef = record { name = n.0; uows = u.0; base = b.0; overflow = v.0; capacity = c.0 } in
-    let made : Ok read ≡ Ok def = c.2 in
+    let k = ok_step (number_or 1 (codes "copies") 1 7 table) _ def c.2 in
+    let read : AreaDef = record { name = n.0; uows = u.0; base = b.0; overflow = v.0; capacity = c.0; copies = k.0 } in
+    let made : Ok read ≡ Ok def = k.2 in
     let same : read ≡ def = cc in
     let name = new_name-is (others ++ area_names before) table n.0 n.1 in
     subst (AreaKeeps types others before) same (
@@ -79,6 +94,7 @@ area_keeps types others before table def e =
         base = number_at-within (codes "base") 1 1000 table b.0 b.1;
         overflow = (number_at-within (codes "overflow") 0 1000 table v.0 v.1).1;
         capacity = capacity_at-has (has_sequential types) table c.0 c.1;
+        copies = number_or-within 1 (codes "copies") 1 7 table k.0 (omega arith, omega arith) k.1;
       },
       name.1,
     )

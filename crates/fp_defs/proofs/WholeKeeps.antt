@@ -27,27 +27,11 @@ use Rattle.fp_defs.specs.declared.fault.DefsFault.TheVariants.{NotToml, OutOfLim
 use Rattle.fp_defs.specs.declared.keys.Form.TheVariants.{Top}
 use Rattle.fp_defs.proofs.Beside.{Beside, IsRead, read_in_turn, beside_map, beside_each}
 use Rattle.fp_defs.proofs.Distinct.{no_texts, nothing_more, distinct_beside}
-use Rattle.fp_defs.proofs.DedbLemmas.{map_twice}
+use Rattle.fp_defs.proofs.DedbLemmas.{map_twice, number_or-within, number_within-within}
 use Rattle.fp_defs.proofs.DedbKeeps.{DedbKeeps, dedb_keeps}
 use Rattle.fp_defs.proofs.KeyLemmas.{within-ok, within-any}
 use Rattle.fp_defs.proofs.MsdbLemmas.{MsdbKeeps, msdb_keeps}
 use Rattle.fp_defs.proofs.Steps.{ok_step, ok_same}
-
--- ---- numbers
-
-number_within-within : (key : List ℕ) (low high : ℕ) (d : Data) (n : ℕ) → number_within key low high d ≡ Ok n → Between low high n
-unfolding number_within
-number_within-within key low high d n e =
-    let read = ok_step (or_fault (BadField key) (as_integer d)) (within key low high) n e in
-    within-any key low high read.0 n read.2
-
-number_or-by : (default : ℕ) (key : List ℕ) (low high : ℕ) (value : Option Data) (n : ℕ) → Between low high default → option_map_or (number_within key low high) value (Ok default) ≡ Ok n → Between low high n
-number_or-by default key low high None n fair e = let same : default ≡ n = cc in subst (Between low high) same fair
-number_or-by default key low high (Some d) n fair e = number_within-within key low high d n e
-
-number_or-within : (default : ℕ) (key : List ℕ) (low high : ℕ) (table : Members) (n : ℕ) → Between low high default → number_or default key low high table ≡ Ok n → Between low high n
-unfolding number_or
-number_or-within default key low high table n fair e = number_or-by default key low high (get_member key table) n fair e
 
 -- ---- groups
 
@@ -218,10 +202,13 @@ defs_keep text table defs short e =
     let x = ok_step (exit_at (codes "router") table) _ defs r.2 in
     let l = ok_step (number_or 100 (codes "log_group") 1 1000 table) _ defs x.2 in
     let p = ok_step (number_or 1000 (codes "pool") 1 100000 table) _ defs l.2 in
-    let m = ok_step (tables_or_none (codes "msdb") table) _ defs p.2 in
+    let t = ok_step (number_or 0 (codes "tries") 0 100 table) _ defs p.2 in
+    let m = ok_step (tables_or_none (codes "msdb") table) _ defs t.2 in
     let d = ok_step (tables_or_none (codes "dedb") table) _ defs m.2 in
     let a = ok_step (databases_of m.0 d.0) _ defs d.2 in
-    let read : Defs = record { regions = r.0; router = x.0; log_group = l.0; pool = p.0; msdbs = a.0.0; dedbs = a.0.1; text = text } in
+    let read : Defs = record {
+      regions = r.0; router = x.0; log_group = l.0; pool = p.0; tries = t.0; msdbs = a.0.0; dedbs = a.0.1; text = text
+    } in
     let same : read ≡ defs = ok_same read defs (Ok read) refl a.2 in
     let regions = regions_keep table r.0 r.1 in
     let databases = databases_keep m.0 d.0 a.0 a.1 in
@@ -231,6 +218,7 @@ defs_keep text table defs short e =
       groups = regions.1;
       log_group = number_or-within 100 (codes "log_group") 1 1000 table l.0 (omega arith, omega arith) l.1;
       pool = number_or-within 1000 (codes "pool") 1 100000 table p.0 (omega arith, omega arith) p.1;
+      tries = (number_or-within 0 (codes "tries") 0 100 table t.0 (omega arith, omega arith) t.1).1;
       msdbs = databases.few_msdbs;
       each_msdb = databases.each_msdb;
       dedbs = databases.few_dedbs;

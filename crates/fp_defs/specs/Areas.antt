@@ -36,4 +36,5 @@ area_of sequential others before members = do
   base ← number_at (codes "base") 1 1000 members
   overflow ← number_at (codes "overflow") 0 1000 members
   capacity ← capacity_at sequential members
-  Ok (record { name = name; uows = uows; base = base; overflow = overflow; capacity = capacity })
+  copies ← number_or 1 (codes "copies") 1 7 members
+  Ok (record { name = name; uows = uows; base = base; overflow = overflow; capacity = capacity; copies = copies })

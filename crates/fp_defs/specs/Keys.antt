@@ -15,11 +15,11 @@ use Rattle.fp_defs.specs.declared.keys.Form.TheVariants.{Top, Msdb, Dedb, Segmen
 
 -- the keys that a table of each form may have, in the order in which they are read
 abbrev pub keys_of : Form → List (List ℕ)
-keys_of Top = codes "regions" ∷ codes "router" ∷ codes "log_group" ∷ codes "pool" ∷ codes "msdb" ∷ codes "dedb" ∷ []
+keys_of Top = codes "regions" ∷ codes "router" ∷ codes "log_group" ∷ codes "pool" ∷ codes "tries" ∷ codes "msdb" ∷ codes "dedb" ∷ []
 keys_of Msdb = codes "name" ∷ codes "fields" ∷ codes "dynamic" ∷ codes "load" ∷ []
 keys_of Dedb = codes "name" ∷ codes "randomizer" ∷ codes "ci" ∷ codes "segment" ∷ codes "area" ∷ []
 keys_of Segment = codes "name" ∷ codes "fields" ∷ codes "parent" ∷ codes "sequential" ∷ []
-keys_of Area = codes "name" ∷ codes "uows" ∷ codes "base" ∷ codes "overflow" ∷ codes "capacity" ∷ []
+keys_of Area = codes "name" ∷ codes "uows" ∷ codes "base" ∷ codes "overflow" ∷ codes "capacity" ∷ codes "copies" ∷ []
 
 unfoldable pub has_key : Form → List ℕ → Bool
 has_key form key = list_any (bytes_eq key) (keys_of form)

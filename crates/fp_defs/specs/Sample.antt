@@ -78,7 +78,7 @@ loan = record {
 }
 
 abbrev pub area : List ℕ → AreaDef
-area name = record { name = named name; uows = 2; base = 2; overflow = 1; capacity = 4 }
+area name = record { name = named name; uows = 2; base = 2; overflow = 1; capacity = 4; copies = 1 }
 
 abbrev pub cust : DedbDef
 cust = record {
@@ -89,13 +89,14 @@ cust = record {
   areas = area (codes "AREA1") ∷ area (codes "AREA2") ∷ [];
 }
 
--- two regions of one group, and nothing said of the log's groups and the pool
+-- two regions of one group, and nothing said of the log's groups, the pool, tries and copies
 abbrev pub sample : Defs
 sample = record {
   regions = 1 ∷ 1 ∷ [];
   router = Fold;
   log_group = 100;
   pool = 1000;
+  tries = 0;
   msdbs = accts ∷ tellers ∷ [];
   dedbs = cust ∷ [];
   text = sample_text;

@@ -71,10 +71,20 @@ defs_in text members = do
   router ← exit_at (codes "router") members
   log_group ← number_or 100 (codes "log_group") 1 1000 members
   pool ← number_or 1000 (codes "pool") 1 100000 members
+  tries ← number_or 0 (codes "tries") 0 100 members
   msdb_tables ← tables_or_none (codes "msdb") members
   dedb_tables ← tables_or_none (codes "dedb") members
   databases ← databases_of msdb_tables dedb_tables
-  Ok (record { regions = regions; router = router; log_group = log_group; pool = pool; msdbs = databases.0; dedbs = databases.1; text = text })
+  Ok (record {
+    regions = regions;
+    router = router;
+    log_group = log_group;
+    pool = pool;
+    tries = tries;
+    msdbs = databases.0;
+    dedbs = databases.1;
+    text = text;
+  })
 
 -- the document that a text is: UTF-8, and TOML
 unfoldable pub document_of : List ℕ → Option Members

@@ -7,7 +7,7 @@ ghost use Rattle.fp_defs.specs.Areas.{area_names, capacity_in, capacity_at, area
 ghost use Rattle.fp_defs.specs.Dedbs.{areas_named};
 
 use crate::fault::{DefsFault, bad_field, twice};
-use crate::keys::{Form, member, name_at, number_at, only, within};
+use crate::keys::{Form, member, name_at, number_at, number_or, only, within};
 use crate::names::without_blanks;
 use fp_model::{AreaDef, DedbDef, List, Name};
 use std::alloc::Global;
@@ -102,12 +102,14 @@ fn area_of(
     let base = number_at(alloc, "base", 1, 1000, table)?;
     let overflow = number_at(alloc, "overflow", 0, 1000, table)?;
     let capacity = capacity_at(alloc, sequential, table)?;
+    let copies = number_or(alloc, 1, "copies", 1, 7, table)?;
     Ok(AreaDef {
         name,
         uows,
         base: base as u16,
         overflow: overflow as u16,
         capacity,
+        copies: copies as u8,
     })
 }
 

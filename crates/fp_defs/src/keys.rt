@@ -34,6 +34,7 @@ fn has_key(form: Form, key: &str) -> bool
                 || key == "router"
                 || key == "log_group"
                 || key == "pool"
+                || key == "tries"
                 || key == "msdb"
                 || key == "dedb"
         }
@@ -50,6 +51,7 @@ fn has_key(form: Form, key: &str) -> bool
                 || key == "base"
                 || key == "overflow"
                 || key == "capacity"
+                || key == "copies"
         }
     }
 }
@@ -169,7 +171,7 @@ pub(crate) fn number_at(
     number_within(alloc, key, low, high, value)
 }
 
-/// A number that the table may have.
+/// A number within its limits that the table may have.
 #[tactic(auto, unfolding(crate::specs::Keys::number_or))]
 pub(crate) fn number_or(
     alloc: Global,
@@ -179,7 +181,8 @@ pub(crate) fn number_or(
     high: u32,
     table: &Table,
 ) -> Result<u32, DefsFault>
-    ensures { Gives (λ m. m) result (number_or default key.now low high (table_view table.now)) }
+    ensures exact { Gives (λ m. m) result (number_or default key.now low high (table_view table.now)) }
+    ensures small { default ≤ high → IfOk result (λ m. m ≤ high) }
 {
     match member(table, key) {
         Some(value) => number_within(alloc, key, low, high, value),

@@ -132,6 +132,7 @@ fn defs_in(alloc: Global, text: &[u8], table: &Table) -> Result<Defs, DefsFault>
     let router = exit_at(alloc, "router", table)?;
     let log_group = number_or(alloc, 100, "log_group", 1, 1000, table)?;
     let pool = number_or(alloc, 1000, "pool", 1, 100_000, table)?;
+    let tries = number_or(alloc, 0, "tries", 0, 100, table)?;
     let msdb_tables = tables_or_none(alloc, "msdb", table)?;
     let dedb_tables = tables_or_none(alloc, "dedb", table)?;
     let (msdbs, dedbs) = databases_of(alloc, &msdb_tables, &dedb_tables)?;
@@ -141,6 +142,7 @@ fn defs_in(alloc: Global, text: &[u8], table: &Table) -> Result<Defs, DefsFault>
         router,
         log_group,
         pool,
+        tries,
         msdbs,
         dedbs,
         text,

@@ -4,7 +4,7 @@ use Rattle.std.specs.List.{flat_map, zip, AllZip, AllByRecursion}
 use Rattle.fp_model.specs.State.{ascend, key_of}
 use Rattle.fp_model.specs.Spellings.{be16, be32, be64, long_text}
 use Rattle.fp_model.specs.Names.{IsName}
-use Rattle.fp_model.specs.LogText.{of_format}
+use Rattle.fp_model.specs.LogText.{IsFormat, of_format}
 use Rattle.fp_model.specs.Lasts.{Last}
 use Rattle.fp_model.specs.declared.database.Msdb.{Msdb}
 use Rattle.fp_model.specs.declared.definitions.MsdbDef.{MsdbDef}
@@ -49,7 +49,7 @@ pub record IsMsdbOf (def : MsdbDef) (msdb : Msdb) : Type 0 where
   pub lengths : AllByRecursion (λ segment. length segment ≡ def.length) msdb.segments
   pub in_order : IsTrue (ascend (map (key_of def.fields) msdb.segments))
 
--- each terminal's name, number and line as they are in a program, the names ascending
+-- each terminal's name, number and line as their fields hold them, the names ascending
 pub record AreLasts (lasts : List Last) : Type 0 where
   pub few : length lasts < 2 ^ 64
   pub names : AllByRecursion (λ (last : Last). IsName last.lterm) lasts
@@ -58,10 +58,12 @@ pub record AreLasts (lasts : List Last) : Type 0 where
   pub in_order : IsTrue (ascend (map (λ last. last.lterm.0) lasts))
 
 -- what a checkpoint may hold: other numbers are damage
-pub record IsCheckpoint (defs : List MsdbDef) (c : Checkpoint) : Type 0 where
+pub record IsCheckpoint (format : ℕ) (defs : List MsdbDef) (c : Checkpoint) : Type 0 where
+  pub is_format : IsFormat format
   pub number_fits : c.number < 2 ^ 64
   pub place : c.at ≤ 2 ^ 62
   pub entries : c.count ≤ c.at
   pub few : AllByRecursion (λ (msdb : Msdb). length msdb.segments < 2 ^ 32) c.msdbs
   pub databases : AllZip IsMsdbOf defs c.msdbs
   pub terminals : AreLasts c.lasts
+  pub unnumbered : format ≡ 1 → c.lasts ≡ []

@@ -5,7 +5,7 @@ use Rattle.fp_model.specs.declared.calls.Message.{Message}
 use Rattle.fp_model.specs.declared.log.Entry.{Entry}
 use Rattle.fp_model.specs.declared.log.Outcome.{Outcome}
 
--- The format of the log's front, all entries, the states before the last of them, oldest first, and the state after it.
+-- The format of the log's front, all entries, the state before each of them, oldest first, and the state now.
 pub record History : Type 0 where
   pub format : ℕ
   pub entries : List Entry

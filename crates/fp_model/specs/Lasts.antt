@@ -26,7 +26,7 @@ pub record Last : Type 0 where
   pub number : ℕ
   pub line : List ℕ
 
--- Old and Repeat answer a number that was used before; whatever else answers a numbered message uses its number up.
+-- Old and Repeat answer a number that isn't above the last one; whatever else answers a numbered message uses its number.
 abbrev pub uses_number : Outcome → Bool
 uses_number (Old last) = false
 uses_number (Repeat line) = false

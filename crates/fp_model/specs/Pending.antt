@@ -8,6 +8,10 @@ use Rattle.fp_model.specs.declared.events.Event.TheVariants as event
 use Rattle.fp_model.specs.declared.log.Item.{Item}
 use Rattle.fp_model.specs.declared.log.Entry.{Entry}
 use Rattle.fp_model.specs.ItemTargets.{ItemTarget, OfSegment, OfInterval, item_target}
+use Rattle.fp_model.specs.declared.definitions.Defs.{Defs}
+use Rattle.fp_model.specs.LogText.{groups_text}
+use Rattle.fp_model.specs.Lasts.{format_at, lasts_of}
+use Rattle.fp_model.specs.CheckpointText.{Checkpoint, checkpoint_rest}
 use Rattle.fp_model.specs.History.{place_of}
 use Rattle.fp_model.specs.Machine.{Machine}
 use Rattle.fp_model.specs.Runs.{RunStep}
@@ -90,10 +94,23 @@ pub record UnderWay : Type 0 where
   pub count : ℕ
   pub left : ℕ
 
--- What is needed of bytes, at a machine: the place of the log's closed gate, and the length of a checkpoint's body.
+-- What is needed of bytes, at a machine: the place of the log's closed gate, and the length of a checkpoint's body, which
+-- is all of it behind its gate. `lengths_of` has those of this system.
 pub record Lengths : Type 0 where
   pub gate : Machine → ℕ
   pub body : Machine → ℕ
+
+-- the checkpoint of a machine's databases and terminals; its number and places always take as many bytes
+abbrev pub checkpoint_of : Machine → Checkpoint
+checkpoint_of m =
+    record { number = 0; at = 0; count = 0; msdbs = m.history.now.msdbs; lasts = lasts_of m.history.format m.history.entries }
+
+-- by these definitions, in a run that began with the log's closed gate at this place
+abbrev pub lengths_of : Defs → ℕ → Lengths
+lengths_of defs gate = record {
+  gate = λ m. gate + length (groups_text m.groups);
+  body = λ m. length (checkpoint_rest (format_at m.history.format m.history.entries) defs.msdbs (checkpoint_of m));
+}
 
 -- a checkpoint that begins: the areas are synced, the gate is closed, the body is written in pieces of 65,536 bytes and
 -- synced, and the gate is opened
@@ -111,6 +128,10 @@ stepped c = if nat_le c.left 1 then None else Some (record c { left = c.left - 1
 pub record Unwritten : Type 0 where
   pub pending : List Pending
   pub checkpoint : Option UnderWay
+
+-- as a run begins: none is under way
+abbrev pub unwritten_at : ℕ → List Entry → Unwritten
+unwritten_at count entries = record { pending = pending_from count entries; checkpoint = None }
 
 -- the interval that waits longest is written, if one may be
 abbrev pub with_oldest_written : ℕ → Unwritten → Unwritten

@@ -25,7 +25,7 @@ abbrev pub by_script : List Script → Message → Request
 by_script scripts message =
     if is_some (script_of scripts message.tran) then Accepts message else Refuses Unknown
 
--- a number that isn't above the last one of its terminal was used before
+-- a number that isn't above the last one of its terminal starts nothing
 abbrev pub by_last : List Script → Message → ℕ → Option Last → Request
 by_last scripts message number None = by_script scripts message
 by_last scripts message number (Some last) =

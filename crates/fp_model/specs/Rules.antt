@@ -1,5 +1,5 @@
 -- What the order of transactions rests on: what lines ask for, what programs ask, what calls are answered, what
--- settling comes to. Serial runs, histories and turns are stated over these functions alone, whatever they are.
+-- settling comes to. Serial runs, histories and turns are stated over these functions, whatever they are.
 use Rattle.std.specs.Prelude.{ℕ, List, Option, Bool}
 use Rattle.fp_model.specs.declared.database.Db.{Db}
 use Rattle.fp_model.specs.declared.calls.Answer.{Answer}

@@ -17,12 +17,12 @@ pub record RunStep : Type 0 where
 
 -- ---- what a list of steps says
 
-abbrev pub events_of : List RunStep → List Event
-events_of steps = map (λ step. step.event) steps
+abbrev pub step_events : List RunStep → List Event
+step_events steps = map (λ step. step.event) steps
 
 -- The steps take these events of a schedule, and leave those: none, unless the run ended early.
 abbrev pub TakesOf : List Event → List RunStep → List Event → Type 0
-TakesOf events steps left = events ≡ events_of steps ++ left
+TakesOf events steps left = events ≡ step_events steps ++ left
 
 abbrev pub is_device_fault : Environment → Bool
 is_device_fault NoFault = false
@@ -70,6 +70,15 @@ module _ (rules : Rules) where
   Drains m [] m2 = IsDrained m × (m2 ≡ m)
   Drains m (steps ∷ rounds) m2 =
       (¬ IsDrained m)
-      × (events_of steps ≡ round)
+      × (step_events steps ≡ round)
       × Runs m steps (machine_after m steps)
       × Drains (machine_after m steps) rounds m2
+
+  -- a drain that ended early: whole rounds, and a first part of one more
+  abbrev pub DrainsInPart : Machine → List (List RunStep) → List RunStep → Machine → Type 0
+  DrainsInPart m [] part m2 = (¬ IsDrained m) × ((left : List Event) × TakesOf round part left × Runs m part m2)
+  DrainsInPart m (steps ∷ rounds) part m2 =
+      (¬ IsDrained m)
+      × (step_events steps ≡ round)
+      × Runs m steps (machine_after m steps)
+      × DrainsInPart (machine_after m steps) rounds part m2

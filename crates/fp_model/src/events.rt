@@ -9,9 +9,9 @@ pub enum Event {
     Region(u8),
     /// Seals a group of entries and sends their reply lines.
     Log,
-    /// Writes one interval.
+    /// Does a step of the checkpoint under way, or else writes the interval that waits longest.
     Out,
-    /// Takes a checkpoint.
+    /// Seals all entries and sends their reply lines; begins a checkpoint where none is under way.
     Ckpt,
     /// Lets the sequential part of an area, named by its data set, begin n serials later, at most at its end.
     Purge { set: u16, n: u64 },

@@ -71,10 +71,10 @@ pub enum Outcome {
 /// An entry of the log.
 #[derive(Clone, Debug, PartialEq, Eq, Drop)]
 pub struct Entry {
-    /// How many entries stood as the transaction began.
+    /// How many entries stood as the transaction's last try began; its own place where no region makes it.
     pub from: u64,
     pub outcome: Outcome,
-    /// The message line.
+    /// The message line; empty in a Purge and a Format.
     pub line: Bytes,
     pub reply: Bytes,
     /// For each unheld look at a main storage database, how many entries stood.
