@@ -1,6 +1,8 @@
 -- The entry of a transaction that ran alone comes next.
 use Rattle.std.proofs.Common.{◌≡◌, refl, sym, ◌∙◌, ap, subst, arith, inl, inr, ℕ, zero, suc, ◌+◌, ◌≤◌, ◌<◌, ◌^◌, ◌⊎◌, List, [], ◌∷◌, ◌++◌, length, take, Bool, true, false, Option, Some, None, IfSome, slice_get, unwrap_or, fold}
-use Rattle.std.specs.List.{AllByRecursion}
+use Rattle.std.specs.List.{AllByRecursion, list_all}
+use Rattle.std.specs.Prelude.{Result, Ok, Err, if◌then◌else◌, nat_lt}
+use Rattle.fp_model.specs.declared.name.Name.{Name}
 use Rattle.fp_model.specs.declared.calls.Message.{Message}
 use Rattle.fp_model.specs.declared.database.Db.{Db}
 use Rattle.fp_model.specs.declared.database.Msdb.{Msdb}
@@ -17,17 +19,22 @@ use Rattle.fp_model.specs.Commit.{Settlement, Commits, FailsVerify, committed, f
 use Rattle.fp_model.specs.SerialHistory.{NeverFalls}
 use Rattle.fp_model.specs.Items.{FitsMsdb, IsFit, with_items}
 use Rattle.fp_model.specs.LogText.{FitsItem}
-use Rattle.fp_model.specs.Product.{request_of, rules_of}
-use Rattle.fp_model.specs.Serial.{Alone, Done, VerifyFailed, settled_as}
+use Rattle.fp_model.specs.History.{History, Accepts, Refuses, place_of}
+use Rattle.fp_model.specs.Lasts.{Last, format_at, lasts_of}
+use Rattle.fp_model.specs.Messages.{MessageFault, TooLong, NotAscii, behind_word, first_word, message_by, message_of, terminal_of}
+use Rattle.fp_model.specs.Names.{name_in}
+use Rattle.fp_model.specs.Product.{by_message, by_number, request_of}
+use Rattle.fp_model.specs.Texts.{is_printable}
+use Rattle.fp_model.specs.Serial.{Ends, settled_as}
 use Rattle.fp_model.specs.Settle.{Settled, Stands, VerifyFails, settle}
-use Rattle.fp_model.specs.State.{areas_of, areas_of_all, key_length}
+use Rattle.fp_model.specs.State.{areas_of, areas_of_all, first_area_set, key_length}
 use Rattle.fp_model.specs.WellFormed.{BeginsWithKey, IsMsdbDef}
 use Rattle.fp_model.specs.Workspace.{Workspace}
 use Rattle.dli_calls.specs.Progress.{Progress}
 use Rattle.msdb_store.specs.Settling.{IsSegmentItem}
 use Rattle.msdb_store.specs.Store.{IsFitSegment, Stored}
-use Rattle.lone_region.specs.Entries.{done_entry, refused_entry, unknown_entry}
-use Rattle.lone_region.specs.Next.{ComesNext}
+use Rattle.lone_region.specs.Entries.{done_entry, plain_request, refused_entry, unknown_entry, without_number}
+use Rattle.lone_region.specs.Next.{ComesNext, IsPlainHistory}
 use Rattle.lone_region.specs.Running.{HasEnded, IsPlain}
 use Rattle.lone_region.specs.declared.running.End.TheVariants as end
 use Rattle.lone_region.proofs.Transactions.{each_has}
@@ -45,7 +52,7 @@ module _ (defs : Defs) (none : defs.dedbs ≡ []) (now : Db) (own : Workspace) (
   commits : (s : Settled) (msdbs : List Msdb) → s ≡ Stands msdbs → settled_to defs now own s ≡ Commits (record now { msdbs = msdbs })
   commits s msdbs e =
       ap (settled_to defs now own) e
-      ∙ ap (λ (ds : List DedbDef). unwrap_or (first_full now own.inserts 3 (areas_of_all 0 ds)) (Commits (committed defs own msdbs now))) none
+      ∙ ap (λ (ds : List DedbDef). unwrap_or (first_full now own.inserts first_area_set (areas_of_all 0 ds)) (Commits (committed defs own msdbs now))) none
       ∙ rw (changes, inserts) refl
 
   -- where the queue settles, the databases are those that it leaves
@@ -63,6 +70,7 @@ items_fit : (defs : Defs) (items : List Item) → AllByRecursion (IsFitSegment d
 items_fit defs [] h g = tt
 items_fit defs (item.Segment number key bytes ∷ items) h g = (h.0, items_fit defs items h.1 g.1)
 items_fit defs (item.Image set ci bytes ∷ items) h g = absurd g.0
+items_fit defs (item.Range set ci at bytes ∷ items) h g = absurd g.0
 
 key_short : (fields : List FieldDef) → BeginsWithKey fields → key_length fields ≤ 64
 key_short [] h = absurd h
@@ -82,86 +90,127 @@ items_short defs [] each h g = tt
 items_short defs (item.Segment number key bytes ∷ items) each h g =
     (item_short h.0.0 key bytes (each_has IsMsdbDef defs number h.0.0 each h.0.1) h.0.2, items_short defs items each h.1 g.1)
 items_short defs (item.Image set ci bytes ∷ items) each h g = absurd g.0
+items_short defs (item.Range set ci at bytes ∷ items) each h g = absurd g.0
 
 -- ---- what comes next
 
-module _ (defs : Defs) (scripts : List Script) (past : List Db) (now : Db) (line : List ℕ) where
+-- in the first format no line has a number
+no_number : (line asked : List ℕ) (lterm tran : Option Name) (text : List ℕ) (m : Message) → message_by line None lterm tran text ≡ Ok m → m.number ≡ None
+no_number line asked None tran text m e = absurd (cc)
+no_number line asked (Some lterm) None text m e = absurd (cc)
+no_number line asked (Some lterm) (Some tran) text m e =
+    by_bool (nat_lt 1000 (length text)) (list_all is_printable text) e
+  where
+    made : Message
+    made = record { lterm = lterm; tran = tran; text = text; line = line; number = None }
+    by_bool : (long fair : Bool) → (if long then Err TooLong else (if fair then Ok made else Err NotAscii)) ≡ Ok m → m.number ≡ None
+    by_bool true fair e = absurd (cc)
+    by_bool false true e = let same : made ≡ m = cc in ap (λ (x : Message). x.number) (sym same)
+    by_bool false false e = absurd (cc)
+
+by_plain : (scripts : List Script) (lasts : List Last) (line : List ℕ) (r : Result Message MessageFault) → message_of 1 line ≡ r → by_message scripts lasts r ≡ without_number scripts r
+by_plain scripts lasts line (Err fault) e = refl
+by_plain scripts lasts line (Ok m) e =
+    ap (by_number scripts lasts m) (no_number line [] (terminal_of line) (name_in (first_word (behind_word line))) (behind_word (behind_word line)) m e)
+
+-- so a line asks for the same behind every such history
+plain_is : (scripts : List Script) (h : History) (line : List ℕ) → format_at h.format h.entries ≡ 1 → request_of scripts h line ≡ plain_request scripts line
+plain_is scripts h line first =
+    ap (λ (format : ℕ). by_message scripts (lasts_of h.format h.entries) (message_of format line)) first
+    ∙ by_plain scripts (lasts_of h.format h.entries) line (message_of 1 line) refl
+
+module _ (defs : Defs) (scripts : List Script) (h : History) (line : List ℕ) (msdbs : List Msdb) (from : ℕ) (is : IsPlainHistory h msdbs from) where
   -- an entry of a line that is no request
-  pub unknown_comes : (from : ℕ) → length past ≡ from → request_of scripts line ≡ None → ComesNext defs scripts past now line (unknown_entry from line)
-  unknown_comes from l none = record {
-    next = now;
-    comes = record { form = ((refl, refl), sym l); leads = (none, refl) };
+  pub unknown_comes : plain_request scripts line ≡ Refuses outcome.Unknown → ComesNext defs scripts h line (unknown_entry from line)
+  unknown_comes none = record {
+    next = h.now;
+    comes = record { form = ((refl, refl), sym is.place); leads = (plain_is scripts h line is.format ∙ none, refl) };
     fit = tt;
     made = refl;
     still = refl;
     alone = tt;
-    from_here = sym l;
+    from_here = sym is.place;
     notes_here = tt;
     of_line = refl;
   }
 
-  module _ (message : Message) (msdbs : List Msdb) (from : ℕ) (work : Progress) (is_request : request_of scripts line ≡ Some message) (same : now.msdbs ≡ msdbs) (l : length past ≡ from) where
-    in_order : IsPlain defs from work → NeverFalls from work.notes (length past)
-    in_order plain = subst (NeverFalls from work.notes) (sym l) (notes_at from work.notes plain.notes)
+  module _ (message : Message) (work : Progress) (is_request : plain_request scripts line ≡ Accepts message) where
+    in_order : IsPlain defs from work → NeverFalls from work.notes (place_of h)
+    in_order plain = subst (NeverFalls from work.notes) (sym is.place) (notes_at from work.notes plain.notes)
 
-    notes_here : IsPlain defs from work → AllByRecursion (λ note. note ≡ length past) work.notes
-    notes_here plain = subst (λ (place : ℕ). AllByRecursion (λ note. note ≡ place) work.notes) (sym l) plain.notes
+    notes_here : IsPlain defs from work → AllByRecursion (λ note. note ≡ place_of h) work.notes
+    notes_here plain = subst (λ (place : ℕ). AllByRecursion (λ note. note ≡ place) work.notes) (sym is.place) plain.notes
+
+    asks : request_of scripts h line ≡ Accepts message
+    asks = plain_is scripts h line is.format ∙ is_request
 
     -- the entry of one that is rolled back
-    pub roll_comes : (code : ℕ) → HasEnded defs scripts message msdbs from work (end.Roll code) → ComesNext defs scripts past now line (refused_entry from (outcome.Roll code) line work.notes)
-    roll_comes code h = record {
-      next = now;
+    pub roll_comes : (code : ℕ) → HasEnded defs scripts message msdbs from work (end.Roll code) → ComesNext defs scripts h line (refused_entry from (outcome.Roll code) line work.notes)
+    roll_comes code ended = record {
+      next = h.now;
       comes = record {
         form = refl;
-        leads = (record { message = message; is_request = is_request; in_order = in_order h.plain; ends = h.comes past now same l }, refl);
+        leads = record { message = message; is_request = asks; in_order = in_order ended.plain; ends = ended.comes h.past h.now is.same is.states };
       };
       fit = tt;
       made = refl;
       still = refl;
       alone = tt;
-      from_here = sym l;
-      notes_here = notes_here h.plain;
+      from_here = sym is.place;
+      notes_here = notes_here ended.plain;
       of_line = refl;
     }
 
-    module _ (no_dedbs : defs.dedbs ≡ []) (reply : List ℕ) (h : HasEnded defs scripts message msdbs from work (end.Reply reply)) where
+    module _ (no_dedbs : defs.dedbs ≡ []) (reply : List ℕ) (ended : HasEnded defs scripts message msdbs from work (end.Reply reply)) where
       -- of one whose verify fails
       pub verify_comes : (call fsa : ℕ) (found : List ℕ) → settle defs.msdbs msdbs work.own.deferred ≡ VerifyFails call fsa found
-          → ComesNext defs scripts past now line (refused_entry from (outcome.Verify call fsa found) line work.notes)
+          → ComesNext defs scripts h line (refused_entry from (outcome.Verify call fsa found) line work.notes)
       verify_comes call fsa found e =
-          let fails = settlement_fails defs no_dedbs now work.own h.plain.changes h.plain.inserts call fsa found (ap (λ (ms : List Msdb). settle defs.msdbs ms work.own.deferred) same ∙ e) in
+          let here = ap (λ (ms : List Msdb). settle defs.msdbs ms work.own.deferred) is.same ∙ e in
+          let fails = settlement_fails defs no_dedbs h.now work.own ended.plain.changes ended.plain.inserts call fsa found here in
           record {
-            next = now;
+            next = h.now;
             comes = record {
               form = refl;
-              leads = (record { message = message; is_request = is_request; in_order = in_order h.plain; ends = h.comes past now same l ∙ ap (settled_as reply) fails }, refl);
+              leads = record {
+                message = message;
+                is_request = asks;
+                in_order = in_order ended.plain;
+                ends = ended.comes h.past h.now is.same is.states ∙ ap (λ (s : Settlement). Ends (settled_as h.now reply s)) fails;
+              };
             };
             fit = tt;
             made = refl;
             still = refl;
             alone = tt;
-            from_here = sym l;
-            notes_here = notes_here h.plain;
+            from_here = sym is.place;
+            notes_here = notes_here ended.plain;
             of_line = refl;
           }
 
       -- and of one that is done
       pub done_comes : (items : List Item) → settle defs.msdbs msdbs work.own.deferred ≡ Stands (with_items defs.msdbs msdbs items)
           → AllByRecursion (IsFitSegment defs.msdbs) items → AllByRecursion IsSegmentItem items
-          → ComesNext defs scripts past now line (done_entry from line reply work.notes items)
+          → ComesNext defs scripts h line (done_entry from line reply work.notes items)
       done_comes items e fit segments =
-          let commits = settlement_is defs no_dedbs now work.own h.plain.changes h.plain.inserts (with_items defs.msdbs msdbs items) (ap (λ (ms : List Msdb). settle defs.msdbs ms work.own.deferred) same ∙ e) in
+          let here = ap (λ (ms : List Msdb). settle defs.msdbs ms work.own.deferred) is.same ∙ e in
+          let commits = settlement_is defs no_dedbs h.now work.own ended.plain.changes ended.plain.inserts (with_items defs.msdbs msdbs items) here in
           record {
-            next = record now { msdbs = with_items defs.msdbs msdbs items };
+            next = record h.now { msdbs = with_items defs.msdbs msdbs items };
             comes = record {
               form = tt;
-              leads = record { message = message; is_request = is_request; in_order = in_order h.plain; ends = h.comes past now same l ∙ ap (settled_as reply) commits };
+              leads = record {
+                message = message;
+                is_request = asks;
+                in_order = in_order ended.plain;
+                ends = ended.comes h.past h.now is.same is.states ∙ ap (λ (s : Settlement). Ends (settled_as h.now reply s)) commits;
+              };
             };
             fit = items_fit defs items fit segments;
-            made = ap (λ (ms : List Msdb). with_items defs.msdbs ms items) same;
+            made = ap (λ (ms : List Msdb). with_items defs.msdbs ms items) is.same;
             still = refl;
             alone = tt;
-            from_here = sym l;
-            notes_here = notes_here h.plain;
+            from_here = sym is.place;
+            notes_here = notes_here ended.plain;
             of_line = refl;
           }

@@ -1,7 +1,6 @@
 -- The entry that a line is given.
-use Rattle.std.specs.Prelude.{◌≡◌, ℕ, List, [], length, IfNone, IfSome, Some, slice_get}
+use Rattle.std.specs.Prelude.{◌≡◌, ℕ, List, [], IfNone, IfSome, Some, Result, Ok, Err, slice_get}
 use Rattle.fp_model.specs.declared.calls.Message.{Message}
-use Rattle.fp_model.specs.declared.database.Db.{Db}
 use Rattle.fp_model.specs.declared.definitions.Defs.{Defs}
 use Rattle.fp_model.specs.declared.log.Entry.{Entry}
 use Rattle.fp_model.specs.declared.log.Item.{Item}
@@ -9,12 +8,14 @@ use Rattle.fp_model.specs.declared.log.Outcome.{Outcome}
 use Rattle.fp_model.specs.declared.log.Outcome.TheVariants.{Done, Unknown}
 use Rattle.fp_model.specs.declared.scripts.Script.{Script}
 use Rattle.fp_model.specs.LogText.{FitsEntry, KeepsRules}
-use Rattle.fp_model.specs.Product.{request_of}
+use Rattle.fp_model.specs.History.{History, Accepts, Refuses, Request as Asked}
+use Rattle.fp_model.specs.Messages.{MessageFault, message_of}
+use Rattle.fp_model.specs.Product.{by_script}
 use Rattle.fp_model.specs.Asking.{script_of}
 use Rattle.msdb_store.specs.Settling.{IsStaged}
 use Rattle.msdb_store.specs.Store.{IsOf, Stored}
 use Rattle.fp_model.specs.declared.definitions.MsdbDef.{MsdbDef}
-use Rattle.lone_region.specs.Next.{ComesNext}
+use Rattle.lone_region.specs.Next.{ComesNext, IsPlainHistory}
 use Rattle.lone_region.specs.declared.entries.Made.{Made}
 use Rattle.lone_region.specs.declared.entries.Request.{Request}
 
@@ -24,9 +25,17 @@ pub record IsNumber (scripts : List Script) (message : Message) (number : ℕ) :
   pub named : script_of scripts message.tran ≡ Some script
   pub numbered : slice_get scripts number ≡ Some script
 
+-- what a line asks for that has no number
+abbrev pub without_number : List Script → Result Message MessageFault → Asked
+without_number scripts (Err fault) = Refuses Unknown
+without_number scripts (Ok message) = by_script scripts message
+
+abbrev pub plain_request : List Script → List ℕ → Asked
+plain_request scripts line = without_number scripts (message_of 1 line)
+
 -- a line is this request
 pub record IsRequest (scripts : List Script) (line : List ℕ) (request : Request) : Type 0 where
-  pub is : request_of scripts line ≡ Some request.message
+  pub is : plain_request scripts line ≡ Accepts request.message
   pub number : IsNumber scripts request.message request.number
 
 -- ---- entries
@@ -46,7 +55,7 @@ done_entry from line reply notes items = record { from = from; outcome = Done; l
 -- Behind any serial history that comes to the databases of the store, the entry comes next, and it can be written. What is
 -- staged, if anything, are its items.
 pub record IsMade (defs : Defs) (scripts : List Script) (store : Stored) (from : ℕ) (line : List ℕ) (made : Made) : Type 0 where
-  pub comes : (past : List Db) (now : Db) → now.msdbs ≡ store.msdbs → length past ≡ from → ComesNext defs scripts past now line made.entry
+  pub comes : (h : History) → IsPlainHistory h store.msdbs from → ComesNext defs scripts h line made.entry
   pub rules : KeepsRules made.entry
   pub fits : FitsEntry made.entry
   pub staged : IfSome made.staged (λ staged. IsStaged defs.msdbs store.msdbs staged × (staged.items ≡ made.entry.items))

@@ -10,7 +10,8 @@ use Rattle.fp_model.specs.declared.scripts.Script.{Script}
 use Rattle.fp_model.specs.Commit.{settlement}
 use Rattle.fp_model.specs.Product.{cost_of, rules_of}
 use Rattle.fp_model.specs.Asking.{script_of}
-use Rattle.fp_model.specs.Serial.{Alone, Roll, begun, goes, serial_run, settled_as}
+use Rattle.fp_model.specs.Serial.{Alone, Ends, begun, goes, refused_as, serial_run, settled_as}
+use Rattle.fp_model.specs.declared.log.Outcome.TheVariants.{Roll}
 use Rattle.fp_model.specs.Workspace.{Workspace}
 use Rattle.fp_model.specs.FitCalls.{are_fit}
 use Rattle.fp_model.specs.WellFormed.{IsMsdbDef}
@@ -65,8 +66,8 @@ pub record IsUnderway (defs : Defs) (scripts : List Script) (message : Message) 
 
 -- what a transaction comes to whose script ended so
 abbrev pub ended_as : Defs → Db → Workspace → End → Alone
-ended_as defs now own (end.Reply text) = settled_as text (settlement defs now own)
-ended_as defs now own (end.Roll code) = Roll code
+ended_as defs now own (end.Reply text) = Ends (settled_as now text (settlement defs now own))
+ended_as defs now own (end.Roll code) = Ends (refused_as (Roll code) now)
 
 -- a reply is short
 abbrev pub IsShortEnd : End → Type 0

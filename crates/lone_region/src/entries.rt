@@ -1,13 +1,13 @@
 //! The entry of a line: what its transaction comes to, run alone.
 ghost use Rattle.std.specs.Prelude.{◌≡◌, ◌<◌, ◌≤◌, ◌^◌, ℕ, IfNone, IfOk, IfSome, IsErr, List as ListOf, None, Some, length};
-ghost use Rattle.fp_model.specs.Product.{request_of};
+ghost use Rattle.fp_model.specs.History.{Accepts, Refuses};
 ghost use Rattle.fp_model.specs.Asking.{script_of};
 ghost use Rattle.fp_model.specs.declared.calls.Message.{Message as MessageOf};
 ghost use Rattle.fp_model.specs.declared.definitions.Defs.{Defs as DefsOf};
 ghost use Rattle.fp_model.specs.declared.scripts.Script.{Script};
-ghost use Rattle.lone_region.specs.Entries.{IsMade, IsNumber, IsRequest, done_entry, refused_entry, unknown_entry};
+ghost use Rattle.lone_region.specs.Entries.{IsMade, IsNumber, IsRequest, done_entry, plain_request, refused_entry, unknown_entry};
 ghost use Rattle.lone_region.specs.Running.{HasEnded, IsCheap, IsReady};
-ghost use Rattle.fp_model.specs.declared.log.Outcome.TheVariants.{Verify};
+ghost use Rattle.fp_model.specs.declared.log.Outcome.TheVariants.{Unknown, Verify};
 ghost use Rattle.lone_region.specs.declared.running.End.TheVariants as end;
 ghost use Rattle.msdb_store.specs.declared.staged.VerifyFault.TheVariants as faults;
 
@@ -18,6 +18,9 @@ use fp_model::{Bytes, Defs, Entry, List, Message, Outcome};
 use msdb_store::{MsdbStore, Staged, VerifyFault};
 use std::alloc::{AllocError, Global};
 use txn_lang::Scripts;
+
+/// The format of lines: in this one no message has a number.
+const FORMAT: u8 = 1;
 
 // An entry has fewer items than this.
 const ITEMS: usize = 1 << 32;
@@ -52,9 +55,9 @@ fn named(scripts: &Scripts, message: Message) -> Option<Request>
 // The request that a line is, if it is one.
 fn request_in(alloc: Global, scripts: &Scripts, line: &[u8]) -> Result<Option<Request>, AllocError>
     ensures some { IfOk result (λ found. IfSome found (IsRequest scripts.now.scripts line.now)) }
-    ensures none { IfOk result (λ found. IfNone found (request_of scripts.now.scripts line.now ≡ None)) }
+    ensures none { IfOk result (λ found. IfNone found (plain_request scripts.now.scripts line.now ≡ Refuses Unknown)) }
 {
-    match read_message(alloc, line) {
+    match read_message(alloc, FORMAT, line) {
         Ok(message) => Ok(named(scripts, message)),
         Err(MessageFault::NoTerminal) => Ok(None),
         Err(MessageFault::NoTran) => Ok(None),
@@ -163,7 +166,7 @@ fn settled(
 ) -> Result<Made, AllocError>
     requires ended { (defs : DefsOf) × ((scripts : ListOf Script) × ((message : MessageOf) × (IsReady defs scripts store.now × HasEnded defs scripts message store.now.msdbs from work.now (end.Reply reply)))) }
     requires short { length line.now ≤ 2100 }
-    ensures { (defs : DefsOf) (scripts : ListOf Script) (message : MessageOf) → IsReady defs scripts store.now → request_of scripts line.now ≡ Some message
+    ensures { (defs : DefsOf) (scripts : ListOf Script) (message : MessageOf) → IsReady defs scripts store.now → plain_request scripts line.now ≡ Accepts message
         → HasEnded defs scripts message store.now.msdbs from work.now (end.Reply reply)
         → IfOk result (IsMade defs scripts store.now from line.now) }
 {

@@ -2,10 +2,10 @@
 ghost use Rattle.fp_model.specs.LogText.{FitsEntry, KeepsRules};
 ghost use Rattle.fp_model.specs.Items.{with_items};
 ghost use Rattle.fp_model.specs.WellFormed.{AreDefs};
-ghost use Rattle.fp_model.specs.declared.database.Db.{Db};
+ghost use Rattle.fp_model.specs.History.{History};
 ghost use Rattle.fp_model.specs.declared.definitions.MsdbDef.{MsdbDef};
 ghost use Rattle.lone_region.specs.Entries.{CanCommit};
-ghost use Rattle.lone_region.specs.Next.{IsServed};
+ghost use Rattle.lone_region.specs.Next.{IsPlainHistory, IsServed};
 ghost use Rattle.msdb_store.specs.Settling.{IsStaged};
 ghost use Rattle.msdb_store.specs.Store.{IsOf};
 ghost use Rattle.std.specs.Prelude.{◌≡◌, ◌+◌, ◌++◌, ◌∷◌, ◌≤◌, [], IfOk, List as ListOf, OnErr, OnOk, length};
@@ -86,9 +86,9 @@ pub fn serve_line(
     requires store { IsOf defs.now.msdbs store.old }
     requires short { length line.now ≤ 2100 }
 
-    // Where the databases are those of the last state of a serial history, the entry comes next.
-    ensures served { (past : ListOf Db) (now : Db) → store.old.msdbs ≡ now.msdbs → log.old.sealed + length log.old.unsealed ≡ length past →
-        IfOk result (λ reply. IsServed defs.now scripts.now.scripts past now line.now reply log.old log.new store.new) }
+    // Where the databases are those of a history without message numbers, and the log has its entries, the entry comes next.
+    ensures served { (h : History) → IsPlainHistory h store.old.msdbs (log.old.sealed + length log.old.unsealed) →
+        IfOk result (λ reply. IsServed defs.now scripts.now.scripts h line.now reply log.old log.new store.new) }
     ensures of { IsOf defs.now.msdbs store.new }
 
     // Want of memory changes neither databases nor entries.
