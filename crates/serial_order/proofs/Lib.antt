@@ -2,6 +2,7 @@ pub mod Lists
 pub mod Locks
 pub mod Waits
 pub mod Plays
+pub mod Terminals
 pub mod Kept
 pub mod Turns
 pub mod Replies

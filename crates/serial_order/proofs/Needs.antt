@@ -1,6 +1,6 @@
 -- What calls, the sync point and lines ask for.
 use Rattle.std.proofs.Common.{◌≡◌, ◌<◌, ℕ, ◌-◌, List, [], ◌∷◌, length, Option, Some, None, refl, sym, ◌∙◌, ap, subst, Bool, true, false, not, ◌||◌, if◌then◌else◌, slice_get, Result, Ok, Err}
-use Rattle.std.specs.Prelude.{is_some, nat_lt}
+use Rattle.std.specs.Prelude.{option_map, is_some, nat_lt}
 use Rattle.std.specs.List.{list_all}
 use Rattle.std.specs.Option.{option_map_or}
 use Rattle.fp_model.specs.declared.name.Name.{Name}
@@ -73,7 +73,7 @@ module _ (held : Resource → Option Mode) (needed : Needed) where
       (from (dedb.first_unlocked (λ (anchor : ℕ). serves (held (Anchor number anchor)) (dedb.lock_of def number hold)) (dedb.look_at def number db own g ssas) (dedb.anchors_searched def number (dedb.position_of def number own) g (dedb.root_named def number ssas))) refl)
     where
       from : (o : Option ℕ) → dedb.first_unlocked (λ (anchor : ℕ). serves (held (Anchor number anchor)) (dedb.lock_of def number hold)) (dedb.look_at def number db own g ssas) (dedb.anchors_searched def number (dedb.position_of def number own) g (dedb.root_named def number ssas)) ≡ o
-          → option_map_or (λ (anchor : ℕ). Some (dedb.anchor_lock def number (dedb.lock_of def number hold) anchor)) o None ≡ Some needed → ¬ (held needed.resource ≡ Some Exclusive)
+          → option_map (dedb.anchor_lock def number (dedb.lock_of def number hold)) o ≡ Some needed → ¬ (held needed.resource ≡ Some Exclusive)
       from None is e = absurd (none_is_not_some needed e)
       from (Some a) is e =
           subst (λ (q : Needed). ¬ (held q.resource ≡ Some Exclusive)) (some_is (dedb.anchor_lock def number (dedb.lock_of def number hold) a) needed e)

@@ -1,5 +1,5 @@
 //! The laws of this system: what its calls, its sync point and its Purge look at and change.
-ghost use Rattle.std.specs.Prelude.{◌≡◌, ℕ, List, [], Bool, true, false, Option, Some, None};
+ghost use Rattle.std.specs.Prelude.{◌≡◌, ℕ, List, Bool, true, false, Option, Some, None};
 ghost use Rattle.std.specs.List.{AllByRecursion};
 ghost use Rattle.fp_model.specs.declared.definitions.Defs.{Defs};
 ghost use Rattle.fp_model.specs.declared.database.AreaEnds.{AreaEnds};
@@ -19,10 +19,10 @@ ghost use Rattle.fp_model.specs.Commit.{Commits, settlement, lacking, purged, wi
 ghost use Rattle.fp_model.specs.Asking.{Asks};
 ghost use Rattle.fp_model.specs.WellFormed.{IsMsdbDef, AreDefs};
 ghost use Rattle.fp_model.specs.Product.{is_anchor_of_set, asked_by, rules_of};
-ghost use Rattle.fp_model.specs.SerialHistory.{LeadsOn, IsSerialHistory};
+ghost use Rattle.fp_model.specs.SerialHistory.{IsSerial, IsSerialHistory};
 ghost use Rattle.fp_model.specs.Machine.{Machine};
 ghost use Rattle.fp_model.specs.Turns.{Environment, Turn};
-ghost use Rattle.fp_model.specs.Runs.{Runs};
+ghost use Rattle.fp_model.specs.Runs.{RunStep, Runs};
 ghost use Rattle.serial_order.specs.Laws.{IsCovered, IsSame, Laws};
 ghost use Rattle.serial_order.specs.ProductView.{seen_in, is_call, view_of};
 ghost use Rattle.serial_order.specs.Kept.{AreApart, HaveNoCycle, IsAtRest, Kept};
@@ -86,25 +86,25 @@ pub fn the_system_keeps_the_laws()
 /// Every run of this system from rest is a serial history. No two regions hold a resource unless both share it, and nobody waits
 /// for himself.
 pub fn every_run_of_the_system_is_serial()
-    ensures history { (defs : Defs) (scripts : List Script) (m : Machine) (events : List Event) (environments : List Environment) (m2 : Machine)
+    ensures history { (defs : Defs) (scripts : List Script) (m : Machine) (steps : List RunStep) (m2 : Machine)
         → AreDefs defs
         → IsAtRest (rules_of defs scripts) m
-        → Runs (rules_of defs scripts) m events environments m2
-        → LeadsOn (rules_of defs scripts) [] (rules_of defs scripts).start m2.entries m2.past m2.now }
-    ensures serial { (defs : Defs) (scripts : List Script) (m : Machine) (events : List Event) (environments : List Environment) (m2 : Machine)
+        → Runs (rules_of defs scripts) m steps m2
+        → IsSerial (rules_of defs scripts) m2.history }
+    ensures serial { (defs : Defs) (scripts : List Script) (m : Machine) (steps : List RunStep) (m2 : Machine)
         → AreDefs defs
         → IsAtRest (rules_of defs scripts) m
-        → Runs (rules_of defs scripts) m events environments m2
-        → IsSerialHistory (rules_of defs scripts) m2.entries m2.now }
-    ensures apart { (defs : Defs) (scripts : List Script) (m : Machine) (events : List Event) (environments : List Environment) (m2 : Machine)
+        → Runs (rules_of defs scripts) m steps m2
+        → IsSerialHistory (rules_of defs scripts) m2.history.format m2.history.entries m2.history.now }
+    ensures apart { (defs : Defs) (scripts : List Script) (m : Machine) (steps : List RunStep) (m2 : Machine)
         → AreDefs defs
         → IsAtRest (rules_of defs scripts) m
-        → Runs (rules_of defs scripts) m events environments m2
+        → Runs (rules_of defs scripts) m steps m2
         → AreApart m2.locks }
-    ensures no_cycle { (defs : Defs) (scripts : List Script) (m : Machine) (events : List Event) (environments : List Environment) (m2 : Machine)
+    ensures no_cycle { (defs : Defs) (scripts : List Script) (m : Machine) (steps : List RunStep) (m2 : Machine)
         → AreDefs defs
         → IsAtRest (rules_of defs scripts) m
-        → Runs (rules_of defs scripts) m events environments m2
+        → Runs (rules_of defs scripts) m steps m2
         → HaveNoCycle m2.requests m2.locks }
 {}
 
@@ -115,9 +115,9 @@ pub fn a_turn_of_the_system_keeps_the_order()
         → Turn (rules_of defs scripts) m event environment m2
         → Kept (rules_of defs scripts) (view_of defs) m
         → Kept (rules_of defs scripts) (view_of defs) m2 }
-    ensures run { (defs : Defs) (scripts : List Script) (m : Machine) (events : List Event) (environments : List Environment) (m2 : Machine)
+    ensures run { (defs : Defs) (scripts : List Script) (m : Machine) (steps : List RunStep) (m2 : Machine)
         → AreDefs defs
-        → Runs (rules_of defs scripts) m events environments m2
+        → Runs (rules_of defs scripts) m steps m2
         → Kept (rules_of defs scripts) (view_of defs) m
         → Kept (rules_of defs scripts) (view_of defs) m2 }
 {}
