@@ -8,6 +8,7 @@ pub mod Turns
 pub mod Replies
 pub mod Covers
 pub mod Needs
+pub mod Lines
 pub mod Forms
 pub mod Changes
 pub mod Settling

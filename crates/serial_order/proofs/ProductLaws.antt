@@ -32,7 +32,8 @@ use Rattle.serial_order.specs.Laws.{RootsAre, Laws}
 use Rattle.serial_order.specs.ProductView.{seen_in, view_of}
 use Rattle.serial_order.proofs.Replies.{dedb_alike, replies_alike}
 use Rattle.serial_order.proofs.Covers.{replies_covered, fresh_covered}
-use Rattle.serial_order.proofs.Needs.{calls_want, sync_wants, keeps_line, asks_fewer}
+use Rattle.serial_order.proofs.Needs.{calls_want, sync_wants, asks_fewer}
+use Rattle.serial_order.proofs.Lines.{keeps_line, keeps_terminal, request_stays, refuses_only}
 use Rattle.serial_order.proofs.Forms.{asks_form}
 use Rattle.serial_order.proofs.Changes.{roots_with_ends, purge_leaves}
 use Rattle.serial_order.proofs.Queue.{sync_leaves}
@@ -43,6 +44,10 @@ use Rattle.serial_order.proofs.Queue.{sync_leaves}
 pub laws_of : (defs : Defs) (scripts : List Script) → AllByRecursion IsMsdbDef defs.msdbs → Laws (rules_of defs scripts) (view_of defs)
 laws_of defs scripts each = record {
   lines = keeps_line scripts;
+  terminals = keeps_terminal scripts;
+  stays = request_stays scripts;
+  refuses = refuses_only scripts;
+  no_text = refl;
   ends = asks_fewer defs scripts;
   asked = asks_form defs scripts;
   begins = fresh_covered defs;
