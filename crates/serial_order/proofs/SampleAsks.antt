@@ -16,7 +16,7 @@ use Rattle.serial_order.specs.Sample.{named, sample_defs, changing, crossing, ve
 
 -- the message of a terminal and a script
 abbrev pub from_terminal : List ℕ → List ℕ → List ℕ → Message
-from_terminal terminal script line = record { lterm = named terminal; tran = named script; text = []; line = line }
+from_terminal terminal script line = record { lterm = named terminal; tran = named script; text = []; line = line; number = None }
 
 -- the four messages
 abbrev pub to_change : Message

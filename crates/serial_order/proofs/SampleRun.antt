@@ -1,25 +1,28 @@
 -- The sample run, turn by turn.
 use Rattle.std.proofs.Common.{◌≡◌, ℕ, List, [], ◌∷◌, Option, Some, None, inl, inr, refl, sym, ◌∙◌, ap, arith, true, false}
-use Rattle.std.specs.Prelude.{◌==◌, codes}
+use Rattle.std.specs.Prelude.{◌==◌, codes, map}
 use Rattle.std.specs.Fmt.{digits}
 use Rattle.std.specs.List.{Contains, IsDistinct}
 use Rattle.fp_model.specs.declared.database.Db.{Db}
 use Rattle.fp_model.specs.declared.calls.Mode.{Mode}
 use Rattle.fp_model.specs.declared.calls.Mode.TheVariants.{Share, Exclusive}
 use Rattle.fp_model.specs.declared.calls.Resource.TheVariants.{Segment, Anchor}
+use Rattle.fp_model.specs.declared.events.Event.{Event}
+use Rattle.fp_model.specs.declared.events.Event.TheVariants.{In, Region, Log, Purge}
 use Rattle.fp_model.specs.declared.log.Outcome.TheVariants as outcome
 use Rattle.fp_model.specs.Spellings.{be16}
 use Rattle.fp_model.specs.State.{start}
 use Rattle.fp_model.specs.Fsas.{list_on, first_failure}
 use Rattle.fp_model.specs.Settle.{settle_from}
+use Rattle.fp_model.specs.Serial.{Ending, refused_as}
 use Rattle.fp_model.specs.Answers.{Needed}
 use Rattle.fp_model.specs.Calls.{reply_to, looks_unheld, need_of}
 use Rattle.fp_model.specs.Commit.{settlement, lacking, purged}
 use Rattle.fp_model.specs.Asking.{Ask, Asks, Replies}
 use Rattle.fp_model.specs.Waiting.{without_region, with_request, WaitsAlong, IsCycle}
 use Rattle.fp_model.specs.Machine.{Machine, Transaction, Active, taken_in, with_region, with_entry_of, entry_here, entry_of, ended_with, sealed_once}
-use Rattle.fp_model.specs.Turns.{Answers, Gains, Waits, Closes, Commits_with, Fails_verify, Does, begins_in, with_answer, begun_in, as_lock, asks, wanted}
-use Rattle.fp_model.specs.Runs.{Runs}
+use Rattle.fp_model.specs.Turns.{NoFault, Answers, Gains, Waits, Deadlocks, Finishes, ending_of, Does, begins_in, with_answer, begun_in, as_lock, asks, wanted}
+use Rattle.fp_model.specs.Runs.{RunStep, events_of, Runs}
 use Rattle.serial_order.specs.Sample.{sample_defs, sample_rules, at_start, the_events, no_faults, the_entries}
 use Rattle.serial_order.proofs.Lists.{contains_nothing, contains_first, contains_later, contains_cases}
 use Rattle.serial_order.proofs.SampleAsks.{to_change, to_cross, to_verify, to_upgrade, hold_of, change_of_b, verify_of_b, root_get, change_asks_a, change_asks_b, change_asks_repl, change_replies, cross_asks_b, cross_asks_a, verify_asks, verify_replies, upgrade_looks, upgrade_holds, upgrade_replies}
@@ -60,20 +63,20 @@ abbrev m4 : Machine
 m4 = taken_in sample_rules m3
 
 abbrev change0 : Transaction
-change0 = begun_in sample_rules m4 to_change
+change0 = begun_in sample_rules m4 to_change 0
 
 -- three regions begin
 abbrev m5 : Machine
 m5 = begins_in sample_rules m4 1 (to_change ∷ to_cross ∷ to_verify ∷ to_upgrade ∷ [])
 
 abbrev cross0 : Transaction
-cross0 = begun_in sample_rules m5 to_cross
+cross0 = begun_in sample_rules m5 to_cross 0
 
 abbrev m6 : Machine
 m6 = begins_in sample_rules m5 2 (to_cross ∷ to_verify ∷ to_upgrade ∷ [])
 
 abbrev verify0 : Transaction
-verify0 = begun_in sample_rules m6 to_verify
+verify0 = begun_in sample_rules m6 to_verify 0
 
 abbrev m7 : Machine
 m7 = begins_in sample_rules m6 3 (to_verify ∷ to_upgrade ∷ [])
@@ -108,7 +111,7 @@ abbrev m13 : Machine
 m13 = waiting 1 (of_segment (codes "B")) m12
 
 abbrev m14 : Machine
-m14 = ended_with 2 (entry_of cross1 (outcome.Deadlock (2 ∷ 1 ∷ [])) [] [] []) m13.now m13
+m14 = ended_with 2 (entry_of cross1 (refused_as (outcome.Deadlock (2 ∷ 1 ∷ [])) m13.history.now) [] []) m13.history.now m13
 
 -- the first holds B, changes it and commits
 abbrev m15 : Machine
@@ -126,18 +129,24 @@ change3 = with_answer sample_rules m16 change2 change_of_b
 abbrev m17 : Machine
 m17 = with_region 1 (Active change3) m16
 
+abbrev change_ends : Ending
+change_ends = record { outcome = outcome.Done; reply = codes "CHANGED"; next = changed }
+
 abbrev m18 : Machine
-m18 = ended_with 1 (entry_of change3 outcome.Done (codes "CHANGED") change3.notes []) changed m17
+m18 = ended_with 1 (entry_of change3 change_ends change3.notes []) changed m17
 
 -- the third meets the change
 abbrev m19 : Machine
 m19 = gained 3 (of_segment (codes "B")) m18
 
+abbrev verify_ends : Ending
+verify_ends = refused_as (outcome.Verify 0 0 (codes "1")) m19.history.now
+
 abbrev m20 : Machine
-m20 = ended_with 3 (entry_of verify1 (outcome.Verify 0 0 (codes "1")) [] verify1.notes []) m19.now m19
+m20 = ended_with 3 (entry_of verify1 verify_ends verify1.notes []) m19.history.now m19
 
 abbrev upgrade0 : Transaction
-upgrade0 = begun_in sample_rules m20 to_upgrade
+upgrade0 = begun_in sample_rules m20 to_upgrade 0
 
 -- the first region takes the fourth line, shares the anchor and holds it
 abbrev m21 : Machine
@@ -161,8 +170,11 @@ upgrade2 = with_answer sample_rules m24 upgrade1 (root_get true)
 abbrev m25 : Machine
 m25 = with_region 1 (Active upgrade2) m24
 
+abbrev upgrade_ends : Ending
+upgrade_ends = record { outcome = outcome.Done; reply = codes "HELD"; next = changed }
+
 abbrev m26 : Machine
-m26 = ended_with 1 (entry_of upgrade2 outcome.Done (codes "HELD") upgrade2.notes []) changed m25
+m26 = ended_with 1 (entry_of upgrade2 upgrade_ends upgrade2.notes []) changed m25
 
 -- the area is purged, and the entries are sealed
 abbrev m27 : Machine
@@ -231,9 +243,17 @@ turn13 : Does sample_rules m12 1 change1 (Waits (of_segment (codes "B"))) m13
 unfolding reply_to looks_unheld need_of list_on first_failure settle_from settlement lacking purged be16 digits
 turn13 = (from_asks m12 1 change1 (Asks (hold_of (codes "B"))) (Some (of_segment (codes "B"))) change_asks_b refl, refl, no_cycle_yet, refl)
 
-turn14 : Does sample_rules m13 2 cross1 (Closes (of_segment (codes "A")) (1 ∷ [])) m14
+turn14 : Does sample_rules m13 2 cross1 (Deadlocks (of_segment (codes "A")) (1 ∷ [])) m14
 unfolding reply_to looks_unheld need_of list_on first_failure settle_from settlement lacking purged be16 digits
-turn14 = (from_asks m13 2 cross1 (Asks (hold_of (codes "A"))) (Some (of_segment (codes "A"))) cross_asks_a refl, (contains_first (2, 1) ((1, 2) ∷ []), contains_later (2, 1) ((1, 2) ∷ []) (1, 2) (contains_first (1, 2) [])), two_apart, refl)
+turn14 = (
+  record {
+    wants = from_asks m13 2 cross1 (Asks (hold_of (codes "A"))) (Some (of_segment (codes "A"))) cross_asks_a refl;
+    closes = (contains_first (2, 1) ((1, 2) ∷ []), contains_later (2, 1) ((1, 2) ∷ []) (1, 2) (contains_first (1, 2) []));
+    distinct = two_apart;
+  },
+  omega arith,
+  refl,
+)
 
 -- the first goes on and commits
 turn15 : Does sample_rules m14 1 change1 (Gains (of_segment (codes "B"))) m15
@@ -248,18 +268,34 @@ turn17 : Does sample_rules m16 1 change2 (Answers (change_of_b)) m17
 unfolding reply_to looks_unheld need_of list_on first_failure settle_from settlement lacking purged be16 digits
 turn17 = (change_asks_repl, from_asks m16 1 change2 (Asks change_of_b) None change_asks_repl refl, refl)
 
-turn18 : Does sample_rules m17 1 change3 (Commits_with (codes "CHANGED") [] changed) m18
+turn18 : Does sample_rules m17 1 change3 (Finishes change_ends []) m18
 unfolding reply_to looks_unheld need_of list_on first_failure settle_from settlement lacking purged be16 digits
-turn18 = (change_replies, from_asks m17 1 change3 (Replies (codes "CHANGED")) None change_replies refl, refl, refl)
+turn18 = (
+  record {
+    lacks_none = from_asks m17 1 change3 (Replies (codes "CHANGED")) None change_replies refl;
+    ends = ap (λ (a : Ask). ending_of sample_rules m17.history.now change3 a) change_replies;
+  },
+  (λ fails. omega arith),
+  tt,
+  refl,
+)
 
 -- the third meets the change
 turn19 : Does sample_rules m18 3 verify1 (Gains (of_segment (codes "B"))) m19
 unfolding reply_to looks_unheld need_of list_on first_failure settle_from settlement lacking purged be16 digits
 turn19 = (from_asks m18 3 verify1 (Replies (codes "VERIFIED")) (Some (of_segment (codes "B"))) verify_replies refl, refl, refl)
 
-turn20 : Does sample_rules m19 3 verify1 (Fails_verify (codes "VERIFIED") 0 0 (codes "1")) m20
+turn20 : Does sample_rules m19 3 verify1 (Finishes verify_ends []) m20
 unfolding reply_to looks_unheld need_of list_on first_failure settle_from settlement lacking purged be16 digits
-turn20 = (verify_replies, from_asks m19 3 verify1 (Replies (codes "VERIFIED")) None verify_replies refl, refl, refl)
+turn20 = (
+  record {
+    lacks_none = from_asks m19 3 verify1 (Replies (codes "VERIFIED")) None verify_replies refl;
+    ends = ap (λ (a : Ask). ending_of sample_rules m19.history.now verify1 a) verify_replies;
+  },
+  (λ fails. omega arith),
+  refl,
+  refl,
+)
 
 -- the fourth line
 turn22 : Does sample_rules m21 1 upgrade0 (Gains (of_anchor Share)) m22
@@ -278,17 +314,52 @@ turn25 : Does sample_rules m24 1 upgrade1 (Answers (root_get true)) m25
 unfolding reply_to looks_unheld need_of list_on first_failure settle_from settlement lacking purged be16 digits
 turn25 = (upgrade_holds, from_asks m24 1 upgrade1 (Asks (root_get true)) None upgrade_holds refl, refl)
 
-turn26 : Does sample_rules m25 1 upgrade2 (Commits_with (codes "HELD") [] changed) m26
+turn26 : Does sample_rules m25 1 upgrade2 (Finishes upgrade_ends []) m26
 unfolding reply_to looks_unheld need_of list_on first_failure settle_from settlement lacking purged be16 digits
-turn26 = (upgrade_replies, from_asks m25 1 upgrade2 (Replies (codes "HELD")) None upgrade_replies refl, refl, refl)
+turn26 = (
+  record {
+    lacks_none = from_asks m25 1 upgrade2 (Replies (codes "HELD")) None upgrade_replies refl;
+    ends = ap (λ (a : Ask). ending_of sample_rules m25.history.now upgrade2 a) upgrade_replies;
+  },
+  (λ fails. omega arith),
+  tt,
+  refl,
+)
+
+-- ---- the run
+
+-- a step that nothing befalls
+abbrev step : Event → Machine → RunStep
+step event after = record { event = event; environment = NoFault; after = after }
+
+abbrev the_steps : List RunStep
+the_steps =
+    step In m1 ∷ step In m2 ∷ step In m3 ∷ step In m4 ∷ step (Region 1) m5 ∷ step (Region 2) m6 ∷ step (Region 3) m7
+    ∷ step (Region 1) m8 ∷ step (Region 1) m9 ∷ step (Region 2) m10 ∷ step (Region 2) m11 ∷ step (Region 3) m12
+    ∷ step (Region 1) m13 ∷ step (Region 2) m14
+    ∷ step (Region 1) m15 ∷ step (Region 1) m16 ∷ step (Region 1) m17 ∷ step (Region 1) m18 ∷ step (Region 3) m19
+    ∷ step (Region 3) m20
+    ∷ step (Region 1) m21 ∷ step (Region 1) m22 ∷ step (Region 1) m23 ∷ step (Region 1) m24 ∷ step (Region 1) m25
+    ∷ step (Region 1) m26 ∷ step (Purge 3 1) m27 ∷ step Log m28 ∷ []
+
+-- the steps are turns
+runs_so : Runs sample_rules at_start the_steps m28
+unfolding reply_to looks_unheld need_of list_on first_failure settle_from settlement lacking purged be16 digits
+runs_so =
+  (refl, (refl, (refl, (refl, (refl, (refl, (refl,
+  ((Gains (of_segment (codes "A")), turn8), ((Answers (hold_of (codes "A")), turn9), ((Gains (of_segment (codes "B")), turn10),
+  ((Answers (hold_of (codes "B")), turn11), ((Answers verify_of_b, turn12), ((Waits (of_segment (codes "B")), turn13), ((Deadlocks (of_segment (codes "A")) (1 ∷ []), turn14),
+  ((Gains (of_segment (codes "B")), turn15), ((Answers (hold_of (codes "B")), turn16), ((Answers change_of_b, turn17), ((Finishes change_ends [], turn18),
+  ((Gains (of_segment (codes "B")), turn19), ((Finishes verify_ends [], turn20),
+  (refl, ((Gains (of_anchor Share), turn22), ((Answers (root_get false), turn23),
+  ((Gains (of_anchor Exclusive), turn24), ((Answers (root_get true), turn25), ((Finishes upgrade_ends [], turn26),
+  (record { items = []; next = changed; is_purged = refl; after = refl }, (refl, refl))))))))))))))))))))))))))))
 
 -- The sample run, with its outcomes.
-pub sample_run : (m : Machine) × (Runs sample_rules at_start the_events no_faults m × (m.entries ≡ the_entries))
+pub sample_run : (steps : List RunStep) × (m : Machine)
+    × (Runs sample_rules at_start steps m
+    × (events_of steps ≡ the_events)
+    × (map (λ step. step.environment) steps ≡ no_faults)
+    × (m.history.entries ≡ the_entries))
 unfolding reply_to looks_unheld need_of list_on first_failure settle_from settlement lacking purged be16 digits
-sample_run = (
-  m28,
-  (
-    (m1, refl, (m2, refl, (m3, refl, (m4, refl, (m5, refl, (m6, refl, (m7, refl, (m8, (Gains (of_segment (codes "A")), turn8), (m9, (Answers (hold_of (codes "A")), turn9), (m10, (Gains (of_segment (codes "B")), turn10), (m11, (Answers (hold_of (codes "B")), turn11), (m12, (Answers verify_of_b, turn12), (m13, (Waits (of_segment (codes "B")), turn13), (m14, (Closes (of_segment (codes "A")) (1 ∷ []), turn14), (m15, (Gains (of_segment (codes "B")), turn15), (m16, (Answers (hold_of (codes "B")), turn16), (m17, (Answers change_of_b, turn17), (m18, (Commits_with (codes "CHANGED") [] changed, turn18), (m19, (Gains (of_segment (codes "B")), turn19), (m20, (Fails_verify (codes "VERIFIED") 0 0 (codes "1"), turn20), (m21, refl, (m22, (Gains (of_anchor Share), turn22), (m23, (Answers (root_get false), turn23), (m24, (Gains (of_anchor Exclusive), turn24), (m25, (Answers (root_get true), turn25), (m26, (Commits_with (codes "HELD") [] changed, turn26), (m27, record { items = []; next = changed; is_purged = refl; after = refl }, (m28, refl, refl)))))))))))))))))))))))))))),
-    refl,
-  ),
-)
+sample_run = (the_steps, m28, (runs_so, refl, refl, refl))

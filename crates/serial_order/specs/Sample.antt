@@ -18,6 +18,7 @@ use Rattle.fp_model.specs.declared.scripts.Statement.{Statement, roll-Statement}
 use Rattle.fp_model.specs.declared.scripts.Statement.TheOpen.{Reply, Get, Fld, Repl}
 use Rattle.fp_model.specs.Texts.{padded}
 use Rattle.fp_model.specs.State.{start}
+use Rattle.fp_model.specs.History.{beginning}
 use Rattle.fp_model.specs.Rules.{Rules}
 use Rattle.fp_model.specs.Product.{rules_of}
 use Rattle.fp_model.specs.Machine.{Machine, at_rest}
@@ -46,7 +47,7 @@ roots = record {
       record { name = named (codes "R"); parent = None; sequential = false; fields = record { name = named (codes "K"); kind = C; at = 0; length = 1 } ∷ []; length = 1 }
       ∷ record { name = named (codes "S"); parent = Some 0; sequential = true; fields = record { name = named (codes "V"); kind = C; at = 0; length = 1 } ∷ []; length = 1 }
       ∷ [];
-  areas = record { name = named (codes "AREA"); uows = 1; base = 1; overflow = 0; capacity = 2 } ∷ [];
+  areas = record { name = named (codes "AREA"); uows = 1; base = 1; overflow = 0; capacity = 2; copies = 1 } ∷ [];
 }
 
 abbrev pub sample_defs : Defs
@@ -55,6 +56,7 @@ sample_defs = record {
   router = Fold;
   log_group = 10;
   pool = 10;
+  tries = 0;
   msdbs = segments ∷ [];
   dedbs = roots ∷ [];
   text = [];
@@ -103,7 +105,7 @@ sample_rules = rules_of sample_defs sample_scripts
 -- ---- the run
 
 abbrev pub at_start : Machine
-at_start = at_rest sample_rules (codes "T1 X" ∷ codes "T2 Y" ∷ codes "T3 Z" ∷ codes "T4 U" ∷ []) [] [] (start sample_defs)
+at_start = at_rest sample_rules (codes "T1 X" ∷ codes "T2 Y" ∷ codes "T3 Z" ∷ codes "T4 U" ∷ []) (beginning 1 (start sample_defs))
 
 -- Four lines are read and three regions begin. The first two take a lock each and want the other's: the first waits, the second
 -- closes the cycle. The third looks at B before the first changes it, and meets the change at its end. Then the first region
