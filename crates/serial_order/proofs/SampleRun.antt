@@ -345,15 +345,85 @@ the_steps =
 -- the steps are turns
 runs_so : Runs sample_rules at_start the_steps m28
 unfolding reply_to looks_unheld need_of list_on first_failure settle_from settlement lacking purged be16 digits
-runs_so =
-  (refl, (refl, (refl, (refl, (refl, (refl, (refl,
-  ((Gains (of_segment (codes "A")), turn8), ((Answers (hold_of (codes "A")), turn9), ((Gains (of_segment (codes "B")), turn10),
-  ((Answers (hold_of (codes "B")), turn11), ((Answers verify_of_b, turn12), ((Waits (of_segment (codes "B")), turn13), ((Deadlocks (of_segment (codes "A")) (1 ∷ []), turn14),
-  ((Gains (of_segment (codes "B")), turn15), ((Answers (hold_of (codes "B")), turn16), ((Answers change_of_b, turn17), ((Finishes change_ends [], turn18),
-  ((Gains (of_segment (codes "B")), turn19), ((Finishes verify_ends [], turn20),
-  (refl, ((Gains (of_anchor Share), turn22), ((Answers (root_get false), turn23),
-  ((Gains (of_anchor Exclusive), turn24), ((Answers (root_get true), turn25), ((Finishes upgrade_ends [], turn26),
-  (record { items = []; next = changed; is_purged = refl; after = refl }, (refl, refl))))))))))))))))))))))))))))
+runs_so = (
+  refl,
+  (
+    refl,
+    (
+      refl,
+      (
+        refl,
+        (
+          refl,
+          (
+            refl,
+            (
+              refl,
+              (
+                (Gains (of_segment (codes "A")), turn8),
+                (
+                  (Answers (hold_of (codes "A")), turn9),
+                  (
+                    (Gains (of_segment (codes "B")), turn10),
+                    (
+                      (Answers (hold_of (codes "B")), turn11),
+                      (
+                        (Answers verify_of_b, turn12),
+                        (
+                          (Waits (of_segment (codes "B")), turn13),
+                          (
+                            (Deadlocks (of_segment (codes "A")) (1 ∷ []), turn14),
+                            (
+                              (Gains (of_segment (codes "B")), turn15),
+                              (
+                                (Answers (hold_of (codes "B")), turn16),
+                                (
+                                  (Answers change_of_b, turn17),
+                                  (
+                                    (Finishes change_ends [], turn18),
+                                    (
+                                      (Gains (of_segment (codes "B")), turn19),
+                                      (
+                                        (Finishes verify_ends [], turn20),
+                                        (
+                                          refl,
+                                          (
+                                            (Gains (of_anchor Share), turn22),
+                                            (
+                                              (Answers (root_get false), turn23),
+                                              (
+                                                (Gains (of_anchor Exclusive), turn24),
+                                                (
+                                                  (Answers (root_get true), turn25),
+                                                  (
+                                                    (Finishes upgrade_ends [], turn26),
+                                                    (record { items = []; next = changed; is_purged = refl; after = refl }, (refl, refl)),
+                                                  ),
+                                                ),
+                                              ),
+                                            ),
+                                          ),
+                                        ),
+                                      ),
+                                    ),
+                                  ),
+                                ),
+                              ),
+                            ),
+                          ),
+                        ),
+                      ),
+                    ),
+                  ),
+                ),
+              ),
+            ),
+          ),
+        ),
+      ),
+    ),
+  ),
+)
 
 -- The sample run, with its outcomes.
 pub sample_run : (steps : List RunStep) × (m : Machine)

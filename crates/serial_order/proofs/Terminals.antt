@@ -123,8 +123,13 @@ module _ (rules : Rules) where
       less name =
           let of : Message → ℕ = λ x. line_count rules name x.line in
           let line : line_count rules name t.message.line ≡ line_count rules name message.line = ap (line_count rules name) same in
-          omega (arith, line, region_put name m place Idle (Active t) idle, sum_by-cons of message messages,
-          sum_put (λ (xs : List Message). sum_by of xs) m.queues queue (message ∷ messages) messages in_queue)
+          omega (
+            arith,
+            line,
+            region_put name m place Idle (Active t) idle,
+            sum_by-cons of message messages,
+            sum_put (λ (xs : List Message). sum_by of xs) m.queues queue (message ∷ messages) messages in_queue,
+          )
 
   -- ---- entries
 
@@ -231,9 +236,9 @@ module _ (rules : Rules) where
       let of : Entry → ℕ = λ e. line_count rules name e.line in
       let left : List Entry = drop m.sealed m.history.entries in
       let rest : drop (m.sealed + length (take rules.log_group left)) m.history.entries ≡ drop rules.log_group left =
-          sym (drop-drop (length (take rules.log_group left)) m.sealed m.history.entries)
-          ∙ ap (λ (n : ℕ). drop n left) (length-take rules.log_group left)
-          ∙ drop_min rules.log_group left in
+      sym (drop-drop (length (take rules.log_group left)) m.sealed m.history.entries)
+      ∙ ap (λ (n : ℕ). drop n left) (length-take rules.log_group left)
+      ∙ drop_min rules.log_group left in
       ap (λ (es : List Entry). sum_by of (take rules.log_group left) + sum_by of es) rest ∙ sum_by-take-drop of left rules.log_group
 
   -- no more entries are sealed than there are
