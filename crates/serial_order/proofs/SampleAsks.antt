@@ -87,9 +87,13 @@ pub verify_asks : ask sample_defs verifying.statements to_verify [] ≡ Asks ver
 unfolding ask be16 digits
 verify_asks = simp (run_roll) refl
 
-pub verify_replies : ask sample_defs verifying.statements to_verify (lettered blank (32 ∷ []) ∷ []) ≡ Replies (codes "VERIFIED")
+pub verify_replies : ask sample_defs verifying.statements to_verify (lettered blank (32 ∷ []) ∷ []) ≡ Replies (codes "SEEN")
 unfolding ask be16 digits
 verify_replies = simp (run_roll) refl
+
+pub verify_meets_change : ask sample_defs verifying.statements to_verify (lettered (codes "FE") (68 ∷ []) ∷ []) ≡ Replies (codes "SEEN")
+unfolding ask be16 digits
+verify_meets_change = simp (run_roll) refl
 
 -- the script U
 pub upgrade_looks : ask sample_defs upgrading.statements to_upgrade [] ≡ Asks (root_get false)

@@ -1,5 +1,5 @@
 -- The sample run, turn by turn.
-use Rattle.std.proofs.Common.{◌≡◌, ℕ, List, [], ◌∷◌, Option, Some, None, inl, inr, refl, sym, ◌∙◌, ap, arith, true, false}
+use Rattle.std.proofs.Common.{◌≡◌, ℕ, List, [], ◌∷◌, ◌++◌, subst, Option, Some, None, inl, inr, refl, sym, ◌∙◌, ap, arith, true, false}
 use Rattle.std.specs.Prelude.{◌==◌, codes, map}
 use Rattle.std.specs.Fmt.{digits}
 use Rattle.std.specs.List.{Contains, IsDistinct}
@@ -19,13 +19,13 @@ use Rattle.fp_model.specs.Answers.{Needed}
 use Rattle.fp_model.specs.Calls.{reply_to, looks_unheld, need_of}
 use Rattle.fp_model.specs.Commit.{settlement, lacking, purged}
 use Rattle.fp_model.specs.Asking.{Ask, Asks, Replies}
-use Rattle.fp_model.specs.Waiting.{without_region, with_request, WaitsAlong, IsCycle}
+use Rattle.fp_model.specs.Waiting.{without_region, with_request, waits, WaitsAlong, IsCycle}
 use Rattle.fp_model.specs.Machine.{Machine, Transaction, Active, taken_in, with_region, with_entry_of, entry_here, entry_of, ended_with, sealed_once}
-use Rattle.fp_model.specs.Turns.{NoFault, Answers, Gains, Waits, Deadlocks, Finishes, ending_of, Does, begins_in, with_answer, begun_in, as_lock, asks, wanted}
+use Rattle.fp_model.specs.Turns.{NoFault, Answers, Gains, Waits, Deadlocks, Retries_at_cycle, Finishes, Retries_at_verify, ClosesCycle, IsAtEnd, ending_of, tried_again, requests_with, Does, begins_in, with_answer, begun_in, as_lock, asks, wanted}
 use Rattle.fp_model.specs.Runs.{RunStep, events_of, Runs}
 use Rattle.serial_order.specs.Sample.{sample_defs, sample_rules, at_start, the_events, no_faults, the_entries}
-use Rattle.serial_order.proofs.Lists.{contains_nothing, contains_first, contains_later, contains_cases}
-use Rattle.serial_order.proofs.SampleAsks.{to_change, to_cross, to_verify, to_upgrade, hold_of, change_of_b, verify_of_b, root_get, change_asks_a, change_asks_b, change_asks_repl, change_replies, cross_asks_b, cross_asks_a, verify_asks, verify_replies, upgrade_looks, upgrade_holds, upgrade_replies}
+use Rattle.serial_order.proofs.Lists.{true_is_not_false, contains_nothing, contains_first, contains_later, contains_cases}
+use Rattle.serial_order.proofs.SampleAsks.{to_change, to_cross, to_verify, to_upgrade, hold_of, change_of_b, verify_of_b, root_get, change_asks_a, change_asks_b, change_asks_repl, change_replies, cross_asks_b, cross_asks_a, verify_asks, verify_replies, verify_meets_change, upgrade_looks, upgrade_holds, upgrade_replies}
 
 -- ---- the locks that are needed
 
@@ -38,7 +38,8 @@ of_anchor mode = record { resource = Anchor 0 0; mode = mode }
 
 -- the machine with a lock gained, or with a request that stands
 abbrev gained : ℕ → Needed → Machine → Machine
-gained region needed m = record m { locks = as_lock sample_rules region needed ∷ m.locks; requests = without_region region m.requests }
+gained region needed m =
+    record m { locks = as_lock sample_rules region needed ∷ m.locks; requests = without_region region m.requests }
 
 abbrev waiting : ℕ → Needed → Machine → Machine
 waiting region needed m = record m { requests = with_request (as_lock sample_rules region needed) m.requests }
@@ -106,82 +107,116 @@ verify1 = with_answer sample_rules m11 verify0 verify_of_b
 abbrev m12 : Machine
 m12 = with_region 3 (Active verify1) m11
 
--- the first waits for B, and the second would wait for A
+-- the first waits for B, and the second would wait for A: it begins again
 abbrev m13 : Machine
 m13 = waiting 1 (of_segment (codes "B")) m12
 
 abbrev m14 : Machine
-m14 = ended_with 2 (entry_of cross1 (refused_as (outcome.Deadlock (2 ∷ 1 ∷ [])) m13.history.now) [] []) m13.history.now m13
+m14 = tried_again sample_rules 2 cross1 m13
 
--- the first holds B, changes it and commits
+abbrev cross2 : Transaction
+cross2 = begun_in sample_rules m13 to_cross 1
+
+-- it takes B once more, and is refused at the same cycle
 abbrev m15 : Machine
-m15 = gained 1 (of_segment (codes "B")) m14
+m15 = gained 2 (of_segment (codes "B")) m14
 
-abbrev change2 : Transaction
-change2 = with_answer sample_rules m15 change1 (hold_of (codes "B"))
+abbrev cross3 : Transaction
+cross3 = with_answer sample_rules m15 cross2 (hold_of (codes "B"))
 
 abbrev m16 : Machine
-m16 = with_region 1 (Active change2) m15
+m16 = with_region 2 (Active cross3) m15
 
-abbrev change3 : Transaction
-change3 = with_answer sample_rules m16 change2 change_of_b
+abbrev cross_ends : Ending
+cross_ends = refused_as (outcome.Deadlock (2 ∷ 1 ∷ [])) m16.history.now
 
 abbrev m17 : Machine
-m17 = with_region 1 (Active change3) m16
+m17 = ended_with 2 (entry_of cross3 cross_ends [] []) m16.history.now m16
+
+-- the first holds B, changes it and commits
+abbrev m18 : Machine
+m18 = gained 1 (of_segment (codes "B")) m17
+
+abbrev change2 : Transaction
+change2 = with_answer sample_rules m18 change1 (hold_of (codes "B"))
+
+abbrev m19 : Machine
+m19 = with_region 1 (Active change2) m18
+
+abbrev change3 : Transaction
+change3 = with_answer sample_rules m19 change2 change_of_b
+
+abbrev m20 : Machine
+m20 = with_region 1 (Active change3) m19
 
 abbrev change_ends : Ending
 change_ends = record { outcome = outcome.Done; reply = codes "CHANGED"; next = changed }
 
-abbrev m18 : Machine
-m18 = ended_with 1 (entry_of change3 change_ends change3.notes []) changed m17
-
--- the third meets the change
-abbrev m19 : Machine
-m19 = gained 3 (of_segment (codes "B")) m18
-
-abbrev verify_ends : Ending
-verify_ends = refused_as (outcome.Verify 0 0 (codes "1")) m19.history.now
-
-abbrev m20 : Machine
-m20 = ended_with 3 (entry_of verify1 verify_ends verify1.notes []) m19.history.now m19
-
-abbrev upgrade0 : Transaction
-upgrade0 = begun_in sample_rules m20 to_upgrade 0
-
--- the first region takes the fourth line, shares the anchor and holds it
 abbrev m21 : Machine
-m21 = begins_in sample_rules m20 1 (to_upgrade ∷ [])
+m21 = ended_with 1 (entry_of change3 change_ends change3.notes []) changed m20
 
+-- the third meets the change: it begins again, and sees it
 abbrev m22 : Machine
-m22 = gained 1 (of_anchor Share) m21
+m22 = gained 3 (of_segment (codes "B")) m21
 
-abbrev upgrade1 : Transaction
-upgrade1 = with_answer sample_rules m22 upgrade0 (root_get false)
+abbrev verify_fails : Ending
+verify_fails = refused_as (outcome.Verify 0 0 (codes "1")) m22.history.now
 
 abbrev m23 : Machine
-m23 = with_region 1 (Active upgrade1) m22
+m23 = tried_again sample_rules 3 verify1 m22
+
+abbrev verify2 : Transaction
+verify2 = begun_in sample_rules m22 to_verify 1
+
+abbrev verify3 : Transaction
+verify3 = with_answer sample_rules m23 verify2 verify_of_b
 
 abbrev m24 : Machine
-m24 = gained 1 (of_anchor Exclusive) m23
+m24 = with_region 3 (Active verify3) m23
 
-abbrev upgrade2 : Transaction
-upgrade2 = with_answer sample_rules m24 upgrade1 (root_get true)
+abbrev verify_ends : Ending
+verify_ends = record { outcome = outcome.Done; reply = codes "SEEN"; next = changed }
 
 abbrev m25 : Machine
-m25 = with_region 1 (Active upgrade2) m24
+m25 = ended_with 3 (entry_of verify3 verify_ends verify3.notes []) changed m24
+
+abbrev upgrade0 : Transaction
+upgrade0 = begun_in sample_rules m25 to_upgrade 0
+
+-- the first region takes the fourth line, shares the anchor and holds it
+abbrev m26 : Machine
+m26 = begins_in sample_rules m25 1 (to_upgrade ∷ [])
+
+abbrev m27 : Machine
+m27 = gained 1 (of_anchor Share) m26
+
+abbrev upgrade1 : Transaction
+upgrade1 = with_answer sample_rules m27 upgrade0 (root_get false)
+
+abbrev m28 : Machine
+m28 = with_region 1 (Active upgrade1) m27
+
+abbrev m29 : Machine
+m29 = gained 1 (of_anchor Exclusive) m28
+
+abbrev upgrade2 : Transaction
+upgrade2 = with_answer sample_rules m29 upgrade1 (root_get true)
+
+abbrev m30 : Machine
+m30 = with_region 1 (Active upgrade2) m29
 
 abbrev upgrade_ends : Ending
 upgrade_ends = record { outcome = outcome.Done; reply = codes "HELD"; next = changed }
 
-abbrev m26 : Machine
-m26 = ended_with 1 (entry_of upgrade2 upgrade_ends upgrade2.notes []) changed m25
+abbrev m31 : Machine
+m31 = ended_with 1 (entry_of upgrade2 upgrade_ends upgrade2.notes []) changed m30
 
 -- the area is purged, and the entries are sealed
-abbrev m27 : Machine
-m27 = with_entry_of (entry_here m26 (outcome.Purge 3 1) [] []) changed m26
+abbrev m32 : Machine
+m32 = with_entry_of (entry_here m31 (outcome.Purge 3 1) [] []) changed m31
 
-abbrev m28 : Machine
-m28 = sealed_once sample_rules m27
+abbrev m33 : Machine
+m33 = sealed_once sample_rules m32
 
 -- ---- who waits
 
@@ -213,7 +248,8 @@ two_apart = ((refl, tt), (tt, tt))
 -- ---- the turns
 
 -- what a transaction wants, by what it asks
-from_asks : (m : Machine) (region : ℕ) (t : Transaction) (a : Ask) (o : Option Needed) → asks sample_rules t ≡ a → wanted sample_rules m region t a ≡ o → wanted sample_rules m region t (asks sample_rules t) ≡ o
+from_asks : (m : Machine) (region : ℕ) (t : Transaction) (a : Ask) (o : Option Needed) → asks sample_rules t ≡ a
+    → wanted sample_rules m region t a ≡ o → wanted sample_rules m region t (asks sample_rules t) ≡ o
 from_asks m region t a o e f = ap (λ (q : Ask). wanted sample_rules m region t q) e ∙ f
 
 -- the first and the second take their locks
@@ -234,97 +270,111 @@ unfolding reply_to looks_unheld need_of list_on first_failure settle_from settle
 turn11 = (cross_asks_b, from_asks m10 2 cross0 (Asks (hold_of (codes "B"))) None cross_asks_b refl, refl)
 
 -- the third looks at B
-turn12 : Does sample_rules m11 3 verify0 (Answers (verify_of_b)) m12
+turn12 : Does sample_rules m11 3 verify0 (Answers verify_of_b) m12
 unfolding reply_to looks_unheld need_of list_on first_failure settle_from settlement lacking purged be16 digits
 turn12 = (verify_asks, from_asks m11 3 verify0 (Asks verify_of_b) None verify_asks refl, refl)
 
--- the first waits, and the second closes the cycle
+-- the first waits, and the second begins again at the cycle
 turn13 : Does sample_rules m12 1 change1 (Waits (of_segment (codes "B"))) m13
 unfolding reply_to looks_unheld need_of list_on first_failure settle_from settlement lacking purged be16 digits
 turn13 = (from_asks m12 1 change1 (Asks (hold_of (codes "B"))) (Some (of_segment (codes "B"))) change_asks_b refl, refl, no_cycle_yet, refl)
 
-turn14 : Does sample_rules m13 2 cross1 (Deadlocks (of_segment (codes "A")) (1 ∷ [])) m14
+-- the second would close the cycle with the first, as often as it comes here
+closes_cycle : (m : Machine) (t : Transaction) → asks sample_rules t ≡ Asks (hold_of (codes "A"))
+    → wanted sample_rules m 2 t (Asks (hold_of (codes "A"))) ≡ Some (of_segment (codes "A"))
+    → waits (requests_with sample_rules m 2 (of_segment (codes "A"))) m.locks ≡ (2, 1) ∷ (1, 2) ∷ []
+    → ClosesCycle sample_rules m 2 t (of_segment (codes "A")) (1 ∷ [])
+closes_cycle m t asks_a wants_a pairs =
+    let cycle : IsCycle ((2, 1) ∷ (1, 2) ∷ []) (2 ∷ 1 ∷ []) =
+    (contains_first (2, 1) ((1, 2) ∷ []), contains_later (2, 1) ((1, 2) ∷ []) (1, 2) (contains_first (1, 2) [])) in
+    record {
+      wants = from_asks m 2 t (Asks (hold_of (codes "A"))) (Some (of_segment (codes "A"))) asks_a wants_a;
+      closes = subst (λ (ps : List (ℕ × ℕ)). IsCycle ps (2 ∷ 1 ∷ [])) (sym pairs) cycle;
+      distinct = two_apart;
+    }
+
+turn14 : Does sample_rules m13 2 cross1 (Retries_at_cycle (of_segment (codes "A")) (1 ∷ [])) m14
 unfolding reply_to looks_unheld need_of list_on first_failure settle_from settlement lacking purged be16 digits
-turn14 = (
-  record {
-    wants = from_asks m13 2 cross1 (Asks (hold_of (codes "A"))) (Some (of_segment (codes "A"))) cross_asks_a refl;
-    closes = (contains_first (2, 1) ((1, 2) ∷ []), contains_later (2, 1) ((1, 2) ∷ []) (1, 2) (contains_first (1, 2) []));
-    distinct = two_apart;
-  },
-  omega arith,
-  refl,
-)
+turn14 = (closes_cycle m13 cross1 cross_asks_a refl refl, omega arith, refl)
+
+-- it takes B once more, and is refused
+turn15 : Does sample_rules m14 2 cross2 (Gains (of_segment (codes "B"))) m15
+unfolding reply_to looks_unheld need_of list_on first_failure settle_from settlement lacking purged be16 digits
+turn15 = (from_asks m14 2 cross2 (Asks (hold_of (codes "B"))) (Some (of_segment (codes "B"))) cross_asks_b refl, refl, refl)
+
+turn16 : Does sample_rules m15 2 cross2 (Answers (hold_of (codes "B"))) m16
+unfolding reply_to looks_unheld need_of list_on first_failure settle_from settlement lacking purged be16 digits
+turn16 = (cross_asks_b, from_asks m15 2 cross2 (Asks (hold_of (codes "B"))) None cross_asks_b refl, refl)
+
+turn17 : Does sample_rules m16 2 cross3 (Deadlocks (of_segment (codes "A")) (1 ∷ [])) m17
+unfolding reply_to looks_unheld need_of list_on first_failure settle_from settlement lacking purged be16 digits
+turn17 = (closes_cycle m16 cross3 cross_asks_a refl refl, omega arith, refl)
 
 -- the first goes on and commits
-turn15 : Does sample_rules m14 1 change1 (Gains (of_segment (codes "B"))) m15
+turn18 : Does sample_rules m17 1 change1 (Gains (of_segment (codes "B"))) m18
 unfolding reply_to looks_unheld need_of list_on first_failure settle_from settlement lacking purged be16 digits
-turn15 = (from_asks m14 1 change1 (Asks (hold_of (codes "B"))) (Some (of_segment (codes "B"))) change_asks_b refl, refl, refl)
+turn18 = (from_asks m17 1 change1 (Asks (hold_of (codes "B"))) (Some (of_segment (codes "B"))) change_asks_b refl, refl, refl)
 
-turn16 : Does sample_rules m15 1 change1 (Answers (hold_of (codes "B"))) m16
+turn19 : Does sample_rules m18 1 change1 (Answers (hold_of (codes "B"))) m19
 unfolding reply_to looks_unheld need_of list_on first_failure settle_from settlement lacking purged be16 digits
-turn16 = (change_asks_b, from_asks m15 1 change1 (Asks (hold_of (codes "B"))) None change_asks_b refl, refl)
+turn19 = (change_asks_b, from_asks m18 1 change1 (Asks (hold_of (codes "B"))) None change_asks_b refl, refl)
 
-turn17 : Does sample_rules m16 1 change2 (Answers (change_of_b)) m17
+turn20 : Does sample_rules m19 1 change2 (Answers change_of_b) m20
 unfolding reply_to looks_unheld need_of list_on first_failure settle_from settlement lacking purged be16 digits
-turn17 = (change_asks_repl, from_asks m16 1 change2 (Asks change_of_b) None change_asks_repl refl, refl)
+turn20 = (change_asks_repl, from_asks m19 1 change2 (Asks change_of_b) None change_asks_repl refl, refl)
 
-turn18 : Does sample_rules m17 1 change3 (Finishes change_ends []) m18
-unfolding reply_to looks_unheld need_of list_on first_failure settle_from settlement lacking purged be16 digits
-turn18 = (
-  record {
-    lacks_none = from_asks m17 1 change3 (Replies (codes "CHANGED")) None change_replies refl;
-    ends = ap (λ (a : Ask). ending_of sample_rules m17.history.now change3 a) change_replies;
-  },
-  (λ fails. omega arith),
-  tt,
-  refl,
-)
+-- a script that replies is at its end where it lacks nothing
+at_end : (m : Machine) (region : ℕ) (t : Transaction) (reply : List ℕ) (ending : Ending)
+    → asks sample_rules t ≡ Replies reply
+    → wanted sample_rules m region t (Replies reply) ≡ None
+    → ending_of sample_rules m.history.now t (Replies reply) ≡ Some ending
+    → IsAtEnd sample_rules m region t ending
+at_end m region t reply ending replies lacks ends = record {
+  lacks_none = from_asks m region t (Replies reply) None replies lacks;
+  ends = ap (λ (a : Ask). ending_of sample_rules m.history.now t a) replies ∙ ends;
+}
 
--- the third meets the change
-turn19 : Does sample_rules m18 3 verify1 (Gains (of_segment (codes "B"))) m19
+turn21 : Does sample_rules m20 1 change3 (Finishes change_ends []) m21
 unfolding reply_to looks_unheld need_of list_on first_failure settle_from settlement lacking purged be16 digits
-turn19 = (from_asks m18 3 verify1 (Replies (codes "VERIFIED")) (Some (of_segment (codes "B"))) verify_replies refl, refl, refl)
+turn21 = (at_end m20 1 change3 (codes "CHANGED") change_ends change_replies refl refl, (λ fails. absurd (true_is_not_false (sym fails))), tt, refl)
 
-turn20 : Does sample_rules m19 3 verify1 (Finishes verify_ends []) m20
+-- the third meets the change, and begins again
+turn22 : Does sample_rules m21 3 verify1 (Gains (of_segment (codes "B"))) m22
 unfolding reply_to looks_unheld need_of list_on first_failure settle_from settlement lacking purged be16 digits
-turn20 = (
-  record {
-    lacks_none = from_asks m19 3 verify1 (Replies (codes "VERIFIED")) None verify_replies refl;
-    ends = ap (λ (a : Ask). ending_of sample_rules m19.history.now verify1 a) verify_replies;
-  },
-  (λ fails. omega arith),
-  refl,
-  refl,
-)
+turn22 = (from_asks m21 3 verify1 (Replies (codes "SEEN")) (Some (of_segment (codes "B"))) verify_replies refl, refl, refl)
+
+turn23 : Does sample_rules m22 3 verify1 (Retries_at_verify verify_fails) m23
+unfolding reply_to looks_unheld need_of list_on first_failure settle_from settlement lacking purged be16 digits
+turn23 = (at_end m22 3 verify1 (codes "SEEN") verify_fails verify_replies refl refl, refl, omega arith, refl)
+
+turn24 : Does sample_rules m23 3 verify2 (Answers verify_of_b) m24
+unfolding reply_to looks_unheld need_of list_on first_failure settle_from settlement lacking purged be16 digits
+turn24 = (verify_asks, from_asks m23 3 verify2 (Asks verify_of_b) None verify_asks refl, refl)
+
+turn25 : Does sample_rules m24 3 verify3 (Finishes verify_ends []) m25
+unfolding reply_to looks_unheld need_of list_on first_failure settle_from settlement lacking purged be16 digits
+turn25 = (at_end m24 3 verify3 (codes "SEEN") verify_ends verify_meets_change refl refl, (λ fails. absurd (true_is_not_false (sym fails))), tt, refl)
 
 -- the fourth line
-turn22 : Does sample_rules m21 1 upgrade0 (Gains (of_anchor Share)) m22
+turn27 : Does sample_rules m26 1 upgrade0 (Gains (of_anchor Share)) m27
 unfolding reply_to looks_unheld need_of list_on first_failure settle_from settlement lacking purged be16 digits
-turn22 = (from_asks m21 1 upgrade0 (Asks (root_get false)) (Some (of_anchor Share)) upgrade_looks refl, refl, refl)
+turn27 = (from_asks m26 1 upgrade0 (Asks (root_get false)) (Some (of_anchor Share)) upgrade_looks refl, refl, refl)
 
-turn23 : Does sample_rules m22 1 upgrade0 (Answers (root_get false)) m23
+turn28 : Does sample_rules m27 1 upgrade0 (Answers (root_get false)) m28
 unfolding reply_to looks_unheld need_of list_on first_failure settle_from settlement lacking purged be16 digits
-turn23 = (upgrade_looks, from_asks m22 1 upgrade0 (Asks (root_get false)) None upgrade_looks refl, refl)
+turn28 = (upgrade_looks, from_asks m27 1 upgrade0 (Asks (root_get false)) None upgrade_looks refl, refl)
 
-turn24 : Does sample_rules m23 1 upgrade1 (Gains (of_anchor Exclusive)) m24
+turn29 : Does sample_rules m28 1 upgrade1 (Gains (of_anchor Exclusive)) m29
 unfolding reply_to looks_unheld need_of list_on first_failure settle_from settlement lacking purged be16 digits
-turn24 = (from_asks m23 1 upgrade1 (Asks (root_get true)) (Some (of_anchor Exclusive)) upgrade_holds refl, refl, refl)
+turn29 = (from_asks m28 1 upgrade1 (Asks (root_get true)) (Some (of_anchor Exclusive)) upgrade_holds refl, refl, refl)
 
-turn25 : Does sample_rules m24 1 upgrade1 (Answers (root_get true)) m25
+turn30 : Does sample_rules m29 1 upgrade1 (Answers (root_get true)) m30
 unfolding reply_to looks_unheld need_of list_on first_failure settle_from settlement lacking purged be16 digits
-turn25 = (upgrade_holds, from_asks m24 1 upgrade1 (Asks (root_get true)) None upgrade_holds refl, refl)
+turn30 = (upgrade_holds, from_asks m29 1 upgrade1 (Asks (root_get true)) None upgrade_holds refl, refl)
 
-turn26 : Does sample_rules m25 1 upgrade2 (Finishes upgrade_ends []) m26
+turn31 : Does sample_rules m30 1 upgrade2 (Finishes upgrade_ends []) m31
 unfolding reply_to looks_unheld need_of list_on first_failure settle_from settlement lacking purged be16 digits
-turn26 = (
-  record {
-    lacks_none = from_asks m25 1 upgrade2 (Replies (codes "HELD")) None upgrade_replies refl;
-    ends = ap (λ (a : Ask). ending_of sample_rules m25.history.now upgrade2 a) upgrade_replies;
-  },
-  (λ fails. omega arith),
-  tt,
-  refl,
-)
+turn31 = (at_end m30 1 upgrade2 (codes "HELD") upgrade_ends upgrade_replies refl refl, (λ fails. absurd (true_is_not_false (sym fails))), tt, refl)
 
 -- ---- the run
 
@@ -332,98 +382,87 @@ turn26 = (
 abbrev step : Event → Machine → RunStep
 step event after = record { event = event; environment = NoFault; after = after }
 
+-- two runs one behind the other
+runs_join : (m : Machine) (a b : List RunStep) (mid m2 : Machine)
+    → Runs sample_rules m a mid → Runs sample_rules mid b m2 → Runs sample_rules m (a ++ b) m2
+runs_join m [] b mid m2 first then_on = subst (λ (x : Machine). Runs sample_rules x b m2) first then_on
+runs_join m (s ∷ a) b mid m2 first then_on = (first.0, runs_join s.after a b mid m2 first.1 then_on)
+
+abbrev beginning_steps : List RunStep
+beginning_steps =
+    step In m1 ∷ step In m2 ∷ step In m3 ∷ step In m4 ∷ step (Region 1) m5 ∷ step (Region 2) m6 ∷ step (Region 3) m7 ∷ []
+
+beginning_runs : Runs sample_rules at_start beginning_steps m7
+unfolding reply_to looks_unheld need_of list_on first_failure settle_from settlement lacking purged be16 digits
+beginning_runs = (refl, (refl, (refl, (refl, (refl, (refl, (refl, refl)))))))
+
+abbrev meeting_steps : List RunStep
+meeting_steps =
+    step (Region 1) m8 ∷ step (Region 1) m9 ∷ step (Region 2) m10 ∷ step (Region 2) m11 ∷ step (Region 3) m12 ∷ []
+
+meeting_runs : Runs sample_rules m7 meeting_steps m12
+unfolding reply_to looks_unheld need_of list_on first_failure settle_from settlement lacking purged be16 digits
+meeting_runs = ((Gains (of_segment (codes "A")), turn8), ((Answers (hold_of (codes "A")), turn9), ((Gains (of_segment (codes "B")), turn10), ((Answers (hold_of (codes "B")), turn11), ((Answers verify_of_b, turn12), refl)))))
+
+abbrev crossing_steps : List RunStep
+crossing_steps =
+    step (Region 1) m13 ∷ step (Region 2) m14 ∷ step (Region 2) m15 ∷ step (Region 2) m16 ∷ step (Region 2) m17 ∷ []
+
+crossing_runs : Runs sample_rules m12 crossing_steps m17
+unfolding reply_to looks_unheld need_of list_on first_failure settle_from settlement lacking purged be16 digits
+crossing_runs = ((Waits (of_segment (codes "B")), turn13), ((Retries_at_cycle (of_segment (codes "A")) (1 ∷ []), turn14), ((Gains (of_segment (codes "B")), turn15), ((Answers (hold_of (codes "B")), turn16), ((Deadlocks (of_segment (codes "A")) (1 ∷ []), turn17), refl)))))
+
+abbrev changing_steps : List RunStep
+changing_steps =
+    step (Region 1) m18 ∷ step (Region 1) m19 ∷ step (Region 1) m20 ∷ step (Region 1) m21 ∷ []
+
+changing_runs : Runs sample_rules m17 changing_steps m21
+unfolding reply_to looks_unheld need_of list_on first_failure settle_from settlement lacking purged be16 digits
+changing_runs = ((Gains (of_segment (codes "B")), turn18), ((Answers (hold_of (codes "B")), turn19), ((Answers change_of_b, turn20), ((Finishes change_ends [], turn21), refl))))
+
+abbrev verifying_steps : List RunStep
+verifying_steps =
+    step (Region 3) m22 ∷ step (Region 3) m23 ∷ step (Region 3) m24 ∷ step (Region 3) m25 ∷ []
+
+verifying_runs : Runs sample_rules m21 verifying_steps m25
+unfolding reply_to looks_unheld need_of list_on first_failure settle_from settlement lacking purged be16 digits
+verifying_runs = ((Gains (of_segment (codes "B")), turn22), ((Retries_at_verify verify_fails, turn23), ((Answers verify_of_b, turn24), ((Finishes verify_ends [], turn25), refl))))
+
+abbrev upgrading_steps : List RunStep
+upgrading_steps =
+    step (Region 1) m26 ∷ step (Region 1) m27 ∷ step (Region 1) m28 ∷ step (Region 1) m29 ∷ step (Region 1) m30 ∷ step (Region 1) m31 ∷ []
+
+upgrading_runs : Runs sample_rules m25 upgrading_steps m31
+unfolding reply_to looks_unheld need_of list_on first_failure settle_from settlement lacking purged be16 digits
+upgrading_runs = (refl, ((Gains (of_anchor Share), turn27), ((Answers (root_get false), turn28), ((Gains (of_anchor Exclusive), turn29), ((Answers (root_get true), turn30), ((Finishes upgrade_ends [], turn31), refl))))))
+
+abbrev closing_steps : List RunStep
+closing_steps =
+    step (Purge 3 1) m32 ∷ step Log m33 ∷ []
+
+closing_runs : Runs sample_rules m31 closing_steps m33
+unfolding reply_to looks_unheld need_of list_on first_failure settle_from settlement lacking purged be16 digits
+closing_runs = (record { items = []; next = changed; is_purged = refl; after = refl }, (refl, refl))
+
 abbrev the_steps : List RunStep
 the_steps =
-    step In m1 ∷ step In m2 ∷ step In m3 ∷ step In m4 ∷ step (Region 1) m5 ∷ step (Region 2) m6 ∷ step (Region 3) m7
-    ∷ step (Region 1) m8 ∷ step (Region 1) m9 ∷ step (Region 2) m10 ∷ step (Region 2) m11 ∷ step (Region 3) m12
-    ∷ step (Region 1) m13 ∷ step (Region 2) m14
-    ∷ step (Region 1) m15 ∷ step (Region 1) m16 ∷ step (Region 1) m17 ∷ step (Region 1) m18 ∷ step (Region 3) m19
-    ∷ step (Region 3) m20
-    ∷ step (Region 1) m21 ∷ step (Region 1) m22 ∷ step (Region 1) m23 ∷ step (Region 1) m24 ∷ step (Region 1) m25
-    ∷ step (Region 1) m26 ∷ step (Purge 3 1) m27 ∷ step Log m28 ∷ []
+    beginning_steps
+    ++ meeting_steps
+    ++ crossing_steps
+    ++ changing_steps
+    ++ verifying_steps
+    ++ upgrading_steps
+    ++ closing_steps
 
 -- the steps are turns
-runs_so : Runs sample_rules at_start the_steps m28
-unfolding reply_to looks_unheld need_of list_on first_failure settle_from settlement lacking purged be16 digits
-runs_so = (
-  refl,
-  (
-    refl,
-    (
-      refl,
-      (
-        refl,
-        (
-          refl,
-          (
-            refl,
-            (
-              refl,
-              (
-                (Gains (of_segment (codes "A")), turn8),
-                (
-                  (Answers (hold_of (codes "A")), turn9),
-                  (
-                    (Gains (of_segment (codes "B")), turn10),
-                    (
-                      (Answers (hold_of (codes "B")), turn11),
-                      (
-                        (Answers verify_of_b, turn12),
-                        (
-                          (Waits (of_segment (codes "B")), turn13),
-                          (
-                            (Deadlocks (of_segment (codes "A")) (1 ∷ []), turn14),
-                            (
-                              (Gains (of_segment (codes "B")), turn15),
-                              (
-                                (Answers (hold_of (codes "B")), turn16),
-                                (
-                                  (Answers change_of_b, turn17),
-                                  (
-                                    (Finishes change_ends [], turn18),
-                                    (
-                                      (Gains (of_segment (codes "B")), turn19),
-                                      (
-                                        (Finishes verify_ends [], turn20),
-                                        (
-                                          refl,
-                                          (
-                                            (Gains (of_anchor Share), turn22),
-                                            (
-                                              (Answers (root_get false), turn23),
-                                              (
-                                                (Gains (of_anchor Exclusive), turn24),
-                                                (
-                                                  (Answers (root_get true), turn25),
-                                                  (
-                                                    (Finishes upgrade_ends [], turn26),
-                                                    (record { items = []; next = changed; is_purged = refl; after = refl }, (refl, refl)),
-                                                  ),
-                                                ),
-                                              ),
-                                            ),
-                                          ),
-                                        ),
-                                      ),
-                                    ),
-                                  ),
-                                ),
-                              ),
-                            ),
-                          ),
-                        ),
-                      ),
-                    ),
-                  ),
-                ),
-              ),
-            ),
-          ),
-        ),
-      ),
-    ),
-  ),
-)
+the_runs : Runs sample_rules at_start the_steps m33
+the_runs =
+    let to_m12 = runs_join at_start (beginning_steps) meeting_steps m7 m12 beginning_runs meeting_runs in
+    let to_m17 = runs_join at_start (beginning_steps ++ meeting_steps) crossing_steps m12 m17 to_m12 crossing_runs in
+    let to_m21 = runs_join at_start (beginning_steps ++ meeting_steps ++ crossing_steps) changing_steps m17 m21 to_m17 changing_runs in
+    let to_m25 = runs_join at_start (beginning_steps ++ meeting_steps ++ crossing_steps ++ changing_steps) verifying_steps m21 m25 to_m21 verifying_runs in
+    let to_m31 = runs_join at_start (beginning_steps ++ meeting_steps ++ crossing_steps ++ changing_steps ++ verifying_steps) upgrading_steps m25 m31 to_m25 upgrading_runs in
+    runs_join at_start (beginning_steps ++ meeting_steps ++ crossing_steps ++ changing_steps ++ verifying_steps ++ upgrading_steps) closing_steps m31 m33 to_m31 closing_runs
 
 -- The sample run, with its outcomes.
 pub sample_run : (steps : List RunStep) × (m : Machine)
@@ -432,4 +471,4 @@ pub sample_run : (steps : List RunStep) × (m : Machine)
     × (map (λ step. step.environment) steps ≡ no_faults)
     × (m.history.entries ≡ the_entries))
 unfolding reply_to looks_unheld need_of list_on first_failure settle_from settlement lacking purged be16 digits
-sample_run = (the_steps, m28, (runs_so, refl, refl, refl))
+sample_run = (the_steps, m33, (the_runs, refl, refl, refl))

@@ -52,7 +52,8 @@ among (n ∷ ns) name c = elim (contains_cases n ns name c) [
 -- ---- sums
 
 -- an element replaced
-pub sum_put : {X : Type 0} (f : X → ℕ) (xs : List X) (i : ℕ) (x y : X) → slice_get xs i ≡ Some x → sum_by f (slice_set xs i y) + f x ≡ sum_by f xs + f y
+pub sum_put : {X : Type 0} (f : X → ℕ) (xs : List X) (i : ℕ) (x y : X) → slice_get xs i ≡ Some x
+    → sum_by f (slice_set xs i y) + f x ≡ sum_by f xs + f y
 sum_put f xs i x y e =
     subst (λ (q : _). sum_by f (set xs i y) + f q ≡ sum_by f xs + f y) (get_or_from_slice_get xs i x x e)
     (sum_by-set f xs i y x (slice_get_within xs i x e))
@@ -74,14 +75,18 @@ module _ (rules : Rules) where
   -- ---- a line and its terminal
 
   -- a line counts for its terminal
-  counts_one : (line : List ℕ) (name : Name) → is_among (terminal_in (rules.terminal_of line)) name ≡ true → line_count rules name line ≡ 1
+  counts_one : (line : List ℕ) (name : Name) → is_among (terminal_in (rules.terminal_of line)) name ≡ true
+      → line_count rules name line ≡ 1
   counts_one line name e = rw e refl
 
-  counts_none : (line : List ℕ) (name : Name) → is_among (terminal_in (rules.terminal_of line)) name ≡ false → line_count rules name line ≡ 0
+  counts_none : (line : List ℕ) (name : Name) → is_among (terminal_in (rules.terminal_of line)) name ≡ false
+      → line_count rules name line ≡ 0
   counts_none line name e = rw e refl
 
   own_counts : (line : List ℕ) (name : Name) → rules.terminal_of line ≡ Some name → line_count rules name line ≡ 1
-  own_counts line name is = counts_one line name (ap (λ (o : Option Name). is_among (terminal_in o) name) is ∙ among (name ∷ []) name (contains_first name []))
+  own_counts line name is =
+      counts_one line name (ap (λ (o : Option Name). is_among (terminal_in o) name) is ∙ among (name ∷ []) name
+      (contains_first name []))
 
   -- ---- turns that change no count, or make one less
 
@@ -98,7 +103,8 @@ module _ (rules : Rules) where
 
   -- a region whose transaction is of the same line, or a transaction with its line elsewhere
   pub region_put : (name : Name) (m : Machine) (place : ℕ) (old new : Region) → slice_get m.regions place ≡ Some old
-      → active_count rules name (slice_set m.regions place new) + region_count rules name old ≡ active_count rules name m.regions + region_count rules name new
+      → active_count rules name (slice_set m.regions place new) + region_count rules name old
+      ≡ active_count rules name m.regions + region_count rules name new
   region_put name m place old new is = sum_put (region_count rules name) m.regions place old new is
 
   -- a region whose transaction is of the same line
@@ -117,12 +123,16 @@ module _ (rules : Rules) where
       → StandOnce rules m
       → StandOnce rules (with_region (suc place) (Active t) (record m { queues = slice_set m.queues queue messages }))
   begins_once m place queue message messages t in_queue idle same k =
-      fewer m (with_region (suc place) (Active t) (record m { queues = slice_set m.queues queue messages })) less (λ name some busy. busy) k.sealed k
+      fewer m (with_region (suc place) (Active t) (record m { queues = slice_set m.queues queue messages })) less
+      (λ name some busy. busy) k.sealed k
     where
-      less : (name : Name) → count rules name (with_region (suc place) (Active t) (record m { queues = slice_set m.queues queue messages })) ≤ count rules name m
+      less : (name : Name) → count rules name
+          (with_region (suc place) (Active t)
+          (record m { queues = slice_set m.queues queue messages })) ≤ count rules name m
       less name =
           let of : Message → ℕ = λ x. line_count rules name x.line in
-          let line : line_count rules name t.message.line ≡ line_count rules name message.line = ap (line_count rules name) same in
+          let line : line_count rules name t.message.line
+          ≡ line_count rules name message.line = ap (line_count rules name) same in
           omega (
             arith,
             line,
@@ -135,14 +145,19 @@ module _ (rules : Rules) where
 
   -- one more entry that isn't sealed
   pub unsealed_more : (name : Name) (m : Machine) (e : Entry) → m.sealed ≤ place_of m.history
-      → unsealed_count rules name m.sealed (m.history.entries ++ e ∷ []) ≡ unsealed_count rules name m.sealed m.history.entries + line_count rules name e.line
+      → unsealed_count rules name m.sealed (m.history.entries ++ e ∷ [])
+      ≡ unsealed_count rules name m.sealed m.history.entries + line_count rules name e.line
   unsealed_more name m e sealed =
       let of : Entry → ℕ = λ x. line_count rules name x.line in
-      ap (sum_by of) (drop-append-le m.sealed m.history.entries (e ∷ []) sealed) ∙ sum_by_push of (drop m.sealed m.history.entries) e
+      ap (sum_by of) (drop-append-le m.sealed m.history.entries (e ∷ []) sealed)
+      ∙ sum_by_push of (drop m.sealed m.history.entries) e
 
   -- no fewer entries than are sealed
-  pub sealed_below : (m : Machine) (e : Entry) → m.sealed ≤ place_of m.history → m.sealed ≤ length (m.history.entries ++ e ∷ [])
-  sealed_below m e sealed = let more : length (m.history.entries ++ e ∷ []) ≡ length m.history.entries + 1 = length-append m.history.entries (e ∷ []) in omega (arith, more, sealed)
+  pub sealed_below : (m : Machine) (e : Entry) → m.sealed ≤ place_of m.history
+      → m.sealed ≤ length (m.history.entries ++ e ∷ [])
+  sealed_below m e sealed =
+      let more : length (m.history.entries ++ e ∷ [])
+      ≡ length m.history.entries + 1 = length-append m.history.entries (e ∷ []) in omega (arith, more, sealed)
 
   -- a transaction goes from its region to an entry
   pub ends_once : (m : Machine) (place : ℕ) (t : Transaction) (e : Entry) (next : Db)
@@ -152,7 +167,8 @@ module _ (rules : Rules) where
   ends_once m place t e next active same k =
       fewer m (with_entry_of e next (with_region (suc place) Idle m))
       (λ name.
-      let line : line_count rules name e.line ≡ line_count rules name t.message.line = ap (line_count rules name) same in
+      let line : line_count rules name e.line
+      ≡ line_count rules name t.message.line = ap (line_count rules name) same in
       omega (arith, line, region_put name m place (Active t) Idle active, unsealed_more name m e k.sealed))
       (λ name some busy. busy) (sealed_below m e k.sealed) k
 
@@ -162,14 +178,16 @@ module _ (rules : Rules) where
   writes_once m e next none k =
       fewer m (with_entry_of e next m)
       (λ name.
-      let zero_of : line_count rules name e.line ≡ 0 = counts_none e.line name (ap (λ (o : Option Name). is_among (terminal_in o) name) none) in
+      let zero_of : line_count rules name e.line
+      ≡ 0 = counts_none e.line name (ap (λ (o : Option Name). is_among (terminal_in o) name) none) in
       omega (arith, zero_of, unsealed_more name m e k.sealed))
       (λ name some busy. busy) (sealed_below m e k.sealed) k
 
   -- ---- IN
 
   -- a name of a line whose terminal isn't busy
-  is_free : (busy names : List Name) (name : Name) → list_any (is_among busy) names ≡ false → is_among names name ≡ true → is_among busy name ≡ false
+  is_free : (busy names : List Name) (name : Name) → list_any (is_among busy) names ≡ false → is_among names name ≡ true
+      → is_among busy name ≡ false
   is_free busy names name free is = none_passes (is_among busy) names name free (contained names name is)
 
   -- A line is taken whose terminal isn't busy, and it is busy then.
@@ -193,16 +211,24 @@ module _ (rules : Rules) where
       nothing_yet name is = by (nat_lt 0 (count rules name m)) refl
         where
           by : (b : Bool) → nat_lt 0 (count rules name m) ≡ b → count rules name m ≡ 0
-          by true some = absurd (true_is_not_false (sym (k.is_busy name (let h : 0 < count rules name m = grind (arith, common_steps, some) in h)) ∙ is_free m.busy names name free is))
+          by true some =
+              absurd (true_is_not_false (sym (k.is_busy name
+              (let h : 0 < count rules name m = grind (arith, common_steps, some) in h))
+              ∙ is_free m.busy names name free is))
           by false none = let h : count rules name m ≡ 0 = grind (arith, common_steps, none) in h
 
-      at_most_one : (name : Name) → (is_among names name ≡ true) ⊎ (is_among names name ≡ false) → count rules name m2 ≤ 1
+      at_most_one : (name : Name) → (is_among names name ≡ true) ⊎ (is_among names name ≡ false)
+          → count rules name m2 ≤ 1
       at_most_one name (inl is) = omega (arith, more name, nothing_yet name is, counts_one line name is)
       at_most_one name (inr other) = omega (arith, more name, k.once name, counts_none line name other)
 
-      waits : (name : Name) → 0 < count rules name m2 → (is_among names name ≡ true) ⊎ (is_among names name ≡ false) → is_among (m.busy ++ names) name ≡ true
-      waits name some (inl is) = among (m.busy ++ names) name (Contains-append_right m.busy names name (contained names name is))
-      waits name some (inr other) = among (m.busy ++ names) name (Contains-append_left m.busy names name (contained m.busy name (k.is_busy name (omega (arith, some, more name, counts_none line name other)))))
+      waits : (name : Name) → 0 < count rules name m2 → (is_among names name ≡ true) ⊎ (is_among names name ≡ false)
+          → is_among (m.busy ++ names) name ≡ true
+      waits name some (inl is) =
+          among (m.busy ++ names) name (Contains-append_right m.busy names name (contained names name is))
+      waits name some (inr other) =
+          among (m.busy ++ names) name (Contains-append_left m.busy names name
+          (contained m.busy name (k.is_busy name (omega (arith, some, more name, counts_none line name other)))))
 
   -- a message is put at the end of a queue, if there is one
   pub queued_more : (name : Name) (queue : ℕ) (message : Message) (queues : List (List Message))
@@ -213,24 +239,35 @@ module _ (rules : Rules) where
       of x = line_count rules name x.line
 
       by : (o : Option (List Message)) → slice_get queues queue ≡ o
-          → queued_count rules name (option_map_or (λ (messages : List Message). slice_set queues queue (messages ++ message ∷ [])) o queues) ≤ queued_count rules name queues + line_count rules name message.line
+          → queued_count rules name (option_map_or
+          (λ (messages : List Message). slice_set queues queue
+          (messages ++ message ∷ [])) o queues) ≤ queued_count rules name queues + line_count rules name message.line
       by None is = omega arith
       by (Some messages) is =
-          omega (arith, sum_put (λ (xs : List Message). sum_by of xs) queues queue messages (messages ++ message ∷ []) is, sum_by_push of messages message)
+          omega (
+            arith,
+            sum_put (λ (xs : List Message). sum_by of xs) queues queue messages
+                (messages ++ message ∷ []) is,
+            sum_by_push of messages message,
+          )
 
   -- ---- LOG and CKPT
 
   -- those that are told have an entry in the group
-  told_counts : (group : List Entry) (name : Name) → is_among (told rules group) name ≡ true → 1 ≤ sum_by (λ (e : Entry). line_count rules name e.line) group
+  told_counts : (group : List Entry) (name : Name) → is_among (told rules group) name ≡ true
+      → 1 ≤ sum_by (λ (e : Entry). line_count rules name e.line) group
   told_counts group name is =
       let of : Entry → ℕ = λ e. line_count rules name e.line in
-      let at = contains_in_flat_map (λ (e : Entry). terminal_in (rules.terminal_of e.line)) group name (contained (told rules group) name is) in
-      let one : of at.0 ≡ 1 = counts_one at.0.line name (among (terminal_in (rules.terminal_of at.0.line)) name at.1.1) in
+      let at = contains_in_flat_map (λ (e : Entry). terminal_in (rules.terminal_of e.line)) group name
+      (contained (told rules group) name is) in
+      let one : of at.0 ≡ 1 = counts_one at.0.line name
+      (among (terminal_in (rules.terminal_of at.0.line)) name at.1.1) in
       omega (arith, one, sum_has of group at.0 at.1.0)
 
   -- what the group takes from those that aren't sealed
   seals : (name : Name) (m : Machine)
-      → sum_by (λ (e : Entry). line_count rules name e.line) (next_group rules m) + unsealed_count rules name (m.sealed + length (next_group rules m)) m.history.entries
+      → sum_by (λ (e : Entry). line_count rules name e.line) (next_group rules m) + unsealed_count rules name
+      (m.sealed + length (next_group rules m)) m.history.entries
       ≡ unsealed_count rules name m.sealed m.history.entries
   seals name m =
       let of : Entry → ℕ = λ e. line_count rules name e.line in
@@ -239,13 +276,16 @@ module _ (rules : Rules) where
       sym (drop-drop (length (take rules.log_group left)) m.sealed m.history.entries)
       ∙ ap (λ (n : ℕ). drop n left) (length-take rules.log_group left)
       ∙ drop_min rules.log_group left in
-      ap (λ (es : List Entry). sum_by of (take rules.log_group left) + sum_by of es) rest ∙ sum_by-take-drop of left rules.log_group
+      ap (λ (es : List Entry). sum_by of (take rules.log_group left) + sum_by of es) rest
+      ∙ sum_by-take-drop of left rules.log_group
 
   -- no more entries are sealed than there are
-  sealed_within : (m : Machine) → m.sealed ≤ place_of m.history → m.sealed + length (next_group rules m) ≤ place_of m.history
+  sealed_within : (m : Machine) → m.sealed ≤ place_of m.history
+      → m.sealed + length (next_group rules m) ≤ place_of m.history
   sealed_within m sealed =
       let left : List Entry = drop m.sealed m.history.entries in
-      let taken : length (take rules.log_group left) ≡ min rules.log_group (length left) = length-take rules.log_group left in
+      let taken : length (take rules.log_group left)
+      ≡ min rules.log_group (length left) = length-take rules.log_group left in
       let there : length left ≡ length m.history.entries - m.sealed = length-drop m.sealed m.history.entries in
       grind (arith, common_steps, taken, there, sealed)
 
@@ -255,13 +295,16 @@ module _ (rules : Rules) where
       (λ name some busy. not_told name some busy (is_among (told rules (next_group rules m)) name) refl)
       (sealed_within m k.sealed) k
     where
-      not_told : (name : Name) → 0 < count rules name (with_group rules (next_group rules m) m) → is_among m.busy name ≡ true
+      not_told : (name : Name) → 0 < count rules name (with_group rules (next_group rules m) m)
+          → is_among m.busy name ≡ true
           → (b : Bool) → is_among (told rules (next_group rules m)) name ≡ b
           → is_among (filter (λ (x : Name). not (is_among (told rules (next_group rules m)) x)) m.busy) name ≡ true
-      not_told name some busy true is = absurd (omega (arith, some, k.once name, seals name m, told_counts (next_group rules m) name is))
+      not_told name some busy true is =
+          absurd (omega (arith, some, k.once name, seals name m, told_counts (next_group rules m) name is))
       not_told name some busy false is =
           among (filter (λ (x : Name). not (is_among (told rules (next_group rules m)) x)) m.busy) name
-          (filter_contains (λ (x : Name). not (is_among (told rules (next_group rules m)) x)) m.busy name (contained m.busy name busy) (ap not is))
+          (filter_contains (λ (x : Name). not (is_among (told rules (next_group rules m)) x)) m.busy name
+          (contained m.busy name busy) (ap not is))
 
   pub log_once : (m : Machine) → StandOnce rules m → StandOnce rules (sealed_once rules m)
   log_once m k = by (nat_lt m.sealed (place_of m.history))
@@ -276,22 +319,39 @@ module _ (rules : Rules) where
 
   -- ---- those that still wait are of other terminals
 
-  module _ (m : Machine) (k : StandOnce rules m) (e : Entry) (unsealed : Contains (drop m.sealed m.history.entries) e) where
+  module _ (m : Machine) (k : StandOnce rules m) (e : Entry)
+      (unsealed : Contains (drop m.sealed m.history.entries) e) where
     -- an unsealed entry is the only one of its terminal
-    entry_counts : (name : Name) → rules.terminal_of e.line ≡ Some name → 1 ≤ unsealed_count rules name m.sealed m.history.entries
-    entry_counts name is = omega (arith, own_counts e.line name is, sum_has (λ (x : Entry). line_count rules name x.line) (drop m.sealed m.history.entries) e unsealed)
+    entry_counts : (name : Name) → rules.terminal_of e.line ≡ Some name
+        → 1 ≤ unsealed_count rules name m.sealed m.history.entries
+    entry_counts name is =
+        omega (
+          arith,
+          own_counts e.line name is,
+          sum_has (λ (x : Entry). line_count rules name x.line)
+              (drop m.sealed m.history.entries) e unsealed,
+        )
 
     -- so no message of it is queued
-    pub queued_apart : (messages : List Message) (message : Message) → Contains m.queues messages → Contains messages message → ShareNoTerminal rules e.line message.line
+    pub queued_apart : (messages : List Message) (message : Message) → Contains m.queues messages
+        → Contains messages message → ShareNoTerminal rules e.line message.line
     queued_apart messages message c d name is too =
         let of : Message → ℕ = λ x. line_count rules name x.line in
         absurd (omega (arith, k.once name, entry_counts name is, own_counts message.line name too, sum_has of messages message d, sum_has (λ (xs : List Message). sum_by of xs) m.queues messages c))
 
     -- and no transaction of it is active
-    pub active_apart : (region : ℕ) (t : Transaction) → region_at m region ≡ Some (Active t) → ShareNoTerminal rules e.line t.message.line
+    pub active_apart : (region : ℕ) (t : Transaction) → region_at m region ≡ Some (Active t)
+        → ShareNoTerminal rules e.line t.message.line
     active_apart zero t stands name is too = cc
     active_apart (suc place) t stands name is too =
-        absurd (omega (arith, k.once name, entry_counts name is, own_counts t.message.line name too, sum_has (region_count rules name) m.regions (Active t) (get_contains m.regions place (Active t) stands)))
+        absurd (omega (
+          arith,
+          k.once name,
+          entry_counts name is,
+          own_counts t.message.line name too,
+          sum_has
+              (region_count rules name) m.regions (Active t) (get_contains m.regions place (Active t) stands),
+        ))
 
   -- ---- at rest
 
@@ -305,7 +365,11 @@ module _ (rules : Rules) where
       nothing : (name : Name) → count rules name (at_rest rules lines h) ≡ 0
       nothing name =
           let of : Message → ℕ = λ x. line_count rules name x.line in
-          let queued : queued_count rules name (replicate rules.group_count []) ≡ 0 = sum_by-replicate (λ (xs : List Message). sum_by of xs) rules.group_count [] ∙ omega arith in
-          let active : active_count rules name (map (λ group. Idle) rules.regions) ≡ 0 = sum_none (region_count rules name) Idle rules.regions refl in
-          let left : unsealed_count rules name (length h.entries) h.entries ≡ 0 = ap (sum_by (λ (e : Entry). line_count rules name e.line)) (drop_all (length h.entries) h.entries (omega arith)) in
+          let queued : queued_count rules name (replicate rules.group_count [])
+          ≡ 0 = sum_by-replicate (λ (xs : List Message). sum_by of xs) rules.group_count [] ∙ omega arith in
+          let active : active_count rules name (map (λ group. Idle) rules.regions)
+          ≡ 0 = sum_none (region_count rules name) Idle rules.regions refl in
+          let left : unsealed_count rules name (length h.entries) h.entries
+          ≡ 0 = ap (sum_by (λ (e : Entry). line_count rules name e.line))
+          (drop_all (length h.entries) h.entries (omega arith)) in
           omega (arith, queued, active, left)

@@ -64,13 +64,15 @@ pub record StandOnce (rules : Rules) (m : Machine) : Type 0 where
 -- ---- transactions
 
 -- What is so of a transaction that holds these resources, behind the history.
-pub record GoesOn (rules : Rules) (view : View) (h : History) (held : Resource → Option Mode) (t : Transaction) : Type 0 where
+pub record GoesOn (rules : Rules) (view : View) (h : History) (held : Resource → Option Mode)
+    (t : Transaction) : Type 0 where
   -- its message is still accepted
   pub is_request : IsRequest rules h t.message
   -- Alone on any state that has the same at what it holds, with its notes, it comes to where it is.
   pub comes_to : (db : Db) (states : List Db)
       → IsSame view held h.now db
-      → ((place : ℕ) → place ≤ place_of h → state_at rules.start states place ≡ state_at rules.start (states_of h) place)
+      → ((place : ℕ) → place ≤ place_of h → state_at rules.start states place ≡ state_at rules.start
+      (states_of h) place)
       → (n : ℕ) (rest : List ℕ)
       → goes rules db states t.message (length t.point.answers + n) (begun rules) (t.notes ++ rest)
       ≡ goes rules db states t.message n t.point rest

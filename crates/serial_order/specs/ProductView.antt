@@ -77,7 +77,8 @@ module _ (defs : Defs) where
 
   -- what a workspace relies on: segments held, replaced, inserted or deleted, anchors changed, anchors of sequential inserts
   abbrev pub claims_of : Workspace → List Resource
-  claims_of own = held_claims 0 own.msdbs ++ flat_map deferred_claim own.deferred ++ map change_claim own.changes ++ map insert_claim own.inserts
+  claims_of own =
+      held_claims 0 own.msdbs ++ flat_map deferred_claim own.deferred ++ map change_claim own.changes ++ map insert_claim own.inserts
 
   abbrev pub view_of : View
   view_of = record { seen = seen_in; claims = claims_of; is_call = is_call; is_own = is_own }
