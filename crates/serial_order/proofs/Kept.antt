@@ -259,7 +259,8 @@ module _ (rules : Rules) (view : View) where
     history = k.history;
     queued = k.queued;
     terminals =
-        locked_once m (record m { locks = l ∷ m.locks; requests = without_region l.region m.requests }) refl k.terminals;
+        locked_once m (record m { locks = l ∷ m.locks; requests = without_region l.region m.requests }) refl
+        k.terminals;
     apart = apart_with l m.locks free k.apart;
     sound =
         λ s t stands. holds_more m.history (held_as m.locks s) (held_as (l ∷ m.locks) s) t (still_held l m.locks s)

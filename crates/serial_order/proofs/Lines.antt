@@ -1,6 +1,6 @@
 -- What lines ask for: a message keeps its line and its terminal, and entries of other terminals change nothing.
-use Rattle.std.proofs.Common.{◌≡◌, ◌<◌, ℕ, List, [], ◌∷◌, ◌++◌, length, Option, Some, None, refl, sym, ◌∙◌, ap, subst, Bool, true, false, not, if◌then◌else◌, Result, Ok, Err}
-use Rattle.std.specs.Prelude.{is_some, nat_lt, fold, find, option_map, unwrap_or, ◌==◌}
+use Rattle.std.proofs.Common.{◌≡◌, ℕ, List, [], ◌∷◌, ◌++◌, length, Option, Some, None, refl, sym, ◌∙◌, ap, subst, Bool, true, false, not, if◌then◌else◌, Result, Ok, Err}
+use Rattle.std.specs.Prelude.{is_some, nat_lt, option_map, unwrap_or, ◌==◌}
 use Rattle.std.specs.List.{list_all}
 use Rattle.std.specs.Option.{option_map_or}
 use Rattle.fp_model.specs.declared.database.Db.{Db}
@@ -15,8 +15,8 @@ use Rattle.fp_model.specs.State.{drop_key}
 use Rattle.fp_model.specs.Names.{name_in}
 use Rattle.fp_model.specs.Messages.{MessageFault, TooLong, NotAscii, with_fair_text, message_by, message_of, terminal_of, number_in_line, behind_number, behind_word, first_word}
 use Rattle.fp_model.specs.ReplyLine.{line_text}
-use Rattle.fp_model.specs.History.{History, Request, Accepts, Refuses, with_entry}
-use Rattle.fp_model.specs.Lasts.{Last, format_behind, format_at, uses_number, last_of_message, last_in, last_by, with_last, lasts_behind, lasts_of, last_of}
+use Rattle.fp_model.specs.History.{History, Accepts, Refuses, with_entry}
+use Rattle.fp_model.specs.Lasts.{Last, format_behind, format_at, uses_number, last_in, last_by, with_last, lasts_behind, lasts_of, last_of}
 use Rattle.fp_model.specs.Asking.{script_of}
 use Rattle.fp_model.specs.Product.{by_script, by_last, by_number, by_message, request_of}
 use Rattle.serial_order.specs.Laws.{is_format, IsRefusal}

@@ -1,11 +1,11 @@
 -- Each terminal stands once: what turns do to the counts.
-use Rattle.std.proofs.Common.{◌≡◌, ℕ, zero, suc, ◌+◌, ◌-◌, ◌*◌, ◌<◌, ◌≤◌, List, [], ◌∷◌, ◌++◌, map, length, take, drop, Option, Some, None, ◌⊎◌, inl, inr, refl, sym, ◌∙◌, ap, subst, Bool, true, false, not, ◌||◌, if◌then◌else◌, arith, length-append, set, slice_get, slice_set, replicate}
+use Rattle.std.proofs.Common.{◌≡◌, ℕ, zero, suc, ◌+◌, ◌-◌, ◌<◌, ◌≤◌, List, [], ◌∷◌, ◌++◌, map, length, take, drop, Option, Some, None, ◌⊎◌, inl, inr, refl, sym, ◌∙◌, ap, subst, Bool, true, false, not, ◌||◌, if◌then◌else◌, arith, length-append, set, slice_get, slice_set, replicate}
 use Rattle.std.specs.Prelude.{sum_by, filter, min, nat_lt}
-use Rattle.std.specs.List.{Contains, flat_map, list_any}
+use Rattle.std.specs.List.{Contains, list_any}
 use Rattle.std.specs.Option.{option_map_or}
 use Rattle.std.proofs.lemmas.Grind.{common_steps}
 use Rattle.std.proofs.lemmas.List.{drop-append-le, drop-drop, drop_min, drop_all, length-take, length-drop}
-use Rattle.std.proofs.lemmas.List.Elements.{Contains-append_left, Contains-append_right, Contains-push}
+use Rattle.std.proofs.lemmas.List.Elements.{Contains-append_left, Contains-append_right}
 use Rattle.std.proofs.lemmas.List.Folds.{sum_by-replicate}
 use Rattle.std.proofs.lemmas.List.Sums.{sum_by-cons, sum_by_push, sum_by-set, sum_by-take-drop}
 use Rattle.std.proofs.lemmas.Option.{slice_get_within, get_or_from_slice_get}
@@ -15,7 +15,7 @@ use Rattle.fp_model.specs.declared.log.Entry.{Entry}
 use Rattle.fp_model.specs.declared.name.Name.{Name}
 use Rattle.fp_model.specs.History.{History, place_of}
 use Rattle.fp_model.specs.Rules.{Rules}
-use Rattle.fp_model.specs.Machine.{Transaction, Region, Idle, Active, Machine, at_rest, region_at, with_region, with_entry_of, terminal_in, same_name, is_among, queued_at, told, next_group, with_group, sealed_once, sealed_times, sealed_all}
+use Rattle.fp_model.specs.Machine.{Transaction, Region, Idle, Active, Machine, at_rest, region_at, with_region, with_entry_of, terminal_in, same_name, is_among, queued_at, told, next_group, with_group, sealed_once, sealed_times}
 use Rattle.serial_order.specs.Laws.{ShareNoTerminal}
 use Rattle.serial_order.specs.Kept.{line_count, region_count, queued_count, active_count, unsealed_count, count, StandOnce}
 use Rattle.serial_order.proofs.Lists.{tested, true_is_not_false, contains_nothing, contains_first, contains_later, contains_cases, contains_in_flat_map, filter_contains, get_contains, none_passes}
@@ -232,7 +232,8 @@ module _ (rules : Rules) where
 
   -- a message is put at the end of a queue, if there is one
   pub queued_more : (name : Name) (queue : ℕ) (message : Message) (queues : List (List Message))
-      → queued_count rules name (queued_at queue message queues) ≤ queued_count rules name queues + line_count rules name message.line
+      → queued_count rules name (queued_at queue message queues)
+      ≤ queued_count rules name queues + line_count rules name message.line
   queued_more name queue message queues = by (slice_get queues queue) refl
     where
       of : Message → ℕ
@@ -337,7 +338,10 @@ module _ (rules : Rules) where
         → Contains messages message → ShareNoTerminal rules e.line message.line
     queued_apart messages message c d name is too =
         let of : Message → ℕ = λ x. line_count rules name x.line in
-        absurd (omega (arith, k.once name, entry_counts name is, own_counts message.line name too, sum_has of messages message d, sum_has (λ (xs : List Message). sum_by of xs) m.queues messages c))
+        let one = own_counts message.line name too in
+        let in_queue = sum_has of messages message d in
+        let in_all = sum_has (λ (xs : List Message). sum_by of xs) m.queues messages c in
+        absurd (omega (arith, k.once name, entry_counts name is, one, in_queue, in_all))
 
     -- and no transaction of it is active
     pub active_apart : (region : ℕ) (t : Transaction) → region_at m region ≡ Some (Active t)

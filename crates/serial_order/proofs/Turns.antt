@@ -1,10 +1,9 @@
 -- Every run keeps the invariant.
-use Rattle.std.proofs.Common.{◌≡◌, ℕ, zero, suc, ◌+◌, ◌-◌, ◌≤◌, List, [], ◌∷◌, ◌++◌, length, Option, Some, None, inl, inr, refl, sym, ◌∙◌, ap, subst, Bool, true, false, if◌then◌else◌, arith, length-append, slice_get, slice_set}
+use Rattle.std.proofs.Common.{◌≡◌, ℕ, zero, suc, ◌+◌, ◌-◌, ◌≤◌, List, [], ◌∷◌, ◌++◌, Option, Some, None, inl, inr, refl, sym, ◌∙◌, ap, subst, Bool, true, false, if◌then◌else◌, arith, slice_get, slice_set}
 use Rattle.std.specs.Prelude.{option_map, unwrap_or, drop}
 use Rattle.std.specs.List.{Contains, list_any}
 use Rattle.std.specs.Option.{option_map_or}
 use Rattle.std.proofs.lemmas.List.Elements.{Contains-push_cases}
-use Rattle.fp_model.specs.declared.database.Db.{Db}
 use Rattle.fp_model.specs.declared.calls.Call.{Call}
 use Rattle.fp_model.specs.declared.calls.Message.{Message}
 use Rattle.fp_model.specs.declared.calls.Mode.TheVariants.{Exclusive}
@@ -21,22 +20,22 @@ use Rattle.fp_model.specs.Commit.{Settlement, Commits, FailsVerify, FillsPart}
 use Rattle.fp_model.specs.Asking.{Ask, Asks, Replies, Rolls}
 use Rattle.fp_model.specs.History.{History, Request, Accepts, Refuses, place_of, states_of}
 use Rattle.fp_model.specs.Rules.{Rules}
-use Rattle.fp_model.specs.Serial.{Alone, Ends, Ending, asked, goes, refused_as, settled_as}
+use Rattle.fp_model.specs.Serial.{Ends, Ending, asked, goes, refused_as, settled_as}
 use Rattle.fp_model.specs.SerialHistory.{EndsAlone, Comes, IsSerial}
 use Rattle.fp_model.specs.Waiting.{Lock, held_as}
-use Rattle.fp_model.specs.Machine.{Transaction, Region, Idle, Active, Machine, at_rest, region_at, entry_of, entry_here, ended_with, next_line, without_line, is_among, terminal_in, queued_at, with_message, with_refusal, with_request_of, with_line, taken_in, sealed_once, sealed_all}
-use Rattle.fp_model.specs.Turns.{Environment, NoFault, DeviceFault, OutOfMemory, Act, Answers, Gains, Waits, Deadlocks, Retries_at_cycle, Finishes, Retries_at_verify, IsAtEnd, asks, wanted, ending_of, as_lock, Does, queue_of_region, begins_in, refused_with, RegionTurn, is_area_held, PurgeTurn, Turn}
+use Rattle.fp_model.specs.Machine.{Transaction, Region, Idle, Active, Machine, at_rest, region_at, entry_of, entry_here, ended_with, next_line, without_line, is_among, terminal_in, with_message, with_refusal, with_request_of, with_line, taken_in, sealed_once, sealed_all}
+use Rattle.fp_model.specs.Turns.{Environment, NoFault, DeviceFault, OutOfMemory, Act, Answers, Gains, Waits, Deadlocks, Retries_at_cycle, Finishes, Retries_at_verify, asks, wanted, ending_of, as_lock, Does, queue_of_region, begins_in, refused_with, RegionTurn, is_area_held, PurgeTurn, Turn}
 use Rattle.fp_model.specs.Runs.{RunStep, Runs}
 use Rattle.fp_model.specs.Frames.{KeepsLines, KeepsQueues, KeepsRegions, KeepsHistory}
 use Rattle.fp_model.proofs.FrameLemmas.{turn_keeps as turn_leaves}
 use Rattle.serial_order.specs.Laws.{View, Laws, IsRefusal, is_format}
-use Rattle.serial_order.specs.Kept.{IsRequest, AreRequests, StandOnce, line_count, count, Kept, IsAtRest}
+use Rattle.serial_order.specs.Kept.{IsRequest, StandOnce, line_count, count, Kept, IsAtRest}
 use Rattle.serial_order.proofs.Lists.{some_is, none_is_not_some, contains_nothing, contains_in_set, get_contains, mapped_to, replicated, none_passes, from_below}
 use Rattle.serial_order.proofs.Locks.{held_by, held_somehow}
 use Rattle.serial_order.proofs.Waits.{no_locks}
 use Rattle.serial_order.proofs.Plays.{ends_alone}
 use Rattle.serial_order.proofs.Terminals.{joins_once, queued_more, unsealed_more, sealed_below, writes_once, log_once, times_once, rests_once}
-use Rattle.serial_order.proofs.Kept.{not_idle, counted, alike, begins_kept, tried_kept, answers_kept, gains_kept, waits_kept, ended_kept, written_kept}
+use Rattle.serial_order.proofs.Kept.{not_idle, alike, begins_kept, tried_kept, answers_kept, gains_kept, waits_kept, ended_kept, written_kept}
 
 module _ (rules : Rules) (view : View) (laws : Laws rules view) where
   -- what a turn leads to
@@ -140,7 +139,12 @@ module _ (rules : Rules) (view : View) (laws : Laws rules view) where
         → EndsAlone rules m.history (entry_of t ending t.notes items) ending.next
     ends ending items so =
         let g = k.sound (suc place) t active in
-        record { message = t.message; is_request = g.is_request; in_order = g.in_order; ends = ends_alone rules view m.history (held_as m.locks (suc place)) t g (Ends ending) so }
+        record {
+          message = t.message;
+          is_request = g.is_request;
+          in_order = g.in_order;
+          ends = ends_alone rules view m.history (held_as m.locks (suc place)) t g (Ends ending) so;
+        }
 
     -- by what its script comes to
     ends_by : (n : ℕ) (ask : Ask) → asks rules t ≡ ask

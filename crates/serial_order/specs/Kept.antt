@@ -1,5 +1,5 @@
 -- What each turn keeps.
-use Rattle.std.specs.Prelude.{◌≡◌, ℕ, ◌+◌, ◌<◌, ◌≤◌, List, [], ◌∷◌, ◌++◌, length, sum_by, drop, Contains, Bool, true, if◌then◌else◌, Option, Some}
+use Rattle.std.specs.Prelude.{◌≡◌, ℕ, ◌+◌, ◌<◌, ◌≤◌, List, [], ◌++◌, length, sum_by, drop, Contains, true, if◌then◌else◌, Option, Some}
 use Rattle.fp_model.specs.declared.database.Db.{Db}
 use Rattle.fp_model.specs.declared.calls.Message.{Message}
 use Rattle.fp_model.specs.declared.calls.Mode.{Mode}
@@ -64,15 +64,15 @@ pub record StandOnce (rules : Rules) (m : Machine) : Type 0 where
 -- ---- transactions
 
 -- What is so of a transaction that holds these resources, behind the history.
-pub record GoesOn (rules : Rules) (view : View) (h : History) (held : Resource → Option Mode)
-    (t : Transaction) : Type 0 where
+pub record GoesOn (rules : Rules) (view : View) (h : History)
+    (held : Resource → Option Mode) (t : Transaction) : Type 0 where
   -- its message is still accepted
   pub is_request : IsRequest rules h t.message
   -- Alone on any state that has the same at what it holds, with its notes, it comes to where it is.
   pub comes_to : (db : Db) (states : List Db)
       → IsSame view held h.now db
-      → ((place : ℕ) → place ≤ place_of h → state_at rules.start states place ≡ state_at rules.start
-      (states_of h) place)
+      → ((place : ℕ) → place ≤ place_of h
+      → state_at rules.start states place ≡ state_at rules.start (states_of h) place)
       → (n : ℕ) (rest : List ℕ)
       → goes rules db states t.message (length t.point.answers + n) (begun rules) (t.notes ++ rest)
       ≡ goes rules db states t.message n t.point rest
@@ -94,8 +94,8 @@ HaveNoCycle requests locks = (cycle : List ℕ) → ¬ IsCycle (waits requests l
 
 -- ---- machines
 
--- The entries are a serial history of the machine's states. Messages that are queued are still accepted, and a terminal has
--- one at a time. Active regions are where they would be alone; locks and waits are sound.
+-- The entries are a serial history of the machine's states. Messages that are queued are still accepted, and a
+-- terminal has one at a time. Active regions are where they would be alone; locks and waits are sound.
 pub record Kept (rules : Rules) (view : View) (m : Machine) : Type 0 where
   pub history : IsSerial rules m.history
   pub queued : AreRequests rules m.history m.queues
@@ -106,8 +106,8 @@ pub record Kept (rules : Rules) (view : View) (m : Machine) : Type 0 where
       → GoesOn rules view m.history (held_as m.locks region) t
   pub no_cycle : HaveNoCycle m.requests m.locks
 
--- The entries are a serial history of the machine's states, queued messages are accepted, one at a time of a terminal, no
--- region is active, and nothing is locked.
+-- The entries are a serial history of the machine's states, queued messages are accepted, one at a time of a terminal,
+-- no region is active, and nothing is locked.
 pub record IsAtRest (rules : Rules) (m : Machine) : Type 0 where
   pub history : IsSerial rules m.history
   pub queued : AreRequests rules m.history m.queues

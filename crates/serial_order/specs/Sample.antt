@@ -1,4 +1,5 @@
--- A run with a wait, a cycle and a failed verify after which transactions are run again, a deadlock, an upgrade and a Purge.
+-- A run with a wait, a cycle and a failed verify after which transactions begin again, a deadlock, an upgrade and a
+-- Purge.
 use Rattle.std.specs.Prelude.{ℕ, List, [], ◌∷◌, ◌++◌, Bool, true, false, codes, replicate, Option, Some, None}
 use Rattle.fp_model.specs.declared.definitions.DedbDef.{DedbDef}
 use Rattle.fp_model.specs.declared.definitions.Defs.{Defs}
@@ -137,8 +138,8 @@ at_start = at_rest sample_rules the_lines (beginning 1 (start sample_defs))
 abbrev pub beginning_events : List Event
 beginning_events = In ∷ In ∷ In ∷ In ∷ Region 1 ∷ Region 2 ∷ Region 3 ∷ []
 
--- The first holds A, the second B, and the third looks at B. Then the first waits for B, and the second would wait for A:
--- it begins again, takes B once more, and is refused at the same cycle.
+-- The first holds A, the second B, and the third looks at B. Then the first waits for B, and the second would wait for
+-- A: it begins again, takes B once more, and is refused at the same cycle.
 abbrev pub crossing_events : List Event
 crossing_events =
     Region 1 ∷ Region 1 ∷ Region 2 ∷ Region 2 ∷ Region 3 ∷ Region 1 ∷ Region 2

@@ -10,8 +10,8 @@ ghost use Rattle.fp_model.specs.Runs.{RunStep, Runs};
 ghost use Rattle.serial_order.specs.Laws.{View, Laws};
 ghost use Rattle.serial_order.specs.Kept.{AreApart, HaveNoCycle, IsAtRest, Kept};
 
-/// Every run from rest has the entries of a serial history, which leads through the machine's states. No two regions hold a
-/// resource unless both share it, and nobody waits for himself.
+/// Every run from rest has the entries of a serial history, which leads through the machine's states. No two regions
+/// hold a resource unless both share it, and nobody waits for himself.
 pub fn every_run_is_serial()
     ensures history { (rules : Rules) (view : View) (m : Machine) (steps : List RunStep) (m2 : Machine)
         → Laws rules view
@@ -37,7 +37,8 @@ pub fn every_run_is_serial()
 
 /// What a turn keeps, and so every run.
 pub fn a_turn_keeps_the_order()
-    ensures turn { (rules : Rules) (view : View) (m : Machine) (event : Event) (environment : Environment) (m2 : Machine)
+    ensures turn { (rules : Rules) (view : View)
+        → (m : Machine) (event : Event) (environment : Environment) (m2 : Machine)
         → Laws rules view
         → Turn rules m event environment m2
         → Kept rules view m
