@@ -15,7 +15,7 @@ use Rattle.fp_model.specs.declared.calls.AnchorChange.{AnchorChange}
 use Rattle.fp_model.specs.declared.calls.Resource.{Resource}
 use Rattle.fp_model.specs.declared.calls.Resource.TheVariants.{Segment, Anchor}
 use Rattle.fp_model.specs.declared.calls.SeqInsert.{SeqInsert}
-use Rattle.fp_model.specs.State.{Area, areas_of, has_anchor, roots_at, with_roots, change_key}
+use Rattle.fp_model.specs.State.{Area, anchors_in, areas_of, has_anchor, roots_at, with_roots, change_key}
 use Rattle.fp_model.specs.Order.{root_key}
 use Rattle.fp_model.specs.Commit.{ends_at, with_dedb, with_ends, takes, with_anchors, types_of, with_newest, with_dependent, numbered_at, with_insert, with_inserts, kept_from, in_anchors, purged_area, area_of_set, purged}
 use Rattle.fp_model.specs.Product.{is_anchor_of_set}
@@ -121,12 +121,12 @@ get_outside (suc first) n (suc end) change (x ∷ xs) (suc a) is h = get_outside
     less (inr behind) = inr (omega (arith, behind))
 
 -- an anchor that an area doesn't have, of its database
-lies_outside : (area : Area) (anchor : ℕ) → has_anchor area area.dedb anchor ≡ false → (anchor < area.first_anchor) ⊎ (area.first_anchor + area.anchors ≤ anchor)
-lies_outside area anchor e = either (nat_le area.first_anchor anchor) (nat_lt anchor (area.first_anchor + area.anchors)) refl refl (rw (eqb_same area.dedb) at e)
+lies_outside : (area : Area) (anchor : ℕ) → has_anchor area area.dedb anchor ≡ false → (anchor < area.first_anchor) ⊎ (area.first_anchor + anchors_in area.def ≤ anchor)
+lies_outside area anchor e = either (nat_le area.first_anchor anchor) (nat_lt anchor (area.first_anchor + anchors_in area.def)) refl refl (rw (eqb_same area.dedb) at e)
   where
-    either : (a b : Bool) → nat_le area.first_anchor anchor ≡ a → nat_lt anchor (area.first_anchor + area.anchors) ≡ b → (a && b) ≡ false → (anchor < area.first_anchor) ⊎ (area.first_anchor + area.anchors ≤ anchor)
+    either : (a b : Bool) → nat_le area.first_anchor anchor ≡ a → nat_lt anchor (area.first_anchor + anchors_in area.def) ≡ b → (a && b) ≡ false → (anchor < area.first_anchor) ⊎ (area.first_anchor + anchors_in area.def ≤ anchor)
     either true true p q e = absurd (true_is_not_false e)
-    either true false p q e = inr (let h : area.first_anchor + area.anchors ≤ anchor = grind (arith, common_steps, q) in h)
+    either true false p q e = inr (let h : area.first_anchor + anchors_in area.def ≤ anchor = grind (arith, common_steps, q) in h)
     either false b p q e = inl (let h : anchor < area.first_anchor = grind (arith, common_steps, p) in h)
 
 -- A Purge leaves the anchors outside of its area.
@@ -137,7 +137,7 @@ roots_with_purge area n db dedb anchor outside =
     roots_with_ends dedb anchor area (record (ends_at db area) { begin = begin }) (with_dedb area.dedb change db)
     ∙ roots_with_dedb dedb anchor area.dedb change db
     (λ d same. ap (λ (o : Option (List Root)). unwrap_or o [])
-    (get_outside area.first_anchor area.anchors (area.first_anchor + area.anchors) (map (kept_from begin)) d.anchors anchor refl
+    (get_outside area.first_anchor (anchors_in area.def) (area.first_anchor + anchors_in area.def) (map (kept_from begin)) d.anchors anchor refl
     (lies_outside area anchor (subst (λ (k : ℕ). has_anchor area k anchor ≡ false) same outside))))
 
 -- A Purge changes nothing that isn't an anchor of its area.
@@ -150,9 +150,9 @@ purge_leaves defs set n db next e resource outside = by (area_of_set defs set) r
     in_area area (Anchor dedb anchor) is outside =
         ap (λ (roots : List Root). RootsAre roots) (roots_with_purge area n db dedb anchor (subst (λ (o : Option Area). option_map_or (λ area. has_anchor area dedb anchor) o false ≡ false) is outside))
 
-    by : (o : Option Area) → area_of_set defs set ≡ o → option_map_or (λ area. if nat_lt 0 area.capacity then Some (purged_area area n db) else None) o None ≡ Some next → seen_in defs resource next ≡ seen_in defs resource db
+    by : (o : Option Area) → area_of_set defs set ≡ o → option_map_or (λ area. if nat_lt 0 area.def.capacity then Some (purged_area area n db) else None) o None ≡ Some next → seen_in defs resource next ≡ seen_in defs resource db
     by None is e = absurd (none_is_not_some next e)
-    by (Some area) is e = either (nat_lt 0 area.capacity) e
+    by (Some area) is e = either (nat_lt 0 area.def.capacity) e
       where
         either : (b : Bool) → (if b then Some (purged_area area n db) else None) ≡ Some next → seen_in defs resource next ≡ seen_in defs resource db
         either true e = subst (λ (q : Db). seen_in defs resource q ≡ seen_in defs resource db) (some_is (purged_area area n db) next e) (in_area area resource is outside)

@@ -28,7 +28,7 @@ use Rattle.fp_model.specs.Texts.{same_text}
 use Rattle.fp_model.specs.State.{key_of, segment_of, segment_after}
 use Rattle.fp_model.specs.Fsas.{fsas_in, list_on, all_blank}
 use Rattle.fp_model.specs.Order.{Occurrence, Place, Step, Edit, Replaces, Deletes, Inserts, is_sequential, key_in, edited}
-use Rattle.fp_model.specs.Workspace.{MsdbPosition, DedbPosition, no_msdb_position, Workspace, fresh}
+use Rattle.fp_model.specs.Workspace.{change_precedes, put_change, MsdbPosition, DedbPosition, no_msdb_position, Workspace, fresh}
 use Rattle.fp_model.specs.Answers.{Replied, answered, lettered, blank, unless_held}
 use Rattle.fp_model.specs.MsdbCalls as msdb
 use Rattle.fp_model.specs.DedbCalls as dedb
@@ -73,6 +73,18 @@ all_map_filter P f p (z ∷ zs) a = either (p z) (all_map_filter P f p zs a.1)
     either : (b : Bool) → AllByRecursion P (map f (filter p zs)) → AllByRecursion P (map f (if b then z ∷ filter p zs else filter p zs))
     either true h = (a.0, h)
     either false h = h
+
+-- with one more change, or one in place of that of its anchor
+all_put : {Y : Type 0} (P : Y → Type 0) (f : AnchorChange → Y) (c : AnchorChange) (cs : List AnchorChange)
+    → P (f c) → AllByRecursion P (map f cs) → AllByRecursion P (map f (put_change c cs))
+all_put P f c [] new old = (new, tt)
+all_put P f c (d ∷ others) new old = either (change_precedes c d) (change_precedes d c) (all_put P f c others new old.1)
+  where
+    either : (before behind : Bool) → AllByRecursion P (map f (put_change c others))
+        → AllByRecursion P (map f (if before then c ∷ d ∷ others else (if behind then d ∷ put_change c others else c ∷ others)))
+    either true behind put = (new, old)
+    either false true put = (old.0, put)
+    either false false put = (new, old.1)
 
 -- a test that one more passes too
 list_all_push : {X : Type 0} (p : X → Bool) (xs : List X) (x : X) → list_all p xs ≡ true → p x ≡ true → list_all p (xs ++ x ∷ []) ≡ true
@@ -160,7 +172,7 @@ module _ (defs : Defs) (held : Resource → Option Mode) where
     }
 
     -- the end of a hold
-    unheld_covers : (own : Workspace) → Covers defs own held → Covers defs (msdb.unheld def number own) held
+    unheld_covers : (own : Workspace) → Covers defs own held → Covers defs (msdb.hold_ended def number own) held
     unheld_covers own c = position_covers own (record (msdb.position_of def number own) { held = false }) c tt
 
     -- one more call in the queue
@@ -209,7 +221,7 @@ module _ (defs : Defs) (held : Resource → Option Mode) where
     fld_covers own key fsas None fair c = unheld_covers own c
     fld_covers own key fsas (Some segment) fair c =
         let letters : List ℕ = (list_on def (fsas_in fsas) segment).letters in
-        either_covers (all_blank letters) (msdb.queued def number own (lettered blank letters) (deferred.Fld number key fsas)) (record { answer = lettered (codes "FE") letters; own = msdb.unheld def number own })
+        either_covers (all_blank letters) (msdb.queued def number own (lettered blank letters) (deferred.Fld number key fsas)) (record { answer = lettered (codes "FE") letters; own = msdb.hold_ended def number own })
         (λ e. queued_covers own (lettered blank letters) (deferred.Fld number key fsas) c fair tt) (λ e. unheld_covers own c)
 
     -- the key that is held is held Exclusive
@@ -284,7 +296,7 @@ module _ (defs : Defs) (held : Resource → Option Mode) where
     placed p o k = record { is_own = k.is_own; positions = k.positions; deferred = k.deferred; changes = k.changes; inserts = k.inserts }
 
     -- a call that is refused
-    refused_covers : Covers defs (dedb.unheld def number own) held
+    refused_covers : Covers defs (dedb.hold_ended def number own) held
     refused_covers = placed (record (dedb.position_of def number own) { held = false }) own c
 
     -- a choice of two answers
@@ -303,8 +315,7 @@ module _ (defs : Defs) (held : Resource → Option Mode) where
       is_own = k.is_own;
       positions = k.positions;
       deferred = k.deferred;
-      changes = all_map_push (IsExclusive held) (change_claim defs) (filter (λ (x : AnchorChange). not (dedb.is_change_of def number anchor x)) o.changes) (dedb.change_at def number anchor roots)
-          (all_map_filter (IsExclusive held) (change_claim defs) (λ (x : AnchorChange). not (dedb.is_change_of def number anchor x)) o.changes k.changes) h;
+      changes = all_put (IsExclusive held) (change_claim defs) (dedb.change_at def number anchor roots) o.changes h k.changes;
       inserts = k.inserts;
     }
 
@@ -317,7 +328,7 @@ module _ (defs : Defs) (held : Resource → Option Mode) where
         → Covers defs (dedb.isrt_at def number roots own type path bytes).own held
     isrt_at_covers roots type path bytes h =
         let last : Replied = if dedb.stands_at def number roots path then dedb.refused def number own (codes "II") else dedb.inserted def number roots own path bytes in
-        let put : Replied = record { answer = answered blank; own = record (dedb.unheld def number own) { inserts = own.inserts ++ dedb.seq_insert def number path bytes ∷ [] } } in
+        let put : Replied = record { answer = answered blank; own = record (dedb.hold_ended def number own) { inserts = own.inserts ++ dedb.seq_insert def number path bytes ∷ [] } } in
         let sequential : Replied = if is_sequential def.segments type then put else last in
         either_dedb (not (dedb.stands_at def number roots (dedb.parents_in path))) (dedb.refused def number own (codes "GE")) sequential
         (λ e. refused_covers)
@@ -336,7 +347,7 @@ module _ (defs : Defs) (held : Resource → Option Mode) where
 
     -- a change at the place that is held
     edit_covers : (db : Db) (place : Place) (edit : Edit) → dedb.unless_locked def number held Exclusive place.anchor ≡ None → Covers defs (dedb.edit_at def number db own place edit) held
-    edit_covers db place edit need = changed_covers (dedb.unheld def number own) place.anchor (edited def.segments (dedb.roots_seen def number db own place.anchor) place.path edit) refused_covers (anchor_held place.anchor need)
+    edit_covers db place edit need = changed_covers (dedb.hold_ended def number own) place.anchor (edited def.segments (dedb.roots_seen def number db own place.anchor) place.path edit) refused_covers (anchor_held place.anchor need)
 
     -- REPL
     repl_dedb_covers : (db : Db) (bytes : List ℕ) (o : Option Place) → dedb.held_need def number held o ≡ None → Covers defs (dedb.repl_reply def number db own bytes o).own held

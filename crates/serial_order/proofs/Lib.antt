@@ -2,11 +2,13 @@ pub mod Lists
 pub mod Locks
 pub mod Waits
 pub mod Plays
+pub mod Terminals
 pub mod Kept
 pub mod Turns
 pub mod Replies
 pub mod Covers
 pub mod Needs
+pub mod Lines
 pub mod Forms
 pub mod Changes
 pub mod Settling

@@ -181,8 +181,8 @@ state_stays start states next place h =
     unwrap_or-slice_get (states ++ next ∷ []) place start ∙ get_or_append_left states (next ∷ []) start place h ∙ sym (unwrap_or-slice_get states place start)
 
 -- and there are more of them
-pub longer : (past : List Db) (now : Db) → length past < length (past ++ now ∷ [])
-longer past now = grind (arith, common_steps)
+pub longer : {X : Type 0} (xs : List X) (x : X) → length xs < length (xs ++ x ∷ [])
+longer xs x = grind (arith, common_steps)
 
 -- ---- notes
 

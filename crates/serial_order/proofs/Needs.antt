@@ -1,9 +1,7 @@
--- What calls, the sync point and lines ask for.
-use Rattle.std.proofs.Common.{◌≡◌, ◌<◌, ℕ, ◌-◌, List, [], ◌∷◌, length, Option, Some, None, refl, sym, ◌∙◌, ap, subst, Bool, true, false, not, ◌||◌, if◌then◌else◌, slice_get, Result, Ok, Err}
-use Rattle.std.specs.Prelude.{is_some, nat_lt}
-use Rattle.std.specs.List.{list_all}
+-- What calls, the sync point and scripts ask for.
+use Rattle.std.proofs.Common.{◌≡◌, ◌<◌, ℕ, ◌-◌, List, [], ◌∷◌, length, Option, Some, None, refl, sym, ◌∙◌, subst, Bool, true, false, not, ◌||◌, if◌then◌else◌, slice_get}
+use Rattle.std.specs.Prelude.{option_map, is_some}
 use Rattle.std.specs.Option.{option_map_or}
-use Rattle.fp_model.specs.declared.name.Name.{Name}
 use Rattle.fp_model.specs.declared.definitions.Defs.{Defs}
 use Rattle.fp_model.specs.declared.definitions.MsdbDef.{MsdbDef}
 use Rattle.fp_model.specs.declared.definitions.DedbDef.{DedbDef}
@@ -17,13 +15,11 @@ use Rattle.fp_model.specs.declared.calls.Mode.TheVariants.{Exclusive}
 use Rattle.fp_model.specs.declared.calls.Resource.{Resource}
 use Rattle.fp_model.specs.declared.calls.Resource.TheVariants.{Anchor}
 use Rattle.fp_model.specs.declared.scripts.Script.{Script}
-use Rattle.fp_model.specs.Texts.{is_printable}
-use Rattle.fp_model.specs.Messages.{MessageFault, TooLong, NotAscii, with_fair_text, message_by, message_of, terminal_of, tran_of, message_text}
 use Rattle.fp_model.specs.Settle.{resources}
 use Rattle.fp_model.specs.Commit.{lacking}
 use Rattle.fp_model.specs.Order.{Occurrence, Place}
 use Rattle.fp_model.specs.Asking.{Asks, Replies, ask, full_cost, script_of}
-use Rattle.fp_model.specs.Product.{if_script, request_of, asked_by, cost_of}
+use Rattle.fp_model.specs.Product.{asked_by, cost_of}
 use Rattle.fp_model.specs.Workspace.{Workspace}
 use Rattle.fp_model.specs.Answers.{Needed, serves, unless_held}
 use Rattle.fp_model.specs.MsdbCalls as msdb
@@ -73,7 +69,7 @@ module _ (held : Resource → Option Mode) (needed : Needed) where
       (from (dedb.first_unlocked (λ (anchor : ℕ). serves (held (Anchor number anchor)) (dedb.lock_of def number hold)) (dedb.look_at def number db own g ssas) (dedb.anchors_searched def number (dedb.position_of def number own) g (dedb.root_named def number ssas))) refl)
     where
       from : (o : Option ℕ) → dedb.first_unlocked (λ (anchor : ℕ). serves (held (Anchor number anchor)) (dedb.lock_of def number hold)) (dedb.look_at def number db own g ssas) (dedb.anchors_searched def number (dedb.position_of def number own) g (dedb.root_named def number ssas)) ≡ o
-          → option_map_or (λ (anchor : ℕ). Some (dedb.anchor_lock def number (dedb.lock_of def number hold) anchor)) o None ≡ Some needed → ¬ (held needed.resource ≡ Some Exclusive)
+          → option_map (dedb.anchor_lock def number (dedb.lock_of def number hold)) o ≡ Some needed → ¬ (held needed.resource ≡ Some Exclusive)
       from None is e = absurd (none_is_not_some needed e)
       from (Some a) is e =
           subst (λ (q : Needed). ¬ (held q.resource ≡ Some Exclusive)) (some_is (dedb.anchor_lock def number (dedb.lock_of def number hold) a) needed e)
@@ -116,42 +112,7 @@ sync_wants own held resource e = not_served (held resource) Exclusive (negated (
     negated true e = sym e
     negated false e = refl
 
--- ---- lines and scripts
-
--- results and what they hold
-ok_is : (x y : Message) (r : Result Message MessageFault) → r ≡ Ok x → r ≡ Ok y → x ≡ y
-ok_is x y r e f = cc
-
-error_is_not_ok : (f : MessageFault) (x : Message) → Err f ≡ Ok x → ⊥
-error_is_not_ok f x e = cc
-
--- a message that is taken is as it was
-fair_line : (m message : Message) → with_fair_text m ≡ Ok message → m ≡ message
-fair_line m message e = either (nat_lt 1000 (length m.text)) (list_all is_printable m.text) e
-  where
-    either : (long fair : Bool) → (if long then Err TooLong else (if fair then Ok m else Err NotAscii)) ≡ Ok message → m ≡ message
-    either true fair e = absurd (error_is_not_ok TooLong message e)
-    either false true e = ok_is m message (Ok m) refl e
-    either false false e = absurd (error_is_not_ok NotAscii message e)
-
--- it has the line that it was read from
-by_line : (line : List ℕ) (lterm tran : Option Name) (text : List ℕ) (message : Message) → message_by line lterm tran text ≡ Ok message → message.line ≡ line
-by_line line None tran text message e = absurd (error_is_not_ok _ message e)
-by_line line (Some lterm) None text message e = absurd (error_is_not_ok _ message e)
-by_line line (Some lterm) (Some tran) text message e = sym (ap (λ (m : Message). m.line) (fair_line (record { lterm = lterm; tran = tran; text = text; line = line }) message e))
-
--- and names a script
-scripted : (scripts : List Script) (line : List ℕ) (r : Result Message MessageFault) (message : Message) → ((m : Message) → r ≡ Ok m → m.line ≡ line) → if_script scripts r ≡ Some message → message.line ≡ line
-scripted scripts line (Err fault) message by e = absurd (none_is_not_some message e)
-scripted scripts line (Ok m) message by e = either (is_some (script_of scripts m.tran)) e
-  where
-    either : (b : Bool) → (if b then Some m else None) ≡ Some message → message.line ≡ line
-    either true e = ap (λ (x : Message). x.line) (sym (some_is m message e)) ∙ by m refl
-    either false e = absurd (none_is_not_some message e)
-
--- A message keeps its line.
-pub keeps_line : (scripts : List Script) (line : List ℕ) (message : Message) → request_of scripts line ≡ Some message → message.line ≡ line
-keeps_line scripts line message e = scripted scripts line (message_of line) message (λ m f. by_line line (terminal_of line) (tran_of line) (message_text line) m f) e
+-- ---- scripts
 
 asks_is_not_replies : (c : Call) (reply : List ℕ) → Replies reply ≡ Asks c → ⊥
 asks_is_not_replies c reply e = cc

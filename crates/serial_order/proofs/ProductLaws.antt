@@ -1,6 +1,6 @@
 -- This system keeps the laws, and its calls look at no ends of an area.
 use Rattle.std.proofs.Common.{◌≡◌, ℕ, ◌-◌, List, [], ◌∷◌, length, Option, Some, None, refl, ap, Bool, true, false, not, ◌||◌, if◌then◌else◌, slice_get}
-use Rattle.std.specs.Prelude.{is_some, find}
+use Rattle.std.specs.Prelude.{option_map, is_some, find}
 use Rattle.std.specs.List.{AllByRecursion}
 use Rattle.std.specs.Option.{option_map_or}
 use Rattle.fp_model.specs.declared.definitions.Defs.{Defs}
@@ -32,7 +32,8 @@ use Rattle.serial_order.specs.Laws.{RootsAre, Laws}
 use Rattle.serial_order.specs.ProductView.{seen_in, view_of}
 use Rattle.serial_order.proofs.Replies.{dedb_alike, replies_alike}
 use Rattle.serial_order.proofs.Covers.{replies_covered, fresh_covered}
-use Rattle.serial_order.proofs.Needs.{calls_want, sync_wants, keeps_line, asks_fewer}
+use Rattle.serial_order.proofs.Needs.{calls_want, sync_wants, asks_fewer}
+use Rattle.serial_order.proofs.Lines.{keeps_line, keeps_terminal, request_stays, refuses_only}
 use Rattle.serial_order.proofs.Forms.{asks_form}
 use Rattle.serial_order.proofs.Changes.{roots_with_ends, purge_leaves}
 use Rattle.serial_order.proofs.Queue.{sync_leaves}
@@ -43,6 +44,10 @@ use Rattle.serial_order.proofs.Queue.{sync_leaves}
 pub laws_of : (defs : Defs) (scripts : List Script) → AllByRecursion IsMsdbDef defs.msdbs → Laws (rules_of defs scripts) (view_of defs)
 laws_of defs scripts each = record {
   lines = keeps_line scripts;
+  terminals = keeps_terminal scripts;
+  stays = request_stays scripts;
+  refuses = refuses_only scripts;
+  no_text = refl;
   ends = asks_fewer defs scripts;
   asked = asks_form defs scripts;
   begins = fresh_covered defs;
@@ -75,7 +80,7 @@ module _ (area : Area) (ends : AreaEnds) (db : Db) (own : Workspace) where
   -- which lock a call to a data entry database needs
   dedb_need_alike : (def : DedbDef) (number : ℕ) (held : Resource → Option Mode) (c : Call) → dedb.dedb_need def number (with_ends area ends db) own held c ≡ dedb.dedb_need def number db own held c
   dedb_need_alike def number held (call.Get g hold n ssas) =
-      ap (λ (o : Option ℕ). if not (dedb.are_get_arguments def number ssas) || dedb.lacks_parent def number own g then None else option_map_or (λ (anchor : ℕ). Some (dedb.anchor_lock def number (dedb.lock_of def number hold) anchor)) o None)
+      ap (λ (o : Option ℕ). if not (dedb.are_get_arguments def number ssas) || dedb.lacks_parent def number own g then None else option_map (dedb.anchor_lock def number (dedb.lock_of def number hold)) o)
       (unlocked_alike (λ (anchor : ℕ). serves (held (Anchor number anchor)) (dedb.lock_of def number hold)) (dedb.look_at def number db own g ssas) (dedb.look_at def number (with_ends area ends db) own g ssas) (dedb.anchors_searched def number (dedb.position_of def number own) g (dedb.root_named def number ssas)) (look_alike def number g ssas))
   dedb_need_alike def number held (call.Fld n key fsas) = refl
   dedb_need_alike def number held (call.Isrt n ssas bytes) = refl
@@ -122,7 +127,7 @@ module _ (area : Area) (ends : AreaEnds) (db : Db) (own : Workspace) where
     dedb_needs_none : (c : Call) → dedb.dedb_need def number db own (λ (resource : Resource). Some Exclusive) c ≡ None
     dedb_needs_none (call.Get g hold n ssas) =
         either_none (not (dedb.are_get_arguments def number ssas) || dedb.lacks_parent def number own g) _
-        (ap (λ (o : Option ℕ). option_map_or (λ (anchor : ℕ). Some (dedb.anchor_lock def number (dedb.lock_of def number hold) anchor)) o None)
+        (ap (λ (o : Option ℕ). option_map (dedb.anchor_lock def number (dedb.lock_of def number hold)) o)
         (none_unlocked (dedb.look_at def number db own g ssas) (dedb.anchors_searched def number (dedb.position_of def number own) g (dedb.root_named def number ssas))))
     dedb_needs_none (call.Fld n key fsas) = refl
     dedb_needs_none (call.Isrt n ssas bytes) = insert_needs_none (dedb.are_insert_arguments def number ssas)

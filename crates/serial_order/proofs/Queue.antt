@@ -186,7 +186,7 @@ module _ (defs : Defs) (each : AllByRecursion IsMsdbDef defs.msdbs) where
   full_or_not : (db : Db) (inserts : List SeqInsert) (set : ℕ) (areas : List Area) (made next : Db) → unwrap_or (first_full db inserts set areas) (Commits made) ≡ Commits next → made ≡ next
   full_or_not db inserts set [] made next e = is_commit made next e
   full_or_not db inserts set (area ∷ areas) made next e =
-      by (nat_lt 0 (length (filter (takes area) inserts)) && is_too_full area.capacity (ends_at db area) (length (filter (takes area) inserts))) e (λ f. full_or_not db inserts (set + 1) areas made next f)
+      by (nat_lt 0 (length (filter (takes area) inserts)) && is_too_full area.def.capacity (ends_at db area) (length (filter (takes area) inserts))) e (λ f. full_or_not db inserts (set + 1) areas made next f)
     where
       by : (b : Bool) → unwrap_or (if b then Some (FillsPart set (ends_at db area).begin (ends_at db area).end (length (filter (takes area) inserts))) else first_full db inserts (set + 1) areas) (Commits made) ≡ Commits next
           → (unwrap_or (first_full db inserts (set + 1) areas) (Commits made) ≡ Commits next → made ≡ next) → made ≡ next

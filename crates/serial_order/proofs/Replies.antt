@@ -1,6 +1,6 @@
 -- A call that needs no further lock is answered alike where what is held is the same.
 use Rattle.std.proofs.Common.{◌≡◌, ℕ, ◌-◌, List, [], ◌∷◌, length, Option, Some, None, refl, sym, ◌∙◌, ap, subst, Bool, true, false, not, ◌&&◌, ◌||◌, if◌then◌else◌, slice_get}
-use Rattle.std.specs.Prelude.{codes, is_some, find, filter}
+use Rattle.std.specs.Prelude.{option_map, codes, is_some, find, filter}
 use Rattle.std.specs.Option.{option_map_or}
 use Rattle.fp_model.specs.declared.definitions.Defs.{Defs}
 use Rattle.fp_model.specs.declared.definitions.MsdbDef.{MsdbDef}
@@ -147,7 +147,7 @@ module _ (def : DedbDef) (number : ℕ) (held : Resource → Option Mode) (own :
 
   -- a get
   search_alike : (g : Get) (hold : Bool) (ssas : List Ssa) (anchors : List ℕ) (status : List ℕ)
-      → option_map_or (λ (anchor : ℕ). Some (dedb.anchor_lock def number (dedb.lock_of def number hold) anchor)) (dedb.first_unlocked (λ (anchor : ℕ). serves (held (Anchor number anchor)) (dedb.lock_of def number hold)) (dedb.look_at def number db own g ssas) anchors) None ≡ None
+      → option_map (dedb.anchor_lock def number (dedb.lock_of def number hold)) (dedb.first_unlocked (λ (anchor : ℕ). serves (held (Anchor number anchor)) (dedb.lock_of def number hold)) (dedb.look_at def number db own g ssas) anchors) ≡ None
       → dedb.found_or def number status g hold own (dedb.first_found (dedb.look_at def number db2 own g ssas) anchors)
       ≡ dedb.found_or def number status g hold own (dedb.first_found (dedb.look_at def number db own g ssas) anchors)
   search_alike g hold ssas anchors status need =
@@ -156,13 +156,13 @@ module _ (def : DedbDef) (number : ℕ) (held : Resource → Option Mode) (own :
       (unlocked (dedb.first_unlocked (λ (anchor : ℕ). serves (held (Anchor number anchor)) (dedb.lock_of def number hold)) (dedb.look_at def number db own g ssas) anchors) need)
       (λ anchor h. ap (λ (roots : List Root). first_admitted def.segments anchor roots (dedb.begins_behind def number (dedb.position_of def number own) g) (dedb.stays_below def number (dedb.position_of def number own) g) ssas) (roots_alike anchor (dedb.lock_of def number hold) h)))
     where
-      unlocked : (o : Option ℕ) → option_map_or (λ (anchor : ℕ). Some (dedb.anchor_lock def number (dedb.lock_of def number hold) anchor)) o None ≡ None → o ≡ None
+      unlocked : (o : Option ℕ) → option_map (dedb.anchor_lock def number (dedb.lock_of def number hold)) o ≡ None → o ≡ None
       unlocked None e = refl
       unlocked (Some a) e = absurd (none_is_not_some _ (sym e))
 
   -- behind two tests of which either ends the call
   get_alike_if : (fair lacks : Bool) (g : Get) (hold : Bool) (ssas : List Ssa) (r q : Replied)
-      → (if not fair || lacks then None else option_map_or (λ (anchor : ℕ). Some (dedb.anchor_lock def number (dedb.lock_of def number hold) anchor)) (dedb.first_unlocked (λ (anchor : ℕ). serves (held (Anchor number anchor)) (dedb.lock_of def number hold)) (dedb.look_at def number db own g ssas) (dedb.anchors_searched def number (dedb.position_of def number own) g (dedb.root_named def number ssas))) None) ≡ None
+      → (if not fair || lacks then None else option_map (dedb.anchor_lock def number (dedb.lock_of def number hold)) (dedb.first_unlocked (λ (anchor : ℕ). serves (held (Anchor number anchor)) (dedb.lock_of def number hold)) (dedb.look_at def number db own g ssas) (dedb.anchors_searched def number (dedb.position_of def number own) g (dedb.root_named def number ssas)))) ≡ None
       → (if not fair then r else if lacks then q else dedb.found_or def number (dedb.not_found def number g ssas) g hold own (dedb.first_found (dedb.look_at def number db2 own g ssas) (dedb.anchors_searched def number (dedb.position_of def number own) g (dedb.root_named def number ssas))))
       ≡ (if not fair then r else if lacks then q else dedb.found_or def number (dedb.not_found def number g ssas) g hold own (dedb.first_found (dedb.look_at def number db own g ssas) (dedb.anchors_searched def number (dedb.position_of def number own) g (dedb.root_named def number ssas))))
   get_alike_if false lacks g hold ssas r q need = refl
@@ -178,7 +178,7 @@ module _ (def : DedbDef) (number : ℕ) (held : Resource → Option Mode) (own :
 
   -- a change at the place that is held
   edit_alike : (place : Place) (edit : Edit) → dedb.unless_locked def number held Exclusive place.anchor ≡ None → dedb.edit_at def number db2 own place edit ≡ dedb.edit_at def number db own place edit
-  edit_alike place edit need = ap (λ (roots : List Root). dedb.with_change def number place.anchor (edited def.segments roots place.path edit) (dedb.unheld def number own)) (roots_locked place.anchor Exclusive need)
+  edit_alike place edit need = ap (λ (roots : List Root). dedb.with_change def number place.anchor (edited def.segments roots place.path edit) (dedb.hold_ended def number own)) (roots_locked place.anchor Exclusive need)
 
   -- REPL
   repl_alike : (bytes : List ℕ) (o : Option Place) → dedb.held_need def number held o ≡ None → dedb.repl_reply def number db2 own bytes o ≡ dedb.repl_reply def number db own bytes o

@@ -16,7 +16,8 @@ use Rattle.serial_order.specs.Sample.{named, sample_defs, changing, crossing, ve
 
 -- the message of a terminal and a script
 abbrev pub from_terminal : List ℕ → List ℕ → List ℕ → Message
-from_terminal terminal script line = record { lterm = named terminal; tran = named script; text = []; line = line }
+from_terminal terminal script line =
+    record { lterm = named terminal; tran = named script; text = []; line = line; number = None }
 
 -- the four messages
 abbrev pub to_change : Message
@@ -39,7 +40,9 @@ abbrev pub change_of_b : Call
 change_of_b = call.Repl 0 (codes "B1")
 
 abbrev pub verify_of_b : Call
-verify_of_b = call.Fld 0 (codes "B") (list_text (record { field = (named (codes "V")).0; status = 32; op = 69; operand = codes "0" } ∷ []))
+verify_of_b =
+    call.Fld 0 (codes "B") (list_text
+    (record { field = (named (codes "V")).0; status = 32; op = 69; operand = codes "0" } ∷ []))
 
 abbrev pub root_get : Bool → Call
 root_get hold = call.Get Unique hold 1 (record { segment = 0; key = None } ∷ [])
@@ -69,7 +72,8 @@ pub change_asks_repl : ask sample_defs changing.statements to_change (shown_a �
 unfolding ask
 change_asks_repl = simp (run_roll) refl
 
-pub change_replies : ask sample_defs changing.statements to_change (shown_a ∷ shown_b ∷ answered blank ∷ []) ≡ Replies (codes "CHANGED")
+pub change_replies : ask sample_defs changing.statements to_change (shown_a ∷ shown_b ∷ answered blank ∷ [])
+    ≡ Replies (codes "CHANGED")
 unfolding ask
 change_replies = simp (run_roll) refl
 
@@ -87,9 +91,15 @@ pub verify_asks : ask sample_defs verifying.statements to_verify [] ≡ Asks ver
 unfolding ask be16 digits
 verify_asks = simp (run_roll) refl
 
-pub verify_replies : ask sample_defs verifying.statements to_verify (lettered blank (32 ∷ []) ∷ []) ≡ Replies (codes "VERIFIED")
+pub verify_replies : ask sample_defs verifying.statements to_verify (lettered blank (32 ∷ []) ∷ [])
+    ≡ Replies (codes "SEEN")
 unfolding ask be16 digits
 verify_replies = simp (run_roll) refl
+
+pub verify_meets_change : ask sample_defs verifying.statements to_verify (lettered (codes "FE") (68 ∷ []) ∷ [])
+    ≡ Replies (codes "SEEN")
+unfolding ask be16 digits
+verify_meets_change = simp (run_roll) refl
 
 -- the script U
 pub upgrade_looks : ask sample_defs upgrading.statements to_upgrade [] ≡ Asks (root_get false)

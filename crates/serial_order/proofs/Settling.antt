@@ -108,7 +108,7 @@ all_served held (r ∷ rs) e = by (serves (held r) Exclusive) refl e (λ f. all_
 -- ---- segments by key
 
 -- a search for another finds the same beside a new element
-find_put : {X : Type 0} (p : X → Bool) (key : X → List ℕ) (x : X) (ys : List X) → p x ≡ false → find p (put_by_key key x ys) ≡ find p ys
+pub find_put : {X : Type 0} (p : X → Bool) (key : X → List ℕ) (x : X) (ys : List X) → p x ≡ false → find p (put_by_key key x ys) ≡ find p ys
 find_put p key x [] no_x = rw no_x refl
 find_put p key x (y ∷ ys) no_x = by (is_below (key x) (key y)) (find_put p key x ys no_x)
   where
@@ -117,7 +117,7 @@ find_put p key x (y ∷ ys) no_x = by (is_below (key x) (key y)) (find_put p key
     by false later = ap (λ o. if p y then Some y else o) later
 
 -- and without elements that it doesn't find
-find_kept : {X : Type 0} (p q : X → Bool) (xs : List X) → ((x : X) → p x ≡ true → q x ≡ true) → find p (filter q xs) ≡ find p xs
+pub find_kept : {X : Type 0} (p q : X → Bool) (xs : List X) → ((x : X) → p x ≡ true → q x ≡ true) → find p (filter q xs) ≡ find p xs
 find_kept p q [] h = refl
 find_kept p q (x ∷ xs) h = by (q x) refl (find_kept p q xs h)
   where
@@ -130,7 +130,7 @@ find_kept p q (x ∷ xs) h = by (q x) refl (find_kept p q xs h)
         either false here = later
 
 -- texts that differ
-other_text : (a k : List ℕ) → ¬ (a ≡ k) → same_text a k ≡ false
+pub other_text : (a k : List ℕ) → ¬ (a ≡ k) → same_text a k ≡ false
 other_text a k ne = by (same_text a k) refl
   where
     by : (b : Bool) → same_text a k ≡ b → b ≡ false

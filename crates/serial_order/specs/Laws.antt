@@ -1,5 +1,5 @@
 -- What the serial order of transactions needs of the functions that rules are.
-use Rattle.std.specs.Prelude.{◌≡◌, ℕ, ◌<◌, List, length, Bool, true, false, Option, Some, None}
+use Rattle.std.specs.Prelude.{◌≡◌, ℕ, ◌<◌, ⊤, List, [], length, Bool, true, false, Option, Some, None}
 use Rattle.std.specs.List.{AllByRecursion}
 use Rattle.fp_model.specs.declared.database.Db.{Db}
 use Rattle.fp_model.specs.declared.database.Root.{Root}
@@ -9,6 +9,11 @@ use Rattle.fp_model.specs.declared.calls.Message.{Message}
 use Rattle.fp_model.specs.declared.calls.Mode.{Mode}
 use Rattle.fp_model.specs.declared.calls.Mode.TheVariants.{Exclusive}
 use Rattle.fp_model.specs.declared.calls.Resource.{Resource}
+use Rattle.fp_model.specs.declared.log.Entry.{Entry}
+use Rattle.fp_model.specs.declared.log.Outcome.{Outcome}
+use Rattle.fp_model.specs.declared.log.Outcome.TheVariants as outcome
+use Rattle.fp_model.specs.declared.name.Name.{Name}
+use Rattle.fp_model.specs.History.{History, Accepts, Refuses, with_entry}
 use Rattle.fp_model.specs.Workspace.{Workspace}
 use Rattle.fp_model.specs.Answers.{Needed}
 use Rattle.fp_model.specs.Commit.{Commits}
@@ -40,17 +45,59 @@ pub record IsCovered (view : View) (own : Workspace) (held : Resource → Option
 
 -- The second state has what the first has at each resource that is held.
 abbrev pub IsSame : View → (Resource → Option Mode) → Db → Db → Type 0
-IsSame view held db db2 = (resource : Resource) → ¬ (held resource ≡ None) → view.seen resource db2 ≡ view.seen resource db
+IsSame view held db db2 =
+    (resource : Resource) → ¬ (held resource ≡ None) → view.seen resource db2 ≡ view.seen resource db
+
+-- ---- lines
+
+-- whether an entry changes the format in which lines are read
+abbrev pub is_format : Outcome → Bool
+is_format outcome.Format = true
+is_format _ = false
+
+-- by which outcomes a line is refused that asks for nothing
+abbrev pub IsRefusal : Outcome → Type 0
+IsRefusal outcome.Unknown = ⊤
+IsRefusal (outcome.Old last) = ⊤
+IsRefusal (outcome.Repeat line) = ⊤
+IsRefusal _ = ⊥
+
+-- no terminal has sent both lines
+abbrev pub ShareNoTerminal : Rules → List ℕ → List ℕ → Type 0
+ShareNoTerminal rules line other =
+    (name : Name) → rules.terminal_of line ≡ Some name → ¬ (rules.terminal_of other ≡ Some name)
+
+-- ---- the laws
 
 pub record Laws (rules : Rules) (view : View) : Type 0 where
-  -- a message keeps its line
-  pub lines : (line : List ℕ) (message : Message) → rules.request_of line ≡ Some message → message.line ≡ line
+  -- a message keeps its line, and is that of the line's terminal
+  pub lines : (h : History) (line : List ℕ) (message : Message)
+      → rules.request_of h line ≡ Accepts message
+      → message.line ≡ line
+  pub terminals : (h : History) (line : List ℕ) (message : Message)
+      → rules.request_of h line ≡ Accepts message
+      → rules.terminal_of line ≡ Some message.lterm
+  -- what a line asks for changes only by a Format, and by entries of its own terminal
+  pub stays : (h : History) (e : Entry) (next : Db) (line : List ℕ)
+      → is_format e.outcome ≡ false
+      → ShareNoTerminal rules e.line line
+      → rules.request_of (with_entry e next h) line ≡ rules.request_of h line
+  -- a line is refused only where it asks for nothing, and one without text has no terminal
+  pub refuses : (h : History) (line : List ℕ) (outcome : Outcome)
+      → rules.request_of h line ≡ Refuses outcome
+      → IsRefusal outcome
+  pub no_text : rules.terminal_of [] ≡ None
   -- a script that asks a call was answered fewer than it may make, and the call has its form
-  pub ends : (message : Message) (answers : List Answer) (call : Call) → rules.ask message answers ≡ Asks call → length answers < rules.budget message
-  pub asked : (message : Message) (answers : List Answer) (call : Call) → rules.ask message answers ≡ Asks call → view.is_call call ≡ true
+  pub ends : (message : Message) (answers : List Answer) (call : Call)
+      → rules.ask message answers ≡ Asks call
+      → length answers < rules.budget message
+  pub asked : (message : Message) (answers : List Answer) (call : Call)
+      → rules.ask message answers ≡ Asks call
+      → view.is_call call ≡ true
   -- a transaction begins with nothing to rely on
   pub begins : (held : Resource → Option Mode) → IsCovered view rules.fresh held
-  -- A call that needs no further lock is answered alike on any state that agrees at what is held. An unheld look needs the state that it shows.
+  -- A call that needs no further lock is answered alike on any state that agrees at what is held. An unheld look needs
+  -- the state that it shows.
   pub answers : (db db2 shown shown2 : Db) (own : Workspace) (held : Resource → Option Mode) (call : Call)
       → rules.need db own held call ≡ None
       → IsSame view held db db2

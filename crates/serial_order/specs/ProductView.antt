@@ -75,9 +75,12 @@ module _ (defs : Defs) where
   abbrev pub insert_claim : SeqInsert → Resource
   insert_claim i = Anchor i.dedb i.anchor
 
-  -- what a workspace relies on: segments held, replaced, inserted or deleted, anchors changed, anchors of sequential inserts
+  -- what a workspace relies on: segments held, replaced, inserted or deleted, anchors changed, and anchors of
+  -- sequential inserts
   abbrev pub claims_of : Workspace → List Resource
-  claims_of own = held_claims 0 own.msdbs ++ flat_map deferred_claim own.deferred ++ map change_claim own.changes ++ map insert_claim own.inserts
+  claims_of own =
+      held_claims 0 own.msdbs ++ flat_map deferred_claim own.deferred
+      ++ map change_claim own.changes ++ map insert_claim own.inserts
 
   abbrev pub view_of : View
   view_of = record { seen = seen_in; claims = claims_of; is_call = is_call; is_own = is_own }

@@ -1,5 +1,5 @@
 //! The laws of this system: what its calls, its sync point and its Purge look at and change.
-ghost use Rattle.std.specs.Prelude.{◌≡◌, ℕ, List, [], Bool, true, false, Option, Some, None};
+ghost use Rattle.std.specs.Prelude.{◌≡◌, ℕ, List, Bool, true, false, Option, Some, None};
 ghost use Rattle.std.specs.List.{AllByRecursion};
 ghost use Rattle.fp_model.specs.declared.definitions.Defs.{Defs};
 ghost use Rattle.fp_model.specs.declared.database.AreaEnds.{AreaEnds};
@@ -19,16 +19,16 @@ ghost use Rattle.fp_model.specs.Commit.{Commits, settlement, lacking, purged, wi
 ghost use Rattle.fp_model.specs.Asking.{Asks};
 ghost use Rattle.fp_model.specs.WellFormed.{IsMsdbDef, AreDefs};
 ghost use Rattle.fp_model.specs.Product.{is_anchor_of_set, asked_by, rules_of};
-ghost use Rattle.fp_model.specs.SerialHistory.{LeadsOn, IsSerialHistory};
+ghost use Rattle.fp_model.specs.SerialHistory.{IsSerial, IsSerialHistory};
 ghost use Rattle.fp_model.specs.Machine.{Machine};
 ghost use Rattle.fp_model.specs.Turns.{Environment, Turn};
-ghost use Rattle.fp_model.specs.Runs.{Runs};
+ghost use Rattle.fp_model.specs.Runs.{RunStep, Runs};
 ghost use Rattle.serial_order.specs.Laws.{IsCovered, IsSame, Laws};
 ghost use Rattle.serial_order.specs.ProductView.{seen_in, is_call, view_of};
 ghost use Rattle.serial_order.specs.Kept.{AreApart, HaveNoCycle, IsAtRest, Kept};
 
-/// A call that needs no further lock is answered alike on any two states that have the same at what is held. Only an unheld
-/// look needs the state that it shows.
+/// A call that needs no further lock is answered alike on any two states that have the same at what is held. Only an
+/// unheld look needs the state that it shows.
 pub fn calls_look_at_what_is_held()
     ensures { (defs : Defs) (db db2 shown shown2 : Db) (own : Workspace) (held : Resource → Option Mode) (asked : Call)
         → need_of defs db own held asked ≡ None
@@ -53,9 +53,13 @@ pub fn calls_rely_on_what_is_held()
 
 /// Neither what a call is answered nor the lock that it needs depends on the ends of an area.
 pub fn calls_look_at_no_ends()
-    ensures reply { (defs : Defs) (area area2 : Area) (ends ends2 : AreaEnds) (db shown : Db) (own : Workspace) (asked : Call)
-        → reply_to defs (with_ends area ends db) (with_ends area2 ends2 shown) own asked ≡ reply_to defs db shown own asked }
-    ensures need { (defs : Defs) (area : Area) (ends : AreaEnds) (db : Db) (own : Workspace) (held : Resource → Option Mode) (asked : Call)
+    ensures reply { (defs : Defs)
+        → (area area2 : Area) (ends ends2 : AreaEnds) (db shown : Db) (own : Workspace) (asked : Call)
+        → reply_to defs (with_ends area ends db) (with_ends area2 ends2 shown) own asked
+        ≡ reply_to defs db shown own asked }
+    ensures need { (defs : Defs)
+        → (area : Area) (ends : AreaEnds) (db : Db)
+        → (own : Workspace) (held : Resource → Option Mode) (asked : Call)
         → need_of defs (with_ends area ends db) own held asked ≡ need_of defs db own held asked }
 {}
 
@@ -66,14 +70,16 @@ pub fn settling_changes_what_is_held()
         → IsCovered (view_of defs) own held
         → lacking own held ≡ None
         → settlement defs db own ≡ Commits next
-        → (resource : Resource) → ¬ (held resource ≡ Some Exclusive) → seen_in defs resource next ≡ seen_in defs resource db }
+        → (resource : Resource) → ¬ (held resource ≡ Some Exclusive)
+        → seen_in defs resource next ≡ seen_in defs resource db }
 {}
 
 /// A Purge changes only the anchors of its area, the ends aside.
 pub fn a_purge_changes_its_area()
     ensures { (defs : Defs) (set n : ℕ) (db next : Db)
         → purged defs set n db ≡ Some next
-        → (resource : Resource) → is_anchor_of_set defs set resource ≡ false → seen_in defs resource next ≡ seen_in defs resource db }
+        → (resource : Resource) → is_anchor_of_set defs set resource ≡ false
+        → seen_in defs resource next ≡ seen_in defs resource db }
 {}
 
 /// This system keeps the laws that its serial order needs.
@@ -83,41 +89,42 @@ pub fn the_system_keeps_the_laws()
         → Laws (rules_of defs scripts) (view_of defs) }
 {}
 
-/// Every run of this system from rest is a serial history. No two regions hold a resource unless both share it, and nobody waits
-/// for himself.
+/// Every run of this system from rest is a serial history. No two regions hold a resource unless both share it, and
+/// nobody waits for himself.
 pub fn every_run_of_the_system_is_serial()
-    ensures history { (defs : Defs) (scripts : List Script) (m : Machine) (events : List Event) (environments : List Environment) (m2 : Machine)
+    ensures history { (defs : Defs) (scripts : List Script) (m : Machine) (steps : List RunStep) (m2 : Machine)
         → AreDefs defs
         → IsAtRest (rules_of defs scripts) m
-        → Runs (rules_of defs scripts) m events environments m2
-        → LeadsOn (rules_of defs scripts) [] (rules_of defs scripts).start m2.entries m2.past m2.now }
-    ensures serial { (defs : Defs) (scripts : List Script) (m : Machine) (events : List Event) (environments : List Environment) (m2 : Machine)
+        → Runs (rules_of defs scripts) m steps m2
+        → IsSerial (rules_of defs scripts) m2.history }
+    ensures serial { (defs : Defs) (scripts : List Script) (m : Machine) (steps : List RunStep) (m2 : Machine)
         → AreDefs defs
         → IsAtRest (rules_of defs scripts) m
-        → Runs (rules_of defs scripts) m events environments m2
-        → IsSerialHistory (rules_of defs scripts) m2.entries m2.now }
-    ensures apart { (defs : Defs) (scripts : List Script) (m : Machine) (events : List Event) (environments : List Environment) (m2 : Machine)
+        → Runs (rules_of defs scripts) m steps m2
+        → IsSerialHistory (rules_of defs scripts) m2.history.format m2.history.entries m2.history.now }
+    ensures apart { (defs : Defs) (scripts : List Script) (m : Machine) (steps : List RunStep) (m2 : Machine)
         → AreDefs defs
         → IsAtRest (rules_of defs scripts) m
-        → Runs (rules_of defs scripts) m events environments m2
+        → Runs (rules_of defs scripts) m steps m2
         → AreApart m2.locks }
-    ensures no_cycle { (defs : Defs) (scripts : List Script) (m : Machine) (events : List Event) (environments : List Environment) (m2 : Machine)
+    ensures no_cycle { (defs : Defs) (scripts : List Script) (m : Machine) (steps : List RunStep) (m2 : Machine)
         → AreDefs defs
         → IsAtRest (rules_of defs scripts) m
-        → Runs (rules_of defs scripts) m events environments m2
+        → Runs (rules_of defs scripts) m steps m2
         → HaveNoCycle m2.requests m2.locks }
 {}
 
 /// What a turn of this system keeps, and so every run.
 pub fn a_turn_of_the_system_keeps_the_order()
-    ensures turn { (defs : Defs) (scripts : List Script) (m : Machine) (event : Event) (environment : Environment) (m2 : Machine)
+    ensures turn { (defs : Defs) (scripts : List Script)
+        → (m : Machine) (event : Event) (environment : Environment) (m2 : Machine)
         → AreDefs defs
         → Turn (rules_of defs scripts) m event environment m2
         → Kept (rules_of defs scripts) (view_of defs) m
         → Kept (rules_of defs scripts) (view_of defs) m2 }
-    ensures run { (defs : Defs) (scripts : List Script) (m : Machine) (events : List Event) (environments : List Environment) (m2 : Machine)
+    ensures run { (defs : Defs) (scripts : List Script) (m : Machine) (steps : List RunStep) (m2 : Machine)
         → AreDefs defs
-        → Runs (rules_of defs scripts) m events environments m2
+        → Runs (rules_of defs scripts) m steps m2
         → Kept (rules_of defs scripts) (view_of defs) m
         → Kept (rules_of defs scripts) (view_of defs) m2 }
 {}
