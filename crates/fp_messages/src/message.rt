@@ -1,11 +1,11 @@
 //! Reads a message line.
-ghost use Rattle.std.specs.Prelude.{◌≡◌, ◌↔◌, ◌≤◌, Ok, Err, IfOk, IsOk, IsErrOf};
+ghost use Rattle.std.specs.Prelude.{◌≡◌, ◌↔◌, Ok, Err, IfOk, IsOk, IsErrOf};
 ghost use Rattle.std.specs.List.{list_all};
 ghost use Rattle.fp_model.specs.Texts.{is_printable};
 ghost use Rattle.fp_model.specs.Messages as messages;
-ghost use Rattle.fp_model.specs.Messages.{message_of, terminal_of};
+ghost use Rattle.fp_model.specs.Messages.{behind_number, message_of, number_in_line, terminal_of};
 
-use crate::words::{name_in, split_word};
+use crate::words::{message_number, name_in, split_word};
 use fp_model::{Bytes, Message, Name};
 use std::alloc::{AllocError, Global};
 
@@ -37,24 +37,28 @@ impl From<AllocError> for MessageFault {
 // How many bytes a text has at most.
 const LONGEST_TEXT: usize = 1000;
 
-/// The message that a line is. The bytes are copied only once the line is known to be one.
-pub fn read_message(alloc: Global, line: &[u8]) -> Result<Message, MessageFault>
-    ensures ok { IfOk result (λ message. message_of line.now ≡ Ok message) }
+// The format in which a line may have a number.
+const NUMBERED: u8 = 2;
+
+/// The message that a line is in a log of this format. The bytes are copied only once the line is known to be one.
+pub fn read_message(alloc: Global, format: u8, line: &[u8]) -> Result<Message, MessageFault>
+    ensures ok { IfOk result (λ message. message_of format line.now ≡ Ok message) }
 
     // Each fault comes where the line has it, and nowhere else.
-    ensures no_terminal { IsErrOf result MessageFault.NoTerminal ↔ (message_of line.now ≡ Err messages.NoTerminal) }
-    ensures no_tran { IsErrOf result MessageFault.NoTran ↔ (message_of line.now ≡ Err messages.NoTran) }
-    ensures too_long { IsErrOf result MessageFault.TooLong ↔ (message_of line.now ≡ Err messages.TooLong) }
-    ensures not_ascii { IsErrOf result MessageFault.NotAscii ↔ (message_of line.now ≡ Err messages.NotAscii) }
+    ensures no_terminal { IsErrOf result MessageFault.NoTerminal
+        ↔ (message_of format line.now ≡ Err messages.NoTerminal) }
+    ensures no_tran { IsErrOf result MessageFault.NoTran ↔ (message_of format line.now ≡ Err messages.NoTran) }
+    ensures too_long { IsErrOf result MessageFault.TooLong ↔ (message_of format line.now ≡ Err messages.TooLong) }
+    ensures not_ascii { IsErrOf result MessageFault.NotAscii ↔ (message_of format line.now ≡ Err messages.NotAscii) }
 
     // Memory is asked for only where the line is a message.
-    ensures memory { IsErrOf result MessageFault.Memory → IsOk (message_of line.now) }
+    ensures memory { IsErrOf result MessageFault.Memory → IsOk (message_of format line.now) }
 {
-    let (word, behind) = split_word(line);
-    let Some(lterm) = name_in(word) else {
+    let Some(lterm) = terminal_of(line) else {
         return Err(MessageFault::NoTerminal);
     };
-    let (word, text) = split_word(behind);
+    let (number, asked) = split_number(format, line);
+    let (word, text) = split_word(asked);
     let Some(tran) = name_in(word) else {
         return Err(MessageFault::NoTran);
     };
@@ -69,7 +73,24 @@ pub fn read_message(alloc: Global, line: &[u8]) -> Result<Message, MessageFault>
         tran,
         text: Bytes::from_slice(alloc, text)?,
         line: Bytes::from_slice(alloc, line)?,
+        number,
     })
+}
+
+// The number of a line, where it has one, and what stands behind it or else behind the terminal.
+fn split_number(format: u8, line: &[u8]) -> (Option<u64>, &[u8])
+    ensures number { result.0 ≡ number_in_line format line.now }
+    ensures behind { result.1.now ≡ behind_number (number_in_line format line.now) line.now }
+{
+    let (_, asked) = split_word(line);
+    if format != NUMBERED {
+        return (None, asked);
+    }
+    let (word, behind) = split_word(asked);
+    match message_number(word) {
+        Some(number) => (Some(number), behind),
+        None => (None, asked),
+    }
 }
 
 /// The terminal of a line; `None` where its first word is no name.

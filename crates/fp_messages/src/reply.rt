@@ -1,26 +1,61 @@
 //! Writes the line that a terminal is sent for an entry.
-ghost use Rattle.std.specs.Prelude.{◌≡◌, ◌++◌, [], IfOk, OnOk, codes, unwrap_or};
+ghost use Rattle.std.specs.Prelude.{◌≡◌, ◌∷◌, ◌++◌, [], IfOk, codes};
 ghost use Rattle.std.specs.Fmt.{decimal};
+ghost use Rattle.std.specs.Option.{option_map_or};
 ghost use Rattle.fp_model.specs.Messages.{terminal_of};
-ghost use Rattle.fp_model.specs.ReplyLine.{addressee, behind_blank, line_of, verdict};
+ghost use Rattle.fp_model.specs.ReplyLine.{Words, addressee, behind_blank, line_for, line_of, verdict};
 
 use crate::words::{is_name, split_word};
 use fp_model::{Bytes, Entry, Outcome};
 use std::alloc::{AllocError, Global};
 
-/// The line that is sent for an entry, with its newline. A purge has none: no bytes.
+/// The line that is sent for an entry, with its newline. A purge and a change of format have none: no bytes.
 pub fn reply_line(alloc: Global, e: &Entry) -> Result<Bytes, AllocError>
-    ensures { IfOk result (λ line. line ≡ line_of e.now) }
+    ensures { IfOk result (λ sent. sent ≡ line_of e.now) }
 {
-    let mut out = Bytes::new(alloc);
-    if let Outcome::Purge { .. } = e.outcome {
-        return Ok(out);
-    }
-    out.append(addressee(e.line.as_slice()))?;
-    out.push(b' ')?;
-    append_verdict(alloc, &mut out, &e.outcome, e.reply.as_slice())?;
+    reply_line_of(alloc, e.line.as_slice(), &e.outcome, e.reply.as_slice())
+}
+
+/// The line that is sent for an entry with this line, outcome and reply, with its newline; no bytes where it has none.
+pub fn reply_line_of(
+    alloc: Global,
+    line: &[u8],
+    outcome: &Outcome,
+    reply: &[u8],
+) -> Result<Bytes, AllocError>
+    ensures { let text = line_for (addressee (terminal_of line.now)) (verdict outcome.now reply.now) in
+        IfOk result (λ sent. sent ≡ option_map_or (λ text. text ++ 10 ∷ []) text []) }
+{
+    let Some(mut out) = reply_text(alloc, line, outcome, reply)? else {
+        return Ok(Bytes::new(alloc));
+    };
     out.push(b'\n')?;
     Ok(out)
+}
+
+/// The line that is sent for an entry with this line, outcome and reply, without its newline; `None` for a purge and a
+/// change of format, of which nobody is told.
+pub fn reply_text(
+    alloc: Global,
+    line: &[u8],
+    outcome: &Outcome,
+    reply: &[u8],
+) -> Result<Option<Bytes>, AllocError>
+    ensures { IfOk result (λ text. text ≡ line_for (addressee (terminal_of line.now)) (verdict outcome.now reply.now)) }
+{
+    match outcome {
+        Outcome::Done => success(alloc, line, reply),
+        Outcome::Verify { .. } => words(alloc, line, b"NO VERIFY"),
+        Outcome::Roll(code) => numbered(alloc, line, b"NO ROLB ", u64::from(*code)),
+        Outcome::SeqFull { .. } => words(alloc, line, b"NO SEQFULL"),
+        Outcome::Deadlock(_) => words(alloc, line, b"NO DEADLOCK"),
+        Outcome::Device => words(alloc, line, b"NO DEVICE"),
+        Outcome::Memory => words(alloc, line, b"NO MEMORY"),
+        Outcome::Unknown => words(alloc, line, b"NO UNKNOWN"),
+        Outcome::Old(last) => numbered(alloc, line, b"NO OLD ", *last),
+        Outcome::Repeat(kept) => Ok(Some(kept.copy()?)),
+        Outcome::Purge { .. } | Outcome::Format => Ok(None),
+    }
 }
 
 // The terminal's name, or a question mark where the line has none.
@@ -31,45 +66,41 @@ fn addressee(line: &[u8]) -> &[u8]
     if is_name(word) { word } else { b"?" }
 }
 
-// Appends what a terminal is told of an outcome; nothing for a purge.
-fn append_verdict(
-    alloc: Global,
-    out: &mut Bytes,
-    outcome: &Outcome,
-    reply: &[u8],
-) -> Result<(), AllocError>
-    ensures { OnOk result (out.new ≡ out.old ++ unwrap_or (verdict outcome.now reply.now) []) }
+// Words behind the terminal's name and a blank.
+fn words(alloc: Global, line: &[u8], words: &[u8]) -> Result<Option<Bytes>, AllocError>
+    ensures { IfOk result (λ text. text ≡ line_for (addressee (terminal_of line.now)) (Words words.now)) }
 {
-    match outcome {
-        Outcome::Done => append_success(out, reply),
-        Outcome::Verify { .. } => out.append(b"NO VERIFY"),
-        Outcome::Roll(code) => append_rollback(alloc, out, *code),
-        Outcome::SeqFull { .. } => out.append(b"NO SEQFULL"),
-        Outcome::Deadlock(_) => out.append(b"NO DEADLOCK"),
-        Outcome::Device => out.append(b"NO DEVICE"),
-        Outcome::Memory => out.append(b"NO MEMORY"),
-        Outcome::Unknown => out.append(b"NO UNKNOWN"),
-        Outcome::Purge { .. } => Ok(()),
-    }
+    let mut out = Bytes::from_slice(alloc, addressee(line))?;
+    out.push(b' ')?;
+    out.append(words)?;
+    Ok(Some(out))
 }
 
-// Appends `OK`, and the reply behind a blank where there is one.
-fn append_success(out: &mut Bytes, reply: &[u8]) -> Result<(), AllocError>
-    ensures { OnOk result (out.new ≡ out.old ++ codes "OK" ++ behind_blank reply.now) }
+// `OK`, and the reply behind a blank where there is one.
+fn success(alloc: Global, line: &[u8], reply: &[u8]) -> Result<Option<Bytes>, AllocError>
+    ensures { IfOk result (λ text. text
+        ≡ line_for (addressee (terminal_of line.now)) (Words (codes "OK" ++ behind_blank reply.now))) }
 {
-    out.append(b"OK")?;
+    let mut out = Bytes::from_slice(alloc, b"OK")?;
     if !reply.is_empty() {
         out.push(b' ')?;
         out.append(reply)?;
     }
-    Ok(())
+    words(alloc, line, out.as_slice())
 }
 
-// Appends a rollback's code, in decimal without leading zeros.
-fn append_rollback(alloc: Global, out: &mut Bytes, code: u16) -> Result<(), AllocError>
-    ensures { OnOk result (out.new ≡ out.old ++ codes "NO ROLB " ++ decimal code) }
+// Words with a number behind them, in decimal without leading zeros.
+fn numbered(
+    alloc: Global,
+    line: &[u8],
+    front: &[u8],
+    number: u64,
+) -> Result<Option<Bytes>, AllocError>
+    ensures { IfOk result (λ text. text
+        ≡ line_for (addressee (terminal_of line.now)) (Words (front.now ++ decimal number))) }
 {
-    let code = code.to_string(alloc)?;
-    out.append(b"NO ROLB ")?;
-    out.append(code.as_bytes())
+    let number = number.to_string(alloc)?;
+    let mut out = Bytes::from_slice(alloc, front)?;
+    out.append(number.as_bytes())?;
+    words(alloc, line, out.as_slice())
 }

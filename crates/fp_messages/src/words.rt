@@ -1,12 +1,15 @@
-//! The words of a line, and the names that words are.
+//! The words of a line, and the names and numbers that words are.
 ghost use Rattle.std.specs.Prelude.{◌≡◌};
-ghost use Rattle.fp_model.specs.Messages.{is_separator, first_word, behind_word};
+ghost use Rattle.fp_model.specs.Messages.{is_separator, first_word, behind_word, message_number};
 ghost use Rattle.fp_model.specs.Names.{is_letter_or_digit, is_name, name_in};
 
 use fp_model::Name;
 
 // The longest name.
 const LONGEST: usize = 8;
+
+// How many digits a number has at most.
+const MOST_DIGITS: usize = 18;
 
 // Whether a byte separates words: a blank or a tab.
 fn is_separator(byte: u8) -> bool
@@ -53,4 +56,21 @@ pub(crate) fn name_in(text: &[u8]) -> Option<Name>
     let mut bytes = [b' '; LONGEST];
     bytes[..text.len()].copy_from_slice(text);
     Some(Name(bytes))
+}
+
+// The number that a word is, if it is one: 1 to 18 digits, the first not 0.
+pub(crate) fn message_number(word: &[u8]) -> Option<u64>
+    ensures { result ≡ message_number word.now }
+{
+    if word.is_empty() || word.len() > MOST_DIGITS || word[0] == b'0' {
+        return None;
+    }
+    let mut number = 0;
+    for digit in word {
+        if !digit.is_ascii_digit() {
+            return None;
+        }
+        number = number * 10 + u64::from(*digit - b'0');
+    }
+    Some(number)
 }

@@ -1,25 +1,30 @@
 -- The laws of outcomes, items and entries.
-use Rattle.std.proofs.Common.{◌≡◌, ℕ, zero, suc, ◌^◌, ◌<◌, Bool, true, false, ◌&&◌, cond, eqb, List, [], ◌∷◌, ◌++◌, length, Some, None, refl, sym, ap, subst, ◌∙◌, append_assoc}
+use Rattle.std.proofs.Common.{◌≡◌, ℕ, zero, suc, ◌^◌, ◌<◌, ◌≤◌, Bool, true, false, ◌&&◌, cond, eqb, List, [], ◌∷◌, ◌++◌, length}
+use Rattle.std.proofs.Common.{Some, None, refl, sym, ap, subst, ◌∙◌, append_assoc, arith}
 use Rattle.std.specs.Int.{w64}
 use Rattle.std.specs.List.{AllByRecursion}
-use Rattle.std.proofs.lemmas.Bool.{eqb-true}
+use Rattle.std.proofs.lemmas.Bool.{eqb-true, eqb-false, ne_eqb}
 use Rattle.std.proofs.lemmas.List.{append-nil, nil_from_length}
 use Rattle.fp_model.specs.declared.log.Item.{Item}
-use Rattle.fp_model.specs.declared.log.Item.TheVariants.{Segment, Image}
+use Rattle.fp_model.specs.declared.log.Item.TheVariants.{Segment, Image, Range}
 use Rattle.fp_model.specs.declared.log.Outcome.{Outcome}
 use Rattle.fp_model.specs.declared.log.Outcome.TheVariants as outcome
 use Rattle.fp_model.specs.declared.log.Entry.{Entry}
 use Rattle.fp_model.specs.Spellings.{be16, be32, be64, short_text, long_text}
 use Rattle.fp_model.specs.LogText.{IsBytes, outcome_text, item_text, notes_text, items_text, rest_text, entry_text, IsOutcome, FitsOutcome, IsItem, FitsItem, HasSpelling}
 use Rattle.log_format.specs.Reading.{number_at, part_at, counted_at}
-use Rattle.log_format.specs.EntryReading.{detail_at, outcome_at, kind_at, item_at, rest_at, keeps_rules, whole_at, entry_at}
+use Rattle.log_format.specs.EntryReading.{some_long_at, seq_full_at, detail_at, outcome_at}
+use Rattle.log_format.specs.EntryReading.{kind_at, item_at, rest_at, keeps_rules, whole_at, entry_at}
 use Rattle.log_format.specs.Laws.{Takes, Lawful, IsShorter}
-use Rattle.log_format.proofs.Fields.{then, some_is, bound, next, part_takes, part_again, law8, law16, law32, law64, short_law, long_law}
+use Rattle.log_format.proofs.Fields.{then, some_is, guard, bound, next, part_takes, part_again, law8, law16, law32, law64, short_law, long_law}
 use Rattle.log_format.proofs.Lists.{counted_law}
 use Rattle.log_format.proofs.Rules.{both_true, KeepsRules-from, KeepsRules-to}
 
 join3 : (a b c d : List ℕ) → a ++ b ++ c ++ d ≡ a ++ (b ++ (c ++ d))
 join3 a b c d = simp append_assoc
+
+join4 : (a b c d e : List ℕ) → a ++ b ++ c ++ d ++ e ≡ a ++ (b ++ (c ++ (d ++ e)))
+join4 a b c d e = simp append_assoc
 
 join6 : (a b c d e f g : List ℕ) → a ++ b ++ c ++ d ++ e ++ f ++ g ≡ a ++ (b ++ (c ++ (d ++ (e ++ (f ++ g)))))
 join6 a b c d e f g = simp append_assoc
@@ -37,6 +42,17 @@ Told code bytes y = (text : List ℕ) × (outcome_text y.0 ≡ code ∷ text) ×
 plain : (code : ℕ) (o : Outcome) (bytes : List ℕ) (x : Outcome × List ℕ) → IsBytes bytes → Some (o, bytes) ≡ Some x → outcome_text o ≡ code ∷ [] → IsGoodOutcome o → Told code bytes x
 plain code o bytes x fits e text ok = subst (λ (y : Outcome × List ℕ). Told code bytes y) (some_is (o, bytes) x e) ([], text, record { parts = refl; rest_fits = fits }, ok)
 
+seq_full_takes : (bytes : List ℕ) (x : Outcome × List ℕ) → IsBytes bytes → seq_full_at bytes ≡ Some x → Told 3 bytes x
+unfolding seq_full_at
+seq_full_takes bytes x fits e =
+    let a = next law16 bytes _ x fits e in
+    let b = next law64 a.0.1 _ x a.1.rest_fits a.3 in
+    let c = next law64 b.0.1 _ x b.1.rest_fits b.3 in
+    let d = next law64 c.0.1 _ x c.1.rest_fits c.3 in
+    let t = then bytes _ c.0.1 _ d.0.1 (then bytes _ b.0.1 _ c.0.1 (then bytes _ a.0.1 _ b.0.1 a.1 b.1) c.1) d.1 in
+    let made : Outcome × List ℕ = (outcome.SeqFull a.0.0 b.0.0 c.0.0 d.0.0, d.0.1) in
+    subst (λ (y : Outcome × List ℕ). Told 3 bytes y) (some_is made x d.3) (_, refl, t, ((a.2, b.2, c.2, d.2), tt))
+
 detail_takes : (code : ℕ) (bytes : List ℕ) (x : Outcome × List ℕ) → IsBytes bytes → detail_at code bytes ≡ Some x → Told code bytes x
 unfolding detail_at
 detail_takes zero bytes x fits e = plain 0 outcome.Done bytes x fits e refl (tt, tt)
@@ -49,13 +65,7 @@ detail_takes (suc zero) bytes x fits e =
 detail_takes (suc (suc zero)) bytes x fits e =
     let a = next law16 bytes _ x fits e in
     subst (λ (y : Outcome × List ℕ). Told 2 bytes y) (some_is (outcome.Roll a.0.0, a.0.1) x a.3) (_, refl, a.1, (a.2, tt))
-detail_takes (suc (suc (suc zero))) bytes x fits e =
-    let a = next law16 bytes _ x fits e in
-    let b = next law64 a.0.1 _ x a.1.rest_fits a.3 in
-    let c = next law64 b.0.1 _ x b.1.rest_fits b.3 in
-    let d = next law64 c.0.1 _ x c.1.rest_fits c.3 in
-    let t = then bytes _ c.0.1 _ d.0.1 (then bytes _ b.0.1 _ c.0.1 (then bytes _ a.0.1 _ b.0.1 a.1 b.1) c.1) d.1 in
-    subst (λ (y : Outcome × List ℕ). Told 3 bytes y) (some_is (outcome.SeqFull a.0.0 b.0.0 c.0.0 d.0.0, d.0.1) x d.3) (_, refl, t, ((a.2, b.2, c.2, d.2), tt))
+detail_takes (suc (suc (suc zero))) bytes x fits e = seq_full_takes bytes x fits e
 detail_takes (suc (suc (suc (suc zero)))) bytes x fits e =
     let a = next short_law bytes _ x fits e in
     subst (λ (y : Outcome × List ℕ). Told 4 bytes y) (some_is (outcome.Deadlock a.0.0, a.0.1) x a.3) (_, refl, a.1, (a.2.1, a.2.0))
@@ -67,10 +77,19 @@ detail_takes (suc (suc (suc (suc (suc (suc (suc (suc zero)))))))) bytes x fits e
     let b = next law64 a.0.1 _ x a.1.rest_fits a.3 in
     let t = then bytes _ a.0.1 _ b.0.1 a.1 b.1 in
     subst (λ (y : Outcome × List ℕ). Told 8 bytes y) (some_is (outcome.Purge a.0.0 b.0.0, b.0.1) x b.3) (_, refl, t, ((a.2, b.2), tt))
-detail_takes (suc (suc (suc (suc (suc (suc (suc (suc (suc n))))))))) bytes x fits e = absurd cc
+detail_takes (suc (suc (suc (suc (suc (suc (suc (suc (suc zero))))))))) bytes x fits e =
+    let a = next law64 bytes _ x fits e in
+    subst (λ (y : Outcome × List ℕ). Told 9 bytes y) (some_is (outcome.Old a.0.0, a.0.1) x a.3) (_, refl, a.1, (a.2, tt))
+detail_takes (suc (suc (suc (suc (suc (suc (suc (suc (suc (suc zero)))))))))) bytes x fits e =
+    let a = next long_law bytes _ x fits e in
+    let is : (outcome.Repeat a.0.0, a.0.1) ≡ x = some_is (outcome.Repeat a.0.0, a.0.1) x a.3 in
+    subst (λ (y : Outcome × List ℕ). Told 10 bytes y) is (_, refl, a.1, (a.2.1, a.2.0))
+detail_takes (suc (suc (suc (suc (suc (suc (suc (suc (suc (suc (suc zero))))))))))) bytes x fits e =
+    plain 11 outcome.Format bytes x fits e refl (tt, tt)
+detail_takes (suc (suc (suc (suc (suc (suc (suc (suc (suc (suc (suc (suc n)))))))))))) bytes x fits e = absurd cc
 
 outcome_again : (o : Outcome) (rest : List ℕ) → IsGoodOutcome o → outcome_at (outcome_text o ++ rest) ≡ Some (o, rest)
-unfolding outcome_at detail_at
+unfolding outcome_at detail_at seq_full_at
 outcome_again outcome.Done rest fits = refl
 outcome_again (outcome.Verify call fsa found) rest fits =
     let regrouped : outcome_text (outcome.Verify call fsa found) ++ rest ≡ 1 ∷ (be32 call ++ (be16 fsa ++ (long_text found ++ rest))) = ap (λ (t : List ℕ). 1 ∷ t) (join3 (be32 call) (be16 fsa) (long_text found) rest) in
@@ -86,6 +105,9 @@ outcome_again outcome.Unknown rest fits = refl
 outcome_again (outcome.Purge set n) rest fits =
     let regrouped : outcome_text (outcome.Purge set n) ++ rest ≡ 8 ∷ (be16 set ++ (be64 n ++ rest)) = simp append_assoc in
     ap outcome_at regrouped ∙ rw (law16.again set (be64 n ++ rest) fits.0.0, law64.again n rest fits.0.1) refl
+outcome_again (outcome.Old last) rest fits = rw (law64.again last rest fits.0) refl
+outcome_again (outcome.Repeat line) rest fits = rw (long_law.again line rest (fits.1, fits.0)) refl
+outcome_again outcome.Format rest fits = refl
 
 outcome_takes : (bytes : List ℕ) (x : Outcome × List ℕ) → IsBytes bytes → outcome_at bytes ≡ Some x → Takes bytes (outcome_text x.0) x.1 × IsGoodOutcome x.0
 unfolding outcome_at
@@ -104,6 +126,27 @@ outcome_law = record { takes = outcome_takes; again = outcome_again }
 abbrev pub IsGoodItem : Item → Type 0
 IsGoodItem item = IsItem item × FitsItem item
 
+-- a text of one byte or more, behind its length in two bytes
+abbrev IsSomeShorter : List ℕ → Type 0
+IsSomeShorter bytes = (1 ≤ length bytes) × IsShorter (2 ^ 16) bytes
+
+positive : (n : ℕ) → (n ≡ 0 → ⊥) → 1 ≤ n
+positive zero some = absurd (some refl)
+positive (suc n) some = omega arith
+
+some_long_law : Lawful (List ℕ) long_text some_long_at IsSomeShorter
+unfolding some_long_at
+some_long_law = record {
+  takes = λ bytes x fits e.
+      let a = next long_law bytes _ x fits e in
+      let g = guard (eqb (length a.0.0) 0) a.0 x a.3 in
+      let some : 1 ≤ length a.0.0 = positive (length a.0.0) (eqb-false (length a.0.0) 0 g.0) in
+      subst (λ (y : List ℕ × List ℕ). Takes bytes (long_text y.0) y.1 × IsSomeShorter y.0) g.1 (a.1, (some, a.2));
+  again = λ text rest fits.
+      let some : eqb (length text) 0 ≡ false = ne_eqb (length text) 0 (λ is. omega (arith, is, fits.0)) in
+      rw (long_law.again text rest fits.1, some) refl;
+}
+
 kind_takes : (kind : ℕ) (bytes : List ℕ) (x : Item × List ℕ) → IsBytes bytes → kind_at kind bytes ≡ Some x → (text : List ℕ) × (item_text x.0 ≡ kind ∷ text) × Takes bytes text x.1 × IsGoodItem x.0
 unfolding kind_at
 kind_takes zero bytes x fits e = absurd cc
@@ -119,7 +162,16 @@ kind_takes (suc (suc zero)) bytes x fits e =
     let c = next long_law b.0.1 _ x b.1.rest_fits b.3 in
     let t = then bytes _ b.0.1 _ c.0.1 (then bytes _ a.0.1 _ b.0.1 a.1 b.1) c.1 in
     subst (λ (y : Item × List ℕ). (text : List ℕ) × (item_text y.0 ≡ 2 ∷ text) × Takes bytes text y.1 × IsGoodItem y.0) (some_is (Image a.0.0 b.0.0 c.0.0, c.0.1) x c.3) (_, refl, t, ((a.2, b.2, c.2.1), c.2.0))
-kind_takes (suc (suc (suc n))) bytes x fits e = absurd cc
+kind_takes (suc (suc (suc zero))) bytes x fits e =
+    let a = next law16 bytes _ x fits e in
+    let b = next law64 a.0.1 _ x a.1.rest_fits a.3 in
+    let c = next law16 b.0.1 _ x b.1.rest_fits b.3 in
+    let d = next some_long_law c.0.1 _ x c.1.rest_fits c.3 in
+    let t = then bytes _ c.0.1 _ d.0.1 (then bytes _ b.0.1 _ c.0.1 (then bytes _ a.0.1 _ b.0.1 a.1 b.1) c.1) d.1 in
+    let good : IsGoodItem (Range a.0.0 b.0.0 c.0.0 d.0.0) = ((a.2, b.2, c.2, d.2.1.1), (d.2.0, d.2.1.0)) in
+    subst (λ (y : Item × List ℕ). (text : List ℕ) × (item_text y.0 ≡ 3 ∷ text) × Takes bytes text y.1 × IsGoodItem y.0)
+    (some_is (Range a.0.0 b.0.0 c.0.0 d.0.0, d.0.1) x d.3) (_, refl, t, good)
+kind_takes (suc (suc (suc (suc n)))) bytes x fits e = absurd cc
 
 item_again : (i : Item) (rest : List ℕ) → IsGoodItem i → item_at (item_text i ++ rest) ≡ Some (i, rest)
 unfolding item_at kind_at
@@ -129,6 +181,19 @@ item_again (Segment msdb key bytes) rest fits =
 item_again (Image set ci bytes) rest fits =
     let regrouped : item_text (Image set ci bytes) ++ rest ≡ 2 ∷ (be16 set ++ (be64 ci ++ (long_text bytes ++ rest))) = ap (λ (t : List ℕ). 2 ∷ t) (join3 (be16 set) (be64 ci) (long_text bytes) rest) in
     ap item_at regrouped ∙ rw (law16.again set (be64 ci ++ (long_text bytes ++ rest)) fits.0.0, law64.again ci (long_text bytes ++ rest) fits.0.1, long_law.again bytes rest (fits.1, fits.0.2)) refl
+item_again (Range set ci at bytes) rest fits =
+    let behind_place = long_text bytes ++ rest in
+    let behind_ci = be16 at ++ behind_place in
+    let behind_set = be64 ci ++ behind_ci in
+    let regrouped : item_text (Range set ci at bytes) ++ rest ≡ 3 ∷ (be16 set ++ behind_set) =
+    ap (λ (t : List ℕ). 3 ∷ t) (join4 (be16 set) (be64 ci) (be16 at) (long_text bytes) rest) in
+    ap item_at regrouped
+    ∙ rw (
+      law16.again set behind_set fits.0.0,
+      law64.again ci behind_ci fits.0.1,
+      law16.again at behind_place fits.0.2,
+      some_long_law.again bytes rest (fits.1.0, (fits.1.1, fits.0.3)),
+    ) refl
 
 item_takes : (bytes : List ℕ) (x : Item × List ℕ) → IsBytes bytes → item_at bytes ≡ Some x → Takes bytes (item_text x.0) x.1 × IsGoodItem x.0
 unfolding item_at

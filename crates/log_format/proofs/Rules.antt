@@ -41,6 +41,9 @@ parts_from outcome.Device reply items e = empties_from reply items e
 parts_from outcome.Memory reply items e = empties_from reply items e
 parts_from outcome.Unknown reply items e = empties_from reply items e
 parts_from (outcome.Purge set n) reply items e = empty_from reply e
+parts_from (outcome.Old last) reply items e = empties_from reply items e
+parts_from (outcome.Repeat line) reply items e = empties_from reply items e
+parts_from outcome.Format reply items e = empties_from reply items e
 
 parts_to : (o : Outcome) (reply : List ℕ) (items : List Item) → HasItsParts o reply items → has_its_parts o reply items ≡ true
 parts_to outcome.Done reply items p = refl
@@ -52,6 +55,9 @@ parts_to outcome.Device reply items p = empties_to reply items p
 parts_to outcome.Memory reply items p = empties_to reply items p
 parts_to outcome.Unknown reply items p = empties_to reply items p
 parts_to (outcome.Purge set n) reply items p = rw p refl
+parts_to (outcome.Old last) reply items p = empties_to reply items p
+parts_to (outcome.Repeat line) reply items p = empties_to reply items p
+parts_to outcome.Format reply items p = empties_to reply items p
 
 -- an entry that passes the test keeps the rules
 pub KeepsRules-from : (e : Entry) → keeps_rules e ≡ true → KeepsRules e

@@ -5,9 +5,9 @@ use Rattle.std.proofs.lemmas.List.{length-append}
 use Rattle.std.proofs.lemmas.List.Concat.{flat_map-cons}
 use Rattle.std.proofs.lemmas.List.Sums.{sum_by-cons, sum_by-take-le}
 use Rattle.fp_model.specs.declared.log.Item.{Item}
-use Rattle.fp_model.specs.declared.log.Item.TheVariants.{Segment, Image}
+use Rattle.fp_model.specs.declared.log.Item.TheVariants.{Segment, Image, Range}
 use Rattle.fp_model.specs.declared.log.Outcome.{Outcome}
-use Rattle.fp_model.specs.declared.log.Outcome.TheVariants.{Done, Verify, Roll, SeqFull, Deadlock, Device, Memory, Unknown, Purge}
+use Rattle.fp_model.specs.declared.log.Outcome.TheVariants as outcome
 use Rattle.fp_model.specs.declared.log.Entry.{Entry}
 use Rattle.fp_model.specs.Spellings.{be16, be32, be64, short_text, long_text}
 use Rattle.fp_model.specs.LogText.{outcome_text, item_text, notes_text, items_text, rest_text, entry_text, FitsItem}
@@ -20,23 +20,37 @@ length-long text = length-append (be16 (length text)) text ∙ ap (λ n. n + len
 
 -- outcomes
 length-outcome : (o : Outcome) → length (outcome_text o) ≡ outcome_size o
-length-outcome Done = refl
-length-outcome (Verify call fsa found) =
+length-outcome outcome.Done = refl
+length-outcome (outcome.Verify call fsa found) =
     omega (arith, length-append (be32 call ++ be16 fsa) (long_text found), length-append (be32 call) (be16 fsa), length-be32 call, length-be16 fsa, length-long found)
-length-outcome (Roll code) = omega (arith, length-be16 code)
-length-outcome (SeqFull set begin end n) =
+length-outcome (outcome.Roll code) = omega (arith, length-be16 code)
+length-outcome (outcome.SeqFull set begin end n) =
     omega (arith, length-append (be16 set ++ be64 begin ++ be64 end) (be64 n), length-append (be16 set ++ be64 begin) (be64 end), length-append (be16 set) (be64 begin), length-be16 set, length-be64 begin, length-be64 end, length-be64 n)
-length-outcome (Deadlock cycle) = omega arith
-length-outcome Device = refl
-length-outcome Memory = refl
-length-outcome Unknown = refl
-length-outcome (Purge set n) = omega (arith, length-append (be16 set) (be64 n), length-be16 set, length-be64 n)
+length-outcome (outcome.Deadlock cycle) = omega arith
+length-outcome outcome.Device = refl
+length-outcome outcome.Memory = refl
+length-outcome outcome.Unknown = refl
+length-outcome (outcome.Purge set n) = omega (arith, length-append (be16 set) (be64 n), length-be16 set, length-be64 n)
+length-outcome (outcome.Old last) = omega (arith, length-be64 last)
+length-outcome (outcome.Repeat line) = omega (arith, length-long line)
+length-outcome outcome.Format = refl
 
 -- items
 length-item : (item : Item) → length (item_text item) ≡ item_size item
 length-item (Segment msdb key bytes) = omega (arith, length-append (short_text key) (long_text bytes), length-long bytes)
 length-item (Image set ci bytes) =
     omega (arith, length-append (be16 set ++ be64 ci) (long_text bytes), length-append (be16 set) (be64 ci), length-be16 set, length-be64 ci, length-long bytes)
+length-item (Range set ci at bytes) =
+    omega (
+      arith,
+      length-append (be16 set ++ be64 ci ++ be16 at) (long_text bytes),
+      length-append (be16 set ++ be64 ci) (be16 at),
+      length-append (be16 set) (be64 ci),
+      length-be16 set,
+      length-be64 ci,
+      length-be16 at,
+      length-long bytes,
+    )
 
 -- notes
 length-numbers : (notes : List ℕ) → length (flat_map be64 notes) ≡ 8 * length notes
@@ -85,6 +99,7 @@ length_of_entry e = omega (arith, length-append (be64 (length (rest_text e))) (r
 item-small : (item : Item) → FitsItem item → item_size item ≤ 2 ^ 17
 item-small (Segment msdb key bytes) fits = omega (arith, fits.0, fits.1)
 item-small (Image set ci bytes) fits = omega (arith, fits)
+item-small (Range set ci at bytes) fits = omega (arith, fits.1)
 
 -- and of items
 pub items-small : (items : List Item) → AllByRecursion FitsItem items → sum_by item_size items ≤ 2 ^ 17 * length items

@@ -2,12 +2,27 @@
 use Rattle.std.specs.Prelude.{ℕ, zero, suc, List, [], ◌∷◌, length, Option, Some, None, Bool, true, ◌&&◌, ◌==◌, if◌then◌else◌}
 use Rattle.std.specs.Int.{w16, w32, w64}
 use Rattle.fp_model.specs.declared.log.Item.{Item}
-use Rattle.fp_model.specs.declared.log.Item.TheVariants.{Segment, Image}
+use Rattle.fp_model.specs.declared.log.Item.TheVariants.{Segment, Image, Range}
 use Rattle.fp_model.specs.declared.log.Outcome.{Outcome}
 use Rattle.fp_model.specs.declared.log.Outcome.TheVariants as outcome
 use Rattle.fp_model.specs.declared.log.Entry.{Entry}
 use Rattle.fp_model.specs.ItemTargets.{precedes, is_ascending}
 use Rattle.log_format.specs.Reading.{◌>>=◌, byte_at, number_at, part_at, short_at, long_at, counted_at}
+
+-- a text behind its length in two bytes, of one byte or more
+unfoldable pub some_long_at : List ℕ → Option (List ℕ × List ℕ)
+some_long_at bytes = do
+  text ← long_at bytes
+  if length text.0 == 0 then None else Some text
+
+-- what stands behind the code of SeqFull
+unfoldable pub seq_full_at : List ℕ → Option (Outcome × List ℕ)
+seq_full_at rest = do
+  set ← number_at w16 rest
+  begin ← number_at w64 set.1
+  end ← number_at w64 begin.1
+  n ← number_at w64 end.1
+  Some (outcome.SeqFull set.0 begin.0 end.0 n.0, n.1)
 
 -- what stands behind the code of an outcome
 unfoldable pub detail_at : ℕ → List ℕ → Option (Outcome × List ℕ)
@@ -20,12 +35,7 @@ detail_at (suc zero) rest = do
 detail_at (suc (suc zero)) rest = do
   code ← number_at w16 rest
   Some (outcome.Roll code.0, code.1)
-detail_at (suc (suc (suc zero))) rest = do
-  set ← number_at w16 rest
-  begin ← number_at w64 set.1
-  end ← number_at w64 begin.1
-  n ← number_at w64 end.1
-  Some (outcome.SeqFull set.0 begin.0 end.0 n.0, n.1)
+detail_at (suc (suc (suc zero))) rest = seq_full_at rest
 detail_at (suc (suc (suc (suc zero)))) rest = do
   cycle ← short_at rest
   Some (outcome.Deadlock cycle.0, cycle.1)
@@ -36,7 +46,14 @@ detail_at (suc (suc (suc (suc (suc (suc (suc (suc zero)))))))) rest = do
   set ← number_at w16 rest
   n ← number_at w64 set.1
   Some (outcome.Purge set.0 n.0, n.1)
-detail_at (suc (suc (suc (suc (suc (suc (suc (suc (suc n))))))))) rest = None
+detail_at (suc (suc (suc (suc (suc (suc (suc (suc (suc zero))))))))) rest = do
+  last ← number_at w64 rest
+  Some (outcome.Old last.0, last.1)
+detail_at (suc (suc (suc (suc (suc (suc (suc (suc (suc (suc zero)))))))))) rest = do
+  line ← long_at rest
+  Some (outcome.Repeat line.0, line.1)
+detail_at (suc (suc (suc (suc (suc (suc (suc (suc (suc (suc (suc zero))))))))))) rest = Some (outcome.Format, rest)
+detail_at (suc (suc (suc (suc (suc (suc (suc (suc (suc (suc (suc (suc n)))))))))))) rest = None
 
 -- an outcome: its code and its detail
 unfoldable pub outcome_at : List ℕ → Option (Outcome × List ℕ)
@@ -57,7 +74,13 @@ kind_at (suc (suc zero)) rest = do
   ci ← number_at w64 set.1
   bytes ← long_at ci.1
   Some (Image set.0 ci.0 bytes.0, bytes.1)
-kind_at (suc (suc (suc n))) rest = None
+kind_at (suc (suc (suc zero))) rest = do
+  set ← number_at w16 rest
+  ci ← number_at w64 set.1
+  at ← number_at w16 ci.1
+  bytes ← some_long_at at.1
+  Some (Range set.0 ci.0 at.0 bytes.0, bytes.1)
+kind_at (suc (suc (suc (suc n)))) rest = None
 
 -- an item
 unfoldable pub item_at : List ℕ → Option (Item × List ℕ)

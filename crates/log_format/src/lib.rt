@@ -3,7 +3,9 @@
 //! | Part | Bytes |
 //! |---|---|
 //! | body | entries, one after another |
-//! | entry | length of the rest 8; from 8; outcome; line, length 2; reply, length 2; notes, count 4, 8 each; items, count 4 |
+//! | entry | length of the rest 8; from 8; outcome; line, length 2; reply, length 2; notes; items |
+//! | notes | count 4; 8 each |
+//! | items | count 4; items |
 //!
 //! Bytes are an entry if and only if each length comes out and the entry keeps the rules on the order of items
 //! and on empty parts. `put_entry` writes the one spelling of an entry; `entries` reads whole numbers of them

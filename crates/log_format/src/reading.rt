@@ -1,13 +1,15 @@
 //! Reading entries: the bytes of a body, from left to right.
 //!
 //! Each reader takes the front of the bytes and answers the value with what is left. An entry's own bytes are
-//! cut out by its length first, and must be used up. Then its rules are looked at: segments before images, each
-//! ascending; a reply in Done alone, items in Done and Purge alone. Each byte is read once.
+//! cut out by its length first, and must be used up. Then its rules are looked at: segments before images and ranges,
+//! each ascending, with at most one item of an interval; a reply in Done alone, items in Done and Purge alone. Each byte
+//! is read once.
 ghost use Rattle.fp_model.specs.State.{is_below};
 ghost use Rattle.fp_model.specs.LogText.{HasSpelling, body_text};
 ghost use Rattle.fp_model.specs.ItemTargets.{precedes, is_ascending};
 ghost use Rattle.fp_model.specs.declared.log.Entry.{Entry as EntryOf};
-ghost use Rattle.log_format.specs.EntryReading.{detail_at, outcome_at, kind_at, item_at, rest_at, stands_before, has_its_parts, keeps_rules, whole_at, entry_at};
+ghost use Rattle.log_format.specs.EntryReading.{some_long_at, seq_full_at, detail_at, outcome_at, kind_at, item_at};
+ghost use Rattle.log_format.specs.EntryReading.{rest_at, stands_before, has_its_parts, keeps_rules, whole_at, entry_at};
 ghost use Rattle.log_format.specs.Faults.{Spells, IsCause, IsReadAs};
 ghost use Rattle.log_format.specs.Reading.{Gives, many_at, counted_at};
 ghost use Rattle.std.specs.Prelude.{◌≡◌, IfOk, IfErr, List as ListOf};
@@ -16,6 +18,17 @@ use crate::fault::{FormatFault, ReadError};
 use crate::takes::{byte_of, long_of, numbers_of, short_of, u16_of, u32_of, u64_of};
 use fp_model::{Bytes, Entry, Item, List, Outcome};
 use std::alloc::Global;
+
+#[tactic(auto, unfolding(crate::specs::EntryReading::seq_full_at))]
+fn seq_full_of(rest: &[u8]) -> Result<(Outcome, &[u8]), ReadError>
+    ensures { Gives (λ x. (x.0, x.1.now)) result (seq_full_at rest.now) }
+{
+    let (set, rest) = u16_of(rest)?;
+    let (begin, rest) = u64_of(rest)?;
+    let (end, rest) = u64_of(rest)?;
+    let (n, rest) = u64_of(rest)?;
+    Ok((Outcome::SeqFull { set, begin, end, n }, rest))
+}
 
 #[tactic(auto, unfolding(crate::specs::EntryReading::detail_at))]
 fn detail_of(alloc: Global, code: u8, rest: &[u8]) -> Result<(Outcome, &[u8]), ReadError>
@@ -33,13 +46,7 @@ fn detail_of(alloc: Global, code: u8, rest: &[u8]) -> Result<(Outcome, &[u8]), R
             let (code, rest) = u16_of(rest)?;
             Ok((Outcome::Roll(code), rest))
         }
-        3 => {
-            let (set, rest) = u16_of(rest)?;
-            let (begin, rest) = u64_of(rest)?;
-            let (end, rest) = u64_of(rest)?;
-            let (n, rest) = u64_of(rest)?;
-            Ok((Outcome::SeqFull { set, begin, end, n }, rest))
-        }
+        3 => seq_full_of(rest),
         4 => {
             let (cycle, rest) = short_of(alloc, rest)?;
             Ok((Outcome::Deadlock(cycle), rest))
@@ -52,6 +59,15 @@ fn detail_of(alloc: Global, code: u8, rest: &[u8]) -> Result<(Outcome, &[u8]), R
             let (n, rest) = u64_of(rest)?;
             Ok((Outcome::Purge { set, n }, rest))
         }
+        9 => {
+            let (last, rest) = u64_of(rest)?;
+            Ok((Outcome::Old(last), rest))
+        }
+        10 => {
+            let (line, rest) = long_of(alloc, rest)?;
+            Ok((Outcome::Repeat(line), rest))
+        }
+        11 => Ok((Outcome::Format, rest)),
         _ => Err(ReadError::Bad),
     }
 }
@@ -62,6 +78,18 @@ fn outcome_of(alloc: Global, bytes: &[u8]) -> Result<(Outcome, &[u8]), ReadError
 {
     let (code, rest) = byte_of(bytes)?;
     detail_of(alloc, code, rest)
+}
+
+// A text of one byte or more behind its length in two bytes.
+#[tactic(auto, unfolding(crate::specs::EntryReading::some_long_at))]
+fn some_long_of(alloc: Global, bytes: &[u8]) -> Result<(Bytes, &[u8]), ReadError>
+    ensures { Gives (λ x. (x.0, x.1.now)) result (some_long_at bytes.now) }
+{
+    let (text, rest) = long_of(alloc, bytes)?;
+    if text.len() == 0 {
+        return Err(ReadError::Bad);
+    }
+    Ok((text, rest))
 }
 
 #[tactic(auto, unfolding(crate::specs::EntryReading::kind_at))]
@@ -80,6 +108,13 @@ fn kind_of(alloc: Global, kind: u8, rest: &[u8]) -> Result<(Item, &[u8]), ReadEr
             let (ci, rest) = u64_of(rest)?;
             let (bytes, rest) = long_of(alloc, rest)?;
             Ok((Item::Image { set, ci, bytes }, rest))
+        }
+        3 => {
+            let (set, rest) = u16_of(rest)?;
+            let (ci, rest) = u64_of(rest)?;
+            let (at, rest) = u16_of(rest)?;
+            let (bytes, rest) = some_long_of(alloc, rest)?;
+            Ok((Item::Range { set, ci, at, bytes }, rest))
         }
         _ => Err(ReadError::Bad),
     }
@@ -151,11 +186,16 @@ fn precedes(item: &Item, next: &Item) -> bool
                 key: next_key,
                 ..
             } => msdb < next_msdb || (msdb == next_msdb && key_precedes(key, next_key)),
-            Item::Image { .. } => true,
+            Item::Image { .. } | Item::Range { .. } => true,
         },
-        Item::Image { set, ci, .. } => match next {
+        Item::Image { set, ci, .. } | Item::Range { set, ci, .. } => match next {
             Item::Segment { .. } => false,
             Item::Image {
+                set: next_set,
+                ci: next_ci,
+                ..
+            }
+            | Item::Range {
                 set: next_set,
                 ci: next_ci,
                 ..

@@ -12,12 +12,14 @@ fn outcome_length(outcome: &Outcome) -> u64
     ensures small { result ≤ 2 ^ 17 }
 {
     match outcome {
-        Outcome::Done | Outcome::Device | Outcome::Memory | Outcome::Unknown => 1,
+        Outcome::Done | Outcome::Device | Outcome::Memory | Outcome::Unknown | Outcome::Format => 1,
         Outcome::Verify { found, .. } => 9 + found.len() as u64,
         Outcome::Roll(_) => 3,
         Outcome::SeqFull { .. } => 27,
         Outcome::Deadlock(cycle) => 2 + cycle.len() as u64,
         Outcome::Purge { .. } => 11,
+        Outcome::Old(_) => 9,
+        Outcome::Repeat(line) => 3 + line.len() as u64,
     }
 }
 
@@ -29,6 +31,7 @@ fn item_length(item: &Item) -> u64
     match item {
         Item::Segment { key, bytes, .. } => 5 + (key.len() + bytes.len()) as u64,
         Item::Image { bytes, .. } => 13 + bytes.len() as u64,
+        Item::Range { bytes, .. } => 15 + bytes.len() as u64,
     }
 }
 

@@ -2,14 +2,38 @@
 //!
 //! | Part | Bytes |
 //! |---|---|
-//! | entry | length of the rest 8; from 8; outcome; line, length 2; reply, length 2; notes, count 4, 8 each; items, count 4 |
-//! | outcome | Done 0; Verify 1, call 4, fsa 2, found, length 2; Roll 2, code 2; SeqFull 3, set 2, begin 8, end 8, n 8; Deadlock 4, regions, length 1; Device 5; Memory 6; Unknown 7; Purge 8, set 2, n 8 |
+//! | entry | length of the rest 8; from 8; outcome; line, length 2; reply, length 2; notes; items |
+//! | notes | count 4; 8 each |
+//! | items | count 4; items |
+//!
+//! An outcome and an item have a code of one byte, and what the code asks for.
+//!
+//! | Outcome | Bytes |
+//! |---|---|
+//! | Done | 0 |
+//! | Verify | 1, call 4, fsa 2, found, length 2 |
+//! | Roll | 2, code 2 |
+//! | SeqFull | 3, set 2, begin 8, end 8, n 8 |
+//! | Deadlock | 4, regions, length 1 |
+//! | Device | 5 |
+//! | Memory | 6 |
+//! | Unknown | 7 |
+//! | Purge | 8, set 2, n 8 |
+//! | Old | 9, last 8 |
+//! | Repeat | 10, line, length 2 |
+//! | Format | 11 |
+//!
+//! | Item | Bytes |
+//! |---|---|
 //! | segment | 1, msdb 1, key, length 1, bytes, length 2 |
 //! | image | 2, set 2, interval 8, bytes, length 2 |
+//! | range | 3, set 2, interval 8, place in it 2, bytes, length 2, one byte or more |
 //!
 //! Room for the whole entry is made first. What follows can't fail, so an entry is there whole or not at all.
-ghost use Rattle.fp_model.specs.LogText.{outcome_text, item_text, items_text, rest_text, entry_text, IsOutcome, FitsOutcome, IsItem, FitsItem, IsEntry, FitsEntry, HasSpelling, KeepsRules};
+ghost use Rattle.fp_model.specs.LogText.{outcome_text, item_text, items_text, rest_text, entry_text};
+ghost use Rattle.fp_model.specs.LogText.{FitsEntry, FitsItem, FitsOutcome, HasSpelling, IsEntry, IsItem, IsOutcome, KeepsRules};
 ghost use Rattle.fp_model.specs.Spellings.{be16, be32, be64};
+ghost use Rattle.fp_model.specs.declared.log.Outcome.TheVariants.{SeqFull};
 ghost use Rattle.log_format.specs.Sizes.{item_size, items_size, outcome_size, rest_size};
 ghost use Rattle.std.specs.List.{AllByRecursion};
 ghost use Rattle.std.specs.Prelude.{◌≡◌, ◌+◌, ◌<◌, ◌≤◌, ◌^◌, ◌++◌, IsOk, OnOk, OnErr, length, vec_capacity, vec_len};
@@ -21,6 +45,21 @@ use crate::sizes::rest_length;
 use fp_model::{Bytes, Entry, Item, List, Outcome};
 use std::alloc::AllocError;
 use std::mem;
+
+// Appends the outcome of a sequential part that had no room.
+#[tactic(auto, using(std::proofs::Common::append_assoc))]
+fn write_seq_full(into: &mut Vec<u8>, set: u16, begin: u64, end: u64, n: u64)
+    requires { vec_len into.old + 27 ≤ vec_capacity into.old }
+    ensures items { into.new.items ≡ into.old.items ++ outcome_text (SeqFull set begin end n) }
+    ensures len { vec_len into.new ≡ vec_len into.old + 27 }
+    ensures capacity { vec_capacity into.old ≤ vec_capacity into.new }
+{
+    write_u8(into, 3);
+    write_u16(into, set);
+    write_u64(into, begin);
+    write_u64(into, end);
+    write_u64(into, n);
+}
 
 #[tactic(auto, using(std::proofs::Common::append_assoc))]
 fn write_outcome(into: &mut Vec<u8>, outcome: &Outcome)
@@ -43,13 +82,7 @@ fn write_outcome(into: &mut Vec<u8>, outcome: &Outcome)
             write_u8(into, 2);
             write_u16(into, *code);
         }
-        Outcome::SeqFull { set, begin, end, n } => {
-            write_u8(into, 3);
-            write_u16(into, *set);
-            write_u64(into, *begin);
-            write_u64(into, *end);
-            write_u64(into, *n);
-        }
+        Outcome::SeqFull { set, begin, end, n } => write_seq_full(into, *set, *begin, *end, *n),
         Outcome::Deadlock(cycle) => {
             write_u8(into, 4);
             write_short(into, cycle);
@@ -62,6 +95,15 @@ fn write_outcome(into: &mut Vec<u8>, outcome: &Outcome)
             write_u16(into, *set);
             write_u64(into, *n);
         }
+        Outcome::Old(last) => {
+            write_u8(into, 9);
+            write_u64(into, *last);
+        }
+        Outcome::Repeat(line) => {
+            write_u8(into, 10);
+            write_long(into, line);
+        }
+        Outcome::Format => write_u8(into, 11),
     }
 }
 
@@ -85,6 +127,13 @@ fn write_item(into: &mut Vec<u8>, item: &Item)
             write_u8(into, 2);
             write_u16(into, *set);
             write_u64(into, *ci);
+            write_long(into, bytes);
+        }
+        Item::Range { set, ci, at, bytes } => {
+            write_u8(into, 3);
+            write_u16(into, *set);
+            write_u64(into, *ci);
+            write_u16(into, *at);
             write_long(into, bytes);
         }
     }
