@@ -1,7 +1,7 @@
 //! One run, so that the laws speak of something.
 ghost use Rattle.std.specs.Prelude.{◌≡◌, List, map};
 ghost use Rattle.fp_model.specs.Machine.{Machine};
-ghost use Rattle.fp_model.specs.Runs.{RunStep, events_of, Runs};
+ghost use Rattle.fp_model.specs.Runs.{RunStep, step_events, Runs};
 ghost use Rattle.serial_order.specs.Sample.{sample_rules, at_start, the_events, no_faults, the_entries};
 
 /// Three regions run four transactions in 33 turns. One waits; one closes a cycle, begins again and is refused at the
@@ -10,7 +10,7 @@ ghost use Rattle.serial_order.specs.Sample.{sample_rules, at_start, the_events, 
 pub fn a_run()
     ensures { (steps : List RunStep) × (m : Machine)
         × (Runs sample_rules at_start steps m
-        × (events_of steps ≡ the_events)
+        × (step_events steps ≡ the_events)
         × (map (λ step. step.environment) steps ≡ no_faults)
         × (m.history.entries ≡ the_entries)) }
 {}
