@@ -4,7 +4,7 @@ use Rattle.std.specs.Option.{option_map_or}
 use Rattle.toml.specs.Data.{Members, get_member, as_integer}
 use Rattle.fp_model.specs.declared.definitions.AreaDef.{AreaDef}
 use Rattle.fp_defs.specs.Readings.{◌>>=◌, or_fault}
-use Rattle.fp_defs.specs.Keys.{only, new_name, number_at, within}
+use Rattle.fp_defs.specs.Keys.{only, new_name, number_at, within, number_or}
 use Rattle.fp_defs.specs.declared.fault.DefsFault.{DefsFault}
 use Rattle.fp_defs.specs.declared.fault.DefsFault.TheVariants.{BadField}
 use Rattle.fp_defs.specs.declared.keys.Form.TheVariants.{Area}

@@ -11,13 +11,14 @@ use Rattle.fp_model.specs.declared.database.Db.{Db}
 use Rattle.fp_model.specs.declared.database.Msdb.{Msdb}
 use Rattle.fp_model.specs.declared.log.Entry.{Entry}
 use Rattle.fp_model.specs.declared.log.Item.{Item}
-use Rattle.fp_model.specs.declared.log.Item.TheVariants.{Segment, Image}
+use Rattle.fp_model.specs.declared.log.Item.TheVariants.{Segment, Image, Range}
 use Rattle.fp_model.specs.declared.scripts.Script.{Script}
 use Rattle.fp_model.specs.Groups.{HoldsGroups, IsDamaged, IsGroup, entries_of}
 use Rattle.fp_model.specs.Items.{IsFit, with_item, with_items, items_of}
 use Rattle.fp_model.specs.LogText.{Front, StartsWithFront, first_gate, group_text, groups_text}
 use Rattle.fp_model.specs.Product.{rules_of}
-use Rattle.fp_model.specs.Recovery.{Holds, front_of}
+use Rattle.fp_model.specs.History.{History, beginning}
+use Rattle.fp_model.specs.SerialHistory.{IsSerialHistory}
 use Rattle.fp_model.specs.State.{start}
 use Rattle.fp_site.specs.Disk.{Disk, IsDurable}
 use Rattle.fp_site.proofs.Images.{durable_settles}
@@ -37,6 +38,7 @@ pub fit_segments : (defs : Defs) (items : List Item) → AllByRecursion (IsFit d
 fit_segments defs [] all = tt
 fit_segments defs (Segment msdb key bytes ∷ items) all = (all.0, fit_segments defs items all.1)
 fit_segments defs (Image set ci bytes ∷ items) all = (tt, fit_segments defs items all.1)
+fit_segments defs (Range set ci at bytes ∷ items) all = (tt, fit_segments defs items all.1)
 
 -- ---- group by group
 
@@ -131,24 +133,18 @@ module _ (defs : Defs) (log : List ℕ) where
 
 -- ---- of a sound log
 
-module _ (defs : Defs) (scripts : List Script) (front : Front) (is : front.defs ≡ defs.text) (log : List ℕ) (entries : List Entry) (sound : IsSound defs scripts front.scripts log entries) where
-  same_front : front_of defs front.scripts ≡ front
-  same_front = ap (λ d. let f : Front = record { defs = d; scripts = front.scripts } in f) (sym is)
-
-  held : Holds front log sound.groups sound.gate
-  held = subst (λ f. Holds f log sound.groups sound.gate) same_front sound.holds
-
+module _ (defs : Defs) (scripts : List Script) (front : Front) (log : List ℕ) (entries : List Entry) (sound : IsSound defs scripts front log entries) where
   -- it begins with the front,
   pub sound_begins : StartsWithFront log front
-  sound_begins = held.begins
+  sound_begins = sound.holds.begins
 
   -- and can be read to its end, so that it is bad nowhere
   sound_readable : IsReadable defs log (first_gate front)
   sound_readable = record {
     groups = sound.groups;
     gate = sound.gate;
-    holds = record { holds = held.reads.0; fit = subst (λ l. AllByRecursion (IsFit defs) (items_of l)) sound.all sound.fit };
-    closed = held.reads.1;
+    holds = record { holds = sound.holds.reads.0; fit = subst (λ l. AllByRecursion (IsFit defs) (items_of l)) sound.all sound.fit };
+    closed = sound.holds.reads.1;
   }
 
   pub sound_not_bad : (at : ℕ) → IsFirstBadAt defs log (first_gate front) at → ⊥
@@ -159,13 +155,13 @@ module _ (defs : Defs) (scripts : List Script) (front : Front) (is : front.defs 
       → IsReplayed defs log (record { first = first_gate front; at = l.gate; count = l.sealed }) (start defs).msdbs store.msdbs → slice_index log l.gate ≢ 1
       → StandsFor defs scripts front disk entries store l
   sound_stands disk store l durable now of unsealed replayed closed =
-      let same = same_reading log (first_gate front) replayed.groups sound.groups l.gate sound.gate (replayed.holds.holds, closed) held.reads in
+      let same = same_reading log (first_gate front) replayed.groups sound.groups l.gate sound.gate (replayed.holds.holds, closed) sound.holds.reads in
       let all : entries ≡ entries_of replayed.groups = sound.all ∙ ap entries_of (sym same.0) in
       record {
         of = of;
         segments = λ last history.
             replayed.msdbs ∙ ap (λ es. with_items defs.msdbs (start defs).msdbs (items_of es)) (sym all) ∙ sound.made
-            ∙ ap (λ (d : Db). d.msdbs) (sym (one_end (rules_of defs scripts) [] (rules_of defs scripts).start entries sound.history.0 history.0 sound.last last sound.history.1 history.1).0);
+            ∙ ap (λ (d : Db). d.msdbs) (sym sound.history.ends ∙ ap (λ (h : History). h.now) (same_history history) ∙ history.ends);
         sealed = replayed.count ∙ ap length (sym all);
         unsealed = unsealed;
         groups = replayed.groups;
@@ -173,32 +169,37 @@ module _ (defs : Defs) (scripts : List Script) (front : Front) (is : front.defs 
         at_rest = record {
           durable = durable;
           log = subst (λ bytes. IsLog front bytes replayed.groups l.gate) (sym now) (record {
-            holds = record { begins = held.begins; reads = (replayed.holds.holds, closed) };
+            holds = record { begins = sound.holds.begins; reads = (replayed.holds.holds, closed) };
             stands = omega (arith, same.1, sound.stands);
           });
         };
       }
+    where
+      same_history : {last : Db} (history : IsSerialHistory (rules_of defs scripts) front.format entries last) → sound.history.history ≡ history.history
+      same_history history =
+          one_end (rules_of defs scripts) (beginning front.format (start defs)) entries history.history sound.history.history history.leads sound.history.leads
 
 -- ---- of a new log
 
-module _ (defs : Defs) (scripts : List Script) (front : Front) (is : front.defs ≡ defs.text) (disk : Disk) (rest : IsAtRest disk front [] (first_gate front)) where
+module _ (defs : Defs) (scripts : List Script) (front : Front) (disk : Disk) (rest : IsAtRest disk front [] (first_gate front)) where
   -- a log without groups is sound
-  new_sound : IsSound defs scripts front.scripts (disk.contents 0) []
+  new_sound : IsSound defs scripts front (disk.contents 0) []
   new_sound = record {
     groups = [];
     gate = first_gate front;
-    holds = subst (λ f. Holds f (disk.contents 0) [] (first_gate front)) (ap (λ d. let f : Front = record { defs = d; scripts = front.scripts } in f) is) rest.log.holds;
+    holds = rest.log.holds;
     stands = rest.log.stands;
     all = refl;
     last = start defs;
-    history = ([], (refl, refl));
+    history = record { history = beginning front.format (start defs); leads = refl; ends = refl };
+    still = refl;
     fit = tt;
     made = refl;
   }
 
   -- and every crash leaves it so
-  pub new_safe : IsSafe defs scripts front.scripts disk []
+  pub new_safe : IsSafe defs scripts front disk []
   new_safe = record {
     now = new_sound;
-    crash = λ image settles. ([], subst (λ c. IsSound defs scripts front.scripts c []) (sym (durable_settles disk 0 image rest.durable settles)) new_sound);
+    crash = λ image settles. ([], subst (λ c. IsSound defs scripts front c []) (sym (durable_settles disk 0 image rest.durable settles)) new_sound);
   }

@@ -22,7 +22,7 @@ use Rattle.fp_restart.specs.declared.fault.RestartFault.TheVariants as fault
 -- are sealed, and the log on the disk is at rest and holds them.
 pub record StandsFor (defs : Defs) (scripts : List Script) (front : Front) (disk : Disk) (entries : List Entry) (store : Stored) (log : LogState) : Type 0 where
   pub of : IsOf defs.msdbs store
-  pub segments : (last : Db) → IsSerialHistory (rules_of defs scripts) entries last → store.msdbs ≡ last.msdbs
+  pub segments : (last : Db) → IsSerialHistory (rules_of defs scripts) front.format entries last → store.msdbs ≡ last.msdbs
   pub sealed : log.sealed ≡ length entries
   pub unsealed : log.unsealed ≡ []
   pub groups : List (List Entry)

@@ -3,7 +3,7 @@ ghost use Rattle.fp_model.specs.LogText.{FitsFront, first_gate};
 ghost use Rattle.fp_restart.specs.declared.fault.RestartFault.TheVariants as faults;
 ghost use Rattle.fp_site.specs.Disk.{Differs, IsDurable};
 ghost use Rattle.fp_site.specs.Moments.{OnlyOn, Through};
-ghost use Rattle.log_groups.specs.Images.{IsAtRest, IsBeforeOrMade, IsSameOrMade, texts_of};
+ghost use Rattle.log_groups.specs.Images.{IsAtRest, IsBeforeOrMade, IsSameOrMade, as_front};
 ghost use Rattle.log_groups.specs.Kept.{IsSafe};
 ghost use Rattle.fp_model.specs.declared.scripts.Script.{Script};
 ghost use Rattle.std.specs.Prelude.{◌≡◌, ◌⊎◌, ◌-◌, ◌<◌, ◌≤◌, ◌^◌, ℕ, [], IsErrOf, List as ListOf, OnOk};
@@ -22,10 +22,10 @@ pub fn define<T: Site>(
     front: &Front,
     site: &mut T,
 ) -> Result<(), RestartFault>
-    requires fits { FitsFront (texts_of front.now) }
-    ensures made { T.told site.old → OnOk result (IsAtRest (T.disk site.new) (texts_of front.now) [] (first_gate (texts_of front.now))) }
-    ensures safe { T.told site.old → (texts_of front.now).defs ≡ defs.now.text → (scripts : ListOf Script)
-        → OnOk result (IsSafe defs.now scripts (texts_of front.now).scripts (T.disk site.new) []) }
+    requires fits { FitsFront (as_front front.now) }
+    ensures made { T.told site.old → OnOk result (IsAtRest (T.disk site.new) (as_front front.now) [] (first_gate (as_front front.now))) }
+    ensures safe { T.told site.old → (scripts : ListOf Script)
+        → OnOk result (IsSafe defs.now scripts (as_front front.now) (T.disk site.new) []) }
     ensures cause { IsErrOf result faults.SiteFault → (T.faults site.old < T.faults site.new) ⊎ (T.faults site.new ≡ 2 ^ 64 - 1) }
     ensures later { T.faults site.old ≤ T.faults site.new }
     ensures never { (IsErrOf result faults.Foreign → ⊥) × ((set at : ℕ) → IsErrOf result (faults.Damaged set at) → ⊥) }
@@ -37,11 +37,11 @@ pub fn define<T: Site>(
     ensures keeps { (first : T) → T.keeps first site.old → T.keeps first site.new }
 
     // A crash at any moment leaves the log as a sync might have left it before, or with no open front, or made.
-    ensures crash { T.told site.old → Through (T.disk site.old) (T.disk site.new) (IsBeforeOrMade (T.disk site.old) (texts_of front.now)) }
+    ensures crash { T.told site.old → Through (T.disk site.old) (T.disk site.new) (IsBeforeOrMade (T.disk site.old) (as_front front.now)) }
 
     // Where a sync had left the log, it leaves it so, or with no open front, or made, and all else as before.
     ensures kept { T.told site.old → IsDurable (T.disk site.old) 0 →
-        Through (T.disk site.old) (T.disk site.new) (Differs (T.disk site.old) 0 (IsSameOrMade (texts_of front.now))) }
+        Through (T.disk site.old) (T.disk site.new) (Differs (T.disk site.old) 0 (IsSameOrMade (as_front front.now))) }
 {
     let _ = &defs.pool; // the log alone is made; areas will need the definitions
     Log::make(alloc, site, front)?;

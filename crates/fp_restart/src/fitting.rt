@@ -1,8 +1,8 @@
 //! Whether the items of a group may be applied.
-ghost use Rattle.fp_model.specs.Items.{FitsMsdb, IsFit, area_sizes, items_of};
-ghost use Rattle.fp_model.specs.State.{key_length};
+ghost use Rattle.fp_model.specs.Items.{FitsMsdb, IsAreaInterval, IsFit, area_sizes, items_of};
+ghost use Rattle.fp_model.specs.State.{first_area_set, key_length};
 ghost use Rattle.std.specs.List.{AllByRecursion};
-ghost use Rattle.std.specs.Prelude.{◌≡◌, ◌+◌, ◌*◌, ◌^◌, ◌≤◌, Some, false, length, slice_get, take, true};
+ghost use Rattle.std.specs.Prelude.{◌≡◌, ◌+◌, ◌*◌, ◌^◌, ◌≤◌, ◌-◌, None, Some, IfNone, IfSome, OnSome, false, length, slice_get, take, true};
 
 use fp_model::{Bytes, Defs, Entry, Item, MsdbDef};
 
@@ -48,12 +48,34 @@ fn is_fit(defs: &Defs, item: &Item) -> bool
             Some(def) => fits_msdb(def, key, bytes),
             None => false,
         },
-        Item::Image { set, ci, bytes } => {
-            *set >= FIRST_AREA
-                && is_size(area_size(defs, (*set - FIRST_AREA) as usize), bytes.len())
-                && ends_within(*ci, bytes.len())
-        }
+        Item::Image { set, ci, bytes } => is_area_interval(defs, *set, *ci, bytes.len()),
+        Item::Range { set, ci, at, bytes } => match set_size(defs, *set) {
+            Some(size) => {
+                ends_within(*ci, size as usize) && *at as usize + bytes.len() <= size as usize
+            }
+            None => false,
+        },
     }
+}
+
+// Whether an area has an interval of this number and size.
+fn is_area_interval(defs: &Defs, set: u16, ci: u64, len: usize) -> bool
+    ensures fits { result ≡ true → IsAreaInterval defs.now set ci len }
+    ensures unfit { result ≡ false → ¬ (IsAreaInterval defs.now set ci len) }
+{
+    is_size(set_size(defs, set), len) && ends_within(ci, len)
+}
+
+// The size of the intervals of a data set, where it is an area's.
+fn set_size(defs: &Defs, set: u16) -> Option<u16>
+    ensures size { IfSome result (λ size. slice_get (area_sizes defs.now) (set - first_area_set) ≡ Some size) }
+    ensures is_area { OnSome result (first_area_set ≤ set) }
+    ensures none { IfNone result (first_area_set ≤ set → slice_get (area_sizes defs.now) (set - first_area_set) ≡ None) }
+{
+    if set < FIRST_AREA {
+        return None;
+    }
+    area_size(defs, (set - FIRST_AREA) as usize)
 }
 
 // Whether a segment is one that its database may have: none at all, or one of the defined length under its key.

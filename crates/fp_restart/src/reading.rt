@@ -7,7 +7,7 @@ ghost use Rattle.fp_restart.specs.Replayed.{IsFirstBadAt, IsReadable, IsReplayed
 ghost use Rattle.fp_restart.specs.Restarts.{IsBadAt};
 ghost use Rattle.fp_restart.specs.declared.fault.RestartFault.TheVariants as faults;
 ghost use Rattle.fp_site.specs.Disk.{Stays};
-ghost use Rattle.log_groups.specs.Images.{texts_of};
+ghost use Rattle.log_groups.specs.Images.{as_front};
 ghost use Rattle.log_groups.specs.Reads.{HasGroup};
 ghost use Rattle.fp_model.specs.declared.definitions.MsdbDef.{MsdbDef as DefOf};
 ghost use Rattle.msdb_store.specs.Store.{IsFitSegment, IsOf};
@@ -40,23 +40,23 @@ pub(crate) fn read_parts<T: Site>(
     front: &Front,
     site: &mut T,
 ) -> Result<Parts, RestartFault>
-    requires fits { FitsFront (texts_of front.now) }
+    requires fits { FitsFront (as_front front.now) }
     requires each { AllByRecursion IsMsdbDef defs.now.msdbs }
 
     // The groups up to the first gate that isn't open are put.
     ensures replayed { T.told site.old → IfOk result (λ parts. IsReplayed defs.now ((T.disk site.old).contents 0)
-        (record { first = first_gate (texts_of front.now); at = parts.1.gate; count = parts.1.sealed }) (start defs.now).msdbs parts.0.msdbs) }
+        (record { first = first_gate (as_front front.now); at = parts.1.gate; count = parts.1.sealed }) (start defs.now).msdbs parts.0.msdbs) }
     ensures closed { T.told site.old → IfOk result (λ parts. slice_index ((T.disk site.old).contents 0) parts.1.gate ≢ 1) }
-    ensures readable { T.told site.old → OnOk result (IsReadable defs.now ((T.disk site.old).contents 0) (first_gate (texts_of front.now))) }
+    ensures readable { T.told site.old → OnOk result (IsReadable defs.now ((T.disk site.old).contents 0) (first_gate (as_front front.now))) }
     ensures unsealed { IfOk result (λ parts. parts.1.unsealed ≡ []) }
     ensures of { IfOk result (λ parts. IsOf defs.now.msdbs parts.0) }
 
     // When each refusal comes.
-    ensures front { T.told site.old → OnOk result (StartsWithFront ((T.disk site.old).contents 0) (texts_of front.now)) }
-    ensures foreign { T.told site.old → IsErrOf result faults.Foreign → StartsWithFront ((T.disk site.old).contents 0) (texts_of front.now) → ⊥ }
+    ensures front { T.told site.old → OnOk result (StartsWithFront ((T.disk site.old).contents 0) (as_front front.now)) }
+    ensures foreign { T.told site.old → IsErrOf result faults.Foreign → StartsWithFront ((T.disk site.old).contents 0) (as_front front.now) → ⊥ }
     ensures damaged { (set at : ℕ) → T.told site.old → IsErrOf result (faults.Damaged set at) →
-        (set ≡ 0) × IsFirstBadAt defs.now ((T.disk site.old).contents 0) (first_gate (texts_of front.now)) at }
-    ensures begun { (set at : ℕ) → T.told site.old → IsErrOf result (faults.Damaged set at) → StartsWithFront ((T.disk site.old).contents 0) (texts_of front.now) }
+        (set ≡ 0) × IsFirstBadAt defs.now ((T.disk site.old).contents 0) (first_gate (as_front front.now)) at }
+    ensures begun { (set at : ℕ) → T.told site.old → IsErrOf result (faults.Damaged set at) → StartsWithFront ((T.disk site.old).contents 0) (as_front front.now) }
     ensures cause { IsErrOf result faults.SiteFault → (T.faults site.old < T.faults site.new) ⊎ (T.faults site.new ≡ 2 ^ 64 - 1) }
     ensures later { T.faults site.old ≤ T.faults site.new }
 

@@ -8,7 +8,7 @@ ghost use Rattle.fp_restart.specs.Restarts.{IsBadAt, IsDamageOr, StandsFor};
 ghost use Rattle.fp_restart.specs.declared.fault.RestartFault.TheVariants as faults;
 ghost use Rattle.fp_site.specs.Disk.{Syncs};
 ghost use Rattle.fp_site.specs.Moments.{Through};
-ghost use Rattle.log_groups.specs.Images.{texts_of};
+ghost use Rattle.log_groups.specs.Images.{as_front};
 ghost use Rattle.log_groups.specs.Kept.{IsSound};
 ghost use Rattle.msdb_store.specs.Store.{IsOf};
 ghost use Rattle.std.specs.List.{AllByRecursion};
@@ -35,33 +35,32 @@ pub fn restart<T: Site>(
     front: &Front,
     site: &mut T,
 ) -> Result<Parts, RestartFault>
-    requires fits { FitsFront (texts_of front.now) }
-    requires texts { (texts_of front.now).defs ≡ defs.now.text }
+    requires fits { FitsFront (as_front front.now) }
     requires each { AllByRecursion IsMsdbDef defs.now.msdbs }
 
     // A sound log gives what it means, and is neither foreign nor damaged.
     ensures sound { (scripts : ListOf Script) (entries : ListOf Entry) → T.told site.old
-        → IsSound defs.now scripts (texts_of front.now).scripts ((T.disk site.old).contents 0) entries
-        → IfOk result (λ parts. StandsFor defs.now scripts (texts_of front.now) (T.disk site.new) entries parts.0 parts.1) }
+        → IsSound defs.now scripts (as_front front.now) ((T.disk site.old).contents 0) entries
+        → IfOk result (λ parts. StandsFor defs.now scripts (as_front front.now) (T.disk site.new) entries parts.0 parts.1) }
     ensures never { (scripts : ListOf Script) (entries : ListOf Entry) → T.told site.old
-        → IsSound defs.now scripts (texts_of front.now).scripts ((T.disk site.old).contents 0) entries
+        → IsSound defs.now scripts (as_front front.now) ((T.disk site.old).contents 0) entries
         → (IsErrOf result faults.Foreign → ⊥) × ((set at : ℕ) → IsErrOf result (faults.Damaged set at) → ⊥) }
 
     // In any case the store is one of these definitions.
     ensures of { IfOk result (λ parts. IsOf defs.now.msdbs parts.0) }
 
     // When each refusal comes.
-    ensures front { T.told site.old → OnOk result (StartsWithFront ((T.disk site.old).contents 0) (texts_of front.now)) }
-    ensures foreign { T.told site.old → IsErrOf result faults.Foreign → StartsWithFront ((T.disk site.old).contents 0) (texts_of front.now) → ⊥ }
+    ensures front { T.told site.old → OnOk result (StartsWithFront ((T.disk site.old).contents 0) (as_front front.now)) }
+    ensures foreign { T.told site.old → IsErrOf result faults.Foreign → StartsWithFront ((T.disk site.old).contents 0) (as_front front.now) → ⊥ }
     ensures damaged { (set at : ℕ) → T.told site.old → IsErrOf result (faults.Damaged set at) → (set ≡ 0) × IsBadAt defs.now ((T.disk site.old).contents 0) at }
-    ensures begun { (set at : ℕ) → T.told site.old → IsErrOf result (faults.Damaged set at) → StartsWithFront ((T.disk site.old).contents 0) (texts_of front.now) }
+    ensures begun { (set at : ℕ) → T.told site.old → IsErrOf result (faults.Damaged set at) → StartsWithFront ((T.disk site.old).contents 0) (as_front front.now) }
     ensures place { (set at : ℕ) → T.told site.old → IsErrOf result (faults.Damaged set at) →
-        IsFirstBadAt defs.now ((T.disk site.old).contents 0) (first_gate (texts_of front.now)) at }
+        IsFirstBadAt defs.now ((T.disk site.old).contents 0) (first_gate (as_front front.now)) at }
 
     // A log that begins with the front and is bad at a place is answered so, unless a fault comes.
-    ensures only_damaged { (at : ℕ) → T.told site.old → StartsWithFront ((T.disk site.old).contents 0) (texts_of front.now)
-        → IsFirstBadAt defs.now ((T.disk site.old).contents 0) (first_gate (texts_of front.now)) at → IsDamageOr at result }
-    ensures readable { T.told site.old → OnOk result (IsReadable defs.now ((T.disk site.old).contents 0) (first_gate (texts_of front.now))) }
+    ensures only_damaged { (at : ℕ) → T.told site.old → StartsWithFront ((T.disk site.old).contents 0) (as_front front.now)
+        → IsFirstBadAt defs.now ((T.disk site.old).contents 0) (first_gate (as_front front.now)) at → IsDamageOr at result }
+    ensures readable { T.told site.old → OnOk result (IsReadable defs.now ((T.disk site.old).contents 0) (first_gate (as_front front.now))) }
     ensures cause { IsErrOf result faults.SiteFault → (T.faults site.old < T.faults site.new) ⊎ (T.faults site.new ≡ 2 ^ 64 - 1) }
     ensures later { T.faults site.old ≤ T.faults site.new }
 

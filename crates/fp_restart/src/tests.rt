@@ -1,7 +1,7 @@
 //! What restarts give: of a log with two groups, of every stop of a making, and of logs that are damaged.
 ghost use Rattle.fp_model.specs.LogText.{FitsEntry, FitsFront, FitsItem, KeepsRules};
 ghost use Rattle.fp_model.specs.WellFormed.{IsMsdbDef};
-ghost use Rattle.log_groups.specs.Images.{texts_of};
+ghost use Rattle.log_groups.specs.Images.{as_front};
 ghost use Rattle.std.specs.List.{AllByRecursion};
 ghost use Rattle.std.specs.Prelude.{◌≡◌, ◌<◌, ◌^◌, IfOk, length};
 
@@ -91,8 +91,8 @@ fn orders(alloc: Global) -> Result<List<DedbDef>, AllocError> {
 
 fn front(alloc: Global, defs: &Defs, scripts: u8) -> Result<Front, AllocError>
     requires { length defs.now.text < 2 ^ 32 }
-    ensures fits { IfOk result (λ front. FitsFront (texts_of front)) }
-    ensures text { IfOk result (λ front. (texts_of front).defs ≡ defs.now.text) }
+    ensures fits { IfOk result (λ front. FitsFront (as_front front)) }
+    ensures text { IfOk result (λ front. (as_front front).defs ≡ defs.now.text) }
 {
     Ok(Front {
         defs: defs.text.copy()?,

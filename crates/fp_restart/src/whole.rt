@@ -6,7 +6,7 @@ ghost use Rattle.fp_model.specs.declared.database.Db.{Db as DbOf};
 ghost use Rattle.fp_model.specs.declared.log.Entry.{Entry};
 ghost use Rattle.fp_model.specs.declared.scripts.Script.{Script};
 ghost use Rattle.fp_restart.specs.declared.fault.RestartFault.TheVariants as faults;
-ghost use Rattle.std.specs.Prelude.{◌≡◌, ◌++◌, ◌*◌, [], IfOk, IsErrOf, List as ListOf, OnErr, OnOk, replicate};
+ghost use Rattle.std.specs.Prelude.{◌≡◌, ◌++◌, ◌*◌, [], ℕ, IfOk, IsErrOf, List as ListOf, OnErr, OnOk, replicate};
 
 use crate::RestartFault;
 use crate::restarting::Parts;
@@ -27,7 +27,8 @@ pub fn whole_db<T: Site>(
 
     // Where the store has the segments of the state that entries lead to, and no data entry databases are defined, it is
     // that state.
-    ensures means { (scripts : ListOf Script) (entries : ListOf Entry) (last : DbOf) → defs.now.dedbs ≡ [] → IsSerialHistory (rules_of defs.now scripts) entries last
+    ensures means { (scripts : ListOf Script) (format : ℕ) (entries : ListOf Entry) (last : DbOf)
+        → defs.now.dedbs ≡ [] → IsSerialHistory (rules_of defs.now scripts) format entries last
         → parts.old.0.msdbs ≡ last.msdbs → IfOk result (λ db. db ≡ last) }
     ensures cause { OnErr result (IsErrOf result faults.Memory) }
     ensures parts { parts.new ≡ parts.old }

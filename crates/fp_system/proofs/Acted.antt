@@ -13,7 +13,8 @@ use Rattle.fp_site.specs.Disk.{Disk, Snapshot, Settles, Syncs, IsLawful}
 use Rattle.fp_site.specs.Moments.{OnlyOn, Through}
 use Rattle.fp_site.proofs.Images.{settles_again}
 use Rattle.fp_site.proofs.Runs.{started, joined, weaker}
-use Rattle.log_groups.specs.Images.{IsAtRest, texts_of}
+use Rattle.fp_model.specs.History.{beginning}
+use Rattle.log_groups.specs.Images.{IsAtRest, as_front}
 use Rattle.log_groups.specs.Kept.{IsSound, IsSafe, lines_of_entries}
 use Rattle.log_groups.specs.Log.{LogState}
 use Rattle.msdb_store.specs.Store.{Stored}
@@ -53,14 +54,21 @@ damage_status fault.Memory at h = inr tt
 -- ---- no entries
 
 no_account : (job : Job) → IsAccount job []
-no_account job = record { last = start job.defs; history = ([], (refl, refl)); fit = tt; made = refl }
+no_account job = record {
+  last = start job.defs;
+  history = record { history = beginning 1 (start job.defs); leads = refl; ends = refl };
+  still = refl;
+  fit = tt;
+  made = refl;
+}
 
 -- a new log is safe
-pub made_safe : (setup : Setup) (disk : Disk) → IsSetup setup → IsAtRest disk (texts_of setup.front) [] (first_gate (texts_of setup.front))
-    → IsSafe setup.defs setup.scripts.scripts setup.scripts.text disk []
+pub made_safe : (setup : Setup) (disk : Disk) → IsSetup setup → IsAtRest disk (as_front setup.front) [] (first_gate (as_front setup.front))
+    → IsSafe setup.defs setup.scripts.scripts (front_for (job_of setup)) disk []
 made_safe setup disk is rest =
     let job = job_of setup in
-    safe_at_rest job [] disk [] (first_gate (front_for job)) (no_account job) refl (subst (λ (f : Front). IsAtRest disk f [] (first_gate f)) is.front rest)
+    safe_at_rest job [] disk [] (first_gate (front_for job)) (no_account job) refl
+    (subst (λ (f : Front). IsAtRest disk f [] (first_gate f)) is.front rest)
 
 -- ---- restarting
 
@@ -68,20 +76,25 @@ module _ (setup : Setup) (is : IsSetup setup) where
   abbrev its_job : Job
   its_job = job_of setup
 
-  scripts_same : (texts_of setup.front).scripts ≡ setup.scripts.text
-  scripts_same = ap (λ (f : Front). f.scripts) is.front
-
-  pub to_setup : (bytes : List ℕ) (entries : List Entry) → IsSound setup.defs setup.scripts.scripts setup.scripts.text bytes entries
-      → IsSound setup.defs setup.scripts.scripts (texts_of setup.front).scripts bytes entries
-  to_setup bytes entries sound = subst (λ (t : List ℕ). IsSound setup.defs setup.scripts.scripts t bytes entries) (sym scripts_same) sound
+  pub to_setup : (bytes : List ℕ) (entries : List Entry)
+      → IsSound setup.defs setup.scripts.scripts (front_for its_job) bytes entries
+      → IsSound setup.defs setup.scripts.scripts (as_front setup.front) bytes entries
+  to_setup bytes entries sound =
+      subst (λ (f : Front). IsSound setup.defs setup.scripts.scripts f bytes entries) (sym is.front) sound
 
   -- what restart gives of a safe site stands at its entries
-  pub stands_restarted : (h h1 : Disk) (entries : List Entry) (store : Stored) (log : LogState) → IsSafe setup.defs setup.scripts.scripts setup.scripts.text h entries
-      → StandsFor setup.defs setup.scripts.scripts (texts_of setup.front) h1 entries store log → StandsAt its_job entries h1 store log
+  pub stands_restarted : (h h1 : Disk) (entries : List Entry) (store : Stored) (log : LogState) → IsSafe setup.defs setup.scripts.scripts (front_for its_job) h entries
+      → StandsFor setup.defs setup.scripts.scripts (as_front setup.front) h1 entries store log → StandsAt its_job entries h1 store log
   stands_restarted h h1 entries store log safe found =
       let f = subst (λ (f : Front). StandsFor setup.defs setup.scripts.scripts f h1 entries store log) is.front found in
       record {
-        account = record { last = safe.now.last; history = safe.now.history; fit = safe.now.fit; made = safe.now.made };
+        account = record {
+          last = safe.now.last;
+          history = safe.now.history;
+          still = safe.now.still;
+          fit = safe.now.fit;
+          made = safe.now.made;
+        };
         groups = f.groups;
         all = f.all;
         at_rest = f.at_rest;
@@ -91,7 +104,7 @@ module _ (setup : Setup) (is : IsSetup setup) where
         segments = f.segments safe.now.last safe.now.history;
       }
 
-module _ (job : Job) (h h1 : Disk) (entries : List Entry) (law1 : IsLawful h1) (safe : IsSafe job.defs job.scripts job.scripts_text h entries) (contents : (set : ℕ) → h1.contents set ≡ h.contents set) (sent : h1.sent ≡ h.sent) (run : Through h h1 (Syncs h 0)) where
+module _ (job : Job) (h h1 : Disk) (entries : List Entry) (law1 : IsLawful h1) (safe : IsSafe job.defs job.scripts (front_for job) h entries) (contents : (set : ℕ) → h1.contents set ≡ h.contents set) (sent : h1.sent ≡ h.sent) (run : Through h h1 (Syncs h 0)) where
   abbrev Kept : List (List ℕ) → Snapshot → Type 0
   Kept lines = IsKeptBy job lines h entries
 
@@ -99,9 +112,9 @@ module _ (job : Job) (h h1 : Disk) (entries : List Entry) (law1 : IsLawful h1) (
   synced s left = (run.each s (law1.earlier h.moment h1.moment s run.later (law1.counts_now s left))).this
 
   -- a safe site that was synced is safe
-  safe_synced : IsSafe job.defs job.scripts job.scripts_text h1 entries
+  safe_synced : IsSafe job.defs job.scripts (front_for job) h1 entries
   safe_synced = record {
-    now = subst (λ (l : List ℕ). IsSound job.defs job.scripts job.scripts_text l entries) (sym (contents 0)) safe.now;
+    now = subst (λ (l : List ℕ). IsSound job.defs job.scripts (front_for job) l entries) (sym (contents 0)) safe.now;
     crash = λ image settles. safe.crash image (settles_again h h1 0 image synced settles);
   }
 
@@ -111,7 +124,7 @@ module _ (job : Job) (h h1 : Disk) (entries : List Entry) (law1 : IsLawful h1) (
     rest = lines;
     of_lines = refl;
     alone = tt;
-    safe = subst (IsSafe job.defs job.scripts job.scripts_text h1) (sym (append-nil entries)) safe_synced;
+    safe = subst (IsSafe job.defs job.scripts (front_for job) h1) (sym (append-nil entries)) safe_synced;
     count = 0;
     sent = sent ∙ sym (append-nil h.sent);
   }
@@ -171,13 +184,13 @@ module _ (job : Job) (h h1 : Disk) (entries : List Entry) (law1 : IsLawful h1) (
 
 -- ---- where nothing was done
 
-pub halts_safe : (job : Job) (h : Disk) (entries : List Entry) (lines : List (List ℕ)) → IsSafe job.defs job.scripts job.scripts_text h entries → StaysSafe job entries lines h h
+pub halts_safe : (job : Job) (h : Disk) (entries : List Entry) (lines : List (List ℕ)) → IsSafe job.defs job.scripts (front_for job) h entries → StaysSafe job entries lines h h
 halts_safe job h entries lines safe = record {
   later = [];
   rest = lines;
   of_lines = refl;
   alone = tt;
-  safe = subst (IsSafe job.defs job.scripts job.scripts_text h) (sym (append-nil entries)) safe;
+  safe = subst (IsSafe job.defs job.scripts (front_for job) h) (sym (append-nil entries)) safe;
   count = 0;
   sent = sym (append-nil h.sent);
 }

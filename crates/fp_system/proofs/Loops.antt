@@ -84,7 +84,7 @@ module _ (job : Job) (entries : List Entry) (before : List (List Entry)) (h0 h h
   goes_more line s by = record {
     goes = record {
       later = so_far ++ by.goes.later;
-      sound = subst (IsSound job.defs job.scripts job.scripts_text (s.images 0)) (append_assoc entries so_far by.goes.later) by.goes.sound;
+      sound = subst (IsSound job.defs job.scripts (front_for job) (s.images 0)) (append_assoc entries so_far by.goes.later) by.goes.sound;
       count = length (lines_of_entries so_far) + by.goes.count;
       sent = λ told. sent_on s.sent by.goes.later by.goes.count (by.goes.sent (going.moments.tells_sent told));
     };
@@ -111,7 +111,7 @@ module _ (job : Job) (entries : List Entry) (before : List (List Entry)) (h0 h h
         ∙ sym (append_assoc lines (map (λ (e : Entry). e.line) halts.later) (halts.rest ++ ahead))
         ∙ ap (λ (ls : List (List ℕ)). ls ++ (halts.rest ++ ahead)) (sym (lines_more halts.later));
     alone = all_append (λ (e : Entry). IsAlone e.outcome) so_far halts.later going.serves.alone halts.alone;
-    safe = subst (IsSafe job.defs job.scripts job.scripts_text h1) (append_assoc entries so_far halts.later) halts.safe;
+    safe = subst (IsSafe job.defs job.scripts (front_for job) h1) (append_assoc entries so_far halts.later) halts.safe;
     count = length (lines_of_entries so_far) + halts.count;
     sent = sent_on h1.sent halts.later halts.count halts.sent;
   }

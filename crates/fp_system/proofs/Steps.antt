@@ -26,7 +26,7 @@ line_alone e = flat_map-cons line_of e [] ∙ append-nil (line_of e)
 
 module _ (job : Job) (entries : List Entry) where
   abbrev Sound : List ℕ → List Entry → Type 0
-  Sound = IsSound job.defs job.scripts job.scripts_text
+  Sound = IsSound job.defs job.scripts (front_for job)
 
   -- what stands goes on by nothing
   pub goes_none : (lines : List (List ℕ)) (before : Disk) (s : Snapshot) → Sound (s.images 0) entries → (before.tells_sent → s.sent ≡ before.sent) → GoesOnBy job lines before entries s
@@ -49,7 +49,7 @@ module _ (job : Job) (entries : List Entry) where
     rest = lines;
     of_lines = refl;
     alone = tt;
-    safe = subst (IsSafe job.defs job.scripts job.scripts_text h) (sym (append-nil entries)) (safe_at_rest job entries h stands.groups log.gate stands.account stands.all stands.at_rest);
+    safe = subst (IsSafe job.defs job.scripts (front_for job) h) (sym (append-nil entries)) (safe_at_rest job entries h stands.groups log.gate stands.account stands.all stands.at_rest);
     count = 0;
     sent = sym (append-nil h.sent);
   })
@@ -81,7 +81,7 @@ module _ (job : Job) (entries : List Entry) where
     either_sound image (inr after) = inr (sound_log job (entries ++ e ∷ []) image more _ account (one_group stands.groups entries e stands.all) after)
 
     -- the log goes on by the entry
-    with_entry : (s : Snapshot) (goes : GoesOn job.defs job.scripts job.scripts_text h entries s) → goes.later ≡ e ∷ [] → P s
+    with_entry : (s : Snapshot) (goes : GoesOn job.defs job.scripts (front_for job) h entries s) → goes.later ≡ e ∷ [] → P s
     with_entry s goes is = record {
       goes = goes;
       rest = [];

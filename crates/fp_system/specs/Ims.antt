@@ -50,7 +50,7 @@ pub record IsAnswered (job : Job) (earlier : List Entry) (lines : List (List ℕ
   pub held : Holds (front_for job) (old.contents 0) groups old_gate
   pub gate : ℕ
   pub at_rest : IsAtRest new (front_for job) (groups ++ one_each later) gate
-  pub safe : IsSafe job.defs job.scripts job.scripts_text new (earlier ++ later)
+  pub safe : IsSafe job.defs job.scripts (front_for job) new (earlier ++ later)
   pub sent : new.sent ≡ old.sent ++ lines_of_entries later
 
 -- By what is told and by the numbers: calls were made of a source or a site, and it is the same one.

@@ -21,9 +21,9 @@ pub record Job : Type 0 where
   pub scripts : List Script
   pub scripts_text : List ℕ
 
--- the front of a log that is made for them
+-- the front of a log that is made for them: in format 1, in which no message has a number
 abbrev pub front_for : Job → Front
-front_for job = front_of job.defs job.scripts_text
+front_for job = front_of 1 job.defs job.scripts_text
 
 -- whether definitions are built: one region, and no data entry database
 abbrev pub are_built : Defs → Bool

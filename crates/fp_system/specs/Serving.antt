@@ -4,6 +4,7 @@ use Rattle.std.specs.List.{AllByRecursion}
 use Rattle.fp_model.specs.declared.database.Db.{Db}
 use Rattle.fp_model.specs.declared.log.Entry.{Entry}
 use Rattle.fp_model.specs.Groups.{entries_of}
+use Rattle.fp_model.specs.Lasts.{format_at}
 use Rattle.fp_model.specs.SerialHistory.{IsSerialHistory}
 use Rattle.fp_model.specs.Items.{IsFit, with_items, items_of}
 use Rattle.fp_model.specs.Product.{rules_of}
@@ -25,10 +26,12 @@ AreAlone entries = AllByRecursion (λ (e : Entry). IsAlone e.outcome) entries
 abbrev pub one_each : List Entry → List (List Entry)
 one_each entries = map (λ (e : Entry). e ∷ []) entries
 
--- Entries that may stand in a log: a serial history, whose items are fit and make of the segments loaded those of its last state.
+-- Entries that may stand in a log: a serial history in format 1, which none of them changes. Their items are fit, and make
+-- of the segments loaded those of its last state.
 pub record IsAccount (job : Job) (entries : List Entry) : Type 0 where
   pub last : Db
-  pub history : IsSerialHistory (rules_of job.defs job.scripts) entries last
+  pub history : IsSerialHistory (rules_of job.defs job.scripts) 1 entries last
+  pub still : format_at 1 entries ≡ 1
   pub fit : AllByRecursion (IsFit job.defs) (items_of entries)
   pub made : with_items job.defs.msdbs (start job.defs).msdbs (items_of entries) ≡ last.msdbs
 
@@ -61,14 +64,14 @@ pub record StaysSafe (job : Job) (entries : List Entry) (lines : List (List ℕ)
   pub rest : List (List ℕ)
   pub of_lines : lines ≡ map (λ e. e.line) later ++ rest
   pub alone : AreAlone later
-  pub safe : IsSafe job.defs job.scripts job.scripts_text new (entries ++ later)
+  pub safe : IsSafe job.defs job.scripts (front_for job) new (entries ++ later)
   pub count : ℕ
   pub sent : new.sent ≡ old.sent ++ take count (lines_of_entries later)
 
 -- A snapshot goes on from what stood: its log by entries of a first part of the lines, in which no other region had a part, and
 -- a first part of their reply lines was sent.
 pub record GoesOnBy (job : Job) (lines : List (List ℕ)) (before : Disk) (entries : List Entry) (s : Snapshot) : Type 0 where
-  pub goes : GoesOn job.defs job.scripts job.scripts_text before entries s
+  pub goes : GoesOn job.defs job.scripts (front_for job) before entries s
   pub rest : List (List ℕ)
   pub of_lines : lines ≡ map (λ e. e.line) goes.later ++ rest
   pub alone : AreAlone goes.later

@@ -4,7 +4,7 @@ use Rattle.fp_model.specs.LogText.{FitsFront}
 use Rattle.fp_model.specs.WellFormed.{AreDefs}
 use Rattle.fp_system.specs.Parts.{Job, front_for}
 use Rattle.fp_system.specs.declared.parts.Setup.{Setup}
-use Rattle.log_groups.specs.Images.{texts_of}
+use Rattle.log_groups.specs.Images.{as_front}
 use Rattle.txn_lang.specs.Grammar.{AreScriptsOf}
 
 -- the job that it is of
@@ -16,5 +16,5 @@ pub record IsSetup (setup : Setup) : Type 0 where
   pub are : AreDefs setup.defs
   pub no_dedbs : setup.defs.dedbs ≡ []
   pub scripts : AreScriptsOf setup.defs setup.scripts.text setup.scripts.scripts
-  pub front : texts_of setup.front ≡ front_for (job_of setup)
-  pub fits : FitsFront (texts_of setup.front)
+  pub front : as_front setup.front ≡ front_for (job_of setup)
+  pub fits : FitsFront (as_front setup.front)

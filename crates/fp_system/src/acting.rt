@@ -42,7 +42,7 @@ pub(crate) fn define_on<T: Site>(alloc: Global, site: &mut T, setup: &Setup) -> 
     requires { IsSetup setup.now }
     ensures outcome { IsOr status.Done result }
     ensures safe { T.told site.old → result ≡ status.Done →
-        IsSafe setup.now.defs setup.now.scripts.scripts setup.now.scripts.text (T.disk site.new) [] }
+        IsSafe setup.now.defs setup.now.scripts.scripts (front_for (job_of setup.now)) (T.disk site.new) [] }
     ensures early { IsEarly result → ⊥ }
     ensures never { result ≡ status.ReadFault → ⊥ }
     ensures cause { result ≡ status.SiteFault → Rose (T.faults site.old) (T.faults site.new) }
@@ -88,18 +88,18 @@ pub(crate) fn run_on<S: Source, T: Site>(
 
     // From a safe site: every line up to the first that isn't taken is answered, or a fault came; the site stays safe, and
     // keeps what it had at every moment.
-    ensures complete { (earlier : ListOf Entry) → S.told source.old → T.told site.old → IsSafe setup.now.defs setup.now.scripts.scripts setup.now.scripts.text (T.disk site.old) earlier
+    ensures complete { (earlier : ListOf Entry) → S.told source.old → T.told site.old → IsSafe setup.now.defs setup.now.scripts.scripts (front_for (job_of setup.now)) (T.disk site.old) earlier
         → faulty_line (S.left source.old part.Messages) ≡ None → IsOr status.Done result }
-    ensures stopped { (earlier : ListOf Entry) (number : ℕ) → S.told source.old → T.told site.old → IsSafe setup.now.defs setup.now.scripts.scripts setup.now.scripts.text (T.disk site.old) earlier
+    ensures stopped { (earlier : ListOf Entry) (number : ℕ) → S.told source.old → T.told site.old → IsSafe setup.now.defs setup.now.scripts.scripts (front_for (job_of setup.now)) (T.disk site.old) earlier
         → faulty_line (S.left source.old part.Messages) ≡ Some number → IsOr (status.Line number) result }
-    ensures done { (earlier : ListOf Entry) → S.told source.old → T.told site.old → IsSafe setup.now.defs setup.now.scripts.scripts setup.now.scripts.text (T.disk site.old) earlier
+    ensures done { (earlier : ListOf Entry) → S.told source.old → T.told site.old → IsSafe setup.now.defs setup.now.scripts.scripts (front_for (job_of setup.now)) (T.disk site.old) earlier
         → result ≡ status.Done → IsAnswered (job_of setup.now) earlier (lines_of (S.left source.old part.Messages)) (T.disk site.old) (T.disk site.new) }
-    ensures before { (earlier : ListOf Entry) (number : ℕ) → S.told source.old → T.told site.old → IsSafe setup.now.defs setup.now.scripts.scripts setup.now.scripts.text (T.disk site.old) earlier
+    ensures before { (earlier : ListOf Entry) (number : ℕ) → S.told source.old → T.told site.old → IsSafe setup.now.defs setup.now.scripts.scripts (front_for (job_of setup.now)) (T.disk site.old) earlier
         → result ≡ status.Line number →
         IsAnswered (job_of setup.now) earlier (take (number - 1) (lines_of (S.left source.old part.Messages))) (T.disk site.old) (T.disk site.new) }
-    ensures safe { (earlier : ListOf Entry) → S.told source.old → T.told site.old → IsSafe setup.now.defs setup.now.scripts.scripts setup.now.scripts.text (T.disk site.old) earlier →
+    ensures safe { (earlier : ListOf Entry) → S.told source.old → T.told site.old → IsSafe setup.now.defs setup.now.scripts.scripts (front_for (job_of setup.now)) (T.disk site.old) earlier →
         StaysSafe (job_of setup.now) earlier (lines_of (S.left source.old part.Messages)) (T.disk site.old) (T.disk site.new) }
-    ensures crash { (earlier : ListOf Entry) → S.told source.old → T.told site.old → IsSafe setup.now.defs setup.now.scripts.scripts setup.now.scripts.text (T.disk site.old) earlier →
+    ensures crash { (earlier : ListOf Entry) → S.told source.old → T.told site.old → IsSafe setup.now.defs setup.now.scripts.scripts (front_for (job_of setup.now)) (T.disk site.old) earlier →
         Through (T.disk site.old) (T.disk site.new) (IsKeptBy (job_of setup.now) (lines_of (S.left source.old part.Messages)) (T.disk site.old) earlier) }
     ensures source { IsContinued S.told S.faults S.holds S.keeps source.old source.new }
     ensures site { IsContinued T.told T.faults T.holds T.keeps site.old site.new }

@@ -20,6 +20,9 @@ use log_groups::Front;
 use std::alloc::{AllocError, Global};
 use txn_lang::{ScriptFault, Scripts, parse};
 
+// The format of a log that is made: in this one no message has a number.
+const FORMAT: u8 = 1;
+
 // How many bytes a part has at most.
 const MOST_BYTES: u64 = 1_000_000;
 
@@ -142,6 +145,7 @@ fn setup_with(alloc: Global, defs: Defs, scripts: Scripts) -> Result<Setup, Allo
     ensures scripts { IfOk result (λ setup. setup.scripts ≡ scripts) }
 {
     let front = Front {
+        format: FORMAT,
         defs: defs.text.copy()?,
         scripts: Bytes::from_slice(alloc, scripts.text())?,
     };

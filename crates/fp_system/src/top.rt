@@ -76,28 +76,28 @@ pub fn ims<S: Source, T: Site>(
     // is, the site stays safe with entries of a first part of the lines, and every crash since the call's start keeps what
     // stood.
     ensures complete { (job : Job) (earlier : ListOf Entry) → S.told source.old → T.told site.old → Asks (kinds_of exits.now) (map string_bytes words.now) (S.left source.old) command.Run job
-        → IsSafe job.defs job.scripts job.scripts_text (T.disk site.old) earlier → faulty_line (S.left source.old part.Messages) ≡ None → IsOr status.Done result }
+        → IsSafe job.defs job.scripts (front_for job) (T.disk site.old) earlier → faulty_line (S.left source.old part.Messages) ≡ None → IsOr status.Done result }
     ensures stopped { (job : Job) (earlier : ListOf Entry) (number : ℕ) → S.told source.old → T.told site.old → Asks (kinds_of exits.now) (map string_bytes words.now) (S.left source.old) command.Run job
-        → IsSafe job.defs job.scripts job.scripts_text (T.disk site.old) earlier → faulty_line (S.left source.old part.Messages) ≡ Some number →
+        → IsSafe job.defs job.scripts (front_for job) (T.disk site.old) earlier → faulty_line (S.left source.old part.Messages) ≡ Some number →
         IsOr (status.Line number) result }
     ensures answered { (job : Job) (earlier : ListOf Entry) → S.told source.old → T.told site.old → Asks (kinds_of exits.now) (map string_bytes words.now) (S.left source.old) command.Run job
-        → IsSafe job.defs job.scripts job.scripts_text (T.disk site.old) earlier → result ≡ status.Done →
+        → IsSafe job.defs job.scripts (front_for job) (T.disk site.old) earlier → result ≡ status.Done →
         IsAnswered job earlier (lines_of (S.left source.old part.Messages)) (T.disk site.old) (T.disk site.new) }
     ensures before { (job : Job) (earlier : ListOf Entry) (number : ℕ) → S.told source.old → T.told site.old → Asks (kinds_of exits.now) (map string_bytes words.now) (S.left source.old) command.Run job
-        → IsSafe job.defs job.scripts job.scripts_text (T.disk site.old) earlier → result ≡ status.Line number →
+        → IsSafe job.defs job.scripts (front_for job) (T.disk site.old) earlier → result ≡ status.Line number →
         IsAnswered job earlier (take (number - 1) (lines_of (S.left source.old part.Messages))) (T.disk site.old) (T.disk site.new) }
     ensures safe { (job : Job) (earlier : ListOf Entry) → S.told source.old → T.told site.old → Asks (kinds_of exits.now) (map string_bytes words.now) (S.left source.old) command.Run job
-        → IsSafe job.defs job.scripts job.scripts_text (T.disk site.old) earlier →
+        → IsSafe job.defs job.scripts (front_for job) (T.disk site.old) earlier →
         StaysSafe job earlier (lines_of (S.left source.old part.Messages)) (T.disk site.old) (T.disk site.new) }
     ensures kept { (job : Job) (earlier : ListOf Entry) → S.told source.old → T.told site.old → Asks (kinds_of exits.now) (map string_bytes words.now) (S.left source.old) command.Run job
-        → IsSafe job.defs job.scripts job.scripts_text (T.disk site.old) earlier →
+        → IsSafe job.defs job.scripts (front_for job) (T.disk site.old) earlier →
         Through (T.disk site.old) (T.disk site.new) (IsKeptBy job (lines_of (S.left source.old part.Messages)) (T.disk site.old) earlier) }
 
     // `define`: a safe site without entries, or a fault. A crash at any moment leaves the log as a sync might have left it
     // before, or with no open front, or new.
     ensures made { (job : Job) → S.told source.old → Asks (kinds_of exits.now) (map string_bytes words.now) (S.left source.old) command.Define job → IsOr status.Done result }
     ensures new { (job : Job) → S.told source.old → T.told site.old → Asks (kinds_of exits.now) (map string_bytes words.now) (S.left source.old) command.Define job → result ≡ status.Done →
-        IsSafe job.defs job.scripts job.scripts_text (T.disk site.new) [] }
+        IsSafe job.defs job.scripts (front_for job) (T.disk site.new) [] }
     ensures crash { (job : Job) → S.told source.old → T.told site.old → Asks (kinds_of exits.now) (map string_bytes words.now) (S.left source.old) command.Define job →
         Through (T.disk site.old) (T.disk site.new) (IsBeforeOrMade (T.disk site.old) (front_for job)) }
 

@@ -1,14 +1,14 @@
 use Rattle.std.proofs.Common.{◌≡◌, ap, subst, rules}
 use Rattle.fp_model.specs.LogText.{first_gate}
 use Rattle.fp_restart.specs.Replayed.{IsFirstBadAt}
-use Rattle.log_groups.specs.Images.{texts_of}
+use Rattle.log_groups.specs.Images.{as_front}
 use Rattle.fp_restart.proofs.reading.read_parts.Goals as goal
 
 pub returns-in_err-replay-clause-damaged : goal.returns-in_err-replay-clause-damaged
 returns-in_err-replay-clause-damaged g c set at t is =
     let same = ap (λ f. f 0) (c.open.ensures.stays t).contents in
     let bad = c.replay.ensures.damaged set at (c.open.ensures.told t) (search rules) in
-    let gate : c.in_ok-log.log.gate ≡ first_gate (texts_of c.args.front.now) = ap (λ l. l.gate) c.in_ok-log.ensures.log in (
+    let gate : c.in_ok-log.log.gate ≡ first_gate (as_front c.args.front.now) = ap (λ l. l.gate) c.in_ok-log.ensures.log in (
       bad.0,
       subst (λ n. IsFirstBadAt c.args.defs.now ((g.T.Site.disk c.args.site.now).contents 0) n at) gate (subst (λ l. IsFirstBadAt c.args.defs.now l c.in_ok-log.log.gate at) same bad.1),
     )

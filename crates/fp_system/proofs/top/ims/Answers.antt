@@ -52,7 +52,7 @@ returns-in-Define-clause-new g c job s t asks done =
     let mine = job_of c.in-Ok.setup in
     let is = c.in-Ok.ensures.job s in
     let same : mine ≡ job = one_job (kinds_of c.args.exits.now) left mine job is asks.job_is in
-    subst (λ (j : Job). IsSafe j.defs j.scripts j.scripts_text (g.T.Site.disk c.define_on.new.site) []) same (c.define_on.ensures.safe t done)
+    subst (λ (j : Job). IsSafe j.defs j.scripts (front_for j) (g.T.Site.disk c.define_on.new.site) []) same (c.define_on.ensures.safe t done)
 
 pub returns-in-Ok-clause-damaged : goal.returns-in-Ok-clause-damaged
 returns-in-Ok-clause-damaged g c set at s t broken =
@@ -87,7 +87,7 @@ returns-in-Ok-clause-complete g c job earlier s t asks safe none =
     let new = g.T.Site.disk c.run_on.new.site in
     let s1 = c.read_setup.ensures.told s in
     let messages = c.read_setup.ensures.messages s in
-    let safe1 = subst (λ (j : Job). IsSafe j.defs j.scripts j.scripts_text old earlier) (sym same) safe in
+    let safe1 = subst (λ (j : Job). IsSafe j.defs j.scripts (front_for j) old earlier) (sym same) safe in
     c.run_on.ensures.complete earlier s1 t safe1 (ap faulty_line messages ∙ none)
 
 pub returns-in-Ok-clause-stopped : goal.returns-in-Ok-clause-stopped
@@ -100,7 +100,7 @@ returns-in-Ok-clause-stopped g c job earlier number s t asks safe one =
     let new = g.T.Site.disk c.run_on.new.site in
     let s1 = c.read_setup.ensures.told s in
     let messages = c.read_setup.ensures.messages s in
-    let safe1 = subst (λ (j : Job). IsSafe j.defs j.scripts j.scripts_text old earlier) (sym same) safe in
+    let safe1 = subst (λ (j : Job). IsSafe j.defs j.scripts (front_for j) old earlier) (sym same) safe in
     c.run_on.ensures.stopped earlier number s1 t safe1 (ap faulty_line messages ∙ one)
 
 pub returns-in-Ok-clause-only_damaged : goal.returns-in-Ok-clause-only_damaged
@@ -122,7 +122,7 @@ returns-in-Ok-clause-answered g c job earlier s t asks safe done =
     let new = g.T.Site.disk c.run_on.new.site in
     let s1 = c.read_setup.ensures.told s in
     let messages = c.read_setup.ensures.messages s in
-    let safe1 = subst (λ (j : Job). IsSafe j.defs j.scripts j.scripts_text old earlier) (sym same) safe in
+    let safe1 = subst (λ (j : Job). IsSafe j.defs j.scripts (front_for j) old earlier) (sym same) safe in
     subst (λ (text : List ℕ). IsAnswered job earlier (lines_of text) old new) messages
     (subst (λ (j : Job). IsAnswered j earlier (lines_of (g.S.Source.left c.read_setup.new.source part.Messages)) old new) same (c.run_on.ensures.done earlier s1 t safe1 done))
 
@@ -136,7 +136,7 @@ returns-in-Ok-clause-before g c job earlier number s t asks safe line =
     let new = g.T.Site.disk c.run_on.new.site in
     let s1 = c.read_setup.ensures.told s in
     let messages = c.read_setup.ensures.messages s in
-    let safe1 = subst (λ (j : Job). IsSafe j.defs j.scripts j.scripts_text old earlier) (sym same) safe in
+    let safe1 = subst (λ (j : Job). IsSafe j.defs j.scripts (front_for j) old earlier) (sym same) safe in
     subst (λ (text : List ℕ). IsAnswered job earlier (take (number - 1) (lines_of text)) old new) messages
     (subst (λ (j : Job). IsAnswered j earlier (take (number - 1) (lines_of (g.S.Source.left c.read_setup.new.source part.Messages))) old new) same
     (c.run_on.ensures.before earlier number s1 t safe1 line))
@@ -151,7 +151,7 @@ returns-in-Ok-clause-safe g c job earlier s t asks safe =
     let new = g.T.Site.disk c.run_on.new.site in
     let s1 = c.read_setup.ensures.told s in
     let messages = c.read_setup.ensures.messages s in
-    let safe1 = subst (λ (j : Job). IsSafe j.defs j.scripts j.scripts_text old earlier) (sym same) safe in
+    let safe1 = subst (λ (j : Job). IsSafe j.defs j.scripts (front_for j) old earlier) (sym same) safe in
     subst (λ (text : List ℕ). StaysSafe job earlier (lines_of text) old new) messages
     (subst (λ (j : Job). StaysSafe j earlier (lines_of (g.S.Source.left c.read_setup.new.source part.Messages)) old new) same (c.run_on.ensures.safe earlier s1 t safe1))
 
@@ -165,7 +165,7 @@ returns-in-Ok-clause-kept g c job earlier s t asks safe =
     let new = g.T.Site.disk c.run_on.new.site in
     let s1 = c.read_setup.ensures.told s in
     let messages = c.read_setup.ensures.messages s in
-    let safe1 = subst (λ (j : Job). IsSafe j.defs j.scripts j.scripts_text old earlier) (sym same) safe in
+    let safe1 = subst (λ (j : Job). IsSafe j.defs j.scripts (front_for j) old earlier) (sym same) safe in
     subst (λ (text : List ℕ). Through old new (IsKeptBy job (lines_of text) old earlier)) messages
     (subst (λ (j : Job). Through old new (IsKeptBy j (lines_of (g.S.Source.left c.read_setup.new.source part.Messages)) old earlier)) same (c.run_on.ensures.crash earlier s1 t safe1))
 
