@@ -20,6 +20,3 @@ mod words;
 
 pub use message::{MessageFault, read_message, terminal_of};
 pub use reply::reply_line;
-
-#[cfg(test)]
-mod tests;

@@ -34,6 +34,3 @@ pub use takes::{
     u64_of,
 };
 pub use writing::{put_entry, write_entry};
-
-#[cfg(test)]
-mod tests;
