@@ -38,7 +38,8 @@ const NEW_ONES: [Step; 12] = [
     Step::Count(6),
     Step::Control(
         32,
-        b"\x00\x00\x00\x00\x00\x00\x00\x01\x00\x00\x00\x00\x00\x00\x00\x01\x00\x00\x00\x00\x00\x00\x00\x03\x00\x00\x00\x00\x00\x00\x00\x00",
+        b"\x00\x00\x00\x00\x00\x00\x00\x01\x00\x00\x00\x00\x00\x00\x00\x01\
+          \x00\x00\x00\x00\x00\x00\x00\x03\x00\x00\x00\x00\x00\x00\x00\x00",
     ),
     Step::Link(1, 5),
     Step::Independent(5, 4, 1),
@@ -232,7 +233,8 @@ fn head(kind: u8, link: u64, owner: u64) -> Head
 /// Adds an interval.
 fn add(intervals: &mut Vec<Interval>, interval: Interval) -> Result<(), Fail>
     requires { length interval ≡ 512 }
-    ensures { HaveSize 512 intervals.old.items → OnOk result (HaveSize 512 intervals.new.items × (0 < length intervals.new.items)) }
+    ensures { HaveSize 512 intervals.old.items
+        → OnOk result (HaveSize 512 intervals.new.items × (0 < length intervals.new.items)) }
 {
     intervals.push(interval)?;
     Ok(())

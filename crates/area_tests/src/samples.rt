@@ -87,7 +87,8 @@ fn loan(rt: &HostRuntime, amount: u8) -> Result<Node, Fail>
 
 /// The row below a root.
 fn loans(rt: &HostRuntime, amount: Option<u8>) -> Result<List<Node>, Fail>
-    ensures { (types : List SegDefOf) → AreSampleTypes types → IfOk result (λ row. is_row types 2 (map (seen_as types) row) ≡ true) }
+    ensures { (types : List SegDefOf) → AreSampleTypes types
+        → IfOk result (λ row. is_row types 2 (map (seen_as types) row) ≡ true) }
 {
     let mut row = List::new(rt.alloc());
     if let Some(amount) = amount {
@@ -155,4 +156,3 @@ pub fn roots(rt: &HostRuntime, customers: &[Customer]) -> Result<List<Root>, Fai
     }
     Ok(roots)
 }
-

@@ -54,7 +54,8 @@ fn have_size<I: Intervals>(i: &I)
 /// Adds an interval.
 fn add(intervals: &mut Vec<Interval>, interval: Interval) -> Result<(), Fail>
     requires { length interval ≡ 512 }
-    ensures { HaveSize 512 intervals.old.items → OnOk result (HaveSize 512 intervals.new.items × (0 < length intervals.new.items)) }
+    ensures { HaveSize 512 intervals.old.items
+        → OnOk result (HaveSize 512 intervals.new.items × (0 < length intervals.new.items)) }
 {
     intervals.push(interval)?;
     Ok(())
@@ -62,7 +63,8 @@ fn add(intervals: &mut Vec<Interval>, interval: Interval) -> Result<(), Fail>
 
 /// Adds the intervals of a unit of work.
 fn add_unit(rt: &HostRuntime, intervals: &mut Vec<Interval>) -> Result<(), Fail>
-    ensures { HaveSize 512 intervals.old.items → OnOk result (HaveSize 512 intervals.new.items × (0 < length intervals.new.items)) }
+    ensures { HaveSize 512 intervals.old.items
+        → OnOk result (HaveSize 512 intervals.new.items × (0 < length intervals.new.items)) }
 {
     add(intervals, Interval::empty(rt.alloc(), 512, 2)?)?;
     add(intervals, Interval::empty(rt.alloc(), 512, 2)?)?;
@@ -72,7 +74,8 @@ fn add_unit(rt: &HostRuntime, intervals: &mut Vec<Interval>) -> Result<(), Fail>
 
 /// Adds the intervals of two units of work.
 fn add_two(rt: &HostRuntime, intervals: &mut Vec<Interval>) -> Result<(), Fail>
-    ensures { HaveSize 512 intervals.old.items → OnOk result (HaveSize 512 intervals.new.items × (0 < length intervals.new.items)) }
+    ensures { HaveSize 512 intervals.old.items
+        → OnOk result (HaveSize 512 intervals.new.items × (0 < length intervals.new.items)) }
 {
     add_unit(rt, intervals)?;
     add_unit(rt, intervals)
@@ -80,7 +83,8 @@ fn add_two(rt: &HostRuntime, intervals: &mut Vec<Interval>) -> Result<(), Fail>
 
 /// Adds the intervals of two or four units of work.
 fn add_units(rt: &HostRuntime, intervals: &mut Vec<Interval>, uows: u32) -> Result<(), Fail>
-    ensures { HaveSize 512 intervals.old.items → OnOk result (HaveSize 512 intervals.new.items × (0 < length intervals.new.items)) }
+    ensures { HaveSize 512 intervals.old.items
+        → OnOk result (HaveSize 512 intervals.new.items × (0 < length intervals.new.items)) }
 {
     add_two(rt, intervals)?;
     if uows == 2 {
@@ -134,8 +138,8 @@ fn counts(control: &Interval) -> [u16; 4] {
     numbers
 }
 
-/// The element of a root without children, whose next twin is this one: its length, used, type 0; the pointer to the twin;
-/// the newest serial; no first child; the segment.
+/// The element of a root without children, whose next twin is this one: its length, used, type 0; the pointer to the
+/// twin; the newest serial; no first child; the segment.
 fn element(customer: &Customer, next: (u64, u16)) -> [u8; 48] {
     let mut bytes = [0; 48];
     bytes[1] = 48;
@@ -158,7 +162,8 @@ fn has_bytes(interval: &Interval, at: u16, bytes: &[u8]) -> bool {
     true
 }
 
-/// Whether these roots stand in the elements of three intervals, from the last root to the first: ten, ten and the rest.
+/// Whether these roots stand in the elements of three intervals, from the last root to the first: ten, ten and the
+/// rest.
 fn are_chained(first: &Interval, second: &Interval, third: &Interval, roots: &[Customer]) -> bool {
     let mut next = (0, 0);
     let mut at: u16 = 32;
@@ -185,8 +190,8 @@ fn are_chained(first: &Interval, second: &Interval, third: &Interval, roots: &[C
     true
 }
 
-/// C001 in the new interval: 48 bytes, used, type 0; its next twin in the dependent overflow interval at 464; the newest
-/// serial 1; no first child; the segment.
+/// C001 in the new interval: 48 bytes, used, type 0; its next twin in the dependent overflow interval at 464; the
+/// newest serial 1; no first child; the segment.
 const FIRST: [u8; 48] =
     *b"\x00\x30\x01\x00\x00\x00\x00\x00\x00\x00\x00\x06\x01\xd0\x00\x00\x00\x00\x00\x00\x00\x01\
         \x00\x00\x00\x00\x00\x00\x00\x00\x00\x00C001A           ";
@@ -317,7 +322,10 @@ fn one_root_that_changes_is_written_alone(rt: HostRuntime) -> Result<(), Fail> {
     let after = bytes_of(&rt, &memory)?;
     // The name of C078, the second element of interval 6 from its front.
     let wanted = [(6 * 512 + 32 + 48 + 36, b'B')];
-    assert_eq!(rt; changed_bytes(&rt, &before, &after)?.as_slice(), wanted.as_slice());
+    assert_eq!(rt;
+        changed_bytes(&rt, &before, &after)?.as_slice(),
+        wanted.as_slice()
+    );
     assert!(rt; has(&rt, &mut memory, 2, 2, &changed)?);
     Ok(())
 }
@@ -457,7 +465,8 @@ const LENDER: Customer = Customer {
 
 /// Its child at 32: 20 bytes, used, type 2; no next twin; the segment. The root at 52: 48 bytes, used, type 0; no next
 /// twin; the newest serial 7; the first child at 32 of interval 1; the segment. Then 412 free bytes.
-const LENDER_BYTES: [u8; 72] = *b"\x00\x14\x01\x02\x00\x00\x00\x00\x00\x00\x00\x00\x00\x00L1\x00\x00\x05\x0c\
+const LENDER_BYTES: [u8; 72] =
+    *b"\x00\x14\x01\x02\x00\x00\x00\x00\x00\x00\x00\x00\x00\x00L1\x00\x00\x05\x0c\
     \x00\x30\x01\x00\x00\x00\x00\x00\x00\x00\x00\x00\x00\x00\x00\x00\x00\x00\x00\x00\x00\x07\
     \x00\x00\x00\x00\x00\x00\x00\x01\x00\x20C001A           \x01\x9c\x00\x00";
 

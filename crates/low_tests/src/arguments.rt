@@ -56,8 +56,8 @@ const FIELDS: [FieldDef; 7] = [
 ];
 
 /// Account A001 with 100 in BAL, OSLO, 255, -2, 70000, and 31 nines.
-const SEGMENT: [u8; 35] =
-    *b"A001\x00\x00\x10\x0cOSLO\xff\xff\xfe\x00\x01\x11\x70\x99\x99\x99\x99\x99\x99\x99\x99\x99\x99\x99\x99\x99\x99\x99\x9c";
+const SEGMENT: [u8; 35] = *b"A001\x00\x00\x10\x0cOSLO\xff\xff\xfe\x00\x01\x11\x70\
+    \x99\x99\x99\x99\x99\x99\x99\x99\x99\x99\x99\x99\x99\x99\x99\x9c";
 
 fn accounts(alloc: Global) -> Result<MsdbDef, AllocError>
     ensures stand { IfOk result (λ def. StandFrom 0 def.fields def.length) }
@@ -122,7 +122,12 @@ const LETTERS: [([u8; 8], u8, &[u8], u8); 40] = [
     (*b"BAL     ", b'+', b"-", b'B'),
     (*b"BAL     ", b'+', b"+1", b'B'),
     (*b"BAL     ", b'E', b" 1", b'B'),
-    (*b"BAL     ", b'=', b"00000000000000000000000000000001", b'B'),
+    (
+        *b"BAL     ",
+        b'=',
+        b"00000000000000000000000000000001",
+        b'B',
+    ),
     // The field is on the left.
     (*b"BAL     ", b'E', b"100", b' '),
     (*b"BAL     ", b'E', b"101", b'D'),
@@ -149,7 +154,12 @@ const LETTERS: [([u8; 8], u8, &[u8], u8); 40] = [
     (*b"COUNT   ", b'-', b"256", b'G'),
     (*b"HALF    ", b'-', b"32767", b'G'),
     (*b"FULL    ", b'=', b"2147483648", b'G'),
-    (*b"MOST    ", b'N', b"-9999999999999999999999999999999", b' '),
+    (
+        *b"MOST    ",
+        b'N',
+        b"-9999999999999999999999999999999",
+        b' ',
+    ),
 ];
 
 #[test]
@@ -216,7 +226,12 @@ fn a_field_that_is_no_number(rt: HostRuntime) -> Result<(), Fail> {
 }
 
 /// Four arguments on BAL: the second is bad, the others are made all the same.
-const FOUR: [(u8, &[u8]); 4] = [(b'-', b"060"), (b'H', b"060"), (b'+', b"020"), (b'E', b"060")];
+const FOUR: [(u8, &[u8]); 4] = [
+    (b'-', b"060"),
+    (b'H', b"060"),
+    (b'+', b"020"),
+    (b'E', b"060"),
+];
 
 fn four(alloc: Global) -> Result<List<Fsa>, AllocError> {
     let mut fsas = List::new(alloc);

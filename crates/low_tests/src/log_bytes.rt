@@ -5,15 +5,17 @@ ghost use Rattle.fp_model.specs.LogText.{body_text};
 ghost use Rattle.std.specs.Prelude.{◌≡◌, IfOk};
 
 use fp_model::{Bytes, Entry, Item, List, Outcome};
-use log_format::{FormatFault, entries, entry_length, put_entry, write_entry};
-use log_format::{byte_of, long_of, number_of, numbers_of, part_of, part_text_of, short_of};
-use log_format::{put_long, put_numbers, put_part, put_short, put_u16, put_u32, put_u64};
-use log_format::{u16_of, u32_of, u64_of};
+use log_format::{
+    FormatFault, byte_of, entries, entry_length, long_of, number_of, numbers_of, part_of,
+    part_text_of, put_entry, put_long, put_numbers, put_part, put_short, put_u16, put_u32, put_u64,
+    short_of, u16_of, u32_of, u64_of, write_entry,
+};
 use std::alloc::{AllocError, Global};
 use std::test::Fail;
 
 /// The body of a group: one deposit, with a note and a segment.
-const DEPOSIT: [u8; 75] = *b"\x00\x00\x00\x00\x00\x00\x00\x43\x00\x00\x00\x00\x00\x00\x00\x00\x00\x00\x12T1 DEPOSIT A001 10\
+const DEPOSIT: [u8; 75] =
+    *b"\x00\x00\x00\x00\x00\x00\x00\x43\x00\x00\x00\x00\x00\x00\x00\x00\x00\x00\x12T1 DEPOSIT A001 10\
     \x00\x03NEW\x00\x00\x00\x01\x00\x00\x00\x00\x00\x00\x00\x00\x00\x00\x00\x01\x01\x00\x04A001\x00\x08A001\
     \x00\x00\x11\x0c";
 
@@ -70,7 +72,10 @@ fn an_entry_is_read(rt: HostRuntime) -> Result<(), Fail> {
 
 #[test]
 fn an_entry_is_written(rt: HostRuntime) -> Result<(), Fail> {
-    assert_eq!(rt; rewritten(rt.alloc(), &DEPOSIT)?.as_slice(), DEPOSIT.as_slice());
+    assert_eq!(rt;
+        rewritten(rt.alloc(), &DEPOSIT)?.as_slice(),
+        DEPOSIT.as_slice()
+    );
     let in_room = written_in_room(rt.alloc(), &DEPOSIT)?;
     assert_eq!(rt; in_room.as_slice(), DEPOSIT.as_slice());
     assert_eq!(rt; in_room.capacity(), 75);
@@ -146,7 +151,8 @@ fn numbers_behind_their_count(rt: HostRuntime) -> Result<(), Fail> {
     let mut bytes = Bytes::new(rt.alloc());
     let numbers = List::from_vec(Vec::from_slice(rt.alloc(), &[7u64, 8])?);
     put_numbers(&mut bytes, &numbers)?;
-    let wanted = *b"\x00\x00\x00\x02\x00\x00\x00\x00\x00\x00\x00\x07\x00\x00\x00\x00\x00\x00\x00\x08";
+    let wanted =
+        *b"\x00\x00\x00\x02\x00\x00\x00\x00\x00\x00\x00\x07\x00\x00\x00\x00\x00\x00\x00\x08";
     assert_eq!(rt; bytes.as_slice(), wanted.as_slice());
     let read = numbers_of(rt.alloc(), &wanted).ok().map(|(read, _)| read);
     assert!(rt; read == Some(numbers));

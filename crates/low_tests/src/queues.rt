@@ -76,12 +76,7 @@ fn terminal(digit: u8) -> Name {
     Name([b'T', b'0' + digit % 10, b' ', b' ', b' ', b' ', b' ', b' '])
 }
 
-fn message(
-    alloc: Global,
-    lterm: u8,
-    tran: &[u8; 8],
-    text: &[u8],
-) -> Result<Message, AllocError> {
+fn message(alloc: Global, lterm: u8, tran: &[u8; 8], text: &[u8]) -> Result<Message, AllocError> {
     Ok(Message {
         lterm: terminal(lterm),
         tran: Name(*tran),
@@ -137,7 +132,11 @@ fn answers(
 }
 
 /// The place of the first step that answers something else.
-fn first_wrong(alloc: Global, router: &Router, steps: &[Step]) -> Result<Option<usize>, AllocError> {
+fn first_wrong(
+    alloc: Global,
+    router: &Router,
+    steps: &[Step],
+) -> Result<Option<usize>, AllocError> {
     let mut queues = Queues::new(alloc, 2)?;
     for (place, step) in steps.iter().enumerate() {
         if !answers(alloc, &mut queues, router, *step)? {

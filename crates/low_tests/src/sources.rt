@@ -1,6 +1,6 @@
 //! What no clause of `fp_source` says, and each public call once.
-use fp_source::{Failed, LineFault, Lines, MemorySource, Part, Source, WholeFault, whole};
 use fp_lists::Bytes;
+use fp_source::{Failed, LineFault, Lines, MemorySource, Part, Source, WholeFault, whole};
 use std::alloc::Global;
 use std::test::Fail;
 
