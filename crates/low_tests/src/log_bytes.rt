@@ -124,25 +124,20 @@ fn texts_are_written(rt: HostRuntime) -> Result<(), Fail> {
     Ok(())
 }
 
-/// The texts at the front of bytes: behind a length of one byte, of two, of four; and a byte more.
-fn three_texts(alloc: Global, bytes: &[u8]) -> Option<[Bytes; 4]> {
-    let (short, rest) = short_of(alloc, bytes).ok()?;
-    let (long, rest) = long_of(alloc, rest).ok()?;
-    let (part, rest) = part_text_of(alloc, rest).ok()?;
-    let (last, _) = part_of(alloc, 0, rest).ok()?;
-    Some([short, long, part, last])
+/// Whether bytes are this text behind a length of one byte, of two and of four.
+fn read_as_texts(alloc: Global, bytes: &[u8], text: &Bytes) -> Result<bool, ReadError> {
+    let (short, rest) = short_of(alloc, bytes)?;
+    let (long, rest) = long_of(alloc, rest)?;
+    let (part, rest) = part_text_of(alloc, rest)?;
+    let (none, rest) = part_of(alloc, 0, rest)?;
+    let are_texts = short == *text && long == *text && part == *text;
+    Ok(are_texts && none.is_empty() && rest.is_empty())
 }
 
 #[test]
 fn texts_are_read(rt: HostRuntime) -> Result<(), Fail> {
     let text = Bytes::from_slice(rt.alloc(), b"ab")?;
-    match three_texts(rt.alloc(), &TEXTS) {
-        Some([short, long, part, last]) => {
-            assert!(rt; short == text && long == text && part == text);
-            assert!(rt; last.is_empty());
-        }
-        None => assert!(rt; false),
-    }
+    assert!(rt; read_as_texts(rt.alloc(), &TEXTS, &text)?);
     Ok(())
 }
 
