@@ -1,4 +1,4 @@
-//! Keys and names whose places are known from outside, and exits that count their calls.
+//! Keys and names whose places are known from outside, by exits that are found by their kind and count their calls.
 ghost use Rattle.std.specs.Prelude.{◌≡◌};
 ghost use Rattle.fp_model.specs.Exits.{route, spread};
 ghost use Rattle.fp_exits.specs.Ranges.{IsRoutable, IsSpreadable};
@@ -12,7 +12,7 @@ use std::rc::Rc;
 use std::test::Fail;
 
 /// Keys, the number of places, the place by folding and the place by range.
-const KEYS: [(&[u8], u64, u64, u64); 11] = [
+const KEYS: [(&[u8], u64, u64, u64); 12] = [
     (b"C001", 8, 6, 2),
     (b"C003", 8, 0, 2),
     (b"C009", 8, 6, 2),
@@ -23,45 +23,9 @@ const KEYS: [(&[u8], u64, u64, u64); 11] = [
     (b"\x00", 2, 0, 0),
     (b"\x7f\x7f\x7f\x7f\x7f", 2, 1, 0),
     (b"\xff", 65536, 255, 65280),
+    (&[255; 64], 65536, 31744, 65535),
     (b"\x80", 2, 0, 1),
 ];
-
-#[test]
-fn keys_are_folded(rt: HostRuntime) -> Result<(), Fail> {
-    let folds: Spreading = Box::new(
-        rt.alloc(),
-        |key: &[u8], n: u64| -> u64
-            requires { IsSpreadable key.now n }
-            ensures { result ≡ spread Kind.Fold n key.now }
-        { fold_place(key, n) },
-    )?;
-    let fold = Spreader::new(Kind::Fold, folds);
-    for (key, n, place, _) in KEYS {
-        assert!(rt; !key.is_empty() && key.len() <= 64);
-        assert!(rt; 1 <= n && n <= 65536);
-        assert_eq!(rt; fold.place(key, n), place, "at {key:?}");
-    }
-    Ok(())
-}
-
-#[test]
-fn keys_are_parted_by_range(rt: HostRuntime) -> Result<(), Fail> {
-    let ranges: Spreading = Box::new(
-        rt.alloc(),
-        |key: &[u8], n: u64| -> u64
-            requires { IsSpreadable key.now n }
-            ensures { result ≡ spread Kind.Range n key.now }
-        { range_place(key, n) },
-    )?;
-    let range = Spreader::new(Kind::Range, ranges);
-    for (key, n, _, place) in KEYS {
-        assert!(rt; !key.is_empty() && key.len() <= 64);
-        assert!(rt; 1 <= n && n <= 65536);
-        assert_eq!(rt; range.place(key, n), place, "at {key:?}");
-    }
-    assert_eq!(rt; range.place(&[255; 64], 65536), 65535);
-    Ok(())
-}
 
 /// Transactions, the number of groups, the group by folding and the group by range.
 const TRANSACTIONS: [([u8; 8], u64, u64, u64); 8] = [
@@ -75,45 +39,33 @@ const TRANSACTIONS: [([u8; 8], u64, u64, u64); 8] = [
     (*b"A       ", 16, 1, 4),
 ];
 
-#[test]
-fn transactions_are_folded(rt: HostRuntime) -> Result<(), Fail> {
-    let folds: Routing = Box::new(
-        rt.alloc(),
-        |tran: &Name, n: u64| -> u64
-            requires { IsRoutable tran.now n }
-            ensures { result ≡ route Kind.Fold n tran.now }
-        { fold_group(tran, n) },
-    )?;
-    let fold = Router::new(Kind::Fold, folds);
-    for (tran, n, group, _) in TRANSACTIONS {
-        assert!(rt; 1 <= n && n <= 16);
-        assert_eq!(rt; fold.group(&Name(tran), n), group, "at {tran:?}");
+/// The place that the spreader of a kind gives a key; None where there is none, or it may not be asked.
+fn place_of(exits: &Exits, kind: Kind, key: &[u8], n: u64) -> Option<u64> {
+    if key.is_empty() || key.len() > 64 || n < 1 || n > 65536 {
+        return None;
     }
-    Ok(())
+    match exits.spreader(kind) {
+        Some(spreader) => Some(spreader.place(key, n)),
+        None => None,
+    }
+}
+
+/// The group that the router of a kind gives a transaction; None where there is none, or it may not be asked.
+fn group_of(exits: &Exits, kind: Kind, tran: [u8; 8], n: u64) -> Option<u64> {
+    if n < 1 || n > 16 {
+        return None;
+    }
+    match exits.router(kind) {
+        Some(router) => Some(router.group(&Name(tran), n)),
+        None => None,
+    }
 }
 
 #[test]
-fn transactions_are_parted_by_range(rt: HostRuntime) -> Result<(), Fail> {
-    let ranges: Routing = Box::new(
-        rt.alloc(),
-        |tran: &Name, n: u64| -> u64
-            requires { IsRoutable tran.now n }
-            ensures { result ≡ route Kind.Range n tran.now }
-        { range_group(tran, n) },
-    )?;
-    let range = Router::new(Kind::Range, ranges);
-    for (tran, n, _, group) in TRANSACTIONS {
-        assert!(rt; 1 <= n && n <= 16);
-        assert_eq!(rt; range.group(&Name(tran), n), group, "at {tran:?}");
-    }
-    Ok(())
-}
-
-#[test]
-fn the_stored_spreader_is_called(rt: HostRuntime) -> Result<(), Fail> {
+fn keys_have_the_places_of_the_kinds(rt: HostRuntime) -> Result<(), Fail> {
     let calls = Rc::new(rt.alloc(), Cell::new(0u64))?;
     let counted = calls.clone()?;
-    let counting: Spreading = Box::new(
+    let folds: Spreading = Box::new(
         rt.alloc(),
         move |key: &[u8], n: u64| -> u64
             requires { IsSpreadable key.now n }
@@ -123,19 +75,31 @@ fn the_stored_spreader_is_called(rt: HostRuntime) -> Result<(), Fail> {
             fold_place(key, n)
         },
     )?;
-    let spreader = Spreader::new(Kind::Fold, counting);
-    for times in 1..4 {
-        assert_eq!(rt; spreader.place(b"C001", 8), 6);
-        assert_eq!(rt; calls.get(), times);
+    let ranges: Spreading = Box::new(
+        rt.alloc(),
+        |key: &[u8], n: u64| -> u64
+            requires { IsSpreadable key.now n }
+            ensures { result ≡ spread Kind.Range n key.now }
+        { range_place(key, n) },
+    )?;
+    let mut spreaders = Vec::new(rt.alloc());
+    spreaders.push(Spreader::new(Kind::Range, ranges))?;
+    spreaders.push(Spreader::new(Kind::Fold, folds))?;
+    let exits = Exits::new(spreaders, Vec::new(rt.alloc()));
+    for (key, n, folded, ranged) in KEYS {
+        assert_eq!(rt; place_of(&exits, Kind::Fold, key, n), Some(folded));
+        assert_eq!(rt; place_of(&exits, Kind::Range, key, n), Some(ranged));
     }
+    // The stored function is called for each key.
+    assert_eq!(rt; calls.get(), 12);
     Ok(())
 }
 
 #[test]
-fn the_stored_router_is_called(rt: HostRuntime) -> Result<(), Fail> {
+fn transactions_have_the_groups_of_the_kinds(rt: HostRuntime) -> Result<(), Fail> {
     let calls = Rc::new(rt.alloc(), Cell::new(0u64))?;
     let counted = calls.clone()?;
-    let counting: Routing = Box::new(
+    let folds: Routing = Box::new(
         rt.alloc(),
         move |tran: &Name, n: u64| -> u64
             requires { IsRoutable tran.now n }
@@ -145,11 +109,23 @@ fn the_stored_router_is_called(rt: HostRuntime) -> Result<(), Fail> {
             fold_group(tran, n)
         },
     )?;
-    let router = Router::new(Kind::Fold, counting);
-    for times in 1..4 {
-        assert_eq!(rt; router.group(&Name(*b"WDRAW   "), 2), 1);
-        assert_eq!(rt; calls.get(), times);
+    let ranges: Routing = Box::new(
+        rt.alloc(),
+        |tran: &Name, n: u64| -> u64
+            requires { IsRoutable tran.now n }
+            ensures { result ≡ route Kind.Range n tran.now }
+        { range_group(tran, n) },
+    )?;
+    let mut routers = Vec::new(rt.alloc());
+    routers.push(Router::new(Kind::Range, ranges))?;
+    routers.push(Router::new(Kind::Fold, folds))?;
+    let exits = Exits::new(Vec::new(rt.alloc()), routers);
+    for (tran, n, folded, ranged) in TRANSACTIONS {
+        assert_eq!(rt; group_of(&exits, Kind::Fold, tran, n), Some(folded));
+        assert_eq!(rt; group_of(&exits, Kind::Range, tran, n), Some(ranged));
     }
+    // The stored function is called for each transaction.
+    assert_eq!(rt; calls.get(), 8);
     Ok(())
 }
 
@@ -158,51 +134,4 @@ fn no_exits_have_no_kind(rt: HostRuntime) {
     let none = Exits::new(Vec::new(rt.alloc()), Vec::new(rt.alloc()));
     assert!(rt; none.spreader(Kind::Fold).is_none());
     assert!(rt; none.router(Kind::Range).is_none());
-}
-
-#[test]
-fn spreaders_are_found_by_their_kind(rt: HostRuntime) -> Result<(), Fail> {
-    let mut spreaders = Vec::new(rt.alloc());
-    let ranges: Spreading = Box::new(
-        rt.alloc(),
-        |key: &[u8], n: u64| -> u64
-            requires { IsSpreadable key.now n }
-            ensures { result ≡ spread Kind.Range n key.now }
-        { range_place(key, n) },
-    )?;
-    spreaders.push(Spreader::new(Kind::Range, ranges))?;
-    let folds: Spreading = Box::new(
-        rt.alloc(),
-        |key: &[u8], n: u64| -> u64
-            requires { IsSpreadable key.now n }
-            ensures { result ≡ spread Kind.Fold n key.now }
-        { fold_place(key, n) },
-    )?;
-    spreaders.push(Spreader::new(Kind::Fold, folds))?;
-    let exits = Exits::new(spreaders, Vec::new(rt.alloc()));
-    for (kind, place) in [(Kind::Fold, 0), (Kind::Range, 2)] {
-        let placed = exits.spreader(kind).map(|found| found.place(b"C003", 8));
-        assert_eq!(rt; placed, Some(place));
-    }
-    Ok(())
-}
-
-#[test]
-fn routers_are_found_by_their_kind(rt: HostRuntime) -> Result<(), Fail> {
-    let mut routers = Vec::new(rt.alloc());
-    let folds: Routing = Box::new(
-        rt.alloc(),
-        |tran: &Name, n: u64| -> u64
-            requires { IsRoutable tran.now n }
-            ensures { result ≡ route Kind.Fold n tran.now }
-        { fold_group(tran, n) },
-    )?;
-    routers.push(Router::new(Kind::Fold, folds))?;
-    let exits = Exits::new(Vec::new(rt.alloc()), routers);
-    let group = exits
-        .router(Kind::Fold)
-        .map(|found| found.group(&Name(*b"ASK     "), 2));
-    assert_eq!(rt; group, Some(1));
-    assert!(rt; exits.router(Kind::Range).is_none());
-    Ok(())
 }

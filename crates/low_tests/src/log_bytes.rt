@@ -6,9 +6,9 @@ ghost use Rattle.std.specs.Prelude.{◌≡◌, IfOk};
 
 use fp_model::{Bytes, Entry, Item, List, Outcome};
 use log_format::{
-    FormatFault, byte_of, entries, entry_length, long_of, number_of, numbers_of, part_of,
-    part_text_of, put_entry, put_long, put_numbers, put_part, put_short, put_u16, put_u32, put_u64,
-    short_of, u16_of, u32_of, u64_of, write_entry,
+    FormatFault, ReadError, byte_of, entries, entry_length, long_of, number_of, numbers_of,
+    part_of, part_text_of, put_entry, put_long, put_numbers, put_part, put_short, put_u16, put_u32,
+    put_u64, short_of, u16_of, u32_of, u64_of, write_entry,
 };
 use std::alloc::{AllocError, Global};
 use std::test::Fail;
