@@ -7,6 +7,3 @@
 mod queues;
 
 pub use queues::{Offer, Queues};
-
-#[cfg(test)]
-mod tests;

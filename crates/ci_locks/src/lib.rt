@@ -9,6 +9,3 @@ mod locks;
 mod search;
 
 pub use locks::{Grant, Locks};
-
-#[cfg(test)]
-mod tests;

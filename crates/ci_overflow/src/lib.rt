@@ -42,6 +42,3 @@ pub enum SpaceFault {
     /// There is no memory.
     Memory,
 }
-
-#[cfg(test)]
-mod tests;

@@ -19,6 +19,3 @@ pub use memory::MemoryIntervals;
 
 /// There is no memory.
 pub type Memory = std::alloc::AllocError;
-
-#[cfg(test)]
-mod tests;

@@ -4,7 +4,7 @@ ghost use Rattle.std.specs.Prelude.{◌≡◌, IfSome, length};
 ghost use Rattle.fp_model.specs.State.{key_of, segment_after, segment_of};
 ghost use Rattle.dli_calls.specs.Replies.{IsDatabase, segments_in};
 
-use fp_model::MsdbDef;
+use fp_model::{MsdbDef, key_of};
 use msdb_store::MsdbStore;
 
 // Its number, its definition, and the store that has its segments.
@@ -19,11 +19,7 @@ pub(crate) struct Database<'a> {
 pub(crate) fn key_in<'a>(def: &MsdbDef, segment: &'a [u8]) -> &'a [u8]
     ensures { result.now ≡ key_of def.now.fields segment.now }
 {
-    let length = match def.fields.as_slice().first() {
-        Some(key) => key.length as usize,
-        None => 0,
-    };
-    &segment[..length.min(segment.len())]
+    key_of(def.fields.as_slice(), segment)
 }
 
 impl Database<'_> {

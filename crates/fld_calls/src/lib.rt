@@ -37,6 +37,3 @@ pub use arguments::{Fsa, FsaFault, SettleFault};
 pub use layout::{read_list, write_list};
 pub use settling::settle_list;
 pub use trying::try_fsas;
-
-#[cfg(test)]
-mod tests;

@@ -15,6 +15,3 @@ pub use exits::Exits;
 pub use functions::{fold_group, fold_place, range_group, range_place};
 pub use router::{Router, Routing};
 pub use spreader::{Spreader, Spreading};
-
-#[cfg(test)]
-mod tests;

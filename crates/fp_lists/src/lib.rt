@@ -8,6 +8,3 @@ mod list;
 
 pub use bytes::Bytes;
 pub use list::List;
-
-#[cfg(test)]
-mod tests;

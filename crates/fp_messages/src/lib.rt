@@ -22,6 +22,3 @@ mod words;
 
 pub use message::{MessageFault, read_message, terminal_of};
 pub use reply::{reply_line, reply_line_of, reply_text};
-
-#[cfg(test)]
-mod tests;

@@ -1,5 +1,8 @@
 //! What an installation defines: its databases, its regions and its exits.
 
+ghost use Rattle.fp_model.specs.State.{key_length, key_of};
+ghost use Rattle.std.specs.Prelude.{◌≡◌};
+
 use crate::name::Name;
 use fp_lists::{Bytes, List};
 
@@ -110,4 +113,23 @@ pub struct Defs {
     pub dedbs: List<DedbDef>,
     /// The text that they were read from.
     pub text: Bytes,
+}
+
+/// The length of the keys of a main storage database, a root or a direct dependent with these fields: that of the first
+/// field, in bytes. 0 where there is no field.
+pub fn key_length(fields: &[FieldDef]) -> u16
+    ensures { result ≡ key_length fields.now }
+{
+    match fields.first() {
+        Some(key) => key.length,
+        None => 0,
+    }
+}
+
+/// The key of a segment with these fields: its first field, as far as the segment reaches.
+pub fn key_of<'a>(fields: &[FieldDef], segment: &'a [u8]) -> &'a [u8]
+    ensures { result.now ≡ key_of fields.now segment.now }
+{
+    let length = usize::from(key_length(fields));
+    &segment[..length.min(segment.len())]
 }

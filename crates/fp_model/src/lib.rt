@@ -22,7 +22,9 @@ pub use calls::{
     AnchorChange, Answer, Call, Deferred, Get, Message, Mode, Resource, SeqInsert, Ssa,
 };
 pub use database::{AreaEnds, Db, Dedb, Msdb, Node, Root, SeqItem};
-pub use definitions::{AreaDef, DedbDef, Defs, FieldDef, FieldKind, Kind, MsdbDef, SegDef};
+pub use definitions::{
+    AreaDef, DedbDef, Defs, FieldDef, FieldKind, Kind, MsdbDef, SegDef, key_length, key_of,
+};
 pub use events::Event;
 pub use fp_lists::{Bytes, List};
 pub use laws::{

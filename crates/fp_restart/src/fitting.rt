@@ -1,10 +1,10 @@
 //! Whether the items of a group may be applied.
 ghost use Rattle.fp_model.specs.Items.{FitsMsdb, IsAreaInterval, IsFit, area_sizes, items_of};
-ghost use Rattle.fp_model.specs.State.{first_area_set, key_length};
+ghost use Rattle.fp_model.specs.State.{first_area_set};
 ghost use Rattle.std.specs.List.{AllByRecursion};
 ghost use Rattle.std.specs.Prelude.{◌≡◌, ◌+◌, ◌*◌, ◌^◌, ◌≤◌, ◌-◌, None, Some, IfNone, IfSome, OnSome, false, length, slice_get, take, true};
 
-use fp_model::{Bytes, Defs, Entry, Item, MsdbDef};
+use fp_model::{Bytes, Defs, Entry, Item, MsdbDef, key_length};
 
 // Where the last interval of an area ends at the latest.
 const LIMIT: u128 = 1 << 62;
@@ -83,23 +83,13 @@ fn fits_msdb(def: &MsdbDef, key: &Bytes, bytes: &Bytes) -> bool
     ensures fits { result ≡ true → FitsMsdb def.now key.now bytes.now }
     ensures unfit { result ≡ false → ¬ (FitsMsdb def.now key.now bytes.now) }
 {
-    if key.len() != key_length(def) {
+    if key.len() != usize::from(key_length(def.fields.as_slice())) {
         return false;
     }
     if bytes.is_empty() {
         return true;
     }
     bytes.len() == def.length as usize && has_key(bytes.as_slice(), key.as_slice())
-}
-
-// The length of the key of a database's segments.
-fn key_length(def: &MsdbDef) -> usize
-    ensures { result ≡ key_length def.now.fields }
-{
-    match def.fields.as_slice().first() {
-        Some(key) => key.length as usize,
-        None => 0,
-    }
 }
 
 // Whether a segment begins with a key.

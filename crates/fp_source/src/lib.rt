@@ -17,6 +17,3 @@ pub use memory::MemorySource;
 pub use part::Part;
 pub use source::{Failed, Source};
 pub use whole_part::{WholeFault, whole};
-
-#[cfg(test)]
-mod tests;

@@ -36,6 +36,3 @@ pub use takes::{
     u64_of,
 };
 pub use writing::{put_entry, write_entry};
-
-#[cfg(test)]
-mod tests;

@@ -7,7 +7,7 @@ ghost use Rattle.msdb_store.specs.Store.{lacks, room};
 ghost use Rattle.std.specs.Prelude.{slice_get, ◌≡◌, ◌+◌, ◌<◌, ◌≤◌, IfOk, IsOk, OnErr, OnOk, find, if◌then◌else◌, length, map, true, vec_capacity};
 
 use crate::keyed::{Place, count_below, key_in};
-use fp_model::{Bytes, FieldDef, List, Msdb};
+use fp_model::{Bytes, FieldDef, List, Msdb, key_length};
 use std::alloc::AllocError;
 
 #[derive(Debug, Drop)]
@@ -20,10 +20,7 @@ impl Table {
     pub(crate) fn key_length(&self) -> usize
         ensures { result ≡ key_length self.now.fields }
     {
-        match self.fields.as_slice().first() {
-            Some(key) => key.length as usize,
-            None => 0,
-        }
+        usize::from(key_length(self.fields.as_slice()))
     }
 
     // Where the segment of a key stands, or would stand.

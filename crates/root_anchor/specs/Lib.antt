@@ -9,4 +9,3 @@ pub mod Rebuilding
 pub mod Spelling
 pub mod Reading
 pub mod Walking
-pub mod Samples

@@ -28,10 +28,3 @@ pub use laws::{
 };
 pub use loading::load;
 pub use storing::store;
-
-#[cfg(test)]
-mod putting_tests;
-#[cfg(test)]
-mod storing_tests;
-#[cfg(test)]
-mod tests;

@@ -3,14 +3,12 @@ ghost use Rattle.std.specs.Prelude.{◌≡◌, ◌++◌, [], IfErr, IfOk, Some, 
 ghost use Rattle.fp_model.specs.Fsas as fsas;
 ghost use Rattle.fp_model.specs.Fsas.{field_bytes, field_of, with_field};
 ghost use Rattle.fp_model.specs.Numbers.{bytes_of, number};
-ghost use Rattle.fp_model.specs.Programs as programs;
 ghost use Rattle.fp_model.specs.Values.{empty_field, empty_segment, fitted, fitted_key, layout_of, value_bytes, value_text};
-ghost use Rattle.fp_model.specs.State.{key_length};
 ghost use Rattle.txn_machine.specs.Giving.{Gives, Stops};
 
 use crate::stop::Stop;
 use crate::values::{decimal_text, number, without_blanks};
-use fp_model::{Bytes, Defs, FieldDef, FieldKind, Name};
+use fp_model::{Bytes, Defs, FieldDef, FieldKind, Name, key_length};
 use packed_dec::{read_number, write_number};
 use std::alloc::{AllocError, Global};
 
@@ -185,16 +183,6 @@ pub(crate) fn empty_segment(alloc: Global, fields: &[FieldDef]) -> Result<Bytes,
         segment.append(bytes.as_slice())?;
     }
     Ok(segment)
-}
-
-// The length of the first field.
-fn key_length(fields: &[FieldDef]) -> u16
-    ensures { result ≡ key_length fields.now }
-{
-    match fields {
-        [first, ..] => first.length,
-        [] => 0,
-    }
 }
 
 impl Layout<'_> {

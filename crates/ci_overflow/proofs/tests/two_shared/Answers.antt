@@ -1,6 +1,0 @@
-use Rattle.ci_overflow.proofs.tests.two_shared.Goals as goal
-
-pub new-requires : goal.new-requires
-new-requires c =
-    let all = c.in_ok-add.ensures c.in_ok-intervals.ensures.0 in
-    record { size = 512; some = all.1; each = all.0 }

@@ -1,0 +1,17 @@
+use Rattle.log_format.proofs.Lists.{element}
+use Rattle.fp_model.specs.LogText.{HasSpelling}
+use Rattle.low_tests.proofs.log_bytes.written_in_room.Goals as goal
+
+-- what was read has a spelling
+pub entry_length-requires : goal.entry_length-requires
+entry_length-requires c =
+    let each = rw (← c.as_slice-e-items.ensures) at c.in_ok-found.ensures.found.each in
+    let at = c.loop-e.e-index in
+    (element HasSpelling c.as_slice-e-items.result.now at c.e-item.result c.loop-e-test.true c.e-item.is each).fits
+
+pub write_entry-requires : goal.write_entry-requires
+write_entry-requires c =
+    let each = rw (← c.as_slice-e-items.ensures) at c.in_ok-found.ensures.found.each in
+    let at = c.loop-e.e-index in
+    let one = element HasSpelling c.as_slice-e-items.result.now at c.e-item.result c.loop-e-test.true c.e-item.is each in
+    record { rules = one.rules; fits = one.fits }

@@ -1,0 +1,25 @@
+//! Tests of the low crates: lists, numbers, exits, queues, sources, lines, locks, field search arguments, entries.
+//!
+//! They stand here and not in the crates that they test, since a crate with tests is proved twice. Each file tests one
+//! crate. What is a set of cases, text in and value out, is data of a program above and not here: of those calls only a
+//! happy path is left.
+#![tactic(auto)]
+
+#[cfg(test)]
+mod arguments;
+#[cfg(test)]
+mod exits;
+#[cfg(test)]
+mod lines;
+#[cfg(test)]
+mod lists;
+#[cfg(test)]
+mod locks;
+#[cfg(test)]
+mod log_bytes;
+#[cfg(test)]
+mod numbers;
+#[cfg(test)]
+mod queues;
+#[cfg(test)]
+mod sources;

@@ -1,0 +1,33 @@
+//! A message line that is read, and a reply line. Each fault, border and outcome is data of a program above.
+use fp_messages::{read_message, reply_line, terminal_of};
+use fp_model::{Bytes, Entry, List, Name, Outcome};
+use std::test::Fail;
+
+/// A line.
+const LINE: &[u8] = b"Z9 DEPOSIT A001 10";
+
+#[test]
+fn a_message_has_its_words_and_its_text(rt: HostRuntime) -> Result<(), Fail> {
+    let message = read_message(rt.alloc(), LINE)?;
+    assert_eq!(rt; message.lterm, Name(*b"Z9      "));
+    assert_eq!(rt; message.tran, Name(*b"DEPOSIT "));
+    assert_eq!(rt; message.text.as_slice(), b"A001 10".as_slice());
+    assert_eq!(rt; message.line.as_slice(), LINE);
+    assert_eq!(rt; terminal_of(LINE), Some(Name(*b"Z9      ")));
+    Ok(())
+}
+
+#[test]
+fn a_terminal_is_told(rt: HostRuntime) -> Result<(), Fail> {
+    let entry = Entry {
+        from: 0,
+        outcome: Outcome::Done,
+        line: Bytes::from_slice(rt.alloc(), LINE)?,
+        reply: Bytes::from_slice(rt.alloc(), b"NEW")?,
+        notes: List::new(rt.alloc()),
+        items: List::new(rt.alloc()),
+    };
+    let sent = reply_line(rt.alloc(), &entry)?;
+    assert_eq!(rt; sent.as_slice(), b"Z9 OK NEW\n".as_slice());
+    Ok(())
+}
