@@ -3,7 +3,7 @@
 ghost use Rattle.std.specs.Prelude.{◌<◌, IfSome, length};
 
 use crate::definitions::sample;
-use crate::scripts::{SAMPLE, read_under};
+use crate::scripts::{SAMPLE, read};
 use fp_model::{Answer, Bytes, Call, Defs, Get, List, Message, Name, Ssa};
 use std::alloc::{AllocError, Global};
 use std::test::Fail;
@@ -129,12 +129,6 @@ fn spelled(alloc: Global, asked: &Call) -> Result<Bytes, AllocError> {
     }
 }
 
-// Whether a call is the one that is wanted.
-fn is_wanted(alloc: Global, turn: &Turn, asked: &Call) -> Result<bool, AllocError> {
-    let spelled = spelled(alloc, asked)?;
-    Ok(spelled.as_slice() == turn.wanted())
-}
-
 fn answer(alloc: Global, turn: &Turn) -> Result<Answer, AllocError> {
     let (status, segment, bytes, letters) = match *turn {
         Turn::Told(_, status) => (status, 0, &b""[..], &b""[..]),
@@ -176,7 +170,7 @@ fn follows(
         let _ = program.next(scripts, defs)?;
         match program.next(scripts, defs)? {
             Next::Call(asked) => {
-                if !is_wanted(alloc, turn, &asked)? {
+                if spelled(alloc, &asked)?.as_slice() != turn.wanted() {
                     return Ok(false);
                 }
                 program.give(answer)
@@ -215,7 +209,7 @@ struct Case {
 // Whether a case goes so, where these are the scripts.
 fn goes(alloc: Global, text: &[u8], case: &Case) -> Result<bool, Fail> {
     let defs = sample(alloc)?;
-    let scripts = read_under(alloc, text, &defs)?;
+    let scripts = read(alloc, text, &defs)?;
     let number = number_of(&scripts, case.tran).ok_or("no such transaction")?;
     let message = message(alloc, case.tran, case.text)?;
     let program = Program::start(alloc, &scripts, number, &message)?;

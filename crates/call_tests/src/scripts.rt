@@ -123,16 +123,8 @@ const NAMES: [(&[u8; 8], Option<u32>); 16] = [
     (b"HIR     ", None),
 ];
 
-// What a text is by the sample's definitions.
-fn read(alloc: Global, text: &[u8]) -> Result<Scripts, ScriptFault> {
-    let Ok(defs) = sample(alloc) else {
-        return Err(ScriptFault::Memory);
-    };
-    read_under(alloc, text, &defs)
-}
-
 /// What a text is by these definitions.
-pub(crate) fn read_under(alloc: Global, text: &[u8], defs: &Defs) -> Result<Scripts, ScriptFault>
+pub(crate) fn read(alloc: Global, text: &[u8], defs: &Defs) -> Result<Scripts, ScriptFault>
     requires { AreDefs defs.now }
 {
     parse(alloc, text, defs)
@@ -140,7 +132,8 @@ pub(crate) fn read_under(alloc: Global, text: &[u8], defs: &Defs) -> Result<Scri
 
 #[test]
 fn the_sample_is_read(rt: HostRuntime) -> Result<(), Fail> {
-    let scripts = read(rt.alloc(), SAMPLE)?;
+    let defs = sample(rt.alloc())?;
+    let scripts = read(rt.alloc(), SAMPLE, &defs)?;
     assert_eq!(rt; scripts.text(), SAMPLE);
     for (name, wanted) in NAMES {
         assert_eq!(rt; scripts.find(&Name(*name)), wanted, "at {name:?}");
@@ -284,17 +277,22 @@ fn is_script(scripts: &Scripts, wanted: &Script) -> bool {
 #[test]
 fn statements_have_their_values(rt: HostRuntime) -> Result<(), Fail> {
     let alloc = rt.alloc();
+    let defs = sample(alloc)?;
     for (place, line) in STATEMENTS.iter().enumerate() {
         let wanted = script(alloc, statement(alloc, place)?)?;
-        assert!(rt; is_script(&read(alloc, line)?, &wanted), "at {place}");
+        assert!(rt;
+            is_script(&read(alloc, line, &defs)?, &wanted),
+            "at {place}"
+        );
     }
     Ok(())
 }
 
 #[test]
 fn another_text_is_another_statement(rt: HostRuntime) -> Result<(), Fail> {
+    let defs = sample(rt.alloc())?;
     let wanted = script(rt.alloc(), set(rt.alloc())?)?;
-    let found = read(rt.alloc(), b"TRAN T\nSET OUT IO.NAME & 'x'\n")?;
+    let found = read(rt.alloc(), b"TRAN T\nSET OUT IO.NAME & 'x'\n", &defs)?;
     assert!(rt; !is_script(&found, &wanted));
     Ok(())
 }

@@ -8,14 +8,6 @@ use msdb_store::MsdbStore;
 use std::alloc::{AllocError, Global};
 use std::test::Fail;
 
-fn item(alloc: Global, key: &[u8], bytes: &[u8]) -> Result<Item, AllocError> {
-    Ok(Item::Segment {
-        msdb: 0,
-        key: Bytes::from_slice(alloc, key)?,
-        bytes: Bytes::from_slice(alloc, bytes)?,
-    })
-}
-
 // An empty store.
 fn empty(alloc: Global, defs: &Defs) -> Result<MsdbStore, AllocError>
     requires { (def : DefOf) × (defs.now.msdbs ≡ def ∷ []) }
@@ -41,7 +33,11 @@ const SEGMENTS: [(&[u8], &[u8]); 6] = [
 fn items(alloc: Global) -> Result<List<Item>, AllocError> {
     let mut items = List::new(alloc);
     for (key, bytes) in SEGMENTS {
-        items.push(item(alloc, key, bytes)?)?;
+        items.push(Item::Segment {
+            msdb: 0,
+            key: Bytes::from_slice(alloc, key)?,
+            bytes: Bytes::from_slice(alloc, bytes)?,
+        })?;
     }
     Ok(items)
 }

@@ -52,6 +52,13 @@ fn seal_three(alloc: Global, site: &mut MemorySite) -> Result<u64, AllocError> {
     Ok(3)
 }
 
+// A new site with a log of three groups, and how many of them were sealed.
+fn three_sealed(alloc: Global) -> Result<(MemorySite, u64), AllocError> {
+    let mut site = MemorySite::new(alloc, &[])?;
+    let sealed = seal_three(alloc, &mut site)?;
+    Ok((site, sealed))
+}
+
 // How many groups a site has after a crash, each of the entry that it should have. None where its log isn't open.
 fn read_back(alloc: Global, snapshot: Snapshot) -> Result<Option<u64>, LogFault> {
     let front = front(alloc)?;
@@ -132,8 +139,8 @@ fn write_third_body(alloc: Global, site: &mut MemorySite) -> Result<bool, AllocE
 #[test]
 fn a_body_behind_a_closed_gate_is_not_read_back(rt: HostRuntime) -> Result<(), Fail> {
     let alloc = rt.alloc();
-    let mut site = MemorySite::new(alloc, &[])?;
-    assert_eq!(rt; seal_three(alloc, &mut site)?, 3);
+    let (mut site, sealed) = three_sealed(alloc)?;
+    assert_eq!(rt; sealed, 3);
     assert!(rt; write_third_body(alloc, &mut site)?);
     assert!(rt; is_read_back(alloc, &site, Some(3))?);
     Ok(())
@@ -166,8 +173,8 @@ fn may_be_left(after: u64, found: Result<Option<u64>, LogFault>) -> bool {
 #[test]
 fn a_log_made_anew_is_the_old_one_or_none_or_the_new_one(rt: HostRuntime) -> Result<(), Fail> {
     let alloc = rt.alloc();
-    let mut old = MemorySite::new(alloc, &[])?;
-    assert_eq!(rt; seal_three(alloc, &mut old)?, 3);
+    let (old, sealed) = three_sealed(alloc)?;
+    assert_eq!(rt; sealed, 3);
     for after in 0..10 {
         let (site, made) = made_anew(alloc, &old, after)?;
         assert_eq!(rt; made, after == 9);
@@ -182,12 +189,20 @@ fn a_log_made_anew_is_the_old_one_or_none_or_the_new_one(rt: HostRuntime) -> Res
 #[test]
 fn a_log_that_is_shut_is_not_opened(rt: HostRuntime) -> Result<(), Fail> {
     let alloc = rt.alloc();
-    let mut site = MemorySite::new(alloc, &[])?;
-    assert_eq!(rt; seal_three(alloc, &mut site)?, 3);
+    let (mut site, sealed) = three_sealed(alloc)?;
+    assert_eq!(rt; sealed, 3);
     for _ in 0..2 {
         assert_eq!(rt; Log::shut(&mut site), Ok(()));
         assert!(rt; is_read_back(alloc, &site, None)?);
     }
+    Ok(())
+}
+
+#[test]
+fn a_log_that_is_shut_is_made_anew(rt: HostRuntime) -> Result<(), Fail> {
+    let alloc = rt.alloc();
+    let (mut site, _) = three_sealed(alloc)?;
+    assert_eq!(rt; Log::shut(&mut site), Ok(()));
     let front = front(alloc)?;
     assert_eq!(rt; Log::make(alloc, &mut site, &front), Ok(()));
     assert!(rt; is_read_back(alloc, &site, Some(0))?);

@@ -185,6 +185,15 @@ fn write_two(alloc: Global, defs: &Defs, site: &mut MemorySite) -> Result<(), Re
     )
 }
 
+// A new site with a log of two groups.
+fn two_written(alloc: Global, defs: &Defs) -> Result<MemorySite, RestartFault>
+    requires { length defs.now.text < 2 ^ 32 }
+{
+    let mut site = MemorySite::new(alloc, &[])?;
+    write_two(alloc, defs, &mut site)?;
+    Ok(site)
+}
+
 // The segments of a state, one after another.
 fn segments_of(alloc: Global, db: &Db) -> Result<Bytes, AllocError> {
     let mut text = Bytes::new(alloc);
@@ -220,8 +229,7 @@ fn found(alloc: Global, count: u64, segments: &[u8]) -> Result<(u64, Bytes), All
 fn a_restart_gives_the_segments_of_the_last_group(rt: HostRuntime) -> Result<(), Fail> {
     let alloc = rt.alloc();
     let defs = defs(alloc, List::new(alloc))?;
-    let mut site = MemorySite::new(alloc, &[])?;
-    assert_eq!(rt; write_two(alloc, &defs, &mut site), Ok(()));
+    let mut site = two_written(alloc, &defs)?;
     let answer = read(alloc, &defs, b'S', &mut site);
     assert_eq!(rt; answer, Ok(found(alloc, 2, b"A001paidB002open")?));
     Ok(())
@@ -242,8 +250,7 @@ fn go_on(alloc: Global, defs: &Defs, site: &mut MemorySite) -> Result<(), Restar
 fn a_log_goes_on_behind_what_a_restart_found(rt: HostRuntime) -> Result<(), Fail> {
     let alloc = rt.alloc();
     let defs = defs(alloc, List::new(alloc))?;
-    let mut site = MemorySite::new(alloc, &[])?;
-    assert_eq!(rt; write_two(alloc, &defs, &mut site), Ok(()));
+    let mut site = two_written(alloc, &defs)?;
     assert_eq!(rt; go_on(alloc, &defs, &mut site), Ok(()));
     let answer = read(alloc, &defs, b'S', &mut site);
     assert_eq!(rt; answer, Ok(found(alloc, 3, b"A001paidB002shut")?));
@@ -306,8 +313,7 @@ fn after_each_stop_of_define_the_old_state_stands_or_none_or_the_start(
 ) -> Result<(), Fail> {
     let alloc = rt.alloc();
     let defs = defs(alloc, List::new(alloc))?;
-    let mut old = MemorySite::new(alloc, &[])?;
-    assert_eq!(rt; write_two(alloc, &defs, &mut old), Ok(()));
+    let old = two_written(alloc, &defs)?;
     for after in 0..10 {
         let failing = [after, after + 1];
         let snapshot = old.snapshot_as(0)?;
@@ -360,13 +366,20 @@ fn an_open_gate_without_a_group_is_damaged_at_its_place(rt: HostRuntime) -> Resu
 }
 
 #[test]
-fn another_front_is_foreign_and_stays(rt: HostRuntime) -> Result<(), Fail> {
+fn storage_without_a_log_is_foreign(rt: HostRuntime) -> Result<(), Fail> {
     let alloc = rt.alloc();
     let defs = defs(alloc, List::new(alloc))?;
     let mut site = MemorySite::new(alloc, &[])?;
     let none = read(alloc, &defs, b'S', &mut site);
     assert!(rt; left_of(&none) == Left::NoFront);
-    assert_eq!(rt; write_two(alloc, &defs, &mut site), Ok(()));
+    Ok(())
+}
+
+#[test]
+fn another_front_is_foreign_and_stays(rt: HostRuntime) -> Result<(), Fail> {
+    let alloc = rt.alloc();
+    let defs = defs(alloc, List::new(alloc))?;
+    let mut site = two_written(alloc, &defs)?;
     let before = Vec::from_slice(alloc, site.contents(0))?;
     let other = read(alloc, &defs, b'X', &mut site);
     assert!(rt; left_of(&other) == Left::NoFront);
@@ -426,21 +439,24 @@ fn an_item_that_does_not_fit_is_damage_at_its_group(rt: HostRuntime) -> Result<(
     Ok(())
 }
 
+// Whether the one data entry database has eight anchors, and two areas as they are formatted.
+fn is_formatted(db: &Db) -> bool {
+    let ends = AreaEnds { begin: 1, end: 1 };
+    let Some(orders) = db.dedbs.get(0) else {
+        return false;
+    };
+    db.dedbs.len() == 1
+        && orders.anchors.len() == 8
+        && orders.areas.as_slice() == [ends, ends].as_slice()
+}
+
 #[test]
 fn data_entry_databases_are_as_they_were_formatted(rt: HostRuntime) -> Result<(), Fail> {
     let alloc = rt.alloc();
     let defs = defs(alloc, orders(alloc)?)?;
     let mut site = MemorySite::new(alloc, &[])?;
-    let Ok(db) = started(alloc, &defs, &mut site) else {
-        assert!(rt; false);
-        return Ok(());
-    };
-    let ends = AreaEnds { begin: 1, end: 1 };
-    for orders in db.dedbs.as_slice() {
-        assert_eq!(rt; orders.anchors.len(), 8);
-        assert_eq!(rt; orders.areas.as_slice(), &[ends, ends][..]);
-    }
-    assert_eq!(rt; db.dedbs.len(), 1);
+    let db = started(alloc, &defs, &mut site)?;
+    assert!(rt; is_formatted(&db));
     Ok(())
 }
 
