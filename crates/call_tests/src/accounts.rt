@@ -42,7 +42,8 @@ fn accounts(alloc: Global, dynamic: bool) -> Result<MsdbDef, AllocError>
 /// Definitions of one database of accounts.
 pub(crate) fn defs(alloc: Global, dynamic: bool) -> Result<Defs, AllocError>
     ensures good { IfOk result (λ defs. AllByRecursion IsMsdbDef defs.msdbs) }
-    ensures one { IfOk result (λ defs. (def : DefOf) × (defs.msdbs ≡ def ∷ []) × IsMsdbDef def × (def.length ≡ 8) × (key_length def.fields ≡ 4)) }
+    ensures one { IfOk result (λ defs. (def : DefOf) × (defs.msdbs ≡ def ∷ []) × IsMsdbDef def × (def.length ≡ 8)
+        × (key_length def.fields ≡ 4)) }
 {
     let mut msdbs = List::new(alloc);
     msdbs.push(accounts(alloc, dynamic)?)?;
@@ -65,7 +66,8 @@ pub(crate) fn field_call(
     operand: &[u8],
 ) -> Result<Deferred, AllocError>
     requires { length operand.now < 65536 }
-    ensures { (defs : ListOf DefOf) → (def : DefOf) → defs ≡ def ∷ [] → key_length def.fields ≡ 4 → IfOk result (IsFitDeferred defs) }
+    ensures { (defs : ListOf DefOf) → (def : DefOf) → defs ≡ def ∷ [] → key_length def.fields ≡ 4
+        → IfOk result (IsFitDeferred defs) }
 {
     let mut fsas = List::new(alloc);
     fsas.push(Fsa {
@@ -83,7 +85,8 @@ pub(crate) fn field_call(
 
 /// An insert of a segment.
 pub(crate) fn insert(alloc: Global, segment: [u8; 8]) -> Result<Deferred, AllocError>
-    ensures { (defs : ListOf DefOf) → (def : DefOf) → defs ≡ def ∷ [] → def.length ≡ 8 → IfOk result (IsFitDeferred defs) }
+    ensures { (defs : ListOf DefOf) → (def : DefOf) → defs ≡ def ∷ [] → def.length ≡ 8
+        → IfOk result (IsFitDeferred defs) }
 {
     Ok(Deferred::Isrt {
         msdb: 0,
@@ -93,7 +96,8 @@ pub(crate) fn insert(alloc: Global, segment: [u8; 8]) -> Result<Deferred, AllocE
 
 /// A delete of the segment of a key.
 pub(crate) fn delete(alloc: Global, key: [u8; 4]) -> Result<Deferred, AllocError>
-    ensures { (defs : ListOf DefOf) → (def : DefOf) → defs ≡ def ∷ [] → key_length def.fields ≡ 4 → IfOk result (IsFitDeferred defs) }
+    ensures { (defs : ListOf DefOf) → (def : DefOf) → defs ≡ def ∷ [] → key_length def.fields ≡ 4
+        → IfOk result (IsFitDeferred defs) }
 {
     Ok(Deferred::Dlet {
         msdb: 0,

@@ -1,4 +1,5 @@
-//! Definitions: the sample, exits that are lacking, and the longest text. The definitions of the sample serve other tests.
+//! Definitions: the sample, exits that are lacking, and the longest text. The definitions of the sample serve other
+//! tests.
 ghost use Rattle.std.specs.Prelude.{◌≡◌, IfOk};
 ghost use Rattle.fp_model.specs.Exits.{route, spread};
 ghost use Rattle.fp_model.specs.WellFormed.{AreDefs};

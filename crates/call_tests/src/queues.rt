@@ -140,7 +140,8 @@ fn segment(key: [u8; 4], amount: u32) -> [u8; 8] {
 }
 
 fn replace(alloc: Global, segment: [u8; 8]) -> Result<Deferred, AllocError>
-    ensures { (defs : ListOf DefOf) → (def : DefOf) → defs ≡ def ∷ [] → def.length ≡ 8 → IfOk result (IsFitDeferred defs) }
+    ensures { (defs : ListOf DefOf) → (def : DefOf) → defs ≡ def ∷ [] → def.length ≡ 8
+        → IfOk result (IsFitDeferred defs) }
 {
     Ok(Deferred::Repl {
         msdb: 0,
@@ -149,7 +150,8 @@ fn replace(alloc: Global, segment: [u8; 8]) -> Result<Deferred, AllocError>
 }
 
 fn call(alloc: Global, step: Step) -> Result<Deferred, AllocError>
-    ensures { (defs : ListOf DefOf) → (def : DefOf) → defs ≡ def ∷ [] → def.length ≡ 8 → key_length def.fields ≡ 4 → IfOk result (IsFitDeferred defs) }
+    ensures { (defs : ListOf DefOf) → (def : DefOf) → defs ≡ def ∷ [] → def.length ≡ 8
+        → key_length def.fields ≡ 4 → IfOk result (IsFitDeferred defs) }
 {
     match step.action {
         Action::Insert => insert(alloc, segment(step.key, step.amount)),
@@ -163,7 +165,8 @@ fn call(alloc: Global, step: Step) -> Result<Deferred, AllocError>
 
 // A queue of one or two calls.
 fn queue(alloc: Global, first: Step, second: Option<Step>) -> Result<List<Deferred>, AllocError>
-    ensures fit { (defs : ListOf DefOf) → (def : DefOf) → defs ≡ def ∷ [] → def.length ≡ 8 → key_length def.fields ≡ 4 → IfOk result (AllByRecursion (IsFitDeferred defs)) }
+    ensures fit { (defs : ListOf DefOf) → (def : DefOf) → defs ≡ def ∷ [] → def.length ≡ 8
+        → key_length def.fields ≡ 4 → IfOk result (AllByRecursion (IsFitDeferred defs)) }
     ensures few { IfOk result (λ queue. length queue < 2 ^ 32) }
 {
     let mut queue = List::new(alloc);
@@ -343,8 +346,10 @@ fn settled(
     first: Step,
     second: Option<Step>,
 ) -> Result<Result<usize, VerifyFault>, VerifyFault>
-    requires { (defs : ListOf DefOf) × (def : DefOf) × (defs ≡ def ∷ []) × IsMsdbDef def × (def.length ≡ 8) × (key_length def.fields ≡ 4) × IsOf defs store.old }
-    ensures { (defs : ListOf DefOf) → (def : DefOf) → defs ≡ def ∷ [] → IsMsdbDef def → def.length ≡ 8 → key_length def.fields ≡ 4 → IsOf defs store.old → IsOf defs store.new }
+    requires { (defs : ListOf DefOf) × (def : DefOf) × (defs ≡ def ∷ []) × IsMsdbDef def × (def.length ≡ 8)
+        × (key_length def.fields ≡ 4) × IsOf defs store.old }
+    ensures { (defs : ListOf DefOf) → (def : DefOf) → defs ≡ def ∷ [] → IsMsdbDef def → def.length ≡ 8
+        → key_length def.fields ≡ 4 → IsOf defs store.old → IsOf defs store.new }
 {
     let queue = queue(alloc, first, second)?;
     told(settle(store, &queue))
@@ -358,8 +363,10 @@ fn round(
     accounts: &mut Vec<Account>,
     random: &mut Random,
 ) -> Result<(), VerifyFault>
-    requires { (defs : ListOf DefOf) × (def : DefOf) × (defs ≡ def ∷ []) × IsMsdbDef def × (def.length ≡ 8) × (key_length def.fields ≡ 4) × IsOf defs store.old }
-    ensures { (defs : ListOf DefOf) → (def : DefOf) → defs ≡ def ∷ [] → IsMsdbDef def → def.length ≡ 8 → key_length def.fields ≡ 4 → IsOf defs store.old → IsOf defs store.new }
+    requires { (defs : ListOf DefOf) × (def : DefOf) × (defs ≡ def ∷ []) × IsMsdbDef def × (def.length ≡ 8)
+        × (key_length def.fields ≡ 4) × IsOf defs store.old }
+    ensures { (defs : ListOf DefOf) → (def : DefOf) → defs ≡ def ∷ [] → IsMsdbDef def → def.length ≡ 8
+        → key_length def.fields ≡ 4 → IsOf defs store.old → IsOf defs store.new }
 {
     let first = random.step();
     let second = random.perhaps_step();
@@ -495,8 +502,10 @@ fn segments(alloc: Global, store: &MsdbStore) -> Result<Bytes, AllocError> {
 
 // Settles the queue of a row on the store. Whether it comes to what is wanted.
 fn goes(alloc: Global, store: &mut MsdbStore, row: Row) -> Result<bool, VerifyFault>
-    requires { (defs : ListOf DefOf) × (def : DefOf) × (defs ≡ def ∷ []) × IsMsdbDef def × (def.length ≡ 8) × (key_length def.fields ≡ 4) × IsOf defs store.old }
-    ensures { (defs : ListOf DefOf) → (def : DefOf) → defs ≡ def ∷ [] → IsMsdbDef def → def.length ≡ 8 → key_length def.fields ≡ 4 → IsOf defs store.old → IsOf defs store.new }
+    requires { (defs : ListOf DefOf) × (def : DefOf) × (defs ≡ def ∷ []) × IsMsdbDef def × (def.length ≡ 8)
+        × (key_length def.fields ≡ 4) × IsOf defs store.old }
+    ensures { (defs : ListOf DefOf) → (def : DefOf) → defs ≡ def ∷ [] → IsMsdbDef def → def.length ≡ 8
+        → key_length def.fields ≡ 4 → IsOf defs store.old → IsOf defs store.new }
 {
     let found = settled(alloc, store, row.first, Some(row.second))?;
     let segments = segments(alloc, store)?;

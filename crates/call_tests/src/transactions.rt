@@ -20,7 +20,8 @@ use std::test::Fail;
 
 // 100 in A001, 50 in A002, no number in A003.
 fn store(alloc: Global, defs: &Defs) -> Result<MsdbStore, AllocError>
-    requires { (def : DefOf) × (defs.now.msdbs ≡ def ∷ []) × IsMsdbDef def × (def.length ≡ 8) × (key_length def.fields ≡ 4) }
+    requires { (def : DefOf) × (defs.now.msdbs ≡ def ∷ []) × IsMsdbDef def × (def.length ≡ 8)
+        × (key_length def.fields ≡ 4) }
     ensures { IfOk result (IsOf defs.now.msdbs) }
 {
     let mut segments = List::new(alloc);
@@ -78,7 +79,8 @@ fn withdrawal(alloc: Global) -> Result<Bytes, AllocError>
 }
 
 fn call_of(alloc: Global, defs: &Defs, step: &Step) -> Result<Call, AllocError>
-    requires { (def : DefOf) × (defs.now.msdbs ≡ def ∷ []) × IsMsdbDef def × (def.length ≡ 8) × (key_length def.fields ≡ 4) }
+    requires { (def : DefOf) × (defs.now.msdbs ≡ def ∷ []) × IsMsdbDef def × (def.length ≡ 8)
+        × (key_length def.fields ≡ 4) }
     ensures { IfOk result (IsMsdbCall defs.now.msdbs) }
 {
     match step {

@@ -341,7 +341,8 @@ fn with_bytes(
     read(alloc, defs, b'S', &mut site)
 }
 
-// Bytes at the first gate, how many of them are written, and whether they are damage: behind an open gate stand nothing,
+// Bytes at the first gate, how many of them are written, and whether they are damage: behind an open gate stand
+// nothing,
 // a length of 0, one that passes the end, and a body that is no entry.
 const GATES: [([u8; 12], usize, bool); 6] = [
     ([0, 0, 0, 0, 0, 0, 0, 0, 0, 0, 0, 0], 12, false),

@@ -56,7 +56,8 @@ ISRT TELLERS TNO=#1 CASH=0
 REPLY A '/ ' STATUS
 ";
 
-// What a command answers over the definitions, these scripts and messages, and a site; the reads with these numbers fail.
+// What a command answers over the definitions, these scripts and messages, and a site; the reads with these numbers
+// fail.
 pub(crate) fn run(
     alloc: Global,
     command: &str,

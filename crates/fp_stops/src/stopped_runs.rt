@@ -36,7 +36,8 @@ fn asked(alloc: Global, snapshot: Snapshot) -> Result<(Status, Bytes), AllocErro
     Ok((status, text))
 }
 
-// Whether a restart from a snapshot has each deposit whose reply came out, be it in part. A site that wasn't made may be
+// Whether a restart from a snapshot has each deposit whose reply came out, be it in part. A site that wasn't made may
+// be
 // foreign.
 fn is_kept(alloc: Global, snapshot: Snapshot, made: bool) -> Result<bool, AllocError> {
     let answered = snapshot.sent.len().div_ceil(10);

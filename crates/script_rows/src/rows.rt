@@ -21,8 +21,10 @@ pub fn a_field_call_has_these_tokens()
 
 /// Tokens are read longest first.
 pub fn tokens_need_no_blanks()
-    ensures letters { tokens_of (codes "5B#12--7A=IO.F") ≡ Ok (token.Number (pos 5) ∷ token.Word (named (codes "B")) false
-        ∷ token.Hash 1 ∷ token.Number (pos 2) ∷ token.Sign 45 ∷ token.Number (negsuc 6) ∷ token.Word (named (codes "A")) true
+    ensures letters { tokens_of (codes "5B#12--7A=IO.F") ≡ Ok (token.Number (pos 5)
+        ∷ token.Word (named (codes "B")) false
+        ∷ token.Hash 1 ∷ token.Number (pos 2) ∷ token.Sign 45 ∷ token.Number (negsuc 6)
+        ∷ token.Word (named (codes "A")) true
         ∷ token.Sign 61 ∷ token.Field (named (codes "F")) ∷ []) }
     ensures nine { tokens_of (codes "ABCDEFGHI") ≡ Err line_fault.Syntax }
 {}
@@ -30,7 +32,8 @@ pub fn tokens_need_no_blanks()
 /// DEPOSIT of the sample is that script.
 pub fn deposit_is_a_script()
     ensures { AreScriptsOf sample_defs (flat_map line_text (
-        codes "TRAN DEPOSIT" ∷ codes "FLD ACCTS KEY(#1) BAL + #2" ∷ codes "IF STATUS NE ''" ∷ codes "ROLB 1" ∷ codes "END"
+        codes "TRAN DEPOSIT" ∷ codes "FLD ACCTS KEY(#1) BAL + #2" ∷ codes "IF STATUS NE ''" ∷ codes "ROLB 1"
+        ∷ codes "END"
         ∷ codes "REPLY 'NEW'" ∷ [])) (deposit_script ∷ []) }
 {}
 
@@ -39,7 +42,8 @@ pub fn showc_is_a_script()
     ensures { AreScriptsOf sample_defs (flat_map line_text (
         codes "TRAN SHOWC" ∷ codes "GU CUST CUSTOMER(#1)" ∷ codes "IF STATUS NE ''" ∷ codes "ROLB 4" ∷ codes "END"
         ∷ codes "SET OUT IO.NAME" ∷ codes "REPEAT 10" ∷ codes "GNP CUST AUDIT" ∷ codes "IF STATUS NE ''" ∷ codes "BREAK"
-        ∷ codes "END" ∷ codes "SET OUT OUT & ' '" ∷ codes "SET OUT OUT & IO.WHAT" ∷ codes "END" ∷ codes "REPLY OUT" ∷ []))
+        ∷ codes "END" ∷ codes "SET OUT OUT & ' '" ∷ codes "SET OUT OUT & IO.WHAT" ∷ codes "END"
+        ∷ codes "REPLY OUT" ∷ []))
         (showc_script ∷ []) }
 {}
 
@@ -66,7 +70,8 @@ pub fn faults_of_lines()
         ≡ Err (fault.UnknownName 2) }
     ensures any_field { text_in sample_defs (flat_map line_text (codes "TRAN A" ∷ codes "SET B IO.NOPE" ∷ []))
         ≡ Err (fault.UnknownName 2) }
-    ensures stray { text_in sample_defs (flat_map line_text (codes "TRAN A" ∷ codes "IF 1 EQ 1" ∷ codes "TRAN B" ∷ codes "END" ∷ []))
+    ensures stray { text_in sample_defs (flat_map line_text (codes "TRAN A" ∷ codes "IF 1 EQ 1" ∷ codes "TRAN B"
+        ∷ codes "END" ∷ []))
         ≡ Err (fault.Syntax 4) }
     ensures loose { text_in sample_defs (flat_map line_text (codes "TRAN A" ∷ codes "ISRT TELLERS TNO =#1" ∷ []))
         ≡ Err (fault.Syntax 2) }
@@ -75,17 +80,20 @@ pub fn faults_of_lines()
 /// A block without END is found behind all lines, at its first line.
 pub fn an_open_block_is_a_fault()
     ensures { HasFault sample_defs (flat_map line_text (
-        codes "TRAN A" ∷ codes "IF 1 EQ 1" ∷ codes "REPEAT 2" ∷ codes "TRAN B" ∷ codes "REPEAT 3" ∷ [])) (fault.Syntax 2) }
+        codes "TRAN A" ∷ codes "IF 1 EQ 1" ∷ codes "REPEAT 2" ∷ codes "TRAN B" ∷ codes "REPEAT 3"
+        ∷ [])) (fault.Syntax 2) }
 {}
 
 /// A name that an earlier transaction has; the second script is too dear, but that comes later.
 pub fn a_name_twice_is_a_fault()
     ensures { HasFault sample_defs (flat_map line_text (
-        codes "TRAN A" ∷ codes "TRAN A" ∷ codes "REPEAT 10000" ∷ codes "BREAK" ∷ codes "END" ∷ [])) (fault.Twice (named (codes "A"))) }
+        codes "TRAN A" ∷ codes "TRAN A" ∷ codes "REPEAT 10000" ∷ codes "BREAK" ∷ codes "END"
+        ∷ [])) (fault.Twice (named (codes "A"))) }
 {}
 
 /// A loop of 9,998 with one statement costs 10,000 with its TRAN line, and one of 9,999 is too dear.
 pub fn a_dear_script_is_a_fault()
     ensures { HasFault sample_defs (flat_map line_text (
-        codes "TRAN A" ∷ codes "REPEAT 9999" ∷ codes "BREAK" ∷ codes "END" ∷ [])) (fault.TooDear (named (codes "A")) 10001) }
+        codes "TRAN A" ∷ codes "REPEAT 9999" ∷ codes "BREAK" ∷ codes "END"
+        ∷ [])) (fault.TooDear (named (codes "A")) 10001) }
 {}
