@@ -5,7 +5,6 @@
 mod rows;
 
 pub use rows::{
-    a_dear_script_is_a_fault, a_field_call_has_these_tokens, a_name_twice_is_a_fault,
-    an_open_block_is_a_fault, deposit_is_a_script, faults_of_lines, showc_is_a_script,
-    the_sample_is_its_scripts, tokens_need_no_blanks,
+    a_dear_script_is_a_fault, a_name_twice_is_a_fault, an_open_block_is_a_fault,
+    deposit_is_a_script, faults_of_lines, showc_is_a_script, the_sample_is_its_scripts,
 };

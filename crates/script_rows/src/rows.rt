@@ -1,33 +1,12 @@
 //! Worked rows of the grammar: texts of the sample, and faults. Each is the contract of a function that does nothing.
 #![tactic(auto, unfolding(txn_lang::specs::Readings::all_by, txn_lang::specs::Tokens::letter_token, txn_lang::specs::Tokens::number_token, txn_lang::specs::Tokens::text_token, txn_lang::specs::Tokens::hash_token, txn_lang::specs::Tokens::token_at, txn_lang::specs::Tokens::spaced_token_at, txn_lang::specs::Tokens::tokens_of, txn_lang::specs::Parts::word_at, txn_lang::specs::Parts::sign_at, txn_lang::specs::Parts::variable_at, txn_lang::specs::Parts::operand_at, txn_lang::specs::Parts::operation_at, txn_lang::specs::Parts::comparison_at, txn_lang::specs::Parts::count_at, txn_lang::specs::Parts::bracket_at, txn_lang::specs::Parts::key_at, txn_lang::specs::Parts::key_behind, txn_lang::specs::Parts::ssa_at, txn_lang::specs::Parts::fsa_at, txn_lang::specs::Parts::field_at, txn_lang::specs::Parts::operands_in, txn_lang::specs::Parts::fsas_in, txn_lang::specs::Parts::fields_in, txn_lang::specs::Lookups::db_of, txn_lang::specs::Lookups::dedb_ssas, txn_lang::specs::Lookups::get_ssas, txn_lang::specs::Lookups::isrt_ssas, txn_lang::specs::Lookups::isrt_fields, txn_lang::specs::Statements::keyword_at, txn_lang::specs::Statements::tran_line, txn_lang::specs::Statements::set_rest, txn_lang::specs::Statements::set_line, txn_lang::specs::Statements::if_line, txn_lang::specs::Statements::repeat_line, txn_lang::specs::Statements::reply_line, txn_lang::specs::Statements::rolb_line, txn_lang::specs::Statements::get_line, txn_lang::specs::Statements::fld_line, txn_lang::specs::Statements::isrt_line, txn_lang::specs::Statements::repl_line, txn_lang::specs::Statements::dlet_line, txn_lang::specs::Statements::line_behind, txn_lang::specs::Blocks::stands, txn_lang::specs::Grammar::statement_in, txn_lang::specs::Grammar::line_in, txn_lang::specs::Grammar::lines_in, txn_lang::specs::Grammar::scripts_fault))]
 
-ghost use Rattle.std.specs.Prelude.{◌≡◌, ◌++◌, [], ◌∷◌, codes, flat_map, map, pos, negsuc, replicate, true, false, Ok, Err};
+ghost use Rattle.std.specs.Prelude.{◌≡◌, ◌++◌, [], ◌∷◌, codes, flat_map, Err};
 ghost use Rattle.fp_rows.specs.Hex.{line_text, named};
 ghost use Rattle.fp_rows.specs.Sample.{sample_defs, sample_scripts, scripts_text, deposit_script, showc_script};
-ghost use Rattle.txn_lang.specs.declared.fault.LineFault.TheVariants as line_fault;
-ghost use Rattle.txn_lang.specs.declared.token.Token.TheVariants as token;
-ghost use Rattle.txn_lang.specs.Tokens.{tokens_of};
 ghost use Rattle.txn_lang.specs.declared.fault.ScriptFault.TheVariants as fault;
 ghost use Rattle.txn_lang.specs.Blocks.{at_top};
 ghost use Rattle.txn_lang.specs.Grammar.{AreScriptsOf, HasFault, text_in};
-
-/// The tokens of a field call.
-pub fn a_field_call_has_these_tokens()
-    ensures { tokens_of (codes "FLD ACCTS KEY(#1) BAL + #2")
-        ≡ Ok (token.Word (named (codes "FLD")) false ∷ token.Word (named (codes "ACCTS")) false
-        ∷ token.Word (named (codes "KEY")) false ∷ token.Sign 40 ∷ token.Hash 1 ∷ token.Sign 41
-        ∷ token.Word (named (codes "BAL")) false ∷ token.Sign 43 ∷ token.Hash 2 ∷ []) }
-{}
-
-/// Tokens are read longest first.
-pub fn tokens_need_no_blanks()
-    ensures letters { tokens_of (codes "5B#12--7A=IO.F") ≡ Ok (token.Number (pos 5)
-        ∷ token.Word (named (codes "B")) false
-        ∷ token.Hash 1 ∷ token.Number (pos 2) ∷ token.Sign 45 ∷ token.Number (negsuc 6)
-        ∷ token.Word (named (codes "A")) true
-        ∷ token.Sign 61 ∷ token.Field (named (codes "F")) ∷ []) }
-    ensures nine { tokens_of (codes "ABCDEFGHI") ≡ Err line_fault.Syntax }
-{}
 
 /// DEPOSIT of the sample is that script.
 pub fn deposit_is_a_script()
