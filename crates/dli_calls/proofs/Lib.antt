@@ -3,6 +3,5 @@ pub mod FitLemmas
 pub mod HoldLemmas
 pub mod KeyLemmas
 pub mod LetterLemmas
-pub mod Samples
 pub mod StoreLemmas
 pub mod WorkLemmas

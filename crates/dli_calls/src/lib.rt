@@ -12,6 +12,3 @@ mod work;
 
 pub use answering::{Ready, answer};
 pub use work::Work;
-
-#[cfg(test)]
-mod tests;

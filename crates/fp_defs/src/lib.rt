@@ -22,6 +22,3 @@ pub use rows::{
     the_sample_is_read,
 };
 pub use whole::read_defs;
-
-#[cfg(test)]
-mod tests;

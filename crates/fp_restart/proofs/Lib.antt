@@ -5,5 +5,4 @@ pub mod Groups
 mod Looking
 pub mod Replays
 pub mod Results
-mod Samples
 mod NoDedbs

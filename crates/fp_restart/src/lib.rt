@@ -16,6 +16,3 @@ pub use defining::define;
 pub use fault::RestartFault;
 pub use restarting::{Parts, restart};
 pub use whole::whole_db;
-
-#[cfg(test)]
-mod tests;

@@ -11,10 +11,3 @@ mod words;
 
 pub use status::{Status, fault_text};
 pub use top::ims;
-
-#[cfg(test)]
-mod rows;
-#[cfg(test)]
-mod stops;
-#[cfg(test)]
-mod tests;

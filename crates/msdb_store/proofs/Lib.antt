@@ -8,6 +8,5 @@ mod Names
 mod Publishing
 mod Queues
 mod Rooms
-mod Samples
 mod Stagings
 mod Tables

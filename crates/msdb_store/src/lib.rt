@@ -10,10 +10,3 @@ mod table;
 
 pub use staged::{Staged, VerifyFault};
 pub use store::MsdbStore;
-
-#[cfg(test)]
-mod mixed_tests;
-#[cfg(test)]
-mod settling_tests;
-#[cfg(test)]
-mod tests;

@@ -1,91 +1,25 @@
-//! Worked rows of the grammar: texts of the sample, and faults. Each is the contract of a function that does nothing.
+//! Worked rows of tokens. Those of scripts stand in the crate `script_rows`.
 #![tactic(auto, unfolding(crate::specs::Readings::all_by, crate::specs::Tokens::letter_token, crate::specs::Tokens::number_token, crate::specs::Tokens::text_token, crate::specs::Tokens::hash_token, crate::specs::Tokens::token_at, crate::specs::Tokens::spaced_token_at, crate::specs::Tokens::tokens_of, crate::specs::Parts::word_at, crate::specs::Parts::sign_at, crate::specs::Parts::variable_at, crate::specs::Parts::operand_at, crate::specs::Parts::operation_at, crate::specs::Parts::comparison_at, crate::specs::Parts::count_at, crate::specs::Parts::bracket_at, crate::specs::Parts::key_at, crate::specs::Parts::key_behind, crate::specs::Parts::ssa_at, crate::specs::Parts::fsa_at, crate::specs::Parts::field_at, crate::specs::Parts::operands_in, crate::specs::Parts::fsas_in, crate::specs::Parts::fields_in, crate::specs::Lookups::db_of, crate::specs::Lookups::dedb_ssas, crate::specs::Lookups::get_ssas, crate::specs::Lookups::isrt_ssas, crate::specs::Lookups::isrt_fields, crate::specs::Statements::keyword_at, crate::specs::Statements::tran_line, crate::specs::Statements::set_rest, crate::specs::Statements::set_line, crate::specs::Statements::if_line, crate::specs::Statements::repeat_line, crate::specs::Statements::reply_line, crate::specs::Statements::rolb_line, crate::specs::Statements::get_line, crate::specs::Statements::fld_line, crate::specs::Statements::isrt_line, crate::specs::Statements::repl_line, crate::specs::Statements::dlet_line, crate::specs::Statements::line_behind, crate::specs::Blocks::stands, crate::specs::Grammar::statement_in, crate::specs::Grammar::line_in, crate::specs::Grammar::lines_in, crate::specs::Grammar::scripts_fault))]
 
-ghost use Rattle.std.specs.Prelude.{◌≡◌, ◌++◌, [], ◌∷◌, codes, flat_map, map, pos, negsuc, replicate, true, false, Ok, Err};
-ghost use Rattle.fp_rows.specs.Hex.{line_text, named};
-ghost use Rattle.fp_rows.specs.Sample.{sample_defs, sample_scripts, scripts_text, deposit_script, showc_script};
+ghost use Rattle.std.specs.Prelude.{◌≡◌, ◌∷◌, [], codes, pos, negsuc, true, false, Ok, Err};
 ghost use Rattle.txn_lang.specs.declared.fault.LineFault.TheVariants as line_fault;
 ghost use Rattle.txn_lang.specs.declared.token.Token.TheVariants as token;
 ghost use Rattle.txn_lang.specs.Tokens.{tokens_of};
-ghost use Rattle.txn_lang.specs.declared.fault.ScriptFault.TheVariants as fault;
-ghost use Rattle.txn_lang.specs.Blocks.{at_top};
-ghost use Rattle.txn_lang.specs.Grammar.{AreScriptsOf, HasFault, text_in};
 
 /// The tokens of a field call.
 pub fn a_field_call_has_these_tokens()
     ensures { tokens_of (codes "FLD ACCTS KEY(#1) BAL + #2")
-        ≡ Ok (token.Word (named (codes "FLD")) false ∷ token.Word (named (codes "ACCTS")) false
-        ∷ token.Word (named (codes "KEY")) false ∷ token.Sign 40 ∷ token.Hash 1 ∷ token.Sign 41
-        ∷ token.Word (named (codes "BAL")) false ∷ token.Sign 43 ∷ token.Hash 2 ∷ []) }
+        ≡ Ok (token.Word (record { 0 = codes "FLD     " }) false ∷ token.Word (record { 0 = codes "ACCTS   " }) false
+        ∷ token.Word (record { 0 = codes "KEY     " }) false ∷ token.Sign 40 ∷ token.Hash 1 ∷ token.Sign 41
+        ∷ token.Word (record { 0 = codes "BAL     " }) false ∷ token.Sign 43 ∷ token.Hash 2 ∷ []) }
 {}
 
 /// Tokens are read longest first.
 pub fn tokens_need_no_blanks()
-    ensures letters { tokens_of (codes "5B#12--7A=IO.F") ≡ Ok (token.Number (pos 5) ∷ token.Word (named (codes "B")) false
-        ∷ token.Hash 1 ∷ token.Number (pos 2) ∷ token.Sign 45 ∷ token.Number (negsuc 6) ∷ token.Word (named (codes "A")) true
-        ∷ token.Sign 61 ∷ token.Field (named (codes "F")) ∷ []) }
+    ensures letters { tokens_of (codes "5B#12--7A=IO.F") ≡ Ok (token.Number (pos 5)
+        ∷ token.Word (record { 0 = codes "B       " }) false
+        ∷ token.Hash 1 ∷ token.Number (pos 2) ∷ token.Sign 45 ∷ token.Number (negsuc 6)
+        ∷ token.Word (record { 0 = codes "A       " }) true
+        ∷ token.Sign 61 ∷ token.Field (record { 0 = codes "F       " }) ∷ []) }
     ensures nine { tokens_of (codes "ABCDEFGHI") ≡ Err line_fault.Syntax }
-{}
-
-/// DEPOSIT of the sample is that script.
-pub fn deposit_is_a_script()
-    ensures { AreScriptsOf sample_defs (flat_map line_text (
-        codes "TRAN DEPOSIT" ∷ codes "FLD ACCTS KEY(#1) BAL + #2" ∷ codes "IF STATUS NE ''" ∷ codes "ROLB 1" ∷ codes "END"
-        ∷ codes "REPLY 'NEW'" ∷ [])) (deposit_script ∷ []) }
-{}
-
-/// SHOWC of the sample, a loop with a choice in it, is that script.
-pub fn showc_is_a_script()
-    ensures { AreScriptsOf sample_defs (flat_map line_text (
-        codes "TRAN SHOWC" ∷ codes "GU CUST CUSTOMER(#1)" ∷ codes "IF STATUS NE ''" ∷ codes "ROLB 4" ∷ codes "END"
-        ∷ codes "SET OUT IO.NAME" ∷ codes "REPEAT 10" ∷ codes "GNP CUST AUDIT" ∷ codes "IF STATUS NE ''" ∷ codes "BREAK"
-        ∷ codes "END" ∷ codes "SET OUT OUT & ' '" ∷ codes "SET OUT OUT & IO.WHAT" ∷ codes "END" ∷ codes "REPLY OUT" ∷ []))
-        (showc_script ∷ []) }
-{}
-
-/// The sample is its scripts.
-pub fn the_sample_is_its_scripts()
-    ensures { AreScriptsOf sample_defs scripts_text sample_scripts }
-{}
-
-/// The first line with a fault is the one that counts, and what a line says comes before what its names are.
-pub fn faults_of_lines()
-    ensures bogus { text_in sample_defs (flat_map line_text (codes "TRAN A" ∷ codes "BOGUS" ∷ codes "GU NOPE" ∷ []))
-        ≡ Err (fault.Syntax 2) }
-    ensures unknown { text_in sample_defs (flat_map line_text (codes "TRAN A" ∷ codes "GU NOPE" ∷ codes "BOGUS" ∷ []))
-        ≡ Err (fault.UnknownName 2) }
-    ensures both { text_in sample_defs (flat_map line_text (codes "TRAN A" ∷ codes "GU NOPE KEY(" ∷ []))
-        ≡ Err (fault.Syntax 2) }
-    ensures outside { text_in sample_defs (flat_map line_text (codes "* comment" ∷ codes "GU NOPE" ∷ []))
-        ≡ Err (fault.Syntax 2) }
-    ensures other_ssa { text_in sample_defs (flat_map line_text (codes "TRAN A" ∷ codes "GU ACCTS ACCTS" ∷ []))
-        ≡ Err (fault.Syntax 2) }
-    ensures key_of_dedb { text_in sample_defs (flat_map line_text (codes "TRAN A" ∷ codes "GU CUST KEY(#1)" ∷ []))
-        ≡ Err (fault.UnknownName 2) }
-    ensures field { text_in sample_defs (flat_map line_text (codes "TRAN A" ∷ codes "ISRT TELLERS TNO=#1 BAL=0" ∷ []))
-        ≡ Err (fault.UnknownName 2) }
-    ensures any_field { text_in sample_defs (flat_map line_text (codes "TRAN A" ∷ codes "SET B IO.NOPE" ∷ []))
-        ≡ Err (fault.UnknownName 2) }
-    ensures stray { text_in sample_defs (flat_map line_text (codes "TRAN A" ∷ codes "IF 1 EQ 1" ∷ codes "TRAN B" ∷ codes "END" ∷ []))
-        ≡ Err (fault.Syntax 4) }
-    ensures loose { text_in sample_defs (flat_map line_text (codes "TRAN A" ∷ codes "ISRT TELLERS TNO =#1" ∷ []))
-        ≡ Err (fault.Syntax 2) }
-{}
-
-/// A block without END is found behind all lines, at its first line.
-pub fn an_open_block_is_a_fault()
-    ensures { HasFault sample_defs (flat_map line_text (
-        codes "TRAN A" ∷ codes "IF 1 EQ 1" ∷ codes "REPEAT 2" ∷ codes "TRAN B" ∷ codes "REPEAT 3" ∷ [])) (fault.Syntax 2) }
-{}
-
-/// A name that an earlier transaction has; the second script is too dear, but that comes later.
-pub fn a_name_twice_is_a_fault()
-    ensures { HasFault sample_defs (flat_map line_text (
-        codes "TRAN A" ∷ codes "TRAN A" ∷ codes "REPEAT 10000" ∷ codes "BREAK" ∷ codes "END" ∷ [])) (fault.Twice (named (codes "A"))) }
-{}
-
-/// A loop of 9,998 with one statement costs 10,000 with its TRAN line, and one of 9,999 is too dear.
-pub fn a_dear_script_is_a_fault()
-    ensures { HasFault sample_defs (flat_map line_text (
-        codes "TRAN A" ∷ codes "REPEAT 9999" ∷ codes "BREAK" ∷ codes "END" ∷ [])) (fault.TooDear (named (codes "A")) 10001) }
 {}

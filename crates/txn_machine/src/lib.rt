@@ -8,12 +8,8 @@ mod known;
 mod operands;
 mod place;
 mod program;
-#[cfg(test)]
-mod sample_tests;
 mod shown;
 mod stop;
-#[cfg(test)]
-mod tests;
 mod values;
 
 pub use program::{Next, Program};

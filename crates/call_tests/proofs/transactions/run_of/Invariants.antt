@@ -1,0 +1,5 @@
+use Rattle.dli_calls.specs.Progress.{IsWorkOf}
+use Rattle.call_tests.proofs.transactions.run_of.Given as goal
+
+abbrev pub invariant-loop-step : goal.invariant-loop-step
+invariant-loop-step l = IsWorkOf l.defs l.work

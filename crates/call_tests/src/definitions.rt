@@ -1,0 +1,341 @@
+//! Definitions: the sample, exits that are lacking, and the longest text. The definitions of the sample serve other
+//! tests.
+ghost use Rattle.std.specs.Prelude.{◌≡◌, IfOk};
+ghost use Rattle.fp_model.specs.Exits.{route, spread};
+ghost use Rattle.fp_model.specs.WellFormed.{AreDefs};
+ghost use Rattle.fp_exits.specs.Ranges.{IsRoutable, IsSpreadable};
+
+use fp_defs::{DefsFault, read_defs};
+use fp_exits::{
+    Exits, Router, Routing, Spreader, Spreading, fold_group, fold_place, range_group, range_place,
+};
+use fp_model::{Bytes, Defs, FieldKind, Kind, Name};
+use std::alloc::{AllocError, Global};
+use std::test::Fail;
+
+// The text of a key or name.
+fn text_of(bytes: &Bytes) -> &str {
+    std::str::from_utf8(bytes.as_slice()).unwrap_or("?")
+}
+
+fn has(kinds: &[Kind], kind: Kind) -> bool {
+    for one in kinds {
+        if *one == kind {
+            return true;
+        }
+    }
+    false
+}
+
+fn folding_router(alloc: Global) -> Result<Router, AllocError> {
+    let f: Routing = Box::new(
+        alloc,
+        |tran: &Name, n: u64| -> u64
+            requires { IsRoutable tran.now n }
+            ensures { result ≡ route Kind.Fold n tran.now }
+        { fold_group(tran, n) },
+    )?;
+    Ok(Router::new(Kind::Fold, f))
+}
+
+fn range_router(alloc: Global) -> Result<Router, AllocError> {
+    let f: Routing = Box::new(
+        alloc,
+        |tran: &Name, n: u64| -> u64
+            requires { IsRoutable tran.now n }
+            ensures { result ≡ route Kind.Range n tran.now }
+        { range_group(tran, n) },
+    )?;
+    Ok(Router::new(Kind::Range, f))
+}
+
+fn folding_spreader(alloc: Global) -> Result<Spreader, AllocError> {
+    let f: Spreading = Box::new(
+        alloc,
+        |key: &[u8], n: u64| -> u64
+            requires { IsSpreadable key.now n }
+            ensures { result ≡ spread Kind.Fold n key.now }
+        { fold_place(key, n) },
+    )?;
+    Ok(Spreader::new(Kind::Fold, f))
+}
+
+fn range_spreader(alloc: Global) -> Result<Spreader, AllocError> {
+    let f: Spreading = Box::new(
+        alloc,
+        |key: &[u8], n: u64| -> u64
+            requires { IsSpreadable key.now n }
+            ensures { result ≡ spread Kind.Range n key.now }
+        { range_place(key, n) },
+    )?;
+    Ok(Spreader::new(Kind::Range, f))
+}
+
+// Routers and spreaders of these kinds.
+fn exits(alloc: Global, routing: &[Kind], spreading: &[Kind]) -> Result<Exits, AllocError> {
+    let mut routers = Vec::new(alloc);
+    if has(routing, Kind::Fold) {
+        routers.push(folding_router(alloc)?)?;
+    }
+    if has(routing, Kind::Range) {
+        routers.push(range_router(alloc)?)?;
+    }
+    let mut spreaders = Vec::new(alloc);
+    if has(spreading, Kind::Fold) {
+        spreaders.push(folding_spreader(alloc)?)?;
+    }
+    if has(spreading, Kind::Range) {
+        spreaders.push(range_spreader(alloc)?)?;
+    }
+    Ok(Exits::new(spreaders, routers))
+}
+
+// What is read where there are routers and spreaders of these kinds.
+fn read_with(
+    alloc: Global,
+    bytes: &[u8],
+    routing: &[Kind],
+    spreading: &[Kind],
+) -> Result<Defs, DefsFault>
+    ensures { IfOk result AreDefs }
+{
+    match exits(alloc, routing, spreading) {
+        Ok(exits) => read_defs(alloc, bytes, &exits),
+        Err(_) => Err(DefsFault::Memory),
+    }
+}
+
+const BOTH: &[Kind] = &[Kind::Fold, Kind::Range];
+
+/// The definitions of the sample: ACCTS 0, TELLERS 1, and CUST 2 with CUSTOMER, AUDIT and LOAN.
+pub(crate) fn sample(alloc: Global) -> Result<Defs, DefsFault>
+    ensures { IfOk result AreDefs }
+{
+    read_with(alloc, SAMPLE.as_bytes(), BOTH, BOTH)
+}
+
+// What is said of a text that was read.
+fn said(alloc: Global, found: Result<Defs, DefsFault>) -> Result<String, AllocError> {
+    match found {
+        Ok(_) => format!(in alloc; "ok"),
+        Err(DefsFault::NotToml) => format!(in alloc; "not TOML"),
+        Err(DefsFault::Missing(key)) => format!(in alloc; "missing {}", text_of(&key)),
+        Err(DefsFault::Unknown(key)) => format!(in alloc; "unknown {}", text_of(&key)),
+        Err(DefsFault::OutOfLimit(key, n)) => format!(in alloc;
+            "{} out of limit: {n}",
+            text_of(&key)
+        ),
+        Err(DefsFault::Twice(name)) => format!(in alloc; "twice {}", text_of(&name)),
+        Err(DefsFault::BadField(key)) => format!(in alloc; "bad field {}", text_of(&key)),
+        Err(DefsFault::NoExit(Kind::Fold)) => format!(in alloc; "no exit FOLD"),
+        Err(DefsFault::NoExit(Kind::Range)) => format!(in alloc; "no exit RANGE"),
+        Err(DefsFault::TooLong) => format!(in alloc; "too long"),
+        Err(DefsFault::Memory) => format!(in alloc; "no memory"),
+    }
+}
+
+#[test]
+fn the_sample(rt: HostRuntime) -> Result<(), Fail> {
+    let defs = sample(rt.alloc())?;
+    assert!(rt; is_top(&defs));
+    assert!(rt; is_accounts(&defs));
+    assert!(rt; is_customers(&defs));
+    Ok(())
+}
+
+// The keys of the top table.
+fn is_top(defs: &Defs) -> bool {
+    defs.regions.as_slice() == [1, 1].as_slice()
+        && defs.router == Kind::Fold
+        && defs.log_group == 100
+        && defs.pool == 1000
+        && defs.text.as_slice() == SAMPLE.as_bytes()
+}
+
+// The first main storage database, and that there are two.
+fn is_accounts(defs: &Defs) -> bool {
+    let (Some(accounts), Some(tellers)) = (defs.msdbs.get(0), defs.msdbs.get(1)) else {
+        return false;
+    };
+    let (Some(key), Some(balance)) = (accounts.fields.get(0), accounts.fields.get(1)) else {
+        return false;
+    };
+    let (Some(first), Some(second)) = (accounts.load.get(0), accounts.load.get(1)) else {
+        return false;
+    };
+    accounts.name == Name(*b"ACCTS   ")
+        && !accounts.dynamic
+        && tellers.dynamic
+        && accounts.length == 8
+        && key.kind == FieldKind::C
+        && balance.name == Name(*b"BAL     ")
+        && balance.kind == FieldKind::P
+        && balance.at == 4
+        && first.as_slice() == b"A001\x00\x00\x10\x0c".as_slice()
+        && second.as_slice() == b"A002\x00\x00\x05\x0c".as_slice()
+        && defs.msdbs.len() == 2
+}
+
+// The data entry database: its segments and its areas.
+fn is_customers(defs: &Defs) -> bool {
+    let Some(customers) = defs.dedbs.get(0) else {
+        return false;
+    };
+    let (Some(root), Some(audit), Some(loan)) = (
+        customers.segments.get(0),
+        customers.segments.get(1),
+        customers.segments.get(2),
+    ) else {
+        return false;
+    };
+    let Some(area) = customers.areas.get(1) else {
+        return false;
+    };
+    customers.ci == 512
+        && root.length == 16
+        && root.parent.is_none()
+        && audit.sequential
+        && audit.parent == Some(0)
+        && !loan.sequential
+        && loan.parent == Some(0)
+        && loan.length == 6
+        && area.name == Name(*b"AREA2   ")
+        && area.uows == 2
+        && area.base == 2
+        && area.overflow == 1
+        && area.capacity == 4
+}
+
+const SAMPLE: &str = r#"regions = [1, 1]
+router = "FOLD"
+[[msdb]]
+name = "ACCTS"
+fields = [["ACCT", "C", 4], ["BAL", "P", 4]]
+load = [["A001", "100"], ["A002", "50"]]
+[[msdb]]
+name = "TELLERS"
+dynamic = true
+fields = [["TNO", "C", 4], ["CASH", "F", 4]]
+load = [["T001", "0"]]
+[[dedb]]
+name = "CUST"
+randomizer = "FOLD"
+ci = 512
+[[dedb.segment]]
+name = "CUSTOMER"
+fields = [["CNO", "C", 4], ["NAME", "C", 12]]
+[[dedb.segment]]
+name = "AUDIT"
+parent = "CUSTOMER"
+sequential = true
+fields = [["WHAT", "C", 8]]
+[[dedb.segment]]
+name = "LOAN"
+parent = "CUSTOMER"
+fields = [["LNO", "C", 2], ["DUE", "P", 4]]
+[[dedb.area]]
+name = "AREA1"
+uows = 2
+base = 2
+overflow = 1
+capacity = 4
+[[dedb.area]]
+name = "AREA2"
+uows = 2
+base = 2
+overflow = 1
+capacity = 4
+"#;
+
+// What is said of this many lines of 10 bytes each with a comment, and a text behind them.
+fn long(alloc: Global, lines: u32, text: &str) -> Result<String, AllocError> {
+    let mut whole = String::new(alloc);
+    for _ in 0..lines {
+        whole.push_str("#########\n")?;
+    }
+    whole.push_str(text)?;
+    said(alloc, read_with(alloc, whole.as_bytes(), BOTH, BOTH))
+}
+
+#[test]
+fn a_text_has_at_most_1000000_bytes(rt: HostRuntime) -> Result<(), Fail> {
+    for (text, wanted) in [("", "missing regions"), ("#", "too long")] {
+        assert_eq!(rt; long(rt.alloc(), 100_000, text)?.as_str(), wanted);
+    }
+    Ok(())
+}
+
+// A router that folds, and databases that are spread by range and by folding.
+const OF_BOTH_KINDS: &[u8] = br#"regions = [1]
+router = "FOLD"
+[[dedb]]
+name = "D"
+randomizer = "RANGE"
+ci = 512
+[[dedb.segment]]
+name = "R"
+fields = [["K", "C", 4]]
+[[dedb.area]]
+name = "A"
+uows = 1
+base = 1
+overflow = 0
+[[dedb]]
+name = "E"
+randomizer = "FOLD"
+ci = 512
+[[dedb.segment]]
+name = "R"
+fields = [["K", "C", 4]]
+[[dedb.area]]
+name = "B"
+uows = 1
+base = 1
+overflow = 0
+"#;
+
+const FOLD: &[Kind] = &[Kind::Fold];
+
+const RANGE: &[Kind] = &[Kind::Range];
+
+// A text, the kinds of the routers and of the spreaders that are there, and what is said.
+const TEXTS: [(&[u8], &[Kind], &[Kind], &str); 12] = [
+    (OF_BOTH_KINDS, &[], BOTH, "no exit FOLD"),
+    (OF_BOTH_KINDS, RANGE, &[], "no exit FOLD"),
+    (OF_BOTH_KINDS, FOLD, &[], "no exit RANGE"),
+    (OF_BOTH_KINDS, BOTH, FOLD, "no exit RANGE"),
+    (OF_BOTH_KINDS, BOTH, RANGE, "no exit FOLD"),
+    (OF_BOTH_KINDS, FOLD, BOTH, "ok"),
+    (OF_BOTH_KINDS, BOTH, BOTH, "ok"),
+    // A lacking exit is said behind all else.
+    (b"regions = ", &[], &[], "not TOML"),
+    (
+        b"regions = [1]\nrouter = \"FOLD\"\n[[msdb]]\n",
+        &[],
+        &[],
+        "missing name",
+    ),
+    (
+        b"regions = [1]\nrouter = \"FOLD\"\n[[dedb]]\n",
+        &[],
+        &[],
+        "missing name",
+    ),
+    (
+        b"regions = [1]\nrouter = \"FOLD\"\n",
+        &[],
+        &[],
+        "no exit FOLD",
+    ),
+    // Bytes that are no text.
+    (b"a = '\xff'\n", BOTH, BOTH, "not TOML"),
+];
+
+#[test]
+fn texts_have_their_first_fault(rt: HostRuntime) -> Result<(), Fail> {
+    for (text, routing, spreading, wanted) in TEXTS {
+        let found = said(rt.alloc(), read_with(rt.alloc(), text, routing, spreading))?;
+        assert_eq!(rt; found.as_str(), wanted);
+    }
+    Ok(())
+}

@@ -1,0 +1,17 @@
+//! Tests of the crates that read definitions and scripts, run scripts and answer their calls.
+#![tactic(auto)]
+
+#[cfg(test)]
+mod accounts;
+#[cfg(test)]
+mod definitions;
+#[cfg(test)]
+mod programs;
+#[cfg(test)]
+mod queues;
+#[cfg(test)]
+mod scripts;
+#[cfg(test)]
+mod stores;
+#[cfg(test)]
+mod transactions;

@@ -1,0 +1,525 @@
+//! Queues of calls settled on a store: some by hand, and a thousand mixed ones beside a plain list of accounts.
+ghost use Rattle.fp_model.specs.FitCalls.{IsFitDeferred};
+ghost use Rattle.fp_model.specs.State.{key_length};
+ghost use Rattle.fp_model.specs.WellFormed.{IsMsdbDef};
+ghost use Rattle.fp_model.specs.declared.definitions.MsdbDef.{MsdbDef as DefOf};
+ghost use Rattle.msdb_store.specs.Settling.{CanSettle};
+ghost use Rattle.msdb_store.specs.Store.{IsOf};
+ghost use Rattle.std.specs.List.{AllByRecursion};
+ghost use Rattle.std.specs.Prelude.{◌≡◌, ◌<◌, ◌^◌, ◌∷◌, [], IfOk, IfSome, List as ListOf, length};
+
+use crate::accounts::{defs, delete, field_call, insert};
+use fp_model::{Bytes, Deferred, List};
+use msdb_store::{MsdbStore, VerifyFault};
+use std::alloc::{AllocError, Global};
+use std::process::Abort;
+use std::test::Fail;
+
+// The keys that the calls are about, ascending.
+const KEYS: [[u8; 4]; 12] = [
+    *b"\x00\x00\x00\x00",
+    *b"\x00\x00\x00\x01",
+    *b"\x00\x01\x00\x00",
+    *b"A   ",
+    *b"A001",
+    *b"A002",
+    *b"A00\xff",
+    *b"A010",
+    *b"B000",
+    *b"\x7f\xff\xff\xff",
+    *b"\x80\x00\x00\x00",
+    *b"\xff\xff\xff\xff",
+];
+
+// The most that a balance of 7 digits holds.
+const MOST: u32 = 9_999_999;
+
+// ---- the calls
+
+// Pseudo-random numbers.
+#[derive(Drop)]
+struct Random(u32);
+
+impl Random {
+    // A number below this one. The low bits are left out, as they soon come round again.
+    fn below(&mut self, n: u32) -> u32
+        requires { 0 < n }
+        ensures { result < n }
+    {
+        self.0 = self.0.wrapping_mul(1_103_515_245).wrapping_add(12_345) & 0x7fff_ffff;
+        (self.0 >> 16) % n
+    }
+}
+
+#[derive(Clone, Copy, Debug)]
+enum Action {
+    Insert,
+    Replace,
+    Delete,
+    Set,
+    Add,
+    // Verifies that the balance is no less.
+    Verify,
+}
+
+// A call: what it does to the account of a key, with which amount.
+#[derive(Clone, Copy, Debug)]
+struct Step {
+    action: Action,
+    key: [u8; 4],
+    amount: u32,
+}
+
+impl Random {
+    fn action(&mut self) -> Action {
+        match self.below(6) {
+            0 => Action::Insert,
+            1 => Action::Replace,
+            2 => Action::Delete,
+            3 => Action::Set,
+            _ => Action::Add,
+        }
+    }
+
+    fn step(&mut self) -> Step {
+        let action = self.action();
+        let key = KEYS[self.below(12) as usize];
+        let amount = self.below(10_000) * 1_000 + self.below(1_000);
+        Step {
+            action,
+            key,
+            amount,
+        }
+    }
+
+    // A second call, every other time.
+    fn perhaps_step(&mut self) -> Option<Step> {
+        if self.below(2) == 0 {
+            return None;
+        }
+        Some(self.step())
+    }
+}
+
+// The digit of an amount at a unit.
+fn digit(amount: u32, unit: u32) -> u8
+    requires { 0 < unit }
+    ensures { result < 10 }
+{
+    (amount / unit % 10) as u8
+}
+
+// An amount as the operand of a field search argument.
+fn operand(amount: u32) -> [u8; 7] {
+    [
+        b'0' + digit(amount, 1_000_000),
+        b'0' + digit(amount, 100_000),
+        b'0' + digit(amount, 10_000),
+        b'0' + digit(amount, 1_000),
+        b'0' + digit(amount, 100),
+        b'0' + digit(amount, 10),
+        b'0' + digit(amount, 1),
+    ]
+}
+
+// An amount packed, with the sign C.
+fn packed(amount: u32) -> [u8; 4] {
+    [
+        digit(amount, 1_000_000) * 16 + digit(amount, 100_000),
+        digit(amount, 10_000) * 16 + digit(amount, 1_000),
+        digit(amount, 100) * 16 + digit(amount, 10),
+        digit(amount, 1) * 16 + 0x0c,
+    ]
+}
+
+// An account as its segment has it.
+fn segment(key: [u8; 4], amount: u32) -> [u8; 8] {
+    let [a, b, c, d] = key;
+    let [e, f, g, h] = packed(amount);
+    [a, b, c, d, e, f, g, h]
+}
+
+fn replace(alloc: Global, segment: [u8; 8]) -> Result<Deferred, AllocError>
+    ensures { (defs : ListOf DefOf) → (def : DefOf) → defs ≡ def ∷ [] → def.length ≡ 8
+        → IfOk result (IsFitDeferred defs) }
+{
+    Ok(Deferred::Repl {
+        msdb: 0,
+        bytes: Bytes::from_slice(alloc, &segment)?,
+    })
+}
+
+fn call(alloc: Global, step: Step) -> Result<Deferred, AllocError>
+    ensures { (defs : ListOf DefOf) → (def : DefOf) → defs ≡ def ∷ [] → def.length ≡ 8
+        → key_length def.fields ≡ 4 → IfOk result (IsFitDeferred defs) }
+{
+    match step.action {
+        Action::Insert => insert(alloc, segment(step.key, step.amount)),
+        Action::Replace => replace(alloc, segment(step.key, step.amount)),
+        Action::Delete => delete(alloc, step.key),
+        Action::Set => field_call(alloc, step.key, b'=', &operand(step.amount)),
+        Action::Add => field_call(alloc, step.key, b'+', &operand(step.amount)),
+        Action::Verify => field_call(alloc, step.key, b'H', &operand(step.amount)),
+    }
+}
+
+// A queue of one or two calls.
+fn queue(alloc: Global, first: Step, second: Option<Step>) -> Result<List<Deferred>, AllocError>
+    ensures fit { (defs : ListOf DefOf) → (def : DefOf) → defs ≡ def ∷ [] → def.length ≡ 8
+        → key_length def.fields ≡ 4 → IfOk result (AllByRecursion (IsFitDeferred defs)) }
+    ensures few { IfOk result (λ queue. length queue < 2 ^ 32) }
+{
+    let mut queue = List::new(alloc);
+    queue.push(call(alloc, first)?)?;
+    let Some(second) = second else {
+        return Ok(queue);
+    };
+    queue.push(call(alloc, second)?)?;
+    Ok(queue)
+}
+
+// Settles a queue, and gives the databases what it comes to. How many items it has.
+fn settle(store: &mut MsdbStore, queue: &List<Deferred>) -> Result<usize, VerifyFault>
+    requires fit { (defs : ListOf DefOf) × CanSettle defs store.old queue.now }
+    requires few { length queue.now < 2 ^ 32 }
+    ensures { (defs : ListOf DefOf) → CanSettle defs store.old queue.now → IsOf defs store.new }
+{
+    let staged = store.check(queue)?;
+    store.reserve(staged.inserts())?;
+    let items = staged.items()?.len();
+    store.publish(staged);
+    Ok(items)
+}
+
+// ---- the plain list
+
+#[derive(Clone, Copy, Debug)]
+struct Account {
+    key: [u8; 4],
+    amount: u32,
+}
+
+// Where the account of a key stands in the list.
+fn place(accounts: &[Account], key: [u8; 4]) -> Option<usize>
+    ensures { IfSome result (λ at. at < length accounts.now) }
+{
+    for (at, account) in accounts.iter().enumerate() {
+        if account.key == key {
+            return Some(at);
+        }
+    }
+    None
+}
+
+fn put(accounts: &mut Vec<Account>, account: Account) -> Result<(), AllocError> {
+    match place(accounts, account.key) {
+        Some(at) => accounts[at] = account,
+        None => accounts.push(account)?,
+    }
+    Ok(())
+}
+
+fn close(accounts: &mut Vec<Account>, key: [u8; 4]) {
+    if let Some(at) = place(accounts, key) {
+        accounts.swap_remove(at);
+    }
+}
+
+// How the field call of a place in the queue fails.
+fn failure(alloc: Global, call: u32, fsa: u16, found: &[u8]) -> VerifyFault {
+    match Bytes::from_slice(alloc, found) {
+        Ok(found) => VerifyFault::Verify { call, fsa, found },
+        Err(_) => VerifyFault::Memory,
+    }
+}
+
+// Sets the balance of an account, or adds to it.
+fn change(
+    alloc: Global,
+    accounts: &mut [Account],
+    step: Step,
+    call: u32,
+) -> Result<(), VerifyFault> {
+    let Some(at) = place(accounts, step.key) else {
+        return Err(failure(alloc, call, 65_535, b""));
+    };
+    let held = accounts[at].amount;
+    let amount = match step.action {
+        Action::Add => u64::from(held) + u64::from(step.amount),
+        _ => u64::from(step.amount),
+    };
+    if amount > u64::from(MOST) {
+        return Err(failure(alloc, call, 0, &packed(held)));
+    }
+    accounts[at].amount = amount as u32;
+    Ok(())
+}
+
+// Makes the change of the call of a place in the queue.
+fn make(
+    alloc: Global,
+    accounts: &mut Vec<Account>,
+    step: Step,
+    call: u32,
+) -> Result<(), VerifyFault> {
+    let Step {
+        action: _,
+        key,
+        amount,
+    } = step;
+    match step.action {
+        Action::Insert | Action::Replace => put(accounts, Account { key, amount })?,
+        Action::Delete => close(accounts, key),
+        Action::Set | Action::Add | Action::Verify => change(alloc, accounts, step, call)?,
+    }
+    Ok(())
+}
+
+// Makes the changes of a queue, all or none of them.
+fn settle_plainly(
+    alloc: Global,
+    accounts: &mut Vec<Account>,
+    first: Step,
+    second: Option<Step>,
+) -> Result<(), VerifyFault> {
+    let mut changed = Vec::from_slice(alloc, accounts.as_slice())?;
+    make(alloc, &mut changed, first, 0)?;
+    if let Some(second) = second {
+        make(alloc, &mut changed, second, 1)?;
+    }
+    *accounts = changed;
+    Ok(())
+}
+
+// ---- the store beside the list
+
+// Whether the store has the account of a key as the list has it, or neither has one.
+fn is_held(store: &MsdbStore, accounts: &[Account], key: [u8; 4]) -> bool
+    requires { 0 < length store.now.msdbs }
+{
+    match (store.look(0, &key), place(accounts, key)) {
+        (None, None) => true,
+        (Some(held), Some(at)) => held == segment(key, accounts[at].amount).as_slice(),
+        _ => false,
+    }
+}
+
+fn are_held(store: &MsdbStore, accounts: &[Account]) -> bool
+    requires { 0 < length store.now.msdbs }
+{
+    for key in KEYS {
+        if !is_held(store, accounts, key) {
+            return false;
+        }
+    }
+    true
+}
+
+// Whether a walk through the store meets the accounts of the list by key, and no others.
+fn are_met(store: &MsdbStore, accounts: &[Account]) -> bool
+    requires { 0 < length store.now.msdbs }
+{
+    let mut last: Option<&[u8]> = None;
+    for key in &KEYS {
+        if let Some(at) = place(accounts, *key) {
+            if store.after(0, last) != Some(segment(*key, accounts[at].amount).as_slice()) {
+                return false;
+            }
+            last = Some(key.as_slice());
+        }
+    }
+    store.after(0, last).is_none()
+}
+
+// What an answer says, but for want of memory.
+fn told<T: Drop>(outcome: Result<T, VerifyFault>) -> Result<Result<T, VerifyFault>, VerifyFault> {
+    match outcome {
+        Err(VerifyFault::Memory) => Err(VerifyFault::Memory),
+        outcome => Ok(outcome),
+    }
+}
+
+// Settles a queue of one or two calls on the store: how many items, or which call fails.
+fn settled(
+    alloc: Global,
+    store: &mut MsdbStore,
+    first: Step,
+    second: Option<Step>,
+) -> Result<Result<usize, VerifyFault>, VerifyFault>
+    requires { (defs : ListOf DefOf) × (def : DefOf) × (defs ≡ def ∷ []) × IsMsdbDef def × (def.length ≡ 8)
+        × (key_length def.fields ≡ 4) × IsOf defs store.old }
+    ensures { (defs : ListOf DefOf) → (def : DefOf) → defs ≡ def ∷ [] → IsMsdbDef def → def.length ≡ 8
+        → key_length def.fields ≡ 4 → IsOf defs store.old → IsOf defs store.new }
+{
+    let queue = queue(alloc, first, second)?;
+    told(settle(store, &queue))
+}
+
+// One queue, settled by both.
+fn round(
+    rt: &impl Abort,
+    alloc: Global,
+    store: &mut MsdbStore,
+    accounts: &mut Vec<Account>,
+    random: &mut Random,
+) -> Result<(), VerifyFault>
+    requires { (defs : ListOf DefOf) × (def : DefOf) × (defs ≡ def ∷ []) × IsMsdbDef def × (def.length ≡ 8)
+        × (key_length def.fields ≡ 4) × IsOf defs store.old }
+    ensures { (defs : ListOf DefOf) → (def : DefOf) → defs ≡ def ∷ [] → IsMsdbDef def → def.length ≡ 8
+        → key_length def.fields ≡ 4 → IsOf defs store.old → IsOf defs store.new }
+{
+    let first = random.step();
+    let second = random.perhaps_step();
+    let outcome = settled(alloc, store, first, second)?;
+    let expected = told(settle_plainly(alloc, accounts, first, second))?;
+    assert_eq!(rt; outcome.err(), expected.err(), "{first:?} {second:?}");
+    assert!(rt; are_held(store, accounts), "{first:?} {second:?}");
+    assert!(rt; are_met(store, accounts), "{first:?} {second:?}");
+    Ok(())
+}
+
+#[test]
+fn mixed_calls_meet_a_plain_list(rt: HostRuntime) -> Result<(), Fail> {
+    let alloc = rt.alloc();
+    let defs = defs(alloc, true)?;
+    let mut store = MsdbStore::start(alloc, &defs)?;
+    let mut accounts = Vec::new(alloc);
+    let mut random = Random(1);
+    for _ in 0..1000 {
+        round(&rt, alloc, &mut store, &mut accounts, &mut random)?;
+    }
+    Ok(())
+}
+
+// ---- queues by hand
+
+// A queue of two calls, how many items it has or which call fails with which bytes found, and all segments behind it.
+#[derive(Clone, Copy, Debug)]
+struct Row {
+    first: Step,
+    second: Step,
+    wanted: Result<usize, (u32, u16, &'static [u8])>,
+    segments: &'static [u8],
+}
+
+const A: [u8; 4] = *b"A001";
+
+const B: [u8; 4] = *b"B002";
+
+const C: [u8; 4] = *b"C003";
+
+const ROWS: [Row; 5] = [
+    Row {
+        first: Step {
+            action: Action::Insert,
+            key: A,
+            amount: 100,
+        },
+        second: Step {
+            action: Action::Add,
+            key: A,
+            amount: 10,
+        },
+        wanted: Ok(1),
+        segments: b"A001\x00\x00\x11\x0c",
+    },
+    Row {
+        first: Step {
+            action: Action::Insert,
+            key: B,
+            amount: 0,
+        },
+        second: Step {
+            action: Action::Delete,
+            key: B,
+            amount: 0,
+        },
+        wanted: Ok(1),
+        segments: b"A001\x00\x00\x11\x0c",
+    },
+    Row {
+        first: Step {
+            action: Action::Add,
+            key: C,
+            amount: 1,
+        },
+        second: Step {
+            action: Action::Insert,
+            key: C,
+            amount: 100,
+        },
+        wanted: Err((0, 65_535, b"")),
+        segments: b"A001\x00\x00\x11\x0c",
+    },
+    Row {
+        first: Step {
+            action: Action::Insert,
+            key: C,
+            amount: 100,
+        },
+        second: Step {
+            action: Action::Verify,
+            key: C,
+            amount: 101,
+        },
+        wanted: Err((1, 0, b"\x00\x00\x10\x0c")),
+        segments: b"A001\x00\x00\x11\x0c",
+    },
+    Row {
+        first: Step {
+            action: Action::Insert,
+            key: C,
+            amount: MOST,
+        },
+        second: Step {
+            action: Action::Add,
+            key: C,
+            amount: 1,
+        },
+        wanted: Err((1, 0, b"\x99\x99\x99\x9c")),
+        segments: b"A001\x00\x00\x11\x0c",
+    },
+];
+
+// The outcome of a row as the store tells it.
+fn outcome(alloc: Global, row: Row) -> Result<usize, VerifyFault> {
+    match row.wanted {
+        Ok(items) => Ok(items),
+        Err((call, fsa, found)) => Err(failure(alloc, call, fsa, found)),
+    }
+}
+
+// The segments of the one database, one after another.
+fn segments(alloc: Global, store: &MsdbStore) -> Result<Bytes, AllocError> {
+    let mut text = Bytes::new(alloc);
+    for msdb in store.databases(alloc)?.as_slice() {
+        for segment in msdb.segments.as_slice() {
+            text.append(segment.as_slice())?;
+        }
+    }
+    Ok(text)
+}
+
+// Settles the queue of a row on the store. Whether it comes to what is wanted.
+fn goes(alloc: Global, store: &mut MsdbStore, row: Row) -> Result<bool, VerifyFault>
+    requires { (defs : ListOf DefOf) × (def : DefOf) × (defs ≡ def ∷ []) × IsMsdbDef def × (def.length ≡ 8)
+        × (key_length def.fields ≡ 4) × IsOf defs store.old }
+    ensures { (defs : ListOf DefOf) → (def : DefOf) → defs ≡ def ∷ [] → IsMsdbDef def → def.length ≡ 8
+        → key_length def.fields ≡ 4 → IsOf defs store.old → IsOf defs store.new }
+{
+    let found = settled(alloc, store, row.first, Some(row.second))?;
+    let segments = segments(alloc, store)?;
+    Ok(found == told(outcome(alloc, row))? && segments.as_slice() == row.segments)
+}
+
+// Calls meet what those before them left, and the first failure is told.
+#[test]
+fn queues_come_to_what_is_wanted(rt: HostRuntime) -> Result<(), Fail> {
+    let alloc = rt.alloc();
+    let defs = defs(alloc, true)?;
+    let mut store = MsdbStore::start(alloc, &defs)?;
+    for row in ROWS {
+        assert!(rt; goes(alloc, &mut store, row)?, "{row:?}");
+    }
+    Ok(())
+}

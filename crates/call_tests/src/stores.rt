@@ -1,0 +1,81 @@
+//! The store over a small database: what stands at a key, and behind it.
+ghost use Rattle.fp_model.specs.declared.definitions.MsdbDef.{MsdbDef as DefOf};
+ghost use Rattle.std.specs.Prelude.{◌≡◌, ◌∷◌, [], IfOk, length};
+
+use crate::accounts::defs;
+use fp_model::{Bytes, Defs, Item, List, Msdb};
+use msdb_store::MsdbStore;
+use std::alloc::{AllocError, Global};
+use std::test::Fail;
+
+// An empty store.
+fn empty(alloc: Global, defs: &Defs) -> Result<MsdbStore, AllocError>
+    requires { (def : DefOf) × (defs.now.msdbs ≡ def ∷ []) }
+    ensures { IfOk result (λ store. length store.msdbs ≡ 1) }
+{
+    let mut msdbs = List::new(alloc);
+    msdbs.push(Msdb {
+        segments: List::new(alloc),
+    })?;
+    MsdbStore::new(alloc, defs, msdbs)
+}
+
+// Segments in any order, one of them twice, one taken away again, and one that isn't there taken away.
+const SEGMENTS: [(&[u8], &[u8]); 6] = [
+    (b"C003", b"C003dddd"),
+    (b"A001", b"A001aaaa"),
+    (b"B002", b"B002bbbb"),
+    (b"A001", b"A001cccc"),
+    (b"B002", b""),
+    (b"X999", b""),
+];
+
+fn items(alloc: Global) -> Result<List<Item>, AllocError> {
+    let mut items = List::new(alloc);
+    for (key, bytes) in SEGMENTS {
+        items.push(Item::Segment {
+            msdb: 0,
+            key: Bytes::from_slice(alloc, key)?,
+            bytes: Bytes::from_slice(alloc, bytes)?,
+        })?;
+    }
+    Ok(items)
+}
+
+// A key, and the segment that stands there.
+const AT: [(&[u8], Option<&[u8]>); 4] = [
+    (b"A001", Some(b"A001cccc")),
+    (b"B002", None),
+    (b"C003", Some(b"C003dddd")),
+    (b"C004", None),
+];
+
+// A key or none, and the segment that is the first behind it.
+const AFTER: [(Option<&[u8]>, Option<&[u8]>); 4] = [
+    (None, Some(b"A001cccc")),
+    (Some(b"A000"), Some(b"A001cccc")),
+    (Some(b"A001"), Some(b"C003dddd")),
+    (Some(b"C003"), None),
+];
+
+// A store of the segments.
+fn filled(alloc: Global) -> Result<MsdbStore, AllocError>
+    ensures { IfOk result (λ store. length store.msdbs ≡ 1) }
+{
+    let defs = defs(alloc, true)?;
+    let mut store = empty(alloc, &defs)?;
+    store.apply(&items(alloc)?)?;
+    Ok(store)
+}
+
+#[test]
+fn segments_stand_by_key(rt: HostRuntime) -> Result<(), Fail> {
+    let store = filled(rt.alloc())?;
+    for (key, wanted) in AT {
+        assert_eq!(rt; store.look(0, key), wanted, "at {key:?}");
+    }
+    for (key, wanted) in AFTER {
+        assert_eq!(rt; store.after(0, key), wanted, "behind {key:?}");
+    }
+    Ok(())
+}

@@ -1,0 +1,314 @@
+//! Statuses, letters, notes and queues of short transactions, written by hand from the rules.
+ghost use Rattle.fp_model.specs.FitCalls.{IsFsaList, IsMsdbCall};
+ghost use Rattle.fp_model.specs.MsdbCalls.{key_named};
+ghost use Rattle.fp_model.specs.State.{key_length};
+ghost use Rattle.fp_model.specs.WellFormed.{IsMsdbDef};
+ghost use Rattle.fp_model.specs.declared.definitions.Defs.{Defs as DefsOf};
+ghost use Rattle.fp_model.specs.declared.definitions.MsdbDef.{MsdbDef as DefOf};
+ghost use Rattle.msdb_store.specs.Store.{IsOf};
+ghost use Rattle.std.specs.List.{AllByRecursion};
+ghost use Rattle.std.specs.Prelude.{◌≡◌, ◌∷◌, [], IfOk, IfSome, length};
+ghost use Rattle.dli_calls.specs.Progress.{IsWorkOf};
+
+use crate::accounts::defs;
+use dli_calls::{Ready, Work, answer};
+use fld_calls::{Fsa, write_list};
+use fp_model::{Bytes, Call, Defs, Get, List, Msdb, Name, Resource, Ssa};
+use msdb_store::MsdbStore;
+use std::alloc::{AllocError, Global};
+use std::test::Fail;
+
+// 100 in A001, 50 in A002, no number in A003.
+fn store(alloc: Global, defs: &Defs) -> Result<MsdbStore, AllocError>
+    requires { (def : DefOf) × (defs.now.msdbs ≡ def ∷ []) × IsMsdbDef def × (def.length ≡ 8)
+        × (key_length def.fields ≡ 4) }
+    ensures { IfOk result (IsOf defs.now.msdbs) }
+{
+    let mut segments = List::new(alloc);
+    segments.push(Bytes::from_slice(alloc, b"A001\x00\x00\x10\x0c")?)?;
+    segments.push(Bytes::from_slice(alloc, b"A002\x00\x00\x05\x0c")?)?;
+    segments.push(Bytes::from_slice(alloc, b"A003\xff\xff\xff\xff")?)?;
+    let mut msdbs = List::new(alloc);
+    msdbs.push(Msdb { segments })?;
+    MsdbStore::new(alloc, defs, msdbs)
+}
+
+// A call of a short transaction.
+#[derive(Clone, Copy, Debug)]
+enum Step {
+    Get(Get, bool, Option<[u8; 4]>),
+    // At least 60, and less 60.
+    Withdraw([u8; 4]),
+    // One field search argument: of a key, on a field, an operation, its operand.
+    Fld([u8; 4], [u8; 8], u8, [u8; 7]),
+    Repl([u8; 8]),
+    Isrt([u8; 8]),
+    Dlet,
+}
+
+fn ssas(alloc: Global, key: &Option<[u8; 4]>) -> Result<List<Ssa>, AllocError>
+    ensures { IfOk result (λ ssas. IfSome (key_named ssas) (λ key. length key ≡ 4)) }
+{
+    let mut ssas = List::new(alloc);
+    if let Some(key) = key {
+        ssas.push(Ssa {
+            segment: 0,
+            key: Some(Bytes::from_slice(alloc, key)?),
+        })?;
+    }
+    Ok(ssas)
+}
+
+fn argument(alloc: Global, name: [u8; 8], op: u8, operand: [u8; 7]) -> Result<Bytes, AllocError>
+    ensures { IfOk result IsFsaList }
+{
+    let mut fsas = List::new(alloc);
+    fsas.push(Fsa {
+        field: Name(name),
+        status: b' ',
+        op,
+        operand: Bytes::from_slice(alloc, &operand)?,
+    })?;
+    write_list(alloc, &fsas)
+}
+
+fn withdrawal(alloc: Global) -> Result<Bytes, AllocError>
+    ensures { IfOk result IsFsaList }
+{
+    Bytes::from_slice(alloc, b"BAL      H\x00\x0260*BAL      -\x00\x0260 ")
+}
+
+fn call_of(alloc: Global, defs: &Defs, step: &Step) -> Result<Call, AllocError>
+    requires { (def : DefOf) × (defs.now.msdbs ≡ def ∷ []) × IsMsdbDef def × (def.length ≡ 8)
+        × (key_length def.fields ≡ 4) }
+    ensures { IfOk result (IsMsdbCall defs.now.msdbs) }
+{
+    match step {
+        Step::Get(get, hold, key) => Ok(Call::Get {
+            get: *get,
+            hold: *hold,
+            db: 0,
+            ssas: ssas(alloc, key)?,
+        }),
+        Step::Withdraw(key) => Ok(Call::Fld {
+            db: 0,
+            key: Bytes::from_slice(alloc, key)?,
+            fsas: withdrawal(alloc)?,
+        }),
+        Step::Fld(key, name, op, operand) => Ok(Call::Fld {
+            db: 0,
+            key: Bytes::from_slice(alloc, key)?,
+            fsas: argument(alloc, *name, *op, *operand)?,
+        }),
+        Step::Repl(bytes) => Ok(Call::Repl {
+            db: 0,
+            bytes: Bytes::from_slice(alloc, bytes)?,
+        }),
+        Step::Isrt(bytes) => Ok(Call::Isrt {
+            db: 0,
+            ssas: List::new(alloc),
+            bytes: Bytes::from_slice(alloc, bytes)?,
+        }),
+        Step::Dlet => Ok(Call::Dlet { db: 0 }),
+    }
+}
+
+// What a transaction was answered and keeps: the statuses and letters one behind another, ND where a lock was needed
+// first, and how many notes and deferred calls there are.
+#[derive(Drop)]
+struct Run {
+    statuses: Bytes,
+    letters: Bytes,
+    notes: usize,
+    queued: usize,
+}
+
+// Puts an answer to the others. A lock that is needed is gained.
+fn take(work: &mut Work, ready: Ready, run: &mut Run) -> Result<bool, AllocError>
+    ensures { (defs : DefsOf) → IsWorkOf defs work.old → IsWorkOf defs work.new }
+{
+    match ready {
+        Ready::Answer(answer) => {
+            run.statuses.append(&answer.status)?;
+            run.letters.append(answer.letters.as_slice())?;
+            Ok(true)
+        }
+        Ready::Need(Resource::Segment { msdb, key }, _) => {
+            run.statuses.append(b"ND")?;
+            work.hold_segment(msdb, key.as_slice())?;
+            Ok(false)
+        }
+        Ready::Need(Resource::Anchor { .. }, _) => Ok(true),
+    }
+}
+
+// Asks a call, and once more where it needed a lock.
+fn ask(
+    alloc: Global,
+    work: &mut Work,
+    call: &Call,
+    store: &MsdbStore,
+    defs: &Defs,
+    run: &mut Run,
+) -> Result<(), AllocError>
+    requires defs { AllByRecursion IsMsdbDef defs.now.msdbs }
+    requires store { IsOf defs.now.msdbs store.now }
+    requires work { IsWorkOf defs.now work.old }
+    requires call { IsMsdbCall defs.now.msdbs call.now }
+    ensures { IsWorkOf defs.now work.new }
+{
+    let ready = answer(alloc, work, call, store, defs, 7)?;
+    if !take(work, ready, run)? {
+        let ready = answer(alloc, work, call, store, defs, 7)?;
+        take(work, ready, run)?;
+    }
+    Ok(())
+}
+
+fn run_of(alloc: Global, dynamic: bool, steps: &[Step]) -> Result<Run, AllocError> {
+    let defs = defs(alloc, dynamic)?;
+    let store = store(alloc, &defs)?;
+    let mut work = Work::new(alloc, &defs)?;
+    let mut run = Run {
+        statuses: Bytes::new(alloc),
+        letters: Bytes::new(alloc),
+        notes: 0,
+        queued: 0,
+    };
+    for step in steps {
+        let call = call_of(alloc, &defs, step)?;
+        ask(alloc, &mut work, &call, &store, &defs, &mut run)?;
+    }
+    run.notes = work.notes().len();
+    run.queued = work.deferred().len();
+    Ok(run)
+}
+
+// GU of a key, GU without one, GN up to the end, and gets that a main storage database doesn't have.
+const GETS: [Step; 9] = [
+    Step::Get(Get::Unique, false, Some(*b"A002")),
+    Step::Get(Get::Next, false, None),
+    Step::Get(Get::Next, false, None),
+    Step::Get(Get::Unique, false, Some(*b"A009")),
+    Step::Get(Get::Unique, false, None),
+    Step::Get(Get::Next, false, None),
+    Step::Get(Get::Next, true, None),
+    Step::Get(Get::NextInParent, false, None),
+    Step::Get(Get::Unique, true, None),
+];
+
+// A segment is replaced while it is held, and each answered call ends the hold.
+const REPLACING: [Step; 9] = [
+    Step::Repl(*b"A001\x00\x00\x20\x0c"),
+    Step::Get(Get::Unique, true, Some(*b"A001")),
+    Step::Repl(*b"A004\x00\x00\x20\x0c"),
+    Step::Repl(*b"A001\x00\x00\x20\x0c"),
+    Step::Get(Get::Unique, true, Some(*b"A001")),
+    Step::Repl(*b"A001\x00\x00\x20\x0c"),
+    Step::Get(Get::Unique, true, Some(*b"A009")),
+    Step::Dlet,
+    Step::Isrt(*b"A004\x00\x00\x20\x0c"),
+];
+
+// A withdrawal of 60 from 50 is answered FE with D and a blank, and from 100 it is queued; it isn't seen before.
+const WITHDRAWALS: [Step; 4] = [
+    Step::Withdraw(*b"A002"),
+    Step::Withdraw(*b"A001"),
+    Step::Withdraw(*b"A001"),
+    Step::Withdraw(*b"A009"),
+];
+
+// Each letter once.
+const LETTERS: [Step; 8] = [
+    Step::Fld(*b"A001", *b"BAL     ", b'*', *b"0000001"),
+    Step::Fld(*b"A001", *b"NONE    ", b'=', *b"0000001"),
+    Step::Fld(*b"A001", *b"ACCT    ", b'=', *b"0000001"),
+    Step::Fld(*b"A001", *b"BAL     ", b'+', *b"SEVEN  "),
+    Step::Fld(*b"A003", *b"BAL     ", b'+', *b"0000001"),
+    Step::Fld(*b"A001", *b"BAL     ", b'E', *b"0000001"),
+    Step::Fld(*b"A001", *b"BAL     ", b'+', *b"9999999"),
+    Step::Fld(*b"A001", *b"BAL     ", b'+', *b"0000001"),
+];
+
+// A key that was inserted or deleted is changed no more, and the segments are still seen as they were.
+const INSERTS_AND_DELETES: [Step; 10] = [
+    Step::Isrt(*b"A004\x00\x00\x20\x0c"),
+    Step::Isrt(*b"A004\x00\x00\x20\x0c"),
+    Step::Isrt(*b"A001\x00\x00\x20\x0c"),
+    Step::Get(Get::Unique, false, Some(*b"A004")),
+    Step::Dlet,
+    Step::Get(Get::Unique, true, Some(*b"A001")),
+    Step::Dlet,
+    Step::Withdraw(*b"A001"),
+    Step::Get(Get::Unique, true, Some(*b"A001")),
+    Step::Repl(*b"A001\x00\x00\x20\x0c"),
+];
+
+// A transaction of some calls, what they are answered, and how many notes and deferred calls it has behind them.
+#[derive(Clone, Copy, Debug)]
+struct Scenario {
+    dynamic: bool,
+    steps: &'static [Step],
+    statuses: &'static [u8],
+    letters: &'static [u8],
+    notes: usize,
+    queued: usize,
+}
+
+const SCENARIOS: [Scenario; 5] = [
+    Scenario {
+        dynamic: false,
+        steps: &GETS,
+        statuses: b"    GBGE    AMAMAM",
+        letters: b"",
+        notes: 6,
+        queued: 0,
+    },
+    Scenario {
+        dynamic: false,
+        steps: &REPLACING,
+        statuses: b"DJND  DADJ    NDGEAMAM",
+        letters: b"",
+        notes: 0,
+        queued: 1,
+    },
+    Scenario {
+        dynamic: false,
+        steps: &WITHDRAWALS,
+        statuses: b"FE    GE",
+        letters: b"D     ",
+        notes: 4,
+        queued: 2,
+    },
+    Scenario {
+        dynamic: false,
+        steps: &LETTERS,
+        statuses: b"FEFEFEFEFEFEFE  ",
+        letters: b"AHCBEDG ",
+        notes: 8,
+        queued: 1,
+    },
+    Scenario {
+        dynamic: true,
+        steps: &INSERTS_AND_DELETES,
+        statuses: b"ND  XPNDIIGEDJ    XP  XP",
+        letters: b"",
+        notes: 1,
+        queued: 2,
+    },
+];
+
+#[test]
+fn each_transaction_is_answered_as_wanted(rt: HostRuntime) -> Result<(), Fail> {
+    for wanted in SCENARIOS {
+        let run = run_of(rt.alloc(), wanted.dynamic, wanted.steps)?;
+        assert_eq!(rt; run.statuses.as_slice(), wanted.statuses, "{wanted:?}");
+        assert_eq!(rt; run.letters.as_slice(), wanted.letters, "{wanted:?}");
+        assert_eq!(rt;
+            (run.notes, run.queued),
+            (wanted.notes, wanted.queued),
+            "{wanted:?}"
+        );
+    }
+    Ok(())
+}

@@ -1,5 +1,0 @@
-use Rattle.dli_calls.specs.Progress.{IsWorkOf}
-use Rattle.dli_calls.proofs.tests.run_of.Given as goal
-
-abbrev pub invariant-loop-step : goal.invariant-loop-step
-invariant-loop-step l = IsWorkOf l.defs l.work

@@ -1,0 +1,227 @@
+//! The text and the number of each answer, and answers that come before the site is looked at.
+ghost use Rattle.std.specs.Prelude.{◌≡◌};
+ghost use Rattle.fp_exits.specs.Ranges.{IsRoutable};
+ghost use Rattle.fp_model.specs.Exits.{route};
+
+use fp_defs::DefsFault;
+use fp_exits::{Exits, Router, Routing, fold_group};
+use fp_model::{Bytes, Kind, Name};
+use fp_site::MemorySite;
+use fp_source::{MemorySource, Part};
+use fp_system::{Status, fault_text, ims};
+use std::alloc::{AllocError, Global};
+use std::test::Fail;
+use txn_lang::ScriptFault;
+
+const GOOD: &str = "regions = [1]\nrouter = \"FOLD\"\n";
+
+// What is said of a status, with its number behind it.
+fn said(alloc: Global, status: &Status) -> Result<String, AllocError> {
+    let text = fault_text(alloc, status)?;
+    let number = status.number();
+    let text = str::from_utf8(text.as_slice()).unwrap_or("no text");
+    format!(in alloc; "{text}|{number}")
+}
+
+// What a command answers over parts and a site, where the exits are one router, FOLD.
+pub(crate) fn answer(
+    alloc: Global,
+    words: &[&str],
+    source: &mut MemorySource,
+    site: &mut MemorySite,
+) -> Result<Status, AllocError> {
+    let fold: Routing = Box::new(
+        alloc,
+        |tran: &Name, n: u64| -> u64
+            requires { IsRoutable tran.now n }
+            ensures { result ≡ route Kind.Fold n tran.now }
+        { fold_group(tran, n) },
+    )?;
+    let mut routers = Vec::new(alloc);
+    routers.push(Router::new(Kind::Fold, fold))?;
+    let exits = Exits::new(Vec::new(alloc), routers);
+    let mut texts = Vec::new(alloc);
+    for word in words {
+        texts.push(word.to_string(alloc)?)?;
+    }
+    Ok(ims(alloc, &texts, source, site, &exits))
+}
+
+// What a command says over these parts and a new site, and whether it left the site as it was.
+fn refused(
+    alloc: Global,
+    words: &[&str],
+    definitions: &str,
+    scripts: &str,
+) -> Result<(String, bool), AllocError> {
+    let parts = [
+        Bytes::from_slice(alloc, definitions.as_bytes())?,
+        Bytes::from_slice(alloc, scripts.as_bytes())?,
+        Bytes::new(alloc),
+        Bytes::new(alloc),
+    ];
+    let mut source = MemorySource::new(alloc, parts, &[])?;
+    let mut site = MemorySite::new(alloc, &[])?;
+    let status = answer(alloc, words, &mut source, &mut site)?;
+    Ok((said(alloc, &status)?, site.contents(0).is_empty()))
+}
+
+// Answers of a run, with what is said of each and its number.
+const ANSWERS: [(Status, &str); 9] = [
+    (Status::Done, "|0"),
+    (Status::Usage, "usage: ims_fp define DIR | run DIR|1"),
+    (Status::ReadFault, "read fault|5"),
+    (Status::SiteFault, "site fault|6"),
+    (Status::Foreign, "foreign log|7"),
+    (
+        Status::Damaged { set: 0, at: 208 },
+        "damaged: data set 0 at 208|8",
+    ),
+    (Status::Line { number: 12 }, "messages: line 12|9"),
+    (Status::NoMemory, "no memory|10"),
+    (
+        Status::NotBuilt(Part::Definitions),
+        "not built: definitions|11",
+    ),
+];
+
+#[test]
+fn answers_of_the_run_have_their_texts(rt: HostRuntime) -> Result<(), Fail> {
+    for (status, wanted) in ANSWERS {
+        assert_eq!(rt; said(rt.alloc(), &status)?.as_str(), wanted);
+    }
+    Ok(())
+}
+
+const LOOP: Name = Name(*b"LOOP    ");
+
+const SCRIPTS_FAULTS: [(ScriptFault, &str); 5] = [
+    (ScriptFault::Syntax(2), "scripts: syntax at line 2|3"),
+    (
+        ScriptFault::UnknownName(7),
+        "scripts: unknown name at line 7|3",
+    ),
+    (
+        ScriptFault::TooDear(LOOP, 10001),
+        "scripts: transaction LOOP costs 10001|3",
+    ),
+    (
+        ScriptFault::Twice(LOOP),
+        "scripts: transaction LOOP twice|3",
+    ),
+    (ScriptFault::TooLong, "scripts: too long|3"),
+];
+
+#[test]
+fn faults_of_scripts_have_their_texts(rt: HostRuntime) -> Result<(), Fail> {
+    for (fault, wanted) in SCRIPTS_FAULTS {
+        assert_eq!(rt; said(rt.alloc(), &Status::Scripts(fault))?.as_str(), wanted);
+    }
+    Ok(())
+}
+
+// What is said of each fault of the definitions, by its place below.
+const DEFINITIONS_FAULTS: [&str; 8] = [
+    "definitions: not TOML|2",
+    "definitions: missing pool|2",
+    "definitions: unknown pool|2",
+    "definitions: pool out of limit: -1|2",
+    "definitions: twice pool|2",
+    "definitions: bad field pool|2",
+    "definitions: no exit FOLD|2",
+    "definitions: too long|2",
+];
+
+fn definitions_fault(alloc: Global, place: usize) -> Result<DefsFault, AllocError> {
+    let key = Bytes::from_slice(alloc, b"pool")?;
+    Ok(match place {
+        0 => DefsFault::NotToml,
+        1 => DefsFault::Missing(key),
+        2 => DefsFault::Unknown(key),
+        3 => DefsFault::OutOfLimit(key, -1),
+        4 => DefsFault::Twice(key),
+        5 => DefsFault::BadField(key),
+        6 => DefsFault::NoExit(Kind::Fold),
+        _ => DefsFault::TooLong,
+    })
+}
+
+#[test]
+fn faults_of_definitions_have_their_texts(rt: HostRuntime) -> Result<(), Fail> {
+    for (place, wanted) in DEFINITIONS_FAULTS.iter().enumerate() {
+        let fault = definitions_fault(rt.alloc(), place)?;
+        let said = said(rt.alloc(), &Status::Definitions(fault))?;
+        assert_eq!(rt; said.as_str(), *wanted);
+    }
+    Ok(())
+}
+
+const NO_FORMS: [&[&str]; 7] = [
+    &[],
+    &["run"],
+    &["run", ""],
+    &["run", "-h"],
+    &["-h"],
+    &["Run", "D"],
+    &["run", "D", "E"],
+];
+
+#[test]
+fn words_in_no_form_are_usage(rt: HostRuntime) -> Result<(), Fail> {
+    for form in NO_FORMS {
+        let (said, same) = refused(rt.alloc(), form, GOOD, "")?;
+        assert_eq!(rt;
+            said.as_str(),
+            "usage: ims_fp define DIR | run DIR|1",
+            "at {form:?}"
+        );
+        assert!(rt; same);
+    }
+    Ok(())
+}
+
+// A command, definitions and scripts, and what is said.
+const REFUSALS: [(&str, &str, &str, &str); 7] = [
+    (
+        "run",
+        "",
+        "TRAN A\nBOGUS\n",
+        "definitions: missing regions|2",
+    ),
+    ("define", "[", "BOGUS\n", "definitions: not TOML|2"),
+    (
+        "define",
+        "regions = [1, 1]\nrouter = \"FOLD\"\n",
+        "BOGUS\n",
+        "not built: definitions|11",
+    ),
+    (
+        "run",
+        "regions = [1]\nrouter = \"RANGE\"\n",
+        "BOGUS\n",
+        "definitions: no exit RANGE|2",
+    ),
+    (
+        "run",
+        GOOD,
+        "TRAN A\nBOGUS\n",
+        "scripts: syntax at line 2|3",
+    ),
+    (
+        "define",
+        GOOD,
+        "TRAN A\nGU ACCTS\n",
+        "scripts: unknown name at line 2|3",
+    ),
+    ("run", GOOD, "TRAN A\nREPLY 'A'\n", "foreign log|7"),
+];
+
+#[test]
+fn the_first_fault_of_the_parts_is_told(rt: HostRuntime) -> Result<(), Fail> {
+    for (command, definitions, scripts, wanted) in REFUSALS {
+        let (said, same) = refused(rt.alloc(), &[command, "D"], definitions, scripts)?;
+        assert_eq!(rt; said.as_str(), wanted);
+        assert!(rt; same);
+    }
+    Ok(())
+}

@@ -1,0 +1,13 @@
+//! Tests over sites in memory: logs, restarts and whole runs that are stopped at each call, and what they answer.
+#![tactic(auto)]
+
+#[cfg(test)]
+mod commands;
+#[cfg(test)]
+mod logs;
+#[cfg(test)]
+mod restarts;
+#[cfg(test)]
+mod runs;
+#[cfg(test)]
+mod stopped_runs;

@@ -1,0 +1,10 @@
+//! Worked rows of the script language: texts of the sample, and faults, computed on the definitions of `txn_lang`.
+//! Each row is the contract of a function that does nothing.
+#![tactic(auto)]
+
+mod rows;
+
+pub use rows::{
+    a_dear_script_is_a_fault, a_name_twice_is_a_fault, an_open_block_is_a_fault,
+    deposit_is_a_script, faults_of_lines, showc_is_a_script, the_sample_is_its_scripts,
+};
