@@ -1,0 +1,63 @@
+//! The sets of cases, a file each, and who judges them.
+
+use crate::cases::Case;
+use crate::fault::CaseFault;
+use crate::{arguments, messages, numbers};
+use std::alloc::Global;
+
+/// A set of cases of one kind, which lies in a file.
+#[derive(Clone, Copy, Debug, PartialEq, Eq)]
+pub(crate) enum Set {
+    /// Numbers in the fields of segments.
+    Numbers,
+    /// Lists of field search arguments, and segments that they are tried on.
+    Arguments,
+    /// Message lines.
+    Messages,
+    /// The lines that terminals are sent.
+    Replies,
+}
+
+impl Set {
+    /// All sets, in the order in which they are judged.
+    pub(crate) const ALL: [Set; 4] = [Set::Numbers, Set::Arguments, Set::Messages, Set::Replies];
+
+    /// The name of its file.
+    pub(crate) fn file_name(self) -> &'static str {
+        match self {
+            Set::Numbers => "numbers.txt",
+            Set::Arguments => "fsas.txt",
+            Set::Messages => "messages.txt",
+            Set::Replies => "replies.txt",
+        }
+    }
+
+    /// Whether its cases are blocks, and not lines.
+    pub(crate) fn is_in_blocks(self) -> bool {
+        false
+    }
+}
+
+/// Who judges the cases of a set, in their order.
+#[derive(Debug, Drop)]
+pub(crate) struct Judge {
+    alloc: Global,
+    set: Set,
+}
+
+impl Judge {
+    pub(crate) fn new(alloc: Global, set: Set) -> Judge {
+        Judge { alloc, set }
+    }
+
+    /// What the product makes of a case.
+    pub(crate) fn answer(&mut self, case: &Case<'_>) -> Result<Vec<u8>, CaseFault> {
+        let alloc = self.alloc;
+        match self.set {
+            Set::Numbers => numbers::answer(alloc, case.input),
+            Set::Arguments => arguments::answer(alloc, case.input),
+            Set::Messages => messages::answer(alloc, case.input),
+            Set::Replies => messages::reply(alloc, case.input),
+        }
+    }
+}
