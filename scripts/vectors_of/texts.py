@@ -61,3 +61,14 @@ class Draws:
 
     def bytes(self, count):
         return bytes(self.below(256) for _ in range(count))
+
+
+def block(key, wanted, text):
+    """A block: what is wanted of a text, and its lines."""
+    head = f"=== {key}: {of_text(wanted.encode())}"
+    if not text:
+        return head
+    if text == b"\n":
+        return head + "\n\\{0a}\\"
+    shown = of_text(text, keep=b"\n", escaped=b"\\")
+    return head + "\n" + (shown[:-1] if text.endswith(b"\n") else shown + "\\")

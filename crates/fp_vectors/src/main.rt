@@ -6,9 +6,11 @@
 
 mod arguments;
 mod cases;
+mod definitions;
 mod fault;
 mod messages;
 mod numbers;
+mod scripts;
 mod sets;
 mod texts;
 
@@ -76,6 +78,7 @@ fn judge_lines(rt: &HostRuntime, set: Set, text: &str) -> io::Result<Counts> {
 fn judge_blocks(rt: &HostRuntime, set: Set, text: &str) -> io::Result<Counts> {
     let mut judge = Judge::new(rt.alloc(), set);
     let mut counts = Counts::new();
+    let text = text.strip_suffix('\n').unwrap_or(text);
     for block in text.split("\n=== ").skip(1) {
         judge_case(rt, &mut judge, &mut counts, &Case::of_block(block))?;
     }

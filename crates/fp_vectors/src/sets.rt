@@ -2,7 +2,8 @@
 
 use crate::cases::Case;
 use crate::fault::CaseFault;
-use crate::{arguments, messages, numbers};
+use crate::scripts::Named;
+use crate::{arguments, definitions, messages, numbers, scripts, texts};
 use std::alloc::Global;
 
 /// A set of cases of one kind, which lies in a file.
@@ -16,11 +17,22 @@ pub(crate) enum Set {
     Messages,
     /// The lines that terminals are sent.
     Replies,
+    /// Definitions texts.
+    Definitions,
+    /// Scripts texts.
+    Scripts,
 }
 
 impl Set {
     /// All sets, in the order in which they are judged.
-    pub(crate) const ALL: [Set; 4] = [Set::Numbers, Set::Arguments, Set::Messages, Set::Replies];
+    pub(crate) const ALL: [Set; 6] = [
+        Set::Numbers,
+        Set::Arguments,
+        Set::Messages,
+        Set::Replies,
+        Set::Definitions,
+        Set::Scripts,
+    ];
 
     /// The name of its file.
     pub(crate) fn file_name(self) -> &'static str {
@@ -29,12 +41,14 @@ impl Set {
             Set::Arguments => "fsas.txt",
             Set::Messages => "messages.txt",
             Set::Replies => "replies.txt",
+            Set::Definitions => "definitions.txt",
+            Set::Scripts => "scripts.txt",
         }
     }
 
     /// Whether its cases are blocks, and not lines.
     pub(crate) fn is_in_blocks(self) -> bool {
-        false
+        matches!(self, Set::Definitions | Set::Scripts)
     }
 }
 
@@ -43,11 +57,14 @@ impl Set {
 pub(crate) struct Judge {
     alloc: Global,
     set: Set,
+    // The definitions that scripts are read by.
+    known: Vec<Named>,
 }
 
 impl Judge {
     pub(crate) fn new(alloc: Global, set: Set) -> Judge {
-        Judge { alloc, set }
+        let known = Vec::new(alloc);
+        Judge { alloc, set, known }
     }
 
     /// What the product makes of a case.
@@ -58,6 +75,20 @@ impl Judge {
             Set::Arguments => arguments::answer(alloc, case.input),
             Set::Messages => messages::answer(alloc, case.input),
             Set::Replies => messages::reply(alloc, case.input),
+            Set::Definitions => definitions::answer(alloc, case.key, &text_of(alloc, case.input)?),
+            Set::Scripts => {
+                let text = text_of(alloc, case.input)?;
+                scripts::answer(alloc, &mut self.known, case.key, &text)
+            }
         }
     }
+}
+
+// The text of a block's lines, each with its newline.
+fn text_of(alloc: Global, input: &str) -> Result<Vec<u8>, CaseFault> {
+    if input.is_empty() {
+        return Ok(Vec::new(alloc));
+    }
+    let lines = format!(in alloc; "{input}\n")?;
+    texts::unescaped(alloc, &lines)
 }
