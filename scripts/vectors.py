@@ -13,7 +13,7 @@ from pathlib import Path
 sys.path.insert(0, str(Path(__file__).resolve().parent))
 sys.dont_write_bytecode = True
 
-from vectors_of import arguments, definition_cases, messages, numbers
+from vectors_of import arguments, definition_cases, messages, numbers, script_cases
 
 DATA = Path(__file__).resolve().parent.parent / "crates" / "fp_vectors" / "data"
 
@@ -23,6 +23,7 @@ FILES = {
     "messages.txt": messages.lines,
     "replies.txt": messages.reply_lines,
     "definitions.txt": definition_cases.lines,
+    "scripts.txt": script_cases.lines,
 }
 
 

@@ -71,4 +71,4 @@ def block(key, wanted, text):
     if text == b"\n":
         return head + "\n\\{0a}\\"
     shown = of_text(text, keep=b"\n", escaped=b"\\")
-    return head + "\n" + (shown[:-1] if text.endswith(b"\n") else shown + "\\")
+    return head + "\n" + (shown[:-1] if shown.endswith("\n") else shown + "\\")
