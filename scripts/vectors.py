@@ -13,7 +13,7 @@ from pathlib import Path
 sys.path.insert(0, str(Path(__file__).resolve().parent))
 sys.dont_write_bytecode = True
 
-from vectors_of import arguments, definition_cases, messages, numbers, script_cases
+from vectors_of import arguments, definition_cases, entries, intervals, messages, numbers, script_cases
 
 DATA = Path(__file__).resolve().parent.parent / "crates" / "fp_vectors" / "data"
 
@@ -24,6 +24,9 @@ FILES = {
     "replies.txt": messages.reply_lines,
     "definitions.txt": definition_cases.lines,
     "scripts.txt": script_cases.lines,
+    "entries.txt": entries.lines,
+    "groups.txt": entries.log_lines,
+    "intervals.txt": intervals.lines,
 }
 
 

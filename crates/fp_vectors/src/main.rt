@@ -7,7 +7,10 @@
 mod arguments;
 mod cases;
 mod definitions;
+mod entries;
 mod fault;
+mod groups;
+mod intervals;
 mod messages;
 mod numbers;
 mod scripts;

@@ -3,7 +3,9 @@
 use crate::cases::Case;
 use crate::fault::CaseFault;
 use crate::scripts::Named;
-use crate::{arguments, definitions, messages, numbers, scripts, texts};
+use crate::{
+    arguments, definitions, entries, groups, intervals, messages, numbers, scripts, texts,
+};
 use std::alloc::Global;
 
 /// A set of cases of one kind, which lies in a file.
@@ -21,17 +23,26 @@ pub(crate) enum Set {
     Definitions,
     /// Scripts texts.
     Scripts,
+    /// Entries of the log.
+    Entries,
+    /// Logs with their groups.
+    Groups,
+    /// Intervals of an area.
+    Intervals,
 }
 
 impl Set {
     /// All sets, in the order in which they are judged.
-    pub(crate) const ALL: [Set; 6] = [
+    pub(crate) const ALL: [Set; 9] = [
         Set::Numbers,
         Set::Arguments,
         Set::Messages,
         Set::Replies,
         Set::Definitions,
         Set::Scripts,
+        Set::Entries,
+        Set::Groups,
+        Set::Intervals,
     ];
 
     /// The name of its file.
@@ -43,6 +54,9 @@ impl Set {
             Set::Replies => "replies.txt",
             Set::Definitions => "definitions.txt",
             Set::Scripts => "scripts.txt",
+            Set::Entries => "entries.txt",
+            Set::Groups => "groups.txt",
+            Set::Intervals => "intervals.txt",
         }
     }
 
@@ -80,6 +94,9 @@ impl Judge {
                 let text = text_of(alloc, case.input)?;
                 scripts::answer(alloc, &mut self.known, case.key, &text)
             }
+            Set::Entries => entries::answer(alloc, case.input),
+            Set::Groups => groups::answer(alloc, case.input),
+            Set::Intervals => intervals::answer(alloc, case.input),
         }
     }
 }
