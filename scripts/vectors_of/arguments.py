@@ -63,9 +63,8 @@ def list_lines():
             yield list_line(data[:end])
         for more in [b"*", b" ", b"\x00", b"  ", b" *", withdrawal]:
             yield list_line(data + more)
-    for place in [14, 29]:
-        for byte in range(256):
-            yield list_line(withdrawal[:place] + bytes([byte]) + withdrawal[place + 1:])
+    for byte in range(256):
+        yield list_line(withdrawal[:29] + bytes([byte]))
     # An operand's length of each border, true and one off.
     for length in [0, 1, 2, 255, 256, 257, 4096, 65534, 65535]:
         long = argument("A", "=", b"\x41" * length)
@@ -150,12 +149,18 @@ ROWS = [
     ("BAL", "-", b"160"), ("BAL", "-", b"100"), ("BAL", "+", b"9999899"), ("BAL", "+", b"9999900"), ("BAL", "=", b"-7"),
     ("CITY", "=", b"AS"), ("FULL", "-", b"70001"), ("HALF", "+", b"258"),
 ]
-OPERANDS = [
-    b"", b"-", b"0", b"-0", b"1", b"-1", b"99", b"100", b"101", b"255", b"256", b"-2", b"-3", b"00100", b"+1", b"1 ", b" 1",
-    b"1-", b"--1", b"1.0", b"x", b"1x", b"\xff", b"1\n", b"OSLO", b"OSLP", b"OSL", b"OSLO ", b"A001", b"A002", b"\x00",
-    b"9" * 31, b"-" + b"9" * 31, b"0" * 31, b"0" * 32, b"1" + b"0" * 31, b"32767", b"32768", b"-32766", b"70000",
-    b"2147413647", b"2147413648", b"-2147483648", b"258", b"18446744073709551357", b"18446744073709551358",
+FORMS = [
+    b"", b"-", b"0", b"-0", b"1", b"-1", b"+1", b"1 ", b" 1", b"1-", b"--1", b"1.0", b"x", b"1x", b"\xff", b"1\n", b"\x00", b"00100",
+    b"9" * 31, b"-" + b"9" * 31, b"0" * 31, b"0" * 32, b"1" + b"0" * 31,
 ]
+OPERANDS = {
+    "ACCT": [b"", b"A", b"A001", b"A0010", b"A001 ", b"A000", b"A002", b"\xff", b"\x00"],
+    "CITY": [b"", b" ", b"O", b"OSL", b"OSLO", b"OSLP", b"OSLN", b"OSLO ", b"BERGEN", b"\xff", b"\x00", b"0"],
+    "BAL": [b"99", b"100", b"101", b"-100", b"9999899", b"9999900", b"10000099", b"10000100", b"9999999", b"10000000"],
+    "COUNT": [b"254", b"255", b"256", b"-255"], "HALF": [b"-2", b"-3", b"32767", b"32768", b"32766", b"-32766", b"-32767", b"32769", b"32770"],
+    "FULL": [b"69999", b"70000", b"70001", b"2147413647", b"2147413648", b"-2147483648", b"-2147483649"],
+    "MOST": [b"9" * 30, b"5" * 31], "WIDE": [b"257", b"258", b"259", b"18446744073709551357", b"18446744073709551358", b"18446744073709551615", b"18446744073709551616"],
+}
 
 
 def try_lines():
@@ -163,7 +168,11 @@ def try_lines():
         yield try_line(SEGMENT, [row])
     for name, _, _ in FIELDS:
         for op in "EGHLMN+-=":
-            for operand in OPERANDS:
+            for operand in OPERANDS[name]:
+                yield try_line(SEGMENT, [(name, op, operand)])
+    for name in ["BAL", "WIDE", "MOST"]:
+        for op in "EL+-=":
+            for operand in FORMS:
                 yield try_line(SEGMENT, [(name, op, operand)])
     for op in range(256):
         yield try_line(SEGMENT, [("BAL", chr(op), b"100")]) if op < 128 else None

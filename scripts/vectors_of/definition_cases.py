@@ -106,7 +106,7 @@ def changed(tables, path, value):
 
 # ---- the cases
 
-OTHERS = [GONE, 1, "A", "", True, 1.5, [], [1], {}, DATE]
+OTHERS = [GONE, 1, "A", True, 1.5, [], [1], {}]
 WHOLE = top(
     msdb=[msdb(dynamic=True, load=[["A1", "1"], ["A2", "-2"]])],
     dedb=[dedb(segment=[root(), sequential(), child()], area=[area(capacity=24)])],
@@ -134,8 +134,10 @@ def kinds_of_values():
     for tables, path in PLACES:
         for key in at(tables, path):
             for value in OTHERS:
-                if value is not GONE or key in at(tables, path):
-                    yield changed(tables, path + [key], value)
+                yield changed(tables, path + [key], value)
+    for value in ["", DATE, Raw("07:32:00"), [DATE]]:
+        yield changed(top(), ["router"], value)
+        yield changed(with_msdb(), ["msdb", 0, "name"], value)
 
 
 def unknown_keys():
@@ -203,11 +205,12 @@ def names():
 
 
 def fields():
-    for kind in ["C", "X", "H", "F", "P", "c", "", "CC", "D"]:
-        for length in [-1, 0, 1, 2, 3, 4, 5, 8, 9, 16, 17, 64, 65, 1000, 1020, 1021, 1024, 1025, 65_536]:
+    lengths = {"C": [1020, 1021, 1024, 1025, 65_536], "X": [8, 9], "H": [2, 3], "F": [3, 4, 5, 8], "P": [16, 17], "c": [4], "": [4], "CC": [4], "D": [4]}
+    for kind, borders in lengths.items():
+        for length in [-1, 0, 1, 2] + borders:
             yield with_msdb(fields=[["K", "C", 4], ["F", kind, length]])
-            if length < 70:
-                yield with_msdb(fields=[["K", kind, length]])
+        for length in [0, 1, 2, 4, 64, 65]:
+            yield with_msdb(fields=[["K", kind, length]])
     rows = [
         1, [], [1], ["K"], [["K", "C"]], [["K", "C", 4, 1]], [["K", "C", 4], 1], [["K", "C", 4], []], [["K", "C", "4"]],
         [["K", 1, 4]], [[1, "C", 4]], [["K", "C", 4.0]], [["K", "C", True]], [{"a": 1}],
@@ -291,7 +294,7 @@ def long_fields(length, first):
 def elements():
     for ci in [512, 1024, 2048, 4096]:
         most = ci - 32
-        for more in [-3, -2, -1, 0, 1, 4]:
+        for more in [-1, 0, 1, 4]:
             key = ["K", "C", 4]
             yield with_segments(root(fields=long_fields(most - 14 + more, key)), ci=ci)
             if ci <= 1024:
@@ -378,7 +381,7 @@ def pairs():
         for other_path, other in FAULTS[place + 1:]:
             if path[:len(other_path)] == other_path or other_path[:len(path)] == path:
                 continue
-            if len(path) == len(other_path) and path[:-1] == other_path[:-1] or draws.below(10) < 5:
+            if len(path) == len(other_path) and path[:-1] == other_path[:-1] and draws.below(3) == 0 or draws.below(10) < 1:
                 yield changed(changed(WHOLE, path, value), other_path, other)
 
 
@@ -396,7 +399,7 @@ def raw_texts():
 
 
 EXIT_TABLES = [
-    top(), top(router="RANGE"), with_dedb(), with_dedb(randomizer="FOLD"), WHOLE,
+    top(), top(router="RANGE"), with_dedb(), with_dedb(randomizer="FOLD"),
     top(dedb=[dedb(), dedb(name="E", randomizer="FOLD", area=[area(name="B")])]),
     top(router="RANGE", dedb=[dedb(randomizer="FOLD"), dedb(name="E", area=[area(name="B")])]),
     changed(with_dedb(), ["router"], 1), with_dedb(area=[area(uows=0)]),

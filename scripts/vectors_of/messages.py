@@ -70,7 +70,7 @@ def line_rows():
         yield b"t1 X " + b"a" * count
         yield b"T1 x " + b"a" * count
     draws = Draws(21)
-    for _ in range(150):
+    for _ in range(100):
         yield bytes(draws.one_of(BORDER_BYTES) for _ in range(1 + draws.below(14)))
 
 

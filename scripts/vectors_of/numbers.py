@@ -95,7 +95,8 @@ def writes():
         yield write_line(kind, size, number)
     for kind in "CXHFP":
         for size in range(19):
-            for number in sorted(borders(size)):
+            is_size = {"X": 1 <= size <= 8, "H": size == 2, "F": size == 4, "P": 1 <= size <= 16}.get(kind, False)
+            for number in sorted(borders(size)) if is_size else [0, 1, -1]:
                 yield write_line(kind, size, number)
 
 

@@ -256,7 +256,7 @@ def texts():
 
 
 def limits():
-    for depth in [63, 64, 65, 66]:
+    for depth in [64, 65]:
         for word in [b"IF 1 EQ 1\n", b"REPEAT 1\n"]:
             yield b"TRAN T\n" + word * depth + b"END\n" * depth
             yield b"TRAN T\n" + word * depth

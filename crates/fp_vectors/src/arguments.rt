@@ -86,11 +86,7 @@ pub(crate) fn answer(alloc: Global, input: &str) -> Result<Vec<u8>, CaseFault> {
         "list" => listed(alloc, &bytes_of(alloc, rest)?),
         "try" => {
             let (list, segment) = rest.split_once(' ').ok_or(CaseFault::Malformed)?;
-            tried(
-                alloc,
-                &bytes_of(alloc, list)?,
-                &segment_of(alloc, segment)?,
-            )
+            tried(alloc, &bytes_of(alloc, list)?, &segment_of(alloc, segment)?)
         }
         _ => Err(CaseFault::Malformed),
     }

@@ -89,7 +89,10 @@ fn put_outcome(alloc: Global, text: &mut Vec<u8>, outcome: &Outcome) -> Result<(
         }
         Outcome::Roll(code) => put_words(text, &format!(in alloc; " roll {code}")?),
         Outcome::SeqFull { set, begin, end, n } => {
-            put_words(text, &format!(in alloc; " seqfull {set} {begin} {end} {n}")?)
+            put_words(
+                text,
+                &format!(in alloc; " seqfull {set} {begin} {end} {n}")?,
+            )
         }
         Outcome::Deadlock(cycle) => {
             text.extend_from_slice(b" deadlock")?;

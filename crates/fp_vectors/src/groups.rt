@@ -93,12 +93,7 @@ fn put_group(
 }
 
 // A text with a word and a place behind it.
-fn ended(
-    alloc: Global,
-    mut text: Vec<u8>,
-    word: &str,
-    place: u64,
-) -> Result<Vec<u8>, AllocError> {
+fn ended(alloc: Global, mut text: Vec<u8>, word: &str, place: u64) -> Result<Vec<u8>, AllocError> {
     let end = format!(in alloc; "{word} {place}")?;
     text.extend_from_slice(end.as_bytes())?;
     Ok(text)

@@ -47,7 +47,11 @@ fn judge_file(rt: &HostRuntime, set: Set) -> io::Result<()> {
     } else {
         judge_lines(rt, set, text)?
     };
-    println!(rt; "{name}: {} cases, {} differ", counts.cases(), counts.differ())
+    println!(rt;
+        "{name}: {} cases, {} differ",
+        counts.cases(),
+        counts.differ()
+    )
 }
 
 // The bytes of a file, which is read in blocks.

@@ -70,58 +70,68 @@ fn behind_escape<'a>(
     Ok(rest)
 }
 
+// What stands last in the parts of bytes.
+#[derive(Clone, Copy, Debug, PartialEq, Eq)]
+enum Last {
+    Nothing,
+    Digits,
+    Counted,
+}
+
 /// Bytes as a text of a file: a run of 8 or more of one byte as a part with a count, all else as parts without.
 pub(crate) fn put_bytes(alloc: Global, text: &mut Vec<u8>, bytes: &[u8]) -> Result<(), AllocError> {
-    if bytes.is_empty() {
-        text.push(b'-')?;
-    }
-    let mut is_in_part = false;
-    let mut rest = bytes;
-    let mut is_first = true;
-    while let [byte, ..] = rest {
-        let run = run_of(*byte, rest);
-        let is_counted = run >= LEAST_RUN;
-        if !is_first && (is_counted || !is_in_part) {
-            text.push(b',')?;
+    let Some((first, rest)) = bytes.split_first() else {
+        return text.extend_from_slice(b"-");
+    };
+    let mut last = Last::Nothing;
+    let mut byte = *first;
+    let mut run = 1usize;
+    for other in rest {
+        if *other == byte {
+            run = run.saturating_add(1);
+        } else {
+            last = put_run(alloc, text, last, byte, run)?;
+            byte = *other;
+            run = 1;
         }
-        put_run(alloc, text, *byte, run)?;
-        is_in_part = !is_counted;
-        is_first = false;
-        rest = &rest[run..];
     }
+    put_run(alloc, text, last, byte, run)?;
     Ok(())
 }
 
-// How many of one byte bytes begin with.
-fn run_of(byte: u8, bytes: &[u8]) -> usize {
-    let mut count = 0;
-    for other in bytes {
-        if *other != byte {
-            break;
-        }
-        count += 1;
+// Appends so many of one byte, as a part or as digits, and tells which.
+fn put_run(
+    alloc: Global,
+    text: &mut Vec<u8>,
+    last: Last,
+    byte: u8,
+    run: usize,
+) -> Result<Last, AllocError> {
+    let is_counted = run >= LEAST_RUN;
+    if last == Last::Counted || (last == Last::Digits && is_counted) {
+        text.extend_from_slice(b",")?;
     }
-    count
-}
-
-// Appends so many of one byte, as a part or as digits.
-fn put_run(alloc: Global, text: &mut Vec<u8>, byte: u8, run: usize) -> Result<(), AllocError> {
     let digits = format!(in alloc; "{byte:02x}")?;
-    if run >= LEAST_RUN {
+    if is_counted {
         let part = format!(in alloc; "{run}*{digits}")?;
-        return text.extend_from_slice(part.as_bytes());
+        text.extend_from_slice(part.as_bytes())?;
+        return Ok(Last::Counted);
     }
     for _ in 0..run {
         text.extend_from_slice(digits.as_bytes())?;
     }
-    Ok(())
+    Ok(Last::Digits)
 }
 
 /// Bytes as a line to be read: those that aren't printable as question marks.
 pub(crate) fn printable(alloc: Global, bytes: &[u8]) -> Result<String, AllocError> {
     let mut text = String::new(alloc);
     for byte in bytes {
-        let sign = if matches!(*byte, b' '..=b'~') { char::from(*byte) } else { '?' };
+        let sign = if matches!(*byte, b' '..=b'~') {
+            char::from(*byte)
+        } else {
+            '?'
+        };
         text.push(sign)?;
     }
     Ok(text)
