@@ -1,22 +1,23 @@
 #!/usr/bin/env python3
-"""Writes the cases of crates/fp_vectors/data, by rules of its own.
+"""Writes the cases of crates/fp_vectors/data, by rules of its own, and what its program must print.
 
     scripts/vectors.py           writes the files
     scripts/vectors.py --check   tells whether they are what it would write
 
-It reads nothing that the product wrote. The rules stand in docs/FORMATS.md and docs/MODEL.md in words; here they are
+It reads nothing that the product wrote. docs/FORMATS.md and docs/MODEL.md have the rules in words; here they are
 written down once more, in another language and another way. What must come out of a case is computed here.
 """
 import sys
 from pathlib import Path
 
-sys.path.insert(0, str(Path(__file__).resolve().parent))
 sys.dont_write_bytecode = True
+sys.path.insert(0, str(Path(__file__).resolve().parent))
 
 from vectors_of import arguments, definition_cases, entries, intervals, messages, numbers, script_cases
 
-DATA = Path(__file__).resolve().parent.parent / "crates" / "fp_vectors" / "data"
+CRATE = Path(__file__).resolve().parent.parent / "crates" / "fp_vectors"
 
+# In the order in which the program judges them.
 FILES = {
     "numbers.txt": numbers.lines,
     "fsas.txt": arguments.lines,
@@ -30,19 +31,29 @@ FILES = {
 }
 
 
-def main():
-    differ = []
+def written():
+    """The texts of all files, by their paths."""
+    found, printed = {}, ""
     for name, lines in FILES.items():
-        text = "".join(line + "\n" for line in lines())
-        path = DATA / name
-        if "--check" in sys.argv[1:]:
-            if not path.exists() or path.read_text() != text:
-                differ.append(name)
-        else:
+        head, *cases = lines()
+        found[CRATE / "data" / name] = "".join(f"{line}\n" for line in [head] + cases)
+        printed += f"{name}: {len(cases)} cases, 0 differ\n"
+    found[CRATE / "stdout"] = printed
+    return found
+
+
+def main():
+    if sys.argv[1:] not in [[], ["--check"]]:
+        print("usage: vectors.py [--check]")
+        return 2
+    differ = 0
+    for path, text in written().items():
+        if not sys.argv[1:]:
             path.write_text(text)
-    for name in differ:
-        print(f"{name} isn't what this program writes")
-    return 1 if differ else 0
+        elif not path.exists() or path.read_text() != text:
+            print(f"{path.name} isn't what this program writes")
+            differ = 1
+    return differ
 
 
 if __name__ == "__main__":
