@@ -52,6 +52,7 @@ pub(crate) fn defs(alloc: Global, dynamic: bool) -> Result<Defs, AllocError>
         router: Kind::Fold,
         log_group: 1,
         pool: 1,
+        tries: 0,
         msdbs,
         dedbs: List::new(alloc),
         text: Bytes::new(alloc),

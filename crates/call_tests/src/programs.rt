@@ -194,6 +194,7 @@ fn message(alloc: Global, tran: Name, text: &[u8]) -> Result<Message, AllocError
         tran,
         text: Bytes::from_slice(alloc, text)?,
         line: Bytes::new(alloc),
+        number: None,
     })
 }
 

@@ -1,6 +1,6 @@
 //! What is read back of a log after a stop at each call, and logs in use, step by step.
 ghost use Rattle.fp_model.specs.LogText.{FitsEntry, FitsFront, KeepsRules};
-ghost use Rattle.log_groups.specs.Images.{texts_of};
+ghost use Rattle.log_groups.specs.Images.{as_front};
 ghost use Rattle.std.specs.Prelude.{IfOk};
 
 use fp_model::{Bytes, Entry, List, Outcome};
@@ -10,10 +10,11 @@ use std::alloc::{AllocError, Global};
 use std::test::Fail;
 
 fn front(alloc: Global) -> Result<Front, AllocError>
-    ensures { IfOk result (λ front. FitsFront (texts_of front)) }
+    ensures { IfOk result (λ front. FitsFront (as_front front)) }
 {
     let defs = Bytes::from_slice(alloc, b"D")?;
     Ok(Front {
+        format: 1,
         defs,
         scripts: Bytes::new(alloc),
     })

@@ -60,6 +60,7 @@ fn defs(alloc: Global, dedbs: List<DedbDef>) -> Result<Defs, AllocError>
         router: Kind::Fold,
         log_group: 1,
         pool: 1,
+        tries: 0,
         msdbs,
         dedbs,
         text: Bytes::from_slice(alloc, b"D")?,
@@ -76,6 +77,7 @@ fn orders(alloc: Global) -> Result<List<DedbDef>, AllocError> {
             base,
             overflow: 1,
             capacity: 0,
+            copies: 1,
         })?;
     }
     let mut dedbs = List::new(alloc);
@@ -95,6 +97,7 @@ fn front(alloc: Global, defs: &Defs, scripts: u8) -> Result<Front, AllocError>
     ensures text { IfOk result (λ front. (as_front front).defs ≡ defs.now.text) }
 {
     Ok(Front {
+        format: 1,
         defs: defs.text.copy()?,
         scripts: Bytes::from_slice(alloc, &[scripts])?,
     })

@@ -8,12 +8,22 @@ const LINE: &[u8] = b"Z9 DEPOSIT A001 10";
 
 #[test]
 fn a_message_has_its_words_and_its_text(rt: HostRuntime) -> Result<(), Fail> {
-    let message = read_message(rt.alloc(), LINE)?;
+    let message = read_message(rt.alloc(), 1, LINE)?;
     assert_eq!(rt; message.lterm, Name(*b"Z9      "));
     assert_eq!(rt; message.tran, Name(*b"DEPOSIT "));
     assert_eq!(rt; message.text.as_slice(), b"A001 10".as_slice());
     assert_eq!(rt; message.line.as_slice(), LINE);
     assert_eq!(rt; terminal_of(LINE), Some(Name(*b"Z9      ")));
+    Ok(())
+}
+
+#[test]
+fn a_message_of_format_2_may_have_a_number(rt: HostRuntime) -> Result<(), Fail> {
+    let numbered = read_message(rt.alloc(), 2, b"Z9 17 ASK A001")?;
+    assert_eq!(rt; numbered.number, Some(17));
+    assert_eq!(rt; numbered.text.as_slice(), b"A001".as_slice());
+    let plain = read_message(rt.alloc(), 2, LINE)?;
+    assert_eq!(rt; plain.number, None);
     Ok(())
 }
 

@@ -82,6 +82,7 @@ fn message(alloc: Global, lterm: u8, tran: &[u8; 8], text: &[u8]) -> Result<Mess
         tran: Name(*tran),
         text: Bytes::from_slice(alloc, text)?,
         line: Bytes::new(alloc),
+        number: None,
     })
 }
 

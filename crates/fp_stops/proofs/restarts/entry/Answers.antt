@@ -1,7 +1,8 @@
 use Rattle.std.proofs.Common.{◌≡◌, ◌∙◌, [], ◌∷◌, ◌++◌, length, refl, sym, ap, subst, arith}
 use Rattle.std.specs.Prelude.{IsTrue}
 use Rattle.std.specs.List.{AllByRecursion}
-use Rattle.fp_model.specs.LogText.{FitsItem, is_ascending}
+use Rattle.fp_model.specs.LogText.{FitsItem}
+use Rattle.fp_model.specs.ItemTargets.{is_ascending}
 use Rattle.fp_stops.proofs.restarts.entry.Goals as goal
 
 pub returns-clause-rules : goal.returns-clause-rules
