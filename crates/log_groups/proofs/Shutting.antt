@@ -1,11 +1,11 @@
 -- Closing the front's gate: what a crash leaves of each call.
 use Rattle.std.proofs.Common.{◌≡◌, ◌⊎◌, inl, inr, ⊎_elim, ℕ, zero, suc, ◌+◌, ◌<◌, false, List, [], ◌∷◌, ◌++◌, length, get_or, drop, refl, sym, ◌∙◌, ap, subst, arith, append_assoc}
-use Rattle.std.specs.Prelude.{slice_index}
+use Rattle.std.specs.Prelude.{slice_index, codes}
 use Rattle.std.proofs.lemmas.Bool.Decides.{nat_tests}
 use Rattle.std.proofs.lemmas.Bool.{cases_eq}
 use Rattle.std.proofs.lemmas.List.{length-append, ext_get_or, drop_at, append-nil}
 use Rattle.fp_model.specs.Spellings.{be32, part_text}
-use Rattle.fp_model.specs.LogText.{Front, StartsWithFront, front_text, front_rest, first_gate}
+use Rattle.fp_model.specs.LogText.{Front, StartsWithFront, front_text, front_rest, of_format, first_gate}
 use Rattle.fp_site.specs.Disk.{Disk, Torn, IsDurable, Differs, Settles, Tears, Syncs, Elapses, Leaves, Stays, IsLawful, written, covers}
 use Rattle.fp_site.specs.Moments.{Through, OnlyOn}
 use Rattle.fp_site.proofs.Images.{torn_from, durable_settles, durable_stays, settles_left, settles_contents, settles_synced, settles_stays, settles_torn}
@@ -29,7 +29,16 @@ begins_long front bytes begins = omega (arith, ap length begins.1, length-append
 -- how long a front is
 pub length-front : (front : Front) → length (front_rest front) ≡ 8 + (4 + length front.defs) + (4 + length front.scripts)
 length-front front =
-    omega (arith, length-append (part_text front.defs) (part_text front.scripts), length-append (be32 (length front.defs)) front.defs, length-append (be32 (length front.scripts)) front.scripts, length-be32 (length front.defs), length-be32 (length front.scripts))
+    let head = of_format (codes "IMSFPLG") front.format in
+    omega (
+      arith,
+      length-append (head ++ part_text front.defs) (part_text front.scripts),
+      length-append head (part_text front.defs),
+      length-append (be32 (length front.defs)) front.defs,
+      length-append (be32 (length front.scripts)) front.scripts,
+      length-be32 (length front.defs),
+      length-be32 (length front.scripts),
+    )
 
 -- ---- closing the gate
 

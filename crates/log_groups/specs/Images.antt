@@ -8,9 +8,9 @@ use Rattle.fp_model.specs.Groups.{IsGroup}
 use Rattle.fp_model.specs.Recovery.{Holds}
 use Rattle.log_groups.specs.declared.front.Front.{Front as Kept}
 
--- the texts of a front that the program has
-abbrev pub texts_of : Kept → Front
-texts_of front = record { defs = front.defs; scripts = front.scripts }
+-- the front that a program's values are
+abbrev pub as_front : Kept → Front
+as_front front = record { format = front.format; defs = front.defs; scripts = front.scripts }
 
 -- The bytes of a log: the open front, these groups, and the next gate, which is there and isn't open.
 pub record IsLog (front : Front) (bytes : List ℕ) (groups : List (List Entry)) (gate : ℕ) : Type 0 where

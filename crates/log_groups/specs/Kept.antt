@@ -1,39 +1,37 @@
 -- What a site keeps over stops: a log that is sound, a site that is safe, and snapshots in which nothing answered is lost.
-use Rattle.std.specs.Prelude.{◌≡◌, ◌⊎◌, ℕ, ◌<◌, List, ◌++◌, length, take}
+use Rattle.std.specs.Prelude.{◌≡◌, ℕ, ◌<◌, List, ◌++◌, length, take}
 use Rattle.std.specs.List.{flat_map, AllByRecursion}
 use Rattle.fp_model.specs.declared.definitions.Defs.{Defs}
 use Rattle.fp_model.specs.declared.database.Db.{Db}
 use Rattle.fp_model.specs.declared.log.Entry.{Entry}
-use Rattle.fp_model.specs.declared.log.Item.{Item}
 use Rattle.fp_model.specs.declared.scripts.Script.{Script}
 use Rattle.fp_model.specs.Groups.{entries_of}
-use Rattle.fp_model.specs.SerialHistory.{IsSerialHistory}
-use Rattle.fp_model.specs.Items.{IsFit, with_items}
+use Rattle.fp_model.specs.Items.{IsFit, items_of, with_items}
+use Rattle.fp_model.specs.LogText.{Front}
 use Rattle.fp_model.specs.Product.{rules_of}
-use Rattle.fp_model.specs.Recovery.{Holds, front_of}
+use Rattle.fp_model.specs.Recovery.{Holds}
 use Rattle.fp_model.specs.ReplyLine.{line_of}
+use Rattle.fp_model.specs.SerialHistory.{IsSerialHistory}
 use Rattle.fp_model.specs.State.{start}
-use Rattle.fp_site.specs.Disk.{Disk, Settles, Snapshot, Syncs}
+use Rattle.fp_site.specs.Disk.{Disk, Settles, Snapshot}
 
 -- the reply lines of entries, in order
 abbrev pub lines_of_entries : List Entry → List ℕ
 lines_of_entries entries = flat_map line_of entries
 
--- what entries changed, in order
-abbrev pub items_of : List Entry → List Item
-items_of entries = flat_map (λ e. e.items) entries
-
-module _ (defs : Defs) (scripts : List Script) (scripts_text : List ℕ) where
+-- definitions, scripts, and the front of a log that is made for them
+module _ (defs : Defs) (scripts : List Script) (front : Front) where
   -- The log begins with the open front, its groups end at a gate that stands in it and isn't open, and their entries,
-  -- these, are a serial history. Their items are fit, and make of the segments loaded those of the last state.
+  -- these, are a serial history in the front's format. Their items are fit, and make of the segments loaded those of the
+  -- last state.
   pub record IsSound (log : List ℕ) (entries : List Entry) : Type 0 where
     pub groups : List (List Entry)
     pub gate : ℕ
-    pub holds : Holds (front_of defs scripts_text) log groups gate
+    pub holds : Holds front log groups gate
     pub stands : gate < length log
     pub all : entries ≡ entries_of groups
     pub last : Db
-    pub history : IsSerialHistory (rules_of defs scripts) entries last
+    pub history : IsSerialHistory (rules_of defs scripts) front.format entries last
     pub fit : AllByRecursion (IsFit defs) (items_of entries)
     pub made : with_items defs.msdbs (start defs).msdbs (items_of entries) ≡ last.msdbs
 
@@ -49,8 +47,3 @@ module _ (defs : Defs) (scripts : List Script) (scripts_text : List ℕ) where
     pub sound : IsSound (s.images 0) (earlier ++ later)
     pub count : ℕ
     pub sent : before.tells_sent → s.sent ≡ before.sent ++ take count (lines_of_entries later)
-
-  -- A snapshot keeps what stood before: it is one that a crash might have left then, but for a sync of the log, or the
-  -- log goes on in it.
-  abbrev pub IsKept : Disk → List Entry → Snapshot → Type 0
-  IsKept before earlier s = Syncs before 0 s ⊎ GoesOn before earlier s

@@ -9,6 +9,8 @@ use std::alloc::{AllocError, Global};
 /// What a log was made for.
 #[derive(Debug, Drop)]
 pub struct Front {
+    /// The format in which its lines are read at first, 1 or 2.
+    pub format: u8,
     /// The text of the definitions.
     pub defs: Bytes,
     /// The text of the scripts.
@@ -16,14 +18,15 @@ pub struct Front {
 }
 
 impl Front {
-    ghost use Rattle.log_groups.specs.Images.{texts_of};
+    ghost use Rattle.log_groups.specs.Images.{as_front};
 
     // The front without its gate.
     pub(crate) fn rest(&self, alloc: Global) -> Result<Bytes, AllocError>
-        requires { FitsFront (texts_of self.now) }
-        ensures { IfOk result (λ rest. rest ≡ front_rest (texts_of self.now)) }
+        requires { FitsFront (as_front self.now) }
+        ensures { IfOk result (λ rest. rest ≡ front_rest (as_front self.now)) }
     {
-        let mut rest = Bytes::from_slice(alloc, b"IMSFPLG1")?;
+        let mut rest = Bytes::from_slice(alloc, b"IMSFPLG")?;
+        rest.push(b'0' + self.format)?;
         put_part(&mut rest, &self.defs)?;
         put_part(&mut rest, &self.scripts)?;
         Ok(rest)
@@ -31,8 +34,8 @@ impl Front {
 
     // The front with its gate open.
     pub(crate) fn text(&self, alloc: Global) -> Result<Bytes, AllocError>
-        requires { FitsFront (texts_of self.now) }
-        ensures { IfOk result (λ text. text ≡ front_text 1 (texts_of self.now)) }
+        requires { FitsFront (as_front self.now) }
+        ensures { IfOk result (λ text. text ≡ front_text 1 (as_front self.now)) }
     {
         let rest = self.rest(alloc)?;
         let mut text = Bytes::from_slice(alloc, &[1])?;

@@ -5,7 +5,7 @@ ghost use Rattle.fp_model.specs.declared.log.Entry.{Entry as EntryOf};
 ghost use Rattle.fp_site.specs.Disk.{Differs, Disk, IsDurable, Settles, Stays};
 ghost use Rattle.fp_site.specs.Moments.{OnlyOn, Through};
 ghost use Rattle.fp_site.specs.Site.{Counts, ReadsNothing};
-ghost use Rattle.log_groups.specs.Images.{IsAtRest, IsBeforeOrAfter, IsBeforeOrMade, IsBeforeOrShut, IsOldOrMade, IsOldOrShut, IsSameOrMade, IsSameOrShut, IsShut, IsWithOrWithout, texts_of, with_group};
+ghost use Rattle.log_groups.specs.Images.{IsAtRest, IsBeforeOrAfter, IsBeforeOrMade, IsBeforeOrShut, IsOldOrMade, IsOldOrShut, IsSameOrMade, IsSameOrShut, IsShut, IsWithOrWithout, as_front, with_group};
 ghost use Rattle.log_groups.specs.Reads.{HasGroup, ReadsOnlyLog};
 ghost use Rattle.log_groups.specs.declared.fault.LogFault.TheVariants as faults;
 ghost use Rattle.std.specs.Prelude.{◌≡◌, ◌≢◌, ◌⊎◌, ◌+◌, ◌-◌, ◌*◌, ◌<◌, ◌≤◌, ◌^◌, ◌∷◌, ◌++◌, ℕ, [], IfNone, IfOk, IfSome, IsErrOf, IsOk, List as ListOf, OnErr, OnOk, drop, length, min, slice_index, take};
@@ -109,8 +109,8 @@ impl Log {
     /// Writes a new log with this front and no groups: the front's gate is closed first, and opened last. Fails only
     /// with the site and for want of memory.
     pub fn make<T: Site>(alloc: Global, site: &mut T, front: &Front) -> Result<(), LogFault>
-        requires fits { FitsFront (texts_of front.now) }
-        ensures made { T.told site.old → OnOk result (IsAtRest (T.disk site.new) (texts_of front.now) [] (first_gate (texts_of front.now))) }
+        requires fits { FitsFront (as_front front.now) }
+        ensures made { T.told site.old → OnOk result (IsAtRest (T.disk site.new) (as_front front.now) [] (first_gate (as_front front.now))) }
         ensures cause { IsErrOf result faults.Failed → (T.faults site.old < T.faults site.new) ⊎ (T.faults site.new ≡ 2 ^ 64 - 1) }
         ensures later { T.faults site.old ≤ T.faults site.new }
         ensures never { (IsErrOf result faults.Foreign → ⊥) × ((place : ℕ) → IsErrOf result (faults.Damaged place) → ⊥) }
@@ -123,16 +123,16 @@ impl Log {
         ensures keeps { (first : T) → T.keeps first site.old → T.keeps first site.new }
 
         // A crash at any moment leaves the log as a sync might have left it before, or with no open front, or made.
-        ensures crash { T.told site.old → Through (T.disk site.old) (T.disk site.new) (IsBeforeOrMade (T.disk site.old) (texts_of front.now)) }
+        ensures crash { T.told site.old → Through (T.disk site.old) (T.disk site.new) (IsBeforeOrMade (T.disk site.old) (as_front front.now)) }
 
         // Where a sync had left the log, it leaves it so, or with no open front, or made, and all else as before.
         ensures kept { T.told site.old → IsDurable (T.disk site.old) 0 →
-            Through (T.disk site.old) (T.disk site.new) (Differs (T.disk site.old) 0 (IsSameOrMade (texts_of front.now))) }
+            Through (T.disk site.old) (T.disk site.new) (Differs (T.disk site.old) 0 (IsSameOrMade (as_front front.now))) }
 
         // Each image that a further sync may make of what a crash may leave now is one that a sync might have left
         // before, or has no open front, or is the new log.
         ensures settles { (image : ListOf ℕ) → T.told site.old → Settles (T.disk site.new) 0 image
-            → IsOldOrMade (T.disk site.old) (texts_of front.now) image }
+            → IsOldOrMade (T.disk site.old) (as_front front.now) image }
     {
         making::make(alloc, site, front)
     }
@@ -140,16 +140,16 @@ impl Log {
     /// Opens a log with this front, as far as its first gate. It fails with `Foreign`, with the site, and for want
     /// of memory.
     pub fn open<T: Site>(alloc: Global, site: &mut T, front: &Front) -> Result<Log, LogFault>
-        requires fits { FitsFront (texts_of front.now) }
-        ensures log { IfOk result (λ log. log ≡ record { sealed = 0; gate = first_gate (texts_of front.now); unsealed = []; spare = 0 }) }
-        ensures front { T.told site.old → OnOk result (StartsWithFront ((T.disk site.old).contents 0) (texts_of front.now)) }
-        ensures foreign { T.told site.old → IsErrOf result faults.Foreign → StartsWithFront ((T.disk site.old).contents 0) (texts_of front.now) → ⊥ }
+        requires fits { FitsFront (as_front front.now) }
+        ensures log { IfOk result (λ log. log ≡ record { sealed = 0; gate = first_gate (as_front front.now); unsealed = []; spare = 0 }) }
+        ensures front { T.told site.old → OnOk result (StartsWithFront ((T.disk site.old).contents 0) (as_front front.now)) }
+        ensures foreign { T.told site.old → IsErrOf result faults.Foreign → StartsWithFront ((T.disk site.old).contents 0) (as_front front.now) → ⊥ }
         ensures cause { IsErrOf result faults.Failed → (T.faults site.old < T.faults site.new) ⊎ (T.faults site.new ≡ 2 ^ 64 - 1) }
         ensures later { T.faults site.old ≤ T.faults site.new }
         ensures never { (place : ℕ) → IsErrOf result (faults.Damaged place) → ⊥ }
 
         // Nothing changes, and no more than the front is read.
-        ensures count { T.tells_reads site.new 0 → OnOk result (T.bytes_read site.new 0 ≤ T.bytes_read site.old 0 + first_gate (texts_of front.now)) }
+        ensures count { T.tells_reads site.new 0 → OnOk result (T.bytes_read site.new 0 ≤ T.bytes_read site.old 0 + first_gate (as_front front.now)) }
         ensures stays { T.told site.old → Stays (T.disk site.old) (T.disk site.new) }
         ensures reads { ReadsOnlyLog (T.tells_reads site.old) (T.tells_reads site.new) (T.bytes_read site.old) (T.bytes_read site.new) }
         ensures told { T.told site.old → T.told site.new }

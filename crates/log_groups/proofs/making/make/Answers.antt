@@ -3,17 +3,18 @@ use Rattle.std.proofs.lemmas.List.{length-append}
 use Rattle.fp_model.specs.LogText.{front_rest}
 use Rattle.fp_site.specs.Moments.{Through}
 use Rattle.fp_site.proofs.Frames.{only_joined}
-use Rattle.log_groups.specs.Images.{IsGated, IsGatedImage, IsOpened, texts_of}
+use Rattle.log_groups.specs.Images.{IsGated, IsGatedImage, IsOpened, as_front}
 use Rattle.log_groups.proofs.Shutting.{length-front, once_made, made_image, made_log}
 use Rattle.log_groups.proofs.making.make.Goals as goal
 
 -- the front fits in a data set
 pub write_gated-requires : goal.write_gated-requires
 write_gated-requires g c =
-    let front = texts_of c.args.front.now in
+    let front = as_front c.args.front.now in
     let is : c.as_slice.result.now ≡ front_rest front ++ 0 ∷ [] = c.as_slice.ensures ∙ c.in_ok-push.ensures.ok ∙ ap (λ l. l ++ 0 ∷ []) c.in_ok-bytes.ensures in
     let fits = c.requires in
-    record { room = omega (arith, ap length is, length-append (front_rest front) (0 ∷ []), length-front front, fits.0, fits.1) }
+    let long = length-append (front_rest front) (0 ∷ []) in
+    record { room = omega (arith, ap length is, long, length-front front, fits.defs_fit, fits.scripts_fit) }
 
 pub returns-in_err-write_gated-clause-only : goal.returns-in_err-write_gated-clause-only
 returns-in_err-write_gated-clause-only g c t =
@@ -26,7 +27,7 @@ returns-in_err-write_gated-clause-crash g c t =
     let law = g.met.S.Site.lawful c.args.site.now t in
     let law1 = g.met.S.Site.lawful c.shut.new.site t1 in
     let shut = c.in_ok-shut.ensures.shut t in
-    let front = texts_of c.args.front.now in
+    let front = as_front c.args.front.now in
     let h = g.S.Site.disk c.args.site.now in
     let a = g.S.Site.disk c.shut.new.site in
     let b = g.S.Site.disk c.write_gated.new.site in
@@ -37,7 +38,7 @@ pub returns-in_err-write_gated-clause-settles : goal.returns-in_err-write_gated-
 returns-in_err-write_gated-clause-settles g c image t settles =
     let t1 = c.shut.ensures.told t in
     let shut = c.in_ok-shut.ensures.shut t in
-    let front = texts_of c.args.front.now in
+    let front = as_front c.args.front.now in
     let a = g.S.Site.disk c.shut.new.site in
     let is : c.as_slice.result.now ≡ front_rest front ++ 0 ∷ [] = c.as_slice.ensures ∙ c.in_ok-push.ensures.ok ∙ ap (λ l. l ++ 0 ∷ []) c.in_ok-bytes.ensures in
     made_image (g.S.Site.disk c.args.site.now) front (a.contents 0) image shut.gate
@@ -54,7 +55,7 @@ returns-clause-crash g c t =
     let law = g.met.S.Site.lawful c.args.site.now t in
     let law1 = g.met.S.Site.lawful c.shut.new.site t1 in
     let shut = c.in_ok-shut.ensures.shut t in
-    let front = texts_of c.args.front.now in
+    let front = as_front c.args.front.now in
     let h = g.S.Site.disk c.args.site.now in
     let a = g.S.Site.disk c.shut.new.site in
     let b = g.S.Site.disk c.write_gated.new.site in
@@ -65,7 +66,7 @@ pub returns-clause-settles : goal.returns-clause-settles
 returns-clause-settles g c image t settles =
     let t1 = c.shut.ensures.told t in
     let shut = c.in_ok-shut.ensures.shut t in
-    let front = texts_of c.args.front.now in
+    let front = as_front c.args.front.now in
     let a = g.S.Site.disk c.shut.new.site in
     let is : c.as_slice.result.now ≡ front_rest front ++ 0 ∷ [] = c.as_slice.ensures ∙ c.in_ok-push.ensures.ok ∙ ap (λ l. l ++ 0 ∷ []) c.in_ok-bytes.ensures in
     made_image (g.S.Site.disk c.args.site.now) front (a.contents 0) image shut.gate
@@ -77,7 +78,7 @@ returns-clause-made g c t =
     let law = g.met.S.Site.lawful c.args.site.now t in
     let law1 = g.met.S.Site.lawful c.shut.new.site t1 in
     let shut = c.in_ok-shut.ensures.shut t in
-    let front = texts_of c.args.front.now in
+    let front = as_front c.args.front.now in
     let h = g.S.Site.disk c.args.site.now in
     let a = g.S.Site.disk c.shut.new.site in
     let b = g.S.Site.disk c.write_gated.new.site in
