@@ -6,19 +6,21 @@
 //! were there, since the system tells that once and then forgets it.
 //!
 //! A sync that failed loses the data set: each later call on it fails.
-ghost use Rattle.std.specs.Prelude.{◌≡◌, ◌++◌, ◌≤◌, ◌+◌, ◌^◌, [], IfOk, IsErr, OnErr, OnOk, codes, false, length, true};
+ghost use Rattle.std.specs.Prelude.{◌≡◌, ◌⊎◌, ◌++◌, ◌∷◌, ◌≤◌, ◌+◌, ◌^◌, [], IfOk, IsErr, IsSome, OnErr, OnOk, codes, false, length, true};
 ghost use Rattle.std.specs.Fmt.{decimal};
 ghost use Rattle.std.specs.String.{string_bytes};
+ghost use Rattle.ims_fp.specs.Calls.{is_named, is_settled, is_synced};
+ghost use Rattle.ims_fp.specs.Calls.HostCall.{Forgot, Made, Synced};
 ghost use Rattle.ims_fp.specs.Files.{data_set_name};
 
 use crate::ahead::Ahead;
 use crate::cause::{Call, Cause, Place};
 use crate::folder::{Access, Folder, metadata};
+use crate::host;
+use crate::record::Record;
 use std::alloc::{AllocError, Global};
 use std::fs::File;
 use std::io;
-use std::os::fd::AsRawFd;
-use std::os::unix::fs::FileExt;
 use std::rt::Files;
 
 // How long a data set is at most, in bytes.
@@ -36,6 +38,12 @@ pub(crate) struct DataSet {
     has_durable_name: bool,
     // Whether a sync failed. The system forgets what it couldn't write, so a later one would promise too much.
     is_lost: bool,
+    // What was asked of the system.
+    calls: Record,
+    // Its file was made here, or synced and then dropped from memory.
+    ghost settled: { IsSome file → is_settled calls.events ≡ true },
+    // Where its name is durable, the folder was synced, and since then no file was made.
+    ghost named: { has_durable_name ≡ true → is_named calls.events ≡ true },
 }
 
 /// The name of the file of a data set. Fails only for want of memory.
@@ -68,6 +76,7 @@ impl DataSet {
             ahead: Ahead::new(alloc),
             has_durable_name: false,
             is_lost: false,
+            calls: Record::new(),
         }
     }
 
@@ -148,10 +157,11 @@ impl DataSet {
             return Ok(());
         }
         let answer = match &self.file {
-            Some(file) => file.write_all_at(from, at),
+            Some(file) => host::write(file, &mut self.calls, at, from),
             None => {
                 let file = self.made(folder, set)?;
-                self.file.insert(file).write_all_at(from, at)
+                let file = self.file.insert(file);
+                host::write(file, &mut self.calls, at, from)
             }
         };
         self.length = None;
@@ -165,6 +175,7 @@ impl DataSet {
         access: Access,
         set: u16,
     ) -> Result<(), Cause>
+        ensures synced { OnOk result (IsSome self.new.file → is_synced self.new.calls.events ≡ true) }
         ensures named { OnOk result (self.new.has_durable_name ≡ true) }
         ensures failed { OnErr result (self.new.is_lost ≡ true) }
         ensures refused { self.old.is_lost ≡ true → IsErr result }
@@ -180,16 +191,17 @@ impl DataSet {
         access: Access,
         set: u16,
     ) -> Result<(), Cause>
+        ensures synced { OnOk result (IsSome self.new.file → is_synced self.new.calls.events ≡ true) }
         ensures named { OnOk result (self.new.has_durable_name ≡ true) }
         ensures refused { self.old.is_lost ≡ true → IsErr result }
     {
         self.find(folder, access, set)?;
         if let Some(file) = &self.file {
-            let answer = file.sync_all();
+            let answer = host::sync(file, &mut self.calls);
             answer.map_err(|error| failed(set, Call::Sync, error))?;
         }
         if !self.has_durable_name {
-            let answer = folder.sync();
+            let answer = host::sync_folder(folder, &mut self.calls);
             answer.map_err(|error| failed_on_folder(Call::Sync, error))?;
             self.has_durable_name = true;
         }
@@ -215,7 +227,7 @@ impl DataSet {
         }
         if let Some(file) = found(folder, access, set)? {
             self.is_lost = true; // unless it is settled
-            settle(&file, set)?;
+            settle(&file, &mut self.calls, set)?;
             self.is_lost = false;
             self.file = Some(file);
             self.length = None;
@@ -230,11 +242,12 @@ impl DataSet {
         folder: &Folder<'_, R>,
         set: u16,
     ) -> Result<File, Cause>
+        ensures made { OnOk result (is_settled self.new.calls.events ≡ true) }
         ensures named { OnOk result (self.new.has_durable_name ≡ false) }
         ensures lost { self.new.is_lost ≡ self.old.is_lost }
         ensures ahead { self.new.ahead ≡ self.old.ahead }
     {
-        match make(folder, set) {
+        match make(folder, &mut self.calls, set) {
             Ok(file) => {
                 self.has_durable_name = false;
                 Ok(file)
@@ -268,13 +281,14 @@ fn lost(set: u16) -> Cause {
 }
 
 // Makes durable what was written to a file, and drops what the system keeps of it in memory.
-fn settle(file: &File, set: u16) -> Result<(), Cause> {
-    let answer = file.sync_all();
+fn settle(file: &File, calls: &mut Record, set: u16) -> Result<(), Cause>
+    ensures ok { OnOk result (calls.new.events ≡ Forgot ∷ Synced ∷ calls.old.events) }
+    ensures err { OnErr result ((calls.new.events ≡ calls.old.events) ⊎ (calls.new.events ≡ Synced ∷ calls.old.events)) }
+{
+    let answer = host::sync(file, calls);
     answer.map_err(|error| failed(set, Call::Sync, error))?;
-    match libc::posix_fadvise(file.as_raw_fd(), 0, 0, libc::POSIX_FADV_DONTNEED) {
-        0 => Ok(()),
-        code => Err(failed(set, Call::Forget, io::Error::from_raw_os_error(code))),
-    }
+    let answer = host::forget(file, calls);
+    answer.map_err(|error| failed(set, Call::Forget, error))
 }
 
 // The length of a file.
@@ -307,7 +321,14 @@ fn find<R: Files<File = File>>(
 }
 
 // Makes the file of a data set.
-fn make<R: Files<File = File>>(folder: &Folder<'_, R>, set: u16) -> io::Result<File> {
+fn make<R: Files<File = File>>(
+    folder: &Folder<'_, R>,
+    calls: &mut Record,
+    set: u16,
+) -> io::Result<File>
+    ensures ok { OnOk result (calls.new.events ≡ Made ∷ calls.old.events) }
+    ensures err { OnErr result (calls.new.events ≡ calls.old.events) }
+{
     let name = name_of(folder.alloc(), set)?;
-    folder.make(&name)
+    host::make(folder, calls, &name)
 }

@@ -16,6 +16,8 @@ mod faults;
 mod file_site;
 mod file_source;
 mod folder;
+mod host;
+mod record;
 #[cfg(test)]
 mod tests;
 
