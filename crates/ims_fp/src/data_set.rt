@@ -283,7 +283,8 @@ fn lost(set: u16) -> Cause {
 // Makes durable what was written to a file, and drops what the system keeps of it in memory.
 fn settle(file: &File, calls: &mut Record, set: u16) -> Result<(), Cause>
     ensures ok { OnOk result (calls.new.events ≡ Forgot ∷ Synced ∷ calls.old.events) }
-    ensures err { OnErr result ((calls.new.events ≡ calls.old.events) ⊎ (calls.new.events ≡ Synced ∷ calls.old.events)) }
+    ensures err { OnErr result ((calls.new.events ≡ calls.old.events)
+        ⊎ (calls.new.events ≡ Synced ∷ calls.old.events)) }
 {
     let answer = host::sync(file, calls);
     answer.map_err(|error| failed(set, Call::Sync, error))?;
