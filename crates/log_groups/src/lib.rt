@@ -25,6 +25,3 @@ pub use fault::{LogFault, SealFault};
 pub use front::Front;
 pub use group::Group;
 pub use log::Log;
-
-#[cfg(test)]
-mod tests;
