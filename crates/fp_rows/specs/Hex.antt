@@ -17,8 +17,8 @@ abbrev pub hex : List ℕ → List ℕ
 hex text = joined (filter (λ c. not (c == 32)) text)
 
 -- a line: a text and a newline
-abbrev pub line_text : List ℕ → List ℕ
-line_text text = text ++ 10 ∷ []
+abbrev pub with_newline : List ℕ → List ℕ
+with_newline text = text ++ 10 ∷ []
 
 -- the name with these letters
 abbrev pub named : List ℕ → Name

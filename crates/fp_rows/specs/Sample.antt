@@ -1,6 +1,6 @@
 -- The sample: its definitions and scripts, as texts and as values, and entries of the rows.
 use Rattle.std.specs.Prelude.{ℕ, List, [], ◌∷◌, ◌++◌, map, flat_map, true, false, codes, Some, None}
-use Rattle.fp_rows.specs.Hex.{hex, named, line_text}
+use Rattle.fp_rows.specs.Hex.{hex, named, with_newline}
 use Rattle.fp_model.specs.declared.definitions.Kind.TheVariants.{Fold}
 use Rattle.fp_model.specs.declared.definitions.FieldKind.TheVariants.{C, F, P}
 use Rattle.fp_model.specs.declared.definitions.MsdbDef.{MsdbDef}
@@ -95,7 +95,7 @@ unknown line = record { from = 0; outcome = Unknown; line = line; reply = []; no
 
 -- the text of the definitions
 abbrev pub defs_text : List ℕ
-defs_text = flat_map line_text (
+defs_text = flat_map with_newline (
     codes "regions = [1, 1]"
     ∷ codes "router = \"FOLD\""
     ∷ codes "[[msdb]]"
@@ -179,8 +179,8 @@ cust = record {
   ci = 512;
   segments = customer ∷ audit ∷ loan ∷ [];
   areas =
-      record { name = named (codes "AREA1"); uows = 2; base = 2; overflow = 1; capacity = 4 }
-      ∷ record { name = named (codes "AREA2"); uows = 2; base = 2; overflow = 1; capacity = 4 }
+      record { name = named (codes "AREA1"); uows = 2; base = 2; overflow = 1; capacity = 4; copies = 1 }
+      ∷ record { name = named (codes "AREA2"); uows = 2; base = 2; overflow = 1; capacity = 4; copies = 1 }
       ∷ [];
 }
 
@@ -191,6 +191,7 @@ sample_defs = record {
   router = Fold;
   log_group = 100;
   pool = 1000;
+  tries = 0;
   msdbs = accts ∷ tellers ∷ [];
   dedbs = cust ∷ [];
   text = defs_text;
@@ -200,7 +201,7 @@ sample_defs = record {
 
 -- the text of the scripts
 abbrev pub scripts_text : List ℕ
-scripts_text = flat_map line_text (
+scripts_text = flat_map with_newline (
     codes "TRAN DEPOSIT"
     ∷ codes "FLD ACCTS KEY(#1) BAL + #2"
     ∷ codes "IF STATUS NE ''"
@@ -447,6 +448,7 @@ message_for script text = record {
   tran = script.name;
   text = text;
   line = codes "T1 " ++ trimmed script.name.0 ++ behind_blank text;
+  number = None;
 }
 
 -- what a script asks for a text, behind these answers

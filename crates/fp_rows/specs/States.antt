@@ -1,5 +1,5 @@
 -- States and machines that the rows of transactions begin with.
-use Rattle.std.specs.Prelude.{ℕ, List, [], ◌∷◌, ◌++◌, codes, false, None}
+use Rattle.std.specs.Prelude.{◌≡◌, ℕ, List, [], ◌∷◌, ◌++◌, length, map, replicate, codes, false, None}
 use Rattle.fp_model.specs.declared.database.Db.{Db}
 use Rattle.fp_model.specs.declared.calls.Call.TheVariants as call
 use Rattle.fp_model.specs.declared.calls.Get.TheVariants.{Next}
@@ -7,10 +7,14 @@ use Rattle.fp_model.specs.declared.database.Root.{Root}
 use Rattle.fp_model.specs.declared.database.SeqItem.{SeqItem}
 use Rattle.fp_model.specs.declared.log.Item.{Item}
 use Rattle.fp_model.specs.declared.log.Item.TheVariants.{Segment}
+use Rattle.fp_model.specs.declared.events.Event.{Event}
 use Rattle.fp_model.specs.State.{start}
 use Rattle.fp_model.specs.Rules.{Rules}
+use Rattle.fp_model.specs.History.{beginning}
 use Rattle.fp_model.specs.Product.{rules_of}
 use Rattle.fp_model.specs.Machine.{Machine, at_rest}
+use Rattle.fp_model.specs.Turns.{NoFault}
+use Rattle.fp_model.specs.Runs.{RunStep, Runs, step_events}
 use Rattle.fp_model.specs.Workspace.{Workspace, fresh}
 use Rattle.fp_model.specs.Answers.{Replied}
 use Rattle.fp_model.specs.Calls.{reply_to}
@@ -19,6 +23,13 @@ use Rattle.fp_rows.specs.Sample.{sample_defs, sample_scripts}
 
 abbrev pub sample_rules : Rules
 sample_rules = rules_of sample_defs sample_scripts
+
+-- A run of these events from one machine to another, where nothing befalls any step.
+pub record RunsCalmly (m : Machine) (events : List Event) (m2 : Machine) : Type 0 where
+  pub steps : List RunStep
+  pub takes : step_events steps ≡ events
+  pub is_calm : map (λ step. step.environment) steps ≡ replicate (length events) NoFault
+  pub runs : Runs sample_rules m steps m2
 
 -- before any transaction: A001 has 100, A002 has 50
 abbrev pub at_start : Db
@@ -49,7 +60,7 @@ with_audits = with_customers [] (a_customer (codes "C001ANN         ") (
 
 -- a machine at rest at the start, with one line to take in
 abbrev pub at_rest_with_a_deposit : Machine
-at_rest_with_a_deposit = at_rest sample_rules (codes "T1 DEPOSIT A001 10" ∷ []) [] [] at_start
+at_rest_with_a_deposit = at_rest sample_rules (codes "T1 DEPOSIT A001 10" ∷ []) (beginning 1 at_start)
 
 -- three customers: C003 at anchor 0, C001 and C009 at anchor 6
 abbrev pub with_three : Db
@@ -74,7 +85,7 @@ segment_item bytes = Segment 0 (codes "A001") (codes "A001" ++ hex bytes)
 
 -- the same message of two terminals
 abbrev pub at_rest_with_two_withdrawals : Machine
-at_rest_with_two_withdrawals = at_rest sample_rules (codes "T1 WDRAW A001 60" ∷ codes "T2 WDRAW A001 60" ∷ []) [] [] at_start
+at_rest_with_two_withdrawals = at_rest sample_rules (codes "T1 WDRAW A001 60" ∷ codes "T2 WDRAW A001 60" ∷ []) (beginning 1 at_start)
 
 -- C003 at anchor 0 and C001 at anchor 6
 abbrev pub with_two : Db
@@ -82,4 +93,4 @@ with_two = with_customers (a_customer (codes "C003BOB         ") [] ∷ []) (a_c
 
 -- two terminals that ask for both customers, each in the other's order
 abbrev pub at_rest_with_two_holders : Machine
-at_rest_with_two_holders = at_rest sample_rules (codes "T1 TWO C001 C003" ∷ codes "T2 TWO C003 C001" ∷ []) [] [] with_two
+at_rest_with_two_holders = at_rest sample_rules (codes "T1 TWO C001 C003" ∷ codes "T2 TWO C003 C001" ∷ []) (beginning 1 with_two)

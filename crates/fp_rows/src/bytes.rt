@@ -4,7 +4,7 @@ ghost use Rattle.std.specs.Prelude.{◌≡◌, ℕ, ◌+◌, ◌^◌, ◌≤◌,
 ghost use Rattle.fp_model.specs.Numbers.{number, bytes_of};
 ghost use Rattle.fp_model.specs.Names.{name_in};
 ghost use Rattle.fp_model.specs.Exits.{spread, route, group_of};
-ghost use Rattle.fp_model.specs.Messages.{lines_of, line_fault, fault_of_line, LineTooLong, TooManyLines, message_of, NoTerminal, NoTran, TooLong, NotAscii, terminal_of, message_text};
+ghost use Rattle.fp_model.specs.Messages.{lines_of, line_fault, fault_of_line, LineTooLong, TooManyLines, message_of, NoTerminal, NoTran, TooLong, NotAscii, terminal_of};
 ghost use Rattle.fp_model.specs.Spellings.{be64};
 ghost use Rattle.fp_model.specs.LogText.{Front, group_text, groups_text, front_text, log_text, first_gate};
 ghost use Rattle.fp_model.specs.ItemTargets.{is_ascending};
@@ -19,9 +19,9 @@ ghost use Rattle.fp_model.specs.declared.log.Item.TheVariants.{Image};
 ghost use Rattle.fp_model.specs.declared.log.Outcome.TheVariants.{Done, Verify, SeqFull, Deadlock, Device, Memory, Purge};
 ghost use Rattle.fp_model.specs.declared.definitions.FieldKind.TheVariants.{C, X, H, F, P};
 ghost use Rattle.fp_model.specs.declared.definitions.Kind.TheVariants.{Fold, Range};
-ghost use Rattle.fp_rows.specs.Hex.{hex, line_text, named};
-ghost use Rattle.fp_rows.specs.LogRows.{customers, ended, changed, image};
-ghost use Rattle.fp_rows.specs.Sample.{accts, tellers, accts_now, tellers_now, deposit, refusal, unknown, sample_defs};
+ghost use Rattle.fp_rows.specs.Hex.{hex, with_newline, named};
+ghost use Rattle.fp_rows.specs.LogRows.{customers, ended, changed, image, deposit_checkpoint};
+ghost use Rattle.fp_rows.specs.Sample.{accts, tellers, deposit, refusal, unknown, sample_defs};
 
 /// The sign F is a plus.
 pub fn f_is_plus()
@@ -123,52 +123,60 @@ pub fn what_a_name_is()
 
 /// A message: its terminal, its transaction and its text.
 pub fn a_deposit_is_a_message()
-    ensures { message_of (codes "T1 DEPOSIT A001 10") ≡ Ok (record {
+    ensures { message_of 1 (codes "T1 DEPOSIT A001 10") ≡ Ok (record {
       lterm = named (codes "T1");
       tran = named (codes "DEPOSIT");
       text = codes "A001 10";
       line = codes "T1 DEPOSIT A001 10";
+      number = None;
     }) }
 {}
 
 /// Without a transaction a line is no message, but it has a terminal.
 pub fn a_terminal_alone_is_no_message()
-    ensures message { message_of (codes "T1") ≡ Err NoTran }
+    ensures message { message_of 1 (codes "T1") ≡ Err NoTran }
     ensures terminal { terminal_of (codes "T1") ≡ Some (named (codes "T1")) }
 {}
 
 /// The empty line has no terminal.
 pub fn the_empty_line_is_no_message()
-    ensures { message_of [] ≡ Err NoTerminal }
+    ensures { message_of 1 [] ≡ Err NoTerminal }
 {}
 
 /// A blank with nothing behind the transaction is the empty text.
 pub fn a_last_blank_is_the_empty_text()
-    ensures { message_of (codes "T1 ASK ") ≡ Ok (record {
+    ensures { message_of 1 (codes "T1 ASK ") ≡ Ok (record {
       lterm = named (codes "T1");
       tran = named (codes "ASK");
       text = [];
       line = codes "T1 ASK ";
+      number = None;
     }) }
 {}
 
 /// A tab separates words as a blank does, but in the text it isn't printable.
 pub fn a_tab_separates_words()
-    ensures words { message_text (codes "T1" ++ 9 ∷ codes "ASK" ++ 9 ∷ codes "A001") ≡ codes "A001" }
+    ensures words { message_of 1 (codes "T1" ++ 9 ∷ codes "ASK" ++ 9 ∷ codes "A001") ≡ Ok (record {
+      lterm = named (codes "T1");
+      tran = named (codes "ASK");
+      text = codes "A001";
+      line = codes "T1" ++ 9 ∷ codes "ASK" ++ 9 ∷ codes "A001";
+      number = None;
+    }) }
     ensures terminal { terminal_of (codes "T1" ++ 9 ∷ codes "ASK") ≡ Some (named (codes "T1")) }
-    ensures text { message_of (codes "T1 ASK A001" ++ 9 ∷ codes "10") ≡ Err NotAscii }
+    ensures text { message_of 1 (codes "T1 ASK A001" ++ 9 ∷ codes "10") ≡ Err NotAscii }
 {}
 
 /// Only one blank separates words: behind two stands no transaction.
 pub fn two_blanks_hide_the_transaction()
-    ensures { message_of (codes "T1  ASK A001") ≡ Err NoTran }
+    ensures { message_of 1 (codes "T1  ASK A001") ≡ Err NoTran }
 {}
 
 /// A text has at most 1,000 bytes, which is asked before its bytes are.
 pub fn a_text_of_1001_bytes_is_too_long()
-    ensures long { message_of (codes "T1 ASK " ++ replicate 1001 200) ≡ Err TooLong }
-    ensures not_ascii { message_of (codes "T1 ASK " ++ replicate 1000 200) ≡ Err NotAscii }
-    ensures fits { IsOk (message_of (codes "T1 ASK " ++ replicate 1000 65)) }
+    ensures long { message_of 1 (codes "T1 ASK " ++ replicate 1001 200) ≡ Err TooLong }
+    ensures not_ascii { message_of 1 (codes "T1 ASK " ++ replicate 1000 200) ≡ Err NotAscii }
+    ensures fits { IsOk (message_of 1 (codes "T1 ASK " ++ replicate 1000 65)) }
 {}
 
 /// Lines end at newlines and lose one byte 13 there; a last line without newline is taken.
@@ -210,24 +218,24 @@ pub fn the_log_after_a_refused_deposit()
 
 /// The lines that the terminal is sent for these two entries.
 pub fn the_reply_lines_of_two_deposits()
-    ensures done { line_of deposit ≡ line_text (codes "T1 OK NEW") }
-    ensures refused { line_of refusal ≡ line_text (codes "T1 NO ROLB 1") }
+    ensures done { line_of deposit ≡ with_newline (codes "T1 OK NEW") }
+    ensures refused { line_of refusal ≡ with_newline (codes "T1 NO ROLB 1") }
 {}
 
 /// The empty line is answered to nobody, an unknown transaction to its terminal.
 pub fn the_reply_lines_of_what_is_no_message()
-    ensures nobody { line_of (unknown []) ≡ line_text (codes "? NO UNKNOWN") }
-    ensures terminal { line_of (unknown (codes "T1 NOSUCH")) ≡ line_text (codes "T1 NO UNKNOWN") }
+    ensures nobody { line_of (unknown []) ≡ with_newline (codes "? NO UNKNOWN") }
+    ensures terminal { line_of (unknown (codes "T1 NOSUCH")) ≡ with_newline (codes "T1 NO UNKNOWN") }
 {}
 
 /// The other reply lines; nobody is told of a purge.
 pub fn the_reply_lines_of_other_ends()
-    ensures silent { line_of (ended Done []) ≡ line_text (codes "T1 OK") }
-    ensures verify { line_of (ended (Verify 0 0 (hex (codes "0000040c"))) []) ≡ line_text (codes "T1 NO VERIFY") }
-    ensures full { line_of (ended (SeqFull 4 1 5 1) []) ≡ line_text (codes "T1 NO SEQFULL") }
-    ensures deadlock { line_of (ended (Deadlock (2 ∷ 1 ∷ [])) []) ≡ line_text (codes "T1 NO DEADLOCK") }
-    ensures device { line_of (ended Device []) ≡ line_text (codes "T1 NO DEVICE") }
-    ensures memory { line_of (ended Memory []) ≡ line_text (codes "T1 NO MEMORY") }
+    ensures silent { line_of (ended Done []) ≡ with_newline (codes "T1 OK") }
+    ensures verify { line_of (ended (Verify 0 0 (hex (codes "0000040c"))) []) ≡ with_newline (codes "T1 NO VERIFY") }
+    ensures full { line_of (ended (SeqFull 4 1 5 1) []) ≡ with_newline (codes "T1 NO SEQFULL") }
+    ensures deadlock { line_of (ended (Deadlock (2 ∷ 1 ∷ [])) []) ≡ with_newline (codes "T1 NO DEADLOCK") }
+    ensures device { line_of (ended Device []) ≡ with_newline (codes "T1 NO DEVICE") }
+    ensures memory { line_of (ended Memory []) ≡ with_newline (codes "T1 NO MEMORY") }
     ensures purge { line_of (ended (Purge 4 2) []) ≡ [] }
 {}
 
@@ -255,7 +263,7 @@ pub fn the_gate_behind_a_deposit()
 /// The first checkpoint after the deposit, at any gate.
 #[tactic(auto, unfolding(fp_model::specs::Spellings::be16, fp_model::specs::Spellings::be32, fp_model::specs::Spellings::be64))]
 pub fn the_checkpoint_after_a_deposit()
-    ensures { (gate : ℕ) → checkpoint_text (accts ∷ tellers ∷ []) 1 gate 1 (accts_now ∷ tellers_now ∷ [])
+    ensures { (gate : ℕ) → checkpoint_text 1 (accts ∷ tellers ∷ []) (deposit_checkpoint gate)
         ≡ hex (codes "01 494d534650434b31 0000000000000001") ++ be64 gate ++ hex (codes
         "0000000000000001 02 0008 00000002 41303031 0000110c 41303032 0000050c 0008 00000001 54303031 00000000"
         ) }
@@ -287,7 +295,7 @@ pub fn a_front_alone_has_no_groups()
 /// The databases of that checkpoint are as their definitions have them, and so is its count.
 pub fn the_checkpoint_after_a_deposit_is_whole()
     ensures { (gate : ℕ) → 1 ≤ gate → gate ≤ 2 ^ 62
-        → IsCheckpoint (accts ∷ tellers ∷ []) 1 gate 1 (accts_now ∷ tellers_now ∷ []) }
+        → IsCheckpoint 1 (accts ∷ tellers ∷ []) (deposit_checkpoint gate) }
 {}
 
 /// A data set is open where its first byte is 1; one without bytes isn't.
@@ -295,7 +303,7 @@ pub fn which_data_sets_are_open()
     ensures empty { ¬ IsOpen [] }
     ensures closed { ¬ IsOpen (0 ∷ 1 ∷ []) }
     ensures garbage { ¬ IsOpen (17 ∷ []) }
-    ensures checkpoint { (gate : ℕ) → IsOpen (checkpoint_text [] 1 gate 1 []) }
+    ensures checkpoint { (gate : ℕ) → IsOpen (checkpoint_text 1 [] (record (deposit_checkpoint gate) { msdbs = [] })) }
 {}
 
 /// The new segment of the deposit may be applied, and so may its deletion.

@@ -1,5 +1,5 @@
 //! Rows of the calls: field search arguments, settling, and what the sample's scripts ask.
-#![tactic(auto, unfolding(fp_model::specs::Fsas::list_on, fp_model::specs::Fsas::first_failure, fp_model::specs::Settle::settle_from, fp_model::specs::Programs::ask, fp_model::specs::Spellings::be16))]
+#![tactic(auto, unfolding(fp_model::specs::Fsas::list_on, fp_model::specs::Fsas::first_failure, fp_model::specs::Settle::settle_from, fp_model::specs::Asking::ask, fp_model::specs::Spellings::be16))]
 
 ghost use Rattle.std.specs.Prelude.{◌≡◌, [], ◌∷◌, ◌++◌, replicate, true, false, codes, Some, None};
 ghost use Rattle.fp_model.specs.declared.database.Msdb.{Msdb};

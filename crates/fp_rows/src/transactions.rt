@@ -1,7 +1,7 @@
 //! Rows of whole transactions: calls on a state, commits, serial runs, locks, and a run of turns.
 #![tactic(auto, unfolding(fp_model::specs::Fsas::list_on, fp_model::specs::Fsas::first_failure, fp_model::specs::Settle::settle_from, fp_model::specs::Calls::reply_to, fp_model::specs::Calls::need_of, fp_model::specs::Commit::settlement, fp_model::specs::Commit::purged, fp_model::specs::Spellings::be16))]
 
-ghost use Rattle.std.specs.Prelude.{◌≡◌, ℕ, List, [], ◌∷◌, ◌++◌, false, true, codes, replicate, Some, None};
+ghost use Rattle.std.specs.Prelude.{◌≡◌, ℕ, List, [], ◌∷◌, ◌++◌, false, true, codes, Some, None};
 ghost use Rattle.fp_model.specs.declared.calls.Call.TheVariants as call;
 ghost use Rattle.fp_model.specs.declared.calls.Get.TheVariants.{Unique, Next, NextInParent};
 ghost use Rattle.fp_model.specs.declared.calls.Mode.TheVariants.{Share, Exclusive};
@@ -14,12 +14,11 @@ ghost use Rattle.fp_model.specs.Waiting.{Lock, waits, IsCycle};
 ghost use Rattle.fp_rows.specs.Hex.{hex};
 ghost use Rattle.fp_rows.specs.Sample.{sample_defs, cust};
 ghost use Rattle.fp_rows.specs.Sample as sample;
-ghost use Rattle.fp_model.specs.Serial.{Done, VerifyFailed, serial_run};
+ghost use Rattle.fp_model.specs.Serial.{Ends, serial_run};
+ghost use Rattle.fp_model.specs.declared.log.Outcome.TheVariants.{Done, Verify};
 ghost use Rattle.fp_model.specs.declared.events.Event.TheVariants.{In, Region, Log};
 ghost use Rattle.fp_model.specs.Machine.{Machine};
-ghost use Rattle.fp_model.specs.Turns.{NoFault};
-ghost use Rattle.fp_model.specs.Runs.{Runs};
-ghost use Rattle.fp_rows.specs.States.{with_three, next_customer, first, second, third, sample_rules, at_rest_with_a_deposit, at_rest_with_two_withdrawals, at_rest_with_two_holders, at_start, with_balance, a_customer, with_customers, with_audits};
+ghost use Rattle.fp_rows.specs.States.{RunsCalmly, with_three, next_customer, first, second, third, sample_rules, at_rest_with_a_deposit, at_rest_with_two_withdrawals, at_rest_with_two_holders, at_start, with_balance, a_customer, with_customers, with_audits};
 
 /// The randomizer of the sample's eight anchors.
 pub fn where_customers_lie()
@@ -66,30 +65,30 @@ pub fn a_purge_makes_room()
 /// A deposit alone, from the start: its look shows 100, and the state after it has 110.
 pub fn a_deposit_alone()
     ensures { serial_run sample_rules at_start (at_start ∷ []) (sample.message_for sample.deposit_script (codes "A001 10")) (0 ∷ [])
-        ≡ Done (with_balance (codes "0000110c")) (codes "NEW") }
+        ≡ Ends (record { outcome = Done; reply = codes "NEW"; next = with_balance (codes "0000110c") }) }
 {}
 
 /// A withdrawal of 60 that saw 100 as it was called, and comes to its sync point where 40 is left.
 pub fn a_withdrawal_alone_fails_its_verify()
     ensures { serial_run sample_rules (with_balance (codes "0000040c")) (at_start ∷ with_balance (codes "0000040c") ∷ []) (sample.message_for sample.wdraw_script (codes "A001 60")) (0 ∷ [])
-        ≡ VerifyFailed 0 0 (hex (codes "0000040c")) }
+        ≡ Ends (record { outcome = Verify 0 0 (hex (codes "0000040c")); reply = []; next = with_balance (codes "0000040c") }) }
 {}
 
 /// What asking shows is the state of its note, and not that of its place.
 pub fn asking_shows_what_it_noted()
     ensures noted_one { serial_run sample_rules (with_balance (codes "0000130c")) (at_start ∷ with_balance (codes "0000110c") ∷ with_balance (codes "0000130c") ∷ []) (sample.message_for sample.ask_script (codes "A001")) (1 ∷ [])
-        ≡ Done (with_balance (codes "0000130c")) (codes "110") }
+        ≡ Ends (record { outcome = Done; reply = codes "110"; next = with_balance (codes "0000130c") }) }
     ensures noted_two { serial_run sample_rules (with_balance (codes "0000130c")) (at_start ∷ with_balance (codes "0000110c") ∷ with_balance (codes "0000130c") ∷ []) (sample.message_for sample.ask_script (codes "A001")) (2 ∷ [])
-        ≡ Done (with_balance (codes "0000130c")) (codes "130") }
+        ≡ Ends (record { outcome = Done; reply = codes "130"; next = with_balance (codes "0000130c") }) }
 {}
 
 /// A deposit's line, taken in and run by region 1, is one entry and one group, and its reply line is sent.
 pub fn a_deposit_by_turns()
     ensures { (m : Machine)
-        × (Runs sample_rules at_rest_with_a_deposit (In ∷ Region 1 ∷ Region 1 ∷ Region 1 ∷ Region 1 ∷ Log ∷ []) (NoFault ∷ NoFault ∷ NoFault ∷ NoFault ∷ NoFault ∷ NoFault ∷ []) m
+        × (RunsCalmly at_rest_with_a_deposit (In ∷ Region 1 ∷ Region 1 ∷ Region 1 ∷ Region 1 ∷ Log ∷ []) m
         × ((m.sent ≡ codes "T1 OK NEW" ++ 10 ∷ [])
         × ((m.groups ≡ (sample.deposit ∷ []) ∷ [])
-        × (m.now ≡ with_balance (codes "0000110c"))))) }
+        × (m.history.now ≡ with_balance (codes "0000110c"))))) }
 {}
 
 /// Gets of the next customer go by anchor and then by key.
@@ -115,9 +114,9 @@ pub fn a_search_asks_for_its_anchors()
 /// Two withdrawals of 60 from 100: both look before either commits, and the second fails its verify at the sync point.
 pub fn two_withdrawals_by_turns()
     ensures { (m : Machine)
-        × (Runs sample_rules at_rest_with_two_withdrawals
+        × (RunsCalmly at_rest_with_two_withdrawals
         (In ∷ In ∷ Region 1 ∷ Region 2 ∷ Region 1 ∷ Region 2 ∷ Region 1 ∷ Region 1 ∷ Region 2 ∷ Region 2 ∷ Log ∷ [])
-        (replicate 11 NoFault) m
+        m
         × (m.sent ≡ codes "T1 OK PAID 60" ++ 10 ∷ codes "T2 NO VERIFY" ++ 10 ∷ [])) }
 {}
 
@@ -125,8 +124,8 @@ pub fn two_withdrawals_by_turns()
 /// first goes on.
 pub fn two_holders_by_turns()
     ensures { (m : Machine)
-        × (Runs sample_rules at_rest_with_two_holders
+        × (RunsCalmly at_rest_with_two_holders
         (In ∷ In ∷ Region 1 ∷ Region 1 ∷ Region 2 ∷ Region 2 ∷ Region 1 ∷ Region 2 ∷ Region 1 ∷ Region 2 ∷ Region 1 ∷ Region 1 ∷ Region 1 ∷ Log ∷ [])
-        (replicate 14 NoFault) m
+        m
         × (m.sent ≡ codes "T2 NO DEADLOCK" ++ 10 ∷ codes "T1 OK BOTH" ++ 10 ∷ [])) }
 {}
