@@ -1,4 +1,6 @@
+pub mod Checkpoints
 pub mod Hex
 pub mod LogRows
+pub mod Numbered
 pub mod Sample
 pub mod States

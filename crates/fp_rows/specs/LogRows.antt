@@ -1,11 +1,9 @@
--- Entries, items, keys and checkpoints of the rows on the log's bytes.
+-- Entries, items and keys of the rows on the log's bytes.
 use Rattle.std.specs.Prelude.{ℕ, List, [], ◌∷◌, codes}
 use Rattle.fp_model.specs.declared.log.Entry.{Entry}
 use Rattle.fp_model.specs.declared.log.Item.{Item}
 use Rattle.fp_model.specs.declared.log.Item.TheVariants.{Segment, Image}
 use Rattle.fp_model.specs.declared.log.Outcome.{Outcome}
-use Rattle.fp_model.specs.CheckpointText.{Checkpoint}
-use Rattle.fp_rows.specs.Sample.{accts_now, tellers_now}
 
 -- the first entry, of a transaction that ended so
 abbrev pub ended : Outcome → List ℕ → Entry
@@ -25,8 +23,3 @@ customers =
     codes "C001" ∷ codes "C009" ∷ codes "C012" ∷ codes "C023" ∷ codes "C034" ∷ codes "C045" ∷ codes "C056"
     ∷ codes "C067" ∷ codes "C070" ∷ codes "C078" ∷ codes "C081" ∷ codes "C089" ∷ codes "C092" ∷ codes "C100"
     ∷ codes "C108" ∷ codes "C111" ∷ codes "C119" ∷ codes "C122" ∷ codes "C133" ∷ codes "C144" ∷ codes "C155" ∷ []
-
--- the first checkpoint, after the deposit, at a gate
-abbrev pub deposit_checkpoint : ℕ → Checkpoint
-deposit_checkpoint gate =
-    record { number = 1; at = gate; count = 1; msdbs = accts_now ∷ tellers_now ∷ []; lasts = [] }

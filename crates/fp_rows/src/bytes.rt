@@ -1,4 +1,4 @@
-//! Rows of the bytes: numbers in fields, exits, messages and reply lines, entries, groups and checkpoints.
+//! Rows of the bytes: numbers in fields, exits, messages and reply lines, entries and groups.
 
 ghost use Rattle.std.specs.Prelude.{◌≡◌, ℕ, ◌+◌, ◌^◌, ◌≤◌, List, [], ◌∷◌, ◌++◌, length, map, replicate, codes, Option, Some, None, ℤ, pos, neg_ℤ, Ok, Err, IsOk, IsTrue, IsFalse};
 ghost use Rattle.fp_model.specs.Numbers.{number, bytes_of};
@@ -12,7 +12,6 @@ ghost use Rattle.fp_model.specs.Entries.{MayStandAt};
 ghost use Rattle.fp_model.specs.Groups.{IsGroup, Reads, Groups, Damage};
 ghost use Rattle.fp_model.specs.Items.{FitsMsdb, IsFit};
 ghost use Rattle.fp_model.specs.ReplyLine.{line_of};
-ghost use Rattle.fp_model.specs.CheckpointText.{checkpoint_text, IsCheckpoint, IsOpen};
 ghost use Rattle.std.specs.List.{AllByRecursion};
 ghost use Rattle.fp_model.specs.declared.log.Entry.{Entry};
 ghost use Rattle.fp_model.specs.declared.log.Item.TheVariants.{Image};
@@ -20,7 +19,7 @@ ghost use Rattle.fp_model.specs.declared.log.Outcome.TheVariants.{Done, Verify, 
 ghost use Rattle.fp_model.specs.declared.definitions.FieldKind.TheVariants.{C, X, H, F, P};
 ghost use Rattle.fp_model.specs.declared.definitions.Kind.TheVariants.{Fold, Range};
 ghost use Rattle.fp_rows.specs.Hex.{hex, with_newline, named};
-ghost use Rattle.fp_rows.specs.LogRows.{customers, ended, changed, image, deposit_checkpoint};
+ghost use Rattle.fp_rows.specs.LogRows.{customers, ended, changed, image};
 ghost use Rattle.fp_rows.specs.Sample.{accts, tellers, deposit, refusal, unknown, sample_defs};
 
 /// The sign F is a plus.
@@ -260,15 +259,6 @@ pub fn the_gate_behind_a_deposit()
     ensures { length (group_text (deposit ∷ [])) ≡ 84 }
 {}
 
-/// The first checkpoint after the deposit, at any gate.
-#[tactic(auto, unfolding(fp_model::specs::Spellings::be16, fp_model::specs::Spellings::be32, fp_model::specs::Spellings::be64))]
-pub fn the_checkpoint_after_a_deposit()
-    ensures { (gate : ℕ) → checkpoint_text 1 (accts ∷ tellers ∷ []) (deposit_checkpoint gate)
-        ≡ hex (codes "01 494d534650434b31 0000000000000001") ++ be64 gate ++ hex (codes
-        "0000000000000001 02 0008 00000002 41303031 0000110c 41303032 0000050c 0008 00000001 54303031 00000000"
-        ) }
-{}
-
 /// The text of a log reads as its groups, up to its closed gate.
 pub fn a_log_reads_as_its_groups()
     ensures { (front : Front) (groups : List (List Entry)) → AllByRecursion IsGroup groups
@@ -290,20 +280,6 @@ pub fn an_open_gate_before_zeros_is_damage()
 /// A log that ends behind its front has no groups: a gate that isn't there is closed.
 pub fn a_front_alone_has_no_groups()
     ensures { (front : Front) → Reads (front_text 1 front) (first_gate front) (Groups [] (first_gate front)) }
-{}
-
-/// The databases of that checkpoint are as their definitions have them, and so is its count.
-pub fn the_checkpoint_after_a_deposit_is_whole()
-    ensures { (gate : ℕ) → 1 ≤ gate → gate ≤ 2 ^ 62
-        → IsCheckpoint 1 (accts ∷ tellers ∷ []) (deposit_checkpoint gate) }
-{}
-
-/// A data set is open where its first byte is 1; one without bytes isn't.
-pub fn which_data_sets_are_open()
-    ensures empty { ¬ IsOpen [] }
-    ensures closed { ¬ IsOpen (0 ∷ 1 ∷ []) }
-    ensures garbage { ¬ IsOpen (17 ∷ []) }
-    ensures checkpoint { (gate : ℕ) → IsOpen (checkpoint_text 1 [] (record (deposit_checkpoint gate) { msdbs = [] })) }
 {}
 
 /// The new segment of the deposit may be applied, and so may its deletion.

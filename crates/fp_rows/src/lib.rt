@@ -6,4 +6,7 @@
 
 pub mod bytes;
 pub mod calls;
+pub mod checkpoints;
+pub mod entries;
+pub mod numbered;
 pub mod transactions;
