@@ -25,10 +25,14 @@ use Rattle.fp_rows.proofs.Asks.{customer_held, two_ask_first, two_ask_second, tw
 use Rattle.fp_rows.proofs.MachineSteps.{calm, gained, waiting}
 
 abbrev first_asked : Message
-first_asked = record (sample.message_for sample.two_script (codes "C001 C003")) { lterm = named (codes "T1"); line = codes "T1 TWO C001 C003" }
+first_asked =
+    record (sample.message_for sample.two_script (codes "C001 C003"))
+    { lterm = named (codes "T1"); line = codes "T1 TWO C001 C003" }
 
 abbrev second_asked : Message
-second_asked = record (sample.message_for sample.two_script (codes "C003 C001")) { lterm = named (codes "T2"); line = codes "T2 TWO C003 C001" }
+second_asked =
+    record (sample.message_for sample.two_script (codes "C003 C001"))
+    { lterm = named (codes "T2"); line = codes "T2 TWO C003 C001" }
 
 abbrev of_anchor : ℕ → Needed
 of_anchor anchor = record { resource = Anchor 0 anchor; mode = Exclusive }
@@ -131,38 +135,69 @@ a_cycle = ((0, lit< tt, refl), (1, lit< tt, refl))
 -- ---- the turns
 
 -- what a transaction wants, by what it asks
-from_asks : (m : Machine) (region : ℕ) (t : Transaction) (a : Ask) (o : Option Needed) → asks sample_rules t ≡ a → wanted sample_rules m region t a ≡ o → wanted sample_rules m region t (asks sample_rules t) ≡ o
+from_asks : (m : Machine) (region : ℕ) (t : Transaction) (a : Ask) (o : Option Needed)
+    → asks sample_rules t ≡ a → wanted sample_rules m region t a ≡ o
+    → wanted sample_rules m region t (asks sample_rules t) ≡ o
 from_asks m region t a o e f = ap (λ (q : Ask). wanted sample_rules m region t q) e ∙ f
 
 -- how it ends, by what it asks
-ends_from : (now : Db) (t : Transaction) (a : Ask) (o : Option Ending) → asks sample_rules t ≡ a → ending_of sample_rules now t a ≡ o → ending_of sample_rules now t (asks sample_rules t) ≡ o
+ends_from : (now : Db) (t : Transaction) (a : Ask) (o : Option Ending)
+    → asks sample_rules t ≡ a → ending_of sample_rules now t a ≡ o
+    → ending_of sample_rules now t (asks sample_rules t) ≡ o
 ends_from now t a o e f = ap (λ (q : Ask). ending_of sample_rules now t q) e ∙ f
 
 turn4 : Does sample_rules m3 1 first0 (Gains (of_anchor 6)) m4
 unfolding reply_to looks_unheld need_of
-turn4 = (from_asks m3 1 first0 (Asks (customer_held (codes "C001"))) (Some (of_anchor 6)) (two_ask_first first_asked.lterm first_asked.line) refl, refl, refl)
+turn4 = (
+  from_asks m3 1 first0 (Asks (customer_held (codes "C001"))) (Some (of_anchor 6))
+      (two_ask_first first_asked.lterm first_asked.line) refl,
+  refl,
+  refl,
+)
 
 turn6 : Does sample_rules m5 2 second0 (Gains (of_anchor 0)) m6
 unfolding reply_to looks_unheld need_of
-turn6 = (from_asks m5 2 second0 (Asks (customer_held (codes "C003"))) (Some (of_anchor 0)) (others_ask_first second_asked.lterm second_asked.line) refl, refl, refl)
+turn6 = (
+  from_asks m5 2 second0 (Asks (customer_held (codes "C003"))) (Some (of_anchor 0))
+      (others_ask_first second_asked.lterm second_asked.line) refl,
+  refl,
+  refl,
+)
 
 turn7 : Does sample_rules m6 1 first0 (Answers (customer_held (codes "C001"))) m7
 unfolding reply_to looks_unheld need_of
-turn7 = (two_ask_first first_asked.lterm first_asked.line, from_asks m6 1 first0 (Asks (customer_held (codes "C001"))) None (two_ask_first first_asked.lterm first_asked.line) refl, refl)
+turn7 = (
+  two_ask_first first_asked.lterm first_asked.line,
+  from_asks m6 1 first0 (Asks (customer_held (codes "C001"))) None
+      (two_ask_first first_asked.lterm first_asked.line) refl,
+  refl,
+)
 
 turn8 : Does sample_rules m7 2 second0 (Answers (customer_held (codes "C003"))) m8
 unfolding reply_to looks_unheld need_of
-turn8 = (others_ask_first second_asked.lterm second_asked.line, from_asks m7 2 second0 (Asks (customer_held (codes "C003"))) None (others_ask_first second_asked.lterm second_asked.line) refl, refl)
+turn8 = (
+  others_ask_first second_asked.lterm second_asked.line,
+  from_asks m7 2 second0 (Asks (customer_held (codes "C003"))) None
+      (others_ask_first second_asked.lterm second_asked.line) refl,
+  refl,
+)
 
 turn9 : Does sample_rules m8 1 first1 (Waits (of_anchor 0)) m9
 unfolding reply_to looks_unheld need_of
-turn9 = (from_asks m8 1 first1 (Asks (customer_held (codes "C003"))) (Some (of_anchor 0)) (two_ask_second first_asked.lterm first_asked.line) refl, refl, no_cycle, refl)
+turn9 = (
+  from_asks m8 1 first1 (Asks (customer_held (codes "C003"))) (Some (of_anchor 0))
+      (two_ask_second first_asked.lterm first_asked.line) refl,
+  refl,
+  no_cycle,
+  refl,
+)
 
 turn10 : Does sample_rules m9 2 second1 (Deadlocks (of_anchor 6) (1 ∷ [])) m10
 unfolding reply_to looks_unheld need_of
 turn10 = (
   record {
-    wants = from_asks m9 2 second1 (Asks (customer_held (codes "C001"))) (Some (of_anchor 6)) (others_ask_second second_asked.lterm second_asked.line) refl;
+    wants = from_asks m9 2 second1 (Asks (customer_held (codes "C001"))) (Some (of_anchor 6))
+        (others_ask_second second_asked.lterm second_asked.line) refl;
     closes = a_cycle;
     distinct = two_apart;
   },
@@ -172,17 +207,28 @@ turn10 = (
 
 turn11 : Does sample_rules m10 1 first1 (Gains (of_anchor 0)) m11
 unfolding reply_to looks_unheld need_of
-turn11 = (from_asks m10 1 first1 (Asks (customer_held (codes "C003"))) (Some (of_anchor 0)) (two_ask_second first_asked.lterm first_asked.line) refl, refl, refl)
+turn11 = (
+  from_asks m10 1 first1 (Asks (customer_held (codes "C003"))) (Some (of_anchor 0))
+      (two_ask_second first_asked.lterm first_asked.line) refl,
+  refl,
+  refl,
+)
 
 turn12 : Does sample_rules m11 1 first1 (Answers (customer_held (codes "C003"))) m12
 unfolding reply_to looks_unheld need_of
-turn12 = (two_ask_second first_asked.lterm first_asked.line, from_asks m11 1 first1 (Asks (customer_held (codes "C003"))) None (two_ask_second first_asked.lterm first_asked.line) refl, refl)
+turn12 = (
+  two_ask_second first_asked.lterm first_asked.line,
+  from_asks m11 1 first1 (Asks (customer_held (codes "C003"))) None
+      (two_ask_second first_asked.lterm first_asked.line) refl,
+  refl,
+)
 
 turn13 : Does sample_rules m12 1 first2 (Finishes both []) m13
 unfolding reply_to looks_unheld need_of lacking settlement settle_from
 turn13 = (
   record {
-    lacks_none = from_asks m12 1 first2 (Replies (codes "BOTH")) None (two_reply first_asked.lterm first_asked.line) refl;
+    lacks_none = from_asks m12 1 first2 (Replies (codes "BOTH")) None
+        (two_reply first_asked.lterm first_asked.line) refl;
     ends = ends_from with_two first2 (Replies (codes "BOTH")) (Some both) (two_reply first_asked.lterm first_asked.line) refl;
   },
   (λ fails. lit≤ tt),
@@ -199,7 +245,8 @@ holder_steps =
 
 pub holders_by_turns : (m : Machine)
     × (RunsCalmly at_rest_with_two_holders
-    (In ∷ In ∷ Region 1 ∷ Region 1 ∷ Region 2 ∷ Region 2 ∷ Region 1 ∷ Region 2 ∷ Region 1 ∷ Region 2 ∷ Region 1 ∷ Region 1 ∷ Region 1 ∷ Log ∷ [])
+    (In ∷ In ∷ Region 1 ∷ Region 1 ∷ Region 2 ∷ Region 2 ∷ Region 1 ∷ Region 2
+    ∷ Region 1 ∷ Region 2 ∷ Region 1 ∷ Region 1 ∷ Region 1 ∷ Log ∷ [])
     m
     × (m.sent ≡ codes "T2 NO DEADLOCK" ++ 10 ∷ codes "T1 OK BOTH" ++ 10 ∷ []))
 unfolding reply_to looks_unheld

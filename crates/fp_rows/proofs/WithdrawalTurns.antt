@@ -26,10 +26,14 @@ use Rattle.fp_rows.proofs.Asks.{withdrawal_asks, withdrawal_replies}
 use Rattle.fp_rows.proofs.MachineSteps.{calm, gained}
 
 abbrev first_asked : Message
-first_asked = record (sample.message_for sample.wdraw_script (codes "A001 60")) { lterm = named (codes "T1"); line = codes "T1 WDRAW A001 60" }
+first_asked =
+    record (sample.message_for sample.wdraw_script (codes "A001 60"))
+    { lterm = named (codes "T1"); line = codes "T1 WDRAW A001 60" }
 
 abbrev second_asked : Message
-second_asked = record (sample.message_for sample.wdraw_script (codes "A001 60")) { lterm = named (codes "T2"); line = codes "T2 WDRAW A001 60" }
+second_asked =
+    record (sample.message_for sample.wdraw_script (codes "A001 60"))
+    { lterm = named (codes "T2"); line = codes "T2 WDRAW A001 60" }
 
 abbrev field_call : Call
 field_call = call.Fld 0 (codes "A001") (hex (codes "42414c2020202020 20 48 0002 3630 2a 42414c2020202020 20 2d 0002 3630 20"))
@@ -91,11 +95,19 @@ m10 = ended_with 2 (entry_of second1 failed second1.notes []) failed.next m9
 
 turn5 : Does sample_rules m4 1 first0 (Answers field_call) m5
 unfolding reply_to looks_unheld need_of list_on be16 digits
-turn5 = (simp (withdrawal_asks first_asked.lterm first_asked.line) refl, simp (withdrawal_asks first_asked.lterm first_asked.line) refl, refl)
+turn5 = (
+  simp (withdrawal_asks first_asked.lterm first_asked.line) refl,
+  simp (withdrawal_asks first_asked.lterm first_asked.line) refl,
+  refl,
+)
 
 turn6 : Does sample_rules m5 2 second0 (Answers field_call) m6
 unfolding reply_to looks_unheld need_of list_on be16 digits
-turn6 = (simp (withdrawal_asks second_asked.lterm second_asked.line) refl, simp (withdrawal_asks second_asked.lterm second_asked.line) refl, refl)
+turn6 = (
+  simp (withdrawal_asks second_asked.lterm second_asked.line) refl,
+  simp (withdrawal_asks second_asked.lterm second_asked.line) refl,
+  refl,
+)
 
 turn7 : Does sample_rules m6 1 first1 (Gains the_lock) m7
 unfolding reply_to looks_unheld lacking list_on be16 digits

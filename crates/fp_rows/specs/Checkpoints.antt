@@ -1,5 +1,5 @@
 -- Checkpoints of the rows, and the turns that make one.
-use Rattle.std.specs.Prelude.{ℕ, zero, suc, List, [], ◌∷◌, ◌++◌, replicate, codes, Some}
+use Rattle.std.specs.Prelude.{ℕ, zero, suc, List, [], ◌∷◌, replicate, codes, Some}
 use Rattle.fp_model.specs.declared.events.Event.TheVariants.{Out, Ckpt}
 use Rattle.fp_model.specs.CheckpointText.{Checkpoint}
 use Rattle.fp_model.specs.Lasts.{Last}

@@ -37,7 +37,12 @@ at_start = start sample_defs
 
 -- with this balance of A001, in 4 packed bytes
 abbrev pub with_balance : List ℕ → Db
-with_balance bytes = record at_start { msdbs = record { segments = (codes "A001" ++ hex bytes) ∷ hex (codes "41303032 0000050c") ∷ [] } ∷ record { segments = hex (codes "54303031 00000000") ∷ [] } ∷ [] }
+with_balance bytes = record at_start {
+  msdbs =
+      record { segments = (codes "A001" ++ hex bytes) ∷ hex (codes "41303032 0000050c") ∷ [] }
+      ∷ record { segments = hex (codes "54303031 00000000") ∷ [] }
+      ∷ [];
+}
 
 -- a customer without loans, and with these audits
 abbrev pub a_customer : List ℕ → List SeqItem → Root
@@ -64,11 +69,14 @@ at_rest_with_a_deposit = at_rest sample_rules (codes "T1 DEPOSIT A001 10" ∷ []
 
 -- three customers: C003 at anchor 0, C001 and C009 at anchor 6
 abbrev pub with_three : Db
-with_three = with_customers (a_customer (codes "C003BOB         ") [] ∷ []) (a_customer (codes "C001ANN         ") [] ∷ a_customer (codes "C009CY          ") [] ∷ []) 1 1
+with_three =
+    with_customers (a_customer (codes "C003BOB         ") [] ∷ [])
+    (a_customer (codes "C001ANN         ") [] ∷ a_customer (codes "C009CY          ") [] ∷ []) 1 1
 
 -- a get of the next customer
 abbrev pub next_customer : Workspace → Replied
-next_customer own = reply_to sample_defs with_three with_three own (call.Get Next false 2 (record { segment = 0; key = None } ∷ []))
+next_customer own =
+    reply_to sample_defs with_three with_three own (call.Get Next false 2 (record { segment = 0; key = None } ∷ []))
 
 abbrev pub first : Replied
 first = next_customer (fresh sample_defs)
@@ -85,12 +93,15 @@ segment_item bytes = Segment 0 (codes "A001") (codes "A001" ++ hex bytes)
 
 -- the same message of two terminals
 abbrev pub at_rest_with_two_withdrawals : Machine
-at_rest_with_two_withdrawals = at_rest sample_rules (codes "T1 WDRAW A001 60" ∷ codes "T2 WDRAW A001 60" ∷ []) (beginning 1 at_start)
+at_rest_with_two_withdrawals =
+    at_rest sample_rules (codes "T1 WDRAW A001 60" ∷ codes "T2 WDRAW A001 60" ∷ []) (beginning 1 at_start)
 
 -- C003 at anchor 0 and C001 at anchor 6
 abbrev pub with_two : Db
-with_two = with_customers (a_customer (codes "C003BOB         ") [] ∷ []) (a_customer (codes "C001ANN         ") [] ∷ []) 1 1
+with_two =
+    with_customers (a_customer (codes "C003BOB         ") [] ∷ []) (a_customer (codes "C001ANN         ") [] ∷ []) 1 1
 
 -- two terminals that ask for both customers, each in the other's order
 abbrev pub at_rest_with_two_holders : Machine
-at_rest_with_two_holders = at_rest sample_rules (codes "T1 TWO C001 C003" ∷ codes "T2 TWO C003 C001" ∷ []) (beginning 1 with_two)
+at_rest_with_two_holders =
+    at_rest sample_rules (codes "T1 TWO C001 C003" ∷ codes "T2 TWO C003 C001" ∷ []) (beginning 1 with_two)

@@ -6,10 +6,12 @@ ghost use Rattle.fp_model.specs.declared.definitions.MsdbDef.{MsdbDef};
 ghost use Rattle.fp_model.specs.Spellings.{be64};
 ghost use Rattle.fp_model.specs.CheckpointText.{Checkpoint, checkpoint_text, IsCheckpoint, IsOpen};
 ghost use Rattle.fp_model.specs.Machine.{Machine};
-ghost use Rattle.fp_model.specs.Pending.{Pending, Nothing, Lengths, UnderWay, owed, begun_at, lengths_of, after_out, after_checkpoint};
+ghost use Rattle.fp_model.specs.Pending.{Pending, Nothing, Lengths, UnderWay, owed};
+ghost use Rattle.fp_model.specs.Pending.{begun_at, lengths_of, after_out, after_checkpoint};
 ghost use Rattle.fp_rows.specs.Hex.{hex};
 ghost use Rattle.fp_rows.specs.Sample.{accts, tellers, sample_defs};
-ghost use Rattle.fp_rows.specs.Checkpoints.{deposit_checkpoint, numbered_checkpoint, at_rest_in_two, under_way, waiting_with, an_interval, sample_unwritten, after_outs};
+ghost use Rattle.fp_rows.specs.Checkpoints.{deposit_checkpoint, numbered_checkpoint, at_rest_in_two};
+ghost use Rattle.fp_rows.specs.Checkpoints.{under_way, waiting_with, an_interval, sample_unwritten, after_outs};
 
 /// The first checkpoint after the deposit, at any gate.
 pub fn the_checkpoint_after_a_deposit()

@@ -1,7 +1,7 @@
 //! Rows of the bytes of entries that no transaction makes, and of an item that is a part of an interval.
 #![tactic(auto, unfolding(fp_model::specs::Spellings::be16, fp_model::specs::Spellings::be32, fp_model::specs::Spellings::be64))]
 
-ghost use Rattle.std.specs.Prelude.{◌≡◌, [], ◌∷◌, codes, IsTrue, IsFalse};
+ghost use Rattle.std.specs.Prelude.{◌≡◌, [], ◌∷◌, ◌++◌, codes, IsTrue, IsFalse};
 ghost use Rattle.fp_model.specs.declared.log.Item.TheVariants.{Image, Range};
 ghost use Rattle.fp_model.specs.LogText.{entry_text, item_text, FitsItem};
 ghost use Rattle.fp_model.specs.Entries.{MayStandAt};
@@ -15,12 +15,13 @@ ghost use Rattle.fp_rows.specs.Numbered.{old_two, repeated_one, format_two};
 /// formats, which has no line.
 pub fn the_entries_of_numbers_and_formats()
     ensures old { entry_text old_two ≡ hex (codes
-        "000000000000002a 0000000000000003 09 0000000000000003 000d 5431 20 32 20 41534b 20 41303031 0000 00000000 00000000"
-        ) }
+        "000000000000002a 0000000000000003 09 0000000000000003 000d 5431 20 32 20 41534b 20 41303031" ++ codes
+        "0000 00000000 00000000") }
     ensures again { entry_text repeated_one ≡ hex (codes
-        "0000000000000034 0000000000000001 0a 0009 5431 20 4f4b 20 4e4557 0014 5431 20 31 20 4445504f534954 20 41303031 20 3130 0000 00000000 00000000"
-        ) }
-    ensures change { entry_text format_two ≡ hex (codes "0000000000000015 0000000000000001 0b 0000 0000 00000000 00000000") }
+        "0000000000000034 0000000000000001 0a 0009 5431 20 4f4b 20 4e4557" ++ codes
+        "0014 5431 20 31 20 4445504f534954 20 41303031 20 3130 0000 00000000 00000000") }
+    ensures change { entry_text format_two
+        ≡ hex (codes "0000000000000015 0000000000000001 0b 0000 0000 00000000 00000000") }
 {}
 
 /// Each of them begins at its own place.
@@ -55,7 +56,8 @@ pub fn an_interval_is_written_whole_first()
 
 /// An interval is named once in an entry, whole or in part.
 pub fn one_item_of_an_interval()
-    ensures ascending { IsTrue (is_ascending (Range 4 1 69 (codes "OB") ∷ Image 4 2 [] ∷ Range 4 3 0 (codes "A") ∷ [])) }
+    ensures ascending { IsTrue (is_ascending
+        (Range 4 1 69 (codes "OB") ∷ Image 4 2 [] ∷ Range 4 3 0 (codes "A") ∷ [])) }
     ensures twice { IsFalse (is_ascending (Range 4 1 69 (codes "OB") ∷ Range 4 1 80 (codes "OB") ∷ [])) }
     ensures whole_and_part { IsFalse (is_ascending (Image 4 1 [] ∷ Range 4 1 80 (codes "OB") ∷ [])) }
 {}

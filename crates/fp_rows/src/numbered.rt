@@ -9,7 +9,8 @@ ghost use Rattle.fp_model.specs.Product.{request_of};
 ghost use Rattle.fp_model.specs.ReplyLine.{line_of, line_text};
 ghost use Rattle.fp_rows.specs.Hex.{named, with_newline};
 ghost use Rattle.fp_rows.specs.Sample.{sample_scripts};
-ghost use Rattle.fp_rows.specs.Numbered.{asking, behind_one, behind_three, behind_repeat, behind_unknown, behind_deposit, behind_format, old_two, repeated_one, format_two};
+ghost use Rattle.fp_rows.specs.Numbered.{asking, behind_one, behind_three, behind_repeat, behind_unknown};
+ghost use Rattle.fp_rows.specs.Numbered.{behind_deposit, behind_format, old_two, repeated_one, format_two};
 
 /// In format 2 a number may stand behind the terminal, in format 1 none does: there it is no transaction.
 pub fn a_number_behind_the_terminal()
