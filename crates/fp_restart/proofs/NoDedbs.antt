@@ -99,7 +99,7 @@ module _ (defs : Defs) (none : defs.dedbs ≡ []) where
     where
       either : (b : Bool)
           → option_map_or (λ area. if nat_lt 0 area.def.capacity then Some (purged_area area n now) else None)
-            (if b then None else slice_get [] (set - first_area_set)) None ≡ Some next
+          (if b then None else slice_get [] (set - first_area_set)) None ≡ Some next
           → HasNone next
       either true e = absurd cc
       either false e = absurd cc

@@ -50,9 +50,7 @@ fn is_fit(defs: &Defs, item: &Item) -> bool
         },
         Item::Image { set, ci, bytes } => is_area_interval(defs, *set, *ci, bytes.len()),
         Item::Range { set, ci, at, bytes } => match set_size(defs, *set) {
-            Some(size) => {
-                ends_within(*ci, size as usize) && *at as usize + bytes.len() <= size as usize
-            }
+            Some(size) => { ends_within(*ci, size as usize) && lies_within(*at, bytes.len(), size) }
             None => false,
         },
     }
@@ -139,4 +137,12 @@ fn ends_within(ci: u64, len: usize) -> bool
     ensures past { result ≡ false → ¬ ((ci + 1) * len ≤ 2 ^ 62) }
 {
     (ci as u128 + 1) * len as u128 <= LIMIT
+}
+
+// Whether so many bytes from a place on lie within an interval of this size.
+fn lies_within(at: u16, len: usize, size: u16) -> bool
+    ensures within { result ≡ true → at + len ≤ size }
+    ensures past { result ≡ false → ¬ (at + len ≤ size) }
+{
+    len <= usize::from(size) && usize::from(at) <= usize::from(size) - len
 }

@@ -10,7 +10,7 @@ ends = record { begin = 1; end = 1 }
 
 -- what stands past the end of a list of areas
 abbrev none : AreaDef
-none = record { name = record { 0 = [] }; uows = 0; base = 0; overflow = 0; capacity = 0 }
+none = record { name = record { 0 = [] }; uows = 0; base = 0; overflow = 0; capacity = 0; copies = 0 }
 
 pub loop-area-preserved : goal.loop-area-preserved
 loop-area-preserved c =
