@@ -22,8 +22,12 @@ returns-clause-served c h plain =
     let made = c.in_ok-made.made in
     let is = c.in_ok-made.ensures in
     let can : CanCommit c.args.defs.now.msdbs c.args.store.now made = record { of = c.requires.store; rules = is.rules; fits = is.fits; staged = is.staged; unstaged = is.unstaged } in
-    let here = record { place = plain.place ∙ sym c.count.ensures; states = plain.states ∙ sym c.count.ensures; format = plain.format; same = plain.same } in
-    let comes = is.comes h here in
+    let comes = is.comes h (record {
+      place = plain.place ∙ sym c.count.ensures;
+      states = plain.states ∙ sym c.count.ensures;
+      format = plain.format;
+      same = plain.same;
+    }) in
     record {
       entry = made.entry;
       comes = comes;
