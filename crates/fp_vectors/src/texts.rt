@@ -70,6 +70,11 @@ fn behind_escape<'a>(
     Ok(rest)
 }
 
+/// Appends words.
+pub(crate) fn put_words(text: &mut Vec<u8>, words: &str) -> Result<(), AllocError> {
+    text.extend_from_slice(words.as_bytes())
+}
+
 // What stands last in the parts of bytes.
 #[derive(Clone, Copy, Debug, PartialEq, Eq)]
 enum Last {
