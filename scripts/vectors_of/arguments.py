@@ -63,15 +63,16 @@ def list_lines():
             yield list_line(data[:end])
         for more in [b"*", b" ", b"\x00", b"  ", b" *", withdrawal]:
             yield list_line(data + more)
-    for byte in range(256):
+    for byte in list(range(30, 50)) + [0, 1, 9, 10, 13, 64, 95, 127, 128, 160, 170, 255]:
         yield list_line(withdrawal[:29] + bytes([byte]))
     # An operand's length of each border, true and one off.
-    for length in [0, 1, 2, 255, 256, 257, 4096, 65534, 65535]:
+    yield from (list_line(argument("A", "=", b"\x41" * length) + b" ") for length in [4096, 65_534, 65_535])
+    for length in [0, 1, 2, 255, 256, 257]:
         long = argument("A", "=", b"\x41" * length)
         for data in [long + b" ", long, long[:-1] + b" ", long + b"*" + withdrawal, long + b" " + withdrawal]:
             yield list_line(data)
     for place in range(30):
-        for byte in [0, 1, 3, 42, 255]:
+        for byte in [1, 42, 255]:
             yield list_line(withdrawal[:place] + bytes([byte]) + withdrawal[place + 1:])
 
 
@@ -172,10 +173,10 @@ def try_lines():
                 yield try_line(SEGMENT, [(name, op, operand)])
     for name in ["BAL", "WIDE", "MOST"]:
         for op in "EL+-=":
-            for operand in FORMS:
+            for operand in FORMS[::1 if name == "BAL" else 2]:
                 yield try_line(SEGMENT, [(name, op, operand)])
-    for op in range(256):
-        yield try_line(SEGMENT, [("BAL", chr(op), b"100")]) if op < 128 else None
+    for op in range(32, 128):
+        yield try_line(SEGMENT, [("BAL", chr(op), b"100")])
     yield from name_tries()
     yield from broken_tries()
     yield from long_tries()
@@ -189,10 +190,10 @@ def name_tries():
 
 def broken_tries():
     """Tries of a field that is no number."""
-    for half in ["001a0c", "000a1c", "000010", "000019", "0000ff"]:
+    for half in ["001a0c", "000019", "0000ff"]:
         broken = SEGMENT[:4] + bytes.fromhex("00" + half) + SEGMENT[8:]
         for op in "EGHLMN+-=":
-            for operand in [b"1", b"x", b"100", b"99999999"]:
+            for operand in [b"1", b"x"]:
                 yield try_line(broken, [("BAL", op, operand)])
 
 
@@ -201,7 +202,7 @@ def long_tries():
     yield try_line(SEGMENT, [("BAL", "-", b"060"), ("BAL", "H", b"060"), ("BAL", "+", b"020"), ("BAL", "E", b"060")])
     draws = Draws(11)
     operands = [b"0", b"1", b"60", b"100", b"-5", b"9999900", b"OSLO", b"AS", b"x", b"200"]
-    for _ in range(150):
+    for _ in range(70):
         count = 2 + draws.below(4)
         names = [draws.one_of(["BAL", "BAL", "COUNT", "HALF", "CITY", "FULL", "ACCT", "NONE"]) for _ in range(count)]
         yield try_line(SEGMENT, [(name, draws.one_of("EGHLMN+-=+-=?"), draws.one_of(operands)) for name in names])
@@ -209,5 +210,4 @@ def long_tries():
 
 def lines():
     yield "Lists of field search arguments: `list BYTES`, and `try LIST SEGMENT`."
-    found = dict.fromkeys(line for line in list(list_lines()) + list(try_lines()) if line)
-    yield from found
+    yield from dict.fromkeys(list(list_lines()) + list(try_lines()))

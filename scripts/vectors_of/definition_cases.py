@@ -24,9 +24,9 @@ def value_text(value):
     if isinstance(value, str):
         return json.dumps(value, ensure_ascii=False)
     if isinstance(value, list):
-        return "[" + ", ".join(value_text(one) for one in value) + "]"
+        return "[" + ",".join(value_text(one) for one in value) + "]"
     if isinstance(value, dict):
-        return "{" + ", ".join(f"{key_text(key)} = {value_text(one)}" for key, one in value.items()) + "}"
+        return "{" + ",".join(f"{key_text(key)}={value_text(one)}" for key, one in value.items()) + "}"
     return str(value)
 
 
@@ -43,7 +43,7 @@ def table_text(table, path=""):
             for one in value:
                 sections += f"[[{path}{key}]]\n" + table_text(one, f"{path}{key}.")
         else:
-            values += f"{key_text(key)} = {value_text(value)}\n"
+            values += f"{key_text(key)}={value_text(value)}\n"
     return values + sections
 
 
@@ -112,14 +112,14 @@ WHOLE = top(
     dedb=[dedb(segment=[root(), sequential(), child()], area=[area(capacity=24)])],
 )
 PLACES = [
-    (top(log_group=5, pool=5, msdb=[msdb()]), []),
+    (top(log_group=5, pool=5, tries=5, msdb=[msdb()]), []),
     (with_msdb(dynamic=False, load=[["A", "1"]]), ["msdb", 0]),
     (with_dedb(), ["dedb", 0]),
     (with_dedb(), ["dedb", 0, "segment", 0]),
     (with_segments(root(), child()), ["dedb", 0, "segment", 1]),
     (with_segments(root(), sequential()), ["dedb", 0, "segment", 1]),
     (with_dedb(), ["dedb", 0, "area", 0]),
-    (with_segments(root(), sequential()), ["dedb", 0, "area", 0]),
+    (top(dedb=[dedb(segment=[root(), sequential()], area=[area(capacity=1, copies=2)])]), ["dedb", 0, "area", 0]),
 ]
 
 
@@ -131,9 +131,14 @@ def at(tables, path):
 
 def kinds_of_values():
     """Each key of each table with values of every kind, and without."""
-    for tables, path in PLACES:
+    for tables, path in PLACES[:5]:
         for key in at(tables, path):
             for value in OTHERS:
+                yield changed(tables, path + [key], value)
+    # Keys that stand in tables above too.
+    for tables, path in PLACES[5:]:
+        for key in at(tables, path):
+            for value in [GONE, True, 1.5] if key not in ["capacity", "copies"] else OTHERS:
                 yield changed(tables, path + [key], value)
     for value in ["", DATE, Raw("07:32:00"), [DATE]]:
         yield changed(top(), ["router"], value)
@@ -142,7 +147,7 @@ def kinds_of_values():
 
 def unknown_keys():
     for tables, path in PLACES[:5] + PLACES[6:7]:
-        for keys in [["a"], ["zz"], ["b", "a"], ["a", "Z"], ["Name"], ["name "], [""], ["\u00e9", "z"], ["_"], ["0"]]:
+        for keys in [["a"], ["b", "a"], ["a", "Z"], ["Name"], ["name "], [""], ["\u00e9", "z"]]:
             now = tables
             for key in keys:
                 now = changed(now, path + [key], 1)
@@ -156,7 +161,8 @@ def unknown_keys():
 def numbers():
     slots = with_segments(root(), sequential())
     limits = [
-        (top(), ["log_group"], 1, 1000), (top(), ["pool"], 1, 100_000),
+        (top(), ["log_group"], 1, 1000), (top(), ["pool"], 1, 100_000), (top(), ["tries"], 0, 100),
+        (with_dedb(), ["dedb", 0, "area", 0, "copies"], 1, 7), (slots, ["dedb", 0, "area", 0, "copies"], 1, 7),
         (with_dedb(), ["dedb", 0, "area", 0, "uows"], 1, 65_536),
         (with_dedb(), ["dedb", 0, "area", 0, "base"], 1, 1000),
         (with_dedb(), ["dedb", 0, "area", 0, "overflow"], 0, 1000),
@@ -166,11 +172,40 @@ def numbers():
         (with_dedb(), ["dedb", 0, "ci"], 2048, 2048), (with_dedb(), ["dedb", 0, "ci"], 4096, 4096),
     ]
     for tables, path, least, most in limits:
-        for number in sorted({least - 1, least, least + 1, most - 1, most, most + 1, -least - 1, 2**63 - 1, -(2**63)}):
+        for number in sorted({least - 1, least, most, most + 1, 2**63 - 1, -(2**63)}):
             yield changed(tables, path, number)
     for written in ["9223372036854775808", "-9223372036854775809", "0x10", "0b11", "1_000", "+5", "1e3", "inf", "nan"]:
         yield changed(top(), ["log_group"], Raw(written))
         yield changed(with_msdb(), ["msdb", 0, "zz"], Raw(written))
+
+
+def new_keys():
+    """Tries and copies: where they may stand, and in which order they are judged."""
+    for key in ["tries", "copies"]:
+        for tables, path in PLACES:
+            yield changed(tables, path + [key], 1)
+            yield changed(changed(tables, path + [key], 1), path + ["d" if key == "copies" else "zz"], 1)
+    for written in ["0", "1", "7", "8", "100", "101", "-1", "0x1", "+1", "-0", "'1'", "1.0", "true", "[1]", "{}", "1e0", "007", "9223372036854775808"]:
+        yield top(tries=Raw(written))
+        yield with_dedb(area=[area(copies=Raw(written))])
+    for key in ["Tries", "TRIES", "trie", "triess", "tries ", "try"]:
+        yield changed(top(tries=101), [key], 1)
+    for key in ["Copies", "COPIES", "copie", "copiess", "copies ", "copy"]:
+        yield with_dedb(area=[area(copies=8, **{key: 1})])
+    # Beside a fault of the key before or behind, in either order.
+    for value in [-1, 101, "x"]:
+        for key, other in [("pool", 0), ("pool", "x"), ("log_group", 0), ("msdb", 1), ("dedb", 1), ("msdb", [{}]), ("dedb", [{}]), ("zz", 1), ("regions", [2])]:
+            yield top(tries=value, **{key: other})
+        yield top(pool=0, tries=value)
+        yield changed(top(tries=value), ["router"], GONE)
+    for value in [0, 8, "x"]:
+        for more in [{"overflow": -1}, {"overflow": "x"}, {"capacity": 1}, {"capacity": "x"}, {"zz": 1}, {"uows": 65_536}, {"uows": 0}]:
+            yield with_dedb(area=[area(copies=value, **more)])
+        yield with_dedb(segment=[root(), sequential()], area=[area(capacity=0, copies=value)])
+        yield with_dedb(area=[area(copies=value), area(name="B", copies=9)])
+        yield with_dedb(area=[area(), area(name="B", copies=value)])
+        yield with_dedb(area=[area(copies=value), area(name="A")])
+        yield top(dedb=[dedb(area=[area(copies=value)]), dedb()])
 
 
 def regions():
@@ -198,6 +233,7 @@ def names():
         yield with_msdb(name=name)
         yield with_msdb(fields=[[name, "C", 4]])
         yield with_msdb(fields=[["K", "C", 4], [name, "X", 1]])
+    for name in NAMES[:8] + NAMES[13:17]:
         yield with_dedb(name=name)
         yield with_dedb(segment=[root(name=name)])
         yield with_dedb(area=[area(name=name)])
@@ -222,8 +258,8 @@ def fields():
     for row in rows:
         yield with_msdb(fields=row)
         yield with_dedb(segment=[root(fields=row)])
-    for count in [63, 64, 65]:
-        for length in [1, 16, 17]:
+    for count, lengths in [(64, [1, 16, 17]), (65, [1, 17])]:
+        for length in lengths:
             row = [[f"F{place}", "C", length] for place in range(count)]
             yield with_msdb(fields=row)
     yield with_msdb(fields=[[f"F{place}", "C", 1] for place in range(64)] + [["F", "C", 0]])
@@ -271,12 +307,12 @@ def segments():
         [root(), child(parent="X", sequential=1)], [root(), child("U"), child("V", "U", sequential=True)],
     ]:
         yield with_segments(*types)
-    for levels in [3, 4, 5, 6]:
+    for levels in [4, 5]:
         line = [root()] + [child(f"L{place}", "R" if place == 1 else f"L{place - 1}") for place in range(1, levels)]
         yield with_segments(*line)
         yield with_segments(*(line + [child("X"), child("Y")]))
         yield with_segments(*(line[:levels // 2] + [child("X"), child("Y", "X")] + line[levels // 2:]))
-    for count in [14, 15, 16, 17]:
+    for count in [15, 16]:
         yield with_segments(root(), *(child(f"C{place}") for place in range(1, count)))
         yield with_segments(root(), sequential(), *(child(f"C{place}") for place in range(2, count)))
 
@@ -294,7 +330,7 @@ def long_fields(length, first):
 def elements():
     for ci in [512, 1024, 2048, 4096]:
         most = ci - 32
-        for more in [-1, 0, 1, 4]:
+        for more in [0, 1]:
             key = ["K", "C", 4]
             yield with_segments(root(fields=long_fields(most - 14 + more, key)), ci=ci)
             if ci <= 1024:
@@ -321,7 +357,7 @@ def areas():
     yield with_dedb(area=[area(), area()])
     yield with_dedb(area=[area(), area(name="B")])
     yield with_dedb(area=[area(), area(name="A", uows=0)])
-    for count in [15, 16, 17, 18]:
+    for count in [16, 17]:
         yield of(*[(1, 1, 0)] * count)
     for last in [0, 1, 2]:
         yield of((32_768, 1, 0), (32_767 + last, 1, 0))
@@ -344,9 +380,9 @@ def areas():
 
 
 def databases():
-    for count in [31, 32, 33, 40]:
+    for count in [32, 33]:
         yield top(msdb=[{"name": f"M{place}", "fields": [["K", "C", 1]]} for place in range(count)])
-    for count in [15, 16, 17]:
+    for count in [16, 17]:
         yield top(dedb=[dedb(name=f"D{place}", area=[area(name=f"A{place}")]) for place in range(count)])
     yield top(msdb=[{}] * 33, dedb=[{}] * 17)
     yield top(msdb=[{}] * 32, dedb=[{}] * 17)
@@ -362,7 +398,7 @@ def databases():
 
 
 FAULTS = [
-    (["zz"], 1), (["regions"], [2]), (["router"], "x"), (["log_group"], 0), (["pool"], "x"),
+    (["zz"], 1), (["regions"], [2]), (["router"], "x"), (["log_group"], 0), (["pool"], "x"), (["tries"], 101),
     (["msdb", 0, "zz"], 1), (["msdb", 0, "name"], GONE), (["msdb", 0, "fields"], []), (["msdb", 0, "dynamic"], 1),
     (["msdb", 0, "load"], [["A", "1"], ["A", "1"]]), (["dedb", 0, "yy"], 1), (["dedb", 0, "name"], "M"),
     (["dedb", 0, "randomizer"], 1), (["dedb", 0, "ci"], 100), (["dedb", 0, "segment", 0, "zz"], 1),
@@ -370,7 +406,7 @@ FAULTS = [
     (["dedb", 0, "segment", 0, "fields", 0], ["K", "X", 4]), (["dedb", 0, "segment", 1, "fields"], [["W", "C", 500]]),
     (["dedb", 0, "segment", 1, "parent"], "T"), (["dedb", 0, "segment", 2, "sequential"], True),
     (["dedb", 0, "segment", 2, "parent"], GONE), (["dedb", 0, "area", 0, "xx"], 1), (["dedb", 0, "area", 0, "uows"], 0),
-    (["dedb", 0, "area", 0, "capacity"], 0), (["dedb", 0, "area", 0, "base"], 1001),
+    (["dedb", 0, "area", 0, "capacity"], 0), (["dedb", 0, "area", 0, "copies"], 0), (["dedb", 0, "area", 0, "base"], 1001),
 ]
 
 
@@ -381,7 +417,7 @@ def pairs():
         for other_path, other in FAULTS[place + 1:]:
             if path[:len(other_path)] == other_path or other_path[:len(path)] == path:
                 continue
-            if len(path) == len(other_path) and path[:-1] == other_path[:-1] and draws.below(3) == 0 or draws.below(10) < 1:
+            if len(path) == len(other_path) and path[:-1] == other_path[:-1] and draws.below(5) == 0 or draws.below(14) < 1:
                 yield changed(changed(WHOLE, path, value), other_path, other)
 
 
@@ -394,7 +430,7 @@ def raw_texts():
         b"regions = [\n  1, # first\n  1\n]\nrouter = \"FOLD\"\n", b"regions.a = 1\n", b"a.b = 1\nregions = [1]\n",
         b"regions = [1]\nrouter = \"FOLD\"\nmsdb = [{name = \"M\", fields = [[\"K\", \"C\", 1]]}]\n",
         b"regions = [1]\nrouter = \"FOLD\"\n[msdb]\nname = \"M\"\n", b"[[regions]]\n", b"regions = [1]\nrouter = \"FOLD\"\nmsdb = 'x'\nmsdb = 1\n",
-        b"#" * 1_000_000, b"#" * 1_000_001, b"[" * 1_000_001,
+        b"#" * 1_000_001,
     ]
 
 
@@ -415,7 +451,7 @@ def case(text, digits="1111"):
 
 def cases():
     makers = [
-        kinds_of_values, unknown_keys, numbers, regions, names, fields, loads, segments, elements, areas, databases, pairs,
+        kinds_of_values, unknown_keys, numbers, new_keys, regions, names, fields, loads, segments, elements, areas, databases, pairs,
     ]
     for text in raw_texts():
         yield case(text)
@@ -423,7 +459,7 @@ def cases():
         for tables in maker():
             yield case(table_text(tables).encode())
     for tables in EXIT_TABLES:
-        for number in range(16):
+        for number in range(16) if tables in EXIT_TABLES[:2] + EXIT_TABLES[5:6] else [0, 3, 6, 9, 12]:
             yield case(table_text(tables).encode(), f"{number:04b}")
     for text in [b"regions = ", table_text(top(msdb=[{}])).encode(), b""]:
         yield case(text, "0000")

@@ -73,7 +73,7 @@ def packed_reads():
     # Each sign behind each digit, in one byte and in the last of several.
     for byte in range(256):
         yield read_line("P", bytes([byte]))
-    for size in [2, 8, 9, 10, 16]:
+    for size in [2, 9, 16]:
         for sign in range(16):
             yield read_line("P", bytes.fromhex("12" * (size - 1)) + bytes([0x30 + sign]))
         # A half byte that is no digit, at each place.

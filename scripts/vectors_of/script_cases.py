@@ -244,7 +244,7 @@ TEXT_ROWS = [
     "\r\n", "TRAN A\r\nREPLY 1\r\n", "TRAN A\r\r\nREPLY 1", "TRAN A\n\rREPLY 1", "TRAN A\nREPLY 1\nTRAN B\nREPLY 1\n", "TRAN A TRAN B", "REPLY 1", "GU NONE", "*\xe4".encode("latin-1"),
     "TRAN A\n*\nREPEAT 5\n\n* x\nREPLY 1\nEND\n", "TRAN A\nIF 1 EQ IO.NO\nBOGUS", "TRAN A\nIF 1 EQ IO.NO", "TRAN A\nREPEAT 1\nGU NONE\nELSE", "TRAN A\nREPEAT 1\nELSE\nGU NONE",
     "TRAN KEY\nTRAN IO\nTRAN STATUS\nTRAN TRAN", "TRAN KEY\nTRAN IO\nTRAN KEY", "TRAN ABCDEFGH\nTRAN ABCDEFGH", "TRAN A\nTRAN A1\nTRAN AA", SAMPLE_SCRIPTS, SAMPLE_SCRIPTS.replace("\n", "\r\n"),
-    SAMPLE_SCRIPTS + SAMPLE_SCRIPTS, SAMPLE_SCRIPTS[:-1], SAMPLE_SCRIPTS.replace("IO.CNO", "IO.CNO2"), SAMPLE_SCRIPTS.replace("REPEAT 30", "REPEAT 10000"),
+    SAMPLE_SCRIPTS[:-1], SAMPLE_SCRIPTS.replace("IO.CNO", "IO.CNO2"), SAMPLE_SCRIPTS.replace("REPEAT 30", "REPEAT 10000"),
 ]
 
 
@@ -259,27 +259,24 @@ def limits():
     for depth in [64, 65]:
         for word in [b"IF 1 EQ 1\n", b"REPEAT 1\n"]:
             yield b"TRAN T\n" + word * depth + b"END\n" * depth
-            yield b"TRAN T\n" + word * depth
-            yield b"TRAN T\n" + word * depth + b"END\n" * (depth + 1)
-        yield b"TRAN T\n" + b"IF 1 EQ 1\n" * (depth - 1) + b"IF 1 EQ IO.NO\n"
-        yield b"TRAN T\n" + b"IF 1 EQ 1\n" * (depth - 1) + b"TRAN U\n" + b"IF 1 EQ 1\n" * 64
-        yield b"TRAN T\n" + b"IF 1 EQ 1\nEND\n" * 3 + b"IF 1 EQ 1\n" * depth + b"END\n" * depth
-    for count in [254, 255, 256]:
+        yield b"TRAN T\n" + b"REPEAT 1\n" * depth
+        yield b"TRAN T\n" + b"REPEAT 1\n" * depth + b"END\n" * (depth + 1)
+        yield b"TRAN T\n" + b"REPEAT 1\n" * (depth - 1) + b"IF 1 EQ IO.NO\n"
+        yield b"TRAN T\n" + b"REPEAT 1\n" * (depth - 1) + b"TRAN U\n" + b"REPEAT 1\n" * 64
+        yield b"TRAN T\n" + b"REPEAT 1\nEND\n" * 3 + b"REPEAT 1\n" * depth + b"END\n" * depth
+    yield b"TRAN T\nFLD NONE KEY(1)" + b" A+1" * 256
+    yield b"TRAN T\nISRT ACCTS" + b" NO=1" * 256
+    for count in [255, 256]:
         yield b"TRAN T\nFLD ACCTS KEY(1)" + b" A+1" * count
-        yield b"TRAN T\nFLD NONE KEY(1)" + b" A+1" * count
         yield b"TRAN T\nREPL ACCTS" + b" A=1" * count
         yield b"TRAN T\nISRT ACCTS" + b" BAL=1" * count
-        yield b"TRAN T\nISRT ACCTS" + b" NO=1" * count
         yield b"TRAN T\nISRT CUST CUSTOMER" + b" CNO=1" * count
     for count in [9998, 9999, 10_000]:
         yield b"TRAN T\nREPEAT " + str(count).encode() + b"\nSET A 1\nEND\n"
     for count in [7, 8, 9, 10]:
         yield b"TRAN T\n" + b"REPEAT 10\n" * (count - 4) + b"SET A 1\n" + b"END\n" * (count - 4)
     # A text has 1,000,000 bytes at most.
-    for count in [999_993, 999_994]:
-        yield b"TRAN T\n" + b"\n" * count
-        yield b"TRAN T\n" + b"*" * count
-    yield b"\x01" * 1_000_001
+    yield b"TRAN T\n" + b"*" * 999_994
 
 
 FAULTY = ["BOGUS", "GU NONE", "IF 1 EQ 1", "REPEAT 3", "END", "ELSE", "BREAK", "TRAN A", "TRAN B", "REPLY IO.NO", "SET A \xe4", "REPEAT 10000\nREPLY 1\nEND"]
@@ -292,7 +289,7 @@ def two_faults():
             yield f"TRAN A\n{first}\n{second}\n".encode("latin-1")
             yield f"{first}\n{second}\nTRAN A\n".encode("latin-1")
     draws = Draws(41)
-    for _ in range(120):
+    for _ in range(80):
         count = 3 + draws.below(5)
         words = ["IF A EQ B", "REPEAT 2", "END", "END", "ELSE", "BREAK", "SET A 1", "TRAN B", "GU CUST"]
         yield ("TRAN A\n" + "\n".join(draws.one_of(words) for _ in range(count))).encode()
@@ -303,7 +300,7 @@ MOULDS = [
     "TRAN A", "SET A 1", "SET A B + 2", "IF A EQ 1", "REPEAT 3", "REPLY A 'B'", "ROLB 7", "GU ACCTS KEY ( A )", "GHN CUST CUSTOMER ( A ) LOAN",
     "FLD ACCTS KEY ( A ) BAL E 1 BAL - 2", "ISRT ACCTS BAL= 1 ACCT = 2", "ISRT CUST CUSTOMER ( A ) LOAN DUE= 1", "REPL ACCTS BAL = 1", "DLET CUST",
 ]
-OTHER_TOKENS = ["5", "'T'", "IO.BAL", "NONE", "KEY", "(", "=", "-"]
+OTHER_TOKENS = ["5", "'T'", "NONE", "KEY", "(", "="]
 
 
 def moulded():
@@ -329,9 +326,10 @@ def behind_tran(line):
 def cases():
     for name, line in line_lists():
         yield case(name, behind_tran(line))
-    for line in BYTE_LINES:
+    for place, line in enumerate(BYTE_LINES):
         yield case("sample", b"TRAN T\n" + line)
-        yield case("sample", line + b"\nTRAN T")
+        if place < 28:
+            yield case("sample", line + b"\nTRAN T")
     for line in moulded():
         yield case("sample", behind_tran(line))
     for text in texts():
