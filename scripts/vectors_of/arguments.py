@@ -38,7 +38,8 @@ def read(data):
         is_last = end + 1 == len(data)
         if data[end:end + 1] != (b" " if is_last else b"*"):
             return f"connector {end}"
-        found.append((data[place:place + 8], data[place + 8:place + 9], data[place + 9:place + 10], data[place + 12:end]))
+        name, status, op = data[place:place + 8], data[place + 8:place + 9], data[place + 9:place + 10]
+        found.append((name, status, op, data[place + 12:end]))
         if is_last:
             return found
         place = end + 1
@@ -72,7 +73,7 @@ def list_lines():
         for data in [long + b" ", long, long[:-1] + b" ", long + b"*" + withdrawal, long + b" " + withdrawal]:
             yield list_line(data)
     for place in range(30):
-        for byte in [1, 42, 255]:
+        for byte in [1, 42]:
             yield list_line(withdrawal[:place] + bytes([byte]) + withdrawal[place + 1:])
 
 
@@ -151,16 +152,20 @@ ROWS = [
     ("CITY", "=", b"AS"), ("FULL", "-", b"70001"), ("HALF", "+", b"258"),
 ]
 FORMS = [
-    b"", b"-", b"0", b"-0", b"1", b"-1", b"+1", b"1 ", b" 1", b"1-", b"--1", b"1.0", b"x", b"1x", b"\xff", b"1\n", b"\x00", b"00100",
+    b"", b"-", b"0", b"-0", b"1", b"-1", b"+1", b"1 ", b" 1", b"1-", b"--1", b"1.0", b"x", b"1x", b"\xff", b"1\n",
+    b"\x00", b"00100",
     b"9" * 31, b"-" + b"9" * 31, b"0" * 31, b"0" * 32, b"1" + b"0" * 31,
 ]
 OPERANDS = {
     "ACCT": [b"", b"A", b"A001", b"A0010", b"A001 ", b"A000", b"A002", b"\xff", b"\x00"],
     "CITY": [b"", b" ", b"O", b"OSL", b"OSLO", b"OSLP", b"OSLN", b"OSLO ", b"BERGEN", b"\xff", b"\x00", b"0"],
     "BAL": [b"99", b"100", b"101", b"-100", b"9999899", b"9999900", b"10000099", b"10000100", b"9999999", b"10000000"],
-    "COUNT": [b"254", b"255", b"256", b"-255"], "HALF": [b"-2", b"-3", b"32767", b"32768", b"32766", b"-32766", b"-32767", b"32769", b"32770"],
+    "COUNT": [b"254", b"255", b"256", b"-255"],
+    "HALF": [b"-2", b"-3", b"32767", b"32768", b"32766", b"-32766", b"-32767", b"32769", b"32770"],
     "FULL": [b"69999", b"70000", b"70001", b"2147413647", b"2147413648", b"-2147483648", b"-2147483649"],
-    "MOST": [b"9" * 30, b"5" * 31], "WIDE": [b"257", b"258", b"259", b"18446744073709551357", b"18446744073709551358", b"18446744073709551615", b"18446744073709551616"],
+    "MOST": [b"9" * 30, b"5" * 31],
+    "WIDE": [b"257", b"258", b"259", b"18446744073709551357", b"18446744073709551358", b"18446744073709551615",
+    b"18446744073709551616"],
 }
 
 
@@ -202,7 +207,7 @@ def long_tries():
     yield try_line(SEGMENT, [("BAL", "-", b"060"), ("BAL", "H", b"060"), ("BAL", "+", b"020"), ("BAL", "E", b"060")])
     draws = Draws(11)
     operands = [b"0", b"1", b"60", b"100", b"-5", b"9999900", b"OSLO", b"AS", b"x", b"200"]
-    for _ in range(70):
+    for _ in range(45):
         count = 2 + draws.below(4)
         names = [draws.one_of(["BAL", "BAL", "COUNT", "HALF", "CITY", "FULL", "ACCT", "NONE"]) for _ in range(count)]
         yield try_line(SEGMENT, [(name, draws.one_of("EGHLMN+-=+-=?"), draws.one_of(operands)) for name in names])

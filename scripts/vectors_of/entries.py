@@ -1,7 +1,8 @@
 """Entries of the log as bytes, and logs with their groups."""
 from .texts import Draws, of_bytes
 
-KINDS = ["done", "verify", "roll", "seqfull", "deadlock", "device", "memory", "unknown", "purge", "old", "repeat", "format"]
+KINDS = ["done", "verify", "roll", "seqfull", "deadlock", "device", "memory", "unknown", "purge"]
+KINDS += ["old", "repeat", "format"]
 # The sizes of the numbers in a detail that has nothing else.
 SIZES = {"roll": [2], "seqfull": [2, 8, 8, 8], "purge": [2, 8], "old": [8]}
 
@@ -137,7 +138,8 @@ DEPOSIT = bytes.fromhex(
     "0000000100000000000000000000000101000441303031000841303031" "0000110c"
 )
 REFUSED = bytes.fromhex(
-    "0000000000000031000000000000000002000100125431204445504f5349542041303039203130000000000001" "000000000000000000000000"
+    "0000000000000031000000000000000002000100125431204445504f534954204130303920313000"
+    "0000000001000000000000000000000000"
 )
 # A range of two bytes in place of a whole interval.
 RENAMED = bytes.fromhex(
@@ -145,10 +147,14 @@ RENAMED = bytes.fromhex(
     "00000001" "0300040000000000000004004500024f42"
 )
 OUTCOMES = [
-    ("done",), ("verify", 2, 65_535, b"\xab\xcd"), ("verify", 0, 0, b""), ("verify", 2**32 - 1, 1, b"x" * 300), ("roll", 0), ("roll", 99),
-    ("roll", 65_535), ("seqfull", 3, 1, 4, 2), ("seqfull", 65_535, 2**64 - 1, 2**62, 0), ("deadlock", b"\x02\x01"), ("deadlock", b""),
-    ("deadlock", bytes(range(64))), ("deadlock", b"\x01" * 255), ("device",), ("memory",), ("unknown",), ("purge", 3, 2), ("purge", 0, 2**64 - 1),
-    ("old", 3), ("old", 0), ("old", 10**18 - 1), ("old", 2**64 - 1), ("repeat", b"T1 OK NEW"), ("repeat", b""), ("repeat", b"\n"),
+    ("done",), ("verify", 2, 65_535, b"\xab\xcd"), ("verify", 0, 0, b""), ("verify", 2**32 - 1, 1, b"x" * 300),
+    ("roll", 0), ("roll", 99),
+    ("roll", 65_535), ("seqfull", 3, 1, 4, 2), ("seqfull", 65_535, 2**64 - 1, 2**62, 0), ("deadlock", b"\x02\x01"),
+    ("deadlock", b""),
+    ("deadlock", bytes(range(64))), ("deadlock", b"\x01" * 255), ("device",), ("memory",), ("unknown",),
+    ("purge", 3, 2), ("purge", 0, 2**64 - 1),
+    ("old", 3), ("old", 0), ("old", 10**18 - 1), ("old", 2**64 - 1), ("repeat", b"T1 OK NEW"), ("repeat", b""),
+    ("repeat", b"\n"),
     ("repeat", b"r" * 255), ("repeat", b"r" * 256), ("repeat", b"r" * 65_535), ("format",),
 ]
 
@@ -167,21 +173,34 @@ def range_(data_set, interval, place, data=b"r"):
 
 ITEMS = [
     [], [segment(0, b"A1", b"A1z")], [segment(0, b"A1"), segment(0, b"A2")], [segment(0, b"A2"), segment(0, b"A1")],
-    [segment(0, b"A1"), segment(0, b"A1")], [segment(1, b"A1"), segment(0, b"A2")], [segment(0, b"A2"), segment(1, b"A1")],
-    [segment(0, b"A"), segment(0, b"A1")], [segment(0, b"A1"), segment(0, b"A")], [segment(0, b""), segment(0, b"\x00")],
-    [segment(0, b"\x7f"), segment(0, b"\x80")], [segment(0, b"\x80"), segment(0, b"\x7f")], [segment(255, b"k" * 255, b"s" * 1000)],
-    [image(3, 0, b"c")], [image(3, 0), image(3, 1)], [image(3, 1), image(3, 0)], [image(3, 1), image(3, 1)], [image(4, 0), image(3, 1)],
-    [image(3, 9), image(4, 0)], [image(3, 255), image(3, 256)], [image(3, 256), image(3, 255)], [image(0, 0), image(65_535, 2**64 - 1, b"\x00" * 4096)],
+    [segment(0, b"A1"), segment(0, b"A1")], [segment(1, b"A1"), segment(0, b"A2")],
+    [segment(0, b"A2"), segment(1, b"A1")],
+    [segment(0, b"A"), segment(0, b"A1")], [segment(0, b"A1"), segment(0, b"A")],
+    [segment(0, b""), segment(0, b"\x00")],
+    [segment(0, b"\x7f"), segment(0, b"\x80")], [segment(0, b"\x80"), segment(0, b"\x7f")],
+    [segment(255, b"k" * 255, b"s" * 1000)],
+    [image(3, 0, b"c")], [image(3, 0), image(3, 1)], [image(3, 1), image(3, 0)], [image(3, 1), image(3, 1)],
+    [image(4, 0), image(3, 1)],
+    [image(3, 9), image(4, 0)], [image(3, 255), image(3, 256)], [image(3, 256), image(3, 255)],
+    [image(0, 0), image(65_535, 2**64 - 1, b"\x00" * 4096)],
     [segment(0, b"A1"), image(3, 0)], [image(3, 0), segment(0, b"A1")], [segment(9, b"A1"), image(0, 0), image(0, 1)],
-    [segment(0, b"A1", b"A1z"), segment(0, b"A2"), segment(1, b"A1", b"A1"), image(3, 2, b"~"), image(3, 5, b"ab"), image(4, 0)],
+    [segment(0, b"A1", b"A1z"), segment(0, b"A2"), segment(1, b"A1", b"A1"), image(3, 2, b"~"), image(3, 5, b"ab"),
+    image(4, 0)],
     [segment(0, b"A1"), image(3, 0), segment(1, b"A1")], [segment(0, b"A"), segment(0, b"B"), segment(0, b"B")],
-    [range_(4, 4, 69, b"OB")], [range_(0, 0, 0)], [range_(65_535, 2**64 - 1, 65_535, b"x" * 65_535)], [range_(3, 0, 0, b"")], [range_(3, 0, 32, b"\x00")],
-    [range_(3, 0, 1), range_(3, 1, 0)], [range_(3, 1, 0), range_(3, 0, 1)], [range_(3, 1, 0), range_(3, 1, 0)], [range_(3, 1, 0), range_(3, 1, 9)],
-    [range_(3, 1, 9), range_(3, 1, 0)], [range_(3, 9, 0), range_(4, 0, 0)], [range_(4, 0, 0), range_(3, 9, 0)], [range_(3, 255, 0), range_(3, 256, 0)],
-    [range_(3, 256, 0), range_(3, 255, 0)], [range_(3, 0, 5), image(3, 1)], [image(3, 0), range_(3, 1, 5)], [image(3, 1), range_(3, 0, 5)],
-    [range_(3, 1, 5), image(3, 0)], [image(3, 1), range_(3, 1, 5)], [range_(3, 1, 5), image(3, 1)], [range_(3, 1, 5), image(4, 0)], [image(4, 0), range_(3, 1, 5)],
-    [segment(0, b"A1"), range_(3, 0, 0)], [range_(3, 0, 0), segment(0, b"A1")], [segment(255, b"z"), range_(0, 0, 0), image(0, 1), range_(0, 2, 0)],
-    [range_(3, 0, 0), segment(9, b"A"), range_(3, 1, 0)], [image(3, 0), range_(3, 1, 0, b""), image(3, 2)], [range_(3, 0, 0), image(3, 1), range_(3, 1, 1)],
+    [range_(4, 4, 69, b"OB")], [range_(0, 0, 0)], [range_(65_535, 2**64 - 1, 65_535, b"x" * 65_535)],
+    [range_(3, 0, 0, b"")], [range_(3, 0, 32, b"\x00")],
+    [range_(3, 0, 1), range_(3, 1, 0)], [range_(3, 1, 0), range_(3, 0, 1)], [range_(3, 1, 0), range_(3, 1, 0)],
+    [range_(3, 1, 0), range_(3, 1, 9)],
+    [range_(3, 1, 9), range_(3, 1, 0)], [range_(3, 9, 0), range_(4, 0, 0)], [range_(4, 0, 0), range_(3, 9, 0)],
+    [range_(3, 255, 0), range_(3, 256, 0)],
+    [range_(3, 256, 0), range_(3, 255, 0)], [range_(3, 0, 5), image(3, 1)], [image(3, 0), range_(3, 1, 5)],
+    [image(3, 1), range_(3, 0, 5)],
+    [range_(3, 1, 5), image(3, 0)], [image(3, 1), range_(3, 1, 5)], [range_(3, 1, 5), image(3, 1)],
+    [range_(3, 1, 5), image(4, 0)], [image(4, 0), range_(3, 1, 5)],
+    [segment(0, b"A1"), range_(3, 0, 0)], [range_(3, 0, 0), segment(0, b"A1")],
+    [segment(255, b"z"), range_(0, 0, 0), image(0, 1), range_(0, 2, 0)],
+    [range_(3, 0, 0), segment(9, b"A"), range_(3, 1, 0)], [image(3, 0), range_(3, 1, 0, b""), image(3, 2)],
+    [range_(3, 0, 0), image(3, 1), range_(3, 1, 1)],
     [image(3, 0, b"i"), range_(3, 1, 32, b"ab"), image(3, 2, b"i"), range_(4, 0, 1, b"c"), image(5, 0)],
 ]
 
@@ -191,7 +210,6 @@ def bodies():
     yield from [DEPOSIT, REFUSED, DEPOSIT + REFUSED, REFUSED + DEPOSIT + REFUSED, RENAMED, DEPOSIT + RENAMED]
     for outcome in OUTCOMES:
         yield entry(outcome)
-        yield entry(outcome, notes=[])
         yield entry(outcome, line=b"", reply=b"R")
         yield entry(outcome, items=[segment(0, b"A1")])
         yield entry(outcome, items=[image(3, 0, b"i")])
@@ -217,9 +235,10 @@ def bodies():
 def broken():
     """Entries with a byte or a length changed, left out or added, between good ones."""
     whole = entry(("done",), 1, b"T", b"R", [3], [segment(0, b"A", b"Az"), image(3, 2, b"~"), range_(3, 5, 9, b"a")])
-    repeated = entry(("repeat", b"T1 OK"), 2, b"T1 5 X", notes=[])
-    shorts = [entry(outcome, 2, b"T", notes=[]) for outcome in [OUTCOMES[1], ("roll", 9), ("seqfull", 3, 1, 4, 2), ("deadlock", b"\x02\x01"), ("purge", 3, 2)]]
-    shorts += [repeated, entry(("old", 5), 2, b"T1 4 X"), entry(("format",), 9, b"", notes=[])]
+    repeated = entry(("repeat", b"T OK"), 2, b"T 5 X", notes=[])
+    details = [OUTCOMES[1], ("roll", 9), ("seqfull", 3, 1, 4, 2), ("deadlock", b"\x02\x01"), ("purge", 3, 2)]
+    shorts = [entry(outcome, 2, b"", notes=[]) for outcome in details]
+    shorts += [repeated, entry(("old", 5), 2, b"T"), entry(("format",), 9, b"", notes=[])]
     for data in [whole] + shorts:
         for end in range(len(data)):
             yield data[:end]
@@ -227,14 +246,15 @@ def broken():
     good = entry(("unknown",), 0, b"", b"", [])
     yield from misspelled(whole, b"", b"")
     yield from misspelled(repeated, b"", b"")
-    yield from (good + one + good for one in [DEPOSIT[:-1] + b"\x0d", whole[:9] + b"\x01" + whole[10:], repeated[:16] + b"\x0c" + repeated[17:]])
+    for data in [DEPOSIT[:-1] + b"\x0d", whole[:9] + b"\x01" + whole[10:], repeated[:16] + b"\x0c" + repeated[17:]]:
+        yield good + data + good
     for code in list(range(16)) + [127, 128, 254, 255]:
         yield number(8 + 1, 8) + number(7, 8) + number(code, 1)
         for plain in [entry(("device",)), repeated]:
             yield plain[:16] + number(code, 1) + plain[17:]
     for code in [0, 1, 2, 3, 4, 255]:
         rest = entry(("done",), items=[])[8:-1] + b"\x01" + number(code, 1)
-        for data in [bytes(11), bytes(13), bytes(14) + b"\x01r", bytes(12) + b"\x01r", b"\x00\x01A\x00\x00"]:
+        for data in [bytes(13), bytes(14) + b"\x01r", bytes(12) + b"\x01r", b"\x00\x01A\x00\x00"]:
             yield part(rest + data, 8)
     for length in [2**63, 2**64 - 1, 2**32]:
         yield number(length, 8) + DEPOSIT[8:]
@@ -303,11 +323,13 @@ def logs():
         yield b"d" * 300, b"s" * 70_000, data
     for defs, scripts in [(b"D", b""), (b"", b""), (b"", b"S"), (b"defs", b"scripts"), (b"\x00" * 300, b"x" * 256)]:
         head = front(defs, scripts)
-        for data in [b"", head, head + b"\x00", head + group(one) + b"\x00", front(defs, scripts, 0), head[:-1], front(scripts, defs)]:
+        for data in [b"", head, head + b"\x00", head + group(one) + b"\x00", front(defs, scripts, 0), head[:-1]]:
             yield defs, scripts, data
+        yield defs, scripts, front(scripts, defs)
         for place in range(min(len(head), 18)):
             yield defs, scripts, head[:place] + bytes([head[place] ^ 1]) + head[place + 1:]
-            yield defs, scripts, head[:place]
+            if place % 4 == 0:
+                yield defs, scripts, head[:place]
     head = front(b"D", b"")
     for tail in tails(one, two, three):
         yield b"D", b"", head + tail
@@ -320,18 +342,21 @@ def tails(one, two, three):
         yield group(one) + number(gate, 1)
         yield group(one) + group(two, gate=gate) + b"\x00"
     yield from (groups[:end] for end in range(len(groups) + 1))
-    yield from [groups + b"\x00", groups + b"\x02" + b"\x01" * 30, groups + b"\x00" + group(one), group(one, gate=0) + group(two)]
+    yield from [groups + b"\x00", groups + b"\x02" + b"\x01" * 30, groups + b"\x00" + group(one)]
+    yield group(one, gate=0) + group(two)
     # A length of 0, one that passes the end, one that is less or more than the entries.
     for length in [0, 1, 28, 29, 30, 58, 2**32, 2**62, 2**63, 2**64 - 1]:
         yield b"\x01" + number(length, 8) + one + b"\x00"
         yield group(one) + b"\x01" + number(length, 8) + two + three
-    yield group(one) + group(entry(("format",), 1, b"", notes=[]), entry(("old", 5), 2)) + group(entry(("repeat", b"T1 OK"), 3), RENAMED) + b"\x00"
-    for data in [b"", b"\x00" * 8, DEPOSIT, REFUSED, DEPOSIT + REFUSED, DEPOSIT[:-1], DEPOSIT + b"\x00", REFUSED + DEPOSIT[:40]]:
+    numbered = [entry(("format",), 1, b"", notes=[]), entry(("old", 5), 2), entry(("repeat", b"T1 OK"), 3), RENAMED]
+    yield group(one) + group(*numbered[:2]) + group(*numbered[2:]) + b"\x00"
+    wholes = [b"\x00" * 8, DEPOSIT, REFUSED, DEPOSIT + REFUSED]
+    for data in wholes + [b"", DEPOSIT[:-1], DEPOSIT + b"\x00", REFUSED + DEPOSIT[:40]]:
         yield group(data)
         yield group(data) + b"\x00"
         yield group(one) + group(data) + group(two) + b"\x00"
     draws = Draws(51)
-    for _ in range(60):
+    for _ in range(30):
         place = draws.below(len(groups))
         yield groups[:place] + number(draws.below(256), 1) + groups[place + 1:] + b"\x00"
 

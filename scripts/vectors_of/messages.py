@@ -74,17 +74,19 @@ def line_rows():
         for byte in [32, 65, 126, 127, 9]:
             yield b"T1 X " + bytes([byte]) * count
         yield b"T1 X " + b"a" * count + b"\x00"
-        yield b"t1 X " + b"a" * count
+        yield b"t1 x " + b"a" * count
         yield b"T1 x " + b"a" * count
     draws = Draws(21)
-    for _ in range(60):
+    for _ in range(40):
         yield bytes(draws.one_of(BORDER_BYTES) for _ in range(1 + draws.below(14)))
 
 
 # Words where a number may stand: right ones, and others.
-NUMBERS = [b"1", b"5", b"9", b"10", b"90", b"007", b"0", b"00", b"01", b"0" * 18, b"0" * 19, b"-1", b"+1", b"1.", b"1,000", b"1X", b"X1", b"0x1"]
-NUMBERS += [digit * count for digit in [b"1", b"9"] for count in range(2, 21)]
-NUMBERS += [b"1" + b"0" * count for count in [16, 17, 18, 19]] + [b"0" + b"9" * 17, b"18446744073709551615", b"18446744073709551616"]
+NUMBERS = [b"1", b"5", b"9", b"10", b"90", b"007", b"0", b"00", b"01", b"0" * 18, b"0" * 19]
+NUMBERS += [b"-1", b"+1", b"1.", b"1,000", b"1X", b"X1", b"0x1"]
+NUMBERS += [b"1" * count for count in range(2, 21)] + [b"9" * count for count in [17, 18, 19, 20]]
+NUMBERS += [b"1" + b"0" * count for count in [16, 17, 18, 19]]
+NUMBERS += [b"0" + b"9" * 17, b"18446744073709551615", b"18446744073709551616"]
 NUMBERS += [b"123456789012345678", b"1234567890123456789", b"1\xb2", b"\xd9\xa1", b"1_0", b"*"]
 BEHIND_NUMBER = [b"", b" ", b"  X", b" X", b"\tX\ta", b" X ", b" x", b" 5 X", b" X \x7f"]
 
@@ -98,7 +100,9 @@ def number_rows():
         for between in [b" ", b"\t", b"  ", b" \t", b""]:
             for behind in [b"7 X", b"7\tX a", b"7", b"7 "]:
                 yield terminal + between + behind
-    for behind in [b"\t", b" X  a b", b" 5", b" 0 X", b" 007 X", b" ABCDEFGH", b" ABCDEFGHI a", b" X 5", b" X \x1f", b" X1 7"]:
+    for behind in [
+        b"\t", b" X  a b", b" 5", b" 0 X", b" 007 X", b" ABCDEFGH", b" ABCDEFGHI a", b" X 5", b" X \x1f", b" X1 7",
+    ]:
         for number in [b"7", b"70", b"123456789012345678", b"1234567890123456789"]:
             yield b"T1 " + number + behind
     for byte in range(256):
@@ -158,9 +162,11 @@ def reply_line(outcome, line, text, kept=b""):
 
 
 ADDRESSED = [
-    b"T1 X", b"T1", b"", b"t1 X", b"ABCDEFGH\tX", b"ABCDEFGHI X", b" T1", b"T1\r X", b"A\x00 X", b"? X", b"Z9\xff", b"T1 5 X", b"5 X",
+    b"T1 X", b"T1", b"", b"t1 X", b"ABCDEFGH\tX", b"ABCDEFGHI X", b" T1", b"T1\r X", b"A\x00 X", b"? X", b"Z9\xff",
+    b"T1 5 X", b"5 X",
 ]
-KEPT = [b"", b"T1 OK NEW", b"T2 OK", b"T1 NO ROLB 7", b"? NO UNKNOWN", b"\n", b" ", b"a/b", b"\\", b"\x00\xff", b"T1 OK " + b"a" * 1000]
+KEPT = [b"", b"T1 OK NEW", b"T2 OK", b"T1 NO ROLB 7", b"? NO UNKNOWN", b"T1 OK " + b"a" * 1000]
+KEPT += [b"\n", b" ", b"a/b", b"\\", b"\x00\xff"]
 OLDER = [0, 1, 9, 10, 99, 100, 12_345, 10**17, 10**18 - 1, 10**18, 2**63 - 1, 2**63, 2**64 - 1]
 
 
