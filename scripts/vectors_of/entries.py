@@ -148,14 +148,11 @@ RENAMED = bytes.fromhex(
 )
 OUTCOMES = [
     ("done",), ("verify", 2, 65_535, b"\xab\xcd"), ("verify", 0, 0, b""), ("verify", 2**32 - 1, 1, b"x" * 300),
-    ("roll", 0), ("roll", 99),
-    ("roll", 65_535), ("seqfull", 3, 1, 4, 2), ("seqfull", 65_535, 2**64 - 1, 2**62, 0), ("deadlock", b"\x02\x01"),
-    ("deadlock", b""),
-    ("deadlock", bytes(range(64))), ("deadlock", b"\x01" * 255), ("device",), ("memory",), ("unknown",),
-    ("purge", 3, 2), ("purge", 0, 2**64 - 1),
-    ("old", 3), ("old", 0), ("old", 10**18 - 1), ("old", 2**64 - 1), ("repeat", b"T1 OK NEW"), ("repeat", b""),
-    ("repeat", b"\n"),
-    ("repeat", b"r" * 255), ("repeat", b"r" * 256), ("repeat", b"r" * 65_535), ("format",),
+    ("roll", 0), ("roll", 99), ("roll", 65_535), ("seqfull", 3, 1, 4, 2), ("seqfull", 65_535, 2**64 - 1, 2**62, 0),
+    ("deadlock", b"\x02\x01"), ("deadlock", b""), ("deadlock", bytes(range(64))), ("deadlock", b"\x01" * 255),
+    ("device",), ("memory",), ("unknown",), ("purge", 3, 2), ("purge", 0, 2**64 - 1), ("old", 3), ("old", 0),
+    ("old", 10**18 - 1), ("old", 2**64 - 1), ("repeat", b"T1 OK NEW"), ("repeat", b""), ("repeat", b"\n"),
+    ("repeat", b"r" * 255), ("repeat", b"r" * 256), ("format",),
 ]
 
 
@@ -167,41 +164,35 @@ def image(data_set, interval, data=b""):
     return ("image", data_set, interval, data)
 
 
-def range_(data_set, interval, place, data=b"r"):
+def piece(data_set, interval, place, data=b"r"):
     return ("range", data_set, interval, place, data)
 
 
 ITEMS = [
     [], [segment(0, b"A1", b"A1z")], [segment(0, b"A1"), segment(0, b"A2")], [segment(0, b"A2"), segment(0, b"A1")],
     [segment(0, b"A1"), segment(0, b"A1")], [segment(1, b"A1"), segment(0, b"A2")],
-    [segment(0, b"A2"), segment(1, b"A1")],
-    [segment(0, b"A"), segment(0, b"A1")], [segment(0, b"A1"), segment(0, b"A")],
-    [segment(0, b""), segment(0, b"\x00")],
+    [segment(0, b"A2"), segment(1, b"A1")], [segment(0, b"A"), segment(0, b"A1")],
+    [segment(0, b"A1"), segment(0, b"A")], [segment(0, b""), segment(0, b"\x00")],
     [segment(0, b"\x7f"), segment(0, b"\x80")], [segment(0, b"\x80"), segment(0, b"\x7f")],
-    [segment(255, b"k" * 255, b"s" * 1000)],
-    [image(3, 0, b"c")], [image(3, 0), image(3, 1)], [image(3, 1), image(3, 0)], [image(3, 1), image(3, 1)],
-    [image(4, 0), image(3, 1)],
-    [image(3, 9), image(4, 0)], [image(3, 255), image(3, 256)], [image(3, 256), image(3, 255)],
-    [image(0, 0), image(65_535, 2**64 - 1, b"\x00" * 4096)],
-    [segment(0, b"A1"), image(3, 0)], [image(3, 0), segment(0, b"A1")], [segment(9, b"A1"), image(0, 0), image(0, 1)],
+    [segment(255, b"k" * 255, b"s" * 1000)], [image(3, 0, b"c")], [image(3, 0), image(3, 1)],
+    [image(3, 1), image(3, 0)], [image(3, 1), image(3, 1)], [image(4, 0), image(3, 1)], [image(3, 9), image(4, 0)],
+    [image(3, 255), image(3, 256)], [image(3, 256), image(3, 255)],
+    [image(0, 0), image(65_535, 2**64 - 1, b"\x00" * 4096)], [segment(0, b"A1"), image(3, 0)],
+    [image(3, 0), segment(0, b"A1")], [segment(9, b"A1"), image(0, 0), image(0, 1)],
     [segment(0, b"A1", b"A1z"), segment(0, b"A2"), segment(1, b"A1", b"A1"), image(3, 2, b"~"), image(3, 5, b"ab"),
-    image(4, 0)],
-    [segment(0, b"A1"), image(3, 0), segment(1, b"A1")], [segment(0, b"A"), segment(0, b"B"), segment(0, b"B")],
-    [range_(4, 4, 69, b"OB")], [range_(0, 0, 0)], [range_(65_535, 2**64 - 1, 65_535, b"x" * 65_535)],
-    [range_(3, 0, 0, b"")], [range_(3, 0, 32, b"\x00")],
-    [range_(3, 0, 1), range_(3, 1, 0)], [range_(3, 1, 0), range_(3, 0, 1)], [range_(3, 1, 0), range_(3, 1, 0)],
-    [range_(3, 1, 0), range_(3, 1, 9)],
-    [range_(3, 1, 9), range_(3, 1, 0)], [range_(3, 9, 0), range_(4, 0, 0)], [range_(4, 0, 0), range_(3, 9, 0)],
-    [range_(3, 255, 0), range_(3, 256, 0)],
-    [range_(3, 256, 0), range_(3, 255, 0)], [range_(3, 0, 5), image(3, 1)], [image(3, 0), range_(3, 1, 5)],
-    [image(3, 1), range_(3, 0, 5)],
-    [range_(3, 1, 5), image(3, 0)], [image(3, 1), range_(3, 1, 5)], [range_(3, 1, 5), image(3, 1)],
-    [range_(3, 1, 5), image(4, 0)], [image(4, 0), range_(3, 1, 5)],
-    [segment(0, b"A1"), range_(3, 0, 0)], [range_(3, 0, 0), segment(0, b"A1")],
-    [segment(255, b"z"), range_(0, 0, 0), image(0, 1), range_(0, 2, 0)],
-    [range_(3, 0, 0), segment(9, b"A"), range_(3, 1, 0)], [image(3, 0), range_(3, 1, 0, b""), image(3, 2)],
-    [range_(3, 0, 0), image(3, 1), range_(3, 1, 1)],
-    [image(3, 0, b"i"), range_(3, 1, 32, b"ab"), image(3, 2, b"i"), range_(4, 0, 1, b"c"), image(5, 0)],
+    image(4, 0)], [segment(0, b"A1"), image(3, 0), segment(1, b"A1")],
+    [segment(0, b"A"), segment(0, b"B"), segment(0, b"B")], [piece(4, 4, 69, b"OB")], [piece(0, 0, 0)],
+    [piece(65_535, 2**64 - 1, 65_535, b"x" * 65_535)], [piece(3, 0, 0, b"")], [piece(3, 0, 32, b"\x00")],
+    [piece(3, 0, 1), piece(3, 1, 0)], [piece(3, 1, 0), piece(3, 0, 1)], [piece(3, 1, 0), piece(3, 1, 0)],
+    [piece(3, 1, 0), piece(3, 1, 9)], [piece(3, 1, 9), piece(3, 1, 0)], [piece(3, 9, 0), piece(4, 0, 0)],
+    [piece(4, 0, 0), piece(3, 9, 0)], [piece(3, 255, 0), piece(3, 256, 0)], [piece(3, 256, 0), piece(3, 255, 0)],
+    [piece(3, 0, 5), image(3, 1)], [image(3, 0), piece(3, 1, 5)], [image(3, 1), piece(3, 0, 5)],
+    [piece(3, 1, 5), image(3, 0)], [image(3, 1), piece(3, 1, 5)], [piece(3, 1, 5), image(3, 1)],
+    [piece(3, 1, 5), image(4, 0)], [image(4, 0), piece(3, 1, 5)], [segment(0, b"A1"), piece(3, 0, 0)],
+    [piece(3, 0, 0), segment(0, b"A1")], [segment(255, b"z"), piece(0, 0, 0), image(0, 1), piece(0, 2, 0)],
+    [piece(3, 0, 0), segment(9, b"A"), piece(3, 1, 0)], [image(3, 0), piece(3, 1, 0, b""), image(3, 2)],
+    [piece(3, 0, 0), image(3, 1), piece(3, 1, 1)],
+    [image(3, 0, b"i"), piece(3, 1, 32, b"ab"), image(3, 2, b"i"), piece(4, 0, 1, b"c"), image(5, 0)],
 ]
 
 
@@ -213,7 +204,7 @@ def bodies():
         yield entry(outcome, line=b"", reply=b"R")
         yield entry(outcome, items=[segment(0, b"A1")])
         yield entry(outcome, items=[image(3, 0, b"i")])
-        yield entry(outcome, notes=[], items=[range_(3, 0, 32)])
+        yield entry(outcome, notes=[], items=[piece(3, 0, 32)])
     for items in ITEMS:
         for outcome in [("done",), ("purge", 3, 1)]:
             yield entry(outcome, items=items)
@@ -222,6 +213,7 @@ def bodies():
         yield entry(outcome, line=b"", notes=[])
         yield entry(outcome, line=b"T1 5 X", notes=[1, 2])
         yield entry(outcome) + entry(("old", 5)) + entry(outcome, 2**64 - 1)
+    yield entry(("repeat", b"r" * 65_535))
     for start in [0, 1, 255, 256, 2**32, 2**64 - 1]:
         yield entry(("unknown",), start)
     for count in [0, 1, 255, 256, 1000, 65_535]:
@@ -233,8 +225,8 @@ def bodies():
 
 
 def broken():
-    """Entries with a byte or a length changed, left out or added, between good ones."""
-    whole = entry(("done",), 1, b"T", b"R", [3], [segment(0, b"A", b"Az"), image(3, 2, b"~"), range_(3, 5, 9, b"a")])
+    """Entries with a byte or a length changed, left out or added."""
+    whole = entry(("done",), 1, b"T", b"R", [3], [segment(0, b"A", b"Az"), image(3, 2, b"~"), piece(3, 5, 9, b"a")])
     repeated = entry(("repeat", b"T OK"), 2, b"T 5 X", notes=[])
     details = [OUTCOMES[1], ("roll", 9), ("seqfull", 3, 1, 4, 2), ("deadlock", b"\x02\x01"), ("purge", 3, 2)]
     shorts = [entry(outcome, 2, b"", notes=[]) for outcome in details]
@@ -244,8 +236,8 @@ def broken():
             yield data[:end]
         yield data + b"\x00"
     good = entry(("unknown",), 0, b"", b"", [])
-    yield from misspelled(whole, b"", b"")
-    yield from misspelled(repeated, b"", b"")
+    yield from misspelled(whole)
+    yield from misspelled(repeated)
     for data in [DEPOSIT[:-1] + b"\x0d", whole[:9] + b"\x01" + whole[10:], repeated[:16] + b"\x0c" + repeated[17:]]:
         yield good + data + good
     for code in list(range(16)) + [127, 128, 254, 255]:
@@ -261,16 +253,16 @@ def broken():
         yield DEPOSIT + number(length, 8)
 
 
-def misspelled(data, front, back):
-    """An entry with each of its bytes changed, left out or doubled, between others."""
+def misspelled(data):
+    """An entry with each of its bytes changed or left out, and with a zero before each other one."""
     for place in range(len(data)):
         for change in [1, -1]:
-            yield front + data[:place] + bytes([(data[place] + change) % 256]) + data[place + 1:] + back
+            yield data[:place] + bytes([(data[place] + change) % 256]) + data[place + 1:]
         # The length stays true to what is left, or to what was added.
         if place >= 8:
-            yield front + part(data[8:place] + data[place + 1:], 8) + back
+            yield part(data[8:place] + data[place + 1:], 8)
             if place % 2:
-                yield front + part(data[8:place] + b"\x00" + data[place:], 8) + back
+                yield part(data[8:place] + b"\x00" + data[place:], 8)
 
 
 def entry_line(data):

@@ -168,11 +168,10 @@ def steps():
         [("take", 10), ("take", 20), ("take", 437), ("take", 436), ("take", 0)],
         [("take", 4), ("take", 4), ("take", 4), ("free", 32), ("free", 48), ("free", 40)],
         [("take", 5), ("type", 32, 3), ("type", 33, 3), ("free", 44), ("free", 65_535)], [("take", 65_535)],
-        [("free", 32)], [("free", 0), ("free", 31)],
-        [("take", 8), ("free", 32), ("free", 32)], [("take", 8), ("take", 8), ("free", 32), ("take", 4), ("take", 8)],
-        [("take", 0)] * 4 + [("take", 460), ("take", 0), ("take", 0)],
-        [("take", 476), ("free", 32), ("take", 475)], [("take", 477)],
-        [("take", 473), ("free", 32), ("take", 0), ("take", 472)],
+        [("free", 32)], [("free", 0), ("free", 31)], [("take", 8), ("free", 32), ("free", 32)],
+        [("take", 8), ("take", 8), ("free", 32), ("take", 4), ("take", 8)],
+        [("take", 0)] * 4 + [("take", 460), ("take", 0), ("take", 0)], [("take", 476), ("free", 32), ("take", 475)],
+        [("take", 477)], [("take", 473), ("free", 32), ("take", 0), ("take", 472)],
     ]
     lengths = [0, 1, 2, 3, 4, 5, 7, 8, 9, 467, 468, 469, 472, 473, 475, 476, 477, 480]
     rows += [[("take", length), ("take", 0)] for length in lengths]
