@@ -9,7 +9,7 @@ use Rattle.fp_model.specs.declared.log.Outcome.TheVariants as outcome
 use Rattle.fp_model.specs.Entries.{SuitsOutcome}
 use Rattle.fp_model.specs.History.{History, Request, Accepts, states_of, place_of, with_entry}
 use Rattle.fp_model.specs.Rules.{Rules}
-use Rattle.fp_model.specs.Serial.{Alone, Ends, Ending, serial_run}
+use Rattle.fp_model.specs.Serial.{Ends, Ending, serial_run}
 use Rattle.fp_model.specs.SerialHistory.{NeverFalls, EndsAlone, Leads, Comes, LeadsOn}
 
 module _ (rules : Rules) where
@@ -41,7 +41,8 @@ module _ (rules : Rules) where
       let same = message_is p.message q.message (rules.request_of h e.line) p.is_request q.is_request in
       let P : Message → Type 0 = λ m. serial_run rules h.now (states_of h) m e.notes
       ≡ Ends (record { outcome = e.outcome; reply = e.reply; next = x }) in
-      ending_next (record { outcome = e.outcome; reply = e.reply; next = x }) (record { outcome = e.outcome; reply = e.reply; next = y })
+      ending_next (record { outcome = e.outcome; reply = e.reply; next = x })
+      (record { outcome = e.outcome; reply = e.reply; next = y })
       (sym (subst P same p.ends) ∙ q.ends)
 
   -- the state that an entry leads to is determined
@@ -112,5 +113,6 @@ module _ (rules : Rules) where
   never_falls h e (outcome.Purge set n) next s p = made_at e (place_of h) s.0.0.1 s.0.1
   never_falls h e outcome.Format next s p = made_at e (place_of h) s.0.0.1 s.0.1
 
-  pub notes_in_order : (h : History) (e : Entry) (next : Db) → Comes rules h e next → NeverFalls e.from e.notes (place_of h)
+  pub notes_in_order : (h : History) (e : Entry) (next : Db) → Comes rules h e next
+      → NeverFalls e.from e.notes (place_of h)
   notes_in_order h e next c = never_falls h e e.outcome next c.form c.leads

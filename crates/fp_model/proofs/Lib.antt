@@ -2,4 +2,4 @@ pub mod HistoryLemmas
 pub mod FrameLemmas
 pub mod ProgramLemmas
 pub mod FsaLemmas
-mod RunLemmas
+pub mod RunLemmas

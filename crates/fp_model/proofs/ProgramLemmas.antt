@@ -13,11 +13,14 @@ use Rattle.fp_model.specs.Operands.{Env, learned, at_top, with_setting, set_text
 use Rattle.fp_model.specs.Asking.{Way, Goes, Leaves, Ends, Ask, Asks, Replies, Rolls, or_rolls, goes_on, in_order, loops_on, times, called, run, run_step, ended, ask, cost_step, statement_cost, full_cost}
 
 -- a statement's run, as one step over the runs of the statements in it
-pub run_roll : (defs : Defs) (message : Message) (d : Statement-F Statement) (env : Env) → run defs message (roll-Statement d) env ≡ run_step defs message (map-Statement Statement (Env → Way) (run defs message) d) env
-run_roll defs message d env = ap (λ (part : Env → Way). part env) (fold-roll-Statement (Env → Way) (run_step defs message) d)
+pub run_roll : (defs : Defs) (message : Message) (d : Statement-F Statement) (env : Env)
+    → run defs message (roll-Statement d) env ≡ run_step defs message (map-Statement Statement (Env → Way) (run defs message) d) env
+run_roll defs message d env =
+    ap (λ (part : Env → Way). part env) (fold-roll-Statement (Env → Way) (run_step defs message) d)
 
 -- a statement's full_cost, by those of the statements in it
-pub statement_cost_roll : (d : Statement-F Statement) → statement_cost (roll-Statement d) ≡ cost_step (map-Statement Statement ℕ statement_cost d)
+pub statement_cost_roll : (d : Statement-F Statement)
+    → statement_cost (roll-Statement d) ≡ cost_step (map-Statement Statement ℕ statement_cost d)
 statement_cost_roll d = fold-roll-Statement ℕ cost_step d
 
 -- ---- calls and cost
@@ -61,12 +64,14 @@ wider k m n (Leaves env) h e = omega arith
 wider k m n (Ends end) h e = wider_end k m n end h e
 
 -- one part behind another
-goes_on-within : (k m n : ℕ) (way : Way) (part : Env → Way) → TakesWithin k n way → IsWithin m part → TakesWithin (k + m) n (goes_on way part)
+goes_on-within : (k m n : ℕ) (way : Way) (part : Env → Way) → TakesWithin k n way → IsWithin m part
+    → TakesWithin (k + m) n (goes_on way part)
 goes_on-within k m n (Goes env) part e then_within = after k m n (length env.answers) (part env) e (then_within env)
 goes_on-within k m n (Leaves env) part e then_within = omega arith
 goes_on-within k m n (Ends end) part e then_within = wider_end k (k + m) n end (omega arith) e
 
-loops_on-within : (k m n : ℕ) (way : Way) (part : Env → Way) → TakesWithin k n way → IsWithin m part → TakesWithin (k + m) n (loops_on way part)
+loops_on-within : (k m n : ℕ) (way : Way) (part : Env → Way) → TakesWithin k n way → IsWithin m part
+    → TakesWithin (k + m) n (loops_on way part)
 loops_on-within k m n (Goes env) part e then_within = after k m n (length env.answers) (part env) e (then_within env)
 loops_on-within k m n (Leaves env) part e then_within = omega arith
 loops_on-within k m n (Ends end) part e then_within = wider_end k (k + m) n end (omega arith) e
@@ -78,7 +83,8 @@ times-within (suc n) k body h env =
     (loops_on-within k (n * k) (length env.answers) (body env) (times n body) (h env) (times-within n k body h))
 
 -- a value that there may be
-or_rolls-within : {A : Type 0} (o : Option A) (f : A → Way) (k n : ℕ) → ((x : A) → TakesWithin k n (f x)) → TakesWithin k n (or_rolls o f)
+or_rolls-within : {A : Type 0} (o : Option A) (f : A → Way) (k n : ℕ) → ((x : A) → TakesWithin k n (f x))
+    → TakesWithin k n (or_rolls o f)
 or_rolls-within None f k n h = tt
 or_rolls-within (Some x) f k n h = h x
 
@@ -95,19 +101,25 @@ learned-answers (call.Repl db bytes) answer env = refl
 learned-answers (call.Dlet db) answer env = refl
 
 -- a call takes one answer, or is asked where there is none
-called-of : (asked : Call) (env : Env) (answers : List Answer) → env.answers ≡ answers → TakesWithin 1 (length env.answers) (called asked env)
+called-of : (asked : Call) (env : Env) (answers : List Answer) → env.answers ≡ answers
+    → TakesWithin 1 (length env.answers) (called asked env)
 called-of asked env [] e = rw e (omega arith)
-called-of asked env (answer ∷ answers) e = rw e (omega (arith, ap length (learned-answers asked answer (record env { status = answer.status; answers = answers }))))
+called-of asked env (answer ∷ answers) e =
+    rw e
+    (omega (arith, ap length (learned-answers asked answer (record env { status = answer.status; answers = answers }))))
 
 called-within : (asked : Call) → IsWithin 1 (called asked)
 called-within asked env = called-of asked env env.answers refl
 
 -- a call that there may be
-asked-within : (o : Option Call) (env : Env) → TakesWithin 1 (length env.answers) (or_rolls o (λ asked. called asked env))
-asked-within o env = or_rolls-within o (λ asked. called asked env) 1 (length env.answers) (λ asked. called-within asked env)
+asked-within : (o : Option Call) (env : Env)
+    → TakesWithin 1 (length env.answers) (or_rolls o (λ asked. called asked env))
+asked-within o env =
+    or_rolls-within o (λ asked. called asked env) 1 (length env.answers) (λ asked. called-within asked env)
 
 -- a variable that is set takes none
-setting-within : (variable text : List ℕ) (env : Env) → TakesWithin 1 (length env.answers) (Goes (with_setting variable text env))
+setting-within : (variable text : List ℕ) (env : Env)
+    → TakesWithin 1 (length env.answers) (Goes (with_setting variable text env))
 setting-within variable text env = omega arith
 
 module _ (defs : Defs) (message : Message) where
@@ -116,30 +128,40 @@ module _ (defs : Defs) (message : Message) where
   IsCosted s = IsWithin (statement_cost s) (run defs message s)
 
   -- and so does a block of such statements
-  block-within : (ss : List ((s : Statement) × IsCosted s)) → IsWithin (sum (map statement_cost (map (λ e. e.0) ss))) (in_order (map (run defs message) (map (λ e. e.0) ss)))
+  block-within : (ss : List ((s : Statement) × IsCosted s))
+      → IsWithin (sum (map statement_cost (map (λ e. e.0) ss))) (in_order (map (run defs message) (map (λ e. e.0) ss)))
   block-within [] env = omega arith
-  block-within (s ∷ ss) env = rw (sum_by-cons (λ (n : ℕ). n) (statement_cost s.0) (map statement_cost (map (λ e. e.0) ss))) (goes_on-within (statement_cost s.0) _ (length env.answers) (run defs message s.0 env) _ (s.1 env) (block-within ss))
+  block-within (s ∷ ss) env =
+      rw (sum_by-cons (λ (n : ℕ). n) (statement_cost s.0) (map statement_cost (map (λ e. e.0) ss)))
+      (goes_on-within (statement_cost s.0) _ (length env.answers) (run defs message s.0 env) _ (s.1 env) (block-within ss))
 
-  choice-within : (b : Bool) (k m : ℕ) (x y : Env → Way) → IsWithin k x → IsWithin m y → IsWithin (1 + max k m) (if b then x else y)
+  choice-within : (b : Bool) (k m : ℕ) (x y : Env → Way) → IsWithin k x → IsWithin m y
+      → IsWithin (1 + max k m) (if b then x else y)
   choice-within true k m x y h g env = wider k (1 + max k m) (length env.answers) (x env) (omega arith) (h env)
   choice-within false k m x y h g env = wider m (1 + max k m) (length env.answers) (y env) (omega arith) (g env)
 
-  step-within : (y : Statement-F ((s : Statement) × IsCosted s)) → IsWithin (cost_step (map-Statement _ _ statement_cost (map-Statement _ _ (λ e. e.0) y))) (run_step defs message (map-Statement _ _ (run defs message) (map-Statement _ _ (λ e. e.0) y)))
+  step-within : (y : Statement-F ((s : Statement) × IsCosted s))
+      → IsWithin (cost_step (map-Statement _ _ statement_cost (map-Statement _ _ (λ e. e.0) y))) (run_step defs message (map-Statement _ _ (run defs message) (map-Statement _ _ (λ e. e.0) y)))
   step-within (Set variable first rest) env =
-      or_rolls-within (set_text defs message env first rest) (λ text. Goes (with_setting variable.0 text env)) 1 (length env.answers) (λ text. setting-within variable.0 text env)
+      or_rolls-within (set_text defs message env first rest) (λ text. Goes (with_setting variable.0 text env)) 1
+      (length env.answers) (λ text. setting-within variable.0 text env)
   step-within (If left comparison right taken otherwise) env =
       let first = in_order (map (run defs message) (map (λ e. e.0) taken)) in
       let second = in_order (map (run defs message) (map (λ e. e.0) otherwise)) in
       let one = sum (map statement_cost (map (λ e. e.0) taken)) in
       let other = sum (map statement_cost (map (λ e. e.0) otherwise)) in
-      or_rolls-within (chosen defs message env left comparison right) (λ holds. (if holds then first else second) env) (1 + max one other) (length env.answers)
+      or_rolls-within (chosen defs message env left comparison right) (λ holds. (if holds then first else second) env)
+      (1 + max one other) (length env.answers)
       (λ holds. choice-within holds one other first second (block-within taken) (block-within otherwise) env)
   step-within (Repeat n body) env =
       let block = in_order (map (run defs message) (map (λ e. e.0) body)) in
       let most = n * sum (map statement_cost (map (λ e. e.0) body)) in
-      wider most (1 + most) (length env.answers) (times n block env) (omega arith) (times-within n (sum (map statement_cost (map (λ e. e.0) body))) block (block-within body) env)
+      wider most (1 + most) (length env.answers) (times n block env) (omega arith)
+      (times-within n (sum (map statement_cost (map (λ e. e.0) body))) block (block-within body) env)
   step-within Break env = omega arith
-  step-within (Reply operands) env = or_rolls-within (reply_text defs message env operands) (λ text. Ends (Replies text)) 1 (length env.answers) (λ text. tt)
+  step-within (Reply operands) env =
+      or_rolls-within (reply_text defs message env operands) (λ text. Ends (Replies text)) 1 (length env.answers)
+      (λ text. tt)
   step-within (Roll code) env = tt
   step-within (Get get hold db ssas) env = asked-within (get_call defs message env (call.Get get hold db) db ssas) env
   step-within (Fld db key fsas) env = asked-within (fld_call defs message env db key fsas) env
@@ -147,15 +169,22 @@ module _ (defs : Defs) (message : Message) where
   step-within (Repl db fields) env = asked-within (repl_call defs message env db fields) env
   step-within (Dlet db) env = called-within (call.Dlet db) env
 
-  rolled-within : (x : Statement-F Statement) → IsWithin (cost_step (map-Statement _ _ statement_cost x)) (run_step defs message (map-Statement _ _ (run defs message) x)) → IsCosted (roll-Statement x)
-  rolled-within x h = rw (fold-roll-Statement ℕ cost_step x, fold-roll-Statement (Env → Way) (run_step defs message) x) h
+  rolled-within : (x : Statement-F Statement)
+      → IsWithin (cost_step (map-Statement _ _ statement_cost x)) (run_step defs message (map-Statement _ _ (run defs message) x))
+      → IsCosted (roll-Statement x)
+  rolled-within x h =
+      rw (fold-roll-Statement ℕ cost_step x, fold-roll-Statement (Env → Way) (run_step defs message) x) h
 
   statement-within : (s : Statement) → IsCosted s
-  statement-within = ind-Statement IsCosted (λ x y is. rolled-within x (subst (λ z. IsWithin (cost_step (map-Statement _ _ statement_cost z)) (run_step defs message (map-Statement _ _ (run defs message) z))) is (step-within y)))
+  statement-within =
+      ind-Statement IsCosted
+      (λ x y is. rolled-within x (subst (λ z. IsWithin (cost_step (map-Statement _ _ statement_cost z)) (run_step defs message (map-Statement _ _ (run defs message) z))) is (step-within y)))
 
   script-within : (ss : List Statement) → IsWithin (sum (map statement_cost ss)) (in_order (map (run defs message) ss))
   script-within [] env = omega arith
-  script-within (s ∷ ss) env = rw (sum_by-cons (λ (n : ℕ). n) (statement_cost s) (map statement_cost ss)) (goes_on-within (statement_cost s) _ (length env.answers) (run defs message s env) _ (statement-within s env) (script-within ss))
+  script-within (s ∷ ss) env =
+      rw (sum_by-cons (λ (n : ℕ). n) (statement_cost s) (map statement_cost ss))
+      (goes_on-within (statement_cost s) _ (length env.answers) (run defs message s env) _ (statement-within s env) (script-within ss))
 
 -- a reply or a rollback
 abbrev IsEnd : Ask → Type 0
@@ -170,8 +199,10 @@ asked-below k n (Leaves env) asked is e = absurd (subst IsEnd is tt)
 asked-below k n (Ends end) asked is e = subst (EndsWithin k n) is e
 
 -- A script that asks a call was answered fewer than it costs.
-pub calls_below_cost : (defs : Defs) (statements : List Statement) (message : Message) (answers : List Answer) (asked : Call) → ask defs statements message answers ≡ Asks asked → length answers < full_cost statements
+pub calls_below_cost : (defs : Defs) (statements : List Statement) (message : Message) (answers : List Answer) (asked : Call)
+    → ask defs statements message answers ≡ Asks asked → length answers < full_cost statements
 unfolding ask
 calls_below_cost defs statements message answers asked is =
-    let below = asked-below _ _ (in_order (map (run defs message) statements) (at_top answers)) asked is (script-within defs message statements (at_top answers)) in
+    let below = asked-below _ _ (in_order (map (run defs message) statements) (at_top answers)) asked is
+    (script-within defs message statements (at_top answers)) in
     omega arith

@@ -1,5 +1,5 @@
 -- What a script asks: a function of the message and of the answers that its calls were given.
-use Rattle.std.specs.Prelude.{ℕ, zero, suc, ◌+◌, ◌-◌, ◌*◌, min, max, List, [], ◌∷◌, map, sum, if◌then◌else◌, Option, Some, None, find}
+use Rattle.std.specs.Prelude.{ℕ, zero, suc, ◌+◌, ◌*◌, min, max, List, [], ◌∷◌, map, sum, if◌then◌else◌, Option, Some, None, find}
 use Rattle.fp_model.specs.declared.name.Name.{Name}
 use Rattle.fp_model.specs.declared.definitions.Defs.{Defs}
 use Rattle.fp_model.specs.declared.calls.Message.{Message}
@@ -11,7 +11,6 @@ use Rattle.fp_model.specs.declared.scripts.Statement.TheOpen.{Statement-F, Set, 
 use Rattle.fp_model.specs.declared.scripts.Statement.TheFolds.{fold-Statement}
 use Rattle.fp_model.specs.declared.scripts.Script.{Script}
 use Rattle.fp_model.specs.Texts.{same_text}
-use Rattle.fp_model.specs.Numbers.{number}
 use Rattle.fp_model.specs.Operands.{at_top, with_setting, learned, Env, set_text, chosen, reply_text, get_call, fld_call, isrt_call, repl_call}
 
 -- ---- what a statement does
@@ -68,7 +67,8 @@ module _ (defs : Defs) (message : Message) where
   run_step (Set variable first rest) env =
       or_rolls (set_text defs message env first rest) (λ text. Goes (with_setting variable.0 text env))
   run_step (If left comparison right taken otherwise) env =
-      or_rolls (chosen defs message env left comparison right) (λ holds. (if holds then in_order taken else in_order otherwise) env)
+      or_rolls (chosen defs message env left comparison right)
+      (λ holds. (if holds then in_order taken else in_order otherwise) env)
   run_step (Repeat n body) env = times n (in_order body) env
   run_step Break env = Leaves env
   run_step (Reply operands) env = or_rolls (reply_text defs message env operands) (λ text. Ends (Replies text))

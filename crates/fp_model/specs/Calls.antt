@@ -34,7 +34,8 @@ dedb_target defs dedb = option_map_or (λ def. OnDedb def dedb) (slice_get defs.
 
 -- main storage databases are counted first
 abbrev pub target_of : Defs → ℕ → Target
-target_of defs db = option_map_or (λ def. OnMsdb def db) (slice_get defs.msdbs db) (dedb_target defs (db - length defs.msdbs))
+target_of defs db =
+    option_map_or (λ def. OnMsdb def db) (slice_get defs.msdbs db) (dedb_target defs (db - length defs.msdbs))
 
 abbrev pub msdb_at : Db → ℕ → Msdb
 msdb_at db msdb = unwrap_or (slice_get db.msdbs msdb) (record { segments = [] })

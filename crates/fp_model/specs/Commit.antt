@@ -78,7 +78,9 @@ abbrev pub with_dependent : Defs → SeqInsert → SeqItem → Db → Db
 with_dependent defs i item db =
     let key : Root → List ℕ = root_key (types_of defs i.dedb) in
     let changed : Dedb → Dedb = λ d. record d {
-      anchors = option_map_or (λ roots. slice_set d.anchors i.anchor (change_key key i.key (with_newest item) roots)) (slice_get d.anchors i.anchor) d.anchors;
+      anchors =
+          option_map_or (λ roots. slice_set d.anchors i.anchor (change_key key i.key (with_newest item) roots))
+          (slice_get d.anchors i.anchor) d.anchors;
     } in
     with_dedb i.dedb changed db
 
@@ -90,7 +92,8 @@ numbered_at defs i area db =
     with_ends area (record ends { end = ends.end + 1 }) (with_dependent defs i item db)
 
 abbrev pub with_insert : Defs → Db → SeqInsert → Db
-with_insert defs db i = option_map_or (λ area. numbered_at defs i area db) (find (λ area. takes area i) (areas_of defs)) db
+with_insert defs db i =
+    option_map_or (λ area. numbered_at defs i area db) (find (λ area. takes area i) (areas_of defs)) db
 
 -- the sequential inserts, in call order
 abbrev pub with_inserts : Defs → List SeqInsert → Db → Db
@@ -128,7 +131,8 @@ kept_from begin root = record root { seqs = filter (λ item. nat_le begin item.s
 abbrev pub in_anchors : {X : Type 0} → Area → (X → X) → List X → List X
 in_anchors area change anchors =
     let own : ℕ = anchors_in area.def in
-    take area.first_anchor anchors ++ map change (take own (drop area.first_anchor anchors)) ++ drop (area.first_anchor + own) anchors
+    take area.first_anchor anchors ++ map change (take own (drop area.first_anchor anchors))
+    ++ drop (area.first_anchor + own) anchors
 
 -- begin moves up by n, at most to the end, and older serials leave their roots
 abbrev pub purged_area : Area → ℕ → Db → Db
@@ -145,4 +149,5 @@ area_of_set defs set = if nat_lt set first_area_set then None else slice_get (ar
 -- the state after a Purge of a data set; None where it isn't an area with a sequential part
 unfoldable pub purged : Defs → ℕ → ℕ → Db → Option Db
 purged defs set n db =
-    option_map_or (λ area. if nat_lt 0 area.def.capacity then Some (purged_area area n db) else None) (area_of_set defs set) None
+    option_map_or (λ area. if nat_lt 0 area.def.capacity then Some (purged_area area n db) else None)
+    (area_of_set defs set) None

@@ -218,7 +218,8 @@ module _ (def : DedbDef) (dedb : ℕ) where
 
   abbrev pub queued_insert : Workspace → List Step → List ℕ → Replied
   queued_insert own path bytes =
-      record { answer = answered blank; own = record (hold_ended own) { inserts = own.inserts ++ seq_insert path bytes ∷ [] } }
+      let inserts : List SeqInsert = own.inserts ++ seq_insert path bytes ∷ [] in
+      record { answer = answered blank; own = record (hold_ended own) { inserts = inserts } }
 
   abbrev pub isrt_at : List Root → Workspace → ℕ → List Step → List ℕ → Replied
   isrt_at roots own type path bytes =

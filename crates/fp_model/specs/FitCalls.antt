@@ -35,7 +35,8 @@ is_some_few xs = nat_le 1 (length xs) && nat_le (length xs) 255
 -- one statement, with the answers for the statements in it
 abbrev pub fits_step : Defs → Statement-F Bool → Bool
 fits_step defs (Set variable first rest) = true
-fits_step defs (If left comparison right taken otherwise) = list_all (λ fits. fits) taken && list_all (λ fits. fits) otherwise
+fits_step defs (If left comparison right taken otherwise) =
+    list_all (λ fits. fits) taken && list_all (λ fits. fits) otherwise
 fits_step defs (Repeat n body) = list_all (λ fits. fits) body
 fits_step defs Break = true
 fits_step defs (Reply operands) = true

@@ -41,7 +41,8 @@ Keeps (event.Region region) m m2 = KeepsLines m m2 × KeepsSealed m m2 × KeepsB
 Keeps event.Log m m2 = KeepsLines m m2 × KeepsQueues m m2 × KeepsRegions m m2 × KeepsHistory m m2
 Keeps event.Out m m2 = m2 ≡ m
 Keeps event.Ckpt m m2 = KeepsLines m m2 × KeepsQueues m m2 × KeepsRegions m m2 × KeepsHistory m m2
-Keeps (event.Purge set n) m m2 = KeepsLines m m2 × KeepsSealed m m2 × KeepsRegions m m2 × KeepsQueues m m2 × KeepsBusy m m2
+Keeps (event.Purge set n) m m2 =
+    KeepsLines m m2 × KeepsSealed m m2 × KeepsRegions m m2 × KeepsQueues m m2 × KeepsBusy m m2
 
 -- entries are only added
 abbrev pub AddsEntries : Machine → Machine → Type 0

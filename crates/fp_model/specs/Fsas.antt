@@ -33,7 +33,8 @@ list_text [] = []
 list_text (fsa ∷ []) = fsa_text fsa ++ 32 ∷ []
 list_text (fsa ∷ next ∷ fsas) = fsa_text fsa ++ 42 ∷ list_text (next ∷ fsas)
 
--- whether it has a spelling: a name of 8 bytes, a byte each for the status and the operation, and an operand that fits its length
+-- whether it has a spelling: a name of 8 bytes, a byte each for the status and the operation, and an operand that fits
+-- its length
 pub record IsFsa (fsa : Fsa) : Type 0 where
   pub name : length fsa.field ≡ 8
   pub status_fits : fsa.status < 256
@@ -203,7 +204,8 @@ letter_of def fsa segment =
 -- the segment with a change made in a field; one that doesn't fit leaves it
 abbrev pub with_change : FieldDef → ℕ → List ℕ → List ℕ → List ℕ
 with_change field op operand segment =
-    option_map_or (λ bytes. with_field field bytes segment) (changed field op (field_bytes field segment) operand) segment
+    option_map_or (λ bytes. with_field field bytes segment) (changed field op (field_bytes field segment) operand)
+    segment
 
 -- the segment with an FSA's change made; a verify leaves it
 abbrev pub changed_by : MsdbDef → Fsa → List ℕ → List ℕ

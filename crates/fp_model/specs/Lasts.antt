@@ -1,10 +1,10 @@
 -- Message numbers: the format in which a line is read, and the last number of each terminal.
-use Rattle.std.specs.Prelude.{ℕ, List, [], ◌∷◌, Bool, true, false, if◌then◌else◌, fold, find, Option, Some, None, Result, Ok, Err, option_map, unwrap_or}
+use Rattle.std.specs.Prelude.{ℕ, List, [], ◌∷◌, Bool, true, false, if◌then◌else◌, fold, find, Option, None, Result, Ok, Err, option_map, unwrap_or}
 use Rattle.std.specs.Option.{option_map_or}
 use Rattle.fp_model.specs.declared.name.Name.{Name}
 use Rattle.fp_model.specs.declared.calls.Message.{Message}
 use Rattle.fp_model.specs.declared.log.Outcome.{Outcome}
-use Rattle.fp_model.specs.declared.log.Outcome.TheVariants.{Done, Verify, Roll, SeqFull, Deadlock, Device, Memory, Unknown, Purge, Old, Repeat, Format}
+use Rattle.fp_model.specs.declared.log.Outcome.TheVariants.{Old, Repeat, Format}
 use Rattle.fp_model.specs.declared.log.Entry.{Entry}
 use Rattle.fp_model.specs.Texts.{same_text}
 use Rattle.fp_model.specs.State.{put_by_key, drop_key}
@@ -26,14 +26,16 @@ pub record Last : Type 0 where
   pub number : ℕ
   pub line : List ℕ
 
--- Old and Repeat answer a number that isn't above the last one; whatever else answers a numbered message uses its number.
+-- Old and Repeat answer a number that isn't above the last one; whatever else answers a numbered message uses its
+-- number.
 abbrev pub uses_number : Outcome → Bool
 uses_number (Old last) = false
 uses_number (Repeat line) = false
 uses_number _ = true
 
 abbrev pub last_of_message : List ℕ → Message → Option Last
-last_of_message line message = option_map (λ number. record { lterm = message.lterm; number = number; line = line }) message.number
+last_of_message line message =
+    option_map (λ number. record { lterm = message.lterm; number = number; line = line }) message.number
 
 abbrev pub last_in : List ℕ → Result Message MessageFault → Option Last
 last_in line (Err fault) = None
@@ -52,7 +54,8 @@ with_last last lasts = put_by_key (λ l. l.lterm.0) last (drop_key (λ l. l.lter
 abbrev pub lasts_behind : ℕ → List Entry → List Last → List Last
 lasts_behind format [] lasts = lasts
 lasts_behind format (e ∷ es) lasts =
-    lasts_behind (format_behind format e.outcome) es (option_map_or (λ last. with_last last lasts) (last_by format e) lasts)
+    lasts_behind (format_behind format e.outcome) es
+    (option_map_or (λ last. with_last last lasts) (last_by format e) lasts)
 
 -- the last number of each terminal that used one
 abbrev pub lasts_of : ℕ → List Entry → List Last

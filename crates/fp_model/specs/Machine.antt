@@ -14,8 +14,8 @@ use Rattle.fp_model.specs.History.{History, Request, Accepts, Refuses, place_of,
 use Rattle.fp_model.specs.Serial.{Ending, Point}
 use Rattle.fp_model.specs.Waiting.{Lock, without_region}
 
--- A transaction under way: how many entries stood as its last try began, its message, the point that it has come to, its
--- notes, and how often it was begun again.
+-- A transaction under way: how many entries stood as its last try began, its message, the point that it has come to,
+-- its notes, and how often it was begun again.
 pub record Transaction : Type 0 where
   pub from : ℕ
   pub message : Message
@@ -82,7 +82,8 @@ with_entry_of e next m = record m { history = with_entry e next m.history }
 -- the entry of a transaction that ends so
 abbrev pub entry_of : Transaction → Ending → List ℕ → List Item → Entry
 entry_of t ending notes items =
-    record { from = t.from; outcome = ending.outcome; line = t.message.line; reply = ending.reply; notes = notes; items = items }
+    let line : List ℕ = t.message.line in
+    record { from = t.from; outcome = ending.outcome; line = line; reply = ending.reply; notes = notes; items = items }
 
 -- region k stands at place k - 1
 abbrev pub region_at : Machine → ℕ → Option Region
@@ -118,7 +119,8 @@ abbrev pub without_line : Machine → Machine
 without_line m = option_map_or (λ line. record m { held = None }) m.held (record m { lines = drop 1 m.lines })
 
 abbrev pub queued_at : ℕ → Message → List (List Message) → List (List Message)
-queued_at queue message queues = option_map_or (λ messages. slice_set queues queue (messages ++ message ∷ [])) (slice_get queues queue) queues
+queued_at queue message queues =
+    option_map_or (λ messages. slice_set queues queue (messages ++ message ∷ [])) (slice_get queues queue) queues
 
 -- the message is queued, and its terminal waits
 abbrev pub with_message : Rules → Message → Machine → Machine

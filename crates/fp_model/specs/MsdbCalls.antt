@@ -66,7 +66,8 @@ module _ (def : MsdbDef) (msdb : ℕ) where
   get_reply now visible own get.Unique false None = found_or (codes "GE") false own (segment_after def visible None)
   get_reply now visible own get.Unique true (Some key) = found_or (codes "GE") true own (segment_of def now key)
   get_reply now visible own get.Unique true None = refused own (codes "AM")
-  get_reply now visible own get.Next false key = found_or (codes "GB") false own (segment_after def visible (position_of own).key)
+  get_reply now visible own get.Next false key =
+      found_or (codes "GB") false own (segment_after def visible (position_of own).key)
   get_reply now visible own get.Next true key = refused own (codes "AM")
   get_reply now visible own get.NextInParent hold key = refused own (codes "AM")
 

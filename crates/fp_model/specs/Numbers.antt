@@ -74,7 +74,8 @@ packed_form size n sign = pairs (size - 1) (n / 10) ++ (n % 10 * 16 + sign) ∷ 
 
 -- the packed bytes of a number that has fewer digits than the field has half bytes
 abbrev pub packed_of : ℕ → ℤ → Option (List ℕ)
-packed_of size n = if nat_lt (unsigned_abs n) (10 ^ (2 * size - 1)) then Some (packed_form size (unsigned_abs n) (sign_of n)) else None
+packed_of size n =
+    if nat_lt (unsigned_abs n) (10 ^ (2 * size - 1)) then Some (packed_form size (unsigned_abs n) (sign_of n)) else None
 
 -- the unsigned bytes of a number from 0 on that fits
 abbrev pub unsigned_of : ℕ → ℤ → Option (List ℕ)

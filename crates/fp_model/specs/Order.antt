@@ -43,7 +43,8 @@ parent_of types type = option_map_or (λ def. def.parent) (slice_get types type)
 -- the types from the root down to a type, of at most so many levels above it
 abbrev pub line_within : ℕ → List SegDef → ℕ → List ℕ
 line_within zero types type = type ∷ []
-line_within (suc n) types type = option_map_or (λ p. line_within n types p ++ type ∷ []) (parent_of types type) (type ∷ [])
+line_within (suc n) types type =
+    option_map_or (λ p. line_within n types p ++ type ∷ []) (parent_of types type) (type ∷ [])
 
 -- the types from the root down to a type
 abbrev pub line_to : List SegDef → ℕ → List ℕ
@@ -148,8 +149,8 @@ sequentials types items = option_map_or (λ type. map (dependent type) items) (s
 -- a root, its sequential dependents, and its direct dependents with all below them
 abbrev pub root_order : List SegDef → Root → List Occurrence
 root_order types root =
-    under (direct 0 (key_in types 0 root.bytes))
-    (at_end root.bytes ∷ sequentials types root.seqs ++ rows_in_order (child_types types 0) (map (map (node_order types)) root.children))
+    let below : List Occurrence = rows_in_order (child_types types 0) (map (map (node_order types)) root.children) in
+    under (direct 0 (key_in types 0 root.bytes)) (at_end root.bytes ∷ sequentials types root.seqs ++ below)
 
 -- the segments of an anchor in hierarchical order
 abbrev pub sequence : List SegDef → List Root → List Occurrence
@@ -168,7 +169,8 @@ ends_in type (s ∷ t ∷ ts) = ends_in type (t ∷ ts)
 
 -- a qualified argument's key stands in the path
 abbrev pub stands_in : List Step → Ssa → Bool
-stands_in path ssa = option_map_or (λ key. list_any (λ s. s.segment == ssa.segment && same_text s.key key) path) ssa.key true
+stands_in path ssa =
+    option_map_or (λ key. list_any (λ s. s.segment == ssa.segment && same_text s.key key) path) ssa.key true
 
 -- A path is admitted where it ends in the last argument's type and each qualified key stands in it.
 abbrev pub admits : List Ssa → List Step → Bool
@@ -197,7 +199,8 @@ pub data Edit : Type 0 where
   Deletes : Edit
 
 abbrev pub new_node : List SegDef → ℕ → List ℕ → Node
-new_node types type bytes = roll-Node (record { bytes = bytes; children = replicate (length (child_types types type)) [] })
+new_node types type bytes =
+    roll-Node (record { bytes = bytes; children = replicate (length (child_types types type)) [] })
 
 abbrev pub node_key : List SegDef → ℕ → Node → List ℕ
 node_key types type node = key_in types type (out-Node node).bytes

@@ -1,16 +1,15 @@
--- Which intervals of areas wait to be written, and which checkpoint is under way, along a run of turns. No turn looks at
--- them. OUT and CKPT are taken to succeed: what is said of intervals on the disk speaks of runs without a fault.
-use Rattle.std.specs.Prelude.{ℕ, ◌+◌, ◌-◌, ◌/◌, List, [], ◌∷◌, ◌++◌, length, drop, fold, filter, find, Bool, true, not, ◌&&◌, ◌||◌, ◌==◌, nat_lt, nat_le, if◌then◌else◌, Option, Some, None}
+-- Which intervals of areas wait to be written, and which checkpoint is under way, along a run of turns. No turn looks
+-- at them. OUT and CKPT are taken to succeed: what is said of intervals on the disk speaks of runs without a fault.
+use Rattle.std.specs.Prelude.{ℕ, ◌+◌, ◌-◌, ◌/◌, List, [], ◌∷◌, ◌++◌, length, drop, fold, filter, find, Bool, not, ◌&&◌, ◌||◌, ◌==◌, nat_lt, nat_le, if◌then◌else◌, Option, Some, None}
 use Rattle.std.specs.List.{list_all}
 use Rattle.std.specs.Option.{option_map_or}
 use Rattle.fp_model.specs.declared.events.Event.{Event}
 use Rattle.fp_model.specs.declared.events.Event.TheVariants as event
-use Rattle.fp_model.specs.declared.log.Item.{Item}
 use Rattle.fp_model.specs.declared.log.Entry.{Entry}
 use Rattle.fp_model.specs.ItemTargets.{ItemTarget, OfSegment, OfInterval, item_target}
 use Rattle.fp_model.specs.declared.definitions.Defs.{Defs}
 use Rattle.fp_model.specs.LogText.{groups_text}
-use Rattle.fp_model.specs.Lasts.{format_at, lasts_of}
+use Rattle.fp_model.specs.Lasts.{Last, format_at, lasts_of}
 use Rattle.fp_model.specs.CheckpointText.{Checkpoint, checkpoint_rest}
 use Rattle.fp_model.specs.History.{place_of}
 use Rattle.fp_model.specs.Machine.{Machine}
@@ -94,8 +93,8 @@ pub record UnderWay : Type 0 where
   pub count : ℕ
   pub left : ℕ
 
--- What is needed of bytes, at a machine: the place of the log's closed gate, and the length of a checkpoint's body, which
--- is all of it behind its gate. `lengths_of` has those of this system.
+-- What is needed of bytes, at a machine: the place of the log's closed gate, and the length of a checkpoint's body,
+-- which is all of it behind its gate. `lengths_of` has those of this system.
 pub record Lengths : Type 0 where
   pub gate : Machine → ℕ
   pub body : Machine → ℕ
@@ -103,7 +102,8 @@ pub record Lengths : Type 0 where
 -- the checkpoint of a machine's databases and terminals; its number and places always take as many bytes
 abbrev pub checkpoint_of : Machine → Checkpoint
 checkpoint_of m =
-    record { number = 0; at = 0; count = 0; msdbs = m.history.now.msdbs; lasts = lasts_of m.history.format m.history.entries }
+    let lasts : List Last = lasts_of m.history.format m.history.entries in
+    record { number = 0; at = 0; count = 0; msdbs = m.history.now.msdbs; lasts = lasts }
 
 -- by these definitions, in a run that began with the log's closed gate at this place
 abbrev pub lengths_of : Defs → ℕ → Lengths
@@ -147,7 +147,8 @@ with_owed sealed u c Unsealed = with_oldest_written sealed u
 -- OUT: a step of the checkpoint under way, or else the oldest interval
 abbrev pub after_out : ℕ → Unwritten → Unwritten
 after_out sealed u =
-    option_map_or (λ c. with_owed sealed u c (owed c.count sealed u.pending)) u.checkpoint (with_oldest_written sealed u)
+    option_map_or (λ c. with_owed sealed u c (owed c.count sealed u.pending)) u.checkpoint
+    (with_oldest_written sealed u)
 
 -- CKPT begins a checkpoint where none is under way.
 abbrev pub after_checkpoint : Lengths → Machine → Unwritten → Unwritten

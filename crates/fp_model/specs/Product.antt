@@ -43,7 +43,8 @@ by_message scripts lasts (Ok message) = by_number scripts lasts message message.
 
 -- what a line asks for behind a history, read in the format there
 abbrev pub request_of : List Script → History → List ℕ → Request
-request_of scripts h line = by_message scripts (lasts_of h.format h.entries) (message_of (format_at h.format h.entries) line)
+request_of scripts h line =
+    by_message scripts (lasts_of h.format h.entries) (message_of (format_at h.format h.entries) line)
 
 -- what the script that the message names asks after these answers; a message that names none is no request
 abbrev pub asked_by : Defs → List Script → Message → List Answer → Ask

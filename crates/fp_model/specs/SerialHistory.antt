@@ -9,7 +9,7 @@ use Rattle.fp_model.specs.Entries.{MayStandAt}
 use Rattle.fp_model.specs.History.{History, Accepts, Refuses, beginning, with_entry, states_of, place_of}
 use Rattle.fp_model.specs.Lasts.{format_at}
 use Rattle.fp_model.specs.Rules.{Rules}
-use Rattle.fp_model.specs.Serial.{Ending, Ends, serial_run}
+use Rattle.fp_model.specs.Serial.{Ends, serial_run}
 
 -- from, notes and the place never fall, in this order
 abbrev pub NeverFalls : ℕ → List ℕ → ℕ → Type 0

@@ -31,7 +31,8 @@ pub record Seen : Type 0 where
 
 -- a row of segments of a type: each in shape, keys ascending
 abbrev pub is_row : List SegDef → ℕ → List (ℕ → Seen) → Bool
-is_row types type row = list_all (λ seen. (seen type).in_shape) row && ascend (map (λ seen. key_in types type (seen type).bytes) row)
+is_row types type row =
+    list_all (λ seen. (seen type).in_shape) row && ascend (map (λ seen. key_in types type (seen type).bytes) row)
 
 -- a row for each child type
 abbrev pub are_rows : List SegDef → List ℕ → List (List (ℕ → Seen)) → Bool
@@ -41,7 +42,9 @@ are_rows types (type ∷ rest) [] = false
 are_rows types (type ∷ rest) (row ∷ rows) = is_row types type row && are_rows types rest rows
 
 abbrev pub seen_step : List SegDef → Node-F (ℕ → Seen) → ℕ → Seen
-seen_step types f type = record { in_shape = has_length types type f.bytes && are_rows types (child_types types type) f.children; bytes = f.bytes }
+seen_step types f type =
+    let rows : Bool = are_rows types (child_types types type) f.children in
+    record { in_shape = has_length types type f.bytes && rows; bytes = f.bytes }
 
 abbrev pub seen_as : List SegDef → Node → ℕ → Seen
 seen_as types = fold-Node (ℕ → Seen) (seen_step types)
@@ -51,11 +54,13 @@ seen_as types = fold-Node (ℕ → Seen) (seen_step types)
 -- sequential dependents: newest first, with serials from begin on and below end
 abbrev pub are_newest_first : ℕ → ℕ → List SeqItem → Bool
 are_newest_first begin end [] = true
-are_newest_first begin end (item ∷ items) = nat_le begin item.serial && nat_lt item.serial end && are_newest_first begin item.serial items
+are_newest_first begin end (item ∷ items) =
+    nat_le begin item.serial && nat_lt item.serial end && are_newest_first begin item.serial items
 
 -- each as long as the sequential type says; none without such a type
 abbrev pub have_lengths : List SegDef → List SeqItem → Bool
-have_lengths types items = list_all (λ item. option_map_or (λ type. has_length types type item.bytes) (sequential_type types) false) items
+have_lengths types items =
+    list_all (λ item. option_map_or (λ type. has_length types type item.bytes) (sequential_type types) false) items
 
 -- a root between these ends of its area
 abbrev pub is_root : List SegDef → AreaEnds → Root → Bool
@@ -77,7 +82,8 @@ is_anchor def anchor ends roots =
 -- the sequential part holds at most its capacity, serials stay within 2^62, and without a capacity there never was one
 abbrev pub are_ends : ℕ → AreaEnds → Bool
 are_ends capacity ends =
-    nat_le 1 ends.begin && nat_le ends.begin ends.end && nat_le (ends.end - ends.begin) capacity && nat_le ends.end (2 ^ 62)
+    nat_le 1 ends.begin && nat_le ends.begin ends.end && nat_le (ends.end - ends.begin) capacity
+    && nat_le ends.end (2 ^ 62)
     && (nat_lt 0 capacity || ends.end == 1)
 
 -- the serials that stand at the roots of an area, numbered as one of its database alone

@@ -130,7 +130,8 @@ with_roots dedb anchor roots db =
 
 -- the segments that the definitions load, by key
 abbrev pub loaded : MsdbDef → Msdb
-loaded def = record { segments = fold (λ segments segment. put_by_key (key_of def.fields) segment segments) [] def.load }
+loaded def =
+    record { segments = fold (λ segments segment. put_by_key (key_of def.fields) segment segments) [] def.load }
 
 -- the ends of a sequential part that never had a segment
 abbrev pub first_ends : AreaEnds

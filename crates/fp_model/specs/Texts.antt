@@ -34,12 +34,16 @@ value base (d ∷ ds) = d * base ^ length ds + value base ds
 
 -- the number that 1 to 31 decimal digits are
 abbrev pub digits_number : List ℕ → Option ℕ
-digits_number ds = if nat_le 1 (length ds) && nat_le (length ds) 31 && all_ascii_digits ds then Some (value 10 (map (λ c. c - 48) ds)) else None
+digits_number ds =
+    if nat_le 1 (length ds) && nat_le (length ds) 31 && all_ascii_digits ds
+    then Some (value 10 (map (λ c. c - 48) ds))
+    else None
 
 -- the number that a text is: an optional minus sign and 1 to 31 digits
 abbrev pub number_in : List ℕ → Option ℤ
 number_in [] = None
-number_in (c ∷ cs) = if c == 45 then option_map (λ n. neg_ℤ (pos n)) (digits_number cs) else option_map pos (digits_number (c ∷ cs))
+number_in (c ∷ cs) =
+    if c == 45 then option_map (λ n. neg_ℤ (pos n)) (digits_number cs) else option_map pos (digits_number (c ∷ cs))
 
 -- canonical decimal: no leading zeros, and a minus sign only below 0
 abbrev pub decimal_text : ℤ → List ℕ

@@ -54,7 +54,8 @@ module _ (rules : Rules) where
   abbrev pub wanted : Machine → ℕ → Transaction → Ask → Option Needed
   wanted m region t (Asks call) = rules.need m.history.now t.point.own (holds m region) call
   wanted m region t (Replies reply) =
-      option_map (λ resource. record { resource = resource; mode = Exclusive }) (rules.lack t.point.own (holds m region))
+      option_map (λ resource. record { resource = resource; mode = Exclusive })
+      (rules.lack t.point.own (holds m region))
   wanted m region t (Rolls code) = None
 
   abbrev pub asks : Transaction → Ask
@@ -90,6 +91,11 @@ module _ (rules : Rules) where
   abbrev pub tried_again : ℕ → Transaction → Machine → Machine
   tried_again region t m = with_region region (Active (begun_in m t.message (t.tries + 1))) (without_locks region m)
 
+  -- The region's transaction is refused, and the state stays.
+  abbrev pub refused_with : Machine → ℕ → Transaction → Outcome → Machine
+  refused_with m region t outcome =
+      ended_with region (entry_of t (refused_as outcome m.history.now) [] []) m.history.now m
+
   -- the requests with that of the region for a lock
   abbrev pub requests_with : Machine → ℕ → Needed → List Lock
   requests_with m region needed = with_request (as_lock region needed) m.requests
@@ -123,7 +129,7 @@ module _ (rules : Rules) where
   Does m region t (Deadlocks needed cycle) m2 =
       ClosesCycle m region t needed cycle
       × (rules.tries ≤ t.tries)
-      × (m2 ≡ ended_with region (entry_of t (refused_as (outcome.Deadlock (region ∷ cycle)) m.history.now) [] []) m.history.now m)
+      × (m2 ≡ refused_with m region t (outcome.Deadlock (region ∷ cycle)))
   Does m region t (Retries_at_cycle needed cycle) m2 =
       ClosesCycle m region t needed cycle
       × (t.tries < rules.tries)
@@ -155,11 +161,6 @@ module _ (rules : Rules) where
       with_region region (Active (begun_in m message 0))
       (record m { queues = slice_set m.queues (queue_of_region region) messages })
 
-  -- The region's transaction is refused by what befalls it.
-  abbrev pub refused_with : Machine → ℕ → Transaction → Outcome → Machine
-  refused_with m region t outcome =
-      ended_with region (entry_of t (refused_as outcome m.history.now) [] []) m.history.now m
-
   -- An idle region takes a message, and has no turn where something befalls it. An active one acts, or is refused.
   abbrev pub RegionTurn : Machine → ℕ → Option Region → Environment → Machine → Type 0
   RegionTurn m region None environment m2 = ⊥
@@ -189,7 +190,8 @@ module _ (rules : Rules) where
 
   -- ---- all turns
 
-  -- IN and LOG have no turn where something befalls them, and CKPT none under want of memory. A checkpoint isn't seen here.
+  -- IN and LOG have no turn where something befalls them, and CKPT none under want of memory. A checkpoint isn't seen
+  -- here.
   abbrev pub Turn : Machine → Event → Environment → Machine → Type 0
   Turn m event.In NoFault m2 = m2 ≡ taken_in rules m
   Turn m event.In DeviceFault m2 = ⊥

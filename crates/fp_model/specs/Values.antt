@@ -1,5 +1,5 @@
 -- Values of scripts: words, numbers, operations, and texts as fields and keys of segments.
-use Rattle.std.specs.Prelude.{ℕ, zero, suc, ◌+◌, ◌-◌, ◌*◌, ◌^◌, List, [], ◌∷◌, ◌++◌, length, Bool, true, false, not, nat_lt, nat_le, if◌then◌else◌, Option, Some, None, option_map, unwrap_or, slice_get, ℤ, pos, ◌+ℤ◌, ◌-ℤ◌, ◌*ℤ◌, unsigned_abs}
+use Rattle.std.specs.Prelude.{ℕ, zero, suc, ◌-◌, ◌^◌, List, [], ◌∷◌, ◌++◌, length, Bool, true, false, not, nat_lt, nat_le, if◌then◌else◌, Option, Some, None, option_map, unwrap_or, slice_get, ℤ, pos, ◌+ℤ◌, ◌-ℤ◌, ◌*ℤ◌, unsigned_abs}
 use Rattle.std.specs.declared.cmp.Ordering.{Ordering}
 use Rattle.std.specs.Ordering.{int_cmp, is_lt, is_le, is_gt, is_ge}
 use Rattle.fp_model.specs.declared.definitions.FieldDef.{FieldDef}

@@ -26,12 +26,17 @@ is_exclusive Exclusive = true
 
 -- a lock of another region on the resource, one of the two Exclusive
 abbrev pub conflicts : Lock → Lock → Bool
-conflicts wanted lock = not (lock.region == wanted.region) && same_resource lock.resource wanted.resource && (is_exclusive lock.mode || is_exclusive wanted.mode)
+conflicts wanted lock =
+    not (lock.region == wanted.region) && same_resource lock.resource wanted.resource
+    && (is_exclusive lock.mode || is_exclusive wanted.mode)
 
 -- how a region holds a resource; the newest lock counts
 abbrev pub held_as : List Lock → ℕ → Resource → Option Mode
 held_as [] region resource = None
-held_as (lock ∷ locks) region resource = if lock.region == region && same_resource lock.resource resource then Some lock.mode else held_as locks region resource
+held_as (lock ∷ locks) region resource =
+    if lock.region == region && same_resource lock.resource resource
+    then Some lock.mode
+    else held_as locks region resource
 
 -- those of the other regions
 abbrev pub without_region : ℕ → List Lock → List Lock
@@ -43,11 +48,13 @@ is_blocked locks wanted = list_any (conflicts wanted) locks
 
 -- the regions, of so many, that stand in the way, ascending
 abbrev pub blockers : ℕ → List Lock → Lock → List ℕ
-blockers regions locks wanted = filter (λ region. list_any (λ lock. lock.region == region && conflicts wanted lock) locks) (numbers_up regions 1)
+blockers regions locks wanted =
+    filter (λ region. list_any (λ lock. lock.region == region && conflicts wanted lock) locks) (numbers_up regions 1)
 
 -- the pairs of a region with a standing request and a region whose lock conflicts with it
 abbrev pub waits : List Lock → List Lock → List (ℕ × ℕ)
-waits requests locks = flat_map (λ wanted. map (λ lock. (wanted.region, lock.region)) (filter (conflicts wanted) locks)) requests
+waits requests locks =
+    flat_map (λ wanted. map (λ lock. (wanted.region, lock.region)) (filter (conflicts wanted) locks)) requests
 
 -- a region waits for the first of the list, each for the next, and the last for the goal
 abbrev pub WaitsAlong : List (ℕ × ℕ) → ℕ → List ℕ → ℕ → Type 0

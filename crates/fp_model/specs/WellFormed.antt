@@ -43,7 +43,8 @@ StandFrom at (f ∷ fs) end = (f.at ≡ at) × IsTrue (is_field_length f.kind f.
 
 -- a field's name, which isn't IO, STATUS or FSAS
 abbrev pub IsFieldName : Name → Type 0
-IsFieldName name = IsName name × IsOther (codes "IO      ") name × IsOther (codes "STATUS  ") name × IsOther (codes "FSAS    ") name
+IsFieldName name =
+    IsName name × IsOther (codes "IO      ") name × IsOther (codes "STATUS  ") name × IsOther (codes "FSAS    ") name
 
 -- 1 to 64 fields without gaps, with names of their own
 pub record IsLayout (fields : List FieldDef) (end : ℕ) : Type 0 where
@@ -86,7 +87,8 @@ pub record IsMsdbDef (def : MsdbDef) : Type 0 where
 
 -- a type below the root has an earlier parent; the sequential type is the second, below the root
 abbrev pub HasPlace : ℕ → SegDef → Type 0
-HasPlace place def = IfSome def.parent (λ parent. parent < place) × (def.parent ≡ None → place ≡ 0) × (place ≡ 0 → def.parent ≡ None)
+HasPlace place def =
+    IfSome def.parent (λ parent. parent < place) × (def.parent ≡ None → place ≡ 0) × (place ≡ 0 → def.parent ≡ None)
     × (def.sequential ≡ true → (place ≡ 1) × (def.parent ≡ Some 0))
 
 abbrev pub HavePlaces : ℕ → List SegDef → Type 0
@@ -95,7 +97,8 @@ HavePlaces place (def ∷ defs) = HasPlace place def × HavePlaces (place + 1) d
 
 -- nothing has the sequential type as its parent
 abbrev pub IsNoSequentialChild : List SegDef → SegDef → Type 0
-IsNoSequentialChild types def = IfSome def.parent (λ parent. (p : SegDef) → slice_get types parent ≡ Some p → p.sequential ≡ false)
+IsNoSequentialChild types def =
+    IfSome def.parent (λ parent. (p : SegDef) → slice_get types parent ≡ Some p → p.sequential ≡ false)
 
 -- a type's name, which isn't KEY
 abbrev pub IsTypeName : Name → Type 0
@@ -115,12 +118,13 @@ has_sequential (def ∷ defs) = if def.sequential then true else has_sequential 
 abbrev pub in_fours : ℕ → ℕ
 in_fours n = (n + 3) / 4 * 4
 
--- the bytes that a segment of a type has in an interval: an element's 4 bytes, a pointer to its twin, the newest serial at
--- a root that may have some, a pointer for each direct child type, and the segment; a sequential one has its serials
+-- the bytes that a segment of a type has in an interval: an element's 4 bytes, a pointer to its twin, the newest serial
+-- at a root that may have some, a pointer for each direct child type, and the segment; a sequential one has its serials
 abbrev pub stored_length : List SegDef → ℕ → SegDef → ℕ
 stored_length types place def =
     if def.sequential then 16 + def.length
-    else in_fours (14 + (if place == 0 && has_sequential types then 8 else 0) + 10 * length (child_types types place) + def.length)
+    else in_fours
+    (14 + (if place == 0 && has_sequential types then 8 else 0) + 10 * length (child_types types place) + def.length)
 
 -- each segment fits into an empty interval
 abbrev pub EachFits : ℕ → List SegDef → ℕ → List SegDef → Type 0
@@ -136,11 +140,13 @@ AllWithinLevels types place (def ∷ defs) = (length (line_to types place) ≤ 4
 abbrev pub sequential_intervals : ℕ → List SegDef → ℕ → ℕ
 sequential_intervals ci [] capacity = 0
 sequential_intervals ci (def ∷ defs) capacity =
-    if def.sequential then (let slots : ℕ = (ci - 32) / (16 + def.length) in (capacity + slots - 1) / slots) else sequential_intervals ci defs capacity
+    if def.sequential then (let slots : ℕ = (ci - 32) / (16 + def.length) in (capacity + slots - 1) / slots) else
+    sequential_intervals ci defs capacity
 
 -- the intervals that an area is formatted with: control, its units of work, and the sequential part
 abbrev pub formatted_intervals : DedbDef → AreaDef → ℕ
-formatted_intervals def area = 1 + area.uows * (area.base + area.overflow) + sequential_intervals def.ci def.segments area.capacity
+formatted_intervals def area =
+    1 + area.uows * (area.base + area.overflow) + sequential_intervals def.ci def.segments area.capacity
 
 -- a capacity stands exactly where there is a sequential type
 abbrev pub HasCapacity : Bool → ℕ → Type 0
@@ -172,7 +178,9 @@ pub record IsDedbDef (def : DedbDef) : Type 0 where
 
 -- every group up to the greatest has a region
 abbrev pub AreGroups : List ℕ → Type 0
-AreGroups regions = AllByRecursion (Between 1 16) regions × ((group greatest : ℕ) → Contains regions greatest → 1 ≤ group → group ≤ greatest → Contains regions group)
+AreGroups regions =
+    AllByRecursion (Between 1 16) regions
+    × ((group greatest : ℕ) → Contains regions greatest → 1 ≤ group → group ≤ greatest → Contains regions group)
 
 -- Definitions that a reader may give.
 pub record AreDefs (defs : Defs) : Type 0 where

@@ -6,14 +6,14 @@ use Rattle.fp_model.specs.declared.calls.Deferred.{Deferred}
 use Rattle.fp_model.specs.declared.calls.SeqInsert.{SeqInsert}
 use Rattle.fp_model.specs.Order.{Place}
 
--- Of a main storage database: the key of the segment found last, and whether the last call to the database was a hold get
--- that found it.
+-- Of a main storage database: the key of the segment found last, and whether the last call to the database was a hold
+-- get that found it.
 pub record MsdbPosition : Type 0 where
   pub key : Option (List ℕ)
   pub held : Bool
 
--- Of a data entry database: the place found or inserted last, the parent for gets below it, and whether the last call to
--- the database was a hold get that found.
+-- Of a data entry database: the place found or inserted last, the parent for gets below it, and whether the last call
+-- to the database was a hold get that found.
 pub record DedbPosition : Type 0 where
   pub place : Option Place
   pub parent : Option Place

@@ -26,7 +26,8 @@ pub fn histories_join()
         → LeadsOn rules h (front ++ rest) last }
 {}
 
-/// The entries determine the history that they lead to: its states, one more for each entry, its entries and its format.
+/// The entries determine the history that they lead to: its states, one more for each entry, its entries and its
+/// format.
 pub fn entries_determine_states()
     ensures last { (rules : Rules) (h : History) (entries : List Entry) (last last2 : History)
         → LeadsOn rules h entries last

@@ -1,27 +1,49 @@
 //! The file of a data set.
-ghost use Rattle.std.specs.Prelude.{◌≡◌, ◌++◌, ◌≤◌, ◌+◌, ◌^◌, IfOk, IsErr, OnErr, OnOk, codes, false, length, true};
+//!
+//! The file is looked for when it is first needed. While there is none, the data set is empty. A file that is there is
+//! settled as it is opened: it is synced, and what the system keeps of it in memory is dropped, so that what is read
+//! comes from the disk. Else bytes that an earlier program wrote and could not make durable might be read as if they
+//! were there, since the system tells that once and then forgets it.
+//!
+//! A sync that failed loses the data set: each later call on it fails.
+ghost use Rattle.std.specs.Prelude.{◌≡◌, ◌⊎◌, ◌++◌, ◌∷◌, ◌≤◌, ◌+◌, ◌^◌, [], IfOk, IsErr, IsSome, OnErr, OnOk, codes, false, length, true};
 ghost use Rattle.std.specs.Fmt.{decimal};
 ghost use Rattle.std.specs.String.{string_bytes};
+ghost use Rattle.ims_fp.specs.Calls.{is_named, is_settled, is_synced};
+ghost use Rattle.ims_fp.specs.Calls.HostCall.{Forgot, Made, Synced};
 ghost use Rattle.ims_fp.specs.Files.{data_set_name};
 
-use crate::folder::Folder;
+use crate::ahead::Ahead;
+use crate::cause::{Call, Cause, Place};
+use crate::folder::{Access, Folder, metadata};
+use crate::host;
+use crate::record::Record;
 use std::alloc::{AllocError, Global};
 use std::fs::File;
 use std::io;
-use std::os::unix::fs::FileExt;
 use std::rt::Files;
 
 // How long a data set is at most, in bytes.
 const MOST_BYTES: u64 = 1 << 62;
 
-/// A data set. Its file is opened when it is first needed. While there is none, the data set is empty.
+/// A data set.
 #[derive(Drop)]
 pub(crate) struct DataSet {
     file: Option<File>,
-    // Whether the folder was synced since the file was opened, or found absent.
-    settled: bool,
-    // Whether a sync failed. The system forgets what it couldn't write, so a later sync would promise too much.
-    lost: bool,
+    // The length of the file, where it is known. Nobody else changes it while the folder is locked.
+    length: Option<u64>,
+    // What was read of the file before it was asked for, and wasn't written since.
+    ahead: Ahead,
+    // Whether the folder was synced since the file was opened, made or found absent.
+    has_durable_name: bool,
+    // Whether a sync failed. The system forgets what it couldn't write, so a later one would promise too much.
+    is_lost: bool,
+    // What was asked of the system.
+    calls: Record,
+    // Its file was made here, or synced and then dropped from memory.
+    ghost settled: { IsSome file → is_settled calls.events ≡ true },
+    // Where its name is durable, the folder was synced, and since then no file was made.
+    ghost named: { has_durable_name ≡ true → is_named calls.events ≡ true },
 }
 
 /// The name of the file of a data set. Fails only for want of memory.
@@ -47,11 +69,14 @@ fn area_name(alloc: Global, set: u16) -> Result<String, AllocError>
 
 impl DataSet {
     /// One whose file wasn't looked for.
-    pub(crate) fn new() -> DataSet {
+    pub(crate) fn new(alloc: Global) -> DataSet {
         DataSet {
             file: None,
-            settled: false,
-            lost: false,
+            length: None,
+            ahead: Ahead::new(alloc),
+            has_durable_name: false,
+            is_lost: false,
+            calls: Record::new(),
         }
     }
 
@@ -59,36 +84,54 @@ impl DataSet {
     pub(crate) fn size<R: Files<File = File>>(
         &mut self,
         folder: &Folder<'_, R>,
+        access: Access,
         set: u16,
-    ) -> io::Result<u64>
+    ) -> Result<u64, Cause>
         ensures bound { IfOk result (λ n. n ≤ 2 ^ 62) }
-        ensures lost { self.new.lost ≡ self.old.lost }
+        ensures refused { self.old.is_lost ≡ true → IsErr result }
+        ensures lost { self.old.is_lost ≡ true → self.new.is_lost ≡ true }
     {
-        self.find(folder, set)?;
-        let length = match &self.file {
-            Some(file) => file.metadata()?.len(),
-            None => 0,
+        self.find(folder, access, set)?;
+        let length = match (self.length, &self.file) {
+            (Some(length), _) => length,
+            (None, Some(file)) => length_of(file, set)?,
+            (None, None) => 0,
         };
         if length > MOST_BYTES {
-            return Err(io::ErrorKind::FileTooLarge.into());
+            let error = io::ErrorKind::FileTooLarge.into();
+            return Err(failed(set, Call::Length, error));
         }
+        self.length = Some(length);
         Ok(length)
+    }
+
+    /// Whether it may be used. Files say only when they are written whether they can grow.
+    pub(crate) fn reach(&self, set: u16) -> Result<(), Cause>
+        ensures { self.now.is_lost ≡ true → IsErr result }
+    {
+        if self.is_lost {
+            return Err(lost(set));
+        }
+        Ok(())
     }
 
     /// Fills `into` with the bytes from offset `at` on, and with zeros past the end.
     pub(crate) fn read_at<R: Files<File = File>>(
         &mut self,
         folder: &Folder<'_, R>,
+        access: Access,
         set: u16,
         at: u64,
         into: &mut [u8],
-    ) -> io::Result<()>
-        ensures { self.new.lost ≡ self.old.lost }
+    ) -> Result<(), Cause>
+        ensures refused { self.old.is_lost ≡ true → IsErr result }
+        ensures lost { self.old.is_lost ≡ true → self.new.is_lost ≡ true }
     {
-        let count = self.size(folder, set)?.saturating_sub(at);
-        let count = count.min(into.len() as u64) as usize;
+        let length = self.size(folder, access, set)?;
+        let count = length.saturating_sub(at).min(into.len() as u64) as usize;
         if let Some(file) = &self.file {
-            file.read_exact_at(&mut into[..count], at)?;
+            let answer = self.ahead.read(file, length, at, &mut into[..count]);
+            answer.map_err(|error| failed(set, Call::Read, error))?;
         }
         into[count..].fill(0);
         Ok(())
@@ -98,90 +141,195 @@ impl DataSet {
     pub(crate) fn write_at<R: Files<File = File>>(
         &mut self,
         folder: &Folder<'_, R>,
+        access: Access,
         set: u16,
         at: u64,
         from: &[u8],
-    ) -> io::Result<()>
+    ) -> Result<(), Cause>
         requires { at + length from.now ≤ 2 ^ 62 }
-        ensures { self.new.lost ≡ self.old.lost }
+        ensures forgets { self.new.ahead.bytes.items ≡ [] }
+        ensures refused { self.old.is_lost ≡ true → IsErr result }
+        ensures lost { self.old.is_lost ≡ true → self.new.is_lost ≡ true }
     {
+        self.ahead.clear();
+        self.find(folder, access, set)?;
         if from.is_empty() {
             return Ok(());
         }
-        self.find(folder, set)?;
-        match &self.file {
-            Some(file) => file.write_all_at(from, at),
+        let answer = match &self.file {
+            Some(file) => host::write(file, &mut self.calls, at, from),
             None => {
                 let file = self.made(folder, set)?;
-                self.file.insert(file).write_all_at(from, at)
+                let file = self.file.insert(file);
+                host::write(file, &mut self.calls, at, from)
             }
-        }
+        };
+        self.length = None;
+        answer.map_err(|error| failed(set, Call::Write, error))
     }
 
-    /// Makes durable what the data set holds, and that its file is there or isn't. After a sync that failed, each
-    /// later one fails.
+    /// Makes durable what the data set holds, and that its file is there or isn't.
     pub(crate) fn sync<R: Files<File = File>>(
         &mut self,
         folder: &Folder<'_, R>,
+        access: Access,
         set: u16,
-    ) -> io::Result<()>
-        ensures settled { OnOk result (self.new.settled ≡ true) }
-        ensures failed { OnErr result (self.new.lost ≡ true) }
-        ensures lost { self.old.lost ≡ true → IsErr result }
+    ) -> Result<(), Cause>
+        ensures synced { OnOk result (IsSome self.new.file → is_synced self.new.calls.events ≡ true) }
+        ensures named { OnOk result (self.new.has_durable_name ≡ true) }
+        ensures failed { OnErr result (self.new.is_lost ≡ true) }
+        ensures refused { self.old.is_lost ≡ true → IsErr result }
     {
-        if self.lost {
-            return Err(io::ErrorKind::Other.into());
-        }
-        let answer = self.try_sync(folder, set);
-        self.lost = answer.is_err();
+        let answer = self.try_sync(folder, access, set);
+        self.is_lost = answer.is_err();
         answer
     }
 
     fn try_sync<R: Files<File = File>>(
         &mut self,
         folder: &Folder<'_, R>,
+        access: Access,
         set: u16,
-    ) -> io::Result<()>
-        ensures { OnOk result (self.new.settled ≡ true) }
+    ) -> Result<(), Cause>
+        ensures synced { OnOk result (IsSome self.new.file → is_synced self.new.calls.events ≡ true) }
+        ensures named { OnOk result (self.new.has_durable_name ≡ true) }
+        ensures refused { self.old.is_lost ≡ true → IsErr result }
     {
-        self.find(folder, set)?;
+        self.find(folder, access, set)?;
         if let Some(file) = &self.file {
-            file.sync_all()?;
+            let answer = host::sync(file, &mut self.calls);
+            answer.map_err(|error| failed(set, Call::Sync, error))?;
         }
-        if !self.settled {
-            folder.sync()?;
-            self.settled = true;
+        if !self.has_durable_name {
+            let answer = host::sync_folder(folder, &mut self.calls);
+            answer.map_err(|error| failed_on_folder(Call::Sync, error))?;
+            self.has_durable_name = true;
         }
         Ok(())
     }
 
-    // Opens its file, if there is one.
-    fn find<R: Files<File = File>>(&mut self, folder: &Folder<'_, R>, set: u16) -> io::Result<()>
-        ensures { self.new.lost ≡ self.old.lost }
+    // Opens its file and settles it, if there is one.
+    fn find<R: Files<File = File>>(
+        &mut self,
+        folder: &Folder<'_, R>,
+        access: Access,
+        set: u16,
+    ) -> Result<(), Cause>
+        ensures refused { self.old.is_lost ≡ true → IsErr result }
+        ensures lost { self.old.is_lost ≡ true → self.new.is_lost ≡ true }
+        ensures ahead { self.new.ahead ≡ self.old.ahead }
     {
+        if self.is_lost {
+            return Err(lost(set));
+        }
         if self.file.is_some() {
             return Ok(());
         }
-        let name = name_of(folder.alloc(), set)?;
-        match folder.open_to_write(&name) {
-            Ok(file) => {
-                self.file = Some(file);
-                self.settled = false;
-            }
-            Err(e) if e.kind() == io::ErrorKind::NotFound => {}
-            Err(e) => return Err(e),
+        if let Some(file) = found(folder, access, set)? {
+            self.is_lost = true; // unless it is settled
+            settle(&file, &mut self.calls, set)?;
+            self.is_lost = false;
+            self.file = Some(file);
+            self.length = None;
+            self.has_durable_name = false;
         }
         Ok(())
     }
 
     // Its file, which is made.
-    fn made<R: Files<File = File>>(&mut self, folder: &Folder<'_, R>, set: u16) -> io::Result<File>
-        ensures settled { OnOk result (self.new.settled ≡ false) }
-        ensures lost { self.new.lost ≡ self.old.lost }
+    fn made<R: Files<File = File>>(
+        &mut self,
+        folder: &Folder<'_, R>,
+        set: u16,
+    ) -> Result<File, Cause>
+        ensures made { OnOk result (is_settled self.new.calls.events ≡ true) }
+        ensures named { OnOk result (self.new.has_durable_name ≡ false) }
+        ensures lost { self.new.is_lost ≡ self.old.is_lost }
+        ensures ahead { self.new.ahead ≡ self.old.ahead }
     {
-        let name = name_of(folder.alloc(), set)?;
-        let file = folder.make(&name)?;
-        self.settled = false;
-        Ok(file)
+        match make(folder, &mut self.calls, set) {
+            Ok(file) => {
+                self.has_durable_name = false;
+                Ok(file)
+            }
+            Err(error) => Err(failed(set, Call::Open, error)),
+        }
     }
+}
+
+// A call on the folder that failed.
+fn failed_on_folder(call: Call, error: io::Error) -> Cause {
+    Cause {
+        place: Place::Folder,
+        call,
+        error,
+    }
+}
+
+// A call on a data set that failed.
+fn failed(set: u16, call: Call, error: io::Error) -> Cause {
+    Cause {
+        place: Place::DataSet(set),
+        call,
+        error,
+    }
+}
+
+// A call on a data set that a failed sync lost.
+fn lost(set: u16) -> Cause {
+    failed(set, Call::Sync, io::Error::other("a sync failed before"))
+}
+
+// Makes durable what was written to a file, and drops what the system keeps of it in memory.
+fn settle(file: &File, calls: &mut Record, set: u16) -> Result<(), Cause>
+    ensures ok { OnOk result (calls.new.events ≡ Forgot ∷ Synced ∷ calls.old.events) }
+    ensures err { OnErr result ((calls.new.events ≡ calls.old.events)
+        ⊎ (calls.new.events ≡ Synced ∷ calls.old.events)) }
+{
+    let answer = host::sync(file, calls);
+    answer.map_err(|error| failed(set, Call::Sync, error))?;
+    let answer = host::forget(file, calls);
+    answer.map_err(|error| failed(set, Call::Forget, error))
+}
+
+// The length of a file.
+fn length_of(file: &File, set: u16) -> Result<u64, Cause> {
+    match metadata(file) {
+        Ok(found) => Ok(found.len()),
+        Err(error) => Err(failed(set, Call::Length, error)),
+    }
+}
+
+// The file of a data set, which is opened, if there is one.
+fn found<R: Files<File = File>>(
+    folder: &Folder<'_, R>,
+    access: Access,
+    set: u16,
+) -> Result<Option<File>, Cause> {
+    match find(folder, access, set) {
+        Ok(file) => Ok(file),
+        Err(error) => Err(failed(set, Call::Open, error)),
+    }
+}
+
+fn find<R: Files<File = File>>(
+    folder: &Folder<'_, R>,
+    access: Access,
+    set: u16,
+) -> io::Result<Option<File>> {
+    let name = name_of(folder.alloc(), set)?;
+    folder.find(access, &name)
+}
+
+// Makes the file of a data set.
+fn make<R: Files<File = File>>(
+    folder: &Folder<'_, R>,
+    calls: &mut Record,
+    set: u16,
+) -> io::Result<File>
+    ensures ok { OnOk result (calls.new.events ≡ Made ∷ calls.old.events) }
+    ensures err { OnErr result (calls.new.events ≡ calls.old.events) }
+{
+    let name = name_of(folder.alloc(), set)?;
+    host::make(folder, calls, &name)
 }

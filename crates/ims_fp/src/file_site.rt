@@ -3,15 +3,18 @@
 //! What is sent is gathered in a block, and written when the block is full, before the next other call, and by
 //! `finish`. What a failed write leaves of the block stays in it, and the next call writes it. So no text whose `send`
 //! answered Ok is left out before a later one.
-ghost use Rattle.std.specs.Prelude.{◌≡◌, ◌<◌, ◌≤◌, ◌+◌, ◌^◌, [], IfOk, OnErr, OnOk, length, vec_len};
+//!
+//! The first call on a data set locks the folder. The lock lasts as long as the site.
+ghost use Rattle.std.specs.Prelude.{◌≡◌, ◌<◌, ◌≤◌, ◌+◌, ◌^◌, [], IfOk, IsErr, IsSome, None, OnErr, OnOk, length, vec_len};
 ghost use Rattle.fp_site.specs.Site.{Counts};
 ghost use Rattle.fp_source.specs.Source.{Rose};
 ghost use Rattle.ims_fp.specs.Files.{untold};
 ghost use Rattle.ims_fp.specs.Output.{Gathers, WritesOut};
 
+use crate::cause::{Call, Cause, Place};
 use crate::data_set::DataSet;
 use crate::faults::Faults;
-use crate::folder::Folder;
+use crate::folder::{Access, Folder};
 use fp_site::{Failed, Site};
 use std::alloc::{AllocError, Global};
 use std::fs::File;
@@ -24,6 +27,9 @@ use std::rt::Files;
 #[derive(Drop)]
 pub(crate) struct FileSite<'a, R, W: Write + Drop> {
     folder: Folder<'a, R>,
+    access: Access,
+    // The lock of the folder, once it is taken.
+    lock: Option<File>,
     sets: Vec<DataSet>,
     output: BufWriter<W>,
     faults: Faults,
@@ -34,12 +40,16 @@ impl<'a, R: Files<File = File>, W: Write + Drop> FileSite<'a, R, W> {
     pub(crate) fn new(
         alloc: Global,
         folder: Folder<'a, R>,
+        access: Access,
         output: W,
     ) -> io::Result<FileSite<'a, R, W>>
         ensures faults { IfOk result (λ site. site.faults.count ≡ 0) }
+        ensures first { IfOk result (λ site. site.faults.first ≡ None) }
     {
         Ok(FileSite {
             folder,
+            access,
+            lock: Option::None,
             sets: Vec::new(alloc),
             output: BufWriter::new(alloc, output)?,
             faults: Faults::new(),
@@ -51,74 +61,126 @@ impl<'a, R: Files<File = File>, W: Write + Drop> FileSite<'a, R, W> {
         ensures output { WritesOut W.contents self.old.output self.new.output result }
         ensures cause { Counts self.old.faults.count self.new.faults.count result }
     {
-        match self.output.flush() {
+        match self.write_out() {
             Ok(()) => Ok(()),
-            Err(_) => Err(self.fail()),
+            Err(cause) => Err(self.fail(cause)),
         }
     }
 
+    /// Why the first call failed that did.
+    pub(crate) fn first_fault(&self) -> Option<Cause>
+        ensures { result ≡ self.now.faults.first }
+    {
+        self.faults.first()
+    }
+
     // Counts a fault.
-    fn fail(&mut self) -> Failed
+    fn fail(&mut self, cause: Cause) -> Failed
         ensures rose { Rose self.old.faults.count self.new.faults.count }
         ensures later { self.old.faults.count ≤ self.new.faults.count }
+        ensures told { IsSome self.new.faults.first }
         ensures output { self.new.output ≡ self.old.output }
     {
-        self.faults.rise();
+        self.faults.rise(cause);
         Failed
     }
 
-    // What comes before each call on a data set: what was sent is written, and the data set has its place in the list.
-    fn begin(&mut self, set: u16) -> io::Result<()>
-        ensures place { OnOk result (set < vec_len self.new.sets) }
+    // Writes what was sent and isn't written yet.
+    fn write_out(&mut self) -> Result<(), Cause>
         ensures output { WritesOut W.contents self.old.output self.new.output result }
         ensures faults { self.new.faults ≡ self.old.faults }
     {
-        self.output.flush()?;
-        reach_set(&mut self.sets, set)?;
+        let answer = self.output.flush();
+        answer.map_err(|error| failed(Place::Output, Call::Write, error))
+    }
+
+    // Takes the lock, where it isn't taken.
+    fn hold(&mut self) -> Result<(), Cause>
+        ensures locked { OnOk result (IsSome self.new.lock) }
+        ensures output { self.new.output ≡ self.old.output }
+        ensures faults { self.new.faults ≡ self.old.faults }
+    {
+        if self.lock.is_none() {
+            let answer = self.folder.lock(self.access);
+            let lock = answer.map_err(|error| failed(Place::Folder, Call::Lock, error))?;
+            self.lock = Some(lock);
+        }
         Ok(())
     }
 
-    fn try_size(&mut self, set: u16) -> io::Result<u64>
+    // What comes before each call on a data set: what was sent is written, the folder is locked, and the data set has
+    // its place in the list.
+    fn begin(&mut self, set: u16) -> Result<(), Cause>
+        ensures place { OnOk result (set < vec_len self.new.sets) }
+        ensures locked { OnOk result (IsSome self.new.lock) }
+        ensures output { WritesOut W.contents self.old.output self.new.output result }
+        ensures faults { self.new.faults ≡ self.old.faults }
+    {
+        self.write_out()?;
+        self.hold()?;
+        let answer = reach_set(self.folder.alloc(), &mut self.sets, set);
+        answer.map_err(|error| failed(Place::DataSet(set), Call::Open, error.into()))
+    }
+
+    fn try_size(&mut self, set: u16) -> Result<u64, Cause>
+        ensures locked { OnOk result (IsSome self.new.lock) }
         ensures bound { IfOk result (λ n. n ≤ 2 ^ 62) }
         ensures output { WritesOut W.contents self.old.output self.new.output result }
         ensures faults { self.new.faults ≡ self.old.faults }
     {
         self.begin(set)?;
-        self.sets[usize::from(set)].size(&self.folder, set)
+        self.sets[usize::from(set)].size(&self.folder, self.access, set)
     }
 
-    fn try_read(&mut self, set: u16, at: u64, into: &mut [u8]) -> io::Result<()>
+    fn try_reach(&mut self, set: u16) -> Result<(), Cause>
+        ensures locked { OnOk result (IsSome self.new.lock) }
         ensures output { WritesOut W.contents self.old.output self.new.output result }
         ensures faults { self.new.faults ≡ self.old.faults }
     {
         self.begin(set)?;
-        self.sets[usize::from(set)].read_at(&self.folder, set, at, into)
+        self.sets[usize::from(set)].reach(set)
     }
 
-    fn try_write(&mut self, set: u16, at: u64, from: &[u8]) -> io::Result<()>
+    fn try_read(&mut self, set: u16, at: u64, into: &mut [u8]) -> Result<(), Cause>
+        ensures locked { OnOk result (IsSome self.new.lock) }
+        ensures output { WritesOut W.contents self.old.output self.new.output result }
+        ensures faults { self.new.faults ≡ self.old.faults }
+    {
+        self.begin(set)?;
+        self.sets[usize::from(set)].read_at(&self.folder, self.access, set, at, into)
+    }
+
+    fn try_write(&mut self, set: u16, at: u64, from: &[u8]) -> Result<(), Cause>
         requires { at + length from.now ≤ 2 ^ 62 }
+        ensures locked { OnOk result (IsSome self.new.lock) }
         ensures output { WritesOut W.contents self.old.output self.new.output result }
         ensures faults { self.new.faults ≡ self.old.faults }
     {
         self.begin(set)?;
-        self.sets[usize::from(set)].write_at(&self.folder, set, at, from)
+        self.sets[usize::from(set)].write_at(&self.folder, self.access, set, at, from)
     }
 
-    fn try_sync(&mut self, set: u16) -> io::Result<()>
+    fn try_sync(&mut self, set: u16) -> Result<(), Cause>
+        ensures locked { OnOk result (IsSome self.new.lock) }
         ensures output { WritesOut W.contents self.old.output self.new.output result }
         ensures faults { self.new.faults ≡ self.old.faults }
     {
         self.begin(set)?;
-        self.sets[usize::from(set)].sync(&self.folder, set)
+        self.sets[usize::from(set)].sync(&self.folder, self.access, set)
     }
 }
 
+// A call that failed.
+fn failed(place: Place, call: Call, error: io::Error) -> Cause {
+    Cause { place, call, error }
+}
+
 // Lengthens the list of data sets, so that it has this one.
-fn reach_set(sets: &mut Vec<DataSet>, set: u16) -> Result<(), AllocError>
+fn reach_set(alloc: Global, sets: &mut Vec<DataSet>, set: u16) -> Result<(), AllocError>
     ensures { OnOk result (set < vec_len sets.new) }
 {
     while sets.len() <= usize::from(set) {
-        sets.push(DataSet::new())?;
+        sets.push(DataSet::new(alloc))?;
     }
     Ok(())
 }
@@ -151,17 +213,19 @@ impl<R: Files<File = File>, W: Write + Drop> Site for FileSite<'_, R, W> {
     {
         match self.try_size(set) {
             Ok(length) => Ok(length),
-            Err(_) => Err(self.fail()),
+            Err(cause) => Err(self.fail(cause)),
         }
     }
 
-    // Files say only when they are written whether they can grow.
-    fn reach(&mut self, _set: u16, _end: u64) -> Result<(), Failed>
+    fn reach(&mut self, set: u16, _end: u64) -> Result<(), Failed>
         requires { _end ≤ 2 ^ 62 }
         ensures cause { Counts self.old.faults.count self.new.faults.count result }
         ensures output { WritesOut W.contents self.old.output self.new.output result }
     {
-        self.finish()
+        match self.try_reach(set) {
+            Ok(()) => Ok(()),
+            Err(cause) => Err(self.fail(cause)),
+        }
     }
 
     fn read_at(&mut self, set: u16, at: u64, into: &mut [u8]) -> Result<(), Failed>
@@ -170,7 +234,7 @@ impl<R: Files<File = File>, W: Write + Drop> Site for FileSite<'_, R, W> {
     {
         match self.try_read(set, at, into) {
             Ok(()) => Ok(()),
-            Err(_) => Err(self.fail()),
+            Err(cause) => Err(self.fail(cause)),
         }
     }
 
@@ -181,7 +245,7 @@ impl<R: Files<File = File>, W: Write + Drop> Site for FileSite<'_, R, W> {
     {
         match self.try_write(set, at, from) {
             Ok(()) => Ok(()),
-            Err(_) => Err(self.fail()),
+            Err(cause) => Err(self.fail(cause)),
         }
     }
 
@@ -191,7 +255,7 @@ impl<R: Files<File = File>, W: Write + Drop> Site for FileSite<'_, R, W> {
     {
         match self.try_sync(set) {
             Ok(()) => Ok(()),
-            Err(_) => Err(self.fail()),
+            Err(cause) => Err(self.fail(cause)),
         }
     }
 
@@ -201,7 +265,7 @@ impl<R: Files<File = File>, W: Write + Drop> Site for FileSite<'_, R, W> {
     {
         match self.output.write_all(text) {
             Ok(()) => Ok(()),
-            Err(_) => Err(self.fail()),
+            Err(error) => Err(self.fail(failed(Place::Output, Call::Write, error))),
         }
     }
 }

@@ -1,14 +1,14 @@
 //! The part files of a folder as a source.
-ghost use Rattle.std.specs.Prelude.{◌≡◌, ◌<◌, ◌≤◌, [], IfOk, length};
+ghost use Rattle.std.specs.Prelude.{◌≡◌, ◌<◌, ◌≤◌, [], IfOk, None, length};
 ghost use Rattle.fp_source.specs.Source.{Counts};
 ghost use Rattle.ims_fp.specs.Files.{part_file_name};
 
+use crate::cause::{Call, Cause, Place};
 use crate::faults::Faults;
-use crate::folder::Folder;
+use crate::folder::{Folder, read};
 use fp_source::{Failed, Part, Source};
 use std::fs::File;
 use std::io;
-use std::io::Read;
 use std::rt::Files;
 
 /// The part files of a folder: `defs.toml`, `scripts.txt`, `schedule.txt` and `messages.txt`. Each is opened at its
@@ -26,19 +26,27 @@ pub(crate) struct FileSource<'a, R> {
 impl<'a, R: Files<File = File>> FileSource<'a, R> {
     /// Touches no file.
     pub(crate) fn new(folder: Folder<'a, R>) -> FileSource<'a, R>
-        ensures { result.faults.count ≡ 0 }
+        ensures count { result.faults.count ≡ 0 }
+        ensures first { result.faults.first ≡ None }
     {
         FileSource {
             folder,
-            definitions: None,
-            scripts: None,
-            schedule: None,
-            messages: None,
+            definitions: Option::None,
+            scripts: Option::None,
+            schedule: Option::None,
+            messages: Option::None,
             faults: Faults::new(),
         }
     }
 
-    fn try_read(&mut self, part: Part, into: &mut [u8]) -> io::Result<usize>
+    /// Why the first call failed that did.
+    pub(crate) fn first_fault(&self) -> Option<Cause>
+        ensures { result ≡ self.now.faults.first }
+    {
+        self.faults.first()
+    }
+
+    fn try_read(&mut self, part: Part, into: &mut [u8]) -> Result<usize, Cause>
         ensures bound { IfOk result (λ n. n ≤ length into.old) }
         ensures faults { self.new.faults ≡ self.old.faults }
     {
@@ -52,7 +60,8 @@ impl<'a, R: Files<File = File>> FileSource<'a, R> {
     }
 }
 
-fn name_of(part: Part) -> &'static str
+/// The name of the file of a part.
+pub(crate) fn name_of(part: Part) -> &'static str
     ensures { result.now ≡ part_file_name part }
 {
     match part {
@@ -69,12 +78,28 @@ fn read_file<R: Files<File = File>>(
     part: Part,
     file: &mut Option<File>,
     into: &mut [u8],
-) -> io::Result<usize>
+) -> Result<usize, Cause>
     ensures { IfOk result (λ n. n ≤ length into.old) }
 {
-    match file {
-        Some(file) => file.read(into),
-        None => file.insert(folder.open(name_of(part))?).read(into),
+    let file = match file {
+        Some(file) => file,
+        None => match folder.open(name_of(part)) {
+            Ok(found) => file.insert(found),
+            Err(error) => return Err(failed(part, Call::Open, error)),
+        },
+    };
+    match read(file, into) {
+        Ok(count) => Ok(count),
+        Err(error) => Err(failed(part, Call::Read, error)),
+    }
+}
+
+// A call on a part that failed.
+fn failed(part: Part, call: Call, error: io::Error) -> Cause {
+    Cause {
+        place: Place::Part(part),
+        call,
+        error,
     }
 }
 
@@ -96,8 +121,8 @@ impl<R: Files<File = File>> Source for FileSource<'_, R> {
     fn read(&mut self, part: Part, into: &mut [u8]) -> Result<usize, Failed> {
         match self.try_read(part, into) {
             Ok(count) => Ok(count),
-            Err(_) => {
-                self.faults.rise();
+            Err(cause) => {
+                self.faults.rise(cause);
                 Err(Failed)
             }
         }

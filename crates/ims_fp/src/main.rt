@@ -1,25 +1,30 @@
 //! The program: its words, the files of a folder, standard output, and an exit status.
 //!
 //! The last word names a folder. Its part files are the source, its data sets the site. Neither touches a file before
-//! a call needs one.
+//! a call needs one. Where the site or the source failed, the first error of the system is told on a second line.
 #![tactic(auto)]
 
-ghost use Rattle.std.specs.Prelude.{◌≡◌, ◌≢◌, IsErr, IsOk};
+ghost use Rattle.std.specs.Prelude.{◌≡◌, ◌≢◌, IsErr, IsOk, None};
 ghost use Rattle.fp_exits.specs.Ranges.{IsRoutable, IsSpreadable};
 ghost use Rattle.fp_model.specs.Exits.{route, spread};
 ghost use Rattle.fp_system.specs.declared.status.Status.{Status};
 
+mod ahead;
+mod cause;
 mod data_set;
 mod faults;
 mod file_site;
 mod file_source;
 mod folder;
+mod host;
+mod record;
 #[cfg(test)]
 mod tests;
 
+use cause::Cause;
 use file_site::FileSite;
 use file_source::FileSource;
-use folder::Folder;
+use folder::{Access, Folder};
 use fp_exits::{
     Exits, Router, Routing, Spreader, Spreading, fold_group, fold_place, range_group, range_place,
 };
@@ -27,18 +32,56 @@ use fp_model::{Kind, Name};
 use fp_site::Failed;
 use fp_system::{Status, fault_text, ims};
 use std::alloc::AllocError;
+use std::fs::File;
+use std::os::fd::AsRawFd;
 use std::process::ExitCode;
 use std::{env, io};
 
+// The descriptors of standard input, output and error are those up to this one.
+const LAST_STANDARD: i32 = 2;
+
+// How the program ends, and the line that says why the site or the source failed.
+#[derive(Drop)]
+struct Ending {
+    status: Status,
+    cause: Option<String>,
+}
+
+impl From<Status> for Ending {
+    fn from(status: Status) -> Ending {
+        Ending {
+            status,
+            cause: Option::None,
+        }
+    }
+}
+
 fn main(rt: HostRuntime) -> ExitCode {
-    let status = status_of(&rt);
-    report(&rt, &status);
-    ExitCode::from(status.number())
+    let Ok(_held) = fill_standard(&rt) else {
+        return ExitCode::from(Status::SiteFault.number());
+    };
+    let ending = ending_of(&rt);
+    report(&rt, &ending);
+    ExitCode::from(ending.status.number())
+}
+
+// Opens something for each of the descriptors 0, 1 and 2 that is missing. A data set that got its number would be
+// written over with what is sent. A folder can't be written, so what is sent is a fault, as before.
+fn fill_standard(rt: &HostRuntime) -> io::Result<Vec<File>> {
+    let mut held = Vec::new(rt.alloc());
+    for _ in 0..=LAST_STANDARD {
+        let file = File::open(rt, "/")?;
+        if file.as_raw_fd() > LAST_STANDARD {
+            return Ok(held);
+        }
+        held.push(file)?;
+    }
+    Ok(held)
 }
 
 // Says what went wrong on standard error, if anything did. Nobody is left to tell that this fails.
-fn report(rt: &HostRuntime, status: &Status) {
-    let Ok(text) = fault_text(rt.alloc(), status) else {
+fn report(rt: &HostRuntime, ending: &Ending) {
+    let Ok(text) = fault_text(rt.alloc(), &ending.status) else {
         return;
     };
     if let Ok(line) = str::from_utf8(text.as_slice())
@@ -46,14 +89,20 @@ fn report(rt: &HostRuntime, status: &Status) {
     {
         let _ = eprintln!(rt; "{line}");
     }
+    if let Some(cause) = &ending.cause {
+        let _ = eprintln!(rt; "{cause}");
+    }
 }
 
 // A word that isn't UTF-8 is no word of a command.
-fn status_of(rt: &HostRuntime) -> Status {
+fn ending_of(rt: &HostRuntime) -> Ending {
     match words(rt) {
-        Ok(words) => with_exits(rt, &words).unwrap_or(Status::NoMemory),
-        Err(e) if e.kind() == io::ErrorKind::OutOfMemory => Status::NoMemory,
-        Err(_) => Status::Usage,
+        Ok(words) => match with_exits(rt, &words) {
+            Ok(ending) => ending,
+            Err(AllocError) => Status::NoMemory.into(),
+        },
+        Err(e) if e.kind() == io::ErrorKind::OutOfMemory => Status::NoMemory.into(),
+        Err(_) => Status::Usage.into(),
     }
 }
 
@@ -63,7 +112,7 @@ fn words(rt: &HostRuntime) -> io::Result<Vec<String>> {
 }
 
 // Makes the installation's exits, one of each kind for keys and for transactions, and does what the words say.
-fn with_exits(rt: &HostRuntime, words: &[String]) -> Result<Status, AllocError> {
+fn with_exits(rt: &HostRuntime, words: &[String]) -> Result<Ending, AllocError> {
     let alloc = rt.alloc();
     let fold: Spreading = Box::new(
         alloc,
@@ -103,15 +152,21 @@ fn with_exits(rt: &HostRuntime, words: &[String]) -> Result<Status, AllocError> 
 }
 
 // Does what the words say. What was sent is written before it answers, or it isn't `Done`.
-fn served(rt: &HostRuntime, words: &[String], exits: &Exits) -> Status {
+fn served(rt: &HostRuntime, words: &[String], exits: &Exits) -> Ending {
     let alloc = rt.alloc();
     let dir = words.last().map_or("", |word| word.as_str());
-    let Ok(mut site) = FileSite::new(alloc, Folder::new(rt, alloc, dir), io::writer(rt)) else {
-        return Status::NoMemory;
+    let folder = Folder::new(rt, alloc, dir);
+    let Ok(mut site) = FileSite::new(alloc, folder, Access::Change, io::writer(rt)) else {
+        return Status::NoMemory.into();
     };
     let mut source = FileSource::new(Folder::new(rt, alloc, dir));
     let status = ims(alloc, words, &mut source, &mut site, exits);
-    after(status, site.finish())
+    let status = after(status, site.finish());
+    let cause = cause_of(&status, source.first_fault(), site.first_fault());
+    Ending {
+        cause: cause.and_then(|cause| cause.line(alloc, dir).ok()),
+        status,
+    }
 }
 
 // How the program ends, once the last of the output is written or not: it isn't `Done` where it isn't written.
@@ -124,5 +179,18 @@ fn after(status: Status, written: Result<(), Failed>) -> Status
     match written {
         Err(Failed) if status == Status::Done => Status::SiteFault,
         _ => status,
+    }
+}
+
+// The cause that is told behind a status: the first fault of the object that failed, and none behind any other.
+fn cause_of(status: &Status, source: Option<Cause>, site: Option<Cause>) -> Option<Cause>
+    ensures source { status.now ≡ Status.ReadFault → result ≡ source }
+    ensures site { status.now ≡ Status.SiteFault → result ≡ site }
+    ensures others { status.now ≢ Status.ReadFault → status.now ≢ Status.SiteFault → result ≡ None }
+{
+    match status {
+        Status::ReadFault => source,
+        Status::SiteFault => site,
+        _ => Option::None,
     }
 }

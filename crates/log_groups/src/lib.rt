@@ -2,7 +2,7 @@
 //!
 //! | Part | Bytes |
 //! |---|---|
-//! | front | gate 1, `IMSFPLG` 7, digit of the format 1, definitions behind their length 4, scripts behind their length 4 |
+//! | front | gate 1, `IMSFPLG` 7, the digit of the format 1, length 4 and the definitions, length 4 and the scripts |
 //! | group | gate 1, length of the body 8, body: one or more entries |
 //! | end | a gate that isn't 1; bytes behind it mean nothing |
 //!

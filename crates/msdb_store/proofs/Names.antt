@@ -6,7 +6,7 @@ use Rattle.fp_model.specs.Texts.{same_text}
 use Rattle.fp_model.specs.declared.calls.Deferred.{Deferred}
 use Rattle.fp_model.specs.declared.definitions.MsdbDef.{MsdbDef}
 use Rattle.fp_model.specs.declared.log.Item.{Item}
-use Rattle.fp_model.specs.declared.log.Item.TheVariants.{Segment, Image}
+use Rattle.fp_model.specs.declared.log.Item.TheVariants.{Segment, Image, Range}
 use Rattle.msdb_store.specs.Settling.{HasItem, IsNamed, named}
 use Rattle.msdb_store.specs.Touches.{Touch, bytes_at, has_key, item_of}
 use Rattle.msdb_store.proofs.Ascending.{is_same, same_is}
@@ -84,6 +84,7 @@ some_any (t ∷ ts) n k = by (has_key t n k) ∙ ap (λ b. has_key t n k || b) (
 abbrev of_key : ℕ → List ℕ → Item → Bool
 of_key n k (Segment m j bytes) = m == n && same_text j k
 of_key n k (Image set ci bytes) = false
+of_key n k (Range set ci at bytes) = false
 
 item_any : (ts : List Touch) (n : ℕ) (k : List ℕ) → HasItem (map item_of ts) n k → list_any (λ t. has_key t n k) ts ≡ true
 item_any ts n k has = sym (any_map item_of (of_key n k) ts) ∙ contains_any (of_key n k) (map item_of ts) (Segment n k has.0) has.1.0 has.1.1 has.1.2 (its_pair n k)
@@ -97,6 +98,7 @@ any_item ts n k e = let p = any_contains (of_key n k) (map item_of ts) (any_map 
         let second : j ≡ k = same_is j k (second_true (m == n) (same_text j k) passes) in
         (bytes, (i, within, subst (λ x. slice_index_or (map item_of ts) i x ≡ x) (ap (λ a. Segment a j bytes) first ∙ ap (λ b. Segment n b bytes) second) is))
     by (Image set ci bytes) i within is passes = cc
+    by (Range set ci at bytes) i within is passes = cc
 
 -- where the tests agree, so do the facts
 pub same_keys : (defs : List MsdbDef) (calls : List Deferred) (ts : List Touch) (items : List Item) (n : ℕ) (k : List ℕ) → items ≡ map item_of ts → is_some (bytes_at ts n k) ≡ list_any (names defs n k) calls

@@ -10,7 +10,7 @@ use Rattle.fp_model.specs.State.{is_below}
 use Rattle.fp_model.specs.Texts.{same_text}
 use Rattle.fp_model.specs.declared.definitions.MsdbDef.{MsdbDef}
 use Rattle.fp_model.specs.declared.log.Item.{Item}
-use Rattle.fp_model.specs.declared.log.Item.TheVariants.{Segment, Image}
+use Rattle.fp_model.specs.declared.log.Item.TheVariants.{Segment, Image, Range}
 use Rattle.msdb_store.specs.Changes.{Changes}
 use Rattle.msdb_store.specs.Putting.{AreFew, CanPut, KeepsRoom}
 use Rattle.msdb_store.specs.Settling.{IsSegmentItem, IsStaged, adds, has_bytes}
@@ -70,7 +70,9 @@ all_behind n k bytes (Segment m j b ∷ rest) all order =
     above (Segment o l c ∷ items) segments later first =
         (both n k o l (before_trans n k m j o l (split n k m j first) (split m j o l later.0)), above items segments.1 later.1 first)
     above (Image set ci c ∷ items) segments later first = absurd segments.0
+    above (Range set ci at c ∷ items) segments later first = absurd segments.0
 all_behind n k bytes (Image set ci b ∷ rest) all order = absurd all.0
+all_behind n k bytes (Range set ci at b ∷ rest) all order = absurd all.0
 
 order_behind : (item : Item) (rest : List Item) → is_ascending (item ∷ rest) ≡ true → is_ascending rest ≡ true
 order_behind item [] order = refl
@@ -84,6 +86,7 @@ count_behind : (defs : List MsdbDef) (store : Stored) (n : ℕ) (k bytes : List 
     → count_by (adds defs (with_item defs store.msdbs (Segment n k bytes))) rest ≡ count_by (adds defs store.msdbs) rest
 count_behind defs store n k bytes of fit [] segments behind = refl
 count_behind defs store n k bytes of fit (Image set ci b ∷ rest) segments behind = absurd segments.0
+count_behind defs store n k bytes of fit (Range set ci at b ∷ rest) segments behind = absurd segments.0
 count_behind defs store n k bytes of fit (Segment m j b ∷ rest) segments behind =
     let t : Touch = record { number = n; key = k; bytes = bytes } in
     let apart : (n == m && same_text k j) ≡ false = differs n k m j (split n k m j behind.0) in
@@ -136,6 +139,7 @@ first_can defs old now staged item rest s = record {
 pub one_more : (defs : List MsdbDef) (old now new : Stored) (staged : Changes) (item : Item) (rest : List Item) → IsPublishing defs old now staged (item ∷ rest)
     → new.msdbs ≡ with_item defs now.msdbs item → IsOf defs new → KeepsRoom now new (adds defs now.msdbs item) → IsPublishing defs old new staged rest
 one_more defs old now new staged (Image set ci bytes) rest s is of keeps = absurd s.segments.0
+one_more defs old now new staged (Range set ci at bytes) rest s is of keeps = absurd s.segments.0
 one_more defs old now new staged (Segment n k bytes) rest s is of keeps =
     let behind = all_behind n k bytes rest s.segments.1 s.order in
     let count : count_by (adds defs new.msdbs) rest ≡ count_by (adds defs now.msdbs) rest = ap (λ ms. count_by (adds defs ms) rest) is ∙ count_behind defs now n k bytes s.of s.fit.0 rest s.segments.1 behind in

@@ -12,7 +12,7 @@ use Rattle.fp_model.specs.declared.calls.Deferred.TheVariants.{Fld, Repl, Isrt, 
 use Rattle.fp_model.specs.declared.database.Msdb.{Msdb}
 use Rattle.fp_model.specs.declared.definitions.MsdbDef.{MsdbDef}
 use Rattle.fp_model.specs.declared.log.Item.{Item}
-use Rattle.fp_model.specs.declared.log.Item.TheVariants.{Segment, Image}
+use Rattle.fp_model.specs.declared.log.Item.TheVariants.{Segment, Image, Range}
 use Rattle.msdb_store.specs.declared.staged.VerifyFault.{VerifyFault}
 use Rattle.msdb_store.specs.declared.staged.VerifyFault.TheVariants as fault
 use Rattle.msdb_store.specs.Store.{IsFitSegment, IsOf, Stored, segment_in}
@@ -30,6 +30,7 @@ pub record CanSettle (defs : List MsdbDef) (store : Stored) (deferred : List Def
 abbrev pub IsSegmentItem : Item → Type 0
 IsSegmentItem (Segment number key bytes) = ⊤
 IsSegmentItem (Image set ci bytes) = ⊥
+IsSegmentItem (Range set ci at bytes) = ⊥
 
 -- whether there are bytes
 abbrev pub has_bytes : List ℕ → Bool
@@ -40,6 +41,7 @@ has_bytes (b ∷ bytes) = true
 abbrev pub adds : List MsdbDef → List Msdb → Item → Bool
 adds defs msdbs (Segment number key bytes) = has_bytes bytes && is_none (segment_in defs msdbs number key)
 adds defs msdbs (Image set ci bytes) = false
+adds defs msdbs (Range set ci at bytes) = false
 
 -- Changes that these databases may be given: items of segments, ascending, and the number of segments that they add.
 pub record IsStaged (defs : List MsdbDef) (msdbs : List Msdb) (staged : Changes) : Type 0 where

@@ -7,7 +7,7 @@ use Rattle.fp_model.specs.State.{key_of, segment_of, segment_after}
 use Rattle.fp_model.specs.Texts.{same_text}
 use Rattle.fp_model.specs.declared.database.Msdb.{Msdb}
 use Rattle.fp_model.specs.declared.log.Item.{Item}
-use Rattle.fp_model.specs.declared.log.Item.TheVariants.{Segment, Image}
+use Rattle.fp_model.specs.declared.log.Item.TheVariants.{Segment, Image, Range}
 use Rattle.fp_model.specs.declared.definitions.FieldDef.{FieldDef}
 use Rattle.fp_model.specs.declared.definitions.MsdbDef.{MsdbDef}
 
@@ -53,6 +53,7 @@ found_after defs store number key = elim (slice_get defs number) [
 abbrev pub IsFitSegment : List MsdbDef → Item → Type 0
 IsFitSegment defs (Segment number key bytes) = (def : MsdbDef) × (slice_get defs number ≡ Some def) × FitsMsdb def key bytes
 IsFitSegment defs (Image set ci bytes) = ⊤
+IsFitSegment defs (Range set ci at bytes) = ⊤
 
 -- whether segments lack the key of one
 abbrev pub lacks : List FieldDef → List (List ℕ) → List ℕ → Bool

@@ -169,7 +169,7 @@ impl MsdbStore {
             Item::Segment { msdb, key, bytes } => {
                 self.put_segment(*msdb, key.as_slice(), bytes.copy()?)
             }
-            Item::Image { .. } => Ok(()),
+            Item::Image { .. } | Item::Range { .. } => Ok(()),
         }
     }
 
@@ -196,6 +196,7 @@ impl MsdbStore {
 }
 
 impl MsdbStore {
+    ghost use Rattle.fp_model.specs.Items.{with_item, with_items};
     ghost use Rattle.fp_model.specs.declared.definitions.MsdbDef.{MsdbDef as DefOf};
     ghost use Rattle.msdb_store.specs.Putting.{CanPut, KeepsRoom};
     ghost use Rattle.msdb_store.specs.Settling.{IsStaged, adds};
@@ -241,7 +242,7 @@ impl MsdbStore {
                 // There is room for it, so it takes no memory and is done.
                 let _ = self.put_segment(msdb, key.as_slice(), bytes);
             }
-            Item::Image { .. } => {}
+            Item::Image { .. } | Item::Range { .. } => {}
         }
     }
 }

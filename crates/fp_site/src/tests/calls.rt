@@ -1,4 +1,7 @@
 //! Each call with ample memory, and what calls told to fail, stops and crashes leave.
+use super::steps::Answer::{Bytes as Four, Done, Length};
+use super::steps::Step::{Reach, Read, Send, Size, Sync, Write};
+use super::steps::{Answer, Step, goes, take};
 use crate::{Failed, MemorySite, Site, Snapshot};
 use fp_lists::{Bytes, List};
 use std::alloc::Global;
@@ -20,43 +23,31 @@ fn log_of(snapshot: &Snapshot) -> &[u8] {
     }
 }
 
+const EACH: [(Step, Answer); 9] = [
+    (Size, Length(0)),
+    (Reach, Done),
+    (Write(2, [7, 8]), Done),
+    (Size, Length(4)),
+    (Read(1), Four([0, 7, 8, 0])),
+    (Sync, Done),
+    (Write(0, [1, 2]), Done),
+    (Read(0), Four([1, 2, 7, 8])),
+    (Send, Done),
+];
+
 #[test]
 fn each_call_answers(rt: HostRuntime) -> Result<(), Fail> {
-    let alloc = rt.alloc();
-    let mut site = MemorySite::new(alloc, &[])?;
+    let mut site = MemorySite::new(rt.alloc(), &[])?;
     site.prepare(100)?;
-    assert_eq!(rt; site.size(3), Ok(0));
-    assert_eq!(rt; site.reach(3, 1 << 62), Ok(()));
-    assert_eq!(rt; site.write_at(3, 2, &[7, 8]), Ok(()));
-    assert_eq!(rt; site.size(3), Ok(4));
-    let mut into = [9u8; 4];
-    assert_eq!(rt; site.read_at(3, 1, &mut into), Ok(()));
-    assert_eq!(rt; into.as_slice(), [0, 7, 8, 0].as_slice());
-    assert_eq!(rt; site.sync(3), Ok(()));
-    assert_eq!(rt; site.write_at(3, 0, &[1]), Ok(()));
-    assert_eq!(rt; site.contents(3), [1, 0, 7, 8].as_slice());
+    goes(&rt, &mut site, 3, &EACH);
+    assert_eq!(rt; site.contents(3), [1, 2, 7, 8].as_slice());
     assert_eq!(rt; site.contents(4), [].as_slice());
-    assert_eq!(rt; site.send(b"T1 OK\n"), Ok(()));
     assert_eq!(rt; site.sent(), b"T1 OK\n".as_slice());
     assert_eq!(rt; (site.faults(), site.shorts()), (0, 0));
     Ok(())
 }
 
-// One call of the trait, by number.
-fn call(site: &mut MemorySite, which: u64) -> Result<(), Failed> {
-    let mut into = [0u8; 4];
-    match which {
-        0 => {
-            site.size(0)?;
-            Ok(())
-        }
-        1 => site.reach(0, 10),
-        2 => site.read_at(0, 0, &mut into),
-        3 => site.write_at(0, 0, &[5, 6]),
-        4 => site.sync(0),
-        _ => site.send(b"T2 OK\n"),
-    }
-}
+const CALLS: [Step; 6] = [Size, Reach, Read(0), Write(0, [5, 6]), Sync, Send];
 
 #[test]
 fn each_call_told_to_fail_fails_and_is_counted(rt: HostRuntime) -> Result<(), Fail> {
@@ -64,11 +55,8 @@ fn each_call_told_to_fail_fails_and_is_counted(rt: HostRuntime) -> Result<(), Fa
     for told in 0..6 {
         let mut site = site_of(alloc, &[1, 2, 3, 4], &[told])?;
         for which in 0..6 {
-            assert_eq!(rt;
-                call(&mut site, which).is_err(),
-                which == told,
-                "at {which}"
-            );
+            let fails = take(&mut site, 0, CALLS[which]) == Answer::Failed;
+            assert_eq!(rt; fails, which as u64 == told, "at {which}");
         }
         assert_eq!(rt; (site.faults(), site.shorts()), (1, 0));
     }

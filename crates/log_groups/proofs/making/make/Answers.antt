@@ -13,7 +13,8 @@ write_gated-requires g c =
     let front = as_front c.args.front.now in
     let is : c.as_slice.result.now ≡ front_rest front ++ 0 ∷ [] = c.as_slice.ensures ∙ c.in_ok-push.ensures.ok ∙ ap (λ l. l ++ 0 ∷ []) c.in_ok-bytes.ensures in
     let fits = c.requires in
-    record { room = omega (arith, ap length is, length-append (front_rest front) (0 ∷ []), length-front front, fits.defs_fit, fits.scripts_fit) }
+    let long = length-append (front_rest front) (0 ∷ []) in
+    record { room = omega (arith, ap length is, long, length-front front, fits.defs_fit, fits.scripts_fit) }
 
 pub returns-in_err-write_gated-clause-only : goal.returns-in_err-write_gated-clause-only
 returns-in_err-write_gated-clause-only g c t =

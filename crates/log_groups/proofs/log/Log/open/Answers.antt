@@ -13,7 +13,15 @@ invariant_of-result g c =
     let front = as_front c.args.front.now in
     let fits = c.requires.fits in
     let long : c.len.result ≡ length (front_text 1 front) = search rules in
-    record { each = tt; count = refl; text = ap (drop 8) c.in_ok-buffer.ensures.items; header = omega arith; room = search rules; limit = omega (arith, long, length-front front, fits.0, fits.1); fewer = omega arith }
+    record {
+      each = tt;
+      count = refl;
+      text = ap (drop 8) c.in_ok-buffer.ensures.items;
+      header = omega arith;
+      room = search rules;
+      limit = omega (arith, long, length-front front, fits.defs_fit, fits.scripts_fit);
+      fewer = omega arith;
+    }
 
 pub returns-clause-log : goal.returns-clause-log
 unfolding entries_in many_at

@@ -1,0 +1,147 @@
+//! The bytes that reach files and come back, and what is sent.
+use super::steps::Answer::{Bytes, Done, Failed, Length};
+use super::steps::Step::{Finish, Reach, Read, Send, Size, Sync, Write, WriteNothing};
+use super::steps::{Answer, Step, fresh, goes, site_in};
+use crate::folder::Access;
+use fp_site::Site;
+use std::fs;
+use std::os::unix::fs::MetadataExt;
+use std::test::Fail;
+
+const NAMES: [(u16, &str); 5] = [
+    (0, "names/log"),
+    (1, "names/ckpt1"),
+    (2, "names/ckpt2"),
+    (3, "names/area3"),
+    (258, "names/area258"),
+];
+
+const MAKE_NONE: [(Step, Answer); 5] = [
+    (Size, Length(0)),
+    (Read(7), Bytes([0; 4])),
+    (Sync, Done),
+    (Reach, Done),
+    (WriteNothing, Done),
+];
+
+const MAKE_ONE: [(Step, Answer); 3] = [(Write(2, *b"abc"), Done), (Sync, Done), (Size, Length(5))];
+
+#[test]
+fn data_sets_are_files_of_their_names(rt: HostRuntime) -> Result<(), Fail> {
+    fresh(&rt, "names")?;
+    let mut site = site_in(&rt, "names", Access::Change, "names/out")?;
+    for (set, name) in NAMES {
+        goes(&rt, &mut site, set, &MAKE_NONE)?;
+        assert!(rt; !fs::exists(&rt, name)?, "{name} is made too early");
+        goes(&rt, &mut site, set, &MAKE_ONE)?;
+        assert_eq!(rt;
+            fs::read(&rt, name)?.as_slice(),
+            b"\0\0abc".as_slice(),
+            "{name}"
+        );
+        assert_eq!(rt; fs::metadata(&rt, name)?.mode() & 0o777, 0o600, "{name}");
+    }
+    fs::remove_dir_all(&rt, "names")?;
+    Ok(())
+}
+
+const IN_PLACE: [(Step, Answer); 7] = [
+    (Read(3), Bytes(*b"3456")),
+    (Write(3, *b"abc"), Done),
+    (Read(4), Bytes(*b"bc67")),
+    (Read(8), Bytes(*b"89\0\0")),
+    (Read(u64::MAX), Bytes([0; 4])),
+    (Size, Length(10)),
+    (Sync, Done),
+];
+
+#[test]
+fn a_file_that_is_there_is_read_and_written_in_place(rt: HostRuntime) -> Result<(), Fail> {
+    fresh(&rt, "place")?;
+    fs::write(&rt, "place/log", b"0123456789".as_slice())?;
+    let mut site = site_in(&rt, "place", Access::Change, "place/out")?;
+    goes(&rt, &mut site, 0, &IN_PLACE)?;
+    fs::remove_dir_all(&rt, "place")?;
+    Ok(())
+}
+
+// Byte number n of the long file is n / 251, cut to one byte. The first block that is read ends at 65,536 + 3.
+const LONG: [(Step, Answer); 9] = [
+    (Read(3), Bytes([0, 0, 0, 0])),
+    (Read(65_535), Bytes([5, 5, 5, 5])),
+    (Read(65_761), Bytes([5, 6, 6, 6])),
+    (Read(249), Bytes([0, 0, 1, 1])),
+    (Write(250, *b"abc"), Done),
+    (Read(249), Bytes(*b"\0abc")),
+    (Read(199_998), Bytes([28, 28, 0, 0])),
+    (Write(200_001, *b"end"), Done),
+    (Read(199_999), Bytes(*b"\x1c\0en")),
+];
+
+fn long_byte(number: usize) -> u8 {
+    (number / 251 % 256) as u8
+}
+
+#[test]
+fn what_was_written_is_not_read_from_an_older_block(rt: HostRuntime) -> Result<(), Fail> {
+    fresh(&rt, "long")?;
+    let mut bytes = vec![in rt.alloc(); 0u8; 200_000]?;
+    for number in 0..200_000 {
+        bytes[number] = long_byte(number);
+    }
+    fs::write(&rt, "long/log", bytes.as_slice())?;
+    let mut site = site_in(&rt, "long", Access::Change, "long/out")?;
+    assert!(rt; site.read_at(0, 0, &mut bytes[..10]).is_ok());
+    assert!(rt; site.read_at(0, 5, &mut bytes[5..150_000]).is_ok());
+    for number in 0..200_000 {
+        assert_eq!(rt; bytes[number], long_byte(number), "byte {number}");
+    }
+    goes(&rt, &mut site, 0, &LONG)?;
+    fs::remove_dir_all(&rt, "long")?;
+    Ok(())
+}
+
+#[test]
+fn sends_are_gathered_up_to_the_next_call(rt: HostRuntime) -> Result<(), Fail> {
+    fresh(&rt, "sends")?;
+    let mut site = site_in(&rt, "sends", Access::Change, "sends/out")?;
+    goes(
+        &rt,
+        &mut site,
+        0,
+        &[(Send(*b"one\n"), Done), (Send(*b"two\n"), Done)],
+    )?;
+    assert_eq!(rt; fs::read(&rt, "sends/out")?.len(), 0);
+    goes(&rt, &mut site, 0, &[(Size, Length(0))])?;
+    assert_eq!(rt;
+        fs::read(&rt, "sends/out")?.as_slice(),
+        b"one\ntwo\n".as_slice()
+    );
+    goes(
+        &rt,
+        &mut site,
+        0,
+        &[(Send(*b"six\n"), Done), (Finish, Done)],
+    )?;
+    assert_eq!(rt; fs::read(&rt, "sends/out")?.len(), 12);
+    fs::remove_dir_all(&rt, "sends")?;
+    Ok(())
+}
+
+const FULL: [(Step, Answer); 5] = [
+    (Send(*b"lost"), Done),
+    (Size, Failed),
+    (Write(0, *b"abc"), Failed),
+    (Reach, Failed),
+    (Finish, Failed),
+];
+
+#[test]
+fn an_output_that_is_full_fails_the_next_call(rt: HostRuntime) -> Result<(), Fail> {
+    fresh(&rt, "full")?;
+    let mut site = site_in(&rt, "full", Access::Change, "/dev/full")?;
+    goes(&rt, &mut site, 0, &FULL)?;
+    assert!(rt; !fs::exists(&rt, "full/log")?);
+    fs::remove_dir_all(&rt, "full")?;
+    Ok(())
+}

@@ -1,0 +1,80 @@
+//! The lock of the folder, of two sites that stand beside one another.
+use super::steps::Answer::{Done, Failed, Length};
+use super::steps::Step::{Reach, Read, Send, Size, Sync, Write};
+use super::steps::{Answer, Step, fresh, goes, site_in};
+use crate::folder::Access;
+use std::fs;
+use std::test::Fail;
+
+const REFUSED: [(Step, Answer); 6] = [
+    (Sync, Failed),
+    (Size, Failed),
+    (Reach, Failed),
+    (Read(0), Failed),
+    (Write(0, *b"abc"), Failed),
+    (Send(*b"text"), Done),
+];
+
+// The access of the one that comes first, of the second, and whether the two go together.
+const PAIRS: [(Access, Access, bool); 4] = [
+    (Access::Change, Access::Change, false),
+    (Access::Change, Access::Look, false),
+    (Access::Look, Access::Change, false),
+    (Access::Look, Access::Look, true),
+];
+
+#[test]
+fn one_site_that_changes_a_folder_is_alone_with_it(rt: HostRuntime) -> Result<(), Fail> {
+    for (first, second, together) in PAIRS {
+        fresh(&rt, "pair")?;
+        let mut one = site_in(&rt, "pair", first, "pair/out1")?;
+        let mut two = site_in(&rt, "pair", second, "pair/out2")?;
+        goes(&rt, &mut one, 0, &[(Size, Length(0))])?;
+        match together {
+            true => goes(&rt, &mut two, 1, &[(Size, Length(0)), (Sync, Done)])?,
+            false => goes(&rt, &mut two, 1, &REFUSED)?,
+        }
+        drop(one);
+        goes(&rt, &mut two, 1, &[(Size, Length(0)), (Sync, Done)])?;
+    }
+    fs::remove_dir_all(&rt, "pair")?;
+    Ok(())
+}
+
+#[test]
+fn the_first_fault_says_that_the_folder_is_locked(rt: HostRuntime) -> Result<(), Fail> {
+    fresh(&rt, "told")?;
+    let mut one = site_in(&rt, "told", Access::Change, "told/out1")?;
+    let mut two = site_in(&rt, "told", Access::Change, "told/out2")?;
+    goes(&rt, &mut one, 0, &[(Sync, Done)])?;
+    assert!(rt; two.first_fault().is_none());
+    goes(&rt, &mut two, 0, &REFUSED)?;
+    let Some(cause) = two.first_fault() else {
+        return Err(Fail::from("no cause is told"));
+    };
+    let line = cause.line(rt.alloc(), "told")?;
+    assert_eq!(rt;
+        line.as_str(),
+        "told: lock: another program uses this folder"
+    );
+    fs::remove_dir_all(&rt, "told")?;
+    Ok(())
+}
+
+const ONLY_READ: [(Step, Answer); 5] = [
+    (Sync, Done),
+    (Size, Length(4)),
+    (Read(0), Answer::Bytes(*b"read")),
+    (Write(0, *b"abc"), Failed),
+    (Read(0), Answer::Bytes(*b"read")),
+];
+
+#[test]
+fn a_site_that_only_looks_writes_nothing(rt: HostRuntime) -> Result<(), Fail> {
+    fresh(&rt, "look")?;
+    fs::write(&rt, "look/log", b"read".as_slice())?;
+    let mut site = site_in(&rt, "look", Access::Look, "look/out")?;
+    goes(&rt, &mut site, 0, &ONLY_READ)?;
+    fs::remove_dir_all(&rt, "look")?;
+    Ok(())
+}
