@@ -38,7 +38,8 @@ def read(data):
         is_last = end + 1 == len(data)
         if data[end:end + 1] != (b" " if is_last else b"*"):
             return f"connector {end}"
-        found.append((data[place:place + 8], data[place + 8:place + 9], data[place + 9:place + 10], data[place + 12:end]))
+        name, status, op = data[place:place + 8], data[place + 8:place + 9], data[place + 9:place + 10]
+        found.append((name, status, op, data[place + 12:end]))
         if is_last:
             return found
         place = end + 1
@@ -63,15 +64,16 @@ def list_lines():
             yield list_line(data[:end])
         for more in [b"*", b" ", b"\x00", b"  ", b" *", withdrawal]:
             yield list_line(data + more)
-    for byte in range(256):
+    for byte in list(range(30, 50)) + [0, 1, 9, 10, 13, 64, 95, 127, 128, 160, 170, 255]:
         yield list_line(withdrawal[:29] + bytes([byte]))
     # An operand's length of each border, true and one off.
-    for length in [0, 1, 2, 255, 256, 257, 4096, 65534, 65535]:
+    yield from (list_line(argument("A", "=", b"\x41" * length) + b" ") for length in [4096, 65_534, 65_535])
+    for length in [0, 1, 2, 255, 256, 257]:
         long = argument("A", "=", b"\x41" * length)
         for data in [long + b" ", long, long[:-1] + b" ", long + b"*" + withdrawal, long + b" " + withdrawal]:
             yield list_line(data)
     for place in range(30):
-        for byte in [0, 1, 3, 42, 255]:
+        for byte in [1, 42]:
             yield list_line(withdrawal[:place] + bytes([byte]) + withdrawal[place + 1:])
 
 
@@ -150,16 +152,19 @@ ROWS = [
     ("CITY", "=", b"AS"), ("FULL", "-", b"70001"), ("HALF", "+", b"258"),
 ]
 FORMS = [
-    b"", b"-", b"0", b"-0", b"1", b"-1", b"+1", b"1 ", b" 1", b"1-", b"--1", b"1.0", b"x", b"1x", b"\xff", b"1\n", b"\x00", b"00100",
-    b"9" * 31, b"-" + b"9" * 31, b"0" * 31, b"0" * 32, b"1" + b"0" * 31,
+    b"", b"-", b"0", b"-0", b"1", b"-1", b"+1", b"1 ", b" 1", b"1-", b"--1", b"1.0", b"x", b"1x", b"\xff", b"1\n",
+    b"\x00", b"00100", b"9" * 31, b"-" + b"9" * 31, b"0" * 31, b"0" * 32, b"1" + b"0" * 31,
 ]
 OPERANDS = {
     "ACCT": [b"", b"A", b"A001", b"A0010", b"A001 ", b"A000", b"A002", b"\xff", b"\x00"],
     "CITY": [b"", b" ", b"O", b"OSL", b"OSLO", b"OSLP", b"OSLN", b"OSLO ", b"BERGEN", b"\xff", b"\x00", b"0"],
     "BAL": [b"99", b"100", b"101", b"-100", b"9999899", b"9999900", b"10000099", b"10000100", b"9999999", b"10000000"],
-    "COUNT": [b"254", b"255", b"256", b"-255"], "HALF": [b"-2", b"-3", b"32767", b"32768", b"32766", b"-32766", b"-32767", b"32769", b"32770"],
+    "COUNT": [b"254", b"255", b"256", b"-255"],
+    "HALF": [b"-2", b"-3", b"32767", b"32768", b"32766", b"-32766", b"-32767", b"32769", b"32770"],
     "FULL": [b"69999", b"70000", b"70001", b"2147413647", b"2147413648", b"-2147483648", b"-2147483649"],
-    "MOST": [b"9" * 30, b"5" * 31], "WIDE": [b"257", b"258", b"259", b"18446744073709551357", b"18446744073709551358", b"18446744073709551615", b"18446744073709551616"],
+    "MOST": [b"9" * 30, b"5" * 31],
+    "WIDE": [b"257", b"258", b"259", b"18446744073709551357", b"18446744073709551358", b"18446744073709551615",
+    b"18446744073709551616"],
 }
 
 
@@ -172,10 +177,10 @@ def try_lines():
                 yield try_line(SEGMENT, [(name, op, operand)])
     for name in ["BAL", "WIDE", "MOST"]:
         for op in "EL+-=":
-            for operand in FORMS:
+            for operand in FORMS[::1 if name == "BAL" else 2]:
                 yield try_line(SEGMENT, [(name, op, operand)])
-    for op in range(256):
-        yield try_line(SEGMENT, [("BAL", chr(op), b"100")]) if op < 128 else None
+    for op in range(32, 128):
+        yield try_line(SEGMENT, [("BAL", chr(op), b"100")])
     yield from name_tries()
     yield from broken_tries()
     yield from long_tries()
@@ -189,10 +194,10 @@ def name_tries():
 
 def broken_tries():
     """Tries of a field that is no number."""
-    for half in ["001a0c", "000a1c", "000010", "000019", "0000ff"]:
+    for half in ["001a0c", "000019", "0000ff"]:
         broken = SEGMENT[:4] + bytes.fromhex("00" + half) + SEGMENT[8:]
         for op in "EGHLMN+-=":
-            for operand in [b"1", b"x", b"100", b"99999999"]:
+            for operand in [b"1", b"x"]:
                 yield try_line(broken, [("BAL", op, operand)])
 
 
@@ -201,7 +206,7 @@ def long_tries():
     yield try_line(SEGMENT, [("BAL", "-", b"060"), ("BAL", "H", b"060"), ("BAL", "+", b"020"), ("BAL", "E", b"060")])
     draws = Draws(11)
     operands = [b"0", b"1", b"60", b"100", b"-5", b"9999900", b"OSLO", b"AS", b"x", b"200"]
-    for _ in range(150):
+    for _ in range(45):
         count = 2 + draws.below(4)
         names = [draws.one_of(["BAL", "BAL", "COUNT", "HALF", "CITY", "FULL", "ACCT", "NONE"]) for _ in range(count)]
         yield try_line(SEGMENT, [(name, draws.one_of("EGHLMN+-=+-=?"), draws.one_of(operands)) for name in names])
@@ -209,5 +214,4 @@ def long_tries():
 
 def lines():
     yield "Lists of field search arguments: `list BYTES`, and `try LIST SEGMENT`."
-    found = dict.fromkeys(line for line in list(list_lines()) + list(try_lines()) if line)
-    yield from found
+    yield from dict.fromkeys(list(list_lines()) + list(try_lines()))

@@ -7,11 +7,11 @@ KINDS = ["FOLD", "RANGE"]
 LENGTHS = {"C": range(1, 1025), "X": range(1, 9), "H": range(2, 3), "F": range(4, 5), "P": range(1, 17)}
 RANGES = {"X": lambda n: (0, 256**n - 1), "P": lambda n: (1 - 10 ** (2 * n - 1), 10 ** (2 * n - 1) - 1)}
 KEYS = {
-    "top": ["regions", "router", "log_group", "pool", "msdb", "dedb"],
+    "top": ["regions", "router", "log_group", "pool", "tries", "msdb", "dedb"],
     "msdb": ["name", "fields", "dynamic", "load"],
     "dedb": ["name", "randomizer", "ci", "segment", "area"],
     "segment": ["name", "fields", "parent", "sequential"],
-    "area": ["name", "uows", "base", "overflow", "capacity"],
+    "area": ["name", "uows", "base", "overflow", "capacity", "copies"],
 }
 
 
@@ -118,6 +118,7 @@ def read(text, routers, spreaders):
     router = exit_at(top, "router")
     within("log_group", top.get("log_group", 100), 1, 1000)
     within("pool", top.get("pool", 1000), 1, 100_000)
+    within("tries", top.get("tries", 0), 0, 100)
     msdbs = tables(top, "msdb") if "msdb" in top else []
     dedbs = tables(top, "dedb") if "dedb" in top else []
     at_most("msdb", len(msdbs), 32)
@@ -289,4 +290,5 @@ def area(table, areas, has_slots):
         raise bad("capacity")
     if has_slots:
         within("capacity", capacity, 1, 1_000_000)
+    within("copies", table.get("copies", 1), 1, 7)
     return uows, base, overflow, capacity

@@ -2,6 +2,9 @@
 from .texts import Draws, of_bytes
 
 KINDS = ["done", "verify", "roll", "seqfull", "deadlock", "device", "memory", "unknown", "purge"]
+KINDS += ["old", "repeat", "format"]
+# The sizes of the numbers in a detail that has nothing else.
+SIZES = {"roll": [2], "seqfull": [2, 8, 8, 8], "purge": [2, 8], "old": [8]}
 
 
 class Bad(Exception):
@@ -24,15 +27,17 @@ def detail(outcome):
         return number(values[0], 4) + number(values[1], 2) + part(values[2], 2)
     if word == "deadlock":
         return part(values[0], 1)
-    sizes = {"roll": [2], "seqfull": [2, 8, 8, 8], "purge": [2, 8]}.get(word, [])
-    return b"".join(number(value, size) for value, size in zip(values, sizes))
+    if word == "repeat":
+        return part(values[0], 2)
+    return b"".join(number(value, size) for value, size in zip(values, SIZES.get(word, [])))
 
 
 def item_bytes(item):
-    word, first, second, data = item
+    word, *values, data = item
     if word == "segment":
-        return b"\x01" + number(first, 1) + part(second, 1) + part(data, 2)
-    return b"\x02" + number(first, 2) + number(second, 8) + part(data, 2)
+        return b"\x01" + number(values[0], 1) + part(values[1], 1) + part(data, 2)
+    code = b"\x02" if word == "image" else b"\x03"
+    return code + b"".join(number(value, size) for value, size in zip(values, [2, 8, 2])) + part(data, 2)
 
 
 def entry(outcome, start=7, line=b"T1 X", reply=b"", notes=(3,), items=()):
@@ -73,8 +78,9 @@ def read_detail(code, reader):
         return f"{word} {reader.number(4)} {reader.number(2)} {of_bytes(reader.part(2))}"
     if word == "deadlock":
         return f"{word} {of_bytes(reader.part(1))}"
-    sizes = {"roll": [2], "seqfull": [2, 8, 8, 8], "purge": [2, 8]}.get(word, [])
-    return " ".join([word] + [str(reader.number(size)) for size in sizes])
+    if word == "repeat":
+        return f"{word} {of_bytes(reader.part(2))}"
+    return " ".join([word] + [str(reader.number(size)) for size in SIZES.get(word, [])])
 
 
 def read_item(reader):
@@ -86,6 +92,12 @@ def read_item(reader):
     if kind == 2:
         data_set, interval, data = reader.number(2), reader.number(8), reader.part(2)
         return (2, data_set, interval), f"image {data_set} {interval} {of_bytes(data)}"
+    if kind == 3:
+        data_set, interval, place, data = reader.number(2), reader.number(8), reader.number(2), reader.part(2)
+        if not data:
+            raise Bad
+        # An interval stands once, be it whole or in part.
+        return (2, data_set, interval), f"range {data_set} {interval} {place} {of_bytes(data)}"
     raise Bad
 
 
@@ -126,12 +138,21 @@ DEPOSIT = bytes.fromhex(
     "0000000100000000000000000000000101000441303031000841303031" "0000110c"
 )
 REFUSED = bytes.fromhex(
-    "0000000000000031000000000000000002000100125431204445504f5349542041303039203130000000000001" "000000000000000000000000"
+    "0000000000000031000000000000000002000100125431204445504f534954204130303920313000"
+    "0000000001000000000000000000000000"
+)
+# A range of two bytes in place of a whole interval.
+RENAMED = bytes.fromhex(
+    "000000000000003d00000000000000020000125432" "2052454e414d45204330303120424f42" "00054e414d454400000000"
+    "00000001" "0300040000000000000004004500024f42"
 )
 OUTCOMES = [
-    ("done",), ("verify", 2, 65_535, b"\xab\xcd"), ("verify", 0, 0, b""), ("verify", 2**32 - 1, 1, b"x" * 300), ("roll", 0), ("roll", 99),
-    ("roll", 65_535), ("seqfull", 3, 1, 4, 2), ("seqfull", 65_535, 2**64 - 1, 2**62, 0), ("deadlock", b"\x02\x01"), ("deadlock", b""),
-    ("deadlock", bytes(range(64))), ("deadlock", b"\x01" * 255), ("device",), ("memory",), ("unknown",), ("purge", 3, 2), ("purge", 0, 2**64 - 1),
+    ("done",), ("verify", 2, 65_535, b"\xab\xcd"), ("verify", 0, 0, b""), ("verify", 2**32 - 1, 1, b"x" * 300),
+    ("roll", 0), ("roll", 99), ("roll", 65_535), ("seqfull", 3, 1, 4, 2), ("seqfull", 65_535, 2**64 - 1, 2**62, 0),
+    ("deadlock", b"\x02\x01"), ("deadlock", b""), ("deadlock", bytes(range(64))), ("deadlock", b"\x01" * 255),
+    ("device",), ("memory",), ("unknown",), ("purge", 3, 2), ("purge", 0, 2**64 - 1), ("old", 3), ("old", 0),
+    ("old", 10**18 - 1), ("old", 2**64 - 1), ("repeat", b"T1 OK NEW"), ("repeat", b""), ("repeat", b"\n"),
+    ("repeat", b"r" * 255), ("repeat", b"r" * 256), ("format",),
 ]
 
 
@@ -143,64 +164,105 @@ def image(data_set, interval, data=b""):
     return ("image", data_set, interval, data)
 
 
+def piece(data_set, interval, place, data=b"r"):
+    return ("range", data_set, interval, place, data)
+
+
 ITEMS = [
     [], [segment(0, b"A1", b"A1z")], [segment(0, b"A1"), segment(0, b"A2")], [segment(0, b"A2"), segment(0, b"A1")],
-    [segment(0, b"A1"), segment(0, b"A1")], [segment(1, b"A1"), segment(0, b"A2")], [segment(0, b"A2"), segment(1, b"A1")],
-    [segment(0, b"A"), segment(0, b"A1")], [segment(0, b"A1"), segment(0, b"A")], [segment(0, b""), segment(0, b"\x00")],
-    [segment(0, b"\x7f"), segment(0, b"\x80")], [segment(0, b"\x80"), segment(0, b"\x7f")], [segment(255, b"k" * 255, b"s" * 1000)],
-    [image(3, 0, b"c")], [image(3, 0), image(3, 1)], [image(3, 1), image(3, 0)], [image(3, 1), image(3, 1)], [image(4, 0), image(3, 1)],
-    [image(3, 9), image(4, 0)], [image(3, 255), image(3, 256)], [image(3, 256), image(3, 255)], [image(0, 0), image(65_535, 2**64 - 1, b"\x00" * 4096)],
-    [segment(0, b"A1"), image(3, 0)], [image(3, 0), segment(0, b"A1")], [segment(9, b"A1"), image(0, 0), image(0, 1)],
-    [segment(0, b"A1", b"A1z"), segment(0, b"A2"), segment(1, b"A1", b"A1"), image(3, 2, b"~"), image(3, 5, b"ab"), image(4, 0)],
-    [segment(0, b"A1"), image(3, 0), segment(1, b"A1")], [segment(0, b"A"), segment(0, b"B"), segment(0, b"B")],
+    [segment(0, b"A1"), segment(0, b"A1")], [segment(1, b"A1"), segment(0, b"A2")],
+    [segment(0, b"A2"), segment(1, b"A1")], [segment(0, b"A"), segment(0, b"A1")],
+    [segment(0, b"A1"), segment(0, b"A")], [segment(0, b""), segment(0, b"\x00")],
+    [segment(0, b"\x7f"), segment(0, b"\x80")], [segment(0, b"\x80"), segment(0, b"\x7f")],
+    [segment(255, b"k" * 255, b"s" * 1000)], [image(3, 0, b"c")], [image(3, 0), image(3, 1)],
+    [image(3, 1), image(3, 0)], [image(3, 1), image(3, 1)], [image(4, 0), image(3, 1)], [image(3, 9), image(4, 0)],
+    [image(3, 255), image(3, 256)], [image(3, 256), image(3, 255)],
+    [image(0, 0), image(65_535, 2**64 - 1, b"\x00" * 4096)], [segment(0, b"A1"), image(3, 0)],
+    [image(3, 0), segment(0, b"A1")], [segment(9, b"A1"), image(0, 0), image(0, 1)],
+    [segment(0, b"A1", b"A1z"), segment(0, b"A2"), segment(1, b"A1", b"A1"), image(3, 2, b"~"), image(3, 5, b"ab"),
+    image(4, 0)], [segment(0, b"A1"), image(3, 0), segment(1, b"A1")],
+    [segment(0, b"A"), segment(0, b"B"), segment(0, b"B")], [piece(4, 4, 69, b"OB")], [piece(0, 0, 0)],
+    [piece(65_535, 2**64 - 1, 65_535, b"x" * 65_535)], [piece(3, 0, 0, b"")], [piece(3, 0, 32, b"\x00")],
+    [piece(3, 0, 1), piece(3, 1, 0)], [piece(3, 1, 0), piece(3, 0, 1)], [piece(3, 1, 0), piece(3, 1, 0)],
+    [piece(3, 1, 0), piece(3, 1, 9)], [piece(3, 1, 9), piece(3, 1, 0)], [piece(3, 9, 0), piece(4, 0, 0)],
+    [piece(4, 0, 0), piece(3, 9, 0)], [piece(3, 255, 0), piece(3, 256, 0)], [piece(3, 256, 0), piece(3, 255, 0)],
+    [piece(3, 0, 5), image(3, 1)], [image(3, 0), piece(3, 1, 5)], [image(3, 1), piece(3, 0, 5)],
+    [piece(3, 1, 5), image(3, 0)], [image(3, 1), piece(3, 1, 5)], [piece(3, 1, 5), image(3, 1)],
+    [piece(3, 1, 5), image(4, 0)], [image(4, 0), piece(3, 1, 5)], [segment(0, b"A1"), piece(3, 0, 0)],
+    [piece(3, 0, 0), segment(0, b"A1")], [segment(255, b"z"), piece(0, 0, 0), image(0, 1), piece(0, 2, 0)],
+    [piece(3, 0, 0), segment(9, b"A"), piece(3, 1, 0)], [image(3, 0), piece(3, 1, 0, b""), image(3, 2)],
+    [piece(3, 0, 0), image(3, 1), piece(3, 1, 1)],
+    [image(3, 0, b"i"), piece(3, 1, 32, b"ab"), image(3, 2, b"i"), piece(4, 0, 1, b"c"), image(5, 0)],
 ]
 
 
 def bodies():
     yield b""
-    yield from [DEPOSIT, REFUSED, DEPOSIT + REFUSED, REFUSED + DEPOSIT + REFUSED]
+    yield from [DEPOSIT, REFUSED, DEPOSIT + REFUSED, REFUSED + DEPOSIT + REFUSED, RENAMED, DEPOSIT + RENAMED]
     for outcome in OUTCOMES:
         yield entry(outcome)
-        yield entry(outcome, reply=b"R")
+        yield entry(outcome, line=b"", reply=b"R")
         yield entry(outcome, items=[segment(0, b"A1")])
         yield entry(outcome, items=[image(3, 0, b"i")])
+        yield entry(outcome, notes=[], items=[piece(3, 0, 32)])
     for items in ITEMS:
-        for outcome in [("done",), ("purge", 3, 1), ("unknown",)]:
+        for outcome in [("done",), ("purge", 3, 1)]:
             yield entry(outcome, items=items)
+    for outcome in [("unknown",), ("old", 3), ("repeat", b"T1 OK"), ("format",)]:
+        yield entry(outcome, line=b"")
+        yield entry(outcome, line=b"", notes=[])
+        yield entry(outcome, line=b"T1 5 X", notes=[1, 2])
+        yield entry(outcome) + entry(("old", 5)) + entry(outcome, 2**64 - 1)
+    yield entry(("repeat", b"r" * 65_535))
     for start in [0, 1, 255, 256, 2**32, 2**64 - 1]:
         yield entry(("unknown",), start)
     for count in [0, 1, 255, 256, 1000, 65_535]:
         yield entry(("done",), line=b"L" * count)
         yield entry(("done",), reply=b"R" * count)
-    for notes in [[], [0], [1, 2], [2, 1], [5, 5], [2**64 - 1], list(range(40)), [7] * 300]:
+    for notes in [[], [0], [1, 2], [2, 1], [5, 5], [2**64 - 1], list(range(10)), [7] * 60]:
         yield entry(("done",), notes=notes)
     yield from broken()
 
 
 def broken():
-    """Entries with a byte or a length changed, left out or added, between good ones."""
-    whole = entry(("done",), 1, b"T1 X", b"OK", [3], [segment(0, b"A1", b"A1z"), image(3, 2, b"~")])
-    wholes = [whole] + [entry(OUTCOMES[place]) for place in [1, 4, 7, 9, 16]]
-    for data in wholes:
+    """Entries with a byte or a length changed, left out or added."""
+    whole = entry(("done",), 1, b"T", b"R", [3], [segment(0, b"A", b"Az"), image(3, 2, b"~"), piece(3, 5, 9, b"a")])
+    repeated = entry(("repeat", b"T OK"), 2, b"T 5 X", notes=[])
+    details = [OUTCOMES[1], ("roll", 9), ("seqfull", 3, 1, 4, 2), ("deadlock", b"\x02\x01"), ("purge", 3, 2)]
+    shorts = [entry(outcome, 2, b"", notes=[]) for outcome in details]
+    shorts += [repeated, entry(("old", 5), 2, b"T"), entry(("format",), 9, b"", notes=[])]
+    for data in [whole] + shorts:
         for end in range(len(data)):
             yield data[:end]
         yield data + b"\x00"
     good = entry(("unknown",), 0, b"", b"", [])
-    for data in [DEPOSIT, whole]:
-        for place in range(len(data)):
-            for change in [1, -1]:
-                yield good + data[:place] + bytes([(data[place] + change) % 256]) + data[place + 1:] + good
-            # The length stays true to what is left, or to what was added.
-            if place >= 8:
-                for rest in [data[8:place] + data[place + 1:], data[8:place] + b"\x00" + data[place:]]:
-                    yield good + part(rest, 8) + good
+    yield from misspelled(whole)
+    yield from misspelled(repeated)
+    for data in [DEPOSIT[:-1] + b"\x0d", whole[:9] + b"\x01" + whole[10:], repeated[:16] + b"\x0c" + repeated[17:]]:
+        yield good + data + good
     for code in list(range(16)) + [127, 128, 254, 255]:
         yield number(8 + 1, 8) + number(7, 8) + number(code, 1)
-        plain = entry(("device",))
-        yield plain[:16] + number(code, 1) + plain[17:]
+        for plain in [entry(("device",)), repeated]:
+            yield plain[:16] + number(code, 1) + plain[17:]
+    for code in [0, 1, 2, 3, 4, 255]:
+        rest = entry(("done",), items=[])[8:-1] + b"\x01" + number(code, 1)
+        for data in [bytes(13), bytes(14) + b"\x01r", bytes(12) + b"\x01r", b"\x00\x01A\x00\x00"]:
+            yield part(rest + data, 8)
     for length in [2**63, 2**64 - 1, 2**32]:
         yield number(length, 8) + DEPOSIT[8:]
         yield DEPOSIT + number(length, 8)
+
+
+def misspelled(data):
+    """An entry with each of its bytes changed or left out, and with a zero before each other one."""
+    for place in range(len(data)):
+        for change in [1, -1]:
+            yield data[:place] + bytes([(data[place] + change) % 256]) + data[place + 1:]
+        # The length stays true to what is left, or to what was added.
+        if place >= 8:
+            yield part(data[8:place] + data[place + 1:], 8)
+            if place % 2:
+                yield part(data[8:place] + b"\x00" + data[place:], 8)
 
 
 def entry_line(data):
@@ -249,36 +311,44 @@ def log_line(defs, scripts, data):
 
 def logs():
     one, two, three = (entry(("unknown",), start, b"", b"", []) for start in range(3))
-    for defs, scripts in [(b"D", b""), (b"", b""), (b"", b"S"), (b"defs", b"scripts"), (b"\x00" * 300, b"x" * 70_000)]:
+    for data in [b"", front(b"d" * 300, b"s" * 70_000), front(b"d" * 300, b"s" * 70_000)[:-1]]:
+        yield b"d" * 300, b"s" * 70_000, data
+    for defs, scripts in [(b"D", b""), (b"", b""), (b"", b"S"), (b"defs", b"scripts"), (b"\x00" * 300, b"x" * 256)]:
         head = front(defs, scripts)
-        for data in [b"", head, head + b"\x00", head + group(one) + b"\x00", front(defs, scripts, 0), head[:-1], front(scripts, defs)]:
+        for data in [b"", head, head + b"\x00", head + group(one) + b"\x00", front(defs, scripts, 0), head[:-1]]:
             yield defs, scripts, data
+        yield defs, scripts, front(scripts, defs)
         for place in range(min(len(head), 18)):
             yield defs, scripts, head[:place] + bytes([head[place] ^ 1]) + head[place + 1:]
-            yield defs, scripts, head[:place]
+            if place % 4 == 0:
+                yield defs, scripts, head[:place]
     head = front(b"D", b"")
     for tail in tails(one, two, three):
         yield b"D", b"", head + tail
 
 
 def tails(one, two, three):
-    groups = group(one) + group(two, three) + group(one, two, three)
+    groups = group(one) + group(two, three)
     for gate in list(range(6)) + [42, 49, 127, 128, 129, 254, 255]:
         yield number(gate, 1)
         yield group(one) + number(gate, 1)
         yield group(one) + group(two, gate=gate) + b"\x00"
     yield from (groups[:end] for end in range(len(groups) + 1))
-    yield from [groups + b"\x00", groups + b"\x02" + b"\x01" * 30, groups + b"\x00" + group(one), group(one, gate=0) + group(two)]
+    yield from [groups + b"\x00", groups + b"\x02" + b"\x01" * 30, groups + b"\x00" + group(one)]
+    yield group(one, gate=0) + group(two)
     # A length of 0, one that passes the end, one that is less or more than the entries.
     for length in [0, 1, 28, 29, 30, 58, 2**32, 2**62, 2**63, 2**64 - 1]:
         yield b"\x01" + number(length, 8) + one + b"\x00"
         yield group(one) + b"\x01" + number(length, 8) + two + three
-    for data in [b"", b"\x00" * 8, DEPOSIT, REFUSED, DEPOSIT + REFUSED, DEPOSIT[:-1], DEPOSIT + b"\x00", REFUSED + DEPOSIT[:40]]:
+    numbered = [entry(("format",), 1, b"", notes=[]), entry(("old", 5), 2), entry(("repeat", b"T1 OK"), 3), RENAMED]
+    yield group(one) + group(*numbered[:2]) + group(*numbered[2:]) + b"\x00"
+    wholes = [b"\x00" * 8, DEPOSIT, REFUSED, DEPOSIT + REFUSED]
+    for data in wholes + [b"", DEPOSIT[:-1], DEPOSIT + b"\x00", REFUSED + DEPOSIT[:40]]:
         yield group(data)
         yield group(data) + b"\x00"
         yield group(one) + group(data) + group(two) + b"\x00"
     draws = Draws(51)
-    for _ in range(60):
+    for _ in range(30):
         place = draws.below(len(groups))
         yield groups[:place] + number(draws.below(256), 1) + groups[place + 1:] + b"\x00"
 

@@ -137,14 +137,15 @@ def reads():
     # Each byte of the head, and of the numbers of control.
     for kind in range(1, 6):
         whole = interval(kind, []) if kind in TILED else head(kind) + bytes(480)
-        for place in list(range(1, 70)) + [510, 511]:
+        for place in list(range(1, 40)) + [47, 48, 56, 63, 64, 65, 510, 511]:
             for byte in [1 if place % 2 else 255]:
                 yield whole[:place] + bytes([byte]) + whole[place + 1:]
     # Each byte of the elements' fronts.
     two = interval(BASE, [(12, 7, b"abcdefgh"), (20, None), (16, 255, b"x")])
-    for whole, places in [(usual, [32, 33, 34, 35, 36, 43, 44, 45, 46, 47, 48, 511]), (two, [32, 33, 34, 35, 44, 45, 46, 47, 64, 65, 66, 67, 80, 81, 82, 83])]:
+    fronts = [32, 33, 34, 35, 44, 45, 46, 47, 64, 65, 66, 67, 80, 81, 82, 83]
+    for whole, places in [(usual, fronts[:8] + [36, 43, 48, 511]), (two, fronts)]:
         for place in places:
-            for byte in [0, 1, 2, 3, 4, 8, 12, 13, 16, 20, 32, 208, 212, 255]:
+            for byte in [0, 1, 2, 4, 16, 255]:
                 yield whole[:place] + bytes([byte]) + whole[place + 1:]
     for size in SIZES:
         yield interval(BASE, [(4, 1)] * ((size - 32) // 4), size)
@@ -164,23 +165,29 @@ def reads():
 def steps():
     usual = interval(BASE, [])
     rows = [
-        [("take", 10), ("take", 20), ("take", 437), ("take", 436), ("take", 0)], [("take", 4), ("take", 4), ("take", 4), ("free", 32), ("free", 48), ("free", 40)],
-        [("take", 5), ("type", 32, 3), ("type", 33, 3), ("free", 44), ("free", 65_535)], [("take", 65_535)], [("free", 32)], [("free", 0), ("free", 31)],
-        [("take", 8), ("free", 32), ("free", 32)], [("take", 8), ("take", 8), ("free", 32), ("take", 4), ("take", 8)], [("take", 0)] * 121,
-        [("take", 476), ("free", 32), ("take", 475)], [("take", 477)], [("take", 473), ("free", 32), ("take", 0), ("take", 472)],
+        [("take", 10), ("take", 20), ("take", 437), ("take", 436), ("take", 0)],
+        [("take", 4), ("take", 4), ("take", 4), ("free", 32), ("free", 48), ("free", 40)],
+        [("take", 5), ("type", 32, 3), ("type", 33, 3), ("free", 44), ("free", 65_535)], [("take", 65_535)],
+        [("free", 32)], [("free", 0), ("free", 31)], [("take", 8), ("free", 32), ("free", 32)],
+        [("take", 8), ("take", 8), ("free", 32), ("take", 4), ("take", 8)],
+        [("take", 0)] * 4 + [("take", 460), ("take", 0), ("take", 0)], [("take", 476), ("free", 32), ("take", 475)],
+        [("take", 477)], [("take", 473), ("free", 32), ("take", 0), ("take", 472)],
     ]
-    rows += [[("take", length), ("take", 0)] for length in [0, 1, 2, 3, 4, 5, 7, 8, 9, 467, 468, 469, 472, 473, 475, 476, 477, 480]]
-    for row in rows:
+    lengths = [0, 1, 2, 3, 4, 5, 7, 8, 9, 467, 468, 469, 472, 473, 475, 476, 477, 480]
+    rows += [[("take", length), ("take", 0)] for length in lengths]
+    for place, row in enumerate(rows):
         yield usual, row
-        yield interval(DEPENDENT, [(16, 4, b"abc"), (24, None), (12, 200, b"\xff" * 8)]), row
+        if place % 2 == 0 or place < 12:
+            yield interval(DEPENDENT, [(16, 4, b"abc"), (24, None), (12, 200, b"\xff" * 8)]), row
     for kind in [CONTROL, SEQUENTIAL]:
         yield head(kind) + bytes(480), [("take", 0), ("free", 32), ("type", 32, 1)]
     for size in SIZES:
-        yield interval(INDEPENDENT, [], size), [("take", size - 36), ("free", 32), ("take", size - 40), ("take", 0), ("free", 32)]
+        row = [("take", size - 36), ("free", 32), ("take", size - 40), ("take", 0), ("free", 32)]
+        yield interval(INDEPENDENT, [], size), row
         yield interval(INDEPENDENT, [], size), [("take", size - 35), ("take", size - 41), ("take", 0), ("take", 0)]
     draws = Draws(61)
     for size in [512, 512, 1024, 4096]:
-        for _ in range(50):
+        for _ in range(12):
             yield interval(draws.one_of(TILED), drawn_tiles(draws), size), drawn_steps(draws, size)
 
 

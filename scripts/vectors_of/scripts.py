@@ -26,7 +26,9 @@ class Definitions:
 
     def __init__(self, tables):
         self.msdbs = {one["name"]: fields_of(one) for one in tables.get("msdb", [])}
-        self.dedbs = {one["name"]: {type_["name"]: fields_of(type_) for type_ in one["segment"]} for one in tables.get("dedb", [])}
+        self.dedbs = {}
+        for one in tables.get("dedb", []):
+            self.dedbs[one["name"]] = {segment["name"]: fields_of(segment) for segment in one["segment"]}
         self.fields = {field for fields in self.msdbs.values() for field in fields}
         self.fields |= {field for types in self.dedbs.values() for fields in types.values() for field in fields}
 
@@ -156,7 +158,8 @@ class Line:
     def statement(self):
         word = self.tokens.take("word")
         makers = {
-            "TRAN": self.begin, "SET": self.set, "IF": self.choice, "REPEAT": self.loop, "REPLY": self.reply, "ROLB": self.roll,
+            "TRAN": self.begin, "SET": self.set, "IF": self.choice, "REPEAT": self.loop, "REPLY": self.reply,
+            "ROLB": self.roll,
             "FLD": self.field_call, "ISRT": self.insert, "REPL": self.replace, "DLET": self.delete,
         }
         if word in GETS:

@@ -13,13 +13,13 @@ def runs(data):
 
 
 def of_bytes(data):
-    """Bytes as parts: a run of 8 or more of one byte as a part with a count, all else as parts without."""
+    """Bytes as parts: a run of 5 or more of one byte as a part with a count, all else as parts without."""
     if not data:
         return "-"
     parts = []
     is_open = False
     for byte, count in runs(data):
-        if count >= 8:
+        if count >= 5:
             parts.append(f"{count}*{byte:02x}")
             is_open = False
         elif is_open:

@@ -4,13 +4,14 @@
 //!
 //!     ENTRY  = from OUTCOME line reply notes ITEM ..
 //!     ITEM   = "segment" database key segment | "image" data set interval bytes
+//!            | "range" data set interval place bytes
 //!
 //! What is read is written again too.
 ghost use Rattle.fp_model.specs.LogText.{body_text};
 ghost use Rattle.std.specs.Prelude.{◌≡◌, IfOk};
 
 use crate::fault::CaseFault;
-use crate::texts::{bytes_of, put_bytes};
+use crate::texts::{bytes_of, put_bytes, put_words};
 use fp_model::{Bytes, Entry, Item, List, Outcome};
 use log_format::{FormatFault, entries, put_entry};
 use std::alloc::{AllocError, Global};
@@ -101,13 +102,14 @@ fn put_outcome(alloc: Global, text: &mut Vec<u8>, outcome: &Outcome) -> Result<(
         Outcome::Device => text.extend_from_slice(b" device"),
         Outcome::Memory => text.extend_from_slice(b" memory"),
         Outcome::Unknown => text.extend_from_slice(b" unknown"),
+        Outcome::Old(last) => put_words(text, &format!(in alloc; " old {last}")?),
+        Outcome::Repeat(line) => {
+            text.extend_from_slice(b" repeat")?;
+            put_part(alloc, text, line)
+        }
+        Outcome::Format => text.extend_from_slice(b" format"),
         Outcome::Purge { set, n } => put_words(text, &format!(in alloc; " purge {set} {n}")?),
     }
-}
-
-// Appends words.
-fn put_words(text: &mut Vec<u8>, words: &str) -> Result<(), AllocError> {
-    text.extend_from_slice(words.as_bytes())
 }
 
 // Appends numbers behind a blank, with commas between them; a hyphen for none.
@@ -133,6 +135,10 @@ fn put_item(alloc: Global, text: &mut Vec<u8>, item: &Item) -> Result<(), AllocE
         }
         Item::Image { set, ci, bytes } => {
             put_words(text, &format!(in alloc; " image {set} {ci}")?)?;
+            put_part(alloc, text, bytes)
+        }
+        Item::Range { set, ci, at, bytes } => {
+            put_words(text, &format!(in alloc; " range {set} {ci} {at}")?)?;
             put_part(alloc, text, bytes)
         }
     }

@@ -5,6 +5,10 @@
 //! A group is the numbers from which its entries began, with commas between them, an `@` and the place of the gate
 //! behind it. The front has the two texts.
 
+ghost use Rattle.fp_model.specs.LogText.{FitsFront};
+ghost use Rattle.log_groups.specs.Images.{as_front};
+ghost use Rattle.std.specs.Prelude.{IfOk};
+
 use crate::fault::CaseFault;
 use crate::texts::bytes_of;
 use fp_model::{Bytes, Entry, List};
@@ -19,36 +23,35 @@ const LONGEST: usize = 4_294_967_295;
 pub(crate) fn answer(alloc: Global, input: &str) -> Result<Vec<u8>, CaseFault> {
     let (defs, rest) = input.split_once(' ').ok_or(CaseFault::Malformed)?;
     let (scripts, log) = rest.split_once(' ').ok_or(CaseFault::Malformed)?;
-    let front = Front {
-        format: 1,
-        defs: Bytes::from_vec(bytes_of(alloc, defs)?),
-        scripts: Bytes::from_vec(bytes_of(alloc, scripts)?),
-    };
+    let front = front_of(alloc, defs, scripts)?;
     let bytes = bytes_of(alloc, log)?;
     let most = bytes.len();
     let mut images = List::new(alloc);
     images.push(Bytes::from_vec(bytes))?;
     let snapshot = Snapshot::new(images, Bytes::new(alloc));
     let mut site = MemorySite::from_snapshot(alloc, snapshot, &[])?;
-    opened(alloc, &mut site, &front, most)
-}
-
-// The groups of a log with this front.
-fn opened(
-    alloc: Global,
-    site: &mut MemorySite,
-    front: &Front,
-    most: usize,
-) -> Result<Vec<u8>, CaseFault> {
-    if front.defs.len() > LONGEST || front.scripts.len() > LONGEST {
-        return Err(CaseFault::Malformed);
-    }
-    match Log::open(alloc, site, front) {
-        Ok(mut log) => groups_of(alloc, site, &mut log, most),
+    match Log::open(alloc, &mut site, &front) {
+        Ok(mut log) => groups_of(alloc, &mut site, &mut log, most),
         Err(LogFault::Foreign) => Ok(Vec::from_slice(alloc, b"foreign")?),
         Err(LogFault::Memory) => Err(CaseFault::Memory),
         Err(_) => Err(CaseFault::Malformed),
     }
+}
+
+// The front of these texts, in the format that has no numbers of messages.
+fn front_of(alloc: Global, defs: &str, scripts: &str) -> Result<Front, CaseFault>
+    ensures { IfOk result (λ front. FitsFront (as_front front)) }
+{
+    let defs = bytes_of(alloc, defs)?;
+    let scripts = bytes_of(alloc, scripts)?;
+    if defs.len() > LONGEST || scripts.len() > LONGEST {
+        return Err(CaseFault::Malformed);
+    }
+    Ok(Front {
+        format: 1,
+        defs: Bytes::from_vec(defs),
+        scripts: Bytes::from_vec(scripts),
+    })
 }
 
 // The groups of a log, of which there are fewer than it has bytes, and where they end.

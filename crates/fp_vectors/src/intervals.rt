@@ -39,11 +39,11 @@ pub(crate) fn answer(alloc: Global, input: &str) -> Result<Vec<u8>, CaseFault> {
 // Whether bytes are an interval, which has them all.
 fn read(alloc: Global, text: &str) -> Result<Vec<u8>, CaseFault> {
     let bytes = bytes_of(alloc, text)?;
-    let word: &[u8] = match Interval::read(alloc, &bytes)? {
-        Some(interval) if interval.whole() == bytes.as_slice() => b"yes",
-        Some(_) => b"others",
-        None => b"no",
+    let Some(interval) = Interval::read(alloc, &bytes)? else {
+        return Ok(Vec::from_slice(alloc, b"no")?);
     };
+    let is_same = interval.whole() == bytes.as_slice();
+    let word: &[u8] = if is_same { b"yes" } else { b"others" };
     Ok(Vec::from_slice(alloc, word)?)
 }
 

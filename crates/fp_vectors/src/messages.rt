@@ -1,14 +1,17 @@
 //! Message lines, and the lines that terminals are sent.
 //!
 //!     message LINE => TERMINAL TRANSACTION TEXT | no terminal | no transaction | too long | not ascii
+//!     numbered LINE => TERMINAL [NUMBER] TRANSACTION TEXT | a fault as above
 //!     terminal LINE => TERMINAL | none
 //!
 //!     OUTCOME / LINE / REPLY => LINE
 //!
-//! Of a message the text stands in full behind one blank, also where it is empty.
+//! A line behind `message` is read in format 1, one behind `numbered` in format 2. Of a message the text stands in full
+//! behind one blank, also where it is empty. Some outcomes have what is told behind their word: `roll CODE`, `old
+//! NUMBER`, and `repeat BYTES`.
 
 use crate::fault::CaseFault;
-use crate::texts::{bytes_of, number_of, trimmed, unescaped};
+use crate::texts::{bytes_of, number_of, put_words, trimmed, unescaped};
 use fp_messages::{MessageFault, read_message, reply_line, terminal_of};
 use fp_model::{Bytes, Entry, List, Message, Outcome};
 use std::alloc::{AllocError, Global};
@@ -95,14 +98,25 @@ fn outcome_of(alloc: Global, text: &str) -> Result<Outcome, CaseFault> {
         "device" => Ok(Outcome::Device),
         "memory" => Ok(Outcome::Memory),
         "unknown" => Ok(Outcome::Unknown),
+        "format" => Ok(Outcome::Format),
         "purge" => Ok(Outcome::Purge { set: 3, n: 1 }),
-        _ => roll_of(text),
+        _ => telling_of(alloc, text),
+    }
+}
+
+// An outcome with what it tells behind its word.
+fn telling_of(alloc: Global, text: &str) -> Result<Outcome, CaseFault> {
+    let (word, told) = text.split_once(' ').ok_or(CaseFault::Malformed)?;
+    match word {
+        "roll" => roll_of(told),
+        "old" => Ok(Outcome::Old(number_of(told)?)),
+        "repeat" => Ok(Outcome::Repeat(Bytes::from_vec(bytes_of(alloc, told)?))),
+        _ => Err(CaseFault::Malformed),
     }
 }
 
 // A rollback with its code.
-fn roll_of(text: &str) -> Result<Outcome, CaseFault> {
-    let digits = text.strip_prefix("roll ").ok_or(CaseFault::Malformed)?;
+fn roll_of(digits: &str) -> Result<Outcome, CaseFault> {
     match u16::try_from(number_of(digits)?) {
         Ok(code) => Ok(Outcome::Roll(code)),
         Err(_) => Err(CaseFault::Malformed),

@@ -10,7 +10,7 @@ use crate::fault::CaseFault;
 use std::alloc::{AllocError, Global};
 
 // How often a byte stands, at the least, to be written with a count.
-const LEAST_RUN: usize = 8;
+const LEAST_RUN: usize = 5;
 
 /// The bytes that a text of a file names.
 pub(crate) fn bytes_of(alloc: Global, text: &str) -> Result<Vec<u8>, CaseFault> {
@@ -70,6 +70,11 @@ fn behind_escape<'a>(
     Ok(rest)
 }
 
+/// Appends words.
+pub(crate) fn put_words(text: &mut Vec<u8>, words: &str) -> Result<(), AllocError> {
+    text.extend_from_slice(words.as_bytes())
+}
+
 // What stands last in the parts of bytes.
 #[derive(Clone, Copy, Debug, PartialEq, Eq)]
 enum Last {
@@ -78,7 +83,7 @@ enum Last {
     Counted,
 }
 
-/// Bytes as a text of a file: a run of 8 or more of one byte as a part with a count, all else as parts without.
+/// Bytes as a text of a file: a run of 5 or more of one byte as a part with a count, all else as parts without.
 pub(crate) fn put_bytes(alloc: Global, text: &mut Vec<u8>, bytes: &[u8]) -> Result<(), AllocError> {
     let Some((first, rest)) = bytes.split_first() else {
         return text.extend_from_slice(b"-");
