@@ -253,7 +253,7 @@ impl DataSet {
         Ok(())
     }
 
-    // Its file, which is made.
+    // Its file, which is made. None is made to be looked at.
     fn made<R: Files<File = File>>(
         &mut self,
         folder: &Folder<'_, R>,
@@ -265,6 +265,10 @@ impl DataSet {
         ensures ahead { self.new.ahead ≡ self.old.ahead }
         ensures access { self.new.access ≡ self.old.access }
     {
+        if self.access != Access::Change {
+            let error = io::ErrorKind::PermissionDenied.into();
+            return Err(failed(set, Call::Open, error));
+        }
         match make(folder, &mut self.calls, set) {
             Ok(file) => {
                 self.has_durable_name = false;

@@ -65,13 +65,23 @@ pub(crate) fn rewrite(alloc: Global, file: &File, calls: &mut Record, length: u6
 // Reads a file of this length block by block, and writes each block back where it was.
 fn write_back(alloc: Global, file: &File, length: u64) -> io::Result<()> {
     let mut bytes = vec![in alloc; 0u8; BLOCK as usize]?;
+    write_blocks(file, length, &mut bytes)
+}
+
+// The same, through a buffer of a block.
+fn write_blocks(file: &File, length: u64, bytes: &mut [u8]) -> io::Result<()> {
     for block in 0..=length / BLOCK {
-        let at = block.saturating_mul(BLOCK);
-        let count = length.saturating_sub(at).min(BLOCK) as usize;
-        file.read_exact_at(&mut bytes[..count], at)?;
-        file.write_all_at(&bytes[..count], at)?;
+        write_block(file, length, block.saturating_mul(BLOCK), bytes)?;
     }
     Ok(())
+}
+
+// Reads the block at offset `at`, or what is left of the file there, and writes it back.
+fn write_block(file: &File, length: u64, at: u64, bytes: &mut [u8]) -> io::Result<()> {
+    let count = length.saturating_sub(at).min(bytes.len() as u64) as usize;
+    let bytes = &mut bytes[..count];
+    file.read_exact_at(bytes, at)?;
+    file.write_all_at(bytes, at)
 }
 
 /// Syncs the folder.
