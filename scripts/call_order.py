@@ -5,7 +5,7 @@ import subprocess
 import sys
 
 program, folder = sys.argv[1], sys.argv[2]
-TRACED = "open,openat,flock,fsync,fdatasync,fadvise64,read,pread64,write,pwrite64,ftruncate,close"
+TRACED = "open,openat,flock,fsync,fdatasync,read,pread64,write,pwrite64,ftruncate,close"
 BLOCK = 65536
 SITE_FAULT = 6
 # So many that the log is longer than a block.
