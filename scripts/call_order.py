@@ -1,10 +1,15 @@
 """Traces `PROGRAM define FOLDER` and `PROGRAM run FOLDER`, and checks the order of their calls of the system."""
+import os
 import re
 import subprocess
 import sys
 
 program, folder = sys.argv[1], sys.argv[2]
-TRACED = "open,openat,flock,fsync,fdatasync,fadvise64,read,pread64,write,pwrite64,ftruncate,close"
+TRACED = "open,openat,flock,fsync,fdatasync,read,pread64,write,pwrite64,ftruncate,close"
+BLOCK = 65536
+SITE_FAULT = 6
+# So many that the log is longer than a block.
+MESSAGES = 1000
 CALL = re.compile(r"^(?:\d+ +)?(\w+)\((.*)\) += (-?\d+)")
 
 
@@ -45,11 +50,11 @@ class Watch:
             self.did.append(self.word(call, text, name))
 
     def word(self, call, text, name):
-        """The call, the file's own name, and of a write its length and place."""
+        """The call, the file's own name, and of a read or write at a place its length and place."""
         name = "." if name == folder else name.removeprefix(f"{folder}/")
-        if call == "pwrite64":
+        if call in ("pread64", "pwrite64"):
             length, place = (int(part) for part in text.split(", ")[-2:])
-            return ("pwrite64", name, length, place)
+            return (call, name, length, place)
         if call == "flock":
             return ("flock", name, "LOCK_EX" in text and "LOCK_NB" in text)
         return (call, name)
@@ -60,12 +65,19 @@ def index(did, word, start=0):
     return did.index(word, start)
 
 
-def check_opening(did):
-    """The lock comes before all else on the log, then a sync and the advice before anything is read."""
+def check_opening(did, length):
+    """The lock comes before all else on a log of this length. Then each block is read and written back, and the log is
+    synced. What was done behind that."""
     log = [n for n, word in enumerate(did) if word[1] == "log"]
     assert index(did, ("flock", ".", True)) < log[0], "the log is used before the lock"
-    first = [did[n][0] for n in log[:2]]
-    assert first == ["fsync", "fadvise64"], f"the log isn't settled first: {first}"
+    wanted = []
+    for place in range(0, length, BLOCK):
+        count = min(BLOCK, length - place)
+        wanted += [("pread64", "log", count, place), ("pwrite64", "log", count, place)]
+    wanted.append(("fsync", "log"))
+    settled = log[:len(wanted)]
+    assert [did[n] for n in settled] == wanted, "the log isn't rewritten and synced first"
+    return did[settled[-1] + 1:]
 
 
 def check_groups(did):
@@ -98,21 +110,40 @@ def check_making(did):
     assert ("fsync", ".") in did[:gate], "the folder isn't synced before the gate"
 
 
+def check_fault(call, word):
+    """The first such call on the log fails: that is a fault of the site, which names the call, and nothing is sent."""
+    line = ["strace", "-f", "-o", "/dev/null", "-P", f"{folder}/log", "-e", f"inject={call}:error=EIO:when=1"]
+    ran = subprocess.run(line + [program, "run", folder], capture_output=True)
+    assert ran.returncode == SITE_FAULT and ran.stdout == b"", f"{call} that fails: {ran}"
+    wanted = f"{folder}/log: {word}: "
+    assert wanted in ran.stderr.decode(), f"{call} that fails: {ran.stderr}"
+
+
+def log_bytes():
+    with open(os.path.join(folder, "log"), "rb") as log:
+        return log.read()
+
+
 with open(f"{folder}/messages.txt", "w", encoding="ascii") as messages:
-    messages.writelines(f"T{n} DEPOSIT A001 1\n" for n in range(100))
+    messages.writelines(f"T{n} DEPOSIT A001 1\n" for n in range(MESSAGES))
 made, _ = trace("define")
 did = Watch(made).did
 assert index(did, ("flock", ".", True)) == 0 or ("pwrite64", "log") not in [word[:2] for word in did[:1]]
 check_making(did)
 assert check_groups(did) == 1, "more than one write of a front"
+stood = log_bytes()
 again, _ = trace("define")
-check_opening(Watch(again).did)
+check_opening(Watch(again).did, len(stood))
+assert log_bytes() == stood, "a log that stood was changed"
+for call, word in (("pread64", "rewrite"), ("pwrite64", "rewrite"), ("fsync", "sync")):
+    check_fault(call, word)
+    assert log_bytes() == stood, "a log that stood was changed"
 for _ in range(2):
+    length = len(log_bytes())
     served, sent = trace("run")
-    assert sent.count(b"\n") == 100, "a reply is missing"
-    did = Watch(served).did
-    check_opening(did)
+    assert sent.count(b"\n") == MESSAGES, "a reply is missing"
+    check_replies(Watch(served).did)
+    did = check_opening(Watch(served).did, length)
     groups = check_groups(did)
-    check_replies(did)
     reads = sum(word[0] == "pread64" for word in did)
     print(f"call-order: {groups} groups written, {reads} reads of the log: in order")

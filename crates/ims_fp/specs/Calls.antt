@@ -6,8 +6,8 @@ pub data HostCall : Type 0 where
   Wrote : HostCall
   -- the file was synced, and the system answered Ok
   Synced : HostCall
-  -- what the system keeps of the file in memory was dropped
-  Forgot : HostCall
+  -- each byte of the file was read and written back where it was
+  Rewrote : HostCall
   -- the folder was synced, and the system answered Ok
   FolderSynced : HostCall
   -- the file was made
@@ -18,7 +18,7 @@ abbrev pub call_of : List ℕ → HostCall
 call_of numbers =
     if slice_index numbers 0 == 0 then Wrote else
     if slice_index numbers 0 == 1 then Synced else
-    if slice_index numbers 0 == 2 then Forgot else
+    if slice_index numbers 0 == 2 then Rewrote else
     if slice_index numbers 0 == 3 then FolderSynced else
     Made
 
@@ -27,7 +27,7 @@ abbrev pub is_synced : List HostCall → Bool
 is_synced [] = false
 is_synced (Synced ∷ earlier) = true
 is_synced (Wrote ∷ earlier) = false
-is_synced (Forgot ∷ earlier) = is_synced earlier
+is_synced (Rewrote ∷ earlier) = false
 is_synced (FolderSynced ∷ earlier) = is_synced earlier
 is_synced (Made ∷ earlier) = is_synced earlier
 
@@ -38,18 +38,18 @@ is_named (FolderSynced ∷ earlier) = true
 is_named (Made ∷ earlier) = false
 is_named (Wrote ∷ earlier) = is_named earlier
 is_named (Synced ∷ earlier) = is_named earlier
-is_named (Forgot ∷ earlier) = is_named earlier
+is_named (Rewrote ∷ earlier) = is_named earlier
 
--- whether the first of some calls is a sync of the file
-abbrev pub begins_synced : List HostCall → Bool
-begins_synced (Synced ∷ earlier) = true
-begins_synced calls = false
+-- whether the newest of some calls rewrote the file
+abbrev pub begins_rewritten : List HostCall → Bool
+begins_rewritten (Rewrote ∷ earlier) = true
+begins_rewritten calls = false
 
--- whether the file was made here, or was dropped from memory directly behind a sync
+-- whether the file was made here, or was rewritten and directly behind that synced
 abbrev pub is_settled : List HostCall → Bool
 is_settled [] = false
 is_settled (Made ∷ earlier) = true
-is_settled (Forgot ∷ earlier) = begins_synced earlier || is_settled earlier
+is_settled (Synced ∷ earlier) = begins_rewritten earlier || is_settled earlier
 is_settled (Wrote ∷ earlier) = is_settled earlier
-is_settled (Synced ∷ earlier) = is_settled earlier
+is_settled (Rewrote ∷ earlier) = is_settled earlier
 is_settled (FolderSynced ∷ earlier) = is_settled earlier

@@ -14,8 +14,8 @@ pub(crate) enum Call {
     Read,
     Write,
     Sync,
-    /// Dropping what the system keeps in memory.
-    Forget,
+    /// Reading all bytes and writing them back.
+    Rewrite,
 }
 
 /// What a call was made on.
@@ -44,7 +44,7 @@ impl fmt::Display for Call {
             Call::Read => "read",
             Call::Write => "write",
             Call::Sync => "sync",
-            Call::Forget => "forget",
+            Call::Rewrite => "rewrite",
         })
     }
 }

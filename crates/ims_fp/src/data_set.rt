@@ -1,17 +1,19 @@
 //! The file of a data set.
 //!
 //! The file is looked for when it is first needed. While there is none, the data set is empty. A file that is there is
-//! settled as it is opened: it is synced, and what the system keeps of it in memory is dropped, so that what is read
-//! comes from the disk. Else bytes that an earlier program wrote and could not make durable might be read as if they
-//! were there, since the system tells that once and then forgets it.
+//! settled as it is opened to be changed: each byte is read and written back where it was, and then the file is synced,
+//! so that what is read is on the disk. Else bytes that an earlier program wrote and could not make durable might be
+//! read as if they were there, since the system tells that once and then takes them for written. A file that is only
+//! looked at stays as it is: what is read of it may be lost with the power.
 //!
-//! A sync that failed loses the data set: each later call on it fails.
-ghost use Rattle.std.specs.Prelude.{◌≡◌, ◌⊎◌, ◌++◌, ◌∷◌, ◌≤◌, ◌+◌, ◌^◌, [], IfOk, IsErr, IsSome, OnErr, OnOk, codes, false, length, true};
+//! A sync or a rewrite that failed loses the data set: each later call on it fails.
+ghost use Rattle.std.specs.Prelude.{◌≡◌, ◌++◌, ◌∷◌, ◌≤◌, ◌+◌, ◌^◌, [], IfOk, IsErr, IsSome, OnErr, OnOk, codes, false, length, true};
 ghost use Rattle.std.specs.Fmt.{decimal};
 ghost use Rattle.std.specs.String.{string_bytes};
 ghost use Rattle.ims_fp.specs.Calls.{is_named, is_settled, is_synced};
-ghost use Rattle.ims_fp.specs.Calls.HostCall.{Forgot, Made, Synced};
+ghost use Rattle.ims_fp.specs.Calls.HostCall.{Made, Rewrote, Synced};
 ghost use Rattle.ims_fp.specs.Files.{data_set_name};
+ghost use Rattle.ims_fp.specs.declared.folder.Access.{Access};
 
 use crate::ahead::Ahead;
 use crate::cause::{Call, Cause, Place};
@@ -29,6 +31,7 @@ const MOST_BYTES: u64 = 1 << 62;
 /// A data set.
 #[derive(Drop)]
 pub(crate) struct DataSet {
+    access: Access,
     file: Option<File>,
     // The length of the file, where it is known. Nobody else changes it while the folder is locked.
     length: Option<u64>,
@@ -36,12 +39,13 @@ pub(crate) struct DataSet {
     ahead: Ahead,
     // Whether the folder was synced since the file was opened, made or found absent.
     has_durable_name: bool,
-    // Whether a sync failed. The system forgets what it couldn't write, so a later one would promise too much.
+    // Whether a sync or a rewrite failed. The system forgets what it couldn't write, so a later sync would promise too
+    // much.
     is_lost: bool,
     // What was asked of the system.
     calls: Record,
-    // Its file was made here, or synced and then dropped from memory.
-    ghost settled: { IsSome file → is_settled calls.events ≡ true },
+    // Its file was made here, or rewritten and then synced, where it may be changed.
+    ghost settled: { access ≡ Access.Change → IsSome file → is_settled calls.events ≡ true },
     // Where its name is durable, the folder was synced, and since then no file was made.
     ghost named: { has_durable_name ≡ true → is_named calls.events ≡ true },
 }
@@ -69,8 +73,11 @@ fn area_name(alloc: Global, set: u16) -> Result<String, AllocError>
 
 impl DataSet {
     /// One whose file wasn't looked for.
-    pub(crate) fn new(alloc: Global) -> DataSet {
+    pub(crate) fn new(alloc: Global, access: Access) -> DataSet
+        ensures { result.access ≡ access }
+    {
         DataSet {
+            access,
             file: None,
             length: None,
             ahead: Ahead::new(alloc),
@@ -84,14 +91,14 @@ impl DataSet {
     pub(crate) fn size<R: Files<File = File>>(
         &mut self,
         folder: &Folder<'_, R>,
-        access: Access,
         set: u16,
     ) -> Result<u64, Cause>
         ensures bound { IfOk result (λ n. n ≤ 2 ^ 62) }
         ensures refused { self.old.is_lost ≡ true → IsErr result }
         ensures lost { self.old.is_lost ≡ true → self.new.is_lost ≡ true }
+        ensures access { self.new.access ≡ self.old.access }
     {
-        self.find(folder, access, set)?;
+        self.find(folder, set)?;
         let length = match (self.length, &self.file) {
             (Some(length), _) => length,
             (None, Some(file)) => length_of(file, set)?,
@@ -119,15 +126,15 @@ impl DataSet {
     pub(crate) fn read_at<R: Files<File = File>>(
         &mut self,
         folder: &Folder<'_, R>,
-        access: Access,
         set: u16,
         at: u64,
         into: &mut [u8],
     ) -> Result<(), Cause>
         ensures refused { self.old.is_lost ≡ true → IsErr result }
         ensures lost { self.old.is_lost ≡ true → self.new.is_lost ≡ true }
+        ensures access { self.new.access ≡ self.old.access }
     {
-        let length = self.size(folder, access, set)?;
+        let length = self.size(folder, set)?;
         let count = length.saturating_sub(at).min(into.len() as u64) as usize;
         if let Some(file) = &self.file {
             let answer = self.ahead.read(file, length, at, &mut into[..count]);
@@ -141,7 +148,6 @@ impl DataSet {
     pub(crate) fn write_at<R: Files<File = File>>(
         &mut self,
         folder: &Folder<'_, R>,
-        access: Access,
         set: u16,
         at: u64,
         from: &[u8],
@@ -150,9 +156,10 @@ impl DataSet {
         ensures forgets { self.new.ahead.bytes.items ≡ [] }
         ensures refused { self.old.is_lost ≡ true → IsErr result }
         ensures lost { self.old.is_lost ≡ true → self.new.is_lost ≡ true }
+        ensures access { self.new.access ≡ self.old.access }
     {
         self.ahead.clear();
-        self.find(folder, access, set)?;
+        self.find(folder, set)?;
         if from.is_empty() {
             return Ok(());
         }
@@ -172,15 +179,15 @@ impl DataSet {
     pub(crate) fn sync<R: Files<File = File>>(
         &mut self,
         folder: &Folder<'_, R>,
-        access: Access,
         set: u16,
     ) -> Result<(), Cause>
         ensures synced { OnOk result (IsSome self.new.file → is_synced self.new.calls.events ≡ true) }
         ensures named { OnOk result (self.new.has_durable_name ≡ true) }
         ensures failed { OnErr result (self.new.is_lost ≡ true) }
         ensures refused { self.old.is_lost ≡ true → IsErr result }
+        ensures access { self.new.access ≡ self.old.access }
     {
-        let answer = self.try_sync(folder, access, set);
+        let answer = self.try_sync(folder, set);
         self.is_lost = answer.is_err();
         answer
     }
@@ -188,14 +195,14 @@ impl DataSet {
     fn try_sync<R: Files<File = File>>(
         &mut self,
         folder: &Folder<'_, R>,
-        access: Access,
         set: u16,
     ) -> Result<(), Cause>
         ensures synced { OnOk result (IsSome self.new.file → is_synced self.new.calls.events ≡ true) }
         ensures named { OnOk result (self.new.has_durable_name ≡ true) }
         ensures refused { self.old.is_lost ≡ true → IsErr result }
+        ensures access { self.new.access ≡ self.old.access }
     {
-        self.find(folder, access, set)?;
+        self.find(folder, set)?;
         if let Some(file) = &self.file {
             let answer = host::sync(file, &mut self.calls);
             answer.map_err(|error| failed(set, Call::Sync, error))?;
@@ -209,15 +216,11 @@ impl DataSet {
     }
 
     // Opens its file and settles it, if there is one.
-    fn find<R: Files<File = File>>(
-        &mut self,
-        folder: &Folder<'_, R>,
-        access: Access,
-        set: u16,
-    ) -> Result<(), Cause>
+    fn find<R: Files<File = File>>(&mut self, folder: &Folder<'_, R>, set: u16) -> Result<(), Cause>
         ensures refused { self.old.is_lost ≡ true → IsErr result }
         ensures lost { self.old.is_lost ≡ true → self.new.is_lost ≡ true }
         ensures ahead { self.new.ahead ≡ self.old.ahead }
+        ensures access { self.new.access ≡ self.old.access }
     {
         if self.is_lost {
             return Err(lost(set));
@@ -225,10 +228,8 @@ impl DataSet {
         if self.file.is_some() {
             return Ok(());
         }
-        if let Some(file) = found(folder, access, set)? {
-            self.is_lost = true; // unless it is settled
-            settle(&file, &mut self.calls, set)?;
-            self.is_lost = false;
+        if let Some(file) = found(folder, self.access, set)? {
+            self.settle(folder.alloc(), &file, set)?;
             self.file = Some(file);
             self.length = None;
             self.has_durable_name = false;
@@ -236,7 +237,23 @@ impl DataSet {
         Ok(())
     }
 
-    // Its file, which is made.
+    // Rewrites and syncs a file that may be changed. One that is only looked at stays as it is.
+    fn settle(&mut self, alloc: Global, file: &File, set: u16) -> Result<(), Cause>
+        ensures settled { OnOk result (self.new.access ≡ Access.Change → is_settled self.new.calls.events ≡ true) }
+        ensures failed { OnErr result (self.new.is_lost ≡ true) }
+        ensures ahead { self.new.ahead ≡ self.old.ahead }
+        ensures access { self.new.access ≡ self.old.access }
+    {
+        if self.access == Access::Look {
+            return Ok(());
+        }
+        self.is_lost = true; // unless all is done
+        settle(alloc, file, &mut self.calls, set)?;
+        self.is_lost = false;
+        Ok(())
+    }
+
+    // Its file, which is made. None is made to be looked at.
     fn made<R: Files<File = File>>(
         &mut self,
         folder: &Folder<'_, R>,
@@ -246,7 +263,12 @@ impl DataSet {
         ensures named { OnOk result (self.new.has_durable_name ≡ false) }
         ensures lost { self.new.is_lost ≡ self.old.is_lost }
         ensures ahead { self.new.ahead ≡ self.old.ahead }
+        ensures access { self.new.access ≡ self.old.access }
     {
+        if self.access != Access::Change {
+            let error = io::ErrorKind::PermissionDenied.into();
+            return Err(failed(set, Call::Open, error));
+        }
         match make(folder, &mut self.calls, set) {
             Ok(file) => {
                 self.has_durable_name = false;
@@ -275,21 +297,26 @@ fn failed(set: u16, call: Call, error: io::Error) -> Cause {
     }
 }
 
-// A call on a data set that a failed sync lost.
+// A call on a data set that a failed sync or rewrite lost.
 fn lost(set: u16) -> Cause {
-    failed(set, Call::Sync, io::Error::other("a sync failed before"))
+    failed(
+        set,
+        Call::Sync,
+        io::Error::other("a sync or a rewrite failed before"),
+    )
 }
 
-// Makes durable what was written to a file, and drops what the system keeps of it in memory.
-fn settle(file: &File, calls: &mut Record, set: u16) -> Result<(), Cause>
-    ensures ok { OnOk result (calls.new.events ≡ Forgot ∷ Synced ∷ calls.old.events) }
-    ensures err { OnErr result ((calls.new.events ≡ calls.old.events)
-        ⊎ (calls.new.events ≡ Synced ∷ calls.old.events)) }
+// Writes the bytes of a file back where they are, and makes them durable.
+fn settle(alloc: Global, file: &File, calls: &mut Record, set: u16) -> Result<(), Cause>
+    ensures ok { OnOk result (calls.new.events ≡ Synced ∷ Rewrote ∷ calls.old.events) }
+    ensures settled { is_settled calls.old.events ≡ true → is_settled calls.new.events ≡ true }
+    ensures named { is_named calls.new.events ≡ is_named calls.old.events }
 {
+    let length = length_of(file, set)?;
+    let answer = host::rewrite(alloc, file, calls, length);
+    answer.map_err(|error| failed(set, Call::Rewrite, error))?;
     let answer = host::sync(file, calls);
-    answer.map_err(|error| failed(set, Call::Sync, error))?;
-    let answer = host::forget(file, calls);
-    answer.map_err(|error| failed(set, Call::Forget, error))
+    answer.map_err(|error| failed(set, Call::Sync, error))
 }
 
 // The length of a file.

@@ -118,7 +118,7 @@ impl<'a, R: Files<File = File>, W: Write + Drop> FileSite<'a, R, W> {
     {
         self.write_out()?;
         self.hold()?;
-        let answer = reach_set(self.folder.alloc(), &mut self.sets, set);
+        let answer = reach_set(self.folder.alloc(), self.access, &mut self.sets, set);
         answer.map_err(|error| failed(Place::DataSet(set), Call::Open, error.into()))
     }
 
@@ -129,7 +129,7 @@ impl<'a, R: Files<File = File>, W: Write + Drop> FileSite<'a, R, W> {
         ensures faults { self.new.faults ≡ self.old.faults }
     {
         self.begin(set)?;
-        self.sets[usize::from(set)].size(&self.folder, self.access, set)
+        self.sets[usize::from(set)].size(&self.folder, set)
     }
 
     fn try_reach(&mut self, set: u16) -> Result<(), Cause>
@@ -147,7 +147,7 @@ impl<'a, R: Files<File = File>, W: Write + Drop> FileSite<'a, R, W> {
         ensures faults { self.new.faults ≡ self.old.faults }
     {
         self.begin(set)?;
-        self.sets[usize::from(set)].read_at(&self.folder, self.access, set, at, into)
+        self.sets[usize::from(set)].read_at(&self.folder, set, at, into)
     }
 
     fn try_write(&mut self, set: u16, at: u64, from: &[u8]) -> Result<(), Cause>
@@ -157,7 +157,7 @@ impl<'a, R: Files<File = File>, W: Write + Drop> FileSite<'a, R, W> {
         ensures faults { self.new.faults ≡ self.old.faults }
     {
         self.begin(set)?;
-        self.sets[usize::from(set)].write_at(&self.folder, self.access, set, at, from)
+        self.sets[usize::from(set)].write_at(&self.folder, set, at, from)
     }
 
     fn try_sync(&mut self, set: u16) -> Result<(), Cause>
@@ -166,7 +166,7 @@ impl<'a, R: Files<File = File>, W: Write + Drop> FileSite<'a, R, W> {
         ensures faults { self.new.faults ≡ self.old.faults }
     {
         self.begin(set)?;
-        self.sets[usize::from(set)].sync(&self.folder, self.access, set)
+        self.sets[usize::from(set)].sync(&self.folder, set)
     }
 }
 
@@ -176,11 +176,16 @@ fn failed(place: Place, call: Call, error: io::Error) -> Cause {
 }
 
 // Lengthens the list of data sets, so that it has this one.
-fn reach_set(alloc: Global, sets: &mut Vec<DataSet>, set: u16) -> Result<(), AllocError>
+fn reach_set(
+    alloc: Global,
+    access: Access,
+    sets: &mut Vec<DataSet>,
+    set: u16,
+) -> Result<(), AllocError>
     ensures { OnOk result (set < vec_len sets.new) }
 {
     while sets.len() <= usize::from(set) {
-        sets.push(DataSet::new(alloc))?;
+        sets.push(DataSet::new(alloc, access))?;
     }
     Ok(())
 }

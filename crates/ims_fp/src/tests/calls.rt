@@ -101,6 +101,30 @@ fn what_was_written_is_not_read_from_an_older_block(rt: HostRuntime) -> Result<(
     Ok(())
 }
 
+// A file is rewritten by blocks of 65,536 bytes.
+const LENGTHS: [usize; 5] = [0, 1, 65_536, 65_537, 131_072];
+
+#[test]
+fn a_file_that_is_rewritten_holds_the_same_bytes(rt: HostRuntime) -> Result<(), Fail> {
+    fresh(&rt, "same")?;
+    let mut bytes = vec![in rt.alloc(); 0u8; 131_072]?;
+    for number in 0..131_072 {
+        bytes[number] = long_byte(number);
+    }
+    for length in LENGTHS {
+        let front = &bytes[..length.min(bytes.len())];
+        fs::write(&rt, "same/log", front)?;
+        let mut site = site_in(&rt, "same", Access::Change, "same/out")?;
+        goes(&rt, &mut site, 0, &[(Size, Length(length as u64))])?;
+        assert!(rt;
+            fs::read(&rt, "same/log")?.as_slice() == front,
+            "{length} bytes"
+        );
+    }
+    fs::remove_dir_all(&rt, "same")?;
+    Ok(())
+}
+
 #[test]
 fn sends_are_gathered_up_to_the_next_call(rt: HostRuntime) -> Result<(), Fail> {
     fresh(&rt, "sends")?;

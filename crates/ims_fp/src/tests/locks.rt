@@ -75,6 +75,8 @@ fn a_site_that_only_looks_writes_nothing(rt: HostRuntime) -> Result<(), Fail> {
     fs::write(&rt, "look/log", b"read".as_slice())?;
     let mut site = site_in(&rt, "look", Access::Look, "look/out")?;
     goes(&rt, &mut site, 0, &ONLY_READ)?;
+    goes(&rt, &mut site, 1, &[(Write(0, *b"abc"), Failed)])?;
+    assert!(rt; !fs::exists(&rt, "look/ckpt1")?);
     fs::remove_dir_all(&rt, "look")?;
     Ok(())
 }

@@ -104,8 +104,8 @@ const LINES: [(Place, Call, &str); 9] = [
     ),
     (
         Place::DataSet(3),
-        Call::Forget,
-        "DIR/area3: forget: No space left on device (os error 28)",
+        Call::Rewrite,
+        "DIR/area3: rewrite: No space left on device (os error 28)",
     ),
     (
         Place::Part(Part::Messages),
