@@ -1,2 +1,4 @@
 pub mod Ascending
+pub mod Lists
 pub mod Start
+pub mod Settling

@@ -1,12 +1,30 @@
-//! What the start, a Purge, settling, an edit and a commit keep of the shape of the state.
+//! What the start, settling, a Purge, an edit and a commit keep of the shape of the state.
+ghost use Rattle.std.specs.Prelude.{◌≡◌, List};
+ghost use Rattle.std.specs.List.{AllByRecursion, AllZip};
 ghost use Rattle.fp_model.specs.declared.definitions.Defs.{Defs};
+ghost use Rattle.fp_model.specs.declared.definitions.MsdbDef.{MsdbDef};
+ghost use Rattle.fp_model.specs.declared.database.Msdb.{Msdb};
+ghost use Rattle.fp_model.specs.declared.calls.Deferred.{Deferred};
+ghost use Rattle.fp_model.specs.CheckpointText.{IsMsdbOf};
+ghost use Rattle.fp_model.specs.FitCalls.{IsFitDeferred};
+ghost use Rattle.fp_model.specs.Settle.{Stands, settle};
 ghost use Rattle.fp_model.specs.Shape.{IsDbOf};
 ghost use Rattle.fp_model.specs.State.{start};
-ghost use Rattle.fp_model.specs.WellFormed.{AreDefs};
+ghost use Rattle.fp_model.specs.WellFormed.{AreDefs, IsMsdbDef};
 
 /// The state before any transaction has its shape.
 pub fn the_start_has_its_shape()
     ensures { (defs : Defs)
         → AreDefs defs
         → IsDbOf defs (start defs) }
+{}
+
+/// A queue of calls that fit leaves main storage databases in shape, each with its lengths and in order of keys.
+pub fn settling_keeps_the_shape()
+    ensures { (defs : List MsdbDef) (msdbs : List Msdb) (deferred : List Deferred) (next : List Msdb)
+        → AllByRecursion IsMsdbDef defs
+        → AllByRecursion (IsFitDeferred defs) deferred
+        → AllZip IsMsdbOf defs msdbs
+        → settle defs msdbs deferred ≡ Stands next
+        → AllZip IsMsdbOf defs next }
 {}
