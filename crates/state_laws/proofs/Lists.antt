@@ -1,7 +1,7 @@
 -- Elements at a place, and two lists element by element.
 use Rattle.std.proofs.Common.{◌≡◌, ℕ, zero, suc, List, [], ◌∷◌, Option, Some, None, refl, sym, ◌∙◌, ap, subst, Bool, true, false, ◌&&◌, slice_get, slice_set}
-use Rattle.std.specs.Prelude.{find, if◌then◌else◌}
-use Rattle.std.specs.List.{AllByRecursion, AllZip}
+use Rattle.std.specs.Prelude.{filter, find, if◌then◌else◌}
+use Rattle.std.specs.List.{AllByRecursion, AllZip, IsDistinct}
 
 pub true_is_not_false : true ≡ false → ⊥
 true_is_not_false e = cc
@@ -51,3 +51,22 @@ pub all_at : {X : Type 0} (P : X → Type 0) (xs : List X) (n : ℕ) (x : X) →
 all_at P [] n x all at = absurd (none_is_not_some x at)
 all_at P (y ∷ ys) zero x all at = subst P (some_is y x at) all.0
 all_at P (y ∷ ys) (suc n) x all at = all_at P ys n x all.1 at
+
+-- ---- filters
+
+pub all_filter : {X : Type 0} (P : X → Type 0) (p : X → Bool) (xs : List X) → AllByRecursion P xs → AllByRecursion P (filter p xs)
+all_filter P p [] all = tt
+all_filter {X} P p (x ∷ xs) all = by (p x) (all_filter P p xs all.1)
+  where
+    by : (b : Bool) → AllByRecursion P (filter p xs) → AllByRecursion P (if b then x ∷ filter p xs else filter p xs)
+    by true rest = (all.0, rest)
+    by false rest = rest
+
+pub distinct_filter : {X : Type 0} (e : X → X → Bool) (p : X → Bool) (xs : List X) → IsDistinct e xs → IsDistinct e (filter p xs)
+unfolding IsDistinct
+distinct_filter e p [] d = d
+distinct_filter {X} e p (x ∷ xs) d = by (p x) (all_filter (λ y. e x y ≡ false) p xs d.0) (distinct_filter e p xs d.1)
+  where
+    by : (b : Bool) → AllByRecursion (λ y. e x y ≡ false) (filter p xs) → IsDistinct e (filter p xs) → IsDistinct e (if b then x ∷ filter p xs else filter p xs)
+    by true head rest = (head, rest)
+    by false head rest = rest

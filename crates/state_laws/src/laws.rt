@@ -1,10 +1,12 @@
 //! What the start, settling, a Purge, an edit and a commit keep of the shape of the state.
-ghost use Rattle.std.specs.Prelude.{◌≡◌, List};
+ghost use Rattle.std.specs.Prelude.{◌≡◌, ℕ, List, Some};
 ghost use Rattle.std.specs.List.{AllByRecursion, AllZip};
 ghost use Rattle.fp_model.specs.declared.definitions.Defs.{Defs};
 ghost use Rattle.fp_model.specs.declared.definitions.MsdbDef.{MsdbDef};
+ghost use Rattle.fp_model.specs.declared.database.Db.{Db};
 ghost use Rattle.fp_model.specs.declared.database.Msdb.{Msdb};
 ghost use Rattle.fp_model.specs.declared.calls.Deferred.{Deferred};
+ghost use Rattle.fp_model.specs.Commit.{purged};
 ghost use Rattle.fp_model.specs.CheckpointText.{IsMsdbOf};
 ghost use Rattle.fp_model.specs.FitCalls.{IsFitDeferred};
 ghost use Rattle.fp_model.specs.Settle.{Stands, settle};
@@ -27,4 +29,12 @@ pub fn settling_keeps_the_shape()
         → AllZip IsMsdbOf defs msdbs
         → settle defs msdbs deferred ≡ Stands next
         → AllZip IsMsdbOf defs next }
+{}
+
+/// A Purge keeps the shape of the state.
+pub fn a_purge_keeps_the_shape()
+    ensures { (defs : Defs) (set n : ℕ) (db next : Db)
+        → IsDbOf defs db
+        → purged defs set n db ≡ Some next
+        → IsDbOf defs next }
 {}

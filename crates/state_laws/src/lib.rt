@@ -6,4 +6,4 @@
 
 mod laws;
 
-pub use laws::{settling_keeps_the_shape, the_start_has_its_shape};
+pub use laws::{a_purge_keeps_the_shape, settling_keeps_the_shape, the_start_has_its_shape};
