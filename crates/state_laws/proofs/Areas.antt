@@ -10,16 +10,16 @@ use Rattle.state_laws.proofs.Lists.{first_true, second_true, some_is, none_is_no
 
 -- ---- what a list contains
 
-contains_nothing : {X : Type 0} (x : X) → Contains [] x → ⊥
+pub contains_nothing : {X : Type 0} (x : X) → Contains [] x → ⊥
 contains_nothing x c = absurd (omega (arith, c.1))
 
-contains_first : {X : Type 0} (x : X) (xs : List X) → Contains (x ∷ xs) x
+pub contains_first : {X : Type 0} (x : X) (xs : List X) → Contains (x ∷ xs) x
 contains_first x xs = Contains-append_left (x ∷ []) xs x (Contains-push [] x)
 
-contains_later : {X : Type 0} (y : X) (xs : List X) (x : X) → Contains xs x → Contains (y ∷ xs) x
+pub contains_later : {X : Type 0} (y : X) (xs : List X) (x : X) → Contains xs x → Contains (y ∷ xs) x
 contains_later y xs x c = Contains-append_right (y ∷ []) xs x c
 
-contains_cases : {X : Type 0} (y : X) (xs : List X) (x : X) → Contains (y ∷ xs) x → (y ≡ x) ⊎ Contains xs x
+pub contains_cases : {X : Type 0} (y : X) (xs : List X) (x : X) → Contains (y ∷ xs) x → (y ≡ x) ⊎ Contains xs x
 contains_cases y xs x c = elim (Contains-append_cases (y ∷ []) xs x c) [
   | inl here ↦ elim (Contains-push_cases [] y x here) [ inl none ↦ absurd (contains_nothing x none) | inr same ↦ inl same ]
   | inr there ↦ inr there

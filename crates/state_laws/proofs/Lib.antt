@@ -5,3 +5,5 @@ pub mod Areas
 pub mod Start
 pub mod Settling
 pub mod Purging
+pub mod Nodes
+pub mod Roots

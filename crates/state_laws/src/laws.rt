@@ -1,18 +1,23 @@
 //! What the start, settling, a Purge, an edit and a commit keep of the shape of the state.
-ghost use Rattle.std.specs.Prelude.{◌≡◌, ℕ, List, Some};
+ghost use Rattle.std.specs.Prelude.{◌≡◌, ℕ, List, true, Some};
 ghost use Rattle.std.specs.List.{AllByRecursion, AllZip};
+ghost use Rattle.fp_model.specs.declared.definitions.DedbDef.{DedbDef};
 ghost use Rattle.fp_model.specs.declared.definitions.Defs.{Defs};
 ghost use Rattle.fp_model.specs.declared.definitions.MsdbDef.{MsdbDef};
+ghost use Rattle.fp_model.specs.declared.database.AreaEnds.{AreaEnds};
 ghost use Rattle.fp_model.specs.declared.database.Db.{Db};
 ghost use Rattle.fp_model.specs.declared.database.Msdb.{Msdb};
+ghost use Rattle.fp_model.specs.declared.database.Root.{Root};
 ghost use Rattle.fp_model.specs.declared.calls.Deferred.{Deferred};
 ghost use Rattle.fp_model.specs.Commit.{purged};
 ghost use Rattle.fp_model.specs.CheckpointText.{IsMsdbOf};
 ghost use Rattle.fp_model.specs.FitCalls.{IsFitDeferred};
+ghost use Rattle.fp_model.specs.Order.{Edit, Step, edited};
 ghost use Rattle.fp_model.specs.Settle.{Stands, settle};
-ghost use Rattle.fp_model.specs.Shape.{IsDbOf};
+ghost use Rattle.fp_model.specs.Shape.{IsDbOf, is_anchor};
 ghost use Rattle.fp_model.specs.State.{start};
 ghost use Rattle.fp_model.specs.WellFormed.{AreDefs, IsMsdbDef};
+ghost use Rattle.state_laws.specs.Edits.{FitsEdit};
 
 /// The state before any transaction has its shape.
 pub fn the_start_has_its_shape()
@@ -37,4 +42,12 @@ pub fn a_purge_keeps_the_shape()
         → IsDbOf defs db
         → purged defs set n db ≡ Some next
         → IsDbOf defs next }
+{}
+
+/// An edit that fits keeps the shape of its anchor.
+pub fn an_edit_keeps_the_shape()
+    ensures { (def : DedbDef) (anchor : ℕ) (ends : AreaEnds) (roots : List Root) (path : List Step) (edit : Edit)
+        → is_anchor def anchor ends roots ≡ true
+        → FitsEdit def anchor roots path edit
+        → is_anchor def anchor ends (edited def.segments roots path edit) ≡ true }
 {}

@@ -6,4 +6,7 @@
 
 mod laws;
 
-pub use laws::{a_purge_keeps_the_shape, settling_keeps_the_shape, the_start_has_its_shape};
+pub use laws::{
+    a_purge_keeps_the_shape, an_edit_keeps_the_shape, settling_keeps_the_shape,
+    the_start_has_its_shape,
+};
