@@ -7,3 +7,4 @@ pub mod Settling
 pub mod Purging
 pub mod Nodes
 pub mod Roots
+pub mod Inserting

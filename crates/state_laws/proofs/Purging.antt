@@ -26,13 +26,13 @@ use Rattle.state_laws.proofs.Ranges.{get_inside, get_outside, get_set_other, get
 le_is : (m n : ℕ) → nat_le m n ≡ true → m ≤ n
 le_is m n e = grind (arith, nat_tests)
 
-is_le : (m n : ℕ) → m ≤ n → nat_le m n ≡ true
+pub is_le : (m n : ℕ) → m ≤ n → nat_le m n ≡ true
 is_le m n e = grind (arith, nat_tests)
 
 lt_is : (m n : ℕ) → nat_lt m n ≡ true → m < n
 lt_is m n e = grind (arith, nat_tests)
 
-is_lt : (m n : ℕ) → m < n → nat_lt m n ≡ true
+pub is_lt : (m n : ℕ) → m < n → nat_lt m n ≡ true
 is_lt m n e = grind (arith, nat_tests)
 
 -- ---- the ends
@@ -94,7 +94,7 @@ moved_good capacity n ends e =
 -- ---- roots
 
 -- dependents stay newest first below a later end
-later_end : (begin end end2 : ℕ) (items : List SeqItem) → end ≤ end2 → are_newest_first begin end items ≡ true → are_newest_first begin end2 items ≡ true
+pub later_end : (begin end end2 : ℕ) (items : List SeqItem) → end ≤ end2 → are_newest_first begin end items ≡ true → are_newest_first begin end2 items ≡ true
 later_end begin end end2 [] le e = refl
 later_end begin end end2 (item ∷ items) le e =
     let front = first_true (nat_le begin item.serial && nat_lt item.serial end) (are_newest_first begin item.serial items) e in

@@ -1,5 +1,5 @@
 //! What the start, settling, a Purge, an edit and a commit keep of the shape of the state.
-ghost use Rattle.std.specs.Prelude.{◌≡◌, ℕ, List, true, Some};
+ghost use Rattle.std.specs.Prelude.{◌≡◌, ℕ, ◌+◌, ◌≤◌, List, true, Some};
 ghost use Rattle.std.specs.List.{AllByRecursion, AllZip};
 ghost use Rattle.fp_model.specs.declared.definitions.DedbDef.{DedbDef};
 ghost use Rattle.fp_model.specs.declared.definitions.Defs.{Defs};
@@ -12,12 +12,13 @@ ghost use Rattle.fp_model.specs.declared.calls.Deferred.{Deferred};
 ghost use Rattle.fp_model.specs.Commit.{purged};
 ghost use Rattle.fp_model.specs.CheckpointText.{IsMsdbOf};
 ghost use Rattle.fp_model.specs.FitCalls.{IsFitDeferred};
-ghost use Rattle.fp_model.specs.Order.{Edit, Step, edited};
+ghost use Rattle.fp_model.specs.Order.{Edit, Step, edited, sequential_type};
 ghost use Rattle.fp_model.specs.Settle.{Stands, settle};
-ghost use Rattle.fp_model.specs.Shape.{IsDbOf, is_anchor};
+ghost use Rattle.fp_model.specs.Shape.{IsDbOf, has_length, is_anchor};
 ghost use Rattle.fp_model.specs.State.{start};
 ghost use Rattle.fp_model.specs.WellFormed.{AreDefs, IsMsdbDef};
 ghost use Rattle.state_laws.specs.Edits.{FitsEdit};
+ghost use Rattle.state_laws.specs.Inserts.{ending_at, with_serial};
 
 /// The state before any transaction has its shape.
 pub fn the_start_has_its_shape()
@@ -50,4 +51,22 @@ pub fn an_edit_keeps_the_shape()
         → is_anchor def anchor ends roots ≡ true
         → FitsEdit def anchor roots path edit
         → is_anchor def anchor ends (edited def.segments roots path edit) ≡ true }
+{}
+
+/// Where the end of an area moves on, its anchors stay in shape.
+pub fn a_later_end_keeps_the_shape()
+    ensures { (def : DedbDef) (anchor : ℕ) (ends : AreaEnds) (end : ℕ) (roots : List Root)
+        → is_anchor def anchor ends roots ≡ true
+        → ends.end ≤ end
+        → is_anchor def anchor (ending_at end ends) roots ≡ true }
+{}
+
+/// A sequential dependent that gets the serial at the end keeps the shape of its anchor, where the end moves on.
+pub fn a_sequential_insert_keeps_the_shape()
+    ensures { (def : DedbDef) (anchor : ℕ) (ends : AreaEnds) (roots : List Root) (key bytes : List ℕ) (type : ℕ)
+        → is_anchor def anchor ends roots ≡ true
+        → ends.begin ≤ ends.end
+        → sequential_type def.segments ≡ Some type
+        → has_length def.segments type bytes ≡ true
+        → is_anchor def anchor (ending_at (ends.end + 1) ends) (with_serial def ends.end key bytes roots) ≡ true }
 {}
