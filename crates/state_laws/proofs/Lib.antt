@@ -8,3 +8,5 @@ pub mod Purging
 pub mod Nodes
 pub mod Roots
 pub mod Inserting
+pub mod Counts
+pub mod Changing

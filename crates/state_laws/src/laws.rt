@@ -6,6 +6,7 @@ ghost use Rattle.fp_model.specs.declared.definitions.Defs.{Defs};
 ghost use Rattle.fp_model.specs.declared.definitions.MsdbDef.{MsdbDef};
 ghost use Rattle.fp_model.specs.declared.database.AreaEnds.{AreaEnds};
 ghost use Rattle.fp_model.specs.declared.database.Db.{Db};
+ghost use Rattle.fp_model.specs.declared.database.Dedb.{Dedb};
 ghost use Rattle.fp_model.specs.declared.database.Msdb.{Msdb};
 ghost use Rattle.fp_model.specs.declared.database.Root.{Root};
 ghost use Rattle.fp_model.specs.declared.calls.Deferred.{Deferred};
@@ -14,9 +15,10 @@ ghost use Rattle.fp_model.specs.CheckpointText.{IsMsdbOf};
 ghost use Rattle.fp_model.specs.FitCalls.{IsFitDeferred};
 ghost use Rattle.fp_model.specs.Order.{Edit, Step, edited, sequential_type};
 ghost use Rattle.fp_model.specs.Settle.{Stands, settle};
-ghost use Rattle.fp_model.specs.Shape.{IsDbOf, has_length, is_anchor};
+ghost use Rattle.fp_model.specs.Shape.{IsDbOf, IsDedbOf, has_length, is_anchor};
 ghost use Rattle.fp_model.specs.State.{start};
 ghost use Rattle.fp_model.specs.WellFormed.{AreDefs, IsMsdbDef};
+ghost use Rattle.state_laws.specs.Changes.{FitsChange, with_anchor};
 ghost use Rattle.state_laws.specs.Edits.{FitsEdit};
 ghost use Rattle.state_laws.specs.Inserts.{ending_at, with_serial};
 
@@ -69,4 +71,12 @@ pub fn a_sequential_insert_keeps_the_shape()
         → sequential_type def.segments ≡ Some type
         → has_length def.segments type bytes ≡ true
         → is_anchor def anchor (ending_at (ends.end + 1) ends) (with_serial def ends.end key bytes roots) ≡ true }
+{}
+
+/// Other roots at an anchor that fit it keep the shape of their database.
+pub fn a_changed_anchor_keeps_the_shape()
+    ensures { (def : DedbDef) (dedb : Dedb) (anchor : ℕ) (roots : List Root)
+        → IsDedbOf def dedb
+        → FitsChange def dedb anchor roots
+        → IsDedbOf def (with_anchor anchor roots dedb) }
 {}
