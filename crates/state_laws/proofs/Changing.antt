@@ -1,7 +1,7 @@
 -- Other roots at an anchor: no serial stands there that didn't, and none twice.
-use Rattle.std.proofs.Common.{◌≡◌, ℕ, zero, suc, ◌+◌, ◌≤◌, List, [], ◌∷◌, ◌++◌, map, take, drop, Option, Some, None, refl, sym, ◌∙◌, ap, subst, Bool, true, false, not, ◌==◌, slice_get, slice_set, arith, ◌⊎◌, inl, inr}
-use Rattle.std.specs.Prelude.{Contains, filter, flat_map, if◌then◌else◌}
-use Rattle.std.specs.List.{AllByRecursion, IsDistinct}
+use Rattle.std.proofs.Common.{◌≡◌, ℕ, zero, suc, ◌+◌, ◌≤◌, List, [], ◌∷◌, map, Some, refl, sym, ◌∙◌, ap, subst, Bool, true, false, not, slice_get, slice_set, arith, ◌⊎◌, inl, inr}
+use Rattle.std.specs.Prelude.{Contains, flat_map, if◌then◌else◌}
+use Rattle.std.specs.List.{AllByRecursion}
 use Rattle.std.proofs.lemmas.Bool.{cases_eq}
 use Rattle.fp_model.specs.declared.database.AreaEnds.{AreaEnds}
 use Rattle.fp_model.specs.declared.database.Dedb.{Dedb}
@@ -18,10 +18,10 @@ use Rattle.state_laws.proofs.Counts.{distinct_few, few_times, part_fewer, times,
 use Rattle.state_laws.proofs.Lists.{none_is_not_some, some_is, true_is_not_false}
 use Rattle.state_laws.proofs.Ranges.{get_set_other, get_set_same, length_set}
 
-abbrev serials_of : Root → List ℕ
+abbrev pub serials_of : Root → List ℕ
 serials_of root = map (λ item. item.serial) root.seqs
 
-abbrev serials_at : List Root → List ℕ
+abbrev pub serials_at : List Root → List ℕ
 serials_at roots = flat_map serials_of roots
 
 module _ (key : Root → List ℕ) (n : ℕ) where

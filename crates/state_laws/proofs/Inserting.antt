@@ -1,7 +1,7 @@
 -- Sequential inserts at one anchor, and the other anchors of its area.
-use Rattle.std.proofs.Common.{◌≡◌, ℕ, ◌+◌, ◌≤◌, List, [], ◌∷◌, map, Option, Some, refl, sym, ◌∙◌, ap, subst, Bool, true, false, ◌&&◌, nat_le, nat_lt, arith}
+use Rattle.std.proofs.Common.{◌≡◌, ℕ, ◌+◌, ◌≤◌, List, [], ◌∷◌, map, Some, refl, ◌∙◌, ap, Bool, true, false, ◌&&◌, nat_le, nat_lt, arith}
 use Rattle.std.specs.Prelude.{if◌then◌else◌}
-use Rattle.std.specs.List.{AllByRecursion, list_all}
+use Rattle.std.specs.List.{AllByRecursion}
 use Rattle.std.specs.Option.{option_map_or}
 use Rattle.fp_model.specs.declared.database.AreaEnds.{AreaEnds}
 use Rattle.fp_model.specs.declared.database.Root.{Root}
@@ -10,7 +10,7 @@ use Rattle.fp_model.specs.declared.definitions.DedbDef.{DedbDef}
 use Rattle.fp_model.specs.Commit.{with_newest}
 use Rattle.fp_model.specs.Order.{root_key, sequential_type}
 use Rattle.fp_model.specs.Shape.{are_newest_first, has_length, have_lengths, is_anchor}
-use Rattle.fp_model.specs.State.{ascend, change_key}
+use Rattle.fp_model.specs.State.{ascend}
 use Rattle.fp_model.specs.Texts.{same_text}
 use Rattle.state_laws.specs.Inserts.{ending_at, with_serial}
 use Rattle.state_laws.proofs.Lists.{both_true}

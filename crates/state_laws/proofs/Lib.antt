@@ -10,3 +10,4 @@ pub mod Roots
 pub mod Inserting
 pub mod Counts
 pub mod Changing
+pub mod Serials

@@ -1,26 +1,21 @@
 -- Edits at the end of a path: every row stays in shape.
-use Rattle.std.proofs.Common.{◌≡◌, ℕ, zero, suc, ◌+◌, List, [], ◌∷◌, ◌++◌, map, length, get_or, replicate, Option, Some, None, refl, sym, ◌∙◌, ap, subst, Bool, true, false, not, ◌&&◌, ◌||◌, ◌==◌, slice_get, slice_set, arith, ◌⊎◌, inl, inr}
-use Rattle.std.specs.Prelude.{Contains, IfSome, find, flat_map, if◌then◌else◌, position}
+use Rattle.std.proofs.Common.{◌≡◌, ℕ, zero, suc, List, [], ◌∷◌, map, length, get_or, replicate, Option, Some, None, refl, sym, ◌∙◌, ap, subst, Bool, true, false, ◌&&◌, ◌==◌, slice_get, slice_set, arith, ◌⊎◌, inl, inr}
+use Rattle.std.specs.Prelude.{Contains, find, flat_map, if◌then◌else◌, position}
 use Rattle.std.specs.List.{AllByRecursion, list_all}
 use Rattle.std.specs.Option.{option_map_or}
-use Rattle.std.proofs.lemmas.Bool.Decides.{nat_tests}
 use Rattle.std.proofs.lemmas.List.Quantifiers.{position-Some}
 use Rattle.std.proofs.lemmas.Option.{slice_get-get_or}
 use Rattle.std.proofs.lemmas.List.Elements.{Contains-append_left, Contains-append_right}
-use Rattle.fp_model.specs.declared.database.AreaEnds.{AreaEnds}
 use Rattle.fp_model.specs.declared.database.Node.{Node, out-Node, out-roll-Node, roll-Node}
-use Rattle.fp_model.specs.declared.database.Node.TheFolds.{fold_out-Node, fold-roll-Node}
+use Rattle.fp_model.specs.declared.database.Node.TheFolds.{fold_out-Node}
 use Rattle.fp_model.specs.declared.database.Node.TheOpen.{Node-F}
-use Rattle.fp_model.specs.declared.database.Root.{Root}
-use Rattle.fp_model.specs.declared.definitions.DedbDef.{DedbDef}
 use Rattle.fp_model.specs.declared.definitions.SegDef.{SegDef}
-use Rattle.fp_model.specs.Exits.{anchor_of}
-use Rattle.fp_model.specs.Order.{Edit, Inserts, Replaces, Deletes, Occurrence, Step, at_end, below_edited, bytes_at, child_types, direct, edited, key_in, new_node, new_root, node_key, node_order, node_step, nodes_edited, one_down, root_key, root_order, roots_edited, row_changed, rows_in_order, same_path, same_step, sequence, sequentials, under}
-use Rattle.fp_model.specs.Shape.{Seen, are_newest_first, are_rows, has_length, have_lengths, is_anchor, is_root, is_row, seen_as, seen_step}
+use Rattle.fp_model.specs.Order.{Edit, Inserts, Replaces, Deletes, Occurrence, Step, at_end, below_edited, child_types, direct, key_in, node_key, node_order, node_step, nodes_edited, one_down, row_changed, rows_in_order, same_path, same_step, under}
+use Rattle.fp_model.specs.Shape.{Seen, are_rows, has_length, is_row, seen_as, seen_step}
 use Rattle.fp_model.specs.State.{ascend, change_key, drop_key, put_by_key}
 use Rattle.fp_model.specs.Texts.{same_text}
-use Rattle.state_laws.specs.Edits.{FitsBytes, FitsEdit, FitsEnd, IsNew}
-use Rattle.state_laws.proofs.Areas.{contains_first, contains_later, contains_cases, contains_nothing, get_contains}
+use Rattle.state_laws.specs.Edits.{FitsBytes}
+use Rattle.state_laws.proofs.Areas.{contains_first, contains_later, contains_cases, contains_nothing}
 use Rattle.state_laws.proofs.Ascending.{all_but, all_put, is_same, put_ascends, same_is, still_ascends}
 use Rattle.state_laws.proofs.Lists.{both_true, first_true, none_is_not_some, second_true, some_is, true_is_not_false}
 

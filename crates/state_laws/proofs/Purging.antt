@@ -1,10 +1,9 @@
 -- A Purge: older serials leave their roots, and all else stays.
-use Rattle.std.proofs.Common.{◌≡◌, ℕ, zero, suc, ◌+◌, ◌-◌, ◌^◌, ◌<◌, ◌≤◌, List, [], ◌∷◌, ◌++◌, map, length, take, drop, min, Option, Some, None, refl, sym, ◌∙◌, ap, subst, Bool, true, false, ◌&&◌, ◌||◌, ◌==◌, nat_le, nat_lt, slice_get, slice_set, arith, ◌⊎◌, inl, inr}
-use Rattle.std.specs.Prelude.{Contains, if◌then◌else◌, filter, flat_map, option_map, unwrap_or}
-use Rattle.std.specs.List.{AllByRecursion, AllZip, IsDistinct, list_all}
+use Rattle.std.proofs.Common.{◌≡◌, ℕ, zero, suc, ◌+◌, ◌-◌, ◌^◌, ◌<◌, ◌≤◌, List, [], ◌∷◌, ◌++◌, map, take, drop, min, Option, Some, None, refl, sym, ◌∙◌, ap, subst, Bool, true, false, ◌&&◌, ◌||◌, ◌==◌, nat_le, nat_lt, slice_get, slice_set, arith, ◌⊎◌, inl, inr}
+use Rattle.std.specs.Prelude.{Contains, if◌then◌else◌, filter, flat_map, option_map}
+use Rattle.std.specs.List.{AllZip, IsDistinct, list_all}
 use Rattle.std.specs.Option.{option_map_or}
 use Rattle.std.proofs.lemmas.Bool.Decides.{nat_tests}
-use Rattle.std.proofs.lemmas.Grind.{flat_map-append}
 use Rattle.std.proofs.lemmas.List.Elements.{filter-append}
 use Rattle.fp_model.specs.declared.database.AreaEnds.{AreaEnds}
 use Rattle.fp_model.specs.declared.database.Db.{Db}
@@ -14,11 +13,11 @@ use Rattle.fp_model.specs.declared.database.SeqItem.{SeqItem}
 use Rattle.fp_model.specs.declared.definitions.DedbDef.{DedbDef}
 use Rattle.fp_model.specs.declared.definitions.Defs.{Defs}
 use Rattle.fp_model.specs.declared.definitions.SegDef.{SegDef}
-use Rattle.fp_model.specs.Commit.{area_of_set, ends_at, in_anchors, kept_from, purged, purged_area, with_dedb, with_ends}
+use Rattle.fp_model.specs.Commit.{area_of_set, ends_at, in_anchors, kept_from, purged, purged_area, with_dedb}
 use Rattle.fp_model.specs.Exits.{anchor_of}
 use Rattle.fp_model.specs.Order.{child_types, root_key, sequential_type}
 use Rattle.fp_model.specs.Shape.{IsDbOf, IsDedbOf, are_ends, are_newest_first, are_rows, has_length, have_lengths, is_anchor, is_root, seen_as, serials_in}
-use Rattle.fp_model.specs.State.{Area, anchors_in, areas_from, areas_of, areas_of_all, ascend, first_area_set, first_ends, has_anchor}
+use Rattle.fp_model.specs.State.{Area, anchors_in, areas_from, areas_of, ascend, first_area_set, has_anchor}
 use Rattle.state_laws.proofs.Areas.{AreApart, alone, alone_there, database, get_contains, lies_in, lies_outside, placed, same_or_apart}
 use Rattle.state_laws.proofs.Lists.{both_true, distinct_filter, each_at, each_set, first_true, none_is_not_some, second_true, some_is}
 use Rattle.state_laws.proofs.Ranges.{get_inside, get_outside, get_set_other, get_set_same, length_changed, part_mapped, part_same}
@@ -29,7 +28,7 @@ le_is m n e = grind (arith, nat_tests)
 pub is_le : (m n : ℕ) → m ≤ n → nat_le m n ≡ true
 is_le m n e = grind (arith, nat_tests)
 
-lt_is : (m n : ℕ) → nat_lt m n ≡ true → m < n
+pub lt_is : (m n : ℕ) → nat_lt m n ≡ true → m < n
 lt_is m n e = grind (arith, nat_tests)
 
 pub is_lt : (m n : ℕ) → m < n → nat_lt m n ≡ true

@@ -1,20 +1,19 @@
 -- Edits of the roots of an anchor.
-use Rattle.std.proofs.Common.{◌≡◌, ℕ, zero, suc, List, [], ◌∷◌, ◌++◌, map, length, replicate, Option, Some, None, refl, sym, ◌∙◌, ap, subst, Bool, true, false, ◌&&◌, ◌==◌, slice_get, arith}
-use Rattle.std.specs.Prelude.{Contains, IfSome, find}
+use Rattle.std.proofs.Common.{◌≡◌, ℕ, List, [], ◌∷◌, ◌++◌, map, Option, Some, None, refl, sym, ◌∙◌, ap, subst, Bool, true, false, ◌&&◌, ◌==◌}
+use Rattle.std.specs.Prelude.{Contains, find}
 use Rattle.std.specs.List.{AllByRecursion, list_all}
 use Rattle.std.specs.Option.{option_map_or}
 use Rattle.std.proofs.lemmas.List.Elements.{Contains-append_right}
 use Rattle.fp_model.specs.declared.database.AreaEnds.{AreaEnds}
 use Rattle.fp_model.specs.declared.database.Root.{Root}
 use Rattle.fp_model.specs.declared.definitions.DedbDef.{DedbDef}
-use Rattle.fp_model.specs.declared.definitions.SegDef.{SegDef}
 use Rattle.fp_model.specs.Exits.{anchor_of}
-use Rattle.fp_model.specs.Order.{Edit, Inserts, Replaces, Deletes, Occurrence, Step, at_end, below_edited, bytes_at, child_types, direct, edited, key_in, new_root, node_order, one_down, root_key, root_order, rows_in_order, same_path, same_step, sequence, sequentials}
+use Rattle.fp_model.specs.Order.{Edit, Inserts, Replaces, Deletes, Occurrence, Step, at_end, below_edited, child_types, direct, edited, key_in, new_root, node_order, one_down, root_key, root_order, rows_in_order, same_path, same_step, sequence, sequentials}
 use Rattle.fp_model.specs.Shape.{are_newest_first, are_rows, has_length, have_lengths, is_anchor, is_root, seen_as}
-use Rattle.fp_model.specs.State.{ascend, change_key}
+use Rattle.fp_model.specs.State.{ascend}
 use Rattle.fp_model.specs.Texts.{same_text}
 use Rattle.state_laws.specs.Edits.{FitsBytes, FitsEdit, IsNew}
-use Rattle.state_laws.proofs.Areas.{contains_first, contains_later}
+use Rattle.state_laws.proofs.Areas.{contains_first}
 use Rattle.state_laws.proofs.Ascending.{is_same}
 use Rattle.state_laws.proofs.Lists.{both_true, first_true, none_is_not_some, second_true}
 use Rattle.state_laws.proofs.Nodes.{IsFree, IsGood, below_good, change_good, drop_good, each_contained, empty_rows, fits_later, flat_map_contains, from_all, map_contains, none_found, not_second, other_key, put_good, step_is, to_all, is_number}

@@ -1,9 +1,8 @@
 -- Settling: a queue whose calls fit leaves main storage databases in shape.
 use Rattle.std.proofs.Common.{◌≡◌, ℕ, zero, suc, ◌+◌, ◌-◌, ◌*◌, ◌≤◌, ◌%◌, ◌/◌, List, [], ◌∷◌, ◌++◌, length, take, drop, replicate, Option, Some, None, refl, sym, ◌∙◌, ap, subst, Bool, true, false, not, ◌&&◌, ◌||◌, ◌==◌, slice_get, slice_set, arith, length-append, length-drop}
-use Rattle.std.specs.Prelude.{if◌then◌else◌, ℤ, pos, negsuc, find, nat_le, nat_eq, option_and_then, is_none}
+use Rattle.std.specs.Prelude.{if◌then◌else◌, ℤ, pos, negsuc, nat_le, option_and_then, is_none}
 use Rattle.std.specs.List.{AllByRecursion, AllZip}
 use Rattle.std.specs.Option.{option_map_or}
-use Rattle.std.specs.Int.{to_be_bytes, w16, w32}
 use Rattle.std.proofs.lemmas.Bool.Decides.{nat_tests}
 use Rattle.std.proofs.lemmas.List.{length-take, length-replicate}
 use Rattle.fp_model.specs.declared.calls.Deferred.{Deferred}
@@ -22,7 +21,7 @@ use Rattle.fp_model.specs.State.{drop_key, key_of, segment_of, with_segment, wit
 use Rattle.fp_model.specs.Texts.{number_in, padded, same_text}
 use Rattle.fp_model.specs.WellFormed.{IsMsdbDef, StandFrom}
 use Rattle.state_laws.proofs.Ascending.{all_but, all_put, still_ascends, with_one_ascends}
-use Rattle.state_laws.proofs.Lists.{each_set, each_at, all_at, found_has, none_is_not_some, some_is, true_is_not_false}
+use Rattle.state_laws.proofs.Lists.{each_set, each_at, all_at, found_has, none_is_not_some, some_is}
 
 -- ---- lengths of fields
 

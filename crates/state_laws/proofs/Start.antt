@@ -1,23 +1,22 @@
 -- The start: what is loaded ascends by key, and what is formatted is empty.
-use Rattle.std.proofs.Common.{◌≡◌, ℕ, zero, suc, ◌+◌, ◌≤◌, List, [], ◌∷◌, map, length, take, drop, replicate, Option, Some, None, refl, sym, ◌∙◌, ap, subst, Bool, true, false, ◌&&◌, ◌||◌, ◌==◌, slice_get, arith}
-use Rattle.std.specs.Prelude.{fold, flat_map, nat_le, nat_lt, Contains}
+use Rattle.std.proofs.Common.{◌≡◌, ℕ, zero, suc, List, [], ◌∷◌, map, length, take, drop, replicate, Some, refl, sym, subst, Bool, true, false, ◌||◌, ◌==◌, slice_get, arith}
+use Rattle.std.specs.Prelude.{fold, flat_map, nat_le, nat_lt}
 use Rattle.std.specs.List.{AllByRecursion, AllZip, IsDistinct}
 use Rattle.std.proofs.lemmas.Map.Keys.{IsDistinct-head, IsDistinct-tail}
 use Rattle.std.proofs.lemmas.Bool.Decides.{nat_tests}
 use Rattle.std.proofs.lemmas.Grind.{common_steps}
 use Rattle.fp_model.specs.declared.database.AreaEnds.{AreaEnds}
-use Rattle.fp_model.specs.declared.database.Msdb.{Msdb}
 use Rattle.fp_model.specs.declared.database.Root.{Root}
 use Rattle.fp_model.specs.declared.definitions.AreaDef.{AreaDef}
 use Rattle.fp_model.specs.declared.definitions.DedbDef.{DedbDef}
 use Rattle.fp_model.specs.declared.definitions.Defs.{Defs}
 use Rattle.fp_model.specs.declared.definitions.MsdbDef.{MsdbDef}
 use Rattle.fp_model.specs.CheckpointText.{IsMsdbOf}
-use Rattle.fp_model.specs.Shape.{IsDbOf, IsDedbOf, are_ends, is_anchor, serials_in}
-use Rattle.fp_model.specs.State.{Area, anchors_in, anchor_count, areas_from, ascend, first_ends, formatted, has_anchor, key_of, loaded, put_by_key, start}
+use Rattle.fp_model.specs.Shape.{IsDbOf, IsDedbOf, are_ends, is_anchor}
+use Rattle.fp_model.specs.State.{anchors_in, anchor_count, first_ends, formatted, key_of, loaded, put_by_key, start}
 use Rattle.fp_model.specs.Texts.{same_text}
 use Rattle.fp_model.specs.WellFormed.{AreDefs, IsLoaded, IsMsdbDef}
-use Rattle.state_laws.proofs.Ascending.{all_put, differs_back, put_ascends}
+use Rattle.state_laws.proofs.Ascending.{all_put, put_ascends}
 
 -- ---- main storage databases
 

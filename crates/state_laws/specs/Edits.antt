@@ -1,5 +1,5 @@
 -- Edits that fit the roots of an anchor.
-use Rattle.std.specs.Prelude.{◌≡◌, ⊤, ℕ, List, [], ◌∷◌, Bool, true, None, IfSome, slice_get}
+use Rattle.std.specs.Prelude.{◌≡◌, ⊤, ℕ, List, [], ◌∷◌, true, None, IfSome, slice_get}
 use Rattle.std.specs.List.{AllByRecursion}
 use Rattle.fp_model.specs.declared.database.Root.{Root}
 use Rattle.fp_model.specs.declared.definitions.DedbDef.{DedbDef}

@@ -16,11 +16,11 @@ ghost use Rattle.fp_model.specs.FitCalls.{IsFitDeferred};
 ghost use Rattle.fp_model.specs.Order.{Edit, Step, edited, sequential_type};
 ghost use Rattle.fp_model.specs.Settle.{Stands, settle};
 ghost use Rattle.fp_model.specs.Shape.{IsDbOf, IsDedbOf, has_length, is_anchor};
-ghost use Rattle.fp_model.specs.State.{start};
+ghost use Rattle.fp_model.specs.State.{Area, start};
 ghost use Rattle.fp_model.specs.WellFormed.{AreDefs, IsMsdbDef};
 ghost use Rattle.state_laws.specs.Changes.{FitsChange, with_anchor};
 ghost use Rattle.state_laws.specs.Edits.{FitsEdit};
-ghost use Rattle.state_laws.specs.Inserts.{ending_at, with_serial};
+ghost use Rattle.state_laws.specs.Inserts.{FitsSequential, ending_at, with_sequential, with_serial};
 
 /// The state before any transaction has its shape.
 pub fn the_start_has_its_shape()
@@ -79,4 +79,13 @@ pub fn a_changed_anchor_keeps_the_shape()
         → IsDedbOf def dedb
         → FitsChange def dedb anchor roots
         → IsDedbOf def (with_anchor anchor roots dedb) }
+{}
+
+/// A sequential insert that fits keeps the shape of its database: its serial is new in its area.
+pub fn a_sequential_insert_keeps_its_database()
+    ensures { (def : DedbDef) (dedb : Dedb) (area : Area) (anchor : ℕ) (ends : AreaEnds) (roots : List Root)
+        → (key bytes : List ℕ)
+        → IsDedbOf def dedb
+        → FitsSequential def dedb area anchor ends roots bytes
+        → IsDedbOf def (with_sequential def area anchor ends roots key bytes dedb) }
 {}
