@@ -1,0 +1,13 @@
+pub mod Ascending
+pub mod Lists
+pub mod Ranges
+pub mod Areas
+pub mod Start
+pub mod Settling
+pub mod Purging
+pub mod Nodes
+pub mod Roots
+pub mod Inserting
+pub mod Counts
+pub mod Changing
+pub mod Serials

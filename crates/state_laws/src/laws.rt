@@ -1,0 +1,91 @@
+//! What the start, settling, a Purge, an edit and a commit keep of the shape of the state.
+ghost use Rattle.std.specs.Prelude.{◌≡◌, ℕ, ◌+◌, ◌≤◌, List, true, Some};
+ghost use Rattle.std.specs.List.{AllByRecursion, AllZip};
+ghost use Rattle.fp_model.specs.declared.definitions.DedbDef.{DedbDef};
+ghost use Rattle.fp_model.specs.declared.definitions.Defs.{Defs};
+ghost use Rattle.fp_model.specs.declared.definitions.MsdbDef.{MsdbDef};
+ghost use Rattle.fp_model.specs.declared.database.AreaEnds.{AreaEnds};
+ghost use Rattle.fp_model.specs.declared.database.Db.{Db};
+ghost use Rattle.fp_model.specs.declared.database.Dedb.{Dedb};
+ghost use Rattle.fp_model.specs.declared.database.Msdb.{Msdb};
+ghost use Rattle.fp_model.specs.declared.database.Root.{Root};
+ghost use Rattle.fp_model.specs.declared.calls.Deferred.{Deferred};
+ghost use Rattle.fp_model.specs.Commit.{purged};
+ghost use Rattle.fp_model.specs.CheckpointText.{IsMsdbOf};
+ghost use Rattle.fp_model.specs.FitCalls.{IsFitDeferred};
+ghost use Rattle.fp_model.specs.Order.{Edit, Step, edited, sequential_type};
+ghost use Rattle.fp_model.specs.Settle.{Stands, settle};
+ghost use Rattle.fp_model.specs.Shape.{IsDbOf, IsDedbOf, has_length, is_anchor};
+ghost use Rattle.fp_model.specs.State.{Area, start};
+ghost use Rattle.fp_model.specs.WellFormed.{AreDefs, IsMsdbDef};
+ghost use Rattle.state_laws.specs.Changes.{FitsChange, with_anchor};
+ghost use Rattle.state_laws.specs.Edits.{FitsEdit};
+ghost use Rattle.state_laws.specs.Inserts.{FitsSequential, ending_at, with_sequential, with_serial};
+
+/// The state before any transaction has its shape.
+pub fn the_start_has_its_shape()
+    ensures { (defs : Defs)
+        → AreDefs defs
+        → IsDbOf defs (start defs) }
+{}
+
+/// A queue of calls that fit leaves main storage databases in shape, each with its lengths and in order of keys.
+pub fn settling_keeps_the_shape()
+    ensures { (defs : List MsdbDef) (msdbs : List Msdb) (deferred : List Deferred) (next : List Msdb)
+        → AllByRecursion IsMsdbDef defs
+        → AllByRecursion (IsFitDeferred defs) deferred
+        → AllZip IsMsdbOf defs msdbs
+        → settle defs msdbs deferred ≡ Stands next
+        → AllZip IsMsdbOf defs next }
+{}
+
+/// A Purge keeps the shape of the state.
+pub fn a_purge_keeps_the_shape()
+    ensures { (defs : Defs) (set n : ℕ) (db next : Db)
+        → IsDbOf defs db
+        → purged defs set n db ≡ Some next
+        → IsDbOf defs next }
+{}
+
+/// An edit that fits keeps the shape of its anchor.
+pub fn an_edit_keeps_the_shape()
+    ensures { (def : DedbDef) (anchor : ℕ) (ends : AreaEnds) (roots : List Root) (path : List Step) (edit : Edit)
+        → is_anchor def anchor ends roots ≡ true
+        → FitsEdit def anchor roots path edit
+        → is_anchor def anchor ends (edited def.segments roots path edit) ≡ true }
+{}
+
+/// Where the end of an area moves on, its anchors stay in shape.
+pub fn a_later_end_keeps_the_shape()
+    ensures { (def : DedbDef) (anchor : ℕ) (ends : AreaEnds) (end : ℕ) (roots : List Root)
+        → is_anchor def anchor ends roots ≡ true
+        → ends.end ≤ end
+        → is_anchor def anchor (ending_at end ends) roots ≡ true }
+{}
+
+/// A sequential dependent that gets the serial at the end keeps the shape of its anchor, where the end moves on.
+pub fn a_sequential_insert_keeps_the_shape()
+    ensures { (def : DedbDef) (anchor : ℕ) (ends : AreaEnds) (roots : List Root) (key bytes : List ℕ) (type : ℕ)
+        → is_anchor def anchor ends roots ≡ true
+        → ends.begin ≤ ends.end
+        → sequential_type def.segments ≡ Some type
+        → has_length def.segments type bytes ≡ true
+        → is_anchor def anchor (ending_at (ends.end + 1) ends) (with_serial def ends.end key bytes roots) ≡ true }
+{}
+
+/// Other roots at an anchor that fit it keep the shape of their database.
+pub fn a_changed_anchor_keeps_the_shape()
+    ensures { (def : DedbDef) (dedb : Dedb) (anchor : ℕ) (roots : List Root)
+        → IsDedbOf def dedb
+        → FitsChange def dedb anchor roots
+        → IsDedbOf def (with_anchor anchor roots dedb) }
+{}
+
+/// A sequential insert that fits keeps the shape of its database: its serial is new in its area.
+pub fn a_sequential_insert_keeps_its_database()
+    ensures { (def : DedbDef) (dedb : Dedb) (area : Area) (anchor : ℕ) (ends : AreaEnds) (roots : List Root)
+        → (key bytes : List ℕ)
+        → IsDedbOf def dedb
+        → FitsSequential def dedb area anchor ends roots bytes
+        → IsDedbOf def (with_sequential def area anchor ends roots key bytes dedb) }
+{}

@@ -1,0 +1,13 @@
+//! That the state has its shape in every moment: laws and lemmas over the definitions of the model.
+//!
+//! The functions do nothing; their contracts are the laws. `IsDbOf` of fp_model's `specs/Shape.antt` says what the shape
+//! is: each database's segments, anchors, roots, ends and serials as the definitions have them.
+#![tactic(auto)]
+
+mod laws;
+
+pub use laws::{
+    a_changed_anchor_keeps_the_shape, a_later_end_keeps_the_shape, a_purge_keeps_the_shape,
+    a_sequential_insert_keeps_its_database, a_sequential_insert_keeps_the_shape,
+    an_edit_keeps_the_shape, settling_keeps_the_shape, the_start_has_its_shape,
+};
