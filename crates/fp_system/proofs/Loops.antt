@@ -15,7 +15,7 @@ use Rattle.fp_source.specs.declared.lines.LineFault.{LineFault}
 use Rattle.fp_source.specs.declared.lines.LineFault.TheVariants as fault
 use Rattle.fp_system.specs.Answers.{status_of_line}
 use Rattle.fp_system.specs.declared.status.Status.TheVariants as status
-use Rattle.fp_system.specs.Parts.{Job}
+use Rattle.fp_system.specs.Parts.{Job, front_for}
 use Rattle.fp_system.specs.Serving.{GoesOnBy, StandsAt, Serves, StaysSafe, one_each}
 use Rattle.fp_system.proofs.Stands.{all_append, safe_at_rest}
 use Rattle.fp_system.proofs.Steps.{stays_here}

@@ -84,7 +84,7 @@ plain_history job entries account msdbs count same many =
     }
 
 -- an entry that one region makes leaves the format
-format_left : (format : ℕ) (o : Outcome) → IsAlone o → format_behind format o ≡ format
+pub format_left : (format : ℕ) (o : Outcome) → IsAlone o → format_behind format o ≡ format
 format_left format outcome.Done alone = refl
 format_left format (outcome.Verify call fsa found) alone = refl
 format_left format (outcome.Roll code) alone = refl
