@@ -207,7 +207,14 @@ defs_keep text table defs short e =
     let d = ok_step (tables_or_none (codes "dedb") table) _ defs m.2 in
     let a = ok_step (databases_of m.0 d.0) _ defs d.2 in
     let read : Defs = record {
-      regions = r.0; router = x.0; log_group = l.0; pool = p.0; tries = t.0; msdbs = a.0.0; dedbs = a.0.1; text = text
+      regions = r.0;
+      router = x.0;
+      log_group = l.0;
+      pool = p.0;
+      tries = t.0;
+      msdbs = a.0.0;
+      dedbs = a.0.1;
+      text = text;
     } in
     let same : read ≡ defs = ok_same read defs (Ok read) refl a.2 in
     let regions = regions_keep table r.0 r.1 in

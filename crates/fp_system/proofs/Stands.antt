@@ -108,7 +108,7 @@ account_more job entries account line e next =
       history = record {
         history = with_entry e next.next h;
         leads = join (rules_of job.defs job.scripts) (beginning 1 (start job.defs)) entries (e ∷ []) h (with_entry e next.next h)
-          account.history.leads (next.next, next.comes, refl);
+            account.history.leads (next.next, next.comes, refl);
         ends = refl;
       };
       still =

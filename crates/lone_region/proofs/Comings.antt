@@ -103,6 +103,7 @@ no_number line asked (Some lterm) (Some tran) text m e =
   where
     made : Message
     made = record { lterm = lterm; tran = tran; text = text; line = line; number = None }
+
     by_bool : (long fair : Bool) → (if long then Err TooLong else (if fair then Ok made else Err NotAscii)) ≡ Ok m → m.number ≡ None
     by_bool true fair e = absurd (cc)
     by_bool false true e = let same : made ≡ m = cc in ap (λ (x : Message). x.number) (sym same)
