@@ -1,5 +1,5 @@
 use Rattle.std.proofs.Common.{◌≡◌, length}
 use Rattle.low_tests.proofs.locks.first_wrong.Given as goal
 
-abbrev pub invariant-loop-step : goal.invariant-loop-step
-invariant-loop-step l = length l.locks ≡ 3
+abbrev pub invariant-loop-place : goal.invariant-loop-step
+invariant-loop-place l = length l.locks ≡ 3
