@@ -3,4 +3,4 @@ use Rattle.call_tests.proofs.queues.queues_come_to_what_is_wanted.Given as goal
 
 -- the store stays one of the definitions
 abbrev pub invariant-loop-row : goal.invariant-loop-row
-invariant-loop-row l = IsOf l.defs.msdbs l.store
+invariant-loop-row g l = IsOf l.defs.msdbs l.store
