@@ -1,5 +1,5 @@
 use Rattle.std.proofs.Common.{◌≡◌, length}
 use Rattle.low_tests.proofs.queues.first_wrong.Given as goal
 
-abbrev pub invariant-loop-place : goal.invariant-loop-step
+abbrev pub invariant-loop-place : goal.invariant-loop-place
 invariant-loop-place l = length l.queues.queues ≡ 2
