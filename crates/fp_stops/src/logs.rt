@@ -1,7 +1,7 @@
 //! What is read back of a log after a stop at each call, and logs in use, step by step.
 ghost use Rattle.fp_model.specs.LogText.{FitsEntry, FitsFront, KeepsRules};
 ghost use Rattle.log_groups.specs.Images.{as_front};
-ghost use Rattle.std.specs.Prelude.{IfOk};
+ghost use Rattle.std.specs.Prelude.{◌<◌, IfOk};
 
 use fp_model::{Bytes, Entry, List, Outcome};
 use fp_site::{MemorySite, Site, Snapshot};
