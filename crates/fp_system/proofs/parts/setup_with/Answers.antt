@@ -22,5 +22,5 @@ returns-clause-setup c =
       no_dedbs = none;
       scripts = c.requires.scripts;
       front = rw (defs, scripts) refl;
-      fits = rw (defs, scripts) (record { is_format = (0, omega arith, refl); defs_fit = long; scripts_fit = short; });
+      fits = rw (defs, scripts) (record { is_format = (0, omega arith, refl); defs_fit = long; scripts_fit = short });
     }
