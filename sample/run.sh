@@ -1,6 +1,6 @@
 #!/bin/sh
 # Makes the small sample's databases in a folder of its own, runs its messages, and prints the replies.
-# The first time it proves the program and builds it: about 15 minutes on four processors. sample/try.sh runs the same
+# The first time it proves the program and builds it. sample/try.sh runs the same
 # messages in about a minute, with no proof.
 set -e
 say() { echo "sample: $*" >&2; }
@@ -33,7 +33,7 @@ prove() {
     jobs=$(nproc 2>/dev/null || echo 1)
     if [ "$jobs" -gt 4 ]; then jobs=4; fi
     count=$(count_crates)
-    say "proving $count crates, $jobs at a time. The first time this takes about 15 minutes on four processors."
+    say "proving $count crates, $jobs at a time. The first time this takes long."
     rt all check --jobs "$jobs" >"$room/proofs" 2>&1 &
     proving=$!
     told=0
