@@ -31,14 +31,14 @@ name_is : (a b : Name) → same_name a b ≡ true → a ≡ b
 name_is a b e = ap (λ (text : List ℕ). let name : Name = record { 0 = text } in name) (same_text_is a.0 b.0 e)
 
 -- a name that is among others is contained in them
-contained : (names : List Name) (name : Name) → is_among names name ≡ true → Contains names name
+pub contained : (names : List Name) (name : Name) → is_among names name ≡ true → Contains names name
 contained [] name e = absurd (true_is_not_false (sym e))
 contained (n ∷ ns) name e = elim (either_holds (same_name name n) (is_among ns name) e) [
   | inl same ↦ subst (λ (q : Name). Contains (q ∷ ns) name) (name_is name n same) (contains_first name ns)
   | inr later ↦ contains_later n ns name (contained ns name later)
 ]
 
-among : (names : List Name) (name : Name) → Contains names name → is_among names name ≡ true
+pub among : (names : List Name) (name : Name) → Contains names name → is_among names name ≡ true
 among [] name c = absurd (contains_nothing name c)
 among (n ∷ ns) name c = elim (contains_cases n ns name c) [
   | inl same ↦ rw (ap (same_name name) same ∙ text_is_same name.0) refl
@@ -59,7 +59,7 @@ sum_put f xs i x y e =
     (sum_by-set f xs i y x (slice_get_within xs i x e))
 
 -- a sum is no less than each of its terms
-sum_has : {X : Type 0} (f : X → ℕ) (xs : List X) (x : X) → Contains xs x → f x ≤ sum_by f xs
+pub sum_has : {X : Type 0} (f : X → ℕ) (xs : List X) (x : X) → Contains xs x → f x ≤ sum_by f xs
 sum_has f [] x c = absurd (contains_nothing x c)
 sum_has f (y ∷ ys) x c = elim (contains_cases y ys x c) [
   | inl same ↦ let e : f y ≡ f x = ap f same in omega (arith, sum_by-cons f y ys, e)
@@ -75,15 +75,15 @@ module _ (rules : Rules) where
   -- ---- a line and its terminal
 
   -- a line counts for its terminal
-  counts_one : (line : List ℕ) (name : Name) → is_among (terminal_in (rules.terminal_of line)) name ≡ true
+  pub counts_one : (line : List ℕ) (name : Name) → is_among (terminal_in (rules.terminal_of line)) name ≡ true
       → line_count rules name line ≡ 1
   counts_one line name e = rw e refl
 
-  counts_none : (line : List ℕ) (name : Name) → is_among (terminal_in (rules.terminal_of line)) name ≡ false
+  pub counts_none : (line : List ℕ) (name : Name) → is_among (terminal_in (rules.terminal_of line)) name ≡ false
       → line_count rules name line ≡ 0
   counts_none line name e = rw e refl
 
-  own_counts : (line : List ℕ) (name : Name) → rules.terminal_of line ≡ Some name → line_count rules name line ≡ 1
+  pub own_counts : (line : List ℕ) (name : Name) → rules.terminal_of line ≡ Some name → line_count rules name line ≡ 1
   own_counts line name is =
       counts_one line name (ap (λ (o : Option Name). is_among (terminal_in o) name) is ∙ among (name ∷ []) name
       (contains_first name []))
@@ -266,7 +266,7 @@ module _ (rules : Rules) where
       omega (arith, one, sum_has of group at.0 at.1.0)
 
   -- what the group takes from those that aren't sealed
-  seals : (name : Name) (m : Machine)
+  pub seals : (name : Name) (m : Machine)
       → sum_by (λ (e : Entry). line_count rules name e.line) (next_group rules m) + unsealed_count rules name
       (m.sealed + length (next_group rules m)) m.history.entries
       ≡ unsealed_count rules name m.sealed m.history.entries
