@@ -11,3 +11,7 @@ pub mod Inserting
 pub mod Counts
 pub mod Changing
 pub mod Serials
+pub mod Stands
+pub mod Committing
+pub mod Numbering
+pub mod Commits

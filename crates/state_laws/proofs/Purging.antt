@@ -280,10 +280,10 @@ partner R (a ∷ xs) (b ∷ ys) zero x all at = (b, refl)
 partner R (a ∷ xs) (b ∷ ys) (suc n) x all at = partner R xs ys n x all.1 at
 
 -- a data entry database changed twice is changed once
-dedb_changed : (number : ℕ) (change : Dedb → Dedb) (db : Db) (d : Dedb) → slice_get db.dedbs number ≡ Some d → (with_dedb number change db).dedbs ≡ slice_set db.dedbs number (change d)
+pub dedb_changed : (number : ℕ) (change : Dedb → Dedb) (db : Db) (d : Dedb) → slice_get db.dedbs number ≡ Some d → (with_dedb number change db).dedbs ≡ slice_set db.dedbs number (change d)
 dedb_changed number change db d at = rw at refl
 
-set_set : {X : Type 0} (xs : List X) (n : ℕ) (x y : X) → slice_set (slice_set xs n x) n y ≡ slice_set xs n y
+pub set_set : {X : Type 0} (xs : List X) (n : ℕ) (x y : X) → slice_set (slice_set xs n x) n y ≡ slice_set xs n y
 set_set [] n x y = refl
 set_set (z ∷ zs) zero x y = refl
 set_set (z ∷ zs) (suc n) x y = ap (λ ws. z ∷ ws) (set_set zs n x y)

@@ -10,7 +10,7 @@ ghost use Rattle.fp_model.specs.declared.database.Dedb.{Dedb};
 ghost use Rattle.fp_model.specs.declared.database.Msdb.{Msdb};
 ghost use Rattle.fp_model.specs.declared.database.Root.{Root};
 ghost use Rattle.fp_model.specs.declared.calls.Deferred.{Deferred};
-ghost use Rattle.fp_model.specs.Commit.{purged};
+ghost use Rattle.fp_model.specs.Commit.{Commits, purged, settlement};
 ghost use Rattle.fp_model.specs.CheckpointText.{IsMsdbOf};
 ghost use Rattle.fp_model.specs.FitCalls.{IsFitDeferred};
 ghost use Rattle.fp_model.specs.Order.{Edit, Step, edited, sequential_type};
@@ -18,9 +18,11 @@ ghost use Rattle.fp_model.specs.Settle.{Stands, settle};
 ghost use Rattle.fp_model.specs.Shape.{IsDbOf, IsDedbOf, has_length, is_anchor};
 ghost use Rattle.fp_model.specs.State.{Area, start};
 ghost use Rattle.fp_model.specs.WellFormed.{AreDefs, IsMsdbDef};
+ghost use Rattle.fp_model.specs.Workspace.{Workspace};
 ghost use Rattle.state_laws.specs.Changes.{FitsChange, with_anchor};
 ghost use Rattle.state_laws.specs.Edits.{FitsEdit};
 ghost use Rattle.state_laws.specs.Inserts.{FitsSequential, ending_at, with_sequential, with_serial};
+ghost use Rattle.state_laws.specs.Parts.{FitsState};
 
 /// The state before any transaction has its shape.
 pub fn the_start_has_its_shape()
@@ -88,4 +90,15 @@ pub fn a_sequential_insert_keeps_its_database()
         → IsDedbOf def dedb
         → FitsSequential def dedb area anchor ends roots bytes
         → IsDedbOf def (with_sequential def area anchor ends roots key bytes dedb) }
+{}
+
+/// A commit keeps the shape of the state, where what the transaction has to itself fits: its calls settle, its changed
+/// anchors stand one after another, and each area has room for its inserts.
+pub fn a_commit_keeps_the_shape()
+    ensures { (defs : Defs) (db : Db) (own : Workspace) (next : Db)
+        → AreDefs defs
+        → IsDbOf defs db
+        → FitsState defs db own
+        → settlement defs db own ≡ Commits next
+        → IsDbOf defs next }
 {}
