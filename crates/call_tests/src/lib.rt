@@ -1,4 +1,4 @@
-//! Tests of the crates that read definitions and scripts, run scripts and answer their calls.
+//! Tests of the crates that read definitions, schedules and scripts, run scripts and answer their calls.
 #![tactic(auto)]
 
 #[cfg(test)]
@@ -9,6 +9,8 @@ mod definitions;
 mod programs;
 #[cfg(test)]
 mod queues;
+#[cfg(test)]
+mod schedules;
 #[cfg(test)]
 mod scripts;
 #[cfg(test)]

@@ -1,0 +1,4 @@
+pub mod AreaLemmas
+pub mod FaultLemmas
+pub mod PlaceLemmas
+pub mod TokenLemmas
