@@ -1,0 +1,4 @@
+pub mod Trimming
+pub mod Pieces
+pub mod Pairs
+pub mod Walking

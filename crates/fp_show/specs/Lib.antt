@@ -1,0 +1,4 @@
+pub mod FieldText
+pub mod DbText
+pub mod GroupText
+pub mod Walk
