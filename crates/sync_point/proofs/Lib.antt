@@ -1,0 +1,8 @@
+pub mod Found
+pub mod Keeping
+pub mod Refusals
+pub mod Replies
+pub mod Scripts
+pub mod Segments
+pub mod Settlements
+pub mod Stores
