@@ -1,9 +1,9 @@
 -- How a draft's transaction ends, by what its queue settles to.
-use Rattle.std.proofs.Common.{◌≡◌, refl, sym, ◌∙◌, ap, subst, ℕ, List}
+use Rattle.std.proofs.Common.{◌≡◌, refl, ◌∙◌, ap, ℕ, List}
 use Rattle.std.specs.Prelude.{Result, Ok, Err}
 use Rattle.std.specs.Result.{IsErrAnd}
 use Rattle.fp_model.specs.Commit.{Settlement, settlement}
-use Rattle.fp_model.specs.Serial.{Ending, settled_as}
+use Rattle.fp_model.specs.Serial.{settled_as}
 use Rattle.fp_model.specs.Settle.{Settled, Stands, VerifyFails, settle}
 use Rattle.fp_model.specs.Workspace.{Workspace}
 use Rattle.fp_model.specs.declared.calls.Deferred.{Deferred}

@@ -1,24 +1,19 @@
 -- The bytes that a failing verify found are short.
-use Rattle.std.proofs.Common.{◌≡◌, refl, subst, sym, ap, arith, ℕ, zero, suc, ◌+◌, ◌≤◌, List, [], ◌∷◌, length, take, drop, Bool, true, false, if◌then◌else◌, Option, Some, None, slice_get}
-use Rattle.std.specs.Prelude.{find, nat_le, ◌&&◌, ◌==◌}
+use Rattle.std.proofs.Common.{◌≡◌, refl, subst, arith, ℕ, ◌+◌, ◌≤◌, List, [], ◌∷◌, length, drop, Bool, true, false, if◌then◌else◌, Option, Some, None, slice_get}
+use Rattle.std.specs.Prelude.{find, ◌==◌}
 use Rattle.std.specs.Option.{option_map_or}
 use Rattle.std.specs.List.{AllByRecursion}
-use Rattle.std.proofs.lemmas.Grind.{common_steps}
 use Rattle.std.proofs.lemmas.List.{length-take}
-use Rattle.std.proofs.lemmas.Bool.{and_parts}
-use Rattle.std.proofs.lemmas.Bool.Decides.{nat_tests}
 use Rattle.fp_model.specs.declared.database.Msdb.{Msdb}
 use Rattle.fp_model.specs.declared.definitions.FieldDef.{FieldDef}
-use Rattle.fp_model.specs.declared.definitions.FieldKind.{FieldKind}
-use Rattle.fp_model.specs.declared.definitions.FieldKind.TheVariants.{C, X, H, F, P}
 use Rattle.fp_model.specs.declared.definitions.MsdbDef.{MsdbDef}
 use Rattle.fp_model.specs.declared.calls.Deferred.{Deferred}
 use Rattle.fp_model.specs.declared.calls.Deferred.TheVariants as deferred
-use Rattle.fp_model.specs.Fsas.{Failure, Fsa, field_bytes, field_of, first_failure, found_by, fsa_on, fsas_in, letter_of}
+use Rattle.fp_model.specs.Fsas.{Failure, Fsa, field_bytes, first_failure, found_by, fsa_on, fsas_in, letter_of}
 use Rattle.fp_model.specs.Settle.{Applied, Becomes, Fails, Settled, Stands, VerifyFails, absent, applied, fld_failure, fld_on, settle_from, with_msdb, with_field_changes}
 use Rattle.fp_model.specs.State.{segment_of}
 use Rattle.fp_model.specs.Texts.{same_text}
-use Rattle.fp_model.specs.WellFormed.{IsMsdbDef, StandFrom, is_field_length}
+use Rattle.fp_model.specs.WellFormed.{IsMsdbDef, StandFrom}
 use Rattle.sync_point.proofs.Scripts.{each_has}
 
 -- ---- fields are short

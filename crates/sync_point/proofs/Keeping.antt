@@ -1,6 +1,6 @@
 -- A call to a main storage database changes no anchor, inserts no sequential dependent, and defers at most one call.
 use Rattle.std.proofs.Common.{◌≡◌, ◌∙◌, refl, sym, ap, subst, arith, length-append, ◌+◌, ◌≤◌, ℕ, ◌-◌, List, ◌++◌, ◌∷◌, [], length, Bool, true, false, Option, Some, None, if◌then◌else◌}
-use Rattle.std.specs.Prelude.{not, is_some, codes, slice_get}
+use Rattle.std.specs.Prelude.{not, is_some, codes}
 use Rattle.std.specs.Option.{option_map_or}
 use Rattle.fp_model.specs.declared.database.Db.{Db}
 use Rattle.fp_model.specs.declared.database.Msdb.{Msdb}
@@ -12,7 +12,7 @@ use Rattle.fp_model.specs.declared.calls.Deferred.{Deferred}
 use Rattle.fp_model.specs.declared.calls.Deferred.TheVariants as deferred
 use Rattle.fp_model.specs.declared.calls.Get.{Get}
 use Rattle.fp_model.specs.declared.calls.Get.TheVariants as get
-use Rattle.fp_model.specs.Answers.{Replied, answered, lettered, blank}
+use Rattle.fp_model.specs.Answers.{Replied}
 use Rattle.fp_model.specs.Calls.{OnMsdb, database_of, dedb_target, msdb_at, reply_on, reply_to}
 use Rattle.fp_model.specs.FitCalls.{IsMsdbCall}
 use Rattle.fp_model.specs.Fsas.{all_blank, fsas_in, list_on}

@@ -1,6 +1,7 @@
 pub mod Endings
 pub mod Found
 pub mod Keeping
+mod Placing
 pub mod Refusals
 pub mod Replies
 pub mod Scripts

@@ -1,9 +1,8 @@
 -- What a script replies is short.
-use Rattle.std.proofs.Common.{◌≡◌, refl, subst, ap, arith, ℕ, zero, suc, ◌≤◌, List, [], ◌∷◌, map, length, Bool, true, false, if◌then◌else◌, Option, Some, None}
+use Rattle.std.proofs.Common.{◌≡◌, refl, subst, arith, ℕ, zero, suc, ◌≤◌, List, [], ◌∷◌, map, length, Bool, true, false, if◌then◌else◌, Option, Some, None}
 use Rattle.std.specs.Prelude.{nat_le, ◌&&◌}
 use Rattle.std.specs.List.{list_all}
 use Rattle.std.proofs.lemmas.Grind.{common_steps}
-use Rattle.std.specs.Option.{option_map_or}
 use Rattle.fp_model.specs.declared.definitions.Defs.{Defs}
 use Rattle.fp_model.specs.declared.calls.Message.{Message}
 use Rattle.fp_model.specs.declared.calls.Answer.{Answer}

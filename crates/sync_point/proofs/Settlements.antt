@@ -5,7 +5,7 @@ use Rattle.fp_model.specs.declared.database.Db.{Db}
 use Rattle.fp_model.specs.declared.database.Msdb.{Msdb}
 use Rattle.fp_model.specs.declared.definitions.DedbDef.{DedbDef}
 use Rattle.fp_model.specs.declared.definitions.Defs.{Defs}
-use Rattle.fp_model.specs.Commit.{Settlement, Commits, FailsVerify, committed, first_full, settled_to, settlement}
+use Rattle.fp_model.specs.Commit.{Commits, FailsVerify, committed, first_full, settled_to, settlement}
 use Rattle.fp_model.specs.Settle.{Settled, Stands, VerifyFails, settle}
 use Rattle.fp_model.specs.State.{areas_of_all, first_area_set}
 use Rattle.fp_model.specs.Workspace.{Workspace}

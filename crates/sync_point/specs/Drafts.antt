@@ -1,5 +1,5 @@
 -- What the commit step makes of a draft.
-use Rattle.std.specs.Prelude.{◌≡◌, ⊤, ℕ, List, [], Result, Ok, Err}
+use Rattle.std.specs.Prelude.{◌≡◌, ⊤, List, [], Result, Ok, Err}
 use Rattle.fp_model.specs.Serial.{Ending, refused_as}
 use Rattle.fp_model.specs.Workspace.{Workspace}
 use Rattle.fp_model.specs.declared.database.Db.{Db}

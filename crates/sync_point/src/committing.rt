@@ -74,7 +74,11 @@ impl Draft {
         }
         match msdbs.check(&self.deferred) {
             Ok(staged) => Ok(staged),
-            Err(VerifyFault::Verify { call, fsa, found }) => Err(Cause::Verify { call, fsa, found }),
+            Err(VerifyFault::Verify { call, fsa, found }) => Err(Cause::Verify {
+                call,
+                fsa,
+                found,
+            }),
             Err(VerifyFault::Memory) => Err(Cause::Memory),
         }
     }

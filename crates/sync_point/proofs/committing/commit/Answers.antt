@@ -1,4 +1,4 @@
-use Rattle.std.proofs.Common.{◌≡◌, ◌∙◌, refl, sym, ap, subst, ℕ, List}
+use Rattle.std.proofs.Common.{◌≡◌, ◌∙◌, sym, ap, subst, List}
 use Rattle.std.specs.Prelude.{Err, Ok, Result}
 use Rattle.fp_model.specs.Commit.{settlement}
 use Rattle.fp_model.specs.Items.{with_items}
@@ -6,7 +6,7 @@ use Rattle.fp_model.specs.Serial.{settled_as}
 use Rattle.fp_model.specs.declared.database.Msdb.{Msdb}
 use Rattle.fp_model.specs.declared.log.Entry.{Entry}
 use Rattle.msdb_store.specs.Changes.{Changes}
-use Rattle.sync_point.specs.Drafts.{IsEnd, done_entry}
+use Rattle.sync_point.specs.Drafts.{IsEnd}
 use Rattle.sync_point.specs.declared.committing.Cause.{Cause}
 use Rattle.sync_point.specs.declared.committing.Cause.TheVariants as cause
 use Rattle.sync_point.proofs.Endings.{done_end, is_cause, refused_end}
