@@ -37,7 +37,8 @@ use Rattle.lone_region.specs.Entries.{done_entry, plain_request, refused_entry, 
 use Rattle.lone_region.specs.Next.{ComesNext, IsPlainHistory}
 use Rattle.lone_region.specs.Running.{HasEnded, IsPlain}
 use Rattle.lone_region.specs.declared.running.End.TheVariants as end
-use Rattle.lone_region.proofs.Transactions.{each_has}
+use Rattle.sync_point.proofs.Segments.{items_fit}
+use Rattle.sync_point.proofs.Settlements.{settlement_fails, settlement_is}
 
 -- ---- notes
 
@@ -45,52 +46,6 @@ use Rattle.lone_region.proofs.Transactions.{each_has}
 notes_at : (place : ℕ) (notes : List ℕ) → AllByRecursion (λ note. note ≡ place) notes → NeverFalls place notes place
 notes_at place [] h = omega arith
 notes_at place (n ∷ notes) h = (omega (arith, h.0), subst (λ (k : ℕ). NeverFalls k notes place) (sym h.0) (notes_at place notes h.1))
-
--- ---- the sync point without data entry databases
-
-module _ (defs : Defs) (none : defs.dedbs ≡ []) (now : Db) (own : Workspace) (changes : own.changes ≡ []) (inserts : own.inserts ≡ []) where
-  commits : (s : Settled) (msdbs : List Msdb) → s ≡ Stands msdbs → settled_to defs now own s ≡ Commits (record now { msdbs = msdbs })
-  commits s msdbs e =
-      ap (settled_to defs now own) e
-      ∙ ap (λ (ds : List DedbDef). unwrap_or (first_full now own.inserts first_area_set (areas_of_all 0 ds)) (Commits (committed defs own msdbs now))) none
-      ∙ rw (changes, inserts) refl
-
-  -- where the queue settles, the databases are those that it leaves
-  pub settlement_is : (msdbs : List Msdb) → settle defs.msdbs now.msdbs own.deferred ≡ Stands msdbs → settlement defs now own ≡ Commits (record now { msdbs = msdbs })
-  unfolding settlement
-  settlement_is msdbs e = commits (settle defs.msdbs now.msdbs own.deferred) msdbs e
-
-  pub settlement_fails : (call fsa : ℕ) (found : List ℕ) → settle defs.msdbs now.msdbs own.deferred ≡ VerifyFails call fsa found → settlement defs now own ≡ FailsVerify call fsa found
-  unfolding settlement
-  settlement_fails call fsa found e = ap (settled_to defs now own) e
-
--- ---- items
-
-items_fit : (defs : Defs) (items : List Item) → AllByRecursion (IsFitSegment defs.msdbs) items → AllByRecursion IsSegmentItem items → AllByRecursion (IsFit defs) items
-items_fit defs [] h g = tt
-items_fit defs (item.Segment number key bytes ∷ items) h g = (h.0, items_fit defs items h.1 g.1)
-items_fit defs (item.Image set ci bytes ∷ items) h g = absurd g.0
-items_fit defs (item.Range set ci at bytes ∷ items) h g = absurd g.0
-
-key_short : (fields : List FieldDef) → BeginsWithKey fields → key_length fields ≤ 64
-key_short [] h = absurd h
-key_short (f ∷ fs) h = h.1
-
-bytes_short : (def : MsdbDef) (key bytes : List ℕ) → def.length ≤ 1024 → (bytes ≡ []) ⊎ ((length bytes ≡ def.length) × (take (length key) bytes ≡ key)) → length bytes < 2 ^ 16
-bytes_short def key bytes few (inl e) = rw e (omega arith)
-bytes_short def key bytes few (inr h) = omega (arith, h.0, few)
-
-item_short : (def : MsdbDef) (key bytes : List ℕ) → IsMsdbDef def → FitsMsdb def key bytes → (length key < 2 ^ 8) × (length bytes < 2 ^ 16)
-item_short def key bytes is fits =
-    let k = key_short def.fields is.key in
-    (omega (arith, k, fits.key_length), bytes_short def key bytes is.short fits.segment)
-
-pub items_short : (defs : List MsdbDef) (items : List Item) → AllByRecursion IsMsdbDef defs → AllByRecursion (IsFitSegment defs) items → AllByRecursion IsSegmentItem items → AllByRecursion FitsItem items
-items_short defs [] each h g = tt
-items_short defs (item.Segment number key bytes ∷ items) each h g =
-    (item_short h.0.0 key bytes (each_has IsMsdbDef defs number h.0.0 each h.0.1) h.0.2, items_short defs items each h.1 g.1)
-items_short defs (item.Image set ci bytes ∷ items) each h g = absurd g.0
-items_short defs (item.Range set ci at bytes ∷ items) each h g = absurd g.0
 
 -- ---- what comes next
 

@@ -24,9 +24,11 @@ pub is_cause : (r : Result Entry Cause) (why : Cause) → IsErrAnd r (λ e. e �
 is_cause (Ok entry) why h = absurd h
 is_cause (Err e) why h = ap (λ (x : Cause). let y : Result Entry Cause = Err x in y) h
 
-module _ (defs : Defs) (now : Db) (own : Workspace) (store : Stored) (draft : Draft) (is : IsDraftOf defs now own store draft) where
+module _ (defs : Defs) (now : Db) (own : Workspace) (store : Stored) (draft : Draft)
+    (is : IsDraftOf defs now own store draft) where
   -- the queue settles on the state as on the store
-  pub on_state : (s : Settled) → settle defs.msdbs store.msdbs draft.deferred ≡ s → settle defs.msdbs now.msdbs own.deferred ≡ s
+  pub on_state : (s : Settled) → settle defs.msdbs store.msdbs draft.deferred ≡ s
+      → settle defs.msdbs now.msdbs own.deferred ≡ s
   on_state s e =
       ap (λ (msdbs : List Msdb). settle defs.msdbs msdbs own.deferred) is.msdbs
       ∙ ap (λ (queue : List Deferred). settle defs.msdbs store.msdbs queue) is.deferred
@@ -40,9 +42,11 @@ module _ (defs : Defs) (now : Db) (own : Workspace) (store : Stored) (draft : Dr
       rw (done, reply) (ap (λ (s : Settlement). settled_as now draft.reply s) commits)
 
   pub refused_end : (msdbs : List Msdb) (why : Cause)
-      → ((call fsa : ℕ) (found : List ℕ) → why ≡ cause.Verify call fsa found → settle defs.msdbs store.msdbs draft.deferred ≡ VerifyFails call fsa found)
+      → ((call fsa : ℕ) (found : List ℕ) → why ≡ cause.Verify call fsa found
+      → settle defs.msdbs store.msdbs draft.deferred ≡ VerifyFails call fsa found)
       → IsEnd now msdbs (Err why) (settled_as now draft.reply (settlement defs now own))
   refused_end msdbs (cause.Verify call fsa found) h =
-      let fails = settlement_fails defs is.no_dedbs now own is.changes is.inserts call fsa found (on_state (VerifyFails call fsa found) (h call fsa found refl)) in
+      let fails = settlement_fails defs is.no_dedbs now own is.changes is.inserts call fsa found
+      (on_state (VerifyFails call fsa found) (h call fsa found refl)) in
       ap (λ (s : Settlement). settled_as now draft.reply s) fails
   refused_end msdbs cause.Memory h = tt

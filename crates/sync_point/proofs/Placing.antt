@@ -19,12 +19,14 @@ by_both m n k l = ordering_then (nat_cmp m n) (slice_cmp nat_cmp k l)
 before_is : (m n : ℕ) (k l : List ℕ) → comes_before (Segment m k) (Segment n l) ≡ is_lt (by_both m n k l)
 before_is m n k l = by (nat_lt m n) (m == n) (slice_cmp nat_cmp k l)
   where
-    by : (a b : Bool) (o : Ordering) → (a || b && is_lt o) ≡ is_lt (ordering_then (cond a Less (cond b Equal Greater)) o)
+    by : (a b : Bool) (o : Ordering)
+        → (a || b && is_lt o) ≡ is_lt (ordering_then (cond a Less (cond b Equal Greater)) o)
     by true b o = refl
     by false true o = refl
     by false false o = refl
 
-then_reverse : (a b : Ordering) → ordering_then (ordering_reverse a) (ordering_reverse b) ≡ ordering_reverse (ordering_then a b)
+then_reverse : (a b : Ordering)
+    → ordering_then (ordering_reverse a) (ordering_reverse b) ≡ ordering_reverse (ordering_then a b)
 then_reverse Less b = refl
 then_reverse Equal b = refl
 then_reverse Greater b = refl
@@ -38,15 +40,20 @@ turned m n k l =
 -- a segment at its place, by how it compares
 placed : (m n : ℕ) (k l : List ℕ) (others : List Resource) (o : Ordering) → by_both m n k l ≡ o
     → with_resource (Segment m k) (Segment n l ∷ others)
-    ≡ match_ordering o (Segment m k ∷ Segment n l ∷ others) (Segment n l ∷ others) (Segment n l ∷ with_resource (Segment m k) others)
+    ≡ match_ordering o (Segment m k ∷ Segment n l ∷ others) (Segment n l ∷ others)
+    (Segment n l ∷ with_resource (Segment m k) others)
 placed m n k l others o e =
     let first : comes_before (Segment m k) (Segment n l) ≡ is_lt o = before_is m n k l ∙ ap is_lt e in
-    let second : comes_before (Segment n l) (Segment m k) ≡ is_lt (ordering_reverse o) = before_is n m l k ∙ ap is_lt (turned m n k l ∙ ap ordering_reverse e) in
+    let second : comes_before (Segment n l) (Segment m k) ≡ is_lt (ordering_reverse o) = before_is n m l k
+    ∙ ap is_lt (turned m n k l ∙ ap ordering_reverse e) in
     rw (first, second) (by o)
   where
     by : (o : Ordering)
-        → (if is_lt o then Segment m k ∷ Segment n l ∷ others else (if is_lt (ordering_reverse o) then Segment n l ∷ with_resource (Segment m k) others else Segment n l ∷ others))
-        ≡ match_ordering o (Segment m k ∷ Segment n l ∷ others) (Segment n l ∷ others) (Segment n l ∷ with_resource (Segment m k) others)
+        → (if is_lt o then Segment m k ∷ Segment n l ∷ others else
+        (if is_lt (ordering_reverse o) then Segment n l ∷ with_resource (Segment m k) others else Segment n l ∷
+        others))
+        ≡ match_ordering o (Segment m k ∷ Segment n l ∷ others) (Segment n l ∷ others)
+        (Segment n l ∷ with_resource (Segment m k) others)
     by Less = refl
     by Equal = refl
     by Greater = refl
@@ -67,10 +74,12 @@ module _ {K : Type 0} (number : K → ℕ) (key : K → List ℕ) where
           → map of (insert_key order (y ∷ ys) x) ≡ with_resource (of x) (map of (y ∷ ys))
       by Less e rest = rw e (sym (placed (number x) (number y) (key x) (key y) (map of ys) Less e))
       by Equal e rest = rw e (sym (placed (number x) (number y) (key x) (key y) (map of ys) Equal e))
-      by Greater e rest = rw e (ap (λ rs. of y ∷ rs) rest ∙ sym (placed (number x) (number y) (key x) (key y) (map of ys) Greater e))
+      by Greater e rest = rw e (ap (λ rs. of y ∷ rs) rest
+          ∙ sym (placed (number x) (number y) (key x) (key y) (map of ys) Greater e))
 
 -- the calls from one on are it and those behind it
-pub from_call : (calls : List Deferred) (at : ℕ) (call known : Deferred) → 0 < at → at ≤ length calls → call ≡ get_or calls (at - 1) call → call ≡ known
+pub from_call : (calls : List Deferred) (at : ℕ) (call known : Deferred) → 0 < at → at ≤ length calls
+    → call ≡ get_or calls (at - 1) call → call ≡ known
     → drop (at - 1) calls ≡ known ∷ drop at calls
 from_call calls at call known some within is as_known =
     let next : suc (at - 1) ≡ at = omega arith in

@@ -6,7 +6,8 @@ use Rattle.fp_model.specs.LogText.{entry_text}
 use Rattle.log_format.proofs.SizeLaws.{length_of_entry}
 use Rattle.sync_point.specs.Refusals.{IsBare, bare_entry, refusal_room}
 
-pub bare_length : (from : ℕ) (o : Outcome) (line : List ℕ) → IsBare o → length (entry_text (bare_entry from o line)) ≡ refusal_room line
+pub bare_length : (from : ℕ) (o : Outcome) (line : List ℕ) → IsBare o
+    → length (entry_text (bare_entry from o line)) ≡ refusal_room line
 bare_length from outcome.Device line bare = omega (arith, length_of_entry (bare_entry from outcome.Device line))
 bare_length from outcome.Memory line bare = omega (arith, length_of_entry (bare_entry from outcome.Memory line))
 bare_length from outcome.Done line bare = absurd bare

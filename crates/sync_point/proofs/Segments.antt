@@ -14,7 +14,8 @@ use Rattle.msdb_store.specs.Settling.{IsSegmentItem}
 use Rattle.msdb_store.specs.Store.{IsFitSegment}
 use Rattle.sync_point.proofs.Scripts.{each_has}
 
-pub items_fit : (defs : Defs) (items : List Item) → AllByRecursion (IsFitSegment defs.msdbs) items → AllByRecursion IsSegmentItem items → AllByRecursion (IsFit defs) items
+pub items_fit : (defs : Defs) (items : List Item) → AllByRecursion (IsFitSegment defs.msdbs) items
+    → AllByRecursion IsSegmentItem items → AllByRecursion (IsFit defs) items
 items_fit defs [] h g = tt
 items_fit defs (item.Segment number key bytes ∷ items) h g = (h.0, items_fit defs items h.1 g.1)
 items_fit defs (item.Image set ci bytes ∷ items) h g = absurd g.0
@@ -24,18 +25,24 @@ key_short : (fields : List FieldDef) → BeginsWithKey fields → key_length fie
 key_short [] h = absurd h
 key_short (f ∷ fs) h = h.1
 
-bytes_short : (def : MsdbDef) (key bytes : List ℕ) → def.length ≤ 1024 → (bytes ≡ []) ⊎ ((length bytes ≡ def.length) × (take (length key) bytes ≡ key)) → length bytes < 2 ^ 16
+bytes_short : (def : MsdbDef) (key bytes : List ℕ) → def.length ≤ 1024
+    → (bytes ≡ []) ⊎ ((length bytes ≡ def.length) × (take (length key) bytes ≡ key)) → length bytes < 2 ^ 16
 bytes_short def key bytes few (inl e) = rw e (omega arith)
 bytes_short def key bytes few (inr h) = omega (arith, h.0, few)
 
-item_short : (def : MsdbDef) (key bytes : List ℕ) → IsMsdbDef def → FitsMsdb def key bytes → (length key < 2 ^ 8) × (length bytes < 2 ^ 16)
+item_short : (def : MsdbDef) (key bytes : List ℕ) → IsMsdbDef def → FitsMsdb def key bytes
+    → (length key < 2 ^ 8) × (length bytes < 2 ^ 16)
 item_short def key bytes is fits =
     let k = key_short def.fields is.key in
     (omega (arith, k, fits.key_length), bytes_short def key bytes is.short fits.segment)
 
-pub items_short : (defs : List MsdbDef) (items : List Item) → AllByRecursion IsMsdbDef defs → AllByRecursion (IsFitSegment defs) items → AllByRecursion IsSegmentItem items → AllByRecursion FitsItem items
+pub items_short : (defs : List MsdbDef) (items : List Item) → AllByRecursion IsMsdbDef defs
+    → AllByRecursion (IsFitSegment defs) items → AllByRecursion IsSegmentItem items → AllByRecursion FitsItem items
 items_short defs [] each h g = tt
-items_short defs (item.Segment number key bytes ∷ items) each h g =
-    (item_short h.0.0 key bytes (each_has IsMsdbDef defs number h.0.0 each h.0.1) h.0.2, items_short defs items each h.1 g.1)
+items_short defs (item.Segment number key bytes ∷ items) each h g = (
+  item_short h.0.0 key bytes (each_has IsMsdbDef defs number h.0.0 each h.0.1) h.0.2,
+  items_short defs items each
+      h.1 g.1,
+)
 items_short defs (item.Image set ci bytes ∷ items) each h g = absurd g.0
 items_short defs (item.Range set ci at bytes ∷ items) each h g = absurd g.0

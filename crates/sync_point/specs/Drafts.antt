@@ -34,8 +34,8 @@ done_entry draft items = record {
   items = items;
 }
 
--- How a transaction ends on the state now, by an answer: as its entry says, with these databases behind it; or refused for
--- the verify that fails. Want of memory says nothing.
+-- How a transaction ends on the state now, by an answer: as its entry says, with these databases behind it; or refused
+-- for the verify that fails. Want of memory says nothing.
 abbrev pub IsEnd : Db → List Msdb → Result Entry Cause → Ending → Type 0
 IsEnd now msdbs (Ok entry) ending =
     ending ≡ record { outcome = entry.outcome; reply = entry.reply; next = record now { msdbs = msdbs } }

@@ -10,7 +10,15 @@ IsBare Memory = ⊤
 IsBare _ = ⊥
 
 abbrev pub bare_entry : ℕ → Outcome → List ℕ → Entry
-bare_entry from outcome line = record { from = from; outcome = outcome; line = line; reply = []; notes = []; items = [] }
+bare_entry from outcome line = record {
+  from = from;
+  outcome = outcome;
+  line = line;
+  reply = [];
+  notes = [];
+  items =
+      [];
+}
 
 -- how many bytes it has in the log: 29 and its line
 abbrev pub refusal_room : List ℕ → ℕ

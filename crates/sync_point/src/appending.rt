@@ -15,7 +15,8 @@ pub fn refusal_room(line: &Bytes) -> u64
     ensures room { result ≡ refusal_room line.now }
 
     // It is just enough for such an entry.
-    ensures enough { (from : ℕ) (outcome : Outcome) → IsBare outcome → length (entry_text (bare_entry from outcome line.now)) ≡ result }
+    ensures enough { (from : ℕ) (outcome : Outcome) → IsBare outcome
+        → length (entry_text (bare_entry from outcome line.now)) ≡ result }
 {
     29 + line.len() as u64
 }

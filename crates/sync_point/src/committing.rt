@@ -62,12 +62,17 @@ impl Draft {
     fn settled(&self, msdbs: &MsdbStore) -> Result<Staged, Cause>
         requires able { (defs : ListOf MsdbDef) × CanSettle defs msdbs.now self.now.deferred }
         ensures ok { (defs : ListOf MsdbDef) → CanSettle defs msdbs.now self.now.deferred
-            → IfOk result (λ staged. settle defs msdbs.now.msdbs self.now.deferred ≡ Stands (with_items defs msdbs.now.msdbs staged.items)) }
-        ensures verify { (defs : ListOf MsdbDef) (call fsa : ℕ) (found : ListOf ℕ) → CanSettle defs msdbs.now self.now.deferred
-            → IsErrOf result (causes.Verify call fsa found) → settle defs msdbs.now.msdbs self.now.deferred ≡ VerifyFails call fsa found }
-        ensures staged { (defs : ListOf MsdbDef) → CanSettle defs msdbs.now self.now.deferred → IfOk result (IsStaged defs msdbs.now.msdbs) }
+            → IfOk result (λ staged. settle defs msdbs.now.msdbs self.now.deferred
+            ≡ Stands (with_items defs msdbs.now.msdbs staged.items)) }
+        ensures verify { (defs : ListOf MsdbDef) (call fsa : ℕ) (found : ListOf ℕ)
+            → CanSettle defs msdbs.now self.now.deferred
+            → IsErrOf result (causes.Verify call fsa found)
+            → settle defs msdbs.now.msdbs self.now.deferred ≡ VerifyFails call fsa found }
+        ensures staged { (defs : ListOf MsdbDef) → CanSettle defs msdbs.now self.now.deferred
+            → IfOk result (IsStaged defs msdbs.now.msdbs) }
         ensures keys { (defs : ListOf MsdbDef) → CanSettle defs msdbs.now self.now.deferred
-            → IfOk result (λ staged. (number : ℕ) → (key : ListOf ℕ) → (HasItem staged.items number key) ↔ (IsNamed defs self.now.deferred number key)) }
+            → IfOk result (λ staged. (number : ℕ) → (key : ListOf ℕ)
+            → (HasItem staged.items number key) ↔ (IsNamed defs self.now.deferred number key)) }
     {
         if self.deferred.len() >= MOST {
             return Err(Cause::Memory);
@@ -120,8 +125,10 @@ fn publish(
     requires rules { KeepsRules entry.now }
     requires fits { FitsEntry entry.now }
     requires staged { (defs : ListOf MsdbDef) × IsOf defs msdbs.old × IsStaged defs msdbs.old.msdbs staged }
-    ensures msdbs { (defs : ListOf MsdbDef) → IsOf defs msdbs.old → IsStaged defs msdbs.old.msdbs staged → OnOk result (msdbs.new.msdbs ≡ with_items defs msdbs.old.msdbs staged.items) }
-    ensures of { (defs : ListOf MsdbDef) → IsOf defs msdbs.old → IsStaged defs msdbs.old.msdbs staged → IsOf defs msdbs.new }
+    ensures msdbs { (defs : ListOf MsdbDef) → IsOf defs msdbs.old → IsStaged defs msdbs.old.msdbs staged
+        → OnOk result (msdbs.new.msdbs ≡ with_items defs msdbs.old.msdbs staged.items) }
+    ensures of { (defs : ListOf MsdbDef) → IsOf defs msdbs.old → IsStaged defs msdbs.old.msdbs staged
+        → IsOf defs msdbs.new }
     ensures unsealed { OnOk result (log.new.unsealed ≡ log.old.unsealed ++ entry.now ∷ []) }
     ensures spare { log.old.spare ≤ log.new.spare }
     ensures sealed { log.new.sealed ≡ log.old.sealed }
@@ -148,16 +155,19 @@ pub fn commit(draft: Draft, msdbs: &mut MsdbStore, log: &mut Log) -> Result<Entr
     // The transaction ends as the state and the workspace say: done, or with the verify that fails.
     ensures end { (defs : Defs) (now : Db) (own : Workspace) → IsDraftOf defs now own msdbs.old draft
         → IsEnd now msdbs.new.msdbs result (settled_as now draft.reply (settlement defs now own)) }
-    ensures found { (call fsa : ℕ) (found : ListOf ℕ) → IsErrOf result (causes.Verify call fsa found) → length found ≤ 1024 }
+    ensures found { (call fsa : ℕ) (found : ListOf ℕ) → IsErrOf result (causes.Verify call fsa found)
+        → length found ≤ 1024 }
 
     // At Ok the log has the draft's entry behind the others, and its items make the databases of what they were.
     ensures entry { IfOk result (λ entry. entry ≡ done_entry draft entry.items) }
     ensures unsealed { IfOk result (λ entry. log.new.unsealed ≡ log.old.unsealed ++ entry ∷ []) }
     ensures msdbs { (defs : ListOf MsdbDef) → CanSettle defs msdbs.old draft.deferred
         → IfOk result (λ entry. msdbs.new.msdbs ≡ with_items defs msdbs.old.msdbs entry.items) }
-    ensures fit { (defs : Defs) → CanSettle defs.msdbs msdbs.old draft.deferred → IfOk result (λ entry. AllByRecursion (IsFit defs) entry.items) }
+    ensures fit { (defs : Defs) → CanSettle defs.msdbs msdbs.old draft.deferred
+        → IfOk result (λ entry. AllByRecursion (IsFit defs) entry.items) }
     ensures keys { (defs : ListOf MsdbDef) → CanSettle defs msdbs.old draft.deferred
-        → IfOk result (λ entry. (number : ℕ) → (key : ListOf ℕ) → (HasItem entry.items number key) ↔ (IsNamed defs draft.deferred number key)) }
+        → IfOk result (λ entry. (number : ℕ) → (key : ListOf ℕ)
+        → (HasItem entry.items number key) ↔ (IsNamed defs draft.deferred number key)) }
 
     // A cause changes neither databases nor entries.
     ensures segments { OnErr result (msdbs.new.msdbs ≡ msdbs.old.msdbs) }

@@ -1,8 +1,7 @@
 //! The segments that a sync point locks.
 ghost use Rattle.fp_model.specs.Settle.{resources};
-ghost use Rattle.fp_model.specs.declared.calls.Resource.{Resource as ResourceOf};
 ghost use Rattle.fp_model.specs.declared.calls.Resource.TheVariants.{Segment};
-ghost use Rattle.std.specs.Prelude.{◌≡◌, IfOk, List as ListOf, map};
+ghost use Rattle.std.specs.Prelude.{◌≡◌, IfOk, map};
 
 use fp_model::{Bytes, Deferred, List, Resource};
 use std::alloc::{AllocError, Global};
@@ -17,7 +16,8 @@ struct Named {
 
 // The segments that field calls name, in their order and each once.
 fn named_by(alloc: Global, calls: &[Deferred]) -> Result<BTreeSet<Named>, AllocError>
-    ensures { IfOk result (λ names. map (λ name. Segment name.msdb name.key.items) names.keys ≡ resources calls.now) }
+    ensures { IfOk result (λ names.
+        map (λ name. Segment name.msdb name.key.items) names.keys ≡ resources calls.now) }
 {
     let mut names = BTreeSet::new(alloc);
     for at in (0..calls.len()).rev() {

@@ -15,6 +15,8 @@ loop-at-preserved-in_ok-insert c =
     let within : at ≤ length calls = omega arith in
     ap (map (of (λ n. n.msdb) (λ n. n.key.items))) c.in_ok-insert.ensures.keys
     ∙ put_name (λ n. n.msdb) (λ n. n.key.items) names (record { msdb = c.in-Fld.msdb; key = c.in_ok-key.key })
-    ∙ ap (λ k. with_resource (Segment c.in-Fld.msdb k) (map (of (λ n. n.msdb) (λ n. n.key.items)) names)) (c.in_ok-key.ensures.items ∙ c.as_slice.ensures)
+    ∙ ap (λ k. with_resource (Segment c.in-Fld.msdb k) (map (of (λ n. n.msdb) (λ n. n.key.items)) names))
+    (c.in_ok-key.ensures.items ∙ c.as_slice.ensures)
     ∙ ap (with_resource (Segment c.in-Fld.msdb key)) c.loop-at.invariant
-    ∙ ap resources (sym (from_call calls at c.index-calls-at.result (Fld c.in-Fld.msdb key c.in-Fld.fsas) some within c.index-calls-at.is c.in-Fld.is))
+    ∙ ap resources (sym (from_call calls at c.index-calls-at.result (Fld c.in-Fld.msdb key c.in-Fld.fsas) some within
+    c.index-calls-at.is c.in-Fld.is))
