@@ -1,24 +1,17 @@
 -- The entry of a transaction that ran alone comes next.
-use Rattle.std.proofs.Common.{◌≡◌, refl, sym, ◌∙◌, ap, subst, arith, inl, inr, ℕ, zero, suc, ◌+◌, ◌≤◌, ◌<◌, ◌^◌, ◌⊎◌, List, [], ◌∷◌, ◌++◌, length, take, Bool, true, false, Option, Some, None, IfSome, slice_get, unwrap_or, fold}
+use Rattle.std.proofs.Common.{◌≡◌, refl, sym, ◌∙◌, ap, subst, arith, ℕ, List, [], ◌∷◌, length, Bool, true, false, Option, Some, None}
 use Rattle.std.specs.List.{AllByRecursion, list_all}
 use Rattle.std.specs.Prelude.{Result, Ok, Err, if◌then◌else◌, nat_lt}
 use Rattle.fp_model.specs.declared.name.Name.{Name}
 use Rattle.fp_model.specs.declared.calls.Message.{Message}
-use Rattle.fp_model.specs.declared.database.Db.{Db}
 use Rattle.fp_model.specs.declared.database.Msdb.{Msdb}
-use Rattle.fp_model.specs.declared.definitions.DedbDef.{DedbDef}
 use Rattle.fp_model.specs.declared.definitions.Defs.{Defs}
-use Rattle.fp_model.specs.declared.definitions.FieldDef.{FieldDef}
-use Rattle.fp_model.specs.declared.definitions.MsdbDef.{MsdbDef}
-use Rattle.fp_model.specs.declared.log.Entry.{Entry}
 use Rattle.fp_model.specs.declared.log.Item.{Item}
-use Rattle.fp_model.specs.declared.log.Item.TheVariants as item
 use Rattle.fp_model.specs.declared.log.Outcome.TheVariants as outcome
 use Rattle.fp_model.specs.declared.scripts.Script.{Script}
-use Rattle.fp_model.specs.Commit.{Settlement, Commits, FailsVerify, committed, first_full, settled_to, settlement, with_msdbs}
+use Rattle.fp_model.specs.Commit.{Settlement}
 use Rattle.fp_model.specs.SerialHistory.{NeverFalls}
-use Rattle.fp_model.specs.Items.{FitsMsdb, IsFit, with_items}
-use Rattle.fp_model.specs.LogText.{FitsItem}
+use Rattle.fp_model.specs.Items.{with_items}
 use Rattle.fp_model.specs.History.{History, Accepts, Refuses, place_of}
 use Rattle.fp_model.specs.Lasts.{Last, format_at, lasts_of}
 use Rattle.fp_model.specs.Messages.{MessageFault, TooLong, NotAscii, behind_word, first_word, message_by, message_of, terminal_of}
@@ -26,13 +19,10 @@ use Rattle.fp_model.specs.Names.{name_in}
 use Rattle.fp_model.specs.Product.{by_message, by_number, request_of}
 use Rattle.fp_model.specs.Texts.{is_printable}
 use Rattle.fp_model.specs.Serial.{Ends, settled_as}
-use Rattle.fp_model.specs.Settle.{Settled, Stands, VerifyFails, settle}
-use Rattle.fp_model.specs.State.{areas_of, areas_of_all, first_area_set, key_length}
-use Rattle.fp_model.specs.WellFormed.{BeginsWithKey, IsMsdbDef}
-use Rattle.fp_model.specs.Workspace.{Workspace}
+use Rattle.fp_model.specs.Settle.{Stands, VerifyFails, settle}
 use Rattle.dli_calls.specs.Progress.{Progress}
 use Rattle.msdb_store.specs.Settling.{IsSegmentItem}
-use Rattle.msdb_store.specs.Store.{IsFitSegment, Stored}
+use Rattle.msdb_store.specs.Store.{IsFitSegment}
 use Rattle.lone_region.specs.Entries.{done_entry, plain_request, refused_entry, unknown_entry, without_number}
 use Rattle.lone_region.specs.Next.{ComesNext, IsPlainHistory}
 use Rattle.lone_region.specs.Running.{HasEnded, IsPlain}

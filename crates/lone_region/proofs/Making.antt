@@ -1,5 +1,5 @@
 -- What a line is given can be written, and comes next.
-use Rattle.std.proofs.Common.{◌≡◌, refl, arith, ℕ, ◌≤◌, ◌<◌, ◌^◌, List, [], length, None, Some}
+use Rattle.std.proofs.Common.{◌≡◌, refl, arith, ℕ, ◌≤◌, ◌<◌, ◌^◌, List, length, None, Some}
 use Rattle.fp_model.specs.declared.calls.Message.{Message}
 use Rattle.fp_model.specs.declared.definitions.Defs.{Defs}
 use Rattle.fp_model.specs.declared.log.Outcome.TheVariants as outcome

@@ -1,15 +1,13 @@
 -- What a transaction takes, by its script.
-use Rattle.std.proofs.Common.{◌≡◌, refl, ap, subst, arith, ℕ, zero, suc, ◌≤◌, List, [], ◌∷◌, Bool, true, false, Option, Some, slice_get}
+use Rattle.std.proofs.Common.{◌≡◌, refl, ap, arith, ◌≤◌, List, [], ◌∷◌, Bool, true, false, Option, Some}
 use Rattle.std.specs.Prelude.{find}
 use Rattle.fp_model.specs.Texts.{same_text}
 use Rattle.std.specs.List.{AllByRecursion}
 use Rattle.std.specs.Option.{option_map_or}
-use Rattle.fp_model.specs.declared.calls.Answer.{Answer}
 use Rattle.fp_model.specs.declared.calls.Message.{Message}
-use Rattle.fp_model.specs.declared.definitions.Defs.{Defs}
 use Rattle.fp_model.specs.declared.scripts.Script.{Script}
-use Rattle.fp_model.specs.Product.{asked_by, cost_of}
-use Rattle.fp_model.specs.Asking.{Replies, ask, full_cost, script_of}
+use Rattle.fp_model.specs.Product.{cost_of}
+use Rattle.fp_model.specs.Asking.{full_cost, script_of}
 
 -- its cost is that of its script
 pub cost_is : (scripts : List Script) (message : Message) (script : Script) → script_of scripts message.tran ≡ Some script → cost_of scripts message ≡ full_cost script.statements
