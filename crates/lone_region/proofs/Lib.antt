@@ -1,10 +1,7 @@
 mod Comings
-mod Found
 mod Making
 mod Needs
 mod Plain
-mod Replies
 mod Results
 mod Steps
-mod Stores
 mod Transactions
