@@ -142,8 +142,8 @@ module _ (rules : Rules) (gauge : Gauge) (laws : EndLaws rules gauge) (view : Vi
   behind_not_more (suc n) from [] m m2 h runs = absurd runs
   behind_not_more (suc n) from (s ∷ steps) m m2 h runs =
       let first = region_not_more m from s.after (turn_moves m from s.environment s.after h runs.0) in
-      let then = reached_then m (event.Region from) s.environment s.after h runs.0 in
-      let rest = behind_not_more n (from + 1) steps s.after m2 then runs.1 in
+      let behind = reached_then m (event.Region from) s.environment s.after h runs.0 in
+      let rest = behind_not_more n (from + 1) steps s.after m2 behind runs.1 in
       omega (arith, first, rest)
 
   -- with other requests
