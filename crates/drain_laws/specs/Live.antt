@@ -35,6 +35,7 @@ pub record IsServed (rules : Rules) (queue : ℕ) : Type 0 where
   pub is_there : place < length rules.regions
   pub takes : queue_of_region rules (suc place) ≡ queue
 
+-- What the end of the drain needs of the rules.
 pub record EndLaws (rules : Rules) (gauge : Gauge) : Type 0 where
   -- a group of entries has at least one
   pub seals : 1 ≤ rules.log_group

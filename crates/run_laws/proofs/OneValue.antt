@@ -30,7 +30,7 @@ use Rattle.drain_laws.specs.Measure.{Gauge}
 use Rattle.drain_laws.specs.Live.{EndLaws, IsReached}
 use Rattle.drain_laws.proofs.Rounds.{reached_then}
 use Rattle.drain_laws.proofs.Existence.{turn_there_is}
-use Rattle.run_laws.specs.Determined.{is_purgeable, IsOfSchedule, AreFair, but_cycle, whole, plain_entry, plain, plain_step, NameFound, RoundsNameFound}
+use Rattle.run_laws.specs.Determined.{is_purgeable, IsOfSchedule, AreFair, but_cycle, whole, plain_entry, plain, plain_step, StepsNameFound, RoundsNameFound}
 use Rattle.run_laws.proofs.Plain.{AreBlind, same_place, goes, turn_plain}
 
 -- ---- this system's rules don't see items or cycles
@@ -276,7 +276,7 @@ module _ (rules : Rules) where
       (unseen blind m steps, unseen_rounds blind (machine_after m steps) rounds)
 
   found : (blind : AreBlind rules whole) (search : List Lock → List Lock → ℕ → List ℕ) (m : Machine)
-      (steps : List RunStep) → NameFound search rules m steps
+      (steps : List RunStep) → StepsNameFound search rules m steps
       → AllAgree rules whole blind search m steps
   found blind search m [] names = tt
   found blind search m (step ∷ steps) names = (
@@ -397,8 +397,8 @@ module _ (defs : Defs) (scripts : List Script) where
       → step_events steps ≡ step_events steps2
       → AreFair steps
       → AreFair steps2
-      → NameFound search (rules_of defs scripts) m steps
-      → NameFound search (rules_of defs scripts) m steps2
+      → StepsNameFound search (rules_of defs scripts) m steps
+      → StepsNameFound search (rules_of defs scripts) m steps2
       → (map (plain_step whole) steps ≡ map (plain_step whole) steps2) × (plain whole m2 ≡ plain whole m3)
   runs_found search m steps steps2 m2 m3 runs runs2 events fair fair2 names names2 =
       runs_are_one (rules_of defs scripts) whole blind_whole search m m steps steps2 m2 m3 refl runs runs2 events fair

@@ -66,8 +66,8 @@ plain_step seen step = record step { after = plain seen step.after }
 
 -- Where the step is a region's that ends by a Deadlock, the cycle is the one that the search finds by requests, with
 -- that for the lock that is wanted, and locks.
-abbrev pub NamesFound : (List Lock → List Lock → ℕ → List ℕ) → Rules → Machine → RunStep → Type 0
-NamesFound search rules m step =
+abbrev pub StepNamesFound : (List Lock → List Lock → ℕ → List ℕ) → Rules → Machine → RunStep → Type 0
+StepNamesFound search rules m step =
     (region : ℕ) (t : Transaction) (needed : Needed) (cycle : List ℕ)
     → step.event ≡ event.Region region
     → region_at m region ≡ Some (Active t)
@@ -76,12 +76,12 @@ NamesFound search rules m step =
     → cycle ≡ search (requests_with rules m region needed) m.locks region
 
 -- so do all steps of a run
-abbrev pub NameFound : (List Lock → List Lock → ℕ → List ℕ) → Rules → Machine → List RunStep → Type 0
-NameFound search rules m [] = ⊤
-NameFound search rules m (step ∷ steps) = NamesFound search rules m step × NameFound search rules step.after steps
+abbrev pub StepsNameFound : (List Lock → List Lock → ℕ → List ℕ) → Rules → Machine → List RunStep → Type 0
+StepsNameFound search rules m [] = ⊤
+StepsNameFound search rules m (step ∷ steps) = StepNamesFound search rules m step × StepsNameFound search rules step.after steps
 
 -- and all rounds of a drain
 abbrev pub RoundsNameFound : (List Lock → List Lock → ℕ → List ℕ) → Rules → Machine → List (List RunStep) → Type 0
 RoundsNameFound search rules m [] = ⊤
 RoundsNameFound search rules m (steps ∷ rounds) =
-    NameFound search rules m steps × RoundsNameFound search rules (machine_after m steps) rounds
+    StepsNameFound search rules m steps × RoundsNameFound search rules (machine_after m steps) rounds

@@ -11,7 +11,7 @@ ghost use Rattle.fp_model.specs.Turns.{NoFault, Turn};
 ghost use Rattle.fp_model.specs.Runs.{RunStep, step_events, Runs, Drains};
 ghost use Rattle.fp_model.specs.WellFormed.{AreDefs};
 ghost use Rattle.drain_laws.specs.Live.{IsFromRest};
-ghost use Rattle.run_laws.specs.Determined.{IsOfSchedule, AreFair, but_cycle, whole, plain, plain_step, NameFound, RoundsNameFound};
+ghost use Rattle.run_laws.specs.Determined.{IsOfSchedule, AreFair, but_cycle, whole, plain, plain_step, StepsNameFound, RoundsNameFound};
 
 /// Each event that a schedule may have has a turn that nothing befalls, and so each schedule a run.
 pub fn every_event_has_a_turn()
@@ -76,8 +76,8 @@ pub fn events_and_a_search_determine_a_run()
         → step_events steps ≡ step_events steps2
         → AreFair steps
         → AreFair steps2
-        → NameFound search (rules_of defs scripts) m steps
-        → NameFound search (rules_of defs scripts) m steps2
+        → StepsNameFound search (rules_of defs scripts) m steps
+        → StepsNameFound search (rules_of defs scripts) m steps2
         → (map (plain_step whole) steps ≡ map (plain_step whole) steps2) × (plain whole m2 ≡ plain whole m3) }
     ensures drain { (defs : Defs) (scripts : List Script) (search : List Lock → List Lock → ℕ → List ℕ) (m n : Machine)
         → (rounds rounds2 : List (List RunStep)) (m2 n2 : Machine)
