@@ -122,7 +122,7 @@ module _ (rules : Rules) (gauge : Gauge) where
   IsAwaited m = (name : Name) → is_among m.busy name ≡ true → 0 < count rules name m
 
   -- a machine with the same regions and queues
-  frame : (m m2 : Machine) → m2.regions ≡ m.regions → length m2.queues ≡ length m.queues
+  pub frame : (m m2 : Machine) → m2.regions ≡ m.regions → length m2.queues ≡ length m.queues
       → ((lock : Lock) → Contains m2.locks lock → IsAtWork m lock.region)
       → IsAwaited m2
       → IsLive rules gauge m → IsLive rules gauge m2

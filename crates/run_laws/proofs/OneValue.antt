@@ -1,4 +1,4 @@
--- Runs from one place by the same events, which nothing befalls, are one value; and for each event there is a turn.
+-- Runs from one place by the same events, with the same befalling them, are one value; and each event has a turn.
 use Rattle.std.proofs.Common.{◌≡◌, ℕ, List, [], ◌∷◌, ◌++◌, length, map, Option, Some, None, refl, sym, ◌∙◌, ap, subst, Bool, true, false, if◌then◌else◌, arith}
 use Rattle.std.specs.Prelude.{nat_lt, unwrap_or}
 use Rattle.std.specs.List.{AllByRecursion}
@@ -21,7 +21,7 @@ use Rattle.fp_model.specs.Rules.{Rules}
 use Rattle.fp_model.specs.State.{Area}
 use Rattle.fp_model.specs.Waiting.{Lock}
 use Rattle.fp_model.specs.Machine.{Transaction, Active, Machine, region_at, with_entry_of, entry_here, taken_in, sealed_once, sealed_all}
-use Rattle.fp_model.specs.Turns.{NoFault, asks, wanted, requests_with, refused_with, is_area_held, PurgeTurn, Turn}
+use Rattle.fp_model.specs.Turns.{Environment, NoFault, asks, wanted, requests_with, refused_with, is_area_held, PurgeTurn, Turn}
 use Rattle.fp_model.specs.Runs.{RunStep, step_events, machine_after, Runs, IsDrained, Drains}
 use Rattle.serial_order.proofs.Lists.{true_is_not_false}
 use Rattle.serial_order.specs.Laws.{Laws}
@@ -30,7 +30,7 @@ use Rattle.drain_laws.specs.Measure.{Gauge}
 use Rattle.drain_laws.specs.Live.{EndLaws, IsReached}
 use Rattle.drain_laws.proofs.Rounds.{reached_then}
 use Rattle.drain_laws.proofs.Existence.{turn_there_is}
-use Rattle.run_laws.specs.Determined.{is_purgeable, IsOfSchedule, AreFair, but_cycle, whole, plain_entry, plain, plain_step, StepsNameFound, RoundsNameFound}
+use Rattle.run_laws.specs.Determined.{is_purgeable, IsOfSchedule, AreFair, step_parts, but_cycle, whole, plain_entry, plain, plain_step, StepsNameFound, RoundsNameFound}
 use Rattle.run_laws.proofs.Plain.{AreBlind, same_place, goes, turn_plain}
 
 -- ---- this system's rules don't see items or cycles
@@ -113,6 +113,23 @@ module _ (seen : Outcome → Outcome) (sees : Sees seen) where
 
 -- ---- runs
 
+-- steps that nothing befalls
+parts_of_fair : (steps : List RunStep) → AreFair steps
+    → step_parts steps ≡ map (λ (e : Event). let p : Event × Environment = (e, NoFault) in p) (step_events steps)
+parts_of_fair [] fair = refl
+parts_of_fair (step ∷ steps) fair =
+    ap (λ (v : Environment). (let p : Event × Environment = (step.event, v) in p) ∷ step_parts steps) fair.0
+    ∙ ap (λ (ps : List (Event × Environment)). (let p : Event × Environment = (step.event, NoFault) in p) ∷ ps)
+    (parts_of_fair steps fair.1)
+
+-- are the same parts where they are the same events
+fair_parts : (steps steps2 : List RunStep) → AreFair steps → AreFair steps2 → step_events steps ≡ step_events steps2
+    → step_parts steps ≡ step_parts steps2
+fair_parts steps steps2 fair fair2 events =
+    parts_of_fair steps fair
+    ∙ ap (λ (es : List Event). map (λ (e : Event). let p : Event × Environment = (e, NoFault) in p) es) events
+    ∙ sym (parts_of_fair steps2 fair2)
+
 module _ (rules : Rules) (seen : Outcome → Outcome) (blind : AreBlind rules seen)
     (search : List Lock → List Lock → ℕ → List ℕ) where
   -- a cycle is seen as the one that the search finds
@@ -133,79 +150,70 @@ module _ (rules : Rules) (seen : Outcome → Outcome) (blind : AreBlind rules se
   RoundsAgree m [] = Unit {0}
   RoundsAgree m (steps ∷ rounds) = AllAgree m steps × RoundsAgree (machine_after m steps) rounds
 
-  -- the steps that events lead to
-  abbrev goes_by : List Event → Machine → List RunStep
+  -- the steps that events lead to, with what befalls them
+  abbrev goes_by : List (Event × Environment) → Machine → List RunStep
   goes_by [] b = []
   goes_by (e ∷ es) b =
-      let after : Machine = goes rules seen blind search e b in
-      record { event = e; environment = NoFault; after = after } ∷ goes_by es after
+      let after : Machine = goes rules seen blind search e.0 e.1 b in
+      record { event = e.0; environment = e.1; after = after } ∷ goes_by es after
 
-  abbrev last_by_events : List Event → Machine → Machine
-  last_by_events [] b = b
-  last_by_events (e ∷ es) b = last_by_events es (goes rules seen blind search e b)
+  abbrev last_by_parts : List (Event × Environment) → Machine → Machine
+  last_by_parts [] b = b
+  last_by_parts (e ∷ es) b = last_by_parts es (goes rules seen blind search e.0 e.1 b)
 
   -- one step
   step_is : (m : Machine) (step : RunStep) → Turn rules m step.event step.environment step.after
-      → step.environment ≡ NoFault
       → Agrees m step
-      → plain seen step.after ≡ goes rules seen blind search step.event (plain seen m)
-  step_is m step turn fair names =
-      turn_plain rules seen blind search m step.event step.after
-      (subst (λ v. Turn rules m step.event v step.after) fair turn) names
+      → plain seen step.after ≡ goes rules seen blind search step.event step.environment (plain seen m)
+  step_is m step turn names =
+      turn_plain rules seen blind search m step.event step.environment step.after turn names
 
   -- a whole run
-  pub run_is : (m : Machine) (steps : List RunStep) (m2 : Machine) → Runs rules m steps m2 → AreFair steps
+  pub run_is : (m : Machine) (steps : List RunStep) (m2 : Machine) → Runs rules m steps m2
       → AllAgree m steps
-      → map (plain_step seen) steps ≡ goes_by (step_events steps) (plain seen m)
-  run_is m [] m2 runs fair names = refl
-  run_is m (step ∷ steps) m2 runs fair names =
-      let here = step_is m step runs.0 fair.0 names.0 in
-      let rest = run_is step.after steps m2 runs.1 fair.1 names.1 in
-      let first : plain_step seen step ≡ (let s : RunStep = record {
+      → map (plain_step seen) steps ≡ goes_by (step_parts steps) (plain seen m)
+  run_is m [] m2 runs names = refl
+  run_is m (step ∷ steps) m2 runs names =
+      let here = step_is m step runs.0 names.0 in
+      let rest = run_is step.after steps m2 runs.1 names.1 in
+      ap (λ (x : Machine). (let s : RunStep = record {
         event = step.event;
-        environment = NoFault;
-        after = goes rules seen blind search step.event (plain seen m);
-      } in s)
-      = ap (λ v. let s : RunStep = record { event = step.event; environment = v; after = plain seen step.after } in s)
-      fair.0
-      ∙ ap (λ (x : Machine). let s : RunStep = record { event = step.event; environment = NoFault; after = x } in s)
-      here in
-      ap (λ (s : RunStep). s ∷ map (plain_step seen) steps) first
+        environment = step.environment;
+        after = x;
+      } in s) ∷ map (plain_step seen) steps) here
       ∙ ap (λ (ss : List RunStep). (let s : RunStep = record {
         event = step.event;
-        environment = NoFault;
-        after = goes rules seen blind search step.event (plain seen m);
+        environment = step.environment;
+        after = goes rules seen blind search step.event step.environment (plain seen m);
       } in s) ∷ ss)
-      (rest ∙ ap (λ (x : Machine). goes_by (step_events steps) x) here)
+      (rest ∙ ap (λ (x : Machine). goes_by (step_parts steps) x) here)
 
-  pub last_is : (m : Machine) (steps : List RunStep) (m2 : Machine) → Runs rules m steps m2 → AreFair steps
+  pub last_is : (m : Machine) (steps : List RunStep) (m2 : Machine) → Runs rules m steps m2
       → AllAgree m steps
-      → plain seen m2 ≡ last_by_events (step_events steps) (plain seen m)
-  last_is m [] m2 runs fair names = ap (plain seen) runs
-  last_is m (step ∷ steps) m2 runs fair names =
-      last_is step.after steps m2 runs.1 fair.1 names.1
-      ∙ ap (λ (x : Machine). last_by_events (step_events steps) x) (step_is m step runs.0 fair.0 names.0)
+      → plain seen m2 ≡ last_by_parts (step_parts steps) (plain seen m)
+  last_is m [] m2 runs names = ap (plain seen) runs
+  last_is m (step ∷ steps) m2 runs names =
+      last_is step.after steps m2 runs.1 names.1
+      ∙ ap (λ (x : Machine). last_by_parts (step_parts steps) x) (step_is m step runs.0 names.0)
 
   -- two runs, from machines that are seen as one
   pub runs_are_one : (m n : Machine) (steps steps2 : List RunStep) (m2 n2 : Machine)
       → plain seen m ≡ plain seen n
       → Runs rules m steps m2
       → Runs rules n steps2 n2
-      → step_events steps ≡ step_events steps2
-      → AreFair steps
-      → AreFair steps2
+      → step_parts steps ≡ step_parts steps2
       → AllAgree m steps
       → AllAgree n steps2
       → (map (plain_step seen) steps ≡ map (plain_step seen) steps2) × (plain seen m2 ≡ plain seen n2)
-  runs_are_one m n steps steps2 m2 n2 same runs runs2 events fair fair2 names names2 = (
-    run_is m steps m2 runs fair names
-        ∙ ap (λ (es : List Event). goes_by es (plain seen m)) events
-        ∙ ap (λ (x : Machine). goes_by (step_events steps2) x) same
-        ∙ sym (run_is n steps2 n2 runs2 fair2 names2),
-    last_is m steps m2 runs fair names
-        ∙ ap (λ (es : List Event). last_by_events es (plain seen m)) events
-        ∙ ap (λ (x : Machine). last_by_events (step_events steps2) x) same
-        ∙ sym (last_is n steps2 n2 runs2 fair2 names2),
+  runs_are_one m n steps steps2 m2 n2 same runs runs2 parts names names2 = (
+    run_is m steps m2 runs names
+        ∙ ap (λ (es : List (Event × Environment)). goes_by es (plain seen m)) parts
+        ∙ ap (λ (x : Machine). goes_by (step_parts steps2) x) same
+        ∙ sym (run_is n steps2 n2 runs2 names2),
+    last_is m steps m2 runs names
+        ∙ ap (λ (es : List (Event × Environment)). last_by_parts es (plain seen m)) parts
+        ∙ ap (λ (x : Machine). last_by_parts (step_parts steps2) x) same
+        ∙ sym (last_is n steps2 n2 runs2 names2),
   )
 
   -- ---- drains
@@ -247,8 +255,8 @@ module _ (rules : Rules) (seen : Outcome → Outcome) (blind : AreBlind rules se
   drains_are_one m n (s ∷ r) [] m2 n2 same d d2 fair fair2 names names2 =
       absurd (d.0 (drained_too n m (sym same) d2.0))
   drains_are_one m n (s ∷ r) (s2 ∷ r2) m2 n2 same d d2 fair fair2 names names2 =
-      let one = runs_are_one m n s s2 (machine_after m s) (machine_after n s2) same d.2 d2.2 (d.1 ∙ sym d2.1) fair.0
-      fair2.0 names.0 names2.0 in
+      let one = runs_are_one m n s s2 (machine_after m s) (machine_after n s2) same d.2 d2.2
+      (fair_parts s s2 fair.0 fair2.0 (d.1 ∙ sym d2.1)) names.0 names2.0 in
       let rest = drains_are_one (machine_after m s) (machine_after n s2) r r2 m2 n2 one.1 d.3 d2.3 fair.1 fair2.1
       names.1 names2.1 in (
         ap (λ (x : List RunStep). x ∷ map (λ steps. map (plain_step seen) steps) r) one.0
@@ -350,13 +358,14 @@ module _ (defs : Defs) (scripts : List Script) where
 
   -- ---- one turn
 
-  pub turn_once : (m : Machine) (e : Event) (m2 m3 : Machine) → Turn (rules_of defs scripts) m e NoFault m2
-      → Turn (rules_of defs scripts) m e NoFault m3
+  pub turn_once : (m : Machine) (e : Event) (v : Environment) (m2 m3 : Machine)
+      → Turn (rules_of defs scripts) m e v m2
+      → Turn (rules_of defs scripts) m e v m3
       → plain but_cycle m2 ≡ plain but_cycle m3
-  turn_once m e m2 m3 turn turn2 =
-      turn_plain (rules_of defs scripts) but_cycle blind_but (no_search (rules_of defs scripts)) m e m2 turn
+  turn_once m e v m2 m3 turn turn2 =
+      turn_plain (rules_of defs scripts) but_cycle blind_but (no_search (rules_of defs scripts)) m e v m2 turn
       (λ region t needed cycle is at wants after. refl)
-      ∙ sym (turn_plain (rules_of defs scripts) but_cycle blind_but (no_search (rules_of defs scripts)) m e m3 turn2
+      ∙ sym (turn_plain (rules_of defs scripts) but_cycle blind_but (no_search (rules_of defs scripts)) m e v m3 turn2
       (λ region t needed cycle is at wants after. refl))
 
   -- ---- runs and drains, but for cycles
@@ -364,16 +373,25 @@ module _ (defs : Defs) (scripts : List Script) where
   pub runs_once : (m : Machine) (steps steps2 : List RunStep) (m2 m3 : Machine)
       → Runs (rules_of defs scripts) m steps m2
       → Runs (rules_of defs scripts) m steps2 m3
+      → step_parts steps ≡ step_parts steps2
+      → (map (plain_step but_cycle) steps ≡ map (plain_step but_cycle) steps2)
+      × (plain but_cycle m2 ≡ plain but_cycle m3)
+  runs_once m steps steps2 m2 m3 runs runs2 parts =
+      runs_are_one (rules_of defs scripts) but_cycle blind_but
+      (no_search (rules_of defs scripts)) m m steps steps2 m2 m3
+      refl runs runs2 parts (unseen (rules_of defs scripts) blind_but m steps)
+      (unseen (rules_of defs scripts) blind_but m steps2)
+
+  pub fair_runs_once : (m : Machine) (steps steps2 : List RunStep) (m2 m3 : Machine)
+      → Runs (rules_of defs scripts) m steps m2
+      → Runs (rules_of defs scripts) m steps2 m3
       → step_events steps ≡ step_events steps2
       → AreFair steps
       → AreFair steps2
       → (map (plain_step but_cycle) steps ≡ map (plain_step but_cycle) steps2)
       × (plain but_cycle m2 ≡ plain but_cycle m3)
-  runs_once m steps steps2 m2 m3 runs runs2 events fair fair2 =
-      runs_are_one (rules_of defs scripts) but_cycle blind_but
-      (no_search (rules_of defs scripts)) m m steps steps2 m2 m3
-      refl runs runs2 events fair fair2 (unseen (rules_of defs scripts) blind_but m steps)
-      (unseen (rules_of defs scripts) blind_but m steps2)
+  fair_runs_once m steps steps2 m2 m3 runs runs2 events fair fair2 =
+      runs_once m steps steps2 m2 m3 runs runs2 (fair_parts steps steps2 fair fair2 events)
 
   pub drains_once : (m n : Machine) (rounds rounds2 : List (List RunStep)) (m2 n2 : Machine)
       → plain but_cycle m ≡ plain but_cycle n
@@ -394,15 +412,13 @@ module _ (defs : Defs) (scripts : List Script) where
   pub runs_found : (search : List Lock → List Lock → ℕ → List ℕ) (m : Machine) (steps steps2 : List RunStep)
       (m2 m3 : Machine) → Runs (rules_of defs scripts) m steps m2
       → Runs (rules_of defs scripts) m steps2 m3
-      → step_events steps ≡ step_events steps2
-      → AreFair steps
-      → AreFair steps2
+      → step_parts steps ≡ step_parts steps2
       → StepsNameFound search (rules_of defs scripts) m steps
       → StepsNameFound search (rules_of defs scripts) m steps2
       → (map (plain_step whole) steps ≡ map (plain_step whole) steps2) × (plain whole m2 ≡ plain whole m3)
-  runs_found search m steps steps2 m2 m3 runs runs2 events fair fair2 names names2 =
-      runs_are_one (rules_of defs scripts) whole blind_whole search m m steps steps2 m2 m3 refl runs runs2 events fair
-      fair2 (found (rules_of defs scripts) blind_whole search m steps names)
+  runs_found search m steps steps2 m2 m3 runs runs2 parts names names2 =
+      runs_are_one (rules_of defs scripts) whole blind_whole search m m steps steps2 m2 m3 refl runs runs2 parts
+      (found (rules_of defs scripts) blind_whole search m steps names)
       (found (rules_of defs scripts) blind_whole search m steps2 names2)
 
   pub drains_found : (search : List Lock → List Lock → ℕ → List ℕ) (m n : Machine)

@@ -1,4 +1,4 @@
--- Nothing befalling it, a turn is determined by its event, but for items and cycles.
+-- A turn is determined by its event and by what befalls it, but for items and cycles.
 use Rattle.std.proofs.Common.{◌≡◌, ◌⊎◌, ℕ, zero, suc, ◌+◌, ◌-◌, ◌<◌, ◌≤◌, List, [], ◌∷◌, ◌++◌, length, map, Option, Some, None, inl, inr, refl, sym, ◌∙◌, ap, subst, Bool, true, false, if◌then◌else◌, arith, slice_get, slice_set}
 use Rattle.std.specs.Prelude.{nat_lt, drop, take, flat_map, filter, not}
 use Rattle.std.specs.List.{Contains, list_any}
@@ -22,7 +22,7 @@ use Rattle.fp_model.specs.Rules.{Rules}
 use Rattle.fp_model.specs.Serial.{Ending, refused_as}
 use Rattle.fp_model.specs.Waiting.{Lock, is_blocked, conflicts, waits, WaitsAlong, IsCycle, without_region}
 use Rattle.fp_model.specs.Machine.{Transaction, Region, Idle, Active, Machine, region_at, with_region, with_entry_of, without_locks, ended_with, entry_of, entry_here, is_among, terminal_in, next_line, without_line, with_message, with_refusal, with_request_of, with_line, taken_in, told, next_group, with_group, sealed_once, sealed_times, sealed_all}
-use Rattle.fp_model.specs.Turns.{NoFault, Act, Answers, Gains, Waits, Deadlocks, Retries_at_cycle, Finishes, Retries_at_verify, is_verify_failure, asks, wanted, ending_of, as_lock, noted, with_answer, begun_in, tried_again, refused_with, requests_with, Does, queue_of_region, messages_for, begins_in, RegionTurn, is_area_held, PurgeTurn, Turn}
+use Rattle.fp_model.specs.Turns.{Environment, NoFault, DeviceFault, OutOfMemory, Act, Answers, Gains, Waits, Deadlocks, Retries_at_cycle, Finishes, Retries_at_verify, is_verify_failure, asks, wanted, ending_of, as_lock, noted, with_answer, begun_in, tried_again, refused_with, requests_with, Does, queue_of_region, messages_for, begins_in, RegionTurn, is_area_held, PurgeTurn, Turn}
 use Rattle.serial_order.proofs.Lists.{none_is_not_some, true_is_not_false, tested, contains_cases, contains_in_filter, contains_in_map, contains_in_flat_map, none_passes}
 use Rattle.drain_laws.proofs.Live.{others_locks}
 use Rattle.drain_laws.proofs.Cycles.{ClosesOne, cycle_or_none}
@@ -268,10 +268,17 @@ module _ (rules : Rules) (seen : Outcome → Outcome) (blind : AreBlind rules se
 
   -- ---- a region's turn
 
-  abbrev region_goes : Machine → ℕ → Option Region → Machine
-  region_goes b region None = b
-  region_goes b region (Some Idle) = begins_in rules b region (messages_for rules b region)
-  region_goes b region (Some (Active t)) = acted b region t
+  -- a transaction that is refused
+  abbrev refused_so : Machine → ℕ → Transaction → Outcome → Machine
+  refused_so b region t o =
+      ended_with region (plain_entry seen (entry_of t (refused_as o b.history.now) [] [])) b.history.now b
+
+  abbrev region_goes : Machine → ℕ → Option Region → Environment → Machine
+  region_goes b region None v = b
+  region_goes b region (Some Idle) v = begins_in rules b region (messages_for rules b region)
+  region_goes b region (Some (Active t)) NoFault = acted b region t
+  region_goes b region (Some (Active t)) DeviceFault = refused_so b region t outcome.Device
+  region_goes b region (Some (Active t)) OutOfMemory = refused_so b region t outcome.Memory
 
   begins_plain : (m : Machine) (place : ℕ) (messages : List Message)
       → plain seen (begins_in rules m (suc place) messages) ≡ begins_in rules (plain seen m) (suc place) messages
@@ -283,19 +290,27 @@ module _ (rules : Rules) (seen : Outcome → Outcome) (blind : AreBlind rules se
       (record (plain seen m) { queues = slice_set m.queues (queue_of_region rules (suc place)) messages }) in x)
       (sym (same_place m.history))
 
-  region_plain : (m : Machine) (place : ℕ) (region : Option Region) (m2 : Machine)
-      → RegionTurn rules m (suc place) region NoFault m2
+  region_plain : (m : Machine) (place : ℕ) (region : Option Region) (v : Environment) (m2 : Machine)
+      → RegionTurn rules m (suc place) region v m2
       → ((t : Transaction) (needed : Needed) (cycle : List ℕ) → region ≡ Some (Active t)
       → wanted rules m (suc place) t (asks rules t) ≡ Some needed
       → m2 ≡ refused_with rules m (suc place) t (outcome.Deadlock cycle)
       → seen (outcome.Deadlock cycle)
       ≡ seen (outcome.Deadlock (search (requests_with rules m (suc place) needed) m.locks (suc place))))
-      → plain seen m2 ≡ region_goes (plain seen m) (suc place) region
-  region_plain m place None m2 turn names = absurd turn
-  region_plain m place (Some Idle) m2 turn names =
+      → plain seen m2 ≡ region_goes (plain seen m) (suc place) region v
+  region_plain m place None v m2 turn names = absurd turn
+  region_plain m place (Some Idle) NoFault m2 turn names =
       ap (plain seen) turn ∙ begins_plain m place (messages_for rules m (suc place))
-  region_plain m place (Some (Active t)) m2 turn names =
+  region_plain m place (Some Idle) DeviceFault m2 turn names = absurd turn
+  region_plain m place (Some Idle) OutOfMemory m2 turn names = absurd turn
+  region_plain m place (Some (Active t)) NoFault m2 turn names =
       act_plain m place t turn.0 m2 turn.1 (λ needed cycle wants after. names t needed cycle refl wants after)
+  region_plain m place (Some (Active t)) DeviceFault m2 turn names =
+      ap (plain seen) turn
+      ∙ ended_plain m place (entry_of t (refused_as outcome.Device m.history.now) [] []) m.history.now
+  region_plain m place (Some (Active t)) OutOfMemory m2 turn names =
+      ap (plain seen) turn
+      ∙ ended_plain m place (entry_of t (refused_as outcome.Memory m.history.now) [] []) m.history.now
 
   -- ---- IN
 
@@ -476,29 +491,43 @@ module _ (rules : Rules) (seen : Outcome → Outcome) (blind : AreBlind rules se
 
   -- ---- all events
 
-  -- the machine behind an event that nothing befalls
-  abbrev pub goes : Event → Machine → Machine
-  goes event.In b = in_goes b
-  goes (event.Region region) b = region_goes b region (region_at b region)
-  goes event.Log b = sealed_once rules b
-  goes event.Out b = b
-  goes event.Ckpt b = sealed_all rules b
-  goes (event.Purge set n) b = purge_goes b set n (is_area_held rules b set)
+  abbrev purge_event : Machine → ℕ → ℕ → Environment → Machine
+  purge_event b set n NoFault = purge_goes b set n (is_area_held rules b set)
+  purge_event b set n DeviceFault = b
+  purge_event b set n OutOfMemory = b
 
-  pub turn_plain : (m : Machine) (e : Event) (m2 : Machine) → Turn rules m e NoFault m2
+  -- the machine behind an event, with what befalls it
+  abbrev pub goes : Event → Environment → Machine → Machine
+  goes event.In v b = in_goes b
+  goes (event.Region region) v b = region_goes b region (region_at b region) v
+  goes event.Log v b = sealed_once rules b
+  goes event.Out v b = b
+  goes event.Ckpt v b = sealed_all rules b
+  goes (event.Purge set n) v b = purge_event b set n v
+
+  pub turn_plain : (m : Machine) (e : Event) (v : Environment) (m2 : Machine) → Turn rules m e v m2
       → ((region : ℕ) (t : Transaction) (needed : Needed) (cycle : List ℕ) → e ≡ event.Region region
       → region_at m region ≡ Some (Active t)
       → wanted rules m region t (asks rules t) ≡ Some needed
       → m2 ≡ refused_with rules m region t (outcome.Deadlock cycle)
       → seen (outcome.Deadlock cycle)
       ≡ seen (outcome.Deadlock (search (requests_with rules m region needed) m.locks region)))
-      → plain seen m2 ≡ goes e (plain seen m)
-  turn_plain m event.In m2 turn names = ap (plain seen) turn ∙ in_plain m
-  turn_plain m (event.Region zero) m2 turn names = absurd turn
-  turn_plain m (event.Region (suc place)) m2 turn names =
-      region_plain m place (slice_get m.regions place) m2 turn
+      → plain seen m2 ≡ goes e v (plain seen m)
+  turn_plain m event.In NoFault m2 turn names = ap (plain seen) turn ∙ in_plain m
+  turn_plain m event.In DeviceFault m2 turn names = absurd turn
+  turn_plain m event.In OutOfMemory m2 turn names = absurd turn
+  turn_plain m (event.Region zero) v m2 turn names = absurd turn
+  turn_plain m (event.Region (suc place)) v m2 turn names =
+      region_plain m place (slice_get m.regions place) v m2 turn
       (λ t needed cycle is wants after. names (suc place) t needed cycle refl is wants after)
-  turn_plain m event.Log m2 turn names = ap (plain seen) turn ∙ log_plain m
-  turn_plain m event.Out m2 turn names = ap (plain seen) turn
-  turn_plain m event.Ckpt m2 turn names = ap (plain seen) turn ∙ ckpt_plain m
-  turn_plain m (event.Purge set n) m2 turn names = purge_plain m set n (is_area_held rules m set) m2 turn
+  turn_plain m event.Log NoFault m2 turn names = ap (plain seen) turn ∙ log_plain m
+  turn_plain m event.Log DeviceFault m2 turn names = absurd turn
+  turn_plain m event.Log OutOfMemory m2 turn names = absurd turn
+  turn_plain m event.Out v m2 turn names = ap (plain seen) turn
+  turn_plain m event.Ckpt NoFault m2 turn names = ap (plain seen) turn ∙ ckpt_plain m
+  turn_plain m event.Ckpt DeviceFault m2 turn names = ap (plain seen) turn ∙ ckpt_plain m
+  turn_plain m event.Ckpt OutOfMemory m2 turn names = absurd turn
+  turn_plain m (event.Purge set n) NoFault m2 turn names =
+      purge_plain m set n (is_area_held rules m set) m2 turn
+  turn_plain m (event.Purge set n) DeviceFault m2 turn names = ap (plain seen) turn
+  turn_plain m (event.Purge set n) OutOfMemory m2 turn names = ap (plain seen) turn

@@ -1,4 +1,5 @@
--- What runs from one place by the same events have in common: all but the items of entries, and the cycles named.
+-- What runs from one place by the same events have in common, where the same befalls them: all but the items of
+-- entries, and the cycles named.
 use Rattle.std.specs.Prelude.{◌≡◌, ⊤, ℕ, ◌≤◌, List, [], ◌∷◌, length, map, Bool, true, false, nat_lt, Some}
 use Rattle.std.specs.List.{AllByRecursion}
 use Rattle.std.specs.Option.{option_map_or}
@@ -14,7 +15,7 @@ use Rattle.fp_model.specs.History.{History}
 use Rattle.fp_model.specs.Rules.{Rules}
 use Rattle.fp_model.specs.Waiting.{Lock}
 use Rattle.fp_model.specs.Machine.{Transaction, Active, Machine, region_at}
-use Rattle.fp_model.specs.Turns.{NoFault, asks, wanted, requests_with, refused_with}
+use Rattle.fp_model.specs.Turns.{Environment, NoFault, asks, wanted, requests_with, refused_with}
 use Rattle.fp_model.specs.Runs.{RunStep, machine_after}
 
 -- ---- schedules
@@ -29,6 +30,10 @@ abbrev pub IsOfSchedule : Defs → Event → Type 0
 IsOfSchedule defs (event.Region region) = (1 ≤ region) × (region ≤ length defs.regions)
 IsOfSchedule defs (event.Purge set n) = is_purgeable defs set ≡ true
 IsOfSchedule defs _ = ⊤
+
+-- the events of steps, each with what befell it
+abbrev pub step_parts : List RunStep → List (Event × Environment)
+step_parts steps = map (λ step. (step.event, step.environment)) steps
 
 -- nothing befalls the steps
 abbrev pub AreFair : List RunStep → Type 0
@@ -78,7 +83,8 @@ StepNamesFound search rules m step =
 -- so do all steps of a run
 abbrev pub StepsNameFound : (List Lock → List Lock → ℕ → List ℕ) → Rules → Machine → List RunStep → Type 0
 StepsNameFound search rules m [] = ⊤
-StepsNameFound search rules m (step ∷ steps) = StepNamesFound search rules m step × StepsNameFound search rules step.after steps
+StepsNameFound search rules m (step ∷ steps) =
+    StepNamesFound search rules m step × StepsNameFound search rules step.after steps
 
 -- and all rounds of a drain
 abbrev pub RoundsNameFound : (List Lock → List Lock → ℕ → List ℕ) → Rules → Machine → List (List RunStep) → Type 0
