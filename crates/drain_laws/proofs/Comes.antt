@@ -85,8 +85,8 @@ module _ (rules : Rules) (gauge : Gauge) (laws : EndLaws rules gauge) (view : Vi
   )
   behind_there_is (suc n) from m h low high =
       let first = turn_there_is rules m from low (omega (arith, high, h.live.regions)) in
-      let then = reached_then rules gauge laws view order m (event.Region from) NoFault first.0 h first.1 in
-      let rest = behind_there_is n (from + 1) first.0 then (omega (arith, low)) (omega (arith, high)) in (
+      let behind = reached_then rules gauge laws view order m (event.Region from) NoFault first.0 h first.1 in
+      let rest = behind_there_is n (from + 1) first.0 behind (omega (arith, low)) (omega (arith, high)) in (
         record { event = event.Region from; environment = NoFault; after = first.0 } ∷ rest.0,
         (rest.1.0, (ap (λ (es : List Event). event.Region from ∷ es) rest.1.1.0, (first.1, rest.1.1.1))),
       )
@@ -95,8 +95,8 @@ module _ (rules : Rules) (gauge : Gauge) (laws : EndLaws rules gauge) (view : Vi
   pub round_there_is : (m : Machine) → IsReached rules gauge view m → HasRun m (round rules)
   round_there_is m h =
       let mid : Machine = taken_in rules m in
-      let then = reached_then rules gauge laws view order m event.In NoFault mid h refl in
-      let rest = behind_there_is (length rules.regions) 1 mid then (omega arith) (omega arith) in (
+      let behind = reached_then rules gauge laws view order m event.In NoFault mid h refl in
+      let rest = behind_there_is (length rules.regions) 1 mid behind (omega arith) (omega arith) in (
         record { event = event.In; environment = NoFault; after = mid } ∷ rest.0,
         (rest.1.0, (ap (λ (es : List Event). event.In ∷ es) rest.1.1.0, (refl, rest.1.1.1))),
       )
@@ -180,6 +180,6 @@ module _ (rules : Rules) (gauge : Gauge) (laws : EndLaws rules gauge) (view : Vi
   part_within rounds m part m2 h drains =
       let parts = part_rounds rules rounds m part m2 drains in
       let e = rounds_fall rules gauge laws view order rounds m parts.0 h parts.1.0 in
-      let then = reached_by_rounds rules gauge laws view order rounds m parts.0 h parts.1.0 in
-      let some = some_left parts.0 then parts.1.1.0 in
+      let behind = reached_by_rounds rules gauge laws view order rounds m parts.0 h parts.1.0 in
+      let some = some_left parts.0 behind parts.1.1.0 in
       omega (arith, e, some)

@@ -7,7 +7,7 @@ use Rattle.fp_model.specs.Rules.{Rules}
 use Rattle.fp_model.specs.Waiting.{held_as}
 use Rattle.fp_model.specs.Machine.{Region, Idle, Active, Machine, region_at}
 use Rattle.serial_order.specs.Laws.{View}
-use Rattle.drain_laws.specs.Measure.{Gauge, try_weight, region_weight, message_weight, held_weight, line_weight, sum_places, messages_in, unsealed_in, work_with, lines_held, is_active, active_in, work_of}
+use Rattle.drain_laws.specs.Measure.{Gauge, try_weight, region_weight, message_weight, held_weight, line_weight, sum_places, messages_in, unsealed_in, work_with, lines_held, one_if_active, active_in, work_of}
 use Rattle.drain_laws.specs.Live.{EndLaws, IsReached}
 use Rattle.drain_laws.proofs.Falls.{no_more_times, whole_within}
 
@@ -26,7 +26,7 @@ module _ (rules : Rules) (gauge : Gauge) (laws : EndLaws rules gauge) (view : Vi
 
   -- an active region has no more to do than a line
   region_within : (from : ℕ) (r : Region) → region_at m from ≡ Some r
-      → region_weight rules gauge m.locks from r ≤ is_active r * weight
+      → region_weight rules gauge m.locks from r ≤ one_if_active r * weight
   region_within from Idle is = omega arith
   region_within from (Active t) is =
       let few = h.kept.sound from t is in
@@ -42,8 +42,8 @@ module _ (rules : Rules) (gauge : Gauge) (laws : EndLaws rules gauge) (view : Vi
   regions_within from (r ∷ rs) there =
       let one = region_within from r (there 0 from r (omega arith) refl) in
       let rest = regions_within (from + 1) rs (λ i at q e is. there (suc i) at q (omega (arith, e)) is) in
-      let parts : active_in (r ∷ rs) * weight ≡ is_active r * weight + active_in rs * weight
-      = ap (λ (k : ℕ). k * weight) (sum_by-cons is_active r rs) ∙ grind (arith, common_steps) in
+      let parts : active_in (r ∷ rs) * weight ≡ one_if_active r * weight + active_in rs * weight
+      = ap (λ (k : ℕ). k * weight) (sum_by-cons one_if_active r rs) ∙ grind (arith, common_steps) in
       omega (arith, one, rest, parts)
 
   held_within : (o : Option (List ℕ))

@@ -88,7 +88,7 @@ same_region m m2 zero r e is = is
 same_region m m2 (suc place) r e is = ap (λ (rs : List Region). slice_get rs place) e ∙ is
 
 -- another with another
-other_region : (m m2 : Machine) (place region : ℕ) (r : Region) (t : Transaction)
+pub other_region : (m m2 : Machine) (place region : ℕ) (r : Region) (t : Transaction)
     → m2.regions ≡ slice_set m.regions place r
     → ¬ (region ≡ suc place)
     → region_at m region ≡ Some (Active t)
@@ -110,10 +110,10 @@ at_work m m2 place (suc q) r u put is =
       | inr w ↦ inr w.1
     ]
 
-idle_is_not : (t : Transaction) → ¬ (Idle ≡ Active t)
+pub idle_is_not : (t : Transaction) → ¬ (Idle ≡ Active t)
 idle_is_not t e = cc
 
-is_transaction : (t u : Transaction) → Active t ≡ Active u → t ≡ u
+pub is_transaction : (t u : Transaction) → Active t ≡ Active u → t ≡ u
 is_transaction t u e = cc
 
 module _ (rules : Rules) (gauge : Gauge) where
@@ -122,7 +122,7 @@ module _ (rules : Rules) (gauge : Gauge) where
   IsAwaited m = (name : Name) → is_among m.busy name ≡ true → 0 < count rules name m
 
   -- a machine with the same regions and queues
-  frame : (m m2 : Machine) → m2.regions ≡ m.regions → length m2.queues ≡ length m.queues
+  pub frame : (m m2 : Machine) → m2.regions ≡ m.regions → length m2.queues ≡ length m.queues
       → ((lock : Lock) → Contains m2.locks lock → IsAtWork m lock.region)
       → IsAwaited m2
       → IsLive rules gauge m → IsLive rules gauge m2
@@ -284,7 +284,7 @@ module _ (rules : Rules) (gauge : Gauge) where
   -- ---- IN
 
   -- a message more in a queue that there is
-  queued_one : (name : Name) (queue : ℕ) (message : Message) (queues : List (List Message)) → queue < length queues
+  pub queued_one : (name : Name) (queue : ℕ) (message : Message) (queues : List (List Message)) → queue < length queues
       → queued_count rules name (queued_at queue message queues)
       ≡ queued_count rules name queues + line_count rules name message.line
   queued_one name queue message queues within = by (slice_get queues queue) refl
@@ -341,7 +341,7 @@ module _ (rules : Rules) (gauge : Gauge) where
   -- ---- LOG
 
   -- who isn't told has no entry in the group
-  none_told : (group : List Entry) (name : Name) → is_among (told rules group) name ≡ false
+  pub none_told : (group : List Entry) (name : Name) → is_among (told rules group) name ≡ false
       → sum_by (λ (e : Entry). line_count rules name e.line) group ≡ 0
   none_told [] name e = refl
   none_told (d ∷ group) name e =

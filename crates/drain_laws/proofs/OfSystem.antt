@@ -16,7 +16,7 @@ use Rattle.serial_order.specs.ProductView.{view_of}
 use Rattle.serial_order.proofs.ProductLaws.{laws_of}
 use Rattle.serial_order.proofs.Turns.{at_rest_rests, rest_kept}
 use Rattle.drain_laws.specs.Measure.{messages_in, unsealed_in, work_with, work_left, lines_held, active_in, work_of}
-use Rattle.drain_laws.specs.Live.{EndLaws, IsReached}
+use Rattle.drain_laws.specs.Live.{EndLaws, IsReached, IsFromRest}
 use Rattle.drain_laws.specs.Rounds.{GoesRound, GoesRounds, RoundMoves}
 use Rattle.drain_laws.specs.ProductGauge.{gauge_of, weight_of_line}
 use Rattle.drain_laws.proofs.Live.{rest_live}
@@ -83,10 +83,10 @@ module _ (defs : Defs) (scripts : List Script) where
 
     -- ---- the drain behind a run
 
-    module _ (lines : List (List ℕ)) (h : History) (history : IsSerial rules h) (steps : List RunStep) (m : Machine)
-        (runs : Runs rules (at_rest rules lines h) steps m) where
+    module _ (m : Machine) (from : IsFromRest (rules_of defs scripts) m) where
       reached : IsReachedHere m
-      reached = run_of (at_rest rules lines h) steps m (rest_of lines h history) runs
+      reached = run_of (at_rest rules from.lines from.start) from.steps m (rest_of from.lines from.start from.is_serial)
+          from.runs
 
       pub rounds_of : (rounds : List (List RunStep)) (m2 : Machine) → GoesRounds rules m rounds m2
           → length rounds + work_left rules (gauge_of defs) m2 ≤ work_left rules (gauge_of defs) m

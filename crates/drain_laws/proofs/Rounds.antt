@@ -10,18 +10,20 @@ use Rattle.fp_model.specs.Rules.{Rules}
 use Rattle.fp_model.specs.Waiting.{Lock, is_blocked, without_region, with_request}
 use Rattle.fp_model.specs.Machine.{Idle, Machine, region_at, taken_in}
 use Rattle.fp_model.specs.Turns.{Environment, NoFault, DeviceFault, OutOfMemory, messages_for, Turn}
-use Rattle.fp_model.specs.Runs.{RunStep, step_events, machine_after, Runs, round, IsDrained, Drains, DrainsInPart}
+use Rattle.fp_model.specs.Runs.{RunStep, step_events, TakesOf, machine_after, Runs, round, IsDrained, Drains, DrainsInPart}
 use Rattle.fp_model.proofs.FrameLemmas.{turn_keeps as turn_leaves}
+use Rattle.fp_model.proofs.RunLemmas.{last_machine}
 use Rattle.serial_order.specs.Laws.{View, Laws}
 use Rattle.serial_order.specs.Kept.{HaveNoCycle}
 use Rattle.serial_order.proofs.Lists.{eqb_other, contains_first, contains_later, filter_contains}
+use Rattle.serial_order.proofs.Kept.{alike}
 use Rattle.serial_order.proofs.Turns.{turn_kept, run_kept}
 use Rattle.drain_laws.specs.Measure.{Gauge, line_weight, work_inside, work_with, work_left}
 use Rattle.drain_laws.specs.Live.{EndLaws, IsReached}
 use Rattle.drain_laws.specs.Rounds.{GoesRound, GoesRounds, RoundMoves, ReadsLine, HasLess}
 use Rattle.drain_laws.proofs.Falls.{times_suc, Moves, Does_some, Has_to_wait, Has_nothing, region_moves, log_moves}
 use Rattle.drain_laws.proofs.Lines.{InMoves, Reads, Takes_held, Is_stuck, Has_none, in_moves}
-use Rattle.drain_laws.proofs.Live.{same_region, turn_live, run_live}
+use Rattle.drain_laws.proofs.Live.{same_region, frame, turn_live, run_live}
 use Rattle.drain_laws.proofs.Stands.{Rests, Idles, Waits_for, IsStill, no_line_waits, is_drained}
 
 -- ---- steps
@@ -142,8 +144,8 @@ module _ (rules : Rules) (gauge : Gauge) (laws : EndLaws rules gauge) (view : Vi
   behind_not_more (suc n) from [] m m2 h runs = absurd runs
   behind_not_more (suc n) from (s ∷ steps) m m2 h runs =
       let first = region_not_more m from s.after (turn_moves m from s.environment s.after h runs.0) in
-      let then = reached_then m (event.Region from) s.environment s.after h runs.0 in
-      let rest = behind_not_more n (from + 1) steps s.after m2 then runs.1 in
+      let behind = reached_then m (event.Region from) s.environment s.after h runs.0 in
+      let rest = behind_not_more n (from + 1) steps s.after m2 behind runs.1 in
       omega (arith, first, rest)
 
   -- with other requests
@@ -399,3 +401,47 @@ part_rounds rules [] m part m2 drains = (m, (refl, (drains.0, drains.1.2)))
 part_rounds rules (steps ∷ rounds) m part m2 drains =
     let rest = part_rounds rules rounds (machine_after m steps) part m2 drains.3 in
     (rest.0, ((record { left = drains.0; events = drains.1; runs = drains.2 }, rest.1.0), rest.1.1))
+
+-- One round more at the end.
+pub rounds_more : (rules : Rules) (rounds : List (List RunStep)) (m mid : Machine) (steps : List RunStep) (m2 : Machine)
+    → GoesRounds rules m rounds mid
+    → GoesRound rules mid steps m2
+    → GoesRounds rules m (rounds ++ steps ∷ []) m2
+rounds_more rules [] m mid steps m2 goes one =
+    let to : m2 ≡ machine_after mid steps = last_machine rules mid steps m2 one.runs in
+    let first = subst (λ (x : Machine). GoesRound rules mid steps x) to one in
+    subst (λ (x : Machine). GoesRound rules x steps (machine_after x steps) × (m2 ≡ machine_after x steps)) goes
+    (first, to)
+rounds_more rules (s ∷ rounds) m mid steps m2 goes one =
+    (goes.0, rounds_more rules rounds (machine_after m s) mid steps m2 goes.1 one)
+
+-- Rounds to a machine that isn't drained, and a part of one more.
+pub rounds_drain_in_part : (rules : Rules) (rounds : List (List RunStep)) (m mid : Machine) (part : List RunStep)
+    (left : List Event) (m2 : Machine) → GoesRounds rules m rounds mid
+    → (¬ IsDrained rules mid)
+    → TakesOf (round rules) part left
+    → Runs rules mid part m2
+    → DrainsInPart rules m rounds part m2
+rounds_drain_in_part rules [] m mid part left m2 goes undone takes runs = (
+  subst (λ (x : Machine). ¬ IsDrained rules x) goes undone,
+  (left, takes, subst (λ (x : Machine). Runs rules x part m2) goes runs),
+)
+rounds_drain_in_part rules (s ∷ rounds) m mid part left m2 goes undone takes runs = (
+  goes.0.left,
+  goes.0.events,
+  goes.0.runs,
+  rounds_drain_in_part rules rounds (machine_after m s) mid part left m2 goes.1 undone takes runs,
+)
+
+-- A machine with other lines left is reached too.
+pub relined : (rules : Rules) (gauge : Gauge) (view : View) (m : Machine) (lines : List (List ℕ))
+    → IsReached rules gauge view m
+    → IsReached rules gauge view (record m { lines = lines })
+relined rules gauge view m lines h =
+    let m2 : Machine = record m { lines = lines } in
+    let k = h.kept.terminals in
+    record {
+      kept = alike rules view m m2 refl (record { regions = refl; locks = refl; requests = refl }) refl
+          (record { once = k.once; is_busy = k.is_busy; sealed = k.sealed }) h.kept;
+      live = frame rules gauge m m2 refl refl h.live.holders h.live.waits h.live;
+    }

@@ -25,7 +25,7 @@ use Rattle.serial_order.proofs.Lists.{some_is, none_is_not_some, contains_nothin
 use Rattle.serial_order.proofs.Locks.{both_left, both_right}
 use Rattle.drain_laws.specs.Live.{IsServed, EndLaws}
 use Rattle.drain_laws.specs.Measure.{line_weight}
-use Rattle.drain_laws.specs.ProductGauge.{gauge_of, weight_of_line}
+use Rattle.drain_laws.specs.ProductGauge.{gauge_with, gauge_of, weight_of_line}
 use Rattle.drain_laws.proofs.Foreseen.{call_needed, end_needed, locks_few, replies_queue}
 
 -- ---- groups
@@ -175,9 +175,10 @@ cost_within scripts message cheap =
 
 -- ---- all of it
 
-pub end_laws_of : (defs : Defs) (scripts : List Script) → AreDefs defs → AreCheap scripts
-    → EndLaws (rules_of defs scripts) (gauge_of defs)
-end_laws_of defs scripts are cheap = record {
+pub end_laws_at : (defs : Defs) (scripts : List Script) (calls : ℕ) → AreDefs defs
+    → ((message : Message) → cost_of scripts message ≤ calls)
+    → EndLaws (rules_of defs scripts) (gauge_with calls defs)
+end_laws_at defs scripts calls are few = record {
   seals = are.log_group.0;
   served = queue_served defs scripts are;
   routed = λ h line message e. (
@@ -185,13 +186,17 @@ end_laws_of defs scripts are cheap = record {
       let below = group_below defs.router n message.tran (route defs.router n message.tran) refl
       (tran_bytes scripts h line message e) (groups_some defs scripts are) in
       omega (arith, below));
-  calls = λ message. cost_within scripts message cheap;
+  calls = few;
   wants = λ db own held call needed e. call_needed held needed defs db own call e;
   lacks = λ own held reply resource e. end_needed defs own held reply resource e;
   many = locks_few defs are.each_dedb;
   begins = refl;
   queues = λ db shown own call. replies_queue defs db shown own call;
 }
+
+pub end_laws_of : (defs : Defs) (scripts : List Script) → AreDefs defs → AreCheap scripts
+    → EndLaws (rules_of defs scripts) (gauge_of defs)
+end_laws_of defs scripts are cheap = end_laws_at defs scripts 10000 are (λ message. cost_within scripts message cheap)
 
 -- what a line weighs
 pub line_weighs : (defs : Defs) (scripts : List Script)

@@ -14,8 +14,10 @@ use Rattle.fp_model.specs.Asking.{Ask, Asks, Replies}
 use Rattle.fp_model.specs.History.{History, Accepts}
 use Rattle.fp_model.specs.Rules.{Rules}
 use Rattle.fp_model.specs.Waiting.{Lock}
-use Rattle.fp_model.specs.Machine.{Transaction, Active, Machine, region_at, is_among}
+use Rattle.fp_model.specs.Machine.{Transaction, Active, Machine, at_rest, region_at, is_among}
 use Rattle.fp_model.specs.Turns.{queue_of_region}
+use Rattle.fp_model.specs.Runs.{RunStep, Runs}
+use Rattle.fp_model.specs.SerialHistory.{IsSerial}
 use Rattle.serial_order.specs.Laws.{View}
 use Rattle.serial_order.specs.Kept.{count, Kept}
 use Rattle.drain_laws.specs.Measure.{Gauge}
@@ -33,6 +35,7 @@ pub record IsServed (rules : Rules) (queue : ℕ) : Type 0 where
   pub is_there : place < length rules.regions
   pub takes : queue_of_region rules (suc place) ≡ queue
 
+-- What the end of the drain needs of the rules.
 pub record EndLaws (rules : Rules) (gauge : Gauge) : Type 0 where
   -- a group of entries has at least one
   pub seals : 1 ≤ rules.log_group
@@ -82,3 +85,11 @@ pub record IsLive (rules : Rules) (gauge : Gauge) (m : Machine) : Type 0 where
 pub record IsReached (rules : Rules) (gauge : Gauge) (view : View) (m : Machine) : Type 0 where
   pub kept : Kept rules view m
   pub live : IsLive rules gauge m
+
+-- A run led to the machine, from one at rest behind a serial history.
+pub record IsFromRest (rules : Rules) (m : Machine) : Type 0 where
+  pub lines : List (List ℕ)
+  pub start : History
+  pub is_serial : IsSerial rules start
+  pub steps : List RunStep
+  pub runs : Runs rules (at_rest rules lines start) steps m

@@ -99,15 +99,15 @@ module _ (rules : Rules) (gauge : Gauge) where
 abbrev pub lines_held : Machine → ℕ
 lines_held m = option_map_or (λ line. 1) m.held 0
 
-abbrev pub is_active : Region → ℕ
-is_active Idle = 0
-is_active (Active t) = 1
+abbrev pub one_if_active : Region → ℕ
+one_if_active Idle = 0
+one_if_active (Active t) = 1
 
 -- how many regions are active
 abbrev pub active_in : List Region → ℕ
-active_in regions = sum_by is_active regions
+active_in regions = sum_by one_if_active regions
 
--- More than can be left to do, by counts alone: lines not read or held, messages queued, active regions, and entries
+-- No less than can be left to do, by counts alone: lines not read or held, messages queued, active regions, and entries
 -- that aren't sealed.
 abbrev pub work_of : (weight lines messages active unsealed : ℕ) → ℕ
 work_of weight lines messages active unsealed = (lines + messages + active) * weight + unsealed

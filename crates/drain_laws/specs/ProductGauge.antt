@@ -44,10 +44,14 @@ locks_for defs own (Asks c) = call_locks (target_of defs (database_of c)) own c
 locks_for defs own (Replies reply) = map exclusive (resources own.deferred)
 locks_for defs own (Rolls code) = []
 
--- A call looks at no more anchors than a database may have, and a script makes at most 10,000 calls.
+-- a call looks at no more anchors than a database may have, and a script makes so many calls
+abbrev pub gauge_with : ℕ → Defs → Gauge
+gauge_with calls defs =
+    record { locks = locks_for defs; most = 65536; queued = λ own. length own.deferred; calls = calls }
+
+-- a script that was read makes at most 10,000 calls
 abbrev pub gauge_of : Defs → Gauge
-gauge_of defs =
-    record { locks = locks_for defs; most = 65536; queued = λ own. length own.deferred; calls = 10000 }
+gauge_of defs = gauge_with 10000 defs
 
 -- What a line of this system weighs, where a transaction may begin again so often. A try has 10,000 calls and an end,
 -- each behind 75,536 locks at most.

@@ -1,18 +1,19 @@
 //! The drain ends, whatever rules the transactions follow.
-ghost use Rattle.std.specs.Prelude.{◌≡◌, ℕ, ◌+◌, ◌<◌, ◌≤◌, List, [], length};
+ghost use Rattle.std.specs.Prelude.{◌≡◌, ℕ, ◌+◌, ◌<◌, ◌≤◌, List, [], ◌∷◌, ◌++◌, length};
 ghost use Rattle.fp_model.specs.declared.events.Event.{Event};
 ghost use Rattle.fp_model.specs.History.{History};
 ghost use Rattle.fp_model.specs.Rules.{Rules};
 ghost use Rattle.fp_model.specs.SerialHistory.{IsSerial};
 ghost use Rattle.fp_model.specs.Machine.{Machine, at_rest};
 ghost use Rattle.fp_model.specs.Turns.{Environment, Turn};
-ghost use Rattle.fp_model.specs.Runs.{RunStep, Runs, IsDrained, Drains, DrainsInPart};
+ghost use Rattle.fp_model.specs.Runs.{RunStep, TakesOf, Runs, round, IsDrained, Drains, DrainsInPart};
 ghost use Rattle.serial_order.specs.Laws.{View, Laws};
 ghost use Rattle.drain_laws.specs.Measure.{Gauge, line_weight, messages_in, unsealed_in, work_with, work_left, lines_held, active_in, work_of};
 ghost use Rattle.drain_laws.specs.Live.{EndLaws, IsReached};
 ghost use Rattle.drain_laws.specs.Rounds.{GoesRound, GoesRounds, RoundMoves};
 
-/// What the end of the drain rests on is so of a machine at rest, and each turn keeps it, whatever befalls it.
+/// What the end of the drain rests on is so of a machine at rest, and each turn keeps it, whatever befalls it. It doesn't
+/// depend on the lines that are left.
 pub fn nothing_waits_in_vain()
     ensures rest { (rules : Rules) (gauge : Gauge) (view : View) (lines : List (List ℕ)) (h : History)
         → IsSerial rules h
@@ -30,6 +31,9 @@ pub fn nothing_waits_in_vain()
         → IsReached rules gauge view m
         → Runs rules m steps m2
         → IsReached rules gauge view m2 }
+    ensures lines { (rules : Rules) (gauge : Gauge) (view : View) (m : Machine) (lines : List (List ℕ))
+        → IsReached rules gauge view m
+        → IsReached rules gauge view (record m { lines = lines }) }
 {}
 
 /// A round from a machine that isn't drained reads a line, or leaves less to do inside. So it leaves less in all, also
@@ -75,6 +79,27 @@ pub fn the_drain_ends()
         → IsReached rules gauge view m
         → DrainsInPart rules m rounds steps m2
         → length rounds < work_left rules gauge m }
+{}
+
+/// How rounds come to be a drain, or one that ended early, one round after another.
+pub fn rounds_make_a_drain()
+    ensures none { (rules : Rules) (m : Machine) → GoesRounds rules m [] m }
+    ensures more { (rules : Rules) (m : Machine) (rounds : List (List RunStep)) (mid : Machine)
+        → (steps : List RunStep) (m2 : Machine)
+        → GoesRounds rules m rounds mid
+        → GoesRound rules mid steps m2
+        → GoesRounds rules m (rounds ++ steps ∷ []) m2 }
+    ensures drained { (rules : Rules) (m : Machine) (rounds : List (List RunStep)) (m2 : Machine)
+        → GoesRounds rules m rounds m2
+        → IsDrained rules m2
+        → Drains rules m rounds m2 }
+    ensures part { (rules : Rules) (m : Machine) (rounds : List (List RunStep)) (mid : Machine)
+        → (steps : List RunStep) (left : List Event) (m2 : Machine)
+        → GoesRounds rules m rounds mid
+        → (¬ IsDrained rules mid)
+        → TakesOf (round rules) steps left
+        → Runs rules mid steps m2
+        → DrainsInPart rules m rounds steps m2 }
 {}
 
 /// However rounds go on, as long as they can, they come to a drained machine; and where nothing befalls their turns,

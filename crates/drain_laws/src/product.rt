@@ -14,7 +14,7 @@ ghost use Rattle.fp_model.specs.Runs.{RunStep, Runs, Drains, DrainsInPart};
 ghost use Rattle.fp_model.specs.WellFormed.{AreDefs};
 ghost use Rattle.serial_order.specs.ProductView.{view_of};
 ghost use Rattle.drain_laws.specs.Measure.{line_weight, messages_in, unsealed_in, work_with, work_left, lines_held, active_in, work_of};
-ghost use Rattle.drain_laws.specs.Live.{EndLaws, IsReached};
+ghost use Rattle.drain_laws.specs.Live.{EndLaws, IsReached, IsFromRest};
 ghost use Rattle.drain_laws.specs.Rounds.{GoesRound, GoesRounds, RoundMoves};
 ghost use Rattle.drain_laws.specs.ProductGauge.{gauge_of, weight_of_line};
 
@@ -87,47 +87,37 @@ pub fn counts_bound_the_work_of_the_system()
 /// From every machine that a run from rest led to, n rounds leave at least n less to do, whatever befalls their turns.
 /// So a drain has no more rounds than there is left to do, nor has one that ended early; and there is a drain.
 pub fn the_drain_of_the_system_ends()
-    ensures rounds { (defs : Defs) (scripts : List Script) (lines : List (List ℕ)) (h : History)
-        → (steps : List RunStep) (m : Machine) (rounds : List (List RunStep)) (m2 : Machine)
+    ensures rounds { (defs : Defs) (scripts : List Script) (m : Machine) (rounds : List (List RunStep)) (m2 : Machine)
         → AreDefs defs
         → AllByRecursion (λ s. full_cost s.statements ≤ 10000) scripts
-        → IsSerial (rules_of defs scripts) h
-        → Runs (rules_of defs scripts) (at_rest (rules_of defs scripts) lines h) steps m
+        → IsFromRest (rules_of defs scripts) m
         → GoesRounds (rules_of defs scripts) m rounds m2
         → length rounds + work_left (rules_of defs scripts) (gauge_of defs) m2
         ≤ work_left (rules_of defs scripts) (gauge_of defs) m }
-    ensures drain { (defs : Defs) (scripts : List Script) (lines : List (List ℕ)) (h : History)
-        → (steps : List RunStep) (m : Machine) (rounds : List (List RunStep)) (m2 : Machine)
+    ensures drain { (defs : Defs) (scripts : List Script) (m : Machine) (rounds : List (List RunStep)) (m2 : Machine)
         → AreDefs defs
         → AllByRecursion (λ s. full_cost s.statements ≤ 10000) scripts
-        → IsSerial (rules_of defs scripts) h
-        → Runs (rules_of defs scripts) (at_rest (rules_of defs scripts) lines h) steps m
+        → IsFromRest (rules_of defs scripts) m
         → Drains (rules_of defs scripts) m rounds m2
         → length rounds ≤ work_left (rules_of defs scripts) (gauge_of defs) m }
-    ensures counts { (defs : Defs) (scripts : List Script) (lines : List (List ℕ)) (h : History)
-        → (steps : List RunStep) (m : Machine) (rounds : List (List RunStep)) (m2 : Machine)
+    ensures counts { (defs : Defs) (scripts : List Script) (m : Machine) (rounds : List (List RunStep)) (m2 : Machine)
         → AreDefs defs
         → AllByRecursion (λ s. full_cost s.statements ≤ 10000) scripts
-        → IsSerial (rules_of defs scripts) h
-        → Runs (rules_of defs scripts) (at_rest (rules_of defs scripts) lines h) steps m
+        → IsFromRest (rules_of defs scripts) m
         → Drains (rules_of defs scripts) m rounds m2
         → length rounds
         ≤ work_of (weight_of_line defs.tries) (length m.lines + lines_held m) (messages_in m.queues)
         (active_in m.regions) (unsealed_in m) }
-    ensures part { (defs : Defs) (scripts : List Script) (lines : List (List ℕ)) (h : History)
-        → (steps : List RunStep) (m : Machine)
+    ensures part { (defs : Defs) (scripts : List Script) (m : Machine)
         → (rounds : List (List RunStep)) (last : List RunStep) (m2 : Machine)
         → AreDefs defs
         → AllByRecursion (λ s. full_cost s.statements ≤ 10000) scripts
-        → IsSerial (rules_of defs scripts) h
-        → Runs (rules_of defs scripts) (at_rest (rules_of defs scripts) lines h) steps m
+        → IsFromRest (rules_of defs scripts) m
         → DrainsInPart (rules_of defs scripts) m rounds last m2
         → length rounds < work_left (rules_of defs scripts) (gauge_of defs) m }
-    ensures there { (defs : Defs) (scripts : List Script) (lines : List (List ℕ)) (h : History)
-        → (steps : List RunStep) (m : Machine)
+    ensures there { (defs : Defs) (scripts : List Script) (m : Machine)
         → AreDefs defs
         → AllByRecursion (λ s. full_cost s.statements ≤ 10000) scripts
-        → IsSerial (rules_of defs scripts) h
-        → Runs (rules_of defs scripts) (at_rest (rules_of defs scripts) lines h) steps m
+        → IsFromRest (rules_of defs scripts) m
         → (rounds : List (List RunStep)) × ((m2 : Machine) × Drains (rules_of defs scripts) m rounds m2) }
 {}

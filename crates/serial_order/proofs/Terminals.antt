@@ -27,7 +27,7 @@ either_holds : (a b : Bool) → (a || b) ≡ true → (a ≡ true) ⊎ (b ≡ tr
 either_holds true b e = inl refl
 either_holds false b e = inr e
 
-name_is : (a b : Name) → same_name a b ≡ true → a ≡ b
+pub name_is : (a b : Name) → same_name a b ≡ true → a ≡ b
 name_is a b e = ap (λ (text : List ℕ). let name : Name = record { 0 = text } in name) (same_text_is a.0 b.0 e)
 
 -- a name that is among others is contained in them
@@ -255,7 +255,7 @@ module _ (rules : Rules) where
   -- ---- LOG and CKPT
 
   -- those that are told have an entry in the group
-  told_counts : (group : List Entry) (name : Name) → is_among (told rules group) name ≡ true
+  pub told_counts : (group : List Entry) (name : Name) → is_among (told rules group) name ≡ true
       → 1 ≤ sum_by (λ (e : Entry). line_count rules name e.line) group
   told_counts group name is =
       let of : Entry → ℕ = λ e. line_count rules name e.line in
