@@ -1,5 +1,5 @@
 //! What the start, settling, a Purge, an edit and a commit keep of the shape of the state.
-ghost use Rattle.std.specs.Prelude.{◌≡◌, ℕ, ◌+◌, ◌≤◌, List, true, Some};
+ghost use Rattle.std.specs.Prelude.{◌≡◌, ℕ, ◌+◌, ◌≤◌, List, true, Option, Some};
 ghost use Rattle.std.specs.List.{AllByRecursion, AllZip};
 ghost use Rattle.fp_model.specs.declared.definitions.DedbDef.{DedbDef};
 ghost use Rattle.fp_model.specs.declared.definitions.Defs.{Defs};
@@ -9,10 +9,12 @@ ghost use Rattle.fp_model.specs.declared.database.Db.{Db};
 ghost use Rattle.fp_model.specs.declared.database.Dedb.{Dedb};
 ghost use Rattle.fp_model.specs.declared.database.Msdb.{Msdb};
 ghost use Rattle.fp_model.specs.declared.database.Root.{Root};
+ghost use Rattle.fp_model.specs.declared.calls.Call.{Call};
 ghost use Rattle.fp_model.specs.declared.calls.Deferred.{Deferred};
+ghost use Rattle.fp_model.specs.Calls.{database_of, reply_to, target_of};
 ghost use Rattle.fp_model.specs.Commit.{Commits, purged, settlement};
 ghost use Rattle.fp_model.specs.CheckpointText.{IsMsdbOf};
-ghost use Rattle.fp_model.specs.FitCalls.{IsFitDeferred};
+ghost use Rattle.fp_model.specs.FitCalls.{FitsTarget, IsFitDeferred, IsTied};
 ghost use Rattle.fp_model.specs.Order.{Edit, Step, edited, sequential_type};
 ghost use Rattle.fp_model.specs.Settle.{Stands, settle};
 ghost use Rattle.fp_model.specs.Shape.{IsDbOf, IsDedbOf, has_length, is_anchor};
@@ -23,6 +25,7 @@ ghost use Rattle.state_laws.specs.Changes.{FitsChange, with_anchor};
 ghost use Rattle.state_laws.specs.Edits.{FitsEdit};
 ghost use Rattle.state_laws.specs.Inserts.{FitsSequential, ending_at, with_sequential, with_serial};
 ghost use Rattle.state_laws.specs.Parts.{FitsState};
+ghost use Rattle.state_laws.specs.Workspaces.{FitsWorkspace};
 
 /// The state before any transaction has its shape.
 pub fn the_start_has_its_shape()
@@ -101,4 +104,16 @@ pub fn a_commit_keeps_the_shape()
         → FitsState defs db own
         → settlement defs db own ≡ Commits next
         → IsDbOf defs next }
+{}
+
+/// An answered call leaves a workspace that fits, where it did before and the call fits its target. What unheld looks
+/// are shown makes no difference.
+pub fn an_answered_call_keeps_what_fits()
+    ensures { (defs : Defs) (now visible : Db) (shown : ℕ → Option ℕ) (own : Workspace) (call : Call)
+        → AreDefs defs
+        → IsDbOf defs now
+        → FitsWorkspace defs now own
+        → IsTied defs shown own
+        → FitsTarget (target_of defs (database_of call)) (shown (database_of call)) call
+        → FitsWorkspace defs now (reply_to defs now visible own call).own }
 {}
