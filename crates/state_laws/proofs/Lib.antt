@@ -23,3 +23,4 @@ pub mod MsdbReplies
 pub mod DedbReplies
 pub mod Targets
 pub mod Answering
+pub mod Ties

@@ -11,10 +11,11 @@ ghost use Rattle.fp_model.specs.declared.database.Msdb.{Msdb};
 ghost use Rattle.fp_model.specs.declared.database.Root.{Root};
 ghost use Rattle.fp_model.specs.declared.calls.Call.{Call};
 ghost use Rattle.fp_model.specs.declared.calls.Deferred.{Deferred};
+ghost use Rattle.fp_model.specs.Answers.{Replied};
 ghost use Rattle.fp_model.specs.Calls.{database_of, reply_to, target_of};
 ghost use Rattle.fp_model.specs.Commit.{Commits, purged, settlement};
 ghost use Rattle.fp_model.specs.CheckpointText.{IsMsdbOf};
-ghost use Rattle.fp_model.specs.FitCalls.{FitsTarget, IsFitDeferred, IsTied};
+ghost use Rattle.fp_model.specs.FitCalls.{FitsTarget, IsFitDeferred, IsTied, shown_behind};
 ghost use Rattle.fp_model.specs.Order.{Edit, Step, edited, sequential_type};
 ghost use Rattle.fp_model.specs.Settle.{Stands, settle};
 ghost use Rattle.fp_model.specs.Shape.{IsDbOf, IsDedbOf, has_length, is_anchor};
@@ -116,4 +117,12 @@ pub fn an_answered_call_keeps_what_fits()
         → IsTied defs shown own
         → FitsTarget (target_of defs (database_of call)) (shown (database_of call)) call
         → FitsWorkspace defs now (reply_to defs now visible own call).own }
+{}
+
+/// Behind an answered call what is held is of the type shown last, where it was before.
+pub fn an_answered_call_ties_what_is_held()
+    ensures { (defs : Defs) (now visible : Db) (shown : ℕ → Option ℕ) (own : Workspace) (call : Call)
+        → let reply : Replied = reply_to defs now visible own call in
+        IsTied defs shown own
+        → IsTied defs (shown_behind call reply.answer shown) reply.own }
 {}
