@@ -24,3 +24,6 @@ pub mod DedbReplies
 pub mod Targets
 pub mod Answering
 pub mod Ties
+pub mod Showing
+pub mod Alone
+pub mod Histories
