@@ -132,7 +132,8 @@ module _ (defs : Defs) (scripts : List Script) (now : Db) (states : List Db) (me
           → goes (rules_of defs scripts) now states message n other more ≡ Ends ending → IsDbOf defs ending.next)
           → IsDbOf defs ending.next
       by (Replies reply) is e later =
-          with_all_good notes (settled_as now reply (settlement defs now point.own)) ending (settled_good point p reply) e
+          with_all_good notes (settled_as now reply (settlement defs now point.own)) ending
+          (settled_good point p reply) e
       by (Rolls code) is e later = with_all_good notes (refused_as (Roll code) now) ending good e
       by (Asks c) is e later = looks (looks_unheld defs point.own c) notes e
         where

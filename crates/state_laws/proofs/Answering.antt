@@ -17,7 +17,8 @@ module _ (defs : Defs) (now visible : Db) (shown : ℕ → Option ℕ) (own : Wo
   target_keeps : (t : Target) → IsTarget defs (database_of c) t → FitsTarget t (shown (database_of c)) c
       → FitsWorkspace defs now (reply_on t now visible own c).own
   target_keeps t (is_msdb def at) fit =
-      msdb_keeps defs now own f (database_of c) def at (msdb_at now (database_of c)) (msdb_at visible (database_of c)) c fit
+      msdb_keeps defs now own f (database_of c) def at (msdb_at now (database_of c))
+      (msdb_at visible (database_of c)) c fit
   target_keeps t (is_dedb def dedb at number) fit =
       dedb_keeps defs now are good own f dedb def at (shown (database_of c)) c fit
       (λ place held. ap shown number ∙ tied dedb def place at held)

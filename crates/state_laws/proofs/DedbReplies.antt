@@ -155,7 +155,8 @@ module _ (defs : Defs) (db : Db) (are : AreDefs defs) (good : IsDbOf defs db) (o
         fits = edited_fits def its.0 anchor roots path edit s.may_stand fits s.fit;
       })
       (λ d at.
-      subst (λ (x : DedbDef). MayStand x anchor (edited def.segments roots path edit)) (some_is def d (sym defined ∙ at))
+      subst (λ (x : DedbDef). MayStand x anchor (edited def.segments roots path edit))
+      (some_is def d (sym defined ∙ at))
       (edited_may_stand def anchor roots path edit s.may_stand fits))
 
   -- ---- ISRT
@@ -208,7 +209,8 @@ module _ (defs : Defs) (db : Db) (are : AreDefs defs) (good : IsDbOf defs db) (o
 
     queued_keeps : is_sequential def.segments type ≡ true → Keeps (dedb.queued_insert def number own path bytes)
     queued_keeps sequential =
-        with_insert defs db (dedb.hold_ended def number own) hold_ended (dedb.seq_insert def number path bytes) (record {
+        with_insert defs db (dedb.hold_ended def number own) hold_ended (dedb.seq_insert def number path bytes)
+        (record {
           def = def;
           type = type;
           defined = defined;

@@ -24,9 +24,12 @@ use Rattle.state_laws.proofs.Sequences.{all_append}
 neither : (m n a b : ℕ) → (nat_lt m n || m == n && nat_lt a b) ≡ false → (nat_lt n m || n == m && nat_lt b a) ≡ false
     → (m ≡ n) × (a ≡ b)
 neither m n a b e f =
-    let same : m ≡ n = within m n (first_false (nat_lt m n) (m == n && nat_lt a b) e) (first_false (nat_lt n m) (n == m && nat_lt b a) f) in
-    let less = not_second (m == n) (nat_lt a b) (is_number m n same) (second_false (nat_lt m n) (m == n && nat_lt a b) e) in
-    let more = not_second (n == m) (nat_lt b a) (is_number n m (sym same)) (second_false (nat_lt n m) (n == m && nat_lt b a) f) in
+    let same : m ≡ n = within m n (first_false (nat_lt m n) (m == n && nat_lt a b) e)
+    (first_false (nat_lt n m) (n == m && nat_lt b a) f) in
+    let less = not_second (m == n) (nat_lt a b) (is_number m n same)
+    (second_false (nat_lt m n) (m == n && nat_lt a b) e) in
+    let more = not_second (n == m) (nat_lt b a) (is_number n m (sym same))
+    (second_false (nat_lt n m) (n == m && nat_lt b a) f) in
     (same, within a b less more)
   where
     first_false : (a b : Bool) → (a || b) ≡ false → a ≡ false

@@ -57,7 +57,9 @@ module _ (types : List SegDef) (places : HavePlaces 0 types) (type : ℕ) (def :
     where
       by : (d : SegDef) → slice_get types k ≡ Some d → get_or types k def ≡ d → (b : Bool) → d.sequential ≡ b → k ≡ 0
           → (get_or types k def).sequential ≡ false
-      by d there is true e low = let second = ((its_place types k d places there).3 e).0 in absurd (omega (arith, second, low))
+      by d there is true e low =
+          let second = ((its_place types k d places there).3 e).0 in
+          absurd (omega (arith, second, low))
       by d there is false e low = ap (λ (x : SegDef). x.sequential) is ∙ e
 
   found_at : position_or_len (λ (d : SegDef). d.sequential) types ≡ type
@@ -102,12 +104,14 @@ line_begins (suc n) type types places low within =
     by def at place None is later =
         let parent : parent_of types type ≡ None = rw at is in
         let none : type ≡ 0 = place.1 is in
-        ap (λ (o : Option ℕ). slice_get (option_map_or (λ p. line_within n types p ++ type ∷ []) o (type ∷ [])) 0) parent
+        ap (λ (o : Option ℕ). slice_get (option_map_or (λ p. line_within n types p ++ type ∷ []) o (type ∷ [])) 0)
+        parent
         ∙ ap (λ (k : ℕ). Some k) none
     by def at place (Some p) is later =
         let parent : parent_of types type ≡ Some p = rw at is in
         let less : p < type = subst (λ (o : Option ℕ). IfSome o (λ q. q < type)) is place.0 in
-        ap (λ (o : Option ℕ). slice_get (option_map_or (λ p. line_within n types p ++ type ∷ []) o (type ∷ [])) 0) parent
+        ap (λ (o : Option ℕ). slice_get (option_map_or (λ p. line_within n types p ++ type ∷ []) o (type ∷ [])) 0)
+        parent
         ∙ head_append (line_within n types p) (type ∷ []) 0
         (later p types places (omega (arith, less, low)) (omega (arith, less, within)))
 

@@ -99,7 +99,8 @@ module _ (types : List SegDef) where
       sym (ap (λ (s : ℕ → Seen). (s type).in_shape) (fold-roll-Node (ℕ → Seen) (seen_step types) f)) ∙ e in
       let below : List Occurrence = rows_in_order (child_types types type) (map (map (node_order types)) rows) in
       subst (λ (os : List Occurrence). AllByRecursion (IsBelow above) os)
-      (sym (ap (λ (order : ℕ → List Occurrence). order type) (fold-roll-Node (ℕ → List Occurrence) (node_step types) f)))
+      (sym (ap (λ (order : ℕ → List Occurrence). order type)
+      (fold-roll-Node (ℕ → List Occurrence) (node_step types) f)))
       (below_step type above (key_in types type y.bytes) (at_end y.bytes ∷ below) (
         (tt, first_true a b shape),
         rows_show type (child_types types type) rows (rows_of y.children) (second_true a b shape),
@@ -193,7 +194,8 @@ module _ (def : DedbDef) (dedb : ℕ) where
       let key : List ℕ = key_in types 0 root.bytes in
       let below : List Occurrence = rows_in_order (child_types types 0) (map (map (node_order types)) root.children) in
       let first = direct_shown key (at_end root.bytes ∷ []) ((tt, k.long), tt) in
-      let rest = direct_shown key below (rows_show types 0 (child_types types 0) root.children (all_show types root.children) k.rows) in
+      let rest = direct_shown key below
+      (rows_show types 0 (child_types types 0) root.children (all_show types root.children) k.rows) in
       let middle = sequentials_shown key root.seqs k.lengths in (
         first.0,
         subst (λ (os : List Occurrence). AllByRecursion (IsSegment def dedb) os)

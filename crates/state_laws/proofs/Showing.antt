@@ -68,7 +68,8 @@ module _ (own : Workspace) (number : ℕ) (def : MsdbDef) where
   behind_key m long (Some key) s e =
       found_has (λ (s : List ℕ). length s ≡ def.length) (λ s. is_below key (key_of def.fields s)) m.segments s long e
 
-  get_shows : (now visible : Msdb) → AreLong def now → AreLong def visible → (g : Get) (hold : Bool) (n : ℕ) (ssas : List Ssa)
+  get_shows : (now visible : Msdb) → AreLong def now → AreLong def visible
+      → (g : Get) (hold : Bool) (n : ℕ) (ssas : List Ssa)
       → (o : Option (List ℕ)) → Shows (call.Get g hold n ssas) (msdb.get_reply def number now visible own g hold o)
   get_shows now visible a b get.Unique false n ssas (Some key) =
       found_shows get.Unique false n ssas false (segment_of def visible key) (of_key visible b key)
@@ -85,7 +86,8 @@ module _ (own : Workspace) (number : ℕ) (def : MsdbDef) where
 
   msdb_shows : (now visible : Msdb) → AreLong def now → AreLong def visible → (c : Call)
       → Shows c (msdb.msdb_reply def number now visible own c)
-  msdb_shows now visible a b (call.Get g hold n ssas) e = get_shows now visible a b g hold n ssas (msdb.key_named ssas) e
+  msdb_shows now visible a b (call.Get g hold n ssas) e =
+      get_shows now visible a b g hold n ssas (msdb.key_named ssas) e
   msdb_shows now visible a b (call.Fld n key fsas) e = absurd (true_is_not_false (sym e))
   msdb_shows now visible a b (call.Isrt n ssas bytes) e = absurd (true_is_not_false (sym e))
   msdb_shows now visible a b (call.Repl n bytes) e = absurd (true_is_not_false (sym e))

@@ -10,7 +10,8 @@ use Rattle.state_laws.proofs.Lists.{none_is_not_some}
 -- what stands at a number: main storage databases first
 pub data IsTarget (defs : Defs) (n : ℕ) : Target → Type 0 where
   is_msdb : (def : MsdbDef) → slice_get defs.msdbs n ≡ Some def → IsTarget defs n (OnMsdb def n)
-  is_dedb : (def : DedbDef) (dedb : ℕ) → slice_get defs.dedbs dedb ≡ Some def → n ≡ length defs.msdbs + dedb → IsTarget defs n (OnDedb def dedb)
+  is_dedb : (def : DedbDef) (dedb : ℕ) → slice_get defs.dedbs dedb ≡ Some def → n ≡ length defs.msdbs + dedb
+      → IsTarget defs n (OnDedb def dedb)
   is_nowhere : IsTarget defs n Nowhere
 
 none_behind : {X : Type 0} (xs : List X) (n : ℕ) → slice_get xs n ≡ None → length xs ≤ n

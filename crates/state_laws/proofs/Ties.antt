@@ -41,7 +41,8 @@ module _ (own : Workspace) (number : ℕ) (def : MsdbDef) where
   either_stays true r q kr kq = kr
   either_stays false r q kr kq = kq
 
-  found_stays : (status : List ℕ) (hold : Bool) (o : Option (List ℕ)) → Stays (msdb.found_or def number status hold own o)
+  found_stays : (status : List ℕ) (hold : Bool) (o : Option (List ℕ))
+      → Stays (msdb.found_or def number status hold own o)
   found_stays status hold None = refl
   found_stays status hold (Some segment) = refl
 
@@ -171,7 +172,8 @@ module _ (own : Workspace) (number : ℕ) (def : DedbDef) where
         others = λ k other. get_set_other own.dedbs number k p other;
         here = λ other e. (
           refl,
-          ap (λ (q : Place). dedb.type_of_path def number q.path) (held hold place other (position_held own.dedbs p other e)),
+          ap (λ (q : Place). dedb.type_of_path def number q.path)
+              (held hold place other (position_held own.dedbs p other e)),
         );
       }
     where
@@ -214,7 +216,8 @@ module _ (own : Workspace) (number : ℕ) (def : DedbDef) where
         by false false true = refused_behind c (codes "II")
         by false false false = ended c (dedb.inserted def number roots own path bytes) _ refl refl
 
-    isrt_behind : (c : Call) (ssas : List Ssa) (bytes : List ℕ) → IsBehind c (dedb.isrt_reply def number db own ssas bytes)
+    isrt_behind : (c : Call) (ssas : List Ssa) (bytes : List ℕ)
+        → IsBehind c (dedb.isrt_reply def number db own ssas bytes)
     isrt_behind c ssas bytes =
         either_behind c (dedb.are_insert_arguments def number ssas) _ (dedb.refused def number own (codes "AM"))
         (isrt_at_behind c _ (dedb.type_of_last def number ssas) (dedb.insert_path def number ssas bytes) bytes)
@@ -226,7 +229,8 @@ module _ (own : Workspace) (number : ℕ) (def : DedbDef) where
         ended c (record { answer = answered blank; own = dedb.edit_at def number db own place edit })
         (record (dedb.position_of def number own) { held = false }) refl refl
 
-    repl_behind : (c : Call) (bytes : List ℕ) (o : Option Place) → IsBehind c (dedb.repl_reply def number db own bytes o)
+    repl_behind : (c : Call) (bytes : List ℕ) (o : Option Place)
+        → IsBehind c (dedb.repl_reply def number db own bytes o)
     repl_behind c bytes None = refused_behind c (codes "DJ")
     repl_behind c bytes (Some place) =
         by (is_sequential def.segments (dedb.type_of_path def number place.path)) (same_text
@@ -255,11 +259,13 @@ module _ (own : Workspace) (number : ℕ) (def : DedbDef) where
         }
       where
         was_ended : (dedbs : List DedbPosition)
-            → (unwrap_or (slice_get (slice_set dedbs number (record (dedb.position_of def number own) { held = false })) number) no_dedb_position).held ≡ false
-        was_ended dedbs = elim (set_here dedbs number (record (dedb.position_of def number own) { held = false }) no_dedb_position) [
-          | inl is ↦ ap (λ (p : DedbPosition). p.held) is
-          | inr none ↦ ap (λ (p : DedbPosition). p.held) none
-        ]
+            → (unwrap_or (slice_get (slice_set dedbs number (record (dedb.position_of def number own) { held = false }))
+            number) no_dedb_position).held ≡ false
+        was_ended dedbs = elim
+            (set_here dedbs number (record (dedb.position_of def number own) { held = false }) no_dedb_position) [
+              | inl is ↦ ap (λ (p : DedbPosition). p.held) is
+              | inr none ↦ ap (λ (p : DedbPosition). p.held) none
+            ]
 
     dlet_behind : (c : Call) (o : Option Place) → IsBehind c (dedb.dlet_reply def number db own o)
     dlet_behind c None = refused_behind c (codes "DJ")
@@ -331,7 +337,8 @@ module _ (defs : Defs) (now visible : Db) (shown : ℕ → Option ℕ) (own : Wo
     | inr other ↦
         let was : dedb.held_place def n own ≡ Some place =
         sym (ap (λ (o : Option DedbPosition). place_held (unwrap_or o no_dedb_position)) (b.others n other)) ∙ held in
-        shown_elsewhere r.answer (length defs.msdbs + n) (λ e. other (apart n number is e)) ∙ tied n def place defined was
+        shown_elsewhere r.answer (length defs.msdbs + n) (λ e. other (apart n number is e))
+        ∙ tied n def place defined was
   ]
     where
       apart : (n number : ℕ) → database_of c ≡ length defs.msdbs + number → database_of c ≡ length defs.msdbs + n

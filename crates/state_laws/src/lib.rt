@@ -1,7 +1,7 @@
 //! That the state has its shape in every moment: laws and lemmas over the definitions of the model.
 //!
-//! The functions do nothing; their contracts are the laws. `IsDbOf` of fp_model's `specs/Shape.antt` says what the shape
-//! is: each database's segments, anchors, roots, ends and serials as the definitions have them.
+//! The functions do nothing; their contracts are the laws. `IsDbOf` of fp_model's `specs/Shape.antt` says what the
+//! shape is: each database's segments, anchors, roots, ends and serials as the definitions have them.
 #![tactic(auto)]
 
 mod laws;
