@@ -117,7 +117,8 @@ module _ (defs : Defs) (db : Db) (c : AnchorChange) (fit : FitsAnchorChange defs
           keys = one.fits.keys;
           in_shape = one.fits.in_shape;
           dependents = λ now e. one.fits.dependents now
-              (sym (get_set_other one.dedb.anchors c.anchor d.anchor c.roots (λ q. absurd (omega (arith, q, later.1)))) ∙ e);
+              (sym (get_set_other one.dedb.anchors c.anchor d.anchor c.roots
+              (λ q. absurd (omega (arith, q, later.1)))) ∙ e);
         };
       }
 

@@ -15,3 +15,15 @@ pub mod Stands
 pub mod Committing
 pub mod Numbering
 pub mod Commits
+pub mod Sequences
+pub mod Paths
+pub mod Seen
+pub mod Keeping
+pub mod MsdbReplies
+pub mod DedbReplies
+pub mod Targets
+pub mod Answering
+pub mod Ties
+pub mod Showing
+pub mod Alone
+pub mod Histories

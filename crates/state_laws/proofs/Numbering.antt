@@ -53,7 +53,8 @@ pub room_left : (db : Db) (inserts : List SeqInsert) (set : ℕ) (areas : List A
     → first_full db inserts set areas ≡ None → AllByRecursion (HasRoom db inserts) areas
 room_left db inserts set [] e = tt
 room_left db inserts set (area ∷ areas) e =
-    by (nat_lt 0 (count area inserts)) (is_too_full area.def.capacity (ends_at db area) (count area inserts)) refl refl e
+    by (nat_lt 0 (count area inserts)) (is_too_full area.def.capacity (ends_at db area) (count area inserts)) refl
+    refl e
     (λ f. room_left db inserts (set + 1) areas f)
   where
     not_less : (a b : ℕ) → nat_lt a b ≡ false → b ≤ a
@@ -120,7 +121,8 @@ module _ (defs : Defs) (db : Db) (good : IsDbOf defs db) (i : SeqInsert) (fit : 
   in_area =
       let front = first_true (area.dedb == i.dedb && nat_le area.first_anchor i.anchor)
       (nat_lt i.anchor (area.first_anchor + anchors_in area.def)) takes_it in
-      both_true (0 == 0 && nat_le area.first_anchor i.anchor) (nat_lt i.anchor (area.first_anchor + anchors_in area.def))
+      both_true (0 == 0 && nat_le area.first_anchor i.anchor)
+      (nat_lt i.anchor (area.first_anchor + anchors_in area.def))
       (second_true (area.dedb == i.dedb) (nat_le area.first_anchor i.anchor) front)
       (second_true (area.dedb == i.dedb && nat_le area.first_anchor i.anchor)
       (nat_lt i.anchor (area.first_anchor + anchors_in area.def)) takes_it)
@@ -261,7 +263,8 @@ module _ (defs : Defs) (db : Db) (good : IsDbOf defs db) (i : SeqInsert) (fit : 
           msdbs = good.msdbs;
           dedbs = subst (AllZip IsDedbOf defs.dedbs) (sym inserted_to)
               (each_set IsDedbOf defs.dedbs db.dedbs area.dedb its.def new good.dedbs its.defined
-              (sequential_good its.def its.dedb (alone area) i.anchor its.ends roots_there.0 i.key i.bytes its.good fits));
+              (sequential_good its.def its.dedb (alone area) i.anchor its.ends roots_there.0 i.key i.bytes its.good
+              fits));
         }
 
     -- the others have room as before
