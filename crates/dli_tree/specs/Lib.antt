@@ -1,0 +1,5 @@
+pub mod Paths
+pub mod InOrder
+pub mod Aims
+pub mod Places
+pub mod Reaches
