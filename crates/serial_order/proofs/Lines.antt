@@ -29,7 +29,7 @@ use Rattle.serial_order.proofs.Settling.{find_put, find_kept, other_text}
 ok_is : (x y : Message) (r : Result Message MessageFault) → r ≡ Ok x → r ≡ Ok y → x ≡ y
 ok_is x y r e f = cc
 
-error_is_not_ok : (f : MessageFault) (x : Message) → Err f ≡ Ok x → ⊥
+pub error_is_not_ok : (f : MessageFault) (x : Message) → Err f ≡ Ok x → ⊥
 error_is_not_ok f x e = cc
 
 accepted_is : (x y : Message) → Accepts x ≡ Accepts y → x ≡ y
@@ -38,13 +38,13 @@ accepted_is x y e = cc
 refused_is : (x y : Outcome) → Refuses x ≡ Refuses y → x ≡ y
 refused_is x y e = cc
 
-refused_is_not_accepted : (o : Outcome) (x : Message) → Refuses o ≡ Accepts x → ⊥
+pub refused_is_not_accepted : (o : Outcome) (x : Message) → Refuses o ≡ Accepts x → ⊥
 refused_is_not_accepted o x e = cc
 
 -- ---- the message that a line is
 
 -- a message that is taken is as it was
-fair_line : (m message : Message) → with_fair_text m ≡ Ok message → m ≡ message
+pub fair_line : (m message : Message) → with_fair_text m ≡ Ok message → m ≡ message
 fair_line m message e = either (nat_lt 1000 (length m.text)) (list_all is_printable m.text) e
   where
     either : (long fair : Bool) → (if long then Err TooLong else (if fair then Ok m else Err NotAscii)) ≡ Ok message
@@ -97,7 +97,7 @@ number_accepts : (scripts : List Script) (lasts : List Last) (m message : Messag
 number_accepts scripts lasts m message None e = script_accepts scripts m message e
 number_accepts scripts lasts m message (Some number) e = last_accepts scripts m message number (last_of m.lterm lasts) e
 
-accepts : (scripts : List Script) (lasts : List Last) (r : Result Message MessageFault) (message : Message)
+pub accepts : (scripts : List Script) (lasts : List Last) (r : Result Message MessageFault) (message : Message)
     → by_message scripts lasts r ≡ Accepts message → r ≡ Ok message
 accepts scripts lasts (Err fault) message e = absurd (refused_is_not_accepted outcome.Unknown message e)
 accepts scripts lasts (Ok m) message e = ap (λ (x : Message). Ok x) (number_accepts scripts lasts m message m.number e)
@@ -177,7 +177,7 @@ format_push format [] e = refl
 format_push format (x ∷ es) e = format_push (format_behind format x.outcome) es e
 
 -- the entry's number takes the place of that of its terminal
-lasts_push : (format : ℕ) (es : List Entry) (e : Entry) (lasts : List Last)
+pub lasts_push : (format : ℕ) (es : List Entry) (e : Entry) (lasts : List Last)
     → lasts_behind format (es ++ e ∷ []) lasts
     ≡ option_map_or (λ last. with_last last (lasts_behind format es lasts)) (last_by (format_at format es) e)
     (lasts_behind format es lasts)
@@ -208,7 +208,7 @@ last_terminal format e last is = either (uses_number e.outcome) is
     either false is = absurd (none_is_not_some last is)
 
 -- a number leaves those of other terminals
-last_leaves : (name : Name) (last : Last) (lasts : List Last) → ¬ (last.lterm.0 ≡ name.0)
+pub last_leaves : (name : Name) (last : Last) (lasts : List Last) → ¬ (last.lterm.0 ≡ name.0)
     → last_of name (with_last last lasts) ≡ last_of name lasts
 last_leaves name last lasts ne =
     let key : Last → List ℕ = λ l. l.lterm.0 in

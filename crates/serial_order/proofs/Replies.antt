@@ -138,7 +138,7 @@ found_alike is_locked look look2 (a ∷ rest) none same = at (is_locked a) refl 
 module _ (def : DedbDef) (number : ℕ) (held : Resource → Option Mode) (own : Workspace) (db db2 : Db)
     (same : (anchor : ℕ) → ¬ (held (Anchor number anchor) ≡ None) → roots_at db2 number anchor ≡ roots_at db number anchor) where
   -- the roots of an anchor that is held
-  roots_alike : (anchor : ℕ) (mode : Mode) → serves (held (Anchor number anchor)) mode ≡ true → dedb.roots_seen def number db2 own anchor ≡ dedb.roots_seen def number db own anchor
+  pub roots_alike : (anchor : ℕ) (mode : Mode) → serves (held (Anchor number anchor)) mode ≡ true → dedb.roots_seen def number db2 own anchor ≡ dedb.roots_seen def number db own anchor
   roots_alike anchor mode h = ap (λ (roots : List Root). option_map_or (λ (c : AnchorChange). c.roots) (find (dedb.is_change_of def number anchor) own.changes) roots) (same anchor (served_is_held (held (Anchor number anchor)) mode h))
 
   -- the roots of an anchor whose lock is held
@@ -206,7 +206,7 @@ module _ (def : DedbDef) (number : ℕ) (held : Resource → Option Mode) (own :
 segment_is : (a b : Option (List ℕ)) → SegmentIs a ≡ SegmentIs b → a ≡ b
 segment_is a b e = cc
 
-roots_are : (a b : List Root) → RootsAre a ≡ RootsAre b → a ≡ b
+pub roots_are : (a b : List Root) → RootsAre a ≡ RootsAre b → a ≡ b
 roots_are a b e = cc
 
 module _ (defs : Defs) (held : Resource → Option Mode) (own : Workspace) (db db2 shown shown2 : Db) (c : Call)

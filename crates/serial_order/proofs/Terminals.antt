@@ -27,18 +27,18 @@ either_holds : (a b : Bool) → (a || b) ≡ true → (a ≡ true) ⊎ (b ≡ tr
 either_holds true b e = inl refl
 either_holds false b e = inr e
 
-name_is : (a b : Name) → same_name a b ≡ true → a ≡ b
+pub name_is : (a b : Name) → same_name a b ≡ true → a ≡ b
 name_is a b e = ap (λ (text : List ℕ). let name : Name = record { 0 = text } in name) (same_text_is a.0 b.0 e)
 
 -- a name that is among others is contained in them
-contained : (names : List Name) (name : Name) → is_among names name ≡ true → Contains names name
+pub contained : (names : List Name) (name : Name) → is_among names name ≡ true → Contains names name
 contained [] name e = absurd (true_is_not_false (sym e))
 contained (n ∷ ns) name e = elim (either_holds (same_name name n) (is_among ns name) e) [
   | inl same ↦ subst (λ (q : Name). Contains (q ∷ ns) name) (name_is name n same) (contains_first name ns)
   | inr later ↦ contains_later n ns name (contained ns name later)
 ]
 
-among : (names : List Name) (name : Name) → Contains names name → is_among names name ≡ true
+pub among : (names : List Name) (name : Name) → Contains names name → is_among names name ≡ true
 among [] name c = absurd (contains_nothing name c)
 among (n ∷ ns) name c = elim (contains_cases n ns name c) [
   | inl same ↦ rw (ap (same_name name) same ∙ text_is_same name.0) refl
@@ -75,11 +75,11 @@ module _ (rules : Rules) where
   -- ---- a line and its terminal
 
   -- a line counts for its terminal
-  counts_one : (line : List ℕ) (name : Name) → is_among (terminal_in (rules.terminal_of line)) name ≡ true
+  pub counts_one : (line : List ℕ) (name : Name) → is_among (terminal_in (rules.terminal_of line)) name ≡ true
       → line_count rules name line ≡ 1
   counts_one line name e = rw e refl
 
-  counts_none : (line : List ℕ) (name : Name) → is_among (terminal_in (rules.terminal_of line)) name ≡ false
+  pub counts_none : (line : List ℕ) (name : Name) → is_among (terminal_in (rules.terminal_of line)) name ≡ false
       → line_count rules name line ≡ 0
   counts_none line name e = rw e refl
 
@@ -255,7 +255,7 @@ module _ (rules : Rules) where
   -- ---- LOG and CKPT
 
   -- those that are told have an entry in the group
-  told_counts : (group : List Entry) (name : Name) → is_among (told rules group) name ≡ true
+  pub told_counts : (group : List Entry) (name : Name) → is_among (told rules group) name ≡ true
       → 1 ≤ sum_by (λ (e : Entry). line_count rules name e.line) group
   told_counts group name is =
       let of : Entry → ℕ = λ e. line_count rules name e.line in
@@ -266,7 +266,7 @@ module _ (rules : Rules) where
       omega (arith, one, sum_has of group at.0 at.1.0)
 
   -- what the group takes from those that aren't sealed
-  seals : (name : Name) (m : Machine)
+  pub seals : (name : Name) (m : Machine)
       → sum_by (λ (e : Entry). line_count rules name e.line) (next_group rules m) + unsealed_count rules name
       (m.sealed + length (next_group rules m)) m.history.entries
       ≡ unsealed_count rules name m.sealed m.history.entries

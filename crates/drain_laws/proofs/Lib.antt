@@ -1,0 +1,14 @@
+pub mod Walk
+pub mod Cycles
+pub mod Sums
+pub mod Falls
+pub mod Lines
+pub mod Live
+pub mod Stands
+pub mod Rounds
+pub mod Counts
+pub mod Existence
+pub mod Comes
+pub mod Foreseen
+pub mod SystemEnds
+pub mod OfSystem

@@ -1,0 +1,4 @@
+pub mod Measure
+pub mod Live
+pub mod Rounds
+pub mod ProductGauge
