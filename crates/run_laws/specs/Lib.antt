@@ -1,0 +1,4 @@
+pub mod Requests
+pub mod Fresh
+pub mod Lives
+pub mod Determined
