@@ -12,8 +12,8 @@ ghost use Rattle.drain_laws.specs.Measure.{Gauge, line_weight, messages_in, unse
 ghost use Rattle.drain_laws.specs.Live.{EndLaws, IsReached};
 ghost use Rattle.drain_laws.specs.Rounds.{GoesRound, GoesRounds, RoundMoves};
 
-/// What the end of the drain rests on is so of a machine at rest, and each turn keeps it, whatever befalls it. It doesn't
-/// depend on the lines that are left.
+/// What the end of the drain rests on is so of a machine at rest, and each turn keeps it, whatever befalls it. It
+/// doesn't depend on the lines that are left.
 pub fn nothing_waits_in_vain()
     ensures rest { (rules : Rules) (gauge : Gauge) (view : View) (lines : List (List ℕ)) (h : History)
         → IsSerial rules h

@@ -12,7 +12,7 @@ use Rattle.fp_model.specs.Messages.{MessageFault, message_of}
 use Rattle.fp_model.specs.Product.{by_script, by_last, by_number, by_message, request_of}
 use Rattle.serial_order.proofs.Lists.{some_is, none_is_not_some}
 use Rattle.serial_order.proofs.Lines.{accepts, refused_is_not_accepted}
-use Rattle.run_laws.specs.Fresh.{last_in, IsFresh}
+use Rattle.run_laws.specs.Fresh.{last_behind, IsFresh}
 
 -- a number above the last one, if there is one
 abbrev pub IsAbove : ℕ → Option Last → Type 0
@@ -50,7 +50,7 @@ asked_by_last scripts m number (Some last) =
 pub asked_of : (scripts : List Script) (h : History) (line : List ℕ) (m : Message) (number : ℕ)
     → message_of (format_at h.format h.entries) line ≡ Ok m
     → m.number ≡ Some number
-    → Asked scripts m number (last_in h m.lterm) (request_of scripts h line)
+    → Asked scripts m number (last_behind h m.lterm) (request_of scripts h line)
 asked_of scripts h line m number reads has =
     let lasts = lasts_of h.format h.entries in
     let is : request_of scripts h line ≡ by_last scripts m number (last_of m.lterm lasts)
@@ -87,15 +87,16 @@ fresh_of scripts h message e = record {
         message e
 
     goes : (number : ℕ) → message.number ≡ Some number
-        → Asked scripts message number (last_in h message.lterm) (request_of scripts h message.line)
-        → IsAbove number (last_in h message.lterm)
+        → Asked scripts message number (last_behind h message.lterm) (request_of scripts h message.line)
+        → IsAbove number (last_behind h message.lterm)
     goes number has (Goes above is) = above
     goes number has (Is_old last there less is) =
         absurd (refused_is_not_accepted (outcome.Old last.number) message (sym is ∙ e))
     goes number has (Repeats last there same is) =
         absurd (refused_is_not_accepted (outcome.Repeat last.line) message (sym is ∙ e))
 
-    names_of : (number : ℕ) → Asked scripts message number (last_in h message.lterm) (request_of scripts h message.line)
+    names_of : (number : ℕ) → Asked scripts message number (last_behind h message.lterm)
+        (request_of scripts h message.line)
         → is_some (script_of scripts message.tran) ≡ true
     names_of number (Goes above is) = names_script scripts message message (sym is ∙ e)
     names_of number (Is_old last there less is) =

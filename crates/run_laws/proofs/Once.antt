@@ -229,11 +229,11 @@ module _ (defs : Defs) (scripts : List Script) where
       → message_of (format_of h) line ≡ Ok m
       → m.number ≡ Some number
       → (rules_of defs scripts).request_of h line ≡ Accepts other
-      → IsAbove number (fresh.last_in h m.lterm)
+      → IsAbove number (fresh.last_behind h m.lterm)
   accepted_above h line m other number reads has is = by (asked_of scripts h line m number reads has)
     where
-      by : Asked scripts m number (fresh.last_in h m.lterm) ((rules_of defs scripts).request_of h line)
-          → IsAbove number (fresh.last_in h m.lterm)
+      by : Asked scripts m number (fresh.last_behind h m.lterm) ((rules_of defs scripts).request_of h line)
+          → IsAbove number (fresh.last_behind h m.lterm)
       by (Goes above e) = above
       by (Is_old last there less e) = absurd (refused_is_not_accepted (outcome.Old last.number) other (sym e ∙ is))
       by (Repeats last there same e) = absurd (refused_is_not_accepted (outcome.Repeat last.line) other (sym e ∙ is))
@@ -249,11 +249,11 @@ module _ (defs : Defs) (scripts : List Script) where
       → message_of (format_of h) line ≡ Ok m
       → m.number ≡ Some number
       → (rules_of defs scripts).request_of h line ≡ Refuses outcome.Unknown
-      → IsAbove number (fresh.last_in h m.lterm)
+      → IsAbove number (fresh.last_behind h m.lterm)
   unknown_above h line m number reads has is = by (asked_of scripts h line m number reads has)
     where
-      by : Asked scripts m number (fresh.last_in h m.lterm) ((rules_of defs scripts).request_of h line)
-          → IsAbove number (fresh.last_in h m.lterm)
+      by : Asked scripts m number (fresh.last_behind h m.lterm) ((rules_of defs scripts).request_of h line)
+          → IsAbove number (fresh.last_behind h m.lterm)
       by (Goes above e) = above
       by (Is_old last there less e) = absurd (unknown_is_not_old last.number (sym e ∙ is))
       by (Repeats last there same e) = absurd (unknown_is_not_repeat last.line (sym e ∙ is))
@@ -265,7 +265,7 @@ module _ (defs : Defs) (scripts : List Script) where
       → uses_number o ≡ true
       → SuitsOutcome (place_of h) e o
       → Leads (rules_of defs scripts) h e o next
-      → IsAbove number (fresh.last_in h m.lterm)
+      → IsAbove number (fresh.last_behind h m.lterm)
   above_of h e outcome.Done next m number reads has uses s l =
       accepted_above h e.line m l.message number reads has l.is_request
   above_of h e (outcome.Verify call fsa found) next m number reads has uses s l =
@@ -293,29 +293,29 @@ module _ (defs : Defs) (scripts : List Script) where
       → m.number ≡ Some number
       → uses_number e.outcome ≡ true
       → Comes (rules_of defs scripts) h e next
-      → IsAbove number (fresh.last_in h m.lterm)
+      → IsAbove number (fresh.last_behind h m.lterm)
   comes_above h e next m number reads has uses c = above_of h e e.outcome next m number reads has uses c.form c.leads
 
   -- the last number behind it
-  last_behind : (h : History) (e : Entry) (next : Db) (name : Name) (o : Option Last)
+  last_put_behind : (h : History) (e : Entry) (next : Db) (name : Name) (o : Option Last)
       → last_by (format_of h) e ≡ o
-      → fresh.last_in (with_entry e next h) name
+      → fresh.last_behind (with_entry e next h) name
       ≡ last_of name (option_map_or (λ last. with_last last (lasts_of h.format h.entries)) o
       (lasts_of h.format h.entries))
-  last_behind h e next name o is =
+  last_put_behind h e next name o is =
       ap (last_of name) (lasts_push h.format h.entries e [])
       ∙ ap (λ (q : Option Last). last_of name (option_map_or (λ last. with_last last (lasts_of h.format h.entries)) q
       (lasts_of h.format h.entries))) is
 
   -- What an entry makes of a terminal's last number: it stays, or is one above it, which the entry uses.
   data Step (h : History) (e : Entry) (next : Db) (name : Name) : Type 0 where
-    Stays : fresh.last_in (with_entry e next h) name ≡ fresh.last_in h name → Step h e next name
+    Stays : fresh.last_behind (with_entry e next h) name ≡ fresh.last_behind h name → Step h e next name
     Rises :
         (l : Last)
         → UsedBy (format_of h) e l
         → l.lterm ≡ name
-        → fresh.last_in (with_entry e next h) name ≡ Some l
-        → IsAbove l.number (fresh.last_in h name)
+        → fresh.last_behind (with_entry e next h) name ≡ Some l
+        → IsAbove l.number (fresh.last_behind h name)
         → Step h e next name
 
   step_of : (h : History) (e : Entry) (next : Db) (name : Name) → Comes (rules_of defs scripts) h e next
@@ -323,22 +323,22 @@ module _ (defs : Defs) (scripts : List Script) where
   step_of h e next name c = by (last_by (format_of h) e) refl
     where
       by : (o : Option Last) → last_by (format_of h) e ≡ o → Step h e next name
-      by None is = Stays (last_behind h e next name None is)
+      by None is = Stays (last_put_behind h e next name None is)
       by (Some l) is = elim (tested (same_text l.lterm.0 name.0)) [
-        | inr other ↦ Stays (last_behind h e next name (Some l) is
+        | inr other ↦ Stays (last_put_behind h e next name (Some l) is
             ∙ last_leaves name l (lasts_of h.format h.entries)
             (λ same. true_is_not_false (sym (ap (λ (t : List ℕ). same_text l.lterm.0 t) (sym same)
             ∙ text_is_same l.lterm.0) ∙ other)))
         | inl here ↦ (
             let u = used_by (format_of h) e l is in
             let same : l.lterm ≡ name = name_is l.lterm name here in
-            let put : fresh.last_in (with_entry e next h) l.lterm ≡ Some l
-            = last_behind h e next l.lterm (Some l) is ∙ last_put l (lasts_of h.format h.entries) in
+            let put : fresh.last_behind (with_entry e next h) l.lterm ≡ Some l
+            = last_put_behind h e next l.lterm (Some l) is ∙ last_put l (lasts_of h.format h.entries) in
             let above = comes_above h e next u.message l.number u.reads u.has u.uses c in
             let from : u.message.lterm ≡ name = u.is_from ∙ same in
             Rises l u same
-            (subst (λ (n : Name). fresh.last_in (with_entry e next h) n ≡ Some l) same put)
-            (subst (λ (n : Name). IsAbove l.number (fresh.last_in h n)) from above))
+            (subst (λ (n : Name). fresh.last_behind (with_entry e next h) n ≡ Some l) same put)
+            (subst (λ (n : Name). IsAbove l.number (fresh.last_behind h n)) from above))
       ]
 
   -- ---- entries one after another
@@ -350,18 +350,19 @@ module _ (defs : Defs) (scripts : List Script) where
       → (l2 : Last) × ((o2 ≡ Some l2) × ((l2 ≡ l) ⊎ (l.number < l2.number)))
 
   grows_step : (h : History) (e : Entry) (next : Db) (name : Name) → Comes (rules_of defs scripts) h e next
-      → Grows (fresh.last_in h name) (fresh.last_in (with_entry e next h) name)
+      → Grows (fresh.last_behind h name) (fresh.last_behind (with_entry e next h) name)
   grows_step h e next name c l is = by (step_of h e next name c)
     where
       by : Step h e next name
-          → (l2 : Last) × ((fresh.last_in (with_entry e next h) name ≡ Some l2) × ((l2 ≡ l) ⊎ (l.number < l2.number)))
+          → (l2 : Last) × ((fresh.last_behind (with_entry e next h) name ≡ Some l2)
+          × ((l2 ≡ l) ⊎ (l.number < l2.number)))
       by (Stays same) = (l, (same ∙ is, inl refl))
       by (Rises l2 u of put above) = (l2, (put, inr (above l is)))
 
   grows_on : (h : History) (es : List Entry) (h2 : History) (name : Name) → LeadsOn (rules_of defs scripts) h es h2
-      → Grows (fresh.last_in h name) (fresh.last_in h2 name)
+      → Grows (fresh.last_behind h name) (fresh.last_behind h2 name)
   grows_on h [] h2 name leads l is =
-      (l, (ap (λ (x : History). fresh.last_in x name) leads ∙ is, inl refl))
+      (l, (ap (λ (x : History). fresh.last_behind x name) leads ∙ is, inl refl))
   grows_on h (e ∷ es) h2 name leads l is =
       let first = grows_step h e leads.0 name leads.1 l is in
       let rest = grows_on (with_entry e leads.0 h) es h2 name leads.2 first.0 first.1.0 in
@@ -430,9 +431,9 @@ module _ (defs : Defs) (scripts : List Script) where
   -- A last number was so before, or some entry used it.
   origin : (h : History) (es : List Entry) (h2 : History) (name : Name) (l : Last)
       → LeadsOn (rules_of defs scripts) h es h2
-      → fresh.last_in h2 name ≡ Some l
-      → (fresh.last_in h name ≡ Some l) ⊎ HasUsed h.format (h.entries ++ es) name l.number l.line
-  origin h [] h2 name l leads is = inl (sym (ap (λ (x : History). fresh.last_in x name) leads) ∙ is)
+      → fresh.last_behind h2 name ≡ Some l
+      → (fresh.last_behind h name ≡ Some l) ⊎ HasUsed h.format (h.entries ++ es) name l.number l.line
+  origin h [] h2 name l leads is = inl (sym (ap (λ (x : History). fresh.last_behind x name) leads) ∙ is)
   origin h (e ∷ es) h2 name l leads is =
       by (origin (with_entry e leads.0 h) es h2 name l leads.2 is) (step_of h e leads.0 name leads.1)
     where
@@ -441,10 +442,10 @@ module _ (defs : Defs) (scripts : List Script) where
       whole u = subst (λ (xs : List Entry). HasUsed h.format xs name l.number l.line)
           (append_assoc h.entries (e ∷ []) es) u
 
-      by : (fresh.last_in (with_entry e leads.0 h) name ≡ Some l)
+      by : (fresh.last_behind (with_entry e leads.0 h) name ≡ Some l)
           ⊎ HasUsed h.format ((h.entries ++ e ∷ []) ++ es) name l.number l.line
           → Step h e leads.0 name
-          → (fresh.last_in h name ≡ Some l) ⊎ HasUsed h.format (h.entries ++ e ∷ es) name l.number l.line
+          → (fresh.last_behind h name ≡ Some l) ⊎ HasUsed h.format (h.entries ++ e ∷ es) name l.number l.line
       by (inr u) step = inr (whole u)
       by (inl here) (Stays same) = inl (sym same ∙ here)
       by (inl here) (Rises l2 u of put above) =
@@ -497,20 +498,20 @@ module _ (defs : Defs) (scripts : List Script) where
     behind_it : (place : ℕ) (e : Entry) (name : Name) (number : ℕ) (b : Before place e)
         → IsNumbered h.format h.entries place e name number
         → uses_number e.outcome ≡ true
-        → (l : Last) × ((fresh.last_in (with_entry e b.next b.at) name ≡ Some l)
+        → (l : Last) × ((fresh.last_behind (with_entry e b.next b.at) name ≡ Some l)
         × ((l.number ≡ number) × (l.line ≡ unwrap_or (line_text e) [])))
     behind_it place e name number b n uses =
         let l : Last = record { lterm = n.message.lterm; number = number; line = unwrap_or (line_text e) [] } in
         let by = uses_of (format_of b.at) e n.message number uses (reads_at place e name number b n) n.has in
-        let put : fresh.last_in (with_entry e b.next b.at) n.message.lterm ≡ Some l
-        = last_behind b.at e b.next n.message.lterm (Some l) by ∙ last_put l (lasts_of b.at.format b.at.entries) in
-        (l, (subst (λ (x : Name). fresh.last_in (with_entry e b.next b.at) x ≡ Some l) n.is_from put, (refl, refl)))
+        let put : fresh.last_behind (with_entry e b.next b.at) n.message.lterm ≡ Some l
+        = last_put_behind b.at e b.next n.message.lterm (Some l) by ∙ last_put l (lasts_of b.at.format b.at.entries) in
+        (l, (subst (λ (x : Name). fresh.last_behind (with_entry e b.next b.at) x ≡ Some l) n.is_from put, (refl, refl)))
 
     -- what the terminal's last number is before a later entry
     record Later (number : ℕ) (line : List ℕ) (place : ℕ) (e : Entry) (name : Name) : Type 0 where
       here : Before place e
       last : Last
-      is : fresh.last_in here.at name ≡ Some last
+      is : fresh.last_behind here.at name ≡ Some last
       not_less : (number < last.number) ⊎ ((last.number ≡ number) × (last.line ≡ line))
 
     later : (i j : ℕ) (a b : Entry) (name : Name) (number : ℕ)
@@ -540,7 +541,7 @@ module _ (defs : Defs) (scripts : List Script) where
         record {
           here = bb;
           last = grown.0;
-          is = ap (λ (x : History). fresh.last_in x name) same ∙ grown.1.0;
+          is = ap (λ (x : History). fresh.last_behind x name) same ∙ grown.1.0;
           not_less = elim grown.1.1 [
             | inl is ↦ inr (ap (λ (l : Last). l.number) is ∙ put.1.1.0, ap (λ (l : Last). l.line) is ∙ put.1.1.1)
             | inr more ↦ inl (omega (arith, more, put.1.1.0))
@@ -557,7 +558,7 @@ module _ (defs : Defs) (scripts : List Script) where
         → ⊥
     not_both i j a b name number less n n2 uses uses2 =
         let l = later i j a b name number less n uses n2.stands in
-        let above = subst (λ (x : Name). IsAbove number (fresh.last_in l.here.at x)) n2.is_from
+        let above = subst (λ (x : Name). IsAbove number (fresh.last_behind l.here.at x)) n2.is_from
         (comes_above l.here.at b l.here.next n2.message number (reads_at j b name number l.here n2) n2.has uses2
         l.here.comes) in
         let less2 = above l.last l.is in
@@ -611,7 +612,7 @@ module _ (defs : Defs) (scripts : List Script) where
     record Again (number : ℕ) (line : List ℕ) (place : ℕ) (e : Entry) (name : Name) : Type 0 where
       here : Before place e
       last : Last
-      is : fresh.last_in here.at name ≡ Some last
+      is : fresh.last_behind here.at name ≡ Some last
       number_is : last.number ≡ number
       line_is : last.line ≡ line
 
@@ -631,7 +632,7 @@ module _ (defs : Defs) (scripts : List Script) where
         refused = (subst (λ (o : Outcome). Leads (rules_of defs scripts) (before j b n.stands).at b o
             (before j b n.stands).next) repeated (before j b n.stands).comes.leads).0
 
-        by : Asked scripts n.message number (fresh.last_in (before j b n.stands).at n.message.lterm)
+        by : Asked scripts n.message number (fresh.last_behind (before j b n.stands).at n.message.lterm)
             ((rules_of defs scripts).request_of (before j b n.stands).at b.line)
             → Again number line j b name
         by (Goes above e) = absurd (no_repeat n.message line (sym e ∙ refused))
@@ -639,7 +640,7 @@ module _ (defs : Defs) (scripts : List Script) where
         by (Repeats last there same e) = record {
           here = before j b n.stands;
           last = last;
-          is = subst (λ (x : Name). fresh.last_in (before j b n.stands).at x ≡ Some last) n.is_from there;
+          is = subst (λ (x : Name). fresh.last_behind (before j b n.stands).at x ≡ Some last) n.is_from there;
           number_is = sym same;
           line_is = repeat_is last.line line (sym e ∙ refused);
         }

@@ -11,8 +11,8 @@ use Rattle.fp_model.specs.Messages.{message_of}
 use Rattle.fp_model.specs.ReplyLine.{line_text}
 
 -- the last number of a terminal behind a history, if it used one
-abbrev pub last_in : History → Name → Option Last
-last_in h name = last_of name (lasts_of h.format h.entries)
+abbrev pub last_behind : History → Name → Option Last
+last_behind h name = last_of name (lasts_of h.format h.entries)
 
 -- The message is what its line says in the format there, names a script, and has no number or one above the last one of
 -- its terminal.
@@ -21,7 +21,7 @@ pub record IsFresh (scripts : List Script) (h : History) (message : Message) : T
   pub names : is_some (script_of scripts message.tran) ≡ true
   pub above : (number : ℕ) (last : Last)
       → message.number ≡ Some number
-      → last_in h message.lterm ≡ Some last
+      → last_behind h message.lterm ≡ Some last
       → last.number < number
 
 -- The entry at a place, behind a front of this format, answers this number of this terminal.

@@ -32,10 +32,10 @@ ok_is x y r e f = cc
 pub error_is_not_ok : (f : MessageFault) (x : Message) → Err f ≡ Ok x → ⊥
 error_is_not_ok f x e = cc
 
-pub accepted_is : (x y : Message) → Accepts x ≡ Accepts y → x ≡ y
+accepted_is : (x y : Message) → Accepts x ≡ Accepts y → x ≡ y
 accepted_is x y e = cc
 
-pub refused_is : (x y : Outcome) → Refuses x ≡ Refuses y → x ≡ y
+refused_is : (x y : Outcome) → Refuses x ≡ Refuses y → x ≡ y
 refused_is x y e = cc
 
 pub refused_is_not_accepted : (o : Outcome) (x : Message) → Refuses o ≡ Accepts x → ⊥
@@ -63,7 +63,7 @@ by_line line number (Some lterm) (Some tran) text message e =
     let same = fair_line (record { lterm = lterm; tran = tran; text = text; line = line; number = number }) message e in
     (sym (ap (λ (m : Message). m.line) same), ap (λ (m : Message). Some m.lterm) same)
 
-pub of_line : (format : ℕ) (line : List ℕ) (message : Message) → message_of format line ≡ Ok message
+of_line : (format : ℕ) (line : List ℕ) (message : Message) → message_of format line ≡ Ok message
     → (message.line ≡ line) × (terminal_of line ≡ Some message.lterm)
 of_line format line message e =
     let asked : List ℕ = behind_number (number_in_line format line) line in
@@ -72,7 +72,7 @@ of_line format line message e =
 
 -- ---- a request that is accepted
 
-pub script_accepts : (scripts : List Script) (m message : Message) → by_script scripts m ≡ Accepts message → m ≡ message
+script_accepts : (scripts : List Script) (m message : Message) → by_script scripts m ≡ Accepts message → m ≡ message
 script_accepts scripts m message e = either (is_some (script_of scripts m.tran)) e
   where
     either : (b : Bool) → (if b then Accepts m else Refuses outcome.Unknown) ≡ Accepts message → m ≡ message
@@ -187,7 +187,7 @@ lasts_push format (x ∷ es) e lasts =
     (option_map_or (λ last. with_last last lasts) (last_by format x) lasts)
 
 -- the number that an entry uses up is of the terminal of its line
-pub last_terminal : (format : ℕ) (e : Entry) (last : Last) → last_by format e ≡ Some last
+last_terminal : (format : ℕ) (e : Entry) (last : Last) → last_by format e ≡ Some last
     → terminal_of e.line ≡ Some last.lterm
 last_terminal format e last is = either (uses_number e.outcome) is
   where

@@ -59,7 +59,7 @@ sum_put f xs i x y e =
     (sum_by-set f xs i y x (slice_get_within xs i x e))
 
 -- a sum is no less than each of its terms
-pub sum_has : {X : Type 0} (f : X → ℕ) (xs : List X) (x : X) → Contains xs x → f x ≤ sum_by f xs
+sum_has : {X : Type 0} (f : X → ℕ) (xs : List X) (x : X) → Contains xs x → f x ≤ sum_by f xs
 sum_has f [] x c = absurd (contains_nothing x c)
 sum_has f (y ∷ ys) x c = elim (contains_cases y ys x c) [
   | inl same ↦ let e : f y ≡ f x = ap f same in omega (arith, sum_by-cons f y ys, e)
@@ -83,7 +83,7 @@ module _ (rules : Rules) where
       → line_count rules name line ≡ 0
   counts_none line name e = rw e refl
 
-  pub own_counts : (line : List ℕ) (name : Name) → rules.terminal_of line ≡ Some name → line_count rules name line ≡ 1
+  own_counts : (line : List ℕ) (name : Name) → rules.terminal_of line ≡ Some name → line_count rules name line ≡ 1
   own_counts line name is =
       counts_one line name (ap (λ (o : Option Name). is_among (terminal_in o) name) is ∙ among (name ∷ []) name
       (contains_first name []))
