@@ -1,4 +1,5 @@
 mod Comings
+mod Gaining
 mod Making
 mod Needs
 mod Plain
