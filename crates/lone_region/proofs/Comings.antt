@@ -17,7 +17,7 @@ use Rattle.fp_model.specs.declared.log.Outcome.TheVariants as outcome
 use Rattle.fp_model.specs.declared.scripts.Script.{Script}
 use Rattle.fp_model.specs.Commit.{Settlement, Commits, FailsVerify, committed, first_full, settled_to, settlement, with_msdbs}
 use Rattle.fp_model.specs.SerialHistory.{NeverFalls}
-use Rattle.fp_model.specs.Items.{FitsMsdb, IsFit, with_items}
+use Rattle.fp_model.specs.Items.{AreFit, FitsMsdb, IsFit, begins_with_image, with_items}
 use Rattle.fp_model.specs.LogText.{FitsItem}
 use Rattle.fp_model.specs.History.{History, Accepts, Refuses, place_of}
 use Rattle.fp_model.specs.Lasts.{Last, format_at, lasts_of}
@@ -66,11 +66,27 @@ module _ (defs : Defs) (none : defs.dedbs ≡ []) (now : Db) (own : Workspace) (
 
 -- ---- items
 
-items_fit : (defs : Defs) (items : List Item) → AllByRecursion (IsFitSegment defs.msdbs) items → AllByRecursion IsSegmentItem items → AllByRecursion (IsFit defs) items
-items_fit defs [] h g = tt
-items_fit defs (item.Segment number key bytes ∷ items) h g = (h.0, items_fit defs items h.1 g.1)
-items_fit defs (item.Image set ci bytes ∷ items) h g = absurd g.0
-items_fit defs (item.Range set ci at bytes ∷ items) h g = absurd g.0
+each_fit : (defs : Defs) (items : List Item) → AllByRecursion (IsFitSegment defs.msdbs) items
+    → AllByRecursion IsSegmentItem items → AllByRecursion (IsFit defs) items
+each_fit defs [] h g = tt
+each_fit defs (item.Segment number key bytes ∷ items) h g = (h.0, each_fit defs items h.1 g.1)
+each_fit defs (item.Image set ci bytes ∷ items) h g = absurd g.0
+each_fit defs (item.Range set ci at bytes ∷ items) h g = absurd g.0
+
+-- segments are of no interval
+no_interval : (set ci : ℕ) (items : List Item) → AllByRecursion IsSegmentItem items
+    → begins_with_image set ci items ≡ true
+no_interval set ci [] g = refl
+no_interval set ci (item.Segment number key bytes ∷ items) g = no_interval set ci items g.1
+no_interval set ci (item.Image other n bytes ∷ items) g = absurd g.0
+no_interval set ci (item.Range other n at bytes ∷ items) g = absurd g.0
+
+items_fit : (defs : Defs) (items : List Item) → AllByRecursion (IsFitSegment defs.msdbs) items
+    → AllByRecursion IsSegmentItem items → AreFit defs items
+items_fit defs items h g = record { each = each_fit defs items h g; begin = λ set ci. no_interval set ci items g }
+
+none_fit : (defs : Defs) → AreFit defs []
+none_fit defs = record { each = tt; begin = λ set ci. refl }
 
 key_short : (fields : List FieldDef) → BeginsWithKey fields → key_length fields ≤ 64
 key_short [] h = absurd h
@@ -126,7 +142,7 @@ module _ (defs : Defs) (scripts : List Script) (h : History) (line : List ℕ) (
   unknown_comes none = record {
     next = h.now;
     comes = record { form = ((refl, refl), sym is.place); leads = (plain_is scripts h line is.format ∙ none, refl) };
-    fit = tt;
+    fit = none_fit defs;
     made = refl;
     still = refl;
     alone = tt;
@@ -153,7 +169,7 @@ module _ (defs : Defs) (scripts : List Script) (h : History) (line : List ℕ) (
         form = refl;
         leads = record { message = message; is_request = asks; in_order = in_order ended.plain; ends = ended.comes h.past h.now is.same is.states };
       };
-      fit = tt;
+      fit = none_fit defs;
       made = refl;
       still = refl;
       alone = tt;
@@ -180,7 +196,7 @@ module _ (defs : Defs) (scripts : List Script) (h : History) (line : List ℕ) (
                 ends = ended.comes h.past h.now is.same is.states ∙ ap (λ (s : Settlement). Ends (settled_as h.now reply s)) fails;
               };
             };
-            fit = tt;
+            fit = none_fit defs;
             made = refl;
             still = refl;
             alone = tt;
