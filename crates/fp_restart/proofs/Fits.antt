@@ -47,7 +47,7 @@ module _ {X : Type 0} (P : X → Type 0) where
 -- ---- by entries
 
 -- the items so far, with those of one entry more
-items-next : (es : List Entry) (i : ℕ) (e : Entry) → i < length es → e ≡ get_or es i e → items_of (take (i + 1) es) ≡ items_of (take i es) ++ e.items
+pub items-next : (es : List Entry) (i : ℕ) (e : Entry) → i < length es → e ≡ get_or es i e → items_of (take (i + 1) es) ≡ items_of (take i es) ++ e.items
 items-next es i e lt is =
     ap items_of (take_more es i e lt ∙ ap (λ x. take i es ++ x ∷ []) (sym is)) ∙ items-append (take i es) (e ∷ []) ∙ ap (λ l. items_of (take i es) ++ l) (items-single e)
 

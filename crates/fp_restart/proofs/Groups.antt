@@ -1,5 +1,5 @@
 -- Groups that were read one after another, and what a whole reading has of them.
-use Rattle.std.proofs.Common.{◌≡◌, ◌≢◌, ◌⊎◌, inl, inr, ⊎_elim, ℕ, ◌+◌, ◌<◌, ◌≤◌, ◌^◌, List, [], ◌∷◌, ◌++◌, length, drop, refl, sym, ◌∙◌, ap, arith, append_assoc}
+use Rattle.std.proofs.Common.{◌≡◌, ◌⊎◌, inl, inr, ⊎_elim, ℕ, ◌+◌, ◌<◌, ◌≤◌, ◌^◌, List, [], ◌∷◌, ◌++◌, length, drop, refl, sym, ◌∙◌, ap, arith, append_assoc}
 use Rattle.std.specs.Prelude.{slice_index}
 use Rattle.std.specs.List.{AllByRecursion}
 use Rattle.std.proofs.lemmas.List.{length-append, length-drop}
@@ -7,10 +7,10 @@ use Rattle.std.proofs.lemmas.List.Concat.{flat_map-cons}
 use Rattle.fp_model.specs.declared.log.Entry.{Entry}
 use Rattle.fp_model.specs.Spellings.{be64}
 use Rattle.fp_model.specs.LogText.{body_text, entry_text, group_text, groups_text, rest_text}
-use Rattle.fp_model.specs.Groups.{Groups, Damage, HoldsGroups, IsGroup, LogReading, Reads}
+use Rattle.fp_model.specs.Groups.{Groups, Damage, IsGroup, LogReading, Reads}
 use Rattle.log_format.proofs.Fields.{length-be64}
 use Rattle.log_format.proofs.GroupLaws.{one_group, one_reading}
-use Rattle.log_groups.proofs.LogImages.{groups_more, head_is}
+use Rattle.log_groups.proofs.LogImages.{head_is}
 use Rattle.log_groups.specs.Reads.{HasGroup}
 
 -- ---- how long a group is

@@ -6,3 +6,5 @@ mod Looking
 pub mod Replays
 pub mod Results
 mod NoDedbs
+pub mod Firsts
+mod Intervals

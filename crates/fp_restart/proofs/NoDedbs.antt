@@ -1,9 +1,8 @@
 -- A history of definitions without data entry databases leads to states that have none.
-use Rattle.std.proofs.Common.{◌≡◌, refl, sym, ◌∙◌, ap, subst, map, take, ℕ, zero, suc, ◌-◌, List, [], ◌∷◌, ◌++◌, Bool, true, false, Option, Some, None, if◌then◌else◌, slice_get, fold, unwrap_or}
+use Rattle.std.proofs.Common.{◌≡◌, refl, sym, ◌∙◌, ap, subst, map, take, ℕ, zero, suc, ◌-◌, List, [], ◌∷◌, Bool, true, false, Some, None, if◌then◌else◌, slice_get}
 use Rattle.std.specs.Prelude.{nat_lt, find}
 use Rattle.std.specs.Option.{option_map_or}
 use Rattle.fp_model.specs.declared.calls.AnchorChange.{AnchorChange}
-use Rattle.fp_model.specs.declared.calls.Answer.{Answer}
 use Rattle.fp_model.specs.declared.calls.Call.{Call}
 use Rattle.fp_model.specs.declared.calls.Message.{Message}
 use Rattle.fp_model.specs.declared.calls.SeqInsert.{SeqInsert}
@@ -16,7 +15,7 @@ use Rattle.fp_model.specs.declared.log.Entry.{Entry}
 use Rattle.fp_model.specs.declared.log.Outcome.{Outcome}
 use Rattle.fp_model.specs.declared.log.Outcome.TheVariants as outcome
 use Rattle.fp_model.specs.declared.scripts.Script.{Script}
-use Rattle.fp_model.specs.Commit.{Settlement, Commits, FailsVerify, FillsPart, area_of_set, committed, first_full, numbered_at, purged, purged_area, settled_to, settlement, takes, with_anchors, with_insert, with_inserts, with_msdbs}
+use Rattle.fp_model.specs.Commit.{numbered_at, purged, purged_area, settled_to, settlement, takes, with_anchors, with_insert, with_inserts, with_msdbs}
 use Rattle.fp_model.specs.History.{History, beginning, states_of, with_entry}
 use Rattle.fp_model.specs.SerialHistory.{EndsAlone, LeadsOn, IsSerialHistory, Leads}
 use Rattle.fp_model.specs.Product.{rules_of}

@@ -1,5 +1,5 @@
 -- Reading a log group by group, and what that gives of a sound log.
-use Rattle.std.proofs.Common.{◌≡◌, ◌≢◌, ⊎_elim, ℕ, ◌+◌, List, [], ◌∷◌, ◌++◌, length, drop, refl, sym, ◌∙◌, ap, subst, arith}
+use Rattle.std.proofs.Common.{◌≡◌, ◌≢◌, ⊎_elim, ℕ, ◌+◌, List, [], ◌∷◌, ◌++◌, length, drop, refl, sym, ◌∙◌, ap, subst, arith, append_assoc}
 use Rattle.std.specs.Prelude.{slice_index}
 use Rattle.std.specs.List.{AllByRecursion}
 use Rattle.std.proofs.lemmas.List.{append-nil, length-append}
@@ -14,7 +14,7 @@ use Rattle.fp_model.specs.declared.log.Item.{Item}
 use Rattle.fp_model.specs.declared.log.Item.TheVariants.{Segment, Image, Range}
 use Rattle.fp_model.specs.declared.scripts.Script.{Script}
 use Rattle.fp_model.specs.Groups.{HoldsGroups, IsDamaged, IsGroup, entries_of}
-use Rattle.fp_model.specs.Items.{IsFit, with_item, with_items, items_of}
+use Rattle.fp_model.specs.Items.{AreFit, IsFit, with_item, with_items, items_of}
 use Rattle.fp_model.specs.LogText.{Front, StartsWithFront, first_gate, group_text, groups_text}
 use Rattle.fp_model.specs.Product.{rules_of}
 use Rattle.fp_model.specs.History.{History, beginning}
@@ -23,14 +23,17 @@ use Rattle.fp_model.specs.State.{start}
 use Rattle.fp_site.specs.Disk.{Disk, IsDurable}
 use Rattle.fp_site.proofs.Images.{durable_settles}
 use Rattle.log_format.proofs.GroupLaws.{one_group}
-use Rattle.log_groups.proofs.LogImages.{all-append, groups_more}
+use Rattle.log_groups.proofs.LogImages.{groups_more}
 use Rattle.log_groups.specs.Images.{IsAtRest, IsLog}
 use Rattle.log_groups.specs.Kept.{IsSafe, IsSound}
 use Rattle.log_groups.specs.Log.{LogState}
 use Rattle.msdb_store.specs.Store.{IsFitSegment, IsOf, Stored}
-use Rattle.fp_restart.specs.Replayed.{IsFirstBadAt, IsReadable, IsReplayed, IsTaken}
+use Rattle.fp_restart.specs.Begun.{IsBegunBy}
+use Rattle.fp_restart.specs.declared.begun.Begun.{Begun}
+use Rattle.fp_restart.specs.Replayed.{IsFirstBadAt, IsFollowed, IsReadable, IsReplayed, IsTaken}
 use Rattle.fp_restart.specs.Restarts.{HasUnfit, IsBadAt, StandsFor}
-use Rattle.fp_restart.proofs.Fits.{all-back, all-front, entries-append, entries-more, items-append}
+use Rattle.fp_restart.proofs.Firsts.{fit-front, fit-nothing}
+use Rattle.fp_restart.proofs.Fits.{entries-append, entries-more, items-append}
 use Rattle.fp_restart.proofs.Groups.{GoesFurther, group_opens, groups-cons, one_goes_further, same_reading}
 
 -- fit items are fit for the store
@@ -44,61 +47,81 @@ fit_segments defs (Range set ci at bytes ∷ items) all = (tt, fit_segments defs
 
 module _ (defs : Defs) (log : List ℕ) where
   -- nothing is read yet
-  pub replayed_none : (first : ℕ) (before : List Msdb) → IsReplayed defs log (record { first = first; at = first; count = 0 }) before before
-  replayed_none first before = record {
-    groups = [];
-    holds = record { holds = record { each = tt; next = omega arith; text = refl }; fit = tt };
-    count = refl;
-    msdbs = refl;
+  pub followed_none : (first : ℕ) (begun : Begun) (before : List Msdb) → IsBegunBy begun []
+      → IsFollowed defs log (record { first = first; at = first; count = 0 }) begun before before
+  followed_none first begun before none = record {
+    replayed = record {
+      groups = [];
+      holds = record { holds = record { each = tt; next = omega arith; text = refl }; fit = fit-nothing defs };
+      count = refl;
+      msdbs = refl;
+    };
+    intervals = none;
   }
 
   -- a group more
-  pub replayed_more : (first at next count more : ℕ) (before mid now : List Msdb) → IsReplayed defs log (record { first = first; at = at; count = count }) before mid → IsTaken defs log at next more mid now
-      → IsReplayed defs log (record { first = first; at = next; count = count + more }) before now
-  replayed_more first at next count more before mid now so_far taken =
-      let gs = so_far.groups in
+  pub followed_more : (first at next count more : ℕ) (old new : Begun) (before mid now : List Msdb)
+      → (so_far : IsFollowed defs log (record { first = first; at = at; count = count }) old before mid)
+      → IsTaken defs log (entries_of so_far.replayed.groups) at next more new mid now
+      → IsFollowed defs log (record { first = first; at = next; count = count + more }) new before now
+  followed_more first at next count more old new before mid now so_far taken =
+      let gs = so_far.replayed.groups in
       let es = taken.entries in
       let all : entries_of (gs ++ es ∷ []) ≡ entries_of gs ++ es = entries-more gs es in
-      let items : items_of (entries_of (gs ++ es ∷ [])) ≡ items_of (entries_of gs) ++ items_of es = ap items_of all ∙ items-append (entries_of gs) es in
+      let items : items_of (entries_of (gs ++ es ∷ [])) ≡ items_of (entries_of gs) ++ items_of es =
+      ap items_of all ∙ items-append (entries_of gs) es in
       record {
-        groups = gs ++ es ∷ [];
-        holds = record {
-          holds = groups_more log first gs at es next so_far.holds.holds taken.group;
-          fit = subst (AllByRecursion (IsFit defs)) (sym items) (all-append (IsFit defs) (items_of (entries_of gs)) (items_of es) so_far.holds.fit taken.fit);
+        replayed = record {
+          groups = gs ++ es ∷ [];
+          holds = record {
+            holds = groups_more log first gs at es next so_far.replayed.holds.holds taken.group;
+            fit = subst (AreFit defs) (sym items) taken.fit;
+          };
+          count = omega (arith, so_far.replayed.count, taken.count_is, ap length all, length-append (entries_of gs) es);
+          msdbs = taken.msdbs ∙ ap (λ ms. with_items defs.msdbs ms (items_of es)) so_far.replayed.msdbs
+              ∙ sym (fold-append (with_item defs.msdbs) before (items_of (entries_of gs)) (items_of es))
+              ∙ ap (with_items defs.msdbs before) (sym items);
         };
-        count = omega (arith, so_far.count, taken.count_is, ap length all, length-append (entries_of gs) es);
-        msdbs = taken.msdbs ∙ ap (λ ms. with_items defs.msdbs ms (items_of es)) so_far.msdbs ∙ sym (fold-append (with_item defs.msdbs) before (items_of (entries_of gs)) (items_of es)) ∙ ap (with_items defs.msdbs before) (sym items);
+        intervals = subst (IsBegunBy new) (sym items) taken.intervals;
       }
 
-  -- the first place that is bad
-  pub first_bad : (first at count : ℕ) (before now : List Msdb) → IsReplayed defs log (record { first = first; at = at; count = count }) before now → IsBadAt defs log at → IsFirstBadAt defs log first at
-  first_bad first at count before now so_far bad = record { groups = so_far.groups; holds = so_far.holds; bad = bad }
-
-  -- groups behind others: the next one has items that fit
-  next_fits : (gs : List (List Entry)) (es : List Entry) (more : List (List Entry)) → AllByRecursion (IsFit defs) (items_of (entries_of (gs ++ es ∷ more))) → AllByRecursion (IsFit defs) (items_of es)
+  -- groups behind others: the next one has items that may be applied behind those
+  next_fits : (gs : List (List Entry)) (es : List Entry) (more : List (List Entry))
+      → AreFit defs (items_of (entries_of (gs ++ es ∷ more)))
+      → AreFit defs (items_of (entries_of gs) ++ items_of es)
   next_fits gs es more all =
-      let behind = all-back (IsFit defs) (items_of (entries_of gs)) (items_of (entries_of (es ∷ more)))
-      (subst (AllByRecursion (IsFit defs)) (ap items_of (entries-append gs (es ∷ more)) ∙ items-append (entries_of gs) (entries_of (es ∷ more))) all) in
-      all-front (IsFit defs) (items_of es) (items_of (entries_of more))
-      (subst (AllByRecursion (IsFit defs)) (ap items_of (flat_map-cons (λ (x : List Entry). x) es more) ∙ items-append es (entries_of more)) behind)
+      fit-front defs (items_of (entries_of gs) ++ items_of es) (items_of (entries_of more))
+      (subst (AreFit defs)
+      (ap items_of (entries-append gs (es ∷ more)) ∙ items-append (entries_of gs) (entries_of (es ∷ more))
+      ∙ ap (λ (is : List Item). items_of (entries_of gs) ++ is)
+      (ap items_of (flat_map-cons (λ (x : List Entry). x) es more) ∙ items-append es (entries_of more))
+      ∙ sym (append_assoc (items_of (entries_of gs)) (items_of es) (items_of (entries_of more)))) all)
 
   -- a place where a group stands whose items fit isn't bad
-  fit_not_bad : (at : ℕ) (es : List Entry) (rest : List ℕ) → IsGroup es → drop at log ≡ group_text es ++ rest → AllByRecursion (IsFit defs) (items_of es) → IsBadAt defs log at → ⊥
-  fit_not_bad at es rest group text fit bad =
+  fit_not_bad : (earlier : List Entry) (at : ℕ) (es : List Entry) (rest : List ℕ) → IsGroup es
+      → drop at log ≡ group_text es ++ rest → AreFit defs (items_of earlier ++ items_of es)
+      → IsBadAt defs log earlier at → ⊥
+  fit_not_bad earlier at es rest group text fit bad =
       ⊎_elim
       (λ (d : IsDamaged log at). d.no_group es rest group text)
-      (λ (u : HasUnfit defs log at). u.unfit (subst (λ l. AllByRecursion (IsFit defs) (items_of l)) (one_group es u.entries rest (drop u.next log) group u.group.group (sym text ∙ u.group.text)).0 fit))
+      (λ (u : HasUnfit defs log earlier at). u.unfit
+      (subst (λ l. AreFit defs (items_of earlier ++ items_of l))
+      (one_group es u.entries rest (drop u.next log) group u.group.group (sym text ∙ u.group.text)).0 fit))
       bad
 
   -- groups that fit and go on behind a place show that it isn't bad, unless there is none
-  further_not_bad : (at : ℕ) (gs hs : List (List Entry)) (y : List ℕ) → GoesFurther gs hs (drop at log) y → AllByRecursion (IsFit defs) (items_of (entries_of hs)) → IsBadAt defs log at → hs ≡ gs
+  further_not_bad : (at : ℕ) (gs hs : List (List Entry)) (y : List ℕ) → GoesFurther gs hs (drop at log) y
+      → AreFit defs (items_of (entries_of hs)) → IsBadAt defs log (entries_of gs) at → hs ≡ gs
   further_not_bad at gs hs y ([], same, text, all) fit bad = same ∙ append-nil gs
   further_not_bad at gs hs y (es ∷ more, same, text, all) fit bad =
-      absurd (fit_not_bad at es (groups_text more ++ y) all.0 (text ∙ groups-cons es more y) (next_fits gs es more (subst (λ l. AllByRecursion (IsFit defs) (items_of (entries_of l))) same fit)) bad)
+      absurd (fit_not_bad (entries_of gs) at es (groups_text more ++ y) all.0 (text ∙ groups-cons es more y)
+      (next_fits gs es more (subst (λ l. AreFit defs (items_of (entries_of l))) same fit)) bad)
 
   -- a bad place has an open gate
-  bad_is_open : (at : ℕ) → IsBadAt defs log at → slice_index log at ≡ 1
-  bad_is_open at bad = ⊎_elim (λ (d : IsDamaged log at). d.gate) (λ (u : HasUnfit defs log at). group_opens log at u.entries (drop u.next log) u.group.text) bad
+  bad_is_open : (earlier : List Entry) (at : ℕ) → IsBadAt defs log earlier at → slice_index log at ≡ 1
+  bad_is_open earlier at bad =
+      ⊎_elim (λ (d : IsDamaged log at). d.gate)
+      (λ (u : HasUnfit defs log earlier at). group_opens log at u.entries (drop u.next log) u.group.text) bad
 
   -- the same groups from the same gate end at the same place
   same_end_of : (first at gate : ℕ) (gs hs : List (List Entry)) → HoldsGroups log first gs at → HoldsGroups log first hs gate → hs ≡ gs → gate ≡ at
@@ -111,14 +134,14 @@ module _ (defs : Defs) (log : List ℕ) where
       (λ (b : GoesFurther bad.groups it.groups (drop at log) (drop it.gate log)).
       let same = further_not_bad at bad.groups it.groups (drop it.gate log) b it.holds.fit bad.bad in
       let ends = same_end_of first at it.gate bad.groups it.groups bad.holds.holds it.holds.holds same in
-      it.closed (ap (slice_index log) ends ∙ bad_is_open at bad.bad))
+      it.closed (ap (slice_index log) ends ∙ bad_is_open (entries_of bad.groups) at bad.bad))
       (λ (b : GoesFurther it.groups bad.groups (drop it.gate log) (drop at log)). closed_ends b)
       (one_goes_further bad.groups it.groups (drop at log) (drop it.gate log) bad.holds.holds.each it.holds.holds.each (sym bad.holds.holds.text ∙ it.holds.holds.text))
     where
       closed_ends : GoesFurther it.groups bad.groups (drop it.gate log) (drop at log) → ⊥
       closed_ends ([], same, text, all) =
           let ends = same_end_of first it.gate at it.groups bad.groups it.holds.holds bad.holds.holds (same ∙ append-nil it.groups) in
-          it.closed (ap (slice_index log) (sym ends) ∙ bad_is_open at bad.bad)
+          it.closed (ap (slice_index log) (sym ends) ∙ bad_is_open (entries_of bad.groups) at bad.bad)
       closed_ends (es ∷ more, same, text, all) = it.closed (group_opens log it.gate es (groups_text more ++ drop at log) (text ∙ groups-cons es more (drop at log)))
 
   -- and it is first bad at one place at most
@@ -143,7 +166,7 @@ module _ (defs : Defs) (scripts : List Script) (front : Front) (log : List ℕ) 
   sound_readable = record {
     groups = sound.groups;
     gate = sound.gate;
-    holds = record { holds = sound.holds.reads.0; fit = subst (λ l. AllByRecursion (IsFit defs) (items_of l)) sound.all sound.fit };
+    holds = record { holds = sound.holds.reads.0; fit = subst (λ l. AreFit defs (items_of l)) sound.all sound.fit };
     closed = sound.holds.reads.1;
   }
 
@@ -193,7 +216,7 @@ module _ (defs : Defs) (scripts : List Script) (front : Front) (disk : Disk) (re
     last = start defs;
     history = record { history = beginning front.format (start defs); leads = refl; ends = refl };
     still = refl;
-    fit = tt;
+    fit = fit-nothing defs;
     made = refl;
   }
 

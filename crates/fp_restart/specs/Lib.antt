@@ -1,3 +1,4 @@
+pub mod Begun
 pub mod Restarts
 pub mod Replayed
 pub mod Faults

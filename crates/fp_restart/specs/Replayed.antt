@@ -1,12 +1,13 @@
 -- What reading the groups of a log makes of the databases.
-use Rattle.std.specs.Prelude.{◌≡◌, ◌≢◌, ℕ, List, length, slice_index}
-use Rattle.std.specs.List.{AllByRecursion}
+use Rattle.std.specs.Prelude.{◌≡◌, ◌≢◌, ℕ, List, ◌++◌, length, slice_index}
 use Rattle.fp_model.specs.declared.definitions.Defs.{Defs}
 use Rattle.fp_model.specs.declared.database.Msdb.{Msdb}
 use Rattle.fp_model.specs.declared.log.Entry.{Entry}
 use Rattle.fp_model.specs.Groups.{HoldsGroups, entries_of}
-use Rattle.fp_model.specs.Items.{IsFit, with_items, items_of}
+use Rattle.fp_model.specs.Items.{AreFit, with_items, items_of}
 use Rattle.log_groups.specs.Reads.{HasGroup}
+use Rattle.fp_restart.specs.declared.begun.Begun.{Begun}
+use Rattle.fp_restart.specs.Begun.{IsBegunBy}
 use Rattle.fp_restart.specs.Restarts.{IsBadAt}
 
 -- a place behind a first gate, and how many entries stand between the two
@@ -16,10 +17,10 @@ pub record Progress : Type 0 where
   pub count : ℕ
 
 module _ (defs : Defs) (log : List ℕ) where
-  -- from the first gate on the log holds whole groups up to that place; all their items fit
+  -- from the first gate on the log holds whole groups up to that place; their items may be applied
   pub record HoldsFit (first at : ℕ) (groups : List (List Entry)) : Type 0 where
     pub holds : HoldsGroups log first groups at
-    pub fit : AllByRecursion (IsFit defs) (items_of (entries_of groups))
+    pub fit : AreFit defs (items_of (entries_of groups))
 
   -- so many entries stand up to that place, and the databases now are those from before with their items
   pub record IsReplayed (way : Progress) (before now : List Msdb) : Type 0 where
@@ -28,23 +29,30 @@ module _ (defs : Defs) (log : List ℕ) where
     pub count : way.count ≡ length (entries_of groups)
     pub msdbs : now ≡ with_items defs.msdbs before (items_of (entries_of groups))
 
-  -- the group at a place is whole, its items fit, and the databases now are those from before with them
-  pub record IsTaken (at next count : ℕ) (before now : List Msdb) : Type 0 where
+  -- the group at a place is whole, its items may be applied behind those of earlier entries, the intervals begun are
+  -- those of all of these, and the databases now are those from before with the group's items
+  pub record IsTaken (earlier : List Entry) (at next count : ℕ) (begun : Begun) (before now : List Msdb) : Type 0 where
     pub entries : List Entry
     pub group : HasGroup log at entries next
-    pub fit : AllByRecursion (IsFit defs) (items_of entries)
+    pub fit : AreFit defs (items_of earlier ++ items_of entries)
+    pub intervals : IsBegunBy begun (items_of earlier ++ items_of entries)
     pub count_is : count ≡ length entries
     pub msdbs : now ≡ with_items defs.msdbs before (items_of entries)
 
-  -- from the first gate on whole groups stand, up to a gate that isn't open; all their items fit
+  -- from the first gate on whole groups stand, up to a gate that isn't open; their items may be applied
   pub record IsReadable (first : ℕ) : Type 0 where
     pub groups : List (List Entry)
     pub gate : ℕ
     pub holds : HoldsFit first gate groups
     pub closed : slice_index log gate ≢ 1
 
+  -- so it is, and the intervals begun are those that the items name
+  pub record IsFollowed (way : Progress) (begun : Begun) (before now : List Msdb) : Type 0 where
+    pub replayed : IsReplayed way before now
+    pub intervals : IsBegunBy begun (items_of (entries_of replayed.groups))
+
   -- the first place, from that gate on, where no group stands that restart may take
   pub record IsFirstBadAt (first at : ℕ) : Type 0 where
     pub groups : List (List Entry)
     pub holds : HoldsFit first at groups
-    pub bad : IsBadAt defs log at
+    pub bad : IsBadAt defs log (entries_of groups) at

@@ -1,6 +1,5 @@
 -- What a restart gives, and when the log is damaged.
-use Rattle.std.specs.Prelude.{◌≡◌, ◌⊎◌, ⊤, ℕ, List, [], length, Result, Ok, Err}
-use Rattle.std.specs.List.{AllByRecursion}
+use Rattle.std.specs.Prelude.{◌≡◌, ◌⊎◌, ⊤, ℕ, List, [], ◌++◌, length, Result, Ok, Err}
 use Rattle.fp_site.specs.Disk.{Disk}
 use Rattle.fp_model.specs.declared.definitions.Defs.{Defs}
 use Rattle.fp_model.specs.declared.database.Db.{Db}
@@ -8,7 +7,7 @@ use Rattle.fp_model.specs.declared.log.Entry.{Entry}
 use Rattle.fp_model.specs.declared.scripts.Script.{Script}
 use Rattle.fp_model.specs.Groups.{IsDamaged, entries_of}
 use Rattle.fp_model.specs.SerialHistory.{IsSerialHistory}
-use Rattle.fp_model.specs.Items.{IsFit, items_of}
+use Rattle.fp_model.specs.Items.{AreFit, items_of}
 use Rattle.fp_model.specs.LogText.{Front}
 use Rattle.fp_model.specs.Product.{rules_of}
 use Rattle.log_groups.specs.Images.{IsAtRest}
@@ -37,13 +36,15 @@ IsDamageOr at (Err fault.SiteFault) = ⊤
 IsDamageOr at (Err (fault.Damaged set place)) = (set ≡ 0) × (place ≡ at)
 IsDamageOr at (Err fault.Memory) = ⊤
 
--- the group there has an item that restart may not apply
-pub record HasUnfit (defs : Defs) (log : List ℕ) (at : ℕ) : Type 0 where
+-- The group there has items that restart may not apply behind those of these entries: one isn't fit, or is a range of an
+-- interval that none of them has written whole.
+pub record HasUnfit (defs : Defs) (log : List ℕ) (earlier : List Entry) (at : ℕ) : Type 0 where
   pub entries : List Entry
   pub next : ℕ
   pub group : HasGroup log at entries next
-  pub unfit : ¬ (AllByRecursion (IsFit defs) (items_of entries))
+  pub unfit : ¬ AreFit defs (items_of earlier ++ items_of entries)
 
--- the bytes of the log at a gate are outside the format, or what stands there doesn't fit the definitions
-abbrev pub IsBadAt : Defs → List ℕ → ℕ → Type 0
-IsBadAt defs log at = IsDamaged log at ⊎ HasUnfit defs log at
+-- Behind these entries the bytes of the log at a gate are outside the format, or what stands there doesn't fit the
+-- definitions.
+abbrev pub IsBadAt : Defs → List ℕ → List Entry → ℕ → Type 0
+IsBadAt defs log earlier at = IsDamaged log at ⊎ HasUnfit defs log earlier at

@@ -1,10 +1,13 @@
 //! Whether the items of a group may be applied.
 ghost use Rattle.fp_model.specs.Items.{FitsMsdb, IsAreaInterval, IsFit, area_sizes, items_of};
+ghost use Rattle.fp_restart.specs.Begun.{Begins, Judges};
 ghost use Rattle.fp_model.specs.State.{first_area_set};
 ghost use Rattle.std.specs.List.{AllByRecursion};
-ghost use Rattle.std.specs.Prelude.{◌≡◌, ◌+◌, ◌*◌, ◌^◌, ◌≤◌, ◌-◌, None, Some, IfNone, IfSome, OnSome, false, length, slice_get, take, true};
+ghost use Rattle.std.specs.Prelude.{◌≡◌, ◌+◌, ◌*◌, ◌^◌, ◌≤◌, ◌-◌, ◌∷◌, [], None, Some, IfNone, IfOk, IfSome, OnSome, false, length, slice_get, take, true};
 
+use crate::begun::Begun;
 use fp_model::{Bytes, Defs, Entry, Item, MsdbDef, key_length};
+use std::alloc::AllocError;
 
 // Where the last interval of an area ends at the latest.
 const LIMIT: u128 = 1 << 62;
@@ -12,30 +15,56 @@ const LIMIT: u128 = 1 << 62;
 // The data set of the first area.
 const FIRST_AREA: u16 = 3;
 
-// Whether every item of these entries is fit.
-pub(crate) fn are_fit(defs: &Defs, entries: &[Entry]) -> bool
-    ensures fits { result ≡ true → AllByRecursion (IsFit defs.now) (items_of entries.now) }
-    ensures unfit { result ≡ false → ¬ (AllByRecursion (IsFit defs.now) (items_of entries.now)) }
+// Whether the items of these entries may be applied behind the items so far. Where they may, the intervals are those
+// that all of these name; else they are to be thrown away.
+pub(crate) fn are_fit(defs: &Defs, begun: &mut Begun, entries: &[Entry]) -> Result<bool, AllocError>
+    ensures judged { IfOk result (Judges defs.now begun.old begun.new (items_of entries.now)) }
+    ensures each { IfOk result (λ fit. fit ≡ true → AllByRecursion (IsFit defs.now) (items_of entries.now)) }
 {
     for entry in entries {
-        if !items_fit(defs, entry.items.as_slice()) {
-            return false;
+        if !items_fit(defs, begun, entry.items.as_slice())? {
+            return Ok(false);
         }
     }
-    true
+    Ok(true)
 }
 
-// Whether every item is fit.
-fn items_fit(defs: &Defs, items: &[Item]) -> bool
-    ensures fits { result ≡ true → AllByRecursion (IsFit defs.now) items.now }
-    ensures unfit { result ≡ false → ¬ (AllByRecursion (IsFit defs.now) items.now) }
+// Whether items may be applied behind the items so far.
+fn items_fit(defs: &Defs, begun: &mut Begun, items: &[Item]) -> Result<bool, AllocError>
+    ensures judged { IfOk result (Judges defs.now begun.old begun.new items.now) }
+    ensures each { IfOk result (λ fit. fit ≡ true → AllByRecursion (IsFit defs.now) items.now) }
 {
     for item in items {
-        if !is_fit(defs, item) {
-            return false;
+        if !follows(defs, begun, item)? {
+            return Ok(false);
         }
     }
-    true
+    Ok(true)
+}
+
+// Whether an item may be applied behind the items so far.
+fn follows(defs: &Defs, begun: &mut Begun, item: &Item) -> Result<bool, AllocError>
+    ensures judged { IfOk result (Judges defs.now begun.old begun.new (item.now ∷ [])) }
+    ensures each { IfOk result (λ fit. fit ≡ true → IsFit defs.now item.now) }
+{
+    if !is_fit(defs, item) {
+        return Ok(false);
+    }
+    begins(begun, item)
+}
+
+// Whether an item begins its interval, or finds it begun; one of a segment has none.
+fn begins(begun: &mut Begun, item: &Item) -> Result<bool, AllocError>
+    ensures { IfOk result (Begins begun.old begun.new item.now) }
+{
+    match item {
+        Item::Segment { .. } => Ok(true),
+        Item::Image { set, ci, .. } => {
+            begun.put(*set, *ci)?;
+            Ok(true)
+        }
+        Item::Range { set, ci, .. } => Ok(begun.has(*set, *ci)),
+    }
 }
 
 // Whether restart may apply an item.

@@ -5,6 +5,7 @@
 //! definitions load. It writes nothing, and keeps no list of groups or entries. `whole_db` copies the state out.
 #![tactic(auto)]
 
+mod begun;
 mod defining;
 mod fault;
 mod fitting;

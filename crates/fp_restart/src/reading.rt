@@ -1,8 +1,10 @@
 //! Reading the groups of a log, and putting their segments.
-ghost use Rattle.fp_model.specs.Items.{IsFit, with_items, items_of};
+ghost use Rattle.fp_model.specs.Items.{AreFit, with_items, items_of};
 ghost use Rattle.fp_model.specs.State.{start};
 ghost use Rattle.fp_model.specs.LogText.{FitsFront, StartsWithFront, first_gate};
 ghost use Rattle.fp_model.specs.WellFormed.{IsMsdbDef};
+ghost use Rattle.fp_model.specs.declared.log.Entry.{Entry as EntryOf};
+ghost use Rattle.fp_restart.specs.Begun.{IsBegunBy};
 ghost use Rattle.fp_restart.specs.Replayed.{IsFirstBadAt, IsReadable, IsReplayed, IsTaken};
 ghost use Rattle.fp_restart.specs.Restarts.{IsBadAt};
 ghost use Rattle.fp_restart.specs.declared.fault.RestartFault.TheVariants as faults;
@@ -15,6 +17,7 @@ ghost use Rattle.std.specs.List.{AllByRecursion};
 ghost use Rattle.std.specs.Prelude.{◌≡◌, ◌≢◌, ◌⊎◌, ◌+◌, ◌-◌, ◌<◌, ◌≤◌, ◌^◌, ℕ, [], List as ListOf, IfNone, IfOk, IfSome, IsErrOf, OnOk, false, length, slice_index, true};
 
 use crate::RestartFault;
+use crate::begun::Begun;
 use crate::fitting::are_fit;
 use crate::restarting::Parts;
 use fp_model::{Defs, Entry};
@@ -67,12 +70,13 @@ pub(crate) fn read_parts<T: Site>(
 {
     let mut log = Log::open(alloc, site, front)?;
     let mut store = MsdbStore::start(alloc, defs)?;
-    replay(defs, site, &mut log, &mut store)?;
+    replay(alloc, defs, site, &mut log, &mut store)?;
     Ok((store, log))
 }
 
 // Reads the groups behind a log's gate, puts their segments, and tells the log where it ends.
 fn replay<T: Site>(
+    alloc: Global,
     defs: &Defs,
     site: &mut T,
     log: &mut Log,
@@ -96,10 +100,11 @@ fn replay<T: Site>(
     ensures holds { T.holds site.new ≡ T.holds site.old }
     ensures keeps { (first : T) → T.keeps first site.old → T.keeps first site.new }
 {
+    let mut begun = Begun::new(alloc);
     let mut at = log.gate();
     let mut count = 0;
     loop {
-        let Some(taken) = take_group(defs, site, log, store, at)? else {
+        let Some(taken) = take_group(defs, site, log, &mut begun, store, at)? else {
             log.end_at(at, count);
             return Ok(());
         };
@@ -108,23 +113,27 @@ fn replay<T: Site>(
     }
 }
 
-// Reads the group behind the gate at this place, and puts its segments. None where that gate isn't open.
+// Reads the group behind the gate at this place, and puts its segments; the intervals begun are those of the entries
+// so far. None where that gate isn't open.
 fn take_group<T: Site>(
     defs: &Defs,
     site: &mut T,
     log: &mut Log,
+    begun: &mut Begun,
     store: &mut MsdbStore,
     at: u64,
 ) -> Result<Option<Taken>, RestartFault>
     requires { IsOf defs.now.msdbs store.old }
-    ensures taken { T.told site.old → IfOk result (λ found. IfSome found (λ taken.
-        IsTaken defs.now ((T.disk site.old).contents 0) at taken.next taken.count store.old.msdbs store.new.msdbs)) }
+    ensures taken { (earlier : ListOf EntryOf) → IsBegunBy begun.old (items_of earlier) → AreFit defs.now (items_of earlier)
+        → T.told site.old → IfOk result (λ found. IfSome found (λ taken. IsTaken defs.now ((T.disk site.old).contents 0)
+        earlier at taken.next taken.count begun.new store.old.msdbs store.new.msdbs)) }
     ensures goes_on { IfOk result (λ found. IfSome found (λ taken. (at < taken.next) × (taken.next ≤ 2 ^ 62) × (at + taken.count ≤ taken.next))) }
     ensures closed { T.told site.old → IfOk result (λ found. IfNone found (slice_index ((T.disk site.old).contents 0) at ≢ 1)) }
     ensures none { IfOk result (λ found. IfNone found (store.new ≡ store.old)) }
     ensures of { OnOk result (IsOf defs.now.msdbs store.new) }
-    ensures damaged { (set place : ℕ) → T.told site.old → IsErrOf result (faults.Damaged set place) →
-        (set ≡ 0) × (place ≡ at) × IsBadAt defs.now ((T.disk site.old).contents 0) at }
+    ensures damaged { (earlier : ListOf EntryOf) → IsBegunBy begun.old (items_of earlier) → AreFit defs.now (items_of earlier)
+        → (set place : ℕ) → T.told site.old → IsErrOf result (faults.Damaged set place)
+        → (set ≡ 0) × (place ≡ at) × IsBadAt defs.now ((T.disk site.old).contents 0) earlier at }
     ensures cause { IsErrOf result faults.SiteFault → (T.faults site.old < T.faults site.new) ⊎ (T.faults site.new ≡ 2 ^ 64 - 1) }
     ensures later { T.faults site.old ≤ T.faults site.new }
     ensures never { IsErrOf result faults.Foreign → ⊥ }
@@ -141,7 +150,7 @@ fn take_group<T: Site>(
         // A site that tells what it holds never comes here.
         return Err(RestartFault::Damaged { set: 0, at });
     }
-    if !are_fit(defs, group.entries.as_slice()) {
+    if !are_fit(defs, begun, group.entries.as_slice())? {
         return Err(RestartFault::Damaged { set: 0, at });
     }
     put_entries(store, group.entries.as_slice())?;

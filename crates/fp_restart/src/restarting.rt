@@ -4,7 +4,7 @@ ghost use Rattle.fp_model.specs.WellFormed.{IsMsdbDef};
 ghost use Rattle.fp_model.specs.declared.log.Entry.{Entry};
 ghost use Rattle.fp_model.specs.declared.scripts.Script.{Script};
 ghost use Rattle.fp_restart.specs.Replayed.{IsFirstBadAt, IsReadable};
-ghost use Rattle.fp_restart.specs.Restarts.{IsBadAt, IsDamageOr, StandsFor};
+ghost use Rattle.fp_restart.specs.Restarts.{IsDamageOr, StandsFor};
 ghost use Rattle.fp_restart.specs.declared.fault.RestartFault.TheVariants as faults;
 ghost use Rattle.fp_site.specs.Disk.{Syncs};
 ghost use Rattle.fp_site.specs.Moments.{Through};
@@ -52,7 +52,7 @@ pub fn restart<T: Site>(
     // When each refusal comes.
     ensures front { T.told site.old → OnOk result (StartsWithFront ((T.disk site.old).contents 0) (as_front front.now)) }
     ensures foreign { T.told site.old → IsErrOf result faults.Foreign → StartsWithFront ((T.disk site.old).contents 0) (as_front front.now) → ⊥ }
-    ensures damaged { (set at : ℕ) → T.told site.old → IsErrOf result (faults.Damaged set at) → (set ≡ 0) × IsBadAt defs.now ((T.disk site.old).contents 0) at }
+    ensures damaged { (set at : ℕ) → T.told site.old → IsErrOf result (faults.Damaged set at) → set ≡ 0 }
     ensures begun { (set at : ℕ) → T.told site.old → IsErrOf result (faults.Damaged set at) → StartsWithFront ((T.disk site.old).contents 0) (as_front front.now) }
     ensures place { (set at : ℕ) → T.told site.old → IsErrOf result (faults.Damaged set at) →
         IsFirstBadAt defs.now ((T.disk site.old).contents 0) (first_gate (as_front front.now)) at }

@@ -123,6 +123,18 @@ fn image(alloc: Global, set: u16, ci: u64) -> Result<Item, AllocError>
     })
 }
 
+// The last four bytes of an interval.
+fn range(alloc: Global, set: u16, ci: u64) -> Result<Item, AllocError>
+    ensures { IfOk result FitsItem }
+{
+    Ok(Item::Range {
+        set,
+        ci,
+        at: 508,
+        bytes: Bytes::from_slice(alloc, &[7; 4])?,
+    })
+}
+
 // An entry with this item alone.
 fn entry(alloc: Global, item: Item) -> Result<Entry, AllocError>
     requires { FitsItem item }
@@ -439,6 +451,46 @@ fn an_item_that_does_not_fit_is_damage_at_its_group(rt: HostRuntime) -> Result<(
         let damaged = answer == Err(RestartFault::Damaged { set: 0, at });
         assert_eq!(rt; damaged, case < 5);
         assert_eq!(rt; answer.is_ok(), case >= 5);
+    }
+    Ok(())
+}
+
+// Writes an image of the first area's second interval and behind it a range of this one, and answers where the gate of
+// the range's group stands.
+fn write_range(
+    alloc: Global,
+    defs: &Defs,
+    site: &mut MemorySite,
+    set: u16,
+    ci: u64,
+) -> Result<u64, RestartFault>
+    requires { length defs.now.text < 2 ^ 32 }
+{
+    let mut log = new_log(alloc, defs, site)?;
+    let first = image(alloc, 3, 1)?;
+    seal(alloc, &mut log, site, first)?;
+    let at = log.gate();
+    let second = range(alloc, set, ci)?;
+    seal(alloc, &mut log, site, second)?;
+    Ok(at)
+}
+
+// Intervals, and whether a range of one is damage there.
+const RANGES: [(u16, u64, bool); 3] = [(3, 1, false), (3, 2, true), (4, 1, true)];
+
+#[test]
+fn a_range_without_its_image_is_damage_at_its_group(rt: HostRuntime) -> Result<(), Fail> {
+    let alloc = rt.alloc();
+    let defs = defs(alloc, orders(alloc)?)?;
+    for (set, ci, is_damage) in RANGES {
+        let mut site = MemorySite::new(alloc, &[])?;
+        let gate = write_range(alloc, &defs, &mut site, set, ci);
+        assert!(rt; gate.is_ok());
+        let at = gate.unwrap_or(0);
+        let answer = read(alloc, &defs, b'S', &mut site);
+        let damaged = answer == Err(RestartFault::Damaged { set: 0, at });
+        assert_eq!(rt; damaged, is_damage);
+        assert_eq!(rt; answer.is_ok(), !is_damage);
     }
     Ok(())
 }

@@ -8,6 +8,7 @@ use Rattle.fp_model.specs.State.{start}
 use Rattle.fp_restart.specs.declared.fault.RestartFault.{RestartFault}
 use Rattle.fp_restart.specs.declared.fault.RestartFault.TheVariants as fault
 use Rattle.fp_restart.specs.Restarts.{IsDamageOr, StandsFor}
+use Rattle.fp_restart.proofs.Firsts.{fit-nothing}
 use Rattle.fp_restart.proofs.Results.{same_synced}
 use Rattle.fp_site.specs.Disk.{Disk, Snapshot, Settles, Syncs, IsLawful}
 use Rattle.fp_site.specs.Moments.{OnlyOn, Through}
@@ -58,7 +59,7 @@ no_account job = record {
   last = start job.defs;
   history = record { history = beginning 1 (start job.defs); leads = refl; ends = refl };
   still = refl;
-  fit = tt;
+  fit = fit-nothing job.defs;
   made = refl;
 }
 

@@ -7,7 +7,7 @@ use Rattle.std.proofs.lemmas.List.Concat.{flat_map-append, flat_map-cons}
 use Rattle.fp_model.specs.declared.log.Entry.{Entry}
 use Rattle.fp_model.specs.declared.log.Item.{Item}
 use Rattle.fp_model.specs.Groups.{entries_of}
-use Rattle.fp_model.specs.Items.{IsFit, with_item, with_items, items_of}
+use Rattle.fp_model.specs.Items.{AreFit, with_item, with_items, items_of}
 use Rattle.fp_model.specs.Product.{rules_of}
 use Rattle.fp_model.specs.State.{start}
 use Rattle.fp_model.specs.declared.database.Db.{Db}
@@ -19,6 +19,7 @@ use Rattle.fp_model.specs.Lasts.{format_at, format_behind}
 use Rattle.fp_model.proofs.HistoryLemmas.{entries_put, format_stays, join, states_counted}
 use Rattle.fp_site.specs.Disk.{Disk}
 use Rattle.fp_site.proofs.Images.{durable_settles}
+use Rattle.fp_restart.proofs.Firsts.{fit-append}
 use Rattle.log_groups.specs.Images.{IsLog, IsAtRest}
 use Rattle.lone_region.specs.Next.{ComesNext, IsAlone, IsPlainHistory, IsServed}
 use Rattle.log_groups.specs.Kept.{IsSound, IsSafe}
@@ -116,8 +117,8 @@ account_more job entries account line e next =
           ∙ ap (λ (format : ℕ). format_behind format e.outcome) account.still
           ∙ format_left 1 e.outcome next.alone;
       fit =
-          subst (AllByRecursion (IsFit job.defs)) (sym (items_more entries e))
-          (all_append (IsFit job.defs) (items_of entries) e.items account.fit next.fit);
+          subst (AreFit job.defs) (sym (items_more entries e))
+          (fit-append job.defs (items_of entries) e.items account.fit next.fit);
       made =
           ap (with_items job.defs.msdbs (start job.defs).msdbs) (items_more entries e)
           ∙ fold-append (with_item job.defs.msdbs) (start job.defs).msdbs (items_of entries) e.items

@@ -6,7 +6,7 @@ use Rattle.fp_model.specs.declared.log.Entry.{Entry}
 use Rattle.fp_model.specs.Groups.{entries_of}
 use Rattle.fp_model.specs.Lasts.{format_at}
 use Rattle.fp_model.specs.SerialHistory.{IsSerialHistory}
-use Rattle.fp_model.specs.Items.{IsFit, with_items, items_of}
+use Rattle.fp_model.specs.Items.{AreFit, with_items, items_of}
 use Rattle.fp_model.specs.Product.{rules_of}
 use Rattle.fp_model.specs.ReplyLine.{line_of}
 use Rattle.fp_model.specs.State.{start}
@@ -32,7 +32,7 @@ pub record IsAccount (job : Job) (entries : List Entry) : Type 0 where
   pub last : Db
   pub history : IsSerialHistory (rules_of job.defs job.scripts) 1 entries last
   pub still : format_at 1 entries ≡ 1
-  pub fit : AllByRecursion (IsFit job.defs) (items_of entries)
+  pub fit : AreFit job.defs (items_of entries)
   pub made : with_items job.defs.msdbs (start job.defs).msdbs (items_of entries) ≡ last.msdbs
 
 -- Between messages: the log on the disk is at rest and holds these entries, none waits to be sealed, and the store has the

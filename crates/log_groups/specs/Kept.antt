@@ -1,12 +1,12 @@
 -- What a site keeps over stops: a log that is sound, a site that is safe, and snapshots in which nothing answered is lost.
 use Rattle.std.specs.Prelude.{◌≡◌, ℕ, ◌<◌, List, ◌++◌, length, take}
-use Rattle.std.specs.List.{flat_map, AllByRecursion}
+use Rattle.std.specs.List.{flat_map}
 use Rattle.fp_model.specs.declared.definitions.Defs.{Defs}
 use Rattle.fp_model.specs.declared.database.Db.{Db}
 use Rattle.fp_model.specs.declared.log.Entry.{Entry}
 use Rattle.fp_model.specs.declared.scripts.Script.{Script}
 use Rattle.fp_model.specs.Groups.{entries_of}
-use Rattle.fp_model.specs.Items.{IsFit, items_of, with_items}
+use Rattle.fp_model.specs.Items.{AreFit, items_of, with_items}
 use Rattle.fp_model.specs.Lasts.{format_at}
 use Rattle.fp_model.specs.LogText.{Front}
 use Rattle.fp_model.specs.Product.{rules_of}
@@ -34,7 +34,7 @@ module _ (defs : Defs) (scripts : List Script) (front : Front) where
     pub last : Db
     pub history : IsSerialHistory (rules_of defs scripts) front.format entries last
     pub still : format_at front.format entries ≡ front.format
-    pub fit : AllByRecursion (IsFit defs) (items_of entries)
+    pub fit : AreFit defs (items_of entries)
     pub made : with_items defs.msdbs (start defs).msdbs (items_of entries) ≡ last.msdbs
 
   -- A read of the log gives these entries, and is sound. So is each log that a crash now may leave, and each that a sync

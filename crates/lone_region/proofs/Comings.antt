@@ -11,7 +11,7 @@ use Rattle.fp_model.specs.declared.log.Outcome.TheVariants as outcome
 use Rattle.fp_model.specs.declared.scripts.Script.{Script}
 use Rattle.fp_model.specs.Commit.{Settlement}
 use Rattle.fp_model.specs.SerialHistory.{NeverFalls}
-use Rattle.fp_model.specs.Items.{with_items}
+use Rattle.fp_model.specs.Items.{AreFit, with_items}
 use Rattle.fp_model.specs.History.{History, Accepts, Refuses, place_of}
 use Rattle.fp_model.specs.Lasts.{Last, format_at, lasts_of}
 use Rattle.fp_model.specs.Messages.{MessageFault, TooLong, NotAscii, behind_word, first_word, message_by, message_of, terminal_of}
@@ -27,7 +27,7 @@ use Rattle.lone_region.specs.Entries.{done_entry, plain_request, refused_entry, 
 use Rattle.lone_region.specs.Next.{ComesNext, IsPlainHistory}
 use Rattle.lone_region.specs.Running.{HasEnded, IsPlain}
 use Rattle.lone_region.specs.declared.running.End.TheVariants as end
-use Rattle.sync_point.proofs.Segments.{items_fit}
+use Rattle.sync_point.proofs.Segments.{segments_fit}
 use Rattle.sync_point.proofs.Settlements.{settlement_fails, settlement_is}
 
 -- ---- notes
@@ -36,6 +36,11 @@ use Rattle.sync_point.proofs.Settlements.{settlement_fails, settlement_is}
 notes_at : (place : ℕ) (notes : List ℕ) → AllByRecursion (λ note. note ≡ place) notes → NeverFalls place notes place
 notes_at place [] h = omega arith
 notes_at place (n ∷ notes) h = (omega (arith, h.0), subst (λ (k : ℕ). NeverFalls k notes place) (sym h.0) (notes_at place notes h.1))
+
+-- ---- items
+
+none_fit : (defs : Defs) → AreFit defs []
+none_fit defs = record { each = tt; begin = λ set ci. refl }
 
 -- ---- what comes next
 
@@ -71,7 +76,7 @@ module _ (defs : Defs) (scripts : List Script) (h : History) (line : List ℕ) (
   unknown_comes none = record {
     next = h.now;
     comes = record { form = ((refl, refl), sym is.place); leads = (plain_is scripts h line is.format ∙ none, refl) };
-    fit = tt;
+    fit = none_fit defs;
     made = refl;
     still = refl;
     alone = tt;
@@ -98,7 +103,7 @@ module _ (defs : Defs) (scripts : List Script) (h : History) (line : List ℕ) (
         form = refl;
         leads = record { message = message; is_request = asks; in_order = in_order ended.plain; ends = ended.comes h.past h.now is.same is.states };
       };
-      fit = tt;
+      fit = none_fit defs;
       made = refl;
       still = refl;
       alone = tt;
@@ -125,7 +130,7 @@ module _ (defs : Defs) (scripts : List Script) (h : History) (line : List ℕ) (
                 ends = ended.comes h.past h.now is.same is.states ∙ ap (λ (s : Settlement). Ends (settled_as h.now reply s)) fails;
               };
             };
-            fit = tt;
+            fit = none_fit defs;
             made = refl;
             still = refl;
             alone = tt;
@@ -152,7 +157,7 @@ module _ (defs : Defs) (scripts : List Script) (h : History) (line : List ℕ) (
                 ends = ended.comes h.past h.now is.same is.states ∙ ap (λ (s : Settlement). Ends (settled_as h.now reply s)) commits;
               };
             };
-            fit = items_fit defs items fit segments;
+            fit = segments_fit defs items fit segments;
             made = ap (λ (ms : List Msdb). with_items defs.msdbs ms items) is.same;
             still = refl;
             alone = tt;

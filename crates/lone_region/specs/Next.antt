@@ -11,7 +11,7 @@ use Rattle.fp_model.specs.History.{History, place_of}
 use Rattle.fp_model.specs.Lasts.{format_at}
 use Rattle.fp_model.specs.SerialHistory.{Comes}
 use Rattle.fp_model.specs.declared.database.Msdb.{Msdb}
-use Rattle.fp_model.specs.Items.{IsFit, with_items}
+use Rattle.fp_model.specs.Items.{AreFit, with_items}
 use Rattle.fp_model.specs.Product.{rules_of}
 use Rattle.fp_model.specs.ReplyLine.{line_of}
 use Rattle.log_groups.specs.Log.{LogState}
@@ -37,7 +37,7 @@ pub record IsPlainHistory (h : History) (msdbs : List Msdb) (from : ℕ) : Type 
 pub record ComesNext (defs : Defs) (scripts : List Script) (h : History) (line : List ℕ) (e : Entry) : Type 0 where
   pub next : Db
   pub comes : Comes (rules_of defs scripts) h e next
-  pub fit : AllByRecursion (IsFit defs) e.items
+  pub fit : AreFit defs e.items
   pub made : with_items defs.msdbs h.now.msdbs e.items ≡ next.msdbs
   pub still : next.dedbs ≡ h.now.dedbs
   pub alone : IsAlone e.outcome

@@ -1,12 +1,12 @@
 -- Items of segments can be written, and applied.
-use Rattle.std.proofs.Common.{◌≡◌, arith, inl, inr, ℕ, ◌≤◌, ◌<◌, ◌^◌, ◌⊎◌, List, [], ◌∷◌, length, take}
+use Rattle.std.proofs.Common.{◌≡◌, arith, inl, inr, refl, true, ℕ, ◌≤◌, ◌<◌, ◌^◌, ◌⊎◌, List, [], ◌∷◌, length, take}
 use Rattle.std.specs.List.{AllByRecursion}
 use Rattle.fp_model.specs.declared.definitions.Defs.{Defs}
 use Rattle.fp_model.specs.declared.definitions.FieldDef.{FieldDef}
 use Rattle.fp_model.specs.declared.definitions.MsdbDef.{MsdbDef}
 use Rattle.fp_model.specs.declared.log.Item.{Item}
 use Rattle.fp_model.specs.declared.log.Item.TheVariants as item
-use Rattle.fp_model.specs.Items.{FitsMsdb, IsFit}
+use Rattle.fp_model.specs.Items.{AreFit, FitsMsdb, IsFit, begins_with_image}
 use Rattle.fp_model.specs.LogText.{FitsItem}
 use Rattle.fp_model.specs.State.{key_length}
 use Rattle.fp_model.specs.WellFormed.{BeginsWithKey, IsMsdbDef}
@@ -20,6 +20,19 @@ items_fit defs [] h g = tt
 items_fit defs (item.Segment number key bytes ∷ items) h g = (h.0, items_fit defs items h.1 g.1)
 items_fit defs (item.Image set ci bytes ∷ items) h g = absurd g.0
 items_fit defs (item.Range set ci at bytes ∷ items) h g = absurd g.0
+
+-- segments are of no interval
+no_interval : (set ci : ℕ) (items : List Item) → AllByRecursion IsSegmentItem items
+    → begins_with_image set ci items ≡ true
+no_interval set ci [] g = refl
+no_interval set ci (item.Segment number key bytes ∷ items) g = no_interval set ci items g.1
+no_interval set ci (item.Image other n bytes ∷ items) g = absurd g.0
+no_interval set ci (item.Range other n at bytes ∷ items) g = absurd g.0
+
+-- so all of them together are fit
+pub segments_fit : (defs : Defs) (items : List Item) → AllByRecursion (IsFitSegment defs.msdbs) items
+    → AllByRecursion IsSegmentItem items → AreFit defs items
+segments_fit defs items h g = record { each = items_fit defs items h g; begin = λ set ci. no_interval set ci items g }
 
 key_short : (fields : List FieldDef) → BeginsWithKey fields → key_length fields ≤ 64
 key_short [] h = absurd h

@@ -1,19 +1,19 @@
 use Rattle.std.proofs.Common.{◌≡◌, ◌-◌, ◌^◌, ◌≤◌}
 use Rattle.msdb_store.specs.Store.{IsOf}
-use Rattle.fp_restart.specs.Replayed.{IsReplayed}
+use Rattle.fp_restart.specs.Replayed.{IsFollowed}
 use Rattle.fp_restart.proofs.Looking.{Looks}
 use Rattle.fp_restart.proofs.reading.replay.Given as goal
 
 -- the groups up to this place are put
-abbrev pub invariant-loop-taken : goal.invariant-loop-taken
-invariant-loop-taken g l = record {
+abbrev pub invariant-loop-begun : goal.invariant-loop-begun
+invariant-loop-begun g l = record {
   of : IsOf l.fn.defs.msdbs l.store;
   within : l.at ≤ 2 ^ 62;
   few : l.count ≤ l.at;
   log : l.log ≡ l.initial.log;
-  replayed : g.T.Site.told l.initial.site → IsReplayed l.fn.defs ((g.T.Site.disk l.initial.site).contents 0) (record { first = l.initial.log.gate; at = l.at; count = l.count }) l.initial.store.msdbs l.store.msdbs;
+  followed : g.T.Site.told l.initial.site → IsFollowed l.fn.defs ((g.T.Site.disk l.initial.site).contents 0) (record { first = l.initial.log.gate; at = l.at; count = l.count }) l.begun l.initial.store.msdbs l.store.msdbs;
   site : Looks g.T.Site.told g.T.Site.disk g.T.Site.faults g.T.Site.holds g.T.Site.keeps l.initial.site l.site;
 }
 
-abbrev pub decreases-loop-taken : goal.decreases-loop-taken
-decreases-loop-taken g l = 2 ^ 62 - l.at
+abbrev pub decreases-loop-begun : goal.decreases-loop-begun
+decreases-loop-begun g l = 2 ^ 62 - l.at

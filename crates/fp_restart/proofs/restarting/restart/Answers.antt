@@ -48,9 +48,7 @@ returns-clause-never g c scripts entries t sound =
     )
 
 pub returns-clause-damaged : goal.returns-clause-damaged
-returns-clause-damaged g c set at t is =
-    let bad = c.read_parts.ensures.damaged set at (c.sync.ensures.told t) is in
-    (bad.0, (subst (λ l. IsFirstBadAt c.args.defs.now l (first_gate (as_front c.args.front.now)) at) (c.sync.ensures.same t) bad.1).bad)
+returns-clause-damaged g c set at t is = (c.read_parts.ensures.damaged set at (c.sync.ensures.told t) is).0
 
 pub returns-clause-place : goal.returns-clause-place
 returns-clause-place g c set at t is =

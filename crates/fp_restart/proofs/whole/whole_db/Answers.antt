@@ -1,4 +1,4 @@
-use Rattle.std.proofs.Common.{◌≡◌, ◌∙◌, ap}
+use Rattle.std.proofs.Common.{◌∙◌}
 use Rattle.fp_restart.proofs.NoDedbs.{state_is}
 use Rattle.fp_restart.proofs.whole.whole_db.Goals as goal
 

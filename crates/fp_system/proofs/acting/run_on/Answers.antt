@@ -16,7 +16,7 @@ returns-in-Err-clause-damaged g c set at t e =
     let setup = c.args.setup.now in
     let log = (g.T.Site.disk c.args.site.now).contents 0 in
     let is = ap (λ f. Err f) (damaged_is c.in-Err.fault set at (sym c.fault_status.ensures ∙ e)) in
-    ((c.in-Err.ensures.damaged set at t is).0, subst (λ (front : Front). IsFirstBadAt setup.defs log (first_gate front) at) c.requires.front (c.in-Err.ensures.place set at t is))
+    (c.in-Err.ensures.damaged set at t is, subst (λ (front : Front). IsFirstBadAt setup.defs log (first_gate front) at) c.requires.front (c.in-Err.ensures.place set at t is))
 
 pub returns-in-Err-clause-unchanged : goal.returns-in-Err-clause-unchanged
 returns-in-Err-clause-unchanged g c t is = record { contents = c.restart.ensures.contents t; sent = c.restart.ensures.sent t; crash = c.restart.ensures.crash t }
