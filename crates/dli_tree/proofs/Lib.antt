@@ -6,3 +6,4 @@ pub mod Lines
 pub mod Rows
 pub mod Admitting
 pub mod Roots
+pub mod Editing

@@ -3,3 +3,5 @@ pub mod InOrder
 pub mod Aims
 pub mod Places
 pub mod Reaches
+pub mod Changes
+pub mod Descents

@@ -2,12 +2,16 @@
 #![tactic(auto)]
 
 mod aim;
+mod calls;
+mod edit;
 mod first;
 mod path;
 mod place;
 mod reach;
 mod search;
+mod standing;
 mod types;
 
+pub use calls::{delete, insert, replace};
 pub use first::first_after;
 pub use path::{Path, Step};
