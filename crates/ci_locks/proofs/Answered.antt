@@ -10,13 +10,8 @@ use Rattle.fp_model.specs.declared.calls.Resource.{Resource}
 use Rattle.fp_model.specs.State.{numbers_up}
 use Rattle.fp_model.specs.Waiting.{Lock, held_as, conflicts, is_blocked, same_resource, waits, WaitsAlong, without_region, with_request}
 use Rattle.ci_locks.specs.Graph.{Along, is_in, next, next_of}
-use Rattle.ci_locks.specs.Regions.{region_at, region_request, standing_of}
 use Rattle.ci_locks.specs.Standing.{Standing, Shows, Gains, IsGrant, asking, blocking, gained, gained_over, in_way, raised}
-use Rattle.ci_locks.specs.Table.{Row, lock_of, row_of, standing}
 use Rattle.ci_locks.specs.declared.locks.Grant.TheVariants as grant
-use Rattle.ci_locks.specs.declared.locks.Region.{Region}
-use Rattle.ci_locks.specs.declared.locks.Request.{Request}
-use Rattle.ci_locks.proofs.Bridge.{standing_is}
 use Rattle.ci_locks.proofs.Shown.{In, to_in, from_in, any_in, in_any, in_filter, filter_in, both, and_true, number_is, is_number, not_true, false_not, resource_is, is_resource, lock_counts, way_counts, blockers_are}
 
 -- ---- numbers in lists
@@ -267,17 +262,6 @@ module _ (s : Standing) (locks requests : List Lock) (wanted : Lock) (sh : Shows
 
 -- ---- the answers
 
-owns_code : (regions : List Region) → Owns (standing_of regions)
-owns_code regions a q e = by (region_at regions a) e
-  where
-    of_request : (o : Option Request) → lock_of a o ≡ Some q → q.region ≡ a
-    of_request None e2 = absurd (cc)
-    of_request (Some request) e2 = let same : (record { region = a; resource = request.resource; mode = request.mode }) ≡ q = cc in ap (λ (l : Lock). l.region) (sym same)
-
-    by : (o : Option Region) → region_request a o ≡ Some q → q.region ≡ a
-    by None e2 = absurd (cc)
-    by (Some region) e2 = of_request region.request e2
-
 owns_asking : (s : Standing) (wanted : Lock) → Owns s → Owns (asking s wanted.region (Some wanted))
 owns_asking s wanted owns a q e = by (a == wanted.region) refl e
   where
@@ -303,14 +287,3 @@ module _ (s : Standing) (locks requests : List Lock) (wanted : Lock) (sh : Shows
     of_along (asking s wanted.region (Some wanted)) locks (with_request wanted requests) (asked s locks requests wanted sh) (owns_asking s wanted owns) cycle wanted.region wanted.region along,
     (let P : List ℕ → Type 0 = λ l. IsDistinct ◌==◌ l in subst P is apart),
   )
-
--- ---- the code's regions, by what contracts see
-
-pub stands : (given regions : List Region) (rows : List Row) → given ≡ regions → map row_of regions ≡ rows → standing_of given ≡ standing rows
-stands given regions rows e v = ap standing_of e ∙ sym (standing_is regions) ∙ ap standing v
-
-pub ends : (ended new : List Region) → ended ≡ new → standing (map row_of ended) ≡ standing_of new
-ends ended new e = ap (λ regions. standing (map row_of regions)) e ∙ standing_is new
-
-pub owns_rows : (regions : List Region) (rows : List Row) → map row_of regions ≡ rows → Owns (standing rows)
-owns_rows regions rows e = let P : Standing → Type 0 = λ s. Owns s in subst P (sym (standing_is regions) ∙ ap standing e) (owns_code regions)

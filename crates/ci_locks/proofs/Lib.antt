@@ -2,7 +2,12 @@ pub mod Answered
 pub mod Asking
 pub mod Bridge
 pub mod Holdings
+pub mod Members
+pub mod Modes
 pub mod Ranges
 pub mod Regions
+pub mod SetLemmas
 pub mod Shown
-pub mod Trails
+pub mod Sounds
+pub mod Walks
+pub mod Ways

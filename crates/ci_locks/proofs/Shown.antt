@@ -190,7 +190,8 @@ filter_in p (y ∷ ys) x i e = by (p y) refl i (λ j. filter_in p ys x j e)
     by false is (inl same) rest = absurd (let t : p y ≡ true = ap p same ∙ e in cc)
     by false is (inr j) rest = rest j
 
-held_without : (region : ℕ) (locks : List Lock) (other : ℕ) (resource : Resource) → held_as (without_region region locks) other resource ≡ (if other == region then None else held_as locks other resource)
+-- For proofs above: without a region's locks, that region holds nothing, and each other what it held.
+pub held_without : (region : ℕ) (locks : List Lock) (other : ℕ) (resource : Resource) → held_as (without_region region locks) other resource ≡ (if other == region then None else held_as locks other resource)
 held_without region [] other resource = by (other == region) None
   where
     by : (b : Bool) (o : Option Mode) → o ≡ (if b then o else o)

@@ -1,9 +1,11 @@
--- Trails along those that regions wait for.
-use Rattle.std.specs.Prelude.{◌≡◌, ℕ, List, [], ◌∷◌, ◌++◌, Bool, true, ◌==◌, Option, Some, None, if◌then◌else◌}
+-- Walks along those that regions wait for.
+use Rattle.std.specs.Prelude.{◌≡◌, ℕ, List, [], ◌∷◌, Bool, true, ◌==◌, Option, Some, None, if◌then◌else◌}
 use Rattle.std.specs.List.{list_any}
 use Rattle.fp_model.specs.Waiting.{Lock}
+use Rattle.ci_locks.specs.Regions.{region_at}
+use Rattle.ci_locks.specs.Sets.{members}
 use Rattle.ci_locks.specs.Standing.{Standing, blocking}
-use Rattle.ci_locks.specs.declared.search.Trail.{Trail}
+use Rattle.ci_locks.specs.declared.state.Region.{Region}
 
 -- those that stand in the way of a request, if there is one
 abbrev pub next_of : Standing → Option Lock → List ℕ
@@ -23,15 +25,15 @@ abbrev pub Along : (ℕ → List ℕ) → ℕ → List ℕ → ℕ → Type 0
 Along next region [] goal = is_in (next region) goal ≡ true
 Along next region (r ∷ rs) goal = (is_in (next region) r ≡ true) × Along next r rs goal
 
--- whether a trail ends there
-abbrev pub is_end : List Trail → ℕ → Bool
-is_end trails region = list_any (λ trail. trail.end == region) trails
+-- ---- by the sets of the regions, where one of them would wait for those found
 
--- with a trail along a path to a region, unless one ends there
-abbrev pub with_trail : List ℕ → List Trail → ℕ → List Trail
-with_trail path trails region = if is_end trails region then trails else trails ++ (record { through = path; end = region }) ∷ []
+abbrev pub set_of : Option Region → ℕ
+set_of None = 0
+set_of (Some region) = region.ahead.0
 
--- with such trails to all these regions
-abbrev pub extended : List ℕ → List ℕ → List Trail → List Trail
-extended path [] trails = trails
-extended path (r ∷ rs) trails = extended path rs (with_trail path trails r)
+-- the set of those that a region waits for
+abbrev pub set_at : List Region → ℕ → ℕ → ℕ → ℕ
+set_at regions asker found region = if region == asker then found else set_of (region_at regions region)
+
+abbrev pub leads : List Region → ℕ → ℕ → ℕ → List ℕ
+leads regions asker found region = members (set_at regions asker found region)

@@ -1,5 +1,6 @@
 pub mod Graph
 pub mod Holdings
 pub mod Regions
+pub mod Sets
 pub mod Standing
 pub mod Table

@@ -1,5 +1,5 @@
 -- How each region holds each resource, and the request that it has standing.
-use Rattle.std.specs.Prelude.{◌≡◌, ℕ, ◌≤◌, List, ◌∷◌, filter, Contains, ◌↔◌, Bool, true, false, not, ◌&&◌, ◌||◌, ◌==◌, Option, Some, None, if◌then◌else◌}
+use Rattle.std.specs.Prelude.{◌≡◌, ⊤, ℕ, ◌≤◌, List, ◌∷◌, filter, Contains, ◌↔◌, Bool, true, false, not, ◌&&◌, ◌||◌, ◌==◌, Option, Some, None, if◌then◌else◌}
 use Rattle.std.specs.List.{IsDistinct}
 use Rattle.fp_model.specs.declared.calls.Mode.{Mode}
 use Rattle.fp_model.specs.declared.calls.Mode.TheVariants.{Share, Exclusive}
@@ -63,6 +63,12 @@ IsGrant regions locks requests wanted (grant.Cycle list) =
     × (list ≡ wanted.region ∷ cycle)
     × IsCycle (waits (with_request wanted requests) locks) (wanted.region ∷ cycle)
     × IsDistinct ◌==◌ (wanted.region ∷ cycle)
+
+-- of the list of a cycle
+abbrev pub IfCycle : Grant → (List ℕ → Type 0) → Type 0
+IfCycle grant.Held P = ⊤
+IfCycle (grant.Wait holders) P = ⊤
+IfCycle (grant.Cycle list) P = P list
 
 -- the locks after an answer
 abbrev pub locks_after : Grant → Lock → List Lock → List Lock

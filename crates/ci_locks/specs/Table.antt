@@ -1,5 +1,5 @@
 -- The locks as tables, region 1 first.
-use Rattle.std.specs.Prelude.{ℕ, zero, suc, List, length, map, Option, Some, None, slice_get}
+use Rattle.std.specs.Prelude.{ℕ, zero, suc, List, length, Option, Some, None, option_and_then, slice_get}
 use Rattle.std.specs.BTreeMap.{is_at}
 use Rattle.std.specs.Cmp.Lexicographic.{slice_cmp}
 use Rattle.std.specs.Map.{lookup}
@@ -10,25 +10,26 @@ use Rattle.fp_model.specs.declared.calls.Resource.TheVariants.{Segment, Anchor}
 use Rattle.fp_model.specs.Waiting.{Lock}
 use Rattle.ci_locks.specs.Holdings.{anchor_cmp}
 use Rattle.ci_locks.specs.Standing.{Standing}
-use Rattle.ci_locks.specs.declared.locks.Region.{Region}
-use Rattle.ci_locks.specs.declared.locks.Request.{Request}
+use Rattle.ci_locks.specs.declared.state.Request.{Request}
 
--- A region: how it holds anchors, by database and number; segments, by key, a table for each database; and its request.
+-- A region: of what some region holds, how it holds the anchors, by database and number, and the segments, by key, a
+-- table for each database; and its request.
 pub record Row : Type 0 where
-  pub anchors : List ((ℕ × ℕ) × Mode)
-  pub segments : List (List (List ℕ × Mode))
+  pub anchors : List ((ℕ × ℕ) × Option Mode)
+  pub segments : List (List (List ℕ × Option Mode))
   pub request : Option Request
 
-abbrev pub row_of : Region → Row
-row_of region = record { anchors = region.held.anchors.entries; segments = map (λ table. map (λ e. (e.0.items, e.1)) table.entries) region.held.segments.items; request = region.request }
+-- what is found, if anything is
+abbrev pub joined : {X : Type 0} → Option (Option X) → Option X
+joined found = option_and_then (λ x. x) found
 
 -- how a key is held, where there is a table of its database
-abbrev pub key_mode : List ℕ → Option (List (List ℕ × Mode)) → Option Mode
+abbrev pub key_mode : List ℕ → Option (List (List ℕ × Option Mode)) → Option Mode
 key_mode key None = None
-key_mode key (Some table) = lookup (is_at (slice_cmp nat_cmp key)) table
+key_mode key (Some table) = joined (lookup (is_at (slice_cmp nat_cmp key)) table)
 
 abbrev pub row_mode : Row → Resource → Option Mode
-row_mode row (Anchor dedb anchor) = lookup (is_at (anchor_cmp (dedb, anchor))) row.anchors
+row_mode row (Anchor dedb anchor) = joined (lookup (is_at (anchor_cmp (dedb, anchor))) row.anchors)
 row_mode row (Segment msdb key) = key_mode key (slice_get row.segments msdb)
 
 -- the row of a region

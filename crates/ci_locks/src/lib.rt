@@ -7,5 +7,7 @@
 mod holding;
 mod locks;
 mod search;
+mod sets;
+mod state;
 
 pub use locks::{Grant, Locks};

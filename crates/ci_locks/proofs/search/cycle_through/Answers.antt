@@ -1,59 +1,146 @@
-use Rattle.std.proofs.Common.{◌≡◌, ◌∷◌, [], ◌<◌, ◌≤◌, length, true, List, sym, ap, subst, ◌∙◌, arith, ◌++◌, ◌==◌}
-use Rattle.std.specs.List.{list_any}
-use Rattle.ci_locks.specs.Graph.{is_end, is_in, next}
-use Rattle.ci_locks.specs.Regions.{standing_of}
-use Rattle.ci_locks.specs.declared.search.Trail.{Trail}
-use Rattle.ci_locks.proofs.Regions.{next_within}
-use Rattle.ci_locks.proofs.Trails.{Found, begins, end_at, few, finish, flip_any, none, step}
+use Rattle.std.proofs.Common.{refl, arith, ◌≡◌, ℕ, ◌+◌, ◌-◌, ◌<◌, ◌≤◌, List, [], ◌∷◌, ◌++◌, length, take, Bool, true, false, not, ◌&&◌, ◌||◌, ◌==◌, get_or, ap, sym, subst, ◌∙◌, length-append}
+use Rattle.std.specs.List.{IsDistinct}
+use Rattle.std.proofs.lemmas.List.{length-set, length-take}
+use Rattle.ci_locks.specs.Graph.{Along, is_in, leads, set_at}
+use Rattle.ci_locks.specs.Sets.{has}
+use Rattle.ci_locks.proofs.Members.{is_member, member_is, take_last, take_put}
+use Rattle.ci_locks.proofs.Walks.{Searched, back, begins, closes, end_within, few, fewer, none, onward}
 use Rattle.ci_locks.proofs.search.cycle_through.Goals as goal
+use Rattle.ci_locks.proofs.search.cycle_through.Goals.{After-with-met-in-Some}
 
-pub loop-place-init : goal.loop-place-init
-loop-place-init c =
-    let is : c.push.new.self.items ≡ (record { through = []; end = c.args.region }) ∷ [] =
-    c.in_ok-push.ensures.items ∙ ap (λ trails. trails ++ (record { through = c.new.result; end = c.args.region }) ∷ []) c.new-trails.ensures.items ∙ ap (λ through. (record { through = through; end = c.args.region }) ∷ []) c.new.ensures in
-    let P : List Trail → Type 0 = Found (next (standing_of c.args.regions.now)) c.args.region (length c.args.regions.now) in
+both : (a b : Bool) → (a && b) ≡ true → (a ≡ true) × (b ≡ true)
+both true b e = (refl, e)
+both false b e = absurd (cc)
+
+not_true : (b : Bool) → not b ≡ true → b ≡ false
+not_true true e = absurd (cc)
+not_true false e = refl
+
+left_out : (a b : Bool) → (a && not b) ≡ false → a ≡ true → b ≡ true
+left_out true true e is = refl
+left_out true false e is = absurd (cc)
+left_out false b e is = absurd (cc)
+
+-- the way so far, its last region apart
+split : (path : List ℕ) (count : ℕ) → 0 < count → count ≤ length path → take count path ≡ take (count - 1) path ++ get_or path (count - 1) 0 ∷ []
+split path count some most =
+    let e : count ≡ (count - 1) + 1 = omega (arith, some) in
+    ap (λ k. take k path) e ∙ take_last path (count - 1) (omega (arith, some, most))
+
+apart : (next : ℕ → List ℕ) (asker regions : ℕ) (met : ℕ → Bool) (path : List ℕ) (count : ℕ) → 0 < count → count ≤ length path → Searched next asker regions met (take count path)
+    → Searched next asker regions met (take (count - 1) path ++ get_or path (count - 1) 0 ∷ [])
+apart next asker regions met path count some most s = let P : List ℕ → Type 0 = Searched next asker regions met in subst P (split path count some most) s
+
+-- on to a region that is not met
+further : (next : ℕ → List ℕ) (asker regions : ℕ) (met met2 : ℕ → Bool) (path : List ℕ) (count r : ℕ) → 0 < count → count ≤ length path → Searched next asker regions met (take count path)
+    → is_in (next (get_or path (count - 1) 0)) r ≡ true → met r ≡ false → (1 ≤ r) × (r ≤ regions) → ((x : ℕ) → met2 x ≡ (x == r || met x))
+    → Searched next asker regions met2 (take count path ++ r ∷ [])
+further next asker regions met met2 path count r some most s edge fresh range is =
+    let P : List ℕ → Type 0 = λ l. Searched next asker regions met2 (l ++ r ∷ []) in
+    subst P (sym (split path count some most))
+    (onward next asker regions met met2 (take (count - 1) path) (get_or path (count - 1) 0) r (apart next asker regions met path count some most s) edge fresh range is)
+
+long : (path : List ℕ) (count r : ℕ) → count ≤ length path → length (take count path ++ r ∷ []) ≡ count + 1
+long path count r most = let e = length-take count path in omega (arith, length-append (take count path) (r ∷ []), e, most)
+
+pub loop-count-init : goal.loop-count-init
+loop-count-init c = record {
+  searched = begins (leads c.args.regions.now c.args.asker c.args.ahead.0) c.args.asker (length c.args.regions.now) (has c.with-met.result.0) c.requires.some c.requires.within
+      (λ x. c.with-met.ensures x ∙ ap (λ b. x == c.args.asker || b) (c.empty.ensures x));
+  long = omega (arith, c.requires.some, c.requires.within);
+  room = refl;
+}
+
+pub set_at-on-requires-clause-some : goal.set_at-on-requires-clause-some
+set_at-on-requires-clause-some c =
+    let next = leads c.args.regions.now c.args.asker c.args.ahead.0 in
+    let most : c.loop-count.count ≤ length c.loop-count.path = omega (arith, c.loop-count.invariant.long, c.loop-count.invariant.room, c.requires.most) in
+    (end_within next c.args.asker (length c.args.regions.now) (has c.loop-count.met.0) (take (c.loop-count.count - 1) c.loop-count.path) (get_or c.loop-count.path (c.loop-count.count - 1) 0)
+    (apart next c.args.asker (length c.args.regions.now) (has c.loop-count.met.0) c.loop-count.path c.loop-count.count c.loop-count-test.true most c.loop-count.invariant.searched)).0
+
+pub set_at-on-requires-clause-within : goal.set_at-on-requires-clause-within
+set_at-on-requires-clause-within c =
+    let next = leads c.args.regions.now c.args.asker c.args.ahead.0 in
+    let most : c.loop-count.count ≤ length c.loop-count.path = omega (arith, c.loop-count.invariant.long, c.loop-count.invariant.room, c.requires.most) in
+    (end_within next c.args.asker (length c.args.regions.now) (has c.loop-count.met.0) (take (c.loop-count.count - 1) c.loop-count.path) (get_or c.loop-count.path (c.loop-count.count - 1) 0)
+    (apart next c.args.asker (length c.args.regions.now) (has c.loop-count.met.0) c.loop-count.path c.loop-count.count c.loop-count-test.true most c.loop-count.invariant.searched)).1
+
+pub returns-then-has-clause-found : goal.returns-then-has-clause-found
+returns-then-has-clause-found c =
+    let next = leads c.args.regions.now c.args.asker c.args.ahead.0 in
+    let end = get_or c.loop-count.path (c.loop-count.count - 1) 0 in
+    let most : c.loop-count.count ≤ length c.loop-count.path = omega (arith, c.loop-count.invariant.long, c.loop-count.invariant.room, c.requires.most) in
+    let edge : is_in (next end) c.args.asker ≡ true =
+    is_member (set_at c.args.regions.now c.args.asker c.args.ahead.0 end) c.args.asker c.requires.some (omega (arith, c.requires.within, c.requires.most))
+    (ap (λ word. has word c.args.asker) (sym c.set_at-on.ensures) ∙ sym c.has.ensures ∙ c.if-has.true) in
+    let found = closes next c.args.asker (length c.args.regions.now) (has c.loop-count.met.0) (take (c.loop-count.count - 1) c.loop-count.path) end
+    (apart next c.args.asker (length c.args.regions.now) (has c.loop-count.met.0) c.loop-count.path c.loop-count.count c.loop-count-test.true most c.loop-count.invariant.searched) edge in
+    let P : List ℕ → Type 0 = λ list. (cycle : List ℕ) × (list ≡ c.args.asker ∷ cycle) × Along next c.args.asker cycle c.args.asker × IsDistinct ◌==◌ list in
+    subst P (sym (c.in_ok-from_slice.ensures ∙ split c.loop-count.path c.loop-count.count c.loop-count-test.true most)) found
+
+step : (c : After-with-met-in-Some) → Searched (leads c.args.regions.now c.args.asker c.args.ahead.0) c.args.asker (length c.args.regions.now) (has c.with-met-in-Some.result.0) (take c.loop-count.count c.loop-count.path ++ c.in-Some.region ∷ [])
+step c =
+    let next = leads c.args.regions.now c.args.asker c.args.ahead.0 in
+    let end = get_or c.loop-count.path (c.loop-count.count - 1) 0 in
+    let word = set_at c.args.regions.now c.args.asker c.args.ahead.0 end in
+    let r = c.in-Some.region in
+    let parts = both (has c.set_at-on.result.0 r) (not (has c.loop-count.met.0 r)) (sym (c.less.ensures r) ∙ c.in-Some.ensures.some) in
+    let on : has word r ≡ true = ap (λ w. has w r) (sym c.set_at-on.ensures) ∙ parts.0 in
+    let range = c.requires.range end r on in
+    further next c.args.asker (length c.args.regions.now) (has c.loop-count.met.0) (has c.with-met-in-Some.result.0) c.loop-count.path c.loop-count.count r c.loop-count-test.true
+    (omega (arith, c.loop-count.invariant.long, c.loop-count.invariant.room, c.requires.most)) c.loop-count.invariant.searched
+    (is_member word r range.0 (omega (arith, range.1, c.requires.most)) on) (not_true (has c.loop-count.met.0 r) parts.1) range c.with-met-in-Some.ensures
+
+pub bounds-path-count-in-Some : goal.bounds-path-count-in-Some
+bounds-path-count-in-Some c =
+    let next = leads c.args.regions.now c.args.asker c.args.ahead.0 in
+    let most : c.loop-count.count ≤ length c.loop-count.path = omega (arith, c.loop-count.invariant.long, c.loop-count.invariant.room, c.requires.most) in
+    let count = few next c.args.asker (length c.args.regions.now) (has c.with-met-in-Some.result.0) (take c.loop-count.count c.loop-count.path ++ c.in-Some.region ∷ []) (step c) in
+    omega (arith, count, long c.loop-count.path c.loop-count.count c.in-Some.region most, c.requires.most)
+
+pub loop-count-smaller-in-Some : goal.loop-count-smaller-in-Some
+loop-count-smaller-in-Some c =
+    let r = c.in-Some.region in
+    let end = get_or c.loop-count.path (c.loop-count.count - 1) 0 in
+    let parts = both (has c.set_at-on.result.0 r) (not (has c.loop-count.met.0 r)) (sym (c.less.ensures r) ∙ c.in-Some.ensures.some) in
+    let range = c.requires.range end r (ap (λ w. has w r) (sym c.set_at-on.ensures) ∙ parts.0) in
+    let less = fewer (has c.loop-count.met.0) (has c.with-met-in-Some.result.0) r (length c.args.regions.now) (not_true (has c.loop-count.met.0 r) parts.1) range c.with-met-in-Some.ensures in
+    omega (arith, less)
+
+pub loop-count-preserved-in-Some : goal.loop-count-preserved-in-Some
+loop-count-preserved-in-Some c =
+    let next = leads c.args.regions.now c.args.asker c.args.ahead.0 in
+    let most : c.loop-count.count ≤ length c.loop-count.path = omega (arith, c.loop-count.invariant.long, c.loop-count.invariant.room, c.requires.most) in
+    let count = few next c.args.asker (length c.args.regions.now) (has c.with-met-in-Some.result.0) (take c.loop-count.count c.loop-count.path ++ c.in-Some.region ∷ []) (step c) in
+    let more = long c.loop-count.path c.loop-count.count c.in-Some.region most in
+    let P : List ℕ → Type 0 = Searched next c.args.asker (length c.args.regions.now) (has c.with-met-in-Some.result.0) in
     record {
-      found = subst P (sym is) (begins (next (standing_of c.args.regions.now)) c.args.region (length c.args.regions.now) c.requires.some c.requires.within);
-      closed = λ j d h. absurd (omega (arith, h));
-      within = omega arith;
+      searched = subst P (sym (take_put c.loop-count.path c.loop-count.count c.in-Some.region (omega (arith, count, more, c.requires.most, c.loop-count.invariant.room)))) (step c);
+      long = omega (arith, count, more);
+      room = length-set c.loop-count.path c.loop-count.count c.in-Some.region ∙ c.loop-count.invariant.room;
     }
 
-pub waits_for-requires-clause-some : goal.waits_for-requires-clause-some
-waits_for-requires-clause-some c =
-    let here : c.loop-place.place < length c.loop-place.trails.items = omega arith in
-    let P : Trail → Type 0 = λ t. is_end c.loop-place.trails.items t.end ≡ true in
-    (c.loop-place.invariant.found.within c.index-trail.result.now.end (subst P (sym c.index-trail.ensures) (end_at c.loop-place.trails.items c.loop-place.place c.index-trail.result.now here))).0
-
-pub waits_for-requires-clause-within : goal.waits_for-requires-clause-within
-waits_for-requires-clause-within c =
-    let here : c.loop-place.place < length c.loop-place.trails.items = omega arith in
-    let P : Trail → Type 0 = λ t. is_end c.loop-place.trails.items t.end ≡ true in
-    (c.loop-place.invariant.found.within c.index-trail.result.now.end (subst P (sym c.index-trail.ensures) (end_at c.loop-place.trails.items c.loop-place.place c.index-trail.result.now here))).1
-
-pub returns-then-contains : goal.returns-then-contains
-returns-then-contains c =
-    let here : c.loop-place.place < length c.loop-place.trails.items = omega arith in
+pub loop-count-preserved : goal.loop-count-preserved
+loop-count-preserved c =
+    let next = leads c.args.regions.now c.args.asker c.args.ahead.0 in
+    let end = get_or c.loop-count.path (c.loop-count.count - 1) 0 in
+    let met = has c.loop-count.met.0 in
+    let most : c.loop-count.count ≤ length c.loop-count.path = omega (arith, c.loop-count.invariant.long, c.loop-count.invariant.room, c.requires.most) in
     record {
-      found = finish (next (standing_of c.args.regions.now)) c.args.region (length c.args.regions.now) c.loop-place.trails.items c.loop-place.place c.index-trail.result.now c.in_ok-path.path here c.index-trail.ensures c.loop-place.invariant.found c.in_ok-path.ensures
-          (ap (λ list. is_in list c.args.region) (sym c.in_ok-found.ensures) ∙ sym (flip_any c.in_ok-found.found c.args.region) ∙ ap (λ list. list_any (λ m. m == c.args.region) list) (sym c.as_slice.ensures) ∙ sym c.contains.ensures.value ∙ c.if-contains.true);
+      searched = back next c.args.asker (length c.args.regions.now) met (take (c.loop-count.count - 1) c.loop-count.path) end
+          (apart next c.args.asker (length c.args.regions.now) met c.loop-count.path c.loop-count.count c.loop-count-test.true most c.loop-count.invariant.searched)
+          (λ b edge.
+          let on : has c.set_at-on.result.0 b ≡ true = ap (λ word. has word b) c.set_at-on.ensures ∙ member_is (set_at c.args.regions.now c.args.asker c.args.ahead.0 end) b edge in (
+            left_out (has c.set_at-on.result.0 b) (met b) (sym (c.less.ensures b) ∙ c.in-None.ensures.none b) on,
+            (λ same. let wrong : false ≡ true = sym c.if-has.false ∙ c.has.ensures ∙ ap (has c.set_at-on.result.0) (sym same) ∙ on in absurd (cc)),
+          ));
+      long = omega (arith, c.loop-count.invariant.long);
+      room = c.loop-count.invariant.room;
     }
 
-pub loop-place-smaller : goal.loop-place-smaller
-loop-place-smaller c =
-    let here : c.loop-place.place < length c.loop-place.trails.items = omega arith in
-    let most = few (next (standing_of c.args.regions.now)) c.args.region (length c.args.regions.now) c.loop-place.trails.items c.loop-place.invariant.found in
-    omega (arith, here, most)
-
-pub loop-place-preserved : goal.loop-place-preserved
-loop-place-preserved c =
-    let here : c.loop-place.place < length c.loop-place.trails.items = omega arith in
-    let more = step (next (standing_of c.args.regions.now)) c.args.region (length c.args.regions.now) c.loop-place.trails.items c.go_on.new.trails.items c.loop-place.place c.index-trail.result.now c.in_ok-path.path c.in_ok-found.found here c.index-trail.ensures c.loop-place.invariant.found c.loop-place.invariant.closed
-    c.in_ok-path.ensures c.in_ok-found.ensures
-    (sym (flip_any c.in_ok-found.found c.args.region) ∙ ap (λ list. list_any (λ m. m == c.args.region) list) (sym c.as_slice.ensures) ∙ sym c.contains.ensures.value ∙ c.if-contains.false)
-    (next_within (standing_of c.args.regions.now)) c.in_ok-go_on.ensures in
-    record { found = more.found; closed = more.closed; within = omega (arith, here, more.long) }
-
-pub returns : goal.returns
-returns c =
-    let all : length c.loop-place.trails.items ≤ c.loop-place.place = omega arith in
-    record { found = none (next (standing_of c.args.regions.now)) c.args.region (length c.args.regions.now) c.loop-place.trails.items c.loop-place.invariant.found (λ j d h. c.loop-place.invariant.closed j d (omega (arith, h, all))) }
+pub returns-clause-found : goal.returns-clause-found
+returns-clause-found c =
+    let next = leads c.args.regions.now c.args.asker c.args.ahead.0 in
+    let zero : c.loop-count.count ≡ 0 = omega (arith, c.loop-count-test.false) in
+    let P : ℕ → Type 0 = λ k. Searched next c.args.asker (length c.args.regions.now) (has c.loop-count.met.0) (take k c.loop-count.path) in
+    none next c.args.asker (length c.args.regions.now) (has c.loop-count.met.0) (subst P zero c.loop-count.invariant.searched)

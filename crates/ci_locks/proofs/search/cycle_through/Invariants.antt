@@ -1,15 +1,16 @@
-use Rattle.std.proofs.Common.{◌≤◌, ◌+◌, ◌-◌, length}
-use Rattle.ci_locks.specs.Graph.{next}
-use Rattle.ci_locks.specs.Regions.{standing_of}
-use Rattle.ci_locks.proofs.Trails.{Closed, Found}
+use Rattle.std.proofs.Common.{◌≡◌, ◌≤◌, ◌+◌, ◌*◌, length, take}
+use Rattle.ci_locks.specs.Graph.{leads}
+use Rattle.ci_locks.specs.Sets.{has}
+use Rattle.ci_locks.proofs.Walks.{Searched, count_unmet}
 use Rattle.ci_locks.proofs.search.cycle_through.Given as goal
 
-abbrev pub invariant-loop-place : goal.invariant-loop-place
-invariant-loop-place l = record {
-  found : Found (next (standing_of l.regions)) l.region (length l.regions) l.trails.items;
-  closed : Closed (next (standing_of l.regions)) l.region l.place l.trails.items;
-  within : l.place ≤ length l.trails.items;
+abbrev pub invariant-loop-count : goal.invariant-loop-count
+invariant-loop-count l = record {
+  searched : Searched (leads l.regions l.asker l.ahead.0) l.asker (length l.regions) (has l.met.0) (take l.count l.path);
+  long : l.count ≤ length l.regions;
+  room : length l.path ≡ 64;
 }
 
-abbrev pub decreases-loop-place : goal.decreases-loop-place
-decreases-loop-place l = length l.regions + 1 - l.place
+-- twice those not met, and the way
+abbrev pub decreases-loop-count : goal.decreases-loop-count
+decreases-loop-count l = 2 * count_unmet (has l.met.0) (length l.regions) + l.count
