@@ -1,11 +1,12 @@
 -- Texts that are made a piece at a time.
-use Rattle.std.proofs.Common.{◌≡◌, ℕ, zero, suc, ◌+◌, ◌-◌, ◌<◌, ◌≤◌, List, [], ◌∷◌, ◌++◌, length, map, take, drop, get_or, append_assoc, refl, ap, sym, ◌∙◌, arith}
+use Rattle.std.proofs.Common.{◌≡◌, ℕ, ◌-◌, ◌≤◌, List, [], ◌∷◌, ◌++◌, length, map, take, drop, get_or, append_assoc, refl, ap, sym, ◌∙◌, arith}
 use Rattle.std.specs.Prelude.{flat_map}
 use Rattle.std.specs.List.{join_with_byte}
 use Rattle.std.proofs.lemmas.List.{append-nil, take_rest}
 
 -- pieces of elements are the elements' pieces
-pub flat_map-map : {X Y A : Type 0} (f : Y → List A) (g : X → Y) (xs : List X) → flat_map f (map g xs) ≡ flat_map (λ x. f (g x)) xs
+pub flat_map-map : {X Y A : Type 0} (f : Y → List A) (g : X → Y) (xs : List X)
+    → flat_map f (map g xs) ≡ flat_map (λ x. f (g x)) xs
 flat_map-map f g [] = refl
 flat_map-map f g (x ∷ xs) = ap (λ (ys : List _). f (g x) ++ ys) (flat_map-map f g xs)
 
@@ -17,7 +18,8 @@ joined_behind f c text (x ∷ xs) = ap (λ (ys : List ℕ). text ++ c ∷ ys) (j
 
 -- the same of a list that isn't empty: its first element, and the others
 pub joined_all : {X : Type 0} (f : X → List ℕ) (c : ℕ) (before : List ℕ) (xs : List X) (d : X) → 1 ≤ length xs
-    → (before ++ f (get_or xs 0 d)) ++ flat_map (λ x. c ∷ f x) (take (length xs - 1) (drop 1 xs)) ≡ before ++ join_with_byte c (map f xs)
+    → (before ++ f (get_or xs 0 d)) ++ flat_map (λ x. c ∷ f x) (take (length xs - 1) (drop 1 xs))
+    ≡ before ++ join_with_byte c (map f xs)
 joined_all f c before [] d some = absurd (omega (arith, some))
 joined_all f c before (y ∷ ys) d some =
     ap (λ (others : List _). (before ++ f y) ++ flat_map (λ x. c ∷ f x) others) (take_rest (y ∷ ys) 1)

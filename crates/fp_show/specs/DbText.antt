@@ -3,7 +3,6 @@ use Rattle.std.specs.Prelude.{ℕ, ◌+◌, ◌*◌, List, [], ◌∷◌, ◌++�
 use Rattle.std.specs.List.{join_with_byte}
 use Rattle.std.specs.Option.{option_map_or}
 use Rattle.std.specs.Fmt.{decimal}
-use Rattle.fp_model.specs.declared.definitions.FieldDef.{FieldDef}
 use Rattle.fp_model.specs.declared.definitions.MsdbDef.{MsdbDef}
 use Rattle.fp_model.specs.declared.definitions.SegDef.{SegDef}
 use Rattle.fp_model.specs.declared.definitions.AreaDef.{AreaDef}
@@ -41,7 +40,8 @@ msdb_text def msdb = msdb_head def (length msdb.segments) ++ flat_map (msdb_line
 -- an area: its name, and the ends of its sequential part
 abbrev pub area_line : AreaDef → AreaEnds → List ℕ
 area_line def ends =
-    line (codes "area " ++ name_text def.name ++ codes " begin " ++ decimal ends.begin ++ codes " end " ++ decimal ends.end)
+    line
+    (codes "area " ++ name_text def.name ++ codes " begin " ++ decimal ends.begin ++ codes " end " ++ decimal ends.end)
 
 -- the name of a database, and its areas
 abbrev pub dedb_head : DedbDef → List AreaEnds → List ℕ

@@ -1,5 +1,5 @@
 -- The text of segments as they are met on the way down. No promise speaks of these.
-use Rattle.std.specs.Prelude.{ℕ, ◌+◌, List, [], ◌∷◌, ◌++◌, length, map, drop, flat_map, Bool, ◌&&◌, not}
+use Rattle.std.specs.Prelude.{ℕ, ◌+◌, List, [], ◌++◌, length, map, drop, flat_map, Bool, ◌&&◌, not}
 use Rattle.std.specs.Option.{option_map_or}
 use Rattle.fp_model.specs.declared.definitions.SegDef.{SegDef}
 use Rattle.fp_model.specs.declared.database.Node.{Node, out-Node}

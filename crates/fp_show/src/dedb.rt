@@ -93,8 +93,8 @@ fn put_anchor_lines(
     put_roots(alloc, into, types, roots)
 }
 
-/// Appends the lines of an anchor: its number within its database, and its segments in hierarchical order; nothing where
-/// it has no root. After want of memory the text is as before.
+/// Appends the lines of an anchor: its number within its database, and its segments in hierarchical order; nothing
+/// where it has no root. After want of memory the text is as before.
 pub fn put_anchor(
     alloc: Global,
     into: &mut Bytes,
@@ -106,7 +106,13 @@ pub fn put_anchor(
     ensures err { OnErr result (into.new ≡ into.old) }
 {
     let mut lines = Bytes::new(alloc);
-    put_anchor_lines(alloc, &mut lines, types.as_slice(), anchor, roots.as_slice())?;
+    put_anchor_lines(
+        alloc,
+        &mut lines,
+        types.as_slice(),
+        anchor,
+        roots.as_slice(),
+    )?;
     into.append(lines.as_slice())
 }
 

@@ -42,12 +42,7 @@ fn put_notes(alloc: Global, into: &mut Bytes, notes: &[u64]) -> Result<(), Alloc
 }
 
 /// Appends what the line of an entry begins with.
-fn put_entry_front(
-    alloc: Global,
-    into: &mut Bytes,
-    place: u64,
-    e: &Entry,
-) -> Result<(), AllocError>
+fn put_entry_front(alloc: Global, into: &mut Bytes, place: u64, e: &Entry) -> Result<(), AllocError>
     ensures { OnOk result (into.new ≡ into.old ++ entry_front place e.now) }
 {
     let from = e.from;

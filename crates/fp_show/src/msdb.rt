@@ -6,8 +6,8 @@ use crate::field::{put_fields, without_blanks};
 use fp_model::{Bytes, Msdb, MsdbDef};
 use std::alloc::{AllocError, Global};
 
-/// Appends the line of a main storage database: its name, and how many segments it has. After want of memory the text is
-/// as before.
+/// Appends the line of a main storage database: its name, and how many segments it has. After want of memory the text
+/// is as before.
 #[tactic(auto, using(std::proofs::Common::append_assoc))]
 pub fn put_msdb_head(
     alloc: Global,

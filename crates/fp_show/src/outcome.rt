@@ -48,7 +48,10 @@ pub(crate) fn put_numbers(
 fn put_regions(alloc: Global, into: &mut Bytes, regions: &[u8]) -> Result<(), AllocError>
     ensures { OnOk result (into.new ≡ into.old ++ comma_text regions.now) }
 {
-    let numbers: Vec<u64> = regions.iter().map(|region| u64::from(*region)).collect(alloc)?;
+    let numbers: Vec<u64> = regions
+        .iter()
+        .map(|region| u64::from(*region))
+        .collect(alloc)?;
     put_numbers(alloc, into, numbers.as_slice())
 }
 
@@ -110,12 +113,7 @@ fn put_purge(alloc: Global, into: &mut Bytes, set: u16, n: u64) -> Result<(), Al
 }
 
 /// Appends a word and a number.
-fn put_numbered(
-    alloc: Global,
-    into: &mut Bytes,
-    word: &[u8],
-    number: u64,
-) -> Result<(), AllocError>
+fn put_numbered(alloc: Global, into: &mut Bytes, word: &[u8], number: u64) -> Result<(), AllocError>
     ensures { OnOk result (into.new ≡ into.old ++ (word.now ++ decimal number)) }
 {
     into.append(word)?;

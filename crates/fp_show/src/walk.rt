@@ -32,7 +32,8 @@ fn put_named_fields(
     def: &SegDef,
     bytes: &[u8],
 ) -> Result<(), AllocError>
-    ensures { OnOk result (into.new ≡ into.old ++ join_with_byte 32 (name_text def.now.name ∷ field_texts def.now.fields bytes.now)) }
+    ensures { let texts = name_text def.now.name ∷ field_texts def.now.fields bytes.now in
+        OnOk result (into.new ≡ into.old ++ join_with_byte 32 texts) }
 {
     into.append(without_blanks(&def.name.0))?;
     put_fields_behind(alloc, into, def.fields.as_slice(), bytes)
@@ -112,7 +113,8 @@ fn put_node(
     put_rows(alloc, into, types, number, level, &node.children)
 }
 
-/// Appends the lines of all that is below a segment of a type and a level. A level past the last number is want of memory.
+/// Appends the lines of all that is below a segment of a type and a level. A level past the last number is want of
+/// memory.
 #[cycle(walk)]
 fn put_rows(
     alloc: Global,
@@ -122,7 +124,8 @@ fn put_rows(
     level: usize,
     rows: &List<List<Node>>,
 ) -> Result<(), AllocError>
-    ensures { OnOk result (into.new ≡ into.old ++ rows_text types.now number level (child_types types.now number) rows.now) }
+    ensures { let kinds = child_types types.now number in
+        OnOk result (into.new ≡ into.old ++ rows_text types.now number level kinds rows.now) }
 {
     let Some(below) = level.checked_add(1) else {
         return Err(AllocError);

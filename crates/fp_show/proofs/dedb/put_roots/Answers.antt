@@ -10,7 +10,9 @@ use Rattle.fp_show.proofs.dedb.put_roots.Goals as goal
 pub returns : goal.returns
 returns c =
     let types = c.args.types.now in
-    let all : length c.args.roots.now ≤ c.loop-root.root-index = omega arith in
+    let roots = c.args.roots.now in
+    let end : length roots ≤ c.loop-root.root-index = omega arith in
+    let lines : List Root → List ℕ = λ rs. flat_map (root_text types) rs in
     c.loop-root.invariant
-    ∙ ap (λ (xs : List Root). c.args.into.now ++ flat_map (root_text types) xs) (take_all c.loop-root.root-index c.args.roots.now all)
-    ∙ ap (λ (text : List ℕ). c.args.into.now ++ text) (roots_lines types c.args.roots.now)
+    ∙ ap (λ (rs : List Root). c.args.into.now ++ lines rs) (take_all c.loop-root.root-index roots end)
+    ∙ ap (λ (text : List ℕ). c.args.into.now ++ text) (roots_lines types roots)

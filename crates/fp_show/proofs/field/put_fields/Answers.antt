@@ -9,9 +9,10 @@ use Rattle.fp_show.proofs.field.put_fields.Goals as goal
 pub returns-in_ok-put_field-in-len1-up : goal.returns-in_ok-put_field-in-len1-up
 returns-in_ok-put_field-in-len1-up c =
     let fields = c.args.fields.now in
-    let segment = c.args.segment.now in
+    let text_of = field_text c.args.segment.now in
+    let others : List ℕ = flat_map (λ field. 32 ∷ text_of field) (take (length fields - 1) (drop 1 fields)) in
     on_ok_weaker c.put_fields_behind.result
     (λ is. is
-    ∙ ap (λ (text : List ℕ). text ++ flat_map (λ field. 32 ∷ field_text segment field) (take (length fields - 1) (drop 1 fields))) c.in_ok-put_field-in-len1-up.ensures
-    ∙ joined_all (field_text segment) 32 c.args.into.now fields _ c.in-len1-up.len_at_least)
+    ∙ ap (λ (text : List ℕ). text ++ others) c.in_ok-put_field-in-len1-up.ensures
+    ∙ joined_all text_of 32 c.args.into.now fields _ c.in-len1-up.len_at_least)
     c.put_fields_behind.ensures

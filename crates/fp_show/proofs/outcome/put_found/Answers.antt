@@ -11,5 +11,8 @@ some_hex (b ∷ bs) some = refl
 
 pub returns-else-is_empty : goal.returns-else-is_empty
 returns-else-is_empty c =
-    let some : 0 < length c.args.found.now = grind arith in
-    on_ok_weaker c.put_hex.result (λ is. is ∙ ap (λ (text : List ℕ). c.args.into.now ++ text) (some_hex c.args.found.now some)) c.put_hex.ensures
+    let found = c.args.found.now in
+    let some : 0 < length found = grind arith in
+    on_ok_weaker c.put_hex.result
+    (λ is. is ∙ ap (λ (text : List ℕ). c.args.into.now ++ text) (some_hex found some))
+    c.put_hex.ensures

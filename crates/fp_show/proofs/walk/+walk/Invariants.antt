@@ -5,7 +5,8 @@ use Rattle.fp_show.proofs.walk.+walk.Given as goal
 
 -- the segments of this row so far are there
 abbrev pub invariant-put_rows-loop-node : goal.invariant-put_rows-loop-node
-invariant-put_rows-loop-node l = l.into ≡ l.initial.into ++ row_text l.types l.child l.below (take l.node-index l.node-items)
+invariant-put_rows-loop-node l =
+    l.into ≡ l.initial.into ++ row_text l.types l.child l.below (take l.node-index l.node-items)
 
 -- the rows from this one on are left, and the child types from this one on
 abbrev pub invariant-put_rows-loop-row : goal.invariant-put_rows-loop-row
