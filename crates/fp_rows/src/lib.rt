@@ -7,6 +7,7 @@
 pub mod bytes;
 pub mod calls;
 pub mod checkpoints;
+pub mod customers;
 pub mod entries;
 pub mod numbered;
 pub mod transactions;
