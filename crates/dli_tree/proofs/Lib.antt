@@ -7,3 +7,4 @@ pub mod Rows
 pub mod Admitting
 pub mod Roots
 pub mod Editing
+pub mod Leading

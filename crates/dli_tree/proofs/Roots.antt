@@ -164,6 +164,9 @@ all_of p (x ∷ xs) e = (first_of (p x) (list_all p xs) e, all_of p xs (second_o
 pub roots_ascend : (types : List SegDef) (roots : List Root) → are_in_order types roots ≡ true → ascend (map (root_key types) roots) ≡ true
 roots_ascend types roots e = second_of (list_all (is_root types any_ends) roots) (ascend (map (root_key types) roots)) e
 
+pub all_roots : (types : List SegDef) (roots : List Root) → are_in_order types roots ≡ true → AllByRecursion (λ r. is_root types any_ends r ≡ true) roots
+all_roots types roots e = all_of (is_root types any_ends) roots (first_of (list_all (is_root types any_ends) roots) (ascend (map (root_key types) roots)) e)
+
 pub root_shape : (types : List SegDef) (roots : List Root) (i : ℕ) (root : Root) → are_in_order types roots ≡ true → i < length roots → root ≡ get_or roots i root → is_root types any_ends root ≡ true
 root_shape types roots i root e within is =
     subst (λ (r : Root). is_root types any_ends r ≡ true) (sym is)

@@ -43,7 +43,7 @@ module _ (types : List SegDef) where
   abbrev pub all_below : ℕ → Node → List Occurrence
   all_below type node = at_end (out-Node node).bytes ∷ rows_in_order (child_types types type) (orders (out-Node node).children)
 
-  order_is : (type : ℕ) (node : Node) → node_order types node type ≡ under (direct type (node_key types type node)) (all_below type node)
+  pub order_is : (type : ℕ) (node : Node) → node_order types node type ≡ under (direct type (node_key types type node)) (all_below type node)
   order_is type node = ap (λ (f : ℕ → List Occurrence). f type) (fold_out-Node (ℕ → List Occurrence) (node_step types) node)
 
   find_node : (aim : Search) (type : ℕ) (node : Node) → find (looks_for aim) (node_order types node type) ≡ found_below (direct type (node_key types type node)) (all_below type node) (entered aim (direct type (node_key types type node)))
@@ -89,6 +89,10 @@ module _ (types : List SegDef) where
   all_in : (type : ℕ) (row : List Node) → list_all (λ (seen : ℕ → Seen). (seen type).in_shape) (map (seen_as types) row) ≡ true → AllByRecursion (λ n. in_shape type n ≡ true) row
   all_in type [] e = tt
   all_in type (n ∷ ns) e = (first_of (in_shape type n) (list_all (λ (seen : ℕ → Seen). (seen type).in_shape) (map (seen_as types) ns)) e, all_in type ns (second_of (in_shape type n) (list_all (λ (seen : ℕ → Seen). (seen type).in_shape) (map (seen_as types) ns)) e))
+
+  pub all_in_shape : (type : ℕ) (row : List Node) → is_row types type (map (seen_as types) row) ≡ true → AllByRecursion (λ n. in_shape type n ≡ true) row
+  all_in_shape type row e =
+      all_in type row (first_of (list_all (λ (seen : ℕ → Seen). (seen type).in_shape) (map (seen_as types) row)) (ascend (map (λ (seen : ℕ → Seen). key_in types type (seen type).bytes) (map (seen_as types) row))) e)
 
   pub twin_shape : (type : ℕ) (row : List Node) (i : ℕ) (node : Node) → is_row types type (map (seen_as types) row) ≡ true → i < length row → node ≡ get_or row i node → in_shape type node ≡ true
   twin_shape type row i node e within is =

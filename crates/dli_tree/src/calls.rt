@@ -44,12 +44,7 @@ pub fn insert(
 
 /// Gives the segment at the end of a path other bytes, which are to begin with the key that it has; what is below it
 /// stays. False exactly where the path leads to no segment, and then nothing changes. Takes no memory.
-pub fn replace(
-    roots: &mut List<Root>,
-    segments: &List<SegDef>,
-    path: &Path,
-    bytes: Bytes,
-) -> bool
+pub fn replace(roots: &mut List<Root>, segments: &List<SegDef>, path: &Path, bytes: Bytes) -> bool
     requires { AreTypes segments.now }
 
     // It is done exactly where the path leads to a segment.

@@ -63,7 +63,12 @@ fn insert_twin(
 fn replace_twin(segments: &[SegDef], step: &Step, bytes: Bytes, twins: &mut List<Node>)
     ensures { ascend (map (node_key segments.now step.now.segment) twins.old) ≡ true → twins.new ≡ nodes_edited segments.now (step_of step.now) (Replaces bytes) twins.old }
 {
-    match twin_place(segments, step.segment, twins.as_slice(), step.key.as_slice()) {
+    match twin_place(
+        segments,
+        step.segment,
+        twins.as_slice(),
+        step.key.as_slice(),
+    ) {
         Place::Stands(at) => twins.item_mut(at).bytes = bytes,
         Place::Lacks(_) => {}
     }
@@ -73,7 +78,12 @@ fn replace_twin(segments: &[SegDef], step: &Step, bytes: Bytes, twins: &mut List
 fn delete_twin(segments: &[SegDef], step: &Step, twins: &mut List<Node>)
     ensures { ascend (map (node_key segments.now step.now.segment) twins.old) ≡ true → twins.new ≡ nodes_edited segments.now (step_of step.now) Deletes twins.old }
 {
-    match twin_place(segments, step.segment, twins.as_slice(), step.key.as_slice()) {
+    match twin_place(
+        segments,
+        step.segment,
+        twins.as_slice(),
+        step.key.as_slice(),
+    ) {
         Place::Stands(at) => {
             let _ = twins.remove(at);
         }
@@ -123,7 +133,12 @@ fn edit_row(
     if rest.is_empty() {
         return edit_twins(segments, step, change, twins);
     }
-    match twin_place(segments, step.segment, twins.as_slice(), step.key.as_slice()) {
+    match twin_place(
+        segments,
+        step.segment,
+        twins.as_slice(),
+        step.key.as_slice(),
+    ) {
         Place::Stands(at) => edit_rows(
             segments,
             step.segment,
@@ -261,13 +276,7 @@ fn edit_below(
         return edit_root(segments, step, change, roots);
     }
     match root_place(segments, roots.as_slice(), step.key.as_slice()) {
-        Place::Stands(at) => edit_rows(
-            segments,
-            0,
-            rest,
-            change,
-            &mut roots.item_mut(at).children,
-        ),
+        Place::Stands(at) => edit_rows(segments, 0, rest, change, &mut roots.item_mut(at).children),
         Place::Lacks(_) => Ok(()),
     }
 }

@@ -5,6 +5,7 @@ mod aim;
 mod calls;
 mod edit;
 mod first;
+mod laws;
 mod path;
 mod place;
 mod reach;
@@ -14,4 +15,5 @@ mod types;
 
 pub use calls::{delete, insert, replace};
 pub use first::first_after;
+pub use laws::a_path_leads_where_a_segment_stands;
 pub use path::{Path, Step};

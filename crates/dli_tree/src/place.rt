@@ -29,7 +29,11 @@ pub(crate) fn twins_below(segments: &[SegDef], segment: u8, twins: &[Node], key:
     twins.partition_point(
         |node: &Node| -> bool
             ensures { result ≡ is_below (key_in segments.entry.now segment (out-Node node.now).bytes) key.entry.now }
-        { key_in(segments, segment, node.bytes.as_slice()).cmp(key).is_lt() },
+        {
+            key_in(segments, segment, node.bytes.as_slice())
+                .cmp(key)
+                .is_lt()
+        },
     )
 }
 

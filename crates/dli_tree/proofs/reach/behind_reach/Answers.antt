@@ -15,7 +15,6 @@ returns-then-first-segment c aim e key less =
     (opened aim.behind xs first e (omega (arith, c.in-len1-up.len_at_least)) c.first-item.is)
     (is_equal first.segment c.args.segment c.if-first-segment.true) key (subst (λ (k : List ℕ). is_below key k ≡ true) c.as_slice.ensures less)
 
-
 pub returns-else-first-segment-2 : goal.returns-else-first-segment-2
 returns-else-first-segment-2 c aim e key =
     let xs = c.args.behind.now in

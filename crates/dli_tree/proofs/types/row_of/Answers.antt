@@ -13,18 +13,18 @@ loop-child-preserved c =
       | then-is_direct_child+else-child-from w ↦
           let row : c.if-is_direct_child.row ≡ c.loop-child.row + 1 = w.row-is in (
             c.loop-child.invariant.0
-            ∙ place_next (λ t. t == c.args.segment) (λ def. is_child_of c.args.parent def && not def.sequential) c.loop-child.row c.loop-child.child c.args.segments.now c.index-segments-child.result c.loop-child-test.true c.index-segments-child.is
-            (sym c.is_direct_child.ensures ∙ w.if-is_direct_child.true) (is_other c.loop-child.child c.args.segment (λ e. w.if-child-from.false (e ∙ sym w.from.ensures)))
-            ∙ ap (λ (n : ℕ). place_from (λ t. t == c.args.segment) (λ def. is_child_of c.args.parent def && not def.sequential) n (c.loop-child.child + 1) c.args.segments.now) (sym row),
+                ∙ place_next (λ t. t == c.args.segment) (λ def. is_child_of c.args.parent def && not def.sequential) c.loop-child.row c.loop-child.child c.args.segments.now c.index-segments-child.result c.loop-child-test.true c.index-segments-child.is
+                (sym c.is_direct_child.ensures ∙ w.if-is_direct_child.true) (is_other c.loop-child.child c.args.segment (λ e. w.if-child-from.false (e ∙ sym w.from.ensures)))
+                ∙ ap (λ (n : ℕ). place_from (λ t. t == c.args.segment) (λ def. is_child_of c.args.parent def && not def.sequential) n (c.loop-child.child + 1) c.args.segments.now) (sym row),
             omega (arith, row, c.loop-child.invariant.1),
           )
       | else-is_direct_child w ↦ (
-            c.loop-child.invariant.0
+        c.loop-child.invariant.0
             ∙ place_other (λ t. t == c.args.segment) (λ def. is_child_of c.args.parent def && not def.sequential) c.loop-child.row c.loop-child.child c.args.segments.now c.index-segments-child.result c.loop-child-test.true c.index-segments-child.is
             (sym c.is_direct_child.ensures ∙ w.if-is_direct_child.false)
             ∙ ap (λ (n : ℕ). place_from (λ t. t == c.args.segment) (λ def. is_child_of c.args.parent def && not def.sequential) n (c.loop-child.child + 1) c.args.segments.now) (sym w.row-is),
-            omega (arith, w.row-is, c.loop-child.invariant.1),
-          )
+        omega (arith, w.row-is, c.loop-child.invariant.1),
+      )
     ]
 
 pub returns-then-child-from : goal.returns-then-child-from
