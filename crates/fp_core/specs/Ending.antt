@@ -1,0 +1,18 @@
+-- Outcomes that refuse a transaction.
+use Rattle.std.specs.Prelude.{⊤}
+use Rattle.fp_model.specs.declared.log.Outcome.{Outcome}
+use Rattle.fp_model.specs.declared.log.Outcome.TheVariants as outcome
+
+-- for what befell: the entry has no notes
+abbrev pub IsBare : Outcome → Type 0
+IsBare outcome.Device = ⊤
+IsBare outcome.Memory = ⊤
+IsBare _ = ⊥
+
+-- by the transaction itself
+abbrev pub IsRefusal : Outcome → Type 0
+IsRefusal (outcome.Verify call fsa found) = ⊤
+IsRefusal (outcome.Roll code) = ⊤
+IsRefusal (outcome.SeqFull set begin end n) = ⊤
+IsRefusal (outcome.Deadlock cycle) = ⊤
+IsRefusal _ = ⊥

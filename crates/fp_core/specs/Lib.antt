@@ -1,0 +1,5 @@
+pub mod Relation
+pub mod Turning
+pub mod Acting
+pub mod Ending
+pub mod Standing
