@@ -3,7 +3,6 @@ ghost use Rattle.fp_model.specs.FitCalls.{IsFsaList, IsMsdbCall};
 ghost use Rattle.fp_model.specs.MsdbCalls.{key_named};
 ghost use Rattle.fp_model.specs.State.{key_length};
 ghost use Rattle.fp_model.specs.WellFormed.{IsMsdbDef};
-ghost use Rattle.fp_model.specs.declared.definitions.Defs.{Defs as DefsOf};
 ghost use Rattle.fp_model.specs.declared.definitions.MsdbDef.{MsdbDef as DefOf};
 ghost use Rattle.msdb_store.specs.Store.{IsOf};
 ghost use Rattle.std.specs.List.{AllByRecursion};
@@ -11,9 +10,10 @@ ghost use Rattle.std.specs.Prelude.{◌≡◌, ◌∷◌, [], IfOk, IfSome, leng
 ghost use Rattle.dli_calls.specs.Progress.{IsWorkOf};
 
 use crate::accounts::defs;
+use ci_locks::Locks;
 use dli_calls::{Ready, Work, answer};
 use fld_calls::{Fsa, write_list};
-use fp_model::{Bytes, Call, Defs, Get, List, Msdb, Name, Resource, Ssa};
+use fp_model::{Bytes, Call, Defs, Get, List, Msdb, Name, Ssa};
 use msdb_store::MsdbStore;
 use std::alloc::{AllocError, Global};
 use std::test::Fail;
@@ -123,9 +123,13 @@ struct Run {
     queued: usize,
 }
 
-// Puts an answer to the others. A lock that is needed is gained.
-fn take(work: &mut Work, ready: Ready, run: &mut Run) -> Result<bool, AllocError>
-    ensures { (defs : DefsOf) → IsWorkOf defs work.old → IsWorkOf defs work.new }
+// The only region.
+const REGION: u8 = 1;
+
+// Puts an answer to the others. A lock that is needed is asked for.
+fn take(locks: &mut Locks, ready: Ready, run: &mut Run) -> Result<bool, AllocError>
+    requires { length locks.old ≡ 1 }
+    ensures { length locks.new ≡ 1 }
 {
     match ready {
         Ready::Answer(answer) => {
@@ -133,12 +137,11 @@ fn take(work: &mut Work, ready: Ready, run: &mut Run) -> Result<bool, AllocError
             run.letters.append(answer.letters.as_slice())?;
             Ok(true)
         }
-        Ready::Need(Resource::Segment { msdb, key }, _) => {
+        Ready::Need(resource, mode) => {
             run.statuses.append(b"ND")?;
-            work.hold_segment(msdb, key.as_slice())?;
+            locks.ask(REGION, &resource, mode)?;
             Ok(false)
         }
-        Ready::Need(Resource::Anchor { .. }, _) => Ok(true),
     }
 }
 
@@ -146,6 +149,7 @@ fn take(work: &mut Work, ready: Ready, run: &mut Run) -> Result<bool, AllocError
 fn ask(
     alloc: Global,
     work: &mut Work,
+    locks: &mut Locks,
     call: &Call,
     store: &MsdbStore,
     defs: &Defs,
@@ -155,12 +159,14 @@ fn ask(
     requires store { IsOf defs.now.msdbs store.now }
     requires work { IsWorkOf defs.now work.old }
     requires call { IsMsdbCall defs.now.msdbs call.now }
-    ensures { IsWorkOf defs.now work.new }
+    requires locks { length locks.old ≡ 1 }
+    ensures work { IsWorkOf defs.now work.new }
+    ensures locks { length locks.new ≡ 1 }
 {
-    let ready = answer(alloc, work, call, store, defs, 7)?;
-    if !take(work, ready, run)? {
-        let ready = answer(alloc, work, call, store, defs, 7)?;
-        take(work, ready, run)?;
+    let ready = answer(alloc, work, call, store, defs, locks, REGION, 7)?;
+    if !take(locks, ready, run)? {
+        let ready = answer(alloc, work, call, store, defs, locks, REGION, 7)?;
+        take(locks, ready, run)?;
     }
     Ok(())
 }
@@ -169,6 +175,7 @@ fn run_of(alloc: Global, dynamic: bool, steps: &[Step]) -> Result<Run, AllocErro
     let defs = defs(alloc, dynamic)?;
     let store = store(alloc, &defs)?;
     let mut work = Work::new(alloc, &defs)?;
+    let mut locks = Locks::new(alloc, REGION)?;
     let mut run = Run {
         statuses: Bytes::new(alloc),
         letters: Bytes::new(alloc),
@@ -177,7 +184,7 @@ fn run_of(alloc: Global, dynamic: bool, steps: &[Step]) -> Result<Run, AllocErro
     };
     for step in steps {
         let call = call_of(alloc, &defs, step)?;
-        ask(alloc, &mut work, &call, &store, &defs, &mut run)?;
+        ask(alloc, &mut work, &mut locks, &call, &store, &defs, &mut run)?;
     }
     run.notes = work.notes().len();
     run.queued = work.deferred().len();

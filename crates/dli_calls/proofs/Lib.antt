@@ -1,6 +1,6 @@
 pub mod AnswerLemmas
 pub mod FitLemmas
-pub mod HoldLemmas
+pub mod BeginLemmas
 pub mod KeyLemmas
 pub mod LetterLemmas
 pub mod StoreLemmas

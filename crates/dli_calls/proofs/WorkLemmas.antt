@@ -13,7 +13,7 @@ use Rattle.fp_model.specs.FitCalls.{FitsKey, FitsSegment, IsFitDeferred, OfMsdb}
 use Rattle.fp_model.specs.MsdbCalls.{puts_or_drops}
 use Rattle.fp_model.specs.State.{key_of}
 use Rattle.fp_model.specs.Texts.{same_text}
-use Rattle.fp_model.specs.Workspace.{MsdbPosition, no_msdb_position}
+use Rattle.fp_model.specs.Workspace.{MsdbPosition, Workspace, no_msdb_position}
 use Rattle.dli_calls.specs.declared.reply.Change.{Change}
 use Rattle.dli_calls.specs.declared.reply.Change.TheVariants as change
 use Rattle.dli_calls.specs.Progress.{FitsPosition, IsWorkOf, Progress, is_among}
@@ -85,6 +85,12 @@ swapped false true = refl
 swapped false false = refl
 
 -- ---- settling
+
+-- neither anchors nor sequential dependents
+pub no_area : (def : MsdbDef) (n : ℕ) (c : Change) (own : Workspace) → ((own_behind def n c own).changes ≡ own.changes) × ((own_behind def n c own).inserts ≡ own.inserts)
+no_area def n change.Nothing own = (refl, refl)
+no_area def n (change.Found key hold) own = (refl, refl)
+no_area def n (change.Queued d) own = (refl, refl)
 
 pub keeps : (defs : Defs) (def : MsdbDef) (n : ℕ) (c : Change) (old new : Progress) → IsWorkOf defs old → slice_get defs.msdbs n ≡ Some def → FitsChange def n c
     → new.own ≡ own_behind def n c old.own

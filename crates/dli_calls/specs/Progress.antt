@@ -1,10 +1,8 @@
 -- What contracts see of a transaction under way.
-use Rattle.std.specs.Prelude.{ℕ, ◌≡◌, List, [], ◌∷◌, ◌++◌, find, Bool, Option, Some, None, IfSome, slice_get}
+use Rattle.std.specs.Prelude.{ℕ, ◌≡◌, List, [], ◌∷◌, ◌++◌, Bool, Option, Some, None, IfSome, slice_get}
 use Rattle.std.specs.List.{AllByRecursion, AllZip, list_any}
-use Rattle.std.specs.Option.{option_map}
 use Rattle.fp_model.specs.declared.definitions.Defs.{Defs}
 use Rattle.fp_model.specs.declared.definitions.MsdbDef.{MsdbDef}
-use Rattle.fp_model.specs.declared.calls.Mode.{Mode}
 use Rattle.fp_model.specs.declared.calls.Resource.{Resource}
 use Rattle.fp_model.specs.declared.calls.Resource.TheVariants.{Segment}
 use Rattle.fp_model.specs.FitCalls.{FitsKey, IsFitDeferred}
@@ -12,22 +10,12 @@ use Rattle.fp_model.specs.MsdbCalls.{is_put_or_dropped}
 use Rattle.fp_model.specs.Waiting.{same_resource}
 use Rattle.fp_model.specs.Workspace.{MsdbPosition, Workspace}
 
--- a lock that is held
-pub record Hold : Type 0 where
-  pub resource : Resource
-  pub mode : Mode
-
--- What it keeps to itself, its locks, the keys of main storage databases whose segments its queue inserts or deletes, and
--- its notes: how many entries stood at each unheld look, oldest first.
+-- What it keeps to itself, the keys of main storage databases whose segments its queue inserts or deletes, and its notes:
+-- how many entries stood at each unheld look, oldest first.
 pub record Progress : Type 0 where
   pub own : Workspace
-  pub holds : List Hold
   pub changed : List Resource
   pub notes : List ℕ
-
--- how it holds a resource
-abbrev pub held_in : List Hold → Resource → Option Mode
-held_in holds resource = option_map (λ hold. hold.mode) (find (λ hold. same_resource hold.resource resource) holds)
 
 abbrev pub is_among : List Resource → Resource → Bool
 is_among resources resource = list_any (λ other. same_resource other resource) resources

@@ -1,8 +1,9 @@
 //! The answer to a call, or the lock that it needs first.
 ghost use Rattle.std.specs.List.{AllByRecursion};
 ghost use Rattle.std.specs.Option.{option_copied, option_map, option_map_or};
-ghost use Rattle.std.specs.Prelude.{◌≡◌, ◌<◌, ◌++◌, ◌∷◌, [], IfOk, List as ListOf, OnErr, if◌then◌else◌, length, option_and_then, slice_get, ℕ};
-ghost use Rattle.fp_model.specs.Answers.{unless_held};
+ghost use Rattle.std.specs.Prelude.{◌≡◌, ◌<◌, ◌≤◌, ◌++◌, ◌∷◌, [], IfOk, List as ListOf, OnErr, if◌then◌else◌, length, option_and_then, slice_get, ℕ};
+ghost use Rattle.fp_model.specs.Answers.{serves, unless_held};
+ghost use Rattle.fp_model.specs.declared.calls.Mode.TheVariants.{Exclusive};
 ghost use Rattle.fp_model.specs.Calls.{database_of, looks_unheld, need_of, reply_to};
 ghost use Rattle.fp_model.specs.FitCalls.{FitsAnswer, FitsCall, IsMsdbCall};
 ghost use Rattle.fp_model.specs.MsdbCalls.{exclusively, is_put_or_dropped, msdb_looks, msdb_need, msdb_reply, position_of};
@@ -13,7 +14,8 @@ ghost use Rattle.fp_model.specs.declared.database.Db.{Db as DbOf};
 ghost use Rattle.fp_model.specs.declared.definitions.Defs.{Defs as DefsOf};
 ghost use Rattle.fp_model.specs.declared.definitions.MsdbDef.{MsdbDef as DefOf};
 ghost use Rattle.msdb_store.specs.Store.{IsOf};
-ghost use Rattle.dli_calls.specs.Progress.{FitsPosition, IsWorkOf, held_in, is_among};
+ghost use Rattle.ci_locks.specs.Table.{standing};
+ghost use Rattle.dli_calls.specs.Progress.{FitsPosition, IsWorkOf, is_among};
 ghost use Rattle.dli_calls.specs.Readiness.{IfAnswer, OnNeed, needed_exclusive, needed_in};
 ghost use Rattle.dli_calls.specs.Replies.{IsDatabase, ShowsFound, is_changed, key_to_change, segments_in};
 
@@ -22,7 +24,8 @@ use crate::keys::SegmentKey;
 use crate::reply::Reply;
 use crate::replying::key_named;
 use crate::work::Work;
-use fp_model::{Answer, Call, Defs, Get, Mode, Resource};
+use ci_locks::Locks;
+use fp_model::{Answer, Bytes, Call, Defs, Get, Mode, Resource};
 use msdb_store::MsdbStore;
 use std::alloc::{AllocError, Global};
 
@@ -31,7 +34,7 @@ use std::alloc::{AllocError, Global};
 pub enum Ready {
     /// It is answered.
     Answer(Answer),
-    /// The lock that it needs first, and that the transaction doesn't hold.
+    /// The lock that it needs first, and that its region doesn't hold.
     Need(Resource, Mode),
 }
 
@@ -86,6 +89,16 @@ fn note(call: &Call, changed: bool, count: u64) -> Option<u64>
     }
 }
 
+// Whether a region holds a resource Exclusive.
+fn is_held(locks: &Locks, region: u8, resource: &Resource) -> bool
+    requires some { 1 ≤ region }
+    requires within { region ≤ length locks.now }
+
+    ensures { result ≡ serves ((standing locks.now).holds region resource.now) Exclusive }
+{
+    matches!(locks.holds(region, resource), Some(Mode::Exclusive))
+}
+
 impl Database<'_> {
     // The key of the segment that a call is to change.
     fn key_to_change<'a>(&self, work: &'a Work, call: &'a Call) -> Option<&'a [u8]>
@@ -133,26 +146,33 @@ impl Database<'_> {
         }
     }
 
-    // That key, unless it is held. It fails only for want of memory.
+    // That key as a resource, unless the region holds it. It fails only for want of memory.
     fn need(
         &self,
         alloc: Global,
-        work: &Work,
+        locks: &Locks,
+        region: u8,
         call: &Call,
         changed: bool,
     ) -> Result<Option<Resource>, AllocError>
-        requires { is_changed self.now.def.now self.now.number work.now.own call.now ≡ changed }
-        ensures { IfOk result (λ resource. option_map needed_exclusive resource
-            ≡ option_map_or (unless_held (held_in work.now.holds)) (msdb_need self.now.def.now self.now.number work.now.own call.now) None) }
+        requires some { 1 ≤ region }
+        requires within { region ≤ length locks.now }
+
+        ensures { (own : Workspace) → is_changed self.now.def.now self.now.number own call.now ≡ changed
+            → IfOk result (λ resource. option_map needed_exclusive resource
+            ≡ option_map_or (unless_held ((standing locks.now).holds region)) (msdb_need self.now.def.now self.now.number own call.now) None) }
     {
         let Some(key) = self.needed_key(call, changed) else {
             return Ok(None);
         };
-        let key = SegmentKey::new(alloc, self.number, key)?;
-        if work.holds(&key) {
+        let resource = Resource::Segment {
+            msdb: self.number,
+            key: Bytes::from_slice(alloc, key)?,
+        };
+        if is_held(locks, region, &resource) {
             return Ok(None);
         }
-        Ok(Some(key.into_resource()))
+        Ok(Some(resource))
     }
 
     // What a call comes to. It fails only for want of memory; then, and where a lock is needed, nothing changes.
@@ -161,28 +181,33 @@ impl Database<'_> {
         alloc: Global,
         work: &mut Work,
         call: &Call,
+        locks: &Locks,
+        region: u8,
         count: u64,
     ) -> Result<Ready, AllocError>
         requires database { IsDatabase self.now }
+        requires some { 1 ≤ region }
+        requires within { region ≤ length locks.now }
         requires call { FitsCall call.now self.now.def.now }
         requires positions { self.now.number < length work.old.own.msdbs }
         requires position { FitsPosition self.now.def.now (position_of self.now.def.now self.now.number work.old.own) }
         requires changes { (key : ListOf ℕ) → is_among work.old.changed (Segment self.now.number key)
             ≡ is_put_or_dropped self.now.def.now self.now.number work.old.own key }
         ensures need { IfOk result (λ ready. needed_in ready
-            ≡ option_map_or (unless_held (held_in work.old.holds)) (msdb_need self.now.def.now self.now.number work.old.own call.now) None) }
+            ≡ option_map_or (unless_held ((standing locks.now).holds region)) (msdb_need self.now.def.now self.now.number work.old.own call.now) None) }
         ensures answer { IfOk result (λ ready. IfAnswer ready (λ answer.
             msdb_reply self.now.def.now self.now.number (segments_in self.now) (segments_in self.now) work.old.own call.now ≡ record { answer = answer; own = work.new.own })) }
         ensures notes { IfOk result (λ ready. IfAnswer ready (λ answer. work.new.notes
             ≡ (if msdb_looks self.now.def.now self.now.number work.old.own call.now then work.old.notes ++ count ∷ [] else work.old.notes))) }
         ensures shown { IfOk result (λ ready. IfAnswer ready (ShowsFound self.now.def.now call.now)) }
-        ensures holds { work.new.holds ≡ work.old.holds }
+        ensures changes { work.new.own.changes ≡ work.old.own.changes }
+        ensures inserts { work.new.own.inserts ≡ work.old.own.inserts }
         ensures of { (defs : DefsOf) → slice_get defs.msdbs self.now.number ≡ Some self.now.def.now → IsWorkOf defs work.old → IsWorkOf defs work.new }
         ensures needing { IfOk result (λ ready. OnNeed ready (work.new ≡ work.old)) }
         ensures err { OnErr result (work.new ≡ work.old) }
     {
         let changed = self.is_changed(alloc, work, call)?;
-        if let Some(resource) = self.need(alloc, work, call, changed)? {
+        if let Some(resource) = self.need(alloc, locks, region, call, changed)? {
             return Ok(Ready::Need(resource, Mode::Exclusive));
         }
         let Reply { answer, change } = self.reply(alloc, work, call, changed)?;
@@ -191,35 +216,44 @@ impl Database<'_> {
     }
 }
 
-/// Answers a call on the committed segments, or says which lock it needs first. `count` is the number of entries that
-/// stand; an unheld look notes it. It fails only for want of memory; then, and where a lock is needed, nothing changes.
+/// Answers a call on the committed segments, or says which lock its region needs first. `count` is the number of
+/// entries that stand; an unheld look notes it. It fails only for want of memory; then, and where a lock is needed,
+/// nothing changes.
 ///
-/// Condition: definitions that were read, their store, a transaction under way under them, and a call that fits the
-/// main storage database which it names.
+/// Condition: definitions that were read, their store, a transaction under way under them, a call that fits the main
+/// storage database which it names, and a region of the locks.
 pub fn answer(
     alloc: Global,
     work: &mut Work,
     call: &Call,
     msdbs: &MsdbStore,
     defs: &Defs,
+    locks: &Locks,
+    region: u8,
     count: u64,
 ) -> Result<Ready, AllocError>
     requires defs { AllByRecursion IsMsdbDef defs.now.msdbs }
     requires store { IsOf defs.now.msdbs msdbs.now }
     requires work { IsWorkOf defs.now work.old }
     requires call { IsMsdbCall defs.now.msdbs call.now }
+    requires some { 1 ≤ region }
+    requires within { region ≤ length locks.now }
 
-    // On any database with these segments: a lock is needed exactly where the definitions say so; else the answer and
-    // what the transaction keeps are theirs.
+    // On any database with these segments: a lock is needed exactly where the definitions say so, by what the region
+    // holds; else the answer and what the transaction keeps are theirs.
     ensures need { (db : DbOf) → db.msdbs ≡ msdbs.now.msdbs
-        → IfOk result (λ ready. needed_in ready ≡ need_of defs.now db work.old.own (held_in work.old.holds) call.now) }
+        → IfOk result (λ ready. needed_in ready ≡ need_of defs.now db work.old.own ((standing locks.now).holds region) call.now) }
     ensures answer { (db : DbOf) → db.msdbs ≡ msdbs.now.msdbs → IfOk result (λ ready. IfAnswer ready (λ answer.
         reply_to defs.now db db work.old.own call.now ≡ record { answer = answer; own = work.new.own })) }
     ensures notes { IfOk result (λ ready. IfAnswer ready (λ answer.
         work.new.notes ≡ (if looks_unheld defs.now work.old.own call.now then work.old.notes ++ count ∷ [] else work.old.notes))) }
     ensures fits { IfOk result (λ ready. IfAnswer ready (FitsAnswer defs.now.msdbs call.now)) }
 
-    ensures holds { work.new.holds ≡ work.old.holds }
+    // No anchor is changed, and no sequential dependent inserted.
+    ensures changes { work.new.own.changes ≡ work.old.own.changes }
+    ensures inserts { work.new.own.inserts ≡ work.old.own.inserts }
+
+    // It stays one under way.
     ensures of { IsWorkOf defs.now work.new }
 
     // Where no answer is given nothing changes.
@@ -227,5 +261,5 @@ pub fn answer(
     ensures err { OnErr result (work.new ≡ work.old) }
 {
     let database = database_for(call, msdbs, defs);
-    database.ready(alloc, work, call, count)
+    database.ready(alloc, work, call, locks, region, count)
 }

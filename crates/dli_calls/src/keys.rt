@@ -8,7 +8,6 @@ ghost use Rattle.dli_calls.specs.Keys.{resource_of};
 ghost use Rattle.dli_calls.specs.Progress.{is_among};
 ghost use Rattle.dli_calls.specs.Replies.{is_marked};
 
-use fp_model::{Bytes, Resource};
 use std::alloc::{AllocError, Global};
 use std::collections::BTreeSet;
 use std::marker::Model;
@@ -29,17 +28,6 @@ impl SegmentKey {
             msdb,
             key: Vec::from_slice(alloc, key)?,
         })
-    }
-
-    // As a resource. Takes no memory.
-    pub(crate) fn into_resource(self) -> Resource
-        ensures { result ≡ resource_of self }
-    {
-        let SegmentKey { msdb, key } = self;
-        Resource::Segment {
-            msdb,
-            key: Bytes::from_vec(key),
-        }
     }
 }
 

@@ -1,15 +1,11 @@
 //! What a transaction keeps until it commits.
 ghost use Rattle.std.specs.Option.{option_copied, option_map};
 ghost use Rattle.std.specs.Prelude.{◌≡◌, ◌<◌, ◌++◌, ◌∷◌, ◌||◌, [], IfOk, List as ListOf, OnErr, OnOk, if◌then◌else◌, length, slice_get, slice_set, unwrap_or, ℕ, false, Some};
-ghost use Rattle.fp_model.specs.Answers.{serves};
-ghost use Rattle.fp_model.specs.Waiting.{same_resource};
 ghost use Rattle.fp_model.specs.Workspace.{fresh, no_msdb_position};
 ghost use Rattle.fp_model.specs.declared.calls.Resource.{Resource as ResourceOf};
-ghost use Rattle.fp_model.specs.declared.calls.Resource.TheVariants.{Segment};
-ghost use Rattle.fp_model.specs.declared.calls.Mode.TheVariants.{Exclusive};
 ghost use Rattle.fp_model.specs.declared.definitions.Defs.{Defs as DefsOf};
 ghost use Rattle.dli_calls.specs.Keys.{resource_of};
-ghost use Rattle.dli_calls.specs.Progress.{IsWorkOf, held_in, is_among, noted};
+ghost use Rattle.dli_calls.specs.Progress.{IsWorkOf, is_among, noted};
 ghost use Rattle.dli_calls.specs.Replies.{is_marked, mark_in, mark_of, own_behind};
 
 use crate::database::key_in;
@@ -69,12 +65,11 @@ fn drop_last<T: Drop>(list: &mut List<T>)
     let _ = list.pop();
 }
 
-/// What one transaction keeps to itself until it commits: its positions, the locks that it was told of, its deferred
-/// calls, and its notes.
+/// What one transaction keeps to itself until it commits: its positions, its deferred calls, and its notes. Its region's
+/// locks stand elsewhere.
 #[derive(Debug, Drop)]
 pub struct Work {
     positions: Vec<Position>,
-    held: Keys,
     // Those whose segments the queue inserts or deletes.
     changed: Keys,
     deferred: List<Deferred>,
@@ -83,9 +78,8 @@ pub struct Work {
 
 impl Model for Work {
     ghost use Rattle.std.specs.Coded.{codes};
-    ghost use Rattle.std.specs.Prelude.{[], map};
+    ghost use Rattle.std.specs.Prelude.{[]};
     ghost use Rattle.fp_model.specs.contracts.database.Node as node;
-    ghost use Rattle.fp_model.specs.declared.calls.Mode.TheVariants.{Exclusive};
     ghost use Rattle.dli_calls.specs.Progress.{Progress};
 
     ghost Value = { Progress };
@@ -94,19 +88,16 @@ impl Model for Work {
 
     ghost view = { λ w. record {
       own = record { msdbs = w.positions.items; dedbs = []; changes = []; deferred = w.deferred; inserts = [] };
-      holds = map (λ resource. record { resource = resource; mode = Exclusive }) w.held;
       changed = w.changed;
       notes = w.notes;
     } };
 }
 
 impl Work {
-    /// As a transaction begins: no positions, nothing held, nothing deferred, no notes. It fails only for want of
-    /// memory.
+    /// As a transaction begins: no positions, nothing deferred, no notes. It fails only for want of memory.
     pub fn new(alloc: Global, defs: &Defs) -> Result<Work, AllocError>
         ensures of { IfOk result (IsWorkOf defs.now) }
         ensures own { defs.now.dedbs ≡ [] → IfOk result (λ work. work.own ≡ fresh defs.now) }
-        ensures holds { IfOk result (λ work. work.holds ≡ []) }
         ensures notes { IfOk result (λ work. work.notes ≡ []) }
     {
         let mut positions = Vec::new(alloc);
@@ -115,25 +106,10 @@ impl Work {
         }
         Ok(Work {
             positions,
-            held: Keys::new(alloc),
             changed: Keys::new(alloc),
             deferred: List::new(alloc),
             notes: List::new(alloc),
         })
-    }
-
-    /// Tells it of a lock gained: a key of a main storage database, held Exclusive. It fails only for want of memory,
-    /// and then nothing changes.
-    pub fn hold_segment(&mut self, msdb: u8, key: &[u8]) -> Result<(), AllocError>
-        ensures held { OnOk result ((resource : ResourceOf)
-            → held_in self.new.holds resource ≡ (if same_resource (Segment msdb key.now) resource then Some Exclusive else held_in self.old.holds resource)) }
-        ensures own { self.new.own ≡ self.old.own }
-        ensures notes { self.new.notes ≡ self.old.notes }
-        ensures of { (defs : DefsOf) → IsWorkOf defs self.old → IsWorkOf defs self.new }
-        ensures err { OnErr result (self.new ≡ self.old) }
-    {
-        let alloc = *self.positions.allocator();
-        self.held.put(SegmentKey::new(alloc, msdb, key)?)
     }
 
     /// The deferred calls, in call order.
@@ -158,13 +134,6 @@ impl Work {
         &self.positions[msdb as usize]
     }
 
-    // Whether it holds a key Exclusive.
-    pub(crate) fn holds(&self, key: &SegmentKey) -> bool
-        ensures { result ≡ serves (held_in self.now.holds (resource_of key.now)) Exclusive }
-    {
-        self.held.has(key)
-    }
-
     // Whether its queue inserts or deletes the segment of a key.
     pub(crate) fn changes(&self, key: &SegmentKey) -> bool
         ensures { result ≡ is_among self.now.changed (resource_of key.now) }
@@ -186,7 +155,6 @@ impl Work {
         ensures notes { OnOk result (self.new.notes ≡ noted note self.old.notes) }
         ensures changed { OnOk result ((resource : ResourceOf)
             → is_among self.new.changed resource ≡ (is_marked (mark_in def.now change) resource || is_among self.old.changed resource)) }
-        ensures holds { self.new.holds ≡ self.old.holds }
         ensures err { OnErr result (self.new ≡ self.old) }
     {
         self.note(note)?;
@@ -225,7 +193,6 @@ impl Work {
         ensures notes { OnOk result (self.new.notes ≡ self.old.notes) }
         ensures changed { OnOk result ((resource : ResourceOf)
             → is_among self.new.changed resource ≡ (is_marked (mark_in def.now change) resource || is_among self.old.changed resource)) }
-        ensures holds { OnOk result (self.new.holds ≡ self.old.holds) }
         ensures err { OnErr result (self.new ≡ self.old) }
     {
         match change {
@@ -268,7 +235,6 @@ impl Work {
         ensures notes { self.new.notes ≡ self.old.notes }
         ensures changed { OnOk result ((resource : ResourceOf)
             → is_among self.new.changed resource ≡ (is_marked (mark_of def.now deferred) resource || is_among self.old.changed resource)) }
-        ensures holds { self.new.holds ≡ self.old.holds }
         ensures err { OnErr result (self.new ≡ self.old) }
     {
         let mark = marked_by(*self.positions.allocator(), def, &deferred)?;

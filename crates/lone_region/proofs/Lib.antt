@@ -1,5 +1,6 @@
 mod Comings
 mod Found
+mod Gaining
 mod Making
 mod Needs
 mod Plain

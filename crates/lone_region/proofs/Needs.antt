@@ -1,10 +1,7 @@
 -- Once its one lock is gained, a call to a main storage database needs none.
-use Rattle.std.proofs.Common.{◌≡◌, ◌∙◌, refl, sym, ap, arith, ℕ, ◌-◌, List, length, Bool, true, false, Option, Some, None, if◌then◌else◌}
-use Rattle.std.specs.Prelude.{not, ◌&&◌, ◌==◌}
+use Rattle.std.proofs.Common.{◌≡◌, ◌∙◌, refl, sym, ap, ℕ, ◌-◌, List, length, Bool, true, false, Option, Some, None, if◌then◌else◌}
+use Rattle.std.specs.Prelude.{not, ◌&&◌}
 use Rattle.std.specs.Option.{option_map_or}
-use Rattle.std.specs.Cmp.Lexicographic.{bytes_decides}
-use Rattle.std.proofs.lemmas.Grind.{common_steps}
-use Rattle.fp_model.specs.Waiting.{same_resource}
 use Rattle.fp_model.specs.declared.calls.Call.{Call}
 use Rattle.fp_model.specs.declared.calls.Call.TheVariants as call
 use Rattle.fp_model.specs.declared.calls.Get.{Get}
@@ -82,10 +79,3 @@ pub gained_is_enough : (defs : Defs) (db : Db) (own : Workspace) (held held2 : R
 gained_is_enough defs db own held held2 c needed fits e h =
     msdb_need_of defs db own held2 c fits
     ∙ gained held held2 (msdb_need fits.0 (database_of c) own c) needed (needs fits.0 (database_of c) own c) (sym (msdb_need_of defs db own held c fits) ∙ e) h
-
--- a resource is the same as itself
-pub same_segment : (msdb : ℕ) (key : List ℕ) → same_resource (Segment msdb key) (Segment msdb key) ≡ true
-same_segment msdb key = rw ((bytes_decides key key).1 refl) (same_number msdb)
-  where
-    same_number : (n : ℕ) → ((n == n) && true) ≡ true
-    same_number n = grind (arith, common_steps)

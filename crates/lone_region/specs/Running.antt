@@ -15,12 +15,22 @@ use Rattle.fp_model.specs.declared.log.Outcome.TheVariants.{Roll}
 use Rattle.fp_model.specs.Workspace.{Workspace}
 use Rattle.fp_model.specs.FitCalls.{are_fit}
 use Rattle.fp_model.specs.WellFormed.{IsMsdbDef}
+use Rattle.fp_model.specs.Waiting.{Lock}
 use Rattle.msdb_store.specs.Store.{IsOf, Stored}
+use Rattle.ci_locks.specs.Standing.{Shows}
+use Rattle.ci_locks.specs.Table.{Row, standing}
 use Rattle.dli_calls.specs.Progress.{IsWorkOf, Progress}
 use Rattle.txn_machine.specs.Running.{IsAt, IsFit}
 use Rattle.lone_region.specs.declared.running.End.{End}
 use Rattle.lone_region.specs.declared.running.End.TheVariants as end
 use Rattle.lone_region.specs.declared.running.Transaction.{Transaction}
+
+-- locks of one region, as some lists of locks and requests show them
+pub record HasOneRegion (rows : List Row) : Type 0 where
+  pub one : length rows ≡ 1
+  pub locks : List Lock
+  pub requests : List Lock
+  pub shows : Shows (standing rows) locks requests
 
 -- What is known of its work, however far it is: it is of the definitions, it changed no anchor and inserted no sequential
 -- dependent, and each look was at the databases of this many entries.
@@ -57,6 +67,7 @@ pub record IsUnderway (defs : Defs) (scripts : List Script) (message : Message) 
   pub answers : List Answer
   pub at : IsAt defs script.statements message answers t.program
   pub fit : IsFit defs.msdbs t.program
+  pub locks : HasOneRegion t.locks
   pub plain : IsPlain defs from t.work
   pub few : length t.work.notes ≤ length answers
   pub queued : length t.work.own.deferred ≤ length answers

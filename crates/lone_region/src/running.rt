@@ -1,27 +1,27 @@
-//! One transaction's script, run to its end on the databases as they stand. Each lock is gained as it is needed.
+//! One transaction's script, run to its end on the databases as they stand. The locks have one region, which gains each
+//! as it needs it.
 ghost use Rattle.std.specs.List.{AllByRecursion};
 ghost use Rattle.std.specs.Prelude.{◌≡◌, ◌<◌, ℕ, [], IfNone, IfOk, IfSome, List as ListOf, None, OnOk, Some, if◌then◌else◌, length, slice_get};
-ghost use Rattle.dli_calls.specs.Progress.{IsWorkOf, held_in};
+ghost use Rattle.ci_locks.specs.Table.{standing};
+ghost use Rattle.dli_calls.specs.Progress.{IsWorkOf};
 ghost use Rattle.dli_calls.specs.Readiness.{needed_in};
 ghost use Rattle.fp_model.specs.Calls.{looks_unheld, reply_to};
 ghost use Rattle.fp_model.specs.FitCalls.{FitsAnswer, IsMsdbCall};
 ghost use Rattle.fp_model.specs.Asking.{script_of};
-ghost use Rattle.fp_model.specs.Waiting.{same_resource};
 ghost use Rattle.fp_model.specs.WellFormed.{IsMsdbDef};
 ghost use Rattle.fp_model.specs.declared.calls.Mode.TheVariants.{Exclusive};
-ghost use Rattle.fp_model.specs.declared.calls.Resource.{Resource as ResourceOf};
-ghost use Rattle.fp_model.specs.declared.calls.Resource.TheVariants.{Segment};
 ghost use Rattle.fp_model.specs.declared.database.Db.{Db as DbOf};
 ghost use Rattle.fp_model.specs.declared.scripts.Script.{Script};
 ghost use Rattle.fp_model.specs.declared.calls.Message.{Message as MessageOf};
 ghost use Rattle.fp_model.specs.declared.database.Msdb.{Msdb};
 ghost use Rattle.fp_model.specs.declared.definitions.Defs.{Defs as DefsOf};
-ghost use Rattle.lone_region.specs.Running.{HasEnded, IsCheap, IsReady, IsStepped, IsUnderway, noted};
+ghost use Rattle.lone_region.specs.Running.{HasEnded, HasOneRegion, IsCheap, IsReady, IsStepped, IsUnderway, noted};
 ghost use Rattle.dli_calls.specs.declared.answering.Ready.TheVariants as readies;
 ghost use Rattle.msdb_store.specs.Store.{IsOf};
 
+use ci_locks::Locks;
 use dli_calls::{Ready, Work, answer};
-use fp_model::{Answer, Bytes, Call, Defs, Message, Resource, calls_are_fewer_than_the_cost};
+use fp_model::{Answer, Bytes, Call, Defs, Message, Mode, Resource, calls_are_fewer_than_the_cost};
 use msdb_store::MsdbStore;
 use std::alloc::{AllocError, Global};
 use txn_lang::Scripts;
@@ -39,25 +39,25 @@ pub(crate) enum End {
     Roll(u16),
 }
 
-/// A transaction under way: its script, and what it keeps.
-#[derive(Debug, Drop)]
+// The one region.
+const REGION: u8 = 1;
+
+/// A transaction under way: its script, what it keeps, and the locks, of which its region is the only one.
+#[derive(Drop)]
 pub(crate) struct Transaction {
     pub(crate) program: Program,
     pub(crate) work: Work,
+    pub(crate) locks: Locks,
 }
 
-// Gains a lock; nobody else holds any.
-fn gain(work: &mut Work, resource: &Resource) -> Result<(), AllocError>
-    ensures held { (msdb : ℕ) (key : ListOf ℕ) → resource.now ≡ Segment msdb key → OnOk result ((other : ResourceOf)
-        → held_in work.new.holds other ≡ (if same_resource (Segment msdb key) other then Some Exclusive else held_in work.old.holds other)) }
-    ensures own { work.new.own ≡ work.old.own }
-    ensures notes { work.new.notes ≡ work.old.notes }
-    ensures of { (defs : DefsOf) → IsWorkOf defs work.old → IsWorkOf defs work.new }
+// Gains a lock, which no other region holds. It fails only for want of memory.
+fn gain(locks: &mut Locks, resource: &Resource) -> Result<(), AllocError>
+    requires { HasOneRegion locks.old }
+    ensures held { OnOk result ((standing locks.new).holds 1 resource.now ≡ Some Exclusive) }
+    ensures one { HasOneRegion locks.new }
 {
-    match resource {
-        Resource::Segment { msdb, key } => work.hold_segment(*msdb, key.as_slice()),
-        Resource::Anchor { .. } => Ok(()),
-    }
+    locks.ask(REGION, resource, Mode::Exclusive)?;
+    Ok(())
 }
 
 // The answer, where no lock is needed any more.
@@ -75,6 +75,7 @@ fn answered(ready: Ready) -> Answer
 fn answer_alone(
     alloc: Global,
     work: &mut Work,
+    locks: &mut Locks,
     call: &Call,
     store: &MsdbStore,
     defs: &Defs,
@@ -84,17 +85,19 @@ fn answer_alone(
     requires store { IsOf defs.now.msdbs store.now }
     requires work { IsWorkOf defs.now work.old }
     requires call { IsMsdbCall defs.now.msdbs call.now }
+    requires locks { HasOneRegion locks.old }
     ensures answer { (db : DbOf) → db.msdbs ≡ store.now.msdbs
         → IfOk result (λ given. reply_to defs.now db db work.old.own call.now ≡ record { answer = given; own = work.new.own }) }
     ensures notes { IfOk result (λ given. work.new.notes ≡ noted (looks_unheld defs.now work.old.own call.now) from work.old.notes) }
     ensures fits { IfOk result (FitsAnswer defs.now.msdbs call.now) }
     ensures of { IsWorkOf defs.now work.new }
+    ensures locks { HasOneRegion locks.new }
 {
-    match answer(alloc, work, call, store, defs, from)? {
+    match answer(alloc, work, call, store, defs, locks, REGION, from)? {
         Ready::Answer(given) => Ok(given),
         Ready::Need(resource, _) => {
-            gain(work, &resource)?;
-            let ready = answer(alloc, work, call, store, defs, from)?;
+            gain(locks, &resource)?;
+            let ready = answer(alloc, work, call, store, defs, locks, REGION, from)?;
             Ok(answered(ready))
         }
     }
@@ -117,7 +120,12 @@ impl Transaction {
     {
         let program = Program::start(alloc, scripts, number, message)?;
         let work = Work::new(alloc, defs)?;
-        Ok(Transaction { program, work })
+        let locks = Locks::new(alloc, REGION)?;
+        Ok(Transaction {
+            program,
+            work,
+            locks,
+        })
     }
 
     // Runs to the next call and answers it, or to the end of the script.
@@ -141,8 +149,13 @@ impl Transaction {
         match self.program.next(scripts, defs)? {
             Next::Call(call) => {
                 calls_are_fewer_than_the_cost(); // so the count of calls that are left isn't used up
-                let given = answer_alone(alloc, &mut self.work, &call, store, defs, from)?;
-                self.program.give(given);
+                let Transaction {
+                    program,
+                    work,
+                    locks,
+                } = self;
+                let given = answer_alone(alloc, work, locks, &call, store, defs, from)?;
+                program.give(given);
                 Ok(None)
             }
             Next::Reply(text) => Ok(Some(End::Reply(text))),

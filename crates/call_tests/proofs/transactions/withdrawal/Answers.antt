@@ -1,6 +1,6 @@
 use Rattle.std.proofs.Common.{sym, subst}
 use Rattle.fp_model.specs.FitCalls.{IsFsaList}
-use Rattle.dli_calls.proofs.HoldLemmas.{if_ok}
+use Rattle.dli_calls.proofs.BeginLemmas.{if_ok}
 use Rattle.call_tests.proofs.Samples.{withdrawn_good}
 use Rattle.call_tests.proofs.transactions.withdrawal.Goals as goal
 

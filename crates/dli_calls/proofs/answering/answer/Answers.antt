@@ -4,10 +4,10 @@ use Rattle.fp_model.specs.Answers.{Replied}
 use Rattle.fp_model.specs.Calls.{looks_unheld, reply_to}
 use Rattle.fp_model.specs.FitCalls.{FitsAnswer}
 use Rattle.fp_model.specs.MsdbCalls.{msdb_looks, msdb_reply}
-use Rattle.dli_calls.specs.Progress.{held_in}
+use Rattle.ci_locks.specs.Table.{standing}
 use Rattle.dli_calls.specs.Replies.{ShowsFound, segments_in}
 use Rattle.dli_calls.proofs.AnswerLemmas.{Names, fits_answer, if_answer, looks, needs, replies}
-use Rattle.dli_calls.proofs.HoldLemmas.{if_ok}
+use Rattle.dli_calls.proofs.BeginLemmas.{if_ok}
 use Rattle.dli_calls.proofs.WorkLemmas.{position_fits, positions_within}
 use Rattle.dli_calls.proofs.answering.answer.Goals as goal
 
@@ -27,7 +27,7 @@ it c = record { same = c.database_for-database.ensures.number; there = c.databas
 
 pub returns-clause-need : goal.returns-clause-need
 returns-clause-need c =
-    λ db same. if_ok c.ready.result c.ready.ensures.need (λ ready is. is ∙ sym (needs c.args.defs.now c.args.call.now _ _ (it c) db c.args.work.now.own (held_in c.args.work.now.holds)))
+    λ db same. if_ok c.ready.result c.ready.ensures.need (λ ready is. is ∙ sym (needs c.args.defs.now c.args.call.now _ _ (it c) db c.args.work.now.own ((standing c.args.locks.now).holds c.args.region)))
 
 pub returns-clause-answer : goal.returns-clause-answer
 returns-clause-answer c =

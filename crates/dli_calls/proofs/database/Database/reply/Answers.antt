@@ -4,7 +4,7 @@ use Rattle.fp_model.specs.declared.calls.Call.{Call}
 use Rattle.fp_model.specs.MsdbCalls.{msdb_reply}
 use Rattle.dli_calls.specs.declared.reply.Reply.{Reply}
 use Rattle.dli_calls.specs.Replies.{is_changed, replied_by, segments_in}
-use Rattle.dli_calls.proofs.HoldLemmas.{if_ok}
+use Rattle.dli_calls.proofs.BeginLemmas.{if_ok}
 use Rattle.dli_calls.proofs.database.Database.reply.Goals as goal
 
 pub returns-in-Isrt-clause-reply : goal.returns-in-Isrt-clause-reply

@@ -12,6 +12,12 @@ returns c script msdbs from cheap named numbered =
       answers = [];
       at = c.in_ok-program.ensures.at c.args.defs.now script.statements;
       fit = c.in_ok-program.ensures.fit c.args.defs.now.msdbs;
+      locks = record {
+        one = c.in_ok-locks.ensures.regions;
+        locks = [];
+        requests = [];
+        shows = c.in_ok-locks.ensures.none;
+      };
       plain = record {
         of = c.in_ok-work.ensures.of;
         changes = ap (λ (w : Workspace). w.changes) fresh;

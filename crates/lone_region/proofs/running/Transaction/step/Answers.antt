@@ -40,6 +40,7 @@ returns-in_ok-given-in-Call-clause-goes c message left cheap u =
         answers = u.answers ++ given ∷ [];
         at = c.give.ensures.at defs u.script.statements message u.answers (c.in_ok-call.ensures.at u.script message u.answers u.numbered u.at);
         fit = c.give.ensures.fit defs.msdbs call (rw c.in-Call.is at c.in_ok-call.ensures.waits) (c.in_ok-call.ensures.fit defs.msdbs u.fit) c.in_ok-given-in-Call.ensures.fits;
+        locks = c.answer_alone.ensures.locks;
         plain = record {
           of = c.answer_alone.ensures.of;
           changes = keeps.0 ∙ u.plain.changes;
