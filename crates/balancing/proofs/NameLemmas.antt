@@ -18,13 +18,14 @@ use Rattle.balancing.specs.Backlog.{AreSame, without}
 level_is_same : (a b : Name) → is_at (cmp-value.it a) b ≡ same_name a b
 level_is_same a b = same_from_slice_cmp nat_cmp is_eq same_text refl (λ _ _. refl) (λ _ _. refl) (λ x y xs ys o h. grind (arith, nat_tests)) a.0 b.0 _ refl
 
-same_names : (a b : Name) → same_name a b ≡ true → a ≡ b
+-- names that are the same are equal, and the test doesn't look at their order
+pub same_names : (a b : Name) → same_name a b ≡ true → a ≡ b
 same_names a b same = ap (λ text. record { 0 = text }) ((bytes_decides a.0 b.0).0 same)
 
 own_name : (a b : Name) → a ≡ b → same_name a b ≡ true
 own_name a b e = (bytes_decides a.0 b.0).1 (ap (λ name. name.0) e)
 
-flipped : (a b : Name) → same_name a b ≡ same_name b a
+pub flipped : (a b : Name) → same_name a b ≡ same_name b a
 flipped a b = by (same_name a b) (same_name b a) (λ e. own_name b a (sym (same_names a b e))) (λ e. own_name a b (sym (same_names b a e)))
   where
     by : (p q : Bool) → (p ≡ true → q ≡ true) → (q ≡ true → p ≡ true) → p ≡ q

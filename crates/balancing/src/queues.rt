@@ -1,5 +1,6 @@
 //! The queues, one for each balancing group, and the busy terminals.
-ghost use Rattle.std.specs.Prelude.{◌≡◌, ◌≤◌, ◌-◌, ◌++◌, ◌∷◌, [], true, false, length, drop, replicate, slice_get, slice_set, Ok, IfOk, OnOk, OnErr, IsNone, ◌↔◌};
+ghost use Rattle.std.specs.Option.{option_copied};
+ghost use Rattle.std.specs.Prelude.{◌≡◌, ◌≤◌, ◌-◌, ◌++◌, ◌∷◌, [], true, false, length, drop, replicate, slice_get, slice_set, sum_by, Ok, IfOk, OnOk, OnErr, IsNone, IsTrue, ◌↔◌};
 ghost use Rattle.fp_model.specs.Machine.{is_among, queued_at};
 ghost use Rattle.balancing.specs.Backlog.{AreSame, group_for, queue_of, without};
 
@@ -99,6 +100,34 @@ impl Queues {
         ensures busy { self.new.busy ≡ self.old.busy }
     {
         self.queues[usize::from(group) - 1].pop_front()
+    }
+
+    /// The oldest message of a group, which stays; `None` exactly where the group has none.
+    pub fn oldest(&self, group: u8) -> Option<&Message>
+        requires some { 1 ≤ group }
+        requires within { group ≤ length self.now.queues }
+
+        ensures { option_copied result ≡ slice_get (queue_of group self.now) 0 }
+    {
+        self.queues[usize::from(group) - 1].front()
+    }
+
+    /// How many messages are queued.
+    pub fn count(&self) -> u128
+        ensures { result ≡ sum_by length self.now.queues }
+    {
+        let mut count = 0;
+        for queue in &self.queues {
+            count += queue.len() as u128;
+        }
+        count
+    }
+
+    /// Whether no group has a message.
+    pub fn is_empty(&self) -> bool
+        ensures { IsTrue result ↔ (sum_by length self.now.queues ≡ 0) }
+    {
+        self.count() == 0
     }
 
     /// Whether a terminal waits for a reply.

@@ -1,6 +1,9 @@
 -- What callers know of definitions that were read for an installation.
-use Rattle.std.proofs.Common.{◌≡◌, ◌∙◌, ℕ, true, List, [], ◌∷◌, map, Option, Some, None, Result, Ok, Err, refl, ap, subst}
+use Rattle.std.proofs.Common.{◌≡◌, ◌∙◌, ℕ, Bool, true, false, not, List, [], ◌∷◌, map, Option, Some, None, Result, Ok, Err, refl, sym, ap, subst}
+use Rattle.std.specs.List.{AllByRecursion}
 use Rattle.std.specs.Option.{option_map_or}
+use Rattle.std.specs.Prelude.{if◌then◌else◌}
+use Rattle.fp_model.specs.declared.definitions.DedbDef.{DedbDef}
 use Rattle.fp_model.specs.declared.definitions.Kind.{Kind}
 use Rattle.fp_model.specs.declared.definitions.Defs.{Defs}
 use Rattle.fp_exits.specs.Kinds.{Kinds, has_kind}
@@ -10,6 +13,9 @@ use Rattle.fp_defs.specs.Exits.{first_lacking, lacking, with_exits, defs_for}
 use Rattle.fp_defs.specs.declared.fault.DefsFault.{DefsFault}
 use Rattle.fp_defs.specs.declared.fault.DefsFault.TheVariants.{NoExit}
 use Rattle.fp_defs.proofs.Steps.{ok_step}
+
+some_not_none : {X : Type 0} (x : X) → Some x ≡ None → ⊥
+some_not_none x e = cc
 
 -- there are exits of every kind
 abbrev pub HasAllKinds : Kinds → Type 0
@@ -25,6 +31,38 @@ read_for kinds text defs e =
     let s = ok_step (defs_of text) (with_exits kinds) defs e in
     let b = ok_both (lacking kinds s.0) s.0 defs s.2 in
     (s.1 ∙ ap Ok b.0, subst (λ (d : Defs). lacking kinds d ≡ None) b.0 b.1)
+
+-- where none is lacking, the router is there
+pub router_there : (kinds : Kinds) (defs : Defs) → lacking kinds defs ≡ None → has_kind kinds.routers defs.router ≡ true
+router_there kinds defs none = by (has_kind kinds.routers defs.router) none
+  where
+    by : (b : Bool) → (if b then first_lacking kinds.spreaders (map (λ d. d.randomizer) defs.dedbs) else Some defs.router) ≡ None → b ≡ true
+    by true none = refl
+    by false none = cc
+
+each_there : (there : List Kind) (dedbs : List DedbDef) → first_lacking there (map (λ d. d.randomizer) dedbs) ≡ None → AllByRecursion (λ d. has_kind there d.randomizer ≡ true) dedbs
+each_there there [] none = tt
+each_there there (d ∷ ds) none = by (has_kind there d.randomizer) refl (each_there there ds)
+  where
+    rest : (b : Bool) → b ≡ true → (if not b then Some d.randomizer else first_lacking there (map (λ e. e.randomizer) ds)) ≡ first_lacking there (map (λ e. e.randomizer) ds)
+    rest b e = rw e refl
+
+    first : (b : Bool) → b ≡ false → (if not b then Some d.randomizer else first_lacking there (map (λ e. e.randomizer) ds)) ≡ Some d.randomizer
+    first b e = rw e refl
+
+    by : (b : Bool) → has_kind there d.randomizer ≡ b → (first_lacking there (map (λ e. e.randomizer) ds) ≡ None → AllByRecursion (λ e. has_kind there e.randomizer ≡ true) ds)
+        → AllByRecursion (λ e. has_kind there e.randomizer ≡ true) (d ∷ ds)
+    by true e later = (e, later (sym (rest (has_kind there d.randomizer) e) ∙ none))
+    by false e later = absurd (some_not_none d.randomizer (sym (first (has_kind there d.randomizer) e) ∙ none))
+
+-- and each randomizer
+pub randomizers_there : (kinds : Kinds) (defs : Defs) → lacking kinds defs ≡ None → AllByRecursion (λ d. has_kind kinds.spreaders d.randomizer ≡ true) defs.dedbs
+randomizers_there kinds defs none =
+    each_there kinds.spreaders defs.dedbs (by (has_kind kinds.routers defs.router) (router_there kinds defs none) none)
+  where
+    by : (b : Bool) → b ≡ true → (if b then first_lacking kinds.spreaders (map (λ d. d.randomizer) defs.dedbs) else Some defs.router) ≡ None → first_lacking kinds.spreaders (map (λ d. d.randomizer) defs.dedbs) ≡ None
+    by true e none = none
+    by false e none = cc
 
 none_lacks : (there needed : List Kind) → ((kind : Kind) → has_kind there kind ≡ true) → first_lacking there needed ≡ None
 none_lacks there [] all = refl

@@ -78,6 +78,15 @@ greatest_above [] most k g within is = absurd (omega arith)
 greatest_above (h ∷ hs) most zero g within is = let r = greatest_from hs (max most h) in grind (arith, is)
 greatest_above (h ∷ hs) most (suc k) g within is = greatest_above hs (max most h) k g (omega arith) is
 
+greatest_below : (groups : List ℕ) (most : ℕ) → most ≤ 16 → AllByRecursion (Between 1 16) groups → fold max most groups ≤ 16
+greatest_below [] most low all = low
+greatest_below (g ∷ gs) most low all = greatest_below gs (max most g) (grind (arith, low, all.0.1)) all.1
+
+-- there are 1 to 16 groups
+pub groups_bounded : (groups : List ℕ) → 1 ≤ length groups → AllByRecursion (Between 1 16) groups → (1 ≤ fold max 0 groups) × (fold max 0 groups ≤ 16)
+groups_bounded [] some all = absurd (omega (arith, some))
+groups_bounded (g ∷ gs) some all = (let r = greatest_from gs (max 0 g) in grind (arith, all.0.0, r), greatest_below (g ∷ gs) 0 (omega arith) all)
+
 no_gap-by : (o : Option ℕ) (done : ⊤) → option_map_or (λ g. Err (OutOfLimit (codes "regions") (pos g))) o (Ok tt) ≡ Ok done → o ≡ None
 no_gap-by None done e = refl
 no_gap-by (Some g) done e = absurd (cc)

@@ -21,4 +21,4 @@ pub use rows::{
     an_unknown_key_comes_first, no_bytes_lack_regions, the_least_missing_group_is_named,
     the_sample_is_read,
 };
-pub use whole::read_defs;
+pub use whole::{group_count, read_defs};

@@ -1,9 +1,10 @@
 //! The whole text: the top table, and then its databases.
-ghost use Rattle.std.specs.Prelude.{◌≡◌, ◌≢◌, ◌≤◌, ◌==◌, [], IfOk, IfErr, Ok, Err, length, map};
-ghost use Rattle.std.specs.List.{list_any};
+ghost use Rattle.std.specs.Prelude.{◌≡◌, ◌≢◌, ◌≤◌, ◌==◌, [], IfOk, IfErr, Ok, Err, length, map, true};
+ghost use Rattle.std.specs.List.{AllByRecursion, list_any};
 ghost use Rattle.toml.specs.View.{array_view, table_view};
 ghost use Rattle.fp_model.specs.WellFormed.{AreDefs};
-ghost use Rattle.fp_exits.specs.Kinds.{kinds_of};
+ghost use Rattle.fp_exits.specs.Kinds.{has_kind, kinds_of};
+ghost use Rattle.fp_model.specs.Product.{groups_defined};
 ghost use Rattle.fp_defs.specs.Readings.{Gives, in_turn};
 ghost use Rattle.fp_defs.specs.Whole.{items_in, group_of, greatest, missing_group, no_gap, groups_in, regions_at, databases_of, defs_in, document_of, defs_of};
 ghost use Rattle.fp_defs.specs.Exits.{defs_for};
@@ -183,10 +184,22 @@ pub fn read_defs(alloc: Global, bytes: &[u8], exits: &Exits) -> Result<Defs, Def
 
     // All rules and limits hold of it.
     ensures valid { IfOk result AreDefs }
+
+    // The installation has the exits that it names.
+    ensures router { IfOk result (λ defs. has_kind (kinds_of exits.now).routers defs.router ≡ true) }
+    ensures randomizers { IfOk result (λ defs. AllByRecursion (λ dedb. has_kind (kinds_of exits.now).spreaders dedb.randomizer ≡ true) defs.dedbs) }
 {
     let defs = read_text(alloc, bytes)?;
     match lacking(exits, &defs) {
         Some(kind) => Err(DefsFault::NoExit(kind)),
         None => Ok(defs),
     }
+}
+
+/// How many balancing groups definitions have: as many as the greatest of their regions' groups says.
+pub fn group_count(defs: &Defs) -> u8
+    ensures count { result ≡ groups_defined defs.now }
+    ensures bounds { AreDefs defs.now → (1 ≤ result) × (result ≤ 16) }
+{
+    greatest(defs.regions.as_slice())
 }

@@ -233,6 +233,7 @@ impl Log {
         ensures sure { bytes ≤ self.old.spare → IsOk result }
         ensures err { OnErr result (self.new ≡ self.old) }
         ensures spare { self.old.spare ≤ self.new.spare }
+        ensures bounded { self.new.spare < 2 ^ 64 }
         ensures same { self.new ≡ record { sealed = self.old.sealed; gate = self.old.gate; unsealed = self.old.unsealed; spare = self.new.spare } }
     {
         if bytes <= self.spare as u64 {
@@ -263,6 +264,7 @@ impl Log {
         // What stays. A refusal changes nothing.
         ensures err { OnErr result (self.new ≡ self.old) }
         ensures spare { self.old.spare ≤ self.new.spare + length (entry_text e.now) }
+        ensures bounded { self.new.spare < 2 ^ 64 }
         ensures sealed { self.new.sealed ≡ self.old.sealed }
         ensures gate { self.new.gate ≡ self.old.gate }
     {
@@ -288,6 +290,7 @@ impl Log {
             → T.told site.old → IsAtRest (T.disk site.old) front groups self.old.gate → OnOk result
             (IsAtRest (T.disk site.new) front (with_group groups (take most self.old.unsealed)) self.new.gate) }
         ensures spare { self.old.spare ≤ self.new.spare }
+        ensures bounded { self.new.spare < 2 ^ 64 }
 
         // It fails only with the site.
         ensures cause { Counts (T.faults site.old) (T.faults site.new) result }

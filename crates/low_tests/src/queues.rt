@@ -20,6 +20,8 @@ enum Step {
     Take(u8, &'static [u8]),
     /// A group has no message.
     Empty(u8),
+    /// So many messages are queued, and the oldest of a group has this text.
+    Holds(u128, u8, &'static [u8]),
     /// Whether a terminal waits.
     Busy(u8, bool),
     Mark(u8),
@@ -27,10 +29,11 @@ enum Step {
 }
 
 /// Messages leave their group first in, first out.
-const IN_TURN: [Step; 7] = [
+const IN_TURN: [Step; 8] = [
     Step::Queued(1, b"WDRAW   ", b"first", 2),
     Step::Queued(2, b"DEPOSIT ", b"second", 1),
     Step::Queued(3, b"ASK     ", b"third", 2),
+    Step::Holds(3, 2, b"first"),
     Step::Take(2, b"first"),
     Step::Take(1, b"second"),
     Step::Take(2, b"third"),
@@ -98,6 +101,17 @@ fn takes(queues: &mut Queues, group: u8, text: Option<&[u8]>) -> bool
     taken.as_ref().map(|message| message.text.as_slice()) == text
 }
 
+/// Whether so many messages are queued, and the oldest of one of two groups has this text.
+fn holds(queues: &Queues, count: u128, group: u8, oldest: &[u8]) -> bool
+    requires { length queues.now.queues ≡ 2 }
+{
+    if group != 1 && group != 2 {
+        return false;
+    }
+    let first = queues.oldest(group).map(|message| message.text.as_slice());
+    queues.count() == count && queues.is_empty() == (count == 0) && first == Some(oldest)
+}
+
 /// Whether a step of two groups answers so.
 fn answers(
     alloc: Global,
@@ -120,6 +134,7 @@ fn answers(
         }
         Step::Take(group, text) => Ok(takes(queues, group, Some(text))),
         Step::Empty(group) => Ok(takes(queues, group, None)),
+        Step::Holds(count, group, oldest) => Ok(holds(queues, count, group, oldest)),
         Step::Busy(lterm, is_busy) => Ok(queues.busy(&terminal(lterm)) == is_busy),
         Step::Mark(lterm) => {
             queues.mark(&terminal(lterm))?;
@@ -166,6 +181,7 @@ fn terminals_and_their_messages(rt: HostRuntime) -> Result<(), Fail> {
 #[test]
 fn sixteen_groups_begin_empty(rt: HostRuntime) -> Result<(), Fail> {
     let mut queues = Queues::new(rt.alloc(), 16)?;
+    assert!(rt; queues.is_empty() && queues.oldest(16).is_none());
     assert!(rt; queues.take(16).is_none());
     queues.mark(&terminal(1))?;
     assert!(rt; queues.busy(&terminal(1)));

@@ -60,7 +60,7 @@ neither Greater Less is a b = absurd (not_both b)
 neither Greater Equal is a b = is
 neither Greater Greater is a b = cc
 
-same_or_above : (a b : List ℕ) → is_below a b ≡ false → same_text a b ≡ false → is_below b a ≡ true
+pub same_or_above : (a b : List ℕ) → is_below a b ≡ false → same_text a b ≡ false → is_below b a ≡ true
 same_or_above a b below same = by (is_below b a) refl
   where
     by : (t : Bool) → is_below b a ≡ t → t ≡ true
@@ -264,10 +264,6 @@ stands_there [] n d within = absurd (omega (arith, within))
 stands_there (x ∷ xs) zero d within = refl
 stands_there (x ∷ xs) (suc n) d within = stands_there xs n d (omega (arith, within))
 
-pub past_the_end : {X : Type 0} (xs : List X) → slice_get xs (length xs) ≡ None
-past_the_end [] = refl
-past_the_end (x ∷ xs) = past_the_end xs
-
 pub lacks_there : {X : Type 0} (key : X → List ℕ) (k : List ℕ) (xs : List X) (n : ℕ) (x : X) → slice_get xs n ≡ Some x → same_text (key x) k ≡ false → if_same key k (slice_get xs n) ≡ None
 lacks_there key k xs n x at e = rw at (rw e refl)
 
@@ -275,14 +271,9 @@ lacks_there key k xs n x at e = rw at (rw e refl)
 pub found_there : {X : Type 0} (key : X → List ℕ) (k : List ℕ) (xs : List X) (n : ℕ) (x : X) → IsPlace key k xs n → ascend (map key xs) ≡ true → slice_get xs n ≡ Some x → same_text (key x) k ≡ true → find (λ y. same_text (key y) k) xs ≡ Some x
 found_there key k xs n x place up at e = found_at key k xs n up place ∙ (rw at (rw e refl))
 
--- a place among segments that are the same, with keys of the same length
-pub same_place : (xs ys : List (List ℕ)) (m n : ℕ) (k : List ℕ) (at : ℕ) → xs ≡ ys → m ≡ n → (ascend (map (take m) xs) ≡ true → IsPlace (take m) k xs at) → ascend (map (take n) ys) ≡ true → IsPlace (take n) k ys at
-same_place xs ys m n k at xs_are m_is h =
-    subst (λ count. ascend (map (take count) ys) ≡ true → IsPlace (take count) k ys at) m_is
-    (subst (λ zs. ascend (map (take m) zs) ≡ true → IsPlace (take m) k zs at) xs_are h)
-
-pub none_past : {X : Type 0} (key : X → List ℕ) (k : List ℕ) (xs : List X) (n : ℕ) → n ≡ length xs → if_same key k (slice_get xs n) ≡ None
-none_past key k xs n is = rw is (rw (past_the_end xs) refl)
+-- a place by keys of the same length
+pub same_place : (xs : List (List ℕ)) (m n : ℕ) (k : List ℕ) (at : ℕ) → m ≡ n → (ascend (map (take m) xs) ≡ true → IsPlace (take m) k xs at) → ascend (map (take n) xs) ≡ true → IsPlace (take n) k xs at
+same_place xs m n k at same h = subst (λ count. ascend (map (take count) xs) ≡ true → IsPlace (take count) k xs at) same h
 
 -- ---- a search for a greater key
 

@@ -8,5 +8,7 @@ mod Names
 mod Publishing
 mod Queues
 mod Rooms
+mod Slots
+mod Sorting
 mod Stagings
 mod Tables

@@ -1,22 +1,23 @@
--- Loading segments one after another, each at its place.
-use Rattle.std.proofs.Common.{◌≡◌, ℕ, suc, ◌+◌, ◌<◌, ◌++◌, take, slice_index_or, List, [], ◌∷◌, map, length, drop, refl, sym, ◌∙◌, ap, subst, true, false}
+-- The segments that a definition loads, and the tables of them.
+use Rattle.std.proofs.Common.{◌≡◌, ℕ, ◌+◌, ◌^◌, ◌<◌, ◌++◌, take, slice_index_or, List, [], ◌∷◌, map, length, refl, sym, ◌∙◌, ap, subst, false}
 use Rattle.std.specs.Prelude.{fold}
 use Rattle.std.specs.List.{AllByRecursion, AllZip, IsDistinct}
 use Rattle.std.proofs.lemmas.Map.Keys.{IsDistinct-head, IsDistinct-tail}
 use Rattle.fp_model.specs.CheckpointText.{IsMsdbOf}
-use Rattle.fp_model.specs.State.{ascend, drop_key, key_of, loaded, put_by_key}
+use Rattle.fp_model.specs.State.{drop_key, key_of, loaded, put_by_key}
 use Rattle.fp_model.specs.Texts.{same_text}
 use Rattle.fp_model.specs.WellFormed.{IsLoaded, IsMsdbDef}
-use Rattle.std.proofs.Math.Seq.{drop-cons}
 use Rattle.std.proofs.lemmas.List.{map-append, take_more}
 use Rattle.fp_model.specs.declared.database.Msdb.{Msdb}
 use Rattle.fp_model.specs.declared.definitions.FieldDef.{FieldDef}
 use Rattle.fp_model.specs.declared.definitions.MsdbDef.{MsdbDef}
 use Rattle.msdb_store.proofs.Ascending.{all_put}
+use Rattle.msdb_store.specs.Putting.{AreFew}
+use Rattle.msdb_store.proofs.Rooms.{few_push}
 use Rattle.msdb_store.proofs.Tables.{with_good}
 
 -- the segments so far, and what is left to load
-pub record IsLoading (def : MsdbDef) (segments rest : List (List ℕ)) : Type 0 where
+record IsLoading (def : MsdbDef) (segments rest : List (List ℕ)) : Type 0 where
   pub good : IsMsdbOf def (record { segments = segments })
   pub lengths : AllByRecursion (λ s. length s ≡ def.length) rest
   pub distinct : IsDistinct same_text (map (key_of def.fields) rest)
@@ -31,7 +32,7 @@ differ_nothing : (key : List ℕ → List ℕ) (load : List (List ℕ)) → AllB
 differ_nothing key [] = tt
 differ_nothing key (s ∷ load) = (tt, differ_nothing key load)
 
-pub at_first : (def : MsdbDef) → IsMsdbDef def → IsLoading def [] def.load
+at_first : (def : MsdbDef) → IsMsdbDef def → IsLoading def [] def.load
 at_first def is = record {
   good = record { lengths = tt; in_order = refl };
   lengths = lengths_of def def.load is.loaded;
@@ -52,30 +53,25 @@ still_differ key s segments [] head differ = tt
 still_differ key s segments (r ∷ rest) head differ =
     (all_put key (λ y. same_text (key y) (key r) ≡ false) s segments head.0 differ.0, still_differ key s segments rest head.1 differ.1)
 
-pub one_more : (def : MsdbDef) (segments : List (List ℕ)) (s : List ℕ) (rest : List (List ℕ)) → IsLoading def segments (s ∷ rest) → IsLoading def (put_by_key (key_of def.fields) s (drop_key (key_of def.fields) (key_of def.fields s) segments)) rest
+one_more : (def : MsdbDef) (segments : List (List ℕ)) (s : List ℕ) (rest : List (List ℕ)) → IsLoading def segments (s ∷ rest) → IsLoading def (put_by_key (key_of def.fields) s segments) rest
 one_more def segments s rest is =
     let key : List ℕ → List ℕ = key_of def.fields in
     let same : drop_key key (key s) segments ≡ segments = none_dropped key (key s) segments is.differ.0 in
     record {
-      good = with_good def s (record { segments = segments }) is.lengths.0 is.good;
+      good = subst (λ ss. IsMsdbOf def (record { segments = put_by_key key s ss })) same (with_good def s (record { segments = segments }) is.lengths.0 is.good);
       lengths = is.lengths.1;
       distinct = IsDistinct-tail same_text (key s) (map key rest) is.distinct;
-      differ = subst (λ ss. AllByRecursion (λ r. AllByRecursion (λ y. same_text (key y) (key r) ≡ false) (put_by_key key s ss)) rest) (sym same) (still_differ key s segments rest (IsDistinct-head same_text (key s) (map key rest) is.distinct) is.differ.1);
-      whole = subst (λ ss. fold (λ (xs : List (List ℕ)) x. put_by_key key x xs) (put_by_key key s ss) rest ≡ (loaded def).segments) (sym same) is.whole;
+      differ = still_differ key s segments rest (IsDistinct-head same_text (key s) (map key rest) is.distinct) is.differ.1;
+      whole = is.whole;
     }
 
-pub next_load : (def : MsdbDef) (fields : List FieldDef) (load : List (List ℕ)) (i : ℕ) (s : List ℕ) (before after : List (List ℕ)) → fields ≡ def.fields → i < length load → s ≡ slice_index_or load i s → IsLoading def before (drop i load)
-    → (ascend (map (key_of fields) before) ≡ true → after ≡ put_by_key (key_of fields) s (drop_key (key_of fields) (key_of fields s) before)) → IsLoading def after (drop (suc i) load)
-next_load def fields load i s before after fields_are within s_is is put =
-    let rest : drop i load ≡ s ∷ drop (suc i) load = drop-cons load i s within ∙ ap (λ x. x ∷ drop (suc i) load) (sym s_is) in
-    let here : IsLoading def before (s ∷ drop (suc i) load) = subst (IsLoading def before) rest is in
-    let put_is : after ≡ put_by_key (key_of def.fields) s (drop_key (key_of def.fields) (key_of def.fields s) before) =
-    subst (λ fs. ascend (map (key_of fs) before) ≡ true → after ≡ put_by_key (key_of fs) s (drop_key (key_of fs) (key_of fs s) before)) fields_are put here.good.in_order in
-    subst (λ ss. IsLoading def ss (drop (suc i) load)) (sym put_is) (one_more def before s (drop (suc i) load) here)
+-- the segments that are loaded are of their definition
+all_loaded : (def : MsdbDef) (segments rest : List (List ℕ)) → IsLoading def segments rest → IsMsdbOf def (loaded def)
+all_loaded def segments [] is = subst (λ ss. IsMsdbOf def (record { segments = ss })) is.whole is.good
+all_loaded def segments (s ∷ rest) is = all_loaded def (put_by_key (key_of def.fields) s segments) rest (one_more def segments s rest is)
 
--- an element is what stands at its place, whatever is named for the places behind the end
-pub stands_at : {X : Type 0} (xs : List X) (i : ℕ) (x y : X) → i < length xs → y ≡ x → x ≡ slice_index_or xs i x → y ≡ slice_index_or xs i y
-stands_at xs i x y within same is = subst (λ z. z ≡ slice_index_or xs i z) (sym same) is
+pub good_load : (def : MsdbDef) → IsMsdbDef def → IsMsdbOf def (loaded def)
+good_load def is = all_loaded def [] def.load (at_first def is)
 
 each_more : {A B : Type 0} (R : A → B → Type 0) (xs : List A) (ys : List B) (x : A) (y : B) → AllZip R xs ys → R x y → AllZip R (xs ++ x ∷ []) (ys ++ y ∷ [])
 each_more R [] [] x y all one = (one, tt)
@@ -88,13 +84,15 @@ pub record AreLoaded {T : Type 0} (fields : T → List FieldDef) (msdb : T → M
   pub layouts : map fields tables ≡ map (λ d. d.fields) defs
   pub segments : map msdb tables ≡ map loaded defs
   pub each : AllZip IsMsdbOf defs (map msdb tables)
+  pub few : AreFew (map msdb tables)
 
 pub next_table : {T : Type 0} (fields : T → List FieldDef) (msdb : T → Msdb) (defs : List MsdbDef) (i : ℕ) (d : MsdbDef) (tables more : List T) (t : T) → i < length defs → d ≡ slice_index_or defs i d → AreLoaded fields msdb (take i defs) tables
-    → more ≡ tables ++ t ∷ [] → fields t ≡ d.fields → msdb t ≡ loaded d → IsMsdbOf d (msdb t) → AreLoaded fields msdb (take (i + 1) defs) more
-next_table fields msdb defs i d tables more t within d_is is more_is fields_are segments_are good =
+    → more ≡ tables ++ t ∷ [] → fields t ≡ d.fields → msdb t ≡ loaded d → IsMsdbOf d (msdb t) → length (msdb t).segments < 2 ^ 32 → AreLoaded fields msdb (take (i + 1) defs) more
+next_table fields msdb defs i d tables more t within d_is is more_is fields_are segments_are good short =
     let front : take (i + 1) defs ≡ take i defs ++ d ∷ [] = take_more defs i d within ∙ ap (λ e. take i defs ++ e ∷ []) (sym d_is) in
     subst (λ ds. AreLoaded fields msdb ds more) (sym front) (subst (AreLoaded fields msdb (take i defs ++ d ∷ [])) (sym more_is) (record {
       layouts = map-append fields tables (t ∷ []) ∙ ap (λ fs. fs ++ fields t ∷ []) is.layouts ∙ ap (λ f. map (λ e. e.fields) (take i defs) ++ f ∷ []) fields_are ∙ sym (map-append (λ (e : MsdbDef). e.fields) (take i defs) (d ∷ []));
       segments = map-append msdb tables (t ∷ []) ∙ ap (λ ms. ms ++ msdb t ∷ []) is.segments ∙ ap (λ m. map loaded (take i defs) ++ m ∷ []) segments_are ∙ sym (map-append loaded (take i defs) (d ∷ []));
       each = subst (AllZip IsMsdbOf (take i defs ++ d ∷ [])) (sym (map-append msdb tables (t ∷ []))) (each_more IsMsdbOf (take i defs) (map msdb tables) d (msdb t) is.each good);
+      few = few_push msdb tables t is.few short;
     }))

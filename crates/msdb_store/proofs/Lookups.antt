@@ -16,10 +16,10 @@ module _ {X : Type 0} (key : X → List ℕ) where
   at j xs = find (λ x. same_text (key x) j) xs
 
   -- one of two, where the first is found
-  at_first : (j : List ℕ) (x : X) (xs : List X) → same_text (key x) j ≡ true → at j (x ∷ xs) ≡ Some x
+  pub at_first : (j : List ℕ) (x : X) (xs : List X) → same_text (key x) j ≡ true → at j (x ∷ xs) ≡ Some x
   at_first j x xs same = rw same refl
 
-  at_later : (j : List ℕ) (x : X) (xs : List X) → same_text (key x) j ≡ false → at j (x ∷ xs) ≡ at j xs
+  pub at_later : (j : List ℕ) (x : X) (xs : List X) → same_text (key x) j ≡ false → at j (x ∷ xs) ≡ at j xs
   at_later j x xs differs = rw differs refl
 
   both_none : (b : Bool) → None ≡ (if b then None else (let none : Option X = None in none))

@@ -1,9 +1,10 @@
 -- Room for more segments, and how a change of one table leaves it.
-use Rattle.std.proofs.Common.{◌≡◌, refl, sym, ◌∙◌, ap, subst, arith, ℕ, zero, suc, ◌<◌, ◌≤◌, ◌+◌, ◌-◌, ◌^◌, List, [], ◌∷◌, ◌++◌, map, length, take, true, Some, None, slice_get, slice_set, min, inl, inr}
+use Rattle.std.proofs.Common.{◌≡◌, refl, sym, ◌∙◌, ap, subst, arith, ℕ, zero, suc, ◌<◌, ◌≤◌, ◌+◌, ◌^◌, List, [], ◌∷◌, ◌++◌, map, length, take, true, Some, None, slice_get, slice_set, min, inl, inr}
 use Rattle.std.specs.Prelude.{find, is_none, ◌⊎◌}
 use Rattle.fp_model.specs.Items.{FitsMsdb}
 use Rattle.fp_model.specs.State.{key_of}
 use Rattle.fp_model.specs.Texts.{same_text}
+use Rattle.fp_model.specs.declared.database.Msdb.{Msdb}
 use Rattle.fp_model.specs.declared.definitions.FieldDef.{FieldDef}
 use Rattle.fp_model.specs.declared.definitions.MsdbDef.{MsdbDef}
 use Rattle.fp_model.specs.declared.log.Item.TheVariants.{Segment}
@@ -54,8 +55,10 @@ room_same cap cap2 n m more fewer = grind arith
 pub room_less : (cap cap2 n m d : ℕ) → cap ≤ cap2 → m ≤ n + d → room cap n ≤ room cap2 m + d
 room_less cap cap2 n m d more longer = grind arith
 
-pub room_has : (cap n : ℕ) → 0 < room cap n → (n < cap) × (n < 2 ^ 32 - 1)
-room_has cap n some = (grind arith, grind arith)
+-- each has fewer than 2^32 segments, and one more
+pub few_push : {T : Type 0} (msdb : T → Msdb) (ts : List T) (t : T) → AreFew (map msdb ts) → length (msdb t).segments < 2 ^ 32 → AreFew (map msdb (ts ++ t ∷ []))
+few_push msdb [] t all one = (one, tt)
+few_push msdb (x ∷ xs) t all one = (all.0, few_push msdb xs t all.1 one)
 
 module _ {T : Type 0} (fields : T → List FieldDef) (segments : T → List (List ℕ)) where
   pub few_set : (ts : List T) (n : ℕ) (old t : T) → slice_get ts n ≡ Some old → (length (segments old) < 2 ^ 32 → length (segments t) < 2 ^ 32)

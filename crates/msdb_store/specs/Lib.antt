@@ -4,6 +4,7 @@ pub mod Places
 pub mod Putting
 pub mod Rooms
 pub mod Settling
+pub mod Slots
 pub mod Steps
 pub mod Store
 pub mod Touches

@@ -2,6 +2,7 @@
 #![tactic(auto)]
 
 mod keyed;
+mod segments;
 mod settling;
 mod staged;
 mod staging;

@@ -59,7 +59,7 @@ impl MsdbStore {
         requires { msdb < length self.now.msdbs }
         ensures { (defs : ListOf DefOf) → IsOf defs self.now → result.now ≡ key_in defs msdb bytes.now }
     {
-        key_in(bytes, self.tables[msdb as usize].key_length())
+        key_in(bytes.as_slice(), self.tables[msdb as usize].key_length())
     }
 
     // The key that a call names.

@@ -1,16 +1,22 @@
 //! The store.
 ghost use Rattle.fp_model.specs.CheckpointText.{IsMsdbOf};
-ghost use Rattle.fp_model.specs.State.{loaded as load_of, start};
+ghost use Rattle.fp_model.specs.State.{key_of, loaded as load_of, start};
 ghost use Rattle.fp_model.specs.WellFormed.{IsMsdbDef};
+ghost use Rattle.std.specs.Cmp.Lexicographic.{slice_cmp};
 ghost use Rattle.std.specs.List.{AllZip};
+ghost use Rattle.std.specs.List.Sorted.{IsPermutation, IsSortedByKey};
+ghost use Rattle.std.specs.Ordering.{nat_cmp};
+ghost use Rattle.msdb_store.specs.Putting.{AreFew};
 ghost use Rattle.msdb_store.specs.Rooms.{msdb_of, room_of};
 ghost use Rattle.msdb_store.specs.Store.{least};
-ghost use Rattle.std.specs.Prelude.{◌≡◌, ◌≤◌, ◌<◌, ◌^◌, IfOk, OnOk, length, map};
+ghost use Rattle.std.specs.Prelude.{◌≡◌, ◌≤◌, ◌<◌, ◌^◌, IfOk, OnOk, length, map, take};
 
+use crate::keyed::key_in;
 use crate::staged::Staged;
 use crate::table::Table;
-use fp_model::{Bytes, Defs, Item, List, Msdb, MsdbDef};
+use fp_model::{Bytes, Defs, Item, List, Msdb, MsdbDef, key_length};
 use std::alloc::{AllocError, Global};
+use std::cmp::Ordering;
 use std::marker::Model;
 
 /// The segments of the main storage databases, by key. Contracts see the fields of each database's segments, the
@@ -22,7 +28,7 @@ pub struct MsdbStore {
 }
 
 impl Model for MsdbStore {
-    ghost use Rattle.std.specs.Prelude.{length, map, vec_capacity};
+    ghost use Rattle.std.specs.Prelude.{length, map};
     ghost use Rattle.msdb_store.specs.Store.{Stored, least, room};
 
     ghost Value = { Stored };
@@ -30,19 +36,23 @@ impl Model for MsdbStore {
     ghost view = { λ s. record {
       layouts = map (λ t. t.fields) s.tables.items;
       msdbs = map (λ t. record { segments = t.segments.items }) s.tables.items;
-      spare = least (map (λ t. room (vec_capacity t.segments) (length t.segments.items)) s.tables.items);
+      spare = least (map (λ t. room t.segments.capacity (length t.segments.items)) s.tables.items);
     } };
 }
 
-// The table of a database.
-fn table_of(alloc: Global, def: &MsdbDef, msdb: Msdb) -> Result<Table, AllocError>
-    ensures fields { IfOk result (λ t. t.fields ≡ def.now.fields) }
-    ensures segments { IfOk result (λ t. t.segments.items ≡ msdb.segments) }
+// The segments that a definition loads, by ascending key.
+fn sorted_load(def: &MsdbDef) -> Result<Vec<Bytes>, AllocError>
+    ensures same { IfOk result (λ load. IsPermutation def.now.load load.items) }
+    ensures sorted { IfOk result (λ load. IsSortedByKey (key_of def.now.fields) (slice_cmp nat_cmp) load.items) }
 {
-    Ok(Table {
-        fields: List::from_vec(Vec::from_slice(alloc, def.fields.as_slice())?),
-        segments: msdb.segments.into_vec(),
-    })
+    let count = usize::from(key_length(def.fields.as_slice()));
+    let mut load = def.load.clone()?.into_vec();
+    load.sort_by(
+        |one: &Bytes, other: &Bytes| -> Ordering
+            ensures { result ≡ slice_cmp nat_cmp (take count one.now) (take count other.now) }
+        { key_in(one.as_slice(), count).cmp(key_in(other.as_slice(), count)) },
+    )?;
+    Ok(load)
 }
 
 // The table of the segments that a definition loads.
@@ -51,15 +61,9 @@ fn loaded(alloc: Global, def: &MsdbDef) -> Result<Table, AllocError>
     ensures fields { IfOk result (λ t. t.fields ≡ def.now.fields) }
     ensures segments { IfOk result (λ t. t.segments.items ≡ (load_of def.now).segments) }
     ensures good { IfOk result (λ t. IsMsdbOf def.now (record { segments = t.segments.items })) }
+    ensures few { IfOk result (λ t. length t.segments.items < 2 ^ 32) }
 {
-    let mut table = Table {
-        fields: List::from_vec(Vec::from_slice(alloc, def.fields.as_slice())?),
-        segments: Vec::new(alloc),
-    };
-    for segment in def.load.as_slice() {
-        table.put(segment.copy()?)?;
-    }
-    Ok(table)
+    Table::new(alloc, def, sorted_load(def)?)
 }
 
 // Makes room for so many segments more in each table.
@@ -69,6 +73,7 @@ fn make_room(tables: &mut [Table], n: usize) -> Result<(), AllocError>
     ensures more { least (map room_of tables.old) ≤ least (map room_of tables.new) }
     ensures layouts { map (λ t. t.fields) tables.new ≡ map (λ t. t.fields) tables.old }
     ensures msdbs { map msdb_of tables.new ≡ map msdb_of tables.old }
+    ensures few { OnOk result (AreFew (map msdb_of tables.new)) }
 {
     for table in tables.iter_mut() {
         table.reserve(n)?;
@@ -83,29 +88,33 @@ impl MsdbStore {
     ghost use Rattle.msdb_store.specs.Store.{IsFitSegment, IsOf, found, found_after};
     ghost use Rattle.std.specs.List.{AllByRecursion};
     ghost use Rattle.std.specs.Option.{option_copied, option_map};
-    ghost use Rattle.std.specs.Prelude.{IsOk, List as ListOf};
+    ghost use Rattle.std.specs.Prelude.{IsOk, List as ListOf, Some, slice_get};
+    ghost use Rattle.fp_model.specs.declared.database.Msdb.{Msdb as MsdbOf};
     ghost use Rattle.fp_model.specs.declared.definitions.MsdbDef.{MsdbDef as DefOf};
     ghost use Rattle.fp_model.specs.declared.log.Item.TheVariants.{Segment};
 
-    /// The store of these databases, which are those of the definitions. It fails only for want of memory.
+    /// The store of these databases, which are those of the definitions. It fails for want of memory, and where a
+    /// database has 2^32 segments.
     pub fn new(alloc: Global, defs: &Defs, msdbs: List<Msdb>) -> Result<MsdbStore, AllocError>
         requires { AllZip IsMsdbOf defs.now.msdbs msdbs }
         ensures of { IfOk result (IsOf defs.now.msdbs) }
         ensures msdbs { IfOk result (λ store. store.msdbs ≡ msdbs) }
+        ensures few { IfOk result (λ store. AllByRecursion (λ msdb. length msdb.segments < 2 ^ 32) store.msdbs) }
     {
         let mut tables = Vec::new(alloc);
         for (def, msdb) in defs.msdbs.as_slice().iter().zip(msdbs.into_vec()) {
-            tables.push(table_of(alloc, def, msdb)?)?;
+            tables.push(Table::new(alloc, def, msdb.segments.into_vec())?)?;
         }
         Ok(MsdbStore { tables })
     }
 
-    /// The store of the state before any transaction: the segments that the definitions load, by key. It fails only for
-    /// want of memory.
+    /// The store of the state before any transaction: the segments that the definitions load, by key. It fails for want
+    /// of memory, and where a database has 2^32 segments.
     pub fn start(alloc: Global, defs: &Defs) -> Result<MsdbStore, AllocError>
         requires { AllByRecursion IsMsdbDef defs.now.msdbs }
         ensures of { IfOk result (IsOf defs.now.msdbs) }
         ensures msdbs { IfOk result (λ store. store.msdbs ≡ (start defs.now).msdbs) }
+        ensures few { IfOk result (λ store. AllByRecursion (λ msdb. length msdb.segments < 2 ^ 32) store.msdbs) }
     {
         let mut tables = Vec::new(alloc);
         for def in defs.msdbs.as_slice() {
@@ -129,9 +138,18 @@ impl MsdbStore {
         ensures { (defs : ListOf DefOf) → IsOf defs self.now → option_copied result ≡ found_after defs self.now msdb (option_copied key.entry) }
     {
         match key {
-            None => self.tables[msdb as usize].first(),
+            None => self.tables[msdb as usize].at(0),
             Some(key) => self.tables[msdb as usize].above(key),
         }
+    }
+
+    /// The segment at a place, counted from 0 in ascending order of keys, in the database of this number; it is lent.
+    /// None exactly where there are no more. Takes no memory.
+    pub fn segment_at(&self, msdb: u8, place: usize) -> Option<&[u8]>
+        requires { msdb < length self.now.msdbs }
+        ensures { (its : MsdbOf) → slice_get self.now.msdbs msdb ≡ Some its → option_copied result ≡ slice_get its.segments place }
+    {
+        self.tables[msdb as usize].at(place)
     }
 
     /// A copy of all databases. It fails only for want of memory.
@@ -140,18 +158,19 @@ impl MsdbStore {
     {
         let mut msdbs = List::new(alloc);
         for table in &self.tables {
-            msdbs.push(table.database()?)?;
+            msdbs.push(table.database(alloc)?)?;
         }
         Ok(msdbs)
     }
 
     /// Puts the segments of items in their order; no bytes take a segment away, and other items are left aside. It
-    /// fails only for want of memory. Then the items up to some one are put, and the store is to be thrown away.
+    /// fails for want of memory, and where a database would have 2^32 segments. Then the items up to some one are put, and the store is to be thrown away.
     pub fn apply(&mut self, items: &List<Item>) -> Result<(), AllocError>
         ensures msdbs { (defs : ListOf DefOf) → IsOf defs self.old → AllByRecursion (IsFitSegment defs) items.now
             → OnOk result (self.new.msdbs ≡ with_items defs self.old.msdbs items.now) }
         ensures of { (defs : ListOf DefOf) → IsOf defs self.old → AllByRecursion (IsFitSegment defs) items.now → IsOf defs self.new }
         ensures count { length self.new.msdbs ≡ length self.old.msdbs }
+        ensures few { AllByRecursion (λ msdb. length msdb.segments < 2 ^ 32) self.old.msdbs → AllByRecursion (λ msdb. length msdb.segments < 2 ^ 32) self.new.msdbs }
     {
         for item in items.as_slice() {
             self.put_item(item)?;
@@ -164,6 +183,7 @@ impl MsdbStore {
         ensures msdbs { (defs : ListOf DefOf) → IsOf defs self.old → IsFitSegment defs item.now → OnOk result (self.new.msdbs ≡ with_item defs self.old.msdbs item.now) }
         ensures of { (defs : ListOf DefOf) → IsOf defs self.old → IsFitSegment defs item.now → IsOf defs self.new }
         ensures count { length self.new.msdbs ≡ length self.old.msdbs }
+        ensures few { AreFew self.old.msdbs → AreFew self.new.msdbs }
     {
         match item {
             Item::Segment { msdb, key, bytes } => {
@@ -180,6 +200,7 @@ impl MsdbStore {
             → OnOk result (self.new.msdbs ≡ with_item defs self.old.msdbs (Segment msdb key.now bytes)) }
         ensures of { (defs : ListOf DefOf) → IsOf defs self.old → IsFitSegment defs (Segment msdb key.now bytes) → IsOf defs self.new }
         ensures count { length self.new.msdbs ≡ length self.old.msdbs }
+        ensures few { AreFew self.old.msdbs → AreFew self.new.msdbs }
         ensures done { (defs : ListOf DefOf) → CanPut defs self.old (Segment msdb key.now bytes) → IsOk result }
         ensures room { (defs : ListOf DefOf) → CanPut defs self.old (Segment msdb key.now bytes) → KeepsRoom self.old self.new (adds defs self.old.msdbs (Segment msdb key.now bytes)) }
     {
@@ -211,6 +232,7 @@ impl MsdbStore {
         ensures more { self.old.spare ≤ self.new.spare }
         ensures layouts { self.new.layouts ≡ self.old.layouts }
         ensures msdbs { self.new.msdbs ≡ self.old.msdbs }
+        ensures few { OnOk result (AllByRecursion (λ msdb. length msdb.segments < 2 ^ 32) self.new.msdbs) }
     {
         make_room(&mut self.tables, n as usize)
     }

@@ -4,19 +4,36 @@ ghost use Rattle.fp_model.specs.Texts.{same_text};
 ghost use Rattle.msdb_store.specs.Places.{IsPlaced, IsWithin};
 ghost use Rattle.std.specs.Option.{option_copied};
 ghost use Rattle.msdb_store.specs.Store.{lacks, room};
-ghost use Rattle.std.specs.Prelude.{slice_get, ◌≡◌, ◌+◌, ◌<◌, ◌≤◌, IfOk, IsOk, OnErr, OnOk, find, if◌then◌else◌, length, map, true, vec_capacity};
+ghost use Rattle.std.specs.Prelude.{slice_get, ◌≡◌, ◌+◌, ◌<◌, ◌≤◌, IfOk, IsOk, ◌^◌, OnErr, OnOk, find, if◌then◌else◌, length, map, true};
 
-use crate::keyed::{Place, count_below, key_in};
-use fp_model::{Bytes, FieldDef, List, Msdb, key_length};
-use std::alloc::AllocError;
+use crate::keyed::{Place, key_in};
+use crate::segments::Segments;
+use fp_model::{Bytes, FieldDef, List, Msdb, MsdbDef, key_length};
+use std::alloc::{AllocError, Global};
 
 #[derive(Debug, Drop)]
 pub(crate) struct Table {
     pub(crate) fields: List<FieldDef>,
-    pub(crate) segments: Vec<Bytes>,
+    pub(crate) segments: Segments,
 }
 
 impl Table {
+    // The database of a definition with these segments. It fails for want of memory, and where there are 2^32 of them.
+    pub(crate) fn new(
+        alloc: Global,
+        def: &MsdbDef,
+        segments: Vec<Bytes>,
+    ) -> Result<Table, AllocError>
+        ensures fields { IfOk result (λ table. table.fields ≡ def.now.fields) }
+        ensures segments { IfOk result (λ table. table.segments.items ≡ segments.items) }
+        ensures few { IfOk result (λ table. length table.segments.items < 2 ^ 32) }
+    {
+        Ok(Table {
+            fields: List::from_vec(Vec::from_slice(alloc, def.fields.as_slice())?),
+            segments: Segments::from_vec(segments)?,
+        })
+    }
+
     pub(crate) fn key_length(&self) -> usize
         ensures { result ≡ key_length self.now.fields }
     {
@@ -26,14 +43,15 @@ impl Table {
     // Where the segment of a key stands, or would stand.
     fn place(&self, key: &[u8]) -> Place
         ensures within { IsWithin (length self.now.segments.items) result }
+        ensures fits { length self.now.segments.items < 2 ^ 64 }
         ensures place { ascend (map (key_of self.now.fields) self.now.segments.items) ≡ true → IsPlaced (key_of self.now.fields) key.now self.now.segments.items result }
     {
         let count = self.key_length();
-        let at = count_below(&self.segments, count, key);
-        if at == self.segments.len() {
+        let at = self.segments.count_below(count, key);
+        let Some(segment) = self.segments.get(at) else {
             return Place::Lacks(at);
-        }
-        if key_in(&self.segments[at], count) == key {
+        };
+        if key_in(segment, count) == key {
             Place::Stands(at)
         } else {
             Place::Lacks(at)
@@ -46,18 +64,18 @@ impl Table {
             → option_copied result ≡ find (λ s. same_text (key_of self.now.fields s) key.now) self.now.segments.items }
     {
         match self.place(key) {
-            Place::Stands(at) => Some(self.segments[at].as_slice()),
+            Place::Stands(at) => self.segments.get(at),
             Place::Lacks(_) => None,
         }
     }
 }
 
 impl Table {
-    // The first segment.
-    pub(crate) fn first(&self) -> Option<&[u8]>
-        ensures { option_copied result ≡ slice_get self.now.segments.items 0 }
+    // The segment at a place. None exactly where there are no more.
+    pub(crate) fn at(&self, at: usize) -> Option<&[u8]>
+        ensures { option_copied result ≡ slice_get self.now.segments.items at }
     {
-        self.segments.as_slice().first().map(Bytes::as_slice)
+        self.segments.get(at)
     }
 
     // The first segment with a greater key.
@@ -66,7 +84,7 @@ impl Table {
             → option_copied result ≡ find (λ s. is_below key.now (key_of self.now.fields s)) self.now.segments.items }
     {
         let at = self.count_up_to(key);
-        self.segments.as_slice().get(at).map(Bytes::as_slice)
+        self.segments.get(at)
     }
 
     // How many segments stand before the first with a greater key.
@@ -87,14 +105,15 @@ impl Table {
         ensures err { OnErr result (self.new.segments.items ≡ self.old.segments.items) }
         ensures fields { self.new.fields ≡ self.old.fields }
         ensures done { ascend (map (key_of self.old.fields) self.old.segments.items) ≡ true
-            → (lacks self.old.fields self.old.segments.items segment ≡ true → length self.old.segments.items < vec_capacity self.old.segments) → IsOk result }
+            → (lacks self.old.fields self.old.segments.items segment ≡ true → 0 < room self.old.segments.capacity (length self.old.segments.items)) → IsOk result }
         ensures long { ascend (map (key_of self.old.fields) self.old.segments.items) ≡ true
             → length self.new.segments.items ≤ length self.old.segments.items + (if lacks self.old.fields self.old.segments.items segment then 1 else 0) }
-        ensures capacity { vec_capacity self.old.segments ≤ vec_capacity self.new.segments }
+        ensures few { length self.old.segments.items < 2 ^ 32 → length self.new.segments.items < 2 ^ 32 }
+        ensures capacity { self.old.segments.capacity ≤ self.new.segments.capacity }
     {
-        let place = self.place(key_in(&segment, self.key_length()));
+        let place = self.place(key_in(segment.as_slice(), self.key_length()));
         match place {
-            Place::Stands(at) => self.segments[at] = segment,
+            Place::Stands(at) => self.segments.set(at, segment),
             Place::Lacks(at) => self.segments.insert(at, segment)?,
         }
         Ok(())
@@ -106,36 +125,33 @@ impl Table {
             → self.new.segments.items ≡ drop_key (key_of self.old.fields) key.now self.old.segments.items }
         ensures fields { self.new.fields ≡ self.old.fields }
         ensures shorter { length self.new.segments.items ≤ length self.old.segments.items }
-        ensures capacity { vec_capacity self.new.segments ≡ vec_capacity self.old.segments }
+        ensures capacity { self.old.segments.capacity ≤ self.new.segments.capacity }
     {
         match self.place(key) {
-            Place::Stands(at) => {
-                let _ = self.segments.remove(at);
-            }
+            Place::Stands(at) => self.segments.remove(at),
             Place::Lacks(_) => {}
         }
     }
 
     // Makes room for so many segments more, unless there would be 2^32 of them.
     pub(crate) fn reserve(&mut self, n: usize) -> Result<(), AllocError>
-        ensures ok { OnOk result (n ≤ room (vec_capacity self.new.segments) (length self.new.segments.items)) }
+        ensures ok { OnOk result (n ≤ room self.new.segments.capacity (length self.new.segments.items)) }
+        ensures few { OnOk result (length self.new.segments.items < 2 ^ 32) }
         ensures segments { self.new.segments.items ≡ self.old.segments.items }
-        ensures capacity { vec_capacity self.old.segments ≤ vec_capacity self.new.segments }
+        ensures capacity { self.old.segments.capacity ≤ self.new.segments.capacity }
         ensures fields { self.new.fields ≡ self.old.fields }
     {
-        let most = u32::MAX as usize;
-        if self.segments.len() > most || n > most - self.segments.len() {
-            return Err(AllocError);
-        }
         self.segments.reserve(n)
     }
 
     // The segments once more.
-    pub(crate) fn database(&self) -> Result<Msdb, AllocError>
+    pub(crate) fn database(&self, alloc: Global) -> Result<Msdb, AllocError>
         ensures { IfOk result (λ msdb. msdb.segments ≡ self.now.segments.items) }
     {
-        Ok(Msdb {
-            segments: List::from_vec(self.segments.clone()?),
-        })
+        let mut segments = List::with_capacity(alloc, self.segments.len())?;
+        for at in 0..self.segments.len() {
+            segments.push(Bytes::from_slice(alloc, self.segments.at(at))?)?;
+        }
+        Ok(Msdb { segments })
     }
 }

@@ -1,11 +1,12 @@
-use Rattle.std.proofs.Common.{◌≡◌, ◌∙◌, ◌≤◌, ◌+◌, ◌++◌, ◌∷◌, [], List, ℕ, zero, suc, ap, sym, subst, Some, map, take, length, slice_get, slice_index_or, slice_set, vec_capacity, arith, rules}
+use Rattle.std.proofs.Common.{◌≡◌, ◌∙◌, ◌≤◌, ◌+◌, ◌++◌, ◌∷◌, [], List, ℕ, zero, suc, ap, sym, subst, Some, map, take, length, slice_get, slice_index_or, slice_set, arith, rules}
 use Rattle.std.proofs.lemmas.List.{take_more_set}
 use Rattle.fp_model.specs.declared.database.Msdb.{Msdb}
+use Rattle.msdb_store.specs.Putting.{AreFew}
 use Rattle.msdb_store.specs.Rooms.{msdb_of, room_of}
 use Rattle.msdb_store.specs.Store.{least}
 use Rattle.msdb_store.specs.declared.table.Table.{Table}
 use Rattle.msdb_store.proofs.Ascending.{stands_there}
-use Rattle.msdb_store.proofs.Rooms.{least_push, least_set, room_less}
+use Rattle.msdb_store.proofs.Rooms.{few_push, least_push, least_set, room_less}
 use Rattle.msdb_store.proofs.Tables.{fields_with}
 use Rattle.msdb_store.proofs.store.make_room.Goals as goal
 
@@ -13,9 +14,9 @@ abbrev to_msdb : List (List ℕ) → Msdb
 to_msdb segments = record { segments = segments }
 
 -- more capacity, and the same segments
-no_less : (tables : List Table) (i : ℕ) (old t : Table) → slice_get tables i ≡ Some old → vec_capacity old.segments ≤ vec_capacity t.segments → t.segments.items ≡ old.segments.items → least (map room_of tables) ≤ least (map room_of (slice_set tables i t))
+no_less : (tables : List Table) (i : ℕ) (old t : Table) → slice_get tables i ≡ Some old → old.segments.capacity ≤ t.segments.capacity → t.segments.items ≡ old.segments.items → least (map room_of tables) ≤ least (map room_of (slice_set tables i t))
 no_less tables i old t at more same =
-    omega (arith, least_set room_of tables i 0 old t at (room_less (vec_capacity old.segments) (vec_capacity t.segments) (length old.segments.items) (length t.segments.items) 0 more (omega (arith, ap length same))))
+    omega (arith, least_set room_of tables i 0 old t at (room_less old.segments.capacity t.segments.capacity (length old.segments.items) (length t.segments.items) 0 more (omega (arith, ap length same))))
 
 same_msdbs : (tables : List Table) (i : ℕ) (old t : Table) → slice_get tables i ≡ Some old → t.segments.items ≡ old.segments.items → map msdb_of (slice_set tables i t) ≡ map msdb_of tables
 same_msdbs [] i old t at same = cc
@@ -48,4 +49,5 @@ loop-table-preserved c =
       omega (arith, c.loop-table.invariant.2, no_less tables i (slice_index_or tables i c.table-item.result) c.reserve.new.self at c.reserve.ensures.capacity c.reserve.ensures.segments),
       fields_with (λ t. t.fields) msdb_of tables i (slice_index_or tables i c.table-item.result) c.reserve.new.self at c.reserve.ensures.fields ∙ c.loop-table.invariant.3,
       same_msdbs tables i (slice_index_or tables i c.table-item.result) c.reserve.new.self at c.reserve.ensures.segments ∙ c.loop-table.invariant.4,
+      subst (λ ts. AreFew (map msdb_of ts)) (sym more) (few_push msdb_of (take i tables) c.reserve.new.self c.loop-table.invariant.5 c.in_ok-reserve.ensures.few),
     )

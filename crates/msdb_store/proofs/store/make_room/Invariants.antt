@@ -1,4 +1,5 @@
 use Rattle.std.proofs.Common.{◌≡◌, ◌≤◌, length, map, take}
+use Rattle.msdb_store.specs.Putting.{AreFew}
 use Rattle.msdb_store.specs.Rooms.{msdb_of, room_of}
 use Rattle.msdb_store.specs.Store.{least}
 use Rattle.msdb_store.proofs.store.make_room.Given as goal
@@ -11,3 +12,4 @@ invariant-loop-table l =
     × (least (map room_of l.initial.tables) ≤ least (map room_of l.tables))
     × (map (λ t. t.fields) l.tables ≡ map (λ t. t.fields) l.initial.tables)
     × (map msdb_of l.tables ≡ map msdb_of l.initial.tables)
+    × AreFew (map msdb_of (take l.table-index l.tables))

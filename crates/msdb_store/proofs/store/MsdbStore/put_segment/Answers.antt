@@ -1,18 +1,18 @@
-use Rattle.std.proofs.Common.{◌≡◌, ◌∙◌, ◌≤◌, ◌+◌, ◌<◌, ◌^◌, ℕ, sym, ap, subst, refl, List, Some, Bool, true, false, OnOk, length, map, slice_get, slice_set, arith, rules, vec_capacity}
+use Rattle.std.proofs.Common.{◌≡◌, ◌∙◌, ◌≤◌, ◌+◌, ◌<◌, ◌^◌, ℕ, sym, ap, subst, List, Some, Bool, true, OnOk, length, map, slice_get, slice_set, arith, rules}
 use Rattle.std.specs.Prelude.{if◌then◌else◌}
 use Rattle.std.proofs.lemmas.Grind.{common_steps}
 use Rattle.fp_model.specs.Items.{with_item}
 use Rattle.fp_model.specs.State.{ascend, key_of}
 use Rattle.fp_model.specs.declared.definitions.FieldDef.{FieldDef}
 use Rattle.fp_model.specs.declared.log.Item.TheVariants.{Segment}
-use Rattle.msdb_store.specs.Putting.{KeepsRoom}
+use Rattle.msdb_store.specs.Putting.{AreFew, KeepsRoom}
 use Rattle.msdb_store.specs.Settling.{adds}
 use Rattle.msdb_store.specs.Store.{IsOf, Stored, lacks, least, room}
 use Rattle.msdb_store.specs.declared.table.Table.{Table}
 use Rattle.msdb_store.proofs.Tables.{belongs, msdb_in, put_into, taken_away, with_room}
 use Rattle.msdb_store.proofs.Ascending.{stands_there}
 use Rattle.msdb_store.proofs.Calls.{some_bytes}
-use Rattle.msdb_store.proofs.Rooms.{adds_lacks, few_set, least_at, least_set, room_has, room_less}
+use Rattle.msdb_store.proofs.Rooms.{adds_lacks, few_set, least_at, least_set, room_less}
 use Rattle.msdb_store.proofs.store.MsdbStore.put_segment.Goals as goal
 
 abbrev fields : Table → List FieldDef
@@ -22,25 +22,19 @@ abbrev segments : Table → List (List ℕ)
 segments t = t.segments.items
 
 abbrev space : Table → ℕ
-space t = room (vec_capacity t.segments) (length t.segments.items)
+space t = room t.segments.capacity (length t.segments.items)
 
 -- the store that tables are
 abbrev all : List Table → Stored
 all tables = record { layouts = map fields tables; msdbs = map (msdb_in fields segments) tables; spare = least (map space tables) }
 
 -- what a table at a place leaves of the room
-kept : (tables : List Table) (n : ℕ) (old t : Table) (added : Bool) → slice_get tables n ≡ Some old → vec_capacity old.segments ≤ vec_capacity t.segments
-    → length (segments t) ≤ length (segments old) + (if added then 1 else 0) → (added ≡ true → 0 < least (map space tables)) → KeepsRoom (all tables) (all (slice_set tables n t)) added
-kept tables n old t added at more longer fits = record {
-  spare = least_set space tables n (if added then 1 else 0) old t at (room_less (vec_capacity old.segments) (vec_capacity t.segments) (length (segments old)) (length (segments t)) (if added then 1 else 0) more longer);
-  few = few_set fields segments tables n old t at (few_one added longer fits);
+kept : (tables : List Table) (n : ℕ) (old t : Table) (added : Bool) → slice_get tables n ≡ Some old → old.segments.capacity ≤ t.segments.capacity
+    → length (segments t) ≤ length (segments old) + (if added then 1 else 0) → (length (segments old) < 2 ^ 32 → length (segments t) < 2 ^ 32) → KeepsRoom (all tables) (all (slice_set tables n t)) added
+kept tables n old t added at more longer few = record {
+  spare = least_set space tables n (if added then 1 else 0) old t at (room_less old.segments.capacity t.segments.capacity (length (segments old)) (length (segments t)) (if added then 1 else 0) more longer);
+  few = few_set fields segments tables n old t at few;
 }
-  where
-    few_one : (b : Bool) → length (segments t) ≤ length (segments old) + (if b then 1 else 0) → (b ≡ true → 0 < least (map space tables)) → length (segments old) < 2 ^ 32 → length (segments t) < 2 ^ 32
-    few_one true long some few =
-        let its : 0 < space old = omega (arith, some refl, least_at space tables n old at) in
-        omega (arith, long, (room_has (vec_capacity old.segments) (length (segments old)) its).1)
-    few_one false long some few = omega (arith, long, few)
 
 pub returns-then-is_empty-clause-msdbs : goal.returns-then-is_empty-clause-msdbs
 returns-then-is_empty-clause-msdbs c defs of fit =
@@ -59,9 +53,21 @@ returns-then-is_empty-clause-room c defs can =
     let tables = c.self.inside.tables.items in
     let added = adds defs c.args.self.now.msdbs (Segment c.args.msdb c.args.key.now c.args.bytes) in
     let at : slice_get tables c.args.msdb ≡ Some c.index_mut.result.now = stands_there tables c.args.msdb c.index_mut.result.now (grind (arith, common_steps)) ∙ ap Some (sym c.index_mut.ensures.value) in
-    let fits : added ≡ true → 0 < least (map space tables) = λ e. subst (λ s. 0 < s.spare) (sym c.self.view_is) (can.room e) in
     subst (λ s. KeepsRoom s (all (slice_set tables c.args.msdb c.take_away.new.self)) added) c.self.view_is
-    (kept tables c.args.msdb c.index_mut.result.now c.take_away.new.self added at (omega (arith, c.take_away.ensures.capacity)) (omega (arith, c.take_away.ensures.shorter)) fits)
+    (kept tables c.args.msdb c.index_mut.result.now c.take_away.new.self added at c.take_away.ensures.capacity (omega (arith, c.take_away.ensures.shorter)) (λ few. omega (arith, c.take_away.ensures.shorter, few)))
+
+pub returns-then-is_empty-clause-few : goal.returns-then-is_empty-clause-few
+returns-then-is_empty-clause-few c few =
+    let tables = c.self.inside.tables.items in
+    let at : slice_get tables c.args.msdb ≡ Some c.index_mut.result.now = stands_there tables c.args.msdb c.index_mut.result.now (grind (arith, common_steps)) ∙ ap Some (sym c.index_mut.ensures.value) in
+    few_set fields segments tables c.args.msdb c.index_mut.result.now c.take_away.new.self at (λ one. omega (arith, c.take_away.ensures.shorter, one)) (subst (λ s. AreFew s.msdbs) (sym c.self.view_is) few)
+
+pub returns-clause-few : goal.returns-clause-few
+returns-clause-few c few =
+    let tables = c.self.inside.tables.items in
+    let t = c.index_mut-2.result.now in
+    let at : slice_get tables c.args.msdb ≡ Some t = stands_there tables c.args.msdb t (grind (arith, common_steps)) ∙ ap Some (sym c.index_mut-2.ensures.value) in
+    few_set fields segments tables c.args.msdb t c.put.new.self at c.put.ensures.few (subst (λ s. AreFew s.msdbs) (sym c.self.view_is) few)
 
 pub returns-clause-msdbs : goal.returns-clause-msdbs
 returns-clause-msdbs c defs of fit =
@@ -85,7 +91,7 @@ returns-clause-done c defs can =
     let up : ascend (map (key_of (fields t)) (segments t)) ≡ true = subst (λ fs. ascend (map (key_of fs) (segments t)) ≡ true) (sym its.same) its.good.in_order in
     let same = adds_lacks fields segments defs tables c.args.msdb t c.args.key.now c.args.bytes of at can.fit (some_bytes c.is_empty.result c.args.bytes c.is_empty.ensures c.if-is_empty.false) in
     let seen : adds defs c.args.self.now.msdbs (Segment c.args.msdb c.args.key.now c.args.bytes) ≡ lacks (fields t) (segments t) c.args.bytes = subst (λ s. adds defs s.msdbs (Segment c.args.msdb c.args.key.now c.args.bytes) ≡ lacks (fields t) (segments t) c.args.bytes) c.self.view_is same in
-    c.put.ensures.done up (λ e. (room_has (vec_capacity t.segments) (length (segments t)) (omega (arith, subst (λ s. 0 < s.spare) (sym c.self.view_is) (can.room (seen ∙ e)), least_at space tables c.args.msdb t at))).0)
+    c.put.ensures.done up (λ e. omega (arith, subst (λ s. 0 < s.spare) (sym c.self.view_is) (can.room (seen ∙ e)), least_at space tables c.args.msdb t at))
 
 pub returns-clause-room : goal.returns-clause-room
 returns-clause-room c defs can =
@@ -98,7 +104,6 @@ returns-clause-room c defs can =
     let up : ascend (map (key_of (fields t)) (segments t)) ≡ true = subst (λ fs. ascend (map (key_of fs) (segments t)) ≡ true) (sym its.same) its.good.in_order in
     let same = adds_lacks fields segments defs tables c.args.msdb t c.args.key.now c.args.bytes of at can.fit (some_bytes c.is_empty.result c.args.bytes c.is_empty.ensures c.if-is_empty.false) in
     let seen : added ≡ lacks (fields t) (segments t) c.args.bytes = subst (λ s. adds defs s.msdbs (Segment c.args.msdb c.args.key.now c.args.bytes) ≡ lacks (fields t) (segments t) c.args.bytes) c.self.view_is same in
-    let fits : added ≡ true → 0 < least (map space tables) = λ e. subst (λ s. 0 < s.spare) (sym c.self.view_is) (can.room e) in
     let long : length (segments c.put.new.self) ≤ length (segments t) + (if added then 1 else 0) = subst (λ (b : Bool). length (segments c.put.new.self) ≤ length (segments t) + (if b then 1 else 0)) (sym seen) (c.put.ensures.long up) in
     subst (λ s. KeepsRoom s (all (slice_set tables c.args.msdb c.put.new.self)) added) c.self.view_is
-    (kept tables c.args.msdb t c.put.new.self added at c.put.ensures.capacity long fits)
+    (kept tables c.args.msdb t c.put.new.self added at c.put.ensures.capacity long c.put.ensures.few)

@@ -1,5 +1,4 @@
-use Rattle.std.proofs.Common.{◌∙◌, sym, ap, Some}
-use Rattle.std.proofs.lemmas.Option.{get_or_from_slice_get}
+use Rattle.std.proofs.Common.{◌∙◌, sym}
 use Rattle.fp_model.specs.State.{key_of}
 use Rattle.msdb_store.proofs.Ascending.{found_at, found_there}
 use Rattle.msdb_store.proofs.table.Table.look.Goals as goal
@@ -7,8 +6,7 @@ use Rattle.msdb_store.proofs.table.Table.look.Goals as goal
 pub returns-in-Stands : goal.returns-in-Stands
 returns-in-Stands c up =
     let p = c.in-Stands.ensures.place up in
-    ap Some (c.as_slice.ensures ∙ c.index.ensures ∙ get_or_from_slice_get c.args.self.now.segments.items c.in-Stands.at p.1 c.index.result.now p.2)
-    ∙ sym (found_there (key_of c.args.self.now.fields) c.args.key.now c.args.self.now.segments.items c.in-Stands.at p.1 p.0 up p.2 p.3)
+    c.get.ensures ∙ p.2 ∙ sym (found_there (key_of c.args.self.now.fields) c.args.key.now c.args.self.now.segments.items c.in-Stands.at p.1 p.0 up p.2 p.3)
 
 pub returns-in-Lacks : goal.returns-in-Lacks
 returns-in-Lacks c up =
