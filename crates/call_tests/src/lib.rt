@@ -1,4 +1,5 @@
-//! Tests of the crates that read definitions, schedules and scripts, run scripts and answer their calls.
+//! Tests of the crates that read definitions, schedules and scripts, run scripts, answer their
+//! calls and commit them.
 #![tactic(auto)]
 
 #[cfg(test)]
@@ -15,5 +16,7 @@ mod schedules;
 mod scripts;
 #[cfg(test)]
 mod stores;
+#[cfg(test)]
+mod sync_points;
 #[cfg(test)]
 mod transactions;

@@ -52,7 +52,7 @@ impl Random {
 }
 
 #[derive(Clone, Copy, Debug)]
-enum Action {
+pub(crate) enum Action {
     Insert,
     Replace,
     Delete,
@@ -62,12 +62,12 @@ enum Action {
     Verify,
 }
 
-// A call: what it does to the account of a key, with which amount.
+/// A call: what it does to the account of a key, with which amount.
 #[derive(Clone, Copy, Debug)]
-struct Step {
-    action: Action,
-    key: [u8; 4],
-    amount: u32,
+pub(crate) struct Step {
+    pub(crate) action: Action,
+    pub(crate) key: [u8; 4],
+    pub(crate) amount: u32,
 }
 
 impl Random {
@@ -163,8 +163,12 @@ fn call(alloc: Global, step: Step) -> Result<Deferred, AllocError>
     }
 }
 
-// A queue of one or two calls.
-fn queue(alloc: Global, first: Step, second: Option<Step>) -> Result<List<Deferred>, AllocError>
+/// A queue of one or two calls.
+pub(crate) fn queue(
+    alloc: Global,
+    first: Step,
+    second: Option<Step>,
+) -> Result<List<Deferred>, AllocError>
     ensures fit { (defs : ListOf DefOf) → (def : DefOf) → defs ≡ def ∷ [] → def.length ≡ 8
         → key_length def.fields ≡ 4 → IfOk result (AllByRecursion (IsFitDeferred defs)) }
     ensures few { IfOk result (λ queue. length queue < 2 ^ 32) }
@@ -402,11 +406,11 @@ struct Row {
     segments: &'static [u8],
 }
 
-const A: [u8; 4] = *b"A001";
+pub(crate) const A: [u8; 4] = *b"A001";
 
-const B: [u8; 4] = *b"B002";
+pub(crate) const B: [u8; 4] = *b"B002";
 
-const C: [u8; 4] = *b"C003";
+pub(crate) const C: [u8; 4] = *b"C003";
 
 const ROWS: [Row; 5] = [
     Row {
@@ -489,8 +493,8 @@ fn outcome(alloc: Global, row: Row) -> Result<usize, VerifyFault> {
     }
 }
 
-// The segments of the one database, one after another.
-fn segments(alloc: Global, store: &MsdbStore) -> Result<Bytes, AllocError> {
+/// The segments of the one database, one after another.
+pub(crate) fn segments(alloc: Global, store: &MsdbStore) -> Result<Bytes, AllocError> {
     let mut text = Bytes::new(alloc);
     for msdb in store.databases(alloc)?.as_slice() {
         for segment in msdb.segments.as_slice() {

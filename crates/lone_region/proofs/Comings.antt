@@ -1,24 +1,17 @@
 -- The entry of a transaction that ran alone comes next.
-use Rattle.std.proofs.Common.{◌≡◌, refl, sym, ◌∙◌, ap, subst, arith, inl, inr, ℕ, zero, suc, ◌+◌, ◌≤◌, ◌<◌, ◌^◌, ◌⊎◌, List, [], ◌∷◌, ◌++◌, length, take, Bool, true, false, Option, Some, None, IfSome, slice_get, unwrap_or, fold}
+use Rattle.std.proofs.Common.{◌≡◌, refl, sym, ◌∙◌, ap, subst, arith, ℕ, List, [], ◌∷◌, length, Bool, true, false, Option, Some, None}
 use Rattle.std.specs.List.{AllByRecursion, list_all}
 use Rattle.std.specs.Prelude.{Result, Ok, Err, if◌then◌else◌, nat_lt}
 use Rattle.fp_model.specs.declared.name.Name.{Name}
 use Rattle.fp_model.specs.declared.calls.Message.{Message}
-use Rattle.fp_model.specs.declared.database.Db.{Db}
 use Rattle.fp_model.specs.declared.database.Msdb.{Msdb}
-use Rattle.fp_model.specs.declared.definitions.DedbDef.{DedbDef}
 use Rattle.fp_model.specs.declared.definitions.Defs.{Defs}
-use Rattle.fp_model.specs.declared.definitions.FieldDef.{FieldDef}
-use Rattle.fp_model.specs.declared.definitions.MsdbDef.{MsdbDef}
-use Rattle.fp_model.specs.declared.log.Entry.{Entry}
 use Rattle.fp_model.specs.declared.log.Item.{Item}
-use Rattle.fp_model.specs.declared.log.Item.TheVariants as item
 use Rattle.fp_model.specs.declared.log.Outcome.TheVariants as outcome
 use Rattle.fp_model.specs.declared.scripts.Script.{Script}
-use Rattle.fp_model.specs.Commit.{Settlement, Commits, FailsVerify, committed, first_full, settled_to, settlement, with_msdbs}
+use Rattle.fp_model.specs.Commit.{Settlement}
 use Rattle.fp_model.specs.SerialHistory.{NeverFalls}
-use Rattle.fp_model.specs.Items.{FitsMsdb, IsFit, with_items}
-use Rattle.fp_model.specs.LogText.{FitsItem}
+use Rattle.fp_model.specs.Items.{with_items}
 use Rattle.fp_model.specs.History.{History, Accepts, Refuses, place_of}
 use Rattle.fp_model.specs.Lasts.{Last, format_at, lasts_of}
 use Rattle.fp_model.specs.Messages.{MessageFault, TooLong, NotAscii, behind_word, first_word, message_by, message_of, terminal_of}
@@ -26,18 +19,16 @@ use Rattle.fp_model.specs.Names.{name_in}
 use Rattle.fp_model.specs.Product.{by_message, by_number, request_of}
 use Rattle.fp_model.specs.Texts.{is_printable}
 use Rattle.fp_model.specs.Serial.{Ends, settled_as}
-use Rattle.fp_model.specs.Settle.{Settled, Stands, VerifyFails, settle}
-use Rattle.fp_model.specs.State.{areas_of, areas_of_all, first_area_set, key_length}
-use Rattle.fp_model.specs.WellFormed.{BeginsWithKey, IsMsdbDef}
-use Rattle.fp_model.specs.Workspace.{Workspace}
+use Rattle.fp_model.specs.Settle.{Stands, VerifyFails, settle}
 use Rattle.dli_calls.specs.Progress.{Progress}
 use Rattle.msdb_store.specs.Settling.{IsSegmentItem}
-use Rattle.msdb_store.specs.Store.{IsFitSegment, Stored}
+use Rattle.msdb_store.specs.Store.{IsFitSegment}
 use Rattle.lone_region.specs.Entries.{done_entry, plain_request, refused_entry, unknown_entry, without_number}
 use Rattle.lone_region.specs.Next.{ComesNext, IsPlainHistory}
 use Rattle.lone_region.specs.Running.{HasEnded, IsPlain}
 use Rattle.lone_region.specs.declared.running.End.TheVariants as end
-use Rattle.lone_region.proofs.Transactions.{each_has}
+use Rattle.sync_point.proofs.Segments.{items_fit}
+use Rattle.sync_point.proofs.Settlements.{settlement_fails, settlement_is}
 
 -- ---- notes
 
@@ -45,52 +36,6 @@ use Rattle.lone_region.proofs.Transactions.{each_has}
 notes_at : (place : ℕ) (notes : List ℕ) → AllByRecursion (λ note. note ≡ place) notes → NeverFalls place notes place
 notes_at place [] h = omega arith
 notes_at place (n ∷ notes) h = (omega (arith, h.0), subst (λ (k : ℕ). NeverFalls k notes place) (sym h.0) (notes_at place notes h.1))
-
--- ---- the sync point without data entry databases
-
-module _ (defs : Defs) (none : defs.dedbs ≡ []) (now : Db) (own : Workspace) (changes : own.changes ≡ []) (inserts : own.inserts ≡ []) where
-  commits : (s : Settled) (msdbs : List Msdb) → s ≡ Stands msdbs → settled_to defs now own s ≡ Commits (record now { msdbs = msdbs })
-  commits s msdbs e =
-      ap (settled_to defs now own) e
-      ∙ ap (λ (ds : List DedbDef). unwrap_or (first_full now own.inserts first_area_set (areas_of_all 0 ds)) (Commits (committed defs own msdbs now))) none
-      ∙ rw (changes, inserts) refl
-
-  -- where the queue settles, the databases are those that it leaves
-  pub settlement_is : (msdbs : List Msdb) → settle defs.msdbs now.msdbs own.deferred ≡ Stands msdbs → settlement defs now own ≡ Commits (record now { msdbs = msdbs })
-  unfolding settlement
-  settlement_is msdbs e = commits (settle defs.msdbs now.msdbs own.deferred) msdbs e
-
-  pub settlement_fails : (call fsa : ℕ) (found : List ℕ) → settle defs.msdbs now.msdbs own.deferred ≡ VerifyFails call fsa found → settlement defs now own ≡ FailsVerify call fsa found
-  unfolding settlement
-  settlement_fails call fsa found e = ap (settled_to defs now own) e
-
--- ---- items
-
-items_fit : (defs : Defs) (items : List Item) → AllByRecursion (IsFitSegment defs.msdbs) items → AllByRecursion IsSegmentItem items → AllByRecursion (IsFit defs) items
-items_fit defs [] h g = tt
-items_fit defs (item.Segment number key bytes ∷ items) h g = (h.0, items_fit defs items h.1 g.1)
-items_fit defs (item.Image set ci bytes ∷ items) h g = absurd g.0
-items_fit defs (item.Range set ci at bytes ∷ items) h g = absurd g.0
-
-key_short : (fields : List FieldDef) → BeginsWithKey fields → key_length fields ≤ 64
-key_short [] h = absurd h
-key_short (f ∷ fs) h = h.1
-
-bytes_short : (def : MsdbDef) (key bytes : List ℕ) → def.length ≤ 1024 → (bytes ≡ []) ⊎ ((length bytes ≡ def.length) × (take (length key) bytes ≡ key)) → length bytes < 2 ^ 16
-bytes_short def key bytes few (inl e) = rw e (omega arith)
-bytes_short def key bytes few (inr h) = omega (arith, h.0, few)
-
-item_short : (def : MsdbDef) (key bytes : List ℕ) → IsMsdbDef def → FitsMsdb def key bytes → (length key < 2 ^ 8) × (length bytes < 2 ^ 16)
-item_short def key bytes is fits =
-    let k = key_short def.fields is.key in
-    (omega (arith, k, fits.key_length), bytes_short def key bytes is.short fits.segment)
-
-pub items_short : (defs : List MsdbDef) (items : List Item) → AllByRecursion IsMsdbDef defs → AllByRecursion (IsFitSegment defs) items → AllByRecursion IsSegmentItem items → AllByRecursion FitsItem items
-items_short defs [] each h g = tt
-items_short defs (item.Segment number key bytes ∷ items) each h g =
-    (item_short h.0.0 key bytes (each_has IsMsdbDef defs number h.0.0 each h.0.1) h.0.2, items_short defs items each h.1 g.1)
-items_short defs (item.Image set ci bytes ∷ items) each h g = absurd g.0
-items_short defs (item.Range set ci at bytes ∷ items) each h g = absurd g.0
 
 -- ---- what comes next
 

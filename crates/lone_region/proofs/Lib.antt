@@ -1,11 +1,8 @@
 mod Comings
-mod Found
 mod Gaining
 mod Making
 mod Needs
 mod Plain
-mod Replies
 mod Results
 mod Steps
-mod Stores
 mod Transactions

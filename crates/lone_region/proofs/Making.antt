@@ -1,5 +1,5 @@
 -- What a line is given can be written, and comes next.
-use Rattle.std.proofs.Common.{◌≡◌, refl, arith, ℕ, ◌≤◌, ◌<◌, ◌^◌, List, [], length, None, Some}
+use Rattle.std.proofs.Common.{◌≡◌, refl, arith, ℕ, ◌≤◌, ◌<◌, ◌^◌, List, length, None, Some}
 use Rattle.fp_model.specs.declared.calls.Message.{Message}
 use Rattle.fp_model.specs.declared.definitions.Defs.{Defs}
 use Rattle.fp_model.specs.declared.log.Outcome.TheVariants as outcome
@@ -15,8 +15,9 @@ use Rattle.lone_region.specs.Entries.{IsMade, done_entry, plain_request, refused
 use Rattle.lone_region.specs.Running.{HasEnded, IsReady}
 use Rattle.lone_region.specs.declared.entries.Made.{Made}
 use Rattle.lone_region.specs.declared.running.End.TheVariants as end
-use Rattle.lone_region.proofs.Comings.{done_comes, items_short, roll_comes, unknown_comes, verify_comes}
-use Rattle.lone_region.proofs.Found.{verify_found_is_short}
+use Rattle.lone_region.proofs.Comings.{done_comes, roll_comes, unknown_comes, verify_comes}
+use Rattle.sync_point.proofs.Found.{verify_found_is_short}
+use Rattle.sync_point.proofs.Segments.{items_short}
 
 module _ (defs : Defs) (scripts : List Script) (store : Stored) (from : ℕ) (line : List ℕ) (few_bytes : length line ≤ 2100) where
   pub unknown_made : plain_request scripts line ≡ Refuses outcome.Unknown → IsMade defs scripts store from line (record { entry = unknown_entry from line; staged = None })

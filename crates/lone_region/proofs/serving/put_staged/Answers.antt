@@ -1,10 +1,7 @@
-use Rattle.std.proofs.Common.{◌≡◌, ◌∙◌, refl, sym, ap, subst, List}
+use Rattle.std.proofs.Common.{◌∙◌, ap, List}
 use Rattle.fp_model.specs.declared.database.Msdb.{Msdb}
-use Rattle.fp_model.specs.declared.definitions.MsdbDef.{MsdbDef}
 use Rattle.fp_model.specs.Items.{with_items}
-use Rattle.msdb_store.specs.Settling.{IsStaged}
-use Rattle.msdb_store.specs.Store.{IsOf}
-use Rattle.lone_region.proofs.Stores.{same_store}
+use Rattle.sync_point.proofs.Stores.{same_store}
 use Rattle.lone_region.proofs.serving.put_staged.Goals as goal
 
 pub returns-clause-msdbs : goal.returns-clause-msdbs

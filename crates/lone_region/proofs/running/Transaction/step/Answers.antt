@@ -1,4 +1,4 @@
-use Rattle.std.proofs.Common.{◌≡◌, ◌∙◌, refl, sym, ap, arith, ℕ, suc, ◌+◌, ◌-◌, ◌<◌, ◌≤◌, [], ◌∷◌, ◌++◌, true, length, length-append}
+use Rattle.std.proofs.Common.{◌≡◌, ◌∙◌, refl, sym, ap, arith, suc, ◌+◌, ◌-◌, ◌<◌, [], ◌∷◌, ◌++◌, true, length, length-append}
 use Rattle.fp_model.specs.declared.database.Db.{Db}
 use Rattle.fp_model.specs.declared.calls.Answer.{Answer}
 use Rattle.fp_model.specs.Calls.{looks_unheld}
@@ -6,10 +6,12 @@ use Rattle.fp_model.specs.FitCalls.{are_fit}
 use Rattle.fp_model.specs.Product.{asked_by, cost_of, rules_of}
 use Rattle.fp_model.specs.Asking.{Ask, Asks, Replies, Rolls, ask, full_cost}
 use Rattle.fp_model.specs.Serial.{asked, goes}
-use Rattle.lone_region.proofs.Plain.{call_keeps, noted_few, noted_here}
-use Rattle.lone_region.proofs.Replies.{replies_are_short}
+use Rattle.lone_region.proofs.Plain.{noted_few, noted_here}
+use Rattle.sync_point.proofs.Keeping.{call_keeps}
+use Rattle.sync_point.proofs.Replies.{replies_are_short}
 use Rattle.lone_region.proofs.Steps.{call_comes, ends_alone}
-use Rattle.lone_region.proofs.Transactions.{asked_is, cost_is, each_has}
+use Rattle.lone_region.proofs.Transactions.{cost_is}
+use Rattle.sync_point.proofs.Scripts.{asked_is, each_has}
 use Rattle.lone_region.proofs.running.Transaction.step.Goals as goal
 
 pub returns-in_ok-given-in-Call-clause-goes : goal.returns-in_ok-given-in-Call-clause-goes

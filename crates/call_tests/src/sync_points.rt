@@ -1,0 +1,260 @@
+//! Drafts committed one after another: what the log and the databases have behind each.
+ghost use Rattle.fp_model.specs.FitCalls.{IsFitDeferred};
+ghost use Rattle.fp_model.specs.LogText.{FitsEntry, FitsFront, KeepsRules};
+ghost use Rattle.fp_model.specs.State.{key_length};
+ghost use Rattle.fp_model.specs.WellFormed.{IsMsdbDef};
+ghost use Rattle.fp_model.specs.declared.definitions.MsdbDef.{MsdbDef as DefOf};
+ghost use Rattle.log_groups.specs.Images.{as_front};
+ghost use Rattle.msdb_store.specs.Store.{IsOf};
+ghost use Rattle.std.specs.List.{AllByRecursion};
+ghost use Rattle.std.specs.Prelude.{◌≡◌, ◌<◌, ◌^◌, ◌∷◌, [], IfOk, List as ListOf, length};
+
+use crate::accounts::{defs, field_call, insert};
+use crate::queues::{A, Action, B, C, Step, queue, segments};
+use fp_model::{Bytes, Deferred, Entry, List, Outcome, Resource};
+use fp_site::MemorySite;
+use log_groups::{Front, Log, LogFault};
+use msdb_store::MsdbStore;
+use std::alloc::{AllocError, Global};
+use std::test::Fail;
+use sync_point::{Cause, Draft, append_beside, commit, refusal_room, resources};
+
+// ---- logs
+
+fn front(alloc: Global) -> Result<Front, AllocError>
+    ensures { IfOk result (λ front. FitsFront (as_front front)) }
+{
+    let defs = Bytes::from_slice(alloc, b"D")?;
+    Ok(Front {
+        format: 1,
+        defs,
+        scripts: Bytes::new(alloc),
+    })
+}
+
+// A log without entries.
+fn empty_log(alloc: Global) -> Result<Log, LogFault> {
+    let front = front(alloc)?;
+    let mut site = MemorySite::new(alloc, &[])?;
+    Log::make(alloc, &mut site, &front)?;
+    Log::open(alloc, &mut site, &front)
+}
+
+// ---- drafts
+
+// A draft of two calls, how many items its entry has or which call fails with which bytes found, and behind it how many
+// entries the log has, and all segments.
+#[derive(Clone, Copy, Debug)]
+struct Row {
+    first: Step,
+    second: Step,
+    wanted: Result<usize, (u32, u16, &'static [u8])>,
+    entries: u64,
+    segments: &'static [u8],
+}
+
+// What the log keeps free.
+const ROOM: u64 = 500;
+
+const ROWS: [Row; 4] = [
+    Row {
+        first: Step {
+            action: Action::Insert,
+            key: A,
+            amount: 100,
+        },
+        second: Step {
+            action: Action::Add,
+            key: A,
+            amount: 10,
+        },
+        wanted: Ok(1),
+        entries: 1,
+        segments: b"A001\x00\x00\x11\x0c",
+    },
+    Row {
+        first: Step {
+            action: Action::Verify,
+            key: A,
+            amount: 110,
+        },
+        second: Step {
+            action: Action::Add,
+            key: A,
+            amount: 20,
+        },
+        wanted: Ok(1),
+        entries: 2,
+        segments: b"A001\x00\x00\x13\x0c",
+    },
+    Row {
+        first: Step {
+            action: Action::Add,
+            key: A,
+            amount: 20,
+        },
+        second: Step {
+            action: Action::Verify,
+            key: A,
+            amount: 151,
+        },
+        wanted: Err((1, 0, b"\x00\x00\x15\x0c")),
+        entries: 2,
+        segments: b"A001\x00\x00\x13\x0c",
+    },
+    Row {
+        first: Step {
+            action: Action::Insert,
+            key: C,
+            amount: 5,
+        },
+        second: Step {
+            action: Action::Add,
+            key: A,
+            amount: 1,
+        },
+        wanted: Ok(2),
+        entries: 3,
+        segments: b"A001\x00\x00\x13\x1cC003\x00\x00\x00\x5c",
+    },
+];
+
+fn draft(alloc: Global, from: u64, row: Row) -> Result<Draft, AllocError>
+    ensures fit { (defs : ListOf DefOf) → (def : DefOf) → defs ≡ def ∷ [] → def.length ≡ 8
+        → key_length def.fields ≡ 4 → IfOk result (λ draft. AllByRecursion (IsFitDeferred defs) draft.deferred) }
+    ensures line { IfOk result (λ draft. length draft.line < 2 ^ 16) }
+    ensures reply { IfOk result (λ draft. length draft.reply < 2 ^ 16) }
+{
+    let deferred = queue(alloc, row.first, Some(row.second))?;
+    let line = Bytes::from_slice(alloc, b"T1 MOVE")?;
+    let reply = Bytes::from_slice(alloc, b"DONE")?;
+    Ok(Draft {
+        from,
+        line,
+        reply,
+        notes: List::new(alloc),
+        deferred,
+    })
+}
+
+// Commits the draft of a row: how many items, or which call fails.
+fn committed(
+    alloc: Global,
+    store: &mut MsdbStore,
+    log: &mut Log,
+    row: Row,
+) -> Result<Result<usize, Cause>, Cause>
+    requires { (defs : ListOf DefOf) × (def : DefOf) × (defs ≡ def ∷ []) × IsMsdbDef def × (def.length ≡ 8)
+        × (key_length def.fields ≡ 4) × IsOf defs store.old }
+    ensures { (defs : ListOf DefOf) → (def : DefOf) → defs ≡ def ∷ [] → IsMsdbDef def → def.length ≡ 8
+        → key_length def.fields ≡ 4 → IsOf defs store.old → IsOf defs store.new }
+{
+    let draft = draft(alloc, log.count(), row)?;
+    match commit(draft, store, log) {
+        Ok(entry) => Ok(Ok(entry.items.len())),
+        Err(Cause::Memory) => Err(Cause::Memory),
+        Err(cause) => Ok(Err(cause)),
+    }
+}
+
+// The answer of a row as `commit` gives it.
+fn wanted(alloc: Global, row: Row) -> Result<Result<usize, Cause>, AllocError> {
+    match row.wanted {
+        Ok(items) => Ok(Ok(items)),
+        Err((call, fsa, found)) => {
+            let found = Bytes::from_slice(alloc, found)?;
+            Ok(Err(Cause::Verify { call, fsa, found }))
+        }
+    }
+}
+
+// Commits the draft of a row. Whether log and databases come to what is wanted, and the log keeps its room.
+fn goes(alloc: Global, store: &mut MsdbStore, log: &mut Log, row: Row) -> Result<bool, Cause>
+    requires { (defs : ListOf DefOf) × (def : DefOf) × (defs ≡ def ∷ []) × IsMsdbDef def × (def.length ≡ 8)
+        × (key_length def.fields ≡ 4) × IsOf defs store.old }
+    ensures { (defs : ListOf DefOf) → (def : DefOf) → defs ≡ def ∷ [] → IsMsdbDef def → def.length ≡ 8
+        → key_length def.fields ≡ 4 → IsOf defs store.old → IsOf defs store.new }
+{
+    if committed(alloc, store, log, row)? != wanted(alloc, row)? {
+        return Ok(false);
+    }
+    let segments = segments(alloc, store)?;
+    Ok(log.count() == row.entries && log.spare() >= ROOM && segments.as_slice() == row.segments)
+}
+
+#[test]
+fn drafts_come_to_what_is_wanted(rt: HostRuntime) -> Result<(), Fail> {
+    let alloc = rt.alloc();
+    let defs = defs(alloc, true)?;
+    let mut store = MsdbStore::start(alloc, &defs)?;
+    let mut log = empty_log(alloc)?;
+    log.reserve(ROOM)?;
+    for row in ROWS {
+        assert!(rt; goes(alloc, &mut store, &mut log, row)?, "{row:?}");
+    }
+    Ok(())
+}
+
+// ---- segments
+
+// A queue of field calls on these keys, with an insert behind them.
+fn field_calls(alloc: Global, keys: [[u8; 4]; 4]) -> Result<List<Deferred>, AllocError> {
+    let mut calls = List::new(alloc);
+    for key in keys {
+        calls.push(field_call(alloc, key, b'+', b"1")?)?;
+    }
+    calls.push(insert(alloc, *b"D004\x00\x00\x00\x0c")?)?;
+    Ok(calls)
+}
+
+// The numbers and keys of segments, one after another.
+fn text_of(alloc: Global, named: &List<Resource>) -> Result<Bytes, AllocError> {
+    let mut text = Bytes::new(alloc);
+    for resource in named.as_slice() {
+        if let Resource::Segment { msdb, key } = resource {
+            text.push(*msdb)?;
+            text.append(key.as_slice())?;
+        }
+    }
+    Ok(text)
+}
+
+#[test]
+fn a_queue_names_each_segment_once(rt: HostRuntime) -> Result<(), Fail> {
+    let alloc = rt.alloc();
+    let calls = field_calls(alloc, [B, A, C, A])?;
+    let named = resources(alloc, &calls)?;
+    let text = text_of(alloc, &named)?;
+    assert_eq!(rt; text.as_slice(), b"\x00A001\x00B002\x00C003".as_slice());
+    Ok(())
+}
+
+// ---- refusals
+
+// The entry of a line that is refused for want of memory.
+fn refusal(alloc: Global, line: Bytes) -> Entry
+    requires { length line < 2 ^ 16 }
+    ensures rules { KeepsRules result }
+    ensures fits { FitsEntry result }
+{
+    Entry {
+        from: 0,
+        outcome: Outcome::Memory,
+        line,
+        reply: Bytes::new(alloc),
+        notes: List::new(alloc),
+        items: List::new(alloc),
+    }
+}
+
+#[test]
+fn a_refusal_fills_its_room(rt: HostRuntime) -> Result<(), Fail> {
+    let alloc = rt.alloc();
+    let line = Bytes::from_slice(alloc, b"T1 MOVE")?;
+    let room = refusal_room(&line);
+    let mut log = empty_log(alloc)?;
+    log.reserve(room)?;
+    append_beside(&mut log, &refusal(alloc, line), 0)?;
+    assert_eq!(rt; [room, log.count(), log.spare()], [36, 1, 0]);
+    Ok(())
+}
