@@ -1,5 +1,5 @@
 -- A region's transaction ends.
-use Rattle.std.proofs.Common.{◌≡◌, refl, sym, ◌∙◌, ap, subst, arith, ℕ, zero, suc, ◌-◌, ◌+◌, ◌<◌, ◌≤◌, List, [], ◌∷◌, ◌++◌, length, drop, map, Option, Some, None, slice_get, slice_set, inl, inr, ◌⊎◌}
+use Rattle.std.proofs.Common.{◌≡◌, refl, sym, ◌∙◌, ap, subst, arith, ℕ, zero, suc, ◌-◌, ◌+◌, ◌<◌, ◌≤◌, List, [], ◌∷◌, ◌++◌, length, map, Some, slice_get, slice_set, inl, inr, ◌⊎◌}
 use Rattle.std.proofs.lemmas.List.{drop-append-le, length-append, length-set}
 use Rattle.std.specs.declared.collections.VecDeque.{VecDeque}
 use Rattle.std.specs.VecDeque.{deque_capacity}
@@ -15,12 +15,10 @@ use Rattle.fp_model.specs.declared.log.Outcome.TheVariants as outcome
 use Rattle.fp_model.specs.declared.scripts.Script.{Script}
 use Rattle.fp_model.specs.History.{History, states_of, with_entry}
 use Rattle.fp_model.specs.Lasts.{format_at, format_behind}
-use Rattle.fp_model.specs.LogText.{entry_text}
 use Rattle.fp_model.specs.Machine as machine
 use Rattle.fp_model.specs.Machine.{Transaction, Machine, ended_with, entry_of, region_at}
 use Rattle.fp_model.specs.Serial.{refused_as}
 use Rattle.fp_model.specs.Waiting.{Lock, without_region}
-use Rattle.log_format.proofs.SizeLaws.{length_of_entry}
 use Rattle.log_groups.specs.Log.{LogState}
 use Rattle.msdb_store.specs.Store.{IsOf, Stored}
 use Rattle.fp_core.specs.declared.engine.Active.{Active}
@@ -29,9 +27,9 @@ use Rattle.fp_core.specs.declared.engine.Owed.{Owed}
 use Rattle.fp_core.specs.declared.engine.Region.{Region}
 use Rattle.fp_core.specs.declared.engine.Region.TheVariants as regions
 use Rattle.fp_core.specs.Acting.{IsAtWork, MayEnd}
-use Rattle.fp_core.specs.Ending.{IsBare}
-use Rattle.fp_core.specs.Relation.{AreMade, IsMade, IsRegion, IsShort, IsTransaction, StandsFor, first_place, owed_of, refusal_room, room_of, rules_in}
-use Rattle.fp_core.proofs.Places.{LeftOf, left_of, put_both, get_put, get_front, get_last, is_within, none_some, some_same, sum_has, sum_put}
+use Rattle.fp_core.specs.Relation.{IsMade, IsRegion, IsTransaction, StandsFor, first_place, owed_of, room_of}
+use Rattle.sync_point.specs.Refusals.{IsBare, bare_entry, refusal_room}
+use Rattle.fp_core.proofs.Places.{left_of, put_both, get_front, get_last, is_within, none_some, some_same, sum_has, sum_put}
 
 -- ---- where the transaction is
 
@@ -159,7 +157,12 @@ module _ (engine : Engine) (m : Machine) (place : ℕ) (s : StandsFor engine m) 
       → format_behind 1 e.outcome ≡ 1
       → IsMade engine.defs.now m.history.now e next
       → StandsFor (record engine {
-        regions = slice_set engine.regions place regions.Idle; locks = rows; store = store; log = log; owed = owed; room = room;
+        regions = slice_set engine.regions place regions.Idle;
+        locks = rows;
+        store = store;
+        log = log;
+        owed = owed;
+        room = room;
       }) (ended_with (suc place) e next m)
   ended_stands t e next rows store log owed room there shows same_rows sealed unsealed is_owed slots less spare of msdbs format made =
       let one : length (m.history.entries ++ e ∷ []) ≡ length m.history.entries + 1 = length-append m.history.entries (e ∷ []) in
@@ -215,7 +218,12 @@ pub ended_at : (engine : Engine) (m : Machine) (region : ℕ) (t : Transaction) 
     → format_behind 1 e.outcome ≡ 1
     → IsMade engine.defs.now m.history.now e next
     → StandsFor (record engine {
-      regions = slice_set engine.regions (region - 1) regions.Idle; locks = rows; store = store; log = log; owed = owed; room = room;
+      regions = slice_set engine.regions (region - 1) regions.Idle;
+      locks = rows;
+      store = store;
+      log = log;
+      owed = owed;
+      room = room;
     }) (ended_with region e next m)
 ended_at engine m zero t e next rows store log owed room w frees same_rows sealed unsealed is_owed slots less spare of msdbs format made =
     absurd (none_some (machine.Active t) w.active)
@@ -223,15 +231,30 @@ ended_at engine m (suc place) t e next rows store log owed room w frees same_row
     let same : suc place - 1 ≡ place = omega arith in
     let m1 : Machine = record m { requests = w.requests } in
     let ended : StandsFor (record engine {
-      regions = slice_set engine.regions place regions.Idle; locks = rows; store = store; log = log; owed = owed; room = room;
+      regions = slice_set engine.regions place regions.Idle;
+      locks = rows;
+      store = store;
+      log = log;
+      owed = owed;
+      room = room;
     }) (ended_with (suc place) e next m1) = ended_stands engine m1 place w.stands t e next rows store log owed room w.active (frees m.locks w.requests w.stands.locks)
     same_rows sealed unsealed is_owed slots less spare of msdbs format made in
     let m2 : List Lock → Machine = λ requests. record (ended_with (suc place) e next m) { requests = requests } in
     subst (λ n. StandsFor (record engine {
-      regions = slice_set engine.regions n regions.Idle; locks = rows; store = store; log = log; owed = owed; room = room;
+      regions = slice_set engine.regions n regions.Idle;
+      locks = rows;
+      store = store;
+      log = log;
+      owed = owed;
+      room = room;
     }) (ended_with (suc place) e next m)) (sym same)
     (subst (λ requests. StandsFor (record engine {
-      regions = slice_set engine.regions place regions.Idle; locks = rows; store = store; log = log; owed = owed; room = room;
+      regions = slice_set engine.regions place regions.Idle;
+      locks = rows;
+      store = store;
+      log = log;
+      owed = owed;
+      room = room;
     }) (m2 requests)) w.others ended)
 
 -- ---- refused for what befell
@@ -258,23 +281,6 @@ bare_format outcome.Format bare = absurd bare
 
 -- its entry, of the code's transaction and of the machine's
 pub bare_is : (defs : Defs) (scripts : List Script) (a : Active) (t : Transaction) (o : Outcome) (now : Db) → IsTransaction defs scripts a t
-    → record { from = a.from; outcome = o; line = a.message.line; reply = []; notes = []; items = [] } ≡ entry_of t (refused_as o now) [] []
+    → bare_entry a.from o a.message.line ≡ entry_of t (refused_as o now) [] []
 bare_is defs scripts a t o now s =
-    ap (λ (n : ℕ). let e : Entry = record { from = n; outcome = o; line = a.message.line; reply = []; notes = []; items = [] } in e) s.from
-    ∙ ap (λ x. let e : Entry = record { from = t.from; outcome = o; line = x.line; reply = []; notes = []; items = [] } in e) s.message
-
--- and how long it is
-pub bare_length : (from : ℕ) (o : Outcome) (line : List ℕ) → IsBare o
-    → length (entry_text (record { from = from; outcome = o; line = line; reply = []; notes = []; items = [] })) ≡ refusal_room line
-bare_length from outcome.Device line bare = omega (arith, length_of_entry (record { from = from; outcome = outcome.Device; line = line; reply = []; notes = []; items = [] }))
-bare_length from outcome.Memory line bare = omega (arith, length_of_entry (record { from = from; outcome = outcome.Memory; line = line; reply = []; notes = []; items = [] }))
-bare_length from outcome.Done line bare = absurd bare
-bare_length from outcome.Unknown line bare = absurd bare
-bare_length from (outcome.Verify call fsa found) line bare = absurd bare
-bare_length from (outcome.Roll code) line bare = absurd bare
-bare_length from (outcome.SeqFull set begin end n) line bare = absurd bare
-bare_length from (outcome.Deadlock cycle) line bare = absurd bare
-bare_length from (outcome.Purge set n) line bare = absurd bare
-bare_length from (outcome.Old last) line bare = absurd bare
-bare_length from (outcome.Repeat kept) line bare = absurd bare
-bare_length from outcome.Format line bare = absurd bare
+    ap (λ n. bare_entry n o a.message.line) s.from ∙ ap (λ x. bare_entry t.from o x.line) s.message

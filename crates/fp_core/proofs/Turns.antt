@@ -1,5 +1,5 @@
 -- An active region's acts are turns.
-use Rattle.std.proofs.Common.{◌≡◌, refl, sym, ◌∙◌, ap, subst, arith, ℕ, zero, suc, ◌-◌, ◌≤◌, List, Option, Some, slice_get}
+use Rattle.std.proofs.Common.{◌≡◌, refl, sym, ap, subst, arith, ℕ, zero, suc, ◌-◌, ◌≤◌, List, Option, Some, slice_get}
 use Rattle.std.specs.Prelude.{option_map}
 use Rattle.fp_model.specs.declared.events.Event.TheVariants as event
 use Rattle.fp_model.specs.declared.log.Outcome.TheVariants as outcome
@@ -9,7 +9,6 @@ use Rattle.fp_model.specs.Asking.{Replies}
 use Rattle.fp_model.specs.Machine.{Transaction, Region, Idle, Active, Machine, region_at}
 use Rattle.fp_model.specs.Rules.{Rules}
 use Rattle.fp_model.specs.Turns.{Environment, NoFault, DeviceFault, OutOfMemory, Act, Does, RegionTurn, asks, holds, refused_with, wanted}
-use Rattle.fp_core.specs.declared.did.Did.{Did}
 use Rattle.fp_core.specs.declared.did.Did.TheVariants as did
 use Rattle.fp_core.specs.declared.engine.Active.{Active as ActiveOf}
 use Rattle.fp_core.specs.declared.engine.Engine.{Engine}
@@ -78,4 +77,3 @@ at_work engine m (suc place) active some s there =
         → (t : Transaction) × IsAtWork engine m (suc place) t
     by Idle there is = absurd is
     by (Active t) there is = (t, record { stands = s; active = there })
-

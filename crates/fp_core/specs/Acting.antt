@@ -1,11 +1,6 @@
 -- What an active region does in its turn, step by step.
-use Rattle.std.specs.Prelude.{◌≡◌, ℕ, ◌≤◌, ◌<◌, List, [], ◌∷◌, ◌++◌, length, Some, None}
-use Rattle.fp_model.specs.declared.calls.Resource.{Resource}
-use Rattle.fp_model.specs.declared.database.Db.{Db}
-use Rattle.fp_model.specs.declared.definitions.Defs.{Defs}
+use Rattle.std.specs.Prelude.{◌≡◌, ℕ, List, ◌∷◌, Some, None}
 use Rattle.fp_model.specs.declared.events.Event.TheVariants as event
-use Rattle.fp_model.specs.declared.log.Outcome.{Outcome}
-use Rattle.fp_model.specs.declared.log.Outcome.TheVariants as outcome
 use Rattle.fp_model.specs.Answers.{Needed}
 use Rattle.fp_model.specs.Asking.{Ask, Replies, Rolls}
 use Rattle.fp_model.specs.Machine.{Transaction, Active, Machine, region_at}

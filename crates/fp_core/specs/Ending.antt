@@ -1,15 +1,8 @@
--- Outcomes that refuse a transaction.
+-- Outcomes that refuse a transaction by itself.
 use Rattle.std.specs.Prelude.{⊤}
 use Rattle.fp_model.specs.declared.log.Outcome.{Outcome}
 use Rattle.fp_model.specs.declared.log.Outcome.TheVariants as outcome
 
--- for what befell: the entry has no notes
-abbrev pub IsBare : Outcome → Type 0
-IsBare outcome.Device = ⊤
-IsBare outcome.Memory = ⊤
-IsBare _ = ⊥
-
--- by the transaction itself
 abbrev pub IsRefusal : Outcome → Type 0
 IsRefusal (outcome.Verify call fsa found) = ⊤
 IsRefusal (outcome.Roll code) = ⊤

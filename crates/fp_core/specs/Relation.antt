@@ -1,5 +1,5 @@
 -- What it is for the engine to stand for a machine of the table of turns.
-use Rattle.std.specs.Prelude.{◌≡◌, ⊤, ℕ, suc, ◌+◌, ◌-◌, ◌≤◌, List, [], ◌∷◌, ◌++◌, length, drop, map, sum_by, true, IfSome, Option, Some, slice_get}
+use Rattle.std.specs.Prelude.{◌≡◌, ⊤, ℕ, suc, ◌+◌, ◌-◌, ◌≤◌, List, [], length, drop, map, sum_by, true, IfSome, Some, slice_get}
 use Rattle.std.specs.List.{AllByRecursion, AllZip}
 use Rattle.std.specs.VecDeque.{deque_capacity}
 use Rattle.balancing.specs.Backlog.{AreSame}
@@ -24,6 +24,7 @@ use Rattle.fp_model.specs.Product.{rules_of, groups_defined}
 use Rattle.fp_model.specs.Rules.{Rules}
 use Rattle.fp_model.specs.WellFormed.{AreDefs}
 use Rattle.msdb_store.specs.Store.{IsOf}
+use Rattle.sync_point.specs.Refusals.{refusal_room}
 use Rattle.txn_machine.specs.Running.{IsAt, IsFit}
 use Rattle.fp_core.specs.declared.engine.Active.{Active}
 use Rattle.fp_core.specs.declared.engine.Engine.{Engine}
@@ -89,11 +90,7 @@ pub record IsTakeable (scripts : List Script) (message : Message) : Type 0 where
 abbrev pub owed_of : Entry → Owed
 owed_of e = record { line = e.line; outcome = e.outcome; reply = e.reply }
 
--- how many bytes the entry of a line has that is refused for what befell
-abbrev pub refusal_room : List ℕ → ℕ
-refusal_room line = 29 + length line
-
--- an active region keeps room for that entry
+-- an active region keeps room for the entry of its refusal
 abbrev pub room_of : machine.Region → ℕ
 room_of machine.Idle = 0
 room_of (machine.Active t) = refusal_room t.message.line

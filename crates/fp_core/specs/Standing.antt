@@ -1,5 +1,5 @@
 -- The engine beside a site and a source: what the log holds and what was sent, at each moment of a step.
-use Rattle.std.specs.Prelude.{◌≡◌, ⊤, ℕ, ◌+◌, ◌-◌, ◌<◌, ◌≤◌, List, ◌++◌, length, Option, Some, None, option_map}
+use Rattle.std.specs.Prelude.{◌≡◌, ⊤, ℕ, ◌+◌, ◌-◌, ◌≤◌, List, ◌++◌, length, Option, None}
 use Rattle.fp_model.specs.declared.definitions.Defs.{Defs}
 use Rattle.fp_model.specs.declared.events.Event.{Event}
 use Rattle.fp_model.specs.declared.events.Event.TheVariants as event
@@ -11,7 +11,7 @@ use Rattle.fp_model.specs.Messages.{LineFault, LineTooLong, TooManyLines}
 use Rattle.fp_model.specs.Rules.{Rules}
 use Rattle.fp_site.specs.Disk.{Disk, Snapshot, Settles}
 use Rattle.fp_site.specs.Moments.{Through}
-use Rattle.fp_source.specs.Lines.{fault_ahead, lines_ahead, lines_given}
+use Rattle.fp_source.specs.Lines.{lines_ahead, lines_given}
 use Rattle.fp_source.specs.declared.lines.Lines.{Lines}
 use Rattle.log_groups.specs.Images.{IsAtRest, IsLog}
 use Rattle.fp_core.specs.declared.did.Did.{Did}

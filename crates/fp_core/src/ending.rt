@@ -2,28 +2,21 @@
 ghost use Rattle.ci_locks.specs.Standing.{Shows};
 ghost use Rattle.ci_locks.specs.Table.{standing};
 ghost use Rattle.fp_core.specs.Acting.{MayEnd};
-ghost use Rattle.fp_core.specs.Relation.{IsShort, owed_of, refusal_room};
+ghost use Rattle.fp_core.specs.Relation.{IsShort, owed_of};
 ghost use Rattle.fp_core.specs.declared.engine.Region.TheVariants as regions;
 ghost use Rattle.fp_model.specs.LogText.{FitsEntry, KeepsRules, entry_text};
 ghost use Rattle.fp_model.specs.Machine.{Machine, Transaction};
 ghost use Rattle.fp_model.specs.Waiting.{Lock, without_region};
 ghost use Rattle.std.specs.Prelude.{◌≡◌, ◌≤◌, ◌<◌, ◌-◌, ◌+◌, ◌++◌, ◌∷◌, [], IsOk, List as ListOf, OnErr, OnOk, Some, length, slice_get, slice_set};
 ghost use Rattle.std.specs.VecDeque.{deque_capacity};
+ghost use Rattle.sync_point.specs.Refusals.{refusal_room};
 
 use crate::engine::{Active, Engine, Owed, Region};
-use fp_model::{Bytes, Entry};
-use log_format::entry_length;
+use fp_model::Entry;
 use log_groups::Log;
 use std::alloc::AllocError;
 use std::collections::VecDeque;
-
-/// How many bytes the entry of a line has that is refused for what befell.
-pub(crate) fn refusal_room(line: &Bytes) -> u64
-    requires { IsShort line.now }
-    ensures { result ≡ refusal_room line.now }
-{
-    29 + line.len() as u64
-}
+use sync_point::{append_beside, refusal_room};
 
 // What is kept of an entry until its reply line is sent.
 fn owed_of(entry: Entry) -> Owed
@@ -46,7 +39,7 @@ fn owed_of(entry: Entry) -> Owed
 
 /// Appends an entry, which is owed from then on, and keeps this room free behind it. Want of memory appends nothing.
 /// None is taken where there is room for both.
-pub(crate) fn append_beside(
+pub(crate) fn append_owed(
     log: &mut Log,
     owed: &mut VecDeque<Owed>,
     entry: Entry,
@@ -68,13 +61,7 @@ pub(crate) fn append_beside(
     ensures spare { OnErr result (log.old.spare ≤ log.new.spare) }
     ensures err { OnErr result (owed.new ≡ owed.old) }
 {
-    let bytes = entry_length(&entry);
-    let _free = log.spare(); // so its range is known
-    if u64::MAX - room < bytes {
-        return Err(AllocError);
-    }
-    log.reserve(bytes + room)?;
-    log.append(&entry)?;
+    append_beside(log, &entry, room)?;
     owed.push_back_reserved(owed_of(entry));
     Ok(())
 }
@@ -118,7 +105,10 @@ impl Engine<'_> {
             → OnOk result (self.new.room + refusal_room t.message.line ≡ self.old.room) }
         ensures ok { OnOk result (self.new ≡ record self.old {
           regions = slice_set self.old.regions (region - 1) regions.Idle;
-          locks = self.new.locks; log = self.new.log; owed = self.new.owed; room = self.new.room;
+          locks = self.new.locks;
+          log = self.new.log;
+          owed = self.new.owed;
+          room = self.new.room;
         }) }
         ensures locks { (locks requests : ListOf Lock) → Shows (standing self.old.locks) locks requests
             → OnOk result (Shows (standing self.new.locks) (without_region region locks) (without_region region requests)) }
@@ -129,7 +119,7 @@ impl Engine<'_> {
         ensures more { OnErr result (self.old.log.spare ≤ self.new.log.spare) }
     {
         let room = self.room - refusal_room(&self.active_in(region).message.line);
-        append_beside(&mut self.log, &mut self.owed, entry, room)?;
+        append_owed(&mut self.log, &mut self.owed, entry, room)?;
         *self.regions.item_mut(usize::from(region) - 1) = Region::Idle;
         self.locks.release_all(region);
         self.room = room;

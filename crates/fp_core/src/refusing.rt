@@ -1,6 +1,6 @@
 //! A transaction is refused, or begins again.
 ghost use Rattle.fp_core.specs.Acting.{HasClosed, IsAtEndOf, IsAtWork, MayEnd};
-ghost use Rattle.fp_core.specs.Ending.{IsBare, IsRefusal};
+ghost use Rattle.fp_core.specs.Ending.{IsRefusal};
 ghost use Rattle.fp_core.specs.Relation.{StandsFor, rules_in};
 ghost use Rattle.fp_core.specs.Turning.{Turned};
 ghost use Rattle.fp_model.specs.Asking.{Rolls};
@@ -9,19 +9,19 @@ ghost use Rattle.fp_model.specs.Machine.{Machine, Transaction, ended_with};
 ghost use Rattle.fp_model.specs.Turns.{refused_with, tried_again};
 ghost use Rattle.fp_model.specs.declared.events.Event.TheVariants as events;
 ghost use Rattle.std.specs.Prelude.{◌≡◌, ◌≤◌, ◌<◌, [], IfOk, OnErr, OnOk, length};
+ghost use Rattle.sync_point.specs.Refusals.{IsBare, bare_entry};
 
 use crate::did::Did;
-use crate::ending::{append_beside, refusal_room};
+use crate::ending::append_owed;
 use crate::engine::{Active, Engine, Region};
 use fp_model::{Bytes, Entry, List, Message, Outcome};
 use std::alloc::{AllocError, Global};
 use std::mem::replace;
+use sync_point::refusal_room;
 
 // The entry of a transaction that is refused for what befell. Takes no memory.
 fn bare_entry(alloc: Global, active: Active, outcome: Outcome) -> Entry
-    ensures { result ≡ record {
-      from = active.from; outcome = outcome; line = active.message.line; reply = []; notes = []; items = [];
-    } }
+    ensures { result ≡ bare_entry active.from outcome active.message.line }
 {
     let Active {
         from,
@@ -68,7 +68,7 @@ impl Engine<'_> {
             Region::Active(active) => bare_entry(self.alloc, active, outcome),
             Region::Idle => unreachable!(),
         };
-        let _ = append_beside(&mut self.log, &mut self.owed, entry, room); // there is room for it
+        let _ = append_owed(&mut self.log, &mut self.owed, entry, room); // there is room for it
         self.locks.release_all(region);
         self.room = room;
     }

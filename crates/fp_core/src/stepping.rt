@@ -12,7 +12,7 @@ ghost use Rattle.fp_site.specs.Site.{ReadsNothing};
 ghost use Rattle.fp_source.specs.Lines.{fault_ahead, lines_ahead, lines_given};
 ghost use Rattle.fp_source.specs.Source.{ReadsOnly, Rose};
 ghost use Rattle.msdb_store.specs.Store.{IsOf};
-ghost use Rattle.std.specs.Prelude.{◌≡◌, ◌+◌, ℕ, [], IfErr, IfOk, IsErrOf, List as ListOf, OnOk, Ok, Some, length, option_map, true};
+ghost use Rattle.std.specs.Prelude.{◌≡◌, ◌+◌, ℕ, [], IfErr, IfOk, IsErrOf, List as ListOf, IsOk, OnOk, Some, length, option_map, true};
 
 use crate::did::Did;
 use crate::engine::Engine;
@@ -135,7 +135,7 @@ impl<'a> Core<'a> {
 
     /// What ends a run. Over main storage databases there is nothing to do.
     pub fn close<T: Site>(&mut self, site: &mut T) -> Result<(), Stop>
-        ensures ok { result ≡ Ok () }
+        ensures ok { IsOk result }
         ensures same { self.new ≡ self.old }
         ensures site { site.new ≡ site.old }
     {

@@ -1,5 +1,4 @@
-use Rattle.std.proofs.Common.{◌≡◌, ◌∙◌, sym, ap, subst, arith, length, Some}
-use Rattle.fp_core.specs.Relation.{IsRegion, refusal_room}
+use Rattle.std.proofs.Common.{◌∙◌, ap, Some}
 use Rattle.fp_core.specs.declared.engine.Region.TheVariants as region
 use Rattle.fp_core.proofs.Ends.{not_idle, region_is, room_within, slot_within}
 use Rattle.fp_core.proofs.engine.Engine.active_in.Goals as goal

@@ -1,4 +1,4 @@
-use Rattle.std.proofs.Common.{◌≡◌, sym, ◌∙◌, ap, Some, None}
+use Rattle.std.proofs.Common.{sym, ◌∙◌, ap}
 use Rattle.std.specs.Prelude.{option_map}
 use Rattle.fp_model.specs.declared.calls.Mode.TheVariants.{Exclusive}
 use Rattle.fp_model.specs.Answers.{Needed}
