@@ -1,12 +1,10 @@
 -- A step, whichever event it takes.
-use Rattle.std.proofs.Common.{◌≡◌, refl, sym, ◌∙◌, ap, subst, arith, ℕ, zero, suc, ◌+◌, List, [], ◌++◌, length, Bool, true, false}
-use Rattle.std.specs.Prelude.{flat_map, if◌then◌else◌, nat_lt}
-use Rattle.std.proofs.lemmas.List.{append_assoc, append-nil}
+use Rattle.std.proofs.Common.{◌≡◌, refl, sym, ◌∙◌, ap, subst, arith, ℕ, ◌+◌, List, [], ◌++◌, length}
+use Rattle.std.proofs.lemmas.List.{append-nil}
 use Rattle.std.proofs.lemmas.Slice.Zip.{AllZip-long}
 use Rattle.fp_model.specs.declared.events.Event.{Event}
 use Rattle.fp_model.specs.declared.events.Event.TheVariants as event
-use Rattle.fp_model.specs.History.{place_of}
-use Rattle.fp_model.specs.Machine.{Machine, next_group, sealed_once, sealed_times, with_group}
+use Rattle.fp_model.specs.Machine.{Machine}
 use Rattle.fp_model.specs.Rules.{Rules}
 use Rattle.fp_model.specs.Turns.{NoFault}
 use Rattle.fp_model.proofs.FrameLemmas.{turn_keeps}
@@ -144,49 +142,29 @@ module _ (origin : Origin) (disk : Disk) (left : List ℕ) (m : Machine) where
 same_text_between : (text : List ℕ) → IsBetween text text text
 same_text_between text = record { more = []; rest = []; from = sym (append-nil text); to = sym (append-nil text) }
 
--- what was sent stands in front of all that is sent later
-sealed_once_grows : (rules : Rules) (m : Machine) → IsBetween m.sent m.sent (sealed_once rules m).sent
-sealed_once_grows rules m = by (nat_lt m.sealed (place_of m.history))
-  where
-    by : (b : Bool) → IsBetween m.sent m.sent (if b then with_group rules (next_group rules m) m else m).sent
-    by true = record { more = []; rest = flat_map rules.line_of (next_group rules m); from = sym (append-nil m.sent); to = refl }
-    by false = same_text_between m.sent
-
-between_on : (a b c : List ℕ) → IsBetween a a b → IsBetween b b c → IsBetween a a c
-between_on a b c first second = record {
-  more = [];
-  rest = first.rest ++ second.rest;
-  from = sym (append-nil a);
-  to = second.to ∙ ap (λ text. text ++ second.rest) first.to ∙ append_assoc a first.rest second.rest;
-}
-
-no_less : (rules : Rules) (m : Machine) (most : ℕ) → IsBetween m.sent m.sent (sealed_times most rules m).sent
-no_less rules m zero = same_text_between m.sent
-no_less rules m (suc n) =
-    between_on m.sent (sealed_once rules m).sent (sealed_times n rules (sealed_once rules m)).sent (sealed_once_grows rules m) (no_less rules (sealed_once rules m) n)
-
-pub left_alone : (origin : Origin) (rules : Rules) (m : Machine) (most : ℕ) (disk : Disk) (engine : Engine) → IsLawful disk
-    → StandsAt origin disk engine m → Leaves origin rules m most disk disk
+pub left_alone : (origin : Origin) (rules : Rules) (m : Machine) (most : ℕ) (disk : Disk) (engine : Engine)
+    → IsLawful disk → StandsAt origin disk engine m → Leaves origin rules m most disk disk
 left_alone origin rules m most disk engine law at =
-    let groups : (image : List ℕ) → image ≡ disk.contents 0 → HasGroups origin rules m most image = λ image same. record {
+    let groups : (image : List ℕ) → image ≡ disk.contents 0 → HasGroups origin rules m most m.sent image = λ image same. record {
       times = 0;
       few = omega arith;
       gate = engine.log.gate;
       log = subst (λ bytes. IsLog origin.front bytes (origin.groups ++ m.groups) engine.log.gate) (sym same) at.at_rest.log;
+      lines = same_text_between m.sent;
     } in
     record {
       moments = started (IsLeft origin rules m most disk) disk law (λ s left. record {
-        log = groups (s.images 0) (at.at_rest.durable s left);
         text = m.sent;
         sent = λ told. law.sent_now told s left ∙ at.sent;
-        lines = same_text_between m.sent;
+        groups = groups (s.images 0) (at.at_rest.durable s left);
         before = s;
         was_left = left;
         others = λ set other. refl;
       });
-      settles = λ image is. groups image (durable_settles disk 0 image at.at_rest.durable is);
-      text = m.sent;
-      sent = at.sent;
-      lines = no_less rules m most;
-      others = λ set other. refl;
+      within = record {
+        text = m.sent;
+        sent = at.sent;
+        groups = λ image is. groups image (durable_settles disk 0 image at.at_rest.durable is);
+        others = λ set other. refl;
+      };
     }

@@ -3,3 +3,4 @@ pub mod Turning
 pub mod Acting
 pub mod Ending
 pub mod Standing
+pub mod Draining

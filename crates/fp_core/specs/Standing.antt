@@ -58,33 +58,36 @@ seals_of event.Ckpt m = place_of m.history - m.sealed
 seals_of _ m = 0
 
 module _ (origin : Origin) (rules : Rules) (m : Machine) (most : ℕ) where
-  -- An image of the log has, behind the groups of the machine, at most so many that sealing goes on with.
-  pub record HasGroups (image : List ℕ) : Type 0 where
+  -- An image of the log has, behind the groups of the machine, at most so many that sealing goes on with; and of the
+  -- reply lines a text was sent that has those sent before, and no line of an entry that isn't in the image.
+  pub record HasGroups (text image : List ℕ) : Type 0 where
     pub times : ℕ
     pub few : times ≤ most
     pub gate : ℕ
     pub log : IsLog origin.front image (origin.groups ++ (sealed_times times rules m).groups) gate
+    pub lines : IsBetween m.sent text (sealed_times times rules m).sent
 
-  -- A crash left such an image. Of the reply lines no more were sent than are of its entries, and those that were sent
-  -- before. All other data sets are as a crash of the disk might have left them before.
+  -- A crash left such an image, and no more was sent by then. All other data sets are as a crash of the disk might have
+  -- left them before.
   pub record IsLeft (old : Disk) (s : Snapshot) : Type 0 where
-    pub log : HasGroups (s.images 0)
     pub text : List ℕ
     pub sent : old.tells_sent → s.sent ≡ origin.sent ++ text
-    pub lines : IsBetween m.sent text (sealed_times log.times rules m).sent
+    pub groups : HasGroups text (s.images 0)
     pub before : Snapshot
     pub was_left : old.may_leave before
     pub others : (set : ℕ) → ¬ (set ≡ 0) → s.images set ≡ before.images set
 
-  -- However a step from this machine ends, it leaves at every moment what such a crash may leave, and the log so that a
-  -- sync makes such an image of it.
-  pub record Leaves (old new : Disk) : Type 0 where
-    pub moments : Through old new (IsLeft old)
-    pub settles : (image : List ℕ) → Settles new 0 image → HasGroups image
+  -- The disk is one that a step from this machine may end with: each image that a sync may make of the log is such a one.
+  pub record IsWithin (old new : Disk) : Type 0 where
     pub text : List ℕ
     pub sent : new.sent ≡ origin.sent ++ text
-    pub lines : IsBetween m.sent text (sealed_times most rules m).sent
+    pub groups : (image : List ℕ) → Settles new 0 image → HasGroups text image
     pub others : (set : ℕ) → ¬ (set ≡ 0) → new.contents set ≡ old.contents set
+
+  -- However a step from this machine ends, a crash at each moment of it leaves this, and the disk is this.
+  pub record Leaves (old new : Disk) : Type 0 where
+    pub moments : Through old new (IsLeft old)
+    pub within : IsWithin old new
 
 -- ---- a step
 

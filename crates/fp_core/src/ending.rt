@@ -111,7 +111,8 @@ impl Engine<'_> {
           room = self.new.room;
         }) }
         ensures locks { (locks requests : ListOf Lock) → Shows (standing self.old.locks) locks requests
-            → OnOk result (Shows (standing self.new.locks) (without_region region locks) (without_region region requests)) }
+            → OnOk result (Shows (standing self.new.locks)
+            (without_region region locks) (without_region region requests)) }
         ensures rows { length self.new.locks ≡ length self.old.locks }
 
         ensures err { OnErr result (self.new ≡ record self.old { log = self.new.log }) }

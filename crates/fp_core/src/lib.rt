@@ -5,6 +5,7 @@ mod acting;
 mod answering;
 mod committing;
 mod did;
+mod draining;
 mod ending;
 mod engine;
 mod locking;

@@ -54,7 +54,8 @@ impl<'a> Core<'a> {
             × Stepped events.In (record m { lines = lines }) self.old.lines self.new.lines self.new.engine did) }
         ensures read { (m : Machine) → S.told source.old → StandsFor self.old.engine m
             → m.lines ≡ lines_ahead self.old.lines (S.left source.old Part.Messages)
-            → IfOk result (SteppedBy events.In m self.old.lines self.new.lines (S.left source.new Part.Messages) self.new.engine) }
+            → IfOk result (SteppedBy events.In m self.old.lines self.new.lines
+            (S.left source.new Part.Messages) self.new.engine) }
         ensures fair { S.told source.old → OnOk result (fault_ahead self.new.lines (S.left source.new Part.Messages)
             ≡ fault_ahead self.old.lines (S.left source.old Part.Messages)) }
 

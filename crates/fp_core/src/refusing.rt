@@ -119,7 +119,8 @@ impl Engine<'_> {
         requires some { 1 ≤ region }
         requires within { region ≤ length self.old.regions }
         requires under { (m : Machine) × ((t : Transaction) × MayEnd self.old m region t) }
-        requires left { (m : Machine) (t : Transaction) → MayEnd self.old m region t → t.tries < self.old.defs.now.tries }
+        requires left { (m : Machine) (t : Transaction) → MayEnd self.old m region t
+            → t.tries < self.old.defs.now.tries }
         ensures again { (m : Machine) (t : Transaction) → MayEnd self.old m region t
             → OnOk result (StandsFor self.new (tried_again (rules_in self.old) region t m)) }
         ensures err { (m : Machine) (t : Transaction) → MayEnd self.old m region t

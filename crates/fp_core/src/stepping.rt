@@ -117,6 +117,7 @@ impl<'a> Core<'a> {
 
         // What stays.
         ensures rules { rules_in self.new.engine ≡ rules_in self.old.engine }
+        ensures defs { self.new.engine.defs ≡ self.old.engine.defs }
         ensures routed { self.new.router.now.kind ≡ self.new.engine.defs.now.router }
         ensures reads { ReadsNothing (T.tells_reads site.old) (T.tells_reads site.new)
             (T.bytes_read site.old) (T.bytes_read site.new) }
