@@ -1,0 +1,86 @@
+-- One turn of the engine, and what is answered for it.
+use Rattle.std.specs.Prelude.{◌≡◌, ℕ, zero, suc, ◌-◌, List, [], ◌∷◌, length, if◌then◌else◌, Option, Some, None}
+use Rattle.std.specs.List.{list_any}
+use Rattle.std.specs.Option.{option_map_or}
+use Rattle.fp_model.specs.declared.calls.Message.{Message}
+use Rattle.fp_model.specs.declared.events.Event.{Event}
+use Rattle.fp_model.specs.declared.events.Event.TheVariants as event
+use Rattle.fp_model.specs.declared.log.Outcome.{Outcome}
+use Rattle.fp_model.specs.declared.log.Outcome.TheVariants as outcome
+use Rattle.fp_model.specs.History.{Request, Accepts, Refuses, place_of}
+use Rattle.fp_model.specs.Machine.{Region, Idle, Active, Machine, region_at, is_among, terminal_in, next_line, next_group}
+use Rattle.fp_model.specs.Rules.{Rules}
+use Rattle.fp_model.specs.Turns.{Environment, NoFault, DeviceFault, OutOfMemory, Act, Answers, Gains, Waits, Deadlocks, Retries_at_cycle, Finishes, Retries_at_verify, Does, Turn, messages_for}
+use Rattle.fp_core.specs.declared.did.Did.{Did}
+use Rattle.fp_core.specs.declared.did.Did.TheVariants as did
+use Rattle.fp_core.specs.declared.engine.Engine.{Engine}
+use Rattle.fp_core.specs.Relation.{StandsFor, rules_in}
+
+-- ---- what is answered
+
+-- for the end of a transaction
+abbrev pub did_at_end : Outcome → Did
+did_at_end outcome.Done = did.Committed
+did_at_end _ = did.Refused
+
+-- for what an active region did
+abbrev pub did_of : Act → Did
+did_of (Answers call) = did.Answered
+did_of (Gains needed) = did.Gained
+did_of (Waits needed) = did.Waited
+did_of (Deadlocks needed cycle) = did.Refused
+did_of (Retries_at_cycle needed cycle) = did.Retried
+did_of (Finishes ending items) = did_at_end ending.outcome
+did_of (Retries_at_verify ending) = did.Retried
+
+-- for an idle region, whose group has these messages
+abbrev pub did_take : List Message → Did
+did_take [] = did.Nothing
+did_take (message ∷ messages) = did.Took
+
+-- for what a line asks for
+abbrev pub did_for : Request → Did
+did_for (Accepts message) = did.Queued
+did_for (Refuses outcome) = did.Refused
+
+-- for so many entries that were sealed
+abbrev pub did_seal : ℕ → Did
+did_seal zero = did.Nothing
+did_seal (suc n) = did.Sealed (suc n)
+
+module _ (rules : Rules) where
+  -- for a line, which waits while its terminal does
+  abbrev pub did_with : Machine → List ℕ → Did
+  did_with m line =
+      if list_any (is_among m.busy) (terminal_in (rules.terminal_of line)) then did.Held
+      else did_for (rules.request_of m.history line)
+
+  abbrev pub IsDidOfRegion : Machine → ℕ → Option Region → Environment → Machine → Did → Type 0
+  IsDidOfRegion m region None environment m2 given = ⊥
+  IsDidOfRegion m region (Some Idle) environment m2 given = given ≡ did_take (messages_for rules m region)
+  IsDidOfRegion m region (Some (Active t)) NoFault m2 given =
+      (act : Act) × Does rules m region t act m2 × (given ≡ did_of act)
+  IsDidOfRegion m region (Some (Active t)) DeviceFault m2 given = given ≡ did.Refused
+  IsDidOfRegion m region (Some (Active t)) OutOfMemory m2 given = given ≡ did.Refused
+
+  -- what is answered for a turn from m to m2, by its case of the table; a schedule without areas has no PURGE
+  abbrev pub IsDid : Machine → Event → Environment → Machine → Did → Type 0
+  IsDid m event.In environment m2 given = given ≡ option_map_or (did_with m) (next_line m) did.Nothing
+  IsDid m (event.Region region) environment m2 given =
+      IsDidOfRegion m region (region_at m region) environment m2 given
+  IsDid m event.Log environment m2 given = given ≡ did_seal (length (next_group rules m))
+  IsDid m event.Out environment m2 given = given ≡ did.Nothing
+  IsDid m event.Ckpt environment m2 given = given ≡ did_seal (place_of m.history - m.sealed)
+  IsDid m (event.Purge set n) environment m2 given = ⊥
+
+-- ---- a turn
+
+-- A turn of the table leads from m to a machine that the engine stands for, and this is answered. No call on a device
+-- is made in it that could befall a transaction.
+pub record Turned (event : Event) (m : Machine) (engine : Engine) (given : Did) : Type 0 where
+  pub after : Machine
+  pub environment : Environment
+  pub turn : Turn (rules_in engine) m event environment after
+  pub is_did : IsDid (rules_in engine) m event environment after given
+  pub no_device : ¬ (environment ≡ DeviceFault)
+  pub stands : StandsFor engine after

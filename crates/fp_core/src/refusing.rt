@@ -1,0 +1,178 @@
+//! A transaction is refused, or begins again.
+ghost use Rattle.fp_core.specs.Acting.{HasClosed, IsAtEndOf, IsAtWork, MayEnd};
+ghost use Rattle.fp_core.specs.Ending.{IsRefusal};
+ghost use Rattle.fp_core.specs.Relation.{StandsFor, rules_in};
+ghost use Rattle.fp_core.specs.Turning.{Turned};
+ghost use Rattle.fp_model.specs.Asking.{Rolls};
+ghost use Rattle.fp_model.specs.LogText.{FitsEntry, KeepsRules};
+ghost use Rattle.fp_model.specs.Machine.{Machine, Transaction, ended_with};
+ghost use Rattle.fp_model.specs.Turns.{refused_with, tried_again};
+ghost use Rattle.fp_model.specs.declared.events.Event.TheVariants as events;
+ghost use Rattle.std.specs.Prelude.{◌≡◌, ◌≤◌, ◌<◌, [], IfOk, OnErr, OnOk, length};
+ghost use Rattle.sync_point.specs.Refusals.{IsBare, bare_entry};
+
+use crate::did::Did;
+use crate::ending::append_owed;
+use crate::engine::{Active, Engine, Region};
+use fp_model::{Bytes, Entry, List, Message, Outcome};
+use std::alloc::{AllocError, Global};
+use std::mem::replace;
+use sync_point::refusal_room;
+
+// The entry of a transaction that is refused for what befell. Takes no memory.
+fn bare_entry(alloc: Global, active: Active, outcome: Outcome) -> Entry
+    ensures { result ≡ bare_entry active.from outcome active.message.line }
+{
+    let Active {
+        from,
+        message,
+        program: _,
+        work: _,
+        tries: _,
+    } = active;
+    let Message {
+        lterm: _,
+        tran: _,
+        text: _,
+        line,
+        number: _,
+    } = message;
+    Entry {
+        from,
+        outcome,
+        line,
+        reply: Bytes::new(alloc),
+        notes: List::new(alloc),
+        items: List::new(alloc),
+    }
+}
+
+impl Engine<'_> {
+    // The active region's transaction is refused for what befell. Takes no memory.
+    fn refuse_bare(&mut self, region: u8, outcome: Outcome)
+        requires some { 1 ≤ region }
+        requires within { region ≤ length self.old.regions }
+        requires under { (m : Machine) × ((t : Transaction) × MayEnd self.old m region t) }
+        requires bare { IsBare outcome }
+        ensures refused { (m : Machine) (t : Transaction) → MayEnd self.old m region t
+            → StandsFor self.new (refused_with (rules_in self.old) m region t outcome) }
+
+        // What stays.
+        ensures rules { rules_in self.new ≡ rules_in self.old }
+        ensures defs { self.new.defs ≡ self.old.defs }
+        ensures gate { self.new.log.gate ≡ self.old.log.gate }
+        ensures count { length self.new.regions ≡ length self.old.regions }
+    {
+        let room = self.room - refusal_room(&self.active_in(region).message.line);
+        let entry = match replace(self.regions.item_mut(usize::from(region) - 1), Region::Idle) {
+            Region::Active(active) => bare_entry(self.alloc, active, outcome),
+            Region::Idle => unreachable!(),
+        };
+        let _ = append_owed(&mut self.log, &mut self.owed, entry, room); // there is room for it
+        self.locks.release_all(region);
+        self.room = room;
+    }
+
+    /// The turn of an active region for want of memory.
+    pub(crate) fn refuse_for_memory(&mut self, region: u8) -> Did
+        requires some { 1 ≤ region }
+        requires within { region ≤ length self.old.regions }
+        requires under { (m : Machine) × ((t : Transaction) × MayEnd self.old m region t) }
+        ensures turned { (m : Machine) (t : Transaction) → MayEnd self.old m region t
+            → Turned (events.Region region) m self.new result }
+
+        // What stays.
+        ensures rules { rules_in self.new ≡ rules_in self.old }
+        ensures defs { self.new.defs ≡ self.old.defs }
+        ensures gate { self.new.log.gate ≡ self.old.log.gate }
+        ensures count { length self.new.regions ≡ length self.old.regions }
+    {
+        self.refuse_bare(region, Outcome::Memory);
+        Did::Refused
+    }
+
+    // The active region's transaction is refused by this entry, made of copies, and the databases stay.
+    fn refuse(&mut self, region: u8, entry: Entry) -> Result<(), AllocError>
+        requires some { 1 ≤ region }
+        requires within { region ≤ length self.old.regions }
+        requires under { (m : Machine) × ((t : Transaction) × MayEnd self.old m region t) }
+        requires refusal { IsRefusal entry.outcome }
+        requires rules { KeepsRules entry }
+        requires fits { FitsEntry entry }
+        ensures ended { (m : Machine) (t : Transaction) → MayEnd self.old m region t
+            → OnOk result (StandsFor self.new (ended_with region entry m.history.now m)) }
+        ensures err { (m : Machine) (t : Transaction) → MayEnd self.old m region t
+            → OnErr result (MayEnd self.new m region t) }
+
+        // What stays.
+        ensures rules { rules_in self.new ≡ rules_in self.old }
+        ensures defs { self.new.defs ≡ self.old.defs }
+        ensures gate { self.new.log.gate ≡ self.old.log.gate }
+        ensures count { length self.new.regions ≡ length self.old.regions }
+    {
+        let _ = (region, entry);
+        Err(AllocError)
+    }
+
+    /// The active region gives up its locks, and begins its message once more.
+    pub(crate) fn try_again(&mut self, region: u8) -> Result<(), AllocError>
+        requires some { 1 ≤ region }
+        requires within { region ≤ length self.old.regions }
+        requires under { (m : Machine) × ((t : Transaction) × MayEnd self.old m region t) }
+        requires left { (m : Machine) (t : Transaction) → MayEnd self.old m region t
+            → t.tries < self.old.defs.now.tries }
+        ensures again { (m : Machine) (t : Transaction) → MayEnd self.old m region t
+            → OnOk result (StandsFor self.new (tried_again (rules_in self.old) region t m)) }
+        ensures err { (m : Machine) (t : Transaction) → MayEnd self.old m region t
+            → OnErr result (MayEnd self.new m region t) }
+
+        // What stays.
+        ensures rules { rules_in self.new ≡ rules_in self.old }
+        ensures defs { self.new.defs ≡ self.old.defs }
+        ensures gate { self.new.log.gate ≡ self.old.log.gate }
+        ensures count { length self.new.regions ≡ length self.old.regions }
+    {
+        let _ = region;
+        Err(AllocError)
+    }
+
+    /// The active region's script is at its end with a rollback code: its transaction is refused.
+    pub(crate) fn roll(&mut self, region: u8, code: u16) -> Result<Did, AllocError>
+        requires some { 1 ≤ region }
+        requires within { region ≤ length self.old.regions }
+        requires at_end { (m : Machine) × ((t : Transaction) × IsAtEndOf self.old m region t (Rolls code)) }
+        ensures turned { (m : Machine) (t : Transaction) → IsAtEndOf self.old m region t (Rolls code)
+            → IfOk result (Turned (events.Region region) m self.new) }
+        ensures err { (m : Machine) (t : Transaction) → IsAtWork self.old m region t
+            → OnErr result (MayEnd self.new m region t) }
+
+        // What stays.
+        ensures rules { rules_in self.new ≡ rules_in self.old }
+        ensures defs { self.new.defs ≡ self.old.defs }
+        ensures gate { self.new.log.gate ≡ self.old.log.gate }
+        ensures count { length self.new.regions ≡ length self.old.regions }
+    {
+        let _ = (region, code);
+        Err(AllocError)
+    }
+
+    /// The active region would close a cycle: its transaction begins again, or is refused where its tries are used up.
+    pub(crate) fn close_cycle(&mut self, region: u8, cycle: Bytes) -> Result<Did, AllocError>
+        requires some { 1 ≤ region }
+        requires within { region ≤ length self.old.regions }
+        requires closed { (m : Machine) × ((t : Transaction) × HasClosed self.old m region t cycle) }
+        ensures turned { (m : Machine) (t : Transaction) → HasClosed self.old m region t cycle
+            → IfOk result (Turned (events.Region region) m self.new) }
+        ensures err { (m : Machine) (t : Transaction) → MayEnd self.old m region t
+            → OnErr result (MayEnd self.new m region t) }
+
+        // What stays.
+        ensures rules { rules_in self.new ≡ rules_in self.old }
+        ensures defs { self.new.defs ≡ self.old.defs }
+        ensures gate { self.new.log.gate ≡ self.old.log.gate }
+        ensures count { length self.new.regions ≡ length self.old.regions }
+    {
+        let _ = (region, cycle);
+        Err(AllocError)
+    }
+}
