@@ -1,5 +1,5 @@
 -- The run of two withdrawals from one account, turn by turn: the second fails its verify and is run again.
-use Rattle.std.proofs.Common.{◌≡◌, List, [], ◌∷◌, ◌++◌, Some, refl, lit<, lit≤}
+use Rattle.std.proofs.Common.{◌≡◌, List, [], ◌∷◌, ◌++◌, Some, refl, lit<}
 use Rattle.std.specs.Prelude.{codes, false, true, slice_get}
 use Rattle.std.specs.Fmt.{digits}
 use Rattle.fp_model.specs.declared.calls.Call.{Call}

@@ -14,7 +14,6 @@ use Rattle.fp_model.specs.Machine.{Machine, at_rest}
 use Rattle.fp_model.specs.Product.{rules_of}
 use Rattle.fp_model.specs.Rules.{Rules}
 use Rattle.fp_rows.specs.Sample.{sample_defs, sample_scripts, tran, keyed, reply}
-use Rattle.fp_rows.specs.States.{at_start, with_two}
 
 -- the sample's definitions with so many tries
 abbrev pub defs_with : ℕ → Defs

@@ -13,7 +13,8 @@ ghost use Rattle.fp_rows.specs.Retries.{hold_rules, retrying, at_rest_over, two_
 pub fn two_accounts_by_turns()
     ensures { (m : Machine)
         × (RunsCalmly (hold_rules 0) (at_rest_over (hold_rules 0) at_start two_account_lines)
-        (In ∷ In ∷ Region 1 ∷ Region 1 ∷ Region 2 ∷ Region 2 ∷ Region 1 ∷ Region 2 ∷ Region 1 ∷ Region 2 ∷ Region 1 ∷ Region 1 ∷ Region 1 ∷ Log ∷ [])
+        (In ∷ In ∷ Region 1 ∷ Region 1 ∷ Region 2 ∷ Region 2 ∷ Region 1 ∷ Region 2 ∷ Region 1 ∷ Region 2
+        ∷ Region 1 ∷ Region 1 ∷ Region 1 ∷ Log ∷ [])
         m
         × ((map (λ e. e.outcome) m.history.entries ≡ Deadlock (2 ∷ 1 ∷ []) ∷ Done ∷ [])
         × (m.sent ≡ codes "T2 NO DEADLOCK" ++ 10 ∷ codes "T1 OK BOTH" ++ 10 ∷ []))) }
@@ -23,8 +24,8 @@ pub fn two_accounts_by_turns()
 pub fn two_accounts_again_by_turns()
     ensures { (m : Machine)
         × (RunsCalmly (hold_rules 1) (at_rest_over (hold_rules 1) at_start two_account_lines)
-        (In ∷ In ∷ Region 1 ∷ Region 1 ∷ Region 2 ∷ Region 2 ∷ Region 1 ∷ Region 2 ∷ Region 1 ∷ Region 2 ∷ Region 1 ∷ Region 1 ∷ Region 1 ∷ Log
-        ∷ round ++ round ++ round ++ round ++ round)
+        (In ∷ In ∷ Region 1 ∷ Region 1 ∷ Region 2 ∷ Region 2 ∷ Region 1 ∷ Region 2 ∷ Region 1 ∷ Region 2
+        ∷ Region 1 ∷ Region 1 ∷ Region 1 ∷ Log ∷ round ++ round ++ round ++ round ++ round)
         m
         × (m.sent ≡ codes "T1 OK BOTH" ++ 10 ∷ codes "T2 OK BOTH" ++ 10 ∷ [])) }
 {}
@@ -33,8 +34,8 @@ pub fn two_accounts_again_by_turns()
 pub fn two_holders_again_by_turns()
     ensures { (m : Machine)
         × (RunsCalmly retrying (at_rest_over retrying with_two two_customer_lines)
-        (In ∷ In ∷ Region 1 ∷ Region 1 ∷ Region 2 ∷ Region 2 ∷ Region 1 ∷ Region 2 ∷ Region 1 ∷ Region 2 ∷ Region 1 ∷ Region 1 ∷ Region 1 ∷ Log
-        ∷ round ++ round ++ round ++ round ++ round)
+        (In ∷ In ∷ Region 1 ∷ Region 1 ∷ Region 2 ∷ Region 2 ∷ Region 1 ∷ Region 2 ∷ Region 1 ∷ Region 2
+        ∷ Region 1 ∷ Region 1 ∷ Region 1 ∷ Log ∷ round ++ round ++ round ++ round ++ round)
         m
         × (m.sent ≡ codes "T1 OK BOTH" ++ 10 ∷ codes "T2 OK BOTH" ++ 10 ∷ [])) }
 {}
@@ -44,9 +45,17 @@ pub fn two_holders_again_by_turns()
 pub fn two_withdrawals_again_by_turns()
     ensures { (m : Machine)
         × (RunsCalmly retrying (at_rest_over retrying at_start two_withdrawal_lines)
-        (In ∷ In ∷ Region 1 ∷ Region 2 ∷ Region 1 ∷ Region 2 ∷ Region 1 ∷ Region 1 ∷ Region 2 ∷ Region 2 ∷ Log ∷ round ++ round)
+        (In ∷ In ∷ Region 1 ∷ Region 2 ∷ Region 1 ∷ Region 2 ∷ Region 1 ∷ Region 1 ∷ Region 2 ∷ Region 2 ∷ Log
+        ∷ round ++ round)
         m
         × ((slice_get m.history.entries 1
-        ≡ Some (record { from = 1; outcome = Roll 7; line = codes "T2 WDRAW A001 60"; reply = []; notes = 1 ∷ []; items = [] }))
+        ≡ Some (record {
+          from = 1;
+          outcome = Roll 7;
+          line = codes "T2 WDRAW A001 60";
+          reply = [];
+          notes = 1 ∷ [];
+          items = [];
+        }))
         × (m.sent ≡ codes "T1 OK PAID 60" ++ 10 ∷ codes "T2 NO ROLB 7" ++ 10 ∷ []))) }
 {}
