@@ -79,7 +79,7 @@ deposit_steps =
     ∷ calm (Region 1) committed ∷ calm Log (sealed_once sample_rules committed) ∷ []
 
 pub deposit_by_turns : (m : Machine)
-    × (RunsCalmly at_rest_with_a_deposit (In ∷ Region 1 ∷ Region 1 ∷ Region 1 ∷ Region 1 ∷ Log ∷ []) m
+    × (RunsCalmly sample_rules at_rest_with_a_deposit (In ∷ Region 1 ∷ Region 1 ∷ Region 1 ∷ Region 1 ∷ Log ∷ []) m
     × ((m.sent ≡ codes "T1 OK NEW" ++ 10 ∷ [])
     × ((m.groups ≡ (sample.deposit ∷ []) ∷ [])
     × (m.history.now ≡ with_balance (codes "0000110c")))))

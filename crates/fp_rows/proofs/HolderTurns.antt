@@ -1,7 +1,6 @@
 -- The run of two transactions that hold two customers each, in opposite orders, turn by turn.
-use Rattle.std.proofs.Common.{◌≡◌, ℕ, zero, suc, ◌<◌, List, [], ◌∷◌, ◌++◌, Option, Some, None, refl, sym, ap, ◌∙◌, arith, lit<, lit≤}
-use Rattle.std.specs.Prelude.{◌==◌, codes, Contains, slice_index_or}
-use Rattle.std.specs.List.{IsDistinct}
+use Rattle.std.proofs.Common.{◌≡◌, ℕ, List, [], ◌∷◌, ◌++◌, Option, Some, None, refl, ap, ◌∙◌, lit≤}
+use Rattle.std.specs.Prelude.{codes}
 use Rattle.fp_model.specs.declared.database.Db.{Db}
 use Rattle.fp_model.specs.declared.calls.Message.{Message}
 use Rattle.fp_model.specs.declared.calls.Mode.TheVariants.{Exclusive}
@@ -13,7 +12,6 @@ use Rattle.fp_model.specs.Calls.{reply_to, looks_unheld, need_of}
 use Rattle.fp_model.specs.Commit.{settlement, lacking}
 use Rattle.fp_model.specs.Settle.{settle_from}
 use Rattle.fp_model.specs.Asking.{Ask, Asks, Replies}
-use Rattle.fp_model.specs.Waiting.{WaitsAlong, IsCycle}
 use Rattle.fp_model.specs.Serial.{Ending}
 use Rattle.fp_model.specs.Machine.{Machine, Transaction, Active, taken_in, with_region, entry_of, ended_with, sealed_once}
 use Rattle.fp_model.specs.Turns.{Answers, Gains, Waits, Deadlocks, Finishes, Does, begins_in, with_answer, begun_in, refused_with, asks, wanted, ending_of}
@@ -23,6 +21,7 @@ use Rattle.fp_rows.specs.Sample as sample
 use Rattle.fp_rows.specs.States.{RunsCalmly, sample_rules, at_rest_with_two_holders, with_two}
 use Rattle.fp_rows.proofs.Asks.{customer_held, two_ask_first, two_ask_second, two_reply, others_ask_first, others_ask_second}
 use Rattle.fp_rows.proofs.MachineSteps.{calm, gained, waiting}
+use Rattle.fp_rows.proofs.TwoWaiting.{no_cycle, two_apart, a_cycle}
 
 abbrev first_asked : Message
 first_asked =
@@ -96,41 +95,6 @@ both = record { outcome = outcome.Done; reply = codes "BOTH"; next = with_two }
 
 abbrev m13 : Machine
 m13 = ended_with 1 (entry_of first2 both first2.notes []) with_two m12
-
--- ---- region 1 waits for region 2 alone, so no cycle closes yet
-
--- the only pair of a region that waits
-abbrev only_pair : List (ℕ × ℕ)
-only_pair = (1, 2) ∷ []
-
-pair_at : (p : ℕ × ℕ) (k : ℕ) → k < 1 → slice_index_or only_pair k p ≡ p → (p.0 ≡ 1) × (p.1 ≡ 2)
-pair_at p zero lt e = (ap (λ (q : ℕ × ℕ). q.0) (sym e), ap (λ (q : ℕ × ℕ). q.1) (sym e))
-pair_at p (suc k) lt e = absurd (omega (arith, lt))
-
-from_one : (p : ℕ × ℕ) → Contains only_pair p → (p.0 ≡ 1) × (p.1 ≡ 2)
-from_one p c = pair_at p c.0 c.1 c.2
-
-only_first : (r : ℕ) (rs : List ℕ) (goal : ℕ) → WaitsAlong only_pair r rs goal → r ≡ 1
-only_first r [] goal w = (from_one (r, goal) w).0
-only_first r (c ∷ cs) goal w = (from_one (r, c) w.0).0
-
-no_cycle : (cycle : List ℕ) → ¬ IsCycle only_pair (1 ∷ cycle)
-no_cycle [] w = let two : 1 ≡ 2 = (from_one (1, 1) w).1 in absurd (omega (arith, two))
-no_cycle (c ∷ cs) w =
-    let two : c ≡ 2 = (from_one (1, c) w.0).1 in
-    let one : c ≡ 1 = only_first c cs 1 w.1 in
-    absurd (omega (arith, two, one))
-
-two_apart : IsDistinct ◌==◌ (2 ∷ 1 ∷ [])
-unfolding IsDistinct
-two_apart = ((refl, tt), (tt, tt))
-
--- region 1 waits for region 2, and region 2 would wait for region 1
-abbrev both_pairs : List (ℕ × ℕ)
-both_pairs = (2, 1) ∷ (1, 2) ∷ []
-
-a_cycle : IsCycle both_pairs (2 ∷ 1 ∷ [])
-a_cycle = ((0, lit< tt, refl), (1, lit< tt, refl))
 
 -- ---- the turns
 
@@ -244,7 +208,7 @@ holder_steps =
     ∷ calm (Region 1) m12 ∷ calm (Region 1) m13 ∷ calm Log (sealed_once sample_rules m13) ∷ []
 
 pub holders_by_turns : (m : Machine)
-    × (RunsCalmly at_rest_with_two_holders
+    × (RunsCalmly sample_rules at_rest_with_two_holders
     (In ∷ In ∷ Region 1 ∷ Region 1 ∷ Region 2 ∷ Region 2 ∷ Region 1 ∷ Region 2
     ∷ Region 1 ∷ Region 2 ∷ Region 1 ∷ Region 1 ∷ Region 1 ∷ Log ∷ [])
     m

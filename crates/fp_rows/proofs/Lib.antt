@@ -1,5 +1,11 @@
+mod AccountTurns
 mod Asks
+mod AsksAgain
 mod DepositTurns
-mod MachineSteps
-mod WithdrawalTurns
+mod HolderRetries
 mod HolderTurns
+mod MachineSteps
+mod NumberTurns
+mod TwoWaiting
+mod WithdrawalRetries
+mod WithdrawalTurns

@@ -149,7 +149,7 @@ withdrawal_steps =
     ∷ calm Log (sealed_once sample_rules m10) ∷ []
 
 pub withdrawals_by_turns : (m : Machine)
-    × (RunsCalmly at_rest_with_two_withdrawals
+    × (RunsCalmly sample_rules at_rest_with_two_withdrawals
     (In ∷ In ∷ Region 1 ∷ Region 2 ∷ Region 1 ∷ Region 2 ∷ Region 1 ∷ Region 1 ∷ Region 2 ∷ Region 2 ∷ Log ∷ [])
     m
     × (m.sent ≡ codes "T1 OK PAID 60" ++ 10 ∷ codes "T2 NO VERIFY" ++ 10 ∷ []))

@@ -1,5 +1,5 @@
 -- Customers with audits and loans, the calls on them, and what one transaction's calls are answered.
-use Rattle.std.specs.Prelude.{ℕ, List, [], ◌∷◌, ◌++◌, map, codes, Bool, true, false, Some}
+use Rattle.std.specs.Prelude.{ℕ, List, [], ◌∷◌, ◌++◌, codes, true, false, Some}
 use Rattle.fp_model.specs.declared.database.Db.{Db}
 use Rattle.fp_model.specs.declared.database.Node.{Node, roll-Node}
 use Rattle.fp_model.specs.declared.database.Root.{Root}
@@ -9,7 +9,6 @@ use Rattle.fp_model.specs.declared.calls.Call.{Call}
 use Rattle.fp_model.specs.declared.calls.Call.TheVariants as call
 use Rattle.fp_model.specs.declared.calls.Get.TheVariants.{Unique, Next, NextInParent}
 use Rattle.fp_model.specs.declared.calls.Ssa.{Ssa}
-use Rattle.fp_model.specs.Answers.{Replied}
 use Rattle.fp_model.specs.Calls.{reply_to}
 use Rattle.fp_model.specs.Fsas.{list_text}
 use Rattle.fp_model.specs.Workspace.{Workspace, fresh}

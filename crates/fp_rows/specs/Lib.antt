@@ -3,5 +3,6 @@ pub mod Customers
 pub mod Hex
 pub mod LogRows
 pub mod Numbered
+pub mod Retries
 pub mod Sample
 pub mod States

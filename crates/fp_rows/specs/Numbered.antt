@@ -5,6 +5,7 @@ use Rattle.fp_model.specs.declared.log.Entry.{Entry}
 use Rattle.fp_model.specs.declared.log.Outcome.{Outcome}
 use Rattle.fp_model.specs.declared.log.Outcome.TheVariants.{Done, Unknown, Old, Repeat, Format}
 use Rattle.fp_model.specs.History.{History, beginning, with_entry}
+use Rattle.fp_model.specs.Lasts.{Last}
 use Rattle.fp_rows.specs.Hex.{named}
 use Rattle.fp_rows.specs.Sample.{deposit}
 use Rattle.fp_rows.specs.States.{at_start, with_balance}
@@ -61,3 +62,15 @@ behind_deposit = with_entry deposit (with_balance (codes "0000110c")) (beginning
 
 abbrev pub behind_format : History
 behind_format = with_entry format_two behind_deposit.now behind_deposit
+
+-- the lines of the next run, and what they come to there: the repeat, the balance by number 3, and the old number
+abbrev pub three_lines : List (List ℕ)
+three_lines = codes "T1 1 DEPOSIT A001 10" ∷ codes "T1 3 ASK A001" ∷ codes "T1 2 ASK A001" ∷ []
+
+abbrev pub entries_of_both_runs : List Entry
+entries_of_both_runs =
+    deposit_one ∷ repeated_one ∷ record asking_three { from = 2; notes = 2 ∷ [] } ∷ old_two ∷ []
+
+-- a terminal's last number, and the line that it was sent
+abbrev pub last_number : List ℕ → ℕ → List ℕ → Last
+last_number letters number line = record { lterm = named letters; number = number; line = line }

@@ -24,12 +24,12 @@ use Rattle.fp_rows.specs.Sample.{sample_defs, sample_scripts}
 abbrev pub sample_rules : Rules
 sample_rules = rules_of sample_defs sample_scripts
 
--- A run of these events from one machine to another, where nothing befalls any step.
-pub record RunsCalmly (m : Machine) (events : List Event) (m2 : Machine) : Type 0 where
+-- A run of these events by some rules, from one machine to another, where nothing befalls any step.
+pub record RunsCalmly (rules : Rules) (m : Machine) (events : List Event) (m2 : Machine) : Type 0 where
   pub steps : List RunStep
   pub takes : step_events steps ≡ events
   pub is_calm : map (λ step. step.environment) steps ≡ replicate (length events) NoFault
-  pub runs : Runs sample_rules m steps m2
+  pub runs : Runs rules m steps m2
 
 -- before any transaction: A001 has 100, A002 has 50
 abbrev pub at_start : Db

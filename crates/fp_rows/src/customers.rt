@@ -16,7 +16,8 @@ ghost use Rattle.fp_rows.specs.Customers.{ann, bob, cy, dee, fay, eve, loan_one,
 /// A get below a parent needs one; without it no anchor is asked for. An insert sets none.
 pub fn without_a_parent()
     ensures answer { answers (gnp (any_audit ∷ []) ∷ []) ≡ answered (codes "GP") ∷ [] }
-    ensures asks_for_none { need_of sample_defs with_four (fresh sample_defs) (λ r. None) (gnp (any_audit ∷ [])) ≡ None }
+    ensures asks_for_none { need_of sample_defs with_four (fresh sample_defs) (λ r. None) (gnp (any_audit ∷ []))
+        ≡ None }
     ensures behind_an_insert { answers (isrt (any_customer ∷ []) fay ∷ gnp (any_loan ∷ []) ∷ [])
         ≡ answered (codes "  ") ∷ answered (codes "GP") ∷ [] }
 {}
@@ -41,7 +42,8 @@ pub fn all_below_a_customer()
 /// A get that finds nothing leaves position and parent as they were.
 pub fn what_is_not_found_moves_nothing()
     ensures { answers
-        (gu (customer (codes "C001") ∷ []) ∷ gnp (any_audit ∷ []) ∷ gnp (loan (codes "L9") ∷ []) ∷ gnp (any_audit ∷ []) ∷ [])
+        (gu (customer (codes "C001") ∷ []) ∷ gnp (any_audit ∷ []) ∷ gnp (loan (codes "L9") ∷ [])
+        ∷ gnp (any_audit ∷ []) ∷ [])
         ≡ showing 0 ann ∷ showing 1 (codes "N2      ") ∷ answered (codes "GE") ∷ showing 1 (codes "N1      ") ∷ [] }
 {}
 
@@ -111,7 +113,8 @@ pub fn arguments_of_inserts()
     ensures keyed { answers (isrt (customer (codes "C008") ∷ []) fay ∷ []) ≡ answered (codes "AM") ∷ [] }
     ensures no_parent { answers (isrt (any_loan ∷ []) loan_one ∷ []) ≡ answered (codes "AM") ∷ [] }
     ensures any_parent { answers (isrt (any_customer ∷ any_loan ∷ []) loan_one ∷ []) ≡ answered (codes "AM") ∷ [] }
-    ensures asks_for_none { need_of sample_defs with_four (fresh sample_defs) (λ r. None) (isrt (any_loan ∷ []) loan_one)
+    ensures asks_for_none { need_of sample_defs with_four (fresh sample_defs) (λ r. None)
+        (isrt (any_loan ∷ []) loan_one)
         ≡ None }
 {}
 
@@ -129,7 +132,8 @@ pub fn arguments_of_gets()
 
 /// An audit is neither replaced nor deleted.
 pub fn an_audit_stays()
-    ensures replaced { answers (gu (customer (codes "C001") ∷ []) ∷ ghnp (any_audit ∷ []) ∷ repl (codes "N9      ") ∷ [])
+    ensures replaced { answers
+        (gu (customer (codes "C001") ∷ []) ∷ ghnp (any_audit ∷ []) ∷ repl (codes "N9      ") ∷ [])
         ≡ showing 0 ann ∷ showing 1 (codes "N2      ") ∷ answered (codes "AM") ∷ [] }
     ensures deleted { answers (gu (customer (codes "C001") ∷ []) ∷ ghnp (any_audit ∷ []) ∷ dlet ∷ [])
         ≡ showing 0 ann ∷ showing 1 (codes "N2      ") ∷ answered (codes "AM") ∷ [] }
@@ -171,7 +175,8 @@ pub fn a_queued_audit_is_not_seen()
 
 /// The queued audits of a root go with it, and those of another root stay.
 pub fn queued_audits_go_with_their_root()
-    ensures lost { (kept (note (codes "C001") (codes "N3      ") ∷ ghu (customer (codes "C001") ∷ []) ∷ dlet ∷ [])).inserts
+    ensures lost { (kept
+        (note (codes "C001") (codes "N3      ") ∷ ghu (customer (codes "C001") ∷ []) ∷ dlet ∷ [])).inserts
         ≡ [] }
     ensures of_another { (kept
         (note (codes "C009") (codes "N3      ") ∷ note (codes "C001") (codes "N4      ")
@@ -180,5 +185,6 @@ pub fn queued_audits_go_with_their_root()
     ensures committed { settlement sample_defs with_four (kept
         (note (codes "C009") (codes "N3      ") ∷ note (codes "C001") (codes "N4      ")
         ∷ ghu (customer (codes "C001") ∷ []) ∷ dlet ∷ []))
-        ≡ Commits (and_bob (a_customer cy (record { serial = 3; bytes = codes "N3      " } ∷ []) ∷ []) (dee_with_loans ∷ []) 4) }
+        ≡ Commits (and_bob (a_customer cy (record { serial = 3; bytes = codes "N3      " } ∷ []) ∷ [])
+        (dee_with_loans ∷ []) 4) }
 {}

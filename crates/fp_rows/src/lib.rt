@@ -10,4 +10,5 @@ pub mod checkpoints;
 pub mod customers;
 pub mod entries;
 pub mod numbered;
+pub mod retries;
 pub mod transactions;

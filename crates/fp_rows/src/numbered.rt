@@ -1,14 +1,20 @@
 //! Rows of message numbers: lines of both formats, what a line asks for behind a log, and reply lines.
 #![tactic(auto)]
 
-ghost use Rattle.std.specs.Prelude.{◌≡◌, [], ◌++◌, codes, replicate, Some, None, Ok, Err};
+ghost use Rattle.std.specs.Prelude.{◌≡◌, [], ◌∷◌, ◌++◌, codes, replicate, Some, None, Ok, Err};
 ghost use Rattle.fp_model.specs.declared.log.Outcome.TheVariants.{Unknown, Old, Repeat};
 ghost use Rattle.fp_model.specs.Messages.{message_of, NoTran};
-ghost use Rattle.fp_model.specs.History.{Accepts, Refuses};
 ghost use Rattle.fp_model.specs.Product.{request_of};
 ghost use Rattle.fp_model.specs.ReplyLine.{line_of, line_text};
+ghost use Rattle.fp_model.specs.History.{Accepts, Refuses, beginning};
+ghost use Rattle.fp_model.specs.Lasts.{lasts_of};
+ghost use Rattle.fp_model.specs.Machine.{Machine, at_rest};
+ghost use Rattle.fp_model.specs.declared.events.Event.TheVariants.{In, Region, Log};
 ghost use Rattle.fp_rows.specs.Hex.{named, with_newline};
-ghost use Rattle.fp_rows.specs.Sample.{sample_scripts};
+ghost use Rattle.fp_rows.specs.Sample.{sample_scripts, deposit};
+ghost use Rattle.fp_rows.specs.States.{RunsCalmly, sample_rules, at_start};
+ghost use Rattle.fp_rows.specs.Retries.{round};
+ghost use Rattle.fp_rows.specs.Numbered.{three_lines, entries_of_both_runs, last_number, deposit_one, asking_three};
 ghost use Rattle.fp_rows.specs.Numbered.{asking, behind_one, behind_three, behind_repeat, behind_unknown};
 ghost use Rattle.fp_rows.specs.Numbered.{behind_deposit, behind_format, old_two, repeated_one, format_two};
 
@@ -78,4 +84,30 @@ pub fn the_reply_lines_of_numbers_and_formats()
     ensures old_text { line_text old_two ≡ Some (codes "T1 NO OLD 3") }
     ensures again_text { line_text repeated_one ≡ Some (codes "T1 OK NEW") }
     ensures change_text { line_text format_two ≡ None }
+{}
+
+/// Each terminal's last number with its line: repeats and old numbers change nothing, and terminals ascend.
+pub fn the_last_numbers()
+    ensures one { lasts_of 2 (deposit_one ∷ []) ≡ last_number (codes "T1") 1 (codes "T1 OK NEW") ∷ [] }
+    ensures repeated { lasts_of 2 (deposit_one ∷ repeated_one ∷ [])
+        ≡ last_number (codes "T1") 1 (codes "T1 OK NEW") ∷ [] }
+    ensures both_runs { lasts_of 2 entries_of_both_runs ≡ last_number (codes "T1") 3 (codes "T1 OK 110") ∷ [] }
+    ensures other_terminal { lasts_of 2 (deposit_one ∷ record asking_three { line = codes "S1 7 ASK A001" } ∷ [])
+        ≡ last_number (codes "S1") 7 (codes "S1 OK 110") ∷ last_number (codes "T1") 1 (codes "T1 OK NEW") ∷ [] }
+    ensures without { lasts_of 2 (deposit ∷ []) ≡ [] }
+    ensures format_1 { lasts_of 1 (deposit_one ∷ []) ≡ [] }
+{}
+
+/// Two runs of numbered lines. The first makes the deposit of number 1. The next is sent the same line, number 3 and
+/// number 2, and its five rounds repeat the answer, show the balance, and refuse the old number.
+pub fn numbered_lines_by_turns()
+    ensures first_run { (m : Machine)
+        × (RunsCalmly sample_rules (at_rest sample_rules (codes "T1 1 DEPOSIT A001 10" ∷ []) (beginning 2 at_start))
+        (In ∷ Region 1 ∷ Region 1 ∷ Region 1 ∷ Region 1 ∷ Log ∷ []) m
+        × ((m.history ≡ behind_one) × (m.sent ≡ codes "T1 OK NEW" ++ 10 ∷ []))) }
+    ensures second_run { (m : Machine)
+        × (RunsCalmly sample_rules (at_rest sample_rules three_lines behind_one)
+        (round ++ round ++ round ++ round ++ round) m
+        × ((m.history.entries ≡ entries_of_both_runs)
+        × (m.sent ≡ codes "T1 OK NEW" ++ 10 ∷ codes "T1 OK 110" ++ 10 ∷ codes "T1 NO OLD 3" ++ 10 ∷ []))) }
 {}

@@ -85,7 +85,7 @@ pub fn asking_shows_what_it_noted()
 /// A deposit's line, taken in and run by region 1, is one entry and one group, and its reply line is sent.
 pub fn a_deposit_by_turns()
     ensures { (m : Machine)
-        × (RunsCalmly at_rest_with_a_deposit (In ∷ Region 1 ∷ Region 1 ∷ Region 1 ∷ Region 1 ∷ Log ∷ []) m
+        × (RunsCalmly sample_rules at_rest_with_a_deposit (In ∷ Region 1 ∷ Region 1 ∷ Region 1 ∷ Region 1 ∷ Log ∷ []) m
         × ((m.sent ≡ codes "T1 OK NEW" ++ 10 ∷ [])
         × ((m.groups ≡ (sample.deposit ∷ []) ∷ [])
         × (m.history.now ≡ with_balance (codes "0000110c"))))) }
@@ -114,7 +114,7 @@ pub fn a_search_asks_for_its_anchors()
 /// Two withdrawals of 60 from 100: both look before either commits, and the second fails its verify at the sync point.
 pub fn two_withdrawals_by_turns()
     ensures { (m : Machine)
-        × (RunsCalmly at_rest_with_two_withdrawals
+        × (RunsCalmly sample_rules at_rest_with_two_withdrawals
         (In ∷ In ∷ Region 1 ∷ Region 2 ∷ Region 1 ∷ Region 2 ∷ Region 1 ∷ Region 1 ∷ Region 2 ∷ Region 2 ∷ Log ∷ [])
         m
         × (m.sent ≡ codes "T1 OK PAID 60" ++ 10 ∷ codes "T2 NO VERIFY" ++ 10 ∷ [])) }
@@ -124,7 +124,7 @@ pub fn two_withdrawals_by_turns()
 /// first goes on.
 pub fn two_holders_by_turns()
     ensures { (m : Machine)
-        × (RunsCalmly at_rest_with_two_holders
+        × (RunsCalmly sample_rules at_rest_with_two_holders
         (In ∷ In ∷ Region 1 ∷ Region 1 ∷ Region 2 ∷ Region 2 ∷ Region 1 ∷ Region 2 ∷ Region 1 ∷ Region 2 ∷ Region 1 ∷ Region 1 ∷ Region 1 ∷ Log ∷ [])
         m
         × (m.sent ≡ codes "T2 NO DEADLOCK" ++ 10 ∷ codes "T1 OK BOTH" ++ 10 ∷ [])) }
