@@ -161,7 +161,8 @@ ends_from n now t a o e f = ap (λ (q : Ask). ending_of (hold_rules n) now t q) 
 turn4 : (n : ℕ) → Does (hold_rules n) (m3 n) 1 (first0 n) (Gains (of_account (codes "A001"))) (m4 n)
 unfolding reply_to looks_unheld need_of
 turn4 n = (
-  from_asks n (m3 n) 1 (first0 n) (Asks (account_held (codes "A001"))) (Some (of_account (codes "A001"))) (hold_asks_first n first_asked.lterm first_asked.line) refl,
+  from_asks n (m3 n) 1 (first0 n) (Asks (account_held (codes "A001"))) (Some (of_account (codes "A001")))
+      (hold_asks_first n first_asked.lterm first_asked.line) refl,
   refl,
   refl,
 )
@@ -169,7 +170,8 @@ turn4 n = (
 turn6 : (n : ℕ) → Does (hold_rules n) (m5 n) 2 (second0 n) (Gains (of_account (codes "A002"))) (m6 n)
 unfolding reply_to looks_unheld need_of
 turn6 n = (
-  from_asks n (m5 n) 2 (second0 n) (Asks (account_held (codes "A002"))) (Some (of_account (codes "A002"))) (others_hold_first n second_asked.lterm second_asked.line) refl,
+  from_asks n (m5 n) 2 (second0 n) (Asks (account_held (codes "A002"))) (Some (of_account (codes "A002")))
+      (others_hold_first n second_asked.lterm second_asked.line) refl,
   refl,
   refl,
 )
@@ -178,7 +180,8 @@ turn7 : (n : ℕ) → Does (hold_rules n) (m6 n) 1 (first0 n) (Answers (account_
 unfolding reply_to looks_unheld need_of
 turn7 n = (
   hold_asks_first n first_asked.lterm first_asked.line,
-  from_asks n (m6 n) 1 (first0 n) (Asks (account_held (codes "A001"))) None (hold_asks_first n first_asked.lterm first_asked.line) refl,
+  from_asks n (m6 n) 1 (first0 n) (Asks (account_held (codes "A001"))) None
+      (hold_asks_first n first_asked.lterm first_asked.line) refl,
   refl,
 )
 
@@ -186,14 +189,16 @@ turn8 : (n : ℕ) → Does (hold_rules n) (m7 n) 2 (second0 n) (Answers (account
 unfolding reply_to looks_unheld need_of
 turn8 n = (
   others_hold_first n second_asked.lterm second_asked.line,
-  from_asks n (m7 n) 2 (second0 n) (Asks (account_held (codes "A002"))) None (others_hold_first n second_asked.lterm second_asked.line) refl,
+  from_asks n (m7 n) 2 (second0 n) (Asks (account_held (codes "A002"))) None
+      (others_hold_first n second_asked.lterm second_asked.line) refl,
   refl,
 )
 
 turn9 : (n : ℕ) → Does (hold_rules n) (m8 n) 1 (first1 n) (Waits (of_account (codes "A002"))) (m9 n)
 unfolding reply_to looks_unheld need_of
 turn9 n = (
-  from_asks n (m8 n) 1 (first1 n) (Asks (account_held (codes "A002"))) (Some (of_account (codes "A002"))) (hold_asks_second n first_asked.lterm first_asked.line) refl,
+  from_asks n (m8 n) 1 (first1 n) (Asks (account_held (codes "A002"))) (Some (of_account (codes "A002")))
+      (hold_asks_second n first_asked.lterm first_asked.line) refl,
   refl,
   no_cycle,
   refl,
@@ -203,7 +208,8 @@ turn10 : Does (hold_rules 0) (m9 0) 2 (second1 0) (Deadlocks (of_account (codes 
 unfolding reply_to looks_unheld need_of
 turn10 = (
   record {
-    wants = from_asks 0 (m9 0) 2 (second1 0) (Asks (account_held (codes "A001"))) (Some (of_account (codes "A001"))) (others_hold_second 0 second_asked.lterm second_asked.line) refl;
+    wants = from_asks 0 (m9 0) 2 (second1 0) (Asks (account_held (codes "A001"))) (Some (of_account (codes "A001")))
+        (others_hold_second 0 second_asked.lterm second_asked.line) refl;
     closes = a_cycle;
     distinct = two_apart;
   },
@@ -214,7 +220,8 @@ turn10 = (
 turn11 : Does (hold_rules 0) m10 1 (first1 0) (Gains (of_account (codes "A002"))) m11
 unfolding reply_to looks_unheld need_of
 turn11 = (
-  from_asks 0 m10 1 (first1 0) (Asks (account_held (codes "A002"))) (Some (of_account (codes "A002"))) (hold_asks_second 0 first_asked.lterm first_asked.line) refl,
+  from_asks 0 m10 1 (first1 0) (Asks (account_held (codes "A002"))) (Some (of_account (codes "A002")))
+      (hold_asks_second 0 first_asked.lterm first_asked.line) refl,
   refl,
   refl,
 )
@@ -223,7 +230,8 @@ turn12 : Does (hold_rules 0) m11 1 (first1 0) (Answers (account_held (codes "A00
 unfolding reply_to looks_unheld need_of
 turn12 = (
   hold_asks_second 0 first_asked.lterm first_asked.line,
-  from_asks 0 m11 1 (first1 0) (Asks (account_held (codes "A002"))) None (hold_asks_second 0 first_asked.lterm first_asked.line) refl,
+  from_asks 0 m11 1 (first1 0) (Asks (account_held (codes "A002"))) None
+      (hold_asks_second 0 first_asked.lterm first_asked.line) refl,
   refl,
 )
 
@@ -231,8 +239,10 @@ turn13 : Does (hold_rules 0) m12 1 first2 (Finishes both []) m13
 unfolding reply_to looks_unheld need_of lacking settlement settle_from
 turn13 = (
   record {
-    lacks_none = from_asks 0 m12 1 first2 (Replies (codes "BOTH")) None (hold_replies 0 first_asked.lterm first_asked.line) refl;
-    ends = ends_from 0 at_start first2 (Replies (codes "BOTH")) (Some both) (hold_replies 0 first_asked.lterm first_asked.line) refl;
+    lacks_none = from_asks 0 m12 1 first2 (Replies (codes "BOTH")) None
+        (hold_replies 0 first_asked.lterm first_asked.line) refl;
+    ends = ends_from 0 at_start first2 (Replies (codes "BOTH")) (Some both)
+        (hold_replies 0 first_asked.lterm first_asked.line) refl;
   },
   (λ fails. lit≤ tt),
   tt,
@@ -243,7 +253,8 @@ retry10 : Does (hold_rules 1) (m9 1) 2 (second1 1) (Retries_at_cycle (of_account
 unfolding reply_to looks_unheld need_of
 retry10 = (
   record {
-    wants = from_asks 1 (m9 1) 2 (second1 1) (Asks (account_held (codes "A001"))) (Some (of_account (codes "A001"))) (others_hold_second 1 second_asked.lterm second_asked.line) refl;
+    wants = from_asks 1 (m9 1) 2 (second1 1) (Asks (account_held (codes "A001"))) (Some (of_account (codes "A001")))
+        (others_hold_second 1 second_asked.lterm second_asked.line) refl;
     closes = a_cycle;
     distinct = two_apart;
   },
@@ -254,7 +265,8 @@ retry10 = (
 retry11 : Does (hold_rules 1) r10 1 (first1 1) (Gains (of_account (codes "A002"))) r11
 unfolding reply_to looks_unheld need_of
 retry11 = (
-  from_asks 1 r10 1 (first1 1) (Asks (account_held (codes "A002"))) (Some (of_account (codes "A002"))) (hold_asks_second 1 first_asked.lterm first_asked.line) refl,
+  from_asks 1 r10 1 (first1 1) (Asks (account_held (codes "A002"))) (Some (of_account (codes "A002")))
+      (hold_asks_second 1 first_asked.lterm first_asked.line) refl,
   refl,
   refl,
 )
@@ -263,7 +275,8 @@ retry12 : Does (hold_rules 1) r11 1 (first1 1) (Answers (account_held (codes "A0
 unfolding reply_to looks_unheld need_of
 retry12 = (
   hold_asks_second 1 first_asked.lterm first_asked.line,
-  from_asks 1 r11 1 (first1 1) (Asks (account_held (codes "A002"))) None (hold_asks_second 1 first_asked.lterm first_asked.line) refl,
+  from_asks 1 r11 1 (first1 1) (Asks (account_held (codes "A002"))) None
+      (hold_asks_second 1 first_asked.lterm first_asked.line) refl,
   refl,
 )
 
@@ -271,8 +284,10 @@ retry13 : Does (hold_rules 1) r12 1 first3 (Finishes both []) r13
 unfolding reply_to looks_unheld need_of lacking settlement settle_from
 retry13 = (
   record {
-    lacks_none = from_asks 1 r12 1 first3 (Replies (codes "BOTH")) None (hold_replies 1 first_asked.lterm first_asked.line) refl;
-    ends = ends_from 1 at_start first3 (Replies (codes "BOTH")) (Some both) (hold_replies 1 first_asked.lterm first_asked.line) refl;
+    lacks_none = from_asks 1 r12 1 first3 (Replies (codes "BOTH")) None
+        (hold_replies 1 first_asked.lterm first_asked.line) refl;
+    ends = ends_from 1 at_start first3 (Replies (codes "BOTH")) (Some both)
+        (hold_replies 1 first_asked.lterm first_asked.line) refl;
   },
   (λ fails. let wrong : false ≡ true = fails in cc),
   tt,
@@ -282,7 +297,8 @@ retry13 = (
 retry15 : Does (hold_rules 1) r14 2 again0 (Gains (of_account (codes "A002"))) r15
 unfolding reply_to looks_unheld need_of
 retry15 = (
-  from_asks 1 r14 2 again0 (Asks (account_held (codes "A002"))) (Some (of_account (codes "A002"))) (others_hold_first 1 second_asked.lterm second_asked.line) refl,
+  from_asks 1 r14 2 again0 (Asks (account_held (codes "A002"))) (Some (of_account (codes "A002")))
+      (others_hold_first 1 second_asked.lterm second_asked.line) refl,
   refl,
   refl,
 )
@@ -291,14 +307,16 @@ retry16 : Does (hold_rules 1) r15 2 again0 (Answers (account_held (codes "A002")
 unfolding reply_to looks_unheld need_of
 retry16 = (
   others_hold_first 1 second_asked.lterm second_asked.line,
-  from_asks 1 r15 2 again0 (Asks (account_held (codes "A002"))) None (others_hold_first 1 second_asked.lterm second_asked.line) refl,
+  from_asks 1 r15 2 again0 (Asks (account_held (codes "A002"))) None
+      (others_hold_first 1 second_asked.lterm second_asked.line) refl,
   refl,
 )
 
 retry17 : Does (hold_rules 1) r16 2 again1 (Gains (of_account (codes "A001"))) r17
 unfolding reply_to looks_unheld need_of
 retry17 = (
-  from_asks 1 r16 2 again1 (Asks (account_held (codes "A001"))) (Some (of_account (codes "A001"))) (others_hold_second 1 second_asked.lterm second_asked.line) refl,
+  from_asks 1 r16 2 again1 (Asks (account_held (codes "A001"))) (Some (of_account (codes "A001")))
+      (others_hold_second 1 second_asked.lterm second_asked.line) refl,
   refl,
   refl,
 )
@@ -307,7 +325,8 @@ retry18 : Does (hold_rules 1) r17 2 again1 (Answers (account_held (codes "A001")
 unfolding reply_to looks_unheld need_of
 retry18 = (
   others_hold_second 1 second_asked.lterm second_asked.line,
-  from_asks 1 r17 2 again1 (Asks (account_held (codes "A001"))) None (others_hold_second 1 second_asked.lterm second_asked.line) refl,
+  from_asks 1 r17 2 again1 (Asks (account_held (codes "A001"))) None
+      (others_hold_second 1 second_asked.lterm second_asked.line) refl,
   refl,
 )
 
@@ -315,8 +334,10 @@ retry19 : Does (hold_rules 1) r18 2 again2 (Finishes both []) r19
 unfolding reply_to looks_unheld need_of lacking settlement settle_from
 retry19 = (
   record {
-    lacks_none = from_asks 1 r18 2 again2 (Replies (codes "BOTH")) None (others_hold_reply 1 second_asked.lterm second_asked.line) refl;
-    ends = ends_from 1 at_start again2 (Replies (codes "BOTH")) (Some both) (others_hold_reply 1 second_asked.lterm second_asked.line) refl;
+    lacks_none = from_asks 1 r18 2 again2 (Replies (codes "BOTH")) None
+        (others_hold_reply 1 second_asked.lterm second_asked.line) refl;
+    ends = ends_from 1 at_start again2 (Replies (codes "BOTH")) (Some both)
+        (others_hold_reply 1 second_asked.lterm second_asked.line) refl;
   },
   (λ fails. lit≤ tt),
   tt,
@@ -327,7 +348,10 @@ retry19 = (
 
 abbrev refused_steps : List RunStep
 refused_steps =
-    calm In (m1 0) ∷ calm In (m2 0) ∷ calm (Region 1) (m3 0) ∷ calm (Region 1) (m4 0) ∷ calm (Region 2) (m5 0) ∷ calm (Region 2) (m6 0) ∷ calm (Region 1) (m7 0) ∷ calm (Region 2) (m8 0) ∷ calm (Region 1) (m9 0) ∷ calm (Region 2) m10 ∷ calm (Region 1) m11 ∷ calm (Region 1) m12 ∷ calm (Region 1) m13 ∷ calm Log (sealed_once (hold_rules 0) m13) ∷ []
+    calm In (m1 0) ∷ calm In (m2 0) ∷ calm (Region 1) (m3 0) ∷ calm (Region 1) (m4 0) ∷ calm (Region 2) (m5 0)
+    ∷ calm (Region 2) (m6 0) ∷ calm (Region 1) (m7 0) ∷ calm (Region 2) (m8 0) ∷ calm (Region 1) (m9 0)
+    ∷ calm (Region 2) m10 ∷ calm (Region 1) m11 ∷ calm (Region 1) m12 ∷ calm (Region 1) m13
+    ∷ calm Log (sealed_once (hold_rules 0) m13) ∷ []
 
 pub accounts_by_turns : (m : Machine)
     × (RunsCalmly (hold_rules 0) (at_rest_over (hold_rules 0) at_start two_account_lines)
@@ -344,7 +368,40 @@ accounts_by_turns = (
       steps = refused_steps;
       takes = refl;
       is_calm = refl;
-      runs = (refl, (refl, (refl, ((Gains (of_account (codes "A001")), turn4 0), (refl, ((Gains (of_account (codes "A002")), turn6 0), ((Answers (account_held (codes "A001")), turn7 0), ((Answers (account_held (codes "A002")), turn8 0), ((Waits (of_account (codes "A002")), turn9 0), ((Deadlocks (of_account (codes "A001")) (1 ∷ []), turn10), ((Gains (of_account (codes "A002")), turn11), ((Answers (account_held (codes "A002")), turn12), ((Finishes both [], turn13), (refl, refl))))))))))))));
+      runs = (
+        refl,
+        (
+          refl,
+          (
+            refl,
+            (
+              (Gains (of_account (codes "A001")), turn4 0),
+              (
+                refl,
+                (
+                  (Gains (of_account (codes "A002")), turn6 0),
+                  (
+                    (Answers (account_held (codes "A001")), turn7 0),
+                    (
+                      (Answers (account_held (codes "A002")), turn8 0),
+                      (
+                        (Waits (of_account (codes "A002")), turn9 0),
+                        (
+                          (Deadlocks (of_account (codes "A001")) (1 ∷ []), turn10),
+                          (
+                            (Gains (of_account (codes "A002")), turn11),
+                            ((Answers (account_held (codes "A002")), turn12), ((Finishes both [], turn13), (refl, refl))),
+                          ),
+                        ),
+                      ),
+                    ),
+                  ),
+                ),
+              ),
+            ),
+          ),
+        ),
+      );
     },
     (refl, refl),
   ),
@@ -352,7 +409,13 @@ accounts_by_turns = (
 
 abbrev retried_steps : List RunStep
 retried_steps =
-    calm In (m1 1) ∷ calm In (m2 1) ∷ calm (Region 1) (m3 1) ∷ calm (Region 1) (m4 1) ∷ calm (Region 2) (m5 1) ∷ calm (Region 2) (m6 1) ∷ calm (Region 1) (m7 1) ∷ calm (Region 2) (m8 1) ∷ calm (Region 1) (m9 1) ∷ calm (Region 2) r10 ∷ calm (Region 1) r11 ∷ calm (Region 1) r12 ∷ calm (Region 1) r13 ∷ calm Log r14 ∷ calm In r14 ∷ calm (Region 1) r14 ∷ calm (Region 2) r15 ∷ calm Log r15 ∷ calm In r15 ∷ calm (Region 1) r15 ∷ calm (Region 2) r16 ∷ calm Log r16 ∷ calm In r16 ∷ calm (Region 1) r16 ∷ calm (Region 2) r17 ∷ calm Log r17 ∷ calm In r17 ∷ calm (Region 1) r17 ∷ calm (Region 2) r18 ∷ calm Log r18 ∷ calm In r18 ∷ calm (Region 1) r18 ∷ calm (Region 2) r19 ∷ calm Log (sealed_once (hold_rules 1) r19) ∷ []
+    calm In (m1 1) ∷ calm In (m2 1) ∷ calm (Region 1) (m3 1) ∷ calm (Region 1) (m4 1) ∷ calm (Region 2) (m5 1)
+    ∷ calm (Region 2) (m6 1) ∷ calm (Region 1) (m7 1) ∷ calm (Region 2) (m8 1) ∷ calm (Region 1) (m9 1)
+    ∷ calm (Region 2) r10 ∷ calm (Region 1) r11 ∷ calm (Region 1) r12 ∷ calm (Region 1) r13 ∷ calm Log r14
+    ∷ calm In r14 ∷ calm (Region 1) r14 ∷ calm (Region 2) r15 ∷ calm Log r15 ∷ calm In r15 ∷ calm (Region 1) r15
+    ∷ calm (Region 2) r16 ∷ calm Log r16 ∷ calm In r16 ∷ calm (Region 1) r16 ∷ calm (Region 2) r17
+    ∷ calm Log r17 ∷ calm In r17 ∷ calm (Region 1) r17 ∷ calm (Region 2) r18 ∷ calm Log r18 ∷ calm In r18
+    ∷ calm (Region 1) r18 ∷ calm (Region 2) r19 ∷ calm Log (sealed_once (hold_rules 1) r19) ∷ []
 
 pub accounts_again_by_turns : (m : Machine)
     × (RunsCalmly (hold_rules 1) (at_rest_over (hold_rules 1) at_start two_account_lines)
@@ -368,7 +431,106 @@ accounts_again_by_turns = (
       steps = retried_steps;
       takes = refl;
       is_calm = refl;
-      runs = (refl, (refl, (refl, ((Gains (of_account (codes "A001")), turn4 1), (refl, ((Gains (of_account (codes "A002")), turn6 1), ((Answers (account_held (codes "A001")), turn7 1), ((Answers (account_held (codes "A002")), turn8 1), ((Waits (of_account (codes "A002")), turn9 1), ((Retries_at_cycle (of_account (codes "A001")) (1 ∷ []), retry10), ((Gains (of_account (codes "A002")), retry11), ((Answers (account_held (codes "A002")), retry12), ((Finishes both [], retry13), (refl, (refl, (refl, ((Gains (of_account (codes "A002")), retry15), (refl, (refl, (refl, ((Answers (account_held (codes "A002")), retry16), (refl, (refl, (refl, ((Gains (of_account (codes "A001")), retry17), (refl, (refl, (refl, ((Answers (account_held (codes "A001")), retry18), (refl, (refl, (refl, ((Finishes both [], retry19), (refl, refl))))))))))))))))))))))))))))))))));
+      runs = (
+        refl,
+        (
+          refl,
+          (
+            refl,
+            (
+              (Gains (of_account (codes "A001")), turn4 1),
+              (
+                refl,
+                (
+                  (Gains (of_account (codes "A002")), turn6 1),
+                  (
+                    (Answers (account_held (codes "A001")), turn7 1),
+                    (
+                      (Answers (account_held (codes "A002")), turn8 1),
+                      (
+                        (Waits (of_account (codes "A002")), turn9 1),
+                        (
+                          (Retries_at_cycle (of_account (codes "A001")) (1 ∷ []), retry10),
+                          (
+                            (Gains (of_account (codes "A002")), retry11),
+                            (
+                              (Answers (account_held (codes "A002")), retry12),
+                              (
+                                (Finishes both [], retry13),
+                                (
+                                  refl,
+                                  (
+                                    refl,
+                                    (
+                                      refl,
+                                      (
+                                        (Gains (of_account (codes "A002")), retry15),
+                                        (
+                                          refl,
+                                          (
+                                            refl,
+                                            (
+                                              refl,
+                                              (
+                                                (Answers (account_held (codes "A002")), retry16),
+                                                (
+                                                  refl,
+                                                  (
+                                                    refl,
+                                                    (
+                                                      refl,
+                                                      (
+                                                        (Gains (of_account (codes "A001")), retry17),
+                                                        (
+                                                          refl,
+                                                          (
+                                                            refl,
+                                                            (
+                                                              refl,
+                                                              (
+                                                                (Answers (account_held (codes "A001")), retry18),
+                                                                (
+                                                                  refl,
+                                                                  (
+                                                                    refl,
+                                                                    (
+                                                                      refl,
+                                                                      (
+                                                                        (Finishes both [], retry19),
+                                                                        (refl, refl),
+                                                                      ),
+                                                                    ),
+                                                                  ),
+                                                                ),
+                                                              ),
+                                                            ),
+                                                          ),
+                                                        ),
+                                                      ),
+                                                    ),
+                                                  ),
+                                                ),
+                                              ),
+                                            ),
+                                          ),
+                                        ),
+                                      ),
+                                    ),
+                                  ),
+                                ),
+                              ),
+                            ),
+                          ),
+                        ),
+                      ),
+                    ),
+                  ),
+                ),
+              ),
+            ),
+          ),
+        ),
+      );
     },
     refl,
   ),

@@ -146,7 +146,8 @@ ends_from now t a o e f = ap (λ (q : Ask). ending_of retrying now t q) e ∙ f
 turn4 : Does retrying m3 1 first0 (Gains (of_anchor 6)) m4
 unfolding reply_to looks_unheld need_of
 turn4 = (
-  from_asks m3 1 first0 (Asks (customer_held (codes "C001"))) (Some (of_anchor 6)) (two_asks_first first_asked.lterm first_asked.line) refl,
+  from_asks m3 1 first0 (Asks (customer_held (codes "C001"))) (Some (of_anchor 6))
+      (two_asks_first first_asked.lterm first_asked.line) refl,
   refl,
   refl,
 )
@@ -154,7 +155,8 @@ turn4 = (
 turn6 : Does retrying m5 2 second0 (Gains (of_anchor 0)) m6
 unfolding reply_to looks_unheld need_of
 turn6 = (
-  from_asks m5 2 second0 (Asks (customer_held (codes "C003"))) (Some (of_anchor 0)) (others_asks_first second_asked.lterm second_asked.line) refl,
+  from_asks m5 2 second0 (Asks (customer_held (codes "C003"))) (Some (of_anchor 0))
+      (others_asks_first second_asked.lterm second_asked.line) refl,
   refl,
   refl,
 )
@@ -163,7 +165,8 @@ turn7 : Does retrying m6 1 first0 (Answers (customer_held (codes "C001"))) m7
 unfolding reply_to looks_unheld need_of
 turn7 = (
   two_asks_first first_asked.lterm first_asked.line,
-  from_asks m6 1 first0 (Asks (customer_held (codes "C001"))) None (two_asks_first first_asked.lterm first_asked.line) refl,
+  from_asks m6 1 first0 (Asks (customer_held (codes "C001"))) None
+      (two_asks_first first_asked.lterm first_asked.line) refl,
   refl,
 )
 
@@ -171,14 +174,16 @@ turn8 : Does retrying m7 2 second0 (Answers (customer_held (codes "C003"))) m8
 unfolding reply_to looks_unheld need_of
 turn8 = (
   others_asks_first second_asked.lterm second_asked.line,
-  from_asks m7 2 second0 (Asks (customer_held (codes "C003"))) None (others_asks_first second_asked.lterm second_asked.line) refl,
+  from_asks m7 2 second0 (Asks (customer_held (codes "C003"))) None
+      (others_asks_first second_asked.lterm second_asked.line) refl,
   refl,
 )
 
 turn9 : Does retrying m8 1 first1 (Waits (of_anchor 0)) m9
 unfolding reply_to looks_unheld need_of
 turn9 = (
-  from_asks m8 1 first1 (Asks (customer_held (codes "C003"))) (Some (of_anchor 0)) (two_asks_second first_asked.lterm first_asked.line) refl,
+  from_asks m8 1 first1 (Asks (customer_held (codes "C003"))) (Some (of_anchor 0))
+      (two_asks_second first_asked.lterm first_asked.line) refl,
   refl,
   no_cycle,
   refl,
@@ -188,7 +193,8 @@ retry10 : Does retrying m9 2 second1 (Retries_at_cycle (of_anchor 6) (1 ∷ []))
 unfolding reply_to looks_unheld need_of
 retry10 = (
   record {
-    wants = from_asks m9 2 second1 (Asks (customer_held (codes "C001"))) (Some (of_anchor 6)) (others_asks_second second_asked.lterm second_asked.line) refl;
+    wants = from_asks m9 2 second1 (Asks (customer_held (codes "C001"))) (Some (of_anchor 6))
+        (others_asks_second second_asked.lterm second_asked.line) refl;
     closes = a_cycle;
     distinct = two_apart;
   },
@@ -199,7 +205,8 @@ retry10 = (
 retry11 : Does retrying r10 1 first1 (Gains (of_anchor 0)) r11
 unfolding reply_to looks_unheld need_of
 retry11 = (
-  from_asks r10 1 first1 (Asks (customer_held (codes "C003"))) (Some (of_anchor 0)) (two_asks_second first_asked.lterm first_asked.line) refl,
+  from_asks r10 1 first1 (Asks (customer_held (codes "C003"))) (Some (of_anchor 0))
+      (two_asks_second first_asked.lterm first_asked.line) refl,
   refl,
   refl,
 )
@@ -208,7 +215,8 @@ retry12 : Does retrying r11 1 first1 (Answers (customer_held (codes "C003"))) r1
 unfolding reply_to looks_unheld need_of
 retry12 = (
   two_asks_second first_asked.lterm first_asked.line,
-  from_asks r11 1 first1 (Asks (customer_held (codes "C003"))) None (two_asks_second first_asked.lterm first_asked.line) refl,
+  from_asks r11 1 first1 (Asks (customer_held (codes "C003"))) None
+      (two_asks_second first_asked.lterm first_asked.line) refl,
   refl,
 )
 
@@ -216,8 +224,10 @@ retry13 : Does retrying r12 1 first3 (Finishes both []) r13
 unfolding reply_to looks_unheld need_of lacking settlement settle_from
 retry13 = (
   record {
-    lacks_none = from_asks r12 1 first3 (Replies (codes "BOTH")) None (two_replies first_asked.lterm first_asked.line) refl;
-    ends = ends_from with_two first3 (Replies (codes "BOTH")) (Some both) (two_replies first_asked.lterm first_asked.line) refl;
+    lacks_none = from_asks r12 1 first3 (Replies (codes "BOTH")) None
+        (two_replies first_asked.lterm first_asked.line) refl;
+    ends = ends_from with_two first3 (Replies (codes "BOTH")) (Some both)
+        (two_replies first_asked.lterm first_asked.line) refl;
   },
   (λ fails. let wrong : false ≡ true = fails in cc),
   tt,
@@ -227,7 +237,8 @@ retry13 = (
 retry15 : Does retrying r14 2 again0 (Gains (of_anchor 0)) r15
 unfolding reply_to looks_unheld need_of
 retry15 = (
-  from_asks r14 2 again0 (Asks (customer_held (codes "C003"))) (Some (of_anchor 0)) (others_asks_first second_asked.lterm second_asked.line) refl,
+  from_asks r14 2 again0 (Asks (customer_held (codes "C003"))) (Some (of_anchor 0))
+      (others_asks_first second_asked.lterm second_asked.line) refl,
   refl,
   refl,
 )
@@ -236,14 +247,16 @@ retry16 : Does retrying r15 2 again0 (Answers (customer_held (codes "C003"))) r1
 unfolding reply_to looks_unheld need_of
 retry16 = (
   others_asks_first second_asked.lterm second_asked.line,
-  from_asks r15 2 again0 (Asks (customer_held (codes "C003"))) None (others_asks_first second_asked.lterm second_asked.line) refl,
+  from_asks r15 2 again0 (Asks (customer_held (codes "C003"))) None
+      (others_asks_first second_asked.lterm second_asked.line) refl,
   refl,
 )
 
 retry17 : Does retrying r16 2 again1 (Gains (of_anchor 6)) r17
 unfolding reply_to looks_unheld need_of
 retry17 = (
-  from_asks r16 2 again1 (Asks (customer_held (codes "C001"))) (Some (of_anchor 6)) (others_asks_second second_asked.lterm second_asked.line) refl,
+  from_asks r16 2 again1 (Asks (customer_held (codes "C001"))) (Some (of_anchor 6))
+      (others_asks_second second_asked.lterm second_asked.line) refl,
   refl,
   refl,
 )
@@ -252,7 +265,8 @@ retry18 : Does retrying r17 2 again1 (Answers (customer_held (codes "C001"))) r1
 unfolding reply_to looks_unheld need_of
 retry18 = (
   others_asks_second second_asked.lterm second_asked.line,
-  from_asks r17 2 again1 (Asks (customer_held (codes "C001"))) None (others_asks_second second_asked.lterm second_asked.line) refl,
+  from_asks r17 2 again1 (Asks (customer_held (codes "C001"))) None
+      (others_asks_second second_asked.lterm second_asked.line) refl,
   refl,
 )
 
@@ -260,8 +274,10 @@ retry19 : Does retrying r18 2 again2 (Finishes both []) r19
 unfolding reply_to looks_unheld need_of lacking settlement settle_from
 retry19 = (
   record {
-    lacks_none = from_asks r18 2 again2 (Replies (codes "BOTH")) None (others_reply second_asked.lterm second_asked.line) refl;
-    ends = ends_from with_two again2 (Replies (codes "BOTH")) (Some both) (others_reply second_asked.lterm second_asked.line) refl;
+    lacks_none = from_asks r18 2 again2 (Replies (codes "BOTH")) None
+        (others_reply second_asked.lterm second_asked.line) refl;
+    ends = ends_from with_two again2 (Replies (codes "BOTH")) (Some both)
+        (others_reply second_asked.lterm second_asked.line) refl;
   },
   (λ fails. lit≤ tt),
   tt,
@@ -272,7 +288,13 @@ retry19 = (
 
 abbrev retried_steps : List RunStep
 retried_steps =
-    calm In m1 ∷ calm In m2 ∷ calm (Region 1) m3 ∷ calm (Region 1) m4 ∷ calm (Region 2) m5 ∷ calm (Region 2) m6 ∷ calm (Region 1) m7 ∷ calm (Region 2) m8 ∷ calm (Region 1) m9 ∷ calm (Region 2) r10 ∷ calm (Region 1) r11 ∷ calm (Region 1) r12 ∷ calm (Region 1) r13 ∷ calm Log r14 ∷ calm In r14 ∷ calm (Region 1) r14 ∷ calm (Region 2) r15 ∷ calm Log r15 ∷ calm In r15 ∷ calm (Region 1) r15 ∷ calm (Region 2) r16 ∷ calm Log r16 ∷ calm In r16 ∷ calm (Region 1) r16 ∷ calm (Region 2) r17 ∷ calm Log r17 ∷ calm In r17 ∷ calm (Region 1) r17 ∷ calm (Region 2) r18 ∷ calm Log r18 ∷ calm In r18 ∷ calm (Region 1) r18 ∷ calm (Region 2) r19 ∷ calm Log (sealed_once retrying r19) ∷ []
+    calm In m1 ∷ calm In m2 ∷ calm (Region 1) m3 ∷ calm (Region 1) m4 ∷ calm (Region 2) m5 ∷ calm (Region 2) m6
+    ∷ calm (Region 1) m7 ∷ calm (Region 2) m8 ∷ calm (Region 1) m9 ∷ calm (Region 2) r10 ∷ calm (Region 1) r11
+    ∷ calm (Region 1) r12 ∷ calm (Region 1) r13 ∷ calm Log r14 ∷ calm In r14 ∷ calm (Region 1) r14
+    ∷ calm (Region 2) r15 ∷ calm Log r15 ∷ calm In r15 ∷ calm (Region 1) r15 ∷ calm (Region 2) r16
+    ∷ calm Log r16 ∷ calm In r16 ∷ calm (Region 1) r16 ∷ calm (Region 2) r17 ∷ calm Log r17 ∷ calm In r17
+    ∷ calm (Region 1) r17 ∷ calm (Region 2) r18 ∷ calm Log r18 ∷ calm In r18 ∷ calm (Region 1) r18
+    ∷ calm (Region 2) r19 ∷ calm Log (sealed_once retrying r19) ∷ []
 
 pub holders_again_by_turns : (m : Machine)
     × (RunsCalmly retrying (at_rest_over retrying with_two two_customer_lines)
@@ -288,7 +310,103 @@ holders_again_by_turns = (
       steps = retried_steps;
       takes = refl;
       is_calm = refl;
-      runs = (refl, (refl, (refl, ((Gains (of_anchor 6), turn4), (refl, ((Gains (of_anchor 0), turn6), ((Answers (customer_held (codes "C001")), turn7), ((Answers (customer_held (codes "C003")), turn8), ((Waits (of_anchor 0), turn9), ((Retries_at_cycle (of_anchor 6) (1 ∷ []), retry10), ((Gains (of_anchor 0), retry11), ((Answers (customer_held (codes "C003")), retry12), ((Finishes both [], retry13), (refl, (refl, (refl, ((Gains (of_anchor 0), retry15), (refl, (refl, (refl, ((Answers (customer_held (codes "C003")), retry16), (refl, (refl, (refl, ((Gains (of_anchor 6), retry17), (refl, (refl, (refl, ((Answers (customer_held (codes "C001")), retry18), (refl, (refl, (refl, ((Finishes both [], retry19), (refl, refl))))))))))))))))))))))))))))))))));
+      runs = (
+        refl,
+        (
+          refl,
+          (
+            refl,
+            (
+              (Gains (of_anchor 6), turn4),
+              (
+                refl,
+                (
+                  (Gains (of_anchor 0), turn6),
+                  (
+                    (Answers (customer_held (codes "C001")), turn7),
+                    (
+                      (Answers (customer_held (codes "C003")), turn8),
+                      (
+                        (Waits (of_anchor 0), turn9),
+                        (
+                          (Retries_at_cycle (of_anchor 6) (1 ∷ []), retry10),
+                          (
+                            (Gains (of_anchor 0), retry11),
+                            (
+                              (Answers (customer_held (codes "C003")), retry12),
+                              (
+                                (Finishes both [], retry13),
+                                (
+                                  refl,
+                                  (
+                                    refl,
+                                    (
+                                      refl,
+                                      (
+                                        (Gains (of_anchor 0), retry15),
+                                        (
+                                          refl,
+                                          (
+                                            refl,
+                                            (
+                                              refl,
+                                              (
+                                                (Answers (customer_held (codes "C003")), retry16),
+                                                (
+                                                  refl,
+                                                  (
+                                                    refl,
+                                                    (
+                                                      refl,
+                                                      (
+                                                        (Gains (of_anchor 6), retry17),
+                                                        (
+                                                          refl,
+                                                          (
+                                                            refl,
+                                                            (
+                                                              refl,
+                                                              (
+                                                                (Answers (customer_held (codes "C001")), retry18),
+                                                                (
+                                                                  refl,
+                                                                  (
+                                                                    refl,
+                                                                    (
+                                                                      refl,
+                                                                      ((Finishes both [], retry19), (refl, refl)),
+                                                                    ),
+                                                                  ),
+                                                                ),
+                                                              ),
+                                                            ),
+                                                          ),
+                                                        ),
+                                                      ),
+                                                    ),
+                                                  ),
+                                                ),
+                                              ),
+                                            ),
+                                          ),
+                                        ),
+                                      ),
+                                    ),
+                                  ),
+                                ),
+                              ),
+                            ),
+                          ),
+                        ),
+                      ),
+                    ),
+                  ),
+                ),
+              ),
+            ),
+          ),
+        ),
+      );
     },
     refl,
   ),

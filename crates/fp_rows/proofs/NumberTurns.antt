@@ -44,19 +44,23 @@ field_call = call.Fld 0 (codes "A001") (hex (codes "42414c2020202020 20 2b 0002 
 abbrev look : Call
 look = call.Get Unique false 0 (record { segment = 0; key = Some (codes "A001") } ∷ [])
 
-deposit_asks : (line : List ℕ) (number : Option ℕ) → ask sample.sample_defs sample.deposit_script.statements (depositing line number) [] ≡ Asks field_call
+deposit_asks : (line : List ℕ) (number : Option ℕ) → ask sample.sample_defs sample.deposit_script.statements
+    (depositing line number) [] ≡ Asks field_call
 unfolding ask be16 digits
 deposit_asks line number = simp (run_roll) refl
 
-deposit_replies : (line : List ℕ) (number : Option ℕ) → ask sample.sample_defs sample.deposit_script.statements (depositing line number) (sample.lettered (codes "  ") (codes " ") ∷ []) ≡ Replies (codes "NEW")
+deposit_replies : (line : List ℕ) (number : Option ℕ) → ask sample.sample_defs sample.deposit_script.statements
+    (depositing line number) (sample.lettered (codes "  ") (codes " ") ∷ []) ≡ Replies (codes "NEW")
 unfolding ask be16 digits
 deposit_replies line number = simp (run_roll) refl
 
-asking_asks : (line : List ℕ) (number : Option ℕ) → ask sample.sample_defs sample.ask_script.statements (asking line number) [] ≡ Asks look
+asking_asks : (line : List ℕ) (number : Option ℕ) → ask sample.sample_defs sample.ask_script.statements
+    (asking line number) [] ≡ Asks look
 unfolding ask be16 digits
 asking_asks line number = simp (run_roll) refl
 
-asking_replies : (line : List ℕ) (number : Option ℕ) → ask sample.sample_defs sample.ask_script.statements (asking line number) (sample.showing 0 (hex (codes "41303031 0000110c")) ∷ []) ≡ Replies (codes "110")
+asking_replies : (line : List ℕ) (number : Option ℕ) → ask sample.sample_defs sample.ask_script.statements
+    (asking line number) (sample.showing 0 (hex (codes "41303031 0000110c")) ∷ []) ≡ Replies (codes "110")
 unfolding ask be16 digits
 asking_replies line number = simp (run_roll) refl
 
@@ -132,7 +136,19 @@ first_run = (
       steps = first_steps;
       takes = refl;
       is_calm = refl;
-      runs = (refl, (refl, ((Answers field_call, turn3), ((Gains the_lock, turn4), ((Finishes new sample.deposit.items, turn5), (refl, refl))))));
+      runs = (
+        refl,
+        (
+          refl,
+          (
+            (Answers field_call, turn3),
+            (
+              (Gains the_lock, turn4),
+              ((Finishes new sample.deposit.items, turn5), (refl, refl)),
+            ),
+          ),
+        ),
+      );
     },
     (refl, refl),
   ),
@@ -243,7 +259,10 @@ last_turn = (
 
 abbrev second_steps : List RunStep
 second_steps =
-    calm In n1 ∷ calm (Region 1) n1 ∷ calm (Region 2) n1 ∷ calm Log n2 ∷ calm In n3 ∷ calm (Region 1) n4 ∷ calm (Region 2) n4 ∷ calm Log n4 ∷ calm In n5 ∷ calm (Region 1) n6 ∷ calm (Region 2) n6 ∷ calm Log n6 ∷ calm In n6 ∷ calm (Region 1) n7 ∷ calm (Region 2) n7 ∷ calm Log n8 ∷ calm In n9 ∷ calm (Region 1) n9 ∷ calm (Region 2) n9 ∷ calm Log n10 ∷ []
+    calm In n1 ∷ calm (Region 1) n1 ∷ calm (Region 2) n1 ∷ calm Log n2 ∷ calm In n3 ∷ calm (Region 1) n4
+    ∷ calm (Region 2) n4 ∷ calm Log n4 ∷ calm In n5 ∷ calm (Region 1) n6 ∷ calm (Region 2) n6 ∷ calm Log n6
+    ∷ calm In n6 ∷ calm (Region 1) n7 ∷ calm (Region 2) n7 ∷ calm Log n8 ∷ calm In n9 ∷ calm (Region 1) n9
+    ∷ calm (Region 2) n9 ∷ calm Log n10 ∷ []
 
 pub second_run : (m : Machine)
     × (RunsCalmly sample_rules (at_rest sample_rules three_lines behind_one)
@@ -258,7 +277,43 @@ second_run = (
       steps = second_steps;
       takes = refl;
       is_calm = refl;
-      runs = (refl, (refl, (refl, (refl, (refl, (refl, (refl, (refl, (refl, ((Answers look, look_turn), (refl, (refl, (refl, ((Finishes shown [], last_turn), (refl, (refl, (refl, (refl, (refl, (refl, refl))))))))))))))))))));
+      runs = (
+        refl,
+        (
+          refl,
+          (
+            refl,
+            (
+              refl,
+              (
+                refl,
+                (
+                  refl,
+                  (
+                    refl,
+                    (
+                      refl,
+                      (
+                        refl,
+                        (
+                          (Answers look, look_turn),
+                          (
+                            refl,
+                            (
+                              refl,
+                              (refl, ((Finishes shown [], last_turn), (refl, (refl, (refl, (refl, (refl, (refl, refl)))))))),
+                            ),
+                          ),
+                        ),
+                      ),
+                    ),
+                  ),
+                ),
+              ),
+            ),
+          ),
+        ),
+      );
     },
     (refl, refl),
   ),

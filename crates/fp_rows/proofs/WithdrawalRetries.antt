@@ -37,7 +37,8 @@ second_asked =
     { lterm = named (codes "T2"); line = codes "T2 WDRAW A001 60" }
 
 abbrev field_call : Call
-field_call = call.Fld 0 (codes "A001") (hex (codes "42414c2020202020 20 48 0002 3630 2a 42414c2020202020 20 2d 0002 3630 20"))
+field_call = call.Fld 0 (codes "A001") (hex
+    (codes "42414c2020202020 20 48 0002 3630 2a 42414c2020202020 20 2d 0002 3630 20"))
 
 abbrev the_lock : Needed
 the_lock = record { resource = Segment 0 (codes "A001"); mode = Exclusive }
@@ -185,13 +186,26 @@ turn13 = (
 -- the steps of the run
 abbrev withdrawal_steps : List RunStep
 withdrawal_steps =
-    calm In m1 ∷ calm In m2 ∷ calm (Region 1) m3 ∷ calm (Region 2) m4 ∷ calm (Region 1) m5 ∷ calm (Region 2) m6 ∷ calm (Region 1) m7 ∷ calm (Region 1) m8 ∷ calm (Region 2) m9 ∷ calm (Region 2) m10 ∷ calm Log m11 ∷ calm In m11 ∷ calm (Region 1) m11 ∷ calm (Region 2) m12 ∷ calm Log m12 ∷ calm In m12 ∷ calm (Region 1) m12 ∷ calm (Region 2) m13 ∷ calm Log (sealed_once retrying m13) ∷ []
+    calm In m1 ∷ calm In m2 ∷ calm (Region 1) m3 ∷ calm (Region 2) m4 ∷ calm (Region 1) m5 ∷ calm (Region 2) m6
+    ∷ calm (Region 1) m7 ∷ calm (Region 1) m8 ∷ calm (Region 2) m9 ∷ calm (Region 2) m10 ∷ calm Log m11
+    ∷ calm In m11 ∷ calm (Region 1) m11 ∷ calm (Region 2) m12 ∷ calm Log m12 ∷ calm In m12 ∷ calm (Region 1) m12
+    ∷ calm (Region 2) m13 ∷ calm Log (sealed_once retrying m13) ∷ []
 
 pub withdrawals_again_by_turns : (m : Machine)
     × (RunsCalmly retrying (at_rest_over retrying at_start two_withdrawal_lines)
-    (In ∷ In ∷ Region 1 ∷ Region 2 ∷ Region 1 ∷ Region 2 ∷ Region 1 ∷ Region 1 ∷ Region 2 ∷ Region 2 ∷ Log ∷ round ++ round)
+    (In ∷ In ∷ Region 1 ∷ Region 2 ∷ Region 1 ∷ Region 2 ∷ Region 1 ∷ Region 1 ∷ Region 2 ∷ Region 2 ∷ Log
+    ∷ round ++ round)
     m
-    × ((slice_get m.history.entries 1 ≡ Some (record { from = 1; outcome = outcome.Roll 7; line = codes "T2 WDRAW A001 60"; reply = []; notes = 1 ∷ []; items = [] }))
+    × ((slice_get m.history.entries 1 ≡ Some
+    (record {
+      from = 1;
+      outcome = outcome.Roll 7;
+      line = codes "T2 WDRAW A001 60";
+      reply = [];
+      notes = 1
+          ∷ [];
+      items = [];
+    }))
     × (m.sent ≡ codes "T1 OK PAID 60" ++ 10 ∷ codes "T2 NO ROLB 7" ++ 10 ∷ [])))
 unfolding reply_to looks_unheld list_on be16 digits
 withdrawals_again_by_turns = (
@@ -201,7 +215,61 @@ withdrawals_again_by_turns = (
       steps = withdrawal_steps;
       takes = refl;
       is_calm = refl;
-      runs = (refl, (refl, (refl, (refl, ((Answers field_call, turn5), ((Answers field_call, turn6), ((Gains the_lock, turn7), ((Finishes paid (segment_item (codes "0000040c") ∷ []), turn8), ((Gains the_lock, turn9), ((Retries_at_verify failed, turn10), (refl, (refl, (refl, ((Answers field_call, turn12), (refl, (refl, (refl, ((Finishes rolled [], turn13), (refl, refl)))))))))))))))))));
+      runs = (
+        refl,
+        (
+          refl,
+          (
+            refl,
+            (
+              refl,
+              (
+                (Answers field_call, turn5),
+                (
+                  (Answers field_call, turn6),
+                  (
+                    (Gains the_lock, turn7),
+                    (
+                      (Finishes paid (segment_item (codes "0000040c") ∷ []), turn8),
+                      (
+                        (Gains the_lock, turn9),
+                        (
+                          (Retries_at_verify failed, turn10),
+                          (
+                            refl,
+                            (
+                              refl,
+                              (
+                                refl,
+                                (
+                                  (Answers field_call, turn12),
+                                  (
+                                    refl,
+                                    (
+                                      refl,
+                                      (
+                                        refl,
+                                        (
+                                          (Finishes rolled [], turn13),
+                                          (refl, refl),
+                                        ),
+                                      ),
+                                    ),
+                                  ),
+                                ),
+                              ),
+                            ),
+                          ),
+                        ),
+                      ),
+                    ),
+                  ),
+                ),
+              ),
+            ),
+          ),
+        ),
+      );
     },
     (refl, refl),
   ),

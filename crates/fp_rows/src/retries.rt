@@ -8,8 +8,8 @@ ghost use Rattle.fp_model.specs.Machine.{Machine};
 ghost use Rattle.fp_rows.specs.States.{RunsCalmly, at_start, with_two};
 ghost use Rattle.fp_rows.specs.Retries.{hold_rules, retrying, at_rest_over, two_account_lines, two_customer_lines, two_withdrawal_lines, round};
 
-/// Two transactions that hold two accounts, in opposite orders, without a further try: the second closes the cycle and is
-/// refused, and the first goes on.
+/// Two transactions that hold two accounts, in opposite orders, without a further try: the second closes the cycle
+/// and is refused, and the first goes on.
 pub fn two_accounts_by_turns()
     ensures { (m : Machine)
         × (RunsCalmly (hold_rules 0) (at_rest_over (hold_rules 0) at_start two_account_lines)
@@ -40,8 +40,8 @@ pub fn two_holders_again_by_turns()
         × (m.sent ≡ codes "T1 OK BOTH" ++ 10 ∷ codes "T2 OK BOTH" ++ 10 ∷ [])) }
 {}
 
-/// Two withdrawals of 60 from 100 with one try more: the second fails its verify, is run again behind the first, sees 40,
-/// and rolls back. Two rounds drain the machine.
+/// Two withdrawals of 60 from 100 with one try more: the second fails its verify, is run again behind the first,
+/// sees 40, and rolls back. Two rounds drain the machine.
 pub fn two_withdrawals_again_by_turns()
     ensures { (m : Machine)
         × (RunsCalmly retrying (at_rest_over retrying at_start two_withdrawal_lines)
