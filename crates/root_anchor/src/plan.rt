@@ -2,8 +2,8 @@
 //!
 //! Each new segment takes the element in which the segment of its type and its key stood, below the element that its
 //! parent takes. So what doesn't change isn't written again. New segments and elements are both in hierarchical order, and
-//! both are gone through once, from the last to the first: what is left to look at ends at `to`. What a plan promises doesn't rest on that order: only that no element
-//! is taken twice, and each by a segment of its type.
+//! both are gone through once, from the last to the first: what is left to look at ends at `to`. What a plan promises
+//! doesn't rest on that order: only that no element is taken twice, and each by a segment of its type.
 
 ghost use Rattle.std.specs.Prelude.{◌≡◌, ◌<◌, ◌≤◌, ◌++◌, ◌∷◌, List, OnOk, IfOk, IsErr, Err, IfSome, IfNone, length, map, true};
 ghost use Rattle.fp_model.specs.Order.{child_types};
@@ -16,28 +16,25 @@ ghost use Rattle.root_anchor.specs.declared.standing.Standing.{Standing as Stand
 use crate::building::types_below;
 use crate::fault::AnchorFault;
 use crate::standing::{Pointer, Standing};
-use fp_model::{Bytes, List, Node, Root, SegDef};
+use fp_model::{Bytes, List, Node, Root, SegDef, key_of};
 use std::alloc::Global;
 use std::cmp::Ordering;
 use std::collections::VecDeque;
 
-/// The place that a segment of a type is to take: an element in which one of that type stands. None where it takes a new one.
+/// The place that a segment of a type is to take: an element in which one of that type stands. None where it takes a new
+/// one.
 #[derive(Clone, Copy, Debug)]
 pub(crate) struct Planned {
     pub(crate) segment: u8,
     pub(crate) at: Option<Pointer>,
 }
 
-/// The key of a segment of a type: its first field.
-fn key_of<'a>(segments: &List<SegDef>, segment: u8, bytes: &'a [u8]) -> &'a [u8] {
-    let length = match segments.as_slice().get(usize::from(segment)) {
-        Some(def) => match def.fields.as_slice().first() {
-            Some(key) => usize::from(key.length),
-            None => 0,
-        },
-        None => 0,
-    };
-    &bytes[..length.min(bytes.len())]
+/// The key of a segment of a type.
+fn key_in<'a>(segments: &List<SegDef>, segment: u8, bytes: &'a [u8]) -> &'a [u8] {
+    match segments.get(usize::from(segment)) {
+        Some(def) => key_of(def.fields.as_slice(), bytes),
+        None => &[],
+    }
 }
 
 /// Where a segment stood, if it did, and where what stood below it ends.
@@ -134,7 +131,7 @@ fn plan_segment(
     ensures shares { (all : List StandingOf) → Shares all plan.old.items standing.old.items → OnOk result (Shares all plan.new.items standing.new.items) }
     ensures memory { IsErr result → result ≡ Err AnchorFault.Memory }
 {
-    let key = key_of(segments, segment, bytes.as_slice());
+    let key = key_in(segments, segment, bytes.as_slice());
     let found = find_like(standing.as_slice(), from, *to, segment, key);
     let first = below(standing.as_slice(), found.place);
     let mut end = found.end;

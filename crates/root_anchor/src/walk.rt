@@ -4,7 +4,6 @@
 
 ghost use Rattle.std.specs.Prelude.{◌≡◌, ◌↔◌, ◌+◌, ◌≤◌, ◌<◌, ◌∷◌, ◌++◌, [], true, ℕ, Err, List, length, slice_get, All, Contains, IsTrue, IfOk, OnOk, IsErrOf};
 ghost use Rattle.ci_space.specs.Calls.{Rose, GoesOn};
-ghost use Rattle.fp_model.specs.State.{key_of};
 ghost use Rattle.fp_model.specs.Order.{child_types, key_in};
 ghost use Rattle.fp_model.specs.WellFormed.{HavePlaces};
 ghost use Rattle.root_anchor.specs.Elements.{HasSegment, nothing};
@@ -17,7 +16,7 @@ use crate::element::{First, Said, read_element};
 use crate::fault::AnchorFault;
 use crate::standing::{Pointer, Standing};
 use ci_space::Intervals;
-use fp_model::{Bytes, List, Node, Root, SegDef, SeqItem};
+use fp_model::{Bytes, List, Node, Root, SegDef, SeqItem, key_of};
 use std::alloc::{AllocError, Global};
 use std::collections::BTreeSet;
 
@@ -37,17 +36,6 @@ pub(crate) fn is_nothing(at: Pointer) -> bool
     ensures { IsTrue result ↔ (at ≡ nothing) }
 {
     at.0 == 0 && at.1 == 0
-}
-
-/// The key of a segment: its first field, as far as the segment reaches.
-fn key_of(alloc: Global, def: &SegDef, bytes: &[u8]) -> Result<Bytes, AllocError>
-    ensures { IfOk result (λ key. key ≡ key_of def.now.fields bytes.now) }
-{
-    let length = match def.fields.as_slice().first() {
-        Some(field) => usize::from(field.length).min(bytes.len()),
-        None => 0,
-    };
-    Bytes::from_slice(alloc, &bytes[..length])
 }
 
 impl Walk {
@@ -97,7 +85,7 @@ impl Walk {
             return Ok(Bytes::new(alloc));
         }
         let def = &segments.as_slice()[usize::from(segment)];
-        key_of(alloc, def, bytes.as_slice())
+        Bytes::from_slice(alloc, key_of(def.fields.as_slice(), bytes.as_slice()))
     }
 
     /// Notes that an element was met in which this segment stands.
