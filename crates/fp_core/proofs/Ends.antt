@@ -6,7 +6,7 @@ use Rattle.std.specs.VecDeque.{deque_capacity}
 use Rattle.std.specs.declared.alloc.Global.{Global}
 use Rattle.ci_locks.specs.Standing.{Shows}
 use Rattle.ci_locks.specs.Table.{Row, standing}
-use Rattle.drain_laws.specs.Measure.{is_active}
+use Rattle.drain_laws.specs.Measure.{one_if_active}
 use Rattle.fp_model.specs.declared.database.Db.{Db}
 use Rattle.fp_model.specs.declared.definitions.Defs.{Defs}
 use Rattle.fp_model.specs.declared.log.Entry.{Entry}
@@ -83,7 +83,7 @@ pub slot_within : (engine : Engine) (m : Machine) (region : ℕ) (t : Transactio
     → length engine.owed.items < deque_capacity engine.owed
 slot_within engine m region t e =
     let at = stands_at engine m region t e in
-    omega (arith, sum_has is_active m.regions at.place (machine.Active t) at.here, e.stands.slots)
+    omega (arith, sum_has one_if_active m.regions at.place (machine.Active t) at.here, e.stands.slots)
 
 -- what a region at work is, it is also where its request is left out
 pub may_end : (engine : Engine) (m : Machine) (region : ℕ) (t : Transaction) → IsAtWork engine m region t
@@ -196,7 +196,7 @@ module _ (engine : Engine) (m : Machine) (place : ℕ) (s : StandsFor engine m) 
             omega (arith, put, less, s.room);
         spare = spare;
         slots =
-            let put = sum_put is_active m.regions place machine.Idle (machine.Active t) there in
+            let put = sum_put one_if_active m.regions place machine.Idle (machine.Active t) there in
             let grown : length owed.items ≡ length engine.owed.items + 1 = ap length is_owed ∙ length-append engine.owed.items (owed_of e ∷ []) in
             omega (arith, put, grown, slots, s.slots);
       }
