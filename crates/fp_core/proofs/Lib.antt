@@ -2,3 +2,5 @@ pub mod Places
 pub mod Ends
 pub mod Turns
 pub mod Steps
+pub mod Goings
+pub mod Takes

@@ -4,3 +4,4 @@ pub mod Acting
 pub mod Ending
 pub mod Standing
 pub mod Draining
+pub mod Answering

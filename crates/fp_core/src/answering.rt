@@ -1,12 +1,21 @@
 //! An active region runs to its next call, and answers it where it needs no lock.
+ghost use Rattle.ci_locks.specs.Table.{standing};
 ghost use Rattle.fp_core.specs.Acting.{HasActed, IsAtWork, MayEnd};
-ghost use Rattle.fp_core.specs.Relation.{rules_in};
+ghost use Rattle.fp_core.specs.Answering.{IsActed};
+ghost use Rattle.fp_core.specs.Relation.{IsSetup, IsTransaction, rules_in};
 ghost use Rattle.fp_model.specs.Machine.{Machine, Transaction};
+ghost use Rattle.fp_model.specs.declared.database.Db.{Db};
+ghost use Rattle.msdb_store.specs.Store.{IsOf};
 ghost use Rattle.std.specs.Prelude.{◌≡◌, ◌≤◌, IfOk, OnErr, length};
 
-use crate::engine::Engine;
-use fp_model::{Bytes, Mode, Resource};
-use std::alloc::AllocError;
+use crate::engine::{Active, Engine, Region};
+use ci_locks::Locks;
+use dli_calls::{Ready, answer};
+use fp_model::{Bytes, Defs, Mode, Resource};
+use msdb_store::MsdbStore;
+use std::alloc::{AllocError, Global};
+use txn_lang::Scripts;
+use txn_machine::Next;
 
 /// What an active region came to.
 #[derive(Drop)]
@@ -19,6 +28,52 @@ pub(crate) enum Acted {
     Replies(Bytes),
     /// Its script is at its end, with this rollback code.
     Rolls(u16),
+}
+
+// Runs one transaction to its next call, and answers it where it needs no lock.
+fn go_on(
+    active: &mut Active,
+    alloc: Global,
+    defs: &Defs,
+    scripts: &Scripts,
+    store: &MsdbStore,
+    locks: &Locks,
+    region: u8,
+    count: u64,
+) -> Result<Acted, AllocError>
+    requires setup { IsSetup defs.now scripts.now.scripts }
+    requires store { IsOf defs.now.msdbs store.now }
+    requires some { 1 ≤ region }
+    requires within { region ≤ length locks.now }
+    requires under { (t : Transaction) × IsTransaction defs.now scripts.now.scripts active.old t }
+    ensures acted { (now : Db) (t : Transaction) → now.msdbs ≡ store.now.msdbs
+        → IsTransaction defs.now scripts.now.scripts active.old t
+        → IfOk result (IsActed defs.now scripts.now.scripts ((standing locks.now).holds region) now count t active.new) }
+    ensures err { (t : Transaction) → IsTransaction defs.now scripts.now.scripts active.old t
+        → OnErr result (IsTransaction defs.now scripts.now.scripts active.new t) }
+{
+    match active.program.next(scripts, defs)? {
+        Next::Call(call) => {
+            match answer(
+                alloc,
+                &mut active.work,
+                &call,
+                store,
+                defs,
+                locks,
+                region,
+                count,
+            )? {
+                Ready::Answer(given) => {
+                    active.program.give(given);
+                    Ok(Acted::Answered)
+                }
+                Ready::Need(resource, mode) => Ok(Acted::Needs(resource, mode)),
+            }
+        }
+        Next::Reply(reply) => Ok(Acted::Replies(reply)),
+        Next::Roll(code) => Ok(Acted::Rolls(code)),
+    }
 }
 
 impl Engine<'_> {
@@ -38,7 +93,19 @@ impl Engine<'_> {
         ensures gate { self.new.log.gate ≡ self.old.log.gate }
         ensures count { length self.new.regions ≡ length self.old.regions }
     {
-        let _ = region;
-        Err(AllocError)
+        let count = self.log.count();
+        match self.regions.item_mut(usize::from(region) - 1) {
+            Region::Active(active) => go_on(
+                active,
+                self.alloc,
+                self.defs,
+                self.scripts,
+                &self.store,
+                &self.locks,
+                region,
+                count,
+            ),
+            Region::Idle => unreachable!(),
+        }
     }
 }

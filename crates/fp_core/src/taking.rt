@@ -1,16 +1,95 @@
 //! An idle region takes the oldest message of its group.
-ghost use Rattle.fp_core.specs.Relation.{StandsFor, rules_in};
+ghost use Rattle.fp_core.specs.Relation.{IsShort, IsTransaction, StandsFor, rules_in};
 ghost use Rattle.fp_core.specs.Turning.{Turned};
 ghost use Rattle.fp_core.specs.declared.engine.Region.TheVariants as regions;
+ghost use Rattle.fp_model.specs.Asking.{script_of};
 ghost use Rattle.fp_model.specs.Machine.{Machine};
+ghost use Rattle.fp_model.specs.Product.{rules_of};
+ghost use Rattle.fp_model.specs.Serial.{begun};
 ghost use Rattle.fp_model.specs.declared.events.Event.TheVariants as events;
-ghost use Rattle.std.specs.Prelude.{◌≡◌, ◌≤◌, ◌-◌, IfOk, OnErr, Some, length, slice_get};
+ghost use Rattle.fp_model.specs.declared.scripts.Script.{Script};
+ghost use Rattle.std.specs.Prelude.{◌≡◌, ◌≤◌, ◌-◌, ◌+◌, ℕ, [], IfOk, OnErr, OnOk, Some, length, slice_get};
+ghost use Rattle.std.specs.VecDeque.{deque_capacity};
+ghost use Rattle.sync_point.specs.Refusals.{refusal_room};
 
 use crate::did::Did;
-use crate::engine::Engine;
-use std::alloc::AllocError;
+use crate::engine::{Active, Engine, Owed, Region};
+use dli_calls::Work;
+use fp_model::{Bytes, Defs, Message};
+use log_groups::Log;
+use std::alloc::{AllocError, Global};
+use std::collections::VecDeque;
+use sync_point::refusal_room;
+use txn_lang::Scripts;
+use txn_machine::Program;
+
+// The room of refusals, with that of a line.
+fn room_with(room: u64, line: &Bytes) -> Result<u64, AllocError>
+    requires short { IsShort line.now }
+    ensures { IfOk result (λ sum. sum ≡ room + refusal_room line.now) }
+{
+    match room.checked_add(refusal_room(line)) {
+        Some(sum) => Ok(sum),
+        None => Err(AllocError),
+    }
+}
+
+// A script at its beginning, what its transaction keeps, and the room with that of its refusal.
+fn begin(
+    alloc: Global,
+    defs: &Defs,
+    scripts: &Scripts,
+    message: &Message,
+    room: u64,
+) -> Result<(Program, Work, u64), AllocError>
+    requires no_dedbs { defs.now.dedbs ≡ [] }
+    requires named { (script : Script) × (script_of scripts.now.scripts message.now.tran ≡ Some script) }
+    requires short { IsShort message.now.line }
+    ensures is { (from : ℕ) → IfOk result (λ made. IsTransaction defs.now scripts.now.scripts
+        (record { from = from; message = message.now; program = made.0; work = made.1; tries = 0 })
+        (record { from = from; message = message.now; point = begun (rules_of defs.now scripts.now.scripts); notes = []; tries = 0 })) }
+    ensures room { IfOk result (λ made. made.2 ≡ room + refusal_room message.now.line) }
+{
+    let room = room_with(room, &message.line)?;
+    let Some(number) = scripts.find(&message.tran) else {
+        unreachable!()
+    };
+    let program = Program::start(alloc, scripts, number, message)?;
+    let work = Work::new(alloc, defs)?;
+    Ok((program, work, room))
+}
+
+// Makes room in the log for entries of so many bytes, and for so many more that are owed.
+fn make_room(
+    log: &mut Log,
+    owed: &mut VecDeque<Owed>,
+    room: u64,
+    slots: usize,
+) -> Result<(), AllocError>
+    ensures room { OnOk result (room ≤ log.new.spare) }
+    ensures slots { OnOk result (length owed.new.items + slots ≤ deque_capacity owed.new) }
+
+    // What stays.
+    ensures log { log.new ≡ record log.old { spare = log.new.spare } }
+    ensures gate { log.new.gate ≡ log.old.gate }
+    ensures spare { log.old.spare ≤ log.new.spare }
+    ensures owed { owed.new.items ≡ owed.old.items }
+    ensures capacity { deque_capacity owed.old ≤ deque_capacity owed.new }
+{
+    owed.reserve(slots)?;
+    log.reserve(room)
+}
 
 impl Engine<'_> {
+    // The balancing group of a region.
+    fn group_of(&self, region: u8) -> u8
+        requires some { 1 ≤ region }
+        requires within { region ≤ length self.now.defs.now.regions }
+        ensures { slice_get self.now.defs.now.regions (region - 1) ≡ Some result }
+    {
+        self.defs.regions.as_slice()[usize::from(region) - 1]
+    }
+
     /// The idle region takes the oldest message of its group, if there is one.
     pub(crate) fn take_message(&mut self, region: u8) -> Result<Did, AllocError>
         requires some { 1 ≤ region }
@@ -27,7 +106,25 @@ impl Engine<'_> {
         ensures gate { self.new.log.gate ≡ self.old.log.gate }
         ensures count { length self.new.regions ≡ length self.old.regions }
     {
-        let _ = region;
-        Err(AllocError)
+        let place = usize::from(region) - 1;
+        let group = self.group_of(region);
+        let from = self.log.count();
+        let (program, work, room) = match self.queues.oldest(group) {
+            None => return Ok(Did::Nothing),
+            Some(message) => begin(self.alloc, self.defs, self.scripts, message, self.room)?,
+        };
+        make_room(&mut self.log, &mut self.owed, room, self.regions.len())?;
+        let Some(message) = self.queues.take(group) else {
+            unreachable!()
+        };
+        self.room = room;
+        *self.regions.item_mut(place) = Region::Active(Active {
+            from,
+            message,
+            program,
+            work,
+            tries: 0,
+        });
+        Ok(Did::Took)
     }
 }

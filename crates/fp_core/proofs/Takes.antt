@@ -1,0 +1,337 @@
+-- An idle region takes a message.
+use Rattle.std.proofs.Common.{◌≤◌, ◌≡◌, refl, sym, ◌∙◌, ap, subst, arith, ℕ, zero, suc, ◌+◌, ◌-◌, ◌<◌, List, [], ◌∷◌, length, drop, map, Option, Some, None, slice_get, slice_set, unwrap_or}
+use Rattle.std.specs.Prelude.{fold, max, sum_by}
+use Rattle.std.specs.List.{AllByRecursion}
+use Rattle.std.specs.VecDeque.{deque_capacity}
+use Rattle.std.specs.declared.alloc.Global.{Global}
+use Rattle.std.specs.declared.collections.VecDeque.{VecDeque}
+use Rattle.std.proofs.lemmas.List.{length-set}
+use Rattle.std.proofs.lemmas.List.Sums.{sum_by-cons}
+use Rattle.std.proofs.lemmas.Slice.Zip.{AllZip-long}
+use Rattle.balancing.specs.Backlog.{AreSame, Backlog, queue_of}
+use Rattle.drain_laws.specs.Measure.{active_in, one_if_active}
+use Rattle.fp_model.specs.declared.calls.Message.{Message}
+use Rattle.fp_model.specs.declared.events.Event.TheVariants as event
+use Rattle.fp_model.specs.declared.log.Entry.{Entry}
+use Rattle.fp_model.specs.declared.scripts.Script.{Script}
+use Rattle.fp_model.specs.Machine as machine
+use Rattle.fp_model.specs.Machine.{Transaction, Machine}
+use Rattle.fp_model.specs.Rules.{Rules}
+use Rattle.fp_model.specs.Serial.{begun}
+use Rattle.fp_model.specs.Turns.{NoFault, RegionTurn, begins_in, begun_in, messages_for, queue_of_region}
+use Rattle.fp_model.specs.WellFormed.{Between}
+use Rattle.log_groups.specs.Log.{LogState}
+use Rattle.sync_point.specs.Refusals.{refusal_room}
+use Rattle.fp_core.specs.declared.did.Did.TheVariants as did
+use Rattle.fp_core.specs.declared.engine.Active.{Active}
+use Rattle.fp_core.specs.declared.engine.Engine.{Engine}
+use Rattle.fp_core.specs.declared.engine.Owed.{Owed}
+use Rattle.fp_core.specs.declared.engine.Region.{Region}
+use Rattle.fp_core.specs.declared.engine.Region.TheVariants as regions
+use Rattle.fp_core.specs.Relation.{IsRegion, IsTakeable, IsTransaction, StandsFor, owed_of, room_of, rules_in}
+use Rattle.fp_core.specs.Turning.{IsDidOfRegion, Turned, did_take}
+use Rattle.fp_core.proofs.Places.{each_has, put_both, right_of, some_same, sum_put}
+use Rattle.fp_core.proofs.Turns.{is_device}
+
+-- ---- lists
+
+-- a list with a first
+pub with_first : {A : Type 0} (xs : List A) (x : A) → slice_get xs 0 ≡ Some x → xs ≡ x ∷ drop 1 xs
+with_first [] x is = absurd cc
+with_first (y ∷ ys) x is = ap (λ first. first ∷ ys) (some_same y x is)
+
+-- and one without
+pub with_none : {A : Type 0} (xs : List A) → slice_get xs 0 ≡ None → xs ≡ []
+with_none [] is = refl
+with_none (y ∷ ys) is = absurd cc
+
+-- one place is changed to what is so too
+all_put : {A : Type 0} (P : A → Type 0) (xs : List A) (place : ℕ) (x : A) → AllByRecursion P xs → P x
+    → AllByRecursion P (slice_set xs place x)
+all_put P [] place x all new = tt
+all_put P (y ∷ ys) zero x all new = (new, all.1)
+all_put P (y ∷ ys) (suc n) x all new = (all.0, all_put P ys n x all.1 new)
+
+-- without the first
+all_rest : {A : Type 0} (P : A → Type 0) (xs : List A) → AllByRecursion P xs → AllByRecursion P (drop 1 xs)
+all_rest P [] all = tt
+all_rest P (x ∷ xs) all = all.1
+
+-- of each list, and so of the one at a place
+all_at : {A : Type 0} (P : A → Type 0) (xss : List (List A)) (place : ℕ) → AllByRecursion (AllByRecursion P) xss
+    → AllByRecursion P (unwrap_or (slice_get xss place) [])
+all_at P [] place all = tt
+all_at P (xs ∷ xss) zero all = all.0
+all_at P (xs ∷ xss) (suc n) all = all_at P xss n all.1
+
+greatest_from : (groups : List ℕ) (most : ℕ) → most ≤ fold max most groups
+greatest_from [] most = omega arith
+greatest_from (g ∷ gs) most = let r = greatest_from gs (max most g) in omega (arith, r)
+
+-- each is at most the greatest
+greatest_above : (groups : List ℕ) (most place group : ℕ) → slice_get groups place ≡ Some group
+    → group ≤ fold max most groups
+greatest_above [] most place group is = absurd cc
+greatest_above (g ∷ gs) most zero group is =
+    let r = greatest_from gs (max most g) in
+    let same = some_same g group is in
+    omega (arith, r, same)
+greatest_above (g ∷ gs) most (suc n) group is = greatest_above gs (max most g) n group is
+
+-- no more regions are at work than there are
+at_work_few : (rs : List machine.Region) → active_in rs ≤ length rs
+at_work_few [] = omega arith
+at_work_few (machine.Idle ∷ rs) =
+    let none : one_if_active machine.Idle ≡ 0 = refl in
+    omega (arith, at_work_few rs, sum_by-cons one_if_active machine.Idle rs, none)
+at_work_few (machine.Active t ∷ rs) =
+    let one : one_if_active (machine.Active t) ≡ 1 = refl in
+    omega (arith, at_work_few rs, sum_by-cons one_if_active (machine.Active t) rs, one)
+
+-- ---- an idle region
+
+-- an idle region of the code is one of the machine
+pub is_idle : (engine : Engine) (m : Machine) (place : ℕ) → StandsFor engine m
+    → slice_get engine.regions place ≡ Some regions.Idle → slice_get m.regions place ≡ Some machine.Idle
+is_idle engine m place s idle =
+    let found = right_of (IsRegion engine.defs.now engine.scripts.now.scripts) engine.regions m.regions place regions.Idle s.regions idle in
+    by found.right found.there found.is
+  where
+    by : (r : machine.Region) → slice_get m.regions place ≡ Some r
+        → IsRegion engine.defs.now engine.scripts.now.scripts regions.Idle r
+        → slice_get m.regions place ≡ Some machine.Idle
+    by machine.Idle there is = there
+    by (machine.Active t) there is = absurd is
+
+-- what it takes, it takes in a turn
+idle_turned : (engine new : Engine) (m : Machine) (place : ℕ) (messages : List Message)
+    → rules_in new ≡ rules_in engine
+    → slice_get m.regions place ≡ Some machine.Idle
+    → messages_for (rules_in engine) m (suc place) ≡ messages
+    → StandsFor new (begins_in (rules_in engine) m (suc place) messages)
+    → Turned (event.Region (suc place)) m new (did_take messages)
+idle_turned engine new m place messages rules idle are stands =
+    let after : Machine = begins_in (rules_in engine) m (suc place) messages in
+    record {
+      after = after;
+      environment = NoFault;
+      turn = subst (λ (r : Rules). RegionTurn r m (suc place) (slice_get m.regions place) NoFault after) (sym rules)
+          (subst (λ (o : Option machine.Region). RegionTurn (rules_in engine) m (suc place) o NoFault after) (sym idle)
+          (ap (begins_in (rules_in engine) m (suc place)) (sym are)));
+      is_did = subst (λ (r : Rules). IsDidOfRegion r m (suc place) (slice_get m.regions place) NoFault after (did_take messages)) (sym rules)
+          (subst (λ (o : Option machine.Region). IsDidOfRegion (rules_in engine) m (suc place) o NoFault after (did_take messages)) (sym idle)
+          (ap did_take (sym are)));
+      no_device = λ e. subst is_device (sym e) tt;
+      stands = stands;
+    }
+
+-- ---- its group
+
+-- there is a queue of each group
+pub group_some : (engine : Engine) (m : Machine) (place group : ℕ) → StandsFor engine m
+    → slice_get engine.defs.now.regions place ≡ Some group → 1 ≤ group
+group_some engine m place group s in_group =
+    (each_has (Between 1 16) engine.defs.now.regions place group s.setup.defined.groups.0 in_group).0
+
+pub group_within : (engine : Engine) (m : Machine) (place group : ℕ) → StandsFor engine m
+    → slice_get engine.defs.now.regions place ≡ Some group → group ≤ length engine.queues.queues
+group_within engine m place group s in_group =
+    let long : length engine.queues.queues ≡ fold max 0 engine.defs.now.regions = ap length s.queues ∙ s.groups in
+    let above = greatest_above engine.defs.now.regions 0 place group in_group in
+    omega (arith, long, above)
+
+-- each message of a queue can be taken
+pub first_takeable : (engine : Engine) (m : Machine) (group : ℕ) (message : Message) → StandsFor engine m
+    → slice_get (queue_of group engine.queues) 0 ≡ Some message → IsTakeable engine.scripts.now.scripts message
+first_takeable engine m group message s first =
+    let all = subst (AllByRecursion (AllByRecursion (IsTakeable engine.scripts.now.scripts))) (sym s.queues) s.takeable in
+    each_has (IsTakeable engine.scripts.now.scripts) (queue_of group engine.queues) 0 message
+    (all_at (IsTakeable engine.scripts.now.scripts) engine.queues.queues (group - 1) all) first
+
+-- ---- room
+
+-- With more room in the log and more slots for what is owed it stands for the same.
+pub roomier : (engine : Engine) (m : Machine) (log : LogState) (owed : VecDeque Owed Global) → StandsFor engine m
+    → log ≡ record engine.log { spare = log.spare }
+    → engine.log.spare ≤ log.spare
+    → owed.items ≡ engine.owed.items
+    → deque_capacity engine.owed ≤ deque_capacity owed
+    → StandsFor (record engine { log = log; owed = owed }) m
+roomier engine m log owed s same more items slots = record {
+  setup = s.setup;
+  held = s.held;
+  held_short = s.held_short;
+  queues = s.queues;
+  groups = s.groups;
+  takeable = s.takeable;
+  busy = s.busy;
+  regions = s.regions;
+  numbers = s.numbers;
+  locks = s.locks;
+  rows = s.rows;
+  of = s.of;
+  msdbs = s.msdbs;
+  past = s.past;
+  format = s.format;
+  count = ap (λ (l : LogState). l.sealed + length l.unsealed) same ∙ s.count;
+  sealed = ap (λ (l : LogState). l.sealed) same ∙ s.sealed;
+  unsealed = ap (λ (l : LogState). l.unsealed) same ∙ s.unsealed;
+  owed = items ∙ s.owed ∙ ap (λ (l : LogState). map owed_of l.unsealed) (sym same);
+  made = s.made;
+  room = s.room;
+  spare = omega (arith, s.spare, more);
+  slots =
+      let long : length owed.items ≡ length engine.owed.items = ap length items in
+      omega (arith, long, slots, s.slots);
+}
+
+-- ---- it takes a message
+
+module _ (engine : Engine) (m : Machine) (place group : ℕ) (s : StandsFor engine m)
+    (in_group : slice_get engine.defs.now.regions place ≡ Some group)
+    (idle : slice_get engine.regions place ≡ Some regions.Idle) where
+  queue_is : queue_of_region (rules_in engine) (suc place) ≡ group - 1
+  queue_is =
+      let e : suc place - 1 ≡ place = omega arith in
+      ap (λ (p : ℕ). unwrap_or (slice_get engine.defs.now.regions p) 0 - 1) e ∙ ap (λ (o : Option ℕ). unwrap_or o 0 - 1) in_group
+
+  messages_are : messages_for (rules_in engine) m (suc place) ≡ queue_of group engine.queues
+  messages_are =
+      ap (λ (q : ℕ). unwrap_or (slice_get m.queues q) []) queue_is
+      ∙ ap (λ (qs : List (List Message)). unwrap_or (slice_get qs (group - 1)) []) (sym s.queues)
+
+  -- with no message it does nothing
+  nothing_here : slice_get (queue_of group engine.queues) 0 ≡ None
+      → Turned (event.Region (suc place)) m engine did.Nothing
+  nothing_here none =
+      idle_turned engine engine m place [] refl (is_idle engine m place s idle)
+      (messages_are ∙ with_none (queue_of group engine.queues) none) s
+
+  module _ (message : Message) (active : Active) (backlog : Backlog) (log : LogState) (owed : VecDeque Owed Global)
+      (room : ℕ) where
+    -- the engine with the message taken
+    abbrev pub with_taken : Engine
+    with_taken = record engine {
+      queues = backlog;
+      regions = slice_set engine.regions place (regions.Active active);
+      log = log;
+      owed = owed;
+      room = room;
+    }
+
+    takes_here : slice_get (queue_of group engine.queues) 0 ≡ Some message
+        → backlog.queues ≡ slice_set engine.queues.queues (group - 1) (drop 1 (queue_of group engine.queues))
+        → backlog.busy ≡ engine.queues.busy
+        → log ≡ record engine.log { spare = log.spare }
+        → owed.items ≡ engine.owed.items
+        → length owed.items + length engine.regions ≤ deque_capacity owed
+        → room ≡ engine.room + refusal_room message.line
+        → room ≤ log.spare
+        → IsTransaction engine.defs.now engine.scripts.now.scripts active (begun_in (rules_in engine) m message 0)
+        → Turned (event.Region (suc place)) m with_taken did.Took
+    takes_here oldest rest busy same items slots more spare is =
+        let here : slice_get m.regions place ≡ Some machine.Idle = is_idle engine m place s idle in
+        let t : Transaction = begun_in (rules_in engine) m message 0 in
+        let others : List Message = drop 1 (queue_of group engine.queues) in
+        let all : AllByRecursion (AllByRecursion (IsTakeable engine.scripts.now.scripts)) engine.queues.queues = subst (AllByRecursion (AllByRecursion (IsTakeable engine.scripts.now.scripts))) (sym s.queues) s.takeable in
+        idle_turned engine with_taken m place (message ∷ others) refl here
+        (messages_are ∙ with_first (queue_of group engine.queues) message oldest)
+        (record {
+          setup = s.setup;
+          held = s.held;
+          held_short = s.held_short;
+          queues = rest
+              ∙ ap (λ (qs : List (List Message)). slice_set qs (group - 1) others) s.queues
+              ∙ ap (λ (q : ℕ). slice_set m.queues q others) (sym queue_is);
+          groups = length-set m.queues (queue_of_region (rules_in engine) (suc place)) others ∙ s.groups;
+          takeable = all_put (AllByRecursion (IsTakeable engine.scripts.now.scripts)) m.queues (queue_of_region (rules_in engine) (suc place)) others s.takeable
+              (all_rest (IsTakeable engine.scripts.now.scripts) (queue_of group engine.queues)
+              (all_at (IsTakeable engine.scripts.now.scripts) engine.queues.queues (group - 1) all));
+          busy = subst (λ names. AreSame names m.busy) (sym busy) s.busy;
+          regions = put_both (IsRegion engine.defs.now engine.scripts.now.scripts) engine.regions m.regions place (regions.Active active) (machine.Active t) s.regions is;
+          numbers = length-set m.regions place (machine.Active t) ∙ s.numbers;
+          locks = s.locks;
+          rows = s.rows ∙ sym (length-set engine.regions place (regions.Active active));
+          of = s.of;
+          msdbs = s.msdbs;
+          past = s.past;
+          format = s.format;
+          count = ap (λ (l : LogState). l.sealed + length l.unsealed) same ∙ s.count;
+          sealed = ap (λ (l : LogState). l.sealed) same ∙ s.sealed;
+          unsealed = ap (λ (l : LogState). l.unsealed) same ∙ s.unsealed;
+          owed = items ∙ s.owed ∙ ap (λ (l : LogState). map owed_of l.unsealed) (sym same);
+          made = s.made;
+          room =
+              let put = sum_put room_of m.regions place (machine.Active t) machine.Idle here in
+              omega (arith, put, more, s.room);
+          spare = spare;
+          slots =
+              let few = at_work_few (slice_set m.regions place (machine.Active t)) in
+              let long : length (slice_set m.regions place (machine.Active t)) ≡ length m.regions = length-set m.regions place (machine.Active t) in
+              let both = AllZip-long (IsRegion engine.defs.now engine.scripts.now.scripts) engine.regions m.regions s.regions in
+              omega (arith, few, long, both, slots);
+        })
+
+-- ---- the same at the region's number
+
+pub nothing : (engine : Engine) (m : Machine) (region group : ℕ) → 1 ≤ region → StandsFor engine m
+    → slice_get engine.defs.now.regions (region - 1) ≡ Some group
+    → slice_get engine.regions (region - 1) ≡ Some regions.Idle
+    → slice_get (queue_of group engine.queues) 0 ≡ None
+    → Turned (event.Region region) m engine did.Nothing
+nothing engine m zero group some s in_group idle none = absurd (omega (arith, some))
+nothing engine m (suc place) group some s in_group idle none =
+    let e : suc place - 1 ≡ place = omega arith in
+    nothing_here engine m place group s (subst (λ p. slice_get engine.defs.now.regions p ≡ Some group) e in_group)
+    (subst (λ p. slice_get engine.regions p ≡ Some regions.Idle) e idle) none
+
+pub takes : (engine : Engine) (m : Machine) (place group region : ℕ) → suc place ≡ region → (s : StandsFor engine m)
+    → slice_get engine.defs.now.regions place ≡ Some group
+    → slice_get engine.regions place ≡ Some regions.Idle
+    → (message : Message) (active : Active) (backlog : Backlog) (log : LogState) (owed : VecDeque Owed Global) (room : ℕ)
+    → slice_get (queue_of group engine.queues) 0 ≡ Some message
+    → backlog.queues ≡ slice_set engine.queues.queues (group - 1) (drop 1 (queue_of group engine.queues))
+    → backlog.busy ≡ engine.queues.busy
+    → log ≡ record engine.log { spare = log.spare }
+    → owed.items ≡ engine.owed.items
+    → length owed.items + length engine.regions ≤ deque_capacity owed
+    → room ≡ engine.room + refusal_room message.line
+    → room ≤ log.spare
+    → active.from ≡ engine.log.sealed + length engine.log.unsealed
+    → active.message ≡ message
+    → IsTransaction engine.defs.now engine.scripts.now.scripts
+    (record { from = active.from; message = message; program = active.program; work = active.work; tries = active.tries })
+    (record { from = active.from; message = message; point = begun (rules_in engine); notes = []; tries = 0 })
+    → Turned (event.Region region) m (record engine {
+      queues = backlog;
+      regions = slice_set engine.regions place (regions.Active active);
+      log = log;
+      owed = owed;
+      room = room;
+    }) did.Took
+takes engine m place group region numbered s in_group idle message active backlog log owed room oldest rest busy same items slots more spare from is_message b =
+    let engine2 : Engine = record engine {
+      queues = backlog;
+      regions = slice_set engine.regions place (regions.Active active);
+      log = log;
+      owed = owed;
+      room = room;
+    } in
+    subst (λ (n : ℕ). Turned (event.Region n) m engine2 did.Took) numbered
+    (takes_here engine m place group s in_group idle message active backlog log owed room oldest rest busy same items slots more spare
+    (record {
+      from = from ∙ s.count;
+      message = is_message;
+      short = b.short;
+      tries = b.tries;
+      own = b.own;
+      notes = b.notes;
+      of = b.of;
+      changes = b.changes;
+      inserts = b.inserts;
+      script = b.script;
+      named = b.named;
+      numbered = b.numbered;
+      at = b.at;
+      fit = b.fit;
+    }))
