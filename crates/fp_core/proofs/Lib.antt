@@ -4,3 +4,5 @@ pub mod Turns
 pub mod Steps
 pub mod Goings
 pub mod Takes
+pub mod Grants
+pub mod Lacks

@@ -1,13 +1,19 @@
 //! An active region asks for the lock that it needs.
+ghost use Rattle.ci_locks.specs.Table.{standing};
 ghost use Rattle.fp_core.specs.Acting.{HasAsked, IsAtWork, MayEnd, NeedsLock};
 ghost use Rattle.fp_core.specs.Relation.{rules_in};
+ghost use Rattle.fp_model.specs.Answers.{serves};
 ghost use Rattle.fp_model.specs.Machine.{Machine, Transaction};
 ghost use Rattle.fp_model.specs.Turns.{holds};
-ghost use Rattle.std.specs.Prelude.{◌≡◌, ◌≤◌, IfOk, OnErr, length};
+ghost use Rattle.fp_model.specs.declared.calls.Mode.TheVariants.{Exclusive};
+ghost use Rattle.std.specs.Option.{option_copied};
+ghost use Rattle.std.specs.Prelude.{◌≡◌, ◌≤◌, IfOk, OnErr, find, length, not};
 
 use crate::engine::Engine;
+use ci_locks::{Grant, Locks};
 use fp_model::{Bytes, Mode, Resource};
 use std::alloc::AllocError;
+use sync_point::resources;
 
 /// What became of a request.
 #[derive(Drop)]
@@ -18,6 +24,46 @@ pub(crate) enum Asked {
     Waits,
     /// These regions would wait in a cycle, this region first. The request doesn't stand.
     Closes(Bytes),
+}
+
+// A copy of a resource.
+fn copy_of(resource: &Resource) -> Result<Resource, AllocError>
+    ensures { IfOk result (λ copy. copy ≡ resource.now) }
+{
+    match resource {
+        Resource::Segment { msdb, key } => Ok(Resource::Segment {
+            msdb: *msdb,
+            key: key.copy()?,
+        }),
+        Resource::Anchor { dedb, anchor } => Ok(Resource::Anchor {
+            dedb: *dedb,
+            anchor: *anchor,
+        }),
+    }
+}
+
+// Whether a region holds a resource Exclusive.
+fn is_held(locks: &Locks, region: u8, resource: &Resource) -> bool
+    requires some { 1 ≤ region }
+    requires within { region ≤ length locks.now }
+    ensures { result ≡ serves ((standing locks.now).holds region resource.now) Exclusive }
+{
+    locks.holds(region, resource) == Some(Mode::Exclusive)
+}
+
+// The first of these that a region doesn't hold Exclusive.
+fn first_unheld<'a>(locks: &Locks, region: u8, named: &'a [Resource]) -> Option<&'a Resource>
+    requires some { 1 ≤ region }
+    requires within { region ≤ length locks.now }
+    ensures { option_copied result
+        ≡ find (λ resource. not (serves ((standing locks.now).holds region resource) Exclusive)) named.now }
+{
+    for resource in named {
+        if !is_held(locks, region, resource) {
+            return Some(resource);
+        }
+    }
+    None
 }
 
 impl Engine<'_> {
@@ -44,9 +90,11 @@ impl Engine<'_> {
         ensures gate { self.new.log.gate ≡ self.old.log.gate }
         ensures count { length self.new.regions ≡ length self.old.regions }
     {
-        let _ = &*resource;
-        let _ = (region, mode);
-        Err(AllocError)
+        match self.locks.ask(region, resource, mode)? {
+            Grant::Held => Ok(Asked::Gained),
+            Grant::Wait(_) => Ok(Asked::Waits),
+            Grant::Cycle(cycle) => Ok(Asked::Closes(cycle)),
+        }
     }
 
     /// The first segment that the sync point needs Exclusive and the region doesn't hold so.
@@ -57,7 +105,13 @@ impl Engine<'_> {
         ensures { (m : Machine) (t : Transaction) → IsAtWork self.now m region t
             → IfOk result (λ found. found ≡ (rules_in self.now).lack t.point.own (holds (rules_in self.now) m region)) }
     {
-        let _ = region;
-        Err(AllocError)
+        let named = resources(self.alloc, self.active_in(region).work.deferred())?;
+        match first_unheld(&self.locks, region, named.as_slice()) {
+            Some(resource) => {
+                let lack = copy_of(resource)?;
+                Ok(Some(lack))
+            }
+            None => Ok(None),
+        }
     }
 }
