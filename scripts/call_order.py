@@ -6,7 +6,7 @@ import sys
 
 program, folder = sys.argv[1], sys.argv[2]
 TRACED = "open,openat,flock,fsync,fdatasync,read,pread64,write,pwrite64,ftruncate,close"
-BLOCK = 65536
+BLOCK = 1 << 20
 SITE_FAULT = 6
 # So many that the log is longer than a block.
 MESSAGES = 1000

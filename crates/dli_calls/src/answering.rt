@@ -123,6 +123,9 @@ impl Database<'_> {
         let Some(key) = self.key_to_change(work, call) else {
             return Ok(false);
         };
+        if work.changes_none() {
+            return Ok(false);
+        }
         let key = SegmentKey::new(alloc, self.number, key)?;
         Ok(work.changes(&key))
     }

@@ -1,5 +1,5 @@
 //! Keys of the main storage databases, in order.
-ghost use Rattle.std.specs.Prelude.{◌≡◌, ◌||◌, [], IfOk, OnErr, OnOk};
+ghost use Rattle.std.specs.Prelude.{◌≡◌, ◌||◌, [], false, IfOk, IsTrue, OnErr, OnOk};
 ghost use Rattle.fp_model.specs.Waiting.{same_resource};
 ghost use Rattle.fp_model.specs.declared.calls.Resource.{Resource as ResourceOf};
 ghost use Rattle.fp_model.specs.declared.calls.Resource.TheVariants.{Segment};
@@ -54,6 +54,13 @@ impl Keys {
         Keys {
             keys: BTreeSet::new(alloc),
         }
+    }
+
+    // Whether there are none.
+    pub(crate) fn is_empty(&self) -> bool
+        ensures { IsTrue result → (resource : ResourceOf) → is_among self.now resource ≡ false }
+    {
+        self.keys.is_empty()
     }
 
     // Whether a key is among them.

@@ -1,6 +1,6 @@
 //! What a transaction keeps until it commits.
 ghost use Rattle.std.specs.Option.{option_copied, option_map};
-ghost use Rattle.std.specs.Prelude.{◌≡◌, ◌<◌, ◌++◌, ◌∷◌, ◌||◌, [], IfOk, List as ListOf, OnErr, OnOk, if◌then◌else◌, length, slice_get, slice_set, unwrap_or, ℕ, false, Some};
+ghost use Rattle.std.specs.Prelude.{◌≡◌, ◌<◌, ◌++◌, ◌∷◌, ◌||◌, [], IfOk, IsTrue, List as ListOf, OnErr, OnOk, if◌then◌else◌, length, slice_get, slice_set, unwrap_or, ℕ, false, Some};
 ghost use Rattle.fp_model.specs.Workspace.{fresh, no_msdb_position};
 ghost use Rattle.fp_model.specs.declared.calls.Resource.{Resource as ResourceOf};
 ghost use Rattle.fp_model.specs.declared.definitions.Defs.{Defs as DefsOf};
@@ -132,6 +132,13 @@ impl Work {
         ensures { slice_get self.now.own.msdbs msdb ≡ Some result.now }
     {
         &self.positions[msdb as usize]
+    }
+
+    // Whether its queue inserts and deletes no segment.
+    pub(crate) fn changes_none(&self) -> bool
+        ensures { IsTrue result → (resource : ResourceOf) → is_among self.now.changed resource ≡ false }
+    {
+        self.changed.is_empty()
     }
 
     // Whether its queue inserts or deletes the segment of a key.

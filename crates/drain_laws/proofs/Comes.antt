@@ -1,6 +1,6 @@
 -- From every machine that is reached there is a drain, and however rounds go on, they come to its end.
 use Rattle.std.proofs.Common.{◌≡◌, ℕ, zero, suc, ◌+◌, ◌<◌, ◌≤◌, List, [], ◌∷◌, length, Option, Some, None, ◌⊎◌, inl, inr, refl, sym, ap, subst, Bool, true, false, arith}
-use Rattle.std.specs.List.{list_all}
+use Rattle.std.specs.List.{list_all, AllByRecursion}
 use Rattle.std.proofs.lemmas.Bool.{cases_eq}
 use Rattle.fp_model.specs.declared.calls.Message.{Message}
 use Rattle.fp_model.specs.declared.events.Event.{Event}
@@ -14,7 +14,7 @@ use Rattle.serial_order.specs.Laws.{View, Laws}
 use Rattle.serial_order.proofs.Lists.{true_is_not_false}
 use Rattle.drain_laws.specs.Measure.{Gauge, work_left}
 use Rattle.drain_laws.specs.Live.{EndLaws, IsReached}
-use Rattle.drain_laws.specs.Rounds.{GoesRound, GoesRounds}
+use Rattle.drain_laws.specs.Rounds.{AreFair, GoesRound, GoesRounds}
 use Rattle.drain_laws.proofs.Existence.{turn_there_is}
 use Rattle.drain_laws.proofs.Rounds.{behind_in, reached_then, reached_after, round_falls, rounds_fall, reached_by_rounds, drains_are, part_rounds}
 
@@ -73,44 +73,45 @@ led_to rules m (step ∷ steps) m2 runs = led_to rules step.after steps m2 runs.
 module _ (rules : Rules) (gauge : Gauge) (laws : EndLaws rules gauge) (view : View) (order : Laws rules view) where
   -- a run with these events
   abbrev HasRun : Machine → List Event → Type 0
-  HasRun m events = (steps : List RunStep) × ((m2 : Machine) × ((step_events steps ≡ events) × Runs rules m steps m2))
+  HasRun m events = (steps : List RunStep) × ((m2 : Machine) × ((step_events steps ≡ events) × (Runs rules m steps m2
+      × AreFair steps)))
 
   -- a round behind IN
-  behind_there_is : (n from : ℕ) (m : Machine) → IsReached rules gauge view m → 1 ≤ from
+  behind_there_is : (n from : ℕ) (m : Machine) → IsReached rules gauge m → 1 ≤ from
       → from + n ≤ 1 + length rules.regions
       → HasRun m (behind_in n from)
   behind_there_is zero from m h low high = (
     record { event = event.Log; environment = NoFault; after = sealed_once rules m } ∷ [],
-    (sealed_once rules m, (refl, (refl, refl))),
+    (sealed_once rules m, (refl, ((refl, refl), (refl, tt)))),
   )
   behind_there_is (suc n) from m h low high =
       let first = turn_there_is rules m from low (omega (arith, high, h.live.regions)) in
       let behind = reached_then rules gauge laws view order m (event.Region from) NoFault first.0 h first.1 in
       let rest = behind_there_is n (from + 1) first.0 behind (omega (arith, low)) (omega (arith, high)) in (
         record { event = event.Region from; environment = NoFault; after = first.0 } ∷ rest.0,
-        (rest.1.0, (ap (λ (es : List Event). event.Region from ∷ es) rest.1.1.0, (first.1, rest.1.1.1))),
+        (rest.1.0, (ap (λ (es : List Event). event.Region from ∷ es) rest.1.1.0, ((first.1, rest.1.1.1.0), (refl, rest.1.1.1.1)))),
       )
 
   -- There is a round.
-  pub round_there_is : (m : Machine) → IsReached rules gauge view m → HasRun m (round rules)
+  pub round_there_is : (m : Machine) → IsReached rules gauge m → HasRun m (round rules)
   round_there_is m h =
       let mid : Machine = taken_in rules m in
       let behind = reached_then rules gauge laws view order m event.In NoFault mid h refl in
       let rest = behind_there_is (length rules.regions) 1 mid behind (omega arith) (omega arith) in (
         record { event = event.In; environment = NoFault; after = mid } ∷ rest.0,
-        (rest.1.0, (ap (λ (es : List Event). event.In ∷ es) rest.1.1.0, (refl, rest.1.1.1))),
+        (rest.1.0, (ap (λ (es : List Event). event.In ∷ es) rest.1.1.0, ((refl, rest.1.1.1.0), (refl, rest.1.1.1.1)))),
       )
 
   -- A way to go on from each machine that isn't drained, whatever befalls the turns.
   abbrev pub GoesOn : Type 0
   GoesOn =
-      (m : Machine) → IsReached rules gauge view m → (¬ IsDrained rules m)
+      (m : Machine) → IsReached rules gauge m → (¬ IsDrained rules m)
       → (steps : List RunStep) × ((m2 : Machine) × GoesRound rules m steps m2)
 
   abbrev pub HasDrain : Machine → Type 0
   HasDrain m = (rounds : List (List RunStep)) × ((m2 : Machine) × Drains rules m rounds m2)
 
-  comes_by : GoesOn → (n : ℕ) (m : Machine) → IsReached rules gauge view m → work_left rules gauge m ≤ n → HasDrain m
+  comes_by : GoesOn → (n : ℕ) (m : Machine) → IsReached rules gauge m → work_left rules gauge m ≤ n → HasDrain m
   comes_by next zero m h few = elim (drained_or rules m) [
     | inl done ↦ ([], (m, (done, refl)))
     | inr left ↦ (
@@ -142,23 +143,61 @@ module _ (rules : Rules) (gauge : Gauge) (laws : EndLaws rules gauge) (view : Vi
   ]
 
   -- However the rounds go on, they come to a drained machine.
-  pub drain_comes : GoesOn → (m : Machine) → IsReached rules gauge view m → HasDrain m
+  pub drain_comes : GoesOn → (m : Machine) → IsReached rules gauge m → HasDrain m
   drain_comes next m h = comes_by next (work_left rules gauge m) m h (omega arith)
 
-  -- There is a drain.
-  pub drain_there_is : (m : Machine) → IsReached rules gauge view m → HasDrain m
-  drain_there_is m h =
-      drain_comes (λ m2 h2 left. (let r = round_there_is m2 h2 in
-      (r.0, (r.1.0, record { left = left; events = r.1.1.0; runs = r.1.1.1 })))) m h
+  -- a drain in which nothing befalls a turn
+  abbrev pub HasFairDrain : Machine → Type 0
+  HasFairDrain m =
+      (rounds : List (List RunStep))
+      × ((m2 : Machine) × (Drains rules m rounds m2 × AllByRecursion AreFair rounds))
+
+  fair_by : (n : ℕ) (m : Machine) → IsReached rules gauge m → work_left rules gauge m ≤ n → HasFairDrain m
+  fair_by zero m h few = elim (drained_or rules m) [
+    | inl done ↦ ([], (m, ((done, refl), tt)))
+    | inr left ↦ (
+        let r = round_there_is m h in
+        let less = round_falls rules gauge laws view order m r.0 r.1.0 (length m.lines) (length r.1.0.lines) h
+        (record { left = left; events = r.1.1.0; runs = r.1.1.1.0 }) (omega arith) in
+        absurd (omega (arith, few, less)))
+  ]
+  fair_by (suc n) m h few = elim (drained_or rules m) [
+    | inl done ↦ ([], (m, ((done, refl), tt)))
+    | inr left ↦ (
+        let r = round_there_is m h in
+        let less = round_falls rules gauge laws view order m r.0 r.1.0 (length m.lines) (length r.1.0.lines) h
+        (record { left = left; events = r.1.1.0; runs = r.1.1.1.0 }) (omega arith) in
+        let rest = fair_by n r.1.0
+        (reached_after rules gauge laws view order m r.0 r.1.0 h r.1.1.1.0) (omega (arith, few, less)) in
+        let to : machine_after m r.0 ≡ r.1.0 = led_to rules m r.0 r.1.0 r.1.1.1.0 in (
+          r.0 ∷ rest.0,
+          (
+            rest.1.0,
+            (
+              (
+                left,
+                r.1.1.0,
+                subst (λ (x : Machine). Runs rules m r.0 x) (sym to) r.1.1.1.0,
+                subst (λ (x : Machine). Drains rules x rest.0 rest.1.0) (sym to) rest.1.1.0,
+              ),
+              (r.1.1.1.1, rest.1.1.1),
+            ),
+          ),
+        ))
+  ]
+
+  -- There is one.
+  pub drain_there_is : (m : Machine) → IsReached rules gauge m → HasFairDrain m
+  drain_there_is m h = fair_by (work_left rules gauge m) m h (omega arith)
 
   -- ---- how many rounds there are
 
-  pub rounds_within : (rounds : List (List RunStep)) (m m2 : Machine) → IsReached rules gauge view m
+  pub rounds_within : (rounds : List (List RunStep)) (m m2 : Machine) → IsReached rules gauge m
       → GoesRounds rules m rounds m2
       → length rounds + work_left rules gauge m2 ≤ work_left rules gauge m
   rounds_within rounds m m2 h goes = rounds_fall rules gauge laws view order rounds m m2 h goes
 
-  pub drain_within : (rounds : List (List RunStep)) (m m2 : Machine) → IsReached rules gauge view m
+  pub drain_within : (rounds : List (List RunStep)) (m m2 : Machine) → IsReached rules gauge m
       → Drains rules m rounds m2
       → length rounds ≤ work_left rules gauge m
   drain_within rounds m m2 h drains =
@@ -166,15 +205,15 @@ module _ (rules : Rules) (gauge : Gauge) (laws : EndLaws rules gauge) (view : Vi
       omega (arith, e)
 
   -- a machine that isn't drained has something left to do
-  some_left : (m : Machine) → IsReached rules gauge view m → (¬ IsDrained rules m) → 0 < work_left rules gauge m
+  some_left : (m : Machine) → IsReached rules gauge m → (¬ IsDrained rules m) → 0 < work_left rules gauge m
   some_left m h left =
       let r = round_there_is m h in
       let less = round_falls rules gauge laws view order m r.0 r.1.0 (length m.lines) (length r.1.0.lines) h
-      (record { left = left; events = r.1.1.0; runs = r.1.1.1 }) (omega arith) in
+      (record { left = left; events = r.1.1.0; runs = r.1.1.1.0 }) (omega arith) in
       omega (arith, less)
 
   pub part_within : (rounds : List (List RunStep)) (m : Machine) (part : List RunStep) (m2 : Machine)
-      → IsReached rules gauge view m
+      → IsReached rules gauge m
       → DrainsInPart rules m rounds part m2
       → length rounds < work_left rules gauge m
   part_within rounds m part m2 h drains =

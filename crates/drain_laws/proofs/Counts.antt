@@ -6,7 +6,6 @@ use Rattle.std.proofs.lemmas.List.Sums.{sum_by-cons}
 use Rattle.fp_model.specs.Rules.{Rules}
 use Rattle.fp_model.specs.Waiting.{held_as}
 use Rattle.fp_model.specs.Machine.{Region, Idle, Active, Machine, region_at}
-use Rattle.serial_order.specs.Laws.{View}
 use Rattle.drain_laws.specs.Measure.{Gauge, try_weight, region_weight, message_weight, held_weight, line_weight, sum_places, messages_in, unsealed_in, work_with, lines_held, one_if_active, active_in, work_of}
 use Rattle.drain_laws.specs.Live.{EndLaws, IsReached}
 use Rattle.drain_laws.proofs.Falls.{no_more_times, whole_within}
@@ -19,8 +18,8 @@ together a b c d w = grind (arith, common_steps)
 lighter : (n v w : ℕ) → v ≤ w → n * v ≤ n * w
 lighter n v w h = grind (arith, common_steps, h)
 
-module _ (rules : Rules) (gauge : Gauge) (laws : EndLaws rules gauge) (view : View) (m : Machine)
-    (h : IsReached rules gauge view m) where
+module _ (rules : Rules) (gauge : Gauge) (laws : EndLaws rules gauge) (m : Machine)
+    (h : IsReached rules gauge m) where
   abbrev weight : ℕ
   weight = line_weight rules gauge
 
@@ -29,10 +28,10 @@ module _ (rules : Rules) (gauge : Gauge) (laws : EndLaws rules gauge) (view : Vi
       → region_weight rules gauge m.locks from r ≤ one_if_active r * weight
   region_within from Idle is = omega arith
   region_within from (Active t) is =
-      let few = h.kept.sound from t is in
+      let few = h.in_order.within from t is in
       let tries = no_more_times rules.tries (rules.tries - t.tries) (try_weight gauge) (omega arith) in
       let whole = whole_within rules gauge laws t (held_as m.locks from)
-      (omega (arith, few.few, laws.calls t.message)) (h.live.few from t is) in
+      (omega (arith, few, laws.calls t.message)) (h.live.few from t is) in
       omega (arith, tries, whole)
 
   regions_within : (from : ℕ) (regions : List Region)

@@ -4,6 +4,7 @@ pub mod Sums
 pub mod Falls
 pub mod Lines
 pub mod Live
+pub mod InOrder
 pub mod Stands
 pub mod Rounds
 pub mod Counts

@@ -22,11 +22,9 @@ use Rattle.fp_model.specs.Rules.{Rules}
 use Rattle.fp_model.specs.Waiting.{Lock, without_region}
 use Rattle.fp_model.specs.Machine.{Transaction, Region, Idle, Active, Machine, at_rest, region_at, with_region, with_entry_of, ended_with, entry_here, is_among, terminal_in, next_line, without_line, queued_at, with_message, with_refusal, with_request_of, with_line, taken_in, told, next_group, with_group, sealed_once, sealed_times}
 use Rattle.fp_model.specs.Turns.{Environment, NoFault, DeviceFault, OutOfMemory, Act, Answers, Gains, Waits, Deadlocks, Retries_at_cycle, Finishes, Retries_at_verify, with_answer, begun_in, tried_again, Does, queue_of_region, begins_in, RegionTurn, is_area_held, PurgeTurn, Turn}
-use Rattle.fp_model.specs.Runs.{RunStep, Runs}
 use Rattle.serial_order.specs.Laws.{View, Laws}
-use Rattle.serial_order.specs.Kept.{line_count, queued_count, count, Kept}
+use Rattle.serial_order.specs.Kept.{line_count, queued_count, count}
 use Rattle.serial_order.proofs.Lists.{none_is_not_some, true_is_not_false, tested, put_cases, contains_nothing, contains_cases, contains_in_filter, eqb_same, mapped_to}
-use Rattle.serial_order.proofs.Turns.{turn_kept}
 use Rattle.serial_order.proofs.Terminals.{contained, among, sum_put, counts_one, counts_none, region_put, unsealed_more, seals}
 use Rattle.drain_laws.specs.Measure.{Gauge}
 use Rattle.drain_laws.specs.Live.{EndLaws, IsAtWork, IsLive}
@@ -99,7 +97,7 @@ other_region m m2 place (suc q) r t put ne is =
     ∙ get_there m.regions place q (Active t) r (λ e. ne (ap (λ (k : ℕ). suc k) e)) is
 
 -- who is at work afterwards is that region with its new transaction, or another with its old one
-at_work : (m m2 : Machine) (place region : ℕ) (r : Region) (u : Transaction)
+pub at_work : (m m2 : Machine) (place region : ℕ) (r : Region) (u : Transaction)
     → m2.regions ≡ slice_set m.regions place r
     → region_at m2 region ≡ Some (Active u)
     → (r ≡ Active u) ⊎ (region_at m region ≡ Some (Active u))
@@ -493,36 +491,26 @@ module _ (rules : Rules) (gauge : Gauge) where
         led _ m2 turn.after (writes m (entry_here m (outcome.Purge set n) [] turn.items) turn.next sealed s)
 
     -- One turn keeps it.
-    pub turn_live : (m : Machine) (e : Event) (v : Environment) (m2 : Machine) → Kept rules view m
+    pub turn_live : (m : Machine) (e : Event) (v : Environment) (m2 : Machine) → m.sealed ≤ place_of m.history
         → Turn rules m e v m2
         → IsLive rules gauge m → IsLive rules gauge m2
-    turn_live m event.In NoFault m2 k turn s = led _ m2 turn (taken m k.terminals.sealed s)
-    turn_live m event.In DeviceFault m2 k turn s = absurd turn
-    turn_live m event.In OutOfMemory m2 k turn s = absurd turn
-    turn_live m (event.Region zero) v m2 k turn s = absurd turn
-    turn_live m (event.Region (suc place)) v m2 k turn s =
-        region_turn m place (slice_get m.regions place) v m2 refl k.terminals.sealed turn s
-    turn_live m event.Log NoFault m2 k turn s = led _ m2 turn (logs m s)
-    turn_live m event.Log DeviceFault m2 k turn s = absurd turn
-    turn_live m event.Log OutOfMemory m2 k turn s = absurd turn
-    turn_live m event.Out v m2 k turn s = led m m2 turn s
-    turn_live m event.Ckpt NoFault m2 k turn s = led _ m2 turn (logs_often (place_of m.history - m.sealed) m s)
-    turn_live m event.Ckpt DeviceFault m2 k turn s = led _ m2 turn (logs_often (place_of m.history - m.sealed) m s)
-    turn_live m event.Ckpt OutOfMemory m2 k turn s = absurd turn
-    turn_live m (event.Purge set n) NoFault m2 k turn s =
-        purges m set n (is_area_held rules m set) m2 k.terminals.sealed turn s
-    turn_live m (event.Purge set n) DeviceFault m2 k turn s = led m m2 turn s
-    turn_live m (event.Purge set n) OutOfMemory m2 k turn s = led m m2 turn s
-
-    -- Every run keeps it.
-    pub run_live : (m : Machine) (steps : List RunStep) (m2 : Machine) → Kept rules view m
-        → Runs rules m steps m2
-        → IsLive rules gauge m → IsLive rules gauge m2
-    run_live m [] m2 k runs s = led m m2 runs s
-    run_live m (step ∷ steps) m2 k runs s =
-        run_live step.after steps m2
-        (turn_kept rules view order m step.event step.environment step.after runs.0 k) runs.1
-        (turn_live m step.event step.environment step.after k runs.0 s)
+    turn_live m event.In NoFault m2 sealed turn s = led _ m2 turn (taken m sealed s)
+    turn_live m event.In DeviceFault m2 sealed turn s = absurd turn
+    turn_live m event.In OutOfMemory m2 sealed turn s = absurd turn
+    turn_live m (event.Region zero) v m2 sealed turn s = absurd turn
+    turn_live m (event.Region (suc place)) v m2 sealed turn s =
+        region_turn m place (slice_get m.regions place) v m2 refl sealed turn s
+    turn_live m event.Log NoFault m2 sealed turn s = led _ m2 turn (logs m s)
+    turn_live m event.Log DeviceFault m2 sealed turn s = absurd turn
+    turn_live m event.Log OutOfMemory m2 sealed turn s = absurd turn
+    turn_live m event.Out v m2 sealed turn s = led m m2 turn s
+    turn_live m event.Ckpt NoFault m2 sealed turn s = led _ m2 turn (logs_often (place_of m.history - m.sealed) m s)
+    turn_live m event.Ckpt DeviceFault m2 sealed turn s = led _ m2 turn (logs_often (place_of m.history - m.sealed) m s)
+    turn_live m event.Ckpt OutOfMemory m2 sealed turn s = absurd turn
+    turn_live m (event.Purge set n) NoFault m2 sealed turn s =
+        purges m set n (is_area_held rules m set) m2 sealed turn s
+    turn_live m (event.Purge set n) DeviceFault m2 sealed turn s = led m m2 turn s
+    turn_live m (event.Purge set n) OutOfMemory m2 sealed turn s = led m m2 turn s
 
   -- A machine at rest has it.
   pub rest_live : (lines : List (List ℕ)) (h : History) → IsLive rules gauge (at_rest rules lines h)

@@ -1,12 +1,12 @@
 -- The laws of any rules at those of this system.
 use Rattle.std.proofs.Common.{◌≡◌, ℕ, ◌+◌, ◌<◌, ◌≤◌, List, length, subst, arith}
+use Rattle.std.specs.List.{AllByRecursion}
 use Rattle.fp_model.specs.declared.definitions.Defs.{Defs}
 use Rattle.fp_model.specs.declared.events.Event.{Event}
 use Rattle.fp_model.specs.declared.scripts.Script.{Script}
 use Rattle.fp_model.specs.History.{History}
 use Rattle.fp_model.specs.Product.{rules_of}
 use Rattle.fp_model.specs.Rules.{Rules}
-use Rattle.fp_model.specs.SerialHistory.{IsSerial}
 use Rattle.fp_model.specs.Machine.{Machine, at_rest}
 use Rattle.fp_model.specs.Turns.{Environment, Turn}
 use Rattle.fp_model.specs.Runs.{RunStep, Runs, Drains, DrainsInPart}
@@ -14,12 +14,12 @@ use Rattle.fp_model.specs.WellFormed.{AreDefs}
 use Rattle.serial_order.specs.Laws.{Laws}
 use Rattle.serial_order.specs.ProductView.{view_of}
 use Rattle.serial_order.proofs.ProductLaws.{laws_of}
-use Rattle.serial_order.proofs.Turns.{at_rest_rests, rest_kept}
 use Rattle.drain_laws.specs.Measure.{messages_in, unsealed_in, work_with, work_left, lines_held, active_in, work_of}
 use Rattle.drain_laws.specs.Live.{EndLaws, IsReached, IsFromRest}
-use Rattle.drain_laws.specs.Rounds.{GoesRound, GoesRounds, RoundMoves}
+use Rattle.drain_laws.specs.Rounds.{AreFair, GoesRound, GoesRounds, RoundMoves}
 use Rattle.drain_laws.specs.ProductGauge.{gauge_of, weight_of_line}
 use Rattle.drain_laws.proofs.Live.{rest_live}
+use Rattle.drain_laws.proofs.InOrder.{rest_ordered}
 use Rattle.drain_laws.proofs.Rounds.{reached_then, reached_after, round_moves, round_falls}
 use Rattle.drain_laws.proofs.Counts.{work_within}
 use Rattle.drain_laws.proofs.Comes.{rounds_within, drain_within, part_within, drain_there_is}
@@ -30,12 +30,12 @@ module _ (defs : Defs) (scripts : List Script) where
   rules = rules_of defs scripts
 
   abbrev pub IsReachedHere : Machine → Type 0
-  IsReachedHere m = IsReached (rules_of defs scripts) (gauge_of defs) (view_of defs) m
+  IsReachedHere m = IsReached (rules_of defs scripts) (gauge_of defs) m
 
   -- a machine at rest
-  pub rest_of : (lines : List (List ℕ)) (h : History) → IsSerial rules h → IsReachedHere (at_rest rules lines h)
-  rest_of lines h history = record {
-    kept = rest_kept rules (view_of defs) (at_rest rules lines h) (at_rest_rests rules lines h history);
+  pub rest_of : (lines : List (List ℕ)) (h : History) → IsReachedHere (at_rest rules lines h)
+  rest_of lines h = record {
+    in_order = rest_ordered rules lines h;
     live = rest_live rules (gauge_of defs) lines h;
   }
 
@@ -78,15 +78,14 @@ module _ (defs : Defs) (scripts : List Script) where
     work_bound_of m unread lines messages active unsealed h few_lines few_messages few_active few_unsealed =
         subst (λ (w : ℕ). work_with rules (gauge_of defs) unread m ≤ work_of w lines messages active unsealed)
         (line_weighs defs scripts)
-        (work_within rules (gauge_of defs) ends (view_of defs) m h unread lines messages active unsealed few_lines
+        (work_within rules (gauge_of defs) ends m h unread lines messages active unsealed few_lines
         few_messages few_active few_unsealed)
 
     -- ---- the drain behind a run
 
     module _ (m : Machine) (from : IsFromRest (rules_of defs scripts) m) where
       reached : IsReachedHere m
-      reached = run_of (at_rest rules from.lines from.start) from.steps m (rest_of from.lines from.start from.is_serial)
-          from.runs
+      reached = run_of (at_rest rules from.lines from.start) from.steps m (rest_of from.lines from.start) from.runs
 
       pub rounds_of : (rounds : List (List RunStep)) (m2 : Machine) → GoesRounds rules m rounds m2
           → length rounds + work_left rules (gauge_of defs) m2 ≤ work_left rules (gauge_of defs) m
@@ -115,5 +114,6 @@ module _ (defs : Defs) (scripts : List Script) where
       part_of rounds last m2 drains =
           part_within rules (gauge_of defs) ends (view_of defs) order rounds m last m2 reached drains
 
-      pub there_of : (rounds : List (List RunStep)) × ((m2 : Machine) × Drains rules m rounds m2)
+      pub there_of : (rounds : List (List RunStep)) × ((m2 : Machine)
+          × (Drains rules m rounds m2 × AllByRecursion AreFair rounds))
       there_of = drain_there_is rules (gauge_of defs) ends (view_of defs) order m reached

@@ -16,14 +16,13 @@ use Rattle.fp_model.proofs.RunLemmas.{last_machine}
 use Rattle.serial_order.specs.Laws.{View, Laws}
 use Rattle.serial_order.specs.Kept.{HaveNoCycle}
 use Rattle.serial_order.proofs.Lists.{eqb_other, contains_first, contains_later, filter_contains}
-use Rattle.serial_order.proofs.Kept.{alike}
-use Rattle.serial_order.proofs.Turns.{turn_kept, run_kept}
 use Rattle.drain_laws.specs.Measure.{Gauge, line_weight, work_inside, work_with, work_left}
 use Rattle.drain_laws.specs.Live.{EndLaws, IsReached}
 use Rattle.drain_laws.specs.Rounds.{GoesRound, GoesRounds, RoundMoves, ReadsLine, HasLess}
 use Rattle.drain_laws.proofs.Falls.{times_suc, Moves, Does_some, Has_to_wait, Has_nothing, region_moves, log_moves}
 use Rattle.drain_laws.proofs.Lines.{InMoves, Reads, Takes_held, Is_stuck, Has_none, in_moves}
-use Rattle.drain_laws.proofs.Live.{same_region, frame, turn_live, run_live}
+use Rattle.drain_laws.proofs.Live.{same_region, frame, turn_live}
+use Rattle.drain_laws.proofs.InOrder.{ordered_alike, turn_ordered}
 use Rattle.drain_laws.proofs.Stands.{Rests, Idles, Waits_for, IsStill, no_line_waits, is_drained}
 
 -- ---- steps
@@ -75,26 +74,25 @@ behind_lines rules (suc n) from (s ∷ steps) m m2 runs =
     ∙ (turn_leaves rules m (event.Region from) s.environment s.after runs.0).0.lines
 
 module _ (rules : Rules) (gauge : Gauge) (laws : EndLaws rules gauge) (view : View) (order : Laws rules view) where
-  pub reached_then : (m : Machine) (e : Event) (v : Environment) (m2 : Machine) → IsReached rules gauge view m
+  pub reached_then : (m : Machine) (e : Event) (v : Environment) (m2 : Machine) → IsReached rules gauge m
       → Turn rules m e v m2
-      → IsReached rules gauge view m2
+      → IsReached rules gauge m2
   reached_then m e v m2 h turn = record {
-    kept = turn_kept rules view order m e v m2 turn h.kept;
-    live = turn_live rules gauge laws view order m e v m2 h.kept turn h.live;
+    in_order = turn_ordered rules view order m e v m2 turn h.in_order;
+    live = turn_live rules gauge laws view order m e v m2 h.in_order.sealed turn h.live;
   }
 
-  pub reached_after : (m : Machine) (steps : List RunStep) (m2 : Machine) → IsReached rules gauge view m
+  pub reached_after : (m : Machine) (steps : List RunStep) (m2 : Machine) → IsReached rules gauge m
       → Runs rules m steps m2
-      → IsReached rules gauge view m2
-  reached_after m steps m2 h runs = record {
-    kept = run_kept rules view order m steps m2 runs h.kept;
-    live = run_live rules gauge laws view order m steps m2 h.kept runs h.live;
-  }
+      → IsReached rules gauge m2
+  reached_after m [] m2 h runs = subst (λ (x : Machine). IsReached rules gauge x) (sym runs) h
+  reached_after m (step ∷ steps) m2 h runs =
+      reached_after step.after steps m2 (reached_then m step.event step.environment step.after h runs.0) runs.1
 
-  takes_reached : (m : Machine) (es : List Event) (steps : List RunStep) (m2 : Machine) → IsReached rules gauge view m
+  takes_reached : (m : Machine) (es : List Event) (steps : List RunStep) (m2 : Machine) → IsReached rules gauge m
       → Takes rules m es steps m2
-      → IsReached rules gauge view m2
-  takes_reached m [] [] m2 h runs = subst (λ (x : Machine). IsReached rules gauge view x) (sym runs) h
+      → IsReached rules gauge m2
+  takes_reached m [] [] m2 h runs = subst (λ (x : Machine). IsReached rules gauge x) (sym runs) h
   takes_reached m [] (s ∷ steps) m2 h runs = absurd runs
   takes_reached m (e ∷ es) [] m2 h runs = absurd runs
   takes_reached m (e ∷ es) (s ∷ steps) m2 h runs =
@@ -106,7 +104,7 @@ module _ (rules : Rules) (gauge : Gauge) (laws : EndLaws rules gauge) (view : Vi
 
   -- ---- one turn
 
-  turn_moves : (m : Machine) (region : ℕ) (v : Environment) (m2 : Machine) → IsReached rules gauge view m
+  turn_moves : (m : Machine) (region : ℕ) (v : Environment) (m2 : Machine) → IsReached rules gauge m
       → Turn rules m (event.Region region) v m2
       → Moves rules gauge laws m region m2
   turn_moves m zero v m2 h turn = absurd turn
@@ -134,7 +132,7 @@ module _ (rules : Rules) (gauge : Gauge) (laws : EndLaws rules gauge) (view : Vi
   -- ---- the regions and the log
 
   -- nothing more
-  behind_not_more : (n from : ℕ) (steps : List RunStep) (m m2 : Machine) → IsReached rules gauge view m
+  behind_not_more : (n from : ℕ) (steps : List RunStep) (m m2 : Machine) → IsReached rules gauge m
       → Takes rules m (behind_in n from) steps m2
       → inside m2 ≤ inside m
   behind_not_more zero from [] m m2 h runs = absurd runs
@@ -218,7 +216,7 @@ module _ (rules : Rules) (gauge : Gauge) (laws : EndLaws rules gauge) (view : Vi
 
   -- Less is left, or all stood still.
   behind_moves : (n from : ℕ) (steps : List RunStep) (m : Machine) (q : List Lock) (m2 : Machine)
-      → IsReached rules gauge view (asking m q)
+      → IsReached rules gauge (asking m q)
       → Takes rules (asking m q) (behind_in n from) steps m2
       → (inside m2 < inside m) ⊎ AllStill m q from n m2
   behind_moves zero from [] m q m2 h runs = absurd runs
@@ -230,10 +228,10 @@ module _ (rules : Rules) (gauge : Gauge) (laws : EndLaws rules gauge) (view : Vi
   behind_moves (suc n) from (s ∷ steps) m q m2 h runs =
       by (turn_moves (asking m q) from s.environment s.after h runs.0)
       (λ r e. behind_moves n (from + 1) steps m r m2
-      (subst (λ (x : Machine). IsReached rules gauge view x) e after)
+      (subst (λ (x : Machine). IsReached rules gauge x) e after)
       (subst (λ (x : Machine). Takes rules x (behind_in n (from + 1)) steps m2) e runs.1))
     where
-      after : IsReached rules gauge view s.after
+      after : IsReached rules gauge s.after
       after = reached_then (asking m q) (event.Region from) s.environment s.after h runs.0
 
       by : Moves rules gauge laws (asking m q) from s.after
@@ -253,18 +251,18 @@ module _ (rules : Rules) (gauge : Gauge) (laws : EndLaws rules gauge) (view : Vi
   -- ---- the round
 
   -- one in which all stands still leaves no cycle
-  is_still : (m m2 : Machine) → IsReached rules gauge view m2 → AllStill m m.requests 1 (length rules.regions) m2
+  is_still : (m m2 : Machine) → IsReached rules gauge m2 → AllStill m m.requests 1 (length rules.regions) m2
       → (requests : List Lock) × IsStill rules gauge laws m requests
   is_still m m2 h a = (
     a.requests,
     record {
       rests = a.rests;
       sealed = a.sealed;
-      no_cycle = subst (λ (x : Machine). HaveNoCycle x.requests x.locks) a.after h.kept.no_cycle;
+      no_cycle = subst (λ (x : Machine). HaveNoCycle x.requests x.locks) a.after h.in_order.no_cycle;
     },
   )
 
-  takes_round : (m : Machine) (steps : List RunStep) (m2 : Machine) → IsReached rules gauge view m
+  takes_round : (m : Machine) (steps : List RunStep) (m2 : Machine) → IsReached rules gauge m
       → (¬ IsDrained rules m)
       → Takes rules m (round rules) steps m2
       → RoundMoves rules gauge m m2
@@ -277,7 +275,7 @@ module _ (rules : Rules) (gauge : Gauge) (laws : EndLaws rules gauge) (view : Vi
       mid : Machine
       mid = s.after
 
-      there : IsReached rules gauge view s.after
+      there : IsReached rules gauge s.after
       there = reached_then m event.In s.environment s.after h runs.0
 
       stuck : s.after ≡ m → ((requests : List Lock) → IsStill rules gauge laws m requests → ⊥)
@@ -307,7 +305,7 @@ module _ (rules : Rules) (gauge : Gauge) (laws : EndLaws rules gauge) (view : Vi
           stuck (is ∙ same) (λ requests still. no_line_waits rules gauge laws m requests h.live still line waits)
       by (Has_none free none same) is =
           stuck (is ∙ same)
-          (λ requests still. left (is_drained rules gauge laws m requests h.live still h.kept.terminals.sealed none
+          (λ requests still. left (is_drained rules gauge laws m requests h.live still h.in_order.sealed none
           free))
 
       by_environment : (v : Environment) → s.environment ≡ v → RoundMoves rules gauge m m2
@@ -319,7 +317,7 @@ module _ (rules : Rules) (gauge : Gauge) (laws : EndLaws rules gauge) (view : Vi
           by_turn OutOfMemory turn = absurd turn
 
   -- A round reads a line, or leaves less to do inside.
-  pub round_moves : (m : Machine) (steps : List RunStep) (m2 : Machine) → IsReached rules gauge view m
+  pub round_moves : (m : Machine) (steps : List RunStep) (m2 : Machine) → IsReached rules gauge m
       → GoesRound rules m steps m2
       → RoundMoves rules gauge m m2
   round_moves m steps m2 h goes =
@@ -343,7 +341,7 @@ module _ (rules : Rules) (gauge : Gauge) (laws : EndLaws rules gauge) (view : Vi
 
   -- A round leaves less to do, whatever befalls its turns.
   pub round_falls : (m : Machine) (steps : List RunStep) (m2 : Machine) (lines lines2 : ℕ)
-      → IsReached rules gauge view m
+      → IsReached rules gauge m
       → GoesRound rules m steps m2
       → lines + length m2.lines ≡ lines2 + length m.lines
       → work_with rules gauge lines2 m2 < work_with rules gauge lines m
@@ -351,7 +349,7 @@ module _ (rules : Rules) (gauge : Gauge) (laws : EndLaws rules gauge) (view : Vi
       falls_by m m2 lines lines2 same (round_moves m steps m2 h goes)
 
   -- So rounds are no more than there is left to do.
-  pub rounds_fall : (rounds : List (List RunStep)) (m m2 : Machine) → IsReached rules gauge view m
+  pub rounds_fall : (rounds : List (List RunStep)) (m m2 : Machine) → IsReached rules gauge m
       → GoesRounds rules m rounds m2
       → length rounds + work_left rules gauge m2 ≤ work_left rules gauge m
   rounds_fall [] m m2 h goes =
@@ -365,10 +363,10 @@ module _ (rules : Rules) (gauge : Gauge) (laws : EndLaws rules gauge) (view : Vi
       omega (arith, first, others)
 
   -- where rounds lead is reached
-  pub reached_by_rounds : (rounds : List (List RunStep)) (m m2 : Machine) → IsReached rules gauge view m
+  pub reached_by_rounds : (rounds : List (List RunStep)) (m m2 : Machine) → IsReached rules gauge m
       → GoesRounds rules m rounds m2
-      → IsReached rules gauge view m2
-  reached_by_rounds [] m m2 h goes = subst (λ (x : Machine). IsReached rules gauge view x) (sym goes) h
+      → IsReached rules gauge m2
+  reached_by_rounds [] m m2 h goes = subst (λ (x : Machine). IsReached rules gauge x) (sym goes) h
   reached_by_rounds (steps ∷ rounds) m m2 h goes =
       reached_by_rounds rounds (machine_after m steps) m2
       (reached_after m steps (machine_after m steps) h goes.0.runs) goes.1
@@ -434,14 +432,12 @@ rounds_drain_in_part rules (s ∷ rounds) m mid part left m2 goes undone takes r
 )
 
 -- A machine with other lines left is reached too.
-pub relined : (rules : Rules) (gauge : Gauge) (view : View) (m : Machine) (lines : List (List ℕ))
-    → IsReached rules gauge view m
-    → IsReached rules gauge view (record m { lines = lines })
-relined rules gauge view m lines h =
+pub relined : (rules : Rules) (gauge : Gauge) (m : Machine) (lines : List (List ℕ))
+    → IsReached rules gauge m
+    → IsReached rules gauge (record m { lines = lines })
+relined rules gauge m lines h =
     let m2 : Machine = record m { lines = lines } in
-    let k = h.kept.terminals in
     record {
-      kept = alike rules view m m2 refl (record { regions = refl; locks = refl; requests = refl }) refl
-          (record { once = k.once; is_busy = k.is_busy; sealed = k.sealed }) h.kept;
+      in_order = ordered_alike rules m m2 refl h.in_order.no_cycle h.in_order.sealed h.in_order;
       live = frame rules gauge m m2 refl refl h.live.holders h.live.waits h.live;
     }

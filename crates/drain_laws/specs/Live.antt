@@ -11,15 +11,13 @@ use Rattle.fp_model.specs.declared.name.Name.{Name}
 use Rattle.fp_model.specs.Workspace.{Workspace}
 use Rattle.fp_model.specs.Answers.{Needed, serves}
 use Rattle.fp_model.specs.Asking.{Ask, Asks, Replies}
-use Rattle.fp_model.specs.History.{History, Accepts}
+use Rattle.fp_model.specs.History.{History, Accepts, place_of}
 use Rattle.fp_model.specs.Rules.{Rules}
 use Rattle.fp_model.specs.Waiting.{Lock}
 use Rattle.fp_model.specs.Machine.{Transaction, Active, Machine, at_rest, region_at, is_among}
 use Rattle.fp_model.specs.Turns.{queue_of_region}
 use Rattle.fp_model.specs.Runs.{RunStep, Runs}
-use Rattle.fp_model.specs.SerialHistory.{IsSerial}
-use Rattle.serial_order.specs.Laws.{View}
-use Rattle.serial_order.specs.Kept.{count, Kept}
+use Rattle.serial_order.specs.Kept.{count, HaveNoCycle}
 use Rattle.drain_laws.specs.Measure.{Gauge}
 
 -- ---- of the rules
@@ -81,15 +79,26 @@ pub record IsLive (rules : Rules) (gauge : Gauge) (m : Machine) : Type 0 where
       → region_at m region ≡ Some (Active t)
       → gauge.queued t.point.own ≤ length t.point.answers
 
--- What is so of each machine that turns lead to from rest: the order is kept, and nothing waits for what can't come.
-pub record IsReached (rules : Rules) (gauge : Gauge) (view : View) (m : Machine) : Type 0 where
-  pub kept : Kept rules view m
+-- What the drain needs of the order, also where the entries are no serial history.
+pub record IsInOrder (rules : Rules) (m : Machine) : Type 0 where
+  -- no more entries are sealed than there are
+  pub sealed : m.sealed ≤ place_of m.history
+  -- nobody waits for himself
+  pub no_cycle : HaveNoCycle m.requests m.locks
+  -- a transaction has asked no more than its script may
+  pub within : (region : ℕ) (t : Transaction)
+      → region_at m region ≡ Some (Active t)
+      → length t.point.answers ≤ rules.budget t.message
+
+-- What is so of each machine that turns lead to from rest, whatever its history: it is in order, and nothing waits for
+-- what can't come.
+pub record IsReached (rules : Rules) (gauge : Gauge) (m : Machine) : Type 0 where
+  pub in_order : IsInOrder rules m
   pub live : IsLive rules gauge m
 
--- A run led to the machine, from one at rest behind a serial history.
+-- A run led to the machine, from one at rest behind any history.
 pub record IsFromRest (rules : Rules) (m : Machine) : Type 0 where
   pub lines : List (List ℕ)
   pub start : History
-  pub is_serial : IsSerial rules start
   pub steps : List RunStep
   pub runs : Runs rules (at_rest rules lines start) steps m

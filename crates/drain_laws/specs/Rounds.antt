@@ -2,8 +2,14 @@
 use Rattle.std.specs.Prelude.{◌≡◌, ◌+◌, ◌<◌, ◌≤◌, List, [], ◌∷◌, length}
 use Rattle.fp_model.specs.Rules.{Rules}
 use Rattle.fp_model.specs.Machine.{Machine}
+use Rattle.std.specs.List.{AllByRecursion}
+use Rattle.fp_model.specs.Turns.{NoFault}
 use Rattle.fp_model.specs.Runs.{RunStep, step_events, machine_after, Runs, round, IsDrained}
 use Rattle.drain_laws.specs.Measure.{Gauge, held_weight, work_inside}
+
+-- nothing befalls the steps
+abbrev pub AreFair : List RunStep → Type 0
+AreFair steps = AllByRecursion (λ step. step.environment ≡ NoFault) steps
 
 -- One round, from a machine that isn't drained.
 pub record GoesRound (rules : Rules) (m : Machine) (steps : List RunStep) (m2 : Machine) : Type 0 where

@@ -7,15 +7,13 @@ ghost use Rattle.fp_model.specs.declared.scripts.Script.{Script};
 ghost use Rattle.fp_model.specs.Asking.{full_cost};
 ghost use Rattle.fp_model.specs.History.{History};
 ghost use Rattle.fp_model.specs.Product.{rules_of};
-ghost use Rattle.fp_model.specs.SerialHistory.{IsSerial};
 ghost use Rattle.fp_model.specs.Machine.{Machine, at_rest};
 ghost use Rattle.fp_model.specs.Turns.{Environment, Turn};
 ghost use Rattle.fp_model.specs.Runs.{RunStep, Runs, Drains, DrainsInPart};
 ghost use Rattle.fp_model.specs.WellFormed.{AreDefs};
-ghost use Rattle.serial_order.specs.ProductView.{view_of};
 ghost use Rattle.drain_laws.specs.Measure.{line_weight, messages_in, unsealed_in, work_with, work_left, lines_held, active_in, work_of};
 ghost use Rattle.drain_laws.specs.Live.{EndLaws, IsReached, IsFromRest};
-ghost use Rattle.drain_laws.specs.Rounds.{GoesRound, GoesRounds, RoundMoves};
+ghost use Rattle.drain_laws.specs.Rounds.{AreFair, GoesRound, GoesRounds, RoundMoves};
 ghost use Rattle.drain_laws.specs.ProductGauge.{gauge_of, weight_of_line};
 
 /// This system keeps what the end of its drain needs, and a line of it weighs a number that the tries determine.
@@ -28,24 +26,23 @@ pub fn the_system_keeps_its_end_laws()
         → line_weight (rules_of defs scripts) (gauge_of defs) ≡ weight_of_line defs.tries }
 {}
 
-/// Nothing waits for what can't come in a machine at rest, and each turn of this system keeps that.
+/// Nothing waits for what can't come in a machine at rest behind any history, and each turn of this system keeps that.
 pub fn nothing_of_the_system_waits_in_vain()
     ensures rest { (defs : Defs) (scripts : List Script) (lines : List (List ℕ)) (h : History)
-        → IsSerial (rules_of defs scripts) h
-        → IsReached (rules_of defs scripts) (gauge_of defs) (view_of defs) (at_rest (rules_of defs scripts) lines h) }
+        → IsReached (rules_of defs scripts) (gauge_of defs) (at_rest (rules_of defs scripts) lines h) }
     ensures turn { (defs : Defs) (scripts : List Script)
         → (m : Machine) (event : Event) (environment : Environment) (m2 : Machine)
         → AreDefs defs
         → AllByRecursion (λ s. full_cost s.statements ≤ 10000) scripts
-        → IsReached (rules_of defs scripts) (gauge_of defs) (view_of defs) m
+        → IsReached (rules_of defs scripts) (gauge_of defs) m
         → Turn (rules_of defs scripts) m event environment m2
-        → IsReached (rules_of defs scripts) (gauge_of defs) (view_of defs) m2 }
+        → IsReached (rules_of defs scripts) (gauge_of defs) m2 }
     ensures run { (defs : Defs) (scripts : List Script) (m : Machine) (steps : List RunStep) (m2 : Machine)
         → AreDefs defs
         → AllByRecursion (λ s. full_cost s.statements ≤ 10000) scripts
-        → IsReached (rules_of defs scripts) (gauge_of defs) (view_of defs) m
+        → IsReached (rules_of defs scripts) (gauge_of defs) m
         → Runs (rules_of defs scripts) m steps m2
-        → IsReached (rules_of defs scripts) (gauge_of defs) (view_of defs) m2 }
+        → IsReached (rules_of defs scripts) (gauge_of defs) m2 }
 {}
 
 /// A round from a machine that isn't drained leaves less to do, whatever befalls its turns, and also where more lines
@@ -54,14 +51,14 @@ pub fn a_round_of_the_system_leaves_less()
     ensures moves { (defs : Defs) (scripts : List Script) (m : Machine) (steps : List RunStep) (m2 : Machine)
         → AreDefs defs
         → AllByRecursion (λ s. full_cost s.statements ≤ 10000) scripts
-        → IsReached (rules_of defs scripts) (gauge_of defs) (view_of defs) m
+        → IsReached (rules_of defs scripts) (gauge_of defs) m
         → GoesRound (rules_of defs scripts) m steps m2
         → RoundMoves (rules_of defs scripts) (gauge_of defs) m m2 }
     ensures less { (defs : Defs) (scripts : List Script) (m : Machine) (steps : List RunStep) (m2 : Machine)
         → (lines lines2 : ℕ)
         → AreDefs defs
         → AllByRecursion (λ s. full_cost s.statements ≤ 10000) scripts
-        → IsReached (rules_of defs scripts) (gauge_of defs) (view_of defs) m
+        → IsReached (rules_of defs scripts) (gauge_of defs) m
         → GoesRound (rules_of defs scripts) m steps m2
         → lines + length m2.lines ≡ lines2 + length m.lines
         → work_with (rules_of defs scripts) (gauge_of defs) lines2 m2
@@ -75,7 +72,7 @@ pub fn counts_bound_the_work_of_the_system()
         → (unread lines messages active unsealed : ℕ)
         → AreDefs defs
         → AllByRecursion (λ s. full_cost s.statements ≤ 10000) scripts
-        → IsReached (rules_of defs scripts) (gauge_of defs) (view_of defs) m
+        → IsReached (rules_of defs scripts) (gauge_of defs) m
         → unread + lines_held m ≤ lines
         → messages_in m.queues ≤ messages
         → active_in m.regions ≤ active
@@ -84,7 +81,7 @@ pub fn counts_bound_the_work_of_the_system()
         ≤ work_of (weight_of_line defs.tries) lines messages active unsealed }
 {}
 
-/// From every machine that a run from rest led to, n rounds leave at least n less to do, whatever befalls their turns.
+/// From every machine that a run from rest led to, behind any history, n rounds leave at least n less to do, whatever befalls their turns.
 /// So a drain has no more rounds than there is left to do, nor has one that ended early; and there is a drain.
 pub fn the_drain_of_the_system_ends()
     ensures rounds { (defs : Defs) (scripts : List Script) (m : Machine) (rounds : List (List RunStep)) (m2 : Machine)
@@ -119,5 +116,6 @@ pub fn the_drain_of_the_system_ends()
         → AreDefs defs
         → AllByRecursion (λ s. full_cost s.statements ≤ 10000) scripts
         → IsFromRest (rules_of defs scripts) m
-        → (rounds : List (List RunStep)) × ((m2 : Machine) × Drains (rules_of defs scripts) m rounds m2) }
+        → (rounds : List (List RunStep)) × ((m2 : Machine)
+        × (Drains (rules_of defs scripts) m rounds m2 × AllByRecursion AreFair rounds)) }
 {}

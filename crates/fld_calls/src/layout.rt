@@ -120,6 +120,15 @@ fn put_fsa(text: &mut Bytes, fsa: &Fsa, connector: u8) -> Result<(), AllocError>
     text.push(connector)
 }
 
+// How many bytes a list has.
+fn size_of(fsas: &[Fsa]) -> usize {
+    let mut size: usize = 0;
+    for fsa in fsas {
+        size = size.saturating_add(13).saturating_add(fsa.operand.len());
+    }
+    size
+}
+
 /// The bytes of a list: `*` behind each argument that another follows, and a blank behind the last. No bytes for none.
 /// Fails only for want of memory.
 ///
@@ -128,7 +137,7 @@ pub fn write_list(alloc: Global, fsas: &List<Fsa>) -> Result<Bytes, AllocError>
     requires { AllByRecursion IsShort fsas.now }
     ensures { IfOk result (λ text. text ≡ list_text (forms fsas.now)) }
 {
-    let mut text = Bytes::new(alloc);
+    let mut text = Bytes::with_capacity(alloc, size_of(fsas.as_slice()))?;
     let mut left = fsas.len();
     for fsa in fsas.as_slice() {
         left -= 1;

@@ -102,7 +102,7 @@ Made defs first h =
     → slice_get (states_of h) (suc place) ≡ Some after
     → IsMade defs before e after
 
-made_more : (defs : Defs) (first : ℕ) (h : History) (e : Entry) (next : Db)
+pub made_more : (defs : Defs) (first : ℕ) (h : History) (e : Entry) (next : Db)
     → length h.past ≡ length h.entries → Made defs first h → IsMade defs h.now e next
     → Made defs first (with_entry e next h)
 made_more defs first h e next even made new place before after x from was is then =
@@ -129,12 +129,12 @@ made_more defs first h e next even made new place before after x from was is the
     split (suc a) (suc b) h = elim (split a b (omega (arith, h))) [ inl less ↦ inl (omega (arith, less)) | inr same ↦ inr (omega (arith, same)) ]
 
 -- the format stays where an entry doesn't change it
-format_more : (format : ℕ) (entries : List Entry) (e : Entry) → format_at format entries ≡ 1
+pub format_more : (format : ℕ) (entries : List Entry) (e : Entry) → format_at format entries ≡ 1
     → format_behind 1 e.outcome ≡ 1 → format_at format (entries ++ e ∷ []) ≡ 1
 format_more format [] e is still = ap (λ f. format_behind f e.outcome) is ∙ still
 format_more format (x ∷ xs) e is still = format_more (format_behind format x.outcome) xs e is still
 
-map_more : {A B : Type 0} (f : A → B) (xs : List A) (x : A) → map f (xs ++ x ∷ []) ≡ map f xs ++ f x ∷ []
+pub map_more : {A B : Type 0} (f : A → B) (xs : List A) (x : A) → map f (xs ++ x ∷ []) ≡ map f xs ++ f x ∷ []
 map_more f [] x = refl
 map_more f (y ∷ ys) x = ap (λ rest. f y ∷ rest) (map_more f ys x)
 

@@ -1,5 +1,5 @@
 -- An active region goes on.
-use Rattle.std.proofs.Common.{◌≡◌, refl, sym, ◌∙◌, ap, subst, arith, ℕ, zero, suc, ◌+◌, ◌-◌, List, [], ◌∷◌, ◌++◌, Bool, true, false, length, Option, Some, None, slice_get, slice_set}
+use Rattle.std.proofs.Common.{◌≡◌, refl, sym, ◌∙◌, ap, subst, arith, ℕ, zero, suc, ◌-◌, List, [], ◌∷◌, ◌++◌, Bool, true, false, length, Option, Some, slice_get, slice_set}
 use mathlib.Core.Path.{fun_ext}
 use Rattle.std.specs.Prelude.{Result, Ok, Err, OnErr, if◌then◌else◌}
 use Rattle.std.specs.Option.{option_map_or}
@@ -20,7 +20,6 @@ use Rattle.fp_model.specs.Machine.{Transaction, Machine}
 use Rattle.fp_model.specs.Product.{rules_of}
 use Rattle.fp_model.specs.Rules.{Rules}
 use Rattle.fp_model.specs.Turns.{Answers, asks, holds, noted, wanted, with_answer}
-use Rattle.fp_model.specs.Waiting.{held_as}
 use Rattle.txn_machine.specs.Running.{IsAt, IsFit}
 use Rattle.txn_machine.specs.declared.program.Program.{Program}
 use Rattle.fp_core.specs.declared.answering.Acted.{Acted}

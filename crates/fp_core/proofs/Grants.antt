@@ -84,7 +84,7 @@ without_twice region (l ∷ locks) = by (without_twice region locks) (not (l.reg
 
 -- ---- locks and requests change, and nothing else
 
-locked_stands : (engine : Engine) (m : Machine) (rows : List Row) (locks requests : List Lock)
+pub locked_stands : (engine : Engine) (m : Machine) (rows : List Row) (locks requests : List Lock)
     → StandsFor engine m
     → Shows (standing rows) locks requests
     → length rows ≡ length engine.locks

@@ -67,7 +67,7 @@ ckpt_stepped m lines engine given t =
 
 module _ (origin : Origin) (disk : Disk) (left : List ℕ) (m : Machine) where
   -- what is sealed and sent stays, and so does the gate
-  still_at : (old new : Engine) (after : Machine) → StandsAt origin disk old m → StandsFor new after
+  pub still_at : (old new : Engine) (after : Machine) → StandsAt origin disk old m → StandsFor new after
       → new.log.gate ≡ old.log.gate → after.groups ≡ m.groups → after.sent ≡ m.sent → StandsAt origin disk new after
   still_at old new after at stands gate groups sent = record {
     parts = stands;

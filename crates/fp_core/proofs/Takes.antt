@@ -46,7 +46,7 @@ with_none [] is = refl
 with_none (y ∷ ys) is = absurd cc
 
 -- one place is changed to what is so too
-all_put : {A : Type 0} (P : A → Type 0) (xs : List A) (place : ℕ) (x : A) → AllByRecursion P xs → P x
+pub all_put : {A : Type 0} (P : A → Type 0) (xs : List A) (place : ℕ) (x : A) → AllByRecursion P xs → P x
     → AllByRecursion P (slice_set xs place x)
 all_put P [] place x all new = tt
 all_put P (y ∷ ys) zero x all new = (new, all.1)
@@ -79,7 +79,7 @@ greatest_above (g ∷ gs) most zero group is =
 greatest_above (g ∷ gs) most (suc n) group is = greatest_above gs (max most g) n group is
 
 -- no more regions are at work than there are
-at_work_few : (rs : List machine.Region) → active_in rs ≤ length rs
+pub at_work_few : (rs : List machine.Region) → active_in rs ≤ length rs
 at_work_few [] = omega arith
 at_work_few (machine.Idle ∷ rs) =
     let none : one_if_active machine.Idle ≡ 0 = refl in

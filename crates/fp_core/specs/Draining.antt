@@ -1,5 +1,5 @@
 -- The drain: rounds of IN, each region and LOG, until nothing is left.
-use Rattle.std.specs.Prelude.{◌≡◌, ◌⊎◌, ℕ, List, [], ◌∷◌}
+use Rattle.std.specs.Prelude.{◌≡◌, ◌⊎◌, ℕ, ◌+◌, List, [], ◌∷◌, length}
 use Rattle.std.specs.List.{AllByRecursion}
 use Rattle.drain_laws.specs.Live.{IsReached}
 use Rattle.drain_laws.specs.ProductGauge.{gauge_of}
@@ -9,24 +9,25 @@ use Rattle.fp_model.specs.Machine.{Machine}
 use Rattle.fp_model.specs.Rules.{Rules}
 use Rattle.fp_model.specs.Runs.{RunStep, TakesOf, Runs, IsDrained, device_faults, round, Drains}
 use Rattle.fp_site.specs.Disk.{Disk, Snapshot}
+use Rattle.fp_source.specs.Lines.{lines_given}
 use Rattle.fp_source.specs.declared.lines.Lines.{Lines}
-use Rattle.serial_order.specs.ProductView.{view_of}
 use Rattle.fp_core.specs.declared.engine.Engine.{Engine}
 use Rattle.fp_core.specs.declared.stop.Stop.{Stop}
+use Rattle.fp_core.specs.declared.stop.Stop.TheVariants as stops
 use Rattle.fp_core.specs.Relation.{StandsFor, rules_in}
 use Rattle.fp_core.specs.Standing.{IsLeft, IsWithin, MayStop, Origin, StandsBeside, seals_of}
 
 -- The engine stands for a machine that turns led to from rest.
 pub record IsReachedBy (engine : Engine) (m : Machine) : Type 0 where
   pub stands : StandsFor engine m
-  pub reached : IsReached (rules_in engine) (gauge_of engine.defs.now) (view_of engine.defs.now) m
+  pub reached : IsReached (rules_in engine) (gauge_of engine.defs.now) m
 
 -- no fault of the device befell these steps
 abbrev pub AreCalm : List RunStep → Type 0
 AreCalm steps = device_faults steps ≡ 0
 
--- A drain of the machine stands here, before this event: behind whole rounds, and a first part of one more. A round goes
--- on behind its IN only where something was left; the last IN of a drain finds nothing, and is left out.
+-- A drain of the machine stands here, before this event: behind whole rounds, and a first part of one more. A round
+-- goes on behind its IN only where something was left; the last IN of a drain finds nothing, and is left out.
 pub record IsInDrain (rules : Rules) (m here : Machine) (event : Event) : Type 0 where
   pub rounds : List (List RunStep)
   pub behind : Machine
@@ -47,12 +48,16 @@ pub record Drained (origin : Origin) (m : Machine) (disk : Disk) (lines : Lines)
   pub calm : AllByRecursion AreCalm rounds
   pub beside : StandsBeside origin disk lines left engine after
 
--- The drain stopped in a step, and the disk is one that this step may end with.
-pub record DrainStopped (origin : Origin) (rules : Rules) (m : Machine) (old new : Disk) (stop : Stop) : Type 0 where
+-- The drain stopped in a step, and the disk is one that this step may end with. Where it stopped for a line, that is
+-- the first one that the machine has not read.
+pub record DrainStopped (origin : Origin) (rules : Rules) (m : Machine) (old_lines : Lines) (old new : Disk)
+    (stop : Stop) : Type 0 where
   pub here : Machine
   pub event : Event
   pub in_drain : IsInDrain rules m here event
   pub may : MayStop event here.held stop
+  pub first : (number : ℕ) → stop ≡ stops.LineFault number
+      → number + length here.lines ≡ lines_given old_lines + 1 + length m.lines
   pub within : IsWithin origin rules here (seals_of event here) old new
 
 -- A crash within the drain left what might have been left before it, or what a crash within one of its steps leaves.

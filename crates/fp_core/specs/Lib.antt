@@ -4,4 +4,7 @@ pub mod Acting
 pub mod Ending
 pub mod Standing
 pub mod Draining
+pub mod Rounding
 pub mod Answering
+pub mod Reading
+pub mod Sealing

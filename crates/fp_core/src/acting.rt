@@ -4,8 +4,9 @@ ghost use Rattle.fp_core.specs.Relation.{StandsFor, rules_in};
 ghost use Rattle.fp_core.specs.Turning.{Turned};
 ghost use Rattle.fp_model.specs.Asking.{Replies};
 ghost use Rattle.fp_model.specs.Machine.{Machine, Transaction};
+ghost use Rattle.fp_core.specs.declared.engine.Region.TheVariants as regions;
 ghost use Rattle.fp_model.specs.declared.events.Event.TheVariants as events;
-ghost use Rattle.std.specs.Prelude.{◌≡◌, ◌≤◌, IfOk, OnErr, length};
+ghost use Rattle.std.specs.Prelude.{◌≡◌, ◌≤◌, ◌-◌, IfOk, OnErr, Some, length, slice_get};
 
 use crate::answering::Acted;
 use crate::did::Did;
@@ -31,6 +32,7 @@ impl Engine<'_> {
         // What stays.
         ensures rules { rules_in self.new ≡ rules_in self.old }
         ensures defs { self.new.defs ≡ self.old.defs }
+        ensures scripts { self.new.scripts ≡ self.old.scripts }
         ensures gate { self.new.log.gate ≡ self.old.log.gate }
         ensures count { length self.new.regions ≡ length self.old.regions }
     {
@@ -54,6 +56,7 @@ impl Engine<'_> {
         // What stays.
         ensures rules { rules_in self.new ≡ rules_in self.old }
         ensures defs { self.new.defs ≡ self.old.defs }
+        ensures scripts { self.new.scripts ≡ self.old.scripts }
         ensures gate { self.new.log.gate ≡ self.old.log.gate }
         ensures count { length self.new.regions ≡ length self.old.regions }
     {
@@ -76,6 +79,7 @@ impl Engine<'_> {
         // What stays.
         ensures rules { rules_in self.new ≡ rules_in self.old }
         ensures defs { self.new.defs ≡ self.old.defs }
+        ensures scripts { self.new.scripts ≡ self.old.scripts }
         ensures gate { self.new.log.gate ≡ self.old.log.gate }
         ensures count { length self.new.regions ≡ length self.old.regions }
     {
@@ -98,6 +102,7 @@ impl Engine<'_> {
         // What stays.
         ensures rules { rules_in self.new ≡ rules_in self.old }
         ensures defs { self.new.defs ≡ self.old.defs }
+        ensures scripts { self.new.scripts ≡ self.old.scripts }
         ensures gate { self.new.log.gate ≡ self.old.log.gate }
         ensures count { length self.new.regions ≡ length self.old.regions }
     {
@@ -114,10 +119,12 @@ impl Engine<'_> {
         requires stands { (m : Machine) × StandsFor self.old m }
         ensures turned { (m : Machine) → StandsFor self.old m → IfOk result (Turned (events.Region region) m self.new) }
         ensures err { (m : Machine) → StandsFor self.old m → OnErr result (StandsFor self.new m) }
+        ensures idle { OnErr result (slice_get self.old.regions (region - 1) ≡ Some regions.Idle) }
 
         // What stays.
         ensures rules { rules_in self.new ≡ rules_in self.old }
         ensures defs { self.new.defs ≡ self.old.defs }
+        ensures scripts { self.new.scripts ≡ self.old.scripts }
         ensures gate { self.new.log.gate ≡ self.old.log.gate }
         ensures count { length self.new.regions ≡ length self.old.regions }
     {

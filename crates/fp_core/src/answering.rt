@@ -90,6 +90,7 @@ impl Engine<'_> {
         // What stays.
         ensures rules { rules_in self.new ≡ rules_in self.old }
         ensures defs { self.new.defs ≡ self.old.defs }
+        ensures scripts { self.new.scripts ≡ self.old.scripts }
         ensures gate { self.new.log.gate ≡ self.old.log.gate }
         ensures count { length self.new.regions ≡ length self.old.regions }
     {

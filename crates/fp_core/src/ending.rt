@@ -18,8 +18,8 @@ use std::alloc::AllocError;
 use std::collections::VecDeque;
 use sync_point::{append_beside, refusal_room};
 
-// What is kept of an entry until its reply line is sent.
-fn owed_of(entry: Entry) -> Owed
+/// What is kept of an entry until its reply line is sent.
+pub(crate) fn owed_of(entry: Entry) -> Owed
     ensures { result ≡ owed_of entry }
 {
     let Entry {

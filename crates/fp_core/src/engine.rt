@@ -1,13 +1,22 @@
 //! The parts of the system that turns change.
-ghost use Rattle.std.specs.Prelude.{◌≡◌, ◌≤◌, ◌-◌, Some, length, slice_get};
+ghost use Rattle.fp_core.specs.Relation.{IsSetup, StandsFor, rules_in};
+ghost use Rattle.fp_core.specs.declared.engine.Region.TheVariants as regions;
+ghost use Rattle.fp_model.specs.History.{History, place_of};
+ghost use Rattle.fp_model.specs.Lasts.{format_at};
+ghost use Rattle.fp_model.specs.Machine.{at_rest};
+ghost use Rattle.fp_model.specs.Product.{rules_of};
+ghost use Rattle.msdb_store.specs.Store.{IsOf};
+ghost use Rattle.std.specs.Prelude.{◌≡◌, ◌≤◌, ◌-◌, ℕ, [], IfOk, List as ListOf, Some, length, replicate, slice_get};
 
+use crate::stepping::Started;
 use balancing::Queues;
 use ci_locks::Locks;
 use dli_calls::Work;
+use fp_defs::group_count;
 use fp_model::{Bytes, Defs, List, Message, Outcome};
 use log_groups::Log;
 use msdb_store::MsdbStore;
-use std::alloc::Global;
+use std::alloc::{AllocError, Global};
 use std::collections::VecDeque;
 use txn_lang::Scripts;
 use txn_machine::Program;
@@ -56,6 +65,57 @@ pub(crate) struct Engine<'a> {
     pub(crate) owed: VecDeque<Owed>,
     /// How many bytes of entries the log keeps free, for the refusal of each transaction under way.
     pub(crate) room: u64,
+}
+
+// So many idle regions.
+fn idle_regions(alloc: Global, count: usize) -> Result<List<Region>, AllocError>
+    ensures { IfOk result (λ made. made ≡ replicate count regions.Idle) }
+{
+    let mut regions = List::with_capacity(alloc, count)?;
+    for _ in 0..count {
+        regions.push(Region::Idle)?;
+    }
+    Ok(regions)
+}
+
+impl<'a> Engine<'a> {
+    /// The parts at rest: nothing is queued, held or locked, and no region is at work. It fails only for want of
+    /// memory.
+    pub(crate) fn new(
+        alloc: Global,
+        defs: &'a Defs,
+        scripts: &'a Scripts,
+        started: Started,
+    ) -> Result<Engine<'a>, AllocError>
+        requires setup { IsSetup defs.now scripts.now.scripts }
+        requires store { IsOf defs.now.msdbs started.msdbs }
+        requires sealed { started.log.unsealed ≡ [] }
+
+        // Behind any entries that come to these databases.
+        ensures stands { (lines : ListOf (ListOf ℕ)) (h : History) → h.now.msdbs ≡ started.msdbs.msdbs
+            → place_of h ≡ started.log.sealed → length h.past ≡ place_of h → format_at h.format h.entries ≡ 1
+            → IfOk result (λ engine. StandsFor engine (at_rest (rules_of defs.now scripts.now.scripts) lines h)) }
+        ensures rules { IfOk result (λ engine. rules_in engine ≡ rules_of defs.now scripts.now.scripts) }
+        ensures defs { IfOk result (λ engine. engine.defs.now ≡ defs.now) }
+        ensures scripts { IfOk result (λ engine. engine.scripts.now ≡ scripts.now) }
+        ensures gate { IfOk result (λ engine. engine.log.gate ≡ started.log.gate) }
+    {
+        let Started { msdbs, log } = started;
+        let regions = defs.regions.len();
+        Ok(Engine {
+            alloc,
+            defs,
+            scripts,
+            held: None,
+            queues: Queues::new(alloc, group_count(defs))?,
+            regions: idle_regions(alloc, regions)?,
+            locks: Locks::new(alloc, regions as u8)?,
+            store: msdbs,
+            log,
+            owed: VecDeque::new(alloc),
+            room: 0,
+        })
+    }
 }
 
 impl Engine<'_> {

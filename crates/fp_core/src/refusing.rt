@@ -1,23 +1,27 @@
 //! A transaction is refused, or begins again.
 ghost use Rattle.fp_core.specs.Acting.{HasClosed, IsAtEndOf, IsAtWork, MayEnd};
-ghost use Rattle.fp_core.specs.Ending.{IsRefusal};
-ghost use Rattle.fp_core.specs.Relation.{StandsFor, rules_in};
+ghost use Rattle.fp_core.specs.Ending.{IsRefusal, refused_entry};
+ghost use Rattle.fp_core.specs.Relation.{IsShort, StandsFor, rules_in};
 ghost use Rattle.fp_core.specs.Turning.{Turned};
 ghost use Rattle.fp_model.specs.Asking.{Rolls};
-ghost use Rattle.fp_model.specs.LogText.{FitsEntry, KeepsRules};
+ghost use Rattle.fp_model.specs.LogText.{FitsEntry, FitsOutcome, KeepsRules};
 ghost use Rattle.fp_model.specs.Machine.{Machine, Transaction, ended_with};
 ghost use Rattle.fp_model.specs.Turns.{refused_with, tried_again};
 ghost use Rattle.fp_model.specs.declared.events.Event.TheVariants as events;
-ghost use Rattle.std.specs.Prelude.{◌≡◌, ◌≤◌, ◌<◌, [], IfOk, OnErr, OnOk, length};
+ghost use Rattle.fp_model.specs.declared.log.Outcome.TheVariants.{Deadlock};
+ghost use Rattle.std.specs.Prelude.{◌≡◌, ◌≤◌, ◌<◌, ◌+◌, ◌^◌, [], IfOk, OnErr, OnOk, length};
 ghost use Rattle.sync_point.specs.Refusals.{IsBare, bare_entry};
 
 use crate::did::Did;
 use crate::ending::append_owed;
 use crate::engine::{Active, Engine, Region};
+use crate::taking::start;
+use dli_calls::Work;
 use fp_model::{Bytes, Entry, List, Message, Outcome};
 use std::alloc::{AllocError, Global};
 use std::mem::replace;
 use sync_point::refusal_room;
+use txn_machine::Program;
 
 // The entry of a transaction that is refused for what befell. Takes no memory.
 fn bare_entry(alloc: Global, active: Active, outcome: Outcome) -> Entry
@@ -47,6 +51,76 @@ fn bare_entry(alloc: Global, active: Active, outcome: Outcome) -> Entry
     }
 }
 
+// An entry has fewer notes than this.
+const MOST: usize = 1 << 32;
+
+/// A copy of the notes of a transaction. It fails also where there would be 2^32.
+pub(crate) fn notes_of(active: &Active) -> Result<List<u64>, AllocError>
+    ensures notes { IfOk result (λ notes. notes ≡ active.now.work.notes) }
+    ensures few { IfOk result (λ notes. length notes < 2 ^ 32) }
+{
+    let notes = active.work.notes().clone()?;
+    if notes.len() >= MOST {
+        return Err(AllocError);
+    }
+    Ok(notes)
+}
+
+/// The entry of a transaction that is refused by itself.
+pub(crate) fn refused_entry(
+    alloc: Global,
+    active: &Active,
+    outcome: Outcome,
+    notes: List<u64>,
+) -> Result<Entry, AllocError>
+    requires refusal { IsRefusal outcome }
+    requires outcome { FitsOutcome outcome }
+    requires line { IsShort active.now.message.line }
+    requires few { length notes < 2 ^ 32 }
+    ensures entry { IfOk result (λ entry. entry ≡ refused_entry active.now outcome notes) }
+    ensures rules { IfOk result KeepsRules }
+    ensures fits { IfOk result FitsEntry }
+{
+    Ok(Entry {
+        from: active.from,
+        outcome,
+        line: active.message.line.copy()?,
+        reply: Bytes::new(alloc),
+        notes,
+        items: List::new(alloc),
+    })
+}
+
+// The entry of a transaction that would close a cycle: it has no notes. It fails also where there would be 256 regions.
+fn cycle_entry(alloc: Global, active: &Active, cycle: Bytes) -> Result<Entry, AllocError>
+    requires line { IsShort active.now.message.line }
+    ensures entry { IfOk result (λ entry. entry ≡ refused_entry active.now (Deadlock cycle) []) }
+    ensures rules { IfOk result KeepsRules }
+    ensures fits { IfOk result FitsEntry }
+{
+    if cycle.len() > 255 {
+        return Err(AllocError);
+    }
+    refused_entry(alloc, active, Outcome::Deadlock(cycle), List::new(alloc))
+}
+
+// The transaction begins once more, behind so many entries.
+fn begin_again(active: &mut Active, from: u64, program: Program, work: Work)
+    requires { active.old.tries < 100 }
+    ensures { active.new ≡ record {
+      from = from;
+      message = active.old.message;
+      program = program;
+      work = work;
+      tries = active.old.tries + 1;
+    } }
+{
+    active.from = from;
+    active.program = program;
+    active.work = work;
+    active.tries += 1;
+}
+
 impl Engine<'_> {
     // The active region's transaction is refused for what befell. Takes no memory.
     fn refuse_bare(&mut self, region: u8, outcome: Outcome)
@@ -60,6 +134,7 @@ impl Engine<'_> {
         // What stays.
         ensures rules { rules_in self.new ≡ rules_in self.old }
         ensures defs { self.new.defs ≡ self.old.defs }
+        ensures scripts { self.new.scripts ≡ self.old.scripts }
         ensures gate { self.new.log.gate ≡ self.old.log.gate }
         ensures count { length self.new.regions ≡ length self.old.regions }
     {
@@ -84,6 +159,7 @@ impl Engine<'_> {
         // What stays.
         ensures rules { rules_in self.new ≡ rules_in self.old }
         ensures defs { self.new.defs ≡ self.old.defs }
+        ensures scripts { self.new.scripts ≡ self.old.scripts }
         ensures gate { self.new.log.gate ≡ self.old.log.gate }
         ensures count { length self.new.regions ≡ length self.old.regions }
     {
@@ -91,8 +167,8 @@ impl Engine<'_> {
         Did::Refused
     }
 
-    // The active region's transaction is refused by this entry, made of copies, and the databases stay.
-    fn refuse(&mut self, region: u8, entry: Entry) -> Result<(), AllocError>
+    /// The active region's transaction is refused by this entry, made of copies, and the databases stay.
+    pub(crate) fn refuse(&mut self, region: u8, entry: Entry) -> Result<(), AllocError>
         requires some { 1 ≤ region }
         requires within { region ≤ length self.old.regions }
         requires under { (m : Machine) × ((t : Transaction) × MayEnd self.old m region t) }
@@ -107,11 +183,12 @@ impl Engine<'_> {
         // What stays.
         ensures rules { rules_in self.new ≡ rules_in self.old }
         ensures defs { self.new.defs ≡ self.old.defs }
+        ensures scripts { self.new.scripts ≡ self.old.scripts }
         ensures gate { self.new.log.gate ≡ self.old.log.gate }
         ensures count { length self.new.regions ≡ length self.old.regions }
     {
-        let _ = (region, entry);
-        Err(AllocError)
+        self.end(region, entry)?;
+        Ok(())
     }
 
     /// The active region gives up its locks, and begins its message once more.
@@ -129,11 +206,19 @@ impl Engine<'_> {
         // What stays.
         ensures rules { rules_in self.new ≡ rules_in self.old }
         ensures defs { self.new.defs ≡ self.old.defs }
+        ensures scripts { self.new.scripts ≡ self.old.scripts }
         ensures gate { self.new.log.gate ≡ self.old.log.gate }
         ensures count { length self.new.regions ≡ length self.old.regions }
     {
-        let _ = region;
-        Err(AllocError)
+        let from = self.log.count();
+        let message = &self.active_in(region).message;
+        let (program, work) = start(self.alloc, self.defs, self.scripts, message)?;
+        match self.regions.item_mut(usize::from(region) - 1) {
+            Region::Active(active) => begin_again(active, from, program, work),
+            Region::Idle => unreachable!(),
+        }
+        self.locks.release_all(region);
+        Ok(())
     }
 
     /// The active region's script is at its end with a rollback code: its transaction is refused.
@@ -149,11 +234,15 @@ impl Engine<'_> {
         // What stays.
         ensures rules { rules_in self.new ≡ rules_in self.old }
         ensures defs { self.new.defs ≡ self.old.defs }
+        ensures scripts { self.new.scripts ≡ self.old.scripts }
         ensures gate { self.new.log.gate ≡ self.old.log.gate }
         ensures count { length self.new.regions ≡ length self.old.regions }
     {
-        let _ = (region, code);
-        Err(AllocError)
+        let active = self.active_in(region);
+        let notes = notes_of(active)?;
+        let entry = refused_entry(self.alloc, active, Outcome::Roll(code), notes)?;
+        self.refuse(region, entry)?;
+        Ok(Did::Refused)
     }
 
     /// The active region would close a cycle: its transaction begins again, or is refused where its tries are used up.
@@ -169,10 +258,17 @@ impl Engine<'_> {
         // What stays.
         ensures rules { rules_in self.new ≡ rules_in self.old }
         ensures defs { self.new.defs ≡ self.old.defs }
+        ensures scripts { self.new.scripts ≡ self.old.scripts }
         ensures gate { self.new.log.gate ≡ self.old.log.gate }
         ensures count { length self.new.regions ≡ length self.old.regions }
     {
-        let _ = (region, cycle);
-        Err(AllocError)
+        let active = self.active_in(region);
+        if active.tries < self.defs.tries {
+            self.try_again(region)?;
+            return Ok(Did::Retried);
+        }
+        let entry = cycle_entry(self.alloc, active, cycle)?;
+        self.refuse(region, entry)?;
+        Ok(Did::Refused)
     }
 }

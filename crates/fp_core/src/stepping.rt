@@ -1,6 +1,7 @@
 //! The core: one event of a schedule at a time.
 ghost use Rattle.fp_core.specs.Relation.{IsSetup, StandsFor, rules_in};
 ghost use Rattle.fp_core.specs.Standing.{IsContinued, IsEventOf, Leaves, MayStop, Origin, StandsAt, StandsBeside, Stepped, SteppedBeside, number_of, seals_of};
+ghost use Rattle.fp_core.specs.declared.engine.Region.TheVariants as regions;
 ghost use Rattle.fp_exits.specs.Kinds.{has_kind, kinds_of};
 ghost use Rattle.fp_model.specs.History.{History, place_of};
 ghost use Rattle.fp_model.specs.Lasts.{format_at};
@@ -12,13 +13,13 @@ ghost use Rattle.fp_site.specs.Site.{ReadsNothing};
 ghost use Rattle.fp_source.specs.Lines.{fault_ahead, lines_ahead, lines_given};
 ghost use Rattle.fp_source.specs.Source.{ReadsOnly, Rose};
 ghost use Rattle.msdb_store.specs.Store.{IsOf};
-ghost use Rattle.std.specs.Prelude.{◌≡◌, ◌+◌, ℕ, [], IfErr, IfOk, IsErrOf, List as ListOf, IsOk, OnOk, Some, length, option_map, true};
+ghost use Rattle.std.specs.Prelude.{◌≡◌, ◌+◌, ◌-◌, ℕ, [], IfErr, IfOk, IsErrOf, List as ListOf, IsOk, OnErr, OnOk, Some, length, option_map, slice_get, true};
 
 use crate::did::Did;
 use crate::engine::Engine;
 use crate::stop::Stop;
 use fp_exits::{Exits, Router};
-use fp_model::{Defs, Event};
+use fp_model::{Defs, Event, Kind};
 use fp_site::Site;
 use fp_source::{Lines, Part, Source};
 use log_groups::Log;
@@ -29,7 +30,9 @@ use txn_lang::Scripts;
 /// What a restart gives to begin with: the databases behind all entries, and the log, in which all are sealed.
 #[derive(Drop)]
 pub struct Started {
+    /// The main storage databases behind all entries of the log.
     pub msdbs: MsdbStore,
+    /// The log, opened, in which no entry is unsealed.
     pub log: Log,
 }
 
@@ -42,9 +45,20 @@ pub struct Core<'a> {
     pub(crate) engine: Engine<'a>,
 }
 
+// The router of a kind that there is.
+fn router_of<'a>(exits: &'a Exits, kind: Kind) -> &'a Router
+    requires { has_kind (kinds_of exits.now).routers kind ≡ true }
+    ensures { result.now.kind ≡ kind }
+{
+    match exits.router(kind) {
+        Some(router) => router,
+        None => unreachable!(),
+    }
+}
+
 impl<'a> Core<'a> {
-    /// The system at rest: nothing is queued, held or locked, and no region is at work. It fails only for want of
-    /// memory.
+    /// The system at rest: nothing is queued, held or locked, and no region is at work. Of the exits it takes the router
+    /// that the definitions name. It fails only for want of memory.
     pub fn new(
         alloc: Global,
         defs: &'a Defs,
@@ -62,6 +76,8 @@ impl<'a> Core<'a> {
             → place_of h ≡ started.log.sealed → length h.past ≡ place_of h → format_at h.format h.entries ≡ 1
             → IfOk result (λ core. StandsFor core.engine (at_rest (rules_of defs.now scripts.now.scripts) lines h)) }
         ensures rules { IfOk result (λ core. rules_in core.engine ≡ rules_of defs.now scripts.now.scripts) }
+        ensures defs { IfOk result (λ core. core.engine.defs.now ≡ defs.now) }
+        ensures scripts { IfOk result (λ core. core.engine.scripts.now ≡ scripts.now) }
         ensures gate { IfOk result (λ core. core.engine.log.gate ≡ started.log.gate) }
         ensures routed { IfOk result (λ core. core.router.now.kind ≡ core.engine.defs.now.router) }
 
@@ -70,15 +86,15 @@ impl<'a> Core<'a> {
         ensures fault { IfOk result (λ core. (left : ListOf ℕ) → fault_ahead core.lines left ≡ line_fault left) }
         ensures given { IfOk result (λ core. lines_given core.lines ≡ 0) }
     {
-        let _ = (alloc, started);
-        let _ = &*defs;
-        let _ = &*scripts;
-        let _ = &*exits;
-        Err(AllocError)
+        Ok(Core {
+            router: router_of(exits, defs.router),
+            lines: Lines::new(alloc)?,
+            engine: Engine::new(alloc, defs, scripts, started)?,
+        })
     }
 
-    /// One event of the schedule: one turn of the table. Each `Did` comes exactly in its case. After a `Stop` the core
-    /// is to be dropped.
+    /// One event of a schedule over these definitions, which have no area to purge: one turn of the table. Each `Did`
+    /// comes exactly in its case. After a `Stop` the core is to be dropped.
     pub fn step<T: Site, S: Source>(
         &mut self,
         event: &Event,
@@ -115,9 +131,13 @@ impl<'a> Core<'a> {
             → option_map number_of (fault_ahead self.old.lines (S.left source.old Part.Messages)) ≡ Some n }
         ensures number { (n : ℕ) → IsErrOf result (Stop.LineFault n) → n ≡ lines_given self.old.lines + 1 }
 
+        ensures idle { (region : ℕ) → event.now ≡ events.Region region
+            → OnErr result (slice_get self.old.engine.regions (region - 1) ≡ Some regions.Idle) }
+
         // What stays.
         ensures rules { rules_in self.new.engine ≡ rules_in self.old.engine }
         ensures defs { self.new.engine.defs ≡ self.old.engine.defs }
+        ensures scripts { self.new.engine.scripts ≡ self.old.engine.scripts }
         ensures routed { self.new.router.now.kind ≡ self.new.engine.defs.now.router }
         ensures reads { ReadsNothing (T.tells_reads site.old) (T.tells_reads site.new)
             (T.bytes_read site.old) (T.bytes_read site.new) }

@@ -1,7 +1,9 @@
 //! Why a step ended the run.
+ghost use Rattle.fp_core.specs.Reading.{stop_of};
 ghost use Rattle.fp_core.specs.declared.stop.Stop.TheVariants as stops;
 ghost use Rattle.std.specs.Prelude.{◌≡◌};
 
+use fp_source::LineFault;
 use std::alloc::AllocError;
 use thiserror::Error;
 
@@ -28,5 +30,34 @@ impl From<AllocError> for Stop {
 
     fn from(_e: AllocError) -> Stop {
         Stop::Memory
+    }
+}
+
+impl From<LineFault> for Stop {
+    ghost from_gives = { λ fault e. e ≡ stop_of fault };
+
+    fn from(fault: LineFault) -> Stop {
+        match fault {
+            LineFault::TooLong(number) => Stop::LineFault(number),
+            LineFault::TooMany(number) => Stop::LineFault(number),
+            LineFault::Failed => Stop::ReadFault,
+            LineFault::Memory => Stop::Memory,
+        }
+    }
+}
+
+impl From<fp_site::Failed> for Stop {
+    ghost from_gives = { λ _ e. e ≡ stops.LogFault };
+
+    fn from(_e: fp_site::Failed) -> Stop {
+        Stop::LogFault
+    }
+}
+
+impl From<log_groups::SealFault> for Stop {
+    ghost from_gives = { λ _ e. e ≡ stops.LogFault };
+
+    fn from(_e: log_groups::SealFault) -> Stop {
+        Stop::LogFault
     }
 }

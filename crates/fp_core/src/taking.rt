@@ -34,7 +34,35 @@ fn room_with(room: u64, line: &Bytes) -> Result<u64, AllocError>
     }
 }
 
-// A script at its beginning, what its transaction keeps, and the room with that of its refusal.
+/// A script at its beginning, and what its transaction keeps.
+pub(crate) fn start(
+    alloc: Global,
+    defs: &Defs,
+    scripts: &Scripts,
+    message: &Message,
+) -> Result<(Program, Work), AllocError>
+    requires no_dedbs { defs.now.dedbs ≡ [] }
+    requires named { (script : Script) × (script_of scripts.now.scripts message.now.tran ≡ Some script) }
+    requires short { IsShort message.now.line }
+    ensures { (from tries : ℕ) → IfOk result (λ made. IsTransaction defs.now scripts.now.scripts
+        (record { from = from; message = message.now; program = made.0; work = made.1; tries = tries })
+        (record {
+          from = from;
+          message = message.now;
+          point = begun (rules_of defs.now scripts.now.scripts);
+          notes = [];
+          tries = tries;
+        })) }
+{
+    let Some(number) = scripts.find(&message.tran) else {
+        unreachable!()
+    };
+    let program = Program::start(alloc, scripts, number, message)?;
+    let work = Work::new(alloc, defs)?;
+    Ok((program, work))
+}
+
+// The same, and the room with that of its refusal.
 fn begin(
     alloc: Global,
     defs: &Defs,
@@ -51,11 +79,7 @@ fn begin(
     ensures room { IfOk result (λ made. made.2 ≡ room + refusal_room message.now.line) }
 {
     let room = room_with(room, &message.line)?;
-    let Some(number) = scripts.find(&message.tran) else {
-        unreachable!()
-    };
-    let program = Program::start(alloc, scripts, number, message)?;
-    let work = Work::new(alloc, defs)?;
+    let (program, work) = start(alloc, defs, scripts, message)?;
     Ok((program, work, room))
 }
 
@@ -103,6 +127,7 @@ impl Engine<'_> {
         ensures err { (m : Machine) → StandsFor self.old m → OnErr result (StandsFor self.new m) }
         ensures rules { rules_in self.new ≡ rules_in self.old }
         ensures defs { self.new.defs ≡ self.old.defs }
+        ensures scripts { self.new.scripts ≡ self.old.scripts }
         ensures gate { self.new.log.gate ≡ self.old.log.gate }
         ensures count { length self.new.regions ≡ length self.old.regions }
     {

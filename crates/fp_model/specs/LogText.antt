@@ -92,10 +92,6 @@ pub record FitsFront (front : Front) : Type 0 where
 abbrev pub StartsWithFront : List ℕ → Front → Type 0
 StartsWithFront bytes front = (rest : List ℕ) × (bytes ≡ front_text 1 front ++ rest)
 
--- the same in any format
-abbrev pub StartsWithSome : List ℕ → Front → Type 0
-StartsWithSome bytes front = (format : ℕ) × IsFormat format × StartsWithFront bytes (record front { format = format })
-
 -- the place of the first group's gate, right behind the front
 abbrev pub first_gate : Front → ℕ
 first_gate front = length (front_text 1 front)

@@ -9,7 +9,8 @@ pub enum Event {
     Region(u8),
     /// Seals a group of entries and sends their reply lines.
     Log,
-    /// Does a step of the checkpoint under way, or else writes the interval that waits longest.
+    /// Does a step of the checkpoint under way, or else, or where that step waits for a seal, writes the interval that
+    /// waits longest.
     Out,
     /// Seals all entries and sends their reply lines; begins a checkpoint where none is under way.
     Ckpt,

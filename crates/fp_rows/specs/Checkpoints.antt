@@ -1,15 +1,17 @@
 -- Checkpoints of the rows, and the turns that make one.
-use Rattle.std.specs.Prelude.{ℕ, zero, suc, List, [], ◌∷◌, replicate, codes, Some}
+use Rattle.std.specs.Prelude.{ℕ, zero, suc, List, [], ◌∷◌, length, replicate, codes, Some}
 use Rattle.fp_model.specs.declared.events.Event.TheVariants.{Out, Ckpt}
+use Rattle.fp_model.specs.declared.log.Entry.{Entry}
+use Rattle.fp_model.specs.declared.log.Item.TheVariants.{Image}
 use Rattle.fp_model.specs.CheckpointText.{Checkpoint}
 use Rattle.fp_model.specs.Lasts.{Last}
 use Rattle.fp_model.specs.History.{beginning}
 use Rattle.fp_model.specs.Machine.{Machine, at_rest}
 use Rattle.fp_model.specs.Turns.{NoFault}
 use Rattle.fp_model.specs.Runs.{RunStep}
-use Rattle.fp_model.specs.Pending.{Pending, UnderWay, Unwritten, lengths_of, unwritten_at, unwritten_after, after_out}
+use Rattle.fp_model.specs.Pending.{Pending, Lengths, UnderWay, Unwritten, lengths_of, unwritten_at, unwritten_after, after_out}
 use Rattle.fp_rows.specs.Hex.{named}
-use Rattle.fp_rows.specs.Sample.{sample_defs, accts_now, tellers_now}
+use Rattle.fp_rows.specs.Sample.{sample_defs, accts_now, tellers_now, deposit}
 use Rattle.fp_rows.specs.States.{sample_rules, at_start}
 
 -- the first checkpoint, after the deposit, at a gate
@@ -56,3 +58,23 @@ an_interval oldest newest = record { set = 4; ci = 1; oldest = oldest; newest = 
 abbrev pub after_outs : ℕ → ℕ → Unwritten → Unwritten
 after_outs zero sealed u = u
 after_outs (suc n) sealed u = after_outs n sealed (after_out sealed u)
+
+-- the next one of its area
+abbrev pub another_interval : ℕ → ℕ → Pending
+another_interval oldest newest = record { set = 4; ci = 2; oldest = oldest; newest = newest }
+
+-- an entry that writes an interval of that area
+abbrev pub writing : ℕ → Entry
+writing ci = record deposit { items = Image 4 ci [] ∷ [] }
+
+-- three of them, of which the third changes the first one's interval again
+abbrev pub three_images : List Entry
+three_images = writing 1 ∷ writing 2 ∷ writing 1 ∷ []
+
+-- the machine with such entries, none of them sealed
+abbrev pub with_images : List Entry → Machine
+with_images entries = record at_rest_in_two { history = record (beginning 2 at_start) { entries = entries } }
+
+-- lengths that tell the groups sealed and the bytes sent
+abbrev pub by_counts : Lengths
+by_counts = record { gate = λ m. length m.groups; body = λ m. length m.sent }

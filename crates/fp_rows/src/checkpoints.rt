@@ -5,13 +5,16 @@ ghost use Rattle.std.specs.Prelude.{◌≡◌, ℕ, ◌^◌, ◌≤◌, List, []
 ghost use Rattle.fp_model.specs.declared.definitions.MsdbDef.{MsdbDef};
 ghost use Rattle.fp_model.specs.Spellings.{be64};
 ghost use Rattle.fp_model.specs.CheckpointText.{Checkpoint, checkpoint_text, IsCheckpoint, IsOpen};
-ghost use Rattle.fp_model.specs.Machine.{Machine};
+ghost use Rattle.fp_model.specs.declared.events.Event.TheVariants.{Ckpt};
+ghost use Rattle.fp_model.specs.Machine.{Machine, sealed_all};
 ghost use Rattle.fp_model.specs.Pending.{Pending, Nothing, Lengths, UnderWay, owed};
-ghost use Rattle.fp_model.specs.Pending.{begun_at, lengths_of, after_out, after_checkpoint};
+ghost use Rattle.fp_model.specs.Pending.{begun_at, lengths_of, after_out, after_checkpoint, after_event};
 ghost use Rattle.fp_rows.specs.Hex.{hex};
 ghost use Rattle.fp_rows.specs.Sample.{accts, tellers, sample_defs};
 ghost use Rattle.fp_rows.specs.Checkpoints.{deposit_checkpoint, numbered_checkpoint, at_rest_in_two};
 ghost use Rattle.fp_rows.specs.Checkpoints.{under_way, waiting_with, an_interval, sample_unwritten, after_outs};
+ghost use Rattle.fp_rows.specs.Checkpoints.{writing, with_images, by_counts};
+ghost use Rattle.fp_rows.specs.States.{sample_rules};
 
 /// The first checkpoint after the deposit, at any gate.
 pub fn the_checkpoint_after_a_deposit()
@@ -98,6 +101,14 @@ pub fn what_is_owed_comes_first()
         ≡ waiting_with (an_interval 1 2 ∷ []) (under_way 90 2 5) }
     ensures later { after_out 3 (waiting_with (an_interval 2 2 ∷ []) (under_way 90 2 5))
         ≡ waiting_with (an_interval 2 2 ∷ []) (under_way 90 2 4) }
+{}
+
+/// CKPT seals what isn't sealed, and its checkpoint has the place and the count behind that.
+pub fn a_checkpoint_begins_behind_its_seals()
+    ensures { after_event by_counts Ckpt (with_images (writing 1 ∷ []))
+        (sealed_all sample_rules (with_images (writing 1 ∷ [])))
+        (record { pending = an_interval 0 0 ∷ []; checkpoint = None })
+        ≡ waiting_with (an_interval 0 0 ∷ []) (under_way 1 1 5) }
 {}
 
 /// CKPT begins none while one is under way.

@@ -31,6 +31,9 @@ pub fn audits_below_a_customer()
         ≡ showing 0 bob ∷ answered (codes "GE") ∷ [] }
     ensures same_anchor { answers (gu (customer (codes "C009") ∷ []) ∷ gnp (any_audit ∷ []) ∷ [])
         ≡ showing 0 cy ∷ answered (codes "GE") ∷ [] }
+    ensures behind_gets_of_the_next { answers
+        (gn (any_customer ∷ []) ∷ gnp (any_audit ∷ []) ∷ gn (any_customer ∷ []) ∷ gnp (any_audit ∷ []) ∷ [])
+        ≡ showing 0 bob ∷ answered (codes "GE") ∷ showing 0 ann ∷ showing 1 (codes "N2      ") ∷ [] }
 {}
 
 /// Without search arguments a get below a parent shows all that is there.

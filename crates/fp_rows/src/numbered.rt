@@ -2,7 +2,9 @@
 #![tactic(auto)]
 
 ghost use Rattle.std.specs.Prelude.{◌≡◌, [], ◌∷◌, ◌++◌, codes, replicate, Some, None, Ok, Err};
-ghost use Rattle.fp_model.specs.declared.log.Outcome.TheVariants.{Unknown, Old, Repeat};
+ghost use Rattle.fp_model.specs.declared.log.Outcome.TheVariants.{Unknown, Old, Repeat, Format};
+ghost use Rattle.fp_model.specs.declared.database.Db.{Db};
+ghost use Rattle.fp_model.specs.SerialHistory.{Comes};
 ghost use Rattle.fp_model.specs.Messages.{message_of, NoTran};
 ghost use Rattle.fp_model.specs.Product.{request_of};
 ghost use Rattle.fp_model.specs.ReplyLine.{line_of, line_text};
@@ -16,7 +18,7 @@ ghost use Rattle.fp_rows.specs.States.{RunsCalmly, sample_rules, at_start};
 ghost use Rattle.fp_rows.specs.Retries.{round};
 ghost use Rattle.fp_rows.specs.Numbered.{three_lines, entries_of_both_runs, last_number, deposit_one, asking_three};
 ghost use Rattle.fp_rows.specs.Numbered.{asking, behind_one, behind_three, behind_repeat, behind_unknown};
-ghost use Rattle.fp_rows.specs.Numbered.{behind_deposit, behind_format, old_two, repeated_one, format_two};
+ghost use Rattle.fp_rows.specs.Numbered.{behind_deposit, behind_format, old_two, repeated_one, format_two, made_at};
 
 /// In format 2 a number may stand behind the terminal, in format 1 none does: there it is no transaction.
 pub fn a_number_behind_the_terminal()
@@ -74,6 +76,21 @@ pub fn numbers_begin_with_format_2()
     ensures before { request_of sample_scripts behind_deposit (codes "T1 1 ASK A001") ≡ Refuses Unknown }
     ensures behind { request_of sample_scripts behind_format (codes "T1 1 ASK A001")
         ≡ Accepts (asking (codes "T1 1 ASK A001") (Some 1)) }
+{}
+
+/// The change of formats comes once, where lines are read in format 1, and leaves the state as it was.
+pub fn when_formats_change()
+    ensures comes { Comes sample_rules behind_deposit format_two behind_deposit.now }
+    ensures once { (next : Db) → ¬ Comes sample_rules behind_format (made_at 2 [] Format) next }
+    ensures in_2_already { (next : Db) → ¬ Comes sample_rules behind_one format_two next }
+{}
+
+/// An entry's notes don't fall, nor does one pass the entry's place.
+pub fn notes_that_fall_do_not_come()
+    ensures fall { (next : Db) → ¬ Comes sample_rules behind_one
+        (record asking_three { from = 0; notes = 1 ∷ 0 ∷ [] }) next }
+    ensures before_it_began { (next : Db) → ¬ Comes sample_rules behind_one (record asking_three { notes = 0 ∷ [] }) next }
+    ensures past_its_place { (next : Db) → ¬ Comes sample_rules behind_one (record asking_three { notes = 2 ∷ [] }) next }
 {}
 
 /// The reply lines: the last number, the line as it was sent, and none for the change of formats.

@@ -1,10 +1,12 @@
 -- What every call of a site says of its count of faults, and of the bytes read.
-use Rattle.std.specs.Prelude.{◌≡◌, ◌⊎◌, ℕ, ◌-◌, ◌<◌, ◌≤◌, ◌^◌, Result, OnErr}
+use Rattle.std.specs.Prelude.{◌≡◌, ◌⊎◌, ℕ, ◌-◌, ◌<◌, ◌≤◌, ◌^◌, Result, OnErr, OnOk}
 
--- The count never falls, and an Err comes only where it rose. At its last value it can't rise.
+-- The count never falls, an Err comes only where it rose, and an Ok only where it stayed. At its last value it can't
+-- rise.
 pub record Counts {T E : Type 0} (before now : ℕ) (result : Result T E) : Type 0 where
   pub later : before ≤ now
   pub rose : OnErr result ((before < now) ⊎ (now ≡ 2 ^ 64 - 1))
+  pub stayed : OnOk result (now ≡ before)
 
 -- By what is told, and by the numbers: nothing was read.
 abbrev pub ReadsNothing : (ℕ → Type 0) → (ℕ → Type 0) → (ℕ → ℕ) → (ℕ → ℕ) → Type 0

@@ -16,6 +16,3 @@ pub use failing::{FailingSite, Kind};
 pub use memory::MemorySite;
 pub use site::{Failed, Site};
 pub use snapshot::Snapshot;
-
-#[cfg(test)]
-mod tests;

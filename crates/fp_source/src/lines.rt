@@ -103,6 +103,7 @@ impl Lines {
         // It counts as one, and 1,000,000 are given at most.
         ensures given { IfOk result (λ next. IfSome next (λ line. lines_given self.new ≡ lines_given self.old + 1)) }
         ensures few { IfOk result (λ next. IfSome next (λ line. lines_given self.new ≤ 1000000)) }
+        ensures still { IfOk result (λ next. IfNone next (lines_given self.new ≡ lines_given self.old)) }
 
         // At the end there is nothing ahead, and it stays so.
         ensures none { S.told source.old → IfOk result (λ next. IfNone next

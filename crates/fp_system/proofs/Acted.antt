@@ -1,56 +1,44 @@
 -- What restarting and then serving leave of a safe site.
-use Rattle.std.proofs.Common.{◌≡◌, inl, inr, refl, sym, ap, subst, ◌∙◌, arith, ℕ, List, [], ◌++◌, length, map, take, Result, Err}
+use Rattle.std.proofs.Common.{◌≡◌, inl, inr, refl, sym, ap, subst, ◌∙◌, arith, ℕ, List, [], ◌++◌, length, map, take}
 use Rattle.std.proofs.lemmas.List.{append-nil, take_all}
 use Rattle.fp_model.specs.declared.log.Entry.{Entry}
+use Rattle.fp_model.specs.Groups.{entries_of}
 use Rattle.fp_model.specs.LogText.{Front, first_gate}
 use Rattle.fp_model.specs.Recovery.{Holds}
 use Rattle.fp_model.specs.State.{start}
-use Rattle.fp_restart.specs.declared.fault.RestartFault.{RestartFault}
-use Rattle.fp_restart.specs.declared.fault.RestartFault.TheVariants as fault
-use Rattle.fp_restart.specs.Restarts.{IsDamageOr, StandsFor}
+use Rattle.fp_restart.specs.Restarts.{StandsFor}
 use Rattle.fp_restart.proofs.Firsts.{fit-nothing}
 use Rattle.fp_restart.proofs.Results.{same_synced}
 use Rattle.fp_site.specs.Disk.{Disk, Snapshot, Settles, Syncs, IsLawful}
 use Rattle.fp_site.specs.Moments.{OnlyOn, Through}
-use Rattle.fp_site.proofs.Images.{settles_again}
+use Rattle.fp_site.proofs.Images.{settles_again, settles_left}
 use Rattle.fp_site.proofs.Runs.{started, joined, weaker}
 use Rattle.fp_model.specs.History.{beginning}
-use Rattle.log_groups.specs.Images.{IsAtRest, as_front}
+use Rattle.log_groups.specs.Images.{IsAtRest, IsBeforeOrMade, as_front}
 use Rattle.log_groups.specs.Kept.{IsSound, IsSafe, lines_of_entries}
 use Rattle.log_groups.specs.Log.{LogState}
 use Rattle.msdb_store.specs.Store.{Stored}
 use Rattle.fp_system.specs.declared.parts.Setup.{Setup}
-use Rattle.fp_system.specs.declared.status.Status.TheVariants as status
-use Rattle.fp_system.specs.Answers.{MayStandIn, IsOr, status_of_fault}
-use Rattle.fp_system.specs.Ims.{IsAnswered, IsUnchanged}
+use Rattle.fp_system.specs.Ims.{IsUnchanged}
 use Rattle.fp_system.specs.Parts.{Job, front_for}
-use Rattle.fp_system.specs.Serving.{GoesOnBy, IsAccount, IsKeptBy, StandsAt, Serves, StaysSafe}
+use Rattle.fp_system.specs.Serving.{AreAlone, GoesOnBy, IsAccount, IsKeptBy, StandsAt, Serves, StaysSafe, one_each}
 use Rattle.fp_system.specs.Setups.{IsSetup, job_of}
 use Rattle.fp_system.proofs.Stands.{safe_at_rest}
 
--- ---- faults of storage
-
-abbrev pub faulty : RestartFault → Result (Stored × LogState) RestartFault
-faulty f = Err f
-
-pub is_fault : (f : RestartFault) → (f ≡ fault.Foreign → ⊥) → ((set at : ℕ) → f ≡ fault.Damaged set at → ⊥) → MayStandIn (status_of_fault f)
-is_fault fault.Foreign never never2 = absurd (never refl)
-is_fault fault.SiteFault never never2 = tt
-is_fault (fault.Damaged set at) never never2 = absurd (never2 set at refl)
-is_fault fault.Memory never never2 = tt
-
-pub damaged_is : (f : RestartFault) (set at : ℕ) → status_of_fault f ≡ status.Damaged set at → f ≡ fault.Damaged set at
-damaged_is fault.Foreign set at e = absurd cc
-damaged_is fault.SiteFault set at e = absurd cc
-damaged_is (fault.Damaged s a) set at e = cc
-damaged_is fault.Memory set at e = absurd cc
-
--- damage is answered as such, or by a fault in its place
-pub damage_status : (f : RestartFault) (at : ℕ) → IsDamageOr at (faulty f) → IsOr (status.Damaged 0 at) (status_of_fault f)
-damage_status fault.Foreign at h = absurd h
-damage_status fault.SiteFault at h = inr tt
-damage_status (fault.Damaged set place) at h = let same = h.0 in let here = h.1 in inl cc
-damage_status fault.Memory at h = inr tt
+-- Lines that are answered: behind the entries that stood, the site safely holds one for each in order, in a group of
+-- its own, and just their reply lines were sent.
+pub record IsAnswered (job : Job) (earlier : List Entry) (lines : List (List ℕ)) (old new : Disk) : Type 0 where
+  pub later : List Entry
+  pub of_lines : map (λ e. e.line) later ≡ lines
+  pub alone : AreAlone later
+  pub groups : List (List Entry)
+  pub before : entries_of groups ≡ earlier
+  pub old_gate : ℕ
+  pub held : Holds (front_for job) (old.contents 0) groups old_gate
+  pub gate : ℕ
+  pub at_rest : IsAtRest new (front_for job) (groups ++ one_each later) gate
+  pub safe : IsSafe job.defs job.scripts (front_for job) new (earlier ++ later)
+  pub sent : new.sent ≡ old.sent ++ lines_of_entries later
 
 -- ---- no entries
 
@@ -64,12 +52,9 @@ no_account job = record {
 }
 
 -- a new log is safe
-pub made_safe : (setup : Setup) (disk : Disk) → IsSetup setup → IsAtRest disk (as_front setup.front) [] (first_gate (as_front setup.front))
-    → IsSafe setup.defs setup.scripts.scripts (front_for (job_of setup)) disk []
-made_safe setup disk is rest =
-    let job = job_of setup in
-    safe_at_rest job [] disk [] (first_gate (front_for job)) (no_account job) refl
-    (subst (λ (f : Front). IsAtRest disk f [] (first_gate f)) is.front rest)
+pub new_safe : (job : Job) (disk : Disk) → IsAtRest disk (front_for job) [] (first_gate (front_for job))
+    → IsSafe job.defs job.scripts (front_for job) disk []
+new_safe job disk rest = safe_at_rest job [] disk [] (first_gate (front_for job)) (no_account job) refl rest
 
 -- ---- restarting
 
@@ -207,3 +192,6 @@ only_same h = record {
   now = record { contents = λ k other. refl; sent = refl };
   crash = record { later = omega arith; keeps = λ t s earlier left. left; nothing_else = λ t s earlier left. inl left; tells_sent = λ told. told };
 }
+
+pub unmade : (front : Front) (h : Disk) → IsLawful h → Through h h (IsBeforeOrMade h front)
+unmade front h law = started (IsBeforeOrMade h front) h law (λ s left. inl (inl (settles_left h 0 s left)))

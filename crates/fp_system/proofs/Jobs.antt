@@ -11,7 +11,7 @@ use Rattle.fp_model.specs.declared.definitions.Defs.{Defs}
 use Rattle.fp_model.specs.declared.scripts.Script.{Script}
 use Rattle.fp_source.specs.declared.part.Part.{Part}
 use Rattle.fp_source.specs.declared.part.Part.TheVariants as part
-use Rattle.fp_system.specs.Answers.{MayStandIn, IsOr, status_of_definitions}
+use Rattle.fp_system.specs.Answers.{MayStandIn, status_of_definitions}
 use Rattle.fp_system.specs.Parts.{Job, IsJob, Refuses, by_definitions, by_scripts, are_built, only_built, definitions_in}
 use Rattle.fp_system.specs.declared.status.Status.{Status}
 use Rattle.fp_system.specs.declared.status.Status.TheVariants as status
@@ -72,16 +72,6 @@ one_answer kinds left a b (by_scripts p has) (by_definitions q) = not_both _ _ _
 one_answer kinds left a b (by_scripts {defs = d} {fault = f} p has) (by_scripts {defs = e} {fault = g} q has2) =
     let same : d ≡ e = same_defs (definitions_in kinds (left part.Definitions)) d e p q in
     ap (λ (x : ScriptFault). status.Scripts x) (one_fault e (left part.Scripts) f g (subst (λ (x : Defs). HasFault x (left part.Scripts) f) same has) has2)
-
--- what was read stands in the place of an answer that the parts have
-pub refused_or : (kinds : Kinds) (left : Part → List ℕ) (answer given : Status) → Refuses kinds left answer → MayStandIn given ⊎ Refuses kinds left given → IsOr answer given
-refused_or kinds left answer given p (inl f) = inr f
-refused_or kinds left answer given p (inr q) = inl (one_answer kinds left given answer q p)
-
--- where they are a job, it is a fault
-pub job_is_fault : (kinds : Kinds) (left : Part → List ℕ) (job : Job) (given : Status) → IsJob kinds left job → MayStandIn given ⊎ Refuses kinds left given → MayStandIn given
-job_is_fault kinds left job given p (inl f) = f
-job_is_fault kinds left job given p (inr q) = no_job_refused kinds left job given p q
 
 -- ---- parts that are too long
 

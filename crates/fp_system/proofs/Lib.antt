@@ -4,3 +4,9 @@ pub mod Stands
 pub mod Steps
 pub mod Loops
 pub mod Acted
+pub mod Due
+pub mod FrameLemmas
+pub mod TableLemmas
+pub mod StopLemmas
+pub mod GivesLemmas
+pub mod CauseLemmas

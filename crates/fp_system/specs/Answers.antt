@@ -23,13 +23,6 @@ MayStandIn _ = ⊥
 abbrev pub IsOr : Status → Status → Type 0
 IsOr status result = (result ≡ status) ⊎ MayStandIn result
 
--- an answer that the parts are refused with
-abbrev pub IsRefusal : Status → Type 0
-IsRefusal (Definitions fault) = ⊤
-IsRefusal (Scripts fault) = ⊤
-IsRefusal (NotBuilt part) = ⊤
-IsRefusal _ = ⊥
-
 -- an answer that comes before the site is looked at, and never behind that
 abbrev pub IsEarly : Status → Type 0
 IsEarly Usage = ⊤
@@ -37,12 +30,6 @@ IsEarly (Definitions fault) = ⊤
 IsEarly (Scripts fault) = ⊤
 IsEarly (NotBuilt part) = ⊤
 IsEarly _ = ⊥
-
--- an answer to the log that was found
-abbrev pub IsOfLog : Status → Type 0
-IsOfLog Foreign = ⊤
-IsOfLog (Damaged set at) = ⊤
-IsOfLog _ = ⊥
 
 -- an answer to the parts
 abbrev pub IsOfParts : Status → Type 0

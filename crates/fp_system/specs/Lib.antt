@@ -5,3 +5,8 @@ pub mod Parts
 pub mod Setups
 pub mod Serving
 pub mod Ims
+pub mod Table
+pub mod Frame
+pub mod Stops
+pub mod Causes
+pub mod Gives

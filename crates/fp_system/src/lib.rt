@@ -2,6 +2,8 @@
 #![tactic(auto)]
 
 mod acting;
+mod laws;
+mod lives;
 mod parts;
 mod server;
 mod status;
@@ -9,5 +11,10 @@ mod texts;
 mod top;
 mod words;
 
+pub use laws::{
+    a_sound_log_is_due_its_lines, at_most_one_answer_is_due, what_was_answered_is_held,
+};
+pub use lives::{define_and_run_twice, run_and_stop};
 pub use status::{Status, fault_text};
 pub use top::ims;
+pub use words::Command;

@@ -6,6 +6,7 @@ ghost use Rattle.fp_site.specs.Moments.{Through};
 ghost use Rattle.fp_source.specs.Source.{Rose};
 ghost use Rattle.fp_source.specs.declared.part.Part.TheVariants as part;
 ghost use Rattle.fp_system.specs.Answers.{IsOfSite, IsStop, faulty_line};
+ghost use Rattle.fp_system.specs.Frame.{IsLog, Spares};
 ghost use Rattle.fp_system.specs.Ims.{IsContinued};
 ghost use Rattle.fp_system.specs.Serving.{GoesOnBy, StaysSafe, IsAccount, AwaitsSeal, Serves, StandsAt};
 ghost use Rattle.fp_system.specs.Setups.{IsSetup, job_of};
@@ -71,6 +72,7 @@ impl Server {
         // However it ends.
         ensures err { (entries : ListOf Entry) → T.told site.old → StandsAt (job_of setup.now) entries (T.disk site.old) self.old.store self.old.log →
             OnErr result (StaysSafe (job_of setup.now) entries (line.now ∷ []) (T.disk site.old) (T.disk site.new)) }
+        ensures others { T.told site.old → Spares IsLog (T.disk site.old) (T.disk site.new) }
         ensures later { T.faults site.old ≤ T.faults site.new }
         ensures told { T.told site.old → T.told site.new }
         ensures holds { T.holds site.new ≡ T.holds site.old }
@@ -102,6 +104,8 @@ impl Server {
             OnOk result (Serves (job_of setup.now) entries stands.groups (T.disk site.old) (T.disk site.new) (lines_of (S.left source.old part.Messages)) self.new.store self.new.log) }
         ensures all { S.told source.old → OnOk result (faulty_line (S.left source.old part.Messages) ≡ None) }
 
+        ensures read { S.told source.old → OnOk result (S.left source.new part.Messages ≡ []) }
+
         // A line ends it exactly where it is the first that isn't taken; those before it were served.
         ensures line { (number : ℕ) → S.told source.old → IsErrOf result (status.Line number) → faulty_line (S.left source.old part.Messages) ≡ Some number }
         ensures before { (entries : ListOf Entry) (number : ℕ) → S.told source.old → T.told site.old
@@ -115,6 +119,7 @@ impl Server {
         ensures err { (entries : ListOf Entry) → S.told source.old → T.told site.old
             → StandsAt (job_of setup.now) entries (T.disk site.old) self.old.store self.old.log →
             OnErr result (StaysSafe (job_of setup.now) entries (lines_of (S.left source.old part.Messages)) (T.disk site.old) (T.disk site.new)) }
+        ensures others { T.told site.old → Spares IsLog (T.disk site.old) (T.disk site.new) }
         ensures source { IsContinued S.told S.faults S.holds S.keeps source.old source.new }
         ensures site { IsContinued T.told T.faults T.holds T.keeps site.old site.new }
 

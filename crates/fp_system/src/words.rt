@@ -4,7 +4,7 @@ ghost use Rattle.fp_system.specs.Words.{command_of, command_named};
 
 /// What the program is asked to do with a folder.
 #[derive(Clone, Copy, Debug, PartialEq, Eq)]
-pub(crate) enum Command {
+pub enum Command {
     /// `define DIR`: makes the site anew.
     Define,
     /// `run DIR`: restarts and takes the messages.

@@ -1,10 +1,12 @@
 //! Bytes of a file that were read before they were asked for.
-ghost use Rattle.std.specs.Prelude.{◌≡◌, ◌≤◌, [], length};
+ghost use Rattle.ims_fp.specs.Calls.{OnlyReads, is_locked};
+ghost use Rattle.std.specs.Prelude.{◌≡◌, ◌≤◌, [], length, true};
 
+use crate::host;
+use crate::record::Record;
 use std::alloc::Global;
 use std::fs::File;
 use std::io;
-use std::os::unix::fs::FileExt;
 
 // How many bytes are read at once.
 const BLOCK: usize = 1 << 16;
@@ -38,20 +40,29 @@ impl Ahead {
     pub(crate) fn read(
         &mut self,
         file: &File,
+        calls: &mut Record,
         length: u64,
         at: u64,
         into: &mut [u8],
-    ) -> io::Result<()> {
+    ) -> io::Result<()>
+        requires { is_locked calls.old.events ≡ true }
+        ensures { OnlyReads calls.old.events calls.new.events }
+    {
         let count = self.copy(at, into);
         let (at, rest) = (at.saturating_add(count as u64), &mut into[count..]);
         if rest.is_empty() {
             return Ok(());
         }
         if rest.len() < BLOCK {
-            self.fill(file, length, at)?;
+            self.fill(file, calls, length, at)?;
         }
         let count = self.copy(at, rest);
-        file.read_exact_at(&mut rest[count..], at.saturating_add(count as u64))
+        host::read(
+            file,
+            calls,
+            at.saturating_add(count as u64),
+            &mut rest[count..],
+        )
     }
 
     // Copies as many of the bytes from offset `at` on as are here. How many these are.
@@ -74,14 +85,17 @@ impl Ahead {
     }
 
     // Reads a block of the file from offset `at` on, up to its end. None where there is no memory for it.
-    fn fill(&mut self, file: &File, length: u64, at: u64) -> io::Result<()> {
+    fn fill(&mut self, file: &File, calls: &mut Record, length: u64, at: u64) -> io::Result<()>
+        requires { is_locked calls.old.events ≡ true }
+        ensures { OnlyReads calls.old.events calls.new.events }
+    {
         let count = length.saturating_sub(at).min(BLOCK as u64) as usize;
         self.bytes.clear();
         if self.bytes.resize(count, 0).is_err() {
             return Ok(());
         }
         self.at = at;
-        let answer = file.read_exact_at(&mut self.bytes, at);
+        let answer = host::read(file, calls, at, &mut self.bytes);
         if answer.is_err() {
             self.bytes.clear();
         }

@@ -10,7 +10,7 @@
 ghost use Rattle.std.specs.Prelude.{◌≡◌, ◌++◌, ◌∷◌, ◌≤◌, ◌+◌, ◌^◌, [], IfOk, IsErr, IsSome, OnErr, OnOk, codes, false, length, true};
 ghost use Rattle.std.specs.Fmt.{decimal};
 ghost use Rattle.std.specs.String.{string_bytes};
-ghost use Rattle.ims_fp.specs.Calls.{is_named, is_settled, is_synced};
+ghost use Rattle.ims_fp.specs.Calls.{is_locked, is_named, is_settled, is_synced};
 ghost use Rattle.ims_fp.specs.Calls.HostCall.{Made, Rewrote, Synced};
 ghost use Rattle.ims_fp.specs.Files.{data_set_name};
 ghost use Rattle.ims_fp.specs.declared.folder.Access.{Access};
@@ -19,6 +19,7 @@ use crate::ahead::Ahead;
 use crate::cause::{Call, Cause, Place};
 use crate::folder::{Access, Folder, metadata};
 use crate::host;
+use crate::host::Lock;
 use crate::record::Record;
 use std::alloc::{AllocError, Global};
 use std::fs::File;
@@ -44,6 +45,8 @@ pub(crate) struct DataSet {
     is_lost: bool,
     // What was asked of the system.
     calls: Record,
+    // Each of them came behind the lock of the folder.
+    ghost locked: { is_locked calls.events ≡ true },
     // Its file was made here, or rewritten and then synced, where it may be changed.
     ghost settled: { access ≡ Access.Change → IsSome file → is_settled calls.events ≡ true },
     // Where its name is durable, the folder was synced, and since then no file was made.
@@ -72,8 +75,8 @@ fn area_name(alloc: Global, set: u16) -> Result<String, AllocError>
 }
 
 impl DataSet {
-    /// One whose file wasn't looked for.
-    pub(crate) fn new(alloc: Global, access: Access) -> DataSet
+    /// One of a folder that is locked, whose file wasn't looked for.
+    pub(crate) fn new(alloc: Global, access: Access, lock: &Lock) -> DataSet
         ensures { result.access ≡ access }
     {
         DataSet {
@@ -83,7 +86,7 @@ impl DataSet {
             ahead: Ahead::new(alloc),
             has_durable_name: false,
             is_lost: false,
-            calls: Record::new(),
+            calls: lock.calls(),
         }
     }
 
@@ -137,7 +140,9 @@ impl DataSet {
         let length = self.size(folder, set)?;
         let count = length.saturating_sub(at).min(into.len() as u64) as usize;
         if let Some(file) = &self.file {
-            let answer = self.ahead.read(file, length, at, &mut into[..count]);
+            let answer = self
+                .ahead
+                .read(file, &mut self.calls, length, at, &mut into[..count]);
             answer.map_err(|error| failed(set, Call::Read, error))?;
         }
         into[count..].fill(0);
@@ -308,9 +313,11 @@ fn lost(set: u16) -> Cause {
 
 // Writes the bytes of a file back where they are, and makes them durable.
 fn settle(alloc: Global, file: &File, calls: &mut Record, set: u16) -> Result<(), Cause>
+    requires { is_locked calls.old.events ≡ true }
     ensures ok { OnOk result (calls.new.events ≡ Synced ∷ Rewrote ∷ calls.old.events) }
     ensures settled { is_settled calls.old.events ≡ true → is_settled calls.new.events ≡ true }
     ensures named { is_named calls.new.events ≡ is_named calls.old.events }
+    ensures locked { is_locked calls.new.events ≡ true }
 {
     let length = length_of(file, set)?;
     let answer = host::rewrite(alloc, file, calls, length);
@@ -354,6 +361,7 @@ fn make<R: Files<File = File>>(
     calls: &mut Record,
     set: u16,
 ) -> io::Result<File>
+    requires { is_locked calls.old.events ≡ true }
     ensures ok { OnOk result (calls.new.events ≡ Made ∷ calls.old.events) }
     ensures err { OnErr result (calls.new.events ≡ calls.old.events) }
 {

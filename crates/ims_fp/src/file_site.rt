@@ -5,9 +5,10 @@
 //! answered Ok is left out before a later one.
 //!
 //! The first call on a data set locks the folder. The lock lasts as long as the site.
-ghost use Rattle.std.specs.Prelude.{◌≡◌, ◌<◌, ◌≤◌, ◌+◌, ◌^◌, [], IfOk, IsErr, IsSome, None, OnErr, OnOk, length, vec_len};
+ghost use Rattle.std.specs.Prelude.{◌≡◌, ◌<◌, ◌≤◌, ◌+◌, ◌^◌, [], IfOk, IsErr, IsSome, None, OnErr, OnOk, length, true, vec_len};
 ghost use Rattle.fp_site.specs.Site.{Counts};
 ghost use Rattle.fp_source.specs.Source.{Rose};
+ghost use Rattle.ims_fp.specs.Calls.{is_written_out};
 ghost use Rattle.ims_fp.specs.Files.{untold};
 ghost use Rattle.ims_fp.specs.Output.{Gathers, WritesOut};
 
@@ -15,6 +16,9 @@ use crate::cause::{Call, Cause, Place};
 use crate::data_set::DataSet;
 use crate::faults::Faults;
 use crate::folder::{Access, Folder};
+use crate::host;
+use crate::host::Lock;
+use crate::record::Record;
 use fp_site::{Failed, Site};
 use std::alloc::{AllocError, Global};
 use std::fs::File;
@@ -29,9 +33,11 @@ pub(crate) struct FileSite<'a, R, W: Write + Drop> {
     folder: Folder<'a, R>,
     access: Access,
     // The lock of the folder, once it is taken.
-    lock: Option<File>,
+    lock: Option<Lock>,
     sets: Vec<DataSet>,
     output: BufWriter<W>,
+    // What was asked of the output.
+    calls: Record,
     faults: Faults,
 }
 
@@ -52,12 +58,14 @@ impl<'a, R: Files<File = File>, W: Write + Drop> FileSite<'a, R, W> {
             lock: Option::None,
             sets: Vec::new(alloc),
             output: BufWriter::new(alloc, output)?,
+            calls: Record::new(),
             faults: Faults::new(),
         })
     }
 
     /// Writes what was sent and isn't written yet.
     pub(crate) fn finish(&mut self) -> Result<(), Failed>
+        ensures written { OnOk result (is_written_out self.new.calls.events ≡ true) }
         ensures output { WritesOut W.contents self.old.output self.new.output result }
         ensures cause { Counts self.old.faults.count self.new.faults.count result }
     {
@@ -65,6 +73,13 @@ impl<'a, R: Files<File = File>, W: Write + Drop> FileSite<'a, R, W> {
             Ok(()) => Ok(()),
             Err(cause) => Err(self.fail(cause)),
         }
+    }
+
+    /// What was asked of the output.
+    pub(crate) fn into_calls(self) -> Record
+        ensures { result ≡ self.entry.calls }
+    {
+        self.calls
     }
 
     /// Why the first call failed that did.
@@ -80,6 +95,7 @@ impl<'a, R: Files<File = File>, W: Write + Drop> FileSite<'a, R, W> {
         ensures later { self.old.faults.count ≤ self.new.faults.count }
         ensures told { IsSome self.new.faults.first }
         ensures output { self.new.output ≡ self.old.output }
+        ensures calls { self.new.calls ≡ self.old.calls }
     {
         self.faults.rise(cause);
         Failed
@@ -87,10 +103,11 @@ impl<'a, R: Files<File = File>, W: Write + Drop> FileSite<'a, R, W> {
 
     // Writes what was sent and isn't written yet.
     fn write_out(&mut self) -> Result<(), Cause>
+        ensures written { OnOk result (is_written_out self.new.calls.events ≡ true) }
         ensures output { WritesOut W.contents self.old.output self.new.output result }
         ensures faults { self.new.faults ≡ self.old.faults }
     {
-        let answer = self.output.flush();
+        let answer = host::write_out(&mut self.output, &mut self.calls);
         answer.map_err(|error| failed(Place::Output, Call::Write, error))
     }
 
@@ -101,7 +118,7 @@ impl<'a, R: Files<File = File>, W: Write + Drop> FileSite<'a, R, W> {
         ensures faults { self.new.faults ≡ self.old.faults }
     {
         if self.lock.is_none() {
-            let answer = self.folder.lock(self.access);
+            let answer = Lock::take(&self.folder, self.access);
             let lock = answer.map_err(|error| failed(Place::Folder, Call::Lock, error))?;
             self.lock = Some(lock);
         }
@@ -118,7 +135,10 @@ impl<'a, R: Files<File = File>, W: Write + Drop> FileSite<'a, R, W> {
     {
         self.write_out()?;
         self.hold()?;
-        let answer = reach_set(self.folder.alloc(), self.access, &mut self.sets, set);
+        let Some(lock) = &self.lock else {
+            return Err(failed(Place::Folder, Call::Lock, io::ErrorKind::Other.into()));
+        };
+        let answer = reach_set(self.folder.alloc(), self.access, lock, &mut self.sets, set);
         answer.map_err(|error| failed(Place::DataSet(set), Call::Open, error.into()))
     }
 
@@ -179,13 +199,14 @@ fn failed(place: Place, call: Call, error: io::Error) -> Cause {
 fn reach_set(
     alloc: Global,
     access: Access,
+    lock: &Lock,
     sets: &mut Vec<DataSet>,
     set: u16,
 ) -> Result<(), AllocError>
     ensures { OnOk result (set < vec_len sets.new) }
 {
     while sets.len() <= usize::from(set) {
-        sets.push(DataSet::new(alloc, access))?;
+        sets.push(DataSet::new(alloc, access, lock))?;
     }
     Ok(())
 }
@@ -268,7 +289,7 @@ impl<R: Files<File = File>, W: Write + Drop> Site for FileSite<'_, R, W> {
         ensures cause { Counts self.old.faults.count self.new.faults.count result }
         ensures sent { Gathers W.contents self.old.output self.new.output result text.now }
     {
-        match self.output.write_all(text) {
+        match host::send(&mut self.output, &mut self.calls, text) {
             Ok(()) => Ok(()),
             Err(error) => Err(self.fail(failed(Place::Output, Call::Write, error))),
         }

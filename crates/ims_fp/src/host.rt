@@ -1,13 +1,20 @@
-//! The calls of the system on which the promise of a sync rests. Each function makes one call, or a rewrite's reads and
-//! writes, and then notes it. That it makes the call that it notes has to be read: no clause can say so.
-ghost use Rattle.ims_fp.specs.Calls.HostCall.{FolderSynced, Made, Rewrote, Synced, Wrote};
-ghost use Rattle.std.specs.Prelude.{◌≡◌, ◌∷◌, OnErr, OnOk};
+//! The calls of the system on which clauses rest. Each function makes one call, or a rewrite's reads and writes, and
+//! then notes it. That it makes the call that it notes has to be read: no clause can say so.
+//!
+//! A data set's file is read, written and made only behind the lock of its folder, which a list of calls tells.
+ghost use Rattle.ims_fp.specs.Calls.{is_locked, part_of};
+ghost use Rattle.ims_fp.specs.Calls.HostCall.{FolderSynced, Locked, Made, PartRead, Read, Rewrote, Sent, Synced, WroteOut, Wrote};
+ghost use Rattle.ims_fp.specs.Output.{Gathers, WritesOut};
+ghost use Rattle.std.specs.Prelude.{◌≡◌, ◌≤◌, ◌∷◌, [], IfOk, OnErr, OnOk, length, true};
 
-use crate::folder::Folder;
+use crate::file_source::name_of;
+use crate::folder::{self, Access, Folder};
 use crate::record::Record;
+use fp_source::Part;
 use std::alloc::Global;
 use std::fs::File;
 use std::io;
+use std::io::{BufWriter, Write};
 use std::os::unix::fs::FileExt;
 use std::rt::Files;
 
@@ -22,15 +29,37 @@ const FOLDER_SYNCED: u64 = 3;
 
 const MADE: u64 = 4;
 
-// How many bytes a rewrite reads and writes at once.
-const BLOCK: u64 = 1 << 16;
+const LOCKED: u64 = 5;
+
+const READ: u64 = 6;
+
+const PART_READ: u64 = 7;
+
+const SENT: u64 = 8;
+
+const WROTE_OUT: u64 = 9;
+
+// How many bytes a rewrite reads and writes at once. Freeing a block as large as this also has the system's allocator
+// keep as much for later, so that a restart doesn't give back and take again the memory of each group.
+const BLOCK: u64 = 1 << 20;
 
 /// Writes all of `from` at offset `at`. It is noted also where it fails, since some bytes may be written.
 pub(crate) fn write(file: &File, calls: &mut Record, at: u64, from: &[u8]) -> io::Result<()>
+    requires { is_locked calls.old.events ≡ true }
     ensures { calls.new.events ≡ Wrote ∷ calls.old.events }
 {
     let answer = file.write_all_at(from, at);
     calls.note(&[WROTE], &[]);
+    answer
+}
+
+/// Fills `into` with the bytes of a file from offset `at` on.
+pub(crate) fn read(file: &File, calls: &mut Record, at: u64, into: &mut [u8]) -> io::Result<()>
+    requires { is_locked calls.old.events ≡ true }
+    ensures { calls.new.events ≡ Read ∷ calls.old.events }
+{
+    let answer = file.read_exact_at(into, at);
+    calls.note(&[READ], &[]);
     answer
 }
 
@@ -47,6 +76,7 @@ pub(crate) fn sync(file: &File, calls: &mut Record) -> io::Result<()>
 /// Reads each byte of a file of this length, and writes it back where it was, so that the next sync has all of them to
 /// write. Where it fails, some may be written.
 pub(crate) fn rewrite(alloc: Global, file: &File, calls: &mut Record, length: u64) -> io::Result<()>
+    requires { is_locked calls.old.events ≡ true }
     ensures ok { OnOk result (calls.new.events ≡ Rewrote ∷ calls.old.events) }
     ensures err { OnErr result (calls.new.events ≡ Wrote ∷ calls.old.events) }
 {
@@ -103,10 +133,114 @@ pub(crate) fn make<R: Files<File = File>>(
     calls: &mut Record,
     name: &str,
 ) -> io::Result<File>
+    requires { is_locked calls.old.events ≡ true }
     ensures ok { OnOk result (calls.new.events ≡ Made ∷ calls.old.events) }
     ensures err { OnErr result (calls.new.events ≡ calls.old.events) }
 {
     let file = folder.make(name)?;
     calls.note(&[MADE], &[]);
     Ok(file)
+}
+
+/// The lock of a folder, which lasts as long as this.
+#[derive(Drop)]
+pub(crate) struct Lock {
+    file: File,
+    calls: Record,
+    ghost taken: { calls.events ≡ Locked ∷ [] },
+}
+
+impl Lock {
+    /// Locks a folder. Fails where another program has a lock that doesn't go with this one.
+    pub(crate) fn take<R: Files<File = File>>(
+        folder: &Folder<'_, R>,
+        access: Access,
+    ) -> io::Result<Lock> {
+        let file = folder.lock(access)?;
+        let mut calls = Record::new();
+        calls.note(&[LOCKED], &[]);
+        Ok(Lock { file, calls })
+    }
+
+    /// A list of calls that come behind this lock.
+    pub(crate) fn calls(&self) -> Record
+        ensures { result.events ≡ self.now.calls.events }
+    {
+        let mut calls = Record::new();
+        calls.note(&[LOCKED], &[]);
+        calls
+    }
+}
+
+/// The file of a part, which was opened by its name.
+#[derive(Drop)]
+pub(crate) struct PartFile {
+    part: Part,
+    file: File,
+}
+
+impl PartFile {
+    /// Opens the file of a part.
+    pub(crate) fn open<R: Files<File = File>>(
+        folder: &Folder<'_, R>,
+        part: Part,
+    ) -> io::Result<PartFile>
+        ensures { IfOk result (λ opened. opened.part ≡ part) }
+    {
+        let file = folder.open(name_of(part))?;
+        Ok(PartFile { part, file })
+    }
+
+    /// Reads on in the file.
+    pub(crate) fn read(&mut self, calls: &mut Record, into: &mut [u8]) -> io::Result<usize>
+        ensures bound { IfOk result (λ n. n ≤ length into.old) }
+        ensures ok { IfOk result (λ n. calls.new.events ≡ PartRead self.old.part n ∷ calls.old.events) }
+        ensures err { OnErr result (calls.new.events ≡ calls.old.events) }
+        ensures part { self.new.part ≡ self.old.part }
+    {
+        let count = folder::read(&mut self.file, into)?;
+        calls.note(&[PART_READ, number_of(self.part), count as u64], &[]);
+        Ok(count)
+    }
+}
+
+// The number of a part.
+fn number_of(part: Part) -> u64
+    ensures { part_of result ≡ part }
+{
+    match part {
+        Part::Definitions => 0,
+        Part::Scripts => 1,
+        Part::Schedule => 2,
+        Part::Messages => 3,
+    }
+}
+
+/// Takes in text for the output, and writes what fills its block. It is noted also where it fails, since some of the
+/// text may be taken in.
+pub(crate) fn send<W: Write + Drop>(
+    output: &mut BufWriter<W>,
+    calls: &mut Record,
+    text: &[u8],
+) -> io::Result<()>
+    ensures sent { Gathers W.contents output.old output.new result text.now }
+    ensures noted { calls.new.events ≡ Sent ∷ calls.old.events }
+{
+    let answer = output.write_all(text);
+    calls.note(&[SENT], &[]);
+    answer
+}
+
+/// Writes all text that was taken in to the output, and flushes it.
+pub(crate) fn write_out<W: Write + Drop>(
+    output: &mut BufWriter<W>,
+    calls: &mut Record,
+) -> io::Result<()>
+    ensures output { WritesOut W.contents output.old output.new result }
+    ensures ok { OnOk result (calls.new.events ≡ WroteOut ∷ calls.old.events) }
+    ensures err { OnErr result (calls.new.events ≡ calls.old.events) }
+{
+    output.flush()?;
+    calls.note(&[WROTE_OUT], &[]);
+    Ok(())
 }

@@ -4,10 +4,11 @@
 //! a call needs one. Where the site or the source failed, the first error of the system is told on a second line.
 #![tactic(auto)]
 
-ghost use Rattle.std.specs.Prelude.{◌≡◌, ◌≢◌, IsErr, IsOk, None};
+ghost use Rattle.std.specs.Prelude.{◌≡◌, ◌≢◌, IsErr, IsOk, None, true};
 ghost use Rattle.fp_exits.specs.Ranges.{IsRoutable, IsSpreadable};
 ghost use Rattle.fp_model.specs.Exits.{route, spread};
 ghost use Rattle.fp_system.specs.declared.status.Status.{Status};
+ghost use Rattle.ims_fp.specs.Calls.{is_written_out};
 
 mod ahead;
 mod cause;
@@ -31,6 +32,7 @@ use fp_exits::{
 use fp_model::{Kind, Name};
 use fp_site::Failed;
 use fp_system::{Status, fault_text, ims};
+use record::Record;
 use std::alloc::AllocError;
 use std::fs::File;
 use std::os::fd::AsRawFd;
@@ -45,13 +47,21 @@ const LAST_STANDARD: i32 = 2;
 struct Ending {
     status: Status,
     cause: Option<String>,
+    // What was asked of the output.
+    calls: Record,
+    // It is Done only behind a write of all that was sent.
+    ghost written: { status ≡ Status.Done → is_written_out calls.events ≡ true },
 }
 
-impl From<Status> for Ending {
-    fn from(status: Status) -> Ending {
+impl Ending {
+    // Before anything was asked of the output.
+    fn early(status: Status) -> Ending
+        requires { status ≢ Status.Done }
+    {
         Ending {
             status,
             cause: Option::None,
+            calls: Record::new(),
         }
     }
 }
@@ -99,10 +109,10 @@ fn ending_of(rt: &HostRuntime) -> Ending {
     match words(rt) {
         Ok(words) => match with_exits(rt, &words) {
             Ok(ending) => ending,
-            Err(AllocError) => Status::NoMemory.into(),
+            Err(AllocError) => Ending::early(Status::NoMemory),
         },
-        Err(e) if e.kind() == io::ErrorKind::OutOfMemory => Status::NoMemory.into(),
-        Err(_) => Status::Usage.into(),
+        Err(e) if e.kind() == io::ErrorKind::OutOfMemory => Ending::early(Status::NoMemory),
+        Err(_) => Ending::early(Status::Usage),
     }
 }
 
@@ -157,7 +167,7 @@ fn served(rt: &HostRuntime, words: &[String], exits: &Exits) -> Ending {
     let dir = words.last().map_or("", |word| word.as_str());
     let folder = Folder::new(rt, alloc, dir);
     let Ok(mut site) = FileSite::new(alloc, folder, Access::Change, io::writer(rt)) else {
-        return Status::NoMemory.into();
+        return Ending::early(Status::NoMemory);
     };
     let mut source = FileSource::new(Folder::new(rt, alloc, dir));
     let status = ims(alloc, words, &mut source, &mut site, exits);
@@ -166,6 +176,7 @@ fn served(rt: &HostRuntime, words: &[String], exits: &Exits) -> Ending {
     Ending {
         cause: cause.and_then(|cause| cause.line(alloc, dir).ok()),
         status,
+        calls: site.into_calls(),
     }
 }
 

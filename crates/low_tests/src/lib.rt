@@ -1,4 +1,4 @@
-//! Tests of the low crates: lists, numbers, exits, queues, sources, lines, locks, field search arguments, entries.
+//! Tests of the low crates: lists, numbers, exits, queues, sites, sources, lines, locks, field search arguments, entries.
 //!
 //! They stand here and not in the crates that they test, since a crate with tests is proved twice. Each file tests one
 //! crate. What is a set of cases, text in and value out, is data of a program above and not here: of those calls only a
@@ -21,5 +21,7 @@ mod log_bytes;
 mod numbers;
 #[cfg(test)]
 mod queues;
+#[cfg(test)]
+mod sites;
 #[cfg(test)]
 mod sources;

@@ -19,22 +19,25 @@ const DEPOSIT: [u8; 75] =
     \x00\x03NEW\x00\x00\x00\x01\x00\x00\x00\x00\x00\x00\x00\x00\x00\x00\x00\x01\x01\x00\x04A001\x00\x08A001\
     \x00\x00\x11\x0c";
 
-/// Its entry.
-fn deposit(alloc: Global) -> Result<Entry, AllocError> {
-    let mut notes = List::new(alloc);
-    notes.push(0)?;
-    let mut items = List::new(alloc);
-    items.push(Item::Segment {
+/// Its segment.
+fn segment(alloc: Global) -> Result<Item, AllocError> {
+    Ok(Item::Segment {
         msdb: 0,
         key: Bytes::from_slice(alloc, b"A001")?,
         bytes: Bytes::from_slice(alloc, b"A001\x00\x00\x11\x0c")?,
-    })?;
+    })
+}
+
+/// Its entry.
+fn deposit(alloc: Global) -> Result<Entry, AllocError> {
+    let mut items = List::new(alloc);
+    items.push(segment(alloc)?)?;
     Ok(Entry {
         from: 0,
         outcome: Outcome::Done,
         line: Bytes::from_slice(alloc, b"T1 DEPOSIT A001 10")?,
         reply: Bytes::from_slice(alloc, b"NEW")?,
-        notes,
+        notes: List::from_vec(Vec::from_slice(alloc, &[0])?),
         items,
     })
 }

@@ -15,9 +15,12 @@ fn source_of(alloc: Global, messages: &[u8], failing: &[u64]) -> Result<MemorySo
     Ok(MemorySource::new(alloc, parts, failing)?)
 }
 
-// So many bytes `a`, and then these.
-fn letters(alloc: Global, count: usize, end: &[u8]) -> Result<Vec<u8>, Fail> {
-    let mut bytes = vec![in alloc; b'a'; count]?;
+// A byte, how many times, and what stands behind it.
+type Piece = (u8, usize, &'static [u8]);
+
+fn piece(alloc: Global, piece: Piece) -> Result<Vec<u8>, Fail> {
+    let (byte, count, end) = piece;
+    let mut bytes = vec![in alloc; byte; count]?;
     bytes.extend_from_slice(end)?;
     Ok(bytes)
 }
@@ -118,59 +121,53 @@ fn a_read_gives_what_fits_and_then_the_rest(rt: HostRuntime) -> Result<(), Fail>
     Ok(())
 }
 
+// Behind three reads, of which the next fails: a part, its limit, and what is said of it.
+const PARTS: [(Part, u64, &[u8]); 2] = [
+    (Part::Definitions, 4, b"failed"),
+    (Part::Scripts, 6, b"too long"),
+];
+
 #[test]
 fn a_part_is_whole_up_to_its_limit(rt: HostRuntime) -> Result<(), Fail> {
     let alloc = rt.alloc();
-    let long = letters(alloc, 70000, b"")?;
+    let long = piece(alloc, (b'a', 70000, b""))?;
     let mut source = source_of(alloc, &long, &[3])?;
-    let all = part_text(alloc, &mut source, Part::Messages, 70000)?;
-    assert!(rt; all == long);
-    let failed = part_text(alloc, &mut source, Part::Definitions, 4)?;
-    assert_eq!(rt; failed.as_slice(), b"failed".as_slice());
-    let short = part_text(alloc, &mut source, Part::Scripts, 6)?;
-    assert_eq!(rt; short.as_slice(), b"too long".as_slice());
+    assert!(rt; part_text(alloc, &mut source, Part::Messages, 70000)? == long);
+    for (part, limit, wanted) in PARTS {
+        let text = part_text(alloc, &mut source, part, limit)?;
+        assert_eq!(rt; text.as_slice(), wanted);
+    }
     Ok(())
 }
 
-#[test]
-fn lines_lose_their_ends(rt: HostRuntime) -> Result<(), Fail> {
-    let alloc = rt.alloc();
-    let mut source = source_of(alloc, b"one\n\r\n\ntwo\r\r\nl\rast\r", &[])?;
-    let text = lines_text(alloc, &mut source)?;
-    assert_eq!(rt; text.as_slice(), b"one|||two\r|l\rast\r|end".as_slice());
-    Ok(())
+// Messages, the reads that fail, and the lines as a text.
+const LINES: [(Piece, &[u64], Piece); 4] = [
+    // Lines lose their ends.
+    (
+        (b'a', 0, b"one\n\r\n\ntwo\r\r\nl\rast\r"),
+        &[],
+        (b'a', 0, b"one|||two\r|l\rast\r|end"),
+    ),
+    // A line of 2100 bytes is given, one of 2101 is too long.
+    ((b'a', 2099, b"\r\n"), &[], (b'a', 2099, b"|end")),
+    ((b'a', 2100, b"\r\n"), &[], (b'a', 0, b"too long")),
+    // A read fails in the middle of a line.
+    ((b'\n', 8190, b"abcdef\n"), &[1], (b'|', 8190, b"failed")),
+];
+
+// The lines of these messages as a text.
+fn lines_of(alloc: Global, messages: Piece, failing: &[u64]) -> Result<Vec<u8>, Fail> {
+    let messages = piece(alloc, messages)?;
+    let mut source = source_of(alloc, &messages, failing)?;
+    lines_text(alloc, &mut source)
 }
 
 #[test]
-fn a_line_of_2100_bytes_is_given(rt: HostRuntime) -> Result<(), Fail> {
-    let alloc = rt.alloc();
-    let line = letters(alloc, 2099, b"\r\n")?;
-    let mut source = source_of(alloc, &line, &[])?;
-    let text = lines_text(alloc, &mut source)?;
-    assert!(rt; text == letters(alloc, 2099, b"|end")?);
-    Ok(())
-}
-
-#[test]
-fn a_line_of_2101_bytes_is_too_long(rt: HostRuntime) -> Result<(), Fail> {
-    let alloc = rt.alloc();
-    let line = letters(alloc, 2100, b"\r\n")?;
-    let mut source = source_of(alloc, &line, &[])?;
-    let text = lines_text(alloc, &mut source)?;
-    assert_eq!(rt; text.as_slice(), b"too long".as_slice());
-    Ok(())
-}
-
-#[test]
-fn a_failing_read_in_mid_line_is_told(rt: HostRuntime) -> Result<(), Fail> {
-    let alloc = rt.alloc();
-    let mut messages = vec![in alloc; b'\n'; 8190]?;
-    messages.extend_from_slice(b"abcdef\n")?;
-    let mut source = source_of(alloc, &messages, &[1])?;
-    let mut wanted = vec![in alloc; b'|'; 8190]?;
-    wanted.extend_from_slice(b"failed")?;
-    let text = lines_text(alloc, &mut source)?;
-    assert!(rt; text == wanted);
+fn messages_have_their_lines_or_a_fault(rt: HostRuntime) -> Result<(), Fail> {
+    for (messages, failing, wanted) in LINES {
+        let text = lines_of(rt.alloc(), messages, failing)?;
+        assert!(rt; text == piece(rt.alloc(), wanted)?, "{messages:?}");
+    }
     Ok(())
 }
 

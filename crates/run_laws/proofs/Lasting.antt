@@ -183,6 +183,16 @@ taken_enough [] (suc n) (suc k) h l = absurd (omega (arith, l))
 taken_enough (x ∷ xs) (suc n) (suc k) h l =
     let r = taken_enough xs n k (omega (arith, h)) (omega (arith, l)) in omega (arith, r)
 
+-- what stands at a place within a first part
+get_in : {X : Type 0} (xs : List X) (n i : ℕ) → i < n → slice_get (take n xs) i ≡ slice_get xs i
+get_in xs zero i h = absurd (omega (arith, h))
+get_in [] (suc n) i h = refl
+get_in (x ∷ xs) (suc n) zero h = refl
+get_in (x ∷ xs) (suc n) (suc i) h = get_in xs n i (omega (arith, h))
+
+same_place : {X : Type 0} (xs ys : List X) (n i : ℕ) → i < n → take n xs ≡ take n ys → slice_get xs i ≡ slice_get ys i
+same_place xs ys n i h same = sym (get_in xs n i h) ∙ ap (λ zs. slice_get zs i) same ∙ get_in ys n i h
+
 -- an entry within both first parts
 numbered_in : (format : ℕ) (entries entries2 : List Entry) (sealed place : ℕ) (e : Entry) (name : Name) (number : ℕ)
     → take sealed entries2 ≡ take sealed entries
@@ -299,15 +309,68 @@ module _ (defs : Defs) (scripts : List Script) (are : AreDefs defs) (format : �
         | inr later ↦ each_serial n.history.entries n.sealed ns m b.within lives.1 later
       ]
 
+  -- a run behind a stop is one where nothing had to be kept
+  none_needed : (before : List Entry) (sealed : ℕ) (m : Machine)
+      → GoesOnBehind (rules_of defs scripts) format before sealed m
+      → GoesOnBehind (rules_of defs scripts) format before 0 m
+  none_needed before sealed m g = record {
+    start = g.start;
+    is_serial = g.is_serial;
+    same_format = g.same_format;
+    kept = g.kept;
+    part = g.part;
+    has_sealed = omega arith;
+    lines = g.lines;
+    steps = g.steps;
+    runs = g.runs;
+  }
+
+  -- ---- places
+
+  -- all of them begin with what was sealed before
+  all_begin : (before : List Entry) (sealed : ℕ) (ms : List Machine) (m : Machine) → sealed ≤ length before
+      → Lives (rules_of defs scripts) format before sealed ms
+      → Contains ms m
+      → take sealed m.history.entries ≡ take sealed before
+  all_begin before sealed [] m few lives c = absurd (contains_nothing m c)
+  all_begin before sealed (n ∷ ns) m few lives c =
+      let b = behind_stop before sealed n few lives.0 in
+      elim (contains_cases n ns m c) [
+        | inl same ↦ subst (λ (x : Machine). take sealed x.history.entries ≡ take sealed before) same b.same
+        | inr later ↦ agrees_less m.history.entries n.history.entries sealed n.sealed b.more
+            (all_begin n.history.entries n.sealed ns m b.within lives.1 later) ∙ b.same
+      ]
+
+  -- What was sealed before stands.
+  pub sealed_before : (before : List Entry) (sealed : ℕ) (ms : List Machine) (m : Machine) (i : ℕ)
+      → sealed ≤ length before
+      → Lives (rules_of defs scripts) format before sealed ms
+      → Contains ms m
+      → i < sealed
+      → slice_get m.history.entries i ≡ slice_get before i
+  sealed_before before sealed ms m i few lives c less =
+      same_place m.history.entries before sealed i less (all_begin before sealed ms m few lives c)
+
+  -- And what was sealed in a run stands in the later ones.
+  pub sealed_later : (before : List Entry) (sealed : ℕ) (m : Machine) (ms : List Machine) (m2 : Machine) (i : ℕ)
+      → Lives (rules_of defs scripts) format before sealed (m ∷ ms)
+      → Contains ms m2
+      → i < m.sealed
+      → slice_get m2.history.entries i ≡ slice_get m.history.entries i
+  sealed_later before sealed m ms m2 i lives c less =
+      let b = behind_stop before 0 m (omega arith) (none_needed before sealed m lives.0) in
+      sealed_before m.history.entries m.sealed ms m2 i b.within lives.1 c less
+
   -- ---- over all runs
 
   -- an entry that was sealed, in the last history
-  in_last : (ms : List Machine) (a : HasAll [] 0 ms) (m : Machine) (place : ℕ) (e : Entry) (name : Name) (number : ℕ)
+  in_last : (before : List Entry) (ms : List Machine) (a : HasAll before 0 ms) (m : Machine) (place : ℕ) (e : Entry)
+      → (name : Name) (number : ℕ)
       → Contains ms m
       → place < m.sealed
       → IsNumbered format m.history.entries place e name number
       → IsNumbered a.last.format a.last.entries place e name number
-  in_last ms a m place e name number c less n =
+  in_last before ms a m place e name number c less n =
       let first = numbered_in format m.history.entries a.last.entries m.sealed place e name number (a.has m c) less n in
       let whole = subst (λ (es : List Entry). IsNumbered format es place e name number)
       (take-append-drop m.sealed a.last.entries)
@@ -315,7 +378,18 @@ module _ (defs : Defs) (scripts : List Script) (are : AreDefs defs) (format : �
       number first) in
       subst (λ (f : ℕ). IsNumbered f a.last.entries place e name number) (sym a.same_format) whole
 
-  module _ (ms : List Machine) (lives : Lives (rules_of defs scripts) format [] 0 ms) where
+  -- fewer were sealed before
+  from_none : (before : List Entry) (sealed : ℕ) (ms : List Machine)
+      → Lives (rules_of defs scripts) format before sealed ms
+      → Lives (rules_of defs scripts) format before 0 ms
+  from_none before sealed [] lives = tt
+  from_none before sealed (m ∷ ms) lives = (none_needed before sealed m lives.0, lives.1)
+
+  module _ (before : List Entry) (sealed : ℕ) (ms : List Machine)
+      (runs : Lives (rules_of defs scripts) format before sealed ms) where
+    lives : Lives (rules_of defs scripts) format before 0 ms
+    lives = from_none before sealed ms runs
+
     -- in each run
     pub once_in : (m : Machine) (i j : ℕ) (a b : Entry) (name : Name) (number : ℕ) → Contains ms m
         → IsNumbered format m.history.entries i a name number
@@ -324,7 +398,7 @@ module _ (defs : Defs) (scripts : List Script) (are : AreDefs defs) (format : �
         → uses_number b.outcome ≡ true
         → i ≡ j
     once_in m i j a b name number c n n2 uses uses2 =
-        let s = each_serial [] 0 ms m (omega arith) lives c in
+        let s = each_serial before 0 ms m (omega arith) lives c in
         used_once defs scripts m.history s.0 i j a b name number
         (subst (λ (f : ℕ). IsNumbered f m.history.entries i a name number) (sym s.1) n)
         (subst (λ (f : ℕ). IsNumbered f m.history.entries j b name number) (sym s.1) n2) uses uses2
@@ -373,9 +447,9 @@ module _ (defs : Defs) (scripts : List Script) (are : AreDefs defs) (format : �
         → uses_number b.outcome ≡ true
         → (i ≡ j) × (a ≡ b)
     one_effect m m2 i j a b name number c c2 less less2 n n2 uses uses2 =
-        let all = lives_have [] 0 ms m (omega arith) lives c in
-        let x = in_last ms all m i a name number c less n in
-        let y = in_last ms all m2 j b name number c2 less2 n2 in
+        let all = lives_have before 0 ms m (omega arith) lives c in
+        let x = in_last before ms all m i a name number c less n in
+        let y = in_last before ms all m2 j b name number c2 less2 n2 in
         let same = used_once defs scripts all.last all.serial i j a b name number x y uses uses2 in
         (same, same_entry all.last i j a b same x.stands y.stands)
 
@@ -391,9 +465,9 @@ module _ (defs : Defs) (scripts : List Script) (are : AreDefs defs) (format : �
         → ((k : ℕ) → ¬ (b.outcome ≡ outcome.Old k))
         → line_text a ≡ line_text b
     one_line m m2 i j a b name number c c2 less less2 n n2 new new2 =
-        let all = lives_have [] 0 ms m (omega arith) lives c in
-        let x = in_last ms all m i a name number c less n in
-        let y = in_last ms all m2 j b name number c2 less2 n2 in
+        let all = lives_have before 0 ms m (omega arith) lives c in
+        let x = in_last before ms all m i a name number c less n in
+        let y = in_last before ms all m2 j b name number c2 less2 n2 in
         let u = user all.last all.serial i a name number x new in
         let w = user all.last all.serial j b name number y new2 in
         let same = used_once defs scripts all.last all.serial u.0 w.0 u.1.0 w.1.0 name number u.1.1.0 w.1.1.0

@@ -19,16 +19,18 @@ use Rattle.fp_model.specs.Machine.{Transaction, Active, Machine, at_rest, region
 use Rattle.fp_model.specs.Turns.{wanted}
 use Rattle.fp_model.specs.WellFormed.{AreDefs}
 use Rattle.serial_order.specs.Laws.{Laws}
-use Rattle.serial_order.specs.Kept.{count}
+use Rattle.serial_order.specs.Kept.{count, Kept}
 use Rattle.serial_order.specs.ProductView.{view_of}
 use Rattle.serial_order.proofs.Lists.{some_is, none_is_not_some}
 use Rattle.serial_order.proofs.ProductLaws.{laws_of}
 use Rattle.serial_order.proofs.Replies.{exclusive_serves}
 use Rattle.serial_order.proofs.Lists.{true_is_not_false}
-use Rattle.serial_order.proofs.Turns.{at_rest_rests, rest_kept}
-use Rattle.drain_laws.specs.Live.{EndLaws, IsAtWork, IsReached, IsFromRest}
+use Rattle.serial_order.proofs.Turns.{at_rest_rests, rest_kept, run_kept}
+use Rattle.drain_laws.specs.Live.{EndLaws, IsAtWork, IsReached}
 use Rattle.drain_laws.specs.ProductGauge.{gauge_with}
 use Rattle.drain_laws.proofs.Live.{rest_live}
+use Rattle.drain_laws.proofs.InOrder.{rest_ordered}
+use Rattle.run_laws.specs.Starts.{IsFromSerial}
 use Rattle.drain_laws.proofs.Rounds.{reached_after}
 use Rattle.drain_laws.proofs.Foreseen.{call_needed, end_needed}
 use Rattle.drain_laws.proofs.SystemEnds.{end_laws_at}
@@ -103,36 +105,43 @@ module _ (defs : Defs) (scripts : List Script) (are : AreDefs defs) where
   pub ends : EndLaws (rules_of defs scripts) (gauge_with (all_calls scripts) defs)
   ends = end_laws_at defs scripts (all_calls scripts) are (cost_below scripts)
 
-  module _ (m : Machine) (from : IsFromRest (rules_of defs scripts) m) where
+  module _ (m : Machine) (whole : IsFromSerial (rules_of defs scripts) m) where
     rest : Machine
-    rest = at_rest (rules_of defs scripts) from.lines from.start
+    rest = at_rest (rules_of defs scripts) whole.from.lines whole.from.start
 
-    resting : IsReached (rules_of defs scripts) (gauge_with (all_calls scripts) defs) (view_of defs)
-        (at_rest (rules_of defs scripts) from.lines from.start)
+    resting_kept : Kept (rules_of defs scripts) (view_of defs) (at_rest (rules_of defs scripts) whole.from.lines whole.from.start)
+    resting_kept = rest_kept (rules_of defs scripts) (view_of defs)
+        (at_rest (rules_of defs scripts) whole.from.lines whole.from.start)
+        (at_rest_rests (rules_of defs scripts) whole.from.lines whole.from.start whole.is_serial)
+
+    kept : Kept (rules_of defs scripts) (view_of defs) m
+    kept = run_kept (rules_of defs scripts) (view_of defs) order
+        (at_rest (rules_of defs scripts) whole.from.lines whole.from.start) whole.from.steps m whole.from.runs resting_kept
+
+    resting : IsReached (rules_of defs scripts) (gauge_with (all_calls scripts) defs)
+        (at_rest (rules_of defs scripts) whole.from.lines whole.from.start)
     resting = record {
-      kept = rest_kept (rules_of defs scripts) (view_of defs)
-          (at_rest (rules_of defs scripts) from.lines from.start)
-          (at_rest_rests (rules_of defs scripts) from.lines from.start from.is_serial);
-      live = rest_live (rules_of defs scripts) (gauge_with (all_calls scripts) defs) from.lines from.start;
+      in_order = rest_ordered (rules_of defs scripts) whole.from.lines whole.from.start;
+      live = rest_live (rules_of defs scripts) (gauge_with (all_calls scripts) defs) whole.from.lines whole.from.start;
     }
 
-    pub reached : IsReached (rules_of defs scripts) (gauge_with (all_calls scripts) defs) (view_of defs) m
+    pub reached : IsReached (rules_of defs scripts) (gauge_with (all_calls scripts) defs) m
     reached = reached_after (rules_of defs scripts) (gauge_with (all_calls scripts) defs) ends (view_of defs) order
-        (at_rest (rules_of defs scripts) from.lines from.start) from.steps m resting from.runs
+        (at_rest (rules_of defs scripts) whole.from.lines whole.from.start) whole.from.steps m resting whole.from.runs
 
     tidy : IsTidy (rules_of defs scripts) m
     tidy = run_tidy (rules_of defs scripts) (gauge_with (all_calls scripts) defs) ends (view_of defs) order
         (λ db db2 own held call same. needs_alike defs held own db db2 same call)
-        (at_rest (rules_of defs scripts) from.lines from.start) from.steps m resting from.runs
+        (at_rest (rules_of defs scripts) whole.from.lines whole.from.start) whole.from.steps m resting resting_kept whole.from.runs
         (rest_tidy (rules_of defs scripts) (gauge_with (all_calls scripts) defs) ends (view_of defs) order
         (λ db db2 own held call same. needs_alike defs held own db db2 same call)
-        from.lines from.start resting.kept.terminals)
+        whole.from.lines whole.from.start resting_kept.terminals)
 
     pub busy_of : (name : Name) → times_in m.busy name ≡ count (rules_of defs scripts) name m
     busy_of name = tidy.busy name
 
     pub once_of : (name : Name) → count (rules_of defs scripts) name m ≤ 1
-    once_of name = reached.kept.terminals.once name
+    once_of name = kept.terminals.once name
 
     pub holders_of : (lock : Lock) → Contains m.locks lock → IsAtWork m lock.region
     holders_of lock c = reached.live.holders lock c
@@ -143,11 +152,11 @@ module _ (defs : Defs) (scripts : List Script) (are : AreDefs defs) where
     pub queued_fresh : (messages : List Message) (message : Message) → Contains m.queues messages
         → Contains messages message
         → IsFresh scripts m.history message
-    queued_fresh messages message c d = fresh_of scripts m.history message (reached.kept.queued messages message c d)
+    queued_fresh messages message c d = fresh_of scripts m.history message (kept.queued messages message c d)
 
     pub active_fresh : (region : ℕ) (t : Transaction) → region_at m region ≡ Some (Active t)
         → IsFresh scripts m.history t.message
-    active_fresh region t at = fresh_of scripts m.history t.message (reached.kept.sound region t at).is_request
+    active_fresh region t at = fresh_of scripts m.history t.message (kept.sound region t at).is_request
 
     pub sealed_of : m.sealed ≤ place_of m.history
-    sealed_of = reached.kept.terminals.sealed
+    sealed_of = kept.terminals.sealed

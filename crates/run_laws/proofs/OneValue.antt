@@ -30,7 +30,8 @@ use Rattle.drain_laws.specs.Measure.{Gauge}
 use Rattle.drain_laws.specs.Live.{EndLaws, IsReached}
 use Rattle.drain_laws.proofs.Rounds.{reached_then}
 use Rattle.drain_laws.proofs.Existence.{turn_there_is}
-use Rattle.run_laws.specs.Determined.{is_purgeable, IsOfSchedule, AreFair, step_parts, but_cycle, whole, plain_entry, plain, plain_step, StepsNameFound, RoundsNameFound}
+use Rattle.drain_laws.specs.Rounds.{AreFair}
+use Rattle.run_laws.specs.Determined.{is_purgeable, IsOfSchedule, step_parts, but_cycle, whole, plain_entry, plain, plain_step, StepsNameFound, RoundsNameFound}
 use Rattle.run_laws.proofs.Plain.{AreBlind, same_place, goes, turn_plain}
 
 -- ---- this system's rules don't see items or cycles
@@ -343,7 +344,7 @@ module _ (defs : Defs) (scripts : List Script) where
   pub schedule_has_run : (gauge : Gauge) → EndLaws (rules_of defs scripts) gauge
       → Laws (rules_of defs scripts) (view_of defs)
       → (events : List Event) (m : Machine)
-      → IsReached (rules_of defs scripts) gauge (view_of defs) m
+      → IsReached (rules_of defs scripts) gauge m
       → AllByRecursion (IsOfSchedule defs) events
       → (steps : List RunStep) × ((m2 : Machine) × (Runs (rules_of defs scripts) m steps m2
       × ((step_events steps ≡ events) × AreFair steps)))

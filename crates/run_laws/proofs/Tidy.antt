@@ -35,6 +35,7 @@ use Rattle.serial_order.proofs.Terminals.{name_is, sum_put, counts_none, region_
 use Rattle.drain_laws.specs.Measure.{Gauge}
 use Rattle.drain_laws.specs.Live.{EndLaws, IsReached}
 use Rattle.drain_laws.proofs.Live.{idle_is_not, is_transaction, same_region, other_region, others_locks, queued_one, none_told}
+use Rattle.serial_order.proofs.Turns.{turn_kept}
 use Rattle.drain_laws.proofs.Rounds.{reached_then}
 use Rattle.drain_laws.proofs.Sums.{gained_other}
 use Rattle.run_laws.specs.Requests.{IsCurrent, times_in, IsTidy, WantsByHeld}
@@ -519,38 +520,41 @@ module _ (rules : Rules) where
     -- ---- all turns
 
     -- One turn keeps it.
-    pub turn_tidy : (m : Machine) (e : Event) (v : Environment) (m2 : Machine) → IsReached rules gauge view m
+    pub turn_tidy : (m : Machine) (e : Event) (v : Environment) (m2 : Machine) → IsReached rules gauge m
+        → Kept rules view m
         → Turn rules m e v m2
         → IsTidy rules m → IsTidy rules m2
-    turn_tidy m event.In NoFault m2 h turn s = led _ m2 turn (taken m h.kept.terminals.sealed h.live.queues s)
-    turn_tidy m event.In DeviceFault m2 h turn s = absurd turn
-    turn_tidy m event.In OutOfMemory m2 h turn s = absurd turn
-    turn_tidy m (event.Region zero) v m2 h turn s = absurd turn
-    turn_tidy m (event.Region (suc place)) v m2 h turn s =
-        region_turn m place (slice_get m.regions place) v m2 h.kept refl turn s
-    turn_tidy m event.Log NoFault m2 h turn s = led _ m2 turn (logs m h.kept.terminals s)
-    turn_tidy m event.Log DeviceFault m2 h turn s = absurd turn
-    turn_tidy m event.Log OutOfMemory m2 h turn s = absurd turn
-    turn_tidy m event.Out v m2 h turn s = led m m2 turn s
-    turn_tidy m event.Ckpt NoFault m2 h turn s =
-        led _ m2 turn (logs_often (place_of m.history - m.sealed) m h.kept.terminals s)
-    turn_tidy m event.Ckpt DeviceFault m2 h turn s =
-        led _ m2 turn (logs_often (place_of m.history - m.sealed) m h.kept.terminals s)
-    turn_tidy m event.Ckpt OutOfMemory m2 h turn s = absurd turn
-    turn_tidy m (event.Purge set n) NoFault m2 h turn s =
-        purges m set n (is_area_held rules m set) m2 refl h.kept.terminals.sealed turn s
-    turn_tidy m (event.Purge set n) DeviceFault m2 h turn s = led m m2 turn s
-    turn_tidy m (event.Purge set n) OutOfMemory m2 h turn s = led m m2 turn s
+    turn_tidy m event.In NoFault m2 h k turn s = led _ m2 turn (taken m k.terminals.sealed h.live.queues s)
+    turn_tidy m event.In DeviceFault m2 h k turn s = absurd turn
+    turn_tidy m event.In OutOfMemory m2 h k turn s = absurd turn
+    turn_tidy m (event.Region zero) v m2 h k turn s = absurd turn
+    turn_tidy m (event.Region (suc place)) v m2 h k turn s =
+        region_turn m place (slice_get m.regions place) v m2 k refl turn s
+    turn_tidy m event.Log NoFault m2 h k turn s = led _ m2 turn (logs m k.terminals s)
+    turn_tidy m event.Log DeviceFault m2 h k turn s = absurd turn
+    turn_tidy m event.Log OutOfMemory m2 h k turn s = absurd turn
+    turn_tidy m event.Out v m2 h k turn s = led m m2 turn s
+    turn_tidy m event.Ckpt NoFault m2 h k turn s =
+        led _ m2 turn (logs_often (place_of m.history - m.sealed) m k.terminals s)
+    turn_tidy m event.Ckpt DeviceFault m2 h k turn s =
+        led _ m2 turn (logs_often (place_of m.history - m.sealed) m k.terminals s)
+    turn_tidy m event.Ckpt OutOfMemory m2 h k turn s = absurd turn
+    turn_tidy m (event.Purge set n) NoFault m2 h k turn s =
+        purges m set n (is_area_held rules m set) m2 refl k.terminals.sealed turn s
+    turn_tidy m (event.Purge set n) DeviceFault m2 h k turn s = led m m2 turn s
+    turn_tidy m (event.Purge set n) OutOfMemory m2 h k turn s = led m m2 turn s
 
     -- Every run keeps it.
-    pub run_tidy : (m : Machine) (steps : List RunStep) (m2 : Machine) → IsReached rules gauge view m
+    pub run_tidy : (m : Machine) (steps : List RunStep) (m2 : Machine) → IsReached rules gauge m
+        → Kept rules view m
         → Runs rules m steps m2
         → IsTidy rules m → IsTidy rules m2
-    run_tidy m [] m2 h runs s = led m m2 runs s
-    run_tidy m (step ∷ steps) m2 h runs s =
+    run_tidy m [] m2 h k runs s = led m m2 runs s
+    run_tidy m (step ∷ steps) m2 h k runs s =
         run_tidy step.after steps m2
-        (reached_then rules gauge laws view order m step.event step.environment step.after h runs.0) runs.1
-        (turn_tidy m step.event step.environment step.after h runs.0 s)
+        (reached_then rules gauge laws view order m step.event step.environment step.after h runs.0)
+        (turn_kept rules view order m step.event step.environment step.after runs.0 k) runs.1
+        (turn_tidy m step.event step.environment step.after h k runs.0 s)
 
     -- A machine at rest has it.
     pub rest_tidy : (lines : List (List ℕ)) (h : History) → StandOnce rules (at_rest rules lines h)

@@ -1,7 +1,6 @@
 -- What runs from one place by the same events have in common, where the same befalls them: all but the items of
 -- entries, and the cycles named.
 use Rattle.std.specs.Prelude.{◌≡◌, ⊤, ℕ, ◌≤◌, List, [], ◌∷◌, length, map, Bool, true, false, nat_lt, Some}
-use Rattle.std.specs.List.{AllByRecursion}
 use Rattle.std.specs.Option.{option_map_or}
 use Rattle.fp_model.specs.declared.definitions.Defs.{Defs}
 use Rattle.fp_model.specs.declared.events.Event.{Event}
@@ -15,7 +14,7 @@ use Rattle.fp_model.specs.History.{History}
 use Rattle.fp_model.specs.Rules.{Rules}
 use Rattle.fp_model.specs.Waiting.{Lock}
 use Rattle.fp_model.specs.Machine.{Transaction, Active, Machine, region_at}
-use Rattle.fp_model.specs.Turns.{Environment, NoFault, asks, wanted, requests_with, refused_with}
+use Rattle.fp_model.specs.Turns.{Environment, asks, wanted, requests_with, refused_with}
 use Rattle.fp_model.specs.Runs.{RunStep, machine_after}
 
 -- ---- schedules
@@ -34,10 +33,6 @@ IsOfSchedule defs _ = ⊤
 -- the events of steps, each with what befell it
 abbrev pub step_parts : List RunStep → List (Event × Environment)
 step_parts steps = map (λ step. (step.event, step.environment)) steps
-
--- nothing befalls the steps
-abbrev pub AreFair : List RunStep → Type 0
-AreFair steps = AllByRecursion (λ step. step.environment ≡ NoFault) steps
 
 -- ---- what is in common
 

@@ -2,3 +2,4 @@ pub mod Requests
 pub mod Fresh
 pub mod Lives
 pub mod Determined
+pub mod Starts

@@ -1,5 +1,5 @@
 //! A message with a number takes effect at most once, over any runs and stops, and is answered by one line.
-ghost use Rattle.std.specs.Prelude.{◌≡◌, ℕ, ◌<◌, List, [], true};
+ghost use Rattle.std.specs.Prelude.{◌≡◌, ℕ, ◌<◌, ◌≤◌, List, ◌∷◌, length, slice_get, true};
 ghost use Rattle.std.specs.List.{Contains};
 ghost use Rattle.fp_model.specs.declared.definitions.Defs.{Defs};
 ghost use Rattle.fp_model.specs.declared.log.Entry.{Entry};
@@ -28,20 +28,21 @@ pub fn a_message_takes_effect_once()
         → uses_number a.outcome ≡ true
         → uses_number b.outcome ≡ true
         → i ≡ j }
-    ensures run { (defs : Defs) (scripts : List Script) (format : ℕ) (ms : List Machine) (m : Machine)
+    ensures run { (defs : Defs) (scripts : List Script) (format : ℕ) (before : List Entry) (sealed : ℕ) (ms : List Machine) (m : Machine)
         → (i j : ℕ) (a b : Entry) (name : Name) (number : ℕ)
         → AreDefs defs
-        → Lives (rules_of defs scripts) format [] 0 ms
+        → Lives (rules_of defs scripts) format before sealed ms
         → Contains ms m
         → IsNumbered format m.history.entries i a name number
         → IsNumbered format m.history.entries j b name number
         → uses_number a.outcome ≡ true
         → uses_number b.outcome ≡ true
         → i ≡ j }
-    ensures runs { (defs : Defs) (scripts : List Script) (format : ℕ) (ms : List Machine) (m m2 : Machine)
+    ensures runs { (defs : Defs) (scripts : List Script) (format : ℕ) (before : List Entry) (sealed : ℕ) (ms : List Machine)
+        → (m m2 : Machine)
         → (i j : ℕ) (a b : Entry) (name : Name) (number : ℕ)
         → AreDefs defs
-        → Lives (rules_of defs scripts) format [] 0 ms
+        → Lives (rules_of defs scripts) format before sealed ms
         → Contains ms m
         → Contains ms m2
         → i < m.sealed
@@ -53,6 +54,25 @@ pub fn a_message_takes_effect_once()
         → (i ≡ j) × (a ≡ b) }
 {}
 
+/// What was sealed before several runs, or in one of them, stands at its place in all later ones.
+pub fn what_was_sealed_stands()
+    ensures before { (defs : Defs) (scripts : List Script) (format : ℕ) (before : List Entry) (sealed : ℕ)
+        → (ms : List Machine) (m : Machine) (i : ℕ)
+        → AreDefs defs
+        → sealed ≤ length before
+        → Lives (rules_of defs scripts) format before sealed ms
+        → Contains ms m
+        → i < sealed
+        → slice_get m.history.entries i ≡ slice_get before i }
+    ensures later { (defs : Defs) (scripts : List Script) (format : ℕ) (before : List Entry) (sealed : ℕ)
+        → (m : Machine) (ms : List Machine) (m2 : Machine) (i : ℕ)
+        → AreDefs defs
+        → Lives (rules_of defs scripts) format before sealed (m ∷ ms)
+        → Contains ms m2
+        → i < m.sealed
+        → slice_get m2.history.entries i ≡ slice_get m.history.entries i }
+{}
+
 /// A Repeat has an earlier entry that used its number, and the line of that. So whatever a terminal is told of a number
 /// in any of several runs, Old aside, is one line.
 pub fn a_message_has_one_line()
@@ -62,10 +82,11 @@ pub fn a_message_has_one_line()
         → IsNumbered h.format h.entries j b name number
         → b.outcome ≡ outcome.Repeat line
         → WasUsed h.format h.entries j name number (line_text b) }
-    ensures runs { (defs : Defs) (scripts : List Script) (format : ℕ) (ms : List Machine) (m m2 : Machine)
+    ensures runs { (defs : Defs) (scripts : List Script) (format : ℕ) (before : List Entry) (sealed : ℕ) (ms : List Machine)
+        → (m m2 : Machine)
         → (i j : ℕ) (a b : Entry) (name : Name) (number : ℕ)
         → AreDefs defs
-        → Lives (rules_of defs scripts) format [] 0 ms
+        → Lives (rules_of defs scripts) format before sealed ms
         → Contains ms m
         → Contains ms m2
         → i < m.sealed

@@ -15,7 +15,8 @@ ghost use Rattle.fp_model.specs.Machine.{Transaction, Active, Machine, region_at
 ghost use Rattle.fp_model.specs.Turns.{wanted};
 ghost use Rattle.fp_model.specs.WellFormed.{AreDefs};
 ghost use Rattle.serial_order.specs.Kept.{count};
-ghost use Rattle.drain_laws.specs.Live.{IsAtWork, IsFromRest};
+ghost use Rattle.drain_laws.specs.Live.{IsAtWork};
+ghost use Rattle.run_laws.specs.Starts.{IsFromSerial};
 ghost use Rattle.run_laws.specs.Requests.{IsCurrent, times_in};
 ghost use Rattle.run_laws.specs.Fresh.{IsFresh};
 
@@ -24,11 +25,11 @@ ghost use Rattle.run_laws.specs.Fresh.{IsFresh};
 pub fn a_terminal_is_busy_with_one_message()
     ensures busy { (defs : Defs) (scripts : List Script) (m : Machine)
         → AreDefs defs
-        → IsFromRest (rules_of defs scripts) m
+        → IsFromSerial (rules_of defs scripts) m
         → (name : Name) → times_in m.busy name ≡ count (rules_of defs scripts) name m }
     ensures once { (defs : Defs) (scripts : List Script) (m : Machine)
         → AreDefs defs
-        → IsFromRest (rules_of defs scripts) m
+        → IsFromSerial (rules_of defs scripts) m
         → (name : Name) → count (rules_of defs scripts) name m ≤ 1 }
 {}
 
@@ -36,12 +37,12 @@ pub fn a_terminal_is_busy_with_one_message()
 pub fn only_active_regions_hold_or_ask()
     ensures locks { (defs : Defs) (scripts : List Script) (m : Machine) (lock : Lock)
         → AreDefs defs
-        → IsFromRest (rules_of defs scripts) m
+        → IsFromSerial (rules_of defs scripts) m
         → Contains m.locks lock
         → IsAtWork m lock.region }
     ensures requests { (defs : Defs) (scripts : List Script) (m : Machine) (request : Lock)
         → AreDefs defs
-        → IsFromRest (rules_of defs scripts) m
+        → IsFromSerial (rules_of defs scripts) m
         → Contains m.requests request
         → IsCurrent (rules_of defs scripts) m request }
 {}
@@ -62,13 +63,13 @@ pub fn what_is_wanted_is_not_held()
 pub fn messages_stay_fresh()
     ensures queued { (defs : Defs) (scripts : List Script) (m : Machine) (messages : List Message) (message : Message)
         → AreDefs defs
-        → IsFromRest (rules_of defs scripts) m
+        → IsFromSerial (rules_of defs scripts) m
         → Contains m.queues messages
         → Contains messages message
         → IsFresh scripts m.history message }
     ensures active { (defs : Defs) (scripts : List Script) (m : Machine) (region : ℕ) (t : Transaction)
         → AreDefs defs
-        → IsFromRest (rules_of defs scripts) m
+        → IsFromSerial (rules_of defs scripts) m
         → region_at m region ≡ Some (Active t)
         → IsFresh scripts m.history t.message }
 {}
@@ -77,6 +78,6 @@ pub fn messages_stay_fresh()
 pub fn sealed_entries_stand()
     ensures { (defs : Defs) (scripts : List Script) (m : Machine)
         → AreDefs defs
-        → IsFromRest (rules_of defs scripts) m
+        → IsFromSerial (rules_of defs scripts) m
         → m.sealed ≤ place_of m.history }
 {}

@@ -10,19 +10,20 @@ ghost use Rattle.fp_model.specs.Machine.{Machine};
 ghost use Rattle.fp_model.specs.Turns.{Environment, NoFault, Turn};
 ghost use Rattle.fp_model.specs.Runs.{RunStep, step_events, Runs, Drains};
 ghost use Rattle.fp_model.specs.WellFormed.{AreDefs};
-ghost use Rattle.drain_laws.specs.Live.{IsFromRest};
-ghost use Rattle.run_laws.specs.Determined.{IsOfSchedule, step_parts, AreFair, but_cycle, whole, plain, plain_step, StepsNameFound, RoundsNameFound};
+ghost use Rattle.run_laws.specs.Starts.{IsFromSerial};
+ghost use Rattle.drain_laws.specs.Rounds.{AreFair};
+ghost use Rattle.run_laws.specs.Determined.{IsOfSchedule, step_parts, but_cycle, whole, plain, plain_step, StepsNameFound, RoundsNameFound};
 
 /// Each event that a schedule may have has a turn that nothing befalls, and so each schedule a run.
 pub fn every_event_has_a_turn()
     ensures turn { (defs : Defs) (scripts : List Script) (m : Machine) (event : Event)
         → AreDefs defs
-        → IsFromRest (rules_of defs scripts) m
+        → IsFromSerial (rules_of defs scripts) m
         → IsOfSchedule defs event
         → (m2 : Machine) × Turn (rules_of defs scripts) m event NoFault m2 }
     ensures run { (defs : Defs) (scripts : List Script) (m : Machine) (events : List Event)
         → AreDefs defs
-        → IsFromRest (rules_of defs scripts) m
+        → IsFromSerial (rules_of defs scripts) m
         → AllByRecursion (IsOfSchedule defs) events
         → (steps : List RunStep) × ((m2 : Machine) × (Runs (rules_of defs scripts) m steps m2
         × ((step_events steps ≡ events) × AreFair steps))) }

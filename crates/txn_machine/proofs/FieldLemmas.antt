@@ -9,7 +9,11 @@ use Rattle.fp_model.specs.declared.definitions.Defs.{Defs}
 use Rattle.fp_model.specs.declared.calls.Message.{Message}
 use Rattle.fp_model.specs.declared.scripts.FieldText.{FieldText}
 use Rattle.fp_model.specs.declared.scripts.SsaText.{SsaText}
-use Rattle.txn_machine.specs.Filling.{with_value}
+use Rattle.std.specs.Prelude.{⊤, Result, Ok, Err, take}
+use Rattle.txn_machine.specs.declared.stop.Stop.{Stop}
+use Rattle.txn_machine.specs.declared.stop.Stop.TheVariants as stop
+use Rattle.txn_machine.specs.Giving.{PutsIn}
+use Rattle.txn_machine.specs.Filling.{field_filled, with_value}
 
 -- a list in front of one that there may be
 abbrev pub prefixed : {A : Type 0} → List A → Option (List A) → Option (List A)
@@ -32,6 +36,16 @@ pub rest_at : {X : Type 0} (xs : List X) (i : ℕ) (x : X) → i < length xs →
 rest_at {X} xs i x lt is =
     let next : suc i ≡ i + 1 = omega arith in
     drop-cons xs i x lt ∙ ap (λ (y : X). y ∷ drop (suc i) xs) (sym is) ∙ ap (λ (k : ℕ). x ∷ drop k xs) next
+
+-- the bytes of a field put in their place, where they are a value
+pub put_is_filled : (field : FieldDef) (segment new text : List ℕ) (r : Result ⊤ Stop) → length new ≡ field.length → PutsIn r new (value_bytes field text)
+    → PutsIn r (take field.at segment ++ (new ++ drop (field.at + field.length) segment)) (field_filled field text segment)
+put_is_filled field segment new text (Ok done) long is =
+    ap (λ (o : Option (List ℕ)). o >>= (λ bytes. Some (with_field field bytes segment))) is
+    ∙ ap (λ (n : ℕ). Some (take field.at segment ++ new ++ drop (field.at + n) segment)) long
+    ∙ ap (λ (bytes : List ℕ). Some bytes) (append_assoc (take field.at segment) new (drop (field.at + field.length) segment))
+put_is_filled field segment new text (Err stop.NoValue) long is = ap (λ (o : Option (List ℕ)). o >>= (λ bytes. Some (with_field field bytes segment))) is
+put_is_filled field segment new text (Err stop.Memory) long is = tt
 
 -- values one after another
 then_filled : {A B C D : Type 0} (m : Option A) (f : A → Option B) (g : A → B → Option C) (h : A → B → C → D) (k : D → Option D)

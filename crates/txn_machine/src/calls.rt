@@ -12,7 +12,7 @@ ghost use Rattle.txn_machine.specs.Filling.{fsa_given, with_value};
 ghost use Rattle.txn_machine.specs.Giving.{Gives, GivesAs, Stops};
 ghost use Rattle.txn_machine.specs.Knowing.{env_of, segment_on};
 
-use crate::fields::{Layout, empty_segment, field_of, layout_of, value_bytes, with_field};
+use crate::fields::{Layout, empty_segment, field_of, fill_field, layout_of};
 use crate::known::Known;
 use crate::shown::Shown;
 use crate::stop::Stop;
@@ -101,14 +101,13 @@ impl Known {
         defs: &Defs,
         fields: &[FieldDef],
         value: &FieldText,
-        segment: &Bytes,
+        segment: Bytes,
     ) -> Result<Bytes, Stop>
-        ensures { Gives result (with_value defs.now self.now.message (env_of self.now []) fields.now value.now segment.now) }
+        ensures { Gives result (with_value defs.now self.now.message (env_of self.now []) fields.now value.now segment) }
     {
         let field = field_of(fields, &value.field)?;
         let text = self.text_of(defs, &value.value)?;
-        let bytes = value_bytes(self.alloc, &field, text.as_slice())?;
-        Ok(with_field(self.alloc, &field, bytes.as_slice(), segment.as_slice())?)
+        fill_field(self.alloc, &field, text.as_slice(), segment)
     }
 
     // A segment with values put into its fields.
@@ -124,7 +123,7 @@ impl Known {
     {
         let mut segment = segment;
         for value in values {
-            segment = self.with_value(defs, fields, value, &segment)?;
+            segment = self.with_value(defs, fields, value, segment)?;
         }
         Ok(segment)
     }

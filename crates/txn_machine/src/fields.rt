@@ -1,10 +1,12 @@
 //! Segments and their fields: what a field holds as a text, and what a text is as the bytes of a field.
-ghost use Rattle.std.specs.Prelude.{◌≡◌, ◌++◌, [], IfErr, IfOk, Some, drop, length, replicate, take};
+ghost use Rattle.std.specs.Prelude.{◌≡◌, ◌+◌, ◌≤◌, ◌++◌, [], IfErr, IfOk, Some, drop, length, replicate, take};
 ghost use Rattle.fp_model.specs.Fsas as fsas;
 ghost use Rattle.fp_model.specs.Fsas.{field_bytes, field_of, with_field};
 ghost use Rattle.fp_model.specs.Numbers.{bytes_of, number};
 ghost use Rattle.fp_model.specs.Values.{empty_field, empty_segment, fitted, fitted_key, layout_of, value_bytes, value_text};
-ghost use Rattle.txn_machine.specs.Giving.{Gives, Stops};
+ghost use Rattle.fp_model.specs.Texts.{padded};
+ghost use Rattle.txn_machine.specs.Filling.{field_filled};
+ghost use Rattle.txn_machine.specs.Giving.{Gives, PutsIn, Stops};
 
 use crate::stop::Stop;
 use crate::values::{decimal_text, number, without_blanks};
@@ -88,8 +90,8 @@ pub(crate) fn field_bytes<'a>(field: &FieldDef, segment: &'a [u8]) -> &'a [u8]
     )
 }
 
-/// A segment with other bytes in a field. Fails only for want of memory.
-pub(crate) fn with_field(
+// A segment with other bytes in a field. Fails only for want of memory.
+fn with_field(
     alloc: Global,
     field: &FieldDef,
     bytes: &[u8],
@@ -111,6 +113,27 @@ fn is_text(kind: FieldKind) -> bool
     matches!(kind, FieldKind::C)
 }
 
+// Puts a text into a field, with blanks behind it.
+fn put_padded(held: &mut [u8], text: &[u8])
+    requires { length text.now ≤ length held.old }
+    ensures { held.new ≡ padded (length held.old) text.now }
+{
+    let (front, back) = held.split_at_mut(text.len());
+    front.copy_from_slice(text);
+    back.fill(b' ');
+}
+
+// Puts a text into a field, with blanks behind it, if it isn't longer.
+fn put_text(held: &mut [u8], text: &[u8]) -> Result<(), Stop>
+    ensures { PutsIn result held.new (fitted (length held.old) text.now) }
+{
+    if text.len() > held.len() {
+        return Err(Stop::NoValue);
+    }
+    put_padded(held, text);
+    Ok(())
+}
+
 // A text with blanks behind it, if it isn't longer than so many bytes.
 fn fitted(alloc: Global, count: usize, text: &[u8]) -> Result<Bytes, Stop>
     ensures { Gives result (fitted count text.now) }
@@ -118,10 +141,9 @@ fn fitted(alloc: Global, count: usize, text: &[u8]) -> Result<Bytes, Stop>
     if text.len() > count {
         return Err(Stop::NoValue);
     }
-    let blanks = vec![in alloc; b' '; count - text.len()]?;
-    let mut bytes = Bytes::from_slice(alloc, text)?;
-    bytes.append(blanks.as_slice())?;
-    Ok(bytes)
+    let mut bytes = vec![in alloc; 0; count]?;
+    put_padded(bytes.as_mut_slice(), text);
+    Ok(Bytes::from_vec(bytes))
 }
 
 // A number as the bytes of a field of so many, if it fits.
@@ -136,8 +158,60 @@ fn number_bytes(alloc: Global, kind: FieldKind, count: usize, n: i128) -> Result
     }
 }
 
-/// A text as the bytes of a field, if it fits.
-pub(crate) fn value_bytes(alloc: Global, field: &FieldDef, text: &[u8]) -> Result<Bytes, Stop>
+// Puts a number into a field, if it fits.
+fn put_number(kind: FieldKind, held: &mut [u8], n: i128) -> Result<(), Stop>
+    ensures { PutsIn result held.new (bytes_of kind (length held.old) n) }
+{
+    if write_number(kind, held, n) {
+        Ok(())
+    } else {
+        Err(Stop::NoValue)
+    }
+}
+
+// Puts a text into a field, as its value, if it fits.
+fn put_value(field: &FieldDef, held: &mut [u8], text: &[u8]) -> Result<(), Stop>
+    requires whole { length held.old ≡ field.now.length }
+    ensures { PutsIn result held.new (value_bytes field.now text.now) }
+{
+    if is_text(field.kind) {
+        put_text(held, text)
+    } else {
+        put_number(field.kind, held, number(text)?)
+    }
+}
+
+// Puts a text into a field of a segment that has all of it, as its value, if it fits.
+fn put_within(field: &FieldDef, segment: &mut [u8], text: &[u8]) -> Result<(), Stop>
+    requires within { field.now.at + field.now.length ≤ length segment.old }
+    ensures { PutsIn result segment.new (field_filled field.now text.now segment.old) }
+{
+    let at = usize::from(field.at);
+    let end = at + usize::from(field.length);
+    let held = &mut segment[at..end];
+    put_value(field, held, text)
+}
+
+/// A segment with a text as the value of a field, if it fits. Takes no memory where the segment has all of the field.
+pub(crate) fn fill_field(
+    alloc: Global,
+    field: &FieldDef,
+    text: &[u8],
+    segment: Bytes,
+) -> Result<Bytes, Stop>
+    ensures { Gives result (field_filled field.now text.now segment) }
+{
+    if usize::from(field.at) + usize::from(field.length) > segment.len() {
+        let bytes = value_bytes(alloc, field, text)?;
+        return Ok(with_field(alloc, field, bytes.as_slice(), segment.as_slice())?);
+    }
+    let mut bytes = segment.into_vec();
+    put_within(field, bytes.as_mut_slice(), text)?;
+    Ok(Bytes::from_vec(bytes))
+}
+
+// A text as the bytes of a field, if it fits.
+fn value_bytes(alloc: Global, field: &FieldDef, text: &[u8]) -> Result<Bytes, Stop>
     ensures { Gives result (value_bytes field.now text.now) }
 {
     let count = usize::from(field.length);
@@ -173,11 +247,20 @@ pub(crate) fn value_text(alloc: Global, field: &FieldDef, bytes: &[u8]) -> Resul
     }
 }
 
+// How many bytes fields have.
+fn size_of(fields: &[FieldDef]) -> usize {
+    let mut size: usize = 0;
+    for field in fields {
+        size = size.saturating_add(usize::from(field.length));
+    }
+    size
+}
+
 /// A segment before values are put there: blanks and zeros.
 pub(crate) fn empty_segment(alloc: Global, fields: &[FieldDef]) -> Result<Bytes, Stop>
     ensures { Gives result (empty_segment fields.now) }
 {
-    let mut segment = Bytes::new(alloc);
+    let mut segment = Bytes::with_capacity(alloc, size_of(fields))?;
     for field in fields {
         let bytes = empty_field(alloc, field)?;
         segment.append(bytes.as_slice())?;

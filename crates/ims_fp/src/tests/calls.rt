@@ -1,7 +1,7 @@
 //! The bytes that reach files and come back, and what is sent.
 use super::steps::Answer::{Bytes, Done, Failed, Length};
 use super::steps::Step::{Finish, Reach, Read, Send, Size, Sync, Write, WriteNothing};
-use super::steps::{Answer, Step, fresh, goes, site_in};
+use super::steps::{Answer, Step, ends, fresh, goes, site_in, site_of};
 use crate::folder::Access;
 use fp_site::Site;
 use std::fs;
@@ -28,20 +28,30 @@ const MAKE_ONE: [(Step, Answer); 3] = [(Write(2, *b"abc"), Done), (Sync, Done), 
 
 #[test]
 fn data_sets_are_files_of_their_names(rt: HostRuntime) -> Result<(), Fail> {
-    fresh(&rt, "names")?;
-    let mut site = site_in(&rt, "names", Access::Change, "names/out")?;
+    let mut site = site_of(&rt, "names", "names/out")?;
     for (set, name) in NAMES {
         goes(&rt, &mut site, set, &MAKE_NONE)?;
         assert!(rt; !fs::exists(&rt, name)?, "{name} is made too early");
         goes(&rt, &mut site, set, &MAKE_ONE)?;
-        assert_eq!(rt;
-            fs::read(&rt, name)?.as_slice(),
-            b"\0\0abc".as_slice(),
-            "{name}"
-        );
-        assert_eq!(rt; fs::metadata(&rt, name)?.mode() & 0o777, 0o600, "{name}");
+        is_made(&rt, name)?;
     }
-    fs::remove_dir_all(&rt, "names")?;
+    ends(&rt, "names", &[])
+}
+
+// The file of this name holds these bytes.
+fn holds(rt: &HostRuntime, name: &str, want: &[u8]) -> Result<(), Fail> {
+    if fs::read(rt, name)?.as_slice() != want {
+        return Err(Fail::from("the file holds other bytes"));
+    }
+    Ok(())
+}
+
+// The file of this name holds what was written, for its owner alone.
+fn is_made(rt: &HostRuntime, name: &str) -> Result<(), Fail> {
+    holds(rt, name, b"\0\0abc")?;
+    if fs::metadata(rt, name)?.mode() & 0o777 != 0o600 {
+        return Err(Fail::from("others may use the file"));
+    }
     Ok(())
 }
 
@@ -84,30 +94,28 @@ fn long_byte(number: usize) -> u8 {
 
 #[test]
 fn what_was_written_is_not_read_from_an_older_block(rt: HostRuntime) -> Result<(), Fail> {
-    fresh(&rt, "long")?;
+    let mut site = site_of(&rt, "long", "long/out")?;
     let mut bytes = vec![in rt.alloc(); 0u8; 200_000]?;
     for number in 0..200_000 {
         bytes[number] = long_byte(number);
     }
     fs::write(&rt, "long/log", bytes.as_slice())?;
-    let mut site = site_in(&rt, "long", Access::Change, "long/out")?;
     assert!(rt; site.read_at(0, 0, bytes.as_mut_slice()).is_ok());
     for (number, byte) in bytes.iter().enumerate() {
         assert_eq!(rt; *byte, long_byte(number), "byte {number}");
     }
     goes(&rt, &mut site, 0, &LONG)?;
-    fs::remove_dir_all(&rt, "long")?;
-    Ok(())
+    ends(&rt, "long", &[])
 }
 
-// A file is rewritten by blocks of 65,536 bytes.
-const LENGTHS: [usize; 5] = [0, 1, 65_536, 65_537, 131_072];
+// A file is rewritten by blocks of 1,048,576 bytes.
+const LENGTHS: [usize; 5] = [0, 1, 1_048_576, 1_048_577, 2_097_152];
 
 #[test]
 fn a_file_that_is_rewritten_holds_the_same_bytes(rt: HostRuntime) -> Result<(), Fail> {
     fresh(&rt, "same")?;
-    let mut bytes = vec![in rt.alloc(); 0u8; 131_072]?;
-    for number in 0..131_072 {
+    let mut bytes = vec![in rt.alloc(); 0u8; 2_097_152]?;
+    for number in 0..2_097_152 {
         bytes[number] = long_byte(number);
     }
     for length in LENGTHS {
@@ -115,40 +123,30 @@ fn a_file_that_is_rewritten_holds_the_same_bytes(rt: HostRuntime) -> Result<(), 
         fs::write(&rt, "same/log", front)?;
         let mut site = site_in(&rt, "same", Access::Change, "same/out")?;
         goes(&rt, &mut site, 0, &[(Size, Length(length as u64))])?;
-        assert!(rt;
-            fs::read(&rt, "same/log")?.as_slice() == front,
-            "{length} bytes"
-        );
+        holds(&rt, "same/log", front)?;
     }
-    fs::remove_dir_all(&rt, "same")?;
-    Ok(())
+    ends(&rt, "same", &[])
 }
+
+// Calls, and how many bytes the output has behind each.
+const SENDS: [(Step, Answer, usize); 5] = [
+    (Send(*b"one\n"), Done, 0),
+    (Send(*b"two\n"), Done, 0),
+    (Size, Length(0), 8),
+    (Send(*b"six\n"), Done, 8),
+    (Finish, Done, 12),
+];
 
 #[test]
 fn sends_are_gathered_up_to_the_next_call(rt: HostRuntime) -> Result<(), Fail> {
-    fresh(&rt, "sends")?;
-    let mut site = site_in(&rt, "sends", Access::Change, "sends/out")?;
-    goes(
-        &rt,
-        &mut site,
-        0,
-        &[(Send(*b"one\n"), Done), (Send(*b"two\n"), Done)],
-    )?;
-    assert_eq!(rt; fs::read(&rt, "sends/out")?.len(), 0);
-    goes(&rt, &mut site, 0, &[(Size, Length(0))])?;
-    assert_eq!(rt;
-        fs::read(&rt, "sends/out")?.as_slice(),
-        b"one\ntwo\n".as_slice()
-    );
-    goes(
-        &rt,
-        &mut site,
-        0,
-        &[(Send(*b"six\n"), Done), (Finish, Done)],
-    )?;
-    assert_eq!(rt; fs::read(&rt, "sends/out")?.len(), 12);
-    fs::remove_dir_all(&rt, "sends")?;
-    Ok(())
+    let mut site = site_of(&rt, "sends", "sends/out")?;
+    for (step, want, length) in SENDS {
+        goes(&rt, &mut site, 0, &[(step, want)])?;
+        assert_eq!(rt; fs::read(&rt, "sends/out")?.len(), length);
+    }
+    let sent = fs::read(&rt, "sends/out")?;
+    assert_eq!(rt; sent.as_slice(), b"one\ntwo\nsix\n".as_slice());
+    ends(&rt, "sends", &[])
 }
 
 const FULL: [(Step, Answer); 5] = [

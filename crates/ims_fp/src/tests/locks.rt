@@ -1,7 +1,7 @@
 //! The lock of the folder, of two sites that stand beside one another.
 use super::steps::Answer::{Done, Failed, Length};
 use super::steps::Step::{Reach, Read, Send, Size, Sync, Write};
-use super::steps::{Answer, Step, fresh, goes, site_in};
+use super::steps::{Answer, Step, TestSite, ends, fresh, goes, site_in, site_of};
 use crate::folder::Access;
 use std::fs;
 use std::test::Fail;
@@ -14,6 +14,8 @@ const REFUSED: [(Step, Answer); 6] = [
     (Write(0, *b"abc"), Failed),
     (Send(*b"text"), Done),
 ];
+
+const FREE: [(Step, Answer); 2] = [(Size, Length(0)), (Sync, Done)];
 
 // The access of the one that comes first, of the second, and whether the two go together.
 const PAIRS: [(Access, Access, bool); 4] = [
@@ -29,35 +31,34 @@ fn one_site_that_changes_a_folder_is_alone_with_it(rt: HostRuntime) -> Result<()
         fresh(&rt, "pair")?;
         let mut one = site_in(&rt, "pair", first, "pair/out1")?;
         let mut two = site_in(&rt, "pair", second, "pair/out2")?;
-        goes(&rt, &mut one, 0, &[(Size, Length(0))])?;
-        match together {
-            true => goes(&rt, &mut two, 1, &[(Size, Length(0)), (Sync, Done)])?,
-            false => goes(&rt, &mut two, 1, &REFUSED)?,
-        }
+        goes(&rt, &mut one, 0, &FREE)?;
+        let meanwhile: &[(Step, Answer)] = if together { &FREE } else { &REFUSED };
+        goes(&rt, &mut two, 1, meanwhile)?;
         drop(one);
-        goes(&rt, &mut two, 1, &[(Size, Length(0)), (Sync, Done)])?;
+        goes(&rt, &mut two, 1, &FREE)?;
     }
-    fs::remove_dir_all(&rt, "pair")?;
-    Ok(())
+    ends(&rt, "pair", &[])
 }
 
 #[test]
 fn the_first_fault_says_that_the_folder_is_locked(rt: HostRuntime) -> Result<(), Fail> {
-    fresh(&rt, "told")?;
-    let mut one = site_in(&rt, "told", Access::Change, "told/out1")?;
+    let mut one = site_of(&rt, "told", "told/out1")?;
     let mut two = site_in(&rt, "told", Access::Change, "told/out2")?;
     goes(&rt, &mut one, 0, &[(Sync, Done)])?;
     assert!(rt; two.first_fault().is_none());
     goes(&rt, &mut two, 0, &REFUSED)?;
-    let Some(cause) = two.first_fault() else {
+    says(&rt, &two, "told: lock: another program uses this folder")?;
+    ends(&rt, "told", &[])
+}
+
+// The first fault of a site over the folder `told` is told by this line.
+fn says(rt: &HostRuntime, site: &TestSite<'_>, want: &str) -> Result<(), Fail> {
+    let Some(cause) = site.first_fault() else {
         return Err(Fail::from("no cause is told"));
     };
-    let line = cause.line(rt.alloc(), "told")?;
-    assert_eq!(rt;
-        line.as_str(),
-        "told: lock: another program uses this folder"
-    );
-    fs::remove_dir_all(&rt, "told")?;
+    if cause.line(rt.alloc(), "told")?.as_str() != want {
+        return Err(Fail::from("another cause is told"));
+    }
     Ok(())
 }
 
@@ -76,7 +77,5 @@ fn a_site_that_only_looks_writes_nothing(rt: HostRuntime) -> Result<(), Fail> {
     let mut site = site_in(&rt, "look", Access::Look, "look/out")?;
     goes(&rt, &mut site, 0, &ONLY_READ)?;
     goes(&rt, &mut site, 1, &[(Write(0, *b"abc"), Failed)])?;
-    assert!(rt; !fs::exists(&rt, "look/ckpt1")?);
-    fs::remove_dir_all(&rt, "look")?;
-    Ok(())
+    ends(&rt, "look", &["look/ckpt1"])
 }

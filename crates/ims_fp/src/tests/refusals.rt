@@ -1,7 +1,7 @@
 //! What is refused, what a failed sync leaves, and what is told of a fault.
 use super::steps::Answer::{Done, Failed, Length};
 use super::steps::Step::{Reach, Read, Size, Sync, Write, WriteNothing};
-use super::steps::{Answer, Step, fresh, goes, site_in};
+use super::steps::{Answer, Step, all_go, ends, fresh, goes, site_in, site_of};
 use crate::cause::{Call, Cause, Place};
 use crate::folder::Access;
 use fp_source::Part;
@@ -15,29 +15,21 @@ const NO_FILE: [(Step, Answer); 3] = [
     (Write(0, *b"abc"), Failed),
 ];
 
-const LOST: [(Step, Answer); 6] = [
-    (Sync, Failed),
-    (Size, Failed),
-    (Reach, Failed),
-    (Read(0), Failed),
-    (Write(0, *b"abc"), Failed),
-    (WriteNothing, Failed),
-];
+// What leads where, by links.
+const LINKS: [(&str, &str); 2] = [("/dev/null", "bad/ckpt1"), ("nowhere", "bad/ckpt2")];
 
 #[test]
 fn what_is_no_regular_file_is_refused(rt: HostRuntime) -> Result<(), Fail> {
-    fresh(&rt, "bad")?;
+    let mut site = site_of(&rt, "bad", "bad/out")?;
     fs::create_dir(&rt, "bad/log")?;
-    symlink(&rt, "/dev/null", "bad/ckpt1")?;
-    symlink(&rt, "nowhere", "bad/ckpt2")?;
-    let mut site = site_in(&rt, "bad", Access::Change, "bad/out")?;
+    for (target, name) in LINKS {
+        symlink(&rt, target, name)?;
+    }
     for set in 0..3 {
         goes(&rt, &mut site, set, &NO_FILE)?;
     }
     goes(&rt, &mut site, 3, &[(Sync, Done)])?;
-    assert!(rt; !fs::exists(&rt, "bad/nowhere")?);
-    fs::remove_dir_all(&rt, "bad")?;
-    Ok(())
+    ends(&rt, "bad", &["bad/nowhere"])
 }
 
 #[test]
@@ -49,26 +41,40 @@ fn a_folder_that_is_not_there_is_a_fault(rt: HostRuntime) -> Result<(), Fail> {
     Ok(())
 }
 
+// A folder stands at the name of each data set.
+const FOLDERS: [&str; 2] = ["lost/log", "lost/ckpt1"];
+
+const WHILE_THEY_STAND: [(u16, Step, Answer); 4] = [
+    (0, Sync, Failed),
+    (1, Size, Failed),
+    (1, Read(0), Failed),
+    (1, Write(0, *b"abc"), Failed),
+];
+
+// Only the log was synced, so it alone is lost.
+const ONCE_THEY_ARE_GONE: [(u16, Step, Answer); 8] = [
+    (0, Sync, Failed),
+    (0, Size, Failed),
+    (0, Reach, Failed),
+    (0, Read(0), Failed),
+    (0, Write(0, *b"abc"), Failed),
+    (0, WriteNothing, Failed),
+    (1, Size, Length(0)),
+    (1, Write(0, *b"abc"), Done),
+];
+
 #[test]
 fn a_failed_sync_loses_the_data_set(rt: HostRuntime) -> Result<(), Fail> {
-    fresh(&rt, "lost")?;
-    fs::create_dir(&rt, "lost/log")?;
-    fs::create_dir(&rt, "lost/ckpt1")?;
-    let mut site = site_in(&rt, "lost", Access::Change, "lost/out")?;
-    goes(&rt, &mut site, 0, &[(Sync, Failed)])?;
-    goes(&rt, &mut site, 1, &NO_FILE)?;
-    fs::remove_dir(&rt, "lost/log")?;
-    fs::remove_dir(&rt, "lost/ckpt1")?;
-    goes(&rt, &mut site, 0, &LOST)?;
-    goes(
-        &rt,
-        &mut site,
-        1,
-        &[(Size, Length(0)), (Write(0, *b"abc"), Done)],
-    )?;
-    assert!(rt; !fs::exists(&rt, "lost/log")?);
-    fs::remove_dir_all(&rt, "lost")?;
-    Ok(())
+    let mut site = site_of(&rt, "lost", "lost/out")?;
+    for name in FOLDERS {
+        fs::create_dir(&rt, name)?;
+    }
+    all_go(&rt, &mut site, &WHILE_THEY_STAND)?;
+    for name in FOLDERS {
+        fs::remove_dir(&rt, name)?;
+    }
+    all_go(&rt, &mut site, &ONCE_THEY_ARE_GONE)?;
+    ends(&rt, "lost", &["lost/log"])
 }
 
 const LINES: [(Place, Call, &str); 9] = [

@@ -53,6 +53,39 @@ pub(super) fn site_in<'a>(
     Ok(FileSite::new(alloc, Folder::new(rt, alloc, dir), access, output)?)
 }
 
+/// A site over a new folder, which may change it, and sends to the file of this name.
+pub(super) fn site_of<'a>(
+    rt: &'a HostRuntime,
+    dir: &'a str,
+    output: &str,
+) -> Result<TestSite<'a>, Fail> {
+    fresh(rt, dir)?;
+    site_in(rt, dir, Access::Change, output)
+}
+
+/// Nothing has these names. Removes the folder.
+pub(super) fn ends(rt: &HostRuntime, dir: &str, absent: &[&str]) -> Result<(), Fail> {
+    for name in absent {
+        if fs::exists(rt, name)? {
+            return Err(Fail::from("a file is there"));
+        }
+    }
+    fs::remove_dir_all(rt, dir)?;
+    Ok(())
+}
+
+/// Takes the steps, each on its data set.
+pub(super) fn all_go(
+    rt: &impl Abort,
+    site: &mut TestSite<'_>,
+    rows: &[(u16, Step, Answer)],
+) -> Result<(), Fail> {
+    for (set, step, want) in rows {
+        goes(rt, site, *set, &[(*step, *want)])?;
+    }
+    Ok(())
+}
+
 /// Takes the steps on a data set.
 pub(super) fn goes(
     rt: &impl Abort,

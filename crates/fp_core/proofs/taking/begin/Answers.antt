@@ -1,20 +1,4 @@
-use Rattle.std.proofs.Common.{◌∙◌, refl}
 use Rattle.fp_core.proofs.taking.begin.Goals as goal
 
 pub returns-clause-is : goal.returns-clause-is
-returns-clause-is c from = record {
-  from = refl;
-  message = refl;
-  short = c.requires.short;
-  tries = refl;
-  own = c.in_ok-work.ensures.own c.requires.no_dedbs;
-  notes = c.in_ok-work.ensures.notes;
-  of = c.in_ok-work.ensures.of;
-  changes = refl;
-  inserts = refl;
-  script = c.requires.named.0;
-  named = c.requires.named.1;
-  numbered = rw c.in_ok-program.ensures.number (c.in-Some.ensures.script ∙ c.requires.named.1);
-  at = c.in_ok-program.ensures.at c.args.defs.now c.requires.named.0.statements;
-  fit = c.in_ok-program.ensures.fit c.args.defs.now.msdbs;
-}
+returns-clause-is c from = c.in_ok-program.ensures from 0

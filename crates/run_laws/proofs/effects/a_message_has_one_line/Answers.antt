@@ -6,6 +6,6 @@ pub returns : goal.returns
 returns c = record {
   repeats = λ defs scripts h j b name number line serial n repeated.
       repeats_line defs scripts h serial j b name number line n repeated;
-  runs = λ defs scripts format ms m m2 i j a b name number are lives c c2 less less2 n n2 new new2.
-      one_line defs scripts are format ms lives m m2 i j a b name number c c2 less less2 n n2 new new2;
+  runs = λ defs scripts format before sealed ms m m2 i j a b name number are lives c c2 less less2 n n2 new new2.
+      one_line defs scripts are format before sealed ms lives m m2 i j a b name number c c2 less less2 n n2 new new2;
 }

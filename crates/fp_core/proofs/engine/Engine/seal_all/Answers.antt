@@ -1,9 +1,39 @@
-use Rattle.std.proofs.Common.{◌-◌}
+use Rattle.std.proofs.Common.{◌≡◌, arith, ◌-◌, ◌≤◌, length}
+use Rattle.std.proofs.lemmas.Grind.{common_steps}
 use Rattle.fp_model.specs.History.{place_of}
 use Rattle.fp_core.specs.Relation.{rules_in}
+use Rattle.fp_core.proofs.Checkpoints.{ckpt_nothing, ckpt_turned}
 use Rattle.fp_core.proofs.Steps.{left_alone}
 use Rattle.fp_core.proofs.engine.Engine.seal_all.Goals as goal
 
-pub returns-clause-leaves : goal.returns-clause-leaves
-returns-clause-leaves g c origin m told at =
+pub returns-in_default-clause-leaves : goal.returns-in_default-clause-leaves
+returns-in_default-clause-leaves g c origin m told at =
     left_alone origin (rules_in c.args.self.now) m (place_of m.history - m.sealed) (g.T.Site.disk c.args.site.now) c.args.self.now (g.met.T.Site.lawful c.args.site.now told) at
+
+pub returns-then-count-eq0-clause-at : goal.returns-then-count-eq0-clause-at
+returns-then-count-eq0-clause-at g c origin m told at =
+    let engine = c.args.self.now in
+    let none : length engine.owed.items ≡ 0 = grind (arith, common_steps, c.in-Ok.ensures, c.len.ensures) in
+    record { turned = ckpt_nothing engine m at.parts none; at = at }
+
+pub returns-then-count-eq0-clause-leaves : goal.returns-then-count-eq0-clause-leaves
+returns-then-count-eq0-clause-leaves g c origin m told at =
+    left_alone origin (rules_in c.args.self.now) m (place_of m.history - m.sealed) (g.T.Site.disk c.args.site.now) c.args.self.now (g.met.T.Site.lawful c.args.site.now told) at
+
+pub returns-clause-turned : goal.returns-clause-turned
+returns-clause-turned g c m s =
+    let engine = c.args.self.now in
+    let long : c.in-Ok.count ≡ length engine.owed.items = grind (arith, common_steps, c.in-Ok.ensures, c.len.ensures) in
+    let some : 1 ≤ c.in-Ok.count = omega arith in
+    ckpt_turned engine c.seal_rest.new.self m c.in-Ok.count s c.seal_rest.ensures.rules long some (c.in_ok-seal_rest.ensures.sealed m s)
+
+pub returns-clause-at : goal.returns-clause-at
+returns-clause-at g c origin m told at =
+    let engine = c.args.self.now in
+    let long : c.in-Ok.count ≡ length engine.owed.items = grind (arith, common_steps, c.in-Ok.ensures, c.len.ensures) in
+    let some : 1 ≤ c.in-Ok.count = omega arith in
+    let behind = c.in_ok-seal_rest.ensures.at origin m told at in
+    record {
+      turned = ckpt_turned engine c.seal_rest.new.self m c.in-Ok.count at.parts c.seal_rest.ensures.rules long some behind.parts;
+      at = behind;
+    }

@@ -1,28 +1,177 @@
-use Rattle.std.proofs.Common.{refl, [], ◌∷◌, ◌++◌}
-use Rattle.std.specs.Prelude.{map, length}
-use Rattle.fp_model.specs.State.{numbers_up}
-use Rattle.fp_model.specs.declared.events.Event.TheVariants as event
+use Rattle.std.proofs.Common.{◌∙◌, ap, subst, arith, ◌+◌, ◌-◌, Bool}
+use Rattle.fp_model.specs.Machine.{Machine}
+use Rattle.fp_model.specs.Rules.{Rules}
+use Rattle.fp_site.specs.Moments.{Through}
+use Rattle.fp_source.specs.declared.part.Part.TheVariants as part
+use Rattle.fp_core.specs.Draining.{DrainStopped, IsLeftByDrain}
 use Rattle.fp_core.specs.Relation.{rules_in}
-use Rattle.fp_core.proofs.Steps.{left_alone}
+use Rattle.fp_core.specs.Rounding.{Went, WentBeside}
+use Rattle.fp_core.proofs.Bounds.{needs_fewer, with_lines_reached}
+use Rattle.fp_core.proofs.Comings.{come_both, drained_by, moments_both, stopped_behind}
+use Rattle.fp_core.proofs.Onwards.{continued_both, reads_nothing_both, reads_only_both}
+use Rattle.fp_core.proofs.Rounds.{if_err_from}
 use Rattle.fp_core.proofs.stepping.Core.drain.Goals as goal
 
-pub returns-clause-stopped : goal.returns-clause-stopped
-returns-clause-stopped g c origin m told tells beside reached =
-    let rules = rules_in c.args.self.now.engine in
+-- ---- a stop
+
+pub returns-in_err-round-clause-stopped : goal.returns-in_err-round-clause-stopped
+returns-in_err-round-clause-stopped g c origin m told tells beside reached =
+    let core = c.args.self.now in
+    let mid = c.loop-done.self in
+    let i = c.loop-done.invariant in
+    let rules = rules_in core.engine in
+    let disk = g.T.Site.disk c.args.site.now in
+    let disk1 = g.T.Site.disk c.loop-done.site in
+    let disk2 = g.T.Site.disk c.round.new.site in
+    let left1 = g.S.Source.left c.loop-done.source part.Messages in
+    let told1 = i.site.still_told told in
+    let tells1 = i.source.stays_told tells in
+    let come = i.come origin m told tells beside in
+    let stop = c.in_err-round.field-0.0 in
+    if_err_from (DrainStopped origin rules m core.lines disk disk2) c.from_residual.result stop
+    c.from_residual.ensures.1
+    (stopped_behind origin rules m disk core.lines disk1 mid.lines left1 mid.engine come disk2 stop
+    (subst (λ (r : Rules). DrainStopped origin r come.after mid.lines disk1 disk2 stop) i.rules
+    (c.in_err-round.ensures.stopped origin come.after told1 tells1 come.beside)))
+
+pub returns-in_err-round-clause-moments : goal.returns-in_err-round-clause-moments
+returns-in_err-round-clause-moments g c origin m told tells beside reached =
+    let core = c.args.self.now in
+    let mid = c.loop-done.self in
+    let i = c.loop-done.invariant in
+    let rules = rules_in core.engine in
+    let disk = g.T.Site.disk c.args.site.now in
+    let disk1 = g.T.Site.disk c.loop-done.site in
+    let disk2 = g.T.Site.disk c.round.new.site in
+    let left1 = g.S.Source.left c.loop-done.source part.Messages in
+    let told1 = i.site.still_told told in
+    let tells1 = i.source.stays_told tells in
+    let come = i.come origin m told tells beside in
+    moments_both origin rules m disk core.lines disk1 mid.lines left1 mid.engine come disk2
+    (g.met.T.Site.lawful c.loop-done.site told1)
+    (i.moments origin m told tells beside)
+    (subst (λ (r : Rules). Through disk1 disk2 (IsLeftByDrain origin r come.after disk1)) i.rules
+    (c.round.ensures.moments origin come.after told1 tells1 come.beside))
+
+-- ---- the end
+
+pub returns-then-not-branch-clause-reached : goal.returns-then-not-branch-clause-reached
+returns-then-not-branch-clause-reached g c =
+    let mid = c.loop-done.self in
+    let new = c.round.new.self in
+    let needs = c.loop-done.invariant.needs in
+    let went = c.in_ok-round.ensures.went needs.m needs.reached.stands in
+    let m : Machine = record needs.m { lines = went.0 } in
+    let done = subst (λ (b : Bool). Went (rules_in mid.engine) m mid.lines new.lines new.engine b)
+    c.if-not-branch.true went.1 in (
+      m,
+      with_lines_reached mid.engine new.engine needs.m went.0 c.round.ensures.rules
+          (ap (λ d. d.now) c.round.ensures.defs) needs.reached done.1,
+    )
+
+pub returns-then-not-branch-clause-moments : goal.returns-then-not-branch-clause-moments
+returns-then-not-branch-clause-moments g c origin m told tells beside reached =
+    let core = c.args.self.now in
+    let mid = c.loop-done.self in
+    let i = c.loop-done.invariant in
+    let rules = rules_in core.engine in
+    let disk = g.T.Site.disk c.args.site.now in
+    let disk1 = g.T.Site.disk c.loop-done.site in
+    let disk2 = g.T.Site.disk c.round.new.site in
+    let left1 = g.S.Source.left c.loop-done.source part.Messages in
+    let told1 = i.site.still_told told in
+    let tells1 = i.source.stays_told tells in
+    let come = i.come origin m told tells beside in
+    moments_both origin rules m disk core.lines disk1 mid.lines left1 mid.engine come disk2
+    (g.met.T.Site.lawful c.loop-done.site told1)
+    (i.moments origin m told tells beside)
+    (subst (λ (r : Rules). Through disk1 disk2 (IsLeftByDrain origin r come.after disk1)) i.rules
+    (c.round.ensures.moments origin come.after told1 tells1 come.beside))
+
+pub returns-then-not-branch-clause-drained : goal.returns-then-not-branch-clause-drained
+returns-then-not-branch-clause-drained g c origin m told tells beside reached =
+    let core = c.args.self.now in
+    let mid = c.loop-done.self in
+    let i = c.loop-done.invariant in
+    let rules = rules_in core.engine in
+    let disk = g.T.Site.disk c.args.site.now in
+    let disk1 = g.T.Site.disk c.loop-done.site in
+    let disk2 = g.T.Site.disk c.round.new.site in
+    let left1 = g.S.Source.left c.loop-done.source part.Messages in
+    let told1 = i.site.still_told told in
+    let tells1 = i.source.stays_told tells in
+    let come = i.come origin m told tells beside in
+    let new = c.round.new.self in
+    let left2 = g.S.Source.left c.round.new.source part.Messages in
+    let went = subst (λ (r : Rules). WentBeside origin r come.after disk1 disk2 mid.lines new.lines left2 new.engine
+    c.in_ok-round.field-0) i.rules
+    (c.in_ok-round.ensures.beside origin come.after told1 tells1 come.beside) in
+    drained_by origin rules m disk disk2 core.lines new.lines left2 new.engine (c.round.ensures.rules ∙ i.rules)
+    (come_both origin rules m disk core.lines disk1 mid.lines left1 mid.engine come disk2 new.lines left2 new.engine
+    went.come)
+    (went.drained c.if-not-branch.true)
+
+-- ---- a round more
+
+pub loop-done-preserved : goal.loop-done-preserved
+loop-done-preserved g c =
+    let core = c.args.self.now in
+    let mid = c.loop-done.self in
+    let new = c.round.new.self in
+    let i = c.loop-done.invariant in
+    let went = c.in_ok-round.ensures.went i.needs.m i.needs.reached.stands in
+    let ahead : Machine = record i.needs.m { lines = went.0 } in
     record {
-      here = m;
-      event = event.In;
-      in_drain = record {
-        rounds = [];
-        behind = m;
-        whole = refl;
-        part = [];
-        runs = refl;
-        begun = λ some. absurd (some refl);
-        left = map event.Region (numbers_up (length rules.regions) 1) ++ event.Log ∷ [];
-        next = refl;
-        calm = (tt, refl);
-      };
-      may = tt;
-      within = (left_alone origin rules m 0 (g.T.Site.disk c.args.site.now) c.args.self.now.engine (g.met.T.Site.lawful c.args.site.now told) beside.at).within;
+      needs = needs_fewer mid.engine new.engine mid.lines new.lines (c.most_rounds-most.result - c.loop-done._done)
+          (c.most_rounds-most.result - (c.loop-done._done + 1)) c.round.ensures.rules
+          (ap (λ d. d.now) c.round.ensures.defs)
+          (omega arith) i.needs went.0
+          (subst (λ (b : Bool). Went (rules_in mid.engine) ahead mid.lines new.lines new.engine b)
+          c.if-not-branch.false went.1);
+      come = λ origin m told tells beside.
+          let rules = rules_in core.engine in
+          let disk = g.T.Site.disk c.args.site.now in
+          let disk1 = g.T.Site.disk c.loop-done.site in
+          let disk2 = g.T.Site.disk c.round.new.site in
+          let left1 = g.S.Source.left c.loop-done.source part.Messages in
+          let left2 = g.S.Source.left c.round.new.source part.Messages in
+          let come = i.come origin m told tells beside in
+          let more = subst (λ (r : Rules). WentBeside origin r come.after disk1 disk2 mid.lines new.lines left2
+          new.engine c.in_ok-round.field-0) i.rules
+          (c.in_ok-round.ensures.beside origin come.after (i.site.still_told told) (i.source.stays_told tells)
+          come.beside) in
+          come_both origin rules m disk core.lines disk1 mid.lines left1 mid.engine come disk2 new.lines left2
+          new.engine more.come;
+      moments = λ origin m told tells beside.
+          let core = c.args.self.now in
+          let mid = c.loop-done.self in
+          let i = c.loop-done.invariant in
+          let rules = rules_in core.engine in
+          let disk = g.T.Site.disk c.args.site.now in
+          let disk1 = g.T.Site.disk c.loop-done.site in
+          let disk2 = g.T.Site.disk c.round.new.site in
+          let left1 = g.S.Source.left c.loop-done.source part.Messages in
+          let told1 = i.site.still_told told in
+          let tells1 = i.source.stays_told tells in
+          let come = i.come origin m told tells beside in
+          moments_both origin rules m disk core.lines disk1 mid.lines left1 mid.engine come disk2
+          (g.met.T.Site.lawful c.loop-done.site told1)
+          (i.moments origin m told tells beside)
+          (subst (λ (r : Rules). Through disk1 disk2 (IsLeftByDrain origin r come.after disk1)) i.rules
+          (c.round.ensures.moments origin come.after told1 tells1 come.beside));
+      fair = λ tells. c.in_ok-round.ensures.fair (i.source.stays_told tells) ∙ i.fair tells;
+      rules = c.round.ensures.rules ∙ i.rules;
+      defs = c.round.ensures.defs ∙ i.defs;
+      scripts = c.round.ensures.scripts ∙ i.scripts;
+      router = c.round.ensures.router ∙ i.router;
+      reads = reads_nothing_both (g.T.Site.tells_reads c.args.site.now) (g.T.Site.tells_reads c.loop-done.site)
+          (g.T.Site.tells_reads c.round.new.site)
+          (g.T.Site.bytes_read c.args.site.now) (g.T.Site.bytes_read c.loop-done.site)
+          (g.T.Site.bytes_read c.round.new.site) i.reads c.round.ensures.reads;
+      site = continued_both g.T.Site.told g.T.Site.faults g.T.Site.holds g.T.Site.keeps c.args.site.now
+          c.loop-done.site c.round.new.site
+          i.site c.round.ensures.site;
+      source = reads_only_both g.S.Source.told g.S.Source.left g.S.Source.faults g.S.Source.holds g.S.Source.keeps
+          part.Messages
+          c.args.source.now c.loop-done.source c.round.new.source i.source c.round.ensures.source;
     }

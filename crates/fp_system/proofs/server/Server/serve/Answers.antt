@@ -3,6 +3,8 @@ use Rattle.fp_model.specs.declared.log.Entry.{Entry}
 use Rattle.fp_site.specs.Disk.{Settles}
 use Rattle.fp_site.specs.Moments.{Through}
 use Rattle.log_groups.specs.Images.{IsAtRest, IsBeforeOrAfter, IsWithOrWithout, with_group}
+use Rattle.fp_system.specs.Frame.{IsLog}
+use Rattle.fp_system.proofs.FrameLemmas.{spares_none, spares_only, spares_sends, spares_on}
 use Rattle.fp_system.specs.Parts.{front_for}
 use Rattle.fp_system.specs.Serving.{GoesOnBy, AwaitsSeal, Serves, StaysSafe}
 use Rattle.fp_system.specs.Setups.{job_of}
@@ -169,3 +171,27 @@ returns-clause-ok g c entries t stands =
     let count : c.seal.new.self.sealed ≡ length (entries ++ e ∷ []) = let s = c.in_ok-seal.ensures.sealed in let k = length-append entries (e ∷ []) in omega (arith, s, one, ready.sealed, k) in
     subst (λ (l : List ℕ). Serves job entries stands.groups h h2 (l ∷ []) c.prepare.new.self.store c.seal.new.self) ready.of_line
     (serves_one job entries h c.args.self.now.store c.args.self.now.log law stands e ready.alone ready.account h1 only run law1 gate1 rest1 line is h2 law2 (c.send.ensures.same t1) (c.send.ensures.crash t1) c.prepare.new.self.store c.seal.new.self refl none count ready.of ready.segments (c.in_ok-send.ensures.sent t1))
+
+pub returns-in_err-reply-clause-others : goal.returns-in_err-reply-clause-others
+returns-in_err-reply-clause-others g c t = spares_none IsLog (g.T.Site.disk c.args.site.now) (g.met.T.Site.lawful c.args.site.now t)
+
+pub returns-in_err-seal-clause-others : goal.returns-in_err-seal-clause-others
+returns-in_err-seal-clause-others g c t = spares_only (g.T.Site.disk c.args.site.now) (g.T.Site.disk c.seal.new.site) (g.met.T.Site.lawful c.args.site.now t) (c.seal.ensures.only t)
+
+pub returns-in_err-send-clause-others : goal.returns-in_err-send-clause-others
+returns-in_err-send-clause-others g c t =
+    let h = g.T.Site.disk c.args.site.now in
+    let h1 = g.T.Site.disk c.seal.new.site in
+    let t1 = c.seal.ensures.told t in
+    let law1 = g.met.T.Site.lawful c.seal.new.site t1 in
+    spares_on IsLog h h1 (g.T.Site.disk c.send.new.self) law1 (spares_only h h1 (g.met.T.Site.lawful c.args.site.now t) (c.seal.ensures.only t))
+    (spares_sends IsLog h1 (g.T.Site.disk c.send.new.self) _ law1 (c.send.ensures.same t1) (c.send.ensures.crash t1))
+
+pub returns-clause-others : goal.returns-clause-others
+returns-clause-others g c t =
+    let h = g.T.Site.disk c.args.site.now in
+    let h1 = g.T.Site.disk c.seal.new.site in
+    let t1 = c.seal.ensures.told t in
+    let law1 = g.met.T.Site.lawful c.seal.new.site t1 in
+    spares_on IsLog h h1 (g.T.Site.disk c.send.new.self) law1 (spares_only h h1 (g.met.T.Site.lawful c.args.site.now t) (c.seal.ensures.only t))
+    (spares_sends IsLog h1 (g.T.Site.disk c.send.new.self) _ law1 (c.send.ensures.same t1) (c.send.ensures.crash t1))

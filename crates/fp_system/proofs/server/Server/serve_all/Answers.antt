@@ -2,15 +2,17 @@ use Rattle.std.proofs.Common.{◌≡◌, ◌++◌, ◌+◌, [], ◌∷◌, ℕ, 
 use Rattle.std.specs.Prelude.{Err, None}
 use Rattle.std.proofs.lemmas.Result.{err_from_is_err_and}
 use Rattle.fp_model.specs.Messages.{lines_of}
-use Rattle.fp_source.specs.Lines.{lines_ahead, lines_given, fault_ahead, to_come}
+use Rattle.fp_source.specs.Lines.{buffered, lines_ahead, lines_given, fault_ahead, to_come}
 use Rattle.fp_source.specs.declared.lines.LineFault.{LineFault}
 use Rattle.fp_source.specs.declared.part.Part.TheVariants as part
 use Rattle.fp_system.specs.Answers.{status_of_line}
+use Rattle.fp_system.specs.Frame.{IsLog}
+use Rattle.fp_system.proofs.FrameLemmas.{spares_none, spares_on}
 use Rattle.fp_system.specs.Serving.{StaysSafe}
 use Rattle.fp_system.specs.Setups.{job_of}
 use Rattle.fp_system.specs.declared.status.Status.TheVariants as status
 use Rattle.fp_system.proofs.Loops.{going_none, halts_going, halts_more, moments_served, moments_within, served_none, served_more, served_all, served_before, number_is}
-use Rattle.fp_system.proofs.Results.{at_err, at_some, at_none}
+use Rattle.fp_system.proofs.Results.{at_err, at_some, at_none, nil_behind}
 use Rattle.fp_system.proofs.Steps.{halts_here, stays_here}
 use Rattle.fp_system.proofs.server.Server.serve_all.Goals as goal
 
@@ -30,6 +32,7 @@ loop-lines-init g c = record {
   store = c.requires.store;
   site = record { later = omega arith; still_told = λ t. t; reference = refl; kept = λ first k. k };
   source = record { later = omega arith; still_told = λ s. s; reference = refl; kept = λ first k. k };
+  others = λ t. spares_none IsLog (g.T.Site.disk c.args.site.now) (g.met.T.Site.lawful c.args.site.now t);
   fault = λ s. c.in_ok-lines.ensures.fault (g.S.Source.left c.args.source.now part.Messages);
   served = λ entries s t stands.
       let h = g.T.Site.disk c.args.site.now in
@@ -128,6 +131,9 @@ loop-lines-preserved g c =
         reference = read.source.same_reference ∙ inv.source.reference;
         kept = λ first k. read.source.kept first (inv.source.kept first k);
       };
+      others = λ t.
+          spares_on IsLog (g.T.Site.disk c.args.site.now) (g.T.Site.disk c.loop-lines.site) (g.T.Site.disk c.serve.new.site) (g.met.T.Site.lawful c.loop-lines.site (inv.site.still_told t))
+          (inv.others t) (c.serve.ensures.others (inv.site.still_told t));
       fault = λ s. sym (at_some c.in_ok-line.field-0 line (λ (l : List ℕ). fault_ahead lines now ≡ fault_ahead lines1 next) c.in-Some.is (read.fair (inv.source.still_told s))) ∙ inv.fault s;
       served = λ entries s t stands.
           let so = inv.served entries s t stands in
@@ -155,3 +161,24 @@ pub returns-clause-crash : goal.returns-clause-crash
 returns-clause-crash g c entries s t stands =
     moments_served (job_of c.args.setup.now) entries stands.groups (g.T.Site.disk c.args.site.now) (g.T.Site.disk c.loop-lines.site) (lines_of (g.S.Source.left c.args.source.now part.Messages))
     (lines_ahead c.loop-lines.lines (g.S.Source.left c.loop-lines.source part.Messages)) (lines_given c.loop-lines.lines) c.loop-lines.self.store c.loop-lines.self.log (c.loop-lines.invariant.served entries s t stands)
+
+pub returns-clause-read : goal.returns-clause-read
+returns-clause-read g c s =
+    let none : c.in_ok-line.field-0 ≡ None = first_of (search rules, grind rules, cc) in
+    let left = g.S.Source.left c.next.new.source part.Messages in
+    nil_behind (buffered c.next.new.self) left (at_none c.in_ok-line.field-0 (to_come c.next.new.self left ≡ []) none (c.in_ok-line.ensures.ended (c.loop-lines.invariant.source.still_told s)))
+
+pub returns-in_err-lines-clause-others : goal.returns-in_err-lines-clause-others
+returns-in_err-lines-clause-others g c t = spares_none IsLog (g.T.Site.disk c.args.site.now) (g.met.T.Site.lawful c.args.site.now t)
+
+pub returns-in_err-line-clause-others : goal.returns-in_err-line-clause-others
+returns-in_err-line-clause-others g c t = c.loop-lines.invariant.others t
+
+pub returns-in_err-serve-clause-others : goal.returns-in_err-serve-clause-others
+returns-in_err-serve-clause-others g c t =
+    let inv = c.loop-lines.invariant in
+    let t1 = inv.site.still_told t in
+    spares_on IsLog (g.T.Site.disk c.args.site.now) (g.T.Site.disk c.loop-lines.site) (g.T.Site.disk c.serve.new.site) (g.met.T.Site.lawful c.loop-lines.site t1) (inv.others t) (c.serve.ensures.others t1)
+
+pub returns-clause-others : goal.returns-clause-others
+returns-clause-others g c t = c.loop-lines.invariant.others t

@@ -1,0 +1,18 @@
+-- Before any entry the core stands for a machine at rest.
+use Rattle.std.proofs.Common.{◌≡◌, refl, sym, ap, []}
+use Rattle.fp_model.specs.History.{beginning}
+use Rattle.fp_model.specs.Rules.{Rules}
+use Rattle.fp_model.specs.State.{start}
+use Rattle.core_tests.proofs.Reached.{if_ok_both, if_ok_by, reached_at_rest}
+use Rattle.core_tests.proofs.running.core_of.Goals as goal
+
+pub returns-clause-reached : goal.returns-clause-reached
+returns-clause-reached g c =
+    let defs = c.args.defs.now in
+    if_ok_both _ _ _ c.new.result
+    (λ core stands same. reached_at_rest defs c.args.scripts.now.scripts core.engine same stands)
+    (c.new.ensures.stands [] (beginning 1 (start defs)) (sym c.requires.msdbs) (sym c.requires.sealed) refl refl)
+    c.new.ensures.rules
+
+pub returns-clause-regions : goal.returns-clause-regions
+returns-clause-regions g c = if_ok_by _ _ c.new.result (λ core same. ap (λ (r : Rules). r.regions) same) c.new.ensures.rules

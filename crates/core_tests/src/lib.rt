@@ -1,0 +1,13 @@
+//! Runs of the interleaved system over a site and a source in memory: what is sent, and what the log holds.
+#![tactic(auto)]
+
+#[cfg(test)]
+mod fault;
+#[cfg(test)]
+mod rows;
+#[cfg(test)]
+mod running;
+#[cfg(test)]
+mod sample;
+#[cfg(test)]
+mod telling;

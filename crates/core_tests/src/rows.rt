@@ -1,0 +1,375 @@
+//! Short runs, each worked out by hand from the table of turns: what each event does, what is sent, and what the log
+//! and the databases hold then.
+use crate::fault::Fault;
+use crate::running::{Found, Task, run_task};
+use crate::sample::Setting;
+use std::alloc::Global;
+use std::test::Fail;
+
+/// A run and what comes of it.
+#[derive(Clone, Copy, Debug)]
+struct Row {
+    setting: Setting,
+    schedule: &'static str,
+    messages: &'static [u8],
+    /// What each event of the schedule does.
+    dids: &'static str,
+    /// How many events there are up to the first that sends something.
+    quiet: usize,
+    sent: &'static str,
+    log: &'static str,
+    databases: &'static str,
+}
+
+/// Two regions of one group, as in the sample.
+const SAMPLE: Setting = Setting {
+    regions: "1, 1",
+    log_group: 100,
+    tries: 0,
+};
+
+/// In which a transaction is begun again once.
+const AGAIN: Setting = Setting {
+    regions: "1, 1",
+    log_group: 100,
+    tries: 1,
+};
+
+/// In which each entry is a group.
+const SMALL_GROUPS: Setting = Setting {
+    regions: "1, 1",
+    log_group: 1,
+    tries: 0,
+};
+
+/// In which each region has a group of its own.
+const TWO_GROUPS: Setting = Setting {
+    regions: "1, 2",
+    log_group: 100,
+    tries: 0,
+};
+
+// ---- withdrawals and deposits side by side
+
+/// Both withdrawals pass the test of their call, and the second fails as it is tested again.
+const OVERDRAWN: Row = Row {
+    setting: SAMPLE,
+    schedule: "IN IN R1 R2 R1 R2 R1 R1 R2 R2 LOG",
+    messages: b"T1 WDRAW A001 60\nT2 WDRAW A001 60\n",
+    dids: "queued queued took took answered answered gained committed gained refused sealed/2",
+    quiet: 11,
+    sent: "T1 OK PAID 60\nT2 NO VERIFY\n",
+    log: "group 0 entries 2\n\
+0 from 0 notes 0 DONE T1 WDRAW A001 60 => PAID 60\n\
+1 from 0 notes 0 VERIFY 0.0 0000040c T2 WDRAW A001 60 => -\n",
+    databases: "msdb ACCTS 2\n\x20 ACCT=A001 BAL=40\n\x20 ACCT=A002 BAL=50\nmsdb TELLERS 1\n\x20 TNO=T001 CASH=0\n",
+};
+
+/// The same, begun again: now the second finds too little at its call.
+const OVERDRAWN_AGAIN: Row = Row {
+    setting: AGAIN,
+    schedule: "IN IN R1 R2 R1 R2 R1 R1 R2 R2 LOG",
+    messages: b"T1 WDRAW A001 60\nT2 WDRAW A001 60\n",
+    dids: "queued queued took took answered answered gained committed gained retried sealed/1",
+    quiet: 11,
+    sent: "T1 OK PAID 60\nT2 NO ROLB 7\n",
+    log: "group 0 entries 1\n\
+0 from 0 notes 0 DONE T1 WDRAW A001 60 => PAID 60\n\
+group 1 entries 1\n\
+1 from 1 notes 1 ROLB 7 T2 WDRAW A001 60 => -\n",
+    databases: "msdb ACCTS 2\n\x20 ACCT=A001 BAL=40\n\x20 ACCT=A002 BAL=50\nmsdb TELLERS 1\n\x20 TNO=T001 CASH=0\n",
+};
+
+/// Both deposits add to what stands.
+const BOTH_ADD: Row = Row {
+    setting: SAMPLE,
+    schedule: "IN IN R1 R2 R1 R2 R1 R1 R2 R2 LOG",
+    messages: b"T1 DEPOSIT A001 10\nT2 DEPOSIT A001 20\n",
+    dids: "queued queued took took answered answered gained committed gained committed sealed/2",
+    quiet: 11,
+    sent: "T1 OK NEW\nT2 OK NEW\n",
+    log: "group 0 entries 2\n\
+0 from 0 notes 0 DONE T1 DEPOSIT A001 10 => NEW\n\
+1 from 0 notes 0 DONE T2 DEPOSIT A001 20 => NEW\n",
+    databases: "msdb ACCTS 2\n\x20 ACCT=A001 BAL=130\n\x20 ACCT=A002 BAL=50\nmsdb TELLERS 1\n\x20 TNO=T001 CASH=0\n",
+};
+
+/// The deposit waits until the segment isn't held any more.
+const WAITS_FOR_A_HOLD: Row = Row {
+    setting: SAMPLE,
+    schedule: "IN IN R1 R1 R1 R2 R2 R2 R1 R1 R2 R2 LOG",
+    messages: b"T1 SETBAL A001 500\nT2 DEPOSIT A001 10\n",
+    dids: "queued queued took gained answered took answered waited answered committed gained committed sealed/2",
+    quiet: 13,
+    sent: "T1 OK SET\nT2 OK NEW\n",
+    log: "group 0 entries 2\n\
+0 from 0 notes - DONE T1 SETBAL A001 500 => SET\n\
+1 from 0 notes 0 DONE T2 DEPOSIT A001 10 => NEW\n",
+    databases: "msdb ACCTS 2\n\x20 ACCT=A001 BAL=510\n\x20 ACCT=A002 BAL=50\nmsdb TELLERS 1\n\x20 TNO=T001 CASH=0\n",
+};
+
+/// A sum out of the field's range: at the sync point, and then at the call.
+const OVERFLOW: Row = Row {
+    setting: SAMPLE,
+    schedule: "IN R1 R1 R1 R1 R1 IN IN R1 R2 R1 R2 R1 R1 R2 R2 LOG IN R1 R1 R1 LOG",
+    messages: b"T3 SETBAL A001 9999990\nT1 DEPOSIT A001 9\nT2 DEPOSIT A001 9\nT1 DEPOSIT A001 1\n",
+    dids: "queued took gained answered answered committed \
+queued queued took took answered answered gained committed gained refused sealed/3 \
+queued took answered refused sealed/1",
+    quiet: 17,
+    sent: "T3 OK SET\nT1 OK NEW\nT2 NO VERIFY\nT1 NO ROLB 1\n",
+    log: "group 0 entries 3\n\
+0 from 0 notes - DONE T3 SETBAL A001 9999990 => SET\n\
+1 from 1 notes 1 DONE T1 DEPOSIT A001 9 => NEW\n\
+2 from 1 notes 1 VERIFY 0.0 9999999c T2 DEPOSIT A001 9 => -\n\
+group 1 entries 1\n\
+3 from 3 notes 3 ROLB 1 T1 DEPOSIT A001 1 => -\n",
+    databases: "msdb ACCTS 2\n\x20 ACCT=A001 BAL=9999999\n\x20 ACCT=A002 BAL=50\nmsdb TELLERS 1\n\x20 TNO=T001 CASH=0\n",
+};
+
+// ---- what a look sees
+
+/// An answer that was given before a commit, and leaves behind it.
+const LOOKS_BEFORE: Row = Row {
+    setting: SAMPLE,
+    schedule: "IN R1 R1 R1 R1 IN R2 R2 IN R1 R1 R1 R1 R2 LOG",
+    messages: b"T1 DEPOSIT A001 10\nT2 ASK A001\nT3 DEPOSIT A001 20\n",
+    dids: "queued took answered gained committed queued took answered \
+queued took answered gained committed committed sealed/3",
+    quiet: 15,
+    sent: "T1 OK NEW\nT3 OK NEW\nT2 OK 110\n",
+    log: "group 0 entries 3\n\
+0 from 0 notes 0 DONE T1 DEPOSIT A001 10 => NEW\n\
+1 from 1 notes 1 DONE T3 DEPOSIT A001 20 => NEW\n\
+2 from 1 notes 1 DONE T2 ASK A001 => 110\n",
+    databases: "msdb ACCTS 2\n\x20 ACCT=A001 BAL=130\n\x20 ACCT=A002 BAL=50\nmsdb TELLERS 1\n\x20 TNO=T001 CASH=0\n",
+};
+
+/// One that was given behind it.
+const LOOKS_BEHIND: Row = Row {
+    setting: SAMPLE,
+    schedule: "IN R1 R1 R1 R1 IN R2 IN R1 R1 R1 R1 R2 R2 LOG",
+    messages: b"T1 DEPOSIT A001 10\nT2 ASK A001\nT3 DEPOSIT A001 20\n",
+    dids: "queued took answered gained committed queued took \
+queued took answered gained committed answered committed sealed/3",
+    quiet: 15,
+    sent: "T1 OK NEW\nT3 OK NEW\nT2 OK 130\n",
+    log: "group 0 entries 3\n\
+0 from 0 notes 0 DONE T1 DEPOSIT A001 10 => NEW\n\
+1 from 1 notes 1 DONE T3 DEPOSIT A001 20 => NEW\n\
+2 from 1 notes 2 DONE T2 ASK A001 => 130\n",
+    databases: "msdb ACCTS 2\n\x20 ACCT=A001 BAL=130\n\x20 ACCT=A002 BAL=50\nmsdb TELLERS 1\n\x20 TNO=T001 CASH=0\n",
+};
+
+// ---- groups and lines that wait
+
+/// Four entries leave together.
+const ONE_GROUP: Row = Row {
+    setting: SAMPLE,
+    schedule: "IN R1 R1 R1 R1 IN R1 R1 R1 R1 IN R1 R1 R1 R1 IN R1 R1 R1 R1 LOG",
+    messages: b"T1 DEPOSIT A001 1\nT2 DEPOSIT A001 2\nT3 DEPOSIT A002 3\nT4 DEPOSIT A001 4",
+    dids: "queued took answered gained committed queued took answered gained committed \
+queued took answered gained committed queued took answered gained committed sealed/4",
+    quiet: 21,
+    sent: "T1 OK NEW\nT2 OK NEW\nT3 OK NEW\nT4 OK NEW\n",
+    log: "group 0 entries 4\n\
+0 from 0 notes 0 DONE T1 DEPOSIT A001 1 => NEW\n\
+1 from 1 notes 1 DONE T2 DEPOSIT A001 2 => NEW\n\
+2 from 2 notes 2 DONE T3 DEPOSIT A002 3 => NEW\n\
+3 from 3 notes 3 DONE T4 DEPOSIT A001 4 => NEW\n",
+    databases: "msdb ACCTS 2\n\x20 ACCT=A001 BAL=107\n\x20 ACCT=A002 BAL=53\nmsdb TELLERS 1\n\x20 TNO=T001 CASH=0\n",
+};
+
+/// Groups of one entry: LOG seals one, and CKPT all. OUT, a region without a message and a LOG without an entry do
+/// nothing.
+const SMALL: Row = Row {
+    setting: SMALL_GROUPS,
+    schedule: "OUT LOG CKPT R2 IN R1 R1 R1 R1 IN R1 R1 R1 R1 IN R2 R2 R2 LOG CKPT CKPT LOG IN",
+    messages: b"T1 DEPOSIT A001 1\nT2 DEPOSIT A001 2\nT3 ASK A009\n",
+    dids: "nothing nothing nothing nothing queued took answered gained committed \
+queued took answered gained committed queued took answered committed \
+sealed/1 sealed/2 nothing nothing nothing",
+    quiet: 19,
+    sent: "T1 OK NEW\nT2 OK NEW\nT3 OK NONE\n",
+    log: "group 0 entries 1\n\
+0 from 0 notes 0 DONE T1 DEPOSIT A001 1 => NEW\n\
+group 1 entries 1\n\
+1 from 1 notes 1 DONE T2 DEPOSIT A001 2 => NEW\n\
+group 2 entries 1\n\
+2 from 2 notes 2 DONE T3 ASK A009 => NONE\n",
+    databases: "msdb ACCTS 2\n\x20 ACCT=A001 BAL=103\n\x20 ACCT=A002 BAL=50\nmsdb TELLERS 1\n\x20 TNO=T001 CASH=0\n",
+};
+
+/// A line waits until its terminal was answered.
+const HELD: Row = Row {
+    setting: SAMPLE,
+    schedule: "IN IN R1 R1 R1 R1 IN LOG IN",
+    messages: b"T1 DEPOSIT A001 10\nT1 DEPOSIT A001 20\n",
+    dids: "queued held took answered gained committed held sealed/1 queued",
+    quiet: 8,
+    sent: "T1 OK NEW\nT1 OK NEW\n",
+    log: "group 0 entries 1\n\
+0 from 0 notes 0 DONE T1 DEPOSIT A001 10 => NEW\n\
+group 1 entries 1\n\
+1 from 1 notes 1 DONE T1 DEPOSIT A001 20 => NEW\n",
+    databases: "msdb ACCTS 2\n\x20 ACCT=A001 BAL=130\n\x20 ACCT=A002 BAL=50\nmsdb TELLERS 1\n\x20 TNO=T001 CASH=0\n",
+};
+
+/// Lines that are no messages, or name no script, are refused, and stop nothing. One of them waits for its terminal.
+const UNKNOWN: Row = Row {
+    setting: SAMPLE,
+    schedule: "IN IN IN IN LOG IN IN LOG",
+    messages: b"T1 NOSUCH A001\n\nT2\nT1 DEPOSIT A001 \x80\n9 ASK\nT3 ASK A001\n",
+    dids: "refused refused refused held sealed/3 refused refused sealed/2",
+    quiet: 5,
+    sent: "T1 NO UNKNOWN\n? NO UNKNOWN\nT2 NO UNKNOWN\nT1 NO UNKNOWN\n? NO UNKNOWN\nT3 OK 100\n",
+    log: "group 0 entries 3\n\
+0 from 0 notes - UNKNOWN T1 NOSUCH A001 => -\n\
+1 from 1 notes - UNKNOWN - => -\n\
+2 from 2 notes - UNKNOWN T2 => -\n\
+group 1 entries 2\n\
+3 from 3 notes - UNKNOWN T1 DEPOSIT A001 . => -\n\
+4 from 4 notes - UNKNOWN 9 ASK => -\n\
+group 2 entries 1\n\
+5 from 5 notes 5 DONE T3 ASK A001 => 100\n",
+    databases: "msdb ACCTS 2\n\x20 ACCT=A001 BAL=100\n\x20 ACCT=A002 BAL=50\nmsdb TELLERS 1\n\x20 TNO=T001 CASH=0\n",
+};
+
+// ---- locks
+
+/// Each holds what the other needs: the second is refused, and the first goes on.
+const CROSSWISE: Row = Row {
+    setting: SAMPLE,
+    schedule: "IN IN R1 R1 R2 R2 R1 R2 R1 R2 R1 R1 R1 LOG",
+    messages: b"T1 TWOACC A001 A002\nT2 TWOACC A002 A001\n",
+    dids: "queued queued took gained took gained answered answered waited refused \
+gained answered committed sealed/2",
+    quiet: 14,
+    sent: "T2 NO DEADLOCK\nT1 OK BOTH\n",
+    log: "group 0 entries 2\n\
+0 from 0 notes - DEADLOCK 2,1 T2 TWOACC A002 A001 => -\n\
+1 from 0 notes - DONE T1 TWOACC A001 A002 => BOTH\n",
+    databases: "msdb ACCTS 2\n\x20 ACCT=A001 BAL=100\n\x20 ACCT=A002 BAL=50\nmsdb TELLERS 1\n\x20 TNO=T001 CASH=0\n",
+};
+
+/// The same, begun again: both are done.
+const CROSSWISE_AGAIN: Row = Row {
+    setting: AGAIN,
+    schedule: "IN IN R1 R1 R2 R2 R1 R2 R1 R2 R1 R1 R1 LOG",
+    messages: b"T1 TWOACC A001 A002\nT2 TWOACC A002 A001\n",
+    dids: "queued queued took gained took gained answered answered waited retried \
+gained answered committed sealed/1",
+    quiet: 14,
+    sent: "T1 OK BOTH\nT2 OK BOTH\n",
+    log: "group 0 entries 1\n\
+0 from 0 notes - DONE T1 TWOACC A001 A002 => BOTH\n\
+group 1 entries 1\n\
+1 from 0 notes - DONE T2 TWOACC A002 A001 => BOTH\n",
+    databases: "msdb ACCTS 2\n\x20 ACCT=A001 BAL=100\n\x20 ACCT=A002 BAL=50\nmsdb TELLERS 1\n\x20 TNO=T001 CASH=0\n",
+};
+
+/// An insert needs its key, also one that isn't there.
+const INSERTS: Row = Row {
+    setting: SAMPLE,
+    schedule: "IN IN R1 R1 R2 R2 R1 R2 R1 R1 R2 R2 R2 R2 LOG IN R1 R1 R1 R1 R1 LOG",
+    messages: b"T1 HIRE T009\nT2 HIRE T009\nT3 HIRE T001\n",
+    dids: "queued queued took gained took waited answered waited answered committed \
+gained answered answered committed sealed/2 queued took gained answered answered committed sealed/1",
+    quiet: 15,
+    sent: "T1 OK / XP\nT2 OK II/ II\nT3 OK II/ II\n",
+    log: "group 0 entries 2\n\
+0 from 0 notes - DONE T1 HIRE T009 => / XP\n\
+1 from 0 notes - DONE T2 HIRE T009 => II/ II\n\
+group 1 entries 1\n\
+2 from 2 notes - DONE T3 HIRE T001 => II/ II\n",
+    databases: "msdb ACCTS 2\n\x20 ACCT=A001 BAL=100\n\x20 ACCT=A002 BAL=50\nmsdb TELLERS 2\n\x20 TNO=T001 CASH=0\n\x20 TNO=T009 CASH=0\n",
+};
+
+/// A region takes messages of its own group alone: deposits go to the first, withdrawals to the second.
+const ROUTED: Row = Row {
+    setting: TWO_GROUPS,
+    schedule: "IN R1 R2 IN R2 R1 R2 R2 R1 R1 R2 R2 R1 LOG",
+    messages: b"T1 WDRAW A001 60\nT2 DEPOSIT A001 5\n",
+    dids: "queued nothing took queued answered took gained committed answered gained nothing nothing committed sealed/2",
+    quiet: 14,
+    sent: "T1 OK PAID 60\nT2 OK NEW\n",
+    log: "group 0 entries 2\n\
+0 from 0 notes 0 DONE T1 WDRAW A001 60 => PAID 60\n\
+1 from 0 notes 1 DONE T2 DEPOSIT A001 5 => NEW\n",
+    databases: "msdb ACCTS 2\n\x20 ACCT=A001 BAL=45\n\x20 ACCT=A002 BAL=50\nmsdb TELLERS 1\n\x20 TNO=T001 CASH=0\n",
+};
+
+/// The drain alone: a round is IN, each region, LOG.
+const DRAINED: Row = Row {
+    setting: SAMPLE,
+    schedule: "",
+    messages: b"T1 DEPOSIT A001 1\nT2 WDRAW A002 60\nT3 ASK A001\n",
+    dids: "",
+    quiet: 0,
+    sent: "T1 OK NEW\nT2 NO ROLB 7\nT3 OK 101\n",
+    log: "group 0 entries 2\n\
+0 from 0 notes 0 DONE T1 DEPOSIT A001 1 => NEW\n\
+1 from 0 notes 0 ROLB 7 T2 WDRAW A002 60 => -\n\
+group 1 entries 1\n\
+2 from 2 notes 2 DONE T3 ASK A001 => 101\n",
+    databases: "msdb ACCTS 2\n\x20 ACCT=A001 BAL=101\n\x20 ACCT=A002 BAL=50\nmsdb TELLERS 1\n\x20 TNO=T001 CASH=0\n",
+};
+
+const ROWS: [Row; 16] = [
+    OVERDRAWN,
+    OVERDRAWN_AGAIN,
+    BOTH_ADD,
+    WAITS_FOR_A_HOLD,
+    OVERFLOW,
+    LOOKS_BEFORE,
+    LOOKS_BEHIND,
+    ONE_GROUP,
+    SMALL,
+    HELD,
+    UNKNOWN,
+    CROSSWISE,
+    CROSSWISE_AGAIN,
+    INSERTS,
+    ROUTED,
+    DRAINED,
+];
+
+// What is found of the run of a row.
+fn found_of(alloc: Global, row: &Row) -> Result<Found, Fault> {
+    let task = Task {
+        setting: row.setting,
+        schedule: row.schedule.as_bytes(),
+        messages: row.messages,
+    };
+    run_task(alloc, &task)
+}
+
+// The first part of what was found that isn't as wanted.
+fn first_difference(found: &Found, row: &Row) -> &'static str {
+    if found.dids.as_str() != row.dids {
+        return "dids";
+    }
+    if found.sent.as_slice() != row.sent.as_bytes() {
+        return "sent";
+    }
+    if found.log.as_slice() != row.log.as_bytes() {
+        return "log";
+    }
+    if found.databases.as_slice() != row.databases.as_bytes() {
+        return "databases";
+    }
+    if found.quiet != row.quiet {
+        "quiet"
+    } else {
+        "none"
+    }
+}
+
+#[test]
+fn each_run_comes_to_what_is_wanted(rt: HostRuntime) -> Result<(), Fail> {
+    for row in ROWS {
+        let found = found_of(rt.alloc(), &row)?;
+        assert_eq!(rt; first_difference(&found, &row), "none", "{row:?}");
+    }
+    Ok(())
+}

@@ -1,0 +1,432 @@
+-- Rounds of the drain beside a site and a source, and what a stop or a crash in them leaves.
+use Rattle.std.proofs.Common.{◌≡◌, refl, sym, ◌∙◌, ap, subst, arith, ℕ, zero, suc, ◌+◌, ◌<◌, List, [], ◌∷◌, ◌++◌, length, inl, inr}
+use Rattle.std.specs.Prelude.{map, Bool, true, false, Option}
+use Rattle.std.specs.List.{AllByRecursion}
+use Rattle.std.proofs.lemmas.List.{append_assoc, map-append}
+use Rattle.drain_laws.specs.Rounds.{GoesRounds}
+use Rattle.drain_laws.proofs.Rounds.{rounds_drain, rounds_more}
+use Rattle.fp_model.specs.declared.events.Event.{Event}
+use Rattle.fp_model.specs.declared.events.Event.TheVariants as event
+use Rattle.fp_model.specs.Machine.{Machine}
+use Rattle.fp_model.specs.Rules.{Rules}
+use Rattle.fp_model.specs.Runs.{Drains, IsDrained, RunStep, machine_after, round}
+use Rattle.fp_model.specs.State.{numbers_up}
+use Rattle.fp_model.proofs.FrameLemmas.{turn_keeps}
+use Rattle.fp_site.specs.Disk.{Disk, IsLawful, Snapshot}
+use Rattle.fp_site.specs.Moments.{Through}
+use Rattle.fp_site.proofs.Runs.{joined, started, weaker}
+use Rattle.fp_source.specs.Lines.{lines_ahead, lines_given}
+use Rattle.fp_source.specs.declared.lines.Lines.{Lines}
+use Rattle.fp_core.specs.declared.did.Did.{Did}
+use Rattle.fp_core.specs.declared.engine.Engine.{Engine}
+use Rattle.fp_core.specs.declared.stop.Stop.{Stop}
+use Rattle.fp_core.specs.declared.stop.Stop.TheVariants as stops
+use Rattle.fp_core.specs.Draining.{AreCalm, DrainStopped, Drained, IsInDrain, IsLeftByDrain, IsLeftByStep}
+use Rattle.fp_core.specs.Relation.{StandsFor, rules_in}
+use Rattle.fp_core.specs.Rounding.{BeganBy, HasCome, TookTurns, WentBeside, turns_of}
+use Rattle.fp_core.specs.Standing.{IsLeft, IsWithin, Leaves, MayStop, Origin, StandsAt, StandsBeside, Stepped, SteppedAt, seals_of}
+use Rattle.fp_core.proofs.Rounds.{makes_round, part_calm, part_events, part_of, part_runs}
+use Rattle.fp_core.proofs.Steps.{left_alone, still_at}
+
+-- ---- rounds behind rounds
+
+pub goes_both : (rules : Rules) (rounds : List (List RunStep)) (m mid : Machine) (rounds2 : List (List RunStep))
+    (m2 : Machine)
+    → GoesRounds rules m rounds mid → GoesRounds rules mid rounds2 m2 → GoesRounds rules m (rounds ++ rounds2) m2
+goes_both rules [] m mid rounds2 m2 goes more = subst (λ (x : Machine). GoesRounds rules x rounds2 m2) goes more
+goes_both rules (steps ∷ rounds) m mid rounds2 m2 goes more =
+    (goes.0, goes_both rules rounds (machine_after m steps) mid rounds2 m2 goes.1 more)
+
+pub all_both : {A : Type 0} (P : A → Type 0) (xs ys : List A) → AllByRecursion P xs → AllByRecursion P ys
+    → AllByRecursion P (xs ++ ys)
+all_both P [] ys h k = k
+all_both P (x ∷ xs) ys h k = (h.0, all_both P xs ys h.1 k)
+
+-- one step of a drain behind the rounds of another
+in_behind : (rules : Rules) (rounds : List (List RunStep)) (m mid here : Machine) (e : Event)
+    → GoesRounds rules m rounds mid
+    → AllByRecursion AreCalm rounds → IsInDrain rules mid here e → IsInDrain rules m here e
+in_behind rules rounds m mid here e goes calm i = record {
+  rounds = rounds ++ i.rounds;
+  behind = i.behind;
+  whole = goes_both rules rounds m mid i.rounds i.behind goes i.whole;
+  part = i.part;
+  runs = i.runs;
+  begun = i.begun;
+  left = i.left;
+  next = i.next;
+  calm = (all_both AreCalm rounds i.rounds calm i.calm.0, i.calm.1);
+}
+
+module _ (origin : Origin) (rules : Rules) (m : Machine) (old : Disk) (old_lines : Lines) where
+  -- nothing yet
+  abbrev pub none_come : (left : List ℕ) (engine : Engine) → StandsBeside origin old old_lines left engine m
+      → HasCome origin rules m old old old_lines old_lines left engine
+  none_come left engine beside = record {
+    rounds = [];
+    after = m;
+    goes = refl;
+    calm = tt;
+    beside = beside;
+    given = refl;
+    others = λ set other. refl;
+  }
+
+  module _ (mid : Disk) (mid_lines : Lines) (mid_left : List ℕ) (engine : Engine)
+      (come : HasCome origin rules m old mid old_lines mid_lines mid_left engine) where
+    -- rounds behind rounds
+    abbrev pub come_both : (new : Disk) (lines : Lines) (left : List ℕ) (next : Engine)
+        → HasCome origin rules come.after mid new mid_lines lines left next
+        → HasCome origin rules m old new old_lines lines left next
+    come_both new lines left next more = record {
+      rounds = come.rounds ++ more.rounds;
+      after = more.after;
+      goes = goes_both rules come.rounds m come.after more.rounds more.after come.goes more.goes;
+      calm = all_both AreCalm come.rounds more.rounds come.calm more.calm;
+      beside = more.beside;
+      given = more.given ∙ come.given;
+      others = λ set other. more.others set other ∙ come.others set other;
+    }
+
+    -- a stop behind them
+    pub stopped_behind : (new : Disk) (stop : Stop)
+        → DrainStopped origin rules come.after mid_lines mid new stop
+        → DrainStopped origin rules m old_lines old new stop
+    stopped_behind new stop d = record {
+      here = d.here;
+      event = d.event;
+      in_drain = in_behind rules come.rounds m come.after d.here d.event come.goes come.calm d.in_drain;
+      may = d.may;
+      first = λ number is. omega (arith, d.first number is, come.given);
+      within = record {
+        text = d.within.text;
+        sent = d.within.sent;
+        groups = d.within.groups;
+        others = λ set other. d.within.others set other ∙ come.others set other;
+      };
+    }
+
+    -- a crash behind them
+    left_behind : (law : IsLawful mid) (first : Through old mid (IsLeftByDrain origin rules m old)) (s : Snapshot)
+        → IsLeftByDrain origin rules come.after mid s → IsLeftByDrain origin rules m old s
+    left_behind law first s (inl left) =
+        first.each s (law.earlier old.moment mid.moment s first.later (law.counts_now s left))
+    left_behind law first s (inr step) =
+        let in_drain = in_behind rules come.rounds m come.after step.here step.event come.goes come.calm
+        step.in_drain in
+        let is = step.is_left in
+        inr (by in_drain is (first.each is.before
+        (law.earlier old.moment mid.moment is.before first.later (law.counts_now is.before is.was_left))))
+      where
+        by : {here : Machine} {e : Event} → IsInDrain rules m here e
+            → (is : IsLeft origin rules here (seals_of e here) mid s)
+            → IsLeftByDrain origin rules m old is.before → IsLeftByStep origin rules m old s
+        by {here} {e} in_drain is (inl left) = record {
+          here = here;
+          event = e;
+          in_drain = in_drain;
+          is_left = record {
+            text = is.text;
+            sent = λ told. is.sent (first.tells_sent told);
+            groups = is.groups;
+            before = is.before;
+            was_left = left;
+            others = is.others;
+          };
+        }
+        by {here} {e} in_drain is (inr before) = record {
+          here = here;
+          event = e;
+          in_drain = in_drain;
+          is_left = record {
+            text = is.text;
+            sent = λ told. is.sent (first.tells_sent told);
+            groups = is.groups;
+            before = before.is_left.before;
+            was_left = before.is_left.was_left;
+            others = λ set other. is.others set other ∙ before.is_left.others set other;
+          };
+        }
+
+    pub moments_both : (new : Disk) → IsLawful mid
+        → Through old mid (IsLeftByDrain origin rules m old)
+        → Through mid new (IsLeftByDrain origin rules come.after mid)
+        → Through old new (IsLeftByDrain origin rules m old)
+    moments_both new law first second =
+        joined (IsLeftByDrain origin rules m old) old mid new first
+        (weaker (IsLeftByDrain origin rules come.after mid) (IsLeftByDrain origin rules m old) mid new
+        (λ s left. left_behind law first s left) second)
+
+  -- where no call of the site was made
+  pub moments_none : IsLawful old → Through old old (IsLeftByDrain origin rules m old)
+  moments_none law = started (IsLeftByDrain origin rules m old) old law (λ s left. inl left)
+
+-- what a drain comes to
+pub drained_by : (origin : Origin) (rules : Rules) (m : Machine) (old new : Disk) (old_lines lines : Lines)
+    (left : List ℕ)
+    (engine : Engine) → rules_in engine ≡ rules
+    → (come : HasCome origin rules m old new old_lines lines left engine) → IsDrained rules come.after
+    → Drained origin m new lines left engine
+drained_by origin rules m old new old_lines lines left engine same come done =
+    let drains = rounds_drain rules come.rounds m come.after come.goes done in
+    record {
+      rounds = come.rounds;
+      after = come.after;
+      drains = subst (λ (r : Rules). Drains r m come.rounds come.after) (sym same) drains;
+      calm = come.calm;
+      beside = come.beside;
+    }
+
+-- ---- within one round
+
+-- before it
+pub in_first : (rules : Rules) (m : Machine) → IsInDrain rules m m event.In
+in_first rules m = record {
+  rounds = [];
+  behind = m;
+  whole = refl;
+  part = [];
+  runs = refl;
+  begun = λ some. absurd (some refl);
+  left = map event.Region (numbers_up (length rules.regions) 1) ++ event.Log ∷ [];
+  next = refl;
+  calm = (tt, refl);
+}
+
+-- the numbers up to one, that one, and others
+numbers_split : (n k from : ℕ) → k < n → (rest : List ℕ) × (numbers_up n from ≡ numbers_up k from ++ (from + k) ∷ rest)
+numbers_split zero k from few = absurd (omega (arith, few))
+numbers_split (suc n) zero from few =
+    (numbers_up n (from + 1), ap (λ (j : ℕ). j ∷ numbers_up n (from + 1)) (let e : from ≡ from + 0 = omega arith in e))
+numbers_split (suc n) (suc k) from few =
+    let split = numbers_split n k (from + 1) (omega (arith, few)) in (
+      split.0,
+      ap (λ (ks : List ℕ). from ∷ ks) split.1
+          ∙ ap (λ (j : ℕ). from ∷ numbers_up k (from + 1) ++ j ∷ split.0)
+          (let e : from + 1 + k ≡ from + suc k = omega arith in e),
+    )
+
+turns_split : (n k : ℕ) → k < n → (rest : List Event) × (turns_of n ≡ turns_of k ++ event.Region (k + 1) ∷ rest)
+turns_split n k few =
+    let split = numbers_split n k 1 few in (
+      map event.Region split.0,
+      ap (λ (ks : List ℕ). map event.Region ks) split.1
+          ∙ map-append event.Region (numbers_up k 1) ((1 + k) ∷ split.0)
+          ∙ ap (λ (j : ℕ). turns_of k ++ event.Region j ∷ map event.Region split.0)
+          (let e : 1 + k ≡ k + 1 = omega arith in e),
+    )
+
+module _ (rules : Rules) (m : Machine) (old_lines lines : Lines) (first second : Engine) (given : Did)
+    (same : rules_in first ≡ rules) (same2 : rules_in second ≡ rules)
+    (stepped : Stepped event.In m old_lines lines first given) (left : ¬ IsDrained rules m) where
+  in_part : (n : ℕ) (took : TookTurns (turns_of n) stepped.turned.after second) (e : Event) (rest : List Event)
+      → round rules ≡ (event.In ∷ turns_of n) ++ e ∷ rest
+      → IsInDrain rules m took.after e
+  in_part n took e rest next = record {
+    rounds = [];
+    behind = m;
+    whole = refl;
+    part = part_of rules m old_lines lines first second given same same2 stepped n took;
+    runs = part_runs rules m old_lines lines first second given same same2 stepped n took;
+    begun = λ some. left;
+    left = rest;
+    next = next ∙ ap (λ (es : List Event). es ++ e ∷ rest)
+        (sym (part_events rules m old_lines lines first second given same same2 stepped n took));
+    calm = (tt, part_calm rules m old_lines lines first second given same same2 stepped n took);
+  }
+
+  -- before LOG
+  pub in_log : (took : TookTurns (turns_of (length rules.regions)) stepped.turned.after second)
+      → IsInDrain rules m took.after event.Log
+  in_log took = in_part (length rules.regions) took event.Log [] refl
+
+  -- before the turn of a region
+  pub in_region : (k : ℕ) → k < length rules.regions → (took : TookTurns (turns_of k) stepped.turned.after second)
+      → IsInDrain rules m took.after (event.Region (k + 1))
+  in_region k few took =
+      let split = turns_split (length rules.regions) k few in
+      in_part k took (event.Region (k + 1)) (split.0 ++ event.Log ∷ [])
+      (ap (λ (es : List Event). event.In ∷ es ++ event.Log ∷ []) split.1
+      ∙ append_assoc (event.In ∷ turns_of k) (event.Region (k + 1) ∷ split.0) (event.Log ∷ []))
+
+-- ---- engine, site and source in a round
+
+module _ (origin : Origin) (disk : Disk) (left : List ℕ) (m : Machine) (lines : Lines) where
+  -- behind IN
+  pub in_stands : (old first : Engine) (old_lines : Lines) (more : Bool) → first.log.gate ≡ old.log.gate
+      → StandsAt origin disk old m → (by : BeganBy m old_lines lines left first more)
+      → StandsBeside origin disk lines left first by.began.stepped.turned.after
+  in_stands old first old_lines more gate at by =
+      let t = by.began.stepped.turned in
+      let keeps = turn_keeps (rules_in first) m event.In t.environment t.after t.turn in
+      record {
+        at = still_at origin disk left m old first t.after at t.stands gate keeps.0.groups keeps.0.sent;
+        lines_are = by.lines_are;
+      }
+
+  -- behind the turns of regions
+  pub turns_stand : (first second : Engine) (events : List Event) → second.log.gate ≡ first.log.gate
+      → StandsBeside origin disk lines left first m → (took : TookTurns events m second)
+      → StandsBeside origin disk lines left second took.after
+  turns_stand first second events gate beside took = record {
+    at = still_at origin disk left m first second took.after beside.at took.stands gate took.groups took.sent;
+    lines_are = took.lines ∙ beside.lines_are;
+  }
+
+  -- behind LOG
+  pub log_stands : (engine : Engine) (given : Did) → m.lines ≡ lines_ahead lines left
+      → (s : SteppedAt origin event.Log m disk engine given) → StandsBeside origin disk lines left engine s.turned.after
+  log_stands engine given ahead s =
+      let t = s.turned in
+      record {
+        at = s.at;
+        lines_are = (turn_keeps (rules_in engine) m event.Log t.environment t.after t.turn).0.lines ∙ ahead;
+      }
+
+-- ---- a round beside them
+
+-- none, where the machine is drained
+pub came_off : (origin : Origin) (rules : Rules) (m : Machine) (disk : Disk) (old_lines lines : Lines) (left : List ℕ)
+    (engine : Engine) (more : Bool) → rules_in engine ≡ rules → more ≡ false
+    → (by : BeganBy m old_lines lines left engine more)
+    → StandsBeside origin disk lines left engine by.began.stepped.turned.after
+    → WentBeside origin rules m disk disk old_lines lines left engine more
+came_off origin rules m disk old_lines lines left engine more same off by beside =
+    let done = by.began.done off in
+    record {
+      come = record {
+        rounds = [];
+        after = m;
+        goes = refl;
+        calm = tt;
+        beside = subst (λ (x : Machine). StandsBeside origin disk lines left engine x) done.1 beside;
+        given = subst (λ (x : Machine). lines_given lines + length x.lines ≡ lines_given old_lines + length m.lines)
+            done.1 by.began.stepped.given;
+        others = λ set other. refl;
+      };
+      drained = λ e. subst (λ (r : Rules). IsDrained r m) same done.0;
+    }
+
+-- ---- a stop in it
+
+module _ (origin : Origin) (rules : Rules) (m : Machine) (old_lines : Lines) (disk : Disk) (stop : Stop)
+    (law : IsLawful disk) where
+  -- in IN
+  pub stopped_in : (engine : Engine) → StandsAt origin disk engine m → MayStop event.In engine.held stop
+      → ((number : ℕ) → stop ≡ stops.LineFault number → number ≡ lines_given old_lines + 1)
+      → DrainStopped origin rules m old_lines disk disk stop
+  stopped_in engine at may number = record {
+    here = m;
+    event = event.In;
+    in_drain = in_first rules m;
+    may = subst (λ h. MayStop event.In h stop) at.parts.held may;
+    first = λ n is. omega (arith, number n is);
+    within = (left_alone origin rules m 0 disk engine law at).within;
+  }
+
+  -- in the turn of a region, for want of memory
+  pub stopped_region : (engine : Engine) (here : Machine) (region : ℕ) → stop ≡ stops.Memory
+      → StandsAt origin disk engine here
+      → IsInDrain rules m here (event.Region region)
+      → DrainStopped origin rules m old_lines disk disk stop
+  stopped_region engine here region is at i = record {
+    here = here;
+    event = event.Region region;
+    in_drain = i;
+    may = subst (λ (s : Stop). MayStop (event.Region region) here.held s) (sym is) tt;
+    first = λ n e. absurd cc;
+    within = (left_alone origin rules here 0 disk engine law at).within;
+  }
+
+-- in LOG
+no_line_in_log : (held : Option (List ℕ)) (stop : Stop) (number : ℕ) → MayStop event.Log held stop
+    → stop ≡ stops.LineFault number
+    → ⊥
+no_line_in_log held stop number may is = subst (MayStop event.Log held) is may
+
+-- ---- LOG
+
+-- IN and the turns of all regions were taken, from a machine that isn't drained, and no call of the site was made.
+pub record IsBeforeLog (origin : Origin) (rules : Rules) (m : Machine) (disk : Disk) (old_lines lines : Lines)
+    (left : List ℕ) (engine : Engine) : Type 0 where
+  pub first : Engine
+  pub given : Did
+  pub same : rules_in first ≡ rules
+  pub stepped : Stepped event.In m old_lines lines first given
+  pub undone : ¬ IsDrained rules m
+  pub took : TookTurns (turns_of (length rules.regions)) stepped.turned.after engine
+  pub beside : StandsBeside origin disk lines left engine took.after
+
+pub before_log : (origin : Origin) (m : Machine) (disk : Disk) (old_lines lines : Lines) (left : List ℕ)
+    (old first second : Engine) (more : Bool)
+    → rules_in first ≡ rules_in old → first.defs ≡ old.defs
+    → first.log.gate ≡ old.log.gate → second.log.gate ≡ first.log.gate
+    → StandsAt origin disk old m
+    → BeganBy m old_lines lines left first more → more ≡ true
+    → ((mid : Machine) → StandsFor first mid → TookTurns (turns_of (length first.defs.now.regions)) mid second)
+    → IsBeforeLog origin (rules_in old) m disk old_lines lines left second
+before_log origin m disk old_lines lines left old first second more same defs gate gate2 at by on turned =
+    let after = by.began.stepped.turned.after in
+    let count : length first.defs.now.regions ≡ length old.defs.now.regions = ap (λ d. length d.now.regions) defs in
+    let took = subst (λ (n : ℕ). TookTurns (turns_of n) after second) count
+    (turned after by.began.stepped.turned.stands) in
+    record {
+      first = first;
+      given = by.began.did;
+      same = same;
+      stepped = by.began.stepped;
+      undone = subst (λ (r : Rules). ¬ IsDrained r m) same (by.began.goes on);
+      took = took;
+      beside = turns_stand origin disk left after lines first second (turns_of (length old.defs.now.regions)) gate2
+          (in_stands origin disk left m lines old first old_lines more gate at by) took;
+    }
+
+module _ (origin : Origin) (rules : Rules) (m : Machine) (old new : Disk) (old_lines lines : Lines) (left : List ℕ)
+    (engine : Engine) (same : rules_in engine ≡ rules) (b : IsBeforeLog origin rules m old old_lines lines left engine)
+    (leaves : Leaves origin (rules_in engine) b.took.after 1 old new) where
+  at_log : IsInDrain rules m b.took.after event.Log
+  at_log = in_log rules m old_lines lines b.first engine b.given b.same same b.stepped b.undone b.took
+
+  -- a stop in it
+  pub stopped_log : (stop : Stop) → MayStop event.Log engine.held stop
+      → DrainStopped origin rules m old_lines old new stop
+  stopped_log stop may = record {
+    here = b.took.after;
+    event = event.Log;
+    in_drain = at_log;
+    may = subst (λ h. MayStop event.Log h stop) b.took.stands.held may;
+    first = λ n is. absurd (no_line_in_log engine.held stop n may is);
+    within = subst (λ (r : Rules). IsWithin origin r b.took.after 1 old new) same leaves.within;
+  }
+
+  -- what a crash leaves
+  pub moments_log : Through old new (IsLeftByDrain origin rules m old)
+  moments_log =
+      weaker (IsLeft origin (rules_in engine) b.took.after 1 old) (IsLeftByDrain origin rules m old) old new
+      (λ s left. inr (record {
+        here = b.took.after;
+        event = event.Log;
+        in_drain = at_log;
+        is_left = subst (λ (r : Rules). IsLeft origin r b.took.after 1 old s) same left;
+      })) leaves.moments
+
+  -- a whole round
+  pub went_on : (next : Engine) (given : Did) → rules_in next ≡ rules
+      → SteppedAt origin event.Log b.took.after new next given
+      → WentBeside origin rules m old new old_lines lines left next true
+  went_on next given same2 sealed =
+      let round = makes_round rules m old_lines lines b.first engine b.given b.same same b.stepped next given same2
+      b.undone b.took sealed.turned in
+      let beside = log_stands origin new left b.took.after lines next given b.beside.lines_are sealed in
+      record {
+        come = record {
+          rounds = round.steps ∷ [];
+          after = round.after;
+          goes = rounds_more rules [] m m round.steps round.after refl round.goes;
+          calm = (round.calm, tt);
+          beside = beside;
+          given = round.given;
+          others = leaves.within.others;
+        };
+        drained = λ off. absurd cc;
+      }

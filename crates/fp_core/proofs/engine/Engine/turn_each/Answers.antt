@@ -1,0 +1,40 @@
+use Rattle.std.proofs.Common.{◌≡◌, ◌∙◌, ap, refl, subst, arith, ℕ, ◌+◌, ◌<◌, length}
+use Rattle.fp_core.specs.Rounding.{StoppedAmong, TookTurns, turns_of}
+use Rattle.fp_core.proofs.Rounds.{on_err_sure, one_turned, stopped_among}
+use Rattle.fp_core.proofs.Steps.{regions_long}
+use Rattle.fp_core.proofs.engine.Engine.turn_each.Goals as goal
+
+pub overflow_cast-count : goal.overflow_cast-count
+overflow_cast-count c =
+    let s = c.requires.stands in
+    omega (arith, s.1.setup.defined.regions, regions_long c.args.self.now s.0 s.1)
+
+pub returns-in_err-turn-clause-stopped : goal.returns-in_err-turn-clause-stopped
+returns-in_err-turn-clause-stopped c m s =
+    let t = c.loop-done.invariant.took m s in
+    let same : length c.turn.new.self.defs.now.regions ≡ length c.args.self.now.defs.now.regions
+    = ap (λ d. length d.now.regions) (c.turn.ensures.defs ∙ c.loop-done.invariant.defs) in
+    let few : c.loop-done.done < length c.turn.new.self.defs.now.regions
+    = omega (arith, same, regions_long c.args.self.now m s) in
+    on_err_sure (StoppedAmong m c.turn.new.self) c.from_residual.result
+    (stopped_among m c.loop-done.self c.turn.new.self c.loop-done.done c.turn.ensures.rules few t
+    (c.in_err-turn.ensures.err t.after t.stands))
+
+pub loop-done-preserved : goal.loop-done-preserved
+loop-done-preserved c = record {
+  rules = c.turn.ensures.rules ∙ c.loop-done.invariant.rules;
+  defs = c.turn.ensures.defs ∙ c.loop-done.invariant.defs;
+  scripts = c.turn.ensures.scripts ∙ c.loop-done.invariant.scripts;
+  gate = c.turn.ensures.gate ∙ c.loop-done.invariant.gate;
+  count = c.turn.ensures.count ∙ c.loop-done.invariant.count;
+  took = λ m s.
+      let t = c.loop-done.invariant.took m s in
+      one_turned m c.loop-done.self c.turn.new.self c.loop-done.done (c.loop-done.done + 1) (c.loop-done.done + 1)
+      c.in_ok-turn.field-0 refl refl c.turn.ensures.rules t (c.in_ok-turn.ensures.turned t.after t.stands);
+}
+
+pub returns-clause-turned : goal.returns-clause-turned
+returns-clause-turned c m s =
+    let all : c.loop-done.done ≡ length c.args.self.now.defs.now.regions
+    = omega (arith, regions_long c.args.self.now m s) in
+    subst (λ (n : ℕ). TookTurns (turns_of n) m c.loop-done.self) all (c.loop-done.invariant.took m s)

@@ -1,0 +1,39 @@
+use Rattle.std.proofs.Common.{◌≡◌, ◌-◌}
+use Rattle.fp_model.specs.Machine.{Machine}
+use Rattle.fp_site.specs.Moments.{Through}
+use Rattle.fp_site.specs.Site.{ReadsNothing}
+use Rattle.fp_source.specs.Lines.{fault_ahead}
+use Rattle.fp_source.specs.Source.{ReadsOnly}
+use Rattle.fp_source.specs.declared.part.Part.TheVariants as part
+use Rattle.fp_core.specs.Draining.{IsLeftByDrain}
+use Rattle.fp_core.specs.Relation.{rules_in}
+use Rattle.fp_core.specs.Rounding.{HasCome, NeedsFewer}
+use Rattle.fp_core.specs.Standing.{IsContinued, Origin, StandsBeside}
+use Rattle.fp_core.proofs.stepping.Core.drain.Given as goal
+
+-- fewer rounds are needed than may come, and those so far came to where engine, site and source stand
+abbrev pub invariant-loop-done : goal.invariant-loop-done
+invariant-loop-done g l = record {
+  needs : NeedsFewer l.self.engine l.self.lines (l.most - l._done);
+  come : (origin : Origin) (m : Machine) → g.T.Site.told l.initial.site → g.S.Source.told l.initial.source
+      → StandsBeside origin (g.T.Site.disk l.initial.site) l.initial.self.lines
+      (g.S.Source.left l.initial.source part.Messages) l.initial.self.engine m
+      → HasCome origin (rules_in l.initial.self.engine) m (g.T.Site.disk l.initial.site) (g.T.Site.disk l.site)
+      l.initial.self.lines l.self.lines (g.S.Source.left l.source part.Messages) l.self.engine;
+  moments : (origin : Origin) (m : Machine) → g.T.Site.told l.initial.site → g.S.Source.told l.initial.source
+      → StandsBeside origin (g.T.Site.disk l.initial.site) l.initial.self.lines
+      (g.S.Source.left l.initial.source part.Messages) l.initial.self.engine m
+      → Through (g.T.Site.disk l.initial.site) (g.T.Site.disk l.site)
+      (IsLeftByDrain origin (rules_in l.initial.self.engine) m (g.T.Site.disk l.initial.site));
+  fair : g.S.Source.told l.initial.source → fault_ahead l.self.lines (g.S.Source.left l.source part.Messages)
+      ≡ fault_ahead l.initial.self.lines (g.S.Source.left l.initial.source part.Messages);
+  rules : rules_in l.self.engine ≡ rules_in l.initial.self.engine;
+  defs : l.self.engine.defs ≡ l.initial.self.engine.defs;
+  scripts : l.self.engine.scripts ≡ l.initial.self.engine.scripts;
+  router : l.self.router ≡ l.initial.self.router;
+  reads : ReadsNothing (g.T.Site.tells_reads l.initial.site) (g.T.Site.tells_reads l.site)
+      (g.T.Site.bytes_read l.initial.site) (g.T.Site.bytes_read l.site);
+  site : IsContinued g.T.Site.told g.T.Site.faults g.T.Site.holds g.T.Site.keeps l.initial.site l.site;
+  source : ReadsOnly g.S.Source.told g.S.Source.left g.S.Source.faults g.S.Source.holds g.S.Source.keeps part.Messages
+      l.initial.source l.source;
+}

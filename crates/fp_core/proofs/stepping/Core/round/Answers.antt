@@ -1,0 +1,173 @@
+use Rattle.std.proofs.Common.{◌≡◌, ◌∙◌, ap, refl, subst, arith, ℕ, ◌+◌, ◌<◌, length, Bool, Err}
+use Rattle.fp_model.specs.Machine.{Machine}
+use Rattle.fp_model.specs.Rules.{Rules}
+use Rattle.fp_model.specs.Runs.{IsDrained}
+use Rattle.fp_source.specs.declared.part.Part.TheVariants as part
+use Rattle.fp_core.specs.declared.stop.Stop.{Stop}
+use Rattle.fp_core.specs.declared.stop.Stop.TheVariants as stops
+use Rattle.fp_core.specs.Draining.{DrainStopped}
+use Rattle.fp_core.specs.Relation.{rules_in}
+use Rattle.fp_core.specs.Rounding.{TookTurns, WentBeside, turns_of}
+use Rattle.fp_core.proofs.Comings.{before_log, came_off, in_region, in_stands, moments_log, stopped_in, stopped_log, stopped_region, turns_stand, went_on}
+use Rattle.fp_core.proofs.Rounds.{if_err_from, makes_round}
+use Rattle.fp_core.proofs.stepping.Core.round.Goals as goal
+
+-- ---- IN
+
+pub returns-in_err-begin_round-clause-stopped : goal.returns-in_err-begin_round-clause-stopped
+returns-in_err-begin_round-clause-stopped g c origin m told tells beside =
+    let core = c.args.self.now in
+    let disk = g.T.Site.disk c.args.site.now in
+    let stop = c.in_err-begin_round.field-0.0 in
+    if_err_from (DrainStopped origin (rules_in core.engine) m core.lines disk disk) c.from_residual.result stop
+    c.from_residual.ensures.1
+    (stopped_in origin (rules_in core.engine) m core.lines disk stop (g.met.T.Site.lawful c.args.site.now told)
+    core.engine beside.at
+    c.in_err-begin_round.ensures.stops (λ n is. c.in_err-begin_round.ensures.number n (ap (λ (e : Stop). Err e) is)))
+
+pub returns-then-not-branch-clause-beside : goal.returns-then-not-branch-clause-beside
+returns-then-not-branch-clause-beside g c origin m told tells beside =
+    let core = c.args.self.now in
+    let first = c.begin_round.new.self in
+    let disk = g.T.Site.disk c.args.site.now in
+    let left = g.S.Source.left c.begin_round.new.source part.Messages in
+    let more = c.in_ok-begin_round.field-0 in
+    let by = c.in_ok-begin_round.ensures.read m tells beside.at.parts beside.lines_are in
+    subst (λ (b : Bool). WentBeside origin (rules_in core.engine) m disk disk core.lines first.lines left
+    first.engine b) c.if-not-branch.true
+    (came_off origin (rules_in core.engine) m disk core.lines first.lines left first.engine more
+    c.begin_round.ensures.rules c.if-not-branch.true by
+    (in_stands origin disk left m first.lines core.engine first.engine core.lines more c.begin_round.ensures.gate
+    beside.at by))
+
+-- ---- the turns of regions
+
+pub returns-in_err-turn_each-clause-stopped : goal.returns-in_err-turn_each-clause-stopped
+returns-in_err-turn_each-clause-stopped g c origin m told tells beside =
+    let core = c.args.self.now in
+    let first = c.begin_round.new.self in
+    let second = c.turn_each.new.self in
+    let rules = rules_in core.engine in
+    let disk = g.T.Site.disk c.args.site.now in
+    let left = g.S.Source.left c.begin_round.new.source part.Messages in
+    let more = c.in_ok-begin_round.field-0 in
+    let by = c.in_ok-begin_round.ensures.read m tells beside.at.parts beside.lines_are in
+    let undone : ¬ IsDrained rules m = subst (λ (r : Rules). ¬ IsDrained r m) c.begin_round.ensures.rules
+    (by.began.goes c.if-not-branch.false) in
+    let after = by.began.stepped.turned.after in
+    let at = in_stands origin disk left m first.lines core.engine first.engine core.lines more
+    c.begin_round.ensures.gate beside.at by in
+    let among = c.in_err-turn_each.ensures.stopped after by.began.stepped.turned.stands in
+    let same2 = c.turn_each.ensures.rules ∙ c.begin_round.ensures.rules in
+    let many : length second.defs.now.regions ≡ length rules.regions = ap (λ d. length d.now.regions)
+    (c.turn_each.ensures.defs ∙ c.begin_round.ensures.defs) in
+    let few : among.count < length rules.regions = omega (arith, among.few, many) in
+    if_err_from (DrainStopped origin rules m core.lines disk disk) c.from_residual-in_err-turn_each.result
+    stops.Memory c.from_residual-in_err-turn_each.ensures.1
+    (stopped_region origin rules m core.lines disk stops.Memory (g.met.T.Site.lawful c.args.site.now told) second
+    among.took.after (among.count + 1) refl
+    (turns_stand origin disk left after first.lines first.engine second (turns_of among.count)
+    c.turn_each.ensures.gate at among.took).at
+    (in_region rules m core.lines first.lines first.engine second by.began.did c.begin_round.ensures.rules same2
+    by.began.stepped undone among.count few among.took))
+
+-- ---- LOG
+
+pub returns-in_err-seal-clause-stopped : goal.returns-in_err-seal-clause-stopped
+returns-in_err-seal-clause-stopped g c origin m told tells beside =
+    let core = c.args.self.now in
+    let first = c.begin_round.new.self in
+    let second = c.turn_each.new.self in
+    let rules = rules_in core.engine in
+    let disk = g.T.Site.disk c.args.site.now in
+    let disk2 = g.T.Site.disk c.seal.new.site in
+    let left = g.S.Source.left c.begin_round.new.source part.Messages in
+    let same = c.turn_each.ensures.rules ∙ c.begin_round.ensures.rules in
+    let before = before_log origin m disk core.lines first.lines left core.engine first.engine second
+    c.in_ok-begin_round.field-0 c.begin_round.ensures.rules c.begin_round.ensures.defs c.begin_round.ensures.gate
+    c.turn_each.ensures.gate beside.at (c.in_ok-begin_round.ensures.read m tells beside.at.parts beside.lines_are)
+    c.if-not-branch.false (λ mid s. c.in_ok-turn_each.ensures.turned mid s) in
+    let leaves = c.seal.ensures.leaves origin before.took.after told before.beside.at in
+    let stop = c.in_err-seal.field-0.0 in
+    if_err_from (DrainStopped origin rules m core.lines disk disk2) c.from_residual-in_err-seal.result stop
+    c.from_residual-in_err-seal.ensures.1
+    (stopped_log origin rules m disk disk2 core.lines first.lines left second same before leaves stop
+    c.in_err-seal.ensures.stops)
+
+pub returns-in_err-seal-clause-moments : goal.returns-in_err-seal-clause-moments
+returns-in_err-seal-clause-moments g c origin m told tells beside =
+    let core = c.args.self.now in
+    let first = c.begin_round.new.self in
+    let second = c.turn_each.new.self in
+    let rules = rules_in core.engine in
+    let disk = g.T.Site.disk c.args.site.now in
+    let disk2 = g.T.Site.disk c.seal.new.site in
+    let left = g.S.Source.left c.begin_round.new.source part.Messages in
+    let same = c.turn_each.ensures.rules ∙ c.begin_round.ensures.rules in
+    let before = before_log origin m disk core.lines first.lines left core.engine first.engine second
+    c.in_ok-begin_round.field-0 c.begin_round.ensures.rules c.begin_round.ensures.defs c.begin_round.ensures.gate
+    c.turn_each.ensures.gate beside.at (c.in_ok-begin_round.ensures.read m tells beside.at.parts beside.lines_are)
+    c.if-not-branch.false (λ mid s. c.in_ok-turn_each.ensures.turned mid s) in
+    let leaves = c.seal.ensures.leaves origin before.took.after told before.beside.at in
+    moments_log origin rules m disk disk2 core.lines first.lines left second same before leaves
+
+-- ---- a whole round
+
+pub returns-clause-moments : goal.returns-clause-moments
+returns-clause-moments g c origin m told tells beside =
+    let core = c.args.self.now in
+    let first = c.begin_round.new.self in
+    let second = c.turn_each.new.self in
+    let rules = rules_in core.engine in
+    let disk = g.T.Site.disk c.args.site.now in
+    let disk2 = g.T.Site.disk c.seal.new.site in
+    let left = g.S.Source.left c.begin_round.new.source part.Messages in
+    let same = c.turn_each.ensures.rules ∙ c.begin_round.ensures.rules in
+    let before = before_log origin m disk core.lines first.lines left core.engine first.engine second
+    c.in_ok-begin_round.field-0 c.begin_round.ensures.rules c.begin_round.ensures.defs c.begin_round.ensures.gate
+    c.turn_each.ensures.gate beside.at (c.in_ok-begin_round.ensures.read m tells beside.at.parts beside.lines_are)
+    c.if-not-branch.false (λ mid s. c.in_ok-turn_each.ensures.turned mid s) in
+    let leaves = c.seal.ensures.leaves origin before.took.after told before.beside.at in
+    moments_log origin rules m disk disk2 core.lines first.lines left second same before leaves
+
+pub returns-clause-beside : goal.returns-clause-beside
+returns-clause-beside g c origin m told tells beside =
+    let core = c.args.self.now in
+    let first = c.begin_round.new.self in
+    let second = c.turn_each.new.self in
+    let rules = rules_in core.engine in
+    let disk = g.T.Site.disk c.args.site.now in
+    let disk2 = g.T.Site.disk c.seal.new.site in
+    let left = g.S.Source.left c.begin_round.new.source part.Messages in
+    let same = c.turn_each.ensures.rules ∙ c.begin_round.ensures.rules in
+    let before = before_log origin m disk core.lines first.lines left core.engine first.engine second
+    c.in_ok-begin_round.field-0 c.begin_round.ensures.rules c.begin_round.ensures.defs c.begin_round.ensures.gate
+    c.turn_each.ensures.gate beside.at (c.in_ok-begin_round.ensures.read m tells beside.at.parts beside.lines_are)
+    c.if-not-branch.false (λ mid s. c.in_ok-turn_each.ensures.turned mid s) in
+    let leaves = c.seal.ensures.leaves origin before.took.after told before.beside.at in
+    went_on origin rules m disk disk2 core.lines first.lines left second same before leaves
+    c.seal.new.self c.in_ok-seal.field-0 (c.seal.ensures.rules ∙ same)
+    (c.in_ok-seal.ensures.at origin before.took.after told before.beside.at)
+
+pub returns-clause-went : goal.returns-clause-went
+returns-clause-went g c m s =
+    let core = c.args.self.now in
+    let first = c.begin_round.new.self in
+    let second = c.turn_each.new.self in
+    let rules = rules_in core.engine in
+    let some = c.in_ok-begin_round.ensures.began m s in
+    let m2 : Machine = record m { lines = some.0 } in
+    let undone : ¬ IsDrained rules m2 = subst (λ (r : Rules). ¬ IsDrained r m2) c.begin_round.ensures.rules
+    (some.1.goes c.if-not-branch.false) in
+    let stepped = some.1.stepped in
+    let same2 = c.turn_each.ensures.rules ∙ c.begin_round.ensures.rules in
+    let many : length first.engine.defs.now.regions ≡ length rules.regions = ap (λ d. length d.now.regions)
+    c.begin_round.ensures.defs in
+    let took = subst (λ (n : ℕ). TookTurns (turns_of n) stepped.turned.after second) many
+    (c.in_ok-turn_each.ensures.turned stepped.turned.after stepped.turned.stands) in (
+      some.0,
+      makes_round rules m2 core.lines first.lines first.engine second some.1.did c.begin_round.ensures.rules same2
+          stepped c.seal.new.self
+          c.in_ok-seal.field-0 (c.seal.ensures.rules ∙ same2) undone took
+          (c.in_ok-seal.ensures.turned took.after took.stands),
+    )

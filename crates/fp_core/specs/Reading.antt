@@ -1,0 +1,21 @@
+-- What IN reads: what a line asks for, and why none is read.
+use Rattle.std.specs.Prelude.{Option, Some, None}
+use Rattle.fp_model.specs.declared.calls.Message.{Message}
+use Rattle.fp_model.specs.declared.log.Outcome.TheVariants.{Unknown}
+use Rattle.fp_model.specs.History.{Request, Accepts, Refuses}
+use Rattle.fp_source.specs.declared.lines.LineFault.{LineFault}
+use Rattle.fp_source.specs.declared.lines.LineFault.TheVariants as fault
+use Rattle.fp_core.specs.declared.stop.Stop.{Stop}
+use Rattle.fp_core.specs.declared.stop.Stop.TheVariants as stop
+
+-- a message, or none and the line is refused
+abbrev pub request_for : Option Message → Request
+request_for None = Refuses Unknown
+request_for (Some message) = Accepts message
+
+-- a line that isn't read stops the run
+abbrev pub stop_of : LineFault → Stop
+stop_of (fault.TooLong number) = stop.LineFault number
+stop_of (fault.TooMany number) = stop.LineFault number
+stop_of fault.Failed = stop.ReadFault
+stop_of fault.Memory = stop.Memory

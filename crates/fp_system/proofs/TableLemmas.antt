@@ -1,0 +1,95 @@
+-- At most one answer is due.
+use Rattle.std.proofs.Common.{◌≡◌, refl, sym, ap, subst, ◌∙◌, ℕ, List, Option, Some, None}
+use Rattle.std.specs.Prelude.{IsSome}
+use Rattle.fp_model.specs.LogText.{first_gate}
+use Rattle.fp_model.specs.Items.{AreFit, items_of}
+use Rattle.fp_model.specs.declared.log.Entry.{Entry}
+use Rattle.fp_restart.proofs.Replays.{one_first_bad, readable_not_bad, sound_begins}
+use Rattle.fp_system.specs.Answers.{faulty_line}
+use Rattle.fp_system.specs.Parts.{Job, front_for}
+use Rattle.fp_source.specs.declared.part.Part.TheVariants as part
+use Rattle.fp_system.specs.Words.{command_of}
+use Rattle.fp_system.specs.declared.status.Status.{Status}
+use Rattle.fp_system.specs.declared.status.Status.TheVariants.{Damaged}
+use Rattle.fp_system.specs.declared.words.Command.{Command}
+use Rattle.fp_system.specs.declared.words.Command.TheVariants.{Define, Run}
+use Rattle.fp_system.proofs.Jobs.{one_job, one_answer, no_job_refused}
+use Rattle.fp_system.specs.Stops.{IsSoundFor}
+use Rattle.fp_system.specs.Table.{Given, Asks, ByLog, IsDue, IsDueTo, IsEnd, IsGood, end_of_lines}
+use Rattle.fp_system.specs.Table.{asked, damaged, foreign, good, no_command, refused}
+
+-- ---- the log
+
+-- of a log one answer, where what stands behind a good one is one
+pub one_by_log : (job : Job) (log : List ℕ) (behind : Status → Type 0) → ((a b : Status) → behind a → behind b → a ≡ b)
+    → (a b : Status) → ByLog job log behind a → ByLog job log behind b → a ≡ b
+one_by_log job log behind one a b (foreign away) (foreign away2) = refl
+one_by_log job log behind one a b (foreign away) (damaged bad) = absurd (away bad.begins)
+one_by_log job log behind one a b (foreign away) (good is q) = absurd (away is.begins)
+one_by_log job log behind one a b (damaged bad) (foreign away) = absurd (away bad.begins)
+one_by_log job log behind one a b (damaged {at = at} bad) (damaged {at = at2} bad2) =
+    ap (λ (place : ℕ). Damaged 0 place)
+    (one_first_bad job.defs log (first_gate (front_for job)) at2 at bad2.bad bad.bad)
+one_by_log job log behind one a b (damaged {at = at} bad) (good is q) =
+    absurd (readable_not_bad job.defs log (first_gate (front_for job)) at is.readable bad.bad)
+one_by_log job log behind one a b (good is p) (foreign away) = absurd (away is.begins)
+one_by_log job log behind one a b (good is p) (damaged {at = at} bad) =
+    absurd (readable_not_bad job.defs log (first_gate (front_for job)) at is.readable bad.bad)
+one_by_log job log behind one a b (good is p) (good is2 q) = one a b p q
+
+-- ---- the commands
+
+one_due_to : (command : Command) (job : Job) (g : Given) (a b : Status) → IsDueTo command job g a
+    → IsDueTo command job g b → a ≡ b
+one_due_to Define job g a b p q = p ∙ sym q
+one_due_to Run job g a b p q =
+    one_by_log job (g.contents 0) (IsEnd (g.left part.Messages)) (λ x y h k. h ∙ sym k) a b p q
+
+same_command : (found : Option Command) (c d : Command) → found ≡ Some c → found ≡ Some d → c ≡ d
+same_command found c d p q = cc
+
+none_or_some : {Any : Type 0} (found : Option Command) → found ≡ None → IsSome found → Any
+none_or_some None e is = absurd cc
+none_or_some (Some c) e is = absurd cc
+
+none_or_one : {Any : Type 0} (found : Option Command) (c : Command) → found ≡ None → found ≡ Some c → Any
+none_or_one found c p q = absurd cc
+
+-- ---- the whole
+
+pub one_due : (g : Given) (a b : Status) → IsDue g a → IsDue g b → a ≡ b
+one_due g a b (no_command p) (no_command q) = refl
+one_due g a b (no_command p) (refused is q) = none_or_some (command_of g.words) p is
+one_due g a b (no_command p) (asked {command = c} asks q) = none_or_one (command_of g.words) c p asks.command_is
+one_due g a b (refused is p) (no_command q) = none_or_some (command_of g.words) q is
+one_due g a b (refused is p) (refused is2 q) = one_answer g.kinds g.left a b p q
+one_due g a b (refused is p) (asked {job = job} asks q) = no_job_refused g.kinds g.left job a asks.job_is p
+one_due g a b (asked {command = c} asks p) (no_command q) = none_or_one (command_of g.words) c q asks.command_is
+one_due g a b (asked {job = job} asks p) (refused is q) = no_job_refused g.kinds g.left job b asks.job_is q
+one_due g a b (asked {command = c} {job = job} asks p) (asked {command = d} {job = job2} asks2 q) =
+    let same : d ≡ c = same_command (command_of g.words) d c asks2.command_is asks.command_is in
+    let same2 : job2 ≡ job = one_job g.kinds g.left job2 job asks2.job_is asks.job_is in
+    one_due_to c job g a b p
+    (subst (λ (x : Command). IsDueTo x job g b) same (subst (λ (j : Job). IsDueTo d j g b) same2 q))
+
+-- ---- a sound log
+
+-- it is the job's, and good
+sound_good : (job : Job) (log : List ℕ) (entries : List Entry) → IsSoundFor job log entries → IsGood job log
+sound_good job log entries sound = record {
+  begins = sound_begins job.defs job.scripts (front_for job) log entries sound;
+  readable = record {
+    groups = sound.groups;
+    gate = sound.gate;
+    holds = record {
+      holds = sound.holds.reads.0;
+      fit = subst (λ (l : List Entry). AreFit job.defs (items_of l)) sound.all sound.fit;
+    };
+    closed = sound.holds.reads.1;
+  };
+}
+
+-- so that its run is due the end of its lines
+pub lines_due : (g : Given) (job : Job) (entries : List Entry) → Asks g Run job → IsSoundFor job (g.contents 0) entries
+    → IsDue g (end_of_lines (faulty_line (g.left part.Messages)))
+lines_due g job entries asks sound = asked asks (good (sound_good job (g.contents 0) entries sound) refl)

@@ -1,0 +1,96 @@
+-- Which answer is due: of the words, then of the definitions and the scripts, then of the log, then of the message
+-- lines.
+use denote.Param.Members.{Mut}
+use Rattle.std.specs.Prelude.{◌≡◌, ◌⊎◌, ℕ, List, Option, Some, None, IsSome, ⊤, map, String, string_bytes}
+use Rattle.std.specs.Borrow.{Bor}
+use Rattle.fp_exits.specs.Kinds.{Kinds, kinds_of}
+use Rattle.fp_exits.specs.declared.exits.Exits.{Exits}
+use Rattle.fp_model.specs.declared.name.Name.{Name}
+use Rattle.fp_model.specs.LogText.{StartsWithFront, first_gate}
+use Rattle.fp_restart.specs.Replayed.{IsFirstBadAt, IsReadable}
+use Rattle.fp_site.specs.Disk.{Disk}
+use Rattle.fp_source.specs.declared.part.Part.{Part}
+use Rattle.fp_source.specs.declared.part.Part.TheVariants as part
+use Rattle.fp_system.specs.Answers.{MayStandIn, faulty_line}
+use Rattle.fp_system.specs.Parts.{Job, IsJob, Refuses, front_for}
+use Rattle.fp_system.specs.Words.{command_of}
+use Rattle.fp_system.specs.declared.status.Status.{Status}
+use Rattle.fp_system.specs.declared.status.Status.TheVariants.{Done, Usage, Foreign, Damaged, Line}
+use Rattle.fp_system.specs.declared.words.Command.{Command}
+use Rattle.fp_system.specs.declared.words.Command.TheVariants.{Define, Run}
+
+-- What a call is given, as it is told: the kinds of exit that there are, the words behind the program's name, what is
+-- left of each part, and what each data set holds.
+pub record Given : Type 0 where
+  pub kinds : Kinds
+  pub words : List (List ℕ)
+  pub left : Part → List ℕ
+  pub contents : ℕ → List ℕ
+
+abbrev pub given :
+    {X Y Z : Type 0} {F : X → Type 0} {G : Y → Type 0}
+    {m : Mut ((x : X) × F x) (Bor (List ℕ) × (ℕ × ⊤)) ℕ} {n : Mut ((y : Y) × G y) (Bor Name × (ℕ × ⊤)) ℕ}
+    → Exits X Y F G m n → List (String Z) → (Part → List ℕ) → Disk → Given
+given exits words left disk =
+    record { kinds = kinds_of exits; words = map string_bytes words; left = left; contents = disk.contents }
+
+-- the words ask for this command, and the parts are this job
+pub record Asks (g : Given) (command : Command) (job : Job) : Type 0 where
+  pub command_is : command_of g.words ≡ Some command
+  pub job_is : IsJob g.kinds g.left job
+
+-- ---- the log
+
+-- the log doesn't begin with the job's open front
+abbrev pub IsForeign : Job → List ℕ → Type 0
+IsForeign job log = ¬ (StartsWithFront log (front_for job))
+
+-- behind the front it is bad, first at this place
+pub record IsBadFirst (job : Job) (log : List ℕ) (at : ℕ) : Type 0 where
+  pub begins : StartsWithFront log (front_for job)
+  pub bad : IsFirstBadAt job.defs log (first_gate (front_for job)) at
+
+-- another's log, or one that is bad somewhere
+abbrev pub IsSpared : Job → List ℕ → Type 0
+IsSpared job log = IsForeign job log ⊎ ((at : ℕ) × IsBadFirst job log at)
+
+-- it is the job's, and can be read to a gate that isn't open
+pub record IsGood (job : Job) (log : List ℕ) : Type 0 where
+  pub begins : StartsWithFront log (front_for job)
+  pub readable : IsReadable job.defs log (first_gate (front_for job))
+
+-- The log is judged first. Of a good one the answer is what stands behind.
+pub data ByLog (job : Job) (log : List ℕ) (behind : Status → Type 0) : Status → Type 0 where
+  foreign : IsForeign job log → ByLog job log behind Foreign
+  damaged : {at : ℕ} → IsBadFirst job log at → ByLog job log behind (Damaged 0 at)
+  good : {answer : Status} → IsGood job log → behind answer → ByLog job log behind answer
+
+-- ---- the lines
+
+-- the first line that isn't taken, or the end
+abbrev pub end_of_lines : Option ℕ → Status
+end_of_lines None = Done
+end_of_lines (Some number) = Line number
+
+abbrev pub IsEnd : List ℕ → Status → Type 0
+IsEnd messages answer = answer ≡ end_of_lines (faulty_line messages)
+
+-- ---- the table
+
+-- what a command is due, of a job
+abbrev pub IsDueTo : Command → Job → Given → Status → Type 0
+IsDueTo Define job g answer = answer ≡ Done
+IsDueTo Run job g answer = ByLog job (g.contents 0) (IsEnd (g.left part.Messages)) answer
+
+-- the answer that a call is due
+pub data IsDue (g : Given) : Status → Type 0 where
+  no_command : command_of g.words ≡ None → IsDue g Usage
+  refused : {answer : Status} → IsSome (command_of g.words) → Refuses g.kinds g.left answer → IsDue g answer
+  asked : {command : Command} {job : Job} {answer : Status} → Asks g command job → IsDueTo command job g answer
+      → IsDue g answer
+
+-- ---- what may stand in the place of it
+
+-- the answer is what is due, or a fault in its place
+abbrev pub IsAnswerTo : Given → Status → Type 0
+IsAnswerTo g answer = IsDue g answer ⊎ MayStandIn answer
