@@ -65,9 +65,13 @@ impl Queues {
         ensures stays { is_among self.old.busy message.lterm ≡ true → self.new ≡ self.old }
 
         // Any other message is the last of its group's queue, and its terminal waits.
-        ensures group { is_among self.old.busy message.lterm ≡ false → IfOk result (λ offer. offer ≡ Offer.Queued (group_for router.now.kind message self.old)) }
-        ensures queued { is_among self.old.busy message.lterm ≡ false → OnOk result (self.new.queues ≡ queued_at (group_for router.now.kind message self.old - 1) message self.old.queues) }
-        ensures marked { is_among self.old.busy message.lterm ≡ false → OnOk result (AreSame self.new.busy (self.old.busy ++ message.lterm ∷ [])) }
+        ensures group { is_among self.old.busy message.lterm ≡ false
+            → IfOk result (λ offer. offer ≡ Offer.Queued (group_for router.now.kind message self.old)) }
+        ensures queued { is_among self.old.busy message.lterm ≡ false
+            → OnOk result (self.new.queues ≡ queued_at (group_for router.now.kind message self.old - 1) message
+            self.old.queues) }
+        ensures marked { is_among self.old.busy message.lterm ≡ false
+            → OnOk result (AreSame self.new.busy (self.old.busy ++ message.lterm ∷ [])) }
 
         ensures groups { length self.new.queues ≡ length self.old.queues }
 

@@ -11,10 +11,18 @@ use Rattle.fp_model.specs.Spellings.{be16}
 use Rattle.fp_model.specs.WellFormed.{IsMsdbDef}
 
 abbrev pub sample_fields : List FieldDef
-sample_fields = record { name = record { 0 = codes "ACCT    " }; kind = C; at = 0; length = 4 } ∷ record { name = record { 0 = codes "BAL     " }; kind = P; at = 4; length = 4 } ∷ []
+sample_fields = record { name = record { 0 = codes "ACCT    " }; kind = C; at = 0; length = 4 } ∷ record
+    { name = record { 0 = codes "BAL     " }; kind = P; at = 4; length = 4 } ∷ []
 
 abbrev pub sample : Bool → MsdbDef
-sample dynamic = record { name = record { 0 = codes "ACCTS   " }; dynamic = dynamic; fields = sample_fields; length = 8; load = [] }
+sample dynamic = record {
+  name = record { 0 = codes "ACCTS   " };
+  dynamic = dynamic;
+  fields = sample_fields;
+  length =
+      8;
+  load = [];
+}
 
 pub sample_good : (dynamic : Bool) → IsMsdbDef (sample dynamic)
 unfolding IsDistinct

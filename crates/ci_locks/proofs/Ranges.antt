@@ -39,7 +39,8 @@ record Between (d first last : ℕ) (q : ℕ × ℕ) : Type 0 where
   from : first ≤ q.1
   to : q.1 ≤ last
 
-between : (d first last : ℕ) (q : ℕ × ℕ) → is_gt (anchor_cmp (d, first) q) ≡ false → is_gt (anchor_cmp q (d, last)) ≡ false → Between d first last q
+between : (d first last : ℕ) (q : ℕ × ℕ) → is_gt (anchor_cmp (d, first) q) ≡ false
+    → is_gt (anchor_cmp q (d, last)) ≡ false → Between d first last q
 between d first last q low high =
     let below : d ≤ q.0 = le_from_not_gt d q.0 (left_not_gt (nat_cmp d q.0) (nat_cmp first q.1) low) in
     let above : q.0 ≤ d = le_from_not_gt q.0 d (left_not_gt (nat_cmp q.0 d) (nat_cmp q.1 last) high) in
@@ -55,32 +56,46 @@ module _ {V : Type 0} (held : BTreeMap (ℕ × ℕ) V) (d first last : ℕ) wher
   some_found o value e = let P : Option V → Type 0 = IsSome in subst P (sym e) (search)
 
   -- the first entry of the range is an anchor there
-  pub one_is : (low high : ℕ × ℕ) (e : (ℕ × ℕ) × V) → low ≡ (d, first) → high ≡ (d, last) → IsEntryInRange anchor_cmp (Included low) (Included high) held e
+  pub one_is : (low high : ℕ × ℕ) (e : (ℕ × ℕ) × V) → low ≡ (d, first) → high ≡ (d, last)
+      → IsEntryInRange anchor_cmp (Included low) (Included high) held e
       → (anchor : ℕ) × (first ≤ anchor) × (anchor ≤ last) × IsSome (get anchor_cmp held (d, anchor))
   one_is low high e low_is high_is inside =
-      let b = between d first last e.0 (ap (λ k. is_gt (anchor_cmp k e.0)) (sym low_is) ∙ inside.0.0) (ap (λ k. is_gt (anchor_cmp e.0 k)) (sym high_is) ∙ inside.0.1) in
-      (e.0.1, b.from, b.to, some_found (get anchor_cmp held (d, e.0.1)) e.1 (ap (λ n. get anchor_cmp held (n, e.0.1)) (sym b.database) ∙ inside.1))
+      let b = between d first last e.0 (ap (λ k. is_gt (anchor_cmp k e.0)) (sym low_is) ∙ inside.0.0)
+      (ap (λ k. is_gt (anchor_cmp e.0 k)) (sym high_is) ∙ inside.0.1) in (
+        e.0.1,
+        b.from,
+        b.to,
+        some_found (get anchor_cmp held (d, e.0.1)) e.1
+            (ap (λ n. get anchor_cmp held (n, e.0.1)) (sym b.database) ∙ inside.1),
+      )
 
   -- where the range has no entry no anchor there is held
-  pub none_is : (low high : ℕ × ℕ) (es : List ((ℕ × ℕ) × V)) → low ≡ (d, first) → high ≡ (d, last) → IsRangeOf anchor_cmp (Included low) (Included high) held es → es ≡ []
+  pub none_is : (low high : ℕ × ℕ) (es : List ((ℕ × ℕ) × V)) → low ≡ (d, first) → high ≡ (d, last)
+      → IsRangeOf anchor_cmp (Included low) (Included high) held es → es ≡ []
       → (anchor : ℕ) → first ≤ anchor → anchor ≤ last → get anchor_cmp held (d, anchor) ≡ None
   none_is low high es low_is high_is range empty anchor from to =
       range.5 empty (d, anchor) (
-        (ap (λ k. is_gt (anchor_cmp k (d, anchor))) low_is ∙ both_not_gt (nat_cmp d d) (nat_cmp first anchor) (not_gt d d (search arith)) (not_gt first anchor from)),
-        (ap (λ k. is_gt (anchor_cmp (d, anchor) k)) high_is ∙ both_not_gt (nat_cmp d d) (nat_cmp anchor last) (not_gt d d (search arith)) (not_gt anchor last to)),
+        (ap (λ k. is_gt (anchor_cmp k (d, anchor))) low_is ∙ both_not_gt (nat_cmp d d) (nat_cmp first anchor)
+            (not_gt d d (search arith)) (not_gt first anchor from)),
+        (ap (λ k. is_gt (anchor_cmp (d, anchor) k)) high_is ∙ both_not_gt (nat_cmp d d) (nat_cmp anchor last)
+            (not_gt d d (search arith)) (not_gt anchor last to)),
       )
 
   -- so an entry that the range begins with is one
-  pub first_is : (low high : ℕ × ℕ) (es : List ((ℕ × ℕ) × V)) (e : (ℕ × ℕ) × V) (rest : List ((ℕ × ℕ) × V)) → low ≡ (d, first) → high ≡ (d, last) → IsRangeOf anchor_cmp (Included low) (Included high) held es → es ≡ e ∷ rest
+  pub first_is : (low high : ℕ × ℕ) (es : List ((ℕ × ℕ) × V)) (e : (ℕ × ℕ) × V) (rest : List ((ℕ × ℕ) × V))
+      → low ≡ (d, first) → high ≡ (d, last) → IsRangeOf anchor_cmp (Included low) (Included high) held es
+      → es ≡ e ∷ rest
       → (anchor : ℕ) × (first ≤ anchor) × (anchor ≤ last) × IsSome (get anchor_cmp held (d, anchor))
   first_is low high es e rest low_is high_is range begins =
-      let P : List ((ℕ × ℕ) × V) → Type 0 = λ list. IfSome (slice_get list 0) (IsEntryInRange anchor_cmp (Included low) (Included high) held) in
+      let P : List ((ℕ × ℕ) × V) → Type 0 = λ list. IfSome (slice_get list 0)
+      (IsEntryInRange anchor_cmp (Included low) (Included high) held) in
       one_is low high e low_is high_is (subst P begins range.1)
 
 pub left_of : {T : Type 0} (o : Option T) (P : Type 0) (Q : T → Type 0) → is_some o ≡ false → MatchOption o P Q → P
 left_of None P Q is m = m
 left_of (Some x) P Q is m = absurd (cc)
 
-pub right_of : {T : Type 0} (o : Option T) (P : Type 0) (Q : T → Type 0) → is_some o ≡ true → MatchOption o P Q → (x : T) × Q x
+pub right_of : {T : Type 0} (o : Option T) (P : Type 0) (Q : T → Type 0) → is_some o ≡ true → MatchOption o P Q
+    → (x : T) × Q x
 right_of None P Q is m = absurd (cc)
 right_of (Some x) P Q is m = (x, m)

@@ -35,9 +35,11 @@ less_bits (suc zero) (suc (suc b)) h k = absurd (omega (arith, k))
 
 pub or_is : (a b region : ℕ) → has (bit_or a b) region ≡ (has a region || has b region)
 or_is a b zero = refl
-or_is a b (suc place) = ap (λ bit. bit == 1) (bit_at_or a b place) ∙ or_bits (bit_at a place) (bit_at b place) (bit_at-lt a place) (bit_at-lt b place)
+or_is a b (suc place) = ap (λ bit. bit == 1) (bit_at_or a b place) ∙ or_bits (bit_at a place) (bit_at b place)
+    (bit_at-lt a place) (bit_at-lt b place)
 
-pub less_is : (a b : ℕ) → a < 18446744073709551616 → b < 18446744073709551616 → (region : ℕ) → has (bit_and a (18446744073709551615 - b)) region ≡ (has a region && not (has b region))
+pub less_is : (a b : ℕ) → a < 18446744073709551616 → b < 18446744073709551616 → (region : ℕ)
+    → has (bit_and a (18446744073709551615 - b)) region ≡ (has a region && not (has b region))
 less_is a b small little zero = refl
 less_is a b small little (suc place) =
     ⊎_elim
@@ -71,19 +73,24 @@ module _ (n region : ℕ) (some : 1 ≤ region) (most : region ≤ 64) where
       ⊎_elim
       (λ (here : place ≡ region - 1).
       let yes : (suc place == region) ≡ true = grind (arith, nat_tests, some, here) in
-      ap (λ i. bit_at (bit_or n bit) i == 1) here ∙ ap (λ one. one == 1) (bit_at_set_same w64 n (region - 1) within) ∙ ap (λ b. b || has n (suc place)) (sym yes))
+      ap (λ i. bit_at (bit_or n bit) i == 1) here ∙ ap (λ one. one == 1) (bit_at_set_same w64 n (region - 1) within) ∙
+      ap (λ b. b || has n (suc place)) (sym yes))
       (λ (apart : place ≢ region - 1).
       let no : (suc place == region) ≡ false = grind (arith, nat_tests, some, apart) in
-      ap (λ one. one == 1) (bit_at_set_other w64 n (region - 1) within place apart) ∙ ap (λ b. b || has n (suc place)) (sym no))
+      ap (λ one. one == 1) (bit_at_set_other w64 n (region - 1) within place apart) ∙ ap (λ b. b || has n (suc place))
+      (sym no))
       (cases_eq place (region - 1))
 
-  pub without_is : n < 18446744073709551616 → (other : ℕ) → has (bit_and n (18446744073709551615 - bit)) other ≡ (not (other == region) && has n other)
-  without_is small zero = let no : (0 == region) ≡ false = grind (arith, nat_tests, some) in ap (λ b. not b && false) (sym no)
+  pub without_is : n < 18446744073709551616 → (other : ℕ)
+      → has (bit_and n (18446744073709551615 - bit)) other ≡ (not (other == region) && has n other)
+  without_is small zero = let no : (0 == region) ≡ false = grind (arith, nat_tests, some) in
+      ap (λ b. not b && false) (sym no)
   without_is small (suc place) =
       ⊎_elim
       (λ (here : place ≡ region - 1).
       let yes : (suc place == region) ≡ true = grind (arith, nat_tests, some, here) in
-      ap (λ i. bit_at (bit_and n (18446744073709551615 - bit)) i == 1) here ∙ ap (λ one. one == 1) (bit_at_clear_same w64 n (region - 1) within) ∙ ap (λ b. not b && has n (suc place)) (sym yes))
+      ap (λ i. bit_at (bit_and n (18446744073709551615 - bit)) i == 1) here ∙ ap (λ one. one == 1)
+      (bit_at_clear_same w64 n (region - 1) within) ∙ ap (λ b. not b && has n (suc place)) (sym yes))
       (λ (apart : place ≢ region - 1).
       let no : (suc place == region) ≡ false = grind (arith, nat_tests, some, apart) in
       ⊎_elim
@@ -91,7 +98,8 @@ module _ (n region : ℕ) (some : 1 ≤ region) (most : region ≤ 64) where
       (λ (high : 64 ≤ place).
       let none : bit_at n place ≡ 0 = bit_at_above n 64 place small high in
       let zero_one : min 0 (bit_at (18446744073709551615 - bit) place) ≡ 0 = omega arith in
-      ap (λ one. one == 1) (bit_at_and n (18446744073709551615 - bit) place ∙ ap (λ b. min b (bit_at (18446744073709551615 - bit) place)) none ∙ zero_one ∙ sym none))
+      ap (λ one. one == 1) (bit_at_and n (18446744073709551615 - bit) place ∙ ap
+      (λ b. min b (bit_at (18446744073709551615 - bit) place)) none ∙ zero_one ∙ sym none))
       (cases_lt place 64)
       ∙ ap (λ b. not b && has n (suc place)) (sym no))
       (cases_eq place (region - 1))
@@ -106,9 +114,11 @@ first_is n some small =
 
 numbers_last : (n from : ℕ) → numbers_up (suc n) from ≡ numbers_up n from ++ (from + n) ∷ []
 numbers_last zero from = let e : from ≡ from + 0 = omega arith in ap (λ k. k ∷ []) e
-numbers_last (suc n) from = let e : from + 1 + n ≡ from + suc n = omega arith in ap (λ ks. from ∷ ks) (numbers_last n (from + 1) ∙ ap (λ k. numbers_up n (from + 1) ++ k ∷ []) e)
+numbers_last (suc n) from = let e : from + 1 + n ≡ from + suc n = omega arith in
+    ap (λ ks. from ∷ ks) (numbers_last n (from + 1) ∙ ap (λ k. numbers_up n (from + 1) ++ k ∷ []) e)
 
-pub filter_last : (p : ℕ → Bool) (n : ℕ) → filter p (numbers_up (n + 1) 1) ≡ filter p (numbers_up n 1) ++ (if p (n + 1) then (n + 1) ∷ [] else [])
+pub filter_last : (p : ℕ → Bool) (n : ℕ) → filter p (numbers_up (n + 1) 1) ≡ filter p (numbers_up n 1) ++
+    (if p (n + 1) then (n + 1) ∷ [] else [])
 filter_last p n =
     let e : 1 + n ≡ n + 1 = omega arith in
     ap (λ k. filter p (numbers_up k 1)) (add-one n)

@@ -41,7 +41,8 @@ in_back xs ys x e = list_any-append (λ y. x == y) xs ys ∙ or_right (is_in xs 
 in_one : (x : ℕ) → is_in (x ∷ []) x ≡ true
 in_one x = or_left (x == x) false (is_number x)
 
-in_last : {P : Type 0} (xs : List ℕ) (y x : ℕ) → is_in (xs ++ y ∷ []) x ≡ true → (is_in xs x ≡ true → P) → (x ≡ y → P) → P
+in_last : {P : Type 0} (xs : List ℕ) (y x : ℕ) → is_in (xs ++ y ∷ []) x ≡ true → (is_in xs x ≡ true → P) → (x ≡ y → P)
+    → P
 in_last xs y x e front last =
     or_elim (is_in xs x) ((x == y) || false) (sym (list_any-append (λ z. x == z) xs (y ∷ [])) ∙ e) front
     (λ h. or_elim (x == y) false h (λ same. last (number_is x y same)) (λ no_more. absurd (cc)))
@@ -51,11 +52,13 @@ not_in true b there e = absurd (let t : b ≡ true = there refl in cc)
 not_in false b there e = refl
 
 -- regions that differ are no more than there are
-pub few_regions : (regions : ℕ) (xs : List ℕ) → IsDistinct ◌==◌ xs → ((x : ℕ) → is_in xs x ≡ true → (1 ≤ x) × (x ≤ regions)) → length xs ≤ regions
+pub few_regions : (regions : ℕ) (xs : List ℕ) → IsDistinct ◌==◌ xs
+    → ((x : ℕ) → is_in xs x ≡ true → (1 ≤ x) × (x ≤ regions)) → length xs ≤ regions
 few_regions regions xs apart within =
     let zero_apart : is_in xs 0 ≡ false = by (is_in xs 0) refl in
     let more : IsDistinct ◌==◌ (xs ++ 0 ∷ []) = IsDistinct-push nat_eq_equiv xs 0 apart zero_apart in
-    let most = length-le_from_distinct_below (xs ++ 0 ∷ []) (regions + 1) more (λ q e. in_last xs 0 q e (λ h. let w = within q h in omega (arith, w.1)) (λ z. omega (arith, z))) in
+    let most = length-le_from_distinct_below (xs ++ 0 ∷ []) (regions + 1) more (λ q e. in_last xs 0 q e (λ h. let w =
+    within q h in omega (arith, w.1)) (λ z. omega (arith, z))) in
     omega (arith, length-append xs (0 ∷ []), most)
   where
     by : (b : Bool) → is_in xs 0 ≡ b → b ≡ false
@@ -79,7 +82,8 @@ module _ (next : ℕ → List ℕ) (asker : ℕ) where
   Walk [] end = end ≡ asker
   Walk (r ∷ rs) end = (r ≡ asker) × Along next asker rs end
 
-  along_more : (a : ℕ) (rs : List ℕ) (e b : ℕ) → Along next a rs e → is_in (next e) b ≡ true → Along next a (rs ++ e ∷ []) b
+  along_more : (a : ℕ) (rs : List ℕ) (e b : ℕ) → Along next a rs e → is_in (next e) b ≡ true
+      → Along next a (rs ++ e ∷ []) b
   along_more a [] e b walk edge = (walk, edge)
   along_more a (r ∷ rs) e b walk edge = (walk.0, along_more r rs e b walk.1 edge)
 
@@ -99,14 +103,16 @@ module _ (next : ℕ → List ℕ) (asker : ℕ) where
   abbrev pub IsWay : List ℕ → Type 0
   IsWay path = (through : List ℕ) (end : ℕ) → path ≡ through ++ end ∷ [] → Walk through end
 
-  -- What the search keeps of its way and the regions met, of so many: each that it has left behind leads to those met alone, and not to the asker.
+  -- What the search keeps of its way and the regions met, of so many: each that it has left behind leads to those met
+  -- alone, and not to the asker.
   pub record Searched (regions : ℕ) (met : ℕ → Bool) (path : List ℕ) : Type 0 where
     pub way : IsWay path
     pub apart : IsDistinct ◌==◌ path
     pub inside : (x : ℕ) → is_in path x ≡ true → met x ≡ true
     pub within : (x : ℕ) → met x ≡ true → (1 ≤ x) × (x ≤ regions)
     pub asker_met : met asker ≡ true
-    pub behind : (x : ℕ) → met x ≡ true → is_in path x ≡ false → (b : ℕ) → is_in (next x) b ≡ true → (met b ≡ true) × (b ≢ asker)
+    pub behind : (x : ℕ) → met x ≡ true → is_in path x ≡ false → (b : ℕ) → is_in (next x) b ≡ true → (met b ≡ true)
+        × (b ≢ asker)
 
   last_of : (xs ys : List ℕ) (x y : ℕ) → xs ++ x ∷ [] ≡ ys ++ y ∷ [] → (xs ≡ ys) × (x ≡ y)
   last_of [] [] x y e = (refl, cc)
@@ -134,14 +140,18 @@ module _ (next : ℕ → List ℕ) (asker : ℕ) where
       let Q : ℕ → Type 0 = λ n. Walk through n in
       subst P same.0 (subst Q same.1 walk)
 
-  pub begins : (regions : ℕ) (met : ℕ → Bool) → 1 ≤ asker → asker ≤ regions → ((x : ℕ) → met x ≡ (x == asker || false)) → Searched regions met (asker ∷ [])
+  pub begins : (regions : ℕ) (met : ℕ → Bool) → 1 ≤ asker → asker ≤ regions → ((x : ℕ) → met x ≡ (x == asker || false))
+      → Searched regions met (asker ∷ [])
   begins regions met some most is = record {
     way = way_of [] asker refl;
     apart = IsDistinct-push nat_eq_equiv [] asker none_twice refl;
     inside = λ x h. is x ∙ h;
-    within = λ x h. or_elim (x == asker) false (sym (is x) ∙ h) (λ e. let P : ℕ → Type 0 = λ y. (1 ≤ y) × (y ≤ regions) in subst P (sym (number_is x asker e)) (some, most)) (λ no_more. absurd (cc));
+    within = λ x h. or_elim (x == asker) false (sym (is x) ∙ h)
+        (λ e. let P : ℕ → Type 0 = λ y. (1 ≤ y) × (y ≤ regions) in subst P (sym (number_is x asker e)) (some, most))
+        (λ no_more. absurd (cc));
     asker_met = is asker ∙ or_left (asker == asker) false (is_number asker);
-    behind = λ x h out b edge. absurd (let yes : is_in (asker ∷ []) x ≡ true = sym (is x) ∙ h in let wrong : false ≡ true = sym out ∙ yes in cc);
+    behind = λ x h out b edge. absurd (let yes : is_in (asker ∷ []) x ≡ true = sym (is x) ∙ h in
+        let wrong : false ≡ true = sym out ∙ yes in cc);
   }
 
   -- a way has no more regions than there are
@@ -149,22 +159,31 @@ module _ (next : ℕ → List ℕ) (asker : ℕ) where
   few regions met path s = few_regions regions path s.apart (λ x h. s.within x (s.inside x h))
 
   -- its end is one of them
-  pub end_within : (regions : ℕ) (met : ℕ → Bool) (through : List ℕ) (end : ℕ) → Searched regions met (through ++ end ∷ []) → (1 ≤ end) × (end ≤ regions)
+  pub end_within : (regions : ℕ) (met : ℕ → Bool) (through : List ℕ) (end : ℕ)
+      → Searched regions met (through ++ end ∷ []) → (1 ≤ end) × (end ≤ regions)
   end_within regions met through end s = s.within end (s.inside end (in_back through (end ∷ []) end (in_one end)))
 
   -- on to a region not met
-  pub onward : (regions : ℕ) (met met2 : ℕ → Bool) (through : List ℕ) (end r : ℕ) → Searched regions met (through ++ end ∷ []) → is_in (next end) r ≡ true → met r ≡ false → (1 ≤ r) × (r ≤ regions)
+  pub onward : (regions : ℕ) (met met2 : ℕ → Bool) (through : List ℕ) (end r : ℕ)
+      → Searched regions met (through ++ end ∷ []) → is_in (next end) r ≡ true → met r ≡ false → (1 ≤ r) × (r ≤ regions)
       → ((x : ℕ) → met2 x ≡ (x == r || met x)) → Searched regions met2 ((through ++ end ∷ []) ++ r ∷ [])
   onward regions met met2 through end r s edge fresh range is = record {
     way = way_of (through ++ end ∷ []) r (walk_more through end r (s.way through end refl) edge);
-    apart = IsDistinct-push nat_eq_equiv (through ++ end ∷ []) r s.apart (not_in (is_in (through ++ end ∷ []) r) (met r) (s.inside r) fresh);
-    inside = λ x h. is x ∙ in_last (through ++ end ∷ []) r x h (λ old. or_right (x == r) (met x) (s.inside x old)) (λ same. or_left (x == r) (met x) (ap (λ n. n == r) same ∙ is_number r));
-    within = λ x h. or_elim (x == r) (met x) (sym (is x) ∙ h) (λ e. let P : ℕ → Type 0 = λ y. (1 ≤ y) × (y ≤ regions) in subst P (sym (number_is x r e)) range) (s.within x);
+    apart = IsDistinct-push nat_eq_equiv (through ++ end ∷ []) r s.apart
+        (not_in (is_in (through ++ end ∷ []) r) (met r) (s.inside r) fresh);
+    inside = λ x h. is x ∙ in_last (through ++ end ∷ []) r x h (λ old. or_right (x == r) (met x) (s.inside x old))
+        (λ same. or_left (x == r) (met x) (ap (λ n. n == r) same ∙ is_number r));
+    within = λ x h. or_elim (x == r) (met x) (sym (is x) ∙ h)
+        (λ e. let P : ℕ → Type 0 = λ y. (1 ≤ y) × (y ≤ regions) in subst P (sym (number_is x r e)) range) (s.within x);
     asker_met = is asker ∙ or_right (asker == r) (met asker) s.asker_met;
     behind = λ x h out b e.
-        let front : is_in (through ++ end ∷ []) x ≡ false = not_in (is_in (through ++ end ∷ []) x) (is_in ((through ++ end ∷ []) ++ r ∷ []) x) (in_front (through ++ end ∷ []) (r ∷ []) x) out in
+        let front : is_in (through ++ end ∷ []) x ≡ false =
+        not_in (is_in (through ++ end ∷ []) x) (is_in ((through ++ end ∷ []) ++ r ∷ []) x)
+        (in_front (through ++ end ∷ []) (r ∷ []) x) out in
         let old : met x ≡ true = or_elim (x == r) (met x) (sym (is x) ∙ h)
-        (λ same. let here : is_in ((through ++ end ∷ []) ++ r ∷ []) x ≡ true = in_back (through ++ end ∷ []) (r ∷ []) x (or_left (x == r) false same) in absurd (let wrong : false ≡ true = sym out ∙ here in cc)) (λ m. m) in
+        (λ same. let here : is_in ((through ++ end ∷ []) ++ r ∷ []) x ≡ true =
+        in_back (through ++ end ∷ []) (r ∷ []) x (or_left (x == r) false same) in
+        absurd (let wrong : false ≡ true = sym out ∙ here in cc)) (λ m. m) in
         let k = s.behind x old front b e in
         (is b ∙ or_right (b == r) (met b) k.0, k.1);
   }
@@ -173,7 +192,8 @@ module _ (next : ℕ → List ℕ) (asker : ℕ) where
   pub back : (regions : ℕ) (met : ℕ → Bool) (through : List ℕ) (end : ℕ) → Searched regions met (through ++ end ∷ [])
       → ((b : ℕ) → is_in (next end) b ≡ true → (met b ≡ true) × (b ≢ asker)) → Searched regions met through
   back regions met through end s done = record {
-    way = λ other last e. let P : List ℕ → Type 0 = λ l. Walk l end in walk_less other last end (subst P e (s.way through end refl));
+    way = λ other last e. let P : List ℕ → Type 0 = λ l. Walk l end in
+        walk_less other last end (subst P e (s.way through end refl));
     apart = distinct_front through end s.apart;
     inside = λ x h. s.inside x (in_front through (end ∷ []) x h);
     within = s.within;
@@ -181,23 +201,31 @@ module _ (next : ℕ → List ℕ) (asker : ℕ) where
     behind = λ x h out b e. by x (is_in (through ++ end ∷ []) x) refl h out b e;
   }
     where
-      by : (x : ℕ) (there : Bool) → is_in (through ++ end ∷ []) x ≡ there → met x ≡ true → is_in through x ≡ false → (b : ℕ) → is_in (next x) b ≡ true → (met b ≡ true) × (b ≢ asker)
-      by x true e h out b edge = in_last through end x e (λ old. absurd (let wrong : false ≡ true = sym out ∙ old in cc)) (λ same. let P : ℕ → Type 0 = λ n. is_in (next n) b ≡ true in done b (subst P same edge))
+      by : (x : ℕ) (there : Bool) → is_in (through ++ end ∷ []) x ≡ there → met x ≡ true → is_in through x ≡ false
+          → (b : ℕ) → is_in (next x) b ≡ true → (met b ≡ true) × (b ≢ asker)
+      by x true e h out b edge = in_last through end x e
+          (λ old. absurd (let wrong : false ≡ true = sym out ∙ old in cc))
+          (λ same. let P : ℕ → Type 0 = λ n. is_in (next n) b ≡ true in done b (subst P same edge))
       by x false e h out b edge = s.behind x h e b edge
 
   -- the way is a cycle where its end leads to the asker
-  pub closes : (regions : ℕ) (met : ℕ → Bool) (through : List ℕ) (end : ℕ) → Searched regions met (through ++ end ∷ []) → is_in (next end) asker ≡ true
-      → (cycle : List ℕ) × (through ++ end ∷ [] ≡ asker ∷ cycle) × Along next asker cycle asker × IsDistinct ◌==◌ (through ++ end ∷ [])
+  pub closes : (regions : ℕ) (met : ℕ → Bool) (through : List ℕ) (end : ℕ) → Searched regions met (through ++ end ∷ [])
+      → is_in (next end) asker ≡ true
+      → (cycle : List ℕ) × (through ++ end ∷ [] ≡ asker ∷ cycle) × Along next asker cycle asker
+      × IsDistinct ◌==◌ (through ++ end ∷ [])
   closes regions met through end s edge =
-      let c = cycle_of (through ++ end ∷ []) (walk_more through end asker (s.way through end refl) edge) end (in_back through (end ∷ []) end (in_one end)) in
+      let c = cycle_of (through ++ end ∷ []) (walk_more through end asker (s.way through end refl) edge) end
+      (in_back through (end ∷ []) end (in_one end)) in
       (c.0, c.1, c.2, s.apart)
     where
-      cycle_of : (path : List ℕ) → Walk path asker → (x : ℕ) → is_in path x ≡ true → (cycle : List ℕ) × (path ≡ asker ∷ cycle) × Along next asker cycle asker
+      cycle_of : (path : List ℕ) → Walk path asker → (x : ℕ) → is_in path x ≡ true → (cycle : List ℕ)
+          × (path ≡ asker ∷ cycle) × Along next asker cycle asker
       cycle_of [] walk x e = absurd (cc)
       cycle_of (r ∷ rs) walk x e = (rs, ap (λ n. n ∷ rs) walk.0, walk.1)
 
   -- where all is left behind there is none
-  pub none : (regions : ℕ) (met : ℕ → Bool) → Searched regions met [] → (cycle : List ℕ) → ¬ Along next asker cycle asker
+  pub none : (regions : ℕ) (met : ℕ → Bool) → Searched regions met [] → (cycle : List ℕ)
+      → ¬ Along next asker cycle asker
   none regions met s cycle = from cycle asker s.asker_met
     where
       from : (cycle : List ℕ) (r : ℕ) → met r ≡ true → ¬ Along next r cycle asker
@@ -209,43 +237,63 @@ module _ (next : ℕ → List ℕ) (asker : ℕ) where
 abbrev pub count_unmet : (ℕ → Bool) → ℕ → ℕ
 count_unmet met regions = length (filter (λ x. not (met x)) (numbers_up regions 1))
 
-no_more : (met met2 : ℕ → Bool) → ((x : ℕ) → met x ≡ true → met2 x ≡ true) → (xs : List ℕ) → length (filter (λ x. not (met2 x)) xs) ≤ length (filter (λ x. not (met x)) xs)
+no_more : (met met2 : ℕ → Bool) → ((x : ℕ) → met x ≡ true → met2 x ≡ true) → (xs : List ℕ)
+    → length (filter (λ x. not (met2 x)) xs) ≤ length (filter (λ x. not (met x)) xs)
 no_more met met2 wider [] = omega arith
 no_more met met2 wider (x ∷ xs) = by (met x) (met2 x) (wider x) (no_more met met2 wider xs)
   where
-    by : (a b : Bool) → (a ≡ true → b ≡ true) → length (filter (λ x. not (met2 x)) xs) ≤ length (filter (λ x. not (met x)) xs)
-        → length (cond (not b) (x ∷ filter (λ x. not (met2 x)) xs) (filter (λ x. not (met2 x)) xs)) ≤ length (cond (not a) (x ∷ filter (λ x. not (met x)) xs) (filter (λ x. not (met x)) xs))
+    by : (a b : Bool) → (a ≡ true → b ≡ true) → length (filter (λ x. not (met2 x)) xs) ≤ length
+        (filter (λ x. not (met x)) xs)
+        → length (cond (not b) (x ∷ filter (λ x. not (met2 x)) xs) (filter (λ x. not (met2 x)) xs)) ≤ length
+        (cond (not a) (x ∷ filter (λ x. not (met x)) xs) (filter (λ x. not (met x)) xs))
     by true true w h = h
     by true false w h = absurd (let wrong : false ≡ true = w refl in cc)
     by false true w h = omega (arith, h)
     by false false w h = omega (arith, h)
 
-fewer_in : (met met2 : ℕ → Bool) (r : ℕ) → ((x : ℕ) → met x ≡ true → met2 x ≡ true) → met r ≡ false → met2 r ≡ true → (n from : ℕ) → from ≤ r → r < from + n
+fewer_in : (met met2 : ℕ → Bool) (r : ℕ) → ((x : ℕ) → met x ≡ true → met2 x ≡ true) → met r ≡ false → met2 r ≡ true
+    → (n from : ℕ) → from ≤ r → r < from + n
     → length (filter (λ x. not (met2 x)) (numbers_up n from)) < length (filter (λ x. not (met x)) (numbers_up n from))
 fewer_in met met2 r wider fresh now zero from le lt = absurd (omega (arith, le, lt))
-fewer_in met met2 r wider fresh now (suc n) from le lt = by (λ apart. fewer_in met met2 r wider fresh now n (from + 1) (omega (arith, le, apart)) (omega (arith, lt))) (r == from) refl
+fewer_in met met2 r wider fresh now (suc n) from le lt =
+    by (λ apart. fewer_in met met2 r wider fresh now n (from + 1) (omega (arith, le, apart)) (omega (arith, lt)))
+    (r == from) refl
   where
-    here : (a b : Bool) → a ≡ false → b ≡ true → length (filter (λ x. not (met2 x)) (numbers_up n (from + 1))) ≤ length (filter (λ x. not (met x)) (numbers_up n (from + 1)))
-        → length (cond (not b) (from ∷ filter (λ x. not (met2 x)) (numbers_up n (from + 1))) (filter (λ x. not (met2 x)) (numbers_up n (from + 1))))
-        < length (cond (not a) (from ∷ filter (λ x. not (met x)) (numbers_up n (from + 1))) (filter (λ x. not (met x)) (numbers_up n (from + 1))))
+    here : (a b : Bool) → a ≡ false → b ≡ true → length (filter (λ x. not (met2 x)) (numbers_up n (from + 1))) ≤ length
+        (filter (λ x. not (met x)) (numbers_up n (from + 1)))
+        → length (cond (not b) (from ∷ filter (λ x. not (met2 x)) (numbers_up n (from + 1)))
+        (filter (λ x. not (met2 x)) (numbers_up n (from + 1))))
+        < length (cond (not a) (from ∷ filter (λ x. not (met x)) (numbers_up n (from + 1)))
+        (filter (λ x. not (met x)) (numbers_up n (from + 1))))
     here true b f t h = absurd (cc)
     here false true f t h = omega (arith, h)
     here false false f t h = absurd (cc)
 
-    later : (a b : Bool) → (a ≡ true → b ≡ true) → length (filter (λ x. not (met2 x)) (numbers_up n (from + 1))) < length (filter (λ x. not (met x)) (numbers_up n (from + 1)))
-        → length (cond (not b) (from ∷ filter (λ x. not (met2 x)) (numbers_up n (from + 1))) (filter (λ x. not (met2 x)) (numbers_up n (from + 1))))
-        < length (cond (not a) (from ∷ filter (λ x. not (met x)) (numbers_up n (from + 1))) (filter (λ x. not (met x)) (numbers_up n (from + 1))))
+    later : (a b : Bool) → (a ≡ true → b ≡ true) → length (filter (λ x. not (met2 x)) (numbers_up n (from + 1))) <
+        length (filter (λ x. not (met x)) (numbers_up n (from + 1)))
+        → length (cond (not b) (from ∷ filter (λ x. not (met2 x)) (numbers_up n (from + 1)))
+        (filter (λ x. not (met2 x)) (numbers_up n (from + 1))))
+        < length (cond (not a) (from ∷ filter (λ x. not (met x)) (numbers_up n (from + 1)))
+        (filter (λ x. not (met x)) (numbers_up n (from + 1))))
     later true true w h = h
     later true false w h = absurd (let wrong : false ≡ true = w refl in cc)
     later false true w h = omega (arith, h)
     later false false w h = omega (arith, h)
 
-    by : ((r ≡ from → ⊥) → length (filter (λ x. not (met2 x)) (numbers_up n (from + 1))) < length (filter (λ x. not (met x)) (numbers_up n (from + 1))))
-        → (b : Bool) → (r == from) ≡ b → length (filter (λ x. not (met2 x)) (numbers_up (suc n) from)) < length (filter (λ x. not (met x)) (numbers_up (suc n) from))
-    by further true e = let same : r ≡ from = number_is r from e in here (met from) (met2 from) (ap met (sym same) ∙ fresh) (ap met2 (sym same) ∙ now) (no_more met met2 wider (numbers_up n (from + 1)))
-    by further false e = let apart : r ≡ from → ⊥ = (λ same. let wrong : true ≡ false = sym (is_number from) ∙ ap (λ x. x == from) (sym same) ∙ e in cc) in
+    by : ((r ≡ from → ⊥) → length (filter (λ x. not (met2 x)) (numbers_up n (from + 1))) < length
+        (filter (λ x. not (met x)) (numbers_up n (from + 1))))
+        → (b : Bool) → (r == from) ≡ b → length (filter (λ x. not (met2 x)) (numbers_up (suc n) from)) < length
+        (filter (λ x. not (met x)) (numbers_up (suc n) from))
+    by further true e = let same : r ≡ from = number_is r from e in
+        here (met from) (met2 from) (ap met (sym same) ∙ fresh) (ap met2 (sym same) ∙ now)
+        (no_more met met2 wider (numbers_up n (from + 1)))
+    by further false e =
+        let apart : r ≡ from → ⊥ = (λ same. let wrong : true ≡ false =
+        sym (is_number from) ∙ ap (λ x. x == from) (sym same) ∙ e in cc) in
         later (met from) (met2 from) (wider from) (further apart)
 
-pub fewer : (met met2 : ℕ → Bool) (r regions : ℕ) → met r ≡ false → (1 ≤ r) × (r ≤ regions) → ((x : ℕ) → met2 x ≡ (x == r || met x)) → count_unmet met2 regions < count_unmet met regions
+pub fewer : (met met2 : ℕ → Bool) (r regions : ℕ) → met r ≡ false → (1 ≤ r) × (r ≤ regions)
+    → ((x : ℕ) → met2 x ≡ (x == r || met x)) → count_unmet met2 regions < count_unmet met regions
 fewer met met2 r regions fresh range is =
-    fewer_in met met2 r (λ x h. is x ∙ or_right (x == r) (met x) h) fresh (is r ∙ or_left (r == r) (met r) (is_number r)) regions 1 range.0 (omega (arith, range.1))
+    fewer_in met met2 r (λ x h. is x ∙ or_right (x == r) (met x) h) fresh
+    (is r ∙ or_left (r == r) (met r) (is_number r)) regions 1 range.0 (omega (arith, range.1))

@@ -1,4 +1,5 @@
--- Who holds each resource. A region holds one Exclusive where it is among those that do, and Share where it is among the others alone.
+-- Who holds each resource. A region holds one Exclusive where it is among those that do, and Share where it is among
+-- the others alone.
 use Rattle.std.specs.Prelude.{◌≡◌, ℕ, List, Bool, Option, IsSome, Some, None, if◌then◌else◌, option_and_then, slice_get}
 use Rattle.std.specs.BTreeMap.{BTreeMap, get, get_by}
 use Rattle.std.specs.Cmp.Lexicographic.{slice_cmp}
@@ -34,7 +35,8 @@ abbrev pub key_holders : {K V : Type 0} → (K → List ℕ) → List ℕ → Op
 key_holders bytes key None = None
 key_holders bytes key (Some table) = at_key bytes key table
 
-abbrev pub resource_holders : {K V : Type 0} → (K → List ℕ) → BTreeMap (ℕ × ℕ) V → List (BTreeMap K V) → Resource → Option V
+abbrev pub resource_holders : {K V : Type 0} → (K → List ℕ) → BTreeMap (ℕ × ℕ) V → List (BTreeMap K V) → Resource
+    → Option V
 resource_holders bytes anchors segments (Anchor dedb anchor) = get anchor_cmp anchors (dedb, anchor)
 resource_holders bytes anchors segments (Segment msdb key) = key_holders bytes key (slice_get segments msdb)
 
@@ -48,4 +50,5 @@ held_by holdings region resource = option_and_then (λ holders. mode_of holders 
 
 -- each anchor that has an entry is held
 abbrev pub AreHeld : Holdings → Type 0
-AreHeld holdings = (dedb anchor : ℕ) (holders : Holders) → holders_in holdings (Anchor dedb anchor) ≡ Some holders → (region : ℕ) × IsSome (mode_of holders region)
+AreHeld holdings = (dedb anchor : ℕ) (holders : Holders) → holders_in holdings (Anchor dedb anchor) ≡ Some holders
+    → (region : ℕ) × IsSome (mode_of holders region)

@@ -41,7 +41,8 @@ row_of holdings number region = record {
 
 abbrev pub rows_from : Holdings → ℕ → List Region → List Row
 rows_from holdings place [] = []
-rows_from holdings place (region ∷ regions) = row_of holdings (suc place) region ∷ rows_from holdings (suc place) regions
+rows_from holdings place (region ∷ regions) = row_of holdings (suc place) region ∷ rows_from holdings (suc place)
+    regions
 
 abbrev pub rows_of : State → List Row
 rows_of s = rows_from s.holdings 0 s.regions.items
@@ -51,7 +52,8 @@ rows_of s = rows_from s.holdings 0 s.regions.items
 -- whether a region stands in the way of what another asks for
 abbrev pub is_ahead : Holdings → ℕ → Option Request → ℕ → Bool
 is_ahead holdings number None other = false
-is_ahead holdings number (Some request) other = not (other == number) && is_in_conflict (held_by holdings other request.resource) request.mode
+is_ahead holdings number (Some request) other = not (other == number) && is_in_conflict
+    (held_by holdings other request.resource) request.mode
 
 -- its set has those that stand in its way
 abbrev pub IsRight : Holdings → ℕ → Region → Type 0
@@ -59,11 +61,14 @@ IsRight holdings number region = (other : ℕ) → has region.ahead.0 other ≡ 
 
 pub record IsSound (s : State) : Type 0 where
   pub few : length s.regions.items ≤ 64
-  pub right : (number : ℕ) (region : Region) → region_at s.regions.items number ≡ Some region → IsRight s.holdings number region
+  pub right : (number : ℕ) (region : Region) → region_at s.regions.items number ≡ Some region
+      → IsRight s.holdings number region
   -- its list has all that it holds
   pub listed : (number : ℕ) (region : Region) → region_at s.regions.items number ≡ Some region
-      → (resource : Resource) (mode : Mode) → held_by s.holdings number resource ≡ Some mode → Contains region.held.items resource
-  pub within : (number : ℕ) (resource : Resource) (mode : Mode) → held_by s.holdings number resource ≡ Some mode → (1 ≤ number) × (number ≤ length s.regions.items)
+      → (resource : Resource) (mode : Mode) → held_by s.holdings number resource ≡ Some mode
+      → Contains region.held.items resource
+  pub within : (number : ℕ) (resource : Resource) (mode : Mode) → held_by s.holdings number resource ≡ Some mode
+      → (1 ≤ number) × (number ≤ length s.regions.items)
   pub held : AreHeld s.holdings
 
 -- ---- what regions are told
@@ -84,7 +89,8 @@ IsRegion (news.Freed region) = (1 ≤ region) × (region ≤ 64)
 
 -- who stands in its way then
 abbrev pub heard : News → ℕ → Option Request → (ℕ → Bool) → ℕ → Bool
-heard (news.Gained resource holders) number request old other = ahead_of holders number (asked_mode resource.now request) old other
+heard (news.Gained resource holders) number request old other =
+    ahead_of holders number (asked_mode resource.now request) old other
 heard (news.Freed region) number request old other = not (other == region) && old other
 
 pub record Hears (n : News) (number : ℕ) (old new : Region) : Type 0 where

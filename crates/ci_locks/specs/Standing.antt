@@ -15,10 +15,12 @@ pub record Standing : Type 0 where
   pub holds : ℕ → Resource → Option Mode
   pub asks : ℕ → Option Lock
 
--- These lists of locks and of requests, in any order, say what stands. Of a region's locks on one resource the newest is the strongest.
+-- These lists of locks and of requests, in any order, say what stands. Of a region's locks on one resource the newest
+-- is the strongest.
 pub record Shows (s : Standing) (locks requests : List Lock) : Type 0 where
   pub held : (region : ℕ) (resource : Resource) → held_as locks region resource ≡ s.holds region resource
-  pub strongest : (lock : Lock) → Contains locks lock → lock.mode ≡ Exclusive → s.holds lock.region lock.resource ≡ Some Exclusive
+  pub strongest : (lock : Lock) → Contains locks lock → lock.mode ≡ Exclusive
+      → s.holds lock.region lock.resource ≡ Some Exclusive
   pub within : (lock : Lock) → Contains locks lock → (1 ≤ lock.region) × (lock.region ≤ s.regions)
   pub standing : (request : Lock) → Contains requests request ↔ (s.asks request.region ≡ Some request)
 
@@ -50,8 +52,8 @@ gained_over (Some Exclusive) wanted locks = locks
 abbrev pub gained : Lock → List Lock → List Lock
 gained wanted locks = gained_over (held_as locks wanted.region wanted.resource) wanted locks
 
--- Held where nothing stands in the way. Else a cycle that the request would close, the requester first and no region twice; or, where there
--- is none, those that stand in the way.
+-- Held where nothing stands in the way. Else a cycle that the request would close, the requester first and no region
+-- twice; or, where there is none, those that stand in the way.
 abbrev pub IsGrant : ℕ → List Lock → List Lock → Lock → Grant → Type 0
 IsGrant regions locks requests wanted grant.Held = is_blocked locks wanted ≡ false
 IsGrant regions locks requests wanted (grant.Wait holders) =
@@ -94,11 +96,14 @@ pub record Asks (s t : Standing) (region : ℕ) (request : Option Lock) : Type 0
 -- with a lock gained, and no request of its region
 pub record Gains (s t : Standing) (wanted : Lock) : Type 0 where
   pub regions : t.regions ≡ s.regions
-  pub holds : (region : ℕ) (resource : Resource) → t.holds region resource ≡ (if region == wanted.region && same_resource wanted.resource resource then Some (raised (s.holds wanted.region wanted.resource) wanted.mode) else s.holds region resource)
+  pub holds : (region : ℕ) (resource : Resource) → t.holds region resource ≡
+      (if region == wanted.region && same_resource wanted.resource resource then Some
+      (raised (s.holds wanted.region wanted.resource) wanted.mode) else s.holds region resource)
   pub asks : (region : ℕ) → t.asks region ≡ (if region == wanted.region then None else s.asks region)
 
 -- with nothing of a region
 pub record Frees (s t : Standing) (region : ℕ) : Type 0 where
   pub regions : t.regions ≡ s.regions
-  pub holds : (other : ℕ) (resource : Resource) → t.holds other resource ≡ (if other == region then None else s.holds other resource)
+  pub holds : (other : ℕ) (resource : Resource) → t.holds other resource ≡
+      (if other == region then None else s.holds other resource)
   pub asks : (other : ℕ) → t.asks other ≡ (if other == region then None else s.asks other)

@@ -51,4 +51,9 @@ request_of region (Some row) = lock_of region row.request
 
 -- what stands
 abbrev pub standing : List Row → Standing
-standing rows = record { regions = length rows; holds = λ region. mode_of (row_at rows region); asks = λ region. request_of region (row_at rows region) }
+standing rows = record {
+  regions = length rows;
+  holds = λ region. mode_of (row_at rows region);
+  asks =
+      λ region. request_of region (row_at rows region);
+}

@@ -17,7 +17,8 @@ pub enum Grant {
     Held,
     /// The region waits for these, ascending.
     Wait(Bytes),
-    /// The request is refused: each of these would wait for the next, and the last for the first, which is the requester.
+    /// The request is refused: each of these would wait for the next, and the last for the first, which is the
+    /// requester.
     Cycle(Bytes),
 }
 
@@ -52,9 +53,9 @@ impl Locks {
     }
 
     /// Asks for a lock of a region. A lock that it holds Share may be raised, and one that it holds Exclusive stays so.
-    /// The answer is `Held` where no other region holds the resource in conflict. Else it is `Cycle` where the wait would
-    /// close a cycle, and `Wait` where it would not. A request that waits stands in place of the region's old one. After
-    /// the other answers no request of the region stands. Want of memory changes nothing.
+    /// The answer is `Held` where no other region holds the resource in conflict. Else it is `Cycle` where the wait
+    /// would close a cycle, and `Wait` where it would not. A request that waits stands in place of the region's old
+    /// one. After the other answers no request of the region stands. Want of memory changes nothing.
     pub fn ask(&mut self, region: u8, resource: &Resource, mode: Mode) -> Result<Grant, AllocError>
         requires some { 1 ≤ region }
         requires within { region ≤ length self.old }

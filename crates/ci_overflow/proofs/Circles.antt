@@ -57,17 +57,20 @@ bounded (suc m) list o h =
     omega (arith, l, w.1.long)
 
 -- one link more
-pub leads-on : (area : List (List ℕ)) (from middle to : ℕ) → Leads area from middle → middle ≢ 0 → link_of (bytes_at area middle) ≡ to → Leads area from to
+pub leads-on : (area : List (List ℕ)) (from middle to : ℕ) → Leads area from middle → middle ≢ 0
+    → link_of (bytes_at area middle) ≡ to → Leads area from to
 leads-on area from middle to (here ci) z e = on ci to z (rw e (here to))
 leads-on area from middle to (on f m n l) z e = on f to n (leads-on area (link_of (bytes_at area f)) m to l z e)
 
 -- a circle, seen from its next interval
-pub circle-on : (area : List (List ℕ)) (from to : ℕ) → from ≢ 0 → link_of (bytes_at area from) ≡ to → Leads area to from → Leads area (link_of (bytes_at area to)) to
+pub circle-on : (area : List (List ℕ)) (from to : ℕ) → from ≢ 0 → link_of (bytes_at area from) ≡ to → Leads area to from
+    → Leads area (link_of (bytes_at area to)) to
 circle-on area from to z e (here ci) = rw e (here ci)
 circle-on area from to z e (on f m n l) = leads-on area (link_of (bytes_at area f)) m f l z e
 
 -- a chain holds what its first interval leads to
-pub leads-held : (area : List (List ℕ)) (from to : ℕ) (list : List ℕ) → to ≢ 0 → Leads area from to → IsChain area from list → Holds list to
+pub leads-held : (area : List (List ℕ)) (from to : ℕ) (list : List ℕ) → to ≢ 0 → Leads area from to
+    → IsChain area from list → Holds list to
 leads-held area from to [] z (here ci) c = absurd (z c)
 leads-held area from to (x ∷ rest) z (here ci) c = inl (sym c.0)
 leads-held area from to [] z (on f t n l) c = absurd (n c)
@@ -76,13 +79,17 @@ leads-held area from to (x ∷ rest) z (on f t n l) c =
     inr (leads-held area (link_of (bytes_at area f)) t rest z l d)
 
 -- and leads to what it holds
-pub chain-leads : (area : List (List ℕ)) (first to : ℕ) (list : List ℕ) → IsChain area first list → Holds list to → Leads area first to
+pub chain-leads : (area : List (List ℕ)) (first to : ℕ) (list : List ℕ) → IsChain area first list → Holds list to
+    → Leads area first to
 chain-leads area first to [] c h = absurd h
-chain-leads area first to (x ∷ rest) c (inl e) = let P : ℕ → Type 0 = λ d. Leads area d to in subst P (sym (c.0 ∙ e)) (here to)
-chain-leads area first to (x ∷ rest) c (inr h) = let P : ℕ → Type 0 = λ d. Leads area d to in subst P (sym c.0) (on x to c.1 (chain-leads area (link_of (bytes_at area x)) to rest c.2 h))
+chain-leads area first to (x ∷ rest) c (inl e) = let P : ℕ → Type 0 = λ d. Leads area d to in
+    subst P (sym (c.0 ∙ e)) (here to)
+chain-leads area first to (x ∷ rest) c (inr h) = let P : ℕ → Type 0 = λ d. Leads area d to in
+    subst P (sym c.0) (on x to c.1 (chain-leads area (link_of (bytes_at area x)) to rest c.2 h))
 
 -- no chain that holds each interval once holds a circle
-pub no-circle : (area : List (List ℕ)) (first ci : ℕ) (list : List ℕ) → IsChain area first list → IsOnce list → Holds list ci → ci ≢ 0 → Leads area (link_of (bytes_at area ci)) ci → ⊥
+pub no-circle : (area : List (List ℕ)) (first ci : ℕ) (list : List ℕ) → IsChain area first list → IsOnce list
+    → Holds list ci → ci ≢ 0 → Leads area (link_of (bytes_at area ci)) ci → ⊥
 no-circle area first ci [] c o h z l = h
 no-circle area first ci (x ∷ rest) c o (inl e) z l =
     let d : IsChain area (link_of (bytes_at area ci)) rest = rw e at c.2 in
@@ -100,7 +107,8 @@ pub record IsWalked (shape : Shape) (area : List (List ℕ)) (owner from ci n : 
   pub leads : (k : ℕ) → Holds path k → Leads area k from
   pub once : IsOnce path ⊎ (IsOwned shape area owner from × Leads area ci from)
 
-pub walk-begins : (shape : Shape) (area : List (List ℕ)) (owner from ci n : ℕ) → HoldsLink shape area owner from ci → link_of (bytes_at area from) ≡ ci → from ≢ 0 → n ≡ 0 → IsWalked shape area owner from ci n
+pub walk-begins : (shape : Shape) (area : List (List ℕ)) (owner from ci n : ℕ) → HoldsLink shape area owner from ci
+    → link_of (bytes_at area from) ≡ ci → from ≢ 0 → n ≡ 0 → IsWalked shape area owner from ci n
 walk-begins shape area owner from ci n h g z e = record {
   holds = h;
   goes = g;
@@ -112,7 +120,8 @@ walk-begins shape area owner from ci n h g z e = record {
   once = inl tt;
 }
 
-pub walk-on : (shape : Shape) (area : List (List ℕ)) (owner from ci next n m : ℕ) → IsWalked shape area owner from ci n → IsOwned shape area owner ci → next ≡ link_of (bytes_at area ci) → m ≡ n + 1
+pub walk-on : (shape : Shape) (area : List (List ℕ)) (owner from ci next n m : ℕ) → IsWalked shape area owner from ci n
+    → IsOwned shape area owner ci → next ≡ link_of (bytes_at area ci) → m ≡ n + 1
     → IsWalked shape area owner ci next m
 walk-on shape area owner from ci next n m w o e l =
     let z : ci ≢ 0 = λ y. omega (arith, o.from, y) in
@@ -123,21 +132,27 @@ walk-on shape area owner from ci next n m w o e l =
       from_some = z;
       path = ci ∷ w.path;
       long = omega (arith, w.long, l);
-      inside = λ k h. elim h as (λ _. (0 < k) × (k < length area)) [ inl y ↦ (omega (arith, z, y), omega (arith, o.below, y)) | inr y ↦ w.inside k y ];
-      leads = λ k h. elim h as (λ _. Leads area k ci) [ inl y ↦ rw (← y) (here ci) | inr y ↦ leads-on area k from ci (w.leads k y) w.from_some w.goes ];
+      inside = λ k h. elim h as (λ _. (0 < k) × (k < length area))
+          [ inl y ↦ (omega (arith, z, y), omega (arith, o.below, y)) | inr y ↦ w.inside k y ];
+      leads = λ k h. elim h as (λ _. Leads area k ci)
+          [ inl y ↦ rw (← y) (here ci) | inr y ↦ leads-on area k from ci (w.leads k y) w.from_some w.goes ];
       once = elim w.once as (λ _. IsOnce (ci ∷ w.path) ⊎ (IsOwned shape area owner ci × Leads area next ci)) [
-        | inl y ↦ elim (holds_or w.path ci) as (λ _. IsOnce (ci ∷ w.path) ⊎ (IsOwned shape area owner ci × Leads area next ci)) [
-          | inl h ↦ inr (o, round (w.leads ci h))
-          | inr h ↦ inl (h, y)
-        ]
+        | inl y ↦ elim (holds_or w.path ci) as (λ _. IsOnce (ci ∷ w.path)
+            ⊎ (IsOwned shape area owner ci × Leads area next ci)) [
+              | inl h ↦ inr (o, round (w.leads ci h))
+              | inr h ↦ inl (h, y)
+            ]
         | inr y ↦ inr (o, round y.1)
       ];
     }
 
 -- as many turns as the area has intervals end in a circle
-pub walk-round : (shape : Shape) (area : List (List ℕ)) (owner from ci n : ℕ) → IsWalked shape area owner from ci n → length area ≤ n → 0 < length area → IsAtFault shape area from
+pub walk-round : (shape : Shape) (area : List (List ℕ)) (owner from ci n : ℕ) → IsWalked shape area owner from ci n
+    → length area ≤ n → 0 < length area → IsAtFault shape area from
 walk-round shape area owner from ci n w l s = elim w.once as (λ _. IsAtFault shape area from) [
-  | inl o ↦ (let b : length (0 ∷ w.path) ≤ length area = bounded (length area) (0 ∷ w.path) ((λ h. omega (arith, (w.inside 0 h).0)), o)
+  | inl o ↦
+      (let b : length (0 ∷ w.path) ≤ length area = bounded (length area) (0 ∷ w.path)
+      ((λ h. omega (arith, (w.inside 0 h).0)), o)
       (λ k h. elim h as (λ _. k < length area) [ inl y ↦ omega (arith, y, s) | inr y ↦ (w.inside k y).1 ]) in
       absurd (omega (arith, b, w.long, l)))
   | inr o ↦ circle owner o.0 (rw w.goes o.1)

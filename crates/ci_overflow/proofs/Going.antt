@@ -10,7 +10,8 @@ pub goes_on_joined : {I : Type 0} (told : I → Type 0) (size faults : I → ℕ
 goes_on_joined told size faults keeps a b c p q = goes-joined told size faults keeps a b c p q
 
 -- the fault that a `?` hands on is that of the call
-pub same_fault : {A B E : Type 0} (r : Result A E) (x y z : E) → r ≡ Err z → z ≡ x → r ≡ Err y → (let s : Result B E = Err x in s) ≡ Err y
+pub same_fault : {A B E : Type 0} (r : Result A E) (x y z : E) → r ≡ Err z → z ≡ x → r ≡ Err y
+    → (let s : Result B E = Err x in s) ≡ Err y
 same_fault {A} {B} {E} r x y z p q e =
     let h : (let s : Result A E = Err z in s) ≡ Err y = sym p ∙ e in
     let k : z ≡ y = cc in
@@ -18,7 +19,8 @@ same_fault {A} {B} {E} r x y z p q e =
     ap (λ (f : E). (let s : Result B E = Err f in s)) m
 
 -- the interval that a fault names
-pub named_fault : {A : Type 0} (P : ℕ → Type 0) (ci n : ℕ) → (let s : Result A SpaceFault = Err (Damaged ci) in s) ≡ Err (Damaged n) → P ci → P n
+pub named_fault : {A : Type 0} (P : ℕ → Type 0) (ci n : ℕ)
+    → (let s : Result A SpaceFault = Err (Damaged ci) in s) ≡ Err (Damaged n) → P ci → P n
 named_fault {A} P ci n e p =
     let k : ci ≡ n = cc in
     subst P k p

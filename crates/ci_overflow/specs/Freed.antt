@@ -34,7 +34,8 @@ pub record TakesBack (shape : Shape) (old new : List (List ℕ)) (ci at : ℕ) :
   -- any other keeps its head, and then it alone changes
   pub kept : ¬ BecomesEmpty (bytes_at old ci) (bytes_at new ci) → ChangesAlone old new ci
   -- beside it and control only that changes whose link led to it, and of that one the link alone
-  pub named : (other : ℕ) → other ≢ 0 → other ≢ ci → link_of (bytes_at old other) ≢ ci → bytes_at new other ≡ bytes_at old other
+  pub named : (other : ℕ) → other ≢ 0 → other ≢ ci → link_of (bytes_at old other) ≢ ci
+      → bytes_at new other ≡ bytes_at old other
   pub links : (other : ℕ) → other ≢ 0 → other ≢ ci → KeepsButLink (bytes_at old other) (bytes_at new other)
   -- control keeps its first two numbers and its head, where the element isn't in its place
   pub ends : ci ≢ 0 → KeepsEnds (bytes_at old 0) (bytes_at new 0)
@@ -54,7 +55,8 @@ pub record GivesBack (shape : Shape) (old new : List (List ℕ)) (ci at : ℕ) :
   -- any other keeps its head, and then it alone changes
   pub kept : ¬ BecomesEmpty (bytes_at old ci) (bytes_at new ci) → ChangesAlone old new ci
   -- beside it and control only that changes whose link led to it, and of that one the link alone
-  pub named : (other : ℕ) → other ≢ 0 → other ≢ ci → link_of (bytes_at old other) ≢ ci → bytes_at new other ≡ bytes_at old other
+  pub named : (other : ℕ) → other ≢ 0 → other ≢ ci → link_of (bytes_at old other) ≢ ci
+      → bytes_at new other ≡ bytes_at old other
   pub links : (other : ℕ) → other ≢ 0 → other ≢ ci → KeepsButLink (bytes_at old other) (bytes_at new other)
   -- control keeps its first two numbers and its head
   pub ends : KeepsEnds (bytes_at old 0) (bytes_at new 0)

@@ -60,7 +60,8 @@ pub record HasList (shape : Shape) (area : List (List ℕ)) (owner first : ℕ) 
 -- the lists of the units of work and the free chain hold each independent overflow interval once; those
 -- in the free chain are empty
 pub record AreListed (shape : Shape) (area : List (List ℕ)) : Type 0 where
-  pub of_uow : (uow : ℕ) → uow < shape.uows → HasList shape area (uow + 1) (link_of (bytes_at area (first_base shape uow)))
+  pub of_uow : (uow : ℕ) → uow < shape.uows → HasList shape area (uow + 1)
+      (link_of (bytes_at area (first_base shape uow)))
   pub of_free : HasList shape area 0 (first_free area)
   pub owners : (ci : ℕ) → first_independent shape ≤ ci → ci < length area → owner_of (bytes_at area ci) ≤ shape.uows
   pub empty : (ci : ℕ) → IsOwned shape area 0 ci → IsEmpty (bytes_at area ci)

@@ -11,7 +11,8 @@ use Rattle.ci_overflow.specs.declared.freed.Numbered.{Numbered}
 -- an independent overflow interval of these bytes stands too far in front, or its owner is no unit of
 -- work that has base intervals
 abbrev pub HasNoUnit : Shape → ℕ → List ℕ → Type 0
-HasNoUnit shape ci bytes = (ci < first_independent shape) ⊎ ((owner_of bytes ≡ 0) ⊎ ((shape.uows < owner_of bytes) ⊎ (shape.base ≡ 0)))
+HasNoUnit shape ci bytes = (ci < first_independent shape)
+    ⊎ ((owner_of bytes ≡ 0) ⊎ ((shape.uows < owner_of bytes) ⊎ (shape.base ≡ 0)))
 
 -- the link of `before` leads to `ci` in a unit of work's list: of its first base interval, or of one of
 -- the list

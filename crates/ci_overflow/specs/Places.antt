@@ -30,6 +30,7 @@ base_of shape anchor = first_base shape (uow_of shape anchor) + anchor % shape.b
 abbrev pub kind_at : Shape → ℕ → ℕ
 kind_at shape ci =
     if ci == 0 then 1
-    else if nat_lt ci (first_sequential shape) then (if nat_lt ((ci - 1) % (shape.base + shape.overflow)) shape.base then 2 else 3)
+    else if nat_lt ci (first_sequential shape) then
+    (if nat_lt ((ci - 1) % (shape.base + shape.overflow)) shape.base then 2 else 3)
     else if nat_lt ci (first_independent shape) then 4
     else 5

@@ -36,12 +36,15 @@ IsNext area ci = ((ci ≢ 0) × (ci ≡ first_free area)) ⊎ ((first_free area 
 pub record IsFirstPlace (shape : Shape) (area : List (List ℕ)) (anchor n ci : ℕ) : Type 0 where
   pub shared : List ℕ
   pub is_chain : IsChain area (link_of (bytes_at area (first_base shape (uow_of shape anchor)))) shared
-  pub is_first : IsFirst area n (places shape anchor shared) ci ⊎ (AreFull area n (places shape anchor shared) × IsNext area ci)
+  pub is_first : IsFirst area n (places shape anchor shared) ci
+      ⊎ (AreFull area n (places shape anchor shared) × IsNext area ci)
 
 -- the used elements stay, with their segment types and contents, and none comes
 pub record KeepsUsed (old new : List ℕ) : Type 0 where
-  pub stay : (place segment : ℕ) (content : List ℕ) → HasUsed old place segment content → HasUsed new place segment content
-  pub none_comes : (place segment : ℕ) (content : List ℕ) → HasUsed new place segment content → HasUsed old place segment content
+  pub stay : (place segment : ℕ) (content : List ℕ) → HasUsed old place segment content
+      → HasUsed new place segment content
+  pub none_comes : (place segment : ℕ) (content : List ℕ) → HasUsed new place segment content
+      → HasUsed old place segment content
 
 -- the used elements of every interval stay but the one at `at` of `ci`
 pub record OnlyOneChanges (old new : List (List ℕ)) (ci at : ℕ) : Type 0 where
@@ -97,7 +100,8 @@ pub record IsLeft (area : List (List ℕ)) (n : ℕ) (all left : List ℕ) : Typ
 
 -- what is left of every chain from `first` on, where the walk has come to `ci`
 pub record IsOnChain (area : List (List ℕ)) (n first ci : ℕ) : Type 0 where
-  pub left : (chain : List ℕ) → IsChain area first chain → (rest : List ℕ) × IsChain area ci rest × IsLeft area n chain rest
+  pub left : (chain : List ℕ) → IsChain area first chain → (rest : List ℕ) × IsChain area ci rest
+      × IsLeft area n chain rest
 
 -- the used elements and the bytes behind the head stay, and of the head all but the link
 pub record ChangesLink (old new : List ℕ) (link : ℕ) : Type 0 where
@@ -123,7 +127,13 @@ pub record PutsEnds (control : List ℕ) (number first : ℕ) (old new : List (L
 pub record Joins (shape : Shape) (uow : ℕ) (old new : List (List ℕ)) (ci : ℕ) (bytes : List ℕ) (n at : ℕ) : Type 0 where
   pub first : ChangesLink (bytes_at old (first_base shape uow)) (bytes_at new (first_base shape uow)) ci
   pub takes : TakesIn bytes (bytes_at new ci) n at
-  pub head : head_of (bytes_at new ci) ≡ (record { kind = 5; root = (0, 0); link = link_of (bytes_at old (first_base shape uow)); owner = uow + 1 })
+  pub head : head_of (bytes_at new ci) ≡ (record {
+    kind = 5;
+    root = (0, 0);
+    link =
+        link_of (bytes_at old (first_base shape uow));
+    owner = uow + 1;
+  })
   pub others : (other : ℕ) → other ≢ first_base shape uow → other ≢ ci → bytes_at new other ≡ bytes_at old other
   pub same_number : length new ≡ length old
 
@@ -188,10 +198,13 @@ pub record TakesRoom (shape : Shape) (old new : List (List ℕ)) (anchor n : ℕ
   -- every other used element stays
   pub others : OnlyOneChanges old new room.0 room.1
   -- only control, the first base interval of the unit of work and the one with the new element change
-  pub named : (other : ℕ) → other ≢ 0 → other ≢ first_base shape (uow_of shape anchor) → other ≢ room.0 → bytes_at new other ≡ bytes_at old other
+  pub named : (other : ℕ) → other ≢ 0 → other ≢ first_base shape (uow_of shape anchor) → other ≢ room.0
+      → bytes_at new other ≡ bytes_at old other
   -- control keeps its first two numbers, and the first base interval all but its link
   pub ends : KeepsEnds (bytes_at old 0) (bytes_at new 0)
-  pub base : first_base shape (uow_of shape anchor) ≢ room.0 → KeepsButLink (bytes_at old (first_base shape (uow_of shape anchor))) (bytes_at new (first_base shape (uow_of shape anchor)))
+  pub base : first_base shape (uow_of shape anchor) ≢ room.0
+      → KeepsButLink (bytes_at old (first_base shape (uow_of shape anchor)))
+      (bytes_at new (first_base shape (uow_of shape anchor)))
   -- the root anchor points stay
   pub roots : KeepsRoots old new
   -- no interval goes away
@@ -207,10 +220,13 @@ pub record FindsRoom (shape : Shape) (old new : List (List ℕ)) (anchor n : ℕ
   -- every other used element stays
   pub others : OnlyOneChanges old new room.0 room.1
   -- only control, the first base interval of the unit of work and the one with the new element change
-  pub named : (other : ℕ) → other ≢ 0 → other ≢ first_base shape (uow_of shape anchor) → other ≢ room.0 → bytes_at new other ≡ bytes_at old other
+  pub named : (other : ℕ) → other ≢ 0 → other ≢ first_base shape (uow_of shape anchor) → other ≢ room.0
+      → bytes_at new other ≡ bytes_at old other
   -- control keeps its first two numbers, and the first base interval all but its link
   pub ends : KeepsEnds (bytes_at old 0) (bytes_at new 0)
-  pub base : first_base shape (uow_of shape anchor) ≢ room.0 → KeepsButLink (bytes_at old (first_base shape (uow_of shape anchor))) (bytes_at new (first_base shape (uow_of shape anchor)))
+  pub base : first_base shape (uow_of shape anchor) ≢ room.0
+      → KeepsButLink (bytes_at old (first_base shape (uow_of shape anchor)))
+      (bytes_at new (first_base shape (uow_of shape anchor)))
   -- the root anchor points stay
   pub roots : KeepsRoots old new
   -- no interval goes away

@@ -27,16 +27,21 @@ pub fn give_back<I: Intervals>(i: &mut I, shape: &Shape, ci: u64, at: u16) -> Re
     // At `Ok` the element is gone and all else stays, in whatever order the lists were. Where they were
     // in order, they are so again.
     ensures takes_back { I.told i.old → OnOk result (TakesBack shape.now (I.intervals i.old) (I.intervals i.new) ci at) }
-    ensures given { I.told i.old → IsInOrder shape.now (I.intervals i.old) → OnOk result (GivesBack shape.now (I.intervals i.old) (I.intervals i.new) ci at) }
-    ensures lists { I.told i.old → IsInOrder shape.now (I.intervals i.old) → OnOk result (IsInOrder shape.now (I.intervals i.new)) }
+    ensures given { I.told i.old → IsInOrder shape.now (I.intervals i.old)
+        → OnOk result (GivesBack shape.now (I.intervals i.old) (I.intervals i.new) ci at) }
+    ensures lists { I.told i.old → IsInOrder shape.now (I.intervals i.old)
+        → OnOk result (IsInOrder shape.now (I.intervals i.new)) }
 
     // Where no element is used there, `Ok` doesn't come, and `Damaged` names this interval.
     ensures used { I.told i.old → OnOk result (IsUsed (bytes_at (I.intervals i.old) ci) at) }
-    ensures unused { I.told i.old → ¬ IsUsed (bytes_at (I.intervals i.old) ci) at → (n : ℕ) → result ≡ Err (SpaceFault.Damaged n) → n ≡ ci }
+    ensures unused { I.told i.old → ¬ IsUsed (bytes_at (I.intervals i.old) ci) at → (n : ℕ)
+        → result ≡ Err (SpaceFault.Damaged n) → n ≡ ci }
 
     // Where an element is used there, `Damaged` names an interval at fault. An area in order has none.
-    ensures damaged { I.told i.old → IsUsed (bytes_at (I.intervals i.old) ci) at → (n : ℕ) → result ≡ Err (SpaceFault.Damaged n) → IsAtFault shape.now (I.intervals i.old) n }
-    ensures sound { I.told i.old → IsInOrder shape.now (I.intervals i.old) → IsUsed (bytes_at (I.intervals i.old) ci) at → (n : ℕ) → result ≢ Err (SpaceFault.Damaged n) }
+    ensures damaged { I.told i.old → IsUsed (bytes_at (I.intervals i.old) ci) at → (n : ℕ)
+        → result ≡ Err (SpaceFault.Damaged n) → IsAtFault shape.now (I.intervals i.old) n }
+    ensures sound { I.told i.old → IsInOrder shape.now (I.intervals i.old) → IsUsed (bytes_at (I.intervals i.old) ci) at
+        → (n : ℕ) → result ≢ Err (SpaceFault.Damaged n) }
 
     // It fails only with what holds the intervals.
     ensures failed { IsErrOf result SpaceFault.Failed → Rose (I.faults i.old) (I.faults i.new) }
@@ -60,7 +65,8 @@ fn read_used<I: Intervals>(i: &mut I, ci: u64, at: u16) -> Result<Interval, Spac
     ensures below { OnOk result (ci < I.number i.old) }
     ensures used { IfOk result (λ interval. IsUsed interval at) }
     ensures size { IfOk result (λ interval. length interval ≡ I.size i.old) }
-    ensures damaged { I.told i.old → IsUsed (bytes_at (I.intervals i.old) ci) at → (n : ℕ) → result ≢ Err (SpaceFault.Damaged n) }
+    ensures damaged { I.told i.old → IsUsed (bytes_at (I.intervals i.old) ci) at → (n : ℕ)
+        → result ≢ Err (SpaceFault.Damaged n) }
     ensures named { I.told i.old → (n : ℕ) → result ≡ Err (SpaceFault.Damaged n) → n ≡ ci }
     ensures failed { IsErrOf result SpaceFault.Failed → Rose (I.faults i.old) (I.faults i.new) }
     ensures same { I.told i.old → I.intervals i.new ≡ I.intervals i.old }
@@ -86,8 +92,10 @@ fn move_to_free<I: Intervals>(
     requires size { length interval ≡ I.size i.old }
     requires kind { kind_of interval ≡ 5 }
     requires empty { IsEmpty interval }
-    ensures moved { I.told i.old → Keeps (bytes_at (I.intervals i.old) ci) interval 0 32 → OnOk result (Moves shape.now (I.intervals i.old) (I.intervals i.new) ci interval) }
-    ensures damaged { I.told i.old → Keeps (bytes_at (I.intervals i.old) ci) interval 0 32 → ¬ IsEmpty (bytes_at (I.intervals i.old) ci)
+    ensures moved { I.told i.old → Keeps (bytes_at (I.intervals i.old) ci) interval 0 32
+        → OnOk result (Moves shape.now (I.intervals i.old) (I.intervals i.new) ci interval) }
+    ensures damaged { I.told i.old → Keeps (bytes_at (I.intervals i.old) ci) interval 0 32
+        → ¬ IsEmpty (bytes_at (I.intervals i.old) ci)
         → (n : ℕ) → result ≡ Err (SpaceFault.Damaged n) → IsAtFault shape.now (I.intervals i.old) n }
     ensures failed { IsErrOf result SpaceFault.Failed → Rose (I.faults i.old) (I.faults i.new) }
     ensures number { I.number i.new ≡ I.number i.old }
@@ -140,12 +148,14 @@ fn find_before<I: Intervals>(
     ci: u64,
 ) -> Result<Numbered, SpaceFault>
     requires { first_independent shape.now ≤ ci }
-    ensures before { I.told i.old → kind_of (bytes_at (I.intervals i.old) ci) ≡ 5 → IfOk result (IsBefore shape.now (I.intervals i.old) uow ci) }
+    ensures before { I.told i.old → kind_of (bytes_at (I.intervals i.old) ci) ≡ 5
+        → IfOk result (IsBefore shape.now (I.intervals i.old) uow ci) }
     ensures below { IfOk result (λ before. before.ci < I.number i.old) }
     ensures interval { IfOk result (λ before. IsInterval before.interval) }
     ensures kind { IfOk result (λ before. (kind_of before.interval ≡ 2) ⊎ (kind_of before.interval ≡ 5)) }
     ensures size { IfOk result (λ before. length before.interval ≡ I.size i.old) }
-    ensures damaged { I.told i.old → 0 < shape.now.base → uow < shape.now.uows → owner_of (bytes_at (I.intervals i.old) ci) ≡ uow + 1 → ci < I.number i.old
+    ensures damaged { I.told i.old → 0 < shape.now.base → uow < shape.now.uows
+        → owner_of (bytes_at (I.intervals i.old) ci) ≡ uow + 1 → ci < I.number i.old
         → (n : ℕ) → result ≡ Err (SpaceFault.Damaged n) → IsAtFault shape.now (I.intervals i.old) n }
     ensures failed { IsErrOf result SpaceFault.Failed → Rose (I.faults i.old) (I.faults i.new) }
     ensures same { I.told i.old → I.intervals i.new ≡ I.intervals i.old }

@@ -29,10 +29,17 @@ fn join<I: Intervals>(
     requires interval { IsInterval interval }
     requires kind { kind_of interval ≡ 5 }
     requires behind { first_base shape.now uow < ci }
-    ensures joined { I.told i.old → IfOk result (Joins shape.now uow (I.intervals i.old) (I.intervals i.new) ci interval needed) }
+    ensures joined { I.told i.old → IfOk result (Joins shape.now uow (I.intervals i.old) (I.intervals i.new) ci interval
+        needed) }
     ensures failed { IsErrOf result SpaceFault.Failed → Rose (I.faults i.old) (I.faults i.new) }
     ensures damaged { I.told i.old → (n : ℕ) → result ≡ Err (SpaceFault.Damaged n)
-        → IsNotThere (I.intervals i.old) (record { ci = first_base shape.now uow; kind = 2; owner = 0; from = first_base shape.now uow }) n ⊎ ((n ≡ ci) × IsFull interval needed) }
+        → IsNotThere (I.intervals i.old) (record {
+          ci = first_base shape.now uow;
+          kind = 2;
+          owner = 0;
+          from =
+              first_base shape.now uow;
+        }) n ⊎ ((n ≡ ci) × IsFull interval needed) }
     ensures number { I.number i.new ≡ I.number i.old }
     ensures goes_on { GoesOn I.told I.size I.faults I.keeps i.old i.new }
 {
@@ -97,10 +104,12 @@ pub fn join_free<I: Intervals>(
     requires interval { IsInterval control }
     requires uow { uow < shape.now.uows }
     requires base { 0 < shape.now.base }
-    ensures joined { I.told i.old → control ≡ bytes_at (I.intervals i.old) 0 → IfOk result (JoinsFree shape.now uow (I.intervals i.old) (I.intervals i.new) needed) }
+    ensures joined { I.told i.old → control ≡ bytes_at (I.intervals i.old) 0
+        → IfOk result (JoinsFree shape.now uow (I.intervals i.old) (I.intervals i.new) needed) }
     ensures in_range { IfOk result (λ room. room.0 < I.number i.new) }
     ensures failed { IsErrOf result SpaceFault.Failed → Rose (I.faults i.old) (I.faults i.new) }
-    ensures damaged { I.told i.old → control ≡ bytes_at (I.intervals i.old) 0 → first_free (I.intervals i.old) ≢ 0 → FitsEmpty (I.size i.old) needed
+    ensures damaged { I.told i.old → control ≡ bytes_at (I.intervals i.old) 0 → first_free (I.intervals i.old) ≢ 0
+        → FitsEmpty (I.size i.old) needed
         → (n : ℕ) → result ≡ Err (SpaceFault.Damaged n) → IsAtFault shape.now (I.intervals i.old) n }
     ensures number { I.number i.new ≡ I.number i.old }
     ensures goes_on { GoesOn I.told I.size I.faults I.keeps i.old i.new }
@@ -139,7 +148,8 @@ pub fn join_new<I: Intervals>(
     requires interval { IsInterval control }
     requires uow { uow < shape.now.uows }
     requires base { 0 < shape.now.base }
-    ensures joined { I.told i.old → control ≡ bytes_at (I.intervals i.old) 0 → IfOk result (JoinsNew shape.now uow (I.intervals i.old) (I.intervals i.new) needed) }
+    ensures joined { I.told i.old → control ≡ bytes_at (I.intervals i.old) 0
+        → IfOk result (JoinsNew shape.now uow (I.intervals i.old) (I.intervals i.new) needed) }
     ensures in_range { IfOk result (λ room. room.0 < I.number i.new) }
     ensures failed { IsErrOf result SpaceFault.Failed → Rose (I.faults i.old) (I.faults i.new) }
     ensures damaged { I.told i.old → control ≡ bytes_at (I.intervals i.old) 0 → FitsEmpty (I.size i.old) needed

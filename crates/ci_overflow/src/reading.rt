@@ -32,7 +32,8 @@ pub fn get<I: Intervals>(i: &mut I, ci: u64, from: u64) -> Result<Interval, Spac
 
     // It fails only with what holds the intervals, or where no interval is there.
     ensures failed { IsErrOf result SpaceFault.Failed → Rose (I.faults i.old) (I.faults i.new) }
-    ensures damaged { I.told i.old → (n : ℕ) → result ≡ Err (SpaceFault.Damaged n) → IsNoInterval (I.intervals i.old) ci from n }
+    ensures damaged { I.told i.old → (n : ℕ) → result ≡ Err (SpaceFault.Damaged n)
+        → IsNoInterval (I.intervals i.old) ci from n }
 
     // Nothing changes.
     ensures same { I.told i.old → I.intervals i.new ≡ I.intervals i.old }
@@ -62,7 +63,8 @@ pub fn read<I: Intervals>(i: &mut I, place: Place) -> Result<Interval, SpaceFaul
 
     // It fails only with what holds the intervals, or where no such interval is there.
     ensures failed { IsErrOf result SpaceFault.Failed → Rose (I.faults i.old) (I.faults i.new) }
-    ensures damaged { I.told i.old → (n : ℕ) → result ≡ Err (SpaceFault.Damaged n) → IsNotThere (I.intervals i.old) place n }
+    ensures damaged { I.told i.old → (n : ℕ) → result ≡ Err (SpaceFault.Damaged n)
+        → IsNotThere (I.intervals i.old) place n }
 
     // Nothing changes.
     ensures same { I.told i.old → I.intervals i.new ≡ I.intervals i.old }
@@ -110,7 +112,8 @@ pub fn try_take<I: Intervals>(i: &mut I, place: Place, length: u16) -> Result<Tr
     ensures below { OnOk result (place.ci < I.number i.old) }
     ensures owner { I.told i.old → OnOk result (owner_of (bytes_at (I.intervals i.old) place.ci) ≡ place.owner) }
     ensures failed { IsErrOf result SpaceFault.Failed → Rose (I.faults i.old) (I.faults i.new) }
-    ensures damaged { I.told i.old → (n : ℕ) → result ≡ Err (SpaceFault.Damaged n) → IsNotThere (I.intervals i.old) place n }
+    ensures damaged { I.told i.old → (n : ℕ) → result ≡ Err (SpaceFault.Damaged n)
+        → IsNotThere (I.intervals i.old) place n }
     ensures number { I.number i.new ≡ I.number i.old }
     ensures goes_on { GoesOn I.told I.size I.faults I.keeps i.old i.new }
 {

@@ -30,18 +30,23 @@ pub fn find_room<I: Intervals>(
     requires { anchor < shape.now.uows * shape.now.base }
 
     // At `Ok` a new element is there and all else stays, in whatever order the lists were.
-    ensures takes { I.told i.old → IfOk result (TakesRoom shape.now (I.intervals i.old) (I.intervals i.new) anchor length) }
+    ensures takes { I.told i.old → IfOk result (TakesRoom shape.now (I.intervals i.old) (I.intervals i.new) anchor
+        length) }
 
     // Where they were in order, it is in the first place of the stated order with room, and they are so
     // again.
-    ensures room { I.told i.old → IsInOrder shape.now (I.intervals i.old) → IfOk result (FindsRoom shape.now (I.intervals i.old) (I.intervals i.new) anchor length) }
-    ensures lists { I.told i.old → IsInOrder shape.now (I.intervals i.old) → OnOk result (IsInOrder shape.now (I.intervals i.new)) }
+    ensures room { I.told i.old → IsInOrder shape.now (I.intervals i.old)
+        → IfOk result (FindsRoom shape.now (I.intervals i.old) (I.intervals i.new) anchor length) }
+    ensures lists { I.told i.old → IsInOrder shape.now (I.intervals i.old)
+        → OnOk result (IsInOrder shape.now (I.intervals i.new)) }
     ensures in_range { IfOk result (λ room. room.0 < I.number i.new) }
 
     // Where an empty interval has room for `length`, `Damaged` names an interval at fault. An area in
     // order has none.
-    ensures damaged { I.told i.old → FitsEmpty (I.size i.old) length → (n : ℕ) → result ≡ Err (SpaceFault.Damaged n) → IsAtFault shape.now (I.intervals i.old) n }
-    ensures sound { I.told i.old → IsInOrder shape.now (I.intervals i.old) → FitsEmpty (I.size i.old) length → (n : ℕ) → result ≢ Err (SpaceFault.Damaged n) }
+    ensures damaged { I.told i.old → FitsEmpty (I.size i.old) length → (n : ℕ) → result ≡ Err (SpaceFault.Damaged n)
+        → IsAtFault shape.now (I.intervals i.old) n }
+    ensures sound { I.told i.old → IsInOrder shape.now (I.intervals i.old) → FitsEmpty (I.size i.old) length → (n : ℕ)
+        → result ≢ Err (SpaceFault.Damaged n) }
 
     // It fails only with what holds the intervals.
     ensures failed { IsErrOf result SpaceFault.Failed → Rose (I.faults i.old) (I.faults i.new) }
@@ -69,7 +74,8 @@ fn join_next<I: Intervals>(
     ensures joined { I.told i.old → IfOk result (JoinsNext shape.now uow (I.intervals i.old) (I.intervals i.new) needed) }
     ensures in_range { IfOk result (λ room. room.0 < I.number i.new) }
     ensures failed { IsErrOf result SpaceFault.Failed → Rose (I.faults i.old) (I.faults i.new) }
-    ensures damaged { I.told i.old → FitsEmpty (I.size i.old) needed → (n : ℕ) → result ≡ Err (SpaceFault.Damaged n) → IsAtFault shape.now (I.intervals i.old) n }
+    ensures damaged { I.told i.old → FitsEmpty (I.size i.old) needed → (n : ℕ) → result ≡ Err (SpaceFault.Damaged n)
+        → IsAtFault shape.now (I.intervals i.old) n }
     ensures number { I.number i.old ≤ I.number i.new }
     ensures goes_on { GoesOn I.told I.size I.faults I.keeps i.old i.new }
 {

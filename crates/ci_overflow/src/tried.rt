@@ -19,11 +19,13 @@ fn try_dependents<I: Intervals>(
     uow: u32,
     length: u16,
 ) -> Result<Option<(u64, u16)>, SpaceFault>
-    ensures tried { I.told i.old → IfOk result (AreTried (I.intervals i.old) (I.intervals i.new) (numbers_from (first_dependent shape.now uow) shape.now.overflow) length) }
+    ensures tried { I.told i.old → IfOk result (AreTried (I.intervals i.old) (I.intervals i.new)
+        (numbers_from (first_dependent shape.now uow) shape.now.overflow) length) }
     ensures taken { I.told i.old → IfOk result (IsTaken (I.intervals i.old) (I.intervals i.new) length) }
     ensures below { IfOk result (λ room. IfSome room (λ room. room.0 < I.number i.old)) }
     ensures failed { IsErrOf result SpaceFault.Failed → Rose (I.faults i.old) (I.faults i.new) }
-    ensures damaged { I.told i.old → uow < shape.now.uows → (n : ℕ) → result ≡ Err (SpaceFault.Damaged n) → IsAtFault shape.now (I.intervals i.old) n }
+    ensures damaged { I.told i.old → uow < shape.now.uows → (n : ℕ) → result ≡ Err (SpaceFault.Damaged n)
+        → IsAtFault shape.now (I.intervals i.old) n }
     ensures number { I.number i.new ≡ I.number i.old }
     ensures goes_on { GoesOn I.told I.size I.faults I.keeps i.old i.new }
 {
@@ -53,12 +55,14 @@ fn try_chain<I: Intervals>(
     first: u64,
     length: u16,
 ) -> Result<Option<(u64, u16)>, SpaceFault>
-    ensures tried { I.told i.old → (chain : List ℕ) → IsChain (I.intervals i.old) first chain → IfOk result (AreTried (I.intervals i.old) (I.intervals i.new) chain length) }
+    ensures tried { I.told i.old → (chain : List ℕ) → IsChain (I.intervals i.old) first chain
+        → IfOk result (AreTried (I.intervals i.old) (I.intervals i.new) chain length) }
     ensures full { I.told i.old → IfOk result (λ room. IfNone room (I.intervals i.new ≡ I.intervals i.old)) }
     ensures taken { I.told i.old → IfOk result (IsTaken (I.intervals i.old) (I.intervals i.new) length) }
     ensures below { IfOk result (λ room. IfSome room (λ room. room.0 < I.number i.old)) }
     ensures failed { IsErrOf result SpaceFault.Failed → Rose (I.faults i.old) (I.faults i.new) }
-    ensures damaged { I.told i.old → uow < shape.now.uows → base ≡ first_base shape.now uow → first ≡ link_of (bytes_at (I.intervals i.old) base)
+    ensures damaged { I.told i.old → uow < shape.now.uows → base ≡ first_base shape.now uow
+        → first ≡ link_of (bytes_at (I.intervals i.old) base)
         → (n : ℕ) → result ≡ Err (SpaceFault.Damaged n) → IsAtFault shape.now (I.intervals i.old) n }
     ensures number { I.number i.new ≡ I.number i.old }
     ensures goes_on { GoesOn I.told I.size I.faults I.keeps i.old i.new }
@@ -95,13 +99,16 @@ pub fn try_standing<I: Intervals>(
     length: u16,
 ) -> Result<Option<(u64, u16)>, SpaceFault>
     requires { anchor < shape.now.uows * shape.now.base }
-    ensures tried { I.told i.old → (shared : List ℕ) → IsChain (I.intervals i.old) (link_of (bytes_at (I.intervals i.old) (first_base shape.now (uow_of shape.now anchor)))) shared
+    ensures tried { I.told i.old → (shared : List ℕ)
+        → IsChain (I.intervals i.old) (link_of (bytes_at (I.intervals i.old)
+        (first_base shape.now (uow_of shape.now anchor)))) shared
         → IfOk result (AreTried (I.intervals i.old) (I.intervals i.new) (places shape.now anchor shared) length) }
     ensures full { I.told i.old → IfOk result (λ room. IfNone room (I.intervals i.new ≡ I.intervals i.old)) }
     ensures taken { I.told i.old → IfOk result (IsTaken (I.intervals i.old) (I.intervals i.new) length) }
     ensures below { IfOk result (λ room. IfSome room (λ room. room.0 < I.number i.old)) }
     ensures failed { IsErrOf result SpaceFault.Failed → Rose (I.faults i.old) (I.faults i.new) }
-    ensures damaged { I.told i.old → (n : ℕ) → result ≡ Err (SpaceFault.Damaged n) → IsAtFault shape.now (I.intervals i.old) n }
+    ensures damaged { I.told i.old → (n : ℕ) → result ≡ Err (SpaceFault.Damaged n)
+        → IsAtFault shape.now (I.intervals i.old) n }
     ensures number { I.number i.new ≡ I.number i.old }
     ensures goes_on { GoesOn I.told I.size I.faults I.keeps i.old i.new }
 {
@@ -128,9 +135,11 @@ pub fn try_standing<I: Intervals>(
 /// The link of a unit of work's first base interval. It isn't read again where it is the interval
 /// `base`, whose link is `known`.
 fn list_link<I: Intervals>(i: &mut I, first: u64, base: u64, known: u64) -> Result<u64, SpaceFault>
-    ensures link { I.told i.old → known ≡ link_of (bytes_at (I.intervals i.old) base) → IfOk result (λ link. link ≡ link_of (bytes_at (I.intervals i.old) first)) }
+    ensures link { I.told i.old → known ≡ link_of (bytes_at (I.intervals i.old) base)
+        → IfOk result (λ link. link ≡ link_of (bytes_at (I.intervals i.old) first)) }
     ensures failed { IsErrOf result SpaceFault.Failed → Rose (I.faults i.old) (I.faults i.new) }
-    ensures damaged { I.told i.old → (n : ℕ) → result ≡ Err (SpaceFault.Damaged n) → IsNotThere (I.intervals i.old) (record { ci = first; kind = 2; owner = 0; from = first }) n }
+    ensures damaged { I.told i.old → (n : ℕ) → result ≡ Err (SpaceFault.Damaged n)
+        → IsNotThere (I.intervals i.old) (record { ci = first; kind = 2; owner = 0; from = first }) n }
     ensures same { I.told i.old → I.intervals i.new ≡ I.intervals i.old }
     ensures number { I.number i.new ≡ I.number i.old }
     ensures goes_on { GoesOn I.told I.size I.faults I.keeps i.old i.new }
@@ -146,7 +155,8 @@ fn list_link<I: Intervals>(i: &mut I, first: u64, base: u64, known: u64) -> Resu
 fn first_link<I: Intervals>(i: &mut I, first: u64) -> Result<u64, SpaceFault>
     ensures link { I.told i.old → IfOk result (λ link. link ≡ link_of (bytes_at (I.intervals i.old) first)) }
     ensures failed { IsErrOf result SpaceFault.Failed → Rose (I.faults i.old) (I.faults i.new) }
-    ensures damaged { I.told i.old → (n : ℕ) → result ≡ Err (SpaceFault.Damaged n) → IsNotThere (I.intervals i.old) (record { ci = first; kind = 2; owner = 0; from = first }) n }
+    ensures damaged { I.told i.old → (n : ℕ) → result ≡ Err (SpaceFault.Damaged n)
+        → IsNotThere (I.intervals i.old) (record { ci = first; kind = 2; owner = 0; from = first }) n }
     ensures same { I.told i.old → I.intervals i.new ≡ I.intervals i.old }
     ensures number { I.number i.new ≡ I.number i.old }
     ensures goes_on { GoesOn I.told I.size I.faults I.keeps i.old i.new }

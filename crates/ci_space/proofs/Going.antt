@@ -7,7 +7,8 @@ module _ {I : Type 0} (told : I → Type 0) (size faults : I → ℕ) (keeps : I
   pub goes-itself : (a : I) → GoesOn told size faults keeps a a
   goes-itself a = record { tells = λ t. t; same_size = refl; later = omega arith; known = λ first k. k }
 
-  pub goes-joined : (a b c : I) → GoesOn told size faults keeps a b → GoesOn told size faults keeps b c → GoesOn told size faults keeps a c
+  pub goes-joined : (a b c : I) → GoesOn told size faults keeps a b → GoesOn told size faults keeps b c
+      → GoesOn told size faults keeps a c
   goes-joined a b c p q = record {
     tells = λ t. q.tells (p.tells t);
     same_size = q.same_size ∙ p.same_size;

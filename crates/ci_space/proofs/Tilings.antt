@@ -35,7 +35,8 @@ head-keeps old new k h =
 not_control : (kind : ℕ) → IsTrue (has_elements kind) → kind ≢ 1
 not_control kind h e = let f = rw e at h in let g : false ≡ true = f in cc
 
-pub tiles-by : (old new : List ℕ) (es fs : List Element) → Tiles old es → length new ≡ length old → Keeps old new 0 32 → IsTrue (has_elements (kind_of old))
+pub tiles-by : (old new : List ℕ) (es fs : List Element) → Tiles old es → length new ≡ length old → Keeps old new 0 32
+    → IsTrue (has_elements (kind_of old))
     → Chain fs new 32 (length new) → IsMerged fs → Tiles new fs
 tiles-by old new es fs t l k h c m =
     let e : kind_of new ≡ kind_of old = kind-keeps old new k in
@@ -58,22 +59,27 @@ tiled_if true es f g = refl
 tiled_if false es f g = absurd (g (f refl))
 
 pub used-kind : (bytes : List ℕ) (before after : List Element) (e : Element) → Tiles bytes (before ++ e ∷ after) → IsTrue (has_elements (kind_of bytes))
-used-kind bytes before after e t = tiled_if (has_elements (kind_of bytes)) (before ++ e ∷ after) t.untiled (some_element before after e)
+used-kind bytes before after e t = tiled_if (has_elements (kind_of bytes)) (before ++ e ∷ after) t.untiled
+    (some_element before after e)
 
 pub used-chain : (bytes : List ℕ) (before after : List Element) (e : Element) → Tiles bytes (before ++ e ∷ after) → Chain (before ++ e ∷ after) bytes 32 (length bytes)
 used-chain bytes before after e t = t.tiled (used-kind bytes before after e t)
 
 pub used-front : (bytes : List ℕ) (at : ℕ) (before after : List Element) (e : Element) → at ≡ 32 + sizes before → Tiles bytes (before ++ e ∷ after) → Chain before bytes 32 at
-used-front bytes at before after e p t = rw p (Chain-front before (e ∷ after) bytes 32 (length bytes) (used-chain bytes before after e t))
+used-front bytes at before after e p t = rw p (Chain-front before (e ∷ after) bytes 32 (length bytes)
+    (used-chain bytes before after e t))
 
 pub used-back : (bytes : List ℕ) (at : ℕ) (before after : List Element) (e : Element) → at ≡ 32 + sizes before → Tiles bytes (before ++ e ∷ after) → Chain (e ∷ after) bytes at (length bytes)
-used-back bytes at before after e p t = rw p (Chain-back before (e ∷ after) bytes 32 (length bytes) (used-chain bytes before after e t))
+used-back bytes at before after e p t = rw p (Chain-back before (e ∷ after) bytes 32 (length bytes)
+    (used-chain bytes before after e t))
 
 -- a used element is whole, and its length is read
 pub used-whole : (bytes : List ℕ) (at : ℕ) → IsUsed bytes at → IsWhole bytes at (length bytes)
 used-whole bytes at u =
-    let back : Chain (Used u.segment u.content ∷ u.used.after) bytes at (length bytes) = used-back bytes at u.used.before u.used.after (Used u.segment u.content) u.used.place u.used.tiles in
-    let e : at + (4 + length u.content) + sizes u.used.after ≡ length bytes = Chain-end u.used.after bytes (at + (4 + length u.content)) (length bytes) back.1 in
+    let back : Chain (Used u.segment u.content ∷ u.used.after) bytes at (length bytes) =
+    used-back bytes at u.used.before u.used.after (Used u.segment u.content) u.used.place u.used.tiles in
+    let e : at + (4 + length u.content) + sizes u.used.after ≡ length bytes =
+    Chain-end u.used.after bytes (at + (4 + length u.content)) (length bytes) back.1 in
     first-whole (Used u.segment u.content ∷ u.used.after) bytes at (length bytes) (omega arith) back
 
 -- free bytes beside an element
@@ -112,13 +118,17 @@ pub record IsFreed (bytes : List ℕ) (start end total : ℕ) : Type 0 where
   pub least : 4 ≤ end - start
   pub fours : (end - start) % 4 ≡ 0
 
-pub freed : (bytes : List ℕ) (at start end : ℕ) (before after : List Element) (segment : ℕ) (content : List ℕ) → at ≡ 32 + sizes before
-    → Tiles bytes (before ++ Used segment content ∷ after) → start + last_free before ≡ at → end ≡ at + (4 + length content) + first_free after
+pub freed : (bytes : List ℕ) (at start end : ℕ) (before after : List Element) (segment : ℕ) (content : List ℕ)
+    → at ≡ 32 + sizes before
+    → Tiles bytes (before ++ Used segment content ∷ after) → start + last_free before ≡ at
+    → end ≡ at + (4 + length content) + first_free after
     → IsFreed bytes start end (last_free before + (4 + length content) + first_free after)
 freed bytes at start end before after segment content p t s e =
     let front : Chain before bytes 32 at = used-front bytes at before after (Used segment content) p t in
-    let back : Chain (Used segment content ∷ after) bytes at (length bytes) = used-back bytes at before after (Used segment content) p t in
-    let all : at + (4 + length content) + sizes after ≡ length bytes = Chain-end after bytes (at + (4 + length content)) (length bytes) back.1 in
+    let back : Chain (Used segment content ∷ after) bytes at (length bytes) =
+    used-back bytes at before after (Used segment content) p t in
+    let all : at + (4 + length content) + sizes after ≡ length bytes =
+    Chain-end after bytes (at + (4 + length content)) (length bytes) back.1 in
     let lw : last_free before ≤ sizes before = last_within before in
     let fw : first_free after ≤ sizes after = first_within after in
     let b : (512 ≤ length bytes) × (length bytes ≤ 4096) = size-bounds (length bytes) t.size in
@@ -130,52 +140,71 @@ freed bytes at start end before after segment content p t s e =
       room = omega arith;
       whole = w;
       least = omega arith;
-      fours = rw w (three_fours (last_free before) (4 + length content) (first_free after) (last_fours before bytes 32 at front) back.0.0.fours
+      fours = rw w (three_fours (last_free before) (4 + length content) (first_free after)
+          (last_fours before bytes 32 at front) back.0.0.fours
           (first_fours after bytes (at + (4 + length content)) (length bytes) back.1));
     }
 
 -- the same where the ends are found by walks
-pub freed-between : (bytes : List ℕ) (at start end n : ℕ) (before after : List Element) (segment : ℕ) (content : List ℕ) → at ≡ 32 + sizes before
+pub freed-between : (bytes : List ℕ) (at start end n : ℕ) (before after : List Element) (segment : ℕ) (content : List ℕ)
+    → at ≡ 32 + sizes before
     → Tiles bytes (before ++ Used segment content ∷ after) → n ≡ length_of bytes at
     → ((before : List Element) → Chain before bytes 32 at → start + last_free before ≡ at)
     → ((after : List Element) → Chain after bytes (at + n) (length bytes) → end ≡ at + n + first_free after)
     → IsFreed bytes start end (last_free before + (4 + length content) + first_free after)
 freed-between bytes at start end n before after segment content p t l s e =
-    let back : Chain (Used segment content ∷ after) bytes at (length bytes) = used-back bytes at before after (Used segment content) p t in
+    let back : Chain (Used segment content ∷ after) bytes at (length bytes) =
+    used-back bytes at before after (Used segment content) p t in
     let m : n ≡ 4 + length content = l ∙ back.0.0.is_length in
     let there : end ≡ at + n + first_free after = e after (rw m back.1) in
-    freed bytes at start end before after segment content p t (s before (used-front bytes at before after (Used segment content) p t)) (there ∙ ap (λ k. at + k + first_free after) m)
+    freed bytes at start end before after segment content p t
+    (s before (used-front bytes at before after (Used segment content) p t))
+    (there ∙ ap (λ k. at + k + first_free after) m)
 
 pub freed-used : (bytes : List ℕ) (at start end n : ℕ) (u : IsUsed bytes at) → n ≡ length_of bytes at
     → ((before : List Element) → Chain before bytes 32 at → start + last_free before ≡ at)
     → ((after : List Element) → Chain after bytes (at + n) (length bytes) → end ≡ at + n + first_free after)
     → IsFreed bytes start end (last_free u.used.before + (4 + length u.content) + first_free u.used.after)
-freed-used bytes at start end n u = freed-between bytes at start end n u.used.before u.used.after u.segment u.content u.used.place u.used.tiles
+freed-used bytes at start end n u = freed-between bytes at start end n u.used.before u.used.after u.segment u.content
+    u.used.place u.used.tiles
 
 -- freeing a used element
-pub frees-used : (old new : List ℕ) (at start end n : ℕ) (before after : List Element) (segment : ℕ) (content : List ℕ) → at ≡ 32 + sizes before
+pub frees-used : (old new : List ℕ) (at start end n : ℕ) (before after : List Element) (segment : ℕ) (content : List ℕ)
+    → at ≡ 32 + sizes before
     → Tiles old (before ++ Used segment content ∷ after) → n ≡ length_of old at
     → ((before : List Element) → Chain before old 32 at → start + last_free before ≡ at)
     → ((after : List Element) → Chain after old (at + n) (length old) → end ≡ at + n + first_free after)
     → length new ≡ length old → Puts old new start (end - start) 0
     → Tiles new (merged (before ++ Free (4 + length content) ∷ after))
 frees-used old new at start end n before after segment content p t m s e l puts =
-    let f : IsFreed old start end (last_free before + (4 + length content) + first_free after) = freed-between old at start end n before after segment content p t m s e in
+    let f : IsFreed old start end (last_free before + (4 + length content) + first_free after) =
+    freed-between old at start end n before after segment content p t m s e in
     let low : 32 ≤ start = f.low in
-    let b : Begins new start (end - start) 0 0 = record { is_length = puts.is_length; is_tag = puts.is_tag; is_segment = puts.is_segment; least = f.least; fours = f.fours } in
-    tiles-by old new (before ++ Used segment content ∷ after) (merged (before ++ Free (4 + length content) ∷ after)) t l (λ k x y. puts.below k x (omega arith))
+    let b : Begins new start (end - start) 0 0 = record {
+      is_length = puts.is_length;
+      is_tag = puts.is_tag;
+      is_segment =
+          puts.is_segment;
+      least = f.least;
+      fours = f.fours;
+    } in
+    tiles-by old new (before ++ Used segment content ∷ after) (merged (before ++ Free (4 + length content) ∷ after)) t l
+    (λ k x y. puts.below k x (omega arith))
     (used-kind old before after (Used segment content) t)
-    (frees old new at start (end - start) before after segment content l p (s before (used-front old at before after (Used segment content) p t))
+    (frees old new at start (end - start) before after segment content l p
+    (s before (used-front old at before after (Used segment content) p t))
     (used-chain old before after (Used segment content) t) t.is_merged b f.whole puts.below puts.above)
     (merged-merges (before ++ Free (4 + length content) ∷ after))
 
 -- what a take leaves is merged
-taken_merged : (before after : List Element) (free k : ℕ) (content : List ℕ) → IsMerged (before ++ Free free ∷ after) → IsMerged (before ++ (Used 0 content ∷ rest_free k ++ after))
+taken_merged : (before after : List Element) (free k : ℕ) (content : List ℕ) → IsMerged (before ++ Free free ∷ after)
+    → IsMerged (before ++ (Used 0 content ∷ rest_free k ++ after))
 taken_merged [] after free zero content m = m.1
 taken_merged [] after free (suc k) content m = m
 taken_merged (Free n ∷ []) after free k content m = absurd m.0
 taken_merged (Free n ∷ Free i ∷ es) after free k content m = absurd m.0
-taken_merged (Free n ∷ Used s c ∷ es) after free k content m = (tt, taken_merged (Used s c ∷ es) after free k content m.1)
+taken_merged (Free n ∷ Used s c ∷ es) after free k content m =
+    (tt, taken_merged (Used s c ∷ es) after free k content m.1)
 taken_merged (Used s c ∷ es) after free k content m = taken_merged es after free k content m
 
 -- what the walk finds, in an interval
@@ -186,15 +215,18 @@ merged_front (Free n ∷ Free i ∷ es) ys m = absurd m.0
 merged_front (Free n ∷ Used s c ∷ es) ys m = (tt, merged_front (Used s c ∷ es) ys m.1)
 merged_front (Used s c ∷ es) ys m = merged_front es ys m
 
-pub walked-full : (bytes : List ℕ) (n size : ℕ) → size ≡ size_for n → IsInterval bytes → IsTrue (has_elements (kind_of bytes)) → WalksPast bytes size (length bytes) → IsFull bytes n
+pub walked-full : (bytes : List ℕ) (n size : ℕ) → size ≡ size_for n → IsInterval bytes
+    → IsTrue (has_elements (kind_of bytes)) → WalksPast bytes size (length bytes) → IsFull bytes n
 walked-full bytes n size e i h w = record {
   elements = w.before;
-  tiles = tiles-by bytes bytes i.elements w.before i.tiles refl (λ k x y. refl) h w.done (merged_front w.before w.after w.is_merged);
+  tiles = tiles-by bytes bytes i.elements w.before i.tiles refl (λ k x y. refl) h w.done
+      (merged_front w.before w.after w.is_merged);
   smaller = rw (← e) w.smaller;
 }
 
 -- and the interval with the element that it finds
-pub found-tiles : (bytes : List ℕ) (n at : ℕ) → IsInterval bytes → IsTrue (has_elements (kind_of bytes)) → (f : IsFirstFree bytes n at) → Tiles bytes (f.past.before ++ Free f.free ∷ f.behind)
+pub found-tiles : (bytes : List ℕ) (n at : ℕ) → IsInterval bytes → IsTrue (has_elements (kind_of bytes))
+    → (f : IsFirstFree bytes n at) → Tiles bytes (f.past.before ++ Free f.free ∷ f.behind)
 found-tiles bytes n at i h f =
     let left = rw f.is_free at f.past.left in
     let merged = rw f.is_free at f.past.is_merged in
@@ -212,7 +244,8 @@ found-whole bytes n at f =
     let l : 4 ≤ f.free = c.0.least in
     first-whole (Free f.free ∷ f.behind) bytes at (length bytes) (omega arith) c
 
-pub takes : (old new : List ℕ) (n size at : ℕ) → size ≡ size_for n → IsInterval old → IsTrue (has_elements (kind_of old)) → (f : IsFirstFree old size at) → length new ≡ length old
+pub takes : (old new : List ℕ) (n size at : ℕ) → size ≡ size_for n → IsInterval old
+    → IsTrue (has_elements (kind_of old)) → (f : IsFirstFree old size at) → length new ≡ length old
     → Keeps old new 0 32 → Splits old new size at → Takes old new n at
 takes old new n size at e i h f l k s =
     let was : Tiles old (f.past.before ++ Free f.free ∷ f.behind) = found-tiles old size at i h f in
@@ -228,8 +261,10 @@ takes old new n size at e i h f l k s =
       holds = rw (← e) f.holds;
       place = p;
       is_size = done.1 ∙ e;
-      now = rw (← e) (tiles-by old new (f.past.before ++ Free f.free ∷ f.behind) (f.past.before ++ Used 0 done.0 ∷ rest_free (f.free - size) ++ f.behind) was l k h done.2
-          (rw (append_assoc f.past.before (Used 0 done.0 ∷ rest_free (f.free - size)) f.behind) (taken_merged f.past.before f.behind f.free (f.free - size) done.0 was.is_merged)));
+      now = rw (← e) (tiles-by old new (f.past.before ++ Free f.free ∷ f.behind)
+          (f.past.before ++ Used 0 done.0 ∷ rest_free (f.free - size) ++ f.behind) was l k h done.2
+          (rw (append_assoc f.past.before (Used 0 done.0 ∷ rest_free (f.free - size)) f.behind)
+          (taken_merged f.past.before f.behind f.free (f.free - size) done.0 was.is_merged)));
     }
 
 pub found-fits : (bytes : List ℕ) (n at : ℕ) → IsInterval bytes → IsFirstFree bytes n at → at < 65536
@@ -238,5 +273,12 @@ found-fits bytes n at i f =
     let b : (512 ≤ length bytes) × (length bytes ≤ 4096) = size-bounds (length bytes) i.tiles.size in
     omega arith
 
-pub interval-tiled : (bytes : List ℕ) → IsInterval bytes → IsTrue (has_elements (kind_of bytes)) → TilesFrom bytes 32 false
-interval-tiled bytes i h = record { elements = i.elements; chain = i.tiles.tiled h; is_merged = i.tiles.is_merged; apart = λ b. absurd (cc) }
+pub interval-tiled : (bytes : List ℕ) → IsInterval bytes → IsTrue (has_elements (kind_of bytes))
+    → TilesFrom bytes 32 false
+interval-tiled bytes i h = record {
+  elements = i.elements;
+  chain = i.tiles.tiled h;
+  is_merged =
+      i.tiles.is_merged;
+  apart = λ b. absurd (cc);
+}

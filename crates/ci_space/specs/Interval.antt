@@ -88,8 +88,10 @@ UsedBecomes old new at next =
 
 -- every used element but that at `at` stays, with its segment type and its content, and none comes
 pub record OthersStay (old new : List ℕ) (at : ℕ) : Type 0 where
-  pub stay : (place segment : ℕ) (content : List ℕ) → place ≢ at → HasUsed old place segment content → HasUsed new place segment content
-  pub none_comes : (place segment : ℕ) (content : List ℕ) → place ≢ at → HasUsed new place segment content → HasUsed old place segment content
+  pub stay : (place segment : ℕ) (content : List ℕ) → place ≢ at → HasUsed old place segment content
+      → HasUsed new place segment content
+  pub none_comes : (place segment : ℕ) (content : List ℕ) → place ≢ at → HasUsed new place segment content
+      → HasUsed old place segment content
 
 -- the used element at `at` becomes free, merged with its free neighbours; all others stay
 abbrev pub UsedIsFreed : List ℕ → List ℕ → ℕ → Type 0

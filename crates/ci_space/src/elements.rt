@@ -290,7 +290,8 @@ pub fn put(bytes: &mut [u8], at: usize, from: &[u8])
 pub fn write(bytes: &mut [u8], at: usize, from: &[u8])
     requires { HasRoom bytes.old at (length from.now) }
     ensures bytes { bytes.new ≡ written bytes.old (at + 4) from.now }
-    ensures wrote { UsedBecomes bytes.old bytes.new at (λ segment content. Used segment (from.now ++ drop (length from.now) content)) }
+    ensures wrote { UsedBecomes bytes.old bytes.new at
+        (λ segment content. Used segment (from.now ++ drop (length from.now) content)) }
     ensures others { OthersStay bytes.old bytes.new at }
     ensures head { Keeps bytes.old bytes.new 0 32 }
 {

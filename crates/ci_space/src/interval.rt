@@ -169,7 +169,8 @@ impl Interval {
     pub fn write(&mut self, at: u16, from: &[u8])
         requires { HasRoom self.old at (length from.now) }
         ensures bytes { self.new ≡ written self.old (at + 4) from.now }
-        ensures wrote { UsedBecomes self.old self.new at (λ segment content. Used segment (from.now ++ drop (length from.now) content)) }
+        ensures wrote { UsedBecomes self.old self.new at
+            (λ segment content. Used segment (from.now ++ drop (length from.now) content)) }
         ensures others { OthersStay self.old self.new at }
         ensures head { Keeps self.old self.new 0 32 }
         ensures size { SameSize self.old self.new }

@@ -73,7 +73,8 @@ pub trait Intervals {
 
         // BadTiles comes exactly where the bytes are no interval, Failed only where the count rose.
         ensures bad { (n : ℕ) → result ≡ Err (GetFault.BadTiles n) → n ≡ ci }
-        ensures bad_bytes { (n : ℕ) → result ≡ Err (GetFault.BadTiles n) → told self.old → IfSome (slice_get (intervals self.old) ci) (λ bytes. ¬ IsInterval bytes) }
+        ensures bad_bytes { (n : ℕ) → result ≡ Err (GetFault.BadTiles n) → told self.old
+            → IfSome (slice_get (intervals self.old) ci) (λ bytes. ¬ IsInterval bytes) }
         ensures failed { result ≡ Err GetFault.Failed → Rose (faults self.old) (faults self.new) }
 
         // Nothing changes.
@@ -93,7 +94,8 @@ pub trait Intervals {
     /// Adds an empty interval of kind 5 at the end, and gives its number. An area ends at or before
     /// byte 2^62.
     fn extend(&mut self) -> Result<u64, GetFault>
-        ensures ok { told self.old → OnOk result (intervals self.new ≡ intervals self.old ++ empty_bytes (size self.old) 5 ∷ []) }
+        ensures ok { told self.old → OnOk result (intervals self.new ≡ intervals self.old ++ empty_bytes (size self.old)
+            5 ∷ []) }
         ensures last { IfOk result (λ ci. ci ≡ number self.old) }
         ensures grown { OnOk result (number self.new ≡ number self.old + 1) }
         ensures bound { OnOk result (number self.new * size self.new ≤ 2 ^ 62) }

@@ -32,7 +32,8 @@ if_ok_by Q P (Ok a) f h = f a h
 if_ok_by Q P (Err e) f h = h
 
 -- two facts of a good answer make a third
-pub if_ok_both : {A E : Type 0} (P Q R : A → Type 0) (r : Result A E) → ((a : A) → P a → Q a → R a) → IfOk r P → IfOk r Q → IfOk r R
+pub if_ok_both : {A E : Type 0} (P Q R : A → Type 0) (r : Result A E) → ((a : A) → P a → Q a → R a) → IfOk r P
+    → IfOk r Q → IfOk r R
 if_ok_both P Q R (Ok a) f p q = f a p q
 if_ok_both P Q R (Err e) f p q = p
 
@@ -67,7 +68,8 @@ reached_behind old new event m lines given same defs before turned =
     let setup = before.stands.setup in
     let here : Machine = record m { lines = lines } in
     let after : Machine = turned.after in
-    let turn : Turn (rules_in old) here event turned.environment after = subst (λ (r : Rules). Turn r here event turned.environment after) same turned.turn in
+    let turn : Turn (rules_in old) here event turned.environment after =
+    subst (λ (r : Rules). Turn r here event turned.environment after) same turned.turn in
     let reached : IsReached (rules_in old) (gauge_of old.defs.now) after =
     turn_of old.defs.now old.scripts.now.scripts setup.defined setup.cheap here event turned.environment after
     (relined (rules_in old) (gauge_of old.defs.now) m lines before.reached) turn in

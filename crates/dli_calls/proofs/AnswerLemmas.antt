@@ -21,7 +21,8 @@ use Rattle.dli_calls.specs.declared.answering.Ready.TheVariants as ready
 use Rattle.dli_calls.specs.Readiness.{IfAnswer}
 use Rattle.dli_calls.specs.Replies.{ShowsFound}
 
-pub if_answer : (P Q : Answer → Type 0) (r : Ready) → IfAnswer r P → ((answer : Answer) → P answer → Q answer) → IfAnswer r Q
+pub if_answer : (P Q : Answer → Type 0) (r : Ready) → IfAnswer r P → ((answer : Answer) → P answer → Q answer)
+    → IfAnswer r Q
 if_answer P Q (ready.Answer answer) p f = f answer p
 if_answer P Q (ready.Need resource mode) p f = tt
 
@@ -30,36 +31,44 @@ pub record Names (defs : List MsdbDef) (c : Call) (n : ℕ) (def : MsdbDef) : Ty
   pub same : n ≡ database_of c
   pub there : slice_get defs n ≡ Some def
 
-pub named : (defs list : List MsdbDef) (c : Call) (n from : ℕ) (def : MsdbDef) → list ≡ defs → n ≡ database_of c → from ≡ n → def ≡ get_or list from def → IsMsdbCall defs c → slice_get defs n ≡ Some def
+pub named : (defs list : List MsdbDef) (c : Call) (n from : ℕ) (def : MsdbDef) → list ≡ defs → n ≡ database_of c
+    → from ≡ n → def ≡ get_or list from def → IsMsdbCall defs c → slice_get defs n ≡ Some def
 named defs list c n from def its same place is (other, at, fits) =
     let at_n : slice_get defs n ≡ Some other = ap (λ number. slice_get defs number) same ∙ at in
-    let read : get_or list from def ≡ other = ap (λ one. get_or one from def) its ∙ ap (λ number. get_or defs number def) place ∙ get_or_from_slice_get defs n other def at_n in
+    let read : get_or list from def ≡ other = ap (λ one. get_or one from def) its ∙ ap
+    (λ number. get_or defs number def) place ∙ get_or_from_slice_get defs n other def at_n in
     at_n ∙ ap Some (sym read ∙ sym is)
 
 module _ (defs : Defs) (c : Call) (n : ℕ) (def : MsdbDef) (it : Names defs.msdbs c n def) where
   target : target_of defs (database_of c) ≡ OnMsdb def n
   target =
       subst (λ number. target_of defs number ≡ OnMsdb def n) it.same
-      (ap (λ (found : Option MsdbDef). option_map_or (λ one. OnMsdb one n) found (dedb_target defs (n - length defs.msdbs))) it.there)
+      (ap (λ (found : Option MsdbDef). option_map_or (λ one. OnMsdb one n) found
+      (dedb_target defs (n - length defs.msdbs))) it.there)
 
-  pub needs : (db : Db) (own : Workspace) (held : Resource → Option Mode) → need_of defs db own held c ≡ option_map_or (unless_held held) (msdb_need def n own c) None
+  pub needs : (db : Db) (own : Workspace) (held : Resource → Option Mode)
+      → need_of defs db own held c ≡ option_map_or (unless_held held) (msdb_need def n own c) None
   unfolding need_of
   needs db own held = ap (λ on. need_on on db own held c) target
 
   pub replies : (db : Db) (msdbs : List Msdb) (own : Workspace) → db.msdbs ≡ msdbs
-      → (let segments : Msdb = unwrap_or (slice_get msdbs n) (record { segments = [] }) in reply_to defs db db own c ≡ msdb_reply def n segments segments own c)
+      → (let segments : Msdb = unwrap_or (slice_get msdbs n) (record { segments = [] }) in
+      reply_to defs db db own c ≡ msdb_reply def n segments segments own c)
   unfolding reply_to
   replies db msdbs own same =
       ap (λ on. reply_on on db db own c) target
-      ∙ ap (λ (stored : List Msdb). let segments : Msdb = unwrap_or (slice_get stored n) (record { segments = [] }) in msdb_reply def n segments segments own c) same
+      ∙ ap (λ (stored : List Msdb). let segments : Msdb = unwrap_or (slice_get stored n) (record { segments = [] }) in
+      msdb_reply def n segments segments own c) same
 
   pub looks : (own : Workspace) → looks_unheld defs own c ≡ msdb_looks def n own c
   unfolding looks_unheld
   looks own = ap (λ on. looks_on on own c) target
 
 -- what a get shows is a segment of the database that it names
-pub fits_answer : (defs : List MsdbDef) (c : Call) (n : ℕ) (def : MsdbDef) (answer : Answer) → Names defs c n def → ShowsFound def c answer → FitsAnswer defs c answer
-fits_answer defs (call.Get get hold db ssas) n def answer it shows = λ blank. (def, subst (λ number. slice_get defs number ≡ Some def) it.same it.there, shows blank)
+pub fits_answer : (defs : List MsdbDef) (c : Call) (n : ℕ) (def : MsdbDef) (answer : Answer) → Names defs c n def
+    → ShowsFound def c answer → FitsAnswer defs c answer
+fits_answer defs (call.Get get hold db ssas) n def answer it shows =
+    λ blank. (def, subst (λ number. slice_get defs number ≡ Some def) it.same it.there, shows blank)
 fits_answer defs (call.Fld db key fsas) n def answer it shows = tt
 fits_answer defs (call.Isrt db ssas bytes) n def answer it shows = tt
 fits_answer defs (call.Repl db bytes) n def answer it shows = tt

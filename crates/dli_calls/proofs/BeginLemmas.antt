@@ -6,7 +6,8 @@ use Rattle.fp_model.specs.declared.definitions.MsdbDef.{MsdbDef}
 use Rattle.fp_model.specs.Workspace.{MsdbPosition, no_msdb_position}
 use Rattle.dli_calls.specs.Progress.{FitsPosition}
 
-pub fresh_positions : (defs : List MsdbDef) → replicate (length defs) no_msdb_position ≡ map (λ def. no_msdb_position) defs
+pub fresh_positions : (defs : List MsdbDef) → replicate (length defs) no_msdb_position ≡ map (λ def. no_msdb_position)
+    defs
 fresh_positions [] = refl
 fresh_positions (d ∷ ds) = ap (λ ps. no_msdb_position ∷ ps) (fresh_positions ds)
 
@@ -14,7 +15,8 @@ pub fresh_fit : (defs : List MsdbDef) → AllZip FitsPosition defs (replicate (l
 fresh_fit [] = tt
 fresh_fit (d ∷ ds) = (tt, fresh_fit ds)
 
-pub fresh_all : (n : ℕ) (positions : List MsdbPosition) (defs : List MsdbDef) → positions ≡ replicate n no_msdb_position → n ≡ length defs → positions ≡ replicate (length defs) no_msdb_position
+pub fresh_all : (n : ℕ) (positions : List MsdbPosition) (defs : List MsdbDef) → positions ≡ replicate n no_msdb_position
+    → n ≡ length defs → positions ≡ replicate (length defs) no_msdb_position
 fresh_all n positions defs is e = is ∙ ap (λ m. replicate m no_msdb_position) e
 
 -- ---- results

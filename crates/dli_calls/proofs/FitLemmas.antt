@@ -16,5 +16,7 @@ key_within [] end s = omega arith
 key_within (f ∷ fs) end (is, fits, others) = omega (arith, stand_below (0 + f.length) fs end others)
 
 -- a whole segment has a whole key
-pub key_whole : (def : MsdbDef) (segment : List ℕ) → IsMsdbDef def → length segment ≡ def.length → length (key_of def.fields segment) ≡ key_length def.fields
-key_whole def segment good whole = let within = key_within def.fields def.length good.layout.stand in grind (arith, length-take)
+pub key_whole : (def : MsdbDef) (segment : List ℕ) → IsMsdbDef def → length segment ≡ def.length
+    → length (key_of def.fields segment) ≡ key_length def.fields
+key_whole def segment good whole = let within = key_within def.fields def.length good.layout.stand in
+    grind (arith, length-take)

@@ -23,7 +23,8 @@ same_number : (m n : ℕ) → is_eq (nat_cmp m n) ≡ (m == n)
 same_number m n = grind (arith, nat_tests)
 
 same_bytes : (a b : List ℕ) → is_eq (slice_cmp nat_cmp a b) ≡ same_text a b
-same_bytes a b = same_from_slice_cmp nat_cmp is_eq same_text refl (λ _ _. refl) (λ _ _. refl) (λ x y xs ys o h. grind (arith, nat_tests)) a b _ refl
+same_bytes a b = same_from_slice_cmp nat_cmp is_eq same_text refl (λ _ _. refl) (λ _ _. refl)
+    (λ x y xs ys o h. grind (arith, nat_tests)) a b _ refl
 
 -- two keys are equal in order exactly where they are the same
 level_is_same : (a b : SegmentKey) → is_at (cmp-value.it a) b ≡ same_resource (resource_of a) (resource_of b)
@@ -48,16 +49,20 @@ number-flipped m n = grind (arith, nat_tests)
 
 -- the order of the two says nothing
 flipped : (a b : Resource) → same_resource a b ≡ same_resource b a
-flipped (Segment m k) (Segment n l) = ap (λ first. first && same_text k l) (number-flipped m n) ∙ ap (λ second. (n == m) && second) (text-flipped k l)
+flipped (Segment m k) (Segment n l) = ap (λ first. first && same_text k l) (number-flipped m n) ∙ ap
+    (λ second. (n == m) && second) (text-flipped k l)
 flipped (Segment m k) (Anchor d a) = refl
 flipped (Anchor d a) (Segment m k) = refl
-flipped (Anchor d a) (Anchor e b) = ap (λ first. first && (a == b)) (number-flipped d e) ∙ ap (λ second. (e == d) && second) (number-flipped a b)
+flipped (Anchor d a) (Anchor e b) = ap (λ first. first && (a == b)) (number-flipped d e) ∙ ap
+    (λ second. (e == d) && second) (number-flipped a b)
 
 -- a key stands in the set exactly where it is among its resources
-pub among_is_contained : (keys : List SegmentKey) (key : SegmentKey) → list_any (is_at (cmp-value.it key)) keys ≡ is_among (map resource_of keys) (resource_of key)
+pub among_is_contained : (keys : List SegmentKey) (key : SegmentKey)
+    → list_any (is_at (cmp-value.it key)) keys ≡ is_among (map resource_of keys) (resource_of key)
 among_is_contained [] key = refl
 among_is_contained (x ∷ xs) key =
-    ap (λ b. b || list_any (is_at (cmp-value.it key)) xs) (level_is_same key x ∙ flipped (resource_of key) (resource_of x))
+    ap (λ b. b || list_any (is_at (cmp-value.it key)) xs)
+    (level_is_same key x ∙ flipped (resource_of key) (resource_of x))
     ∙ ap (λ b. same_resource (resource_of x) (resource_of key) || b) (among_is_contained xs key)
 
 -- keys that are equal in order are the same resource
@@ -78,7 +83,8 @@ same_resources (Anchor d a) (Anchor e b) same = grind (arith, nat_tests)
 
 -- with a key put among others, a resource is among them exactly where it is that key or was among them
 pub among-insert : (keys : List SegmentKey) (key : SegmentKey) (r : Resource)
-    → is_among (map resource_of (insert_key cmp-value.it keys key)) r ≡ (same_resource (resource_of key) r || is_among (map resource_of keys) r)
+    → is_among (map resource_of (insert_key cmp-value.it keys key)) r ≡
+    (same_resource (resource_of key) r || is_among (map resource_of keys) r)
 among-insert [] key r = refl
 among-insert (x ∷ xs) key r = by (cmp-value.it key x) refl (among-insert xs key r)
   where
@@ -93,12 +99,16 @@ among-insert (x ∷ xs) key r = by (cmp-value.it key x) refl (among-insert xs ke
     twice false b = refl
 
     by : (o : Ordering) → cmp-value.it key x ≡ o
-        → is_among (map resource_of (insert_key cmp-value.it xs key)) r ≡ (same_resource (resource_of key) r || is_among (map resource_of xs) r)
+        → is_among (map resource_of (insert_key cmp-value.it xs key)) r ≡
+        (same_resource (resource_of key) r || is_among (map resource_of xs) r)
         → is_among (map resource_of (match_ordering o (key ∷ x ∷ xs) (x ∷ xs) (x ∷ insert_key cmp-value.it xs key))) r
         ≡ (same_resource (resource_of key) r || (same_resource (resource_of x) r || is_among (map resource_of xs) r))
     by Less is later = refl
     by Equal is later =
-        let same : resource_of key ≡ resource_of x = same_resources (resource_of key) (resource_of x) (sym (level_is_same key x) ∙ ap is_eq is) in
+        let same : resource_of key ≡ resource_of x =
+        same_resources (resource_of key) (resource_of x) (sym (level_is_same key x) ∙ ap is_eq is) in
         twice (same_resource (resource_of x) r) (is_among (map resource_of xs) r)
-        ∙ ap (λ other. same_resource other r || (same_resource (resource_of x) r || is_among (map resource_of xs) r)) (sym same)
-    by Greater is later = swapped (same_resource (resource_of key) r) (same_resource (resource_of x) r) (is_among (map resource_of xs) r) _ later
+        ∙ ap (λ other. same_resource other r || (same_resource (resource_of x) r || is_among (map resource_of xs) r))
+        (sym same)
+    by Greater is later = swapped (same_resource (resource_of key) r) (same_resource (resource_of x) r)
+        (is_among (map resource_of xs) r) _ later

@@ -10,8 +10,8 @@ use Rattle.fp_model.specs.MsdbCalls.{is_put_or_dropped}
 use Rattle.fp_model.specs.Waiting.{same_resource}
 use Rattle.fp_model.specs.Workspace.{MsdbPosition, Workspace}
 
--- What it keeps to itself, the keys of main storage databases whose segments its queue inserts or deletes, and its notes:
--- how many entries stood at each unheld look, oldest first.
+-- What it keeps to itself, the keys of main storage databases whose segments its queue inserts or deletes, and its
+-- notes: how many entries stood at each unheld look, oldest first.
 pub record Progress : Type 0 where
   pub own : Workspace
   pub changed : List Resource

@@ -68,7 +68,8 @@ fn database_for<'a>(call: &Call, msdbs: &'a MsdbStore, defs: &'a Defs) -> Databa
 
 // Whether a call looks without a hold.
 fn looks(call: &Call, changed: bool) -> bool
-    ensures { (def : DefOf) (msdb : ℕ) (own : Workspace) → is_changed def msdb own call.now ≡ changed → result ≡ msdb_looks def msdb own call.now }
+    ensures { (def : DefOf) (msdb : ℕ) (own : Workspace) → is_changed def msdb own call.now ≡ changed
+        → result ≡ msdb_looks def msdb own call.now }
 {
     match call {
         Call::Get { get, hold, .. } => !hold && !matches!(get, Get::NextInParent),
@@ -133,7 +134,8 @@ impl Database<'_> {
     // The key that a call has to hold Exclusive.
     fn needed_key<'a>(&self, call: &'a Call, changed: bool) -> Option<&'a [u8]>
         ensures { (own : Workspace) → is_changed self.now.def.now self.now.number own call.now ≡ changed
-            → option_and_then (exclusively self.now.def.now self.now.number) (option_copied result) ≡ msdb_need self.now.def.now self.now.number own call.now }
+            → option_and_then (exclusively self.now.def.now self.now.number) (option_copied result) ≡ msdb_need
+            self.now.def.now self.now.number own call.now }
     {
         match call {
             Call::Get {
@@ -163,7 +165,8 @@ impl Database<'_> {
 
         ensures { (own : Workspace) → is_changed self.now.def.now self.now.number own call.now ≡ changed
             → IfOk result (λ resource. option_map needed_exclusive resource
-            ≡ option_map_or (unless_held ((standing locks.now).holds region)) (msdb_need self.now.def.now self.now.number own call.now) None) }
+            ≡ option_map_or (unless_held ((standing locks.now).holds region))
+            (msdb_need self.now.def.now self.now.number own call.now) None) }
     {
         let Some(key) = self.needed_key(call, changed) else {
             return Ok(None);
@@ -197,15 +200,18 @@ impl Database<'_> {
         requires changes { (key : ListOf ℕ) → is_among work.old.changed (Segment self.now.number key)
             ≡ is_put_or_dropped self.now.def.now self.now.number work.old.own key }
         ensures need { IfOk result (λ ready. needed_in ready
-            ≡ option_map_or (unless_held ((standing locks.now).holds region)) (msdb_need self.now.def.now self.now.number work.old.own call.now) None) }
+            ≡ option_map_or (unless_held ((standing locks.now).holds region))
+            (msdb_need self.now.def.now self.now.number work.old.own call.now) None) }
         ensures answer { IfOk result (λ ready. IfAnswer ready (λ answer.
             msdb_reply self.now.def.now self.now.number (segments_in self.now) (segments_in self.now) work.old.own call.now ≡ record { answer = answer; own = work.new.own })) }
         ensures notes { IfOk result (λ ready. IfAnswer ready (λ answer. work.new.notes
-            ≡ (if msdb_looks self.now.def.now self.now.number work.old.own call.now then work.old.notes ++ count ∷ [] else work.old.notes))) }
+            ≡ (if msdb_looks self.now.def.now self.now.number work.old.own call.now then work.old.notes ++ count ∷ []
+            else work.old.notes))) }
         ensures shown { IfOk result (λ ready. IfAnswer ready (ShowsFound self.now.def.now call.now)) }
         ensures changes { work.new.own.changes ≡ work.old.own.changes }
         ensures inserts { work.new.own.inserts ≡ work.old.own.inserts }
-        ensures of { (defs : DefsOf) → slice_get defs.msdbs self.now.number ≡ Some self.now.def.now → IsWorkOf defs work.old → IsWorkOf defs work.new }
+        ensures of { (defs : DefsOf) → slice_get defs.msdbs self.now.number ≡ Some self.now.def.now
+            → IsWorkOf defs work.old → IsWorkOf defs work.new }
         ensures needing { IfOk result (λ ready. OnNeed ready (work.new ≡ work.old)) }
         ensures err { OnErr result (work.new ≡ work.old) }
     {
@@ -245,7 +251,8 @@ pub fn answer(
     // On any database with these segments: a lock is needed exactly where the definitions say so, by what the region
     // holds; else the answer and what the transaction keeps are theirs.
     ensures need { (db : DbOf) → db.msdbs ≡ msdbs.now.msdbs
-        → IfOk result (λ ready. needed_in ready ≡ need_of defs.now db work.old.own ((standing locks.now).holds region) call.now) }
+        → IfOk result (λ ready. needed_in ready ≡ need_of defs.now db work.old.own ((standing locks.now).holds region)
+        call.now) }
     ensures answer { (db : DbOf) → db.msdbs ≡ msdbs.now.msdbs → IfOk result (λ ready. IfAnswer ready (λ answer.
         reply_to defs.now db db work.old.own call.now ≡ record { answer = answer; own = work.new.own })) }
     ensures notes { IfOk result (λ ready. IfAnswer ready (λ answer.

@@ -35,7 +35,8 @@ impl Database<'_> {
     // The first segment with a greater key, or the first of all.
     pub(crate) fn after(&self, key: Option<&[u8]>) -> Option<&[u8]>
         requires { IsDatabase self.now }
-        ensures segment { option_copied result ≡ segment_after self.now.def.now (segments_in self.now) (option_copied key.entry) }
+        ensures segment { option_copied result ≡ segment_after self.now.def.now (segments_in self.now)
+            (option_copied key.entry) }
         ensures whole { IfSome result (λ segment. length segment.now ≡ self.now.def.now.length) }
     {
         self.store.after(self.number, key)

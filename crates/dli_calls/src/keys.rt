@@ -83,7 +83,8 @@ impl Keys {
     // Puts a key among them, if there is one.
     pub(crate) fn put_some(&mut self, key: Option<SegmentKey>) -> Result<(), AllocError>
         ensures ok { OnOk result ((resource : ResourceOf)
-            → is_among self.new resource ≡ (is_marked (option_map resource_of key) resource || is_among self.old resource)) }
+            → is_among self.new resource ≡ (is_marked (option_map resource_of key) resource || is_among self.old
+            resource)) }
         ensures err { OnErr result (self.new ≡ self.old) }
     {
         match key {

@@ -50,7 +50,8 @@ pub(crate) fn letters_on(
     requires list { IsFsaList fsas.now }
     requires whole { length segment.now ≡ def.now.length }
     ensures letters { IfOk result (λ tried. tried.letters ≡ (list_on def.now (fsas_in fsas.now) segment.now).letters) }
-    ensures good { IfOk result (λ tried. tried.good ≡ all_blank (list_on def.now (fsas_in fsas.now) segment.now).letters) }
+    ensures good { IfOk result (λ tried. tried.good ≡ all_blank
+        (list_on def.now (fsas_in fsas.now) segment.now).letters) }
 {
     let mut list = arguments(alloc, fsas)?;
     let mut copy = Vec::from_slice(alloc, segment)?;

@@ -82,7 +82,8 @@ impl Database<'_> {
     fn unique(&self, alloc: Global, hold: bool, key: Option<&[u8]>) -> Result<Reply, AllocError>
         requires { IsDatabase self.now }
         ensures reply { IfOk result (λ reply. (own : Workspace) → replied_by self.now.def.now self.now.number reply own
-            ≡ get_reply self.now.def.now self.now.number (segments_in self.now) (segments_in self.now) own get.Unique hold (option_copied key.entry)) }
+            ≡ get_reply self.now.def.now self.now.number (segments_in self.now) (segments_in self.now) own get.Unique
+            hold (option_copied key.entry)) }
         ensures change { IfOk result (λ reply. FitsChange self.now.def.now self.now.number reply.change) }
         ensures shown { IfOk result (λ reply. ShowsSegment self.now.def.now reply.answer) }
     {
@@ -102,9 +103,11 @@ impl Database<'_> {
         position: &Position,
     ) -> Result<Reply, AllocError>
         requires { IsDatabase self.now }
-        ensures reply { IfOk result (λ reply. (own : Workspace) → position_of self.now.def.now self.now.number own ≡ position.now
+        ensures reply { IfOk result (λ reply. (own : Workspace)
+            → position_of self.now.def.now self.now.number own ≡ position.now
             → replied_by self.now.def.now self.now.number reply own
-            ≡ get_reply self.now.def.now self.now.number (segments_in self.now) (segments_in self.now) own get hold (option_copied key.entry)) }
+            ≡ get_reply self.now.def.now self.now.number (segments_in self.now) (segments_in self.now) own get hold
+            (option_copied key.entry)) }
         ensures change { IfOk result (λ reply. FitsChange self.now.def.now self.now.number reply.change) }
         ensures shown { IfOk result (λ reply. ShowsSegment self.now.def.now reply.answer) }
     {
@@ -127,7 +130,8 @@ impl Database<'_> {
         requires database { IsDatabase self.now }
         requires key { FitsKey key.now self.now.def.now }
         requires list { IsFsaList fsas.now }
-        ensures reply { IfOk result (λ reply. (own : Workspace) → is_put_or_dropped self.now.def.now self.now.number own key.now ≡ changed
+        ensures reply { IfOk result (λ reply. (own : Workspace)
+            → is_put_or_dropped self.now.def.now self.now.number own key.now ≡ changed
             → replied_by self.now.def.now self.now.number reply own
             ≡ (if changed then refused self.now.def.now self.now.number own (codes "XP")
             else fld_reply self.now.def.now self.now.number own key.now fsas.now (segment_of self.now.def.now (segments_in self.now) key.now))) }
@@ -164,9 +168,12 @@ impl Database<'_> {
         changed: bool,
     ) -> Result<Reply, AllocError>
         requires { FitsSegment bytes.now self.now.def.now }
-        ensures reply { IfOk result (λ reply. (own : Workspace) → option_map_or (is_put_or_dropped self.now.def.now self.now.number own) (option_copied held.entry) false ≡ changed
+        ensures reply { IfOk result (λ reply. (own : Workspace)
+            → option_map_or (is_put_or_dropped self.now.def.now self.now.number own) (option_copied held.entry) false ≡
+            changed
             → replied_by self.now.def.now self.now.number reply own
-            ≡ if_held self.now.def.now self.now.number own (repl_reply self.now.def.now self.now.number own bytes.now) (option_copied held.entry)) }
+            ≡ if_held self.now.def.now self.now.number own (repl_reply self.now.def.now self.now.number own bytes.now)
+            (option_copied held.entry)) }
         ensures change { IfOk result (λ reply. FitsChange self.now.def.now self.now.number reply.change) }
     {
         let Some(key) = held else {
@@ -190,7 +197,9 @@ impl Database<'_> {
     fn isrt(&self, alloc: Global, bytes: &Bytes, changed: bool) -> Result<Reply, AllocError>
         requires database { IsDatabase self.now }
         requires segment { FitsSegment bytes.now self.now.def.now }
-        ensures reply { IfOk result (λ reply. (own : Workspace) → is_put_or_dropped self.now.def.now self.now.number own (key_of self.now.def.now.fields bytes.now) ≡ changed
+        ensures reply { IfOk result (λ reply. (own : Workspace)
+            → is_put_or_dropped self.now.def.now self.now.number own (key_of self.now.def.now.fields bytes.now) ≡
+            changed
             → replied_by self.now.def.now self.now.number reply own
             ≡ isrt_reply self.now.def.now self.now.number (segments_in self.now) own bytes.now) }
         ensures change { IfOk result (λ reply. FitsChange self.now.def.now self.now.number reply.change) }
@@ -215,7 +224,9 @@ impl Database<'_> {
 
     fn dlet(&self, alloc: Global, held: Option<&[u8]>, changed: bool) -> Result<Reply, AllocError>
         requires { ForSome (option_copied held) (λ key. FitsKey key self.now.def.now) }
-        ensures reply { IfOk result (λ reply. (own : Workspace) → option_map_or (is_put_or_dropped self.now.def.now self.now.number own) (option_copied held.entry) false ≡ changed
+        ensures reply { IfOk result (λ reply. (own : Workspace)
+            → option_map_or (is_put_or_dropped self.now.def.now self.now.number own) (option_copied held.entry) false ≡
+            changed
             → replied_by self.now.def.now self.now.number reply own
             ≡ (if not self.now.def.now.dynamic then refused self.now.def.now self.now.number own (codes "AM")
             else if_held self.now.def.now self.now.number own (dlet_reply self.now.def.now self.now.number own) (option_copied held.entry))) }
@@ -256,7 +267,8 @@ impl Database<'_> {
         requires position { FitsPosition self.now.def.now (position_of self.now.def.now self.now.number work.now.own) }
         requires changed { is_changed self.now.def.now self.now.number work.now.own call.now ≡ changed }
         ensures reply { IfOk result (λ reply. replied_by self.now.def.now self.now.number reply work.now.own
-            ≡ msdb_reply self.now.def.now self.now.number (segments_in self.now) (segments_in self.now) work.now.own call.now) }
+            ≡ msdb_reply self.now.def.now self.now.number (segments_in self.now) (segments_in self.now) work.now.own
+            call.now) }
         ensures change { IfOk result (λ reply. FitsChange self.now.def.now self.now.number reply.change) }
         ensures shown { IfOk result (λ reply. ShowsFound self.now.def.now call.now reply.answer) }
     {

@@ -65,8 +65,8 @@ fn drop_last<T: Drop>(list: &mut List<T>)
     let _ = list.pop();
 }
 
-/// What one transaction keeps to itself until it commits: its positions, its deferred calls, and its notes. Its region's
-/// locks stand elsewhere.
+/// What one transaction keeps to itself until it commits: its positions, its deferred calls, and its notes. Its
+/// region's locks stand elsewhere.
 #[derive(Debug, Drop)]
 pub struct Work {
     positions: Vec<Position>,
@@ -161,7 +161,8 @@ impl Work {
         ensures own { OnOk result (self.new.own ≡ own_behind def.now msdb change self.old.own) }
         ensures notes { OnOk result (self.new.notes ≡ noted note self.old.notes) }
         ensures changed { OnOk result ((resource : ResourceOf)
-            → is_among self.new.changed resource ≡ (is_marked (mark_in def.now change) resource || is_among self.old.changed resource)) }
+            → is_among self.new.changed resource ≡ (is_marked (mark_in def.now change) resource || is_among
+            self.old.changed resource)) }
         ensures err { OnErr result (self.new ≡ self.old) }
     {
         self.note(note)?;
@@ -187,7 +188,8 @@ impl Work {
 
     // Takes a note back.
     fn forget(&mut self, note: Option<u64>)
-        ensures { (notes : ListOf ℕ) → self.old.notes ≡ noted note notes → self.new ≡ record self.old { notes = notes } }
+        ensures { (notes : ListOf ℕ) → self.old.notes ≡ noted note notes
+            → self.new ≡ record self.old { notes = notes } }
     {
         if note.is_some() {
             drop_last(&mut self.notes);
@@ -199,7 +201,8 @@ impl Work {
         ensures own { OnOk result (self.new.own ≡ own_behind def.now msdb change self.old.own) }
         ensures notes { OnOk result (self.new.notes ≡ self.old.notes) }
         ensures changed { OnOk result ((resource : ResourceOf)
-            → is_among self.new.changed resource ≡ (is_marked (mark_in def.now change) resource || is_among self.old.changed resource)) }
+            → is_among self.new.changed resource ≡ (is_marked (mark_in def.now change) resource || is_among
+            self.old.changed resource)) }
         ensures err { OnErr result (self.new ≡ self.old) }
     {
         match change {
@@ -228,7 +231,10 @@ impl Work {
     // Is at a segment, and holds it or not.
     fn find(&mut self, msdb: u8, key: Bytes, hold: bool)
         requires { msdb < length self.old.own.msdbs }
-        ensures { self.new ≡ record self.old { own = record self.old.own { msdbs = slice_set self.old.own.msdbs msdb (record { key = Some key; held = hold }) } } }
+        ensures { self.new ≡ record self.old {
+          own =
+              record self.old.own { msdbs = slice_set self.old.own.msdbs msdb (record { key = Some key; held = hold }) };
+        } }
     {
         self.positions[msdb as usize] = Position {
             key: Some(key),
@@ -238,10 +244,12 @@ impl Work {
 
     // Puts a call at the end of the queue, and marks the key whose segment it inserts or deletes.
     fn queue(&mut self, def: &MsdbDef, deferred: Deferred) -> Result<(), AllocError>
-        ensures own { OnOk result (self.new.own ≡ record self.old.own { deferred = self.old.own.deferred ++ deferred ∷ [] }) }
+        ensures own { OnOk result (self.new.own ≡ record self.old.own
+            { deferred = self.old.own.deferred ++ deferred ∷ [] }) }
         ensures notes { self.new.notes ≡ self.old.notes }
         ensures changed { OnOk result ((resource : ResourceOf)
-            → is_among self.new.changed resource ≡ (is_marked (mark_of def.now deferred) resource || is_among self.old.changed resource)) }
+            → is_among self.new.changed resource ≡ (is_marked (mark_of def.now deferred) resource || is_among
+            self.old.changed resource)) }
         ensures err { OnErr result (self.new ≡ self.old) }
     {
         let mark = marked_by(*self.positions.allocator(), def, &deferred)?;

@@ -41,63 +41,102 @@ module _ (types : List SegDef) where
   seen_rows rows = map (map (seen_as types)) rows
 
   abbrev pub all_below : ℕ → Node → List Occurrence
-  all_below type node = at_end (out-Node node).bytes ∷ rows_in_order (child_types types type) (orders (out-Node node).children)
+  all_below type node = at_end (out-Node node).bytes ∷ rows_in_order (child_types types type)
+      (orders (out-Node node).children)
 
-  pub order_is : (type : ℕ) (node : Node) → node_order types node type ≡ under (direct type (node_key types type node)) (all_below type node)
-  order_is type node = ap (λ (f : ℕ → List Occurrence). f type) (fold_out-Node (ℕ → List Occurrence) (node_step types) node)
+  pub order_is : (type : ℕ) (node : Node) → node_order types node type ≡ under (direct type (node_key types type node))
+      (all_below type node)
+  order_is type node = ap (λ (f : ℕ → List Occurrence). f type)
+      (fold_out-Node (ℕ → List Occurrence) (node_step types) node)
 
-  find_node : (aim : Search) (type : ℕ) (node : Node) → find (looks_for aim) (node_order types node type) ≡ found_below (direct type (node_key types type node)) (all_below type node) (entered aim (direct type (node_key types type node)))
-  find_node aim type node = ap (find (looks_for aim)) (order_is type node) ∙ find_under aim (direct type (node_key types type node)) (all_below type node)
+  find_node : (aim : Search) (type : ℕ) (node : Node)
+      → find (looks_for aim) (node_order types node type) ≡ found_below (direct type (node_key types type node))
+      (all_below type node) (entered aim (direct type (node_key types type node)))
+  find_node aim type node = ap (find (looks_for aim)) (order_is type node) ∙ find_under aim
+      (direct type (node_key types type node)) (all_below type node)
 
   -- nothing is found in a segment that isn't entered
-  pub none_left : (aim : Search) (type : ℕ) (node : Node) → IsLeft aim type (node_key types type node) → find (looks_for aim) (node_order types node type) ≡ None
-  none_left aim type node left = find_node aim type node ∙ ap (found_below (direct type (node_key types type node)) (all_below type node)) left
+  pub none_left : (aim : Search) (type : ℕ) (node : Node) → IsLeft aim type (node_key types type node)
+      → find (looks_for aim) (node_order types node type) ≡ None
+  none_left aim type node left = find_node aim type node ∙ ap
+      (found_below (direct type (node_key types type node)) (all_below type node)) left
 
-  pub node_none : (aim : Search) (type : ℕ) (node : Node) (key : List ℕ) (entering : Option Aim) → key ≡ node_key types type node → option_map aim_of entering ≡ entered aim (direct type key) → entering ≡ None
+  pub node_none : (aim : Search) (type : ℕ) (node : Node) (key : List ℕ) (entering : Option Aim)
+      → key ≡ node_key types type node → option_map aim_of entering ≡ entered aim (direct type key) → entering ≡ None
       → None ≡ find (looks_for aim) (node_order types node type)
   node_none aim type node key entering same is none =
-      sym (none_left aim type node (subst (λ (k : List ℕ). entered aim (direct type k) ≡ None) same (sym is ∙ ap (option_map aim_of) none)))
+      sym (none_left aim type node (subst (λ (k : List ℕ). entered aim (direct type k) ≡ None) same
+      (sym is ∙ ap (option_map aim_of) none)))
 
-  pub node_some : (aim : Search) (type : ℕ) (node : Node) (key : List ℕ) (entering : Option Aim) (below : Aim) → key ≡ node_key types type node → option_map aim_of entering ≡ entered aim (direct type key) → entering ≡ Some below
-      → option_map (one_down (direct type key)) (find (looks_for (aim_of below)) (all_below type node)) ≡ find (looks_for aim) (node_order types node type)
+  pub node_some : (aim : Search) (type : ℕ) (node : Node) (key : List ℕ) (entering : Option Aim) (below : Aim)
+      → key ≡ node_key types type node → option_map aim_of entering ≡ entered aim (direct type key)
+      → entering ≡ Some below
+      → option_map (one_down (direct type key)) (find (looks_for (aim_of below)) (all_below type node)) ≡ find
+      (looks_for aim) (node_order types node type)
   node_some aim type node key entering below same is some =
       let here : entered aim (direct type key) ≡ Some (aim_of below) = sym is ∙ ap (option_map aim_of) some in
-      subst (λ (k : List ℕ). entered aim (direct type k) ≡ Some (aim_of below) → option_map (one_down (direct type k)) (find (looks_for (aim_of below)) (all_below type node)) ≡ find (looks_for aim) (node_order types node type)) (sym same)
-      (λ e. sym (find_node aim type node ∙ ap (found_below (direct type (node_key types type node)) (all_below type node)) e)) here
+      subst (λ (k : List ℕ). entered aim (direct type k) ≡ Some (aim_of below)
+      → option_map (one_down (direct type k)) (find (looks_for (aim_of below)) (all_below type node)) ≡ find
+      (looks_for aim) (node_order types node type)) (sym same)
+      (λ e. sym (find_node aim type node ∙ ap (found_below (direct type (node_key types type node))
+      (all_below type node)) e)) here
 
   -- ---- shapes
 
   abbrev in_shape : ℕ → Node → Bool
   in_shape type node = (seen_as types node type).in_shape
 
-  shape_is : (type : ℕ) (node : Node) → in_shape type node ≡ (has_length types type (out-Node node).bytes && are_rows types (child_types types type) (seen_rows (out-Node node).children))
+  shape_is : (type : ℕ) (node : Node) → in_shape type node ≡
+      (has_length types type (out-Node node).bytes && are_rows types (child_types types type)
+      (seen_rows (out-Node node).children))
   shape_is type node = ap (λ (f : ℕ → Seen). (f type).in_shape) (fold_out-Node (ℕ → Seen) (seen_step types) node)
 
-  pub rows_shape : (type : ℕ) (node : Node) → in_shape type node ≡ true → are_rows types (child_types types type) (seen_rows (out-Node node).children) ≡ true
-  rows_shape type node e = second_of (has_length types type (out-Node node).bytes) (are_rows types (child_types types type) (seen_rows (out-Node node).children)) (sym (shape_is type node) ∙ e)
+  pub rows_shape : (type : ℕ) (node : Node) → in_shape type node ≡ true
+      → are_rows types (child_types types type) (seen_rows (out-Node node).children) ≡ true
+  rows_shape type node e = second_of (has_length types type (out-Node node).bytes)
+      (are_rows types (child_types types type) (seen_rows (out-Node node).children)) (sym (shape_is type node) ∙ e)
 
   bytes_are : (type : ℕ) (node : Node) → (seen_as types node type).bytes ≡ (out-Node node).bytes
   bytes_are type node = ap (λ (f : ℕ → Seen). (f type).bytes) (fold_out-Node (ℕ → Seen) (seen_step types) node)
 
-  keys_seen : (type : ℕ) (row : List Node) → map (λ (seen : ℕ → Seen). key_in types type (seen type).bytes) (map (seen_as types) row) ≡ map (node_key types type) row
+  keys_seen : (type : ℕ) (row : List Node) → map (λ (seen : ℕ → Seen). key_in types type (seen type).bytes)
+      (map (seen_as types) row) ≡ map (node_key types type) row
   keys_seen type [] = refl
-  keys_seen type (n ∷ ns) = ap (λ (b : List ℕ). key_in types type b ∷ map (λ (seen : ℕ → Seen). key_in types type (seen type).bytes) (map (seen_as types) ns)) (bytes_are type n) ∙ ap (λ (ks : List (List ℕ)). node_key types type n ∷ ks) (keys_seen type ns)
+  keys_seen type (n ∷ ns) = ap (λ (b : List ℕ). key_in types type b ∷ map
+      (λ (seen : ℕ → Seen). key_in types type (seen type).bytes) (map (seen_as types) ns)) (bytes_are type n) ∙ ap
+      (λ (ks : List (List ℕ)). node_key types type n ∷ ks) (keys_seen type ns)
 
-  pub row_ascends : (type : ℕ) (row : List Node) → is_row types type (map (seen_as types) row) ≡ true → ascend (map (node_key types type) row) ≡ true
-  row_ascends type row e = sym (ap ascend (keys_seen type row)) ∙ second_of (list_all (λ (seen : ℕ → Seen). (seen type).in_shape) (map (seen_as types) row)) (ascend (map (λ (seen : ℕ → Seen). key_in types type (seen type).bytes) (map (seen_as types) row))) e
+  pub row_ascends : (type : ℕ) (row : List Node) → is_row types type (map (seen_as types) row) ≡ true
+      → ascend (map (node_key types type) row) ≡ true
+  row_ascends type row e = sym (ap ascend (keys_seen type row)) ∙ second_of
+      (list_all (λ (seen : ℕ → Seen). (seen type).in_shape) (map (seen_as types) row))
+      (ascend (map (λ (seen : ℕ → Seen). key_in types type (seen type).bytes) (map (seen_as types) row))) e
 
-  all_in : (type : ℕ) (row : List Node) → list_all (λ (seen : ℕ → Seen). (seen type).in_shape) (map (seen_as types) row) ≡ true → AllByRecursion (λ n. in_shape type n ≡ true) row
+  all_in : (type : ℕ) (row : List Node) → list_all (λ (seen : ℕ → Seen). (seen type).in_shape) (map (seen_as types) row)
+      ≡ true → AllByRecursion (λ n. in_shape type n ≡ true) row
   all_in type [] e = tt
-  all_in type (n ∷ ns) e = (first_of (in_shape type n) (list_all (λ (seen : ℕ → Seen). (seen type).in_shape) (map (seen_as types) ns)) e, all_in type ns (second_of (in_shape type n) (list_all (λ (seen : ℕ → Seen). (seen type).in_shape) (map (seen_as types) ns)) e))
+  all_in type (n ∷ ns) e = (
+    first_of (in_shape type n)
+        (list_all (λ (seen : ℕ → Seen). (seen type).in_shape) (map (seen_as types) ns)) e,
+    all_in type ns (second_of (in_shape type n) (list_all (λ (seen : ℕ → Seen). (seen type).in_shape)
+        (map (seen_as types) ns)) e),
+  )
 
-  pub all_in_shape : (type : ℕ) (row : List Node) → is_row types type (map (seen_as types) row) ≡ true → AllByRecursion (λ n. in_shape type n ≡ true) row
+  pub all_in_shape : (type : ℕ) (row : List Node) → is_row types type (map (seen_as types) row) ≡ true
+      → AllByRecursion (λ n. in_shape type n ≡ true) row
   all_in_shape type row e =
-      all_in type row (first_of (list_all (λ (seen : ℕ → Seen). (seen type).in_shape) (map (seen_as types) row)) (ascend (map (λ (seen : ℕ → Seen). key_in types type (seen type).bytes) (map (seen_as types) row))) e)
+      all_in type row (first_of (list_all (λ (seen : ℕ → Seen). (seen type).in_shape) (map (seen_as types) row))
+      (ascend (map (λ (seen : ℕ → Seen). key_in types type (seen type).bytes) (map (seen_as types) row))) e)
 
-  pub twin_shape : (type : ℕ) (row : List Node) (i : ℕ) (node : Node) → is_row types type (map (seen_as types) row) ≡ true → i < length row → node ≡ get_or row i node → in_shape type node ≡ true
+  pub twin_shape : (type : ℕ) (row : List Node) (i : ℕ) (node : Node)
+      → is_row types type (map (seen_as types) row) ≡ true → i < length row → node ≡ get_or row i node
+      → in_shape type node ≡ true
   twin_shape type row i node e within is =
       subst (λ (n : Node). in_shape type n ≡ true) (sym is)
-      (all_at (λ n. in_shape type n ≡ true) row i node (all_in type row (first_of (list_all (λ (seen : ℕ → Seen). (seen type).in_shape) (map (seen_as types) row)) (ascend (map (λ (seen : ℕ → Seen). key_in types type (seen type).bytes) (map (seen_as types) row))) e)) within)
+      (all_at (λ n. in_shape type n ≡ true) row i node
+      (all_in type row (first_of (list_all (λ (seen : ℕ → Seen). (seen type).in_shape) (map (seen_as types) row))
+      (ascend (map (λ (seen : ℕ → Seen). key_in types type (seen type).bytes) (map (seen_as types) row))) e))
+      within)
 
 -- ---- lists, piece by piece
 
@@ -106,33 +145,46 @@ module _ {X Y : Type 0} (p : Y → Bool) (f : X → List Y) where
   found_from at xs = find p (flat_map f (drop at xs))
 
   piece : (x : X) (xs : List X) → find p (f x) ≡ None → find p (flat_map f (x ∷ xs)) ≡ find p (flat_map f xs)
-  piece x xs none = find-append p (f x) (flat_map f xs) ∙ ap (λ (o : Option Y). option_or o (find p (flat_map f xs))) none
+  piece x xs none = find-append p (f x) (flat_map f xs) ∙ ap (λ (o : Option Y). option_or o (find p (flat_map f xs)))
+      none
 
   here : (x : X) (xs : List X) (y : Y) → find p (f x) ≡ Some y → find p (flat_map f (x ∷ xs)) ≡ Some y
-  here x xs y some = find-append p (f x) (flat_map f xs) ∙ ap (λ (o : Option Y). option_or o (find p (flat_map f xs))) some
+  here x xs y some = find-append p (f x) (flat_map f xs) ∙ ap (λ (o : Option Y). option_or o (find p (flat_map f xs)))
+      some
 
-  all_none : (xs : List X) → ((i : ℕ) (d : X) → i < length xs → find p (f (slice_index_or xs i d)) ≡ None) → find p (flat_map f xs) ≡ None
+  all_none : (xs : List X) → ((i : ℕ) (d : X) → i < length xs → find p (f (slice_index_or xs i d)) ≡ None)
+      → find p (flat_map f xs) ≡ None
   all_none [] h = refl
-  all_none (x ∷ xs) h = piece x xs (h 0 x (omega arith)) ∙ all_none xs (λ i d within. h (suc i) d (omega (arith, within)))
+  all_none (x ∷ xs) h = piece x xs (h 0 x (omega arith)) ∙ all_none xs
+      (λ i d within. h (suc i) d (omega (arith, within)))
 
-  pub skipped : (n : ℕ) (xs : List X) → n ≤ length xs → ((i : ℕ) (d : X) → i < n → find p (f (slice_index_or xs i d)) ≡ None) → find p (flat_map f xs) ≡ found_from n xs
+  pub skipped : (n : ℕ) (xs : List X) → n ≤ length xs
+      → ((i : ℕ) (d : X) → i < n → find p (f (slice_index_or xs i d)) ≡ None) → find p (flat_map f xs) ≡ found_from n xs
   skipped zero xs within h = refl
   skipped (suc n) [] within h = absurd (omega (arith, within))
-  skipped (suc n) (x ∷ xs) within h = piece x xs (h 0 x (omega arith)) ∙ skipped n xs (omega (arith, within)) (λ i d lt. h (suc i) d (omega (arith, lt)))
+  skipped (suc n) (x ∷ xs) within h = piece x xs (h 0 x (omega arith)) ∙ skipped n xs (omega (arith, within))
+      (λ i d lt. h (suc i) d (omega (arith, lt)))
 
-  pub none_from : (n : ℕ) (xs : List X) → ((i : ℕ) (d : X) → n ≤ i → i < length xs → find p (f (slice_index_or xs i d)) ≡ None) → found_from n xs ≡ None
+  pub none_from : (n : ℕ) (xs : List X) → ((i : ℕ) (d : X) → n ≤ i → i < length xs
+      → find p (f (slice_index_or xs i d)) ≡ None) → found_from n xs ≡ None
   none_from zero xs h = all_none xs (λ i d within. h i d (omega arith) within)
   none_from (suc n) [] h = refl
-  none_from (suc n) (x ∷ xs) h = none_from n xs (λ i d low within. h (suc i) d (omega (arith, low)) (omega (arith, within)))
+  none_from (suc n) (x ∷ xs) h = none_from n xs (λ i d low within. h (suc i) d (omega (arith, low))
+      (omega (arith, within)))
 
   opened : (at : ℕ) (xs : List X) (x : X) → at < length xs → x ≡ get_or xs at x → drop at xs ≡ x ∷ drop (at + 1) xs
-  opened at xs x within is = drop-cons xs at x within ∙ ap (λ (y : X). y ∷ drop (suc at) xs) (sym is) ∙ ap (λ (n : ℕ). x ∷ drop n xs) (sym (add-one at))
+  opened at xs x within is = drop-cons xs at x within ∙ ap (λ (y : X). y ∷ drop (suc at) xs) (sym is) ∙ ap
+      (λ (n : ℕ). x ∷ drop n xs) (sym (add-one at))
 
-  pub found_next : (at : ℕ) (xs : List X) (x : X) → at < length xs → x ≡ get_or xs at x → find p (f x) ≡ None → found_from at xs ≡ found_from (at + 1) xs
-  found_next at xs x within is none = ap (λ (ys : List X). find p (flat_map f ys)) (opened at xs x within is) ∙ piece x (drop (at + 1) xs) none
+  pub found_next : (at : ℕ) (xs : List X) (x : X) → at < length xs → x ≡ get_or xs at x → find p (f x) ≡ None
+      → found_from at xs ≡ found_from (at + 1) xs
+  found_next at xs x within is none = ap (λ (ys : List X). find p (flat_map f ys)) (opened at xs x within is) ∙ piece x
+      (drop (at + 1) xs) none
 
-  pub found_here : (at : ℕ) (xs : List X) (x : X) (y : Y) → at < length xs → x ≡ get_or xs at x → find p (f x) ≡ Some y → found_from at xs ≡ Some y
-  found_here at xs x y within is some = ap (λ (ys : List X). find p (flat_map f ys)) (opened at xs x within is) ∙ here x (drop (at + 1) xs) y some
+  pub found_here : (at : ℕ) (xs : List X) (x : X) (y : Y) → at < length xs → x ≡ get_or xs at x → find p (f x) ≡ Some y
+      → found_from at xs ≡ Some y
+  found_here at xs x y within is some = ap (λ (ys : List X). find p (flat_map f ys)) (opened at xs x within is) ∙ here x
+      (drop (at + 1) xs) y some
 
 -- ---- a type from which nothing that is looked for can be reached
 
@@ -141,31 +193,44 @@ none_passes p [] all = refl
 none_passes p (x ∷ xs) all = rw all.0 (none_passes p xs all.1)
 
 module _ (types : List SegDef) (have : HavePlaces 0 types) where
-  not_here : (ssas : List Ssa) (type : ℕ) (path : List Step) → leads_on types ssas type ≡ false → IsLine types type path → ends_here ssas (end_from type path) ≡ false
+  not_here : (ssas : List Ssa) (type : ℕ) (path : List Step) → leads_on types ssas type ≡ false → IsLine types type path
+      → ends_here ssas (end_from type path) ≡ false
   not_here [] type path leads line = absurd (not_both leads)
   not_here (ssa ∷ ssas) type path leads line = by (ends_here (ssa ∷ ssas) (end_from type path)) refl
     where
       by : (b : Bool) → ends_here (ssa ∷ ssas) (end_from type path) ≡ b → b ≡ false
       by true e =
           let same : end_from type path ≡ last_type ssa.segment ssas = grind arith in
-          absurd (not_both (sym (subst (λ (n : ℕ). stands_on types (length types) n type ≡ true) same (first_stands types have type path line)) ∙ leads))
+          absurd (not_both (sym (subst (λ (n : ℕ). stands_on types (length types) n type ≡ true) same
+          (first_stands types have type path line)) ∙ leads))
       by false e = refl
 
-  unwanted : (aim : Search) (type : ℕ) (path : List Step) → leads_on types aim.ssas type ≡ false → IsFrom types type path → wants aim path ≡ false
+  unwanted : (aim : Search) (type : ℕ) (path : List Step) → leads_on types aim.ssas type ≡ false
+      → IsFrom types type path → wants aim path ≡ false
   unwanted aim type [] leads from = absurd from
   unwanted aim type (s ∷ ss) leads from =
-      let none : ends_below aim.ssas s.segment ss ≡ false = ends_are aim.ssas s.segment ss ∙ not_here aim.ssas s.segment ss (ap (leads_on types aim.ssas) from.0 ∙ leads) (subst (λ (t : ℕ). IsLine types t ss) (sym from.0) from.1) in
+      let none : ends_below aim.ssas s.segment ss ≡ false =
+      ends_are aim.ssas s.segment ss ∙ not_here aim.ssas s.segment ss (ap (leads_on types aim.ssas) from.0 ∙ leads)
+      (subst (λ (t : ℕ). IsLine types t ss) (sym from.0) from.1) in
       rw none (false_and (is_past aim.behind (s ∷ ss) && is_inside aim.within (s ∷ ss)))
 
-  all_unwanted : (aim : Search) (type : ℕ) (os : List Occurrence) → leads_on types aim.ssas type ≡ false → AllByRecursion (λ o. IsFrom types type o.path) os → AllByRecursion (λ o. looks_for aim o ≡ false) os
+  all_unwanted : (aim : Search) (type : ℕ) (os : List Occurrence) → leads_on types aim.ssas type ≡ false
+      → AllByRecursion (λ o. IsFrom types type o.path) os → AllByRecursion (λ o. looks_for aim o ≡ false) os
   all_unwanted aim type [] leads all = tt
-  all_unwanted aim type (o ∷ os) leads all = (unwanted aim type o.path leads all.0, all_unwanted aim type os leads all.1)
+  all_unwanted aim type (o ∷ os) leads all = (
+    unwanted aim type o.path leads all.0,
+    all_unwanted aim type os leads all.1,
+  )
 
-  pub none_reached : (aim : Search) (type : ℕ) (twins : List Node) → leads_on types aim.ssas type ≡ false → find (looks_for aim) (flat_map (λ node. node_order types node type) twins) ≡ None
+  pub none_reached : (aim : Search) (type : ℕ) (twins : List Node) → leads_on types aim.ssas type ≡ false
+      → find (looks_for aim) (flat_map (λ node. node_order types node type) twins) ≡ None
   none_reached aim type [] leads = refl
   none_reached aim type (n ∷ ns) leads =
       find-append (looks_for aim) (node_order types n type) (flat_map (λ node. node_order types node type) ns)
-      ∙ ap (λ (o : Option Occurrence). option_or o (find (looks_for aim) (flat_map (λ node. node_order types node type) ns))) (none_passes (looks_for aim) (node_order types n type) (all_unwanted aim type (node_order types n type) leads (node_from types have n type)))
+      ∙ ap (λ (o : Option Occurrence). option_or o (find (looks_for aim)
+      (flat_map (λ node. node_order types node type) ns)))
+      (none_passes (looks_for aim) (node_order types n type)
+      (all_unwanted aim type (node_order types n type) leads (node_from types have n type)))
       ∙ none_reached aim type ns leads
 
 -- ---- the rows of a parent
@@ -177,7 +242,8 @@ module _ (types : List SegDef) (test : SegDef → Bool) where
 
   module _ (at : ℕ) (def : SegDef) (lt : at < length types) (is : def ≡ get_or types at def) where
     here_and : drop at types ≡ def ∷ drop (at + 1) types
-    here_and = drop-cons types at def lt ∙ ap (λ (d : SegDef). d ∷ drop (suc at) types) (sym is) ∙ ap (λ (n : ℕ). def ∷ drop n types) (sym (add-one at))
+    here_and = drop-cons types at def lt ∙ ap (λ (d : SegDef). d ∷ drop (suc at) types) (sym is) ∙ ap
+        (λ (n : ℕ). def ∷ drop n types) (sym (add-one at))
 
     pub kinds_other : test def ≡ false → kinds_from at ≡ kinds_from (at + 1)
     kinds_other e = ap (λ (ds : List SegDef). numbers_from at test ds) here_and ∙ (rw e refl)
@@ -195,28 +261,37 @@ module _ (types : List SegDef) (aim : Search) where
   abbrev pub row_of_kind : ℕ → List Node → List Occurrence
   row_of_kind type row = flat_map (λ node. node_order types node type) row
 
-  row_first : (kind : ℕ) (kinds : List ℕ) (row : List Node) (rows : List (List Node)) → rows_left (kind ∷ kinds) (row ∷ rows) ≡ option_or (find (looks_for aim) (row_of_kind kind row)) (rows_left kinds rows)
+  row_first : (kind : ℕ) (kinds : List ℕ) (row : List Node) (rows : List (List Node))
+      → rows_left (kind ∷ kinds) (row ∷ rows) ≡ option_or (find (looks_for aim) (row_of_kind kind row))
+      (rows_left kinds rows)
   row_first kind kinds row rows =
-      find-append (looks_for aim) (flat_map (λ (child : ℕ → List Occurrence). child kind) (map (node_order types) row)) (rows_in_order kinds (orders types rows))
-      ∙ ap (λ (os : List Occurrence). option_or (find (looks_for aim) os) (rows_left kinds rows)) (flat_map-map (λ (child : ℕ → List Occurrence). child kind) (node_order types) row)
+      find-append (looks_for aim) (flat_map (λ (child : ℕ → List Occurrence). child kind) (map (node_order types) row))
+      (rows_in_order kinds (orders types rows))
+      ∙ ap (λ (os : List Occurrence). option_or (find (looks_for aim) os) (rows_left kinds rows))
+      (flat_map-map (λ (child : ℕ → List Occurrence). child kind) (node_order types) row)
 
   -- what is left of the rows and of their types, in shape
   pub record IsLeftOf (all : Option Occurrence) (kinds : List ℕ) (rows : List (List Node)) : Type 0 where
     pub same : all ≡ rows_left kinds rows
     pub shape : are_rows types kinds (seen_rows types rows) ≡ true
 
-  module _ (all : Option Occurrence) (kind : ℕ) (kinds : List ℕ) (row : List Node) (rows : List (List Node)) (left : IsLeftOf all (kind ∷ kinds) (row ∷ rows)) where
+  module _ (all : Option Occurrence) (kind : ℕ) (kinds : List ℕ) (row : List Node) (rows : List (List Node))
+      (left : IsLeftOf all (kind ∷ kinds) (row ∷ rows)) where
     pub first_shape : is_row types kind (map (seen_as types) row) ≡ true
-    first_shape = first_of (is_row types kind (map (seen_as types) row)) (are_rows types kinds (seen_rows types rows)) left.shape
+    first_shape = first_of (is_row types kind (map (seen_as types) row)) (are_rows types kinds (seen_rows types rows))
+        left.shape
 
     pub row_next : find (looks_for aim) (row_of_kind kind row) ≡ None → IsLeftOf all kinds rows
     row_next none = record {
-      same = left.same ∙ row_first kind kinds row rows ∙ ap (λ (o : Option Occurrence). option_or o (rows_left kinds rows)) none;
-      shape = second_of (is_row types kind (map (seen_as types) row)) (are_rows types kinds (seen_rows types rows)) left.shape;
+      same = left.same ∙ row_first kind kinds row rows ∙ ap
+          (λ (o : Option Occurrence). option_or o (rows_left kinds rows)) none;
+      shape = second_of (is_row types kind (map (seen_as types) row)) (are_rows types kinds (seen_rows types rows))
+          left.shape;
     }
 
     pub row_found : (o : Occurrence) → find (looks_for aim) (row_of_kind kind row) ≡ Some o → all ≡ Some o
-    row_found o some = left.same ∙ row_first kind kinds row rows ∙ ap (λ (q : Option Occurrence). option_or q (rows_left kinds rows)) some
+    row_found o some = left.same ∙ row_first kind kinds row rows ∙ ap
+        (λ (q : Option Occurrence). option_or q (rows_left kinds rows)) some
 
   pub no_rows : (all : Option Occurrence) (kinds : List ℕ) → IsLeftOf all kinds [] → all ≡ None
   no_rows all [] left = left.same
@@ -225,20 +300,31 @@ module _ (types : List SegDef) (aim : Search) where
   pub no_kinds : (all : Option Occurrence) (rows : List (List Node)) → IsLeftOf all [] rows → all ≡ None
   no_kinds all rows left = left.same
 
-pub opened_list : {X : Type 0} (at : ℕ) (xs : List X) (x : X) → at < length xs → x ≡ get_or xs at x → drop at xs ≡ x ∷ drop (at + 1) xs
-opened_list at xs x within is = drop-cons xs at x within ∙ ap (λ (y : _). y ∷ drop (suc at) xs) (sym is) ∙ ap (λ (n : ℕ). x ∷ drop n xs) (sym (add-one at))
+pub opened_list : {X : Type 0} (at : ℕ) (xs : List X) (x : X) → at < length xs → x ≡ get_or xs at x
+    → drop at xs ≡ x ∷ drop (at + 1) xs
+opened_list at xs x within is = drop-cons xs at x within ∙ ap (λ (y : _). y ∷ drop (suc at) xs) (sym is) ∙ ap
+    (λ (n : ℕ). x ∷ drop n xs) (sym (add-one at))
 
 -- what stands at a place
 pub at_place : {X : Type 0} (xs : List X) (n : ℕ) (x : X) → n < length xs → x ≡ get_or xs n x → slice_get xs n ≡ Some x
 at_place xs n x within is = stands_there xs n x within ∙ ap Some (sym is)
 
 -- what is left, opened
-pub is_left : (types : List SegDef) (aim : Search) (all : Option Occurrence) (kinds more : List ℕ) (rows rest : List (List Node)) → kinds ≡ more → rows ≡ rest → IsLeftOf types aim all kinds rows → IsLeftOf types aim all more rest
-is_left types aim all kinds more rows rest e f left = subst (λ (rs : List (List Node)). IsLeftOf types aim all more rs) f (subst (λ (ks : List ℕ). IsLeftOf types aim all ks rows) e left)
+pub is_left : (types : List SegDef) (aim : Search) (all : Option Occurrence) (kinds more : List ℕ)
+    (rows rest : List (List Node)) → kinds ≡ more → rows ≡ rest → IsLeftOf types aim all kinds rows
+    → IsLeftOf types aim all more rest
+is_left types aim all kinds more rows rest e f left =
+    subst (λ (rs : List (List Node)). IsLeftOf types aim all more rs) f
+    (subst (λ (ks : List ℕ). IsLeftOf types aim all ks rows) e left)
 
 -- what a search of a row answered
-pub row_answer : (types : List SegDef) (aim : Search) (type : ℕ) (row twins : List Node) (found : Option (Path × List ℕ)) → twins ≡ row
-    → (is_row types type (map (seen_as types) twins) ≡ true → option_map occurrence_of found ≡ find (looks_for aim) (flat_map (λ node. node_order types node type) twins))
-    → is_row types type (map (seen_as types) row) ≡ true → option_map occurrence_of found ≡ find (looks_for aim) (row_of_kind types aim type row)
+pub row_answer : (types : List SegDef) (aim : Search) (type : ℕ) (row twins : List Node)
+    (found : Option (Path × List ℕ)) → twins ≡ row
+    → (is_row types type (map (seen_as types) twins) ≡ true
+    → option_map occurrence_of found ≡ find (looks_for aim) (flat_map (λ node. node_order types node type) twins))
+    → is_row types type (map (seen_as types) row) ≡ true
+    → option_map occurrence_of found ≡ find (looks_for aim) (row_of_kind types aim type row)
 row_answer types aim type row twins found same answer shape =
-    subst (λ (r : List Node). (is_row types type (map (seen_as types) r) ≡ true → option_map occurrence_of found ≡ find (looks_for aim) (flat_map (λ node. node_order types node type) r))) same answer shape
+    subst (λ (r : List Node). (is_row types type (map (seen_as types) r) ≡ true
+    → option_map occurrence_of found ≡ find (looks_for aim) (flat_map (λ node. node_order types node type) r))) same
+    answer shape

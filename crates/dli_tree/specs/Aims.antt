@@ -1,4 +1,5 @@
--- What a search looks for below a segment: the part of the position, of the parent and of the arguments that is left there.
+-- What a search looks for below a segment: the part of the position, of the parent and of the arguments that is left
+-- there.
 use Rattle.std.specs.Prelude.{ℕ, List, [], ◌∷◌, Bool, true, false, not, ◌&&◌, ◌||◌, ◌==◌, if◌then◌else◌, Option, Some, None, option_and_then, option_map, slice_get}
 use Rattle.std.specs.List.{list_all, list_any}
 use Rattle.std.specs.Option.{option_copied, option_map_or}
@@ -69,7 +70,8 @@ inside_step (Some (s ∷ ss)) d = if same_step s d then Some (Some ss) else None
 abbrev pub entered : Search → Step → Option Search
 entered aim d =
     if agrees aim.ssas d
-    then option_and_then (λ behind. option_map (λ within. record aim { above = d.segment; behind = behind; within = within })
+    then option_and_then (λ behind. option_map (λ within. record aim
+    { above = d.segment; behind = behind; within = within })
     (inside_step aim.within d)) (past_step aim.behind d)
     else None
 

@@ -28,7 +28,8 @@ IsWithin n (Lacks at) = at ≤ n
 
 -- the element of the key stands there, or there is none and it would stand there
 abbrev pub IsPlaced : {X : Type 0} → (X → List ℕ) → List ℕ → List X → Place → Type 0
-IsPlaced {X} key k xs (Stands n) = IsPlace key k xs n × (x : X) × (slice_get xs n ≡ Some x) × (same_text (key x) k ≡ true)
+IsPlaced {X} key k xs (Stands n) = IsPlace key k xs n × (x : X) × (slice_get xs n ≡ Some x)
+    × (same_text (key x) k ≡ true)
 IsPlaced {X} key k xs (Lacks n) = IsPlace key k xs n × ((x : X) → slice_get xs n ≡ Some x → same_text (key x) k ≡ false)
 
 -- the twins of a step, edited at the end of the rest of a path
@@ -36,4 +37,7 @@ abbrev pub twins_edited : List SegDef → Edit → Step → List Step → List N
 twins_edited types edit s [] twins = nodes_edited types s edit twins
 twins_edited types edit s (t ∷ ts) twins =
     change_key (node_key types s.segment) s.key
-    (λ n. roll-Node (record (out-Node n) { children = below_edited types edit s.segment (t ∷ ts) (out-Node n).children })) twins
+    (λ n. roll-Node (record (out-Node n) {
+      children =
+          below_edited types edit s.segment (t ∷ ts) (out-Node n).children;
+    })) twins

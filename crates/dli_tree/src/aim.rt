@@ -50,7 +50,8 @@ fn past_step<'a>(
     serial: u64,
 ) -> Option<Option<&'a [Step]>>
     ensures { option_map (λ rest. option_map steps_of (option_copied rest)) result
-        ≡ past_step (option_map steps_of (option_copied behind.entry)) (record { segment = segment; key = key.now; serial = serial }) }
+        ≡ past_step (option_map steps_of (option_copied behind.entry))
+        (record { segment = segment; key = key.now; serial = serial }) }
 {
     match behind {
         None => Some(None),
@@ -75,7 +76,8 @@ fn inside_step<'a>(
     serial: u64,
 ) -> Option<Option<&'a [Step]>>
     ensures { option_map (λ rest. option_map steps_of (option_copied rest)) result
-        ≡ inside_step (option_map steps_of (option_copied within.entry)) (record { segment = segment; key = key.now; serial = serial }) }
+        ≡ inside_step (option_map steps_of (option_copied within.entry))
+        (record { segment = segment; key = key.now; serial = serial }) }
 {
     match within {
         None => Some(None),
@@ -162,7 +164,8 @@ pub(crate) fn leads_on(segments: &[SegDef], ssas: &[Ssa], segment: u8) -> bool
 impl<'a> Aim<'a> {
     /// What is looked for below a segment or a sequential dependent. None where nothing there is.
     pub(crate) fn enter(self, segment: u8, key: &[u8], serial: u64) -> Option<Aim<'a>>
-        ensures { option_map aim_of result ≡ entered (aim_of self.entry) (record { segment = segment; key = key.now; serial = serial }) }
+        ensures { option_map aim_of result ≡ entered (aim_of self.entry)
+            (record { segment = segment; key = key.now; serial = serial }) }
     {
         if !agrees(self.ssas, segment, key) {
             return None;

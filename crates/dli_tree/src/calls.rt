@@ -14,8 +14,9 @@ use std::alloc::{AllocError, Global};
 /// Inserts a segment at the end of a path, among its twins by its key. False exactly where the path leads to a segment
 /// already, and then nothing changes.
 ///
-/// It is meant for a path whose parents stand, whose last step is of a direct type, with bytes that begin with that step's
-/// key. Where a parent doesn't stand nothing changes. It fails only for want of memory, and then nothing changes.
+/// It is meant for a path whose parents stand, whose last step is of a direct type, with bytes that begin with that
+/// step's key. Where a parent doesn't stand nothing changes. It fails only for want of memory, and then nothing
+/// changes.
 pub fn insert(
     alloc: Global,
     roots: &mut List<Root>,
@@ -26,8 +27,10 @@ pub fn insert(
     requires { AreTypes segments.now }
 
     // It is put exactly where the path leads to no segment.
-    ensures new { are_in_order segments.now roots.old ≡ true → IfOk result (λ new. new ≡ not (leads_to segments.now roots.old (steps_of path.now.steps))) }
-    ensures ok { are_in_order segments.now roots.old ≡ true → result ≡ Ok true → roots.new ≡ edited segments.now roots.old (steps_of path.now.steps) (Inserts bytes) }
+    ensures new { are_in_order segments.now roots.old ≡ true
+        → IfOk result (λ new. new ≡ not (leads_to segments.now roots.old (steps_of path.now.steps))) }
+    ensures ok { are_in_order segments.now roots.old ≡ true → result ≡ Ok true
+        → roots.new ≡ edited segments.now roots.old (steps_of path.now.steps) (Inserts bytes) }
 
     // Otherwise nothing changes.
     ensures there { result ≡ Ok false → roots.new ≡ roots.old }
@@ -48,8 +51,10 @@ pub fn replace(roots: &mut List<Root>, segments: &List<SegDef>, path: &Path, byt
     requires { AreTypes segments.now }
 
     // It is done exactly where the path leads to a segment.
-    ensures there { are_in_order segments.now roots.old ≡ true → result ≡ leads_to segments.now roots.old (steps_of path.now.steps) }
-    ensures ok { are_in_order segments.now roots.old ≡ true → result ≡ true → roots.new ≡ edited segments.now roots.old (steps_of path.now.steps) (Replaces bytes) }
+    ensures there { are_in_order segments.now roots.old ≡ true
+        → result ≡ leads_to segments.now roots.old (steps_of path.now.steps) }
+    ensures ok { are_in_order segments.now roots.old ≡ true → result ≡ true
+        → roots.new ≡ edited segments.now roots.old (steps_of path.now.steps) (Replaces bytes) }
 
     // Otherwise nothing changes.
     ensures absent { result ≡ false → roots.new ≡ roots.old }
@@ -71,8 +76,10 @@ pub fn delete(roots: &mut List<Root>, segments: &List<SegDef>, path: &Path) -> b
     requires { AreTypes segments.now }
 
     // It is done exactly where the path leads to a segment.
-    ensures there { are_in_order segments.now roots.old ≡ true → result ≡ leads_to segments.now roots.old (steps_of path.now.steps) }
-    ensures ok { are_in_order segments.now roots.old ≡ true → result ≡ true → roots.new ≡ edited segments.now roots.old (steps_of path.now.steps) Deletes }
+    ensures there { are_in_order segments.now roots.old ≡ true
+        → result ≡ leads_to segments.now roots.old (steps_of path.now.steps) }
+    ensures ok { are_in_order segments.now roots.old ≡ true → result ≡ true
+        → roots.new ≡ edited segments.now roots.old (steps_of path.now.steps) Deletes }
 
     // Otherwise nothing changes.
     ensures absent { result ≡ false → roots.new ≡ roots.old }

@@ -48,7 +48,9 @@ fn insert_twin(
     bytes: Bytes,
     twins: &mut List<Node>,
 ) -> Result<(), AllocError>
-    ensures ok { ascend (map (node_key segments.now segment) twins.old) ≡ true → OnOk result (twins.new ≡ put_by_key (node_key segments.now segment) (new_node segments.now segment bytes) twins.old) }
+    ensures ok { ascend (map (node_key segments.now segment) twins.old) ≡ true
+        → OnOk result (twins.new ≡ put_by_key (node_key segments.now segment) (new_node segments.now segment bytes)
+        twins.old) }
     ensures err { OnErr result (twins.new ≡ twins.old) }
 {
     let children = no_children(alloc, segments, segment)?;
@@ -61,7 +63,8 @@ fn insert_twin(
 
 /// Gives the twin of a key other bytes, if it stands.
 fn replace_twin(segments: &[SegDef], step: &Step, bytes: Bytes, twins: &mut List<Node>)
-    ensures { ascend (map (node_key segments.now step.now.segment) twins.old) ≡ true → twins.new ≡ nodes_edited segments.now (step_of step.now) (Replaces bytes) twins.old }
+    ensures { ascend (map (node_key segments.now step.now.segment) twins.old) ≡ true
+        → twins.new ≡ nodes_edited segments.now (step_of step.now) (Replaces bytes) twins.old }
 {
     match twin_place(
         segments,
@@ -76,7 +79,8 @@ fn replace_twin(segments: &[SegDef], step: &Step, bytes: Bytes, twins: &mut List
 
 /// Takes the twin of a key away with all below it, if it stands.
 fn delete_twin(segments: &[SegDef], step: &Step, twins: &mut List<Node>)
-    ensures { ascend (map (node_key segments.now step.now.segment) twins.old) ≡ true → twins.new ≡ nodes_edited segments.now (step_of step.now) Deletes twins.old }
+    ensures { ascend (map (node_key segments.now step.now.segment) twins.old) ≡ true
+        → twins.new ≡ nodes_edited segments.now (step_of step.now) Deletes twins.old }
 {
     match twin_place(
         segments,
@@ -98,7 +102,8 @@ fn edit_twins(
     change: Change,
     twins: &mut List<Node>,
 ) -> Result<(), AllocError>
-    ensures ok { ascend (map (node_key segments.now step.now.segment) twins.old) ≡ true → OnOk result (twins.new ≡ nodes_edited segments.now (step_of step.now) (edit_of change) twins.old) }
+    ensures ok { ascend (map (node_key segments.now step.now.segment) twins.old) ≡ true
+        → OnOk result (twins.new ≡ nodes_edited segments.now (step_of step.now) (edit_of change) twins.old) }
     ensures err { OnErr result (twins.new ≡ twins.old) }
     ensures memory { IsErr result → is_insert change ≡ true }
 {
@@ -126,7 +131,8 @@ fn edit_row(
 ) -> Result<(), AllocError>
     requires { AreTypes segments.now }
     ensures ok { is_row segments.now step.now.segment (map (seen_as segments.now) twins.old) ≡ true
-        → OnOk result (twins.new ≡ twins_edited segments.now (edit_of change) (step_of step.now) (steps_of rest.now) twins.old) }
+        → OnOk result (twins.new ≡ twins_edited segments.now (edit_of change) (step_of step.now) (steps_of rest.now)
+        twins.old) }
     ensures err { OnErr result (twins.new ≡ twins.old) }
     ensures memory { IsErr result → is_insert change ≡ true }
 {
@@ -160,7 +166,8 @@ fn edit_rows(
     rows: &mut List<List<Node>>,
 ) -> Result<(), AllocError>
     requires { AreTypes segments.now }
-    ensures ok { are_rows segments.now (child_types segments.now parent) (map (map (seen_as segments.now)) rows.old) ≡ true
+    ensures ok { are_rows segments.now (child_types segments.now parent) (map (map (seen_as segments.now)) rows.old) ≡
+        true
         → OnOk result (rows.new ≡ below_edited segments.now (edit_of change) parent (steps_of steps.now) rows.old) }
     ensures err { OnErr result (rows.new ≡ rows.old) }
     ensures memory { IsErr result → is_insert change ≡ true }
@@ -187,7 +194,8 @@ fn insert_root(
     bytes: Bytes,
     roots: &mut List<Root>,
 ) -> Result<(), AllocError>
-    ensures ok { ascend (map (root_key segments.now) roots.old) ≡ true → OnOk result (roots.new ≡ put_by_key (root_key segments.now) (new_root segments.now bytes) roots.old) }
+    ensures ok { ascend (map (root_key segments.now) roots.old) ≡ true
+        → OnOk result (roots.new ≡ put_by_key (root_key segments.now) (new_root segments.now bytes) roots.old) }
     ensures err { OnErr result (roots.new ≡ roots.old) }
 {
     let children = no_children(alloc, segments, 0)?;
@@ -215,7 +223,8 @@ fn insert_root(
 
 /// Gives the root of a key other bytes, if it stands.
 fn replace_root(segments: &[SegDef], step: &Step, bytes: Bytes, roots: &mut List<Root>)
-    ensures { ascend (map (root_key segments.now) roots.old) ≡ true → roots.new ≡ roots_edited segments.now (step_of step.now) (Replaces bytes) roots.old }
+    ensures { ascend (map (root_key segments.now) roots.old) ≡ true
+        → roots.new ≡ roots_edited segments.now (step_of step.now) (Replaces bytes) roots.old }
 {
     match root_place(segments, roots.as_slice(), step.key.as_slice()) {
         Place::Stands(at) => roots.item_mut(at).bytes = bytes,
@@ -225,7 +234,8 @@ fn replace_root(segments: &[SegDef], step: &Step, bytes: Bytes, roots: &mut List
 
 /// Takes the root of a key away with all below it, if it stands.
 fn delete_root(segments: &[SegDef], step: &Step, roots: &mut List<Root>)
-    ensures { ascend (map (root_key segments.now) roots.old) ≡ true → roots.new ≡ roots_edited segments.now (step_of step.now) Deletes roots.old }
+    ensures { ascend (map (root_key segments.now) roots.old) ≡ true
+        → roots.new ≡ roots_edited segments.now (step_of step.now) Deletes roots.old }
 {
     match root_place(segments, roots.as_slice(), step.key.as_slice()) {
         Place::Stands(at) => {
@@ -242,7 +252,8 @@ fn edit_root(
     change: Change,
     roots: &mut List<Root>,
 ) -> Result<(), AllocError>
-    ensures ok { ascend (map (root_key segments.now) roots.old) ≡ true → OnOk result (roots.new ≡ roots_edited segments.now (step_of step.now) (edit_of change) roots.old) }
+    ensures ok { ascend (map (root_key segments.now) roots.old) ≡ true
+        → OnOk result (roots.new ≡ roots_edited segments.now (step_of step.now) (edit_of change) roots.old) }
     ensures err { OnErr result (roots.new ≡ roots.old) }
     ensures memory { IsErr result → is_insert change ≡ true }
 {
@@ -268,7 +279,9 @@ fn edit_below(
     roots: &mut List<Root>,
 ) -> Result<(), AllocError>
     requires { AreTypes segments.now }
-    ensures ok { are_in_order segments.now roots.old ≡ true → OnOk result (roots.new ≡ edited segments.now roots.old (step_of step.now ∷ steps_of rest.now) (edit_of change)) }
+    ensures ok { are_in_order segments.now roots.old ≡ true
+        → OnOk result (roots.new ≡ edited segments.now roots.old (step_of step.now ∷ steps_of rest.now)
+        (edit_of change)) }
     ensures err { OnErr result (roots.new ≡ roots.old) }
     ensures memory { IsErr result → is_insert change ≡ true }
 {
@@ -289,7 +302,8 @@ pub(crate) fn edit_at(
     roots: &mut List<Root>,
 ) -> Result<(), AllocError>
     requires { AreTypes segments.now }
-    ensures ok { are_in_order segments.now roots.old ≡ true → OnOk result (roots.new ≡ edited segments.now roots.old (steps_of steps.now) (edit_of change)) }
+    ensures ok { are_in_order segments.now roots.old ≡ true
+        → OnOk result (roots.new ≡ edited segments.now roots.old (steps_of steps.now) (edit_of change)) }
     ensures err { OnErr result (roots.new ≡ roots.old) }
     ensures memory { IsErr result → is_insert change ≡ true }
 {

@@ -21,8 +21,10 @@ use std::alloc::{AllocError, Global};
 /// How many of the newest dependents of a root don't stand behind a position with this first step.
 fn not_behind(first: &Step, segment: u8, seqs: &[SeqItem]) -> usize
     ensures within { result ≤ length seqs.now }
-    ensures left { are_newest_first 0 (2 ^ 64) seqs.now ≡ true → (aim : Search) (rest : ListOf StepOf) → aim.behind ≡ Some (step_of first.now ∷ rest)
-        → (i : ℕ) (d : SeqItemOf) → i < result → wants aim (numbered segment (slice_index_or seqs.now i d).serial ∷ []) ≡ false }
+    ensures left { are_newest_first 0 (2 ^ 64) seqs.now ≡ true → (aim : Search) (rest : ListOf StepOf)
+        → aim.behind ≡ Some (step_of first.now ∷ rest)
+        → (i : ℕ) (d : SeqItemOf) → i < result → wants aim (numbered segment (slice_index_or seqs.now i d).serial ∷ [])
+        ≡ false }
 {
     if first.segment > segment {
         return seqs.len();
@@ -42,7 +44,8 @@ fn not_behind(first: &Step, segment: u8, seqs: &[SeqItem]) -> usize
 fn newest_left(aim: Aim<'_>, segment: u8, seqs: &[SeqItem]) -> usize
     ensures within { result ≤ length seqs.now }
     ensures left { are_newest_first 0 (2 ^ 64) seqs.now ≡ true
-        → (i : ℕ) (d : SeqItemOf) → i < result → wants (aim_of aim.entry) (numbered segment (slice_index_or seqs.now i d).serial ∷ []) ≡ false }
+        → (i : ℕ) (d : SeqItemOf) → i < result → wants (aim_of aim.entry)
+        (numbered segment (slice_index_or seqs.now i d).serial ∷ []) ≡ false }
 {
     if !ends_here(aim.ssas, segment) {
         return seqs.len();
@@ -87,7 +90,8 @@ fn in_sequentials(
 ) -> Result<Option<(Path, Bytes)>, AllocError>
     requires { AreTypes segments.now }
     ensures { are_newest_first 0 (2 ^ 64) seqs.now ≡ true
-        → IfOk result (λ found. option_map occurrence_of found ≡ find (looks_for (aim_of aim.entry)) (sequentials segments.now seqs.now)) }
+        → IfOk result (λ found. option_map occurrence_of found ≡ find (looks_for (aim_of aim.entry))
+        (sequentials segments.now seqs.now)) }
 {
     let segment = match sequential_type(segments) {
         Some(segment) => segment,
@@ -112,7 +116,8 @@ fn at_root(
     requires { AreTypes segments.now }
     ensures { is_root segments.now any_ends root.now ≡ true
         → IfOk result (λ found. option_map occurrence_of found
-        ≡ find (looks_for (aim_of aim.entry)) (at_end root.now.bytes ∷ sequentials segments.now root.now.seqs ++ rows_in_order (child_types segments.now 0) (map (map (node_order segments.now)) root.now.children))) }
+        ≡ find (looks_for (aim_of aim.entry)) (at_end root.now.bytes ∷ sequentials segments.now root.now.seqs ++
+        rows_in_order (child_types segments.now 0) (map (map (node_order segments.now)) root.now.children))) }
 {
     if aim.is_met() {
         return Ok(Some(itself(alloc, &root.bytes)?));
@@ -132,7 +137,8 @@ fn in_root(
 ) -> Result<Option<(Path, Bytes)>, AllocError>
     requires { AreTypes segments.now }
     ensures { is_root segments.now any_ends root.now ≡ true
-        → IfOk result (λ found. option_map occurrence_of found ≡ find (looks_for (aim_of aim.entry)) (root_order segments.now root.now)) }
+        → IfOk result (λ found. option_map occurrence_of found ≡ find (looks_for (aim_of aim.entry))
+        (root_order segments.now root.now)) }
 {
     let key = key_in(segments, 0, root.bytes.as_slice());
     match aim.enter(0, key, 0) {
@@ -153,7 +159,8 @@ fn in_roots(
 ) -> Result<Option<(Path, Bytes)>, AllocError>
     requires { AreTypes segments.now }
     ensures { are_in_order segments.now roots.now ≡ true
-        → IfOk result (λ found. option_map occurrence_of found ≡ find (looks_for (aim_of aim.entry)) (sequence segments.now roots.now)) }
+        → IfOk result (λ found. option_map occurrence_of found ≡ find (looks_for (aim_of aim.entry))
+        (sequence segments.now roots.now)) }
 {
     let stretch = roots_in_reach(segments, aim, roots);
     for at in stretch.from..stretch.to {
@@ -189,7 +196,8 @@ pub fn first_after(
     requires { AreTypes segments.now }
     ensures { are_in_order segments.now roots.now ≡ true
         → IfOk result (λ found. option_map occurrence_of found
-        ≡ first_admitted segments.now 0 roots.now (option_map place_of (option_copied position.entry)) (option_map place_of (option_copied within.entry)) ssas.now) }
+        ≡ first_admitted segments.now 0 roots.now (option_map place_of (option_copied position.entry))
+        (option_map place_of (option_copied within.entry)) ssas.now) }
 {
     let segments = segments.as_slice();
     let ssas = ssas.as_slice();

@@ -6,8 +6,8 @@ ghost use Rattle.fp_model.specs.declared.database.Root.{Root};
 ghost use Rattle.fp_model.specs.declared.definitions.SegDef.{SegDef};
 ghost use Rattle.std.specs.Prelude.{◌≡◌, List, is_some, true};
 
-/// In an anchor in order a path of direct segments leads to a segment exactly where one stands at it in the hierarchical
-/// order.
+/// In an anchor in order a path of direct segments leads to a segment exactly where one stands at it in the
+/// hierarchical order.
 pub fn a_path_leads_where_a_segment_stands()
     ensures { (types : List SegDef) (roots : List Root) (path : List Step)
         → are_in_order types roots ≡ true

@@ -12,7 +12,8 @@ use fp_model::{Node, Root, SegDef};
 /// How many of these roots have a lower key.
 pub(crate) fn roots_below(segments: &[SegDef], roots: &[Root], key: &[u8]) -> usize
     ensures within { result ≤ length roots.now }
-    ensures place { ascend (map (root_key segments.now) roots.now) ≡ true → IsPlace (root_key segments.now) key.now roots.now result }
+    ensures place { ascend (map (root_key segments.now) roots.now) ≡ true
+        → IsPlace (root_key segments.now) key.now roots.now result }
 {
     roots.partition_point(
         |root: &Root| -> bool
@@ -24,7 +25,8 @@ pub(crate) fn roots_below(segments: &[SegDef], roots: &[Root], key: &[u8]) -> us
 /// How many of these twins of a type have a lower key.
 pub(crate) fn twins_below(segments: &[SegDef], segment: u8, twins: &[Node], key: &[u8]) -> usize
     ensures within { result ≤ length twins.now }
-    ensures place { ascend (map (node_key segments.now segment) twins.now) ≡ true → IsPlace (node_key segments.now segment) key.now twins.now result }
+    ensures place { ascend (map (node_key segments.now segment) twins.now) ≡ true
+        → IsPlace (node_key segments.now segment) key.now twins.now result }
 {
     twins.partition_point(
         |node: &Node| -> bool
@@ -47,7 +49,8 @@ pub(crate) enum Place {
 /// Where the root of a key stands.
 pub(crate) fn root_place(segments: &[SegDef], roots: &[Root], key: &[u8]) -> Place
     ensures within { IsWithin (length roots.now) result }
-    ensures place { ascend (map (root_key segments.now) roots.now) ≡ true → IsPlaced (root_key segments.now) key.now roots.now result }
+    ensures place { ascend (map (root_key segments.now) roots.now) ≡ true
+        → IsPlaced (root_key segments.now) key.now roots.now result }
 {
     let at = roots_below(segments, roots, key);
     if at == roots.len() {
@@ -63,7 +66,8 @@ pub(crate) fn root_place(segments: &[SegDef], roots: &[Root], key: &[u8]) -> Pla
 /// Where the twin of a key stands.
 pub(crate) fn twin_place(segments: &[SegDef], segment: u8, twins: &[Node], key: &[u8]) -> Place
     ensures within { IsWithin (length twins.now) result }
-    ensures place { ascend (map (node_key segments.now segment) twins.now) ≡ true → IsPlaced (node_key segments.now segment) key.now twins.now result }
+    ensures place { ascend (map (node_key segments.now segment) twins.now) ≡ true
+        → IsPlaced (node_key segments.now segment) key.now twins.now result }
 {
     let at = twins_below(segments, segment, twins, key);
     if at == twins.len() {

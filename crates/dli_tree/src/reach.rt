@@ -101,7 +101,8 @@ pub(crate) fn keys_in_reach<'a>(aim: Aim<'a>, segment: u8) -> Reach<'a>
 pub(crate) fn roots_in_reach(segments: &[SegDef], aim: Aim<'_>, roots: &[Root]) -> Stretch
     ensures within { result.to ≤ length roots.now }
     ensures order { result.from ≤ result.to }
-    ensures leaves { ascend (map (root_key segments.now) roots.now) ≡ true → Leaves (aim_of aim.entry) 0 (root_key segments.now) roots.now result }
+    ensures leaves { ascend (map (root_key segments.now) roots.now) ≡ true
+        → Leaves (aim_of aim.entry) 0 (root_key segments.now) roots.now result }
 {
     match keys_in_reach(aim, 0) {
         Reach::Nothing => Stretch { from: 0, to: 0 },
@@ -133,7 +134,8 @@ pub(crate) fn twins_in_reach(
 ) -> Stretch
     ensures within { result.to ≤ length twins.now }
     ensures order { result.from ≤ result.to }
-    ensures leaves { ascend (map (node_key segments.now segment) twins.now) ≡ true → Leaves (aim_of aim.entry) segment (node_key segments.now segment) twins.now result }
+    ensures leaves { ascend (map (node_key segments.now segment) twins.now) ≡ true
+        → Leaves (aim_of aim.entry) segment (node_key segments.now segment) twins.now result }
 {
     match keys_in_reach(aim, segment) {
         Reach::Nothing => Stretch { from: 0, to: 0 },

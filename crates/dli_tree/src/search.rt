@@ -35,7 +35,8 @@ pub(crate) fn under(
     key: &[u8],
     serial: u64,
 ) -> Result<(Path, Bytes), AllocError>
-    ensures { IfOk result (λ whole. occurrence_of whole ≡ one_down (record { segment = segment; key = key.now; serial = serial }) (occurrence_of found)) }
+    ensures { IfOk result (λ whole. occurrence_of whole ≡ one_down
+        (record { segment = segment; key = key.now; serial = serial }) (occurrence_of found)) }
 {
     let (mut path, bytes) = found;
     let key = Bytes::from_slice(alloc, key)?;
@@ -57,7 +58,8 @@ pub(crate) fn all_under(
     segment: u8,
     key: &[u8],
 ) -> Result<Option<(Path, Bytes)>, AllocError>
-    ensures { IfOk result (λ whole. option_map occurrence_of whole ≡ option_map (one_down (record { segment = segment; key = key.now; serial = 0 })) (option_map occurrence_of found)) }
+    ensures { IfOk result (λ whole. option_map occurrence_of whole ≡ option_map
+        (one_down (record { segment = segment; key = key.now; serial = 0 })) (option_map occurrence_of found)) }
 {
     match found {
         None => Ok(None),
@@ -77,7 +79,8 @@ fn in_row(
     requires types { AreTypes segments.now }
     requires defined { segment < length segments.now }
     ensures { is_row segments.now segment (map (seen_as segments.now) twins.now) ≡ true
-        → IfOk result (λ found. option_map occurrence_of found ≡ find (looks_for (aim_of aim.entry)) (flat_map (λ node. node_order segments.now node segment) twins.now)) }
+        → IfOk result (λ found. option_map occurrence_of found ≡ find (looks_for (aim_of aim.entry))
+        (flat_map (λ node. node_order segments.now node segment) twins.now)) }
 {
     if !leads_on(segments, aim.ssas, segment) {
         return Ok(None);
@@ -103,7 +106,8 @@ fn in_node(
     requires types { AreTypes segments.now }
     requires defined { segment < length segments.now }
     ensures { (seen_as segments.now node.now segment).in_shape ≡ true
-        → IfOk result (λ found. option_map occurrence_of found ≡ find (looks_for (aim_of aim.entry)) (node_order segments.now node.now segment)) }
+        → IfOk result (λ found. option_map occurrence_of found ≡ find (looks_for (aim_of aim.entry))
+        (node_order segments.now node.now segment)) }
 {
     let key = key_in(segments, segment, node.bytes.as_slice());
     match aim.enter(segment, key, 0) {
@@ -127,9 +131,11 @@ fn at_node(
 ) -> Result<Option<(Path, Bytes)>, AllocError>
     requires types { AreTypes segments.now }
     requires defined { segment < length segments.now }
-    ensures { are_rows segments.now (child_types segments.now segment) (map (map (seen_as segments.now)) children.now) ≡ true
+    ensures { are_rows segments.now (child_types segments.now segment) (map (map (seen_as segments.now)) children.now) ≡
+        true
         → IfOk result (λ found. option_map occurrence_of found
-        ≡ find (looks_for (aim_of aim.entry)) (at_end bytes.now ∷ rows_in_order (child_types segments.now segment) (map (map (node_order segments.now)) children.now))) }
+        ≡ find (looks_for (aim_of aim.entry)) (at_end bytes.now ∷ rows_in_order (child_types segments.now segment)
+        (map (map (node_order segments.now)) children.now))) }
 {
     if aim.is_met() {
         return Ok(Some(itself(alloc, bytes)?));
@@ -150,7 +156,8 @@ pub(crate) fn in_rows(
     requires defined { parent < length segments.now }
     ensures { are_rows segments.now (child_types segments.now parent) (map (map (seen_as segments.now)) rows.now) ≡ true
         → IfOk result (λ found. option_map occurrence_of found
-        ≡ find (looks_for (aim_of aim.entry)) (rows_in_order (child_types segments.now parent) (map (map (node_order segments.now)) rows.now))) }
+        ≡ find (looks_for (aim_of aim.entry)) (rows_in_order (child_types segments.now parent)
+        (map (map (node_order segments.now)) rows.now))) }
 {
     let mut at = 0;
     for child in 0..segments.len() {

@@ -21,10 +21,13 @@ fn find_twin<'a>(
     rows: &'a [List<Node>],
 ) -> Option<&'a Node>
     requires { AreTypes segments.now }
-    ensures found { are_rows segments.now (child_types segments.now parent) (map (map (seen_as segments.now)) rows.now) ≡ true
+    ensures found { are_rows segments.now (child_types segments.now parent) (map (map (seen_as segments.now)) rows.now)
+        ≡ true
         → option_copied result ≡ twin_of segments.now parent (step_of step.now) rows.now }
-    ensures shape { are_rows segments.now (child_types segments.now parent) (map (map (seen_as segments.now)) rows.now) ≡ true
-        → IfSome result (λ n. are_rows segments.now (child_types segments.now step.now.segment) (map (map (seen_as segments.now)) (out-Node n.now).children) ≡ true) }
+    ensures shape { are_rows segments.now (child_types segments.now parent) (map (map (seen_as segments.now)) rows.now)
+        ≡ true
+        → IfSome result (λ n. are_rows segments.now (child_types segments.now step.now.segment)
+        (map (map (seen_as segments.now)) (out-Node n.now).children) ≡ true) }
 {
     let at = match row_of(segments, parent, step.segment) {
         Some(at) => at,
@@ -64,7 +67,8 @@ fn leads_below(segments: &[SegDef], parent: u8, steps: &[Step], rows: &[List<Nod
 /// Whether a path leads to a segment of an anchor.
 pub(crate) fn leads_to(segments: &[SegDef], roots: &[Root], steps: &[Step]) -> bool
     requires { AreTypes segments.now }
-    ensures { are_in_order segments.now roots.now ≡ true → result ≡ leads_to segments.now roots.now (steps_of steps.now) }
+    ensures { are_in_order segments.now roots.now ≡ true
+        → result ≡ leads_to segments.now roots.now (steps_of steps.now) }
 {
     if steps.is_empty() {
         return false;

@@ -89,7 +89,13 @@ module _ (rules : Rules) (gauge : Gauge) (laws : EndLaws rules gauge) (view : Vi
       let behind = reached_then rules gauge laws view order m (event.Region from) NoFault first.0 h first.1 in
       let rest = behind_there_is n (from + 1) first.0 behind (omega (arith, low)) (omega (arith, high)) in (
         record { event = event.Region from; environment = NoFault; after = first.0 } ∷ rest.0,
-        (rest.1.0, (ap (λ (es : List Event). event.Region from ∷ es) rest.1.1.0, ((first.1, rest.1.1.1.0), (refl, rest.1.1.1.1)))),
+        (
+          rest.1.0,
+          (
+            ap (λ (es : List Event). event.Region from ∷ es) rest.1.1.0,
+            ((first.1, rest.1.1.1.0), (refl, rest.1.1.1.1)),
+          ),
+        ),
       )
 
   -- There is a round.

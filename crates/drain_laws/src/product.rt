@@ -81,8 +81,9 @@ pub fn counts_bound_the_work_of_the_system()
         ≤ work_of (weight_of_line defs.tries) lines messages active unsealed }
 {}
 
-/// From every machine that a run from rest led to, behind any history, n rounds leave at least n less to do, whatever befalls their turns.
-/// So a drain has no more rounds than there is left to do, nor has one that ended early; and there is a drain.
+/// From every machine that a run from rest led to, behind any history, n rounds leave at least n less to do, whatever
+/// befalls their turns. So a drain has no more rounds than there is left to do, nor has one that ended early; and there
+/// is a drain.
 pub fn the_drain_of_the_system_ends()
     ensures rounds { (defs : Defs) (scripts : List Script) (m : Machine) (rounds : List (List RunStep)) (m2 : Machine)
         → AreDefs defs

@@ -12,7 +12,8 @@ then_assoc Greater b c = refl
 
 -- two parts are compared one after the other
 pub slice_cmp_joined : (xs more ys others : List ℕ) → length xs ≡ length ys
-    → ordering_then (slice_cmp nat_cmp xs ys) (slice_cmp nat_cmp more others) ≡ slice_cmp nat_cmp (xs ++ more) (ys ++ others)
+    → ordering_then (slice_cmp nat_cmp xs ys) (slice_cmp nat_cmp more others) ≡ slice_cmp nat_cmp (xs ++ more)
+    (ys ++ others)
 slice_cmp_joined [] more [] others e = refl
 slice_cmp_joined [] more (y ∷ ys) others e = absurd (omega arith)
 slice_cmp_joined (x ∷ xs) more [] others e = absurd (omega arith)

@@ -19,16 +19,19 @@ both : (a b : Bool) → a ≡ true → b ≡ true → (a && b) ≡ true
 both a b e f = rw (e, f) refl
 
 -- with one digit more they are still digits
-pub digits_snoc : (ds : List ℕ) (b : ℕ) → all_ascii_digits ds ≡ true → is_ascii_digit b ≡ true → all_ascii_digits (ds ++ b ∷ []) ≡ true
+pub digits_snoc : (ds : List ℕ) (b : ℕ) → all_ascii_digits ds ≡ true → is_ascii_digit b ≡ true
+    → all_ascii_digits (ds ++ b ∷ []) ≡ true
 digits_snoc [] b e f = rw f refl
-digits_snoc (d ∷ ds) b e f = let parts = and_parts (is_ascii_digit d) (all_ascii_digits ds) e in both _ _ parts.0 (digits_snoc ds b parts.1 f)
+digits_snoc (d ∷ ds) b e f = let parts = and_parts (is_ascii_digit d) (all_ascii_digits ds) e in
+    both _ _ parts.0 (digits_snoc ds b parts.1 f)
 
 -- and their number is ten times the old one, and the digit
 pub number_snoc : (ds : List ℕ) (b : ℕ) → value 10 (figures (ds ++ b ∷ [])) ≡ value 10 (figures ds) * 10 + (b - 48)
 number_snoc ds b = ap (value 10) (map-append (λ c. c - 48) ds (b ∷ [])) ∙ value_snoc 10 (figures ds) (b - 48)
 
 -- a list with something else than a digit
-pub not_all_digits : (ds : List ℕ) (i : ℕ) → i < length ds → is_ascii_digit (get_or ds i 0) ≡ false → all_ascii_digits ds ≡ false
+pub not_all_digits : (ds : List ℕ) (i : ℕ) → i < length ds → is_ascii_digit (get_or ds i 0) ≡ false
+    → all_ascii_digits ds ≡ false
 not_all_digits [] i lt e = absurd (omega arith)
 not_all_digits (d ∷ ds) zero lt e = rw e refl
 not_all_digits (d ∷ ds) (suc i) lt e = rw (not_all_digits ds i (omega arith) e) (and-false (is_ascii_digit d))
@@ -39,20 +42,24 @@ no_number ds e = rw (e, and-false (nat_le 1 (length ds) && nat_le (length ds) 31
 digit_below : (d : ℕ) → is_ascii_digit d ≡ true → d - 48 < 10
 digit_below d e = grind (arith, nat_tests)
 
-figure_below : (ds : List ℕ) → all_ascii_digits ds ≡ true → (i : ℕ) → i < length (figures ds) → get_or (figures ds) i 0 < 10
+figure_below : (ds : List ℕ) → all_ascii_digits ds ≡ true → (i : ℕ) → i < length (figures ds)
+    → get_or (figures ds) i 0 < 10
 figure_below [] e i lt = absurd (omega arith)
 figure_below (d ∷ ds) e zero lt = digit_below d (and_parts (is_ascii_digit d) (all_ascii_digits ds) e).0
-figure_below (d ∷ ds) e (suc i) lt = figure_below ds (and_parts (is_ascii_digit d) (all_ascii_digits ds) e).1 i (omega arith)
+figure_below (d ∷ ds) e (suc i) lt = figure_below ds (and_parts (is_ascii_digit d) (all_ascii_digits ds) e).1 i
+    (omega arith)
 
 figures_length : (ds : List ℕ) → length (figures ds) ≡ length ds
 figures_length [] = refl
 figures_length (d ∷ ds) = ap suc (figures_length ds)
 
 -- the number of the first of at most 31 digits
-pub prefix_below : (ds : List ℕ) (i : ℕ) → length ds ≤ 31 → all_ascii_digits (take i ds) ≡ true → value 10 (figures (take i ds)) < 10 ^ 31
+pub prefix_below : (ds : List ℕ) (i : ℕ) → length ds ≤ 31 → all_ascii_digits (take i ds) ≡ true
+    → value 10 (figures (take i ds)) < 10 ^ 31
 prefix_below ds i few e =
     let first = take i ds in
-    let below : value 10 (figures first) < 10 ^ length (figures first) = value_below 10 (figures first) (figure_below first e) in
+    let below : value 10 (figures first) < 10 ^ length (figures first) =
+    value_below 10 (figures first) (figure_below first e) in
     let ten : 0 < 10 = omega arith in
     let short : length (figures first) ≤ 31 = omega (arith, figures_length first, length-take i ds) in
     let power : 10 ^ length (figures first) ≤ 10 ^ 31 = pow-le-pow_right ten short in

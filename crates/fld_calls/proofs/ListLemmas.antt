@@ -11,9 +11,12 @@ use Rattle.fld_calls.specs.Refusals.{letter_in}
 use Rattle.fld_calls.proofs.TryLemmas.{no_blank}
 
 -- the first of them have their letters, and the others, on the segment as it is, give the rest of the answer
-pub record IsTrying (def : MsdbDef) (all : List Argument) (start : List ℕ) (done : List Argument) (others : List Argument) (segment : List ℕ) (good : Bool) : Type 0 where
-  pub is_good : all_blank (list_on def (forms all) start).letters ≡ (good && all_blank (list_on def (forms others) segment).letters)
-  pub answered : with_letters all (list_on def (forms all) start).letters ≡ done ++ with_letters others (list_on def (forms others) segment).letters
+pub record IsTrying (def : MsdbDef) (all : List Argument) (start : List ℕ) (done : List Argument)
+    (others : List Argument) (segment : List ℕ) (good : Bool) : Type 0 where
+  pub is_good : all_blank (list_on def (forms all) start).letters ≡
+      (good && all_blank (list_on def (forms others) segment).letters)
+  pub answered : with_letters all (list_on def (forms all) start).letters ≡ done ++ with_letters others
+      (list_on def (forms others) segment).letters
   pub made : (list_on def (forms all) start).segment ≡ (list_on def (forms others) segment).segment
 
 pub trying-start : (def : MsdbDef) (all : List Argument) (start : List ℕ) → IsTrying def all start [] all start true
@@ -29,7 +32,8 @@ and_assoc true b c = refl
 and_assoc false b c = refl
 
 -- one argument more
-pub trying-step : (def : MsdbDef) (all : List Argument) (start : List ℕ) (done : List Argument) (a : Argument) (others : List Argument) (segment new : List ℕ) (good : Bool) (r : Result ⊤ Refusal)
+pub trying-step : (def : MsdbDef) (all : List Argument) (start : List ℕ) (done : List Argument) (a : Argument)
+    (others : List Argument) (segment new : List ℕ) (good : Bool) (r : Result ⊤ Refusal)
     → IsTrying def all start done (a ∷ others) segment good
     → letter_in r ≡ letter_of def (form_of a) segment
     → new ≡ (fsa_on def (form_of a) segment).segment
@@ -43,12 +47,16 @@ trying-step def all start done a others segment new good r t letter is =
     })
 
 -- none is left
-pub trying-end : (def : MsdbDef) (all : List Argument) (start : List ℕ) (done : List Argument) (segment : List ℕ) (good : Bool) → IsTrying def all start done [] segment good
+pub trying-end : (def : MsdbDef) (all : List Argument) (start : List ℕ) (done : List Argument) (segment : List ℕ)
+    (good : Bool) → IsTrying def all start done [] segment good
     → (good ≡ all_blank (list_on def (forms all) start).letters)
     × ((done ≡ with_letters all (list_on def (forms all) start).letters)
     × (segment ≡ (list_on def (forms all) start).segment))
 unfolding list_on
-trying-end def all start done segment good t = (sym (t.is_good ∙ and_all good), (sym (t.answered ∙ append-nil done), sym t.made))
+trying-end def all start done segment good t = (
+  sym (t.is_good ∙ and_all good),
+  (sym (t.answered ∙ append-nil done), sym t.made),
+)
   where
     and_all : (b : Bool) → (b && true) ≡ b
     and_all true = refl

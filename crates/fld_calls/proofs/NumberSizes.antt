@@ -27,10 +27,12 @@ bytes_below bytes n are few =
     omega (arith, below, power)
 
 half_word : (n : ℕ) → n < 256 ^ 2 → unsigned_abs (cast_signed w16 n) < 10 ^ 31
-half_word n lt = let within : Fits w16 n = omega (arith, lt) in let fits : FitsSigned w16 (cast_signed w16 n) = sfits_to_z {w = w16} {n = n} within in grind (arith, ints, fits)
+half_word n lt = let within : Fits w16 n = omega (arith, lt) in
+    let fits : FitsSigned w16 (cast_signed w16 n) = sfits_to_z {w = w16} {n = n} within in grind (arith, ints, fits)
 
 full_word : (n : ℕ) → n < 256 ^ 4 → unsigned_abs (cast_signed w32 n) < 10 ^ 31
-full_word n lt = let within : Fits w32 n = omega (arith, lt) in let fits : FitsSigned w32 (cast_signed w32 n) = sfits_to_z {w = w32} {n = n} within in grind (arith, ints, fits)
+full_word n lt = let within : Fits w32 n = omega (arith, lt) in
+    let fits : FitsSigned w32 (cast_signed w32 n) = sfits_to_z {w = w32} {n = n} within in grind (arith, ints, fits)
 
 -- a number and its sign
 abs_signed : (minus : Bool) (n : ℕ) → unsigned_abs (if minus then neg_ℤ (pos n) else pos n) ≡ n
@@ -38,9 +40,11 @@ abs_signed true zero = refl
 abs_signed true (suc n) = refl
 abs_signed false n = refl
 
-digits_below : (bytes : List ℕ) → length bytes ≤ 16 → list_all is_digit (packed_digits bytes) ≡ true → value 10 (packed_digits bytes) < 10 ^ 31
+digits_below : (bytes : List ℕ) → length bytes ≤ 16 → list_all is_digit (packed_digits bytes) ≡ true
+    → value 10 (packed_digits bytes) < 10 ^ 31
 digits_below bytes few e =
-    let below : value 10 (packed_digits bytes) < 10 ^ length (packed_digits bytes) = value_below 10 (packed_digits bytes) (digits_at (packed_digits bytes) e) in
+    let below : value 10 (packed_digits bytes) < 10 ^ length (packed_digits bytes) =
+    value_below 10 (packed_digits bytes) (digits_at (packed_digits bytes) e) in
     let ten : 0 < 10 = omega arith in
     let short : length (packed_digits bytes) ≤ 31 = omega (arith, length-packed_digits bytes) in
     let power : 10 ^ length (packed_digits bytes) ≤ 10 ^ 31 = pow-le-pow_right ten short in
@@ -48,10 +52,12 @@ digits_below bytes few e =
 
 packed_below : (bytes : List ℕ) (n : ℤ) → length bytes ≤ 16 → packed bytes ≡ Some n → unsigned_abs n < 10 ^ 31
 packed_below bytes n few e =
-    let is = tested_some (list_all is_digit (packed_digits bytes) && nat_le 10 (packed_sign bytes)) (signed_by (packed_sign bytes) (value 10 (packed_digits bytes))) n (sym e) in
+    let is = tested_some (list_all is_digit (packed_digits bytes) && nat_le 10 (packed_sign bytes))
+    (signed_by (packed_sign bytes) (value 10 (packed_digits bytes))) n (sym e) in
     let digits = and_parts (list_all is_digit (packed_digits bytes)) (nat_le 10 (packed_sign bytes)) is.0 in
     let below = digits_below bytes few digits.0 in
-    let same : unsigned_abs n ≡ value 10 (packed_digits bytes) = cc (is.1, abs_signed (packed_sign bytes == 11 || packed_sign bytes == 13) (value 10 (packed_digits bytes))) in
+    let same : unsigned_abs n ≡ value 10 (packed_digits bytes) =
+    cc (is.1, abs_signed (packed_sign bytes == 11 || packed_sign bytes == 13) (value 10 (packed_digits bytes))) in
     omega (arith, below, same)
 
 -- what a number says of the test of the length in front of it
@@ -65,7 +71,8 @@ is_few k low most e = let h = (and_parts (nat_le low k) (nat_le k most) e).1 in 
 is_exactly : (k n : ℕ) → (k == n) ≡ true → k ≤ n
 is_exactly k n e = grind (arith, nat_tests, e)
 
-below_of : (kind : FieldKind) (bytes : List ℕ) (n : ℤ) → AreBytes bytes → is_length_of kind (length bytes) ≡ true → number_of kind bytes ≡ Some n → unsigned_abs n < 10 ^ 31
+below_of : (kind : FieldKind) (bytes : List ℕ) (n : ℤ) → AreBytes bytes → is_length_of kind (length bytes) ≡ true
+    → number_of kind bytes ≡ Some n → unsigned_abs n < 10 ^ 31
 below_of C bytes n are fits e = absurd cc
 below_of X bytes n are fits e =
     let below = bytes_below bytes 8 are (is_few (length bytes) 1 8 fits) in
@@ -89,7 +96,8 @@ pub fits_sums : (n : ℤ) → unsigned_abs n < 10 ^ 31 → FitsSigned w128 n
 fits_sums n lt = fits_signed_from_abs w128 n (omega (arith, lt))
 
 -- the number of a field
-pub number_below : (kind : FieldKind) (bytes : List ℕ) (o : Option ℤ) → AreBytes bytes → o ≡ number kind bytes → IfSome o (λ n. unsigned_abs n < 10 ^ 31)
+pub number_below : (kind : FieldKind) (bytes : List ℕ) (o : Option ℤ) → AreBytes bytes → o ≡ number kind bytes
+    → IfSome o (λ n. unsigned_abs n < 10 ^ 31)
 number_below kind bytes None are e = tt
 number_below kind bytes (Some n) are e =
     let is = of_a_length (is_length_of kind (length bytes)) (number_of kind bytes) n (sym e) in

@@ -24,18 +24,23 @@ stand_below at [] end s = omega (arith, s)
 stand_below at (f ∷ fs) end (is, fits, others) = omega (arith, stand_below (at + f.length) fs end others)
 
 -- one of two
-by_name : (same : Bool) (f field : FieldDef) (end : ℕ) (later : Option FieldDef) → f.at + f.length ≤ end → (later ≡ Some field → field.at + field.length ≤ end)
+by_name : (same : Bool) (f field : FieldDef) (end : ℕ) (later : Option FieldDef) → f.at + f.length ≤ end
+    → (later ≡ Some field → field.at + field.length ≤ end)
     → (if same then Some f else later) ≡ Some field → field.at + field.length ≤ end
 by_name true f field end later first others e = let is : f ≡ field = cc e in rw is at first
 by_name false f field end later first others e = others e
 
-found_from : (at : ℕ) (fields : List FieldDef) (end : ℕ) (name : List ℕ) (field : FieldDef) → StandFrom at fields end → field_of fields name ≡ Some field → field.at + field.length ≤ end
+found_from : (at : ℕ) (fields : List FieldDef) (end : ℕ) (name : List ℕ) (field : FieldDef) → StandFrom at fields end
+    → field_of fields name ≡ Some field → field.at + field.length ≤ end
 found_from at [] end name field s e = absurd cc
 found_from at (f ∷ fs) end name field (is, fits, others) e =
-    by_name (same_text f.name.0 name) f field end (field_of fs name) (omega (arith, is, stand_below (at + f.length) fs end others)) (λ h. found_from (at + f.length) fs end name field others h) e
+    by_name (same_text f.name.0 name) f field end (field_of fs name)
+    (omega (arith, is, stand_below (at + f.length) fs end others))
+    (λ h. found_from (at + f.length) fs end name field others h) e
 
 -- a field that is found stands within the segment
-pub found_within : (fields : List FieldDef) (end : ℕ) (name : List ℕ) (field : FieldDef) → StandFrom 0 fields end → Some field ≡ field_of fields name → field.at + field.length ≤ end
+pub found_within : (fields : List FieldDef) (end : ℕ) (name : List ℕ) (field : FieldDef) → StandFrom 0 fields end
+    → Some field ≡ field_of fields name → field.at + field.length ≤ end
 found_within fields end name field s e = found_from 0 fields end name field s (sym e)
 
 -- ---- operations
@@ -64,10 +69,12 @@ no_blank refusal.Range = refl
 
 -- ---- an argument
 
-pub no_operation : (def : MsdbDef) (fsa : Fsa) (segment : List ℕ) → (is_verify fsa.op || is_change fsa.op) ≡ false → letter_of def fsa segment ≡ 65
+pub no_operation : (def : MsdbDef) (fsa : Fsa) (segment : List ℕ) → (is_verify fsa.op || is_change fsa.op) ≡ false
+    → letter_of def fsa segment ≡ 65
 no_operation def fsa segment e = rw e refl
 
-pub no_field : (def : MsdbDef) (fsa : Fsa) (segment : List ℕ) → (is_verify fsa.op || is_change fsa.op) ≡ true → None ≡ field_of def.fields fsa.field → letter_of def fsa segment ≡ 72
+pub no_field : (def : MsdbDef) (fsa : Fsa) (segment : List ℕ) → (is_verify fsa.op || is_change fsa.op) ≡ true
+    → None ≡ field_of def.fields fsa.field → letter_of def fsa segment ≡ 72
 no_field def fsa segment known e = rw (known, sym e) refl
 
 -- a segment with bytes put in a field
@@ -79,18 +86,22 @@ module _ (field : FieldDef) (segment new : List ℕ) (long : length new ≡ fiel
   put_same : new ≡ field_bytes field segment → put ≡ segment
   put_same same =
       let rest : field_bytes field segment ++ drop (field.at + field.length) segment ≡ drop field.at segment =
-      ap (λ (xs : List ℕ). field_bytes field segment ++ xs) (sym (drop-drop field.length field.at segment)) ∙ take-append-drop field.length (drop field.at segment) in
+      ap (λ (xs : List ℕ). field_bytes field segment ++ xs) (sym (drop-drop field.length field.at segment)) ∙
+      take-append-drop field.length (drop field.at segment) in
       ap (λ (xs : List ℕ). take field.at segment ++ (xs ++ drop (field.at + field.length) segment)) same
       ∙ ap (λ (xs : List ℕ). take field.at segment ++ xs) rest
       ∙ take-append-drop field.at segment
 
   put_behind : (op : ℕ) (operand : List ℕ) (change : Bool) → is_change op ≡ change
-      → (if change then changed field op (field_bytes field segment) operand else Some (field_bytes field segment)) ≡ Some new
+      → (if change then changed field op (field_bytes field segment) operand else Some (field_bytes field segment)) ≡
+      Some new
       → put ≡ segment_behind field op operand segment
-  put_behind op operand true c e = rw (c, e, long) (sym (append_assoc (take field.at segment) new (drop (field.at + field.length) segment)))
+  put_behind op operand true c e = rw (c, e, long) (sym
+      (append_assoc (take field.at segment) new (drop (field.at + field.length) segment)))
   put_behind op operand false c e = rw c (put_same (cc e))
 
-  pub put-ok : (op : ℕ) (operand : List ℕ) (r : Result ⊤ Refusal) → OnOk r (bytes_behind field op (field_bytes field segment) operand ≡ Some new)
+  pub put-ok : (op : ℕ) (operand : List ℕ) (r : Result ⊤ Refusal)
+      → OnOk r (bytes_behind field op (field_bytes field segment) operand ≡ Some new)
       → OnOk r (put ≡ segment_behind field op operand segment)
   put-ok op operand (Ok done) e = put_behind op operand (is_change op) refl e
   put-ok op operand (Err why) e = tt
@@ -100,7 +111,8 @@ module _ (field : FieldDef) (segment new : List ℕ) (long : length new ≡ fiel
   put-err (Err why) e = put_same e
 
 -- an argument whose operation is known and whose field is found
-module _ (def : MsdbDef) (fsa : Fsa) (segment : List ℕ) (field : FieldDef) (is_known : (is_verify fsa.op || is_change fsa.op) ≡ true) (is : Some field ≡ field_of def.fields fsa.field) where
+module _ (def : MsdbDef) (fsa : Fsa) (segment : List ℕ) (field : FieldDef)
+    (is_known : (is_verify fsa.op || is_change fsa.op) ≡ true) (is : Some field ≡ field_of def.fields fsa.field) where
   pub its-letter : letter_of def fsa segment ≡ letter_on field fsa.op fsa.operand (field_bytes field segment)
   its-letter = rw (is_known, sym is) refl
 
@@ -108,7 +120,8 @@ module _ (def : MsdbDef) (fsa : Fsa) (segment : List ℕ) (field : FieldDef) (is
   its-change = rw (sym is) refl
 
   -- what its answer makes of the segment
-  pub answered : (new : List ℕ) (r : Result ⊤ Refusal) → letter_in r ≡ letter_on field fsa.op fsa.operand (field_bytes field segment)
+  pub answered : (new : List ℕ) (r : Result ⊤ Refusal)
+      → letter_in r ≡ letter_on field fsa.op fsa.operand (field_bytes field segment)
       → OnOk r (new ≡ segment_behind field fsa.op fsa.operand segment)
       → OnErr r (new ≡ segment)
       → new ≡ (fsa_on def fsa segment).segment

@@ -9,7 +9,13 @@ use Rattle.fld_calls.specs.declared.arguments.FsaFault.TheVariants as fault
 
 -- an argument as the definitions see it
 abbrev pub form_of : Argument → Fsa
-form_of argument = record { field = argument.field.0; status = argument.status; op = argument.op; operand = argument.operand }
+form_of argument = record {
+  field = argument.field.0;
+  status = argument.status;
+  op = argument.op;
+  operand =
+      argument.operand;
+}
 
 abbrev pub forms : List Argument → List Fsa
 forms arguments = map form_of arguments

@@ -51,7 +51,13 @@ impl Front<'_> {
     // The argument, with a copy of its operand.
     fn fsa(&self, alloc: Global) -> Result<Fsa, AllocError>
         ensures { IfOk result (λ fsa. form_of fsa
-            ≡ record { field = self.now.field.0; status = self.now.status; op = self.now.op; operand = self.now.operand.now }) }
+            ≡ record {
+              field = self.now.field.0;
+              status = self.now.status;
+              op = self.now.op;
+              operand =
+                  self.now.operand.now;
+            }) }
     {
         Ok(Fsa {
             field: self.field,

@@ -75,7 +75,8 @@ pub fn settle_list(
 ) -> Result<(), SettleFault>
     requires fields { StandFrom 0 fields.now (length segment.old) }
     requires list { IsFsaList bytes.now }
-    ensures { (def : DefOf) → def.fields ≡ fields.now → IsSettled def (fsas_in bytes.now) segment.old result segment.new }
+    ensures { (def : DefOf) → def.fields ≡ fields.now
+        → IsSettled def (fsas_in bytes.now) segment.old result segment.new }
 {
     match read_list(alloc, bytes) {
         Ok(fsas) => settle_fsas(alloc, fields, &fsas, segment),

@@ -47,7 +47,8 @@ fn try_at(
     segment: &mut [u8],
 ) -> Result<(), Refusal>
     requires { field.now.at + field.now.length ≤ length segment.old }
-    ensures letter { letter_in result ≡ letter_on field.now (byte_of operation) operand.now (field_bytes field.now segment.old) }
+    ensures letter { letter_in result ≡ letter_on field.now (byte_of operation) operand.now
+        (field_bytes field.now segment.old) }
     ensures ok { OnOk result (segment.new ≡ segment_behind field.now (byte_of operation) operand.now segment.old) }
     ensures err { OnErr result (segment.new ≡ segment.old) }
 {

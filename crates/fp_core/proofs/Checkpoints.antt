@@ -23,7 +23,8 @@ pub record IsSealed (rules : Rules) (m : Machine) (owed : ℕ) (engine : Engine)
   pub stands : StandsFor engine (sealed_times times rules m)
 
 -- The same beside a site.
-pub record IsSealedAt (origin : Origin) (rules : Rules) (m : Machine) (owed : ℕ) (disk : Disk) (engine : Engine) : Type 0 where
+pub record IsSealedAt (origin : Origin) (rules : Rules) (m : Machine) (owed : ℕ) (disk : Disk) (engine : Engine) : Type
+    0 where
   pub times : ℕ
   pub few : times + length engine.owed.items ≤ owed
   pub at : StandsAt origin disk engine (sealed_times times rules m)
@@ -48,7 +49,8 @@ module _ (rules : Rules) (m : Machine) (owed : ℕ) (old new : Engine) (given : 
       log_after (rules_in new) (sealed_times k rules m) t.environment t.after t.turn
       ∙ ap (λ (r : Rules). sealed_once r (sealed_times k rules m)) (is_new ∙ is_old) ∙ times_more k 1 rules m
 
-  pub sealed_step : (h : IsSealed rules m owed old) → Turned event.Log (sealed_times h.times rules m) new given → IsSealed rules m owed new
+  pub sealed_step : (h : IsSealed rules m owed old) → Turned event.Log (sealed_times h.times rules m) new given
+      → IsSealed rules m owed new
   sealed_step h t = record {
     times = h.times + 1;
     few = omega (arith, h.few, fewer old new (sealed_times h.times rules m) given is_new h.stands t some);
@@ -56,7 +58,8 @@ module _ (rules : Rules) (m : Machine) (owed : ℕ) (old new : Engine) (given : 
   }
 
   module _ (origin : Origin) (d1 d2 : Disk) (h : IsSealedAt origin rules m owed d1 old) where
-    pub at_step : SteppedAt origin event.Log (sealed_times h.times rules m) d2 new given → IsSealedAt origin rules m owed d2 new
+    pub at_step : SteppedAt origin event.Log (sealed_times h.times rules m) d2 new given
+        → IsSealedAt origin rules m owed d2 new
     at_step t = record {
       times = h.times + 1;
       few = omega (arith, h.few, fewer old new (sealed_times h.times rules m) given is_new h.at.parts t.turned some);
@@ -64,8 +67,10 @@ module _ (rules : Rules) (m : Machine) (owed : ℕ) (old new : Engine) (given : 
     }
 
 -- what a LOG more leaves
-pub leaves_step : (origin : Origin) (rules : Rules) (m : Machine) (first old : Engine) (d0 d1 d2 : Disk) → rules_in old ≡ rules
-    → StandsFor first m → 1 ≤ length old.owed.items → (h : IsSealedAt origin rules m (length first.owed.items) d1 old) → IsLawful d1
+pub leaves_step : (origin : Origin) (rules : Rules) (m : Machine) (first old : Engine) (d0 d1 d2 : Disk)
+    → rules_in old ≡ rules
+    → StandsFor first m → 1 ≤ length old.owed.items → (h : IsSealedAt origin rules m (length first.owed.items) d1 old)
+    → IsLawful d1
     → Leaves origin rules m (place_of m.history - m.sealed) d0 d1
     → Leaves origin (rules_in old) (sealed_times h.times rules m) 1 d1 d2
     → Leaves origin rules m (place_of m.history - m.sealed) d0 d2
@@ -76,7 +81,8 @@ leaves_step origin rules m first old d0 d1 d2 is_old s some h law1 before one =
 
 -- ---- all
 
-all_is : (rules : Rules) (m : Machine) (first engine : Engine) (k : ℕ) → StandsFor first m → StandsFor engine (sealed_times k rules m)
+all_is : (rules : Rules) (m : Machine) (first engine : Engine) (k : ℕ) → StandsFor first m
+    → StandsFor engine (sealed_times k rules m)
     → k + length engine.owed.items ≤ length first.owed.items → length engine.owed.items ≡ 0
     → sealed_times k rules m ≡ sealed_all rules m
 all_is rules m first engine k s stands few none =
@@ -86,7 +92,8 @@ all_is rules m first engine k s stands few none =
     times_all k (place_of m.history - m.sealed) rules m within most
 
 pub all_sealed : (rules : Rules) (m : Machine) (first engine : Engine) → StandsFor first m
-    → IsSealed rules m (length first.owed.items) engine → length engine.owed.items ≡ 0 → StandsFor engine (sealed_all rules m)
+    → IsSealed rules m (length first.owed.items) engine → length engine.owed.items ≡ 0
+    → StandsFor engine (sealed_all rules m)
 all_sealed rules m first engine s h none =
     subst (StandsFor engine) (all_is rules m first engine h.times s h.stands h.few none) h.stands
 
@@ -112,7 +119,8 @@ ckpt_nothing engine m s none =
     }
 
 abbrev pub ckpt_turned : (old new : Engine) (m : Machine) (n : ℕ) → StandsFor old m → rules_in new ≡ rules_in old
-    → n ≡ length old.owed.items → 1 ≤ n → StandsFor new (sealed_all (rules_in old) m) → Turned event.Ckpt m new (did.Sealed n)
+    → n ≡ length old.owed.items → 1 ≤ n → StandsFor new (sealed_all (rules_in old) m)
+    → Turned event.Ckpt m new (did.Sealed n)
 ckpt_turned old new m n s same long some stands =
     let all : n ≡ place_of m.history - m.sealed = omega (arith, owed_long old m s, long) in
     record {

@@ -56,7 +56,8 @@ module _ (engine : Engine) (m : Machine) (t : Transaction) (active : Active) (s 
       replies_are_short engine.defs.now t.message is.script.statements t.point.answers reply
       (sym (asked_is engine.defs.now engine.scripts.now.scripts t.message is.script t.point.answers is.named) ∙ asked)
 
-module _ (engine : Engine) (m : Machine) (region : ℕ) (t : Transaction) (active : Active) (reply : List ℕ) (draft : Draft)
+module _ (engine : Engine) (m : Machine) (region : ℕ) (t : Transaction) (active : Active) (reply : List ℕ)
+    (draft : Draft)
     (w : IsAtWork engine m region t)
     (there : slice_get engine.regions (region - 1) ≡ Some (regions.Active active))
     (drafted : draft ≡ draft_of active reply) where
@@ -139,7 +140,8 @@ module _ (engine : Engine) (m : Machine) (region : ℕ) (t : Transaction) (reply
       → HoldsAll engine m region t reply
       → rules_in after ≡ rules_in engine
       → settled_as m.history.now reply (settlement engine.defs.now m.history.now t.point.own) ≡ done_as m reply store
-      → StandsFor after (ended_with region (entry_of t (done_as m reply store) t.notes items) (record m.history.now { msdbs = store.msdbs }) m)
+      → StandsFor after (ended_with region (entry_of t (done_as m reply store) t.notes items)
+      (record m.history.now { msdbs = store.msdbs }) m)
       → Turned (event.Region region) m after did.Committed
   committed after items h same ends stands =
       let ending : Ending = done_as m reply store in

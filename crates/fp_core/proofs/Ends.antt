@@ -46,7 +46,8 @@ pub stands_at : (engine : Engine) (m : Machine) (region : ℕ) (t : Transaction)
     → Stands engine m region t
 stands_at engine m zero t e = absurd (none_some (machine.Active t) e.active)
 stands_at engine m (suc place) t e =
-    let found = left_of (IsRegion engine.defs.now engine.scripts.now.scripts) engine.regions m.regions place (machine.Active t) e.stands.regions e.active in
+    let found = left_of (IsRegion engine.defs.now engine.scripts.now.scripts) engine.regions m.regions place
+    (machine.Active t) e.stands.regions e.active in
     by found.left found.there found.is
   where
     by : (r : Region) → slice_get engine.regions place ≡ Some r
@@ -64,8 +65,10 @@ region_is engine m zero t r e there = absurd (none_some (machine.Active t) e.act
 region_is engine m (suc place) t r e there =
     let same : suc place - 1 ≡ place = omega arith in
     let at : slice_get engine.regions place ≡ Some r = subst (λ n. slice_get engine.regions n ≡ Some r) same there in
-    let found = left_of (IsRegion engine.defs.now engine.scripts.now.scripts) engine.regions m.regions place (machine.Active t) e.stands.regions e.active in
-    subst (λ q. IsRegion engine.defs.now engine.scripts.now.scripts q (machine.Active t)) (some_same found.left r (sym found.there ∙ at)) found.is
+    let found = left_of (IsRegion engine.defs.now engine.scripts.now.scripts) engine.regions m.regions place
+    (machine.Active t) e.stands.regions e.active in
+    subst (λ q. IsRegion engine.defs.now engine.scripts.now.scripts q (machine.Active t))
+    (some_same found.left r (sym found.there ∙ at)) found.is
 
 -- it isn't idle,
 pub not_idle : (engine : Engine) (m : Machine) (region : ℕ) (t : Transaction) → MayEnd engine m region t
@@ -106,7 +109,8 @@ pub made_more : (defs : Defs) (first : ℕ) (h : History) (e : Entry) (next : Db
     → length h.past ≡ length h.entries → Made defs first h → IsMade defs h.now e next
     → Made defs first (with_entry e next h)
 made_more defs first h e next even made new place before after x from was is then =
-    let states : length (states_of h) ≡ length h.entries + 1 = length-append h.past (h.now ∷ []) ∙ (omega (arith, even)) in
+    let states : length (states_of h) ≡ length h.entries + 1 =
+    length-append h.past (h.now ∷ []) ∙ (omega (arith, even)) in
     let within : place < length (h.entries ++ e ∷ []) = is_within (h.entries ++ e ∷ []) place x is in
     let more : length (h.entries ++ e ∷ []) ≡ length h.entries + 1 = length-append h.entries (e ∷ []) in
     elim (split place (length h.entries) (omega (arith, within, more))) [
@@ -117,16 +121,22 @@ made_more defs first h e next even made new place before after x from was is the
           (sym (get_front (states_of h) (next ∷ []) (suc place) (omega (arith, old, states))) ∙ then)
       | inr last ↦
           let entry : x ≡ e = some_same x e (sym is ∙ get_last h.entries e place last) in
-          let first_state : before ≡ h.now = some_same before h.now (sym was ∙ get_front (states_of h) (next ∷ []) place (omega (arith, last, states)) ∙ get_last h.past h.now place (omega (arith, last, even))) in
-          let last_state : after ≡ next = some_same after next (sym then ∙ get_last (states_of h) next (suc place) (omega (arith, last, states))) in
-          subst (λ q. IsMade defs q x after) (sym first_state) (subst (λ q. IsMade defs h.now q after) (sym entry) (subst (λ q. IsMade defs h.now e q) (sym last_state) new))
+          let first_state : before ≡ h.now = some_same before h.now
+          (sym was ∙ get_front (states_of h) (next ∷ []) place (omega (arith, last, states)) ∙ get_last h.past h.now
+          place (omega (arith, last, even))) in
+          let last_state : after ≡ next = some_same after next
+          (sym then ∙ get_last (states_of h) next (suc place) (omega (arith, last, states))) in
+          subst (λ q. IsMade defs q x after) (sym first_state)
+          (subst (λ q. IsMade defs h.now q after) (sym entry)
+          (subst (λ q. IsMade defs h.now e q) (sym last_state) new))
     ]
   where
     split : (a b : ℕ) → a < b + 1 → (a < b) ⊎ (a ≡ b)
     split zero zero h = inr refl
     split zero (suc b) h = inl (omega arith)
     split (suc a) zero h = absurd (omega (arith, h))
-    split (suc a) (suc b) h = elim (split a b (omega (arith, h))) [ inl less ↦ inl (omega (arith, less)) | inr same ↦ inr (omega (arith, same)) ]
+    split (suc a) (suc b) h = elim (split a b (omega (arith, h)))
+        [ inl less ↦ inl (omega (arith, less)) | inr same ↦ inr (omega (arith, same)) ]
 
 -- the format stays where an entry doesn't change it
 pub format_more : (format : ℕ) (entries : List Entry) (e : Entry) → format_at format entries ≡ 1
@@ -164,11 +174,16 @@ module _ (engine : Engine) (m : Machine) (place : ℕ) (s : StandsFor engine m) 
         owed = owed;
         room = room;
       }) (ended_with (suc place) e next m)
-  ended_stands t e next rows store log owed room there shows same_rows sealed unsealed is_owed slots less spare of msdbs format made =
-      let one : length (m.history.entries ++ e ∷ []) ≡ length m.history.entries + 1 = length-append m.history.entries (e ∷ []) in
-      let state : length (m.history.past ++ m.history.now ∷ []) ≡ length m.history.past + 1 = length-append m.history.past (m.history.now ∷ []) in
-      let more : length (engine.log.unsealed ++ e ∷ []) ≡ length engine.log.unsealed + 1 = length-append engine.log.unsealed (e ∷ []) in
-      let count : log.sealed + length log.unsealed ≡ length m.history.entries + 1 = rw (sealed, unsealed) (omega (arith, s.count, more)) in
+  ended_stands t e next rows store log owed room there shows same_rows sealed unsealed is_owed slots less spare of msdbs
+      format made =
+      let one : length (m.history.entries ++ e ∷ []) ≡ length m.history.entries + 1 =
+      length-append m.history.entries (e ∷ []) in
+      let state : length (m.history.past ++ m.history.now ∷ []) ≡ length m.history.past + 1 =
+      length-append m.history.past (m.history.now ∷ []) in
+      let more : length (engine.log.unsealed ++ e ∷ []) ≡ length engine.log.unsealed + 1 =
+      length-append engine.log.unsealed (e ∷ []) in
+      let count : log.sealed + length log.unsealed ≡ length m.history.entries + 1 =
+      rw (sealed, unsealed) (omega (arith, s.count, more)) in
       let before : m.sealed ≤ length m.history.entries = omega (arith, s.count, s.sealed) in
       record {
         setup = s.setup;
@@ -178,7 +193,8 @@ module _ (engine : Engine) (m : Machine) (place : ℕ) (s : StandsFor engine m) 
         groups = s.groups;
         takeable = s.takeable;
         busy = s.busy;
-        regions = put_both (IsRegion engine.defs.now engine.scripts.now.scripts) engine.regions m.regions place regions.Idle machine.Idle s.regions tt;
+        regions = put_both (IsRegion engine.defs.now engine.scripts.now.scripts) engine.regions m.regions place
+            regions.Idle machine.Idle s.regions tt;
         numbers = length-set m.regions place machine.Idle ∙ s.numbers;
         locks = shows;
         rows = same_rows ∙ s.rows ∙ sym (length-set engine.regions place regions.Idle);
@@ -188,8 +204,10 @@ module _ (engine : Engine) (m : Machine) (place : ℕ) (s : StandsFor engine m) 
         format = format_more m.history.format m.history.entries e s.format format;
         count = count ∙ sym one;
         sealed = sealed ∙ s.sealed;
-        unsealed = unsealed ∙ ap (λ (xs : List Entry). xs ++ e ∷ []) s.unsealed ∙ sym (drop-append-le m.sealed m.history.entries (e ∷ []) before);
-        owed = is_owed ∙ ap (λ xs. xs ++ owed_of e ∷ []) s.owed ∙ sym (map_more owed_of engine.log.unsealed e) ∙ ap (map owed_of) (sym unsealed);
+        unsealed = unsealed ∙ ap (λ (xs : List Entry). xs ++ e ∷ []) s.unsealed ∙ sym
+            (drop-append-le m.sealed m.history.entries (e ∷ []) before);
+        owed = is_owed ∙ ap (λ xs. xs ++ owed_of e ∷ []) s.owed ∙ sym (map_more owed_of engine.log.unsealed e) ∙ ap
+            (map owed_of) (sym unsealed);
         made = made_more engine.defs.now (first_place m) m.history e next s.past s.made made;
         room =
             let put = sum_put room_of m.regions place machine.Idle (machine.Active t) there in
@@ -197,15 +215,18 @@ module _ (engine : Engine) (m : Machine) (place : ℕ) (s : StandsFor engine m) 
         spare = spare;
         slots =
             let put = sum_put one_if_active m.regions place machine.Idle (machine.Active t) there in
-            let grown : length owed.items ≡ length engine.owed.items + 1 = ap length is_owed ∙ length-append engine.owed.items (owed_of e ∷ []) in
+            let grown : length owed.items ≡ length engine.owed.items + 1 =
+            ap length is_owed ∙ length-append engine.owed.items (owed_of e ∷ []) in
             omega (arith, put, grown, slots, s.slots);
       }
 
 -- The same at the region's number, from an engine that stands for the machine but for the region's request.
-pub ended_at : (engine : Engine) (m : Machine) (region : ℕ) (t : Transaction) (e : Entry) (next : Db) (rows : List Row) (store : Stored) (log : LogState)
+pub ended_at : (engine : Engine) (m : Machine) (region : ℕ) (t : Transaction) (e : Entry) (next : Db) (rows : List Row)
+    (store : Stored) (log : LogState)
     → (owed : VecDeque Owed Global) (room : ℕ)
     → MayEnd engine m region t
-    → ((locks requests : List Lock) → Shows (standing engine.locks) locks requests → Shows (standing rows) (without_region region locks) (without_region region requests))
+    → ((locks requests : List Lock) → Shows (standing engine.locks) locks requests
+    → Shows (standing rows) (without_region region locks) (without_region region requests))
     → length rows ≡ length engine.locks
     → log.sealed ≡ engine.log.sealed
     → log.unsealed ≡ engine.log.unsealed ++ e ∷ []
@@ -225,9 +246,11 @@ pub ended_at : (engine : Engine) (m : Machine) (region : ℕ) (t : Transaction) 
       owed = owed;
       room = room;
     }) (ended_with region e next m)
-ended_at engine m zero t e next rows store log owed room w frees same_rows sealed unsealed is_owed slots less spare of msdbs format made =
+ended_at engine m zero t e next rows store log owed room w frees same_rows sealed unsealed is_owed slots less spare of
+    msdbs format made =
     absurd (none_some (machine.Active t) w.active)
-ended_at engine m (suc place) t e next rows store log owed room w frees same_rows sealed unsealed is_owed slots less spare of msdbs format made =
+ended_at engine m (suc place) t e next rows store log owed room w frees same_rows sealed unsealed is_owed slots less
+    spare of msdbs format made =
     let same : suc place - 1 ≡ place = omega arith in
     let m1 : Machine = record m { requests = w.requests } in
     let ended : StandsFor (record engine {
@@ -237,7 +260,8 @@ ended_at engine m (suc place) t e next rows store log owed room w frees same_row
       log = log;
       owed = owed;
       room = room;
-    }) (ended_with (suc place) e next m1) = ended_stands engine m1 place w.stands t e next rows store log owed room w.active (frees m.locks w.requests w.stands.locks)
+    }) (ended_with (suc place) e next m1) = ended_stands engine m1 place w.stands t e next rows store log owed room
+    w.active (frees m.locks w.requests w.stands.locks)
     same_rows sealed unsealed is_owed slots less spare of msdbs format made in
     let m2 : List Lock → Machine = λ requests. record (ended_with (suc place) e next m) { requests = requests } in
     subst (λ n. StandsFor (record engine {
@@ -280,7 +304,8 @@ bare_format (outcome.Repeat line) bare = absurd bare
 bare_format outcome.Format bare = absurd bare
 
 -- its entry, of the code's transaction and of the machine's
-pub bare_is : (defs : Defs) (scripts : List Script) (a : Active) (t : Transaction) (o : Outcome) (now : Db) → IsTransaction defs scripts a t
+pub bare_is : (defs : Defs) (scripts : List Script) (a : Active) (t : Transaction) (o : Outcome) (now : Db)
+    → IsTransaction defs scripts a t
     → bare_entry a.from o a.message.line ≡ entry_of t (refused_as o now) [] []
 bare_is defs scripts a t o now s =
     ap (λ n. bare_entry n o a.message.line) s.from ∙ ap (λ x. bare_entry t.from o x.line) s.message

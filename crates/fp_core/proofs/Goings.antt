@@ -52,7 +52,8 @@ module _ (defs : Defs) (scripts : List Script) (active : Active) (t : Transactio
   pub asks_are : (a : Ask) → ask defs s.script.statements t.message t.point.answers ≡ a
       → asks (rules_of defs scripts) t ≡ a
   asks_are a e =
-      ap (λ (o : Option Script). option_map_or (λ (x : Script). ask defs x.statements t.message t.point.answers) o (Replies [])) s.named
+      ap (λ (o : Option Script). option_map_or (λ (x : Script). ask defs x.statements t.message t.point.answers) o
+      (Replies [])) s.named
       ∙ e
 
   -- the program moves on to its next call
@@ -103,7 +104,8 @@ module _ (engine : Engine) (m : Machine) (place : ℕ) (t : Transaction) (new : 
     groups = s.groups;
     takeable = s.takeable;
     busy = s.busy;
-    regions = put_both (IsRegion engine.defs.now engine.scripts.now.scripts) engine.regions m.regions place (regions.Active new) (machine.Active u) s.regions is;
+    regions = put_both (IsRegion engine.defs.now engine.scripts.now.scripts) engine.regions m.regions place
+        (regions.Active new) (machine.Active u) s.regions is;
     numbers = length-set m.regions place (machine.Active u) ∙ s.numbers;
     locks = s.locks;
     rows = s.rows ∙ sym (length-set engine.regions place (regions.Active new));
@@ -137,7 +139,8 @@ module _ (engine : Engine) (m : Machine) (place : ℕ) (t : Transaction) (new : 
     groups = s.groups;
     takeable = s.takeable;
     busy = s.busy;
-    regions = put_left (IsRegion engine.defs.now engine.scripts.now.scripts) engine.regions m.regions place (regions.Active new) (machine.Active t) s.regions there is;
+    regions = put_left (IsRegion engine.defs.now engine.scripts.now.scripts) engine.regions m.regions place
+        (regions.Active new) (machine.Active t) s.regions there is;
     numbers = s.numbers;
     locks = s.locks;
     rows = s.rows ∙ sym (length-set engine.regions place (regions.Active new));
@@ -161,7 +164,8 @@ module _ (engine : Engine) (m : Machine) (place : ℕ) (t : Transaction) (new : 
 
   -- what its transaction came to, its region came to
   acted_here : (count : ℕ) → count ≡ length m.history.entries → (a : Acted)
-      → IsActed engine.defs.now engine.scripts.now.scripts ((standing engine.locks).holds (suc place)) m.history.now count t new a
+      → IsActed engine.defs.now engine.scripts.now.scripts ((standing engine.locks).holds (suc place)) m.history.now
+      count t new a
       → HasActed (with_active engine place new) m (suc place) t a
   acted_here count counts acts.Answered w =
       acted (with_active engine place new) m (suc place) t (Answers w.call)
@@ -169,12 +173,14 @@ module _ (engine : Engine) (m : Machine) (place : ℕ) (t : Transaction) (new : 
       there (
         w.asked,
         ap (wanted (rules_in engine) m (suc place) t) w.asked
-            ∙ ap (λ (held : Resource → Option Mode). (rules_in engine).need m.history.now t.point.own held w.call) holds_are
+            ∙ ap (λ (held : Resource → Option Mode). (rules_in engine).need m.history.now t.point.own held w.call)
+            holds_are
             ∙ w.ready,
         refl,
       )
       (stands_with (with_answer (rules_in engine) m t w.call) refl
-      (subst (λ (n : ℕ). IsTransaction engine.defs.now engine.scripts.now.scripts new (record (with_answer (rules_in engine) m t w.call) {
+      (subst (λ (n : ℕ). IsTransaction engine.defs.now engine.scripts.now.scripts new
+      (record (with_answer (rules_in engine) m t w.call) {
         notes = noted (rules_in engine) ((rules_in engine).looks t.point.own w.call) t.notes n;
       })) counts w.is))
   acted_here count counts (acts.Needs resource mode) w = record {
@@ -194,8 +200,10 @@ module _ (engine : Engine) (m : Machine) (place : ℕ) (t : Transaction) (new : 
 
 module _ (engine : Engine) (m : Machine) (t : Transaction) (new : Active) where
   -- The same at the region's number.
-  pub has_acted : (region : ℕ) → IsAtWork engine m region t → (count : ℕ) → count ≡ length m.history.entries → (a : Acted)
-      → IsActed engine.defs.now engine.scripts.now.scripts ((standing engine.locks).holds region) m.history.now count t new a
+  pub has_acted : (region : ℕ) → IsAtWork engine m region t → (count : ℕ) → count ≡ length m.history.entries
+      → (a : Acted)
+      → IsActed engine.defs.now engine.scripts.now.scripts ((standing engine.locks).holds region) m.history.now count t
+      new a
       → HasActed (with_active engine (region - 1) new) m region t a
   has_acted zero w count counts a is = absurd (none_some (machine.Active t) w.active)
   has_acted (suc place) w count counts a is =

@@ -34,18 +34,21 @@ wanted_is_new : (engine : Engine) (m : Machine) (region : ℕ) (t : Transaction)
     → wanted (rules_in engine) m region t ask ≡ Some needed
     → ¬ (held_as m.locks region needed.resource ≡ Some Exclusive)
 wanted_is_new engine m region t (Asks call) needed s is =
-    (laws_of engine.defs.now engine.scripts.now.scripts s.setup.defined.each_msdb).wants m.history.now t.point.own (held_as m.locks region) call needed is
+    (laws_of engine.defs.now engine.scripts.now.scripts s.setup.defined.each_msdb).wants m.history.now t.point.own
+    (held_as m.locks region) call needed is
 wanted_is_new engine m region t (Replies reply) needed s is =
     by ((rules_in engine).lack t.point.own (held_as m.locks region)) refl is
   where
     by : (o : Option Resource) → (rules_in engine).lack t.point.own (held_as m.locks region) ≡ o
-        → option_map (λ (resource : Resource). let n : Needed = record { resource = resource; mode = Exclusive } in n) o ≡ Some needed
+        → option_map (λ (resource : Resource). let n : Needed = record { resource = resource; mode = Exclusive } in n) o
+        ≡ Some needed
         → ¬ (held_as m.locks region needed.resource ≡ Some Exclusive)
     by None lack e = absurd (none_some needed e)
     by (Some resource) lack e =
         subst (λ (r : Resource). ¬ (held_as m.locks region r ≡ Some Exclusive))
         (ap (λ (n : Needed). n.resource) (some_same _ needed e))
-        ((laws_of engine.defs.now engine.scripts.now.scripts s.setup.defined.each_msdb).lacks t.point.own (held_as m.locks region) resource lack)
+        ((laws_of engine.defs.now engine.scripts.now.scripts s.setup.defined.each_msdb).lacks t.point.own
+        (held_as m.locks region) resource lack)
 wanted_is_new engine m region t (Rolls code) needed s is = absurd (none_some needed is)
 
 -- a lock that isn't held Exclusive is gained in front

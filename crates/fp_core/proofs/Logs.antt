@@ -20,7 +20,8 @@ with_some : (gs : List (List Entry)) (g : List Entry) → 1 ≤ length g → ima
 with_some gs [] some = absurd (omega (arith, some))
 with_some gs (e ∷ es) some = refl
 
-module _ (origin : Origin) (engine : Engine) (m : Machine) (d0 : Disk) (at : StandsAt origin d0 engine m) (law0 : IsLawful d0)
+module _ (origin : Origin) (engine : Engine) (m : Machine) (d0 : Disk) (at : StandsAt origin d0 engine m)
+    (law0 : IsLawful d0)
     (some : 1 ≤ length engine.owed.items) where
   abbrev group : List Entry
   group = take engine.defs.now.log_group engine.log.unsealed
@@ -40,10 +41,12 @@ module _ (origin : Origin) (engine : Engine) (m : Machine) (d0 : Disk) (at : Sta
   module _ (d1 : Disk) (only : OnlyOn 0 d0 d1)
       (run : Through d0 d1 (IsBeforeOrAfter origin.front (origin.groups ++ m.groups) engine.log.gate group)) where
     -- the seal failed
-    pub halts : ((image : List ℕ) → Settles d1 0 image → IsWithOrWithout origin.front (origin.groups ++ m.groups) engine.log.gate group image)
+    pub halts : ((image : List ℕ) → Settles d1 0 image
+        → IsWithOrWithout origin.front (origin.groups ++ m.groups) engine.log.gate group image)
         → Leaves origin (rules_in engine) m 1 d0 d1
     halts settles =
-        leaves_unsealed origin (rules_in engine) m group lines groups_once sent_once d0 engine.log.gate law0 at.at_rest at.sent d1 only run settles
+        leaves_unsealed origin (rules_in engine) m group lines groups_once sent_once d0 engine.log.gate law0 at.at_rest
+        at.sent d1 only run settles
 
     -- or lines were sent behind it
     module _ (law1 : IsLawful d1) (gate1 : ℕ)
@@ -58,22 +61,27 @@ module _ (origin : Origin) (engine : Engine) (m : Machine) (d0 : Disk) (at : Sta
       rest1 =
           subst (λ (gs : List (List Entry)). IsAtRest d1 origin.front gs gate1)
           (with_some (origin.groups ++ m.groups) group (some_group engine m at.parts some)
-          ∙ groups_are origin (rules_in engine) m group lines groups_once sent_once d0 engine.log.gate law0 at.at_rest at.sent)
+          ∙ groups_are origin (rules_in engine) m group lines groups_once sent_once d0 engine.log.gate law0 at.at_rest
+          at.sent)
           rest
 
       send1 : Elapses d1 d2 (Sends d1 lines)
       send1 = subst (λ (t : List ℕ). Elapses d1 d2 (Sends d1 t)) lines_are send
 
-      pub tells : (j : ℕ) × (d2.sent ≡ d1.sent ++ take j (replies_of (take n engine.owed.items))) → Leaves origin (rules_in engine) m 1 d0 d2
+      pub tells : (j : ℕ) × (d2.sent ≡ d1.sent ++ take j (replies_of (take n engine.owed.items)))
+          → Leaves origin (rules_in engine) m 1 d0 d2
       tells part =
-          leaves_sent origin (rules_in engine) m group lines groups_once sent_once d0 engine.log.gate law0 at.at_rest at.sent d1 only run law1 gate1 rest1 d2 law2 same send1
+          leaves_sent origin (rules_in engine) m group lines groups_once sent_once d0 engine.log.gate law0 at.at_rest
+          at.sent d1 only run law1 gate1 rest1 d2 law2 same send1
           (part.0, part.1 ∙ ap (λ (t : List ℕ). d1.sent ++ take part.0 t) lines_are)
 
       pub rest_behind : IsAtRest d2 origin.front (origin.groups ++ after.groups) gate1
       rest_behind =
-          rest_sent origin (rules_in engine) m group lines groups_once sent_once d0 engine.log.gate law0 at.at_rest at.sent d1 only run law1 gate1 rest1 d2 law2 same send1
+          rest_sent origin (rules_in engine) m group lines groups_once sent_once d0 engine.log.gate law0 at.at_rest
+          at.sent d1 only run law1 gate1 rest1 d2 law2 same send1
 
       pub sent_behind : d2.sent ≡ d1.sent ++ replies_of (take n engine.owed.items) → d2.sent ≡ origin.sent ++ after.sent
       sent_behind is =
-          all_sent origin (rules_in engine) m group lines groups_once sent_once d0 engine.log.gate law0 at.at_rest at.sent d1 only run law1 gate1 rest1 d2 law2 same send1
+          all_sent origin (rules_in engine) m group lines groups_once sent_once d0 engine.log.gate law0 at.at_rest
+          at.sent d1 only run law1 gate1 rest1 d2 law2 same send1
           (is ∙ ap (λ (t : List ℕ). d1.sent ++ t) lines_are)

@@ -68,7 +68,8 @@ queued_long : (place : ℕ) (message : Message) (queues : List (List Message))
 queued_long place message queues = by (slice_get queues place)
   where
     by : (o : Option (List Message))
-        → length (option_map_or (λ messages. slice_set queues place (messages ++ message ∷ [])) o queues) ≡ length queues
+        → length (option_map_or (λ messages. slice_set queues place (messages ++ message ∷ [])) o queues) ≡ length
+        queues
     by None = refl
     by (Some messages) = length-set queues place (messages ++ message ∷ [])
 
@@ -270,7 +271,8 @@ module _ (engine : Engine) (m : Machine) (s : StandsFor engine m) where
         → StandsFor (record engine { held = Some line }) (with_line (rules_in engine) line m)
     taken_held is short =
         subst (λ b. StandsFor (record engine { held = Some line }) (if b then record m { held = Some line } else
-        with_request_of (rules_in engine) line (request_of engine.scripts.now.scripts m.history line) m)) (sym (sym waits ∙ is))
+        with_request_of (rules_in engine) line (request_of engine.scripts.now.scripts m.history line) m))
+        (sym (sym waits ∙ is))
         (holds (Some line) short)
 
     -- or what it asks for is done
@@ -281,7 +283,8 @@ module _ (engine : Engine) (m : Machine) (s : StandsFor engine m) where
         → StandsFor new (with_line (rules_in engine) line m)
     taken new request is asks stands =
         subst (λ b. StandsFor new (if b then record m { held = Some line } else
-        with_request_of (rules_in engine) line (request_of engine.scripts.now.scripts m.history line) m)) (sym (sym waits ∙ is))
+        with_request_of (rules_in engine) line (request_of engine.scripts.now.scripts m.history line) m))
+        (sym (sym waits ∙ is))
         (subst (λ r. StandsFor new (with_request_of (rules_in engine) line r m)) (sym asks) stands)
 
 -- ---- IN
@@ -314,7 +317,8 @@ module _ (engine new : Engine) (m : Machine) (line : List ℕ) (rest : List (Lis
             (ap (λ (h : Option (List ℕ)). option_map_or (λ l. with_line (rules_in engine) l
             (option_map_or (λ held. record ahead { held = None }) h (record ahead { lines = rest })))
             (unwrap_or (option_map_or (λ held. Some (Some held)) h None) (Some line)) ahead) (sym none));
-        is_did = subst (λ (r : Rules). given ≡ option_map_or (did_with r ahead) (next_line ahead) did.Nothing) (sym rules)
+        is_did = subst (λ (r : Rules). given ≡ option_map_or (did_with r ahead) (next_line ahead) did.Nothing)
+            (sym rules)
             (is ∙ ap (λ (h : Option (List ℕ)). option_map_or (did_with (rules_in engine) ahead)
             (unwrap_or (option_map_or (λ held. Some (Some held)) h None) (Some line)) did.Nothing) (sym none));
         no_device = λ e. subst is_device (sym e) tt;
@@ -331,7 +335,8 @@ module _ (engine new : Engine) (m : Machine) (line : List ℕ) (rest : List (Lis
         omega (arith, kept, more);
   }
 
-  pub next_stepped_by : (old_lines new_lines : Lines) (left : List ℕ) → lines_given new_lines ≡ lines_given old_lines + 1
+  pub next_stepped_by : (old_lines new_lines : Lines) (left : List ℕ)
+      → lines_given new_lines ≡ lines_given old_lines + 1
       → m.lines ≡ line ∷ rest → rest ≡ lines_ahead new_lines left
       → SteppedBy event.In m old_lines new_lines left new given
   next_stepped_by old_lines new_lines left more ahead behind =
@@ -389,7 +394,8 @@ module _ (engine new : Engine) (m : Machine) (line : List ℕ) (given : Did)
             (unwrap_or (option_map_or (λ held. Some (Some held)) h None) (slice_get m.lines 0)) m) (sym waits));
         is_did = subst (λ (r : Rules). given ≡ option_map_or (did_with r m) (next_line m) did.Nothing) (sym rules)
             (is ∙ ap (λ (h : Option (List ℕ)). option_map_or (did_with (rules_in engine) m)
-            (unwrap_or (option_map_or (λ held. Some (Some held)) h None) (slice_get m.lines 0)) did.Nothing) (sym waits));
+            (unwrap_or (option_map_or (λ held. Some (Some held)) h None) (slice_get m.lines 0)) did.Nothing)
+            (sym waits));
         no_device = λ e. subst is_device (sym e) tt;
         stands = stands;
       }
@@ -397,7 +403,8 @@ module _ (engine new : Engine) (m : Machine) (line : List ℕ) (given : Did)
   abbrev pub held_stepped : (lines : Lines) → Stepped event.In m lines lines new given
   held_stepped lines = record {
     turned = held_turned;
-    given = ap (λ (ls : List (List ℕ)). lines_given lines + length ls) (lines_kept (rules_in engine) line (record m { held = None }));
+    given = ap (λ (ls : List (List ℕ)). lines_given lines + length ls)
+        (lines_kept (rules_in engine) line (record m { held = None }));
   }
 
   pub held_stepped_by : (lines : Lines) (left : List ℕ) → m.lines ≡ lines_ahead lines left

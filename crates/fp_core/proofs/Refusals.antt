@@ -134,69 +134,75 @@ pub unsettled : (engine : Engine) (m : Machine) (region : ℕ) (t : Transaction)
 unsettled engine m region t store log u of msdbs sealed unsealed spare = record {
   requests = u.requests;
   others = u.others;
-  stands = unsettled_stands engine (record m { requests = u.requests }) store log u.stands of msdbs sealed unsealed spare;
+  stands = unsettled_stands engine (record m { requests = u.requests }) store log u.stands of msdbs sealed unsealed
+      spare;
   active = u.active;
 }
 
 -- ---- turns
 
-module _ (engine after : Engine) (m : Machine) (region : ℕ) (t : Transaction) (same : rules_in after ≡ rules_in engine) where
-  -- its script rolls back,
-  pub rolled : (code : ℕ) → IsAtEndOf engine m region t (Rolls code)
-      → StandsFor after (ended_with region (entry_of t (refused_as (outcome.Roll code) m.history.now) t.notes []) m.history.now m)
-      → Turned (event.Region region) m after did.Refused
-  rolled code e stands =
-      let ending : Ending = refused_as (outcome.Roll code) m.history.now in
-      let m2 : Machine = ended_with region (entry_of t ending t.notes []) m.history.now m in
-      let at_end : IsAtEnd (rules_in engine) m region t ending = record {
-        lacks_none = ap (wanted (rules_in engine) m region t) e.asked;
-        ends = ap (ending_of (rules_in engine) m.history.now t) e.asked;
-      } in
-      acted after m region t (Finishes ending []) m2 e.at_work.active
-      (subst (λ (rules : Rules). Does rules m region t (Finishes ending []) m2) (sym same)
-      (at_end, (λ fails. absurd cc), refl, refl)) stands
+module _ (engine after : Engine) (m : Machine) (region : ℕ) (t : Transaction) (same : rules_in after ≡ rules_in engine)
+  where
+    -- its script rolls back,
+    pub rolled : (code : ℕ) → IsAtEndOf engine m region t (Rolls code)
+        → StandsFor after (ended_with region (entry_of t (refused_as (outcome.Roll code) m.history.now) t.notes [])
+        m.history.now m)
+        → Turned (event.Region region) m after did.Refused
+    rolled code e stands =
+        let ending : Ending = refused_as (outcome.Roll code) m.history.now in
+        let m2 : Machine = ended_with region (entry_of t ending t.notes []) m.history.now m in
+        let at_end : IsAtEnd (rules_in engine) m region t ending = record {
+          lacks_none = ap (wanted (rules_in engine) m region t) e.asked;
+          ends = ap (ending_of (rules_in engine) m.history.now t) e.asked;
+        } in
+        acted after m region t (Finishes ending []) m2 e.at_work.active
+        (subst (λ (rules : Rules). Does rules m region t (Finishes ending []) m2) (sym same)
+        (at_end, (λ fails. absurd cc), refl, refl)) stands
 
-  -- its request would close a cycle, and it begins again, or is refused,
-  pub cycle_tried : (list : List ℕ) → HasClosed engine m region t list → t.tries < (rules_in engine).tries
-      → StandsFor after (tried_again (rules_in engine) region t m)
-      → Turned (event.Region region) m after did.Retried
-  cycle_tried list h left stands =
-      let m2 : Machine = tried_again (rules_in engine) region t m in
-      acted after m region t (Retries_at_cycle h.needed h.cycle) m2 h.may_end.active
-      (subst (λ (rules : Rules). Does rules m region t (Retries_at_cycle h.needed h.cycle) m2) (sym same)
-      (h.closes, left, refl)) stands
+    -- its request would close a cycle, and it begins again, or is refused,
+    pub cycle_tried : (list : List ℕ) → HasClosed engine m region t list → t.tries < (rules_in engine).tries
+        → StandsFor after (tried_again (rules_in engine) region t m)
+        → Turned (event.Region region) m after did.Retried
+    cycle_tried list h left stands =
+        let m2 : Machine = tried_again (rules_in engine) region t m in
+        acted after m region t (Retries_at_cycle h.needed h.cycle) m2 h.may_end.active
+        (subst (λ (rules : Rules). Does rules m region t (Retries_at_cycle h.needed h.cycle) m2) (sym same)
+        (h.closes, left, refl)) stands
 
-  pub cycle_refused : (list : List ℕ) → HasClosed engine m region t list → (rules_in engine).tries ≤ t.tries
-      → StandsFor after (ended_with region (entry_of t (refused_as (outcome.Deadlock list) m.history.now) [] []) m.history.now m)
-      → Turned (event.Region region) m after did.Refused
-  cycle_refused list h used stands =
-      let m2 : Machine = refused_with (rules_in engine) m region t (outcome.Deadlock (region ∷ h.cycle)) in
-      acted after m region t (Deadlocks h.needed h.cycle) m2 h.may_end.active
-      (subst (λ (rules : Rules). Does rules m region t (Deadlocks h.needed h.cycle) m2) (sym same)
-      (h.closes, used, refl))
-      (subst (λ (xs : List ℕ). StandsFor after (ended_with region (entry_of t (refused_as (outcome.Deadlock xs) m.history.now) [] []) m.history.now m)) h.is stands)
+    pub cycle_refused : (list : List ℕ) → HasClosed engine m region t list → (rules_in engine).tries ≤ t.tries
+        → StandsFor after (ended_with region (entry_of t (refused_as (outcome.Deadlock list) m.history.now) [] [])
+        m.history.now m)
+        → Turned (event.Region region) m after did.Refused
+    cycle_refused list h used stands =
+        let m2 : Machine = refused_with (rules_in engine) m region t (outcome.Deadlock (region ∷ h.cycle)) in
+        acted after m region t (Deadlocks h.needed h.cycle) m2 h.may_end.active
+        (subst (λ (rules : Rules). Does rules m region t (Deadlocks h.needed h.cycle) m2) (sym same)
+        (h.closes, used, refl))
+        (subst (λ (xs : List ℕ). StandsFor after (ended_with region
+        (entry_of t (refused_as (outcome.Deadlock xs) m.history.now) [] []) m.history.now m)) h.is stands)
 
-  -- or a verify fails, and it begins again, or is refused
-  pub verify_tried : (call fsa : ℕ) (found : List ℕ) → IsAtWork engine m region t
-      → IsAtEnd (rules_in engine) m region t (refused_as (outcome.Verify call fsa found) m.history.now)
-      → t.tries < (rules_in engine).tries
-      → StandsFor after (tried_again (rules_in engine) region t m)
-      → Turned (event.Region region) m after did.Retried
-  verify_tried call fsa found w end left stands =
-      let ending : Ending = refused_as (outcome.Verify call fsa found) m.history.now in
-      let m2 : Machine = tried_again (rules_in engine) region t m in
-      acted after m region t (Retries_at_verify ending) m2 w.active
-      (subst (λ (rules : Rules). Does rules m region t (Retries_at_verify ending) m2) (sym same)
-      (end, refl, left, refl)) stands
+    -- or a verify fails, and it begins again, or is refused
+    pub verify_tried : (call fsa : ℕ) (found : List ℕ) → IsAtWork engine m region t
+        → IsAtEnd (rules_in engine) m region t (refused_as (outcome.Verify call fsa found) m.history.now)
+        → t.tries < (rules_in engine).tries
+        → StandsFor after (tried_again (rules_in engine) region t m)
+        → Turned (event.Region region) m after did.Retried
+    verify_tried call fsa found w end left stands =
+        let ending : Ending = refused_as (outcome.Verify call fsa found) m.history.now in
+        let m2 : Machine = tried_again (rules_in engine) region t m in
+        acted after m region t (Retries_at_verify ending) m2 w.active
+        (subst (λ (rules : Rules). Does rules m region t (Retries_at_verify ending) m2) (sym same)
+        (end, refl, left, refl)) stands
 
-  pub verify_refused : (call fsa : ℕ) (found : List ℕ) → IsAtWork engine m region t
-      → IsAtEnd (rules_in engine) m region t (refused_as (outcome.Verify call fsa found) m.history.now)
-      → (rules_in engine).tries ≤ t.tries
-      → StandsFor after (ended_with region (entry_of t (refused_as (outcome.Verify call fsa found) m.history.now) t.notes []) m.history.now m)
-      → Turned (event.Region region) m after did.Refused
-  verify_refused call fsa found w end used stands =
-      let ending : Ending = refused_as (outcome.Verify call fsa found) m.history.now in
-      let m2 : Machine = ended_with region (entry_of t ending t.notes []) m.history.now m in
-      acted after m region t (Finishes ending []) m2 w.active
-      (subst (λ (rules : Rules). Does rules m region t (Finishes ending []) m2) (sym same)
-      (end, (λ fails. used), refl, refl)) stands
+    pub verify_refused : (call fsa : ℕ) (found : List ℕ) → IsAtWork engine m region t
+        → IsAtEnd (rules_in engine) m region t (refused_as (outcome.Verify call fsa found) m.history.now)
+        → (rules_in engine).tries ≤ t.tries
+        → StandsFor after (ended_with region (entry_of t (refused_as (outcome.Verify call fsa found) m.history.now)
+        t.notes []) m.history.now m)
+        → Turned (event.Region region) m after did.Refused
+    verify_refused call fsa found w end used stands =
+        let ending : Ending = refused_as (outcome.Verify call fsa found) m.history.now in
+        let m2 : Machine = ended_with region (entry_of t ending t.notes []) m.history.now m in
+        acted after m region t (Finishes ending []) m2 w.active
+        (subst (λ (rules : Rules). Does rules m region t (Finishes ending []) m2) (sym same)
+        (end, (λ fails. used), refl, refl)) stands

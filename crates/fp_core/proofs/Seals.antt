@@ -54,9 +54,11 @@ take_min (suc k) (x ∷ xs) j e =
     let one : j ≡ suc (min k (length xs)) = omega (arith, e) in
     ap (λ (i : ℕ). take i (x ∷ xs)) one ∙ ap (λ ys. x ∷ ys) (take_min k xs (min k (length xs)) refl)
 
-entries_more : (gs : List (List Entry)) (es : List Entry) → length (entries_of (gs ++ es ∷ [])) ≡ length (entries_of gs) + length es
+entries_more : (gs : List (List Entry)) (es : List Entry)
+    → length (entries_of (gs ++ es ∷ [])) ≡ length (entries_of gs) + length es
 entries_more gs es =
-    ap length (flat_map-append (λ (x : List Entry). x) gs (es ∷ []) ∙ ap (λ l. entries_of gs ++ l) (flat_map-cons (λ (x : List Entry). x) es [] ∙ append-nil es))
+    ap length (flat_map-append (λ (x : List Entry). x) gs (es ∷ []) ∙ ap (λ l. entries_of gs ++ l)
+    (flat_map-cons (λ (x : List Entry). x) es [] ∙ append-nil es))
     ∙ length-append (entries_of gs) es
 
 -- ---- how many are owed
@@ -178,8 +180,10 @@ module _ (engine : Engine) (m : Machine) (s : StandsFor engine m) where
     pub lines_group : replies_of (take n engine.owed.items) ≡ flat_map line_of group
     lines_group = ap replies_of owed_group ∙ flat_map-map reply_of owed_of group
 
-    terminals_group : terminals_of (take n engine.owed.items) ≡ flat_map (λ (e : Entry). terminal_in (terminal_of e.line)) group
-    terminals_group = ap terminals_of owed_group ∙ flat_map-map (λ (o : Owed). terminal_in (terminal_of o.line)) owed_of group
+    terminals_group : terminals_of (take n engine.owed.items) ≡ flat_map
+        (λ (e : Entry). terminal_in (terminal_of e.line)) group
+    terminals_group = ap terminals_of owed_group ∙ flat_map-map (λ (o : Owed). terminal_in (terminal_of o.line)) owed_of
+        group
 
     module _ (log : LogState) (backlog : Backlog) (owed : VecDeque Owed Global)
         (sealed : log.sealed ≡ engine.log.sealed + n)
@@ -192,7 +196,8 @@ module _ (engine : Engine) (m : Machine) (s : StandsFor engine m) where
       same_first : first_place (with_group (rules_in engine) group m) ≡ first_place m
       same_first = omega (arith, entries_more m.groups group)
 
-      pub stands_sealed : StandsFor (record engine { queues = backlog; log = log; owed = owed }) (with_group (rules_in engine) group m)
+      pub stands_sealed : StandsFor (record engine { queues = backlog; log = log; owed = owed })
+          (with_group (rules_in engine) group m)
       stands_sealed = record {
         setup = s.setup;
         held = s.held;
@@ -201,7 +206,8 @@ module _ (engine : Engine) (m : Machine) (s : StandsFor engine m) where
         groups = s.groups;
         takeable = s.takeable;
         busy =
-            freed_same engine.queues.busy backlog.busy m.busy (flat_map (λ (e : Entry). terminal_in (terminal_of e.line)) group)
+            freed_same engine.queues.busy backlog.busy m.busy
+            (flat_map (λ (e : Entry). terminal_in (terminal_of e.line)) group)
             (subst (AreFreed engine.queues.busy backlog.busy) terminals_group freed) s.busy;
         regions = s.regions;
         numbers = s.numbers;
@@ -229,7 +235,8 @@ module _ (engine : Engine) (m : Machine) (s : StandsFor engine m) where
       pub seals : 1 ≤ length engine.owed.items
           → StandsFor (record engine { queues = backlog; log = log; owed = owed }) (sealed_once (rules_in engine) m)
       seals some =
-          subst (StandsFor (record engine { queues = backlog; log = log; owed = owed })) (sym (once_is some)) stands_sealed
+          subst (StandsFor (record engine { queues = backlog; log = log; owed = owed })) (sym (once_is some))
+          stands_sealed
 
       -- the turn
       abbrev pub log_turned : 1 ≤ length engine.owed.items

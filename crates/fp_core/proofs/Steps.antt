@@ -26,7 +26,8 @@ use Rattle.fp_core.proofs.Turns.{is_device}
 pub regions_long : (engine : Engine) (m : Machine) → StandsFor engine m
     → length engine.regions ≡ length engine.defs.now.regions
 regions_long engine m s =
-    sym (AllZip-long (IsRegion engine.defs.now engine.scripts.now.scripts) engine.regions m.regions s.regions) ∙ s.numbers
+    sym (AllZip-long (IsRegion engine.defs.now engine.scripts.now.scripts) engine.regions m.regions s.regions) ∙
+    s.numbers
 
 -- ---- turns
 
@@ -56,12 +57,14 @@ region_stepped region m lines engine given t =
 pub log_stepped : (m : Machine) (lines : Lines) (engine : Engine) (given : Did)
     → Turned event.Log m engine given → Stepped event.Log m lines lines engine given
 log_stepped m lines engine given t =
-    stepped_with event.Log m lines engine given t (turn_keeps (rules_in engine) m event.Log t.environment t.after t.turn).0.lines
+    stepped_with event.Log m lines engine given t (turn_keeps (rules_in engine) m event.Log t.environment t.after
+    t.turn).0.lines
 
 pub ckpt_stepped : (m : Machine) (lines : Lines) (engine : Engine) (given : Did)
     → Turned event.Ckpt m engine given → Stepped event.Ckpt m lines lines engine given
 ckpt_stepped m lines engine given t =
-    stepped_with event.Ckpt m lines engine given t (turn_keeps (rules_in engine) m event.Ckpt t.environment t.after t.turn).0.lines
+    stepped_with event.Ckpt m lines engine given t (turn_keeps (rules_in engine) m event.Ckpt t.environment t.after
+    t.turn).0.lines
 
 -- ---- beside site and source
 
@@ -145,11 +148,13 @@ same_text_between text = record { more = []; rest = []; from = sym (append-nil t
 pub left_alone : (origin : Origin) (rules : Rules) (m : Machine) (most : ℕ) (disk : Disk) (engine : Engine)
     → IsLawful disk → StandsAt origin disk engine m → Leaves origin rules m most disk disk
 left_alone origin rules m most disk engine law at =
-    let groups : (image : List ℕ) → image ≡ disk.contents 0 → HasGroups origin rules m most m.sent image = λ image same. record {
+    let groups : (image : List ℕ) → image ≡ disk.contents 0 → HasGroups origin rules m most m.sent image =
+    λ image same. record {
       times = 0;
       few = omega arith;
       gate = engine.log.gate;
-      log = subst (λ bytes. IsLog origin.front bytes (origin.groups ++ m.groups) engine.log.gate) (sym same) at.at_rest.log;
+      log = subst (λ bytes. IsLog origin.front bytes (origin.groups ++ m.groups) engine.log.gate) (sym same)
+          at.at_rest.log;
       lines = same_text_between m.sent;
     } in
     record {

@@ -94,7 +94,8 @@ at_work_few (machine.Active t ∷ rs) =
 pub is_idle : (engine : Engine) (m : Machine) (place : ℕ) → StandsFor engine m
     → slice_get engine.regions place ≡ Some regions.Idle → slice_get m.regions place ≡ Some machine.Idle
 is_idle engine m place s idle =
-    let found = right_of (IsRegion engine.defs.now engine.scripts.now.scripts) engine.regions m.regions place regions.Idle s.regions idle in
+    let found = right_of (IsRegion engine.defs.now engine.scripts.now.scripts) engine.regions m.regions place
+    regions.Idle s.regions idle in
     by found.right found.there found.is
   where
     by : (r : machine.Region) → slice_get m.regions place ≡ Some r
@@ -118,8 +119,10 @@ idle_turned engine new m place messages rules idle are stands =
       turn = subst (λ (r : Rules). RegionTurn r m (suc place) (slice_get m.regions place) NoFault after) (sym rules)
           (subst (λ (o : Option machine.Region). RegionTurn (rules_in engine) m (suc place) o NoFault after) (sym idle)
           (ap (begins_in (rules_in engine) m (suc place)) (sym are)));
-      is_did = subst (λ (r : Rules). IsDidOfRegion r m (suc place) (slice_get m.regions place) NoFault after (did_take messages)) (sym rules)
-          (subst (λ (o : Option machine.Region). IsDidOfRegion (rules_in engine) m (suc place) o NoFault after (did_take messages)) (sym idle)
+      is_did = subst (λ (r : Rules). IsDidOfRegion r m (suc place) (slice_get m.regions place) NoFault after
+          (did_take messages)) (sym rules)
+          (subst (λ (o : Option machine.Region). IsDidOfRegion (rules_in engine) m (suc place) o NoFault after
+          (did_take messages)) (sym idle)
           (ap did_take (sym are)));
       no_device = λ e. subst is_device (sym e) tt;
       stands = stands;
@@ -144,7 +147,8 @@ group_within engine m place group s in_group =
 pub first_takeable : (engine : Engine) (m : Machine) (group : ℕ) (message : Message) → StandsFor engine m
     → slice_get (queue_of group engine.queues) 0 ≡ Some message → IsTakeable engine.scripts.now.scripts message
 first_takeable engine m group message s first =
-    let all = subst (AllByRecursion (AllByRecursion (IsTakeable engine.scripts.now.scripts))) (sym s.queues) s.takeable in
+    let all = subst (AllByRecursion (AllByRecursion (IsTakeable engine.scripts.now.scripts))) (sym s.queues) s.takeable
+    in
     each_has (IsTakeable engine.scripts.now.scripts) (queue_of group engine.queues) 0 message
     (all_at (IsTakeable engine.scripts.now.scripts) engine.queues.queues (group - 1) all) first
 
@@ -193,7 +197,8 @@ module _ (engine : Engine) (m : Machine) (place group : ℕ) (s : StandsFor engi
   queue_is : queue_of_region (rules_in engine) (suc place) ≡ group - 1
   queue_is =
       let e : suc place - 1 ≡ place = omega arith in
-      ap (λ (p : ℕ). unwrap_or (slice_get engine.defs.now.regions p) 0 - 1) e ∙ ap (λ (o : Option ℕ). unwrap_or o 0 - 1) in_group
+      ap (λ (p : ℕ). unwrap_or (slice_get engine.defs.now.regions p) 0 - 1) e ∙ ap (λ (o : Option ℕ). unwrap_or o 0 - 1)
+      in_group
 
   messages_are : messages_for (rules_in engine) m (suc place) ≡ queue_of group engine.queues
   messages_are =
@@ -233,7 +238,8 @@ module _ (engine : Engine) (m : Machine) (place group : ℕ) (s : StandsFor engi
         let here : slice_get m.regions place ≡ Some machine.Idle = is_idle engine m place s idle in
         let t : Transaction = begun_in (rules_in engine) m message 0 in
         let others : List Message = drop 1 (queue_of group engine.queues) in
-        let all : AllByRecursion (AllByRecursion (IsTakeable engine.scripts.now.scripts)) engine.queues.queues = subst (AllByRecursion (AllByRecursion (IsTakeable engine.scripts.now.scripts))) (sym s.queues) s.takeable in
+        let all : AllByRecursion (AllByRecursion (IsTakeable engine.scripts.now.scripts)) engine.queues.queues =
+        subst (AllByRecursion (AllByRecursion (IsTakeable engine.scripts.now.scripts))) (sym s.queues) s.takeable in
         idle_turned engine with_taken m place (message ∷ others) refl here
         (messages_are ∙ with_first (queue_of group engine.queues) message oldest)
         (record {
@@ -244,11 +250,13 @@ module _ (engine : Engine) (m : Machine) (place group : ℕ) (s : StandsFor engi
               ∙ ap (λ (qs : List (List Message)). slice_set qs (group - 1) others) s.queues
               ∙ ap (λ (q : ℕ). slice_set m.queues q others) (sym queue_is);
           groups = length-set m.queues (queue_of_region (rules_in engine) (suc place)) others ∙ s.groups;
-          takeable = all_put (AllByRecursion (IsTakeable engine.scripts.now.scripts)) m.queues (queue_of_region (rules_in engine) (suc place)) others s.takeable
+          takeable = all_put (AllByRecursion (IsTakeable engine.scripts.now.scripts)) m.queues
+              (queue_of_region (rules_in engine) (suc place)) others s.takeable
               (all_rest (IsTakeable engine.scripts.now.scripts) (queue_of group engine.queues)
               (all_at (IsTakeable engine.scripts.now.scripts) engine.queues.queues (group - 1) all));
           busy = subst (λ names. AreSame names m.busy) (sym busy) s.busy;
-          regions = put_both (IsRegion engine.defs.now engine.scripts.now.scripts) engine.regions m.regions place (regions.Active active) (machine.Active t) s.regions is;
+          regions = put_both (IsRegion engine.defs.now engine.scripts.now.scripts) engine.regions m.regions place
+              (regions.Active active) (machine.Active t) s.regions is;
           numbers = length-set m.regions place (machine.Active t) ∙ s.numbers;
           locks = s.locks;
           rows = s.rows ∙ sym (length-set engine.regions place (regions.Active active));
@@ -267,8 +275,10 @@ module _ (engine : Engine) (m : Machine) (place group : ℕ) (s : StandsFor engi
           spare = spare;
           slots =
               let few = at_work_few (slice_set m.regions place (machine.Active t)) in
-              let long : length (slice_set m.regions place (machine.Active t)) ≡ length m.regions = length-set m.regions place (machine.Active t) in
-              let both = AllZip-long (IsRegion engine.defs.now engine.scripts.now.scripts) engine.regions m.regions s.regions in
+              let long : length (slice_set m.regions place (machine.Active t)) ≡ length m.regions =
+              length-set m.regions place (machine.Active t) in
+              let both = AllZip-long (IsRegion engine.defs.now engine.scripts.now.scripts) engine.regions m.regions
+              s.regions in
               omega (arith, few, long, both, slots);
         })
 
@@ -288,7 +298,8 @@ nothing engine m (suc place) group some s in_group idle none =
 pub takes : (engine : Engine) (m : Machine) (place group region : ℕ) → suc place ≡ region → (s : StandsFor engine m)
     → slice_get engine.defs.now.regions place ≡ Some group
     → slice_get engine.regions place ≡ Some regions.Idle
-    → (message : Message) (active : Active) (backlog : Backlog) (log : LogState) (owed : VecDeque Owed Global) (room : ℕ)
+    → (message : Message) (active : Active) (backlog : Backlog) (log : LogState) (owed : VecDeque Owed Global)
+    (room : ℕ)
     → slice_get (queue_of group engine.queues) 0 ≡ Some message
     → backlog.queues ≡ slice_set engine.queues.queues (group - 1) (drop 1 (queue_of group engine.queues))
     → backlog.busy ≡ engine.queues.busy
@@ -300,7 +311,14 @@ pub takes : (engine : Engine) (m : Machine) (place group region : ℕ) → suc p
     → active.from ≡ engine.log.sealed + length engine.log.unsealed
     → active.message ≡ message
     → IsTransaction engine.defs.now engine.scripts.now.scripts
-    (record { from = active.from; message = message; program = active.program; work = active.work; tries = active.tries })
+    (record {
+      from = active.from;
+      message = message;
+      program = active.program;
+      work = active.work;
+      tries =
+          active.tries;
+    })
     (record { from = active.from; message = message; point = begun (rules_in engine); notes = []; tries = 0 })
     → Turned (event.Region region) m (record engine {
       queues = backlog;
@@ -309,7 +327,8 @@ pub takes : (engine : Engine) (m : Machine) (place group region : ℕ) → suc p
       owed = owed;
       room = room;
     }) did.Took
-takes engine m place group region numbered s in_group idle message active backlog log owed room oldest rest busy same items slots more spare from is_message b =
+takes engine m place group region numbered s in_group idle message active backlog log owed room oldest rest busy same
+    items slots more spare from is_message b =
     let engine2 : Engine = record engine {
       queues = backlog;
       regions = slice_set engine.regions place (regions.Active active);
@@ -318,7 +337,8 @@ takes engine m place group region numbered s in_group idle message active backlo
       room = room;
     } in
     subst (λ (n : ℕ). Turned (event.Region n) m engine2 did.Took) numbered
-    (takes_here engine m place group s in_group idle message active backlog log owed room oldest rest busy same items slots more spare
+    (takes_here engine m place group s in_group idle message active backlog log owed room oldest rest busy same items
+    slots more spare
     (record {
       from = from ∙ s.count;
       message = is_message;

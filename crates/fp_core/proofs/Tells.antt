@@ -18,7 +18,8 @@ use Rattle.fp_core.specs.Sealing.{AreFreed}
 
 -- without names that are told
 among_without : (told busy : List Name) (name : Name)
-    → is_among (filter (λ other. not (is_among told other)) busy) name ≡ (not (is_among told name) && is_among busy name)
+    → is_among (filter (λ other. not (is_among told other)) busy) name ≡
+    (not (is_among told name) && is_among busy name)
 among_without told busy name =
     any-filter_same (same_name name) (λ other. not (is_among told other)) (not (is_among told name))
     (λ other same. ap (λ n. not (is_among told n)) (sym (same_names name other same))) busy
@@ -31,7 +32,8 @@ freed_none names name = refl
 pub freed_one : (old new : List Name) (name : Name) → AreSame new (without name old) → AreFreed old new (name ∷ [])
 freed_one old new name same other =
     same other
-    ∙ any-filter_same (same_name other) (λ q. not (same_name name q)) (not (same_name name other)) (λ q is. ap (λ n. not (same_name name n)) (sym (same_names other q is))) old
+    ∙ any-filter_same (same_name other) (λ q. not (same_name name q)) (not (same_name name other))
+    (λ q is. ap (λ n. not (same_name name n)) (sym (same_names other q is))) old
     ∙ ap (λ b. not b && is_among old other) (flipped name other ∙ by (same_name other name))
   where
     by : (b : Bool) → b ≡ (b || false)
@@ -142,7 +144,8 @@ pub part_after : (s0 s1 s2 a b : List ℕ) → s1 ≡ s0 ++ a → (n : ℕ) × (
     → (j : ℕ) × (s2 ≡ s0 ++ take j (a ++ b))
 part_after s0 s1 s2 a b first h = (
   length a + h.0,
-  h.1 ∙ ap (λ (t : List ℕ). t ++ take h.0 b) first ∙ append_assoc s0 a (take h.0 b) ∙ ap (λ (t : List ℕ). s0 ++ t) (take_behind h.0 a b),
+  h.1 ∙ ap (λ (t : List ℕ). t ++ take h.0 b) first ∙ append_assoc s0 a (take h.0 b) ∙ ap (λ (t : List ℕ). s0 ++ t)
+      (take_behind h.0 a b),
 )
 
 pub all_after : (s0 s1 s2 a b : List ℕ) → s1 ≡ s0 ++ a → s2 ≡ s1 ++ b → s2 ≡ s0 ++ (a ++ b)
@@ -162,7 +165,9 @@ module _ (d0 d1 : Disk) (a b : List ℕ) (law0 : IsLawful d0) (law1 : IsLawful d
         sent = λ told.
             let told1 = first.tells_sent told in
             x.sent told1
-            ∙ ap (λ (t : List ℕ). t ++ take x.count b) (law1.sent_now told1 x.before x.left ∙ is_sent ∙ ap (λ (t : List ℕ). t ++ a) (sym (law0.sent_now told old.before old.left)))
+            ∙ ap (λ (t : List ℕ). t ++ take x.count b)
+            (law1.sent_now told1 x.before x.left ∙ is_sent ∙ ap (λ (t : List ℕ). t ++ a)
+            (sym (law0.sent_now told old.before old.left)))
             ∙ append_assoc old.before.sent a (take x.count b)
             ∙ ap (λ (t : List ℕ). old.before.sent ++ t) (take_behind x.count a b);
       }

@@ -44,7 +44,8 @@ module _ (defs : Defs) (scripts : List Script) (program : Program) (work : Progr
       → new ≡ code_of from c.message (c.tries + 1)
       → IsTransaction defs scripts new (begun_as place t.message (t.tries + 1))
   begins_again a c new t from place at seen there tries is e =
-      let made = subst (λ (x : Message). IsTransaction defs scripts (code_of place x (t.tries + 1)) (begun_as place x (t.tries + 1))) seen (is place (t.tries + 1)) in
+      let made = subst (λ (x : Message). IsTransaction defs scripts (code_of place x (t.tries + 1))
+      (begun_as place x (t.tries + 1))) seen (is place (t.tries + 1)) in
       let same : new ≡ code_of place t.message (t.tries + 1) =
       e ∙ ap (λ (n : ℕ). code_of n c.message (c.tries + 1)) at
       ∙ ap (λ (x : Message). code_of place x (c.tries + 1)) there
@@ -56,7 +57,8 @@ module _ (defs : Defs) (scripts : List Script) (program : Program) (work : Progr
 -- The region's locks and its request are gone, and its transaction is at its beginning.
 pub tried_at : (engine : Engine) (m : Machine) (region : ℕ) (t : Transaction) (new : Active) (rows : List Row)
     → MayEnd engine m region t
-    → IsTransaction engine.defs.now engine.scripts.now.scripts new (begun_in (rules_in engine) m t.message (t.tries + 1))
+    → IsTransaction engine.defs.now engine.scripts.now.scripts new
+    (begun_in (rules_in engine) m t.message (t.tries + 1))
     → ((locks requests : List Lock) → Shows (standing engine.locks) locks requests
     → Shows (standing rows) (without_region region locks) (without_region region requests))
     → length rows ≡ length engine.locks
@@ -68,8 +70,16 @@ tried_at engine m (suc place) t new rows u is frees same_rows =
     let again : Transaction = begun_in (rules_in engine) m t.message (t.tries + 1) in
     let m1 : Machine = record m { requests = u.requests } in
     let m2 : Machine = record m1 { regions = slice_set m.regions place (machine.Active again) } in
-    let begun : StandsFor (with_active engine place new) m2 = stands_with engine m1 place t new u.stands u.active again refl is in
-    let freed = locked_stands (with_active engine place new) m2 rows (without_region (suc place) m.locks) (without_region (suc place) u.requests) begun (frees m.locks u.requests u.stands.locks) same_rows in
-    let after : List Lock → Machine = λ requests. record (tried_again (rules_in engine) (suc place) t m) { requests = requests } in
-    subst (λ n. StandsFor (record engine { regions = slice_set engine.regions n (regions.Active new); locks = rows }) (tried_again (rules_in engine) (suc place) t m)) (sym same)
-    (subst (λ (requests : List Lock). StandsFor (record engine { regions = slice_set engine.regions place (regions.Active new); locks = rows }) (after requests)) u.others freed)
+    let begun : StandsFor (with_active engine place new) m2 =
+    stands_with engine m1 place t new u.stands u.active again refl is in
+    let freed = locked_stands (with_active engine place new) m2 rows (without_region (suc place) m.locks)
+    (without_region (suc place) u.requests) begun (frees m.locks u.requests u.stands.locks) same_rows in
+    let after : List Lock → Machine = λ requests. record (tried_again (rules_in engine) (suc place) t m) {
+      requests =
+          requests;
+    } in
+    subst (λ n. StandsFor (record engine { regions = slice_set engine.regions n (regions.Active new); locks = rows })
+    (tried_again (rules_in engine) (suc place) t m)) (sym same)
+    (subst (λ (requests : List Lock). StandsFor (record engine
+    { regions = slice_set engine.regions place (regions.Active new); locks = rows }) (after requests)) u.others
+    freed)

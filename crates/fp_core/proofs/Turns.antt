@@ -33,7 +33,8 @@ acted engine m region t act after there does stands = record {
   after = after;
   environment = NoFault;
   turn = subst (λ (o : Option Region). RegionTurn (rules_in engine) m region o NoFault after) (sym there) (act, does);
-  is_did = subst (λ (o : Option Region). IsDidOfRegion (rules_in engine) m region o NoFault after (did_of act)) (sym there) (act, does, refl);
+  is_did = subst (λ (o : Option Region). IsDidOfRegion (rules_in engine) m region o NoFault after (did_of act))
+      (sym there) (act, does, refl);
   no_device = λ e. subst is_device (sym e) tt;
   stands = stands;
 }
@@ -49,7 +50,8 @@ starved engine m region t there stands =
       after = after;
       environment = OutOfMemory;
       turn = subst (λ (o : Option Region). RegionTurn (rules_in engine) m region o OutOfMemory after) (sym there) refl;
-      is_did = subst (λ (o : Option Region). IsDidOfRegion (rules_in engine) m region o OutOfMemory after did.Refused) (sym there) refl;
+      is_did = subst (λ (o : Option Region). IsDidOfRegion (rules_in engine) m region o OutOfMemory after did.Refused)
+          (sym there) refl;
       no_device = λ e. subst is_device (sym e) tt;
       stands = stands;
     }
@@ -59,7 +61,8 @@ starved engine m region t there stands =
 -- at a reply, the first segment that it lacks
 pub lacks : (rules : Rules) (m : Machine) (region : ℕ) (t : Transaction) (reply : List ℕ) → asks rules t ≡ Replies reply
     → wanted rules m region t (asks rules t)
-    ≡ option_map (λ resource. let needed : Needed = record { resource = resource; mode = Exclusive } in needed) (rules.lack t.point.own (holds rules m region))
+    ≡ option_map (λ resource. let needed : Needed = record { resource = resource; mode = Exclusive } in needed)
+    (rules.lack t.point.own (holds rules m region))
 lacks rules m region t reply asked = ap (wanted rules m region t) asked
 
 -- a region that the code has at work is at work
@@ -69,11 +72,14 @@ pub at_work : (engine : Engine) (m : Machine) (region : ℕ) (active : ActiveOf)
 at_work engine m zero active some s there = absurd (omega (arith, some))
 at_work engine m (suc place) active some s there =
     let same : suc place - 1 ≡ place = omega arith in
-    let at : slice_get engine.regions place ≡ Some (regions.Active active) = subst (λ n. slice_get engine.regions n ≡ Some (regions.Active active)) same there in
-    let found = right_of (IsRegion engine.defs.now engine.scripts.now.scripts) engine.regions m.regions place (regions.Active active) s.regions at in
+    let at : slice_get engine.regions place ≡ Some (regions.Active active) =
+    subst (λ n. slice_get engine.regions n ≡ Some (regions.Active active)) same there in
+    let found = right_of (IsRegion engine.defs.now engine.scripts.now.scripts) engine.regions m.regions place
+    (regions.Active active) s.regions at in
     by found.right found.there found.is
   where
-    by : (r : Region) → slice_get m.regions place ≡ Some r → IsRegion engine.defs.now engine.scripts.now.scripts (regions.Active active) r
+    by : (r : Region) → slice_get m.regions place ≡ Some r
+        → IsRegion engine.defs.now engine.scripts.now.scripts (regions.Active active) r
         → (t : Transaction) × IsAtWork engine m (suc place) t
     by Idle there is = absurd is
     by (Active t) there is = (t, record { stands = s; active = there })

@@ -13,7 +13,8 @@ use Rattle.fp_core.specs.declared.stop.Stop.TheVariants as stop
 -- the reply line of an entry that is owed, with its newline; no bytes where nobody is told
 abbrev pub reply_of : Owed → List ℕ
 reply_of owed =
-    option_map_or (λ text. text ++ 10 ∷ []) (line_for (addressee (terminal_of owed.line)) (verdict owed.outcome owed.reply)) []
+    option_map_or (λ text. text ++ 10 ∷ []) (line_for (addressee (terminal_of owed.line))
+    (verdict owed.outcome owed.reply)) []
 
 -- the reply lines of these, in order
 abbrev pub replies_of : List Owed → List ℕ

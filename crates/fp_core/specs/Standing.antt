@@ -77,7 +77,8 @@ module _ (origin : Origin) (rules : Rules) (m : Machine) (most : ℕ) where
     pub was_left : old.may_leave before
     pub others : (set : ℕ) → ¬ (set ≡ 0) → s.images set ≡ before.images set
 
-  -- The disk is one that a step from this machine may end with: each image that a sync may make of the log is such a one.
+  -- The disk is one that a step from this machine may end with: each image that a sync may make of the log is such a
+  -- one.
   pub record IsWithin (old new : Disk) : Type 0 where
     pub text : List ℕ
     pub sent : new.sent ≡ origin.sent ++ text

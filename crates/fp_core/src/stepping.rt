@@ -57,8 +57,8 @@ fn router_of<'a>(exits: &'a Exits, kind: Kind) -> &'a Router
 }
 
 impl<'a> Core<'a> {
-    /// The system at rest: nothing is queued, held or locked, and no region is at work. Of the exits it takes the router
-    /// that the definitions name. It fails only for want of memory.
+    /// The system at rest: nothing is queued, held or locked, and no region is at work. Of the exits it takes the
+    /// router that the definitions name. It fails only for want of memory.
     pub fn new(
         alloc: Global,
         defs: &'a Defs,

@@ -19,8 +19,10 @@ append_nothing [] = refl
 append_nothing (x ∷ xs) = ap (λ ys. x ∷ ys) (append_nothing xs)
 
 read_behind : {A B : Type 0} (read : List A → B → Result A DefsFault) (before : List A) (xs : List B) (all : List A)
-    → in_turn read before xs ≡ Ok all → (ys : List A) × (all ≡ before ++ ys) × Beside (IsRead read) before ys × (length ys ≡ length xs)
-read_behind read before [] all e = let same : before ≡ all = cc in ([], sym same ∙ sym (append_nothing before), tt, refl)
+    → in_turn read before xs ≡ Ok all → (ys : List A) × (all ≡ before ++ ys) × Beside (IsRead read) before ys
+    × (length ys ≡ length xs)
+read_behind read before [] all e = let same : before ≡ all = cc in
+    ([], sym same ∙ sym (append_nothing before), tt, refl)
 read_behind read before (x ∷ xs) all e =
     let step = ok_step (read before x) (λ y. in_turn read (before ++ y ∷ []) xs) all e in
     let rest = read_behind read (before ++ step.0 ∷ []) xs all step.2 in
@@ -34,10 +36,12 @@ read_in_turn read xs all e =
     let same : all ≡ h.0 = h.1 in
     (subst (Beside (IsRead read) []) (sym same) h.2, ap length same ∙ h.3)
 
-pub beside_map : {A : Type 0} (P Q : List A → A → Type 0) → ((before : List A) (y : A) → P before y → Q before y) → (before ys : List A) → Beside P before ys → Beside Q before ys
+pub beside_map : {A : Type 0} (P Q : List A → A → Type 0) → ((before : List A) (y : A) → P before y → Q before y)
+    → (before ys : List A) → Beside P before ys → Beside Q before ys
 beside_map P Q h before [] all = tt
 beside_map P Q h before (y ∷ ys) all = (h before y all.0, beside_map P Q h (before ++ y ∷ []) ys all.1)
 
-pub beside_each : {A : Type 0} (P : A → Type 0) (before ys : List A) → Beside (λ _ y. P y) before ys → AllByRecursion P ys
+pub beside_each : {A : Type 0} (P : A → Type 0) (before ys : List A) → Beside (λ _ y. P y) before ys
+    → AllByRecursion P ys
 beside_each P before [] all = tt
 beside_each P before (y ∷ ys) all = (all.0, beside_each P (before ++ y ∷ []) ys all.1)

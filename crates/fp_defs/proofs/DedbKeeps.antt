@@ -33,19 +33,22 @@ use Rattle.fp_defs.proofs.Steps.{ok_step}
 
 -- ---- types together
 
-each_type : (before ys all : List SegDef) → all ≡ before ++ ys → Beside SegmentKeeps before ys → AllByRecursion (IsSegDef all) ys
+each_type : (before ys all : List SegDef) → all ≡ before ++ ys → Beside SegmentKeeps before ys
+    → AllByRecursion (IsSegDef all) ys
 each_type before [] all e keeps = tt
 each_type before (y ∷ ys) all e keeps = (
   subst (λ (types : List SegDef). IsSegDef types y) (sym e) (keeps.0.0 (y ∷ ys)),
   each_type (before ++ y ∷ []) ys all (e ∙ sym (append_assoc before (y ∷ []) ys)) keeps.1,
 )
 
-levels_from : (types : List SegDef) (place : ℕ) (defs : List SegDef) → depth_from types place defs ≤ 4 → AllWithinLevels types place defs
+levels_from : (types : List SegDef) (place : ℕ) (defs : List SegDef) → depth_from types place defs ≤ 4
+    → AllWithinLevels types place defs
 levels_from types place [] h = tt
 levels_from types place (def ∷ defs) h = (grind arith, levels_from types (place + 1) defs (grind arith))
 
 -- names that are apart, as a list of names
-apart_names : {A : Type 0} (name : A → Name) (xs : List A) → IsDistinct same_text (map (λ x. (name x).0) xs) → AreDistinct (map name xs)
+apart_names : {A : Type 0} (name : A → Name) (xs : List A) → IsDistinct same_text (map (λ x. (name x).0) xs)
+    → AreDistinct (map name xs)
 apart_names name xs distinct = subst (IsDistinct same_text) (sym (map_twice name (λ n. n.0) xs)) distinct
 
 -- ---- the size of an interval, and tables
@@ -55,7 +58,8 @@ size_by true n m fault e = (refl, cc)
 size_by false n m fault e = absurd (cc)
 
 size_in-is : (z : ℤ) (n : ℕ) → size_in z ≡ Ok n → is_interval_size n ≡ true
-size_in-is (pos m) n e = let h = size_by (is_interval_size m) m n (OutOfLimit (codes "ci") (pos m)) e in subst (λ (k : ℕ). is_interval_size k ≡ true) h.1 h.0
+size_in-is (pos m) n e = let h = size_by (is_interval_size m) m n (OutOfLimit (codes "ci") (pos m)) e in
+    subst (λ (k : ℕ). is_interval_size k ≡ true) h.1 h.0
 size_in-is (negsuc m) n e = absurd (cc)
 
 interval_size-is : (table : Members) (n : ℕ) → interval_size_at table ≡ Ok n → is_interval_size n ≡ true
@@ -84,9 +88,11 @@ size_among n e =
 
 some_table : (key : List ℕ) (read tables : List Members) → not_empty key read ≡ Ok tables → 1 ≤ length tables
 some_table key [] tables e = absurd (cc)
-some_table key (t ∷ ts) tables e = let same : t ∷ ts ≡ tables = cc in subst (λ (l : List Members). 1 ≤ length l) same (omega arith)
+some_table key (t ∷ ts) tables e = let same : t ∷ ts ≡ tables = cc in
+    subst (λ (l : List Members). 1 ≤ length l) same (omega arith)
 
-tables_at-some : (key : List ℕ) (table : Members) (tables : List Members) → tables_at key table ≡ Ok tables → 1 ≤ length tables
+tables_at-some : (key : List ℕ) (table : Members) (tables : List Members) → tables_at key table ≡ Ok tables
+    → 1 ≤ length tables
 unfolding tables_at
 tables_at-some key table tables e =
     let value = ok_step (needed key table) _ tables e in
@@ -125,8 +131,10 @@ end_keeps before read def e =
       intervals = (within-ok _ _ _ _ _ i.1).1;
     }
 
-behind_keeps : (msdbs : List MsdbDef) (before : List DedbDef) (name : Name) (randomizer : Kind) (ci : ℕ) (segment_tables area_tables : List Members) (def : DedbDef)
-    → IsName name → occurs (msdb_names msdbs ++ dedb_names before) name.0 ≡ false → is_interval_size ci ≡ true → 1 ≤ length segment_tables → 1 ≤ length area_tables
+behind_keeps : (msdbs : List MsdbDef) (before : List DedbDef) (name : Name) (randomizer : Kind) (ci : ℕ)
+    (segment_tables area_tables : List Members) (def : DedbDef)
+    → IsName name → occurs (msdb_names msdbs ++ dedb_names before) name.0 ≡ false → is_interval_size ci ≡ true
+    → 1 ≤ length segment_tables → 1 ≤ length area_tables
     → dedb_behind before name randomizer ci segment_tables area_tables ≡ Ok def → DedbKeeps msdbs before def
 unfolding dedb_behind
 behind_keeps msdbs before name randomizer ci segment_tables area_tables def named new size some_segment some_area e =
@@ -139,7 +147,9 @@ behind_keeps msdbs before name randomizer ci segment_tables area_tables def name
     let segments = read_in_turn segment_of segment_tables s.0 s.1 in
     let areas = read_in_turn (area_of (has_sequential s.0) (areas_named before)) area_tables a.0 a.1 in
     let each_segment = beside_map (IsRead segment_of) SegmentKeeps segment_keeps [] s.0 segments.0 in
-    let each_area = beside_map (IsRead (area_of (has_sequential s.0) (areas_named before))) (AreaKeeps s.0 (areas_named before)) (λ earlier y r. area_keeps s.0 (areas_named before) earlier r.0 y r.1) [] a.0 areas.0 in
+    let each_area = beside_map (IsRead (area_of (has_sequential s.0) (areas_named before)))
+    (AreaKeeps s.0 (areas_named before)) (λ earlier y r. area_keeps s.0 (areas_named before) earlier r.0 y r.1) []
+    a.0 areas.0 in
     subst (DedbKeeps msdbs before) end.same
     (record {
       whole = record {
@@ -148,19 +158,25 @@ behind_keeps msdbs before name randomizer ci segment_tables area_tables def name
         types = (omega (arith, segments.1), (within-ok _ _ _ _ _ c.1).1);
         places = have_places [] s.0 segments.0;
         each_type = each_type [] s.0 s.0 refl each_segment;
-        type_names = apart_names (λ d. d.name) s.0 (distinct_beside (λ d. d.name.0) [] [] s.0 no_texts (beside_map SegmentKeeps (λ earlier y. occurs (segment_names earlier) y.name.0 ≡ false) (λ _ _ h. h.1) [] s.0 each_segment));
+        type_names = apart_names (λ d. d.name) s.0 (distinct_beside (λ d. d.name.0) [] [] s.0 no_texts
+            (beside_map SegmentKeeps (λ earlier y. occurs (segment_names earlier) y.name.0 ≡ false) (λ _ _ h. h.1) []
+            s.0 each_segment));
         levels = levels_from s.0 0 s.0 end.levels;
         fits = each_fits ci s.0 0 s.0 f.0 f.1;
         areas = (omega (arith, areas.1), end.areas);
-        each_area = beside_each (IsAreaDef s.0) [] a.0 (beside_map (AreaKeeps s.0 (areas_named before)) (λ _ y. IsAreaDef s.0 y) (λ _ _ h. h.0) [] a.0 each_area);
+        each_area = beside_each (IsAreaDef s.0) [] a.0
+            (beside_map (AreaKeeps s.0 (areas_named before)) (λ _ y. IsAreaDef s.0 y) (λ _ _ h. h.0) [] a.0 each_area);
         anchors = end.anchors;
       };
       new = new;
-      areas = beside_map (AreaKeeps s.0 (areas_named before)) (λ earlier y. occurs (areas_named before ++ area_names earlier) y.name.0 ≡ false) (λ _ _ h. h.1) [] a.0 each_area;
+      areas = beside_map (AreaKeeps s.0 (areas_named before))
+          (λ earlier y. occurs (areas_named before ++ area_names earlier) y.name.0 ≡ false) (λ _ _ h. h.1) [] a.0
+          each_area;
       intervals = end.intervals;
     })
 
-pub dedb_keeps : (msdbs : List MsdbDef) (before : List DedbDef) (def : DedbDef) → IsRead (dedb_of msdbs) before def → DedbKeeps msdbs before def
+pub dedb_keeps : (msdbs : List MsdbDef) (before : List DedbDef) (def : DedbDef) → IsRead (dedb_of msdbs) before def
+    → DedbKeeps msdbs before def
 unfolding dedb_of
 dedb_keeps msdbs before def read =
     let table = read.0 in
@@ -171,4 +187,5 @@ dedb_keeps msdbs before def read =
     let s = ok_step (tables_at (codes "segment") table) _ def c.2 in
     let a = ok_step (tables_at (codes "area") table) _ def s.2 in
     let name = new_name-is (msdb_names msdbs ++ dedb_names before) table n.0 n.1 in
-    behind_keeps msdbs before n.0 r.0 c.0 s.0 a.0 def name.0 name.1 (interval_size-is table c.0 c.1) (tables_at-some (codes "segment") table s.0 s.1) (tables_at-some (codes "area") table a.0 a.1) a.2
+    behind_keeps msdbs before n.0 r.0 c.0 s.0 a.0 def name.0 name.1 (interval_size-is table c.0 c.1)
+    (tables_at-some (codes "segment") table s.0 s.1) (tables_at-some (codes "area") table a.0 a.1) a.2

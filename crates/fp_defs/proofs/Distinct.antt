@@ -22,21 +22,25 @@ none_of true t rest e = absurd (cc)
 none_of false t rest e = (refl, e)
 
 -- one more text that doesn't occur
-pub one_more : (before : List (List ℕ)) (t : List ℕ) → IsDistinct same_text before → occurs before t ≡ false → IsDistinct same_text (before ++ t ∷ [])
+pub one_more : (before : List (List ℕ)) (t : List ℕ) → IsDistinct same_text before → occurs before t ≡ false
+    → IsDistinct same_text (before ++ t ∷ [])
 one_more before t distinct new = IsDistinct-push nat_list_eq_equiv before t distinct new
 
 -- texts of which none occurred before
-pub none_repeated : (before texts : List (List ℕ)) → IsDistinct same_text before → repeated before texts ≡ None → IsDistinct same_text (before ++ texts)
+pub none_repeated : (before texts : List (List ℕ)) → IsDistinct same_text before → repeated before texts ≡ None
+    → IsDistinct same_text (before ++ texts)
 none_repeated before [] distinct e = subst (IsDistinct same_text) (sym (nothing_more before)) distinct
 none_repeated before (t ∷ ts) distinct e =
     let h = none_of (occurs before t) t (repeated (before ++ t ∷ []) ts) e in
-    subst (IsDistinct same_text) (append_assoc before (t ∷ []) ts) (none_repeated (before ++ t ∷ []) ts (one_more before t distinct h.0) h.1)
+    subst (IsDistinct same_text) (append_assoc before (t ∷ []) ts)
+    (none_repeated (before ++ t ∷ []) ts (one_more before t distinct h.0) h.1)
 
 pub no_texts : IsDistinct same_text []
 unfolding IsDistinct
 no_texts = tt
 
-none_if_ok : (o : Option (List ℕ)) (done : ⊤) → option_map_or (λ text. Err (Twice (trimmed text))) o (Ok tt) ≡ Ok done → o ≡ None
+none_if_ok : (o : Option (List ℕ)) (done : ⊤) → option_map_or (λ text. Err (Twice (trimmed text))) o (Ok tt) ≡ Ok done
+    → o ≡ None
 none_if_ok None done e = refl
 none_if_ok (Some text) done e = absurd (cc)
 
@@ -44,12 +48,14 @@ pub all_once-distinct : (texts : List (List ℕ)) (done : ⊤) → all_once text
 unfolding all_once
 all_once-distinct texts done e = none_repeated [] texts no_texts (none_if_ok (repeated [] texts) done e)
 
-new_by : (b : Bool) (fault : DefsFault) (name is : Name) → cond b (Err fault) (Ok name) ≡ Ok is → (b ≡ false) × (name ≡ is)
+new_by : (b : Bool) (fault : DefsFault) (name is : Name) → cond b (Err fault) (Ok name) ≡ Ok is → (b ≡ false)
+    × (name ≡ is)
 new_by true fault name is e = absurd (cc)
 new_by false fault name is e = (refl, cc)
 
 -- a name that was looked for is new
-pub once-new : (before : List (List ℕ)) (name is : Name) → once before name ≡ Ok is → (occurs before is.0 ≡ false) × (name ≡ is)
+pub once-new : (before : List (List ℕ)) (name is : Name) → once before name ≡ Ok is → (occurs before is.0 ≡ false)
+    × (name ≡ is)
 unfolding once
 once-new before name is e =
     let h = new_by (occurs before name.0) (Twice (trimmed name.0)) name is e in
@@ -60,9 +66,13 @@ pub distinct_beside : {A : Type 0} (text : A → List ℕ) (others : List (List 
     → IsDistinct same_text (others ++ map text before)
     → Beside (λ earlier y. occurs (others ++ map text earlier) (text y) ≡ false) before ys
     → IsDistinct same_text (others ++ map text (before ++ ys))
-distinct_beside {A} text others before [] distinct all = subst (λ (zs : List A). IsDistinct same_text (others ++ map text zs)) (sym (nothing_more before)) distinct
+distinct_beside {A} text others before [] distinct all =
+    subst (λ (zs : List A). IsDistinct same_text (others ++ map text zs)) (sym (nothing_more before)) distinct
 distinct_beside {A} text others before (y ∷ ys) distinct all =
     let more : IsDistinct same_text (others ++ map text (before ++ y ∷ [])) =
-    subst (IsDistinct same_text) (append_assoc others (map text before) (text y ∷ []) ∙ ap (λ (ts : List (List ℕ)). others ++ ts) (sym (map-append text before (y ∷ [])))) (one_more (others ++ map text before) (text y) distinct all.0)
+    subst (IsDistinct same_text) (append_assoc others (map text before) (text y ∷ []) ∙ ap
+    (λ (ts : List (List ℕ)). others ++ ts) (sym (map-append text before (y ∷ []))))
+    (one_more (others ++ map text before) (text y) distinct all.0)
     in
-    subst (λ (zs : List A). IsDistinct same_text (others ++ map text zs)) (append_assoc before (y ∷ []) ys) (distinct_beside text others (before ++ y ∷ []) ys more all.1)
+    subst (λ (zs : List A). IsDistinct same_text (others ++ map text zs)) (append_assoc before (y ∷ []) ys)
+    (distinct_beside text others (before ++ y ∷ []) ys more all.1)

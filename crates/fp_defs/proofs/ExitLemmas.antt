@@ -23,16 +23,19 @@ neither : (a b : Bool) → (a || b) ≡ false → (a ≡ false) × (b ≡ false)
 neither true b e = absurd (cc)
 neither false b e = (refl, e)
 
-all_others : {X : Type 0} (f : X → Kind) (kind : Kind) (xs : List X) → has_kind (map f xs) kind ≡ false → All (λ x. ¬ (f x ≡ kind)) xs
+all_others : {X : Type 0} (f : X → Kind) (kind : Kind) (xs : List X) → has_kind (map f xs) kind ≡ false
+    → All (λ x. ¬ (f x ≡ kind)) xs
 all_others f kind [] e = All-nil (λ x. ¬ (f x ≡ kind))
 all_others f kind (x ∷ xs) e =
     let h = neither (same_kind kind (f x)) (has_kind (map f xs) kind) e in
     All-cons (λ y. ¬ (f y ≡ kind)) x xs (differs kind (f x) h.0) (all_others f kind xs h.1)
 
-none_has : {X : Type 0} (f : X → Kind) (kind : Kind) (xs : List X) → All (λ x. ¬ (f x ≡ kind)) xs → has_kind (map f xs) kind ≡ false
+none_has : {X : Type 0} (f : X → Kind) (kind : Kind) (xs : List X) → All (λ x. ¬ (f x ≡ kind)) xs
+    → has_kind (map f xs) kind ≡ false
 none_has f kind xs all =
     list_any_none (same_kind kind) (map f xs)
-    (All-map (λ k. same_kind kind k ≡ false) f xs (All-weaker (λ x. ¬ (f x ≡ kind)) (λ x. same_kind kind (f x) ≡ false) (λ x d. is_other kind (f x) d) xs all))
+    (All-map (λ k. same_kind kind k ≡ false) f xs (All-weaker (λ x. ¬ (f x ≡ kind)) (λ x. same_kind kind (f x) ≡ false)
+    (λ x d. is_other kind (f x) d) xs all))
 
 same_answer : (a b : Bool) → (a ≡ false → b ≡ false) → (b ≡ false → a ≡ false) → a ≡ b
 same_answer true true f g = refl
@@ -41,5 +44,7 @@ same_answer false true f g = let e : true ≡ false = f refl in absurd (cc)
 same_answer false false f g = refl
 
 -- a look-up that finds none exactly where all are of other kinds
-pub found_kind : {X : Type 0} (f : X → Kind) (kind : Kind) (xs : List X) (found : Bool) → (found ≡ false ↔ All (λ x. ¬ (f x ≡ kind)) xs) → found ≡ has_kind (map f xs) kind
-found_kind f kind xs found none = same_answer found (has_kind (map f xs) kind) (λ e. none_has f kind xs (none.0 e)) (λ e. none.1 (all_others f kind xs e))
+pub found_kind : {X : Type 0} (f : X → Kind) (kind : Kind) (xs : List X) (found : Bool)
+    → (found ≡ false ↔ All (λ x. ¬ (f x ≡ kind)) xs) → found ≡ has_kind (map f xs) kind
+found_kind f kind xs found none = same_answer found (has_kind (map f xs) kind) (λ e. none_has f kind xs (none.0 e))
+    (λ e. none.1 (all_others f kind xs e))

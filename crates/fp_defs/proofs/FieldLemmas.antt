@@ -37,7 +37,8 @@ from_test true x y e = (refl, cc)
 from_test false x y e = absurd (cc)
 
 length_fits : (kind : FieldKind) (z : ℤ) (n : ℕ) → length_for kind z ≡ Some n → is_field_length kind n ≡ true
-length_fits kind (pos m) n e = let h = from_test (is_field_length kind m) m n e in subst (λ (k : ℕ). is_field_length kind k ≡ true) h.1 h.0
+length_fits kind (pos m) n e = let h = from_test (is_field_length kind m) m n e in
+    subst (λ (k : ℕ). is_field_length kind k ≡ true) h.1 h.0
 length_fits kind (negsuc m) n e = absurd (cc)
 
 as_length-fits : (kind : FieldKind) (d : Data) (n : ℕ) → as_length kind d ≡ Some n → is_field_length kind n ≡ true
@@ -63,7 +64,8 @@ as_triple-fits d t e = let s = some_step (as_array d) triple_in t e in triple_in
 
 pub triples-fit : (d : Data) (ts : List Triple) → as_triples d ≡ Some ts → AllByRecursion Fits ts
 unfolding as_triples
-triples-fit d ts e = let s = some_step (as_array d) (each as_triple) ts e in each_has as_triple Fits as_triple-fits s.0 ts s.2
+triples-fit d ts e = let s = some_step (as_array d) (each as_triple) ts e in
+    each_has as_triple Fits as_triple-fits s.0 ts s.2
 
 short-by : (kind : FieldKind) (n : ℕ) → is_field_length kind n ≡ true → (1 ≤ n) × (n ≤ 1024)
 short-by C n e = grind (arith, nat_tests)
@@ -74,7 +76,8 @@ short-by P n e = grind (arith, nat_tests)
 
 short-from-fits : (ts : List Triple) → AllByRecursion Fits ts → AllByRecursion IsShort ts
 short-from-fits [] all = all
-short-from-fits (t ∷ ts) all = let s = short-by t.kind t.length all.0 in (record { some = s.0; few = s.1 }, short-from-fits ts all.1)
+short-from-fits (t ∷ ts) all = let s = short-by t.kind t.length all.0 in
+    (record { some = s.0; few = s.1 }, short-from-fits ts all.1)
 
 pub triples-short : (d : Data) (ts : List Triple) → as_triples d ≡ Some ts → AllByRecursion IsShort ts
 triples-short d ts e = short-from-fits ts (triples-fit d ts e)

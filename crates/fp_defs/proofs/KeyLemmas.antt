@@ -15,7 +15,8 @@ abbrev pub unknown_in : Form → List (String Global) → Option (List ℕ)
 unknown_in form [] = None
 unknown_in form (k ∷ ks) = if has_key form (string_bytes k) then unknown_in form ks else Some (string_bytes k)
 
-pub unknown_key-members_view : (form : Form) (es : List Entry) → unknown_key form (members_view es) ≡ unknown_in form (keys_of es)
+pub unknown_key-members_view : (form : Form) (es : List Entry)
+    → unknown_key form (members_view es) ≡ unknown_in form (keys_of es)
 unknown_key-members_view form [] = refl
 unknown_key-members_view form (e ∷ es) = rw (unknown_key-members_view form es)
 
@@ -24,7 +25,8 @@ from_test true n m fault e = (refl, cc)
 from_test false n m fault e = absurd (cc)
 
 -- a number that is read is within its limits
-pub within-ok : (key : List ℕ) (low high n m : ℕ) → within key low high (pos n) ≡ Ok m → (low ≤ n) × (n ≤ high) × (m ≡ n)
+pub within-ok : (key : List ℕ) (low high n m : ℕ) → within key low high (pos n) ≡ Ok m → (low ≤ n) × (n ≤ high)
+    × (m ≡ n)
 unfolding within
 within-ok key low high n m e =
     let h = from_test (nat_le low n && nat_le n high) n m (OutOfLimit key (pos n)) e in

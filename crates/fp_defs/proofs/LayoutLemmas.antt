@@ -31,7 +31,8 @@ name_by true made name e = (refl, cc)
 name_by false made name e = absurd (cc)
 
 pub is_name-from : (text : List ℕ) (name : Name) → name_in text ≡ Some name → IsName name
-is_name-from text name e = let h = name_by (is_name text) (record { 0 = padded 8 text }) name e in (text, h.0, sym (ap (λ n. n.0) h.1))
+is_name-from text name e = let h = name_by (is_name text) (record { 0 = padded 8 text }) name e in
+    (text, h.0, sym (ap (λ n. n.0) h.1))
 
 pub as_name-is : (d : Data) (name : Name) → as_name d ≡ Some name → IsName name
 unfolding as_name
@@ -55,11 +56,13 @@ field_name-is d name e =
     let s = some_step (as_name d) _ name e in
     let h = other_by (is_reserved s.0) s.0 name s.2 in
     let apart : is_reserved name ≡ false = subst (λ (n : Name). is_reserved n ≡ false) h.1 h.0 in
-    let front = first_false (same_text name.0 (codes "IO      ") || same_text name.0 (codes "STATUS  ")) (same_text name.0 (codes "FSAS    ")) apart in (
+    let front = first_false (same_text name.0 (codes "IO      ") || same_text name.0 (codes "STATUS  "))
+    (same_text name.0 (codes "FSAS    ")) apart in (
       as_name-is d name (s.1 ∙ ap Some h.1),
       first_false (same_text name.0 (codes "IO      ")) (same_text name.0 (codes "STATUS  ")) front,
       second_false (same_text name.0 (codes "IO      ")) (same_text name.0 (codes "STATUS  ")) front,
-      second_false (same_text name.0 (codes "IO      ") || same_text name.0 (codes "STATUS  ")) (same_text name.0 (codes "FSAS    ")) apart,
+      second_false (same_text name.0 (codes "IO      ") || same_text name.0 (codes "STATUS  "))
+          (same_text name.0 (codes "FSAS    ")) apart,
     )
 
 -- a field with a name that a field may have
@@ -85,7 +88,8 @@ as_triple-named d t e = let s = some_step (as_array d) triple_in t e in triple_i
 
 triples-named : (d : Data) (ts : List Triple) → as_triples d ≡ Some ts → AllByRecursion Named ts
 unfolding as_triples
-triples-named d ts e = let s = some_step (as_array d) (each as_triple) ts e in each_has as_triple Named as_triple-named s.0 ts s.2
+triples-named d ts e = let s = some_step (as_array d) (each as_triple) ts e in
+    each_has as_triple Named as_triple-named s.0 ts s.2
 
 -- ---- places
 
@@ -93,17 +97,24 @@ laid_out-length : (at : ℕ) (ts : List Triple) → length (laid_out at ts) ≡ 
 laid_out-length at [] = refl
 laid_out-length at (t ∷ ts) = ap suc (laid_out-length (at + t.length) ts)
 
-laid_out-names : (at : ℕ) (ts : List Triple) → map (λ name. name.0) (map (λ f. f.name) (laid_out at ts)) ≡ map (λ t. t.name.0) ts
+laid_out-names : (at : ℕ) (ts : List Triple) → map (λ name. name.0) (map (λ f. f.name) (laid_out at ts)) ≡ map
+    (λ t. t.name.0) ts
 laid_out-names at [] = refl
 laid_out-names at (t ∷ ts) = ap (λ names. t.name.0 ∷ names) (laid_out-names (at + t.length) ts)
 
-laid_out-named : (at : ℕ) (ts : List Triple) → AllByRecursion Named ts → AllByRecursion (λ f. IsFieldName f.name) (laid_out at ts)
+laid_out-named : (at : ℕ) (ts : List Triple) → AllByRecursion Named ts
+    → AllByRecursion (λ f. IsFieldName f.name) (laid_out at ts)
 laid_out-named at [] all = tt
 laid_out-named at (t ∷ ts) all = (all.0, laid_out-named (at + t.length) ts all.1)
 
-laid_out-stand : (at : ℕ) (ts : List Triple) → AllByRecursion Fits ts → (end : ℕ) → end ≡ at + total ts → StandFrom at (laid_out at ts) end
+laid_out-stand : (at : ℕ) (ts : List Triple) → AllByRecursion Fits ts → (end : ℕ) → end ≡ at + total ts
+    → StandFrom at (laid_out at ts) end
 laid_out-stand at [] all end e = omega arith
-laid_out-stand at (t ∷ ts) all end e = (refl, all.0, laid_out-stand (at + t.length) ts all.1 end (let s = sum_by-cons (λ (u : Triple). u.length) t ts in omega arith))
+laid_out-stand at (t ∷ ts) all end e = (
+  refl,
+  all.0,
+  laid_out-stand (at + t.length) ts all.1 end (let s = sum_by-cons (λ (u : Triple). u.length) t ts in omega arith),
+)
 
 -- ---- the key in front
 
@@ -143,7 +154,8 @@ pub record LayoutKeeps (key_wanted : Bool) (most : ℕ) (read : Layout) : Type 0
   pub short : read.length ≤ most
   pub key : key_wanted ≡ true → BeginsWithKey read.fields
 
-pub layout_keeps : (key_wanted : Bool) (most : ℕ) (table : Members) (layout : Layout) → fields_at key_wanted most table ≡ Ok layout → LayoutKeeps key_wanted most layout
+pub layout_keeps : (key_wanted : Bool) (most : ℕ) (table : Members) (layout : Layout)
+    → fields_at key_wanted most table ≡ Ok layout → LayoutKeeps key_wanted most layout
 unfolding fields_at
 layout_keeps key_wanted most table layout e =
     let value = ok_step (needed (codes "fields") table) _ layout e in
@@ -167,7 +179,8 @@ layout_keeps key_wanted most table layout e =
         distinct = subst (IsDistinct same_text) (sym (laid_out-names 0 ts)) (all_once-distinct _ _ names.1);
       };
       short = sized.1;
-      key = λ wanted. key_in_front ts (keyed-true ts key.0 (subst (λ (w : Bool). keyed w ts ≡ Ok key.0) wanted key.1)) counted.0;
+      key = λ wanted. key_in_front ts (keyed-true ts key.0 (subst (λ (w : Bool). keyed w ts ≡ Ok key.0) wanted key.1))
+          counted.0;
     })
 
 -- a name at a key

@@ -4,7 +4,8 @@ use Rattle.fp_defs.specs.Readings.{◌>>=◌, or_fault}
 use Rattle.fp_defs.specs.declared.fault.DefsFault.{DefsFault}
 
 -- a step that may have a fault
-pub ok_step : {A B : Type 0} (r : Result A DefsFault) (step : A → Result B DefsFault) (y : B) → (r >>= step) ≡ Ok y → (x : A) × (r ≡ Ok x) × (step x ≡ Ok y)
+pub ok_step : {A B : Type 0} (r : Result A DefsFault) (step : A → Result B DefsFault) (y : B) → (r >>= step) ≡ Ok y
+    → (x : A) × (r ≡ Ok x) × (step x ≡ Ok y)
 ok_step (Err fault) step y e = absurd (cc)
 ok_step (Ok x) step y e = (x, refl, e)
 

@@ -23,9 +23,11 @@ or-push : (a b c : Bool) → (c || cond a true b) ≡ cond a true (c || b)
 or-push a b true = search rules
 or-push a b false = refl
 
-occurs-push : (texts : List (List ℕ)) (t q : List ℕ) → occurs (texts ++ t ∷ []) q ≡ cond (bytes_eq t q) true (occurs texts q)
+occurs-push : (texts : List (List ℕ)) (t q : List ℕ)
+    → occurs (texts ++ t ∷ []) q ≡ cond (bytes_eq t q) true (occurs texts q)
 occurs-push [] t q = rw (bytes_eq-sym q t) (or-last (bytes_eq t q) true)
-occurs-push (x ∷ xs) t q = ap (λ b. same_text q x || b) (occurs-push xs t q) ∙ or-push (bytes_eq t q) (occurs xs q) (same_text q x)
+occurs-push (x ∷ xs) t q = ap (λ b. same_text q x || b) (occurs-push xs t q) ∙ or-push (bytes_eq t q) (occurs xs q)
+    (same_text q x)
 
 module _ {X : Type 0} (text : X → List ℕ) (xs : List X) (i : ℕ) (d : X) (within : i < length xs) where
   map-take : map text (take (i + 1) xs) ≡ map text (take i xs) ++ text (get_or xs i d) ∷ []
@@ -53,5 +55,7 @@ module _ {X : Type 0} (text : X → List ℕ) (xs : List X) (i : ℕ) (d : X) (w
 
   -- a text that didn't is one of those before the next
   pub repeated_later : occurs (map text (take i xs)) (text (get_or xs i d)) ≡ false
-      → repeated (map text (take i xs)) (map text (drop i xs)) ≡ repeated (map text (take (i + 1) xs)) (map text (drop (i + 1) xs))
-  repeated_later missed = ap (repeated (map text (take i xs))) map-drop ∙ rw missed (ap (λ texts. repeated texts (map text (drop (i + 1) xs))) (sym map-take))
+      → repeated (map text (take i xs)) (map text (drop i xs)) ≡ repeated (map text (take (i + 1) xs))
+      (map text (drop (i + 1) xs))
+  repeated_later missed = ap (repeated (map text (take i xs))) map-drop ∙ rw missed
+      (ap (λ texts. repeated texts (map text (drop (i + 1) xs))) (sym map-take))

@@ -17,6 +17,7 @@ trimmed-other [] b apart = grind (arith, nat_tests)
 trimmed-other (c ∷ cs) b apart = ap (in_front c) (trimmed-other cs b apart) ∙ in_front-some c cs b
 
 -- the last byte of a front
-pub take-last : (text : List ℕ) (n : ℕ) → 0 < n → n ≤ length text → take n text ≡ take (n - 1) text ++ get_or text (n - 1) 0 ∷ []
+pub take-last : (text : List ℕ) (n : ℕ) → 0 < n → n ≤ length text
+    → take n text ≡ take (n - 1) text ++ get_or text (n - 1) 0 ∷ []
 take-last text zero some within = absurd (omega arith)
 take-last text (suc n) some within = let e : suc n - 1 ≡ n = omega arith in rw e (take-suc text n 0 (omega arith))

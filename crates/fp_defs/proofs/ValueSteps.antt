@@ -5,7 +5,8 @@ use Rattle.toml.specs.Data.{Data, Items, no_items, item}
 use Rattle.fp_defs.specs.Values.{◌>>=◌, each}
 
 -- an optional step
-pub some_step : {A B : Type 0} (o : Option A) (step : A → Option B) (y : B) → (o >>= step) ≡ Some y → (x : A) × (o ≡ Some x) × (step x ≡ Some y)
+pub some_step : {A B : Type 0} (o : Option A) (step : A → Option B) (y : B) → (o >>= step) ≡ Some y → (x : A)
+    × (o ≡ Some x) × (step x ≡ Some y)
 some_step None step y e = absurd (cc)
 some_step (Some x) step y e = (x, refl, e)
 

@@ -43,7 +43,8 @@ none_first false x rest e = (refl, e)
 from_or_later : (from g : ℕ) → from ≤ g → (from ≡ g) ⊎ (from + 1 ≤ g)
 from_or_later from g low = elim (cases_lt from g) [ inl h ↦ inr (omega arith) | inr h ↦ inl (omega arith) ]
 
-none_found : (test : ℕ → Bool) (n from g : ℕ) → find test (numbers_up n from) ≡ None → from ≤ g → g < from + n → test g ≡ false
+none_found : (test : ℕ → Bool) (n from g : ℕ) → find test (numbers_up n from) ≡ None → from ≤ g → g < from + n
+    → test g ≡ false
 none_found test zero from g e low high = absurd (omega arith)
 none_found test (suc n) from g e low high =
     let h = none_first (test from) from (find test (numbers_up n (from + 1))) e in
@@ -78,16 +79,22 @@ greatest_above [] most k g within is = absurd (omega arith)
 greatest_above (h ∷ hs) most zero g within is = let r = greatest_from hs (max most h) in grind (arith, is)
 greatest_above (h ∷ hs) most (suc k) g within is = greatest_above hs (max most h) k g (omega arith) is
 
-greatest_below : (groups : List ℕ) (most : ℕ) → most ≤ 16 → AllByRecursion (Between 1 16) groups → fold max most groups ≤ 16
+greatest_below : (groups : List ℕ) (most : ℕ) → most ≤ 16 → AllByRecursion (Between 1 16) groups
+    → fold max most groups ≤ 16
 greatest_below [] most low all = low
 greatest_below (g ∷ gs) most low all = greatest_below gs (max most g) (grind (arith, low, all.0.1)) all.1
 
 -- there are 1 to 16 groups
-pub groups_bounded : (groups : List ℕ) → 1 ≤ length groups → AllByRecursion (Between 1 16) groups → (1 ≤ fold max 0 groups) × (fold max 0 groups ≤ 16)
+pub groups_bounded : (groups : List ℕ) → 1 ≤ length groups → AllByRecursion (Between 1 16) groups
+    → (1 ≤ fold max 0 groups) × (fold max 0 groups ≤ 16)
 groups_bounded [] some all = absurd (omega (arith, some))
-groups_bounded (g ∷ gs) some all = (let r = greatest_from gs (max 0 g) in grind (arith, all.0.0, r), greatest_below (g ∷ gs) 0 (omega arith) all)
+groups_bounded (g ∷ gs) some all = (
+  let r = greatest_from gs (max 0 g) in grind (arith, all.0.0, r),
+  greatest_below (g ∷ gs) 0 (omega arith) all,
+)
 
-no_gap-by : (o : Option ℕ) (done : ⊤) → option_map_or (λ g. Err (OutOfLimit (codes "regions") (pos g))) o (Ok tt) ≡ Ok done → o ≡ None
+no_gap-by : (o : Option ℕ) (done : ⊤) → option_map_or (λ g. Err (OutOfLimit (codes "regions") (pos g))) o (Ok tt) ≡ Ok
+    done → o ≡ None
 no_gap-by None done e = refl
 no_gap-by (Some g) done e = absurd (cc)
 
@@ -95,11 +102,13 @@ no_gap-none : (groups : List ℕ) (done : ⊤) → no_gap groups ≡ Ok done →
 unfolding no_gap
 no_gap-none groups done e = no_gap-by (missing_group groups) done e
 
-all_have : (groups : List ℕ) → missing_group groups ≡ None → (group most : ℕ) → Contains groups most → 1 ≤ group → group ≤ most → Contains groups group
+all_have : (groups : List ℕ) → missing_group groups ≡ None → (group most : ℕ) → Contains groups most → 1 ≤ group
+    → group ≤ most → Contains groups group
 all_have groups none group most has low high =
     let top : most ≤ greatest groups = greatest_above groups 0 has.0 most has.1 has.2 in
     found_contains groups group
-    (from_not (list_any (λ h. h == group) groups) (none_found (λ g. not (list_any (λ h. h == g) groups)) (greatest groups) 1 group none low (omega arith)))
+    (from_not (list_any (λ h. h == group) groups) (none_found (λ g. not (list_any (λ h. h == g) groups))
+    (greatest groups) 1 group none low (omega arith)))
 
 -- what the groups of the regions keep
 abbrev GroupsKeep : List ℕ → Type 0
@@ -118,7 +127,8 @@ groups_keep items groups e =
     subst GroupsKeep same (
       (omega (arith, read.1, counted.0), omega (arith, read.1, counted.1)),
       (
-        beside_each (Between 1 16) [] g.0 (beside_map (IsRead group_of) (λ _ y. Between 1 16 y) (λ _ y r. number_within-within (codes "regions") 1 16 r.0 y r.1) [] g.0 read.0),
+        beside_each (Between 1 16) [] g.0 (beside_map (IsRead group_of) (λ _ y. Between 1 16 y)
+            (λ _ y r. number_within-within (codes "regions") 1 16 r.0 y r.1) [] g.0 read.0),
         all_have g.0 (no_gap-none g.0 n.0 n.1),
       ),
     )
@@ -132,33 +142,45 @@ regions_keep table groups e =
 
 -- ---- databases together
 
-intervals_beside : (before ys : List DedbDef) → intervals_of before ≤ 524288 → Beside (λ earlier y. intervals_of (earlier ++ y ∷ []) ≤ 524288) before ys → intervals_of (before ++ ys) ≤ 524288
-intervals_beside before [] few all = subst (λ (ds : List DedbDef). intervals_of ds ≤ 524288) (sym (nothing_more before)) few
-intervals_beside before (y ∷ ys) few all = subst (λ (ds : List DedbDef). intervals_of ds ≤ 524288) (append_assoc before (y ∷ []) ys) (intervals_beside (before ++ y ∷ []) ys all.0 all.1)
+intervals_beside : (before ys : List DedbDef) → intervals_of before ≤ 524288
+    → Beside (λ earlier y. intervals_of (earlier ++ y ∷ []) ≤ 524288) before ys → intervals_of (before ++ ys) ≤ 524288
+intervals_beside before [] few all = subst (λ (ds : List DedbDef). intervals_of ds ≤ 524288) (sym (nothing_more before))
+    few
+intervals_beside before (y ∷ ys) few all = subst (λ (ds : List DedbDef). intervals_of ds ≤ 524288)
+    (append_assoc before (y ∷ []) ys) (intervals_beside (before ++ y ∷ []) ys all.0 all.1)
 
-one_area : (before : List DedbDef) (y : DedbDef) → areas_named (before ++ y ∷ []) ≡ areas_named before ++ area_names y.areas
-one_area before y = flat_map-append (λ d. area_names d.areas) before (y ∷ []) ∙ ap (λ (ts : List (List ℕ)). areas_named before ++ ts) (nothing_more (area_names y.areas))
+one_area : (before : List DedbDef) (y : DedbDef) → areas_named (before ++ y ∷ []) ≡ areas_named before ++ area_names
+    y.areas
+one_area before y = flat_map-append (λ d. area_names d.areas) before (y ∷ []) ∙ ap
+    (λ (ts : List (List ℕ)). areas_named before ++ ts) (nothing_more (area_names y.areas))
 
-areas_beside : (msdbs : List MsdbDef) (before ys : List DedbDef) → IsDistinct same_text (areas_named before) → Beside (DedbKeeps msdbs) before ys → IsDistinct same_text (areas_named (before ++ ys))
-areas_beside msdbs before [] distinct all = subst (λ (ds : List DedbDef). IsDistinct same_text (areas_named ds)) (sym (nothing_more before)) distinct
+areas_beside : (msdbs : List MsdbDef) (before ys : List DedbDef) → IsDistinct same_text (areas_named before)
+    → Beside (DedbKeeps msdbs) before ys → IsDistinct same_text (areas_named (before ++ ys))
+areas_beside msdbs before [] distinct all = subst (λ (ds : List DedbDef). IsDistinct same_text (areas_named ds))
+    (sym (nothing_more before)) distinct
 areas_beside msdbs before (y ∷ ys) distinct all =
     let first : IsDistinct same_text (areas_named before ++ area_names y.areas) =
-    distinct_beside (λ a. a.name.0) (areas_named before) [] y.areas (subst (IsDistinct same_text) (sym (nothing_more (areas_named before))) distinct) all.0.areas
+    distinct_beside (λ a. a.name.0) (areas_named before) [] y.areas
+    (subst (IsDistinct same_text) (sym (nothing_more (areas_named before))) distinct) all.0.areas
     in
     subst (λ (ds : List DedbDef). IsDistinct same_text (areas_named ds)) (append_assoc before (y ∷ []) ys)
     (areas_beside msdbs (before ++ y ∷ []) ys (subst (IsDistinct same_text) (sym (one_area before y)) first) all.1)
 
-area_texts : (dedbs : List DedbDef) → map (λ n. n.0) (flat_map (λ d. map (λ a. a.name) d.areas) dedbs) ≡ areas_named dedbs
+area_texts : (dedbs : List DedbDef) → map (λ n. n.0) (flat_map (λ d. map (λ a. a.name) d.areas) dedbs) ≡ areas_named
+    dedbs
 area_texts [] = refl
 area_texts (d ∷ ds) =
     map-append (λ (n : Name). n.0) (map (λ a. a.name) d.areas) (flat_map (λ e. map (λ a. a.name) e.areas) ds)
-    ∙ ap (λ (ts : List (List ℕ)). ts ++ map (λ n. n.0) (flat_map (λ e. map (λ a. a.name) e.areas) ds)) (map_twice (λ (a : AreaDef). a.name) (λ n. n.0) d.areas)
+    ∙ ap (λ (ts : List (List ℕ)). ts ++ map (λ n. n.0) (flat_map (λ e. map (λ a. a.name) e.areas) ds))
+    (map_twice (λ (a : AreaDef). a.name) (λ n. n.0) d.areas)
     ∙ ap (λ (ts : List (List ℕ)). area_names d.areas ++ ts) (area_texts ds)
 
-database_texts : (msdbs : List MsdbDef) (dedbs : List DedbDef) → map (λ n. n.0) (map (λ d. d.name) msdbs ++ map (λ d. d.name) dedbs) ≡ msdb_names msdbs ++ dedb_names dedbs
+database_texts : (msdbs : List MsdbDef) (dedbs : List DedbDef)
+    → map (λ n. n.0) (map (λ d. d.name) msdbs ++ map (λ d. d.name) dedbs) ≡ msdb_names msdbs ++ dedb_names dedbs
 database_texts msdbs dedbs =
     map-append (λ (n : Name). n.0) (map (λ d. d.name) msdbs) (map (λ d. d.name) dedbs)
-    ∙ ap (λ (ts : List (List ℕ)). ts ++ map (λ n. n.0) (map (λ (d : DedbDef). d.name) dedbs)) (map_twice (λ (d : MsdbDef). d.name) (λ n. n.0) msdbs)
+    ∙ ap (λ (ts : List (List ℕ)). ts ++ map (λ n. n.0) (map (λ (d : DedbDef). d.name) dedbs))
+    (map_twice (λ (d : MsdbDef). d.name) (λ n. n.0) msdbs)
     ∙ ap (λ (ts : List (List ℕ)). msdb_names msdbs ++ ts) (map_twice (λ (d : DedbDef). d.name) (λ n. n.0) dedbs)
 
 record DatabasesKeep (msdbs : List MsdbDef) (dedbs : List DedbDef) : Type 0 where
@@ -170,7 +192,8 @@ record DatabasesKeep (msdbs : List MsdbDef) (dedbs : List DedbDef) : Type 0 wher
   area_names : AreDistinct (flat_map (λ d. map (λ a. a.name) d.areas) dedbs)
   intervals : intervals_of dedbs ≤ 524288
 
-databases_keep : (msdb_tables dedb_tables : List Members) (all : List MsdbDef × List DedbDef) → databases_of msdb_tables dedb_tables ≡ Ok all → DatabasesKeep all.0 all.1
+databases_keep : (msdb_tables dedb_tables : List Members) (all : List MsdbDef × List DedbDef)
+    → databases_of msdb_tables dedb_tables ≡ Ok all → DatabasesKeep all.0 all.1
 unfolding databases_of
 databases_keep msdb_tables dedb_tables all e =
     let cm = ok_step (within (codes "msdb") 0 32 (pos (length msdb_tables))) _ all e in
@@ -182,28 +205,37 @@ databases_keep msdb_tables dedb_tables all e =
     let msdbs = read_in_turn msdb_of msdb_tables m.0 m.1 in
     let dedbs = read_in_turn (dedb_of m.0) dedb_tables d.0 d.1 in
     let each_msdb = beside_map (IsRead msdb_of) MsdbKeeps (λ before y r. msdb_keeps before r.0 y r.1) [] m.0 msdbs.0 in
-    let each_dedb = beside_map (IsRead (dedb_of m.0)) (DedbKeeps m.0) (λ before y r. dedb_keeps m.0 before y r) [] d.0 dedbs.0 in
+    let each_dedb = beside_map (IsRead (dedb_of m.0)) (DedbKeeps m.0) (λ before y r. dedb_keeps m.0 before y r) [] d.0
+    dedbs.0 in
     let first : IsDistinct same_text (msdb_names m.0) =
-    distinct_beside (λ x. x.name.0) [] [] m.0 no_texts (beside_map MsdbKeeps (λ before y. occurs (msdb_names before) y.name.0 ≡ false) (λ _ _ h. h.1) [] m.0 each_msdb)
+    distinct_beside (λ x. x.name.0) [] [] m.0 no_texts
+    (beside_map MsdbKeeps (λ before y. occurs (msdb_names before) y.name.0 ≡ false) (λ _ _ h. h.1) [] m.0 each_msdb)
     in
     let both : IsDistinct same_text (msdb_names m.0 ++ dedb_names d.0) =
-    distinct_beside (λ x. x.name.0) (msdb_names m.0) [] d.0 (subst (IsDistinct same_text) (sym (nothing_more (msdb_names m.0))) first)
-    (beside_map (DedbKeeps m.0) (λ before y. occurs (msdb_names m.0 ++ dedb_names before) y.name.0 ≡ false) (λ _ _ h. h.new) [] d.0 each_dedb)
+    distinct_beside (λ x. x.name.0) (msdb_names m.0) [] d.0
+    (subst (IsDistinct same_text) (sym (nothing_more (msdb_names m.0))) first)
+    (beside_map (DedbKeeps m.0) (λ before y. occurs (msdb_names m.0 ++ dedb_names before) y.name.0 ≡ false)
+    (λ _ _ h. h.new) [] d.0 each_dedb)
     in
     subst (λ (p : List MsdbDef × List DedbDef). DatabasesKeep p.0 p.1) same
     (record {
       few_msdbs = omega (arith, msdbs.1, (within-ok _ _ _ _ _ cm.1).1);
-      each_msdb = beside_each IsMsdbDef [] m.0 (beside_map MsdbKeeps (λ _ y. IsMsdbDef y) (λ _ _ h. h.0) [] m.0 each_msdb);
+      each_msdb = beside_each IsMsdbDef [] m.0 (beside_map MsdbKeeps (λ _ y. IsMsdbDef y) (λ _ _ h. h.0) [] m.0
+          each_msdb);
       few_dedbs = omega (arith, dedbs.1, (within-ok _ _ _ _ _ cd.1).1);
-      each_dedb = beside_each IsDedbDef [] d.0 (beside_map (DedbKeeps m.0) (λ _ y. IsDedbDef y) (λ _ _ h. h.whole) [] d.0 each_dedb);
+      each_dedb = beside_each IsDedbDef [] d.0 (beside_map (DedbKeeps m.0) (λ _ y. IsDedbDef y) (λ _ _ h. h.whole) []
+          d.0 each_dedb);
       names = subst (IsDistinct same_text) (sym (database_texts m.0 d.0)) both;
       area_names = subst (IsDistinct same_text) (sym (area_texts d.0)) (areas_beside m.0 [] d.0 no_texts each_dedb);
-      intervals = intervals_beside [] d.0 (omega arith) (beside_map (DedbKeeps m.0) (λ before y. intervals_of (before ++ y ∷ []) ≤ 524288) (λ _ _ h. h.intervals) [] d.0 each_dedb);
+      intervals = intervals_beside [] d.0 (omega arith)
+          (beside_map (DedbKeeps m.0) (λ before y. intervals_of (before ++ y ∷ []) ≤ 524288) (λ _ _ h. h.intervals) []
+          d.0 each_dedb);
     })
 
 -- ---- the whole
 
-defs_keep : (text : List ℕ) (table : Members) (defs : Defs) → length text ≤ 1000000 → defs_in text table ≡ Ok defs → AreDefs defs
+defs_keep : (text : List ℕ) (table : Members) (defs : Defs) → length text ≤ 1000000 → defs_in text table ≡ Ok defs
+    → AreDefs defs
 unfolding defs_in
 defs_keep text table defs short e =
     let o = ok_step (only Top table) _ defs e in
@@ -245,7 +277,8 @@ defs_keep text table defs short e =
       text = short;
     })
 
-long_by : (b : Bool) (rest : Result Defs DefsFault) (defs : Defs) → cond b (Err TooLong) rest ≡ Ok defs → (b ≡ false) × (rest ≡ Ok defs)
+long_by : (b : Bool) (rest : Result Defs DefsFault) (defs : Defs) → cond b (Err TooLong) rest ≡ Ok defs → (b ≡ false)
+    × (rest ≡ Ok defs)
 long_by true rest defs e = absurd (cc)
 long_by false rest defs e = (refl, e)
 
@@ -259,6 +292,7 @@ are_defs text defs e =
     defs_keep text t.0 defs (grind (arith, nat_tests)) t.2
 
 -- what a reader gave is well formed
-pub given_are_defs : (text : List ℕ) (result : Result Defs DefsFault) → Gives {X = Defs} {Y = Defs} (λ defs. defs) result (defs_of text) → IfOk result AreDefs
+pub given_are_defs : (text : List ℕ) (result : Result Defs DefsFault)
+    → Gives {X = Defs} {Y = Defs} (λ defs. defs) result (defs_of text) → IfOk result AreDefs
 given_are_defs text (Ok defs) gives = are_defs text defs gives
 given_are_defs text (Err fault) gives = tt

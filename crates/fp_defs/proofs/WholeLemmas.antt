@@ -12,7 +12,8 @@ use Rattle.fp_defs.specs.declared.fault.DefsFault.TheVariants.{NotToml}
 not_long : (text : List ℕ) → length text ≤ 1000000 → nat_lt 1000000 (length text) ≡ false
 not_long text short = grind (arith, nat_tests)
 
-pub read_document : (text : List ℕ) (table : Members) → length text ≤ 1000000 → IsUtf8 text → parse_document text ≡ Some table → defs_of text ≡ defs_in text table
+pub read_document : (text : List ℕ) (table : Members) → length text ≤ 1000000 → IsUtf8 text
+    → parse_document text ≡ Some table → defs_of text ≡ defs_in text table
 unfolding defs_of document_of
 read_document text table short utf8 parsed = rw (not_long text short, is_utf8-from_IsUtf8 text utf8, parsed) refl
 
@@ -20,8 +21,10 @@ none_if : (b : Bool) (o : Option Members) → (b ≡ true → o ≡ None) → co
 none_if true o h = h refl
 none_if false o h = refl
 
-pub read_nothing : (text : List ℕ) → length text ≤ 1000000 → (IsUtf8 text → parse_document text ≡ None) → defs_of text ≡ Err NotToml
+pub read_nothing : (text : List ℕ) → length text ≤ 1000000 → (IsUtf8 text → parse_document text ≡ None)
+    → defs_of text ≡ Err NotToml
 unfolding defs_of document_of
 read_nothing text short none =
     rw (not_long text short)
-    (ap (λ o. or_fault NotToml o >>= defs_in text) (none_if (is_utf8 text) (parse_document text) (λ e. none (IsUtf8-from_is_utf8 text e))))
+    (ap (λ o. or_fault NotToml o >>= defs_in text) (none_if (is_utf8 text) (parse_document text)
+    (λ e. none (IsUtf8-from_is_utf8 text e))))

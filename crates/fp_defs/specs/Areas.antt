@@ -24,7 +24,8 @@ capacity_in true (negsuc n) = within (codes "capacity") 1 1000000 (negsuc n)
 -- the number at `capacity`, 0 where the table has no such key
 unfoldable pub capacity_at : Bool → Members → Result ℕ DefsFault
 capacity_at sequential members = do
-  n ← option_map_or (λ value. or_fault (BadField (codes "capacity")) (as_integer value)) (get_member (codes "capacity") members) (Ok (pos 0))
+  n ← option_map_or (λ value. or_fault (BadField (codes "capacity")) (as_integer value))
+      (get_member (codes "capacity") members) (Ok (pos 0))
   capacity_in sequential n
 
 -- an area of a database with or without a sequential type, behind the areas of earlier databases and of its own

@@ -48,7 +48,8 @@ depth_from types place (def ∷ defs) = max (length (line_to types place)) (dept
 abbrev pub intervals_of : List DedbDef → ℕ
 intervals_of defs = sum_by (λ def. sum_by (formatted_intervals def) def.areas) defs
 
--- the end of a table behind its segments' number: levels, areas, anchors, and intervals with those of the databases before it
+-- the end of a table behind its segments' number: levels, areas, anchors, and intervals with those of the databases
+-- before it
 unfoldable pub ended : List DedbDef → DedbDef → Result DedbDef DefsFault
 ended before def = do
   _ ← within (codes "segment") 0 4 (pos (depth_from def.segments 0 def.segments))

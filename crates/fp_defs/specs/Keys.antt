@@ -15,7 +15,8 @@ use Rattle.fp_defs.specs.declared.keys.Form.TheVariants.{Top, Msdb, Dedb, Segmen
 
 -- the keys that a table of each form may have, in the order in which they are read
 abbrev pub keys_of : Form → List (List ℕ)
-keys_of Top = codes "regions" ∷ codes "router" ∷ codes "log_group" ∷ codes "pool" ∷ codes "tries" ∷ codes "msdb" ∷ codes "dedb" ∷ []
+keys_of Top = codes "regions" ∷ codes "router" ∷ codes "log_group" ∷ codes "pool" ∷ codes "tries" ∷ codes "msdb" ∷ codes
+    "dedb" ∷ []
 keys_of Msdb = codes "name" ∷ codes "fields" ∷ codes "dynamic" ∷ codes "load" ∷ []
 keys_of Dedb = codes "name" ∷ codes "randomizer" ∷ codes "ci" ∷ codes "segment" ∷ codes "area" ∷ []
 keys_of Segment = codes "name" ∷ codes "fields" ∷ codes "parent" ∷ codes "sequential" ∷ []
@@ -56,11 +57,13 @@ number_at key low high members = do
 
 -- a whole number that it may have
 unfoldable pub number_or : ℕ → List ℕ → ℕ → ℕ → Members → Result ℕ DefsFault
-number_or default key low high members = option_map_or (number_within key low high) (get_member key members) (Ok default)
+number_or default key low high members = option_map_or (number_within key low high) (get_member key members)
+    (Ok default)
 
 -- true or false, and false where the table has no such key
 unfoldable pub flag_at : List ℕ → Members → Result Bool DefsFault
-flag_at key members = option_map_or (λ value. or_fault (BadField key) (as_bool value)) (get_member key members) (Ok false)
+flag_at key members = option_map_or (λ value. or_fault (BadField key) (as_bool value)) (get_member key members)
+    (Ok false)
 
 unfoldable pub exit_at : List ℕ → Members → Result Kind DefsFault
 exit_at key members = do
@@ -74,7 +77,8 @@ name_at key members = do
 
 -- the tables of an array, none where the table has no such key
 unfoldable pub tables_or_none : List ℕ → Members → Result (List Members) DefsFault
-tables_or_none key members = option_map_or (λ value. or_fault (BadField key) (as_tables value)) (get_member key members) (Ok [])
+tables_or_none key members = option_map_or (λ value. or_fault (BadField key) (as_tables value)) (get_member key members)
+    (Ok [])
 
 -- the tables of an array that must have one
 abbrev pub not_empty : List ℕ → List Members → Result (List Members) DefsFault

@@ -34,7 +34,8 @@ no_limit = 64 * 1024
 
 -- the value true at `sequential`, whatever else stands there
 unfoldable pub says_sequential : Members → Bool
-says_sequential members = option_map_or (λ value. unwrap_or (as_bool value) false) (get_member (codes "sequential") members) false
+says_sequential members = option_map_or (λ value. unwrap_or (as_bool value) false)
+    (get_member (codes "sequential") members) false
 
 -- the number of the earlier segment of a name, unless it is the sequential one
 abbrev pub place_of : List SegDef → Name → Option ℕ
@@ -45,7 +46,8 @@ abbrev pub parent_in : List SegDef → Data → Option ℕ
 parent_in before value = option_map_or (place_of before) (as_name value) None
 
 unfoldable pub parent_at : List SegDef → Members → Result (Option ℕ) DefsFault
-parent_at [] members = option_map_or (λ value. Err (BadField (codes "parent"))) (get_member (codes "parent") members) (Ok None)
+parent_at [] members = option_map_or (λ value. Err (BadField (codes "parent"))) (get_member (codes "parent") members)
+    (Ok None)
 parent_at (root ∷ before) members = do
   value ← needed (codes "parent") members
   place ← or_fault (BadField (codes "parent")) (parent_in (root ∷ before) value)
@@ -58,7 +60,8 @@ may_be_sequential before (Some parent) = length before == 1 && parent == 0
 
 abbrev pub at_its_place : List SegDef → Option ℕ → Bool → Result Bool DefsFault
 at_its_place before parent false = Ok false
-at_its_place before parent true = if may_be_sequential before parent then Ok true else Err (BadField (codes "sequential"))
+at_its_place before parent true = if may_be_sequential before parent then Ok true else Err
+    (BadField (codes "sequential"))
 
 unfoldable pub sequential_at : List SegDef → Option ℕ → Members → Result Bool DefsFault
 sequential_at before parent members = do
@@ -75,7 +78,8 @@ segment_of before members = do
   sequential ← sequential_at before parent members
   Ok (record { name = name; parent = parent; sequential = sequential; fields = layout.fields; length = layout.length })
 
--- each segment's element, and a sequential one's slot, has room in an empty interval; the segments from a place on in turn
+-- each segment's element, and a sequential one's slot, has room in an empty interval; the segments from a place on in
+-- turn
 abbrev pub all_fit : ℕ → List SegDef → ℕ → List SegDef → Result ⊤ DefsFault
 all_fit room types place [] = Ok tt
 all_fit room types place (def ∷ defs) = do

@@ -39,7 +39,8 @@ as_name value = do
 
 -- a stored exit, by its name
 abbrev pub exit_named : List ℕ → Option Kind
-exit_named text = if same_text text (codes "FOLD") then Some Fold else if same_text text (codes "RANGE") then Some Range else None
+exit_named text = if same_text text (codes "FOLD") then Some Fold else if same_text text (codes "RANGE") then Some Range
+    else None
 
 unfoldable pub as_exit : Data → Option Kind
 as_exit value = do
@@ -57,7 +58,8 @@ as_tables value = do
 
 -- the words that scripts give a meaning of their own
 abbrev pub is_reserved : Name → Bool
-is_reserved name = same_text name.0 (codes "IO      ") || same_text name.0 (codes "STATUS  ") || same_text name.0 (codes "FSAS    ")
+is_reserved name = same_text name.0 (codes "IO      ") || same_text name.0 (codes "STATUS  ") || same_text name.0
+    (codes "FSAS    ")
 
 unfoldable pub as_field_name : Data → Option Name
 as_field_name value = do
@@ -112,12 +114,14 @@ as_triples value = do
 
 -- the number that one or more decimal digits are
 abbrev pub digits_of : List ℕ → Option ℕ
-digits_of text = if nat_le 1 (length text) && all_ascii_digits text then Some (value 10 (map (λ c. c - 48) text)) else None
+digits_of text = if nat_le 1 (length text) && all_ascii_digits text then Some (value 10 (map (λ c. c - 48) text)) else
+    None
 
 -- the number that a text is: an optional minus sign, and digits, however many
 unfoldable pub number_of_text : List ℕ → Option ℤ
 number_of_text [] = None
-number_of_text (c ∷ cs) = if c == 45 then option_map (λ n. neg_ℤ (pos n)) (digits_of cs) else option_map pos (digits_of (c ∷ cs))
+number_of_text (c ∷ cs) = if c == 45 then option_map (λ n. neg_ℤ (pos n)) (digits_of cs) else option_map pos
+    (digits_of (c ∷ cs))
 
 -- the bytes of a number, if it is one, in a field that it fits
 abbrev pub bytes_if : FieldKind → ℕ → Option ℤ → Option (List ℕ)
@@ -130,7 +134,8 @@ number_loaded kind size text = bytes_if kind size (number_of_text text)
 
 -- the bytes of a text in a field: printable characters, and blanks behind them
 abbrev pub text_loaded : ℕ → List ℕ → Option (List ℕ)
-text_loaded size text = if list_all is_printable text && nat_le (length text) size then Some (padded size text) else None
+text_loaded size text = if list_all is_printable text && nat_le (length text) size then Some (padded size text) else
+    None
 
 unfoldable pub loaded_as : FieldKind → ℕ → List ℕ → Option (List ℕ)
 loaded_as C size text = text_loaded size text

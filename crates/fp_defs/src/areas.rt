@@ -45,7 +45,8 @@ fn new_area_name(
     before: &[AreaDef],
     table: &Table,
 ) -> Result<Name, DefsFault>
-    ensures { Gives (λ name. name) result (new_name (areas_named dedbs.now ++ area_names before.now) (table_view table.now)) }
+    ensures { Gives (λ name. name) result (new_name (areas_named dedbs.now ++ area_names before.now)
+        (table_view table.now)) }
 {
     let name = name_at(alloc, "name", table)?;
     let is_taken = is_area_of_any(dedbs, &name) || is_area(before, &name);
@@ -120,7 +121,8 @@ pub(crate) fn areas_of(
     dedbs: &[DedbDef],
     tables: &[&Table],
 ) -> Result<List<AreaDef>, DefsFault>
-    ensures { Gives (λ defs. defs) result (in_turn (area_of sequential (areas_named dedbs.now)) [] (map (λ t. table_view t.now) tables.now)) }
+    ensures { Gives (λ defs. defs) result (in_turn (area_of sequential (areas_named dedbs.now)) []
+        (map (λ t. table_view t.now) tables.now)) }
 {
     let mut defs = List::new(alloc);
     for table in tables {

@@ -47,7 +47,8 @@ fn new_dedb_name(
     before: &[DedbDef],
     table: &Table,
 ) -> Result<Name, DefsFault>
-    ensures { Gives (λ name. name) result (new_name (msdb_names msdbs.now ++ dedb_names before.now) (table_view table.now)) }
+    ensures { Gives (λ name. name) result (new_name (msdb_names msdbs.now ++ dedb_names before.now)
+        (table_view table.now)) }
 {
     let name = name_at(alloc, "name", table)?;
     let is_taken = is_msdb(msdbs, &name) || is_dedb(before, &name);
@@ -226,7 +227,8 @@ fn dedb_behind(
     requires size { 512 ≤ head.ci }
     requires largest { head.ci ≤ 4096 }
     requires few { length segment_tables.now ≤ 1000000 }
-    ensures exact { Gives (λ r. r.0) result (dedb_behind before.now head.name head.randomizer head.ci (map (λ t. table_view t.now) segment_tables.now) (map (λ t. table_view t.now) area_tables.now)) }
+    ensures exact { Gives (λ r. r.0) result (dedb_behind before.now head.name head.randomizer head.ci
+        (map (λ t. table_view t.now) segment_tables.now) (map (λ t. table_view t.now) area_tables.now)) }
     ensures all { IfOk result (λ r. r.1 ≡ intervals_of (before.now ++ r.0 ∷ [])) }
     ensures small { IfOk result (λ r. r.1 ≤ 524288) }
 {

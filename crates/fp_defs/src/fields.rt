@@ -116,7 +116,8 @@ fn as_triple(value: &Value) -> Option<Triple>
 
 /// The fields that the items of an array are.
 fn triples_of(alloc: Global, items: &Vec<Value>) -> Result<Vec<Triple>, DefsFault>
-    ensures { Gives (λ ts. ts.items) result (or_fault (faults.BadField (codes "fields")) (each as_triple (array_view items.now))) }
+    ensures { Gives (λ ts. ts.items) result (or_fault (faults.BadField (codes "fields"))
+        (each as_triple (array_view items.now))) }
 {
     let mut triples = Vec::new(alloc);
     for item in items {

@@ -238,7 +238,8 @@ fn tables_of<'a>(
     items: &'a Vec<Value>,
 ) -> Result<Vec<&'a Table>, DefsFault>
     ensures few { IfOk result (λ ts. length ts.items ≤ 1000000) }
-    ensures exact { Gives (λ ts. map (λ t. table_view t.now) ts.items) result (or_fault (faults.BadField key.now) (each as_table (array_view items.now))) }
+    ensures exact { Gives (λ ts. map (λ t. table_view t.now) ts.items) result
+        (or_fault (faults.BadField key.now) (each as_table (array_view items.now))) }
 {
     if items.len() > MANY {
         return Err(DefsFault::Memory);
@@ -259,7 +260,8 @@ fn tables_of<'a>(
 #[tactic(auto, unfolding(crate::specs::Values::as_tables))]
 fn tables_in<'a>(alloc: Global, key: &str, value: &'a Value) -> Result<Vec<&'a Table>, DefsFault>
     ensures few { IfOk result (λ ts. length ts.items ≤ 1000000) }
-    ensures exact { Gives (λ ts. map (λ t. table_view t.now) ts.items) result (or_fault (faults.BadField key.now) (as_tables (view value.now))) }
+    ensures exact { Gives (λ ts. map (λ t. table_view t.now) ts.items) result
+        (or_fault (faults.BadField key.now) (as_tables (view value.now))) }
 {
     match value.as_array() {
         Some(items) => tables_of(alloc, key, items),
@@ -275,7 +277,8 @@ pub(crate) fn tables_or_none<'a>(
     table: &'a Table,
 ) -> Result<Vec<&'a Table>, DefsFault>
     ensures few { IfOk result (λ ts. length ts.items ≤ 1000000) }
-    ensures exact { Gives (λ ts. map (λ t. table_view t.now) ts.items) result (tables_or_none key.now (table_view table.now)) }
+    ensures exact { Gives (λ ts. map (λ t. table_view t.now) ts.items) result
+        (tables_or_none key.now (table_view table.now)) }
 {
     match member(table, key) {
         Some(value) => tables_in(alloc, key, value),

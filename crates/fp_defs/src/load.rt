@@ -218,7 +218,8 @@ fn segments_of(
     fields: &[FieldDef],
     rows: &Vec<Value>,
 ) -> Result<List<Bytes>, DefsFault>
-    ensures { Gives (λ load. load) result (or_fault (faults.BadField (codes "load")) (each (as_segment fields.now) (array_view rows.now))) }
+    ensures { Gives (λ load. load) result (or_fault (faults.BadField (codes "load"))
+        (each (as_segment fields.now) (array_view rows.now))) }
 {
     let mut load = List::new(alloc);
     for row in rows {
@@ -233,7 +234,8 @@ fn segments_of(
 /// The segments that the items of a value are.
 #[tactic(auto, unfolding(crate::specs::Values::as_segments))]
 fn segments_in(alloc: Global, fields: &[FieldDef], value: &Value) -> Result<List<Bytes>, DefsFault>
-    ensures { Gives (λ load. load) result (or_fault (faults.BadField (codes "load")) (as_segments fields.now (view value.now))) }
+    ensures { Gives (λ load. load) result (or_fault (faults.BadField (codes "load"))
+        (as_segments fields.now (view value.now))) }
 {
     match value.as_array() {
         Some(rows) => segments_of(alloc, fields, rows),

@@ -206,7 +206,8 @@ fn child_count(drafts: &[Draft], place: usize) -> usize
 fn stored_length(drafts: &[Draft], place: usize) -> usize
     requires there { place < length drafts.now }
     requires few { length drafts.now ≤ 1000000 }
-    ensures exact { (def : SegDef) → slice_get drafts.now place ≡ Some def → result ≡ stored_length drafts.now place def }
+    ensures exact { (def : SegDef) → slice_get drafts.now place ≡ Some def
+        → result ≡ stored_length drafts.now place def }
     ensures small { result < 2 ^ 63 }
 {
     let draft = &drafts[place];

@@ -114,7 +114,8 @@ fn databases_of(
 ) -> Result<(List<MsdbDef>, List<DedbDef>), DefsFault>
     requires msdbs { length msdb_tables.now ≤ 1000000 }
     requires dedbs { length dedb_tables.now ≤ 1000000 }
-    ensures { Gives (λ all. all) result (databases_of (map (λ t. table_view t.now) msdb_tables.now) (map (λ t. table_view t.now) dedb_tables.now)) }
+    ensures { Gives (λ all. all) result (databases_of (map (λ t. table_view t.now) msdb_tables.now)
+        (map (λ t. table_view t.now) dedb_tables.now)) }
 {
     count_within(alloc, "msdb", 0, 32, msdb_tables.len())?;
     count_within(alloc, "dedb", 0, 16, dedb_tables.len())?;
@@ -178,16 +179,19 @@ fn read_text(alloc: Global, bytes: &[u8]) -> Result<Defs, DefsFault>
 /// The definitions of a text for an installation with these exits, or the first fault: those of the text, and then the
 /// first kind without its exit, the router's before the randomizers'.
 pub fn read_defs(alloc: Global, bytes: &[u8], exits: &Exits) -> Result<Defs, DefsFault>
-    // At Ok it is what the text means, and the exits are there; at a fault it is the first. Want of memory alone is free.
+    // At Ok it is what the text means, and the exits are there; at a fault it is the first. Want of memory alone is
+    // free.
     ensures ok { IfOk result (λ defs. defs_for (kinds_of exits.now) bytes.now ≡ Ok defs) }
-    ensures fault { IfErr result (λ fault. fault ≢ DefsFault.Memory → defs_for (kinds_of exits.now) bytes.now ≡ Err fault) }
+    ensures fault { IfErr result (λ fault. fault ≢ DefsFault.Memory
+        → defs_for (kinds_of exits.now) bytes.now ≡ Err fault) }
 
     // All rules and limits hold of it.
     ensures valid { IfOk result AreDefs }
 
     // The installation has the exits that it names.
     ensures router { IfOk result (λ defs. has_kind (kinds_of exits.now).routers defs.router ≡ true) }
-    ensures randomizers { IfOk result (λ defs. AllByRecursion (λ dedb. has_kind (kinds_of exits.now).spreaders dedb.randomizer ≡ true) defs.dedbs) }
+    ensures randomizers { IfOk result (λ defs. AllByRecursion
+        (λ dedb. has_kind (kinds_of exits.now).spreaders dedb.randomizer ≡ true) defs.dedbs) }
 {
     let defs = read_text(alloc, bytes)?;
     match lacking(exits, &defs) {

@@ -37,7 +37,8 @@ spread_below : (kind : Kind) (n : ℕ) (key : List ℕ) → AreBytes key → 1 �
 spread_below Fold n key bytes some = fold_below n 0 key some some
 spread_below Range n key bytes some = part_below (first_four key) n (first_four_below key bytes) some
 
-kept_or_left_out : (keeps : Bool) (b : ℕ) (rest : List ℕ) → b < 256 → AreBytes rest → AreBytes (if keeps then b ∷ rest else rest)
+kept_or_left_out : (keeps : Bool) (b : ℕ) (rest : List ℕ) → b < 256 → AreBytes rest
+    → AreBytes (if keeps then b ∷ rest else rest)
 kept_or_left_out true b rest is_byte bytes zero = is_byte
 kept_or_left_out true b rest is_byte bytes (suc i) = bytes i
 kept_or_left_out false b rest is_byte bytes i = bytes i
@@ -45,15 +46,18 @@ kept_or_left_out false b rest is_byte bytes i = bytes i
 -- leaving some out leaves bytes
 kept_bytes : (keeps : ℕ → Bool) (text : List ℕ) → AreBytes text → AreBytes (filter keeps text)
 kept_bytes keeps [] bytes = bytes
-kept_bytes keeps (b ∷ bs) bytes = kept_or_left_out (keeps b) b (filter keeps bs) (bytes 0) (kept_bytes keeps bs (λ i. bytes (suc i)))
+kept_bytes keeps (b ∷ bs) bytes = kept_or_left_out (keeps b) b (filter keeps bs) (bytes 0)
+    (kept_bytes keeps bs (λ i. bytes (suc i)))
 
 -- what is the place of a key is one of the places
-pub place_below : (kind : Kind) (n : ℕ) (key : List ℕ) (place : ℕ) → place ≡ spread kind n key → AreBytes key → 1 ≤ n → place < n
+pub place_below : (kind : Kind) (n : ℕ) (key : List ℕ) (place : ℕ) → place ≡ spread kind n key → AreBytes key → 1 ≤ n
+    → place < n
 place_below kind n key place exact bytes some =
     let below : spread kind n key < n = spread_below kind n key bytes some in
     omega (arith, exact, below)
 
 -- what is the group of a transaction is one of the groups
-pub group_below : (kind : Kind) (n : ℕ) (tran : Name) (group : ℕ) → group ≡ route kind n tran → AreBytes tran.0 → 1 ≤ n → group < n
+pub group_below : (kind : Kind) (n : ℕ) (tran : Name) (group : ℕ) → group ≡ route kind n tran → AreBytes tran.0 → 1 ≤ n
+    → group < n
 group_below kind n tran group exact bytes some =
     place_below kind n (name_text tran) group exact (kept_bytes (λ b. not (b == 32)) tran.0 bytes) some

@@ -18,7 +18,11 @@ abbrev pub kinds_of :
     {X Y : Type 0} {F : X → Type 0} {G : Y → Type 0}
     {m : Mut ((x : X) × F x) (Bor (List ℕ) × (ℕ × ⊤)) ℕ} {n : Mut ((y : Y) × G y) (Bor Name × (ℕ × ⊤)) ℕ}
     → Exits X Y F G m n → Kinds
-kinds_of exits = record { routers = map (λ one. one.kind) exits.routers.items; spreaders = map (λ one. one.kind) exits.spreaders.items }
+kinds_of exits = record {
+  routers = map (λ one. one.kind) exits.routers.items;
+  spreaders =
+      map (λ one. one.kind) exits.spreaders.items;
+}
 
 abbrev pub same_kind : Kind → Kind → Bool
 same_kind Fold Fold = true

@@ -22,7 +22,8 @@ impl Router {
     /// and give the group that the kind gives.
     pub fn new(kind: Kind, f: Routing) -> Router
         requires may_call { (tran : _) (n : ℕ) → IsRoutable tran.now n → Routing.pre f tran n }
-        requires routes { (tran : _) (n : ℕ) (group : ℕ) → IsRoutable tran.now n → Routing.post f tran n group → group ≡ route kind n tran.now }
+        requires routes { (tran : _) (n : ℕ) (group : ℕ) → IsRoutable tran.now n → Routing.post f tran n group
+            → group ≡ route kind n tran.now }
         ensures { result.kind ≡ kind }
     {
         Router { kind, f }

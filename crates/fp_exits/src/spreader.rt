@@ -22,7 +22,8 @@ impl Spreader {
     /// free to be called, and give the place that the kind gives.
     pub fn new(kind: Kind, f: Spreading) -> Spreader
         requires may_call { (key : _) (n : ℕ) → IsSpreadable key.now n → Spreading.pre f key n }
-        requires spreads { (key : _) (n : ℕ) (place : ℕ) → IsSpreadable key.now n → Spreading.post f key n place → place ≡ spread kind n key.now }
+        requires spreads { (key : _) (n : ℕ) (place : ℕ) → IsSpreadable key.now n → Spreading.post f key n place
+            → place ≡ spread kind n key.now }
         ensures { result.kind ≡ kind }
     {
         Spreader { kind, f }

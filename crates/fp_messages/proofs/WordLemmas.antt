@@ -13,7 +13,8 @@ found_is false n i e = search rules
 
 -- the place that was found is where the first word ends
 pub place_is : {X : Type 0} (p : X → Bool) (xs : List X) (i : ℕ)
-    → cond (nat_lt (position_or_len p xs) (length xs)) (Some (position_or_len p xs)) None ≡ Some i → position_or_len p xs ≡ i
+    → cond (nat_lt (position_or_len p xs) (length xs)) (Some (position_or_len p xs)) None ≡ Some i
+    → position_or_len p xs ≡ i
 place_is p xs i e = found_is _ _ _ e
 
 none_is : (n m : ℕ) → cond (nat_lt n m) (Some n) None ≡ None → m ≤ n
@@ -21,7 +22,8 @@ none_is n m e = grind (arith, rules)
 
 -- where none was found the word is the whole
 pub whole_is : {X : Type 0} (p : X → Bool) (xs : List X)
-    → cond (nat_lt (position_or_len p xs) (length xs)) (Some (position_or_len p xs)) None ≡ None → length xs ≤ position_or_len p xs
+    → cond (nat_lt (position_or_len p xs) (length xs)) (Some (position_or_len p xs)) None ≡ None
+    → length xs ≤ position_or_len p xs
 whole_is p xs e = none_is _ _ e
 
 -- blanks alone leave nothing
@@ -43,7 +45,8 @@ both-second true b e = e
 both-second false b e = search rules
 
 -- a text of letters and digits loses only the blanks behind it
-trimmed-fair : (text : List ℕ) (n : ℕ) → list_all is_letter_or_digit text ≡ true → trimmed (text ++ replicate n 32) ≡ text
+trimmed-fair : (text : List ℕ) (n : ℕ) → list_all is_letter_or_digit text ≡ true
+    → trimmed (text ++ replicate n 32) ≡ text
 trimmed-fair [] n e = trimmed-blanks n
 trimmed-fair (b ∷ bs) n e =
     ap (in_front b) (trimmed-fair bs n (both-second (is_letter_or_digit b) (list_all is_letter_or_digit bs) e))

@@ -39,16 +39,22 @@ same_in m =
 
 request_keeps : (rules : Rules) (line : List ℕ) (r : Request) (m m2 : Machine) → InKeeps m m2
     → InKeeps m (with_request_of rules line r m2)
-request_keeps rules line (Accepts message) m m2 k =
-    (record { sealed = k.0.sealed; groups = k.0.groups; sent = k.0.sent }, record { regions = k.1.regions; locks = k.1.locks; requests = k.1.requests })
-request_keeps rules line (Refuses outcome) m m2 k =
-    (record { sealed = k.0.sealed; groups = k.0.groups; sent = k.0.sent }, record { regions = k.1.regions; locks = k.1.locks; requests = k.1.requests })
+request_keeps rules line (Accepts message) m m2 k = (
+  record { sealed = k.0.sealed; groups = k.0.groups; sent = k.0.sent },
+  record { regions = k.1.regions; locks = k.1.locks; requests = k.1.requests },
+)
+request_keeps rules line (Refuses outcome) m m2 k = (
+  record { sealed = k.0.sealed; groups = k.0.groups; sent = k.0.sent },
+  record { regions = k.1.regions; locks = k.1.locks; requests = k.1.requests },
+)
 
 line_keeps : (rules : Rules) (line : List ℕ) (m m2 : Machine) → InKeeps m m2 → InKeeps m (with_line rules line m2)
 line_keeps rules line m m2 k =
     let pass : Machine → Type 0 = λ x. InKeeps m x in
-    either_bool pass (list_any (is_among m2.busy) (terminal_in (rules.terminal_of line))) _ _
-    (record { sealed = k.0.sealed; groups = k.0.groups; sent = k.0.sent }, record { regions = k.1.regions; locks = k.1.locks; requests = k.1.requests })
+    either_bool pass (list_any (is_among m2.busy) (terminal_in (rules.terminal_of line))) _ _ (
+      record { sealed = k.0.sealed; groups = k.0.groups; sent = k.0.sent },
+      record { regions = k.1.regions; locks = k.1.locks; requests = k.1.requests },
+    )
     (request_keeps rules line (rules.request_of m2.history line) m m2 k)
 
 taken_keeps : (rules : Rules) (m : Machine) → InKeeps m (taken_in rules m)
@@ -57,7 +63,10 @@ taken_keeps rules m =
     either_option pass (next_line m) (λ line. with_line rules line (without_line m)) m
     (λ line. line_keeps rules line m (without_line m)
     (either_option pass m.held (λ l. record m { held = None }) (record m { lines = drop 1 m.lines })
-    (λ l. (record { sealed = refl; groups = refl; sent = refl }, record { regions = refl; locks = refl; requests = refl }))
+    (λ l. (
+      record { sealed = refl; groups = refl; sent = refl },
+      record { regions = refl; locks = refl; requests = refl },
+    ))
     (record { sealed = refl; groups = refl; sent = refl }, record { regions = refl; locks = refl; requests = refl })))
     (same_in m)
 
@@ -69,8 +78,12 @@ LogKeeps m m2 = KeepsLines m m2 × (m2.queues ≡ m.queues) × KeepsRegions m m2
 once_keeps : (rules : Rules) (m m2 : Machine) → LogKeeps m m2 → LogKeeps m (sealed_once rules m2)
 once_keeps rules m m2 k =
     let pass : Machine → Type 0 = λ x. LogKeeps m x in
-    either_bool pass (nat_lt m2.sealed (place_of m2.history)) (with_group rules (next_group rules m2) m2) m2
-    (record { lines = k.0.lines; held = k.0.held }, k.1, record { regions = k.2.regions; locks = k.2.locks; requests = k.2.requests }, k.3)
+    either_bool pass (nat_lt m2.sealed (place_of m2.history)) (with_group rules (next_group rules m2) m2) m2 (
+      record { lines = k.0.lines; held = k.0.held },
+      k.1,
+      record { regions = k.2.regions; locks = k.2.locks; requests = k.2.requests },
+      k.3,
+    )
     k
 
 same_log : (m : Machine) → LogKeeps m m
@@ -91,8 +104,11 @@ same_region m = (record { lines = refl; held = refl }, record { sealed = refl; g
 
 put_keeps : (region : ℕ) (r : Region) (m m2 : Machine) → RegionKeeps m m2 → RegionKeeps m (with_region region r m2)
 put_keeps zero r m m2 k = k
-put_keeps (suc place) r m m2 k =
-    (record { lines = k.0.lines; held = k.0.held }, record { sealed = k.1.sealed; groups = k.1.groups; sent = k.1.sent }, k.2)
+put_keeps (suc place) r m m2 k = (
+  record { lines = k.0.lines; held = k.0.held },
+  record { sealed = k.1.sealed; groups = k.1.groups; sent = k.1.sent },
+  k.2,
+)
 
 unlocked_keeps : (region : ℕ) (m : Machine) → RegionKeeps m (without_locks region m)
 unlocked_keeps region m =
@@ -101,8 +117,11 @@ unlocked_keeps region m =
 ended_keeps : (region : ℕ) (e : Entry) (next : Db) (m : Machine) → RegionKeeps m (ended_with region e next m)
 ended_keeps region e next m =
     let k : RegionKeeps m (with_region region Idle (without_locks region m)) = put_keeps region Idle m
-    (without_locks region m) (unlocked_keeps region m) in
-    (record { lines = k.0.lines; held = k.0.held }, record { sealed = k.1.sealed; groups = k.1.groups; sent = k.1.sent }, k.2)
+    (without_locks region m) (unlocked_keeps region m) in (
+      record { lines = k.0.lines; held = k.0.held },
+      record { sealed = k.1.sealed; groups = k.1.groups; sent = k.1.sent },
+      k.2,
+    )
 
 tried_keeps : (rules : Rules) (region : ℕ) (t : Transaction) (m : Machine)
     → RegionKeeps m (tried_again rules region t m)
@@ -159,16 +178,31 @@ PurgeKeeps m m2 = KeepsLines m m2 × KeepsSealed m m2 × KeepsRegions m m2 × (m
 purge_keeps : (rules : Rules) (m : Machine) (set n : ℕ) (is_held : Bool) (m2 : Machine)
     → PurgeTurn rules m set n is_held m2 → PurgeKeeps m m2
 purge_keeps rules m set n true m2 d =
-    led (λ x. PurgeKeeps m x) _ m2 d
-    (record { lines = refl; held = refl }, record { sealed = refl; groups = refl; sent = refl }, record { regions = refl; locks = refl; requests = refl }, refl, refl)
+    led (λ x. PurgeKeeps m x) _ m2 d (
+      record { lines = refl; held = refl },
+      record { sealed = refl; groups = refl; sent = refl },
+      record { regions = refl; locks = refl; requests = refl },
+      refl,
+      refl,
+    )
 purge_keeps rules m set n false m2 d =
-    led (λ x. PurgeKeeps m x) _ m2 d.after
-    (record { lines = refl; held = refl }, record { sealed = refl; groups = refl; sent = refl }, record { regions = refl; locks = refl; requests = refl }, refl, refl)
+    led (λ x. PurgeKeeps m x) _ m2 d.after (
+      record { lines = refl; held = refl },
+      record { sealed = refl; groups = refl; sent = refl },
+      record { regions = refl; locks = refl; requests = refl },
+      refl,
+      refl,
+    )
 
 purge_same : (m m2 : Machine) → m2 ≡ m → PurgeKeeps m m2
 purge_same m m2 e =
-    led (λ x. PurgeKeeps m x) m m2 e
-    (record { lines = refl; held = refl }, record { sealed = refl; groups = refl; sent = refl }, record { regions = refl; locks = refl; requests = refl }, refl, refl)
+    led (λ x. PurgeKeeps m x) m m2 e (
+      record { lines = refl; held = refl },
+      record { sealed = refl; groups = refl; sent = refl },
+      record { regions = refl; locks = refl; requests = refl },
+      refl,
+      refl,
+    )
 
 -- ---- every turn
 

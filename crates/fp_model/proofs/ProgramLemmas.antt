@@ -14,7 +14,8 @@ use Rattle.fp_model.specs.Asking.{Way, Goes, Leaves, Ends, Ask, Asks, Replies, R
 
 -- a statement's run, as one step over the runs of the statements in it
 pub run_roll : (defs : Defs) (message : Message) (d : Statement-F Statement) (env : Env)
-    → run defs message (roll-Statement d) env ≡ run_step defs message (map-Statement Statement (Env → Way) (run defs message) d) env
+    → run defs message (roll-Statement d) env ≡ run_step defs message
+    (map-Statement Statement (Env → Way) (run defs message) d) env
 run_roll defs message d env =
     ap (λ (part : Env → Way). part env) (fold-roll-Statement (Env → Way) (run_step defs message) d)
 
@@ -133,7 +134,8 @@ module _ (defs : Defs) (message : Message) where
   block-within [] env = omega arith
   block-within (s ∷ ss) env =
       rw (sum_by-cons (λ (n : ℕ). n) (statement_cost s.0) (map statement_cost (map (λ e. e.0) ss)))
-      (goes_on-within (statement_cost s.0) _ (length env.answers) (run defs message s.0 env) _ (s.1 env) (block-within ss))
+      (goes_on-within (statement_cost s.0) _ (length env.answers) (run defs message s.0 env) _ (s.1 env)
+      (block-within ss))
 
   choice-within : (b : Bool) (k m : ℕ) (x y : Env → Way) → IsWithin k x → IsWithin m y
       → IsWithin (1 + max k m) (if b then x else y)
@@ -141,7 +143,8 @@ module _ (defs : Defs) (message : Message) where
   choice-within false k m x y h g env = wider m (1 + max k m) (length env.answers) (y env) (omega arith) (g env)
 
   step-within : (y : Statement-F ((s : Statement) × IsCosted s))
-      → IsWithin (cost_step (map-Statement _ _ statement_cost (map-Statement _ _ (λ e. e.0) y))) (run_step defs message (map-Statement _ _ (run defs message) (map-Statement _ _ (λ e. e.0) y)))
+      → IsWithin (cost_step (map-Statement _ _ statement_cost (map-Statement _ _ (λ e. e.0) y)))
+      (run_step defs message (map-Statement _ _ (run defs message) (map-Statement _ _ (λ e. e.0) y)))
   step-within (Set variable first rest) env =
       or_rolls-within (set_text defs message env first rest) (λ text. Goes (with_setting variable.0 text env)) 1
       (length env.answers) (λ text. setting-within variable.0 text env)
@@ -170,7 +173,8 @@ module _ (defs : Defs) (message : Message) where
   step-within (Dlet db) env = called-within (call.Dlet db) env
 
   rolled-within : (x : Statement-F Statement)
-      → IsWithin (cost_step (map-Statement _ _ statement_cost x)) (run_step defs message (map-Statement _ _ (run defs message) x))
+      → IsWithin (cost_step (map-Statement _ _ statement_cost x))
+      (run_step defs message (map-Statement _ _ (run defs message) x))
       → IsCosted (roll-Statement x)
   rolled-within x h =
       rw (fold-roll-Statement ℕ cost_step x, fold-roll-Statement (Env → Way) (run_step defs message) x) h
@@ -178,13 +182,15 @@ module _ (defs : Defs) (message : Message) where
   statement-within : (s : Statement) → IsCosted s
   statement-within =
       ind-Statement IsCosted
-      (λ x y is. rolled-within x (subst (λ z. IsWithin (cost_step (map-Statement _ _ statement_cost z)) (run_step defs message (map-Statement _ _ (run defs message) z))) is (step-within y)))
+      (λ x y is. rolled-within x (subst (λ z. IsWithin (cost_step (map-Statement _ _ statement_cost z))
+      (run_step defs message (map-Statement _ _ (run defs message) z))) is (step-within y)))
 
   script-within : (ss : List Statement) → IsWithin (sum (map statement_cost ss)) (in_order (map (run defs message) ss))
   script-within [] env = omega arith
   script-within (s ∷ ss) env =
       rw (sum_by-cons (λ (n : ℕ). n) (statement_cost s) (map statement_cost ss))
-      (goes_on-within (statement_cost s) _ (length env.answers) (run defs message s env) _ (statement-within s env) (script-within ss))
+      (goes_on-within (statement_cost s) _ (length env.answers) (run defs message s env) _ (statement-within s env)
+      (script-within ss))
 
 -- a reply or a rollback
 abbrev IsEnd : Ask → Type 0
@@ -199,7 +205,8 @@ asked-below k n (Leaves env) asked is e = absurd (subst IsEnd is tt)
 asked-below k n (Ends end) asked is e = subst (EndsWithin k n) is e
 
 -- A script that asks a call was answered fewer than it costs.
-pub calls_below_cost : (defs : Defs) (statements : List Statement) (message : Message) (answers : List Answer) (asked : Call)
+pub calls_below_cost : (defs : Defs) (statements : List Statement) (message : Message) (answers : List Answer)
+    (asked : Call)
     → ask defs statements message answers ≡ Asks asked → length answers < full_cost statements
 unfolding ask
 calls_below_cost defs statements message answers asked is =

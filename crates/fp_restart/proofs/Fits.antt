@@ -29,7 +29,8 @@ entries-append gs hs = flat_map-append (λ (es : List Entry). es) gs hs
 
 -- and of a further one
 pub entries-more : (gs : List (List Entry)) (es : List Entry) → entries_of (gs ++ es ∷ []) ≡ entries_of gs ++ es
-entries-more gs es = entries-append gs (es ∷ []) ∙ ap (λ l. entries_of gs ++ l) (flat_map-cons (λ (x : List Entry). x) es [] ∙ append-nil es)
+entries-more gs es = entries-append gs (es ∷ []) ∙ ap (λ l. entries_of gs ++ l)
+    (flat_map-cons (λ (x : List Entry). x) es [] ∙ append-nil es)
 
 -- ---- all of a list
 
@@ -47,27 +48,36 @@ module _ {X : Type 0} (P : X → Type 0) where
 -- ---- by entries
 
 -- the items so far, with those of one entry more
-pub items-next : (es : List Entry) (i : ℕ) (e : Entry) → i < length es → e ≡ get_or es i e → items_of (take (i + 1) es) ≡ items_of (take i es) ++ e.items
+pub items-next : (es : List Entry) (i : ℕ) (e : Entry) → i < length es → e ≡ get_or es i e
+    → items_of (take (i + 1) es) ≡ items_of (take i es) ++ e.items
 items-next es i e lt is =
-    ap items_of (take_more es i e lt ∙ ap (λ x. take i es ++ x ∷ []) (sym is)) ∙ items-append (take i es) (e ∷ []) ∙ ap (λ l. items_of (take i es) ++ l) (items-single e)
+    ap items_of (take_more es i e lt ∙ ap (λ x. take i es ++ x ∷ []) (sym is)) ∙ items-append (take i es) (e ∷ []) ∙ ap
+    (λ l. items_of (take i es) ++ l) (items-single e)
 
 -- all items of the entries so far, and of one more
-pub all-next : (P : Item → Type 0) (es : List Entry) (i : ℕ) (e : Entry) → i < length es → e ≡ get_or es i e → AllByRecursion P (items_of (take i es)) → AllByRecursion P e.items
+pub all-next : (P : Item → Type 0) (es : List Entry) (i : ℕ) (e : Entry) → i < length es → e ≡ get_or es i e
+    → AllByRecursion P (items_of (take i es)) → AllByRecursion P e.items
     → AllByRecursion P (items_of (take (i + 1) es))
-all-next P es i e lt is front more = subst (AllByRecursion P) (sym (items-next es i e lt is)) (all-append P (items_of (take i es)) e.items front more)
+all-next P es i e lt is front more = subst (AllByRecursion P) (sym (items-next es i e lt is))
+    (all-append P (items_of (take i es)) e.items front more)
 
-of_all : (P : Item → Type 0) (es : List Entry) → AllByRecursion P (items_of es) → AllByRecursion (λ e. AllByRecursion P e.items) es
+of_all : (P : Item → Type 0) (es : List Entry) → AllByRecursion P (items_of es)
+    → AllByRecursion (λ e. AllByRecursion P e.items) es
 of_all P [] all = tt
 of_all P (e ∷ es) all =
     let both = subst (AllByRecursion P) (flat_map-cons (λ x. x.items) e es) all in
     (all-front P e.items (items_of es) both, of_all P es (all-back P e.items (items_of es) both))
 
 -- what holds of all items holds of those of each entry
-pub all-of : (P : Item → Type 0) (es : List Entry) (i : ℕ) (e : Entry) → i < length es → e ≡ get_or es i e → AllByRecursion P (items_of es) → AllByRecursion P e.items
+pub all-of : (P : Item → Type 0) (es : List Entry) (i : ℕ) (e : Entry) → i < length es → e ≡ get_or es i e
+    → AllByRecursion P (items_of es) → AllByRecursion P e.items
 all-of P es i e lt is all = element (λ x. AllByRecursion P x.items) es i e lt is (of_all P es all)
 
 -- the databases behind the items of the entries so far, and of one more
-pub put-next : (defs : List MsdbDef) (before : List Msdb) (es : List Entry) (i : ℕ) (e : Entry) → i < length es → e ≡ get_or es i e
-    → with_items defs (with_items defs before (items_of (take i es))) e.items ≡ with_items defs before (items_of (take (i + 1) es))
+pub put-next : (defs : List MsdbDef) (before : List Msdb) (es : List Entry) (i : ℕ) (e : Entry) → i < length es
+    → e ≡ get_or es i e
+    → with_items defs (with_items defs before (items_of (take i es))) e.items ≡ with_items defs before
+    (items_of (take (i + 1) es))
 put-next defs before es i e lt is =
-    sym (fold-append (with_item defs) before (items_of (take i es)) e.items) ∙ ap (with_items defs before) (sym (items-next es i e lt is))
+    sym (fold-append (with_item defs) before (items_of (take i es)) e.items) ∙ ap (with_items defs before)
+    (sym (items-next es i e lt is))

@@ -23,10 +23,13 @@ module _ {S : Type 0} (told : S → Type 0) (disk : S → Disk) (faults holds : 
   }
 
   -- one call more
-  pub looks_on : ((s : S) → told s → IsLawful (disk s)) → (a b c : S) → Looks a b → faults b ≤ faults c → (told b → Stays (disk b) (disk c)) → (told b → told c) → holds c ≡ holds b → ((first : S) → keeps first b → keeps first c) → Looks a c
+  pub looks_on : ((s : S) → told s → IsLawful (disk s)) → (a b c : S) → Looks a b → faults b ≤ faults c
+      → (told b → Stays (disk b) (disk c)) → (told b → told c) → holds c ≡ holds b
+      → ((first : S) → keeps first b → keeps first c) → Looks a c
   looks_on lawful a b c so_far later stays told_still same_holds keeps_all = record {
     later = let x = so_far.later in omega arith;
-    stays = λ t. let t1 = so_far.told_still t in stays_then (disk a) (disk b) (disk c) (lawful a t) (lawful b t1) (so_far.stays t) (stays t1);
+    stays = λ t. let t1 = so_far.told_still t in stays_then (disk a) (disk b) (disk c) (lawful a t) (lawful b t1)
+        (so_far.stays t) (stays t1);
     told_still = λ t. told_still (so_far.told_still t);
     same_holds = same_holds ∙ so_far.same_holds;
     keeps_all = λ first k. keeps_all first (so_far.keeps_all first k);

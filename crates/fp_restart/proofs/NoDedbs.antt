@@ -39,7 +39,8 @@ module _ (defs : Defs) (none : defs.dedbs ≡ []) where
   no_areas = ap (λ (ds : List DedbDef). areas_of_all 0 ds) none
 
   insert_none : (db : Db) (i : SeqInsert) → with_insert defs db i ≡ db
-  insert_none db i = ap (λ (areas : List Area). option_map_or (λ area. numbered_at defs i area db) (find (λ area. takes area i) areas) db) no_areas
+  insert_none db i = ap (λ (areas : List Area). option_map_or (λ area. numbered_at defs i area db)
+      (find (λ area. takes area i) areas) db) no_areas
 
   inserts_none : (inserts : List SeqInsert) (db : Db) → HasNone db → HasNone (with_inserts defs inserts db)
   inserts_none [] db h = h
@@ -51,10 +52,12 @@ module _ (defs : Defs) (none : defs.dedbs ≡ []) where
     EndsNone (Ends ending) = HasNone ending.next
     EndsNone Stuck = Unit {0}
 
-    settled_none : (own : Workspace) (reply : List ℕ) (s : Settled) → HasNone (settled_as now reply (settled_to defs now own s)).next
+    settled_none : (own : Workspace) (reply : List ℕ) (s : Settled)
+        → HasNone (settled_as now reply (settled_to defs now own s)).next
     settled_none own reply (VerifyFails call fsa found) = h
     settled_none own reply (Stands msdbs) =
-        rw no_areas (inserts_none own.inserts (with_anchors own.changes (with_msdbs msdbs now)) (anchors_none own.changes (with_msdbs msdbs now) h))
+        rw no_areas (inserts_none own.inserts (with_anchors own.changes (with_msdbs msdbs now))
+        (anchors_none own.changes (with_msdbs msdbs now) h))
 
     settlement_none : (own : Workspace) (reply : List ℕ) → HasNone (settled_as now reply (settlement defs now own)).next
     unfolding settlement
@@ -75,20 +78,24 @@ module _ (defs : Defs) (none : defs.dedbs ≡ []) where
     asked_none : (ask : Ask) (point : Point) (notes : List ℕ) (rest : Point → List ℕ → Alone)
         → ((p : Point) (ns : List ℕ) → EndsNone (rest p ns))
         → EndsNone (asked (rules_of defs scripts) now states message ask point notes rest)
-    asked_none (Asks call) point notes rest g = called_none ((rules_of defs scripts).looks point.own call) point call notes rest g
+    asked_none (Asks call) point notes rest g = called_none ((rules_of defs scripts).looks point.own call) point call
+        notes rest g
     asked_none (Replies reply) point notes rest g =
         all_none notes (settled_as now reply (settlement defs now point.own)) (settlement_none point.own reply)
     asked_none (Rolls code) point notes rest g = all_none notes (refused_as (outcome.Roll code) now) h
 
-    goes_none : (n : ℕ) (point : Point) (notes : List ℕ) → EndsNone (goes (rules_of defs scripts) now states message n point notes)
+    goes_none : (n : ℕ) (point : Point) (notes : List ℕ)
+        → EndsNone (goes (rules_of defs scripts) now states message n point notes)
     goes_none zero point notes = tt
     goes_none (suc n) point notes =
         asked_none ((rules_of defs scripts).ask message point.answers) point notes
         (goes (rules_of defs scripts) now states message n) (goes_none n)
 
-    run_none : (notes : List ℕ) (ending : Ending) → serial_run (rules_of defs scripts) now states message notes ≡ Ends ending → HasNone ending.next
+    run_none : (notes : List ℕ) (ending : Ending) → serial_run (rules_of defs scripts) now states message notes ≡ Ends
+        ending → HasNone ending.next
     run_none notes ending e =
-        subst EndsNone e (goes_none (suc ((rules_of defs scripts).budget message)) (begun (rules_of defs scripts)) notes)
+        subst EndsNone e (goes_none (suc ((rules_of defs scripts).budget message)) (begun (rules_of defs scripts))
+        notes)
 
   -- ---- histories
 
@@ -103,9 +110,11 @@ module _ (defs : Defs) (none : defs.dedbs ≡ []) where
       either true e = absurd cc
       either false e = absurd cc
 
-  alone_none : (scripts : List Script) (h : History) (e : Entry) (next : Db) → HasNone h.now → EndsAlone (rules_of defs scripts) h e next → HasNone next
+  alone_none : (scripts : List Script) (h : History) (e : Entry) (next : Db) → HasNone h.now
+      → EndsAlone (rules_of defs scripts) h e next → HasNone next
   alone_none scripts h e next none l =
-      run_none scripts h.now none (states_of h) l.message e.notes (record { outcome = e.outcome; reply = e.reply; next = next }) l.ends
+      run_none scripts h.now none (states_of h) l.message e.notes
+      (record { outcome = e.outcome; reply = e.reply; next = next }) l.ends
 
   leads_none : (scripts : List Script) (h : History) (e : Entry) (o : Outcome) (next : Db)
       → HasNone h.now → Leads (rules_of defs scripts) h e o next → HasNone next
@@ -137,7 +146,8 @@ module _ (defs : Defs) (none : defs.dedbs ≡ []) where
       (history_none scripts (beginning format (rules_of defs scripts).start) entries h.history start_has_none h.leads)
 
 -- a state by its parts
-by_parts : (last : Db) (msdbs : List Msdb) (dedbs : List Dedb) → msdbs ≡ last.msdbs → dedbs ≡ last.dedbs → record { msdbs = msdbs; dedbs = dedbs } ≡ last
+by_parts : (last : Db) (msdbs : List Msdb) (dedbs : List Dedb) → msdbs ≡ last.msdbs → dedbs ≡ last.dedbs
+    → record { msdbs = msdbs; dedbs = dedbs } ≡ last
 by_parts last msdbs dedbs e f = rw (e, f) refl
 
 -- no part of nothing is something
@@ -148,6 +158,8 @@ none_taken (suc n) ds e = rw e refl
 -- The state that entries lead to, by its main storage databases.
 pub state_is : (defs : Defs) → defs.dedbs ≡ [] → (scripts : List Script) (format : ℕ) (entries : List Entry) (last : Db)
     → IsSerialHistory (rules_of defs scripts) format entries last
-    → (msdbs : List Msdb) (dedbs : List Dedb) (n : ℕ) → msdbs ≡ last.msdbs → dedbs ≡ map formatted (take n defs.dedbs) → record { msdbs = msdbs; dedbs = dedbs } ≡ last
+    → (msdbs : List Msdb) (dedbs : List Dedb) (n : ℕ) → msdbs ≡ last.msdbs → dedbs ≡ map formatted (take n defs.dedbs)
+    → record { msdbs = msdbs; dedbs = dedbs } ≡ last
 state_is defs none scripts format entries last h msdbs dedbs n e f =
-    by_parts last msdbs dedbs e (f ∙ none_taken n defs.dedbs none ∙ sym (last_has_none defs none scripts format entries last h))
+    by_parts last msdbs dedbs e (f ∙ none_taken n defs.dedbs none ∙ sym
+    (last_has_none defs none scripts format entries last h))

@@ -37,7 +37,8 @@ use Rattle.fp_restart.proofs.Fits.{entries-append, entries-more, items-append}
 use Rattle.fp_restart.proofs.Groups.{GoesFurther, group_opens, groups-cons, one_goes_further, same_reading}
 
 -- fit items are fit for the store
-pub fit_segments : (defs : Defs) (items : List Item) → AllByRecursion (IsFit defs) items → AllByRecursion (IsFitSegment defs.msdbs) items
+pub fit_segments : (defs : Defs) (items : List Item) → AllByRecursion (IsFit defs) items
+    → AllByRecursion (IsFitSegment defs.msdbs) items
 fit_segments defs [] all = tt
 fit_segments defs (Segment msdb key bytes ∷ items) all = (all.0, fit_segments defs items all.1)
 fit_segments defs (Image set ci bytes ∷ items) all = (tt, fit_segments defs items all.1)
@@ -124,7 +125,8 @@ module _ (defs : Defs) (log : List ℕ) where
       (λ (u : HasUnfit defs log earlier at). group_opens log at u.entries (drop u.next log) u.group.text) bad
 
   -- the same groups from the same gate end at the same place
-  same_end_of : (first at gate : ℕ) (gs hs : List (List Entry)) → HoldsGroups log first gs at → HoldsGroups log first hs gate → hs ≡ gs → gate ≡ at
+  same_end_of : (first at gate : ℕ) (gs hs : List (List Entry)) → HoldsGroups log first gs at
+      → HoldsGroups log first hs gate → hs ≡ gs → gate ≡ at
   same_end_of first at gate gs hs p q same = q.next ∙ ap (λ l. first + length (groups_text l)) same ∙ sym p.next
 
   -- a log that can be read to its end is bad nowhere
@@ -136,27 +138,35 @@ module _ (defs : Defs) (log : List ℕ) where
       let ends = same_end_of first at it.gate bad.groups it.groups bad.holds.holds it.holds.holds same in
       it.closed (ap (slice_index log) ends ∙ bad_is_open (entries_of bad.groups) at bad.bad))
       (λ (b : GoesFurther it.groups bad.groups (drop it.gate log) (drop at log)). closed_ends b)
-      (one_goes_further bad.groups it.groups (drop at log) (drop it.gate log) bad.holds.holds.each it.holds.holds.each (sym bad.holds.holds.text ∙ it.holds.holds.text))
+      (one_goes_further bad.groups it.groups (drop at log) (drop it.gate log) bad.holds.holds.each it.holds.holds.each
+      (sym bad.holds.holds.text ∙ it.holds.holds.text))
     where
       closed_ends : GoesFurther it.groups bad.groups (drop it.gate log) (drop at log) → ⊥
       closed_ends ([], same, text, all) =
-          let ends = same_end_of first it.gate at it.groups bad.groups it.holds.holds bad.holds.holds (same ∙ append-nil it.groups) in
+          let ends = same_end_of first it.gate at it.groups bad.groups it.holds.holds bad.holds.holds
+          (same ∙ append-nil it.groups) in
           it.closed (ap (slice_index log) (sym ends) ∙ bad_is_open (entries_of bad.groups) at bad.bad)
-      closed_ends (es ∷ more, same, text, all) = it.closed (group_opens log it.gate es (groups_text more ++ drop at log) (text ∙ groups-cons es more (drop at log)))
+      closed_ends (es ∷ more, same, text, all) = it.closed
+          (group_opens log it.gate es (groups_text more ++ drop at log) (text ∙ groups-cons es more (drop at log)))
 
   -- and it is first bad at one place at most
-  pub one_first_bad : (first at other : ℕ) → IsFirstBadAt defs log first at → IsFirstBadAt defs log first other → other ≡ at
+  pub one_first_bad : (first at other : ℕ) → IsFirstBadAt defs log first at → IsFirstBadAt defs log first other
+      → other ≡ at
   one_first_bad first at other a b =
       ⊎_elim
       (λ (more : GoesFurther a.groups b.groups (drop at log) (drop other log)).
-      same_end_of first at other a.groups b.groups a.holds.holds b.holds.holds (further_not_bad at a.groups b.groups (drop other log) more b.holds.fit a.bad))
+      same_end_of first at other a.groups b.groups a.holds.holds b.holds.holds
+      (further_not_bad at a.groups b.groups (drop other log) more b.holds.fit a.bad))
       (λ (more : GoesFurther b.groups a.groups (drop other log) (drop at log)).
-      sym (same_end_of first other at b.groups a.groups b.holds.holds a.holds.holds (further_not_bad other b.groups a.groups (drop at log) more a.holds.fit b.bad)))
-      (one_goes_further a.groups b.groups (drop at log) (drop other log) a.holds.holds.each b.holds.holds.each (sym a.holds.holds.text ∙ b.holds.holds.text))
+      sym (same_end_of first other at b.groups a.groups b.holds.holds a.holds.holds
+      (further_not_bad other b.groups a.groups (drop at log) more a.holds.fit b.bad)))
+      (one_goes_further a.groups b.groups (drop at log) (drop other log) a.holds.holds.each b.holds.holds.each
+      (sym a.holds.holds.text ∙ b.holds.holds.text))
 
 -- ---- of a sound log
 
-module _ (defs : Defs) (scripts : List Script) (front : Front) (log : List ℕ) (entries : List Entry) (sound : IsSound defs scripts front log entries) where
+module _ (defs : Defs) (scripts : List Script) (front : Front) (log : List ℕ) (entries : List Entry)
+    (sound : IsSound defs scripts front log entries) where
   -- it begins with the front,
   pub sound_begins : StartsWithFront log front
   sound_begins = sound.holds.begins
@@ -174,17 +184,21 @@ module _ (defs : Defs) (scripts : List Script) (front : Front) (log : List ℕ) 
   sound_not_bad at it = readable_not_bad defs log (first_gate front) at sound_readable it
 
   -- what was read of it to its end stands for it
-  pub sound_stands : (disk : Disk) (store : Stored) (l : LogState) → IsDurable disk 0 → disk.contents 0 ≡ log → IsOf defs.msdbs store → l.unsealed ≡ []
-      → IsReplayed defs log (record { first = first_gate front; at = l.gate; count = l.sealed }) (start defs).msdbs store.msdbs → slice_index log l.gate ≢ 1
+  pub sound_stands : (disk : Disk) (store : Stored) (l : LogState) → IsDurable disk 0 → disk.contents 0 ≡ log
+      → IsOf defs.msdbs store → l.unsealed ≡ []
+      → IsReplayed defs log (record { first = first_gate front; at = l.gate; count = l.sealed }) (start defs).msdbs
+      store.msdbs → slice_index log l.gate ≢ 1
       → StandsFor defs scripts front disk entries store l
   sound_stands disk store l durable now of unsealed replayed closed =
-      let same = same_reading log (first_gate front) replayed.groups sound.groups l.gate sound.gate (replayed.holds.holds, closed) sound.holds.reads in
+      let same = same_reading log (first_gate front) replayed.groups sound.groups l.gate sound.gate
+      (replayed.holds.holds, closed) sound.holds.reads in
       let all : entries ≡ entries_of replayed.groups = sound.all ∙ ap entries_of (sym same.0) in
       record {
         of = of;
         segments = λ last history.
             replayed.msdbs ∙ ap (λ es. with_items defs.msdbs (start defs).msdbs (items_of es)) (sym all) ∙ sound.made
-            ∙ ap (λ (d : Db). d.msdbs) (sym sound.history.ends ∙ ap (λ (h : History). h.now) (same_history history) ∙ history.ends);
+            ∙ ap (λ (d : Db). d.msdbs) (sym sound.history.ends ∙ ap (λ (h : History). h.now) (same_history history) ∙
+            history.ends);
         sealed = replayed.count ∙ ap length (sym all);
         unsealed = unsealed;
         groups = replayed.groups;
@@ -198,13 +212,16 @@ module _ (defs : Defs) (scripts : List Script) (front : Front) (log : List ℕ) 
         };
       }
     where
-      same_history : {last : Db} (history : IsSerialHistory (rules_of defs scripts) front.format entries last) → sound.history.history ≡ history.history
+      same_history : {last : Db} (history : IsSerialHistory (rules_of defs scripts) front.format entries last)
+          → sound.history.history ≡ history.history
       same_history history =
-          one_end (rules_of defs scripts) (beginning front.format (start defs)) entries history.history sound.history.history history.leads sound.history.leads
+          one_end (rules_of defs scripts) (beginning front.format (start defs)) entries history.history
+          sound.history.history history.leads sound.history.leads
 
 -- ---- of a new log
 
-module _ (defs : Defs) (scripts : List Script) (front : Front) (disk : Disk) (rest : IsAtRest disk front [] (first_gate front)) where
+module _ (defs : Defs) (scripts : List Script) (front : Front) (disk : Disk)
+    (rest : IsAtRest disk front [] (first_gate front)) where
   -- a log without groups is sound
   new_sound : IsSound defs scripts front (disk.contents 0) []
   new_sound = record {
@@ -224,5 +241,9 @@ module _ (defs : Defs) (scripts : List Script) (front : Front) (disk : Disk) (re
   pub new_safe : IsSafe defs scripts front disk []
   new_safe = record {
     now = new_sound;
-    crash = λ image settles. ([], subst (λ c. IsSound defs scripts front c []) (sym (durable_settles disk 0 image rest.durable settles)) new_sound);
+    crash = λ image settles. (
+      [],
+      subst (λ c. IsSound defs scripts front c [])
+          (sym (durable_settles disk 0 image rest.durable settles)) new_sound,
+    );
   }

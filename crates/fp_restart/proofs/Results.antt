@@ -11,13 +11,16 @@ use Rattle.fp_restart.specs.declared.fault.RestartFault.{RestartFault}
 use Rattle.fp_restart.specs.declared.fault.RestartFault.TheVariants as fault
 
 -- what four facts of a value say together
-pub of_four : {X E : Type 0} (r : Result X E) (A B C D Q : X → Type 0) → ((x : X) → A x → B x → C x → D x → Q x) → IfOk r A → IfOk r B → IfOk r C → IfOk r D → IfOk r Q
+pub of_four : {X E : Type 0} (r : Result X E) (A B C D Q : X → Type 0) → ((x : X) → A x → B x → C x → D x → Q x)
+    → IfOk r A → IfOk r B → IfOk r C → IfOk r D → IfOk r Q
 of_four (Ok x) A B C D Q f a b c d = f x a b c d
 of_four (Err e) A B C D Q f a b c d = tt
 
 -- a log that is bad at a place has no answer but that, or a fault
-pub damage_or : {X : Type 0} (r : Result X RestartFault) (defs : Defs) (log : List ℕ) (first at : ℕ) → OnOk r (IsReadable defs log first) → (IsErrOf r fault.Foreign → ⊥)
-    → ((set place : ℕ) → IsErrOf r (fault.Damaged set place) → (set ≡ 0) × IsFirstBadAt defs log first place) → IsFirstBadAt defs log first at → IsDamageOr at r
+pub damage_or : {X : Type 0} (r : Result X RestartFault) (defs : Defs) (log : List ℕ) (first at : ℕ)
+    → OnOk r (IsReadable defs log first) → (IsErrOf r fault.Foreign → ⊥)
+    → ((set place : ℕ) → IsErrOf r (fault.Damaged set place) → (set ≡ 0) × IsFirstBadAt defs log first place)
+    → IsFirstBadAt defs log first at → IsDamageOr at r
 damage_or (Ok x) defs log first at readable foreign damaged bad = readable_not_bad defs log first at readable bad
 damage_or (Err fault.Foreign) defs log first at readable foreign damaged bad = foreign refl
 damage_or (Err fault.SiteFault) defs log first at readable foreign damaged bad = tt
@@ -27,4 +30,11 @@ damage_or (Err fault.Memory) defs log first at readable foreign damaged bad = tt
 
 -- what a crash may leave, a sync may leave
 pub same_synced : (h : Disk) (s : Snapshot) → h.may_leave s → Syncs h 0 s
-same_synced h s left = record { before = s; left = left; this = settles_left h 0 s left; others = λ k other. refl; sent = λ told. refl }
+same_synced h s left = record {
+  before = s;
+  left = left;
+  this = settles_left h 0 s left;
+  others =
+      λ k other. refl;
+  sent = λ told. refl;
+}

@@ -19,9 +19,11 @@ use Rattle.fp_restart.specs.declared.fault.RestartFault.TheVariants as fault
 
 -- The store and the open log stand for these entries: the store has the segments of the state behind them, all of them
 -- are sealed, and the log on the disk is at rest and holds them.
-pub record StandsFor (defs : Defs) (scripts : List Script) (front : Front) (disk : Disk) (entries : List Entry) (store : Stored) (log : LogState) : Type 0 where
+pub record StandsFor (defs : Defs) (scripts : List Script) (front : Front) (disk : Disk) (entries : List Entry)
+    (store : Stored) (log : LogState) : Type 0 where
   pub of : IsOf defs.msdbs store
-  pub segments : (last : Db) → IsSerialHistory (rules_of defs scripts) front.format entries last → store.msdbs ≡ last.msdbs
+  pub segments : (last : Db) → IsSerialHistory (rules_of defs scripts) front.format entries last
+      → store.msdbs ≡ last.msdbs
   pub sealed : log.sealed ≡ length entries
   pub unsealed : log.unsealed ≡ []
   pub groups : List (List Entry)
@@ -36,8 +38,8 @@ IsDamageOr at (Err fault.SiteFault) = ⊤
 IsDamageOr at (Err (fault.Damaged set place)) = (set ≡ 0) × (place ≡ at)
 IsDamageOr at (Err fault.Memory) = ⊤
 
--- The group there has items that restart may not apply behind those of these entries: one isn't fit, or is a range of an
--- interval that none of them has written whole.
+-- The group there has items that restart may not apply behind those of these entries: one isn't fit, or is a range of
+-- an interval that none of them has written whole.
 pub record HasUnfit (defs : Defs) (log : List ℕ) (earlier : List Entry) (at : ℕ) : Type 0 where
   pub entries : List Entry
   pub next : ℕ

@@ -23,10 +23,12 @@ pub fn define<T: Site>(
     site: &mut T,
 ) -> Result<(), RestartFault>
     requires fits { FitsFront (as_front front.now) }
-    ensures made { T.told site.old → OnOk result (IsAtRest (T.disk site.new) (as_front front.now) [] (first_gate (as_front front.now))) }
+    ensures made { T.told site.old → OnOk result (IsAtRest (T.disk site.new) (as_front front.now) []
+        (first_gate (as_front front.now))) }
     ensures safe { T.told site.old → (scripts : ListOf Script)
         → OnOk result (IsSafe defs.now scripts (as_front front.now) (T.disk site.new) []) }
-    ensures cause { IsErrOf result faults.SiteFault → (T.faults site.old < T.faults site.new) ⊎ (T.faults site.new ≡ 2 ^ 64 - 1) }
+    ensures cause { IsErrOf result faults.SiteFault → (T.faults site.old < T.faults site.new)
+        ⊎ (T.faults site.new ≡ 2 ^ 64 - 1) }
     ensures later { T.faults site.old ≤ T.faults site.new }
     ensures never { (IsErrOf result faults.Foreign → ⊥) × ((set at : ℕ) → IsErrOf result (faults.Damaged set at) → ⊥) }
 
@@ -37,7 +39,8 @@ pub fn define<T: Site>(
     ensures keeps { (first : T) → T.keeps first site.old → T.keeps first site.new }
 
     // A crash at any moment leaves the log as a sync might have left it before, or with no open front, or made.
-    ensures crash { T.told site.old → Through (T.disk site.old) (T.disk site.new) (IsBeforeOrMade (T.disk site.old) (as_front front.now)) }
+    ensures crash { T.told site.old → Through (T.disk site.old) (T.disk site.new)
+        (IsBeforeOrMade (T.disk site.old) (as_front front.now)) }
 
     // Where a sync had left the log, it leaves it so, or with no open front, or made, and all else as before.
     ensures kept { T.told site.old → IsDurable (T.disk site.old) 0 →

@@ -49,18 +49,23 @@ pub(crate) fn read_parts<T: Site>(
     // The groups up to the first gate that isn't open are put.
     ensures replayed { T.told site.old → IfOk result (λ parts. IsReplayed defs.now ((T.disk site.old).contents 0)
         (record { first = first_gate (as_front front.now); at = parts.1.gate; count = parts.1.sealed }) (start defs.now).msdbs parts.0.msdbs) }
-    ensures closed { T.told site.old → IfOk result (λ parts. slice_index ((T.disk site.old).contents 0) parts.1.gate ≢ 1) }
-    ensures readable { T.told site.old → OnOk result (IsReadable defs.now ((T.disk site.old).contents 0) (first_gate (as_front front.now))) }
+    ensures closed { T.told site.old → IfOk result (λ parts. slice_index ((T.disk site.old).contents 0) parts.1.gate ≢
+        1) }
+    ensures readable { T.told site.old → OnOk result
+        (IsReadable defs.now ((T.disk site.old).contents 0) (first_gate (as_front front.now))) }
     ensures unsealed { IfOk result (λ parts. parts.1.unsealed ≡ []) }
     ensures of { IfOk result (λ parts. IsOf defs.now.msdbs parts.0) }
 
     // When each refusal comes.
     ensures front { T.told site.old → OnOk result (StartsWithFront ((T.disk site.old).contents 0) (as_front front.now)) }
-    ensures foreign { T.told site.old → IsErrOf result faults.Foreign → StartsWithFront ((T.disk site.old).contents 0) (as_front front.now) → ⊥ }
+    ensures foreign { T.told site.old → IsErrOf result faults.Foreign
+        → StartsWithFront ((T.disk site.old).contents 0) (as_front front.now) → ⊥ }
     ensures damaged { (set at : ℕ) → T.told site.old → IsErrOf result (faults.Damaged set at) →
         (set ≡ 0) × IsFirstBadAt defs.now ((T.disk site.old).contents 0) (first_gate (as_front front.now)) at }
-    ensures begun { (set at : ℕ) → T.told site.old → IsErrOf result (faults.Damaged set at) → StartsWithFront ((T.disk site.old).contents 0) (as_front front.now) }
-    ensures cause { IsErrOf result faults.SiteFault → (T.faults site.old < T.faults site.new) ⊎ (T.faults site.new ≡ 2 ^ 64 - 1) }
+    ensures begun { (set at : ℕ) → T.told site.old → IsErrOf result (faults.Damaged set at)
+        → StartsWithFront ((T.disk site.old).contents 0) (as_front front.now) }
+    ensures cause { IsErrOf result faults.SiteFault → (T.faults site.old < T.faults site.new)
+        ⊎ (T.faults site.new ≡ 2 ^ 64 - 1) }
     ensures later { T.faults site.old ≤ T.faults site.new }
 
     ensures stays { T.told site.old → Stays (T.disk site.old) (T.disk site.new) }
@@ -92,7 +97,8 @@ fn replay<T: Site>(
     ensures of { OnOk result (IsOf defs.now.msdbs store.new) }
     ensures damaged { (set at : ℕ) → T.told site.old → IsErrOf result (faults.Damaged set at) →
         (set ≡ 0) × IsFirstBadAt defs.now ((T.disk site.old).contents 0) log.old.gate at }
-    ensures cause { IsErrOf result faults.SiteFault → (T.faults site.old < T.faults site.new) ⊎ (T.faults site.new ≡ 2 ^ 64 - 1) }
+    ensures cause { IsErrOf result faults.SiteFault → (T.faults site.old < T.faults site.new)
+        ⊎ (T.faults site.new ≡ 2 ^ 64 - 1) }
     ensures later { T.faults site.old ≤ T.faults site.new }
     ensures never { IsErrOf result faults.Foreign → ⊥ }
     ensures stays { T.told site.old → Stays (T.disk site.old) (T.disk site.new) }
@@ -124,17 +130,22 @@ fn take_group<T: Site>(
     at: u64,
 ) -> Result<Option<Taken>, RestartFault>
     requires { IsOf defs.now.msdbs store.old }
-    ensures taken { (earlier : ListOf EntryOf) → IsBegunBy begun.old (items_of earlier) → AreFit defs.now (items_of earlier)
+    ensures taken { (earlier : ListOf EntryOf) → IsBegunBy begun.old (items_of earlier)
+        → AreFit defs.now (items_of earlier)
         → T.told site.old → IfOk result (λ found. IfSome found (λ taken. IsTaken defs.now ((T.disk site.old).contents 0)
         earlier at taken.next taken.count begun.new store.old.msdbs store.new.msdbs)) }
-    ensures goes_on { IfOk result (λ found. IfSome found (λ taken. (at < taken.next) × (taken.next ≤ 2 ^ 62) × (at + taken.count ≤ taken.next))) }
-    ensures closed { T.told site.old → IfOk result (λ found. IfNone found (slice_index ((T.disk site.old).contents 0) at ≢ 1)) }
+    ensures goes_on { IfOk result (λ found. IfSome found
+        (λ taken. (at < taken.next) × (taken.next ≤ 2 ^ 62) × (at + taken.count ≤ taken.next))) }
+    ensures closed { T.told site.old → IfOk result (λ found. IfNone found
+        (slice_index ((T.disk site.old).contents 0) at ≢ 1)) }
     ensures none { IfOk result (λ found. IfNone found (store.new ≡ store.old)) }
     ensures of { OnOk result (IsOf defs.now.msdbs store.new) }
-    ensures damaged { (earlier : ListOf EntryOf) → IsBegunBy begun.old (items_of earlier) → AreFit defs.now (items_of earlier)
+    ensures damaged { (earlier : ListOf EntryOf) → IsBegunBy begun.old (items_of earlier)
+        → AreFit defs.now (items_of earlier)
         → (set place : ℕ) → T.told site.old → IsErrOf result (faults.Damaged set place)
         → (set ≡ 0) × (place ≡ at) × IsBadAt defs.now ((T.disk site.old).contents 0) earlier at }
-    ensures cause { IsErrOf result faults.SiteFault → (T.faults site.old < T.faults site.new) ⊎ (T.faults site.new ≡ 2 ^ 64 - 1) }
+    ensures cause { IsErrOf result faults.SiteFault → (T.faults site.old < T.faults site.new)
+        ⊎ (T.faults site.new ≡ 2 ^ 64 - 1) }
     ensures later { T.faults site.old ≤ T.faults site.new }
     ensures never { IsErrOf result faults.Foreign → ⊥ }
     ensures log { log.new ≡ log.old }
@@ -162,8 +173,10 @@ fn take_group<T: Site>(
 
 // Whether a group's end is behind its gate, by more bytes than it has entries, and within a data set.
 fn stands_behind(group: &Group, at: u64) -> bool
-    ensures is { result ≡ true → (at < group.now.next) × (group.now.next ≤ 2 ^ 62) × (at + length group.now.entries ≤ group.now.next) }
-    ensures not { result ≡ false → at < group.now.next → group.now.next ≤ 2 ^ 62 → at + length group.now.entries ≤ group.now.next → ⊥ }
+    ensures is { result ≡ true → (at < group.now.next) × (group.now.next ≤ 2 ^ 62)
+        × (at + length group.now.entries ≤ group.now.next) }
+    ensures not { result ≡ false → at < group.now.next → group.now.next ≤ 2 ^ 62
+        → at + length group.now.entries ≤ group.now.next → ⊥ }
 {
     at < group.next && group.next <= LIMIT && group.entries.len() as u64 <= group.next - at
 }
@@ -171,9 +184,11 @@ fn stands_behind(group: &Group, at: u64) -> bool
 // Puts the segments of these entries in their order. It fails only for want of memory; then the store is to be thrown
 // away.
 fn put_entries(store: &mut MsdbStore, entries: &[Entry]) -> Result<(), AllocError>
-    ensures msdbs { (defs : ListOf DefOf) → IsOf defs store.old → AllByRecursion (IsFitSegment defs) (items_of entries.now)
+    ensures msdbs { (defs : ListOf DefOf) → IsOf defs store.old
+        → AllByRecursion (IsFitSegment defs) (items_of entries.now)
         → OnOk result (store.new.msdbs ≡ with_items defs store.old.msdbs (items_of entries.now)) }
-    ensures of { (defs : ListOf DefOf) → IsOf defs store.old → AllByRecursion (IsFitSegment defs) (items_of entries.now) → IsOf defs store.new }
+    ensures of { (defs : ListOf DefOf) → IsOf defs store.old → AllByRecursion (IsFitSegment defs) (items_of entries.now)
+        → IsOf defs store.new }
 {
     for entry in entries {
         store.apply(&entry.items)?;

@@ -41,7 +41,8 @@ pub fn restart<T: Site>(
     // A sound log gives what it means, and is neither foreign nor damaged.
     ensures sound { (scripts : ListOf Script) (entries : ListOf Entry) → T.told site.old
         → IsSound defs.now scripts (as_front front.now) ((T.disk site.old).contents 0) entries
-        → IfOk result (λ parts. StandsFor defs.now scripts (as_front front.now) (T.disk site.new) entries parts.0 parts.1) }
+        → IfOk result (λ parts. StandsFor defs.now scripts (as_front front.now) (T.disk site.new) entries parts.0
+        parts.1) }
     ensures never { (scripts : ListOf Script) (entries : ListOf Entry) → T.told site.old
         → IsSound defs.now scripts (as_front front.now) ((T.disk site.old).contents 0) entries
         → (IsErrOf result faults.Foreign → ⊥) × ((set at : ℕ) → IsErrOf result (faults.Damaged set at) → ⊥) }
@@ -51,17 +52,23 @@ pub fn restart<T: Site>(
 
     // When each refusal comes.
     ensures front { T.told site.old → OnOk result (StartsWithFront ((T.disk site.old).contents 0) (as_front front.now)) }
-    ensures foreign { T.told site.old → IsErrOf result faults.Foreign → StartsWithFront ((T.disk site.old).contents 0) (as_front front.now) → ⊥ }
+    ensures foreign { T.told site.old → IsErrOf result faults.Foreign
+        → StartsWithFront ((T.disk site.old).contents 0) (as_front front.now) → ⊥ }
     ensures damaged { (set at : ℕ) → T.told site.old → IsErrOf result (faults.Damaged set at) → set ≡ 0 }
-    ensures begun { (set at : ℕ) → T.told site.old → IsErrOf result (faults.Damaged set at) → StartsWithFront ((T.disk site.old).contents 0) (as_front front.now) }
+    ensures begun { (set at : ℕ) → T.told site.old → IsErrOf result (faults.Damaged set at)
+        → StartsWithFront ((T.disk site.old).contents 0) (as_front front.now) }
     ensures place { (set at : ℕ) → T.told site.old → IsErrOf result (faults.Damaged set at) →
         IsFirstBadAt defs.now ((T.disk site.old).contents 0) (first_gate (as_front front.now)) at }
 
     // A log that begins with the front and is bad at a place is answered so, unless a fault comes.
-    ensures only_damaged { (at : ℕ) → T.told site.old → StartsWithFront ((T.disk site.old).contents 0) (as_front front.now)
-        → IsFirstBadAt defs.now ((T.disk site.old).contents 0) (first_gate (as_front front.now)) at → IsDamageOr at result }
-    ensures readable { T.told site.old → OnOk result (IsReadable defs.now ((T.disk site.old).contents 0) (first_gate (as_front front.now))) }
-    ensures cause { IsErrOf result faults.SiteFault → (T.faults site.old < T.faults site.new) ⊎ (T.faults site.new ≡ 2 ^ 64 - 1) }
+    ensures only_damaged { (at : ℕ) → T.told site.old
+        → StartsWithFront ((T.disk site.old).contents 0) (as_front front.now)
+        → IsFirstBadAt defs.now ((T.disk site.old).contents 0) (first_gate (as_front front.now)) at
+        → IsDamageOr at result }
+    ensures readable { T.told site.old → OnOk result
+        (IsReadable defs.now ((T.disk site.old).contents 0) (first_gate (as_front front.now))) }
+    ensures cause { IsErrOf result faults.SiteFault → (T.faults site.old < T.faults site.new)
+        ⊎ (T.faults site.new ≡ 2 ^ 64 - 1) }
     ensures later { T.faults site.old ≤ T.faults site.new }
 
     // No contents change, nothing is sent, and a crash at any moment leaves what it might have left before, the log as

@@ -25,8 +25,8 @@ pub fn whole_db<T: Site>(
     ensures msdbs { IfOk result (λ db. db.msdbs ≡ parts.old.0.msdbs) }
     ensures dedbs { IfOk result (λ db. db.dedbs ≡ (start defs.now).dedbs) }
 
-    // Where the store has the segments of the state that entries lead to, and no data entry databases are defined, it is
-    // that state.
+    // Where the store has the segments of the state that entries lead to, and no data entry databases are defined, it
+    // is that state.
     ensures means { (scripts : ListOf Script) (format : ℕ) (entries : ListOf Entry) (last : DbOf)
         → defs.now.dedbs ≡ [] → IsSerialHistory (rules_of defs.now scripts) format entries last
         → parts.old.0.msdbs ≡ last.msdbs → IfOk result (λ db. db ≡ last) }

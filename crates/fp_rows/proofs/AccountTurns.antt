@@ -390,7 +390,10 @@ accounts_by_turns = (
                           (Deadlocks (of_account (codes "A001")) (1 ∷ []), turn10),
                           (
                             (Gains (of_account (codes "A002")), turn11),
-                            ((Answers (account_held (codes "A002")), turn12), ((Finishes both [], turn13), (refl, refl))),
+                            (
+                              (Answers (account_held (codes "A002")), turn12),
+                              ((Finishes both [], turn13), (refl, refl)),
+                            ),
                           ),
                         ),
                       ),

@@ -29,7 +29,8 @@ abbrev taken : Machine
 taken = taken_in sample_rules at_rest_with_a_deposit
 
 abbrev transaction : Transaction
-transaction = begun_in sample_rules at_rest_with_a_deposit (sample.message_for sample.deposit_script (codes "A001 10")) 0
+transaction = begun_in sample_rules at_rest_with_a_deposit (sample.message_for sample.deposit_script (codes "A001 10"))
+    0
 
 abbrev begun_by_one : Machine
 begun_by_one = begins_in sample_rules taken 1 (messages_for sample_rules taken 1)

@@ -193,7 +193,8 @@ turn13 = (
   record {
     lacks_none = from_asks m12 1 first2 (Replies (codes "BOTH")) None
         (two_reply first_asked.lterm first_asked.line) refl;
-    ends = ends_from with_two first2 (Replies (codes "BOTH")) (Some both) (two_reply first_asked.lterm first_asked.line) refl;
+    ends = ends_from with_two first2 (Replies (codes "BOTH")) (Some both) (two_reply first_asked.lterm first_asked.line)
+        refl;
   },
   (λ fails. lit≤ tt),
   tt,

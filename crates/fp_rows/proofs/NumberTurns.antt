@@ -301,7 +301,13 @@ second_run = (
                             refl,
                             (
                               refl,
-                              (refl, ((Finishes shown [], last_turn), (refl, (refl, (refl, (refl, (refl, (refl, refl)))))))),
+                              (
+                                refl,
+                                (
+                                  (Finishes shown [], last_turn),
+                                  (refl, (refl, (refl, (refl, (refl, (refl, refl)))))),
+                                ),
+                              ),
                             ),
                           ),
                         ),

@@ -36,7 +36,8 @@ second_asked =
     { lterm = named (codes "T2"); line = codes "T2 WDRAW A001 60" }
 
 abbrev field_call : Call
-field_call = call.Fld 0 (codes "A001") (hex (codes "42414c2020202020 20 48 0002 3630 2a 42414c2020202020 20 2d 0002 3630 20"))
+field_call =
+    call.Fld 0 (codes "A001") (hex (codes "42414c2020202020 20 48 0002 3630 2a 42414c2020202020 20 2d 0002 3630 20"))
 
 abbrev the_lock : Needed
 the_lock = record { resource = Segment 0 (codes "A001"); mode = Exclusive }

@@ -7,7 +7,15 @@ use Rattle.fp_model.specs.declared.log.Outcome.{Outcome}
 
 -- the first entry, of a transaction that ended so
 abbrev pub ended : Outcome → List ℕ → Entry
-ended outcome reply = record { from = 0; outcome = outcome; line = codes "T1 ASK A001"; reply = reply; notes = []; items = [] }
+ended outcome reply = record {
+  from = 0;
+  outcome = outcome;
+  line = codes "T1 ASK A001";
+  reply = reply;
+  notes =
+      [];
+  items = [];
+}
 
 -- a changed segment
 abbrev pub changed : ℕ → List ℕ → Item

@@ -240,7 +240,8 @@ pub fn the_reply_lines_of_other_ends()
 
 /// Items ascend: segments by database and key, then images by data set and interval, each at most once.
 pub fn items_in_order()
-    ensures ascending { IsTrue (is_ascending (changed 0 (codes "A001") ∷ changed 0 (codes "A002") ∷ changed 1 (codes "A000")
+    ensures ascending { IsTrue (is_ascending (changed 0 (codes "A001") ∷ changed 0 (codes "A002") ∷ changed 1
+        (codes "A000")
         ∷ image 3 9 ∷ image 4 1 ∷ image 4 2 ∷ [])) }
     ensures twice { IsFalse (is_ascending (changed 0 (codes "A001") ∷ changed 0 (codes "A001") ∷ [])) }
     ensures images_first { IsFalse (is_ascending (image 3 9 ∷ changed 0 (codes "A001") ∷ [])) }
@@ -262,7 +263,8 @@ pub fn the_gate_behind_a_deposit()
 /// The text of a log reads as its groups, up to its closed gate.
 pub fn a_log_reads_as_its_groups()
     ensures { (front : Front) (groups : List (List Entry)) → AllByRecursion IsGroup groups
-        → Reads (log_text front groups) (first_gate front) (Groups groups (first_gate front + length (groups_text groups))) }
+        → Reads (log_text front groups) (first_gate front)
+        (Groups groups (first_gate front + length (groups_text groups))) }
 {}
 
 /// The deposit is a group by itself, and so is the refused one.

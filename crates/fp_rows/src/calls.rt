@@ -69,7 +69,8 @@ pub fn a_sum_of_more_than_7_digits()
 
 /// 16 packed bytes hold 31 digits.
 pub fn a_sum_of_more_than_31_digits()
-    ensures { list_on wide (given (codes "SUM") 43 (codes "1") ∷ []) (hex (codes "41303031 9999999999999999999999999999999c"))
+    ensures { list_on wide (given (codes "SUM") 43 (codes "1") ∷ [])
+        (hex (codes "41303031 9999999999999999999999999999999c"))
         ≡ record { letters = codes "G"; segment = hex (codes "41303031 9999999999999999999999999999999c") } }
 {}
 
@@ -194,7 +195,8 @@ pub fn a_key_that_does_not_fit_rolls_back()
 /// A withdrawal asks both of its arguments at once, and replies with the amount as it was written.
 pub fn a_withdrawal_asks_and_replies()
     ensures asks { asked wdraw_script (codes "A001 60") []
-        ≡ Asks (call.Fld 0 (codes "A001") (hex (codes "42414c2020202020 20 48 0002 3630 2a 42414c2020202020 20 2d 0002 3630 20"))) }
+        ≡ Asks (call.Fld 0 (codes "A001") (hex (codes
+        "42414c2020202020 20 48 0002 3630 2a 42414c2020202020 20 2d 0002 3630 20"))) }
     ensures refused { asked wdraw_script (codes "A002 60")
         (lettered (codes "FE") (codes "D ") ∷ [])
         ≡ Rolls 7 }
@@ -335,7 +337,8 @@ pub fn the_longest_text()
 pub fn keys_are_fitted()
     ensures padded { fitted 4 (codes "A1") ≡ Some (codes "A1  ") }
     ensures too_long { fitted 4 (codes "A001 ") ≡ None }
-    ensures sequential { asked_by (roll-Statement (stmt.Get Unique false 2 (keyed 1 (op.Text (codes "N123456789")) ∷ [])) ∷ []) [] []
+    ensures sequential { asked_by (roll-Statement (stmt.Get Unique false 2
+        (keyed 1 (op.Text (codes "N123456789")) ∷ [])) ∷ []) [] []
         ≡ Asks (call.Get Unique false 2 (qualified 1 (codes "N123456789") ∷ [])) }
 {}
 
@@ -371,10 +374,12 @@ pub fn what_was_shown_stays()
     ensures other_database { asked_by (two_gets (reply (op.Field (named (codes "BAL")) ∷ []))) (codes "A001 T001")
         (showing 0 (hex (codes "41303031 0000110c")) ∷ showing 0 (hex (codes "54303031 00000000")) ∷ [])
         ≡ Rolls 99 }
-    ensures own_database { asked_by (two_gets (roll-Statement (stmt.Repl 0 (put (codes "BAL") (op.Text (codes "-5")) ∷ [])))) (codes "A001 T001")
+    ensures own_database { asked_by (two_gets (roll-Statement
+        (stmt.Repl 0 (put (codes "BAL") (op.Text (codes "-5")) ∷ [])))) (codes "A001 T001")
         (showing 0 (hex (codes "41303031 0000110c")) ∷ showing 0 (hex (codes "54303031 00000000")) ∷ [])
         ≡ Asks (call.Repl 0 (hex (codes "41303031 0000005d"))) }
-    ensures no_such_field { asked_by (two_gets (roll-Statement (stmt.Repl 0 (put (codes "CASH") (op.Text (codes "5")) ∷ [])))) (codes "A001 T001")
+    ensures no_such_field { asked_by (two_gets (roll-Statement
+        (stmt.Repl 0 (put (codes "CASH") (op.Text (codes "5")) ∷ [])))) (codes "A001 T001")
         (showing 0 (hex (codes "41303031 0000110c")) ∷ showing 0 (hex (codes "54303031 00000000")) ∷ [])
         ≡ Rolls 99 }
 {}

@@ -30,8 +30,10 @@ pub fn where_customers_lie()
 /// Two transactions that hold an anchor each, and want the other's, wait for each other.
 pub fn two_that_want_each_other()
     ensures { IsCycle (waits
-        (record { region = 2; resource = Anchor 0 6; mode = Exclusive } ∷ record { region = 1; resource = Anchor 0 0; mode = Exclusive } ∷ [])
-        (record { region = 2; resource = Anchor 0 0; mode = Exclusive } ∷ record { region = 1; resource = Anchor 0 6; mode = Exclusive } ∷ []))
+        (record { region = 2; resource = Anchor 0 6; mode = Exclusive } ∷ record
+        { region = 1; resource = Anchor 0 0; mode = Exclusive } ∷ [])
+        (record { region = 2; resource = Anchor 0 0; mode = Exclusive } ∷ record
+        { region = 1; resource = Anchor 0 6; mode = Exclusive } ∷ []))
         (2 ∷ 1 ∷ []) }
 {}
 
@@ -49,14 +51,17 @@ pub fn an_insert_and_another_of_the_key()
 
 /// A fifth audit finds the part full: it has four, with serials 1 to 4.
 pub fn a_full_part()
-    ensures { settlement sample_defs with_audits (record (fresh sample_defs) { inserts = record { dedb = 0; anchor = 6; key = codes "C001"; bytes = codes "N5      " } ∷ [] })
+    ensures { settlement sample_defs with_audits (record (fresh sample_defs)
+        { inserts = record { dedb = 0; anchor = 6; key = codes "C001"; bytes = codes "N5      " } ∷ [] })
         ≡ FillsPart 4 1 5 1 }
 {}
 
 /// A Purge of two drops the oldest two, and then there is room.
 pub fn a_purge_makes_room()
     ensures purged_two { purged sample_defs 4 2 with_audits
-        ≡ Some (with_customers [] (a_customer (codes "C001ANN         ") (record { serial = 4; bytes = codes "N4      " } ∷ record { serial = 3; bytes = codes "N3      " } ∷ []) ∷ []) 3 5) }
+        ≡ Some (with_customers [] (a_customer (codes "C001ANN         ")
+        (record { serial = 4; bytes = codes "N4      " } ∷ record { serial = 3; bytes = codes "N3      " } ∷ []) ∷
+        []) 3 5) }
     ensures past_the_end { purged sample_defs 4 9 with_audits
         ≡ Some (with_customers [] (a_customer (codes "C001ANN         ") [] ∷ []) 5 5) }
     ensures no_area { purged sample_defs 5 1 with_audits ≡ None }
@@ -64,21 +69,33 @@ pub fn a_purge_makes_room()
 
 /// A deposit alone, from the start: its look shows 100, and the state after it has 110.
 pub fn a_deposit_alone()
-    ensures { serial_run sample_rules at_start (at_start ∷ []) (sample.message_for sample.deposit_script (codes "A001 10")) (0 ∷ [])
+    ensures { serial_run sample_rules at_start (at_start ∷ [])
+        (sample.message_for sample.deposit_script (codes "A001 10")) (0 ∷ [])
         ≡ Ends (record { outcome = Done; reply = codes "NEW"; next = with_balance (codes "0000110c") }) }
 {}
 
 /// A withdrawal of 60 that saw 100 as it was called, and comes to its sync point where 40 is left.
 pub fn a_withdrawal_alone_fails_its_verify()
-    ensures { serial_run sample_rules (with_balance (codes "0000040c")) (at_start ∷ with_balance (codes "0000040c") ∷ []) (sample.message_for sample.wdraw_script (codes "A001 60")) (0 ∷ [])
-        ≡ Ends (record { outcome = Verify 0 0 (hex (codes "0000040c")); reply = []; next = with_balance (codes "0000040c") }) }
+    ensures { serial_run sample_rules (with_balance (codes "0000040c"))
+        (at_start ∷ with_balance (codes "0000040c") ∷ []) (sample.message_for sample.wdraw_script (codes "A001 60"))
+        (0 ∷ [])
+        ≡ Ends (record {
+          outcome = Verify 0 0 (hex (codes "0000040c"));
+          reply = [];
+          next =
+              with_balance (codes "0000040c");
+        }) }
 {}
 
 /// What asking shows is the state of its note, and not that of its place.
 pub fn asking_shows_what_it_noted()
-    ensures noted_one { serial_run sample_rules (with_balance (codes "0000130c")) (at_start ∷ with_balance (codes "0000110c") ∷ with_balance (codes "0000130c") ∷ []) (sample.message_for sample.ask_script (codes "A001")) (1 ∷ [])
+    ensures noted_one { serial_run sample_rules (with_balance (codes "0000130c"))
+        (at_start ∷ with_balance (codes "0000110c") ∷ with_balance (codes "0000130c") ∷ [])
+        (sample.message_for sample.ask_script (codes "A001")) (1 ∷ [])
         ≡ Ends (record { outcome = Done; reply = codes "110"; next = with_balance (codes "0000130c") }) }
-    ensures noted_two { serial_run sample_rules (with_balance (codes "0000130c")) (at_start ∷ with_balance (codes "0000110c") ∷ with_balance (codes "0000130c") ∷ []) (sample.message_for sample.ask_script (codes "A001")) (2 ∷ [])
+    ensures noted_two { serial_run sample_rules (with_balance (codes "0000130c"))
+        (at_start ∷ with_balance (codes "0000110c") ∷ with_balance (codes "0000130c") ∷ [])
+        (sample.message_for sample.ask_script (codes "A001")) (2 ∷ [])
         ≡ Ends (record { outcome = Done; reply = codes "130"; next = with_balance (codes "0000130c") }) }
 {}
 
@@ -101,13 +118,17 @@ pub fn customers_in_order()
 
 /// A search asks for each anchor before it looks there, and for no further one where it has found.
 pub fn a_search_asks_for_its_anchors()
-    ensures first_anchor { need_of sample_defs with_three (fresh sample_defs) (λ r. None) (call.Get Next false 2 (record { segment = 0; key = None } ∷ []))
+    ensures first_anchor { need_of sample_defs with_three (fresh sample_defs) (λ r. None)
+        (call.Get Next false 2 (record { segment = 0; key = None } ∷ []))
         ≡ Some (record { resource = Anchor 0 0; mode = Share }) }
-    ensures found_there { need_of sample_defs with_three (fresh sample_defs) (λ r. Some Share) (call.Get Next false 2 (record { segment = 0; key = None } ∷ []))
+    ensures found_there { need_of sample_defs with_three (fresh sample_defs) (λ r. Some Share)
+        (call.Get Next false 2 (record { segment = 0; key = None } ∷ []))
         ≡ None }
-    ensures its_own_anchor { need_of sample_defs with_three (fresh sample_defs) (λ r. None) (call.Get Unique true 2 (record { segment = 0; key = Some (codes "C009") } ∷ []))
+    ensures its_own_anchor { need_of sample_defs with_three (fresh sample_defs) (λ r. None)
+        (call.Get Unique true 2 (record { segment = 0; key = Some (codes "C009") } ∷ []))
         ≡ Some (record { resource = Anchor 0 6; mode = Exclusive }) }
-    ensures share_is_not_enough { need_of sample_defs with_three (fresh sample_defs) (λ r. Some Share) (call.Get Unique true 2 (record { segment = 0; key = Some (codes "C009") } ∷ []))
+    ensures share_is_not_enough { need_of sample_defs with_three (fresh sample_defs) (λ r. Some Share)
+        (call.Get Unique true 2 (record { segment = 0; key = Some (codes "C009") } ∷ []))
         ≡ Some (record { resource = Anchor 0 6; mode = Exclusive }) }
 {}
 
@@ -120,12 +141,13 @@ pub fn two_withdrawals_by_turns()
         × (m.sent ≡ codes "T1 OK PAID 60" ++ 10 ∷ codes "T2 NO VERIFY" ++ 10 ∷ [])) }
 {}
 
-/// Two transactions that hold two customers each, in opposite orders: the second closes the cycle and is refused, and the
-/// first goes on.
+/// Two transactions that hold two customers each, in opposite orders: the second closes the cycle and is refused, and
+/// the first goes on.
 pub fn two_holders_by_turns()
     ensures { (m : Machine)
         × (RunsCalmly sample_rules at_rest_with_two_holders
-        (In ∷ In ∷ Region 1 ∷ Region 1 ∷ Region 2 ∷ Region 2 ∷ Region 1 ∷ Region 2 ∷ Region 1 ∷ Region 2 ∷ Region 1 ∷ Region 1 ∷ Region 1 ∷ Log ∷ [])
+        (In ∷ In ∷ Region 1 ∷ Region 1 ∷ Region 2 ∷ Region 2 ∷ Region 1 ∷ Region 2 ∷ Region 1 ∷ Region 2 ∷ Region 1 ∷
+        Region 1 ∷ Region 1 ∷ Log ∷ [])
         m
         × (m.sent ≡ codes "T2 NO DEADLOCK" ++ 10 ∷ codes "T1 OK BOTH" ++ 10 ∷ [])) }
 {}

@@ -9,7 +9,8 @@ use Rattle.fp_model.specs.State.{Area, anchors_in, areas_from, areas_of_all}
 
 -- ---- places in lists
 
-next_place : (n len : ℕ) (b : Bool) → nat_lt n len ≡ b → cond (nat_lt (1 + n) (suc len)) (Some (1 + n)) None ≡ option_map suc (cond (nat_lt n len) (Some n) None)
+next_place : (n len : ℕ) (b : Bool) → nat_lt n len ≡ b
+    → cond (nat_lt (1 + n) (suc len)) (Some (1 + n)) None ≡ option_map suc (cond (nat_lt n len) (Some n) None)
 next_place n len true is =
     let lt : n < len = ltb-true n len is in
     let more : nat_lt (1 + n) (suc len) ≡ true = lt-ltb _ _ (omega arith) in
@@ -21,7 +22,8 @@ next_place n len false is =
     rw (more, is) refl
 
 first_place : (b : Bool) (n len : ℕ)
-    → cond (nat_lt (cond (not b) (1 + n) 0) (suc len)) (Some (cond (not b) (1 + n) 0)) None ≡ cond b (Some 0) (option_map suc (cond (nat_lt n len) (Some n) None))
+    → cond (nat_lt (cond (not b) (1 + n) 0) (suc len)) (Some (cond (not b) (1 + n) 0)) None ≡ cond b (Some 0)
+    (option_map suc (cond (nat_lt n len) (Some n) None))
 first_place true n len = let yes : nat_lt 0 (suc len) ≡ true = lt-ltb _ _ (omega arith) in rw yes refl
 first_place false n len = next_place n len (nat_lt n len) refl
 
@@ -34,11 +36,13 @@ behind_none : (o : Option ℕ) → option_map (λ place. 0 + place) o ≡ o
 behind_none None = refl
 behind_none (Some place) = ap (λ (k : ℕ). Some k) (omega arith)
 
-pub behind_both : (n m : ℕ) (o : Option ℕ) → option_map (λ place. n + place) (option_map (λ place. m + place) o) ≡ option_map (λ place. n + m + place) o
+pub behind_both : (n m : ℕ) (o : Option ℕ) → option_map (λ place. n + place) (option_map (λ place. m + place) o) ≡
+    option_map (λ place. n + m + place) o
 behind_both n m None = refl
 behind_both n m (Some place) = ap (λ (k : ℕ). Some k) (omega arith)
 
-one_more : (o other : Option ℕ) (n : ℕ) → option_map suc (or_behind o n other) ≡ or_behind (option_map suc o) (suc n) other
+one_more : (o other : Option ℕ) (n : ℕ) → option_map suc (or_behind o n other) ≡ or_behind (option_map suc o) (suc n)
+    other
 one_more (Some place) other n = refl
 one_more None None n = refl
 one_more None (Some place) n = ap (λ (k : ℕ). Some k) (omega arith)
@@ -66,14 +70,18 @@ module _ (test : AreaDef → Bool) where
   of_area area = test area.def
 
   -- the areas of one database have the places of their definitions
-  position_from : (dedb number before : ℕ) (areas : List AreaDef) → position of_area (areas_from dedb number before areas) ≡ position test areas
+  position_from : (dedb number before : ℕ) (areas : List AreaDef)
+      → position of_area (areas_from dedb number before areas) ≡ position test areas
   position_from dedb number before [] = refl
   position_from dedb number before (a ∷ others) =
-      position_cons of_area (record { dedb = dedb; number = number; first_anchor = before; def = a }) (areas_from dedb (number + 1) (before + anchors_in a) others)
-      ∙ ap (λ (o : Option ℕ). cond (test a) (Some 0) (option_map suc o)) (position_from dedb (number + 1) (before + anchors_in a) others)
+      position_cons of_area (record { dedb = dedb; number = number; first_anchor = before; def = a })
+      (areas_from dedb (number + 1) (before + anchors_in a) others)
+      ∙ ap (λ (o : Option ℕ). cond (test a) (Some 0) (option_map suc o))
+      (position_from dedb (number + 1) (before + anchors_in a) others)
       ∙ sym (position_cons test a others)
 
-  length_from : (dedb number before : ℕ) (areas : List AreaDef) → length (areas_from dedb number before areas) ≡ length areas
+  length_from : (dedb number before : ℕ) (areas : List AreaDef)
+      → length (areas_from dedb number before areas) ≡ length areas
   length_from dedb number before [] = refl
   length_from dedb number before (a ∷ others) = ap suc (length_from dedb (number + 1) (before + anchors_in a) others)
 
@@ -93,5 +101,6 @@ module _ (test : AreaDef → Bool) where
   found_here before place d ds is = rw is refl
 
   pub found_later : (before : ℕ) (d : DedbDef) (ds : List DedbDef) → position test d.areas ≡ None
-      → option_map (λ k. before + k) (place_among (d ∷ ds)) ≡ option_map (λ k. before + length d.areas + k) (place_among ds)
+      → option_map (λ k. before + k) (place_among (d ∷ ds)) ≡ option_map (λ k. before + length d.areas + k)
+      (place_among ds)
   found_later before d ds is = rw is (behind_both before (length d.areas) (place_among ds))

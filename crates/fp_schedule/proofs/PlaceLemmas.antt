@@ -8,7 +8,8 @@ found_is false n i e = search rules
 
 -- the place that was found is the first that passes
 pub place_is : {X : Type 0} (p : X → Bool) (xs : List X) (i : ℕ)
-    → cond (nat_lt (position_or_len p xs) (length xs)) (Some (position_or_len p xs)) None ≡ Some i → position_or_len p xs ≡ i
+    → cond (nat_lt (position_or_len p xs) (length xs)) (Some (position_or_len p xs)) None ≡ Some i
+    → position_or_len p xs ≡ i
 place_is p xs i e = found_is _ _ _ e
 
 none_is : (n m : ℕ) → cond (nat_lt n m) (Some n) None ≡ None → m ≤ n
@@ -16,5 +17,6 @@ none_is n m e = grind (arith, rules)
 
 -- where none was found, none passes
 pub whole_is : {X : Type 0} (p : X → Bool) (xs : List X)
-    → cond (nat_lt (position_or_len p xs) (length xs)) (Some (position_or_len p xs)) None ≡ None → length xs ≤ position_or_len p xs
+    → cond (nat_lt (position_or_len p xs) (length xs)) (Some (position_or_len p xs)) None ≡ None
+    → length xs ≤ position_or_len p xs
 whole_is p xs e = none_is _ _ e

@@ -18,7 +18,8 @@ has_bytes part = nat_lt 0 (length part)
 pub separator_first : (b : ℕ) (bs : List ℕ) → separates b ≡ true → tokens_of (b ∷ bs) ≡ tokens_of bs
 separator_first b bs is = ap (filter has_bytes) (slice_split-cons_yes separates b bs is)
 
-skip_by : (b : ℕ) (bs : List ℕ) (test : Bool) → separates b ≡ test → tokens_of (drop (position_or_len keeps bs) bs) ≡ tokens_of bs
+skip_by : (b : ℕ) (bs : List ℕ) (test : Bool) → separates b ≡ test
+    → tokens_of (drop (position_or_len keeps bs) bs) ≡ tokens_of bs
     → tokens_of (drop (cond (not (not test)) (1 + position_or_len keeps bs) 0) (b ∷ bs)) ≡ tokens_of (b ∷ bs)
 skip_by b bs true is rest =
     let more : 1 + position_or_len keeps bs ≡ suc (position_or_len keeps bs) = omega arith in
@@ -35,11 +36,13 @@ unseparated_tokens (b ∷ bs) = skip_by b bs (separates b) refl (unseparated_tok
 abbrev pub end_of : List ℕ → ℕ
 end_of bs = position_or_len separates bs
 
-cut_front : (part : List ℕ) (parts : List (List ℕ)) → 0 < length part → filter has_bytes (part ∷ parts) ≡ part ∷ filter has_bytes parts
+cut_front : (part : List ℕ) (parts : List (List ℕ)) → 0 < length part
+    → filter has_bytes (part ∷ parts) ≡ part ∷ filter has_bytes parts
 cut_front part parts some = let yes : nat_lt 0 (length part) ≡ true = lt-ltb _ _ some in rw yes refl
 
 -- where a separator follows, the token ends before it
-pub token_before_more : (bs : List ℕ) → 0 < end_of bs → end_of bs < length bs → tokens_of bs ≡ take (end_of bs) bs ∷ tokens_of (drop (end_of bs) bs)
+pub token_before_more : (bs : List ℕ) → 0 < end_of bs → end_of bs < length bs
+    → tokens_of bs ≡ take (end_of bs) bs ∷ tokens_of (drop (end_of bs) bs)
 token_before_more bs some lt =
     let long : 0 < length (take (end_of bs) bs) = omega (arith, length-take (end_of bs) bs) in
     let next : suc (end_of bs) ≡ end_of bs + 1 = omega arith in
@@ -48,9 +51,11 @@ token_before_more bs some lt =
     ap (filter has_bytes) (slice_split_first separates bs 0 lt)
     ∙ cut_front (before_first separates bs) (slice_split separates (after_first separates bs)) long
     ∙ ap (λ (rest : List (List ℕ)). take (end_of bs) bs ∷ rest)
-    (sym (ap tokens_of here ∙ separator_first (get_or bs (end_of bs) 0) (after_first separates bs) (passes_at_first separates bs 0 lt)))
+    (sym (ap tokens_of here ∙ separator_first (get_or bs (end_of bs) 0) (after_first separates bs)
+    (passes_at_first separates bs 0 lt)))
 
-unsplit_by : (b : ℕ) (bs : List ℕ) (test : Bool) → separates b ≡ test → length (b ∷ bs) ≤ cond (not test) (1 + end_of bs) 0
+unsplit_by : (b : ℕ) (bs : List ℕ) (test : Bool) → separates b ≡ test
+    → length (b ∷ bs) ≤ cond (not test) (1 + end_of bs) 0
     → (length bs ≤ end_of bs → slice_split separates bs ≡ bs ∷ []) → slice_split separates (b ∷ bs) ≡ (b ∷ bs) ∷ []
 unsplit_by b bs true is le rest = absurd (omega arith)
 unsplit_by b bs false is le rest =

@@ -4,7 +4,8 @@ use Rattle.std.proofs.lemmas.List.{ext_get_or, length-take, length-drop, length-
 use Rattle.fp_site.specs.Disk.{written}
 use Rattle.fp_site.specs.Written.{zeros, get_or-append_zeros, written_some}
 
-module _ (old padded : List ℕ) (at : ℕ) (bytes : List ℕ) (some : 1 ≤ length bytes) (is : padded ≡ old ++ zeros (at + length bytes - length old)) where
+module _ (old padded : List ℕ) (at : ℕ) (bytes : List ℕ) (some : 1 ≤ length bytes)
+    (is : padded ≡ old ++ zeros (at + length bytes - length old)) where
   -- how many zeros
   abbrev more : ℕ
   more = at + length bytes - length old
@@ -20,16 +21,27 @@ module _ (old padded : List ℕ) (at : ℕ) (bytes : List ℕ) (some : 1 ≤ len
   -- those before the range,
   padded_front : take at padded ≡ take at old ++ zeros (at - length old)
   padded_front =
-      ext_get_or 0 (take at padded) (take at old ++ zeros (at - length old)) (omega (arith, length-take at padded, length-append (take at old) (zeros (at - length old)), length-take at old, length-replicate {A = ℕ} (at - length old) 0, padded_length))
+      ext_get_or 0 (take at padded) (take at old ++ zeros (at - length old))
+      (omega (
+        arith,
+        length-take at padded,
+        length-append (take at old) (zeros (at - length old)),
+        length-take at old,
+        length-replicate {A = ℕ} (at - length old) 0,
+        padded_length,
+      ))
       (λ i lt.
       let below : i < at = omega (arith, lt, length-take at padded) in
-      get_or-take at padded i 0 below ∙ padded_byte i ∙ sym (get_or-take at old i 0 below) ∙ sym (get_or-append_zeros (take at old) (at - length old) i))
+      get_or-take at padded i 0 below ∙ padded_byte i ∙ sym (get_or-take at old i 0 below) ∙ sym
+      (get_or-append_zeros (take at old) (at - length old) i))
 
   -- and those behind it
   padded_back : drop (at + length bytes) padded ≡ drop (at + length bytes) old
   padded_back =
-      ext_get_or 0 (drop (at + length bytes) padded) (drop (at + length bytes) old) (omega (arith, length-drop (at + length bytes) padded, length-drop (at + length bytes) old, padded_length))
-      (λ i lt. get_or-drop (at + length bytes) padded i 0 ∙ padded_byte (at + length bytes + i) ∙ sym (get_or-drop (at + length bytes) old i 0))
+      ext_get_or 0 (drop (at + length bytes) padded) (drop (at + length bytes) old)
+      (omega (arith, length-drop (at + length bytes) padded, length-drop (at + length bytes) old, padded_length))
+      (λ i lt. get_or-drop (at + length bytes) padded i 0 ∙ padded_byte (at + length bytes + i) ∙ sym
+      (get_or-drop (at + length bytes) old i 0))
 
   -- the range in the padded bytes is a write
   pub written_padded : take at padded ++ (bytes ++ drop (at + length bytes) padded) ≡ written old at bytes
@@ -40,5 +52,13 @@ module _ (old padded : List ℕ) (at : ℕ) (bytes : List ℕ) (some : 1 ≤ len
       ∙ sym (written_some old at bytes some)
 
   -- and as long as they
-  pub pasted_length : (new : List ℕ) → new ≡ take at padded ++ (bytes ++ drop (at + length bytes) padded) → length new ≡ length padded
-  pasted_length new is2 = ap length is2 ∙ length-append (take at padded) (bytes ++ drop (at + length bytes) padded) ∙ omega (arith, length-append bytes (drop (at + length bytes) padded), length-take at padded, length-drop (at + length bytes) padded, padded_length)
+  pub pasted_length : (new : List ℕ) → new ≡ take at padded ++ (bytes ++ drop (at + length bytes) padded)
+      → length new ≡ length padded
+  pasted_length new is2 = ap length is2 ∙ length-append (take at padded) (bytes ++ drop (at + length bytes) padded) ∙
+      omega (
+        arith,
+        length-append bytes (drop (at + length bytes) padded),
+        length-take at padded,
+        length-drop (at + length bytes) padded,
+        padded_length,
+      )

@@ -27,7 +27,8 @@ event_of (Send count) bytes = Sent (take count bytes)
 -- these calls, with the bytes kept of them, after that history
 abbrev pub history_onto : List Call → List ℕ → History → History
 history_onto [] bytes before = before
-history_onto (call ∷ calls) bytes before = history_onto calls (drop (bytes_of call) bytes) (event_of call bytes ∷ before)
+history_onto (call ∷ calls) bytes before = history_onto calls (drop (bytes_of call) bytes)
+    (event_of call bytes ∷ before)
 
 -- what a site that began so has been through
 abbrev pub history_of : Kept → List Call → List ℕ → History

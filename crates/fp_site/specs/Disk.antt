@@ -23,7 +23,8 @@ pub record Disk : Type 1 where
 -- old with these bytes at this offset, and zeros where nothing stood before it. No bytes change nothing
 abbrev pub written : List ℕ → ℕ → List ℕ → List ℕ
 written old at [] = old
-written old at (b ∷ bytes) = take at old ++ (replicate (at - length old) 0 ++ ((b ∷ bytes) ++ drop (at + length (b ∷ bytes)) old))
+written old at (b ∷ bytes) = take at old ++ (replicate (at - length old) 0 ++
+    ((b ∷ bytes) ++ drop (at + length (b ∷ bytes)) old))
 
 -- what a read of so many bytes at this offset gives, zeros past the end
 abbrev pub read_range : List ℕ → ℕ → ℕ → List ℕ
@@ -33,7 +34,8 @@ read_range xs at count = take count (drop at xs ++ replicate count 0)
 abbrev pub covers : ℕ → ℕ → ℕ → Bool
 covers at count i = nat_le at i && nat_lt i (at + count)
 
--- what a crash makes of an image within a write: any bytes in the range and past the end, any length up to the range's end
+-- what a crash makes of an image within a write: any bytes in the range and past the end, any length up to the range's
+-- end
 pub record Torn (at count : ℕ) (old new : List ℕ) : Type 0 where
   pub no_shorter : length old ≤ length new
   pub no_longer : length new ≤ max (length old) (at + count)
@@ -59,7 +61,8 @@ pub record Differs (old : Disk) (set : ℕ) (step : List ℕ → List ℕ → Ty
 
 -- where all crashes of the old disk leave this data set alike, so is this image
 pub record Settles (old : Disk) (set : ℕ) (image : List ℕ) : Type 0 where
-  pub bytes : (i byte : ℕ) → ((c : Snapshot) → old.may_leave c → get_or (c.images set) i 0 ≡ byte) → get_or image i 0 ≡ byte
+  pub bytes : (i byte : ℕ) → ((c : Snapshot) → old.may_leave c → get_or (c.images set) i 0 ≡ byte)
+      → get_or image i 0 ≡ byte
   pub no_shorter : (n : ℕ) → ((c : Snapshot) → old.may_leave c → n ≤ length (c.images set)) → n ≤ length image
   pub no_longer : (n : ℕ) → ((c : Snapshot) → old.may_leave c → length (c.images set) ≤ n) → length image ≤ n
 
@@ -71,7 +74,8 @@ Tears old set at count = Differs old set (Torn at count)
 abbrev pub Syncs : Disk → ℕ → Snapshot → Type 0
 Syncs old set = Differs old set (λ before image. Settles old set image)
 
--- within or after a send: s has the images of a snapshot that a crash of the old disk may leave, and a prefix of this text is sent
+-- within or after a send: s has the images of a snapshot that a crash of the old disk may leave, and a prefix of this
+-- text is sent
 pub record Sends (old : Disk) (text : List ℕ) (s : Snapshot) : Type 0 where
   pub before : Snapshot
   pub left : old.may_leave before

@@ -16,6 +16,8 @@ abbrev pub told_before : List ℕ → Option ℕ → ℕ → ℕ
 told_before failing stop zero = 0
 told_before failing stop (suc number) = (if is_told failing stop number then 1 else 0) + told_before failing stop number
 
--- The count of faults is that of the calls told to fail and of the calls that found no memory, where no counter stands at its last value.
+-- The count of faults is that of the calls told to fail and of the calls that found no memory, where no counter stands
+-- at its last value.
 abbrev pub IsCounted : List ℕ → Option ℕ → ℕ → ℕ → ℕ → Type 0
-IsCounted failing stop number count shorts = number < 2 ^ 64 - 1 → count < 2 ^ 64 - 1 → shorts < 2 ^ 64 - 1 → count ≡ told_before failing stop number + shorts
+IsCounted failing stop number count shorts = number < 2 ^ 64 - 1 → count < 2 ^ 64 - 1 → shorts < 2 ^ 64 - 1
+    → count ≡ told_before failing stop number + shorts

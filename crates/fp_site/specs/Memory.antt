@@ -53,17 +53,19 @@ pub record BeginsAs (s : Snapshot) (m : MemorySite) : Type 0 where
   pub faults : memory_faults m ≡ 0
   pub shorts : memory_shorts m ≡ 0
 
--- What every call of a site in memory says of itself: it counts as one, it fails where it is told to, else only where it
--- found no memory, and one that does not fail leaves the count of faults.
+-- What every call of a site in memory says of itself: it counts as one, it fails where it is told to, else only where
+-- it found no memory, and one that does not fail leaves the count of faults.
 pub record IsCall {T E : Type 0} (old new : MemorySite) (result : Result T E) : Type 0 where
   pub calls : calls_made new ≡ min (calls_made old + 1) (2 ^ 64 - 1)
   pub fails : fails_at old (calls_made old) ≡ true → IsErr result
-  pub short : fails_at old (calls_made old) ≡ false → OnErr result ((memory_shorts old < memory_shorts new) ⊎ (memory_shorts new ≡ 2 ^ 64 - 1))
+  pub short : fails_at old (calls_made old) ≡ false
+      → OnErr result ((memory_shorts old < memory_shorts new) ⊎ (memory_shorts new ≡ 2 ^ 64 - 1))
   pub passes : OnOk result (memory_faults new ≡ memory_faults old)
   -- what it is told stays
   pub told : (number : ℕ) → fails_at new number ≡ fails_at old number
 
--- so many bytes more fit without memory in each data set that there is, in the bytes sent and in what is kept of the calls
+-- so many bytes more fit without memory in each data set that there is, in the bytes sent and in what is kept of the
+-- calls
 pub record IsPrepared (m : MemorySite) (bytes : ℕ) : Type 0 where
   pub sets : All (HasSpare bytes) m.sets.items
   pub sent : HasSpare bytes m.sent

@@ -27,7 +27,8 @@ impl Faults {
         failing: &[u64],
         stop: Option<u64>,
     ) -> Result<Faults, AllocError>
-        ensures { IfOk result (λ f. (f.failing.items ≡ failing.now) × (f.stop ≡ stop) × (f.number ≡ 0) × (f.count ≡ 0) × (f.shorts ≡ 0)) }
+        ensures { IfOk result (λ f. (f.failing.items ≡ failing.now) × (f.stop ≡ stop) × (f.number ≡ 0) × (f.count ≡ 0)
+            × (f.shorts ≡ 0)) }
     {
         Ok(Faults {
             failing: failing.to_vec(alloc)?,

@@ -293,7 +293,8 @@ impl Site for MemorySite {
 
     fn send(&mut self, text: &[u8]) -> Result<(), Failed>
         ensures sent { OnOk result ((memory_disk self.new).sent ≡ (memory_disk self.old).sent ++ text.now) }
-        ensures part { OnErr result ((n : ℕ) × ((memory_disk self.new).sent ≡ (memory_disk self.old).sent ++ take n text.now)) }
+        ensures part { OnErr result ((n : ℕ) × ((memory_disk self.new).sent ≡ (memory_disk self.old).sent ++ take n
+            text.now)) }
         ensures call { IsCall self.old self.new result }
         ensures cause { Counts (memory_faults self.old) (memory_faults self.new) result }
         ensures same { (memory_disk self.new).contents ≡ (memory_disk self.old).contents }
@@ -331,7 +332,8 @@ fn write(
     ensures err { OnErr result (past_of past.new ≡ past_of past.old) }
     ensures stands { ((k : ℕ) → set_bytes sets.old.items k ≡ contents_after (past_of past.old) k)
         → (k : ℕ) → set_bytes sets.new.items k ≡ contents_after (past_of past.new) k }
-    ensures bounded { ((k : ℕ) → length (set_bytes sets.old.items k) ≤ 2 ^ 62) → (k : ℕ) → length (set_bytes sets.new.items k) ≤ 2 ^ 62 }
+    ensures bounded { ((k : ℕ) → length (set_bytes sets.old.items k) ≤ 2 ^ 62) → (k : ℕ)
+        → length (set_bytes sets.new.items k) ≤ 2 ^ 62 }
 {
     past.reserve(1, from.len())?;
     put(alloc, sets, set, at, from)?;
@@ -354,7 +356,8 @@ fn break_write(
     ensures err { OnErr result (past_of past.new ≡ past_of past.old) }
     ensures stands { ((k : ℕ) → set_bytes sets.old.items k ≡ contents_after (past_of past.old) k)
         → (k : ℕ) → set_bytes sets.new.items k ≡ contents_after (past_of past.new) k }
-    ensures bounded { ((k : ℕ) → length (set_bytes sets.old.items k) ≤ 2 ^ 62) → (k : ℕ) → length (set_bytes sets.new.items k) ≤ 2 ^ 62 }
+    ensures bounded { ((k : ℕ) → length (set_bytes sets.old.items k) ≤ 2 ^ 62) → (k : ℕ)
+        → length (set_bytes sets.new.items k) ≤ 2 ^ 62 }
 {
     let left = mixed(alloc, seed, set_slice(sets, set), at, from)?;
     write(alloc, sets, past, set, at, &left)?;

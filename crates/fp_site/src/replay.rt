@@ -97,7 +97,8 @@ fn some_part(
     }
 }
 
-// One call on what a read gives, and on an image that a crash may leave. Its bytes are the first of those that are left.
+// One call on what a read gives, and on an image that a crash may leave. Its bytes are the first of those that are
+// left.
 fn apply(
     alloc: Global,
     choice: u64,
@@ -115,7 +116,8 @@ fn apply(
     ensures none { choice ≡ 0 → OnOk result ((h : History) → ((k : ℕ) → set_bytes real.old.items k ≡ contents_after h k)
         → ((k : ℕ) → set_bytes images.old.items k ≡ synced_after h k)
         → (k : ℕ) → set_bytes images.new.items k ≡ synced_after (event_of call left.now ∷ h) k) }
-    ensures every { choice ≡ 1 → OnOk result ((h : History) → ((k : ℕ) → set_bytes real.old.items k ≡ contents_after h k)
+    ensures every { choice ≡ 1 → OnOk result ((h : History)
+        → ((k : ℕ) → set_bytes real.old.items k ≡ contents_after h k)
         → ((k : ℕ) → set_bytes images.old.items k ≡ contents_after h k)
         → (k : ℕ) → set_bytes images.new.items k ≡ contents_after (event_of call left.now ∷ h) k) }
 {
@@ -219,8 +221,10 @@ pub(crate) fn replayed(
     choice: u64,
 ) -> Result<Snapshot, AllocError>
     ensures left { IfOk result (λ s. MayLeave (history_of start.now calls.now kept.now) (snapshot_of s)) }
-    ensures none { choice ≡ 0 → IfOk result (λ s. (k : ℕ) → (snapshot_of s).images k ≡ synced_after (history_of start.now calls.now kept.now) k) }
-    ensures every { choice ≡ 1 → IfOk result (λ s. (k : ℕ) → (snapshot_of s).images k ≡ contents_after (history_of start.now calls.now kept.now) k) }
+    ensures none { choice ≡ 0 → IfOk result (λ s. (k : ℕ)
+        → (snapshot_of s).images k ≡ synced_after (history_of start.now calls.now kept.now) k) }
+    ensures every { choice ≡ 1 → IfOk result (λ s. (k : ℕ)
+        → (snapshot_of s).images k ≡ contents_after (history_of start.now calls.now kept.now) k) }
 {
     let mut real = copied_in(alloc, start.images.as_slice())?;
     let mut images = copied_in(alloc, start.images.as_slice())?;

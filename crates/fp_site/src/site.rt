@@ -81,7 +81,8 @@ pub trait Site {
             OnOk result (bytes_read self.new set ≡ bytes_read self.old set + length into.old) }
         ensures at_most { tells_reads self.new set → bytes_read self.new set ≤ bytes_read self.old set + length into.old }
         ensures reads { (k : ℕ) → tells_reads self.new k → tells_reads self.old k }
-        ensures others { (k : ℕ) → (k ≡ set → ⊥) → tells_reads self.new k → bytes_read self.new k ≡ bytes_read self.old k }
+        ensures others { (k : ℕ) → (k ≡ set → ⊥) → tells_reads self.new k
+            → bytes_read self.new k ≡ bytes_read self.old k }
 
         // Nothing changes.
         ensures stays { told self.old → Stays (disk self.old) (disk self.new) }

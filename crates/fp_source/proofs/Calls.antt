@@ -5,7 +5,8 @@ use Rattle.fp_source.specs.declared.part.Part.{Part}
 use Rattle.fp_source.specs.Source.{ReadsOnly}
 
 -- no call at all
-pub reads_none : {S : Type 0} (told : S → Type 0) (left : S → Part → List ℕ) (faults holds : S → ℕ) (keeps : S → S → Type 0) (part : Part) (a : S)
+pub reads_none : {S : Type 0} (told : S → Type 0) (left : S → Part → List ℕ) (faults holds : S → ℕ)
+    (keeps : S → S → Type 0) (part : Part) (a : S)
     → ReadsOnly told left faults holds keeps part a a
 reads_none told left faults holds keeps part a = record {
   later = omega arith;
@@ -16,8 +17,10 @@ reads_none told left faults holds keeps part a = record {
 }
 
 -- one run after another
-pub reads_joined : {S : Type 0} (told : S → Type 0) (left : S → Part → List ℕ) (faults holds : S → ℕ) (keeps : S → S → Type 0) (part : Part) (a b c : S)
-    → ReadsOnly told left faults holds keeps part a b → ReadsOnly told left faults holds keeps part b c → ReadsOnly told left faults holds keeps part a c
+pub reads_joined : {S : Type 0} (told : S → Type 0) (left : S → Part → List ℕ) (faults holds : S → ℕ)
+    (keeps : S → S → Type 0) (part : Part) (a b c : S)
+    → ReadsOnly told left faults holds keeps part a b → ReadsOnly told left faults holds keeps part b c
+    → ReadsOnly told left faults holds keeps part a c
 reads_joined told left faults holds keeps part a b c f s = record {
   later = let x = f.later in let y = s.later in omega arith;
   others = λ t p o. s.others (f.stays_told t) p o ∙ f.others t p o;
@@ -27,18 +30,31 @@ reads_joined told left faults holds keeps part a b c f s = record {
 }
 
 -- one call more
-pub reads_on : {S : Type 0} (told : S → Type 0) (left : S → Part → List ℕ) (faults holds : S → ℕ) (keeps : S → S → Type 0) (part : Part) (a b c : S)
-    → ReadsOnly told left faults holds keeps part a b → faults b ≤ faults c → (told b → (p : Part) → (p ≡ part → ⊥) → left c p ≡ left b p)
-    → (told b → told c) → holds c ≡ holds b → ((first : S) → keeps first b → keeps first c) → ReadsOnly told left faults holds keeps part a c
+pub reads_on : {S : Type 0} (told : S → Type 0) (left : S → Part → List ℕ) (faults holds : S → ℕ)
+    (keeps : S → S → Type 0) (part : Part) (a b c : S)
+    → ReadsOnly told left faults holds keeps part a b → faults b ≤ faults c
+    → (told b → (p : Part) → (p ≡ part → ⊥) → left c p ≡ left b p)
+    → (told b → told c) → holds c ≡ holds b → ((first : S) → keeps first b → keeps first c)
+    → ReadsOnly told left faults holds keeps part a c
 reads_on told left faults holds keeps part a b c f later others stays_told same_reference kept =
-    reads_joined told left faults holds keeps part a b c f (record { later = later; others = others; stays_told = stays_told; same_reference = same_reference; kept = kept })
+    reads_joined told left faults holds keeps part a b c f
+    (record {
+      later = later;
+      others = others;
+      stays_told = stays_told;
+      same_reference = same_reference;
+      kept =
+          kept;
+    })
 
 -- one piece more of the part
-pub piece_more : (first taken piece now next : List ℕ) → first ≡ taken ++ now → now ≡ piece ++ next → first ≡ (taken ++ piece) ++ next
+pub piece_more : (first taken piece now next : List ℕ) → first ≡ taken ++ now → now ≡ piece ++ next
+    → first ≡ (taken ++ piece) ++ next
 piece_more first taken piece now next e f = rw (e, f) (sym (append_assoc taken piece next))
 
 -- the part has more bytes than were taken
-pub more_than : (first taken into now next : List ℕ) (n limit : ℕ) → first ≡ taken ++ now → now ≡ take n into ++ next → n ≤ length into → length taken ≤ limit → limit - length taken < n
+pub more_than : (first taken into now next : List ℕ) (n limit : ℕ) → first ≡ taken ++ now → now ≡ take n into ++ next
+    → n ≤ length into → length taken ≤ limit → limit - length taken < n
     → limit < length first
 more_than first taken into now next n limit e f le few many =
     let a : length first ≡ length taken + length now = ap length e ∙ length-append taken now in
@@ -47,11 +63,13 @@ more_than first taken into now next n limit e f le few many =
     omega arith
 
 -- the front of a block, into which a call wrote
-pub front_kept : (into tail : List ℕ) (n room : ℕ) → n ≤ room → n ≤ length into → take n (take room (into ++ tail)) ≡ take n into
+pub front_kept : (into tail : List ℕ) (n room : ℕ) → n ≤ room → n ≤ length into
+    → take n (take room (into ++ tail)) ≡ take n into
 front_kept into tail n room le few = take-take n room (into ++ tail) le ∙ take-append-le n into tail few
 
 -- the bytes stay within the limit
-pub within : (taken block : List ℕ) (n limit : ℕ) → length taken ≤ limit → n ≤ limit - length taken → length (taken ++ take n block) ≤ limit
+pub within : (taken block : List ℕ) (n limit : ℕ) → length taken ≤ limit → n ≤ limit - length taken
+    → length (taken ++ take n block) ≤ limit
 within taken block n limit few le =
     let a = length-append taken (take n block) in
     let b : length (take n block) ≡ min n (length block) = length-take n block in

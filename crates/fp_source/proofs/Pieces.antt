@@ -8,7 +8,8 @@ use Rattle.fp_source.specs.Source.{Rose}
 use Rattle.fp_source.specs.Newlines.{HasNoNewline, IsFirstPart, HasLongLine, after_part}
 
 -- a piece that was copied from the front of what is left, and what is left behind it
-pub piece_given : (bytes rest copied tail : List ℕ) (at n : ℕ) → rest ≡ drop at bytes → n ≤ length rest → copied ≡ take n rest
+pub piece_given : (bytes rest copied tail : List ℕ) (at n : ℕ) → rest ≡ drop at bytes → n ≤ length rest
+    → copied ≡ take n rest
     → drop at bytes ≡ take n (copied ++ tail) ++ drop (at + n) bytes
 piece_given bytes rest copied tail at n is le e =
     let l : length copied ≡ n = ap length e ∙ length-take-le n rest le in
@@ -18,10 +19,12 @@ piece_given bytes rest copied tail at n is le e =
     cc
 
 -- a window of a list begins later, where its front is taken
-pub window_later : (block : List ℕ) (at end n : ℕ) → at + n ≤ end → drop n (take (end - at) (drop at block)) ≡ take (end - (at + n)) (drop (at + n) block)
+pub window_later : (block : List ℕ) (at end n : ℕ) → at + n ≤ end
+    → drop n (take (end - at) (drop at block)) ≡ take (end - (at + n)) (drop (at + n) block)
 window_later block at end n le =
     let width : n + (end - (at + n)) ≡ end - at = omega arith in
-    let a : drop n (take (n + (end - (at + n))) (drop at block)) ≡ take (end - (at + n)) (drop n (drop at block)) = drop-take n (end - (at + n)) (drop at block) in
+    let a : drop n (take (n + (end - (at + n))) (drop at block)) ≡ take (end - (at + n)) (drop n (drop at block)) =
+    drop-take n (end - (at + n)) (drop at block) in
     let b : drop n (drop at block) ≡ drop (at + n) block = drop-drop n at block in
     cc
 
@@ -40,7 +43,8 @@ pub rose_since : (a b c : ℕ) → a ≤ b → Rose b c → Rose a c
 rose_since a b c le r = ⊎_elim (λ lt. inl (omega arith)) (λ e. inr e) r
 
 -- how far a first part reaches
-part_reaches : (part whole rest : List ℕ) (by_newline : Bool) → IsFirstPart part by_newline whole rest → length part + (if by_newline then 1 else 0) ≤ length whole
+part_reaches : (part whole rest : List ℕ) (by_newline : Bool) → IsFirstPart part by_newline whole rest
+    → length part + (if by_newline then 1 else 0) ≤ length whole
 part_reaches part whole rest true it =
     let e : length whole ≡ length (part ++ 10 ∷ rest) = ap length (it.up_to refl) in
     let l : length (part ++ 10 ∷ rest) ≡ length part + length (10 ∷ rest) = length-append part (10 ∷ rest) in
@@ -50,19 +54,25 @@ part_reaches part whole rest false it =
     omega arith
 
 -- a part taken from the front of a window: what stays is the window behind it
-pub part_taken : (block part : List ℕ) (at end taken : ℕ) (by_newline : Bool) → at ≤ end → taken ≡ (if by_newline then 1 else 0)
-    → IsFirstPart part by_newline (take (end - at) (drop at block)) (after_part part by_newline (take (end - at) (drop at block)))
-    → IsFirstPart part by_newline (take (end - at) (drop at block)) (take (end - (at + (length part + taken))) (drop (at + (length part + taken)) block))
+pub part_taken : (block part : List ℕ) (at end taken : ℕ) (by_newline : Bool) → at ≤ end
+    → taken ≡ (if by_newline then 1 else 0)
+    → IsFirstPart part by_newline (take (end - at) (drop at block))
+    (after_part part by_newline (take (end - at) (drop at block)))
+    → IsFirstPart part by_newline (take (end - at) (drop at block))
+    (take (end - (at + (length part + taken))) (drop (at + (length part + taken)) block))
 part_taken block part at end taken by_newline le e it =
     let reach = part_reaches part (take (end - at) (drop at block)) _ by_newline it in
-    let l : length (take (end - at) (drop at block)) ≡ min (end - at) (length (drop at block)) = length-take (end - at) (drop at block) in
+    let l : length (take (end - at) (drop at block)) ≡ min (end - at) (length (drop at block)) =
+    length-take (end - at) (drop at block) in
     let later : drop (length part + (if by_newline then 1 else 0)) (take (end - at) (drop at block))
-    ≡ take (end - (at + (length part + (if by_newline then 1 else 0)))) (drop (at + (length part + (if by_newline then 1 else 0))) block)
+    ≡ take (end - (at + (length part + (if by_newline then 1 else 0))))
+    (drop (at + (length part + (if by_newline then 1 else 0))) block)
     = window_later block at end (length part + (if by_newline then 1 else 0)) (omega arith) in
     rw (e, ← later) it
 
 -- more than 2,100 bytes before a newline, of which some were taken earlier
-pub long_joined : (line part whole rest : List ℕ) (by_newline : Bool) → HasNoNewline line → IsFirstPart part by_newline whole rest
+pub long_joined : (line part whole rest : List ℕ) (by_newline : Bool) → HasNoNewline line
+    → IsFirstPart part by_newline whole rest
     → 2100 < length line + length part → HasLongLine (line ++ whole)
 long_joined line part whole rest true plain it long = record {
   front = line ++ part;

@@ -45,6 +45,7 @@ fails_at m number = list_any (λ k. k == number) m.failures.failing.items
 pub record IsCall {T E : Type 0} (old new : MemorySource) (result : Result T E) : Type 0 where
   pub calls : calls_made new ≡ min (calls_made old + 1) (2 ^ 64 - 1)
   pub fails : is_err result ≡ fails_at old (calls_made old)
-  pub counts : memory_faults new ≡ (if is_err result then min (memory_faults old + 1) (2 ^ 64 - 1) else memory_faults old)
+  pub counts : memory_faults new ≡ (if is_err result then min (memory_faults old + 1) (2 ^ 64 - 1) else memory_faults
+      old)
   -- what it is told stays
   pub told : (number : ℕ) → fails_at new number ≡ fails_at old number

@@ -13,7 +13,8 @@ pub record Counts {T E : Type 0} (before now : ℕ) (result : Result T E) : Type
   pub stayed : OnOk result (now ≡ before)
 
 -- By what is told, and by the numbers: some calls were made, which read of this part alone.
-pub record ReadsOnly {S : Type 0} (told : S → Type 0) (left : S → Part → List ℕ) (faults : S → ℕ) (holds : S → ℕ) (keeps : S → S → Type 0) (part : Part) (old new : S) : Type 0 where
+pub record ReadsOnly {S : Type 0} (told : S → Type 0) (left : S → Part → List ℕ) (faults : S → ℕ) (holds : S → ℕ)
+    (keeps : S → S → Type 0) (part : Part) (old new : S) : Type 0 where
   pub later : faults old ≤ faults new
   pub others : told old → (p : Part) → (p ≡ part → ⊥) → left new p ≡ left old p
   pub stays_told : told old → told new

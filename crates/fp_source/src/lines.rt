@@ -190,10 +190,12 @@ impl Lines {
     fn take_part(&mut self, line: &mut Vec<u8>) -> Result<bool, LineFault>
         requires short { length line.old.items ≤ 2100 }
         requires plain { HasNoNewline line.old.items }
-        ensures part { IfOk result (λ by_newline. (part : List ℕ) × IsFirstPart part by_newline (buffered self.old) (buffered self.new)
+        ensures part { IfOk result (λ by_newline. (part : List ℕ)
+            × IsFirstPart part by_newline (buffered self.old) (buffered self.new)
             × (line.new.items ≡ line.old.items ++ part)) }
         ensures short { OnOk result (length line.new.items ≤ 2100) }
-        ensures too_long { (n : ℕ) → IsErrOf result (LineFault.TooLong n) → HasLongLine (line.old.items ++ buffered self.old) }
+        ensures too_long { (n : ℕ) → IsErrOf result (LineFault.TooLong n)
+            → HasLongLine (line.old.items ++ buffered self.old) }
         ensures number { (n : ℕ) → IsErrOf result (LineFault.TooLong n) → n ≡ lines_given self.old + 1 }
         ensures not_many { (n : ℕ) → IsErrOf result (LineFault.TooMany n) → ⊥ }
         ensures not_failed { IsErrOf result LineFault.Failed → ⊥ }

@@ -10,7 +10,8 @@ abbrev pub accounts : MsdbDef
 accounts = record {
   name = record { 0 = codes "ACCTS   " };
   dynamic = true;
-  fields = record { name = record { 0 = codes "ACCT    " }; kind = C; at = 0; length = 4 } ∷ record { name = record { 0 = codes "NOTE    " }; kind = C; at = 4; length = 4 } ∷ [];
+  fields = record { name = record { 0 = codes "ACCT    " }; kind = C; at = 0; length = 4 } ∷ record
+      { name = record { 0 = codes "NOTE    " }; kind = C; at = 4; length = 4 } ∷ [];
   length = 8;
   load = codes "A001open" ∷ [];
 }

@@ -29,7 +29,9 @@ use Rattle.log_groups.specs.Log.{LogState}
 use Rattle.msdb_store.specs.Store.{Stored, IsOf}
 
 -- a log of these groups is sound, where their entries may stand in one
-pub sound_log : (job : Job) (entries : List Entry) (bytes : List ℕ) (groups : List (List Entry)) (gate : ℕ) → IsAccount job entries → entries ≡ entries_of groups → IsLog (front_for job) bytes groups gate → IsSound job.defs job.scripts (front_for job) bytes entries
+pub sound_log : (job : Job) (entries : List Entry) (bytes : List ℕ) (groups : List (List Entry)) (gate : ℕ)
+    → IsAccount job entries → entries ≡ entries_of groups → IsLog (front_for job) bytes groups gate
+    → IsSound job.defs job.scripts (front_for job) bytes entries
 sound_log job entries bytes groups gate account all log = record {
   groups = groups;
   gate = gate;
@@ -44,16 +46,24 @@ sound_log job entries bytes groups gate account all log = record {
 }
 
 -- a disk at rest is safe
-pub safe_at_rest : (job : Job) (entries : List Entry) (disk : Disk) (groups : List (List Entry)) (gate : ℕ) → IsAccount job entries → entries ≡ entries_of groups → IsAtRest disk (front_for job) groups gate → IsSafe job.defs job.scripts (front_for job) disk entries
+pub safe_at_rest : (job : Job) (entries : List Entry) (disk : Disk) (groups : List (List Entry)) (gate : ℕ)
+    → IsAccount job entries → entries ≡ entries_of groups → IsAtRest disk (front_for job) groups gate
+    → IsSafe job.defs job.scripts (front_for job) disk entries
 safe_at_rest job entries disk groups gate account all at_rest = record {
   now = sound_log job entries (disk.contents 0) groups gate account all at_rest.log;
-  crash = λ image settles. (entries, subst (λ (l : List ℕ). IsSound job.defs job.scripts (front_for job) l entries) (sym (durable_settles disk 0 image at_rest.durable settles)) (sound_log job entries (disk.contents 0) groups gate account all at_rest.log));
+  crash = λ image settles. (
+    entries,
+    subst (λ (l : List ℕ). IsSound job.defs job.scripts (front_for job) l entries)
+        (sym (durable_settles disk 0 image at_rest.durable settles))
+        (sound_log job entries (disk.contents 0) groups gate account all at_rest.log),
+  );
 }
 
 -- ---- one entry more
 
 -- entries in one more group
-pub one_group : (groups : List (List Entry)) (entries : List Entry) (e : Entry) → entries ≡ entries_of groups → entries ++ e ∷ [] ≡ entries_of (groups ++ (e ∷ []) ∷ [])
+pub one_group : (groups : List (List Entry)) (entries : List Entry) (e : Entry) → entries ≡ entries_of groups
+    → entries ++ e ∷ [] ≡ entries_of (groups ++ (e ∷ []) ∷ [])
 one_group groups entries e all =
     ap (λ (es : List Entry). es ++ e ∷ []) all
     ∙ sym (flat_map-append (λ (es : List Entry). es) groups ((e ∷ []) ∷ []))
@@ -63,7 +73,8 @@ items_more entries e =
     flat_map-append (λ (x : Entry). x.items) entries (e ∷ [])
     ∙ ap (λ (is : List Item). items_of entries ++ is) (flat_map-cons (λ (x : Entry). x.items) e [] ∙ append-nil e.items)
 
-pub all_append : {X : Type 0} (Q : X → Type 0) (xs ys : List X) → AllByRecursion Q xs → AllByRecursion Q ys → AllByRecursion Q (xs ++ ys)
+pub all_append : {X : Type 0} (Q : X → Type 0) (xs ys : List X) → AllByRecursion Q xs → AllByRecursion Q ys
+    → AllByRecursion Q (xs ++ ys)
 all_append Q [] ys a b = b
 all_append Q (x ∷ xs) ys a b = (a.0, all_append Q xs ys a.1 b)
 
@@ -100,7 +111,8 @@ format_left format (outcome.Purge set n) alone = refl
 format_left format outcome.Format alone = absurd alone
 
 -- with the next entry
-unfoldable pub account_more : (job : Job) (entries : List Entry) (account : IsAccount job entries) (line : List ℕ) (e : Entry)
+unfoldable pub account_more : (job : Job) (entries : List Entry) (account : IsAccount job entries) (line : List ℕ)
+    (e : Entry)
     → ComesNext job.defs job.scripts account.history.history line e → IsAccount job (entries ++ e ∷ [])
 account_more job entries account line e next =
     let h = account.history.history in
@@ -108,7 +120,8 @@ account_more job entries account line e next =
       last = next.next;
       history = record {
         history = with_entry e next.next h;
-        leads = join (rules_of job.defs job.scripts) (beginning 1 (start job.defs)) entries (e ∷ []) h (with_entry e next.next h)
+        leads = join (rules_of job.defs job.scripts) (beginning 1 (start job.defs)) entries (e ∷ []) h
+            (with_entry e next.next h)
             account.history.leads (next.next, next.comes, refl);
         ends = refl;
       };
@@ -122,14 +135,17 @@ account_more job entries account line e next =
       made =
           ap (with_items job.defs.msdbs (start job.defs).msdbs) (items_more entries e)
           ∙ fold-append (with_item job.defs.msdbs) (start job.defs).msdbs (items_of entries) e.items
-          ∙ ap (λ ms. with_items job.defs.msdbs ms e.items) (account.made ∙ ap (λ (db : Db). db.msdbs) (sym account.history.ends))
+          ∙ ap (λ ms. with_items job.defs.msdbs ms e.items)
+          (account.made ∙ ap (λ (db : Db). db.msdbs) (sym account.history.ends))
           ∙ next.made;
     }
 
 -- a line that was answered is ready to be sealed
-pub ready_of : (job : Job) (entries : List Entry) (account : IsAccount job entries) (line reply : List ℕ) (old new : LogState) (store : Stored)
+pub ready_of : (job : Job) (entries : List Entry) (account : IsAccount job entries) (line reply : List ℕ)
+    (old new : LogState) (store : Stored)
     → IsOf job.defs.msdbs store → old.unsealed ≡ [] → old.sealed ≡ length entries
-    → IsServed job.defs job.scripts account.history.history line reply old new store → AwaitsSeal job entries line reply old.gate store new
+    → IsServed job.defs job.scripts account.history.history line reply old new store
+    → AwaitsSeal job entries line reply old.gate store new
 unfolding account_more
 ready_of job entries account line reply old new store of none count served = record {
   entry = served.entry;

@@ -29,7 +29,8 @@ module _ (job : Job) (entries : List Entry) where
   Sound = IsSound job.defs job.scripts (front_for job)
 
   -- what stands goes on by nothing
-  pub goes_none : (lines : List (List ℕ)) (before : Disk) (s : Snapshot) → Sound (s.images 0) entries → (before.tells_sent → s.sent ≡ before.sent) → GoesOnBy job lines before entries s
+  pub goes_none : (lines : List (List ℕ)) (before : Disk) (s : Snapshot) → Sound (s.images 0) entries
+      → (before.tells_sent → s.sent ≡ before.sent) → GoesOnBy job lines before entries s
   goes_none lines before s sound text = record {
     goes = record {
       later = [];
@@ -43,26 +44,32 @@ module _ (job : Job) (entries : List Entry) where
   }
 
   -- a disk at rest where nothing was done
-  pub halts_here : (lines : List (List ℕ)) (h h1 : Disk) (store : Stored) (log : LogState) → h1 ≡ h → StandsAt job entries h store log → StaysSafe job entries lines h h1
-  halts_here lines h h1 store log same stands = subst (λ (x : Disk). StaysSafe job entries lines h x) (sym same) (record {
-    later = [];
-    rest = lines;
-    of_lines = refl;
-    alone = tt;
-    safe = subst (IsSafe job.defs job.scripts (front_for job) h) (sym (append-nil entries)) (safe_at_rest job entries h stands.groups log.gate stands.account stands.all stands.at_rest);
-    count = 0;
-    sent = sym (append-nil h.sent);
-  })
+  pub halts_here : (lines : List (List ℕ)) (h h1 : Disk) (store : Stored) (log : LogState) → h1 ≡ h
+      → StandsAt job entries h store log → StaysSafe job entries lines h h1
+  halts_here lines h h1 store log same stands = subst (λ (x : Disk). StaysSafe job entries lines h x) (sym same)
+      (record {
+        later = [];
+        rest = lines;
+        of_lines = refl;
+        alone = tt;
+        safe = subst (IsSafe job.defs job.scripts (front_for job) h) (sym (append-nil entries))
+            (safe_at_rest job entries h stands.groups log.gate stands.account stands.all stands.at_rest);
+        count = 0;
+        sent = sym (append-nil h.sent);
+      })
 
   -- and its moments
-  pub stays_here : (lines : List (List ℕ)) (h : Disk) (store : Stored) (log : LogState) → IsLawful h → StandsAt job entries h store log → Through h h (GoesOnBy job lines h entries)
+  pub stays_here : (lines : List (List ℕ)) (h : Disk) (store : Stored) (log : LogState) → IsLawful h
+      → StandsAt job entries h store log → Through h h (GoesOnBy job lines h entries)
   stays_here lines h store log law stands =
       started (GoesOnBy job lines h entries) h law
       (λ s left. goes_none lines h s
-      (subst (λ (l : List ℕ). Sound l entries) (sym (stands.at_rest.durable s left)) (sound_log job entries (h.contents 0) stands.groups log.gate stands.account stands.all stands.at_rest.log))
+      (subst (λ (l : List ℕ). Sound l entries) (sym (stands.at_rest.durable s left))
+      (sound_log job entries (h.contents 0) stands.groups log.gate stands.account stands.all stands.at_rest.log))
       (λ told. law.sent_now told s left))
 
-  module _ (h : Disk) (store : Stored) (log : LogState) (law : IsLawful h) (stands : StandsAt job entries h store log) (e : Entry) (alone : IsAlone e.outcome) (account : IsAccount job (entries ++ e ∷ [])) where
+  module _ (h : Disk) (store : Stored) (log : LogState) (law : IsLawful h) (stands : StandsAt job entries h store log)
+      (e : Entry) (alone : IsAlone e.outcome) (account : IsAccount job (entries ++ e ∷ [])) where
     abbrev P : Snapshot → Type 0
     P = GoesOnBy job (e.line ∷ []) h entries
 
@@ -77,11 +84,14 @@ module _ (job : Job) (entries : List Entry) where
 
     -- a log with these groups or one more is sound
     either_sound : (image : List ℕ) → EitherImage image → Sound image entries ⊎ Sound image (entries ++ e ∷ [])
-    either_sound image (inl before) = inl (sound_log job entries image stands.groups log.gate stands.account stands.all before)
-    either_sound image (inr after) = inr (sound_log job (entries ++ e ∷ []) image more _ account (one_group stands.groups entries e stands.all) after)
+    either_sound image (inl before) = inl (sound_log job entries image stands.groups log.gate stands.account stands.all
+        before)
+    either_sound image (inr after) = inr (sound_log job (entries ++ e ∷ []) image more _ account
+        (one_group stands.groups entries e stands.all) after)
 
     -- the log goes on by the entry
-    with_entry : (s : Snapshot) (goes : GoesOn job.defs job.scripts (front_for job) h entries s) → goes.later ≡ e ∷ [] → P s
+    with_entry : (s : Snapshot) (goes : GoesOn job.defs job.scripts (front_for job) h entries s) → goes.later ≡ e ∷ []
+        → P s
     with_entry s goes is = record {
       goes = goes;
       rest = [];
@@ -89,29 +99,48 @@ module _ (job : Job) (entries : List Entry) where
       alone = subst AreAlone (sym is) (alone, tt);
     }
 
-    goes_by : (s : Snapshot) → (h.tells_sent → s.sent ≡ h.sent) → Sound (s.images 0) entries ⊎ Sound (s.images 0) (entries ++ e ∷ []) → P s
+    goes_by : (s : Snapshot) → (h.tells_sent → s.sent ≡ h.sent) → Sound (s.images 0) entries
+        ⊎ Sound (s.images 0) (entries ++ e ∷ []) → P s
     goes_by s text (inl sound) = goes_none (e.line ∷ []) h s sound text
-    goes_by s text (inr sound) = with_entry s (record { later = e ∷ []; sound = sound; count = 0; sent = λ told. text told ∙ sym (append-nil h.sent) }) refl
+    goes_by s text (inr sound) = with_entry s (record
+        { later = e ∷ []; sound = sound; count = 0; sent = λ told. text told ∙ sym (append-nil h.sent) }) refl
 
     module _ (h1 : Disk) (only : OnlyOn 0 h h1) (run : Through h h1 Either) where
       pub after_seal : Through h h1 P
-      after_seal = weaker (λ s. Either s × Differs h 0 Anyhow s) P h h1 (λ s both. goes_by s (λ told. both.1.sent told ∙ law.sent_now told both.1.before both.1.left) (either_sound (s.images 0) both.0)) (both Either (Differs h 0 Anyhow) h h1 run (only_through 0 h h1 law only))
+      after_seal = weaker (λ s. Either s × Differs h 0 Anyhow s) P h h1
+          (λ s both. goes_by s (λ told. both.1.sent told ∙ law.sent_now told both.1.before both.1.left)
+          (either_sound (s.images 0) both.0)) (both Either (Differs h 0 Anyhow) h h1 run (only_through 0 h h1 law only))
 
       -- where the seal failed
       module _ (law1 : IsLawful h1) (settles : (image : List ℕ) → Settles h1 0 image → EitherImage image) where
         left_sound : (image : List ℕ) → Settles h1 0 image → (left : List Entry) × Sound image left
-        left_sound image s = ⊎_elim (λ sound. (entries, sound)) (λ sound. (entries ++ e ∷ [], sound)) (either_sound image (settles image s))
+        left_sound image s = ⊎_elim (λ sound. (entries, sound)) (λ sound. (entries ++ e ∷ [], sound))
+            (either_sound image (settles image s))
 
-        safe_by : (later : List Entry) (rest : List (List ℕ)) → e.line ∷ [] ≡ map (λ (x : Entry). x.line) later ++ rest → AreAlone later → Sound (h1.contents 0) (entries ++ later) → StaysSafe job entries (e.line ∷ []) h h1
-        safe_by later rest lines only_one sound = record { later = later; rest = rest; of_lines = lines; alone = only_one; safe = record { now = sound; crash = left_sound }; count = 0; sent = only.now.sent ∙ sym (append-nil h.sent) }
+        safe_by : (later : List Entry) (rest : List (List ℕ)) → e.line ∷ [] ≡ map (λ (x : Entry). x.line) later ++ rest
+            → AreAlone later → Sound (h1.contents 0) (entries ++ later) → StaysSafe job entries (e.line ∷ []) h h1
+        safe_by later rest lines only_one sound = record {
+          later = later;
+          rest = rest;
+          of_lines = lines;
+          alone = only_one;
+          safe =
+              record { now = sound; crash = left_sound };
+          count = 0;
+          sent = only.now.sent ∙ sym (append-nil h.sent);
+        }
 
         pub halts_unsealed : StaysSafe job entries (e.line ∷ []) h h1
         halts_unsealed =
-            ⊎_elim (λ sound. safe_by [] (e.line ∷ []) refl tt (subst (Sound (h1.contents 0)) (sym (append-nil entries)) sound)) (λ sound. safe_by (e ∷ []) [] refl (alone, tt) sound)
+            ⊎_elim (λ sound. safe_by [] (e.line ∷ []) refl tt
+            (subst (Sound (h1.contents 0)) (sym (append-nil entries)) sound))
+            (λ sound. safe_by (e ∷ []) [] refl (alone, tt) sound)
             (either_sound (h1.contents 0) (settles (h1.contents 0) (settles_contents h1 0 law1)))
 
       -- and where it didn't
-      module _ (law1 : IsLawful h1) (gate1 : ℕ) (rest : IsAtRest h1 (front_for job) more gate1) (line : List ℕ) (is : line ≡ line_of e) (h2 : Disk) (law2 : IsLawful h2) (same : h2.contents ≡ h1.contents) (send : Elapses h1 h2 (Sends h1 line)) where
+      module _ (law1 : IsLawful h1) (gate1 : ℕ) (rest : IsAtRest h1 (front_for job) more gate1) (line : List ℕ)
+          (is : line ≡ line_of e) (h2 : Disk) (law2 : IsLawful h2) (same : h2.contents ≡ h1.contents)
+          (send : Elapses h1 h2 (Sends h1 line)) where
         line_is : line ≡ lines_of_entries (e ∷ [])
         line_is = is ∙ sym (line_alone e)
 
@@ -121,9 +150,14 @@ module _ (job : Job) (entries : List Entry) where
         with_line : (s : Snapshot) → Sends h1 line s → P s
         with_line s d = with_entry s (record {
           later = e ∷ [];
-          sound = subst (λ (l : List ℕ). Sound l (entries ++ e ∷ [])) (sym (ap (λ (f : ℕ → List ℕ). f 0) d.images ∙ rest.durable d.before d.left)) (sound_log job (entries ++ e ∷ []) (h1.contents 0) more gate1 account all_more rest.log);
+          sound = subst (λ (l : List ℕ). Sound l (entries ++ e ∷ []))
+              (sym (ap (λ (f : ℕ → List ℕ). f 0) d.images ∙ rest.durable d.before d.left))
+              (sound_log job (entries ++ e ∷ []) (h1.contents 0) more gate1 account all_more rest.log);
           count = d.count;
-          sent = λ told. let told1 = after_seal.tells_sent told in d.sent told1 ∙ ap (λ (t : List ℕ). t ++ take d.count line) (law1.sent_now told1 d.before d.left ∙ only.now.sent) ∙ ap (λ (t : List ℕ). h.sent ++ take d.count t) line_is;
+          sent = λ told. let told1 = after_seal.tells_sent told in
+              d.sent told1 ∙ ap (λ (t : List ℕ). t ++ take d.count line)
+              (law1.sent_now told1 d.before d.left ∙ only.now.sent) ∙ ap (λ (t : List ℕ). h.sent ++ take d.count t)
+              line_is;
         }) refl
 
         pub after_send : Through h h2 P
@@ -143,10 +177,13 @@ module _ (job : Job) (entries : List Entry) where
           alone = (alone, tt);
           safe = safe_at_rest job (entries ++ e ∷ []) h2 more gate1 account all_more rest_sent;
           count = n;
-          sent = text ∙ ap (λ (t : List ℕ). t ++ take n line) only.now.sent ∙ ap (λ (t : List ℕ). h.sent ++ take n t) line_is;
+          sent = text ∙ ap (λ (t : List ℕ). t ++ take n line) only.now.sent ∙ ap (λ (t : List ℕ). h.sent ++ take n t)
+              line_is;
         }
 
-        pub serves_one : (store2 : Stored) (log2 : LogState) → (log2.gate ≡ gate1) → log2.unsealed ≡ [] → log2.sealed ≡ length (entries ++ e ∷ []) → IsOf job.defs.msdbs store2 → store2.msdbs ≡ account.last.msdbs → h2.sent ≡ h1.sent ++ line
+        pub serves_one : (store2 : Stored) (log2 : LogState) → (log2.gate ≡ gate1) → log2.unsealed ≡ []
+            → log2.sealed ≡ length (entries ++ e ∷ []) → IsOf job.defs.msdbs store2 → store2.msdbs ≡ account.last.msdbs
+            → h2.sent ≡ h1.sent ++ line
             → Serves job entries stands.groups h h2 (e.line ∷ []) store2 log2
         serves_one store2 log2 gate none count of segments text = record {
           later = e ∷ [];

@@ -93,7 +93,8 @@ held_more job start mid next held more = record {
 held_on : (job : Job) (start mid : Standing) (ns : List Standing) → KeepsAnswered start mid → Lives job mid ns
     → KeepsAnswered start (last_of mid ns)
 held_on job start mid [] held lives = held
-held_on job start mid (next ∷ ns) held lives = held_on job start next ns (held_more job start mid next held lives.0) lives.1
+held_on job start mid (next ∷ ns) held lives = held_on job start next ns (held_more job start mid next held lives.0)
+    lives.1
 
 pub all_held : (job : Job) (start : Standing) (ns : List Standing) → Lives job start ns
     → KeepsAnswered start (last_of start ns)
@@ -108,7 +109,8 @@ left_once (e ∷ before) t s now = inl now
 
 -- what follows on an image follows on a site that begins as it
 pub begun_follows : (job : Job) (before : Standing) (s : Snapshot) (m : MemorySite) → BeginsAs s m
-    → GoesOnFrom job before (s.images 0) s.sent → GoesOnFrom job before ((memory_disk m).contents 0) (memory_disk m).sent
+    → GoesOnFrom job before (s.images 0) s.sent → GoesOnFrom job before ((memory_disk m).contents 0)
+    (memory_disk m).sent
 begun_follows job before s m begins on =
     let same : s.images 0 ≡ (memory_disk m).contents 0 = ap (λ (images : ℕ → List ℕ). images 0) (sym begins.contents) in
     subst (λ (log : List ℕ). GoesOnFrom job before log (memory_disk m).sent) same

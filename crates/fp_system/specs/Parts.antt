@@ -44,8 +44,11 @@ pub record IsJob (kinds : Kinds) (left : Part → List ℕ) (job : Job) : Type 0
   pub text : job.scripts_text ≡ left part.Scripts
   pub scripts : AreScriptsOf job.defs job.scripts_text job.scripts
 
--- the parts are no job, and this is the answer: that of the definitions, or behind good ones the first fault of the scripts
+-- the parts are no job, and this is the answer: that of the definitions, or behind good ones the first fault of the
+-- scripts
 pub data Refuses (kinds : Kinds) (left : Part → List ℕ) : Status → Type 0 where
-  by_definitions : {answer : Status} → definitions_in kinds (left part.Definitions) ≡ Err answer → Refuses kinds left answer
-  by_scripts : {defs : Defs} {fault : ScriptFault} → definitions_in kinds (left part.Definitions) ≡ Ok defs → HasFault defs (left part.Scripts) fault
+  by_definitions : {answer : Status} → definitions_in kinds (left part.Definitions) ≡ Err answer
+      → Refuses kinds left answer
+  by_scripts : {defs : Defs} {fault : ScriptFault} → definitions_in kinds (left part.Definitions) ≡ Ok defs
+      → HasFault defs (left part.Scripts) fault
       → Refuses kinds left (status.Scripts fault)

@@ -67,7 +67,8 @@ fn definitions_in(alloc: Global, text: &[u8], exits: &Exits) -> Result<Defs, Sta
     ensures ok { IfOk result (λ defs. definitions_in (kinds_of exits.now) text.now ≡ Ok defs) }
     ensures are { IfOk result AreDefs }
     ensures built { IfOk result (λ defs. are_built defs ≡ true) }
-    ensures refused { IfErr result (λ answer. MayStandIn answer ⊎ (definitions_in (kinds_of exits.now) text.now ≡ Err answer)) }
+    ensures refused { IfErr result (λ answer. MayStandIn answer
+        ⊎ (definitions_in (kinds_of exits.now) text.now ≡ Err answer)) }
     ensures early { IfErr result IsOfParts }
     ensures never { IsErrOf result status.ReadFault → ⊥ }
 {
@@ -83,7 +84,8 @@ fn definitions_in(alloc: Global, text: &[u8], exits: &Exits) -> Result<Defs, Sta
 
 // The definitions.
 fn read_definitions<S: Source>(alloc: Global, source: &mut S, exits: &Exits) -> Result<Defs, Status>
-    ensures ok { S.told source.old → IfOk result (λ defs. definitions_in (kinds_of exits.now) (S.left source.old part.Definitions) ≡ Ok defs) }
+    ensures ok { S.told source.old → IfOk result (λ defs. definitions_in (kinds_of exits.now)
+        (S.left source.old part.Definitions) ≡ Ok defs) }
     ensures are { IfOk result AreDefs }
     ensures built { IfOk result (λ defs. are_built defs ≡ true) }
     ensures refused { S.told source.old →
@@ -122,7 +124,8 @@ fn read_scripts<S: Source>(alloc: Global, source: &mut S, defs: &Defs) -> Result
     ensures ok { S.told source.old → IfOk result (λ scripts. scripts.text ≡ S.left source.old part.Scripts) }
     ensures are { IfOk result (λ scripts. AreScriptsOf defs.now scripts.text scripts.scripts) }
     ensures refused { S.told source.old → IfErr result (λ answer. MayStandIn answer
-        ⊎ ((fault : ScriptFaultOf) × (answer ≡ status.Scripts fault) × HasFault defs.now (S.left source.old part.Scripts) fault)) }
+        ⊎ ((fault : ScriptFaultOf) × (answer ≡ status.Scripts fault)
+        × HasFault defs.now (S.left source.old part.Scripts) fault)) }
     ensures early { IfErr result IsOfParts }
     ensures cause { IsErrOf result status.ReadFault → Rose (S.faults source.old) (S.faults source.new) }
     ensures source { ReadsOnly S.told S.left S.faults S.holds S.keeps part.Scripts source.old source.new }
@@ -162,11 +165,13 @@ pub(crate) fn read_setup<S: Source>(
     source: &mut S,
     exits: &Exits,
 ) -> Result<Setup, Status>
-    ensures job { S.told source.old → IfOk result (λ setup. IsJob (kinds_of exits.now) (S.left source.old) (job_of setup)) }
+    ensures job { S.told source.old → IfOk result (λ setup. IsJob (kinds_of exits.now) (S.left source.old)
+        (job_of setup)) }
     ensures setup { IfOk result IsSetup }
 
     // Otherwise it is the first reason why they are no job.
-    ensures refused { S.told source.old → IfErr result (λ answer. MayStandIn answer ⊎ Refuses (kinds_of exits.now) (S.left source.old) answer) }
+    ensures refused { S.told source.old → IfErr result
+        (λ answer. MayStandIn answer ⊎ Refuses (kinds_of exits.now) (S.left source.old) answer) }
     ensures early { IfErr result IsOfParts }
     ensures cause { IsErrOf result status.ReadFault → Rose (S.faults source.old) (S.faults source.new) }
 

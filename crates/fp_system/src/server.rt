@@ -37,7 +37,8 @@ impl Server {
         requires setup { IsSetup setup.now }
         requires store { IsOf setup.now.defs.msdbs self.old.store }
         requires short { length line.now ≤ 2100 }
-        ensures ready { (entries : ListOf Entry) (account : IsAccount (job_of setup.now) entries) → self.old.store.msdbs ≡ account.last.msdbs
+        ensures ready { (entries : ListOf Entry) (account : IsAccount (job_of setup.now) entries)
+            → self.old.store.msdbs ≡ account.last.msdbs
             → self.old.log.unsealed ≡ [] → self.old.log.sealed ≡ length entries →
             IfOk result (λ reply. AwaitsSeal (job_of setup.now) entries line.now reply self.old.log.gate self.new.store self.new.log) }
         ensures store { IsOf setup.now.defs.msdbs self.new.store }
@@ -63,14 +64,16 @@ impl Server {
         requires setup { IsSetup setup.now }
         requires store { IsOf setup.now.defs.msdbs self.old.store }
         requires short { length line.now ≤ 2100 }
-        ensures ok { (entries : ListOf Entry) → T.told site.old → (stands : StandsAt (job_of setup.now) entries (T.disk site.old) self.old.store self.old.log) →
+        ensures ok { (entries : ListOf Entry) → T.told site.old
+            → (stands : StandsAt (job_of setup.now) entries (T.disk site.old) self.old.store self.old.log) →
             OnOk result (Serves (job_of setup.now) entries stands.groups (T.disk site.old) (T.disk site.new) (line.now ∷ []) self.new.store self.new.log) }
         ensures store { IsOf setup.now.defs.msdbs self.new.store }
         ensures stop { IfErr result IsOfSite }
         ensures cause { IsErrOf result status.SiteFault → Rose (T.faults site.old) (T.faults site.new) }
 
         // However it ends.
-        ensures err { (entries : ListOf Entry) → T.told site.old → StandsAt (job_of setup.now) entries (T.disk site.old) self.old.store self.old.log →
+        ensures err { (entries : ListOf Entry) → T.told site.old
+            → StandsAt (job_of setup.now) entries (T.disk site.old) self.old.store self.old.log →
             OnErr result (StaysSafe (job_of setup.now) entries (line.now ∷ []) (T.disk site.old) (T.disk site.new)) }
         ensures others { T.told site.old → Spares IsLog (T.disk site.old) (T.disk site.new) }
         ensures later { T.faults site.old ≤ T.faults site.new }
@@ -79,7 +82,8 @@ impl Server {
         ensures keeps { (first : T) → T.keeps first site.old → T.keeps first site.new }
 
         // A crash at any moment leaves the entries and no more sent, or these with the new one, and a part of its line.
-        ensures crash { (entries : ListOf Entry) → T.told site.old → StandsAt (job_of setup.now) entries (T.disk site.old) self.old.store self.old.log →
+        ensures crash { (entries : ListOf Entry) → T.told site.old
+            → StandsAt (job_of setup.now) entries (T.disk site.old) self.old.store self.old.log →
             Through (T.disk site.old) (T.disk site.new) (GoesOnBy (job_of setup.now) (line.now ∷ []) (T.disk site.old) entries) }
     {
         let reply = self.prepare(alloc, setup, line)?;
@@ -107,9 +111,11 @@ impl Server {
         ensures read { S.told source.old → OnOk result (S.left source.new part.Messages ≡ []) }
 
         // A line ends it exactly where it is the first that isn't taken; those before it were served.
-        ensures line { (number : ℕ) → S.told source.old → IsErrOf result (status.Line number) → faulty_line (S.left source.old part.Messages) ≡ Some number }
+        ensures line { (number : ℕ) → S.told source.old → IsErrOf result (status.Line number)
+            → faulty_line (S.left source.old part.Messages) ≡ Some number }
         ensures before { (entries : ListOf Entry) (number : ℕ) → S.told source.old → T.told site.old
-            → (stands : StandsAt (job_of setup.now) entries (T.disk site.old) self.old.store self.old.log) → IsErrOf result (status.Line number) →
+            → (stands : StandsAt (job_of setup.now) entries (T.disk site.old) self.old.store self.old.log)
+            → IsErrOf result (status.Line number) →
             Serves (job_of setup.now) entries stands.groups (T.disk site.old) (T.disk site.new) (take (number - 1) (lines_of (S.left source.old part.Messages))) self.new.store self.new.log }
         ensures stop { IfErr result IsStop }
         ensures site_cause { IsErrOf result status.SiteFault → Rose (T.faults site.old) (T.faults site.new) }
@@ -123,7 +129,8 @@ impl Server {
         ensures source { IsContinued S.told S.faults S.holds S.keeps source.old source.new }
         ensures site { IsContinued T.told T.faults T.holds T.keeps site.old site.new }
 
-        // A crash at any moment leaves the entries and more of a first part of the lines, and sent a first part of their replies.
+        // A crash at any moment leaves the entries and more of a first part of the lines, and sent a first part of
+        // their replies.
         ensures crash { (entries : ListOf Entry) → S.told source.old → T.told site.old
             → StandsAt (job_of setup.now) entries (T.disk site.old) self.old.store self.old.log →
             Through (T.disk site.old) (T.disk site.new) (GoesOnBy (job_of setup.now) (lines_of (S.left source.old part.Messages)) (T.disk site.old) entries) }

@@ -69,7 +69,8 @@ pub(crate) fn definitions_text(alloc: Global, fault: &DefsFault) -> Result<Bytes
 // What is said of a number outside its limits.
 #[tactic(auto, using(std::proofs::Common::append_assoc))]
 fn limit_text(alloc: Global, key: &Bytes, value: i64) -> Result<Bytes, AllocError>
-    ensures { IfOk result (λ text. text ≡ codes "definitions: " ++ (key.now ++ codes " out of limit: " ++ signed_decimal value)) }
+    ensures { IfOk result (λ text. text ≡ codes "definitions: " ++
+        (key.now ++ codes " out of limit: " ++ signed_decimal value)) }
 {
     let value = value.to_string(alloc)?;
     let mut text = joined(alloc, b"definitions: ", key.as_slice(), b" out of limit: ")?;
@@ -119,7 +120,8 @@ fn transaction_text(alloc: Global, name: &Name, back: &[u8]) -> Result<Bytes, Al
 // What is said of a transaction that costs too much.
 #[tactic(auto, using(std::proofs::Common::append_assoc))]
 fn cost_text(alloc: Global, name: &Name, cost: u64) -> Result<Bytes, AllocError>
-    ensures { IfOk result (λ text. text ≡ codes "scripts: " ++ (codes "transaction " ++ trimmed name.now.0 ++ codes " costs " ++ decimal cost)) }
+    ensures { IfOk result (λ text. text ≡ codes "scripts: " ++
+        (codes "transaction " ++ trimmed name.now.0 ++ codes " costs " ++ decimal cost)) }
 {
     let cost = cost.to_string(alloc)?;
     let mut text = transaction_text(alloc, name, b" costs ")?;

@@ -19,12 +19,15 @@ value_snoc (x ∷ xs) d = rw (value_snoc xs d, length_snoc xs d, pow-suc 10 (len
 abbrev digit_of : ℕ → ℕ
 digit_of c = c - 48
 
-pub value_digit : (xs : List ℕ) (c : ℕ) → value 10 (map digit_of (xs ++ c ∷ [])) ≡ value 10 (map digit_of xs) * 10 + (c - 48)
+pub value_digit : (xs : List ℕ) (c : ℕ) → value 10 (map digit_of (xs ++ c ∷ [])) ≡ value 10 (map digit_of xs) * 10 +
+    (c - 48)
 value_digit xs c = ap (value 10) (map_push digit_of xs c) ∙ value_snoc (map digit_of xs) (c - 48)
 
-pub digits_push : (xs : List ℕ) (c : ℕ) → all_ascii_digits xs ≡ true → is_ascii_digit c ≡ true → all_ascii_digits (xs ++ c ∷ []) ≡ true
+pub digits_push : (xs : List ℕ) (c : ℕ) → all_ascii_digits xs ≡ true → is_ascii_digit c ≡ true
+    → all_ascii_digits (xs ++ c ∷ []) ≡ true
 digits_push [] c all is = rw is refl
-digits_push (x ∷ xs) c all is = let parts = and_parts (is_ascii_digit x) (all_ascii_digits xs) all in rw (parts.0, digits_push xs c parts.1 is) refl
+digits_push (x ∷ xs) c all is = let parts = and_parts (is_ascii_digit x) (all_ascii_digits xs) all in
+    rw (parts.0, digits_push xs c parts.1 is) refl
 
 -- so many digits are a number below that power of ten
 pub digits_below : (ds : List ℕ) → all_ascii_digits ds ≡ true → value 10 (map digit_of ds) < 10 ^ length ds
@@ -37,7 +40,8 @@ digits_below (c ∷ cs) all =
     rw (length-map cs digit_of, pow-suc 10 (length cs)) (grind (arith, m, h))
 
 -- a byte that is no digit among them
-pub not_digits : (xs : List ℕ) (i : ℕ) → i < length xs → is_ascii_digit (get_or xs i 0) ≡ false → all_ascii_digits xs ≡ false
+pub not_digits : (xs : List ℕ) (i : ℕ) → i < length xs → is_ascii_digit (get_or xs i 0) ≡ false
+    → all_ascii_digits xs ≡ false
 not_digits [] i lt is = absurd (omega arith)
 not_digits (x ∷ xs) zero lt is = rw is refl
 not_digits (x ∷ xs) (suc i) lt is = rw (not_digits xs i (omega arith) is) (and-false (is_ascii_digit x))
@@ -46,7 +50,8 @@ not_digits (x ∷ xs) (suc i) lt is = rw (not_digits xs i (omega arith) is) (and
 pub take_snoc : (xs : List ℕ) (i : ℕ) → i < length xs → take (i + 1) xs ≡ take i xs ++ get_or xs i 0 ∷ []
 take_snoc xs i lt = take_more xs i 0 lt
 
-pub prefix_below : (xs : List ℕ) (i : ℕ) → length xs ≤ 31 → i < length xs → all_ascii_digits (take i xs) ≡ true → value 10 (map digit_of (take i xs)) < 10 ^ 30
+pub prefix_below : (xs : List ℕ) (i : ℕ) → length xs ≤ 31 → i < length xs → all_ascii_digits (take i xs) ≡ true
+    → value 10 (map digit_of (take i xs)) < 10 ^ 30
 prefix_below xs i few lt all =
     let below : value 10 (map digit_of (take i xs)) < 10 ^ length (take i xs) = digits_below (take i xs) all in
     let fits : length (take i xs) ≤ 30 = omega (arith, length-take i xs) in
@@ -54,7 +59,8 @@ prefix_below xs i few lt all =
     let power : 10 ^ length (take i xs) ≤ 10 ^ 30 = pow-le-pow_right ten fits in
     omega (arith, below, power)
 
-pub digits_small : (xs : List ℕ) (i : ℕ) → length xs ≤ 31 → all_ascii_digits (take i xs) ≡ true → value 10 (map digit_of (take i xs)) < 2 ^ 127
+pub digits_small : (xs : List ℕ) (i : ℕ) → length xs ≤ 31 → all_ascii_digits (take i xs) ≡ true
+    → value 10 (map digit_of (take i xs)) < 2 ^ 127
 digits_small xs i few all =
     let below : value 10 (map digit_of (take i xs)) < 10 ^ length (take i xs) = digits_below (take i xs) all in
     let fits : length (take i xs) ≤ 31 = omega (arith, length-take i xs) in

@@ -22,4 +22,12 @@ part_file_name Messages = codes "messages.txt"
 
 -- what a site tells that tells nothing
 abbrev pub untold : Disk
-untold = record { contents = λ set. []; sent = []; tells_sent = ⊥; may_leave = λ s. ⊥; moment = 0; left_since = λ t s. ⊥ }
+untold = record {
+  contents = λ set. [];
+  sent = [];
+  tells_sent = ⊥;
+  may_leave = λ s. ⊥;
+  moment = 0;
+  left_since =
+      λ t s. ⊥;
+}

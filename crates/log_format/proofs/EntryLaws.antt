@@ -39,8 +39,10 @@ IsGoodOutcome o = IsOutcome o × FitsOutcome o
 abbrev Told : ℕ → List ℕ → Outcome × List ℕ → Type 0
 Told code bytes y = (text : List ℕ) × (outcome_text y.0 ≡ code ∷ text) × Takes bytes text y.1 × IsGoodOutcome y.0
 
-plain : (code : ℕ) (o : Outcome) (bytes : List ℕ) (x : Outcome × List ℕ) → IsBytes bytes → Some (o, bytes) ≡ Some x → outcome_text o ≡ code ∷ [] → IsGoodOutcome o → Told code bytes x
-plain code o bytes x fits e text ok = subst (λ (y : Outcome × List ℕ). Told code bytes y) (some_is (o, bytes) x e) ([], text, record { parts = refl; rest_fits = fits }, ok)
+plain : (code : ℕ) (o : Outcome) (bytes : List ℕ) (x : Outcome × List ℕ) → IsBytes bytes → Some (o, bytes) ≡ Some x
+    → outcome_text o ≡ code ∷ [] → IsGoodOutcome o → Told code bytes x
+plain code o bytes x fits e text ok = subst (λ (y : Outcome × List ℕ). Told code bytes y) (some_is (o, bytes) x e)
+    ([], text, record { parts = refl; rest_fits = fits }, ok)
 
 seq_full_takes : (bytes : List ℕ) (x : Outcome × List ℕ) → IsBytes bytes → seq_full_at bytes ≡ Some x → Told 3 bytes x
 unfolding seq_full_at
@@ -53,7 +55,8 @@ seq_full_takes bytes x fits e =
     let made : Outcome × List ℕ = (outcome.SeqFull a.0.0 b.0.0 c.0.0 d.0.0, d.0.1) in
     subst (λ (y : Outcome × List ℕ). Told 3 bytes y) (some_is made x d.3) (_, refl, t, ((a.2, b.2, c.2, d.2), tt))
 
-detail_takes : (code : ℕ) (bytes : List ℕ) (x : Outcome × List ℕ) → IsBytes bytes → detail_at code bytes ≡ Some x → Told code bytes x
+detail_takes : (code : ℕ) (bytes : List ℕ) (x : Outcome × List ℕ) → IsBytes bytes → detail_at code bytes ≡ Some x
+    → Told code bytes x
 unfolding detail_at
 detail_takes zero bytes x fits e = plain 0 outcome.Done bytes x fits e refl (tt, tt)
 detail_takes (suc zero) bytes x fits e =
@@ -61,25 +64,32 @@ detail_takes (suc zero) bytes x fits e =
     let b = next law16 a.0.1 _ x a.1.rest_fits a.3 in
     let c = next long_law b.0.1 _ x b.1.rest_fits b.3 in
     let t = then bytes _ b.0.1 _ c.0.1 (then bytes _ a.0.1 _ b.0.1 a.1 b.1) c.1 in
-    subst (λ (y : Outcome × List ℕ). Told 1 bytes y) (some_is (outcome.Verify a.0.0 b.0.0 c.0.0, c.0.1) x c.3) (_, refl, t, ((a.2, b.2, c.2.1), c.2.0))
+    subst (λ (y : Outcome × List ℕ). Told 1 bytes y) (some_is (outcome.Verify a.0.0 b.0.0 c.0.0, c.0.1) x c.3)
+    (_, refl, t, ((a.2, b.2, c.2.1), c.2.0))
 detail_takes (suc (suc zero)) bytes x fits e =
     let a = next law16 bytes _ x fits e in
-    subst (λ (y : Outcome × List ℕ). Told 2 bytes y) (some_is (outcome.Roll a.0.0, a.0.1) x a.3) (_, refl, a.1, (a.2, tt))
+    subst (λ (y : Outcome × List ℕ). Told 2 bytes y) (some_is (outcome.Roll a.0.0, a.0.1) x a.3)
+    (_, refl, a.1, (a.2, tt))
 detail_takes (suc (suc (suc zero))) bytes x fits e = seq_full_takes bytes x fits e
 detail_takes (suc (suc (suc (suc zero)))) bytes x fits e =
     let a = next short_law bytes _ x fits e in
-    subst (λ (y : Outcome × List ℕ). Told 4 bytes y) (some_is (outcome.Deadlock a.0.0, a.0.1) x a.3) (_, refl, a.1, (a.2.1, a.2.0))
+    subst (λ (y : Outcome × List ℕ). Told 4 bytes y) (some_is (outcome.Deadlock a.0.0, a.0.1) x a.3)
+    (_, refl, a.1, (a.2.1, a.2.0))
 detail_takes (suc (suc (suc (suc (suc zero))))) bytes x fits e = plain 5 outcome.Device bytes x fits e refl (tt, tt)
-detail_takes (suc (suc (suc (suc (suc (suc zero)))))) bytes x fits e = plain 6 outcome.Memory bytes x fits e refl (tt, tt)
-detail_takes (suc (suc (suc (suc (suc (suc (suc zero))))))) bytes x fits e = plain 7 outcome.Unknown bytes x fits e refl (tt, tt)
+detail_takes (suc (suc (suc (suc (suc (suc zero)))))) bytes x fits e =
+    plain 6 outcome.Memory bytes x fits e refl (tt, tt)
+detail_takes (suc (suc (suc (suc (suc (suc (suc zero))))))) bytes x fits e =
+    plain 7 outcome.Unknown bytes x fits e refl (tt, tt)
 detail_takes (suc (suc (suc (suc (suc (suc (suc (suc zero)))))))) bytes x fits e =
     let a = next law16 bytes _ x fits e in
     let b = next law64 a.0.1 _ x a.1.rest_fits a.3 in
     let t = then bytes _ a.0.1 _ b.0.1 a.1 b.1 in
-    subst (λ (y : Outcome × List ℕ). Told 8 bytes y) (some_is (outcome.Purge a.0.0 b.0.0, b.0.1) x b.3) (_, refl, t, ((a.2, b.2), tt))
+    subst (λ (y : Outcome × List ℕ). Told 8 bytes y) (some_is (outcome.Purge a.0.0 b.0.0, b.0.1) x b.3)
+    (_, refl, t, ((a.2, b.2), tt))
 detail_takes (suc (suc (suc (suc (suc (suc (suc (suc (suc zero))))))))) bytes x fits e =
     let a = next law64 bytes _ x fits e in
-    subst (λ (y : Outcome × List ℕ). Told 9 bytes y) (some_is (outcome.Old a.0.0, a.0.1) x a.3) (_, refl, a.1, (a.2, tt))
+    subst (λ (y : Outcome × List ℕ). Told 9 bytes y) (some_is (outcome.Old a.0.0, a.0.1) x a.3)
+    (_, refl, a.1, (a.2, tt))
 detail_takes (suc (suc (suc (suc (suc (suc (suc (suc (suc (suc zero)))))))))) bytes x fits e =
     let a = next long_law bytes _ x fits e in
     let is : (outcome.Repeat a.0.0, a.0.1) ≡ x = some_is (outcome.Repeat a.0.0, a.0.1) x a.3 in
@@ -92,24 +102,38 @@ outcome_again : (o : Outcome) (rest : List ℕ) → IsGoodOutcome o → outcome_
 unfolding outcome_at detail_at seq_full_at
 outcome_again outcome.Done rest fits = refl
 outcome_again (outcome.Verify call fsa found) rest fits =
-    let regrouped : outcome_text (outcome.Verify call fsa found) ++ rest ≡ 1 ∷ (be32 call ++ (be16 fsa ++ (long_text found ++ rest))) = ap (λ (t : List ℕ). 1 ∷ t) (join3 (be32 call) (be16 fsa) (long_text found) rest) in
-    ap outcome_at regrouped ∙ rw (law32.again call (be16 fsa ++ (long_text found ++ rest)) fits.0.0, law16.again fsa (long_text found ++ rest) fits.0.1, long_law.again found rest (fits.1, fits.0.2)) refl
+    let regrouped : outcome_text (outcome.Verify call fsa found) ++ rest ≡ 1 ∷
+    (be32 call ++ (be16 fsa ++ (long_text found ++ rest))) =
+    ap (λ (t : List ℕ). 1 ∷ t) (join3 (be32 call) (be16 fsa) (long_text found) rest) in
+    ap outcome_at regrouped ∙ rw (
+      law32.again call (be16 fsa ++ (long_text found ++ rest)) fits.0.0,
+      law16.again fsa (long_text found ++ rest) fits.0.1,
+      long_law.again found rest (fits.1, fits.0.2),
+    ) refl
 outcome_again (outcome.Roll code) rest fits = rw (law16.again code rest fits.0) refl
 outcome_again (outcome.SeqFull set begin end n) rest fits =
-    let regrouped : outcome_text (outcome.SeqFull set begin end n) ++ rest ≡ 3 ∷ (be16 set ++ (be64 begin ++ (be64 end ++ (be64 n ++ rest)))) = simp append_assoc in
-    ap outcome_at regrouped ∙ rw (law16.again set (be64 begin ++ (be64 end ++ (be64 n ++ rest))) fits.0.0, law64.again begin (be64 end ++ (be64 n ++ rest)) fits.0.1, law64.again end (be64 n ++ rest) fits.0.2, law64.again n rest fits.0.3) refl
+    let regrouped : outcome_text (outcome.SeqFull set begin end n) ++ rest ≡ 3 ∷
+    (be16 set ++ (be64 begin ++ (be64 end ++ (be64 n ++ rest)))) = simp append_assoc in
+    ap outcome_at regrouped ∙ rw (
+      law16.again set (be64 begin ++ (be64 end ++ (be64 n ++ rest))) fits.0.0,
+      law64.again begin (be64 end ++ (be64 n ++ rest)) fits.0.1,
+      law64.again end (be64 n ++ rest) fits.0.2,
+      law64.again n rest fits.0.3,
+    ) refl
 outcome_again (outcome.Deadlock cycle) rest fits = rw (short_law.again cycle rest (fits.1, fits.0)) refl
 outcome_again outcome.Device rest fits = refl
 outcome_again outcome.Memory rest fits = refl
 outcome_again outcome.Unknown rest fits = refl
 outcome_again (outcome.Purge set n) rest fits =
-    let regrouped : outcome_text (outcome.Purge set n) ++ rest ≡ 8 ∷ (be16 set ++ (be64 n ++ rest)) = simp append_assoc in
+    let regrouped : outcome_text (outcome.Purge set n) ++ rest ≡ 8 ∷ (be16 set ++ (be64 n ++ rest)) =
+    simp append_assoc in
     ap outcome_at regrouped ∙ rw (law16.again set (be64 n ++ rest) fits.0.0, law64.again n rest fits.0.1) refl
 outcome_again (outcome.Old last) rest fits = rw (law64.again last rest fits.0) refl
 outcome_again (outcome.Repeat line) rest fits = rw (long_law.again line rest (fits.1, fits.0)) refl
 outcome_again outcome.Format rest fits = refl
 
-outcome_takes : (bytes : List ℕ) (x : Outcome × List ℕ) → IsBytes bytes → outcome_at bytes ≡ Some x → Takes bytes (outcome_text x.0) x.1 × IsGoodOutcome x.0
+outcome_takes : (bytes : List ℕ) (x : Outcome × List ℕ) → IsBytes bytes → outcome_at bytes ≡ Some x
+    → Takes bytes (outcome_text x.0) x.1 × IsGoodOutcome x.0
 unfolding outcome_at
 outcome_takes bytes x fits e =
     let a = next law8 bytes _ x fits e in
@@ -147,7 +171,8 @@ some_long_law = record {
       rw (long_law.again text rest fits.1, some) refl;
 }
 
-kind_takes : (kind : ℕ) (bytes : List ℕ) (x : Item × List ℕ) → IsBytes bytes → kind_at kind bytes ≡ Some x → (text : List ℕ) × (item_text x.0 ≡ kind ∷ text) × Takes bytes text x.1 × IsGoodItem x.0
+kind_takes : (kind : ℕ) (bytes : List ℕ) (x : Item × List ℕ) → IsBytes bytes → kind_at kind bytes ≡ Some x
+    → (text : List ℕ) × (item_text x.0 ≡ kind ∷ text) × Takes bytes text x.1 × IsGoodItem x.0
 unfolding kind_at
 kind_takes zero bytes x fits e = absurd cc
 kind_takes (suc zero) bytes x fits e =
@@ -155,13 +180,15 @@ kind_takes (suc zero) bytes x fits e =
     let b = next short_law a.0.1 _ x a.1.rest_fits a.3 in
     let c = next long_law b.0.1 _ x b.1.rest_fits b.3 in
     let t = then bytes _ b.0.1 _ c.0.1 (then bytes _ a.0.1 _ b.0.1 a.1 b.1) c.1 in
-    subst (λ (y : Item × List ℕ). (text : List ℕ) × (item_text y.0 ≡ 1 ∷ text) × Takes bytes text y.1 × IsGoodItem y.0) (some_is (Segment a.0.0 b.0.0 c.0.0, c.0.1) x c.3) (_, refl, t, ((a.2, b.2.1, c.2.1), (b.2.0, c.2.0)))
+    subst (λ (y : Item × List ℕ). (text : List ℕ) × (item_text y.0 ≡ 1 ∷ text) × Takes bytes text y.1 × IsGoodItem y.0)
+    (some_is (Segment a.0.0 b.0.0 c.0.0, c.0.1) x c.3) (_, refl, t, ((a.2, b.2.1, c.2.1), (b.2.0, c.2.0)))
 kind_takes (suc (suc zero)) bytes x fits e =
     let a = next law16 bytes _ x fits e in
     let b = next law64 a.0.1 _ x a.1.rest_fits a.3 in
     let c = next long_law b.0.1 _ x b.1.rest_fits b.3 in
     let t = then bytes _ b.0.1 _ c.0.1 (then bytes _ a.0.1 _ b.0.1 a.1 b.1) c.1 in
-    subst (λ (y : Item × List ℕ). (text : List ℕ) × (item_text y.0 ≡ 2 ∷ text) × Takes bytes text y.1 × IsGoodItem y.0) (some_is (Image a.0.0 b.0.0 c.0.0, c.0.1) x c.3) (_, refl, t, ((a.2, b.2, c.2.1), c.2.0))
+    subst (λ (y : Item × List ℕ). (text : List ℕ) × (item_text y.0 ≡ 2 ∷ text) × Takes bytes text y.1 × IsGoodItem y.0)
+    (some_is (Image a.0.0 b.0.0 c.0.0, c.0.1) x c.3) (_, refl, t, ((a.2, b.2, c.2.1), c.2.0))
 kind_takes (suc (suc (suc zero))) bytes x fits e =
     let a = next law16 bytes _ x fits e in
     let b = next law64 a.0.1 _ x a.1.rest_fits a.3 in
@@ -176,11 +203,21 @@ kind_takes (suc (suc (suc (suc n)))) bytes x fits e = absurd cc
 item_again : (i : Item) (rest : List ℕ) → IsGoodItem i → item_at (item_text i ++ rest) ≡ Some (i, rest)
 unfolding item_at kind_at
 item_again (Segment msdb key bytes) rest fits =
-    let regrouped : item_text (Segment msdb key bytes) ++ rest ≡ 1 ∷ msdb ∷ (short_text key ++ (long_text bytes ++ rest)) = ap (λ (t : List ℕ). 1 ∷ msdb ∷ t) (append_assoc (short_text key) (long_text bytes) rest) in
-    ap item_at regrouped ∙ rw (short_law.again key (long_text bytes ++ rest) (fits.1.0, fits.0.1), long_law.again bytes rest (fits.1.1, fits.0.2)) refl
+    let regrouped : item_text (Segment msdb key bytes) ++ rest ≡ 1 ∷ msdb ∷
+    (short_text key ++ (long_text bytes ++ rest)) =
+    ap (λ (t : List ℕ). 1 ∷ msdb ∷ t) (append_assoc (short_text key) (long_text bytes) rest) in
+    ap item_at regrouped ∙ rw (
+      short_law.again key (long_text bytes ++ rest) (fits.1.0, fits.0.1),
+      long_law.again bytes rest (fits.1.1, fits.0.2),
+    ) refl
 item_again (Image set ci bytes) rest fits =
-    let regrouped : item_text (Image set ci bytes) ++ rest ≡ 2 ∷ (be16 set ++ (be64 ci ++ (long_text bytes ++ rest))) = ap (λ (t : List ℕ). 2 ∷ t) (join3 (be16 set) (be64 ci) (long_text bytes) rest) in
-    ap item_at regrouped ∙ rw (law16.again set (be64 ci ++ (long_text bytes ++ rest)) fits.0.0, law64.again ci (long_text bytes ++ rest) fits.0.1, long_law.again bytes rest (fits.1, fits.0.2)) refl
+    let regrouped : item_text (Image set ci bytes) ++ rest ≡ 2 ∷ (be16 set ++ (be64 ci ++ (long_text bytes ++ rest))) =
+    ap (λ (t : List ℕ). 2 ∷ t) (join3 (be16 set) (be64 ci) (long_text bytes) rest) in
+    ap item_at regrouped ∙ rw (
+      law16.again set (be64 ci ++ (long_text bytes ++ rest)) fits.0.0,
+      law64.again ci (long_text bytes ++ rest) fits.0.1,
+      long_law.again bytes rest (fits.1, fits.0.2),
+    ) refl
 item_again (Range set ci at bytes) rest fits =
     let behind_place = long_text bytes ++ rest in
     let behind_ci = be16 at ++ behind_place in
@@ -195,7 +232,8 @@ item_again (Range set ci at bytes) rest fits =
       some_long_law.again bytes rest (fits.1.0, (fits.1.1, fits.0.3)),
     ) refl
 
-item_takes : (bytes : List ℕ) (x : Item × List ℕ) → IsBytes bytes → item_at bytes ≡ Some x → Takes bytes (item_text x.0) x.1 × IsGoodItem x.0
+item_takes : (bytes : List ℕ) (x : Item × List ℕ) → IsBytes bytes → item_at bytes ≡ Some x
+    → Takes bytes (item_text x.0) x.1 × IsGoodItem x.0
 unfolding item_at
 item_takes bytes x fits e =
     let a = next law8 bytes _ x fits e in
@@ -221,7 +259,8 @@ pub items_law : Lawful (List Item) items_text (counted_at item_at) AreItems
 items_law = counted_law Item item_text item_at IsGoodItem item_law
 
 -- each item is good where each is of its type and each fits
-good_items : (items : List Item) → AllByRecursion IsItem items → AllByRecursion FitsItem items → AllByRecursion IsGoodItem items
+good_items : (items : List Item) → AllByRecursion IsItem items → AllByRecursion FitsItem items
+    → AllByRecursion IsGoodItem items
 good_items [] p q = tt
 good_items (item ∷ items) p q = ((p.0, q.0), good_items items p.1 q.1)
 
@@ -244,7 +283,8 @@ record IsRest (e : Entry) : Type 0 where
   pub notes : AreNotes e.notes
   pub items : AreItems e.items
 
-rest_takes : (bytes : List ℕ) (x : Entry × List ℕ) → IsBytes bytes → rest_at bytes ≡ Some x → Takes bytes (rest_text x.0) x.1 × IsRest x.0
+rest_takes : (bytes : List ℕ) (x : Entry × List ℕ) → IsBytes bytes → rest_at bytes ≡ Some x
+    → Takes bytes (rest_text x.0) x.1 × IsRest x.0
 unfolding rest_at
 rest_takes bytes x fits e =
     let a = next law64 bytes _ x fits e in
@@ -258,14 +298,34 @@ rest_takes bytes x fits e =
     let t3 = then bytes _ c.0.1 _ d.0.1 t2 d.1 in
     let t4 = then bytes _ d.0.1 _ f.0.1 t3 f.1 in
     let t5 = then bytes _ f.0.1 _ g.0.1 t4 g.1 in
-    let made : Entry × List ℕ = (record { from = a.0.0; outcome = b.0.0; line = c.0.0; reply = d.0.0; notes = f.0.0; items = g.0.0 }, g.0.1) in
-    subst (λ (y : Entry × List ℕ). Takes bytes (rest_text y.0) y.1 × IsRest y.0) (some_is made x g.3) (t5, record { from = a.2; outcome = b.2; line = c.2; reply = d.2; notes = f.2; items = g.2 })
+    let made : Entry × List ℕ = (
+      record {
+        from = a.0.0;
+        outcome = b.0.0;
+        line = c.0.0;
+        reply = d.0.0;
+        notes =
+            f.0.0;
+        items = g.0.0;
+      },
+      g.0.1,
+    ) in
+    subst (λ (y : Entry × List ℕ). Takes bytes (rest_text y.0) y.1 × IsRest y.0) (some_is made x g.3)
+    (t5, record { from = a.2; outcome = b.2; line = c.2; reply = d.2; notes = f.2; items = g.2 })
 
 rest_again : (e : Entry) (more : List ℕ) → IsRest e → rest_at (rest_text e ++ more) ≡ Some (e, more)
 unfolding rest_at
 rest_again e more fits =
-    ap rest_at (join6 (be64 e.from) (outcome_text e.outcome) (long_text e.line) (long_text e.reply) (notes_text e.notes) (items_text e.items) more)
-    ∙ rw (law64.again e.from _ fits.from, outcome_law.again e.outcome _ fits.outcome, long_law.again e.line _ fits.line, long_law.again e.reply _ fits.reply, notes_law.again e.notes _ fits.notes, items_law.again e.items more fits.items) refl
+    ap rest_at (join6 (be64 e.from) (outcome_text e.outcome) (long_text e.line) (long_text e.reply) (notes_text e.notes)
+    (items_text e.items) more)
+    ∙ rw (
+      law64.again e.from _ fits.from,
+      outcome_law.again e.outcome _ fits.outcome,
+      long_law.again e.line _ fits.line,
+      long_law.again e.reply _ fits.reply,
+      notes_law.again e.notes _ fits.notes,
+      items_law.again e.items more fits.items,
+    ) refl
 
 ended : {A : Type 0} (b : Bool) (x y : A) → cond b (Some x) None ≡ Some y → (b ≡ true) × (x ≡ y)
 ended true x y e = (refl, cc)
@@ -273,8 +333,24 @@ ended false x y e = absurd cc
 
 spelled : (e : Entry) → IsRest e → length (rest_text e) < 2 ^ 64 → keeps_rules e ≡ true → HasSpelling e
 spelled e r whole rules = record {
-  is_entry = record { from = r.from; outcome = r.outcome.0; line = r.line.1; reply = r.reply.1; notes = r.notes.1; items = are_items e.items r.items.1 };
-  fits = record { outcome = r.outcome.1; line = r.line.0; reply = r.reply.0; notes = r.notes.0; items = r.items.0; each_item = fit_items e.items r.items.1 };
+  is_entry = record {
+    from = r.from;
+    outcome = r.outcome.0;
+    line = r.line.1;
+    reply = r.reply.1;
+    notes =
+        r.notes.1;
+    items = are_items e.items r.items.1;
+  };
+  fits = record {
+    outcome = r.outcome.1;
+    line = r.line.0;
+    reply = r.reply.0;
+    notes = r.notes.0;
+    items =
+        r.items.0;
+    each_item = fit_items e.items r.items.1;
+  };
   whole = whole;
   rules = KeepsRules-from e rules;
 }
@@ -289,7 +365,8 @@ is_rest e h = record {
   items = (h.fits.items, good_items e.items h.is_entry.items h.fits.each_item);
 }
 
-entry_takes : (bytes : List ℕ) (x : Entry × List ℕ) → IsBytes bytes → entry_at bytes ≡ Some x → Takes bytes (entry_text x.0) x.1 × HasSpelling x.0
+entry_takes : (bytes : List ℕ) (x : Entry × List ℕ) → IsBytes bytes → entry_at bytes ≡ Some x
+    → Takes bytes (entry_text x.0) x.1 × HasSpelling x.0
 unfolding entry_at whole_at
 entry_takes bytes x fits e =
     let a = next law64 bytes _ x fits e in
@@ -301,23 +378,32 @@ entry_takes bytes x fits e =
     let tests = both_true (eqb (length d.0.1) 0) (keeps_rules d.0.0) g.0 in
     let r = rest_takes b.0.0 d.0 p.2 d.1 in
     let nothing : d.0.1 ≡ [] = nil_from_length d.0.1 (eqb-true _ _ tests.0) in
-    let whole : b.0.0 ≡ rest_text d.0.0 = r.0.parts ∙ ap (λ (t : List ℕ). rest_text d.0.0 ++ t) nothing ∙ append-nil (rest_text d.0.0) in
+    let whole : b.0.0 ≡ rest_text d.0.0 = r.0.parts ∙ ap (λ (t : List ℕ). rest_text d.0.0 ++ t) nothing ∙ append-nil
+    (rest_text d.0.0) in
     let len : a.0.0 ≡ length (rest_text d.0.0) = sym p.1 ∙ ap length whole in
     let t = then bytes (be64 a.0.0) a.0.1 b.0.0 b.0.1 a.1 p.0 in
     let told : Takes bytes (entry_text d.0.0) b.0.1 = record {
-      parts = t.parts ∙ ap (λ (n : ℕ). (be64 n ++ b.0.0) ++ b.0.1) len ∙ ap (λ (w : List ℕ). (be64 (length (rest_text d.0.0)) ++ w) ++ b.0.1) whole;
+      parts = t.parts ∙ ap (λ (n : ℕ). (be64 n ++ b.0.0) ++ b.0.1) len ∙ ap
+          (λ (w : List ℕ). (be64 (length (rest_text d.0.0)) ++ w) ++ b.0.1) whole;
       rest_fits = t.rest_fits;
     } in
     let ok : HasSpelling d.0.0 = spelled d.0.0 r.1 (subst (λ (n : ℕ). n < 2 ^ 64) len a.2) tests.1 in
-    subst (λ (y : Entry × List ℕ). Takes bytes (entry_text y.0) y.1 × HasSpelling y.0) (ap (λ (v : Entry). (v, b.0.1)) g.1 ∙ some_is (c.0, b.0.1) x c.2) (told, ok)
+    subst (λ (y : Entry × List ℕ). Takes bytes (entry_text y.0) y.1 × HasSpelling y.0)
+    (ap (λ (v : Entry). (v, b.0.1)) g.1 ∙ some_is (c.0, b.0.1) x c.2) (told, ok)
 
 entry_again : (e : Entry) (more : List ℕ) → HasSpelling e → entry_at (entry_text e ++ more) ≡ Some (e, more)
 unfolding entry_at whole_at
 entry_again e more fits =
-    let alone : rest_at (rest_text e) ≡ Some (e, []) = ap rest_at (sym (append-nil (rest_text e))) ∙ rest_again e [] (is_rest e fits) in
+    let alone : rest_at (rest_text e) ≡ Some (e, []) =
+    ap rest_at (sym (append-nil (rest_text e))) ∙ rest_again e [] (is_rest e fits) in
     let rules : keeps_rules e ≡ true = KeepsRules-to e fits.rules in
     ap entry_at (append_assoc (be64 (length (rest_text e))) (rest_text e) more)
-    ∙ rw (law64.again (length (rest_text e)) (rest_text e ++ more) fits.whole, part_again (rest_text e) more (length (rest_text e)) refl, alone, rules) refl
+    ∙ rw (
+      law64.again (length (rest_text e)) (rest_text e ++ more) fits.whole,
+      part_again (rest_text e) more (length (rest_text e)) refl,
+      alone,
+      rules,
+    ) refl
 
 pub entry_law : Lawful Entry entry_text entry_at HasSpelling
 entry_law = record { takes = entry_takes; again = entry_again }

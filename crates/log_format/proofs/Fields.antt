@@ -24,7 +24,8 @@ from_places limit [] h = tt
 from_places limit (n ∷ ns) h = (h 0, from_places limit ns (λ i. h (suc i)))
 
 -- one element more that has a property
-pub all_more : {X : Type 0} (P : X → Type 0) (xs : List X) (i : ℕ) (x : X) → i < length xs → x ≡ get_or xs i x → AllByRecursion P (take i xs) → P x → AllByRecursion P (take (suc i) xs)
+pub all_more : {X : Type 0} (P : X → Type 0) (xs : List X) (i : ℕ) (x : X) → i < length xs → x ≡ get_or xs i x
+    → AllByRecursion P (take i xs) → P x → AllByRecursion P (take (suc i) xs)
 all_more P [] i x lt is all one = absurd (omega arith)
 all_more P (y ∷ ys) zero x lt is all one = (subst P is one, tt)
 all_more P (y ∷ ys) (suc i) x lt is all one = (all.0, all_more P ys i x (omega arith) is all.1 one)
@@ -43,7 +44,10 @@ IsBytes-take (suc n) (b ∷ bytes) all = (all.0, IsBytes-take n bytes all.1)
 
 -- one text behind another
 pub then : (a x b y c : List ℕ) → Takes a x b → Takes b y c → Takes a (x ++ y) c
-then a x b y c p q = record { parts = p.parts ∙ ap (λ (t : List ℕ). x ++ t) q.parts ∙ sym (append_assoc x y c); rest_fits = q.rest_fits }
+then a x b y c p q = record {
+  parts = p.parts ∙ ap (λ (t : List ℕ). x ++ t) q.parts ∙ sym (append_assoc x y c);
+  rest_fits = q.rest_fits;
+}
 
 pub some_is : {A : Type 0} (x y : A) → Some x ≡ Some y → x ≡ y
 some_is x y e = cc
@@ -54,12 +58,14 @@ guard true x y e = absurd cc
 guard false x y e = (refl, cc)
 
 -- a step that did not fail
-pub bound : {A B : Type 0} (r : Option A) (f : A → Option B) (y : B) → (r >>= f) ≡ Some y → (x : A) × (r ≡ Some x) × (f x ≡ Some y)
+pub bound : {A B : Type 0} (r : Option A) (f : A → Option B) (y : B) → (r >>= f) ≡ Some y → (x : A) × (r ≡ Some x)
+    × (f x ≡ Some y)
 bound None f y e = absurd cc
 bound (Some x) f y e = (x, refl, e)
 
 -- the next field of several
-pub next : {X B : Type 0} {text : X → List ℕ} {at : List ℕ → Option (X × List ℕ)} {Fits : X → Type 0} → Lawful X text at Fits → (bytes : List ℕ) (f : X × List ℕ → Option B) (y : B) → IsBytes bytes
+pub next : {X B : Type 0} {text : X → List ℕ} {at : List ℕ → Option (X × List ℕ)} {Fits : X → Type 0}
+    → Lawful X text at Fits → (bytes : List ℕ) (f : X × List ℕ → Option B) (y : B) → IsBytes bytes
     → (at bytes >>= f) ≡ Some y → (x : X × List ℕ) × Takes bytes (text x.0) x.1 × Fits x.0 × (f x ≡ Some y)
 next {at = at} law bytes f y fits e =
     let b = bound (at bytes) f y e in
@@ -71,7 +77,8 @@ next {at = at} law bytes f y fits e =
 -- what is known of a width
 record IsWide (w : Width) (limit : ℕ) : Type 0 where
   pub len : (n : ℕ) → length (to_be_bytes w n) ≡ byte_len w
-  pub back : (bytes : List ℕ) → length bytes ≡ byte_len w → IsBytes bytes → to_be_bytes w (from_be_bytes w bytes) ≡ bytes
+  pub back : (bytes : List ℕ) → length bytes ≡ byte_len w → IsBytes bytes
+      → to_be_bytes w (from_be_bytes w bytes) ≡ bytes
   pub again : (n : ℕ) → n < limit → from_be_bytes w (to_be_bytes w n) ≡ n
   pub below : (bytes : List ℕ) → IsBytes bytes → from_be_bytes w bytes < limit
 
@@ -88,7 +95,13 @@ wide32 = record {
   len = λ n. refl;
   back = λ bytes len fits. be_bytes_4 bytes _ len (byte_below bytes fits) refl;
   again = λ n lt. from_be_bytes-to_be_bytes_4 n lt;
-  below = λ bytes fits. omega (arith, byte_below bytes fits 0, byte_below bytes fits 1, byte_below bytes fits 2, byte_below bytes fits 3);
+  below = λ bytes fits. omega (
+    arith,
+    byte_below bytes fits 0,
+    byte_below bytes fits 1,
+    byte_below bytes fits 2,
+    byte_below bytes fits 3,
+  );
 }
 
 wide64 : IsWide w64 (2 ^ 64)
@@ -96,15 +109,29 @@ wide64 = record {
   len = λ n. refl;
   back = λ bytes len fits. be_bytes_8 bytes _ len (byte_below bytes fits) refl;
   again = λ n lt. from_be_bytes-to_be_bytes_8 n lt;
-  below = λ bytes fits. omega (arith, byte_below bytes fits 0, byte_below bytes fits 1, byte_below bytes fits 2, byte_below bytes fits 3, byte_below bytes fits 4, byte_below bytes fits 5, byte_below bytes fits 6, byte_below bytes fits 7);
+  below = λ bytes fits. omega (
+    arith,
+    byte_below bytes fits 0,
+    byte_below bytes fits 1,
+    byte_below bytes fits 2,
+    byte_below bytes fits 3,
+    byte_below bytes fits 4,
+    byte_below bytes fits 5,
+    byte_below bytes fits 6,
+    byte_below bytes fits 7,
+  );
 }
 
-pub part_takes : (n : ℕ) (bytes : List ℕ) (x : List ℕ × List ℕ) → IsBytes bytes → part_at n bytes ≡ Some x → Takes bytes x.0 x.1 × (length x.0 ≡ n) × IsBytes x.0
+pub part_takes : (n : ℕ) (bytes : List ℕ) (x : List ℕ × List ℕ) → IsBytes bytes → part_at n bytes ≡ Some x
+    → Takes bytes x.0 x.1 × (length x.0 ≡ n) × IsBytes x.0
 part_takes n bytes x fits e =
     let g = guard (ltb (length bytes) n) (take n bytes, drop n bytes) x e in
     let enough : n ≤ length bytes = ltb-false (length bytes) n g.0 in
-    subst (λ (y : List ℕ × List ℕ). Takes bytes y.0 y.1 × (length y.0 ≡ n) × IsBytes y.0) g.1
-    (record { parts = sym (take-append-drop n bytes); rest_fits = IsBytes-drop n bytes fits }, omega (arith, length-take n bytes), IsBytes-take n bytes fits)
+    subst (λ (y : List ℕ × List ℕ). Takes bytes y.0 y.1 × (length y.0 ≡ n) × IsBytes y.0) g.1 (
+      record { parts = sym (take-append-drop n bytes); rest_fits = IsBytes-drop n bytes fits },
+      omega (arith, length-take n bytes),
+      IsBytes-take n bytes fits,
+    )
 
 pub part_again : (text rest : List ℕ) (n : ℕ) → length text ≡ n → part_at n (text ++ rest) ≡ Some (text, rest)
 part_again text rest n len =
@@ -115,24 +142,40 @@ number_law : (w : Width) (limit : ℕ) → IsWide w limit → Lawful ℕ (to_be_
 unfolding number_at
 number_law w limit wide = record {
   takes = λ bytes x fits e.
-      let g = guard (ltb (length bytes) (byte_len w)) (from_be_bytes w (take (byte_len w) bytes), drop (byte_len w) bytes) x e in
+      let g = guard (ltb (length bytes) (byte_len w))
+      (from_be_bytes w (take (byte_len w) bytes), drop (byte_len w) bytes) x e in
       let enough : byte_len w ≤ length bytes = ltb-false (length bytes) (byte_len w) g.0 in
       let len : length (take (byte_len w) bytes) ≡ byte_len w = omega (arith, length-take (byte_len w) bytes) in
       let front = IsBytes-take (byte_len w) bytes fits in
-      subst (λ (y : ℕ × List ℕ). Takes bytes (to_be_bytes w y.0) y.1 × (y.0 < limit)) g.1
-      (record { parts = sym (ap (λ (t : List ℕ). t ++ drop (byte_len w) bytes) (wide.back (take (byte_len w) bytes) len front) ∙ take-append-drop (byte_len w) bytes); rest_fits = IsBytes-drop (byte_len w) bytes fits }, wide.below (take (byte_len w) bytes) front);
+      subst (λ (y : ℕ × List ℕ). Takes bytes (to_be_bytes w y.0) y.1 × (y.0 < limit)) g.1 (
+        record {
+          parts = sym (ap (λ (t : List ℕ). t ++ drop (byte_len w) bytes)
+              (wide.back (take (byte_len w) bytes) len front) ∙ take-append-drop (byte_len w) bytes);
+          rest_fits =
+              IsBytes-drop (byte_len w) bytes fits;
+        },
+        wide.below (take (byte_len w) bytes) front,
+      );
   again = λ n rest lt.
-      let enough : byte_len w ≤ length (to_be_bytes w n ++ rest) = omega (arith, length-append (to_be_bytes w n) rest, wide.len n) in
-      rw (le-ltb (length (to_be_bytes w n ++ rest)) (byte_len w) enough, take_at (to_be_bytes w n) rest (byte_len w) (wide.len n), drop_at (to_be_bytes w n) rest (byte_len w) (wide.len n), wide.again n lt) refl;
+      let enough : byte_len w ≤ length (to_be_bytes w n ++ rest) =
+      omega (arith, length-append (to_be_bytes w n) rest, wide.len n) in
+      rw (
+        le-ltb (length (to_be_bytes w n ++ rest)) (byte_len w) enough,
+        take_at (to_be_bytes w n) rest (byte_len w) (wide.len n),
+        drop_at (to_be_bytes w n) rest (byte_len w) (wide.len n),
+        wide.again n lt,
+      ) refl;
 }
 
 -- one byte
 pub law8 : Lawful ℕ (λ n. n ∷ []) byte_at (λ n. n < 2 ^ 8)
 law8 = record { takes = byte_takes; again = λ n rest lt. refl }
   where
-    byte_takes : (bytes : List ℕ) (x : ℕ × List ℕ) → IsBytes bytes → byte_at bytes ≡ Some x → Takes bytes (x.0 ∷ []) x.1 × (x.0 < 2 ^ 8)
+    byte_takes : (bytes : List ℕ) (x : ℕ × List ℕ) → IsBytes bytes → byte_at bytes ≡ Some x → Takes bytes (x.0 ∷ []) x.1
+        × (x.0 < 2 ^ 8)
     byte_takes [] x fits e = absurd cc
-    byte_takes (b ∷ bytes) x fits e = subst (λ (y : ℕ × List ℕ). Takes (b ∷ bytes) (y.0 ∷ []) y.1 × (y.0 < 2 ^ 8)) (some_is (b, bytes) x e) (record { parts = refl; rest_fits = fits.1 }, fits.0)
+    byte_takes (b ∷ bytes) x fits e = subst (λ (y : ℕ × List ℕ). Takes (b ∷ bytes) (y.0 ∷ []) y.1 × (y.0 < 2 ^ 8))
+        (some_is (b, bytes) x e) (record { parts = refl; rest_fits = fits.1 }, fits.0)
 
 -- a number of two bytes
 pub law16 : Lawful ℕ be16 (number_at w16) (λ n. n < 2 ^ 16)
@@ -164,8 +207,10 @@ length-be64 n = refl
 -- ---- texts
 
 -- a text behind its length, for a length of any spelling
-module _ (size : ℕ → List ℕ) (size_at : List ℕ → Option (ℕ × List ℕ)) (limit : ℕ) (law : Lawful ℕ size size_at (λ n. n < limit)) where
-  text_law : Lawful (List ℕ) (λ text. size (length text) ++ text) (λ bytes. size_at bytes >>= λ n. part_at n.0 n.1) (IsShorter limit)
+module _ (size : ℕ → List ℕ) (size_at : List ℕ → Option (ℕ × List ℕ)) (limit : ℕ)
+    (law : Lawful ℕ size size_at (λ n. n < limit)) where
+  text_law : Lawful (List ℕ) (λ text. size (length text) ++ text) (λ bytes. size_at bytes >>= λ n. part_at n.0 n.1)
+      (IsShorter limit)
   text_law = record {
     takes = λ bytes x fits e.
         let a = next law bytes (λ n. part_at n.0 n.1) x fits e in
@@ -173,8 +218,10 @@ module _ (size : ℕ → List ℕ) (size_at : List ℕ → Option (ℕ × List �
         let t = then bytes (size a.0.0) a.0.1 x.0 x.1 a.1 b.0 in
         (record { parts = rw b.1 t.parts; rest_fits = t.rest_fits }, (omega (arith, b.1, a.2), b.2));
     again = λ text rest fits.
-        let regrouped : (size (length text) ++ text) ++ rest ≡ size (length text) ++ (text ++ rest) = append_assoc (size (length text)) text rest in
-        ap (λ (bytes : List ℕ). size_at bytes >>= λ n. part_at n.0 n.1) regrouped ∙ rw (law.again (length text) (text ++ rest) fits.0) (part_again text rest (length text) refl);
+        let regrouped : (size (length text) ++ text) ++ rest ≡ size (length text) ++ (text ++ rest) =
+        append_assoc (size (length text)) text rest in
+        ap (λ (bytes : List ℕ). size_at bytes >>= λ n. part_at n.0 n.1) regrouped ∙ rw
+        (law.again (length text) (text ++ rest) fits.0) (part_again text rest (length text) refl);
   }
 
 -- a text behind its length in one byte

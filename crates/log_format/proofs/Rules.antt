@@ -11,7 +11,8 @@ use Rattle.fp_model.specs.LogText.{HasItsParts, KeepsRules}
 use Rattle.log_format.specs.EntryReading.{stands_before, has_its_parts, keeps_rules}
 
 -- a list ascends where its first item stands before the next, and the rest ascends
-pub ascending_step : (item : Item) (more : List Item) → is_ascending (item ∷ more) ≡ (stands_before item more && is_ascending more)
+pub ascending_step : (item : Item) (more : List Item)
+    → is_ascending (item ∷ more) ≡ (stands_before item more && is_ascending more)
 ascending_step item [] = refl
 ascending_step item (next ∷ more) = refl
 
@@ -23,15 +24,18 @@ both_true false b e = absurd cc
 empty_from : {X : Type 0} (xs : List X) → eqb (length xs) 0 ≡ true → xs ≡ []
 empty_from xs e = nil_from_length xs (eqb-true _ _ e)
 
-empties_from : {X Y : Type 0} (xs : List X) (ys : List Y) → (eqb (length xs) 0 && eqb (length ys) 0) ≡ true → (xs ≡ []) × (ys ≡ [])
+empties_from : {X Y : Type 0} (xs : List X) (ys : List Y) → (eqb (length xs) 0 && eqb (length ys) 0) ≡ true → (xs ≡ [])
+    × (ys ≡ [])
 empties_from xs ys e =
     let b = both_true (eqb (length xs) 0) (eqb (length ys) 0) e in
     (empty_from xs b.0, empty_from ys b.1)
 
-empties_to : {X Y : Type 0} (xs : List X) (ys : List Y) → (xs ≡ []) × (ys ≡ []) → (eqb (length xs) 0 && eqb (length ys) 0) ≡ true
+empties_to : {X Y : Type 0} (xs : List X) (ys : List Y) → (xs ≡ []) × (ys ≡ [])
+    → (eqb (length xs) 0 && eqb (length ys) 0) ≡ true
 empties_to xs ys p = rw (p.0, p.1) refl
 
-parts_from : (o : Outcome) (reply : List ℕ) (items : List Item) → has_its_parts o reply items ≡ true → HasItsParts o reply items
+parts_from : (o : Outcome) (reply : List ℕ) (items : List Item) → has_its_parts o reply items ≡ true
+    → HasItsParts o reply items
 parts_from outcome.Done reply items e = tt
 parts_from (outcome.Verify call fsa found) reply items e = empties_from reply items e
 parts_from (outcome.Roll code) reply items e = empties_from reply items e
@@ -45,7 +49,8 @@ parts_from (outcome.Old last) reply items e = empties_from reply items e
 parts_from (outcome.Repeat line) reply items e = empties_from reply items e
 parts_from outcome.Format reply items e = empties_from reply items e
 
-parts_to : (o : Outcome) (reply : List ℕ) (items : List Item) → HasItsParts o reply items → has_its_parts o reply items ≡ true
+parts_to : (o : Outcome) (reply : List ℕ) (items : List Item) → HasItsParts o reply items
+    → has_its_parts o reply items ≡ true
 parts_to outcome.Done reply items p = refl
 parts_to (outcome.Verify call fsa found) reply items p = empties_to reply items p
 parts_to (outcome.Roll code) reply items p = empties_to reply items p

@@ -22,10 +22,26 @@ length-long text = length-append (be16 (length text)) text ∙ ap (λ n. n + len
 length-outcome : (o : Outcome) → length (outcome_text o) ≡ outcome_size o
 length-outcome outcome.Done = refl
 length-outcome (outcome.Verify call fsa found) =
-    omega (arith, length-append (be32 call ++ be16 fsa) (long_text found), length-append (be32 call) (be16 fsa), length-be32 call, length-be16 fsa, length-long found)
+    omega (
+      arith,
+      length-append (be32 call ++ be16 fsa) (long_text found),
+      length-append (be32 call) (be16 fsa),
+      length-be32 call,
+      length-be16 fsa,
+      length-long found,
+    )
 length-outcome (outcome.Roll code) = omega (arith, length-be16 code)
 length-outcome (outcome.SeqFull set begin end n) =
-    omega (arith, length-append (be16 set ++ be64 begin ++ be64 end) (be64 n), length-append (be16 set ++ be64 begin) (be64 end), length-append (be16 set) (be64 begin), length-be16 set, length-be64 begin, length-be64 end, length-be64 n)
+    omega (
+      arith,
+      length-append (be16 set ++ be64 begin ++ be64 end) (be64 n),
+      length-append (be16 set ++ be64 begin) (be64 end),
+      length-append (be16 set) (be64 begin),
+      length-be16 set,
+      length-be64 begin,
+      length-be64 end,
+      length-be64 n,
+    )
 length-outcome (outcome.Deadlock cycle) = omega arith
 length-outcome outcome.Device = refl
 length-outcome outcome.Memory = refl
@@ -37,9 +53,20 @@ length-outcome outcome.Format = refl
 
 -- items
 length-item : (item : Item) → length (item_text item) ≡ item_size item
-length-item (Segment msdb key bytes) = omega (arith, length-append (short_text key) (long_text bytes), length-long bytes)
+length-item (Segment msdb key bytes) = omega (
+  arith,
+  length-append (short_text key) (long_text bytes),
+  length-long bytes,
+)
 length-item (Image set ci bytes) =
-    omega (arith, length-append (be16 set ++ be64 ci) (long_text bytes), length-append (be16 set) (be64 ci), length-be16 set, length-be64 ci, length-long bytes)
+    omega (
+      arith,
+      length-append (be16 set ++ be64 ci) (long_text bytes),
+      length-append (be16 set) (be64 ci),
+      length-be16 set,
+      length-be64 ci,
+      length-long bytes,
+    )
 length-item (Range set ci at bytes) =
     omega (
       arith,
@@ -55,19 +82,42 @@ length-item (Range set ci at bytes) =
 -- notes
 length-numbers : (notes : List ℕ) → length (flat_map be64 notes) ≡ 8 * length notes
 length-numbers [] = refl
-length-numbers (n ∷ notes) = omega (arith, ap length (flat_map-cons be64 n notes), length-append (be64 n) (flat_map be64 notes), length-be64 n, length-numbers notes)
+length-numbers (n ∷ notes) = omega (
+  arith,
+  ap length (flat_map-cons be64 n notes),
+  length-append (be64 n) (flat_map be64 notes),
+  length-be64 n,
+  length-numbers notes,
+)
 
 length-notes : (notes : List ℕ) → length (notes_text notes) ≡ notes_size notes
-length-notes notes = omega (arith, length-append (be32 (length notes)) (flat_map be64 notes), length-be32 (length notes), length-numbers notes)
+length-notes notes = omega (
+  arith,
+  length-append (be32 (length notes)) (flat_map be64 notes),
+  length-be32 (length notes),
+  length-numbers notes,
+)
 
 -- items one behind another
 length-all : (items : List Item) → length (flat_map item_text items) ≡ sum_by item_size items
 length-all [] = refl
 length-all (item ∷ items) =
-    omega (arith, ap length (flat_map-cons item_text item items), length-append (item_text item) (flat_map item_text items), length-item item, length-all items, sum_by-cons item_size item items)
+    omega (
+      arith,
+      ap length (flat_map-cons item_text item items),
+      length-append (item_text item) (flat_map item_text items),
+      length-item item,
+      length-all items,
+      sum_by-cons item_size item items,
+    )
 
 length-items : (items : List Item) → length (items_text items) ≡ items_size items
-length-items items = omega (arith, length-append (be32 (length items)) (flat_map item_text items), length-be32 (length items), length-all items)
+length-items items = omega (
+  arith,
+  length-append (be32 (length items)) (flat_map item_text items),
+  length-be32 (length items),
+  length-all items,
+)
 
 -- an entry
 pub length_of_rest : (e : Entry) → length (rest_text e) ≡ rest_size e
@@ -91,7 +141,12 @@ length_of_rest e =
 
 -- with its length
 pub length_of_entry : (e : Entry) → length (entry_text e) ≡ 8 + rest_size e
-length_of_entry e = omega (arith, length-append (be64 (length (rest_text e))) (rest_text e), length-be64 (length (rest_text e)), length_of_rest e)
+length_of_entry e = omega (
+  arith,
+  length-append (be64 (length (rest_text e))) (rest_text e),
+  length-be64 (length (rest_text e)),
+  length_of_rest e,
+)
 
 -- ---- sizes are small
 
@@ -104,8 +159,14 @@ item-small (Range set ci at bytes) fits = omega (arith, fits.1)
 -- and of items
 pub items-small : (items : List Item) → AllByRecursion FitsItem items → sum_by item_size items ≤ 2 ^ 17 * length items
 items-small [] each = omega arith
-items-small (item ∷ items) each = omega (arith, item-small item each.0, items-small items each.1, sum_by-cons item_size item items)
+items-small (item ∷ items) each = omega (
+  arith,
+  item-small item each.0,
+  items-small items each.1,
+  sum_by-cons item_size item items,
+)
 
 -- some of them,
-pub some-small : (items : List Item) (i : ℕ) → AllByRecursion FitsItem items → length items < 2 ^ 32 → sum_by item_size (take i items) ≤ 2 ^ 49
+pub some-small : (items : List Item) (i : ℕ) → AllByRecursion FitsItem items → length items < 2 ^ 32
+    → sum_by item_size (take i items) ≤ 2 ^ 49
 some-small items i each few = omega (arith, sum_by-take-le item_size items i, items-small items each)

@@ -97,7 +97,10 @@ rest_at bytes = do
   reply ← long_at line.1
   notes ← counted_at (number_at w64) reply.1
   items ← counted_at item_at notes.1
-  Some (record { from = from.0; outcome = outcome.0; line = line.0; reply = reply.0; notes = notes.0; items = items.0 }, items.1)
+  Some (
+    record { from = from.0; outcome = outcome.0; line = line.0; reply = reply.0; notes = notes.0; items = items.0 },
+    items.1,
+  )
 
 -- whether an item stands before the first of a list
 abbrev pub stands_before : Item → List Item → Bool

@@ -45,4 +45,5 @@ items_size items = 4 + sum_by item_size items
 
 -- an entry without its length
 abbrev pub rest_size : Entry → ℕ
-rest_size e = 8 + outcome_size e.outcome + long_size e.line + long_size e.reply + notes_size e.notes + items_size e.items
+rest_size e = 8 + outcome_size e.outcome + long_size e.line + long_size e.reply + notes_size e.notes + items_size
+    e.items

@@ -28,7 +28,8 @@ pub fn fields_are_lawful()
 
 /// Numbers behind their count are read as they were written, and read in no other way.
 pub fn counted_numbers_are_lawful()
-    ensures { Lawful (List ℕ) (counted_text be64) (counted_at (number_at w64)) (λ ns. (length ns < 2 ^ 32) × AllByRecursion (λ n. n < 2 ^ 64) ns) }
+    ensures { Lawful (List ℕ) (counted_text be64) (counted_at (number_at w64))
+        (λ ns. (length ns < 2 ^ 32) × AllByRecursion (λ n. n < 2 ^ 64) ns) }
 {}
 
 /// An entry is read as it was written, and from nothing else: its bytes are its one spelling.
@@ -47,7 +48,8 @@ pub fn no_spelling_begins_another()
 
 /// Bytes are the spellings of at most one list of entries, so what was written is what is read.
 pub fn a_body_reads_in_one_way()
-    ensures same { (bytes : List ℕ) (entries found : List Entry) → Spells bytes entries → Spells bytes found → found ≡ entries }
+    ensures same { (bytes : List ℕ) (entries found : List Entry) → Spells bytes entries → Spells bytes found
+        → found ≡ entries }
     ensures written { (entries found : List Entry)
         → AllByRecursion HasSpelling entries
         → Spells (body_text entries) found
@@ -56,13 +58,16 @@ pub fn a_body_reads_in_one_way()
 
 /// Bytes are entries or have one place where the first stands that is none, and not both.
 pub fn the_first_bad_place_is_one()
-    ensures apart { (bytes : List ℕ) (place : ℕ) (entries : List Entry) → IsFirstBad bytes place → Spells bytes entries → ⊥ }
-    ensures one { (bytes : List ℕ) (place place2 : ℕ) → IsFirstBad bytes place → IsFirstBad bytes place2 → place ≡ place2 }
+    ensures apart { (bytes : List ℕ) (place : ℕ) (entries : List Entry) → IsFirstBad bytes place → Spells bytes entries
+        → ⊥ }
+    ensures one { (bytes : List ℕ) (place place2 : ℕ) → IsFirstBad bytes place → IsFirstBad bytes place2
+        → place ≡ place2 }
 {}
 
 /// A body is some entries one after another, in fewer than 2^64 bytes.
 pub fn a_body_is_some_entries()
-    ensures made { (bytes : List ℕ) (entries : List Entry) → Spells bytes entries → bytes ≢ [] → length bytes < 2 ^ 64 → IsBody bytes entries }
+    ensures made { (bytes : List ℕ) (entries : List Entry) → Spells bytes entries → bytes ≢ [] → length bytes < 2 ^ 64
+        → IsBody bytes entries }
     ensures spelled { (bytes : List ℕ) (entries : List Entry) → IsBody bytes entries → Spells bytes entries }
 {}
 
@@ -77,7 +82,8 @@ pub fn no_group_begins_another()
 
 /// Reading a log from a gate on comes to one thing at most.
 pub fn a_log_reads_in_one_way()
-    ensures { (bytes : List ℕ) (at : ℕ) (reading other : LogReading) → Reads bytes at reading → Reads bytes at other → reading ≡ other }
+    ensures { (bytes : List ℕ) (at : ℕ) (reading other : LogReading) → Reads bytes at reading → Reads bytes at other
+        → reading ≡ other }
 {}
 
 /// An open gate is damage where too few bytes for a length follow, where the length passes the end of the

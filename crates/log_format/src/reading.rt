@@ -2,8 +2,8 @@
 //!
 //! Each reader takes the front of the bytes and answers the value with what is left. An entry's own bytes are
 //! cut out by its length first, and must be used up. Then its rules are looked at: segments before images and ranges,
-//! each ascending, with at most one item of an interval; a reply in Done alone, items in Done and Purge alone. Each byte
-//! is read once.
+//! each ascending, with at most one item of an interval; a reply in Done alone, items in Done and Purge alone. Each
+//! byte is read once.
 ghost use Rattle.fp_model.specs.State.{is_below};
 ghost use Rattle.fp_model.specs.LogText.{HasSpelling, body_text};
 ghost use Rattle.fp_model.specs.ItemTargets.{precedes, is_ascending};

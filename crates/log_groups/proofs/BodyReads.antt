@@ -18,11 +18,14 @@ use Rattle.log_groups.specs.Reads.{HasLength, HasBody, HasGroup}
 
 -- a byte that is read alone
 pub byte_read : (bytes : List ℕ) (at : ℕ) → slice_index (read_range bytes at 1) 0 ≡ slice_index bytes at
-byte_read bytes at = get_or-take 1 (drop at bytes ++ replicate 1 0) 0 0 (omega arith) ∙ get_or-append_zeros (drop at bytes) 1 0 ∙ get_or-drop at bytes 0 0 ∙ ap (λ n. get_or bytes n 0) (omega arith)
+byte_read bytes at = get_or-take 1 (drop at bytes ++ replicate 1 0) 0 0 (omega arith) ∙ get_or-append_zeros
+    (drop at bytes) 1 0 ∙ get_or-drop at bytes 0 0 ∙ ap (λ n. get_or bytes n 0) (omega arith)
 
 -- bytes that are read within the end
-pub read_inside : (bytes : List ℕ) (at count : ℕ) → at + count ≤ length bytes → read_range bytes at count ≡ take count (drop at bytes)
-read_inside bytes at count le = take-append-le count (drop at bytes) (replicate count 0) (omega (arith, length-drop at bytes))
+pub read_inside : (bytes : List ℕ) (at count : ℕ) → at + count ≤ length bytes
+    → read_range bytes at count ≡ take count (drop at bytes)
+read_inside bytes at count le = take-append-le count (drop at bytes) (replicate count 0)
+    (omega (arith, length-drop at bytes))
 
 -- an open gate stands within the end
 open_inside : (bytes : List ℕ) (at : ℕ) → slice_index bytes at ≡ 1 → at < length bytes
@@ -37,58 +40,86 @@ from_gate bytes at one = drop_more bytes at 0 (open_inside bytes at one) ∙ ap 
 
 -- a length that is cut short is damage
 pub cut_short : (bytes : List ℕ) (at : ℕ) → slice_index bytes at ≡ 1 → length bytes < at + 9 → IsDamaged bytes at
-cut_short bytes at one short = let lt = open_inside bytes at one in no_length bytes at (drop (at + 1) bytes) (from_gate bytes at one) (omega (arith, length-drop (at + 1) bytes))
+cut_short bytes at one short = let lt = open_inside bytes at one in
+    no_length bytes at (drop (at + 1) bytes) (from_gate bytes at one) (omega (arith, length-drop (at + 1) bytes))
 
 -- a length that was read
-pub length_read : (bytes : List ℕ) (at size : ℕ) → at + 9 ≤ length bytes → be64 size ≡ read_range bytes (at + 1) 8 → drop (at + 1) bytes ≡ be64 size ++ drop (at + 9) bytes
+pub length_read : (bytes : List ℕ) (at size : ℕ) → at + 9 ≤ length bytes → be64 size ≡ read_range bytes (at + 1) 8
+    → drop (at + 1) bytes ≡ be64 size ++ drop (at + 9) bytes
 length_read bytes at size le read =
-    sym (take-append-drop 8 (drop (at + 1) bytes)) ∙ ap (λ t. t ++ drop 8 (drop (at + 1) bytes)) (sym (read ∙ read_inside bytes (at + 1) 8 (omega arith)))
+    sym (take-append-drop 8 (drop (at + 1) bytes)) ∙ ap (λ t. t ++ drop 8 (drop (at + 1) bytes))
+    (sym (read ∙ read_inside bytes (at + 1) 8 (omega arith)))
     ∙ ap (λ t. be64 size ++ t) (drop-drop 8 (at + 1) bytes ∙ ap (λ n. drop n bytes) (omega arith))
 
 -- a length of 0 is damage,
-pub no_length_is_damage : (bytes : List ℕ) (at size : ℕ) → slice_index bytes at ≡ 1 → drop (at + 1) bytes ≡ be64 size ++ drop (at + 9) bytes → size ≡ 0 → IsDamaged bytes at
+pub no_length_is_damage : (bytes : List ℕ) (at size : ℕ) → slice_index bytes at ≡ 1
+    → drop (at + 1) bytes ≡ be64 size ++ drop (at + 9) bytes → size ≡ 0 → IsDamaged bytes at
 no_length_is_damage bytes at size one text zero =
-    no_body bytes at size [] (drop (at + 9) bytes) (from_gate bytes at one ∙ ap (λ t. 1 ∷ t) (text ∙ ap (λ t. t ++ drop (at + 9) bytes) (sym (append-nil (be64 size))))) (omega (arith, zero)) (sym zero) no_bytes
+    no_body bytes at size [] (drop (at + 9) bytes) (from_gate bytes at one ∙ ap (λ t. 1 ∷ t)
+    (text ∙ ap (λ t. t ++ drop (at + 9) bytes) (sym (append-nil (be64 size))))) (omega (arith, zero)) (sym zero)
+    no_bytes
 
 -- and so is one that passes the end
-pub past_end_is_damage : (bytes : List ℕ) (at size : ℕ) → slice_index bytes at ≡ 1 → drop (at + 1) bytes ≡ be64 size ++ drop (at + 9) bytes → size < 2 ^ 64 → length bytes < at + 9 + size → IsDamaged bytes at
+pub past_end_is_damage : (bytes : List ℕ) (at size : ℕ) → slice_index bytes at ≡ 1
+    → drop (at + 1) bytes ≡ be64 size ++ drop (at + 9) bytes → size < 2 ^ 64 → length bytes < at + 9 + size
+    → IsDamaged bytes at
 past_end_is_damage bytes at size one text small past =
     let lt = open_inside bytes at one in
-    let long : length (drop (at + 1) bytes) ≡ 8 + length (drop (at + 9) bytes) = ap length text ∙ length-append (be64 size) (drop (at + 9) bytes) ∙ ap (λ n. n + length (drop (at + 9) bytes)) (length-be64 size) in
-    past_end bytes at size (drop (at + 9) bytes) (from_gate bytes at one ∙ ap (λ t. 1 ∷ t) text) small (omega (arith, long, length-drop (at + 1) bytes, length-drop (at + 9) bytes))
+    let long : length (drop (at + 1) bytes) ≡ 8 + length (drop (at + 9) bytes) =
+    ap length text ∙ length-append (be64 size) (drop (at + 9) bytes) ∙ ap (λ n. n + length (drop (at + 9) bytes))
+    (length-be64 size) in
+    past_end bytes at size (drop (at + 9) bytes) (from_gate bytes at one ∙ ap (λ t. 1 ∷ t) text) small
+    (omega (arith, long, length-drop (at + 1) bytes, length-drop (at + 9) bytes))
 
 -- the body behind a length
-pub body_read : (bytes : List ℕ) (at size : ℕ) (body : List ℕ) → HasLength bytes at size → length body ≡ size → body ≡ take size (drop (at + 9) bytes) → HasBody bytes at body
+pub body_read : (bytes : List ℕ) (at size : ℕ) (body : List ℕ) → HasLength bytes at size → length body ≡ size
+    → body ≡ take size (drop (at + 9) bytes) → HasBody bytes at body
 body_read bytes at size body has long is = record {
   some = omega (arith, has.some);
   small = omega (arith, has.small);
   inside = omega (arith, has.inside);
   text = has.text ∙ ap (λ n. be64 n ++ drop (at + 9) bytes) (sym long) ∙ ap (λ t. be64 (length body) ++ t)
-      (sym (take-append-drop size (drop (at + 9) bytes)) ∙ ap (λ t. t ++ drop size (drop (at + 9) bytes)) (sym is) ∙ ap (λ t. body ++ t) (drop-drop size (at + 9) bytes ∙ ap (λ n. drop n bytes) (omega (arith, long))));
+      (sym (take-append-drop size (drop (at + 9) bytes)) ∙ ap (λ t. t ++ drop size (drop (at + 9) bytes)) (sym is) ∙ ap
+      (λ t. body ++ t) (drop-drop size (at + 9) bytes ∙ ap (λ n. drop n bytes) (omega (arith, long))));
 }
 
 -- a body that is entries is a group,
-pub group_read : (bytes : List ℕ) (at : ℕ) (body : List ℕ) (entries : List Entry) (next : ℕ) → slice_index bytes at ≡ 1 → HasBody bytes at body → Spells body entries → next ≡ at + 9 + length body → HasGroup bytes at entries next
-group_read bytes at body [] next one has spells is = let some = has.some in absurd (omega (arith, ap length spells.text))
+pub group_read : (bytes : List ℕ) (at : ℕ) (body : List ℕ) (entries : List Entry) (next : ℕ) → slice_index bytes at ≡ 1
+    → HasBody bytes at body → Spells body entries → next ≡ at + 9 + length body → HasGroup bytes at entries next
+group_read bytes at body [] next one has spells is = let some = has.some in
+    absurd (omega (arith, ap length spells.text))
 group_read bytes at body (e ∷ entries) next one has spells is =
     let all = e ∷ entries in
     let size : length body ≡ length (body_text all) = ap length spells.text in
     let text : drop at bytes ≡ 1 ∷ (be64 (length (body_text all)) ++ (body_text all ++ drop next bytes)) =
-    from_gate bytes at one ∙ ap (λ t. 1 ∷ t) (has.text ∙ ap (λ n. be64 n ++ (body ++ drop (at + 9 + length body) bytes)) size ∙ ap (λ t. be64 (length (body_text all)) ++ (t ++ drop (at + 9 + length body) bytes)) spells.text ∙ ap (λ n. be64 (length (body_text all)) ++ (body_text all ++ drop n bytes)) (sym is)) in
+    from_gate bytes at one ∙ ap (λ t. 1 ∷ t) (has.text ∙ ap (λ n. be64 n ++ (body ++ drop (at + 9 + length body) bytes))
+    size ∙ ap (λ t. be64 (length (body_text all)) ++ (t ++ drop (at + 9 + length body) bytes)) spells.text ∙ ap
+    (λ n. be64 (length (body_text all)) ++ (body_text all ++ drop n bytes)) (sym is)) in
     record {
       group = record { some = omega arith; each = spells.each; fits = omega (arith, size, has.small) };
-      text = text ∙ ap (λ t. 1 ∷ t) (sym (append_assoc (be64 (length (body_text all))) (body_text all) (drop next bytes)));
-      next_is = omega (arith, is, size, length-append (be64 (length (body_text all))) (body_text all), length-be64 (length (body_text all)));
+      text = text ∙ ap (λ t. 1 ∷ t) (sym (append_assoc (be64 (length (body_text all))) (body_text all)
+          (drop next bytes)));
+      next_is = omega (
+        arith,
+        is,
+        size,
+        length-append (be64 (length (body_text all))) (body_text all),
+        length-be64 (length (body_text all)),
+      );
     }
 
 -- and one that isn't is damage
-pub body_is_damage : (bytes : List ℕ) (at : ℕ) (body : List ℕ) (place : ℕ) → slice_index bytes at ≡ 1 → HasBody bytes at body → IsFirstBad body place → IsDamaged bytes at
+pub body_is_damage : (bytes : List ℕ) (at : ℕ) (body : List ℕ) (place : ℕ) → slice_index bytes at ≡ 1
+    → HasBody bytes at body → IsFirstBad body place → IsDamaged bytes at
 body_is_damage bytes at body place one has bad =
-    no_body bytes at (length body) body (drop (at + 9 + length body) bytes) (from_gate bytes at one ∙ ap (λ t. 1 ∷ t) (has.text ∙ sym (append_assoc (be64 (length body)) body (drop (at + 9 + length body) bytes)))) has.small refl
+    no_body bytes at (length body) body (drop (at + 9 + length body) bytes)
+    (from_gate bytes at one ∙ ap (λ t. 1 ∷ t) (has.text ∙ sym
+    (append_assoc (be64 (length body)) body (drop (at + 9 + length body) bytes)))) has.small refl
     (λ entries is. not_bad body place entries bad (record { each = is.0.each; text = is.1 }))
 
 -- where a group stands, there is no damage
-pub group_is_whole : (bytes : List ℕ) (at : ℕ) (entries : List Entry) (next : ℕ) → HasGroup bytes at entries next → IsDamaged bytes at → ⊥
+pub group_is_whole : (bytes : List ℕ) (at : ℕ) (entries : List Entry) (next : ℕ) → HasGroup bytes at entries next
+    → IsDamaged bytes at → ⊥
 group_is_whole bytes at entries next has damage = damage.no_group entries (drop next bytes) has.group has.text
 
 -- the place in an answer

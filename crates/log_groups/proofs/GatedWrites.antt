@@ -12,7 +12,8 @@ use Rattle.fp_site.proofs.Frames.{only_none, only_more}
 use Rattle.log_groups.specs.Images.{IsUnopened, IsStaged, IsGated, IsGatedImage, IsOpened}
 
 -- a write that leaves no hole
-pub written_is : (old : List ℕ) (at : ℕ) (bytes : List ℕ) → at ≤ length old → written old at bytes ≡ take at old ++ (bytes ++ drop (at + length bytes) old)
+pub written_is : (old : List ℕ) (at : ℕ) (bytes : List ℕ) → at ≤ length old
+    → written old at bytes ≡ take at old ++ (bytes ++ drop (at + length bytes) old)
 written_is old at [] le = sym (take-append-drop at old) ∙ ap (λ d. take at old ++ drop d old) (omega arith)
 written_is old at (b ∷ bytes) le = let none : at - length old ≡ 0 = omega arith in rw none refl
 
@@ -35,7 +36,8 @@ module _ (old : List ℕ) (gate : ℕ) (ready : List ℕ) (stands : gate < lengt
       let front = torn_front (gate + 1) (length ready) old c (omega arith) torn in
       let out : covers (gate + 1) (length ready) gate ≡ false = grind (arith, nat_tests) in
       record {
-        front = sym (take-take gate (gate + 1) c (omega arith)) ∙ ap (take gate) front ∙ take-take gate (gate + 1) old (omega arith);
+        front = sym (take-take gate (gate + 1) c (omega arith)) ∙ ap (take gate) front ∙ take-take gate (gate + 1) old
+            (omega arith);
         byte = torn.others gate stands out;
         stands = omega arith;
       }
@@ -47,11 +49,13 @@ module _ (old : List ℕ) (gate : ℕ) (ready : List ℕ) (stands : gate < lengt
   front_length = omega (arith, length-take (gate + 1) old)
 
   staged_length : length staged ≡ gate + 1 + (length ready + length junk)
-  staged_length = ap length staged_is ∙ length-append (take (gate + 1) old) (ready ++ junk) ∙ omega (arith, front_length, length-append ready junk)
+  staged_length = ap length staged_is ∙ length-append (take (gate + 1) old) (ready ++ junk) ∙ omega
+      (arith, front_length, length-append ready junk)
 
   staged_front : take gate staged ≡ take gate old
   staged_front =
-      ap (take gate) staged_is ∙ take-append-le gate (take (gate + 1) old) (ready ++ junk) (omega (arith, front_length)) ∙ take-take gate (gate + 1) old (omega arith)
+      ap (take gate) staged_is ∙ take-append-le gate (take (gate + 1) old) (ready ++ junk) (omega (arith, front_length))
+      ∙ take-take gate (gate + 1) old (omega arith)
 
   staged_back : drop (gate + 1) staged ≡ ready ++ junk
   staged_back = ap (drop (gate + 1)) staged_is ∙ drop_at (take (gate + 1) old) (ready ++ junk) (gate + 1) front_length
@@ -65,12 +69,14 @@ module _ (old : List ℕ) (gate : ℕ) (ready : List ℕ) (stands : gate < lengt
         front = torn_front gate 1 staged c (omega (arith, staged_length)) torn ∙ staged_front;
         first = get_or c gate 0;
         rest = junk;
-        behind = drop_more c gate 0 long ∙ ap (λ t. get_or c gate 0 ∷ t) (torn_back gate 1 staged c (omega (arith, staged_length)) torn ∙ staged_back);
+        behind = drop_more c gate 0 long ∙ ap (λ t. get_or c gate 0 ∷ t)
+            (torn_back gate 1 staged c (omega (arith, staged_length)) torn ∙ staged_back);
       }
 
   final_is : final ≡ take gate old ++ (1 ∷ (ready ++ junk))
   final_is =
-      written_is staged gate (1 ∷ []) (omega (arith, staged_length)) ∙ ap (λ l. l ++ (1 ∷ drop (gate + 1) staged)) staged_front ∙ ap (λ l. take gate old ++ (1 ∷ l)) staged_back
+      written_is staged gate (1 ∷ []) (omega (arith, staged_length)) ∙ ap (λ l. l ++ (1 ∷ drop (gate + 1) staged))
+      staged_front ∙ ap (λ l. take gate old ++ (1 ∷ l)) staged_back
 
   gate_length : length (take gate old) ≡ gate
   gate_length = omega (arith, length-take gate old)
@@ -85,7 +91,8 @@ module _ (old : List ℕ) (gate : ℕ) (ready : List ℕ) (stands : gate < lengt
   }
 
 -- the disks: h before, h1 to h4 after each call
-module _ (gate : ℕ) (ready : List ℕ) (h h1 : Disk) (law : IsLawful h) (law1 : IsLawful h1) (leaves1 : Leaves 0 h h1) (first : Elapses h h1 (Tears h 0 (gate + 1) (length ready))) where
+module _ (gate : ℕ) (ready : List ℕ) (h h1 : Disk) (law : IsLawful h) (law1 : IsLawful h1) (leaves1 : Leaves 0 h h1)
+    (first : Elapses h h1 (Tears h 0 (gate + 1) (length ready))) where
   abbrev pub P : Snapshot → Type 0
   P = IsGated (h.contents 0) gate ready
 
@@ -95,12 +102,20 @@ module _ (gate : ℕ) (ready : List ℕ) (h h1 : Disk) (law : IsLawful h) (law1 
   pub wrote1 : IsDurable h 0 → gate < length (h.contents 0) → Through h h1 P
   wrote1 durable stands =
       goes_on P h h h1 (Tears h 0 (gate + 1) (length ready))
-      (started P h law (λ s left. inl (record { front = ap (take gate) (durable s left); byte = ap (λ l. slice_index l gate) (durable s left); stands = omega (arith, ap length (durable s left)) })))
-      first (λ s d. inl (behind_gate (h.contents 0) gate ready stands (s.images 0) (torn_from h 0 (gate + 1) (length ready) s durable d)))
+      (started P h law (λ s left. inl (record {
+        front = ap (take gate) (durable s left);
+        byte =
+            ap (λ l. slice_index l gate) (durable s left);
+        stands = omega (arith, ap length (durable s left));
+      })))
+      first (λ s d. inl (behind_gate (h.contents 0) gate ready stands (s.images 0)
+      (torn_from h 0 (gate + 1) (length ready) s durable d)))
 
   -- and so each image that settles
-  pub settled1 : IsDurable h 0 → gate < length (h.contents 0) → (image : List ℕ) → Settles h1 0 image → IsGatedImage (h.contents 0) gate ready image
-  settled1 durable stands image settles = inl (behind_gate (h.contents 0) gate ready stands image (settles_torn h h1 0 (gate + 1) (length ready) image law law1 durable first settles))
+  pub settled1 : IsDurable h 0 → gate < length (h.contents 0) → (image : List ℕ) → Settles h1 0 image
+      → IsGatedImage (h.contents 0) gate ready image
+  settled1 durable stands image settles = inl (behind_gate (h.contents 0) gate ready stands image
+      (settles_torn h h1 0 (gate + 1) (length ready) image law law1 durable first settles))
 
   module _ (h2 : Disk) (leaves2 : Leaves 0 h1 h2) (second : Elapses h1 h2 (Syncs h1 0)) where
     pub only2 : OnlyOn 0 h h2
@@ -108,23 +123,32 @@ module _ (gate : ℕ) (ready : List ℕ) (h h1 : Disk) (law : IsLawful h) (law1 
 
     pub synced1 : IsDurable h 0 → gate < length (h.contents 0) → Through h h2 P
     synced1 durable stands =
-        goes_on P h h1 h2 (Syncs h1 0) (wrote1 durable stands) second (λ s d. settled1 durable stands (s.images 0) d.this)
+        goes_on P h h1 h2 (Syncs h1 0) (wrote1 durable stands) second
+        (λ s d. settled1 durable stands (s.images 0) d.this)
 
-    pub settled2 : IsLawful h2 → IsDurable h 0 → gate < length (h.contents 0) → (image : List ℕ) → Settles h2 0 image → IsGatedImage (h.contents 0) gate ready image
-    settled2 law2 durable stands image settles = settled1 durable stands image (settles_synced h1 h2 0 image law1 law2 second settles)
+    pub settled2 : IsLawful h2 → IsDurable h 0 → gate < length (h.contents 0) → (image : List ℕ) → Settles h2 0 image
+        → IsGatedImage (h.contents 0) gate ready image
+    settled2 law2 durable stands image settles = settled1 durable stands image
+        (settles_synced h1 h2 0 image law1 law2 second settles)
 
-    module _ (h3 : Disk) (law2 : IsLawful h2) (law3 : IsLawful h3) (durable2 : IsDurable h2 0) (is : h2.contents 0 ≡ written (h.contents 0) (gate + 1) ready) (leaves3 : Leaves 0 h2 h3) (third : Elapses h2 h3 (Tears h2 0 gate 1)) where
+    module _ (h3 : Disk) (law2 : IsLawful h2) (law3 : IsLawful h3) (durable2 : IsDurable h2 0)
+        (is : h2.contents 0 ≡ written (h.contents 0) (gate + 1) ready) (leaves3 : Leaves 0 h2 h3)
+        (third : Elapses h2 h3 (Tears h2 0 gate 1)) where
       pub only3 : OnlyOn 0 h h3
       only3 = only_more 0 h h2 h3 (Torn gate 1) law law2 only2 leaves3 third
 
       pub wrote2 : IsDurable h 0 → gate < length (h.contents 0) → Through h h3 P
       wrote2 durable stands =
           goes_on P h h2 h3 (Tears h2 0 gate 1) (synced1 durable stands) third
-          (λ s d. inr (at_gate (h.contents 0) gate ready stands (s.images 0) (subst (λ c. Torn gate 1 c (s.images 0)) is (torn_from h2 0 gate 1 s durable2 d))))
+          (λ s d. inr (at_gate (h.contents 0) gate ready stands (s.images 0)
+          (subst (λ c. Torn gate 1 c (s.images 0)) is (torn_from h2 0 gate 1 s durable2 d))))
 
-      pub settled3 : IsDurable h 0 → gate < length (h.contents 0) → (image : List ℕ) → Settles h3 0 image → IsGatedImage (h.contents 0) gate ready image
+      pub settled3 : IsDurable h 0 → gate < length (h.contents 0) → (image : List ℕ) → Settles h3 0 image
+          → IsGatedImage (h.contents 0) gate ready image
       settled3 durable stands image settles =
-          inr (at_gate (h.contents 0) gate ready stands image (subst (λ c. Torn gate 1 c image) is (settles_torn h2 h3 0 gate 1 image law2 law3 durable2 third settles)))
+          inr (at_gate (h.contents 0) gate ready stands image
+          (subst (λ c. Torn gate 1 c image) is (settles_torn h2 h3 0 gate 1 image law2 law3 durable2 third
+          settles)))
 
       module _ (h4 : Disk) (leaves4 : Leaves 0 h3 h4) (fourth : Elapses h3 h4 (Syncs h3 0)) where
         pub only4 : OnlyOn 0 h h4
@@ -132,7 +156,10 @@ module _ (gate : ℕ) (ready : List ℕ) (h h1 : Disk) (law : IsLawful h) (law1 
 
         pub synced2 : IsDurable h 0 → gate < length (h.contents 0) → Through h h4 P
         synced2 durable stands =
-            goes_on P h h3 h4 (Syncs h3 0) (wrote2 durable stands) fourth (λ s d. settled3 durable stands (s.images 0) d.this)
+            goes_on P h h3 h4 (Syncs h3 0) (wrote2 durable stands) fourth
+            (λ s d. settled3 durable stands (s.images 0) d.this)
 
-        pub settled4 : IsLawful h4 → IsDurable h 0 → gate < length (h.contents 0) → (image : List ℕ) → Settles h4 0 image → IsGatedImage (h.contents 0) gate ready image
-        settled4 law4 durable stands image settles = settled3 durable stands image (settles_synced h3 h4 0 image law3 law4 fourth settles)
+        pub settled4 : IsLawful h4 → IsDurable h 0 → gate < length (h.contents 0) → (image : List ℕ)
+            → Settles h4 0 image → IsGatedImage (h.contents 0) gate ready image
+        settled4 law4 durable stands image settles =
+            settled3 durable stands image (settles_synced h3 h4 0 image law3 law4 fourth settles)

@@ -13,20 +13,24 @@ use Rattle.log_groups.specs.Reads.{HasGroup}
 
 -- the byte at a place is the first from there on
 pub head_is : (bytes : List ℕ) (at b : ℕ) (rest : List ℕ) → drop at bytes ≡ b ∷ rest → slice_index bytes at ≡ b
-head_is bytes at b rest h = ap (λ n. get_or bytes n 0) at_zero ∙ sym (get_or-drop at bytes 0 0) ∙ ap (λ t. get_or t 0 0) h
+head_is bytes at b rest h = ap (λ n. get_or bytes n 0) at_zero ∙ sym (get_or-drop at bytes 0 0) ∙ ap (λ t. get_or t 0 0)
+    h
   where
     at_zero : at ≡ at + 0
     at_zero = omega arith
 
 -- all of a list, and one more
-pub all-append : {X : Type 0} (P : X → Type 0) (xs ys : List X) → AllByRecursion P xs → AllByRecursion P ys → AllByRecursion P (xs ++ ys)
+pub all-append : {X : Type 0} (P : X → Type 0) (xs ys : List X) → AllByRecursion P xs → AllByRecursion P ys
+    → AllByRecursion P (xs ++ ys)
 all-append P [] ys a b = b
 all-append P (x ∷ xs) ys a b = (a.0, all-append P xs ys a.1 b)
 
 -- the text of groups and one more
-pub groups_text-append : (groups : List (List Entry)) (entries : List Entry) → groups_text (groups ++ entries ∷ []) ≡ groups_text groups ++ group_text entries
+pub groups_text-append : (groups : List (List Entry)) (entries : List Entry)
+    → groups_text (groups ++ entries ∷ []) ≡ groups_text groups ++ group_text entries
 groups_text-append groups entries =
-    flat_map-append group_text groups (entries ∷ []) ∙ ap (λ t. groups_text groups ++ t) (flat_map-cons group_text entries [] ∙ append-nil (group_text entries))
+    flat_map-append group_text groups (entries ∷ []) ∙ ap (λ t. groups_text groups ++ t)
+    (flat_map-cons group_text entries [] ∙ append-nil (group_text entries))
 
 -- A log in one equation: what stands before its gate, and the rest.
 pub record HasShape (front : Front) (groups : List (List Entry)) (gate : ℕ) (bytes : List ℕ) : Type 0 where
@@ -35,12 +39,14 @@ pub record HasShape (front : Front) (groups : List (List Entry)) (gate : ℕ) (b
   pub text : bytes ≡ before_gate front groups ++ drop gate bytes
 
 -- that it has this shape,
-pub shape_of : (front : Front) (groups : List (List Entry)) (gate : ℕ) (bytes : List ℕ) → IsLog front bytes groups gate → HasShape front groups gate bytes
+pub shape_of : (front : Front) (groups : List (List Entry)) (gate : ℕ) (bytes : List ℕ) → IsLog front bytes groups gate
+    → HasShape front groups gate bytes
 shape_of front groups gate bytes log =
     let head = front_text 1 front in
     let begins = log.holds.begins in
     let reads = log.holds.reads.0 in
-    let rest : begins.0 ≡ groups_text groups ++ drop gate bytes = sym (drop_at head begins.0 (length head) refl) ∙ ap (drop (length head)) (sym begins.1) ∙ reads.text in
+    let rest : begins.0 ≡ groups_text groups ++ drop gate bytes =
+    sym (drop_at head begins.0 (length head) refl) ∙ ap (drop (length head)) (sym begins.1) ∙ reads.text in
     record {
       each = reads.each;
       place = reads.next ∙ sym (length-append head (groups_text groups));
@@ -48,7 +54,8 @@ shape_of front groups gate bytes log =
     }
 
 -- and that what has it, and a gate that isn't open, is a log
-pub log_of : (front : Front) (groups : List (List Entry)) (gate : ℕ) (bytes : List ℕ) → HasShape front groups gate bytes → gate < length bytes → slice_index bytes gate ≢ 1 → IsLog front bytes groups gate
+pub log_of : (front : Front) (groups : List (List Entry)) (gate : ℕ) (bytes : List ℕ) → HasShape front groups gate bytes
+    → gate < length bytes → slice_index bytes gate ≢ 1 → IsLog front bytes groups gate
 log_of front groups gate bytes shape stands shut =
     let head = front_text 1 front in
     let rest = groups_text groups ++ drop gate bytes in
@@ -69,11 +76,14 @@ log_of front groups gate bytes shape stands shut =
     }
 
 -- the bytes before the gate
-pub front_of : (front : Front) (groups : List (List Entry)) (gate : ℕ) (bytes : List ℕ) → HasShape front groups gate bytes → take gate bytes ≡ before_gate front groups
-front_of front groups gate bytes shape = ap (take gate) shape.text ∙ take_at (before_gate front groups) (drop gate bytes) gate (sym shape.place)
+pub front_of : (front : Front) (groups : List (List Entry)) (gate : ℕ) (bytes : List ℕ)
+    → HasShape front groups gate bytes → take gate bytes ≡ before_gate front groups
+front_of front groups gate bytes shape = ap (take gate) shape.text ∙ take_at (before_gate front groups)
+    (drop gate bytes) gate (sym shape.place)
 
 -- bytes alike before the gate have the shape too
-pub shape_alike : (front : Front) (groups : List (List Entry)) (gate : ℕ) (old new : List ℕ) → HasShape front groups gate old → take gate new ≡ take gate old → HasShape front groups gate new
+pub shape_alike : (front : Front) (groups : List (List Entry)) (gate : ℕ) (old new : List ℕ)
+    → HasShape front groups gate old → take gate new ≡ take gate old → HasShape front groups gate new
 shape_alike front groups gate old new shape same = record {
   each = shape.each;
   place = shape.place;
@@ -81,26 +91,37 @@ shape_alike front groups gate old new shape same = record {
 }
 
 -- another image with the same bytes before the gate, and a gate that isn't open, is the same log
-pub closed_front : (front : Front) (groups : List (List Entry)) (gate : ℕ) (old new : List ℕ) → IsLog front old groups gate → gate < length new → take gate new ≡ take gate old → slice_index new gate ≢ 1 → IsLog front new groups gate
+pub closed_front : (front : Front) (groups : List (List Entry)) (gate : ℕ) (old new : List ℕ)
+    → IsLog front old groups gate → gate < length new → take gate new ≡ take gate old → slice_index new gate ≢ 1
+    → IsLog front new groups gate
 closed_front front groups gate old new log long same shut =
-    log_of front groups gate new (shape_alike front groups gate old new (shape_of front groups gate old log) same) long shut
+    log_of front groups gate new (shape_alike front groups gate old new (shape_of front groups gate old log) same) long
+    shut
 
 -- and one that has a whole group and a closed gate behind that place has one group more
-pub open_front : (front : Front) (groups : List (List Entry)) (gate : ℕ) (old new : List ℕ) (entries : List Entry) (next : ℕ) (junk : List ℕ) → IsLog front old groups gate → take gate new ≡ take gate old → IsGroup entries
-    → drop gate new ≡ group_text entries ++ (next ∷ junk) → next ≢ 1 → IsLog front new (groups ++ entries ∷ []) (gate_behind gate entries)
+pub open_front : (front : Front) (groups : List (List Entry)) (gate : ℕ) (old new : List ℕ) (entries : List Entry)
+    (next : ℕ) (junk : List ℕ) → IsLog front old groups gate → take gate new ≡ take gate old → IsGroup entries
+    → drop gate new ≡ group_text entries ++ (next ∷ junk) → next ≢ 1
+    → IsLog front new (groups ++ entries ∷ []) (gate_behind gate entries)
 open_front front groups gate old new entries next junk log same group behind shut =
     let shape = shape_alike front groups gate old new (shape_of front groups gate old log) same in
     let before = before_gate front groups in
     let more = before_gate front (groups ++ entries ∷ []) in
     let more_is : more ≡ before ++ group_text entries =
-    ap (λ t. front_text 1 front ++ t) (groups_text-append groups entries) ∙ sym (append_assoc (front_text 1 front) (groups_text groups) (group_text entries)) in
-    let place : gate_behind gate entries ≡ length more = ap (λ n. n + length (group_text entries)) shape.place ∙ sym (length-append before (group_text entries)) ∙ ap length (sym more_is) in
+    ap (λ t. front_text 1 front ++ t) (groups_text-append groups entries) ∙ sym
+    (append_assoc (front_text 1 front) (groups_text groups) (group_text entries)) in
+    let place : gate_behind gate entries ≡ length more =
+    ap (λ n. n + length (group_text entries)) shape.place ∙ sym (length-append before (group_text entries)) ∙ ap
+    length (sym more_is) in
     let all : new ≡ more ++ (next ∷ junk) =
-    shape.text ∙ ap (λ t. before ++ t) behind ∙ sym (append_assoc before (group_text entries) (next ∷ junk)) ∙ ap (λ t. t ++ (next ∷ junk)) (sym more_is) in
-    let end : drop (gate_behind gate entries) new ≡ next ∷ junk = ap (drop (gate_behind gate entries)) all ∙ drop_at more (next ∷ junk) (gate_behind gate entries) (sym place) in
+    shape.text ∙ ap (λ t. before ++ t) behind ∙ sym (append_assoc before (group_text entries) (next ∷ junk)) ∙ ap
+    (λ t. t ++ (next ∷ junk)) (sym more_is) in
+    let end : drop (gate_behind gate entries) new ≡ next ∷ junk =
+    ap (drop (gate_behind gate entries)) all ∙ drop_at more (next ∷ junk) (gate_behind gate entries) (sym place) in
     let long : length new ≡ length more + suc (length junk) = ap length all ∙ length-append more (next ∷ junk) in
     let stands : gate_behind gate entries < length new = omega (arith, long, place) in
-    let byte : slice_index new (gate_behind gate entries) ≡ next = head_is new (gate_behind gate entries) next junk end in
+    let byte : slice_index new (gate_behind gate entries) ≡ next =
+    head_is new (gate_behind gate entries) next junk end in
     log_of front (groups ++ entries ∷ []) (gate_behind gate entries) new
     (record {
       each = all-append IsGroup groups (entries ∷ []) shape.each (group, tt);
@@ -109,9 +130,18 @@ open_front front groups gate old new entries next junk log same group behind shu
     }) stands (λ one. shut (sym byte ∙ one))
 
 -- groups that were read, and one more behind them
-pub groups_more : (bytes : List ℕ) (at : ℕ) (groups : List (List Entry)) (gate : ℕ) (entries : List Entry) (next : ℕ) → HoldsGroups bytes at groups gate → HasGroup bytes gate entries next → HoldsGroups bytes at (groups ++ entries ∷ []) next
+pub groups_more : (bytes : List ℕ) (at : ℕ) (groups : List (List Entry)) (gate : ℕ) (entries : List Entry) (next : ℕ)
+    → HoldsGroups bytes at groups gate → HasGroup bytes gate entries next
+    → HoldsGroups bytes at (groups ++ entries ∷ []) next
 groups_more bytes at groups gate entries next holds more = record {
   each = all-append IsGroup groups (entries ∷ []) holds.each (more.group, tt);
-  next = more.next_is ∙ omega (arith, holds.next, ap length (groups_text-append groups entries), length-append (groups_text groups) (group_text entries));
-  text = holds.text ∙ ap (λ t. groups_text groups ++ t) more.text ∙ sym (append_assoc (groups_text groups) (group_text entries) (drop next bytes)) ∙ ap (λ t. t ++ drop next bytes) (sym (groups_text-append groups entries));
+  next = more.next_is ∙ omega (
+    arith,
+    holds.next,
+    ap length (groups_text-append groups entries),
+    length-append (groups_text groups) (group_text entries),
+  );
+  text = holds.text ∙ ap (λ t. groups_text groups ++ t) more.text ∙ sym
+      (append_assoc (groups_text groups) (group_text entries) (drop next bytes)) ∙ ap (λ t. t ++ drop next bytes)
+      (sym (groups_text-append groups entries));
 }

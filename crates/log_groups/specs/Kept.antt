@@ -1,4 +1,5 @@
--- What a site keeps over stops: a log that is sound, a site that is safe, and snapshots in which nothing answered is lost.
+-- What a site keeps over stops: a log that is sound, a site that is safe, and snapshots in which nothing answered is
+-- lost.
 use Rattle.std.specs.Prelude.{◌≡◌, ℕ, ◌<◌, List, ◌++◌, length, take}
 use Rattle.std.specs.List.{flat_map}
 use Rattle.fp_model.specs.declared.definitions.Defs.{Defs}
@@ -37,8 +38,8 @@ module _ (defs : Defs) (scripts : List Script) (front : Front) where
     pub fit : AreFit defs (items_of entries)
     pub made : with_items defs.msdbs (start defs).msdbs (items_of entries) ≡ last.msdbs
 
-  -- A read of the log gives these entries, and is sound. So is each log that a crash now may leave, and each that a sync
-  -- may make of these: a sync may mix them where they differ.
+  -- A read of the log gives these entries, and is sound. So is each log that a crash now may leave, and each that a
+  -- sync may make of these: a sync may mix them where they differ.
   pub record IsSafe (disk : Disk) (entries : List Entry) : Type 0 where
     pub now : IsSound (disk.contents 0) entries
     pub crash : (image : List ℕ) → Settles disk 0 image → (left : List Entry) × IsSound image left

@@ -26,15 +26,16 @@ unfoldable pub entries_in : ℕ → List ℕ → List Entry
 entries_in count bytes = values_of (many_at entry_at count bytes)
 
 -- The buffer: room for a length, the entries, and a closed gate.
-pub record IsBuffered (buffer : Vec ℕ Global) (start waiting sealed gate spare : ℕ) (entries : List Entry) : Type 0 where
-  pub each : AllByRecursion HasSpelling entries
-  pub count : length entries ≡ waiting
-  pub text : drop start buffer.items ≡ body_text entries ++ 0 ∷ []
-  pub header : 8 ≤ start
-  pub room : vec_len buffer + spare ≤ vec_capacity buffer
-  -- what is sealed from here on ends before the last place of a data set
-  pub limit : gate + 2 * (length (body_text entries) + spare) ≤ 2 ^ 62
-  pub fewer : sealed ≤ gate
+pub record IsBuffered (buffer : Vec ℕ Global) (start waiting sealed gate spare : ℕ) (entries : List Entry) : Type 0
+  where
+    pub each : AllByRecursion HasSpelling entries
+    pub count : length entries ≡ waiting
+    pub text : drop start buffer.items ≡ body_text entries ++ 0 ∷ []
+    pub header : 8 ≤ start
+    pub room : vec_len buffer + spare ≤ vec_capacity buffer
+    -- what is sealed from here on ends before the last place of a data set
+    pub limit : gate + 2 * (length (body_text entries) + spare) ≤ 2 ^ 62
+    pub fewer : sealed ≤ gate
 
 -- a part of the buffer as a group is written: its length, the part, and a closed gate
 abbrev pub part_text : List ℕ → ℕ → ℕ → List ℕ

@@ -27,4 +27,5 @@ pub record HasGroup (bytes : List ℕ) (at : ℕ) (entries : List Entry) (next :
 
 -- By what is told, and by the numbers: no data set but the log was read.
 abbrev pub ReadsOnlyLog : (ℕ → Type 0) → (ℕ → Type 0) → (ℕ → ℕ) → (ℕ → ℕ) → Type 0
-ReadsOnlyLog told_before told_now before now = (set : ℕ) → told_now set → told_before set × ((set ≡ 0 → ⊥) → now set ≡ before set)
+ReadsOnlyLog told_before told_now before now = (set : ℕ) → told_now set → told_before set
+    × ((set ≡ 0 → ⊥) → now set ≡ before set)

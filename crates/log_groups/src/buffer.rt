@@ -22,7 +22,8 @@ pub(crate) fn add_entry(buffer: &mut Vec<u8>, e: &Entry)
     requires fits { FitsEntry e.now }
     requires some { 1 ≤ length buffer.old.items }
     requires room { vec_len buffer.old + length (entry_text e.now) ≤ vec_capacity buffer.old }
-    ensures items { (front : ListOf ℕ) → buffer.old.items ≡ front ++ 0 ∷ [] → buffer.new.items ≡ front ++ entry_text e.now ++ 0 ∷ [] }
+    ensures items { (front : ListOf ℕ) → buffer.old.items ≡ front ++ 0 ∷ []
+        → buffer.new.items ≡ front ++ entry_text e.now ++ 0 ∷ [] }
     ensures spelled { HasSpelling e.now }
     ensures capacity { vec_capacity buffer.old ≤ vec_capacity buffer.new }
 {
@@ -78,7 +79,8 @@ pub(crate) fn seal_part<S: Site>(
         Through (S.disk site.old) (S.disk site.new) (IsGated ((S.disk site.old).contents 0) gate (part_text buffer.old start end)) }
 
     // So does each image that a further sync may make of what a crash may leave now.
-    ensures settles { (image : ListOf ℕ) → S.told site.old → IsDurable (S.disk site.old) 0 → gate < length ((S.disk site.old).contents 0) →
+    ensures settles { (image : ListOf ℕ) → S.told site.old → IsDurable (S.disk site.old) 0
+        → gate < length ((S.disk site.old).contents 0) →
         Settles (S.disk site.new) 0 image → IsGatedImage ((S.disk site.old).contents 0) gate (part_text buffer.old start end) image }
 {
     let next = buffer[end];

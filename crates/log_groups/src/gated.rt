@@ -28,7 +28,8 @@ pub(crate) fn write_gated<S: Site>(site: &mut S, gate: u64, bytes: &[u8]) -> Res
         Through (S.disk site.old) (S.disk site.new) (IsGated ((S.disk site.old).contents 0) gate bytes.now) }
 
     // So does each image that a further sync may make of what a crash may leave now.
-    ensures settles { (image : ListOf ℕ) → S.told site.old → IsDurable (S.disk site.old) 0 → gate < length ((S.disk site.old).contents 0) →
+    ensures settles { (image : ListOf ℕ) → S.told site.old → IsDurable (S.disk site.old) 0
+        → gate < length ((S.disk site.old).contents 0) →
         Settles (S.disk site.new) 0 image → IsGatedImage ((S.disk site.old).contents 0) gate bytes.now image }
 {
     site.write_at(0, gate + 1, bytes)?;

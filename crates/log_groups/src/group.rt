@@ -23,8 +23,10 @@ pub struct Group {
 
 // Whether the gate at this place is open.
 fn is_open<S: Site>(site: &mut S, at: u64) -> Result<bool, Failed>
-    ensures open { S.told site.old → IfOk result (λ is_open. is_open ≡ true → slice_index ((S.disk site.old).contents 0) at ≡ 1) }
-    ensures closed { S.told site.old → IfOk result (λ is_open. is_open ≡ false → slice_index ((S.disk site.old).contents 0) at ≢ 1) }
+    ensures open { S.told site.old → IfOk result (λ is_open. is_open ≡ true
+        → slice_index ((S.disk site.old).contents 0) at ≡ 1) }
+    ensures closed { S.told site.old → IfOk result (λ is_open. is_open ≡ false
+        → slice_index ((S.disk site.old).contents 0) at ≢ 1) }
     ensures cause { Counts (S.faults site.old) (S.faults site.new) result }
 
     // Nothing changes, and one byte is read.
@@ -80,12 +82,14 @@ pub(crate) fn bytes_at<S: Site>(
     ensures value { S.told site.old → at + len ≤ length ((S.disk site.old).contents 0) →
         IfOk result (λ bytes. bytes.items ≡ take len (drop at ((S.disk site.old).contents 0))) }
     ensures long { IfOk result (λ bytes. length bytes.items ≡ len) }
-    ensures cause { IsErrOf result faults.Failed → (S.faults site.old < S.faults site.new) ⊎ (S.faults site.new ≡ 2 ^ 64 - 1) }
+    ensures cause { IsErrOf result faults.Failed → (S.faults site.old < S.faults site.new)
+        ⊎ (S.faults site.new ≡ 2 ^ 64 - 1) }
     ensures later { S.faults site.old ≤ S.faults site.new }
     ensures never { (IsErrOf result faults.Foreign → ⊥) × ((place : ℕ) → IsErrOf result (faults.Damaged place) → ⊥) }
 
     // Nothing changes, and these bytes are read.
-    ensures count { S.tells_reads site.new 0 → IfOk result (λ _. S.bytes_read site.new 0 ≡ S.bytes_read site.old 0 + len) }
+    ensures count { S.tells_reads site.new 0 → IfOk result
+        (λ _. S.bytes_read site.new 0 ≡ S.bytes_read site.old 0 + len) }
     ensures stays { S.told site.old → Stays (S.disk site.old) (S.disk site.new) }
     ensures reads { ReadsOnlyLog (S.tells_reads site.old) (S.tells_reads site.new) (S.bytes_read site.old) (S.bytes_read site.new) }
     ensures told { S.told site.old → S.told site.new }
@@ -99,11 +103,13 @@ pub(crate) fn bytes_at<S: Site>(
 
 // The body behind the gate at this place; None where its length is damage.
 fn body_at<S: Site>(alloc: Global, site: &mut S, at: u64) -> Result<Option<Vec<u8>>, LogFault>
-    ensures found { S.told site.old → IfOk result (λ found. IfSome found (λ body. HasBody ((S.disk site.old).contents 0) at body.items)) }
+    ensures found { S.told site.old → IfOk result (λ found. IfSome found
+        (λ body. HasBody ((S.disk site.old).contents 0) at body.items)) }
     ensures none { S.told site.old → slice_index ((S.disk site.old).contents 0) at ≡ 1 →
         IfOk result (λ found. IfNone found (IsDamaged ((S.disk site.old).contents 0) at)) }
     ensures within { IfOk result (λ found. IfSome found (λ body. at + 9 + length body.items ≤ 2 ^ 62)) }
-    ensures cause { IsErrOf result faults.Failed → (S.faults site.old < S.faults site.new) ⊎ (S.faults site.new ≡ 2 ^ 64 - 1) }
+    ensures cause { IsErrOf result faults.Failed → (S.faults site.old < S.faults site.new)
+        ⊎ (S.faults site.new ≡ 2 ^ 64 - 1) }
     ensures later { S.faults site.old ≤ S.faults site.new }
     ensures never { (IsErrOf result faults.Foreign → ⊥) × ((place : ℕ) → IsErrOf result (faults.Damaged place) → ⊥) }
 
@@ -131,11 +137,14 @@ pub(crate) fn read_group<S: Site>(
     site: &mut S,
     at: u64,
 ) -> Result<Option<Group>, LogFault>
-    ensures some { S.told site.old → IfOk result (λ found. IfSome found (λ group. HasGroup ((S.disk site.old).contents 0) at group.entries group.next)) }
-    ensures none { S.told site.old → IfOk result (λ found. IfNone found (slice_index ((S.disk site.old).contents 0) at ≢ 1)) }
+    ensures some { S.told site.old → IfOk result (λ found. IfSome found
+        (λ group. HasGroup ((S.disk site.old).contents 0) at group.entries group.next)) }
+    ensures none { S.told site.old → IfOk result (λ found. IfNone found
+        (slice_index ((S.disk site.old).contents 0) at ≢ 1)) }
     ensures damaged { (place : ℕ) → S.told site.old → IsErrOf result (faults.Damaged place) →
         (place ≡ at) × IsDamaged ((S.disk site.old).contents 0) at }
-    ensures cause { IsErrOf result faults.Failed → (S.faults site.old < S.faults site.new) ⊎ (S.faults site.new ≡ 2 ^ 64 - 1) }
+    ensures cause { IsErrOf result faults.Failed → (S.faults site.old < S.faults site.new)
+        ⊎ (S.faults site.new ≡ 2 ^ 64 - 1) }
     ensures later { S.faults site.old ≤ S.faults site.new }
     ensures never { IsErrOf result faults.Foreign → ⊥ }
 

@@ -101,7 +101,8 @@ impl Log {
 
         // Each image that a further sync may make of what a crash may leave now is one that a sync might have left
         // before, or has no open front.
-        ensures settles { (image : ListOf ℕ) → T.told site.old → Settles (T.disk site.new) 0 image → IsOldOrShut (T.disk site.old) image }
+        ensures settles { (image : ListOf ℕ) → T.told site.old → Settles (T.disk site.new) 0 image
+            → IsOldOrShut (T.disk site.old) image }
     {
         making::shut(site)
     }
@@ -110,10 +111,13 @@ impl Log {
     /// with the site and for want of memory.
     pub fn make<T: Site>(alloc: Global, site: &mut T, front: &Front) -> Result<(), LogFault>
         requires fits { FitsFront (as_front front.now) }
-        ensures made { T.told site.old → OnOk result (IsAtRest (T.disk site.new) (as_front front.now) [] (first_gate (as_front front.now))) }
-        ensures cause { IsErrOf result faults.Failed → (T.faults site.old < T.faults site.new) ⊎ (T.faults site.new ≡ 2 ^ 64 - 1) }
+        ensures made { T.told site.old → OnOk result
+            (IsAtRest (T.disk site.new) (as_front front.now) [] (first_gate (as_front front.now))) }
+        ensures cause { IsErrOf result faults.Failed → (T.faults site.old < T.faults site.new)
+            ⊎ (T.faults site.new ≡ 2 ^ 64 - 1) }
         ensures later { T.faults site.old ≤ T.faults site.new }
-        ensures never { (IsErrOf result faults.Foreign → ⊥) × ((place : ℕ) → IsErrOf result (faults.Damaged place) → ⊥) }
+        ensures never { (IsErrOf result faults.Foreign → ⊥)
+            × ((place : ℕ) → IsErrOf result (faults.Damaged place) → ⊥) }
 
         // No other data set changes or is read, and nothing is sent.
         ensures only { T.told site.old → OnlyOn 0 (T.disk site.old) (T.disk site.new) }
@@ -123,7 +127,8 @@ impl Log {
         ensures keeps { (first : T) → T.keeps first site.old → T.keeps first site.new }
 
         // A crash at any moment leaves the log as a sync might have left it before, or with no open front, or made.
-        ensures crash { T.told site.old → Through (T.disk site.old) (T.disk site.new) (IsBeforeOrMade (T.disk site.old) (as_front front.now)) }
+        ensures crash { T.told site.old → Through (T.disk site.old) (T.disk site.new)
+            (IsBeforeOrMade (T.disk site.old) (as_front front.now)) }
 
         // Where a sync had left the log, it leaves it so, or with no open front, or made, and all else as before.
         ensures kept { T.told site.old → IsDurable (T.disk site.old) 0 →
@@ -141,15 +146,20 @@ impl Log {
     /// of memory.
     pub fn open<T: Site>(alloc: Global, site: &mut T, front: &Front) -> Result<Log, LogFault>
         requires fits { FitsFront (as_front front.now) }
-        ensures log { IfOk result (λ log. log ≡ record { sealed = 0; gate = first_gate (as_front front.now); unsealed = []; spare = 0 }) }
-        ensures front { T.told site.old → OnOk result (StartsWithFront ((T.disk site.old).contents 0) (as_front front.now)) }
-        ensures foreign { T.told site.old → IsErrOf result faults.Foreign → StartsWithFront ((T.disk site.old).contents 0) (as_front front.now) → ⊥ }
-        ensures cause { IsErrOf result faults.Failed → (T.faults site.old < T.faults site.new) ⊎ (T.faults site.new ≡ 2 ^ 64 - 1) }
+        ensures log { IfOk result (λ log. log ≡ record
+            { sealed = 0; gate = first_gate (as_front front.now); unsealed = []; spare = 0 }) }
+        ensures front { T.told site.old → OnOk result
+            (StartsWithFront ((T.disk site.old).contents 0) (as_front front.now)) }
+        ensures foreign { T.told site.old → IsErrOf result faults.Foreign
+            → StartsWithFront ((T.disk site.old).contents 0) (as_front front.now) → ⊥ }
+        ensures cause { IsErrOf result faults.Failed → (T.faults site.old < T.faults site.new)
+            ⊎ (T.faults site.new ≡ 2 ^ 64 - 1) }
         ensures later { T.faults site.old ≤ T.faults site.new }
         ensures never { (place : ℕ) → IsErrOf result (faults.Damaged place) → ⊥ }
 
         // Nothing changes, and no more than the front is read.
-        ensures count { T.tells_reads site.new 0 → OnOk result (T.bytes_read site.new 0 ≤ T.bytes_read site.old 0 + first_gate (as_front front.now)) }
+        ensures count { T.tells_reads site.new 0 → OnOk result
+            (T.bytes_read site.new 0 ≤ T.bytes_read site.old 0 + first_gate (as_front front.now)) }
         ensures stays { T.told site.old → Stays (T.disk site.old) (T.disk site.new) }
         ensures reads { ReadsOnlyLog (T.tells_reads site.old) (T.tells_reads site.new) (T.bytes_read site.old) (T.bytes_read site.new) }
         ensures told { T.told site.old → T.told site.new }
@@ -176,10 +186,12 @@ impl Log {
     pub fn group_at<T: Site>(&mut self, site: &mut T, at: u64) -> Result<Option<Group>, LogFault>
         ensures some { T.told site.old →
             IfOk result (λ found. IfSome found (λ group. HasGroup ((T.disk site.old).contents 0) at group.entries group.next)) }
-        ensures none { T.told site.old → IfOk result (λ found. IfNone found (slice_index ((T.disk site.old).contents 0) at ≢ 1)) }
+        ensures none { T.told site.old → IfOk result
+            (λ found. IfNone found (slice_index ((T.disk site.old).contents 0) at ≢ 1)) }
         ensures damaged { (place : ℕ) → T.told site.old → IsErrOf result (faults.Damaged place) →
             (place ≡ at) × IsDamaged ((T.disk site.old).contents 0) at }
-        ensures cause { IsErrOf result faults.Failed → (T.faults site.old < T.faults site.new) ⊎ (T.faults site.new ≡ 2 ^ 64 - 1) }
+        ensures cause { IsErrOf result faults.Failed → (T.faults site.old < T.faults site.new)
+            ⊎ (T.faults site.new ≡ 2 ^ 64 - 1) }
         ensures later { T.faults site.old ≤ T.faults site.new }
         ensures never { IsErrOf result faults.Foreign → ⊥ }
 
@@ -234,7 +246,13 @@ impl Log {
         ensures err { OnErr result (self.new ≡ self.old) }
         ensures spare { self.old.spare ≤ self.new.spare }
         ensures bounded { self.new.spare < 2 ^ 64 }
-        ensures same { self.new ≡ record { sealed = self.old.sealed; gate = self.old.gate; unsealed = self.old.unsealed; spare = self.new.spare } }
+        ensures same { self.new ≡ record {
+          sealed = self.old.sealed;
+          gate = self.old.gate;
+          unsealed =
+              self.old.unsealed;
+          spare = self.new.spare;
+        } }
     {
         if bytes <= self.spare as u64 {
             return Ok(());
@@ -304,12 +322,14 @@ impl Log {
 
         // A crash at any moment leaves the groups from before, or with the new one whole.
         ensures crash { (front : FrontOf) (groups : ListOf (ListOf EntryOf))
-            → T.told site.old → IsAtRest (T.disk site.old) front groups self.old.gate → Through (T.disk site.old) (T.disk site.new)
+            → T.told site.old → IsAtRest (T.disk site.old) front groups self.old.gate
+            → Through (T.disk site.old) (T.disk site.new)
             (IsBeforeOrAfter front groups self.old.gate (take most self.old.unsealed)) }
 
         // So does each image that a further sync may make of what a crash may leave now, whatever the answer is.
         ensures settles { (front : FrontOf) (groups : ListOf (ListOf EntryOf)) (image : ListOf ℕ)
-            → T.told site.old → IsAtRest (T.disk site.old) front groups self.old.gate → Settles (T.disk site.new) 0 image
+            → T.told site.old → IsAtRest (T.disk site.old) front groups self.old.gate
+            → Settles (T.disk site.new) 0 image
             → IsWithOrWithout front groups self.old.gate (take most self.old.unsealed) image }
     {
         if self.waiting == 0 {

@@ -50,7 +50,8 @@ pub(crate) fn shut<S: Site>(site: &mut S) -> Result<(), Failed>
     ensures crash { S.told site.old → Through (S.disk site.old) (S.disk site.new) (IsBeforeOrShut (S.disk site.old)) }
 
     // So does each image that a further sync may make of what a crash may leave now.
-    ensures settles { (image : ListOf ℕ) → S.told site.old → Settles (S.disk site.new) 0 image → IsOldOrShut (S.disk site.old) image }
+    ensures settles { (image : ListOf ℕ) → S.told site.old → Settles (S.disk site.new) 0 image
+        → IsOldOrShut (S.disk site.old) image }
 {
     site.sync(0)?; // what is looked at is what a crash leaves
     if is_shut(site)? {
@@ -64,8 +65,10 @@ pub(crate) fn shut<S: Site>(site: &mut S) -> Result<(), Failed>
 // Writes a new log with this front and no groups: the front's gate is closed first, and opened last.
 pub(crate) fn make<S: Site>(alloc: Global, site: &mut S, front: &Front) -> Result<(), LogFault>
     requires { FitsFront (as_front front.now) }
-    ensures made { S.told site.old → OnOk result (IsAtRest (S.disk site.new) (as_front front.now) [] (first_gate (as_front front.now))) }
-    ensures cause { IsErrOf result faults.Failed → (S.faults site.old < S.faults site.new) ⊎ (S.faults site.new ≡ 2 ^ 64 - 1) }
+    ensures made { S.told site.old → OnOk result (IsAtRest (S.disk site.new) (as_front front.now) []
+        (first_gate (as_front front.now))) }
+    ensures cause { IsErrOf result faults.Failed → (S.faults site.old < S.faults site.new)
+        ⊎ (S.faults site.new ≡ 2 ^ 64 - 1) }
     ensures later { S.faults site.old ≤ S.faults site.new }
     ensures never { (IsErrOf result faults.Foreign → ⊥) × ((place : ℕ) → IsErrOf result (faults.Damaged place) → ⊥) }
 
@@ -77,10 +80,12 @@ pub(crate) fn make<S: Site>(alloc: Global, site: &mut S, front: &Front) -> Resul
     ensures keeps { (first : S) → S.keeps first site.old → S.keeps first site.new }
 
     // A crash at any moment leaves the log as a sync might have left it before, or shut, or made.
-    ensures crash { S.told site.old → Through (S.disk site.old) (S.disk site.new) (IsBeforeOrMade (S.disk site.old) (as_front front.now)) }
+    ensures crash { S.told site.old → Through (S.disk site.old) (S.disk site.new)
+        (IsBeforeOrMade (S.disk site.old) (as_front front.now)) }
 
     // So does each image that a further sync may make of what a crash may leave now.
-    ensures settles { (image : ListOf ℕ) → S.told site.old → Settles (S.disk site.new) 0 image → IsOldOrMade (S.disk site.old) (as_front front.now) image }
+    ensures settles { (image : ListOf ℕ) → S.told site.old → Settles (S.disk site.new) 0 image
+        → IsOldOrMade (S.disk site.old) (as_front front.now) image }
 {
     let mut bytes = front.rest(alloc)?;
     bytes.push(0)?;

@@ -24,7 +24,8 @@ no_other : (s : Standing) (resource : Resource) (mode : Mode) → s.regions ≡ 
 no_other s resource mode one = ap (λ n. filter (in_way s (asks_for resource mode)) (numbers_up n 1)) one
 
 -- so it waits for nobody
-no_way : (s : Standing) (resource : Resource) (mode : Mode) → s.regions ≡ 1 → s.asks 1 ≡ Some (asks_for resource mode) → (cycle : List ℕ) → ¬ Along (next s) 1 cycle 1
+no_way : (s : Standing) (resource : Resource) (mode : Mode) → s.regions ≡ 1 → s.asks 1 ≡ Some (asks_for resource mode)
+    → (cycle : List ℕ) → ¬ Along (next s) 1 cycle 1
 no_way s resource mode one is cycle along = by cycle along
   where
     nobody : next s 1 ≡ []
@@ -41,24 +42,37 @@ module _ (rows : List Row) (lone : HasOneRegion rows) (resource : Resource) (mod
   -- it is given the lock
   pub is_given : (answer : Grant) → IsGrant (length rows) lone.locks lone.requests wanted answer → answer ≡ grant.Held
   is_given grant.Held is = refl
-  is_given (grant.Wait holders) is = absurd (let no : true ≡ false = sym is.0 ∙ open_way (standing rows) lone.locks lone.requests lone.shows wanted (no_other (standing rows) resource mode lone.one) in cc)
+  is_given (grant.Wait holders) is =
+      absurd (let no : true ≡ false = sym is.0 ∙ open_way (standing rows) lone.locks lone.requests lone.shows wanted
+      (no_other (standing rows) resource mode lone.one) in cc)
   is_given (grant.Cycle list) is =
       absurd (no_way (asking (standing rows) 1 (Some wanted)) resource mode lone.one refl is.0
-      (along_of (asking (standing rows) 1 (Some wanted)) lone.locks (with_request wanted lone.requests) (asked (standing rows) lone.locks lone.requests wanted lone.shows) is.0 1 1 is.2))
+      (along_of (asking (standing rows) 1 (Some wanted)) lone.locks (with_request wanted lone.requests)
+      (asked (standing rows) lone.locks lone.requests wanted lone.shows) is.0 1 1 is.2))
 
 -- the lists after any answer show what stands
-pub still_one : (rows new : List Row) (wanted : Lock) (answer : Grant) (lone : HasOneRegion rows) → length new ≡ length rows
-    → Shows (standing new) (locks_after answer wanted lone.locks) (requests_after answer wanted lone.requests) → HasOneRegion new
-still_one rows new wanted answer lone same shows = record { one = same ∙ lone.one; locks = locks_after answer wanted lone.locks; requests = requests_after answer wanted lone.requests; shows = shows }
+pub still_one : (rows new : List Row) (wanted : Lock) (answer : Grant) (lone : HasOneRegion rows)
+    → length new ≡ length rows
+    → Shows (standing new) (locks_after answer wanted lone.locks) (requests_after answer wanted lone.requests)
+    → HasOneRegion new
+still_one rows new wanted answer lone same shows = record {
+  one = same ∙ lone.one;
+  locks = locks_after answer wanted lone.locks;
+  requests =
+      requests_after answer wanted lone.requests;
+  shows = shows;
+}
 
 -- what is gained Exclusive is held so
-pub gained_alone : (resource : Resource) (locks : List Lock) → held_as (gained_over (held_as locks 1 resource) (asks_for resource Exclusive) locks) 1 resource ≡ Some Exclusive
+pub gained_alone : (resource : Resource) (locks : List Lock)
+    → held_as (gained_over (held_as locks 1 resource) (asks_for resource Exclusive) locks) 1 resource ≡ Some Exclusive
 gained_alone resource locks = by (held_as locks 1 resource) refl
   where
     newest : held_as (asks_for resource Exclusive ∷ locks) 1 resource ≡ Some Exclusive
     newest = ap (λ here. if here then Some Exclusive else held_as locks 1 resource) (is_resource resource)
 
-    by : (o : Option Mode) → held_as locks 1 resource ≡ o → held_as (gained_over o (asks_for resource Exclusive) locks) 1 resource ≡ Some Exclusive
+    by : (o : Option Mode) → held_as locks 1 resource ≡ o
+        → held_as (gained_over o (asks_for resource Exclusive) locks) 1 resource ≡ Some Exclusive
     by None is = newest
     by (Some Share) is = newest
     by (Some Exclusive) is = is

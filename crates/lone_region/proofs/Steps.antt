@@ -37,15 +37,20 @@ module _ (rules : Rules) (message : Message) (past : List Db) (now : Db) where
       → rules.ask message answers ≡ Asks call
       → rules.reply_to now now own call ≡ record { answer = a; own = own2 }
       → Comes answers own notes
-      → (n : ℕ) (more : List ℕ) → goes rules now states message (length answers + suc n) (begun rules) (noted b (length past) notes ++ more)
+      → (n : ℕ) (more : List ℕ) → goes rules now states message (length answers + suc n) (begun rules)
+      (noted b (length past) notes ++ more)
       ≡ goes rules now states message n (record { answers = answers ++ a ∷ []; own = own2 }) more
   goes_on true answers own own2 notes call a looks asks replies before n more =
       let part : Point = record { answers = answers; own = own } in
-      ap (λ (xs : List ℕ). goes rules now states message (length answers + suc n) (begun rules) xs) (append_assoc notes (length past ∷ []) more)
+      ap (λ (xs : List ℕ). goes rules now states message (length answers + suc n) (begun rules) xs)
+      (append_assoc notes (length past ∷ []) more)
       ∙ before (suc n) (length past ∷ more)
-      ∙ ap (λ (x : Ask). asked rules now states message x part (length past ∷ more) (goes rules now states message n)) asks
-      ∙ ap (λ (b : Bool). called rules now states message b part call (length past ∷ more) (goes rules now states message n)) looks
-      ∙ ap (λ (shown : Db). goes rules now states message n (after_call rules now shown part call) more) (last_state rules.start past now)
+      ∙ ap (λ (x : Ask). asked rules now states message x part (length past ∷ more) (goes rules now states message n))
+      asks
+      ∙ ap (λ (b : Bool). called rules now states message b part call (length past ∷ more)
+      (goes rules now states message n)) looks
+      ∙ ap (λ (shown : Db). goes rules now states message n (after_call rules now shown part call) more)
+      (last_state rules.start past now)
       ∙ ap (λ r. goes rules now states message n (with_reply part r) more) replies
   goes_on false answers own own2 notes call a looks asks replies before n more =
       let part : Point = record { answers = answers; own = own } in
@@ -61,7 +66,8 @@ module _ (rules : Rules) (message : Message) (past : List Db) (now : Db) where
       → Comes answers own notes
       → Comes (answers ++ a ∷ []) own2 (noted (rules.looks own call) (length past) notes)
   call_comes answers own own2 notes call a asks replies before n more =
-      ap (λ (k : ℕ). goes rules now states message k (begun rules) (noted (rules.looks own call) (length past) notes ++ more)) (one_more answers a n)
+      ap (λ (k : ℕ). goes rules now states message k (begun rules)
+      (noted (rules.looks own call) (length past) notes ++ more)) (one_more answers a n)
       ∙ goes_on (rules.looks own call) answers own own2 notes call a refl asks replies before n more
 
   -- How it ends from here is how it ends alone.
@@ -74,6 +80,7 @@ module _ (rules : Rules) (message : Message) (past : List Db) (now : Db) where
       let left : ℕ = rules.budget message - length answers in
       let count : suc (rules.budget message) ≡ length answers + suc left = omega (arith, few) in
       ap (λ (k : ℕ). goes rules now states message k (begun rules) notes) count
-      ∙ ap (λ (xs : List ℕ). goes rules now states message (length answers + suc left) (begun rules) xs) (sym (append-nil notes))
+      ∙ ap (λ (xs : List ℕ). goes rules now states message (length answers + suc left) (begun rules) xs)
+      (sym (append-nil notes))
       ∙ comes (suc left) []
       ∙ ends left

@@ -46,15 +46,32 @@ unknown_entry from line = record { from = from; outcome = Unknown; line = line; 
 
 -- of a transaction that is refused
 abbrev pub refused_entry : ℕ → Outcome → List ℕ → List ℕ → Entry
-refused_entry from outcome line notes = record { from = from; outcome = outcome; line = line; reply = []; notes = notes; items = [] }
+refused_entry from outcome line notes = record {
+  from = from;
+  outcome = outcome;
+  line = line;
+  reply = [];
+  notes =
+      notes;
+  items = [];
+}
 
 -- of one that is done
 abbrev pub done_entry : ℕ → List ℕ → List ℕ → List ℕ → List Item → Entry
-done_entry from line reply notes items = record { from = from; outcome = Done; line = line; reply = reply; notes = notes; items = items }
+done_entry from line reply notes items = record {
+  from = from;
+  outcome = Done;
+  line = line;
+  reply = reply;
+  notes =
+      notes;
+  items = items;
+}
 
--- Behind any serial history that comes to the databases of the store, the entry comes next, and it can be written. What is
--- staged, if anything, are its items.
-pub record IsMade (defs : Defs) (scripts : List Script) (store : Stored) (from : ℕ) (line : List ℕ) (made : Made) : Type 0 where
+-- Behind any serial history that comes to the databases of the store, the entry comes next, and it can be written. What
+-- is staged, if anything, are its items.
+pub record IsMade (defs : Defs) (scripts : List Script) (store : Stored) (from : ℕ) (line : List ℕ) (made : Made) : Type
+    0 where
   pub comes : (h : History) → IsPlainHistory h store.msdbs from → ComesNext defs scripts h line made.entry
   pub rules : KeepsRules made.entry
   pub fits : FitsEntry made.entry

@@ -32,8 +32,8 @@ pub record IsPlainHistory (h : History) (msdbs : List Msdb) (from : ℕ) : Type 
   pub format : format_at h.format h.entries ≡ 1
   pub same : h.now.msdbs ≡ msdbs
 
--- The entry of a line, that may come behind the history, and began and looked there. Its items may be applied, and make of
--- the main storage databases those of the state that it leads to; data entry databases stay.
+-- The entry of a line, that may come behind the history, and began and looked there. Its items may be applied, and make
+-- of the main storage databases those of the state that it leads to; data entry databases stay.
 pub record ComesNext (defs : Defs) (scripts : List Script) (h : History) (line : List ℕ) (e : Entry) : Type 0 where
   pub next : Db
   pub comes : Comes (rules_of defs scripts) h e next
@@ -46,7 +46,8 @@ pub record ComesNext (defs : Defs) (scripts : List Script) (h : History) (line :
   pub of_line : e.line ≡ line
 
 -- A line was answered: its entry waits to be sealed, the store has the segments behind it, and the reply is its line.
-pub record IsServed (defs : Defs) (scripts : List Script) (h : History) (line reply : List ℕ) (old new : LogState) (store : Stored) : Type 0 where
+pub record IsServed (defs : Defs) (scripts : List Script) (h : History) (line reply : List ℕ) (old new : LogState)
+    (store : Stored) : Type 0 where
   pub entry : Entry
   pub comes : ComesNext defs scripts h line entry
   pub reply_is : reply ≡ line_of entry

@@ -32,20 +32,21 @@ pub record HasOneRegion (rows : List Row) : Type 0 where
   pub requests : List Lock
   pub shows : Shows (standing rows) locks requests
 
--- What is known of its work, however far it is: it is of the definitions, it changed no anchor and inserted no sequential
--- dependent, and each look was at the databases of this many entries.
+-- What is known of its work, however far it is: it is of the definitions, it changed no anchor and inserted no
+-- sequential dependent, and each look was at the databases of this many entries.
 pub record IsPlain (defs : Defs) (from : ℕ) (work : Progress) : Type 0 where
   pub of : IsWorkOf defs work
   pub changes : work.own.changes ≡ []
   pub inserts : work.own.inserts ≡ []
   pub notes : AllByRecursion (λ note. note ≡ from) work.notes
 
--- Whatever the states before, run alone on one with these databases the transaction comes, with its notes, to where it is:
--- it was given these answers.
+-- Whatever the states before, run alone on one with these databases the transaction comes, with its notes, to where it
+-- is: it was given these answers.
 abbrev pub ComesTo : Defs → List Script → Message → List Msdb → ℕ → Progress → List Answer → Type 0
 ComesTo defs scripts message msdbs from work answers =
     (past : List Db) (now : Db) → now.msdbs ≡ msdbs → length past ≡ from → (n : ℕ) (more : List ℕ)
-    → goes (rules_of defs scripts) now (past ++ now ∷ []) message (length answers + n) (begun (rules_of defs scripts)) (work.notes ++ more)
+    → goes (rules_of defs scripts) now (past ++ now ∷ []) message (length answers + n) (begun (rules_of defs scripts))
+    (work.notes ++ more)
     ≡ goes (rules_of defs scripts) now (past ++ now ∷ []) message n (record { answers = answers; own = work.own }) more
 
 -- the notes behind a call: one more, if it looks unheld
@@ -60,7 +61,8 @@ pub record IsReady (defs : Defs) (scripts : List Script) (store : Stored) : Type
   pub of : IsOf defs.msdbs store
 
 -- A transaction that was given some answers, and may be given so many more.
-pub record IsUnderway (defs : Defs) (scripts : List Script) (message : Message) (msdbs : List Msdb) (from left : ℕ) (t : Transaction) : Type 0 where
+pub record IsUnderway (defs : Defs) (scripts : List Script) (message : Message) (msdbs : List Msdb) (from left : ℕ)
+    (t : Transaction) : Type 0 where
   pub script : Script
   pub named : script_of scripts message.tran ≡ Some script
   pub numbered : slice_get scripts t.program.number ≡ Some script
@@ -86,7 +88,8 @@ IsShortEnd (end.Reply text) = length text ≤ 1000
 IsShortEnd (end.Roll code) = ⊤
 
 -- A transaction whose script has ended.
-pub record HasEnded (defs : Defs) (scripts : List Script) (message : Message) (msdbs : List Msdb) (from : ℕ) (work : Progress) (end : End) : Type 0 where
+pub record HasEnded (defs : Defs) (scripts : List Script) (message : Message) (msdbs : List Msdb) (from : ℕ)
+    (work : Progress) (end : End) : Type 0 where
   pub plain : IsPlain defs from work
   pub few : length work.notes ≤ 10000
   pub queued : length work.own.deferred ≤ 10000
@@ -95,7 +98,8 @@ pub record HasEnded (defs : Defs) (scripts : List Script) (message : Message) (m
       → serial_run (rules_of defs scripts) now (past ++ now ∷ []) message work.notes ≡ ended_as defs now work.own end
 
 -- One more call was answered.
-pub record IsStepped (defs : Defs) (scripts : List Script) (message : Message) (msdbs : List Msdb) (from left : ℕ) (t : Transaction) : Type 0 where
+pub record IsStepped (defs : Defs) (scripts : List Script) (message : Message) (msdbs : List Msdb) (from left : ℕ)
+    (t : Transaction) : Type 0 where
   pub fewer : ℕ
   pub is : left ≡ suc fewer
   pub under : IsUnderway defs scripts message msdbs from fewer t

@@ -89,7 +89,11 @@ fn refused(
     work: &Work,
     outcome: Outcome,
 ) -> Result<Made, AllocError>
-    ensures { IfOk result (λ made. made ≡ record { entry = refused_entry from outcome line.now work.now.notes; staged = None }) }
+    ensures { IfOk result (λ made. made ≡ record {
+      entry = refused_entry from outcome line.now work.now.notes;
+      staged =
+          None;
+    }) }
 {
     Ok(Made {
         entry: Entry {
@@ -164,9 +168,12 @@ fn settled(
     work: &Work,
     reply: Bytes,
 ) -> Result<Made, AllocError>
-    requires ended { (defs : DefsOf) × ((scripts : ListOf Script) × ((message : MessageOf) × (IsReady defs scripts store.now × HasEnded defs scripts message store.now.msdbs from work.now (end.Reply reply)))) }
+    requires ended { (defs : DefsOf) × ((scripts : ListOf Script)
+        × ((message : MessageOf) × (IsReady defs scripts store.now
+        × HasEnded defs scripts message store.now.msdbs from work.now (end.Reply reply)))) }
     requires short { length line.now ≤ 2100 }
-    ensures { (defs : DefsOf) (scripts : ListOf Script) (message : MessageOf) → IsReady defs scripts store.now → plain_request scripts line.now ≡ Accepts message
+    ensures { (defs : DefsOf) (scripts : ListOf Script) (message : MessageOf) → IsReady defs scripts store.now
+        → plain_request scripts line.now ≡ Accepts message
         → HasEnded defs scripts message store.now.msdbs from work.now (end.Reply reply)
         → IfOk result (IsMade defs scripts store.now from line.now) }
 {

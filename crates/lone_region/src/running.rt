@@ -87,8 +87,10 @@ fn answer_alone(
     requires call { IsMsdbCall defs.now.msdbs call.now }
     requires locks { HasOneRegion locks.old }
     ensures answer { (db : DbOf) → db.msdbs ≡ store.now.msdbs
-        → IfOk result (λ given. reply_to defs.now db db work.old.own call.now ≡ record { answer = given; own = work.new.own }) }
-    ensures notes { IfOk result (λ given. work.new.notes ≡ noted (looks_unheld defs.now work.old.own call.now) from work.old.notes) }
+        → IfOk result (λ given. reply_to defs.now db db work.old.own call.now ≡ record
+        { answer = given; own = work.new.own }) }
+    ensures notes { IfOk result (λ given. work.new.notes ≡ noted (looks_unheld defs.now work.old.own call.now) from
+        work.old.notes) }
     ensures fits { IfOk result (FitsAnswer defs.now.msdbs call.now) }
     ensures of { IsWorkOf defs.now work.new }
     ensures locks { HasOneRegion locks.new }
@@ -114,7 +116,8 @@ impl Transaction {
     ) -> Result<Transaction, AllocError>
         requires no_dedbs { defs.now.dedbs ≡ [] }
         requires number { number < length scripts.now.scripts }
-        ensures { (script : Script) → (msdbs : ListOf Msdb) → (from : ℕ) → IsCheap scripts.now.scripts message.now → script_of scripts.now.scripts message.now.tran ≡ Some script
+        ensures { (script : Script) → (msdbs : ListOf Msdb) → (from : ℕ) → IsCheap scripts.now.scripts message.now
+            → script_of scripts.now.scripts message.now.tran ≡ Some script
             → slice_get scripts.now.scripts number ≡ Some script
             → IfOk result (IsUnderway defs.now scripts.now.scripts message.now msdbs from 10000) }
     {
@@ -138,13 +141,16 @@ impl Transaction {
         from: u64,
     ) -> Result<Option<End>, AllocError>
         requires ready { IsReady defs.now scripts.now.scripts store.now }
-        requires under { (message : MessageOf) × ((left : ℕ) × IsUnderway defs.now scripts.now.scripts message store.now.msdbs from left self.old) }
+        requires under { (message : MessageOf) × ((left : ℕ)
+            × IsUnderway defs.now scripts.now.scripts message store.now.msdbs from left self.old) }
         ensures goes { (message : MessageOf) (left : ℕ) → IsCheap scripts.now.scripts message
             → IsUnderway defs.now scripts.now.scripts message store.now.msdbs from left self.old
-            → IfOk result (λ end. IfNone end (IsStepped defs.now scripts.now.scripts message store.now.msdbs from left self.new)) }
+            → IfOk result (λ end. IfNone end (IsStepped defs.now scripts.now.scripts message store.now.msdbs from left
+            self.new)) }
         ensures ends { (message : MessageOf) (left : ℕ) → IsCheap scripts.now.scripts message
             → IsUnderway defs.now scripts.now.scripts message store.now.msdbs from left self.old
-            → IfOk result (λ end. IfSome end (HasEnded defs.now scripts.now.scripts message store.now.msdbs from self.new.work)) }
+            → IfOk result (λ end. IfSome end (HasEnded defs.now scripts.now.scripts message store.now.msdbs from
+            self.new.work)) }
     {
         match self.program.next(scripts, defs)? {
             Next::Call(call) => {
@@ -177,8 +183,10 @@ pub(crate) fn run_alone(
 ) -> Result<(Work, End), AllocError>
     requires ready { IsReady defs.now scripts.now.scripts store.now }
     requires cheap { IsCheap scripts.now.scripts message.now }
-    requires named { (script : Script) × (script_of scripts.now.scripts message.now.tran ≡ Some script) × (slice_get scripts.now.scripts number ≡ Some script) }
-    ensures { IfOk result (λ ended. HasEnded defs.now scripts.now.scripts message.now store.now.msdbs from ended.0 ended.1) }
+    requires named { (script : Script) × (script_of scripts.now.scripts message.now.tran ≡ Some script)
+        × (slice_get scripts.now.scripts number ≡ Some script) }
+    ensures { IfOk result (λ ended. HasEnded defs.now scripts.now.scripts message.now store.now.msdbs from ended.0
+        ended.1) }
 {
     let mut transaction = Transaction::begin(alloc, defs, scripts, number, message)?;
     let mut left = MOST_CALLS;

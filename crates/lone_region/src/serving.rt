@@ -29,8 +29,10 @@ fn put_staged(
     requires rules { KeepsRules entry.now }
     requires fits { FitsEntry entry.now }
     requires staged { (defs : ListOf MsdbDef) × IsOf defs store.old × IsStaged defs store.old.msdbs staged }
-    ensures msdbs { (defs : ListOf MsdbDef) → IsOf defs store.old → IsStaged defs store.old.msdbs staged → OnOk result (store.new.msdbs ≡ with_items defs store.old.msdbs staged.items) }
-    ensures of { (defs : ListOf MsdbDef) → IsOf defs store.old → IsStaged defs store.old.msdbs staged → IsOf defs store.new }
+    ensures msdbs { (defs : ListOf MsdbDef) → IsOf defs store.old → IsStaged defs store.old.msdbs staged
+        → OnOk result (store.new.msdbs ≡ with_items defs store.old.msdbs staged.items) }
+    ensures of { (defs : ListOf MsdbDef) → IsOf defs store.old → IsStaged defs store.old.msdbs staged
+        → IsOf defs store.new }
     ensures unsealed { OnOk result (log.new.unsealed ≡ log.old.unsealed ++ entry.now ∷ []) }
     ensures sealed { log.new.sealed ≡ log.old.sealed }
     ensures gate { log.new.gate ≡ log.old.gate }
@@ -48,7 +50,8 @@ fn put_staged(
 // Puts what a line was given behind the entries of the log, and into the databases.
 fn commit(store: &mut MsdbStore, log: &mut Log, made: Made) -> Result<(), AllocError>
     requires able { (defs : ListOf MsdbDef) × CanCommit defs store.old made }
-    ensures msdbs { (defs : ListOf MsdbDef) → CanCommit defs store.old made → OnOk result (store.new.msdbs ≡ with_items defs store.old.msdbs made.entry.items) }
+    ensures msdbs { (defs : ListOf MsdbDef) → CanCommit defs store.old made
+        → OnOk result (store.new.msdbs ≡ with_items defs store.old.msdbs made.entry.items) }
     ensures of { (defs : ListOf MsdbDef) → CanCommit defs store.old made → IsOf defs store.new }
     ensures unsealed { OnOk result (log.new.unsealed ≡ log.old.unsealed ++ made.entry ∷ []) }
     ensures sealed { log.new.sealed ≡ log.old.sealed }
@@ -86,7 +89,8 @@ pub fn serve_line(
     requires store { IsOf defs.now.msdbs store.old }
     requires short { length line.now ≤ 2100 }
 
-    // Where the databases are those of a history without message numbers, and the log has its entries, the entry comes next.
+    // Where the databases are those of a history without message numbers, and the log has its entries, the entry comes
+    // next.
     ensures served { (h : History) → IsPlainHistory h store.old.msdbs (log.old.sealed + length log.old.unsealed) →
         IfOk result (λ reply. IsServed defs.now scripts.now.scripts h line.now reply log.old log.new store.new) }
     ensures of { IsOf defs.now.msdbs store.new }

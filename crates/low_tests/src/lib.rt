@@ -1,4 +1,5 @@
-//! Tests of the low crates: lists, numbers, exits, queues, sites, sources, lines, locks, field search arguments, entries.
+//! Tests of the low crates: lists, numbers, exits, queues, sites, sources, lines, locks, field search arguments,
+//! entries.
 //!
 //! They stand here and not in the crates that they test, since a crate with tests is proved twice. Each file tests one
 //! crate. What is a set of cases, text in and value out, is data of a program above and not here: of those calls only a

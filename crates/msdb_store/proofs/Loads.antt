@@ -21,14 +21,17 @@ record IsLoading (def : MsdbDef) (segments rest : List (List ℕ)) : Type 0 wher
   pub good : IsMsdbOf def (record { segments = segments })
   pub lengths : AllByRecursion (λ s. length s ≡ def.length) rest
   pub distinct : IsDistinct same_text (map (key_of def.fields) rest)
-  pub differ : AllByRecursion (λ s. AllByRecursion (λ y. same_text (key_of def.fields y) (key_of def.fields s) ≡ false) segments) rest
+  pub differ : AllByRecursion (λ s. AllByRecursion (λ y. same_text (key_of def.fields y) (key_of def.fields s) ≡ false)
+      segments) rest
   pub whole : fold (λ (ss : List (List ℕ)) s. put_by_key (key_of def.fields) s ss) segments rest ≡ (loaded def).segments
 
-lengths_of : (def : MsdbDef) (load : List (List ℕ)) → AllByRecursion (IsLoaded def) load → AllByRecursion (λ s. length s ≡ def.length) load
+lengths_of : (def : MsdbDef) (load : List (List ℕ)) → AllByRecursion (IsLoaded def) load
+    → AllByRecursion (λ s. length s ≡ def.length) load
 lengths_of def [] all = tt
 lengths_of def (s ∷ load) all = (all.0.whole, lengths_of def load all.1)
 
-differ_nothing : (key : List ℕ → List ℕ) (load : List (List ℕ)) → AllByRecursion (λ s. AllByRecursion (λ y. same_text (key y) (key s) ≡ false) []) load
+differ_nothing : (key : List ℕ → List ℕ) (load : List (List ℕ))
+    → AllByRecursion (λ s. AllByRecursion (λ y. same_text (key y) (key s) ≡ false) []) load
 differ_nothing key [] = tt
 differ_nothing key (s ∷ load) = (tt, differ_nothing key load)
 
@@ -42,57 +45,76 @@ at_first def is = record {
 }
 
 -- where no key is the same, none is dropped
-none_dropped : (key : List ℕ → List ℕ) (k : List ℕ) (xs : List (List ℕ)) → AllByRecursion (λ y. same_text (key y) k ≡ false) xs → drop_key key k xs ≡ xs
+none_dropped : (key : List ℕ → List ℕ) (k : List ℕ) (xs : List (List ℕ))
+    → AllByRecursion (λ y. same_text (key y) k ≡ false) xs → drop_key key k xs ≡ xs
 none_dropped key k [] all = refl
 none_dropped key k (x ∷ xs) all = rw all.0 (ap (λ ys. x ∷ ys) (none_dropped key k xs all.1))
 
-still_differ : (key : List ℕ → List ℕ) (s : List ℕ) (segments rest : List (List ℕ)) → AllByRecursion (λ k. same_text (key s) k ≡ false) (map key rest)
+still_differ : (key : List ℕ → List ℕ) (s : List ℕ) (segments rest : List (List ℕ))
+    → AllByRecursion (λ k. same_text (key s) k ≡ false) (map key rest)
     → AllByRecursion (λ r. AllByRecursion (λ y. same_text (key y) (key r) ≡ false) segments) rest
     → AllByRecursion (λ r. AllByRecursion (λ y. same_text (key y) (key r) ≡ false) (put_by_key key s segments)) rest
 still_differ key s segments [] head differ = tt
-still_differ key s segments (r ∷ rest) head differ =
-    (all_put key (λ y. same_text (key y) (key r) ≡ false) s segments head.0 differ.0, still_differ key s segments rest head.1 differ.1)
+still_differ key s segments (r ∷ rest) head differ = (
+  all_put key (λ y. same_text (key y) (key r) ≡ false) s segments head.0 differ.0,
+  still_differ key s segments rest head.1 differ.1,
+)
 
-one_more : (def : MsdbDef) (segments : List (List ℕ)) (s : List ℕ) (rest : List (List ℕ)) → IsLoading def segments (s ∷ rest) → IsLoading def (put_by_key (key_of def.fields) s segments) rest
+one_more : (def : MsdbDef) (segments : List (List ℕ)) (s : List ℕ) (rest : List (List ℕ))
+    → IsLoading def segments (s ∷ rest) → IsLoading def (put_by_key (key_of def.fields) s segments) rest
 one_more def segments s rest is =
     let key : List ℕ → List ℕ = key_of def.fields in
     let same : drop_key key (key s) segments ≡ segments = none_dropped key (key s) segments is.differ.0 in
     record {
-      good = subst (λ ss. IsMsdbOf def (record { segments = put_by_key key s ss })) same (with_good def s (record { segments = segments }) is.lengths.0 is.good);
+      good = subst (λ ss. IsMsdbOf def (record { segments = put_by_key key s ss })) same
+          (with_good def s (record { segments = segments }) is.lengths.0 is.good);
       lengths = is.lengths.1;
       distinct = IsDistinct-tail same_text (key s) (map key rest) is.distinct;
-      differ = still_differ key s segments rest (IsDistinct-head same_text (key s) (map key rest) is.distinct) is.differ.1;
+      differ = still_differ key s segments rest (IsDistinct-head same_text (key s) (map key rest) is.distinct)
+          is.differ.1;
       whole = is.whole;
     }
 
 -- the segments that are loaded are of their definition
 all_loaded : (def : MsdbDef) (segments rest : List (List ℕ)) → IsLoading def segments rest → IsMsdbOf def (loaded def)
 all_loaded def segments [] is = subst (λ ss. IsMsdbOf def (record { segments = ss })) is.whole is.good
-all_loaded def segments (s ∷ rest) is = all_loaded def (put_by_key (key_of def.fields) s segments) rest (one_more def segments s rest is)
+all_loaded def segments (s ∷ rest) is = all_loaded def (put_by_key (key_of def.fields) s segments) rest
+    (one_more def segments s rest is)
 
 pub good_load : (def : MsdbDef) → IsMsdbDef def → IsMsdbOf def (loaded def)
 good_load def is = all_loaded def [] def.load (at_first def is)
 
-each_more : {A B : Type 0} (R : A → B → Type 0) (xs : List A) (ys : List B) (x : A) (y : B) → AllZip R xs ys → R x y → AllZip R (xs ++ x ∷ []) (ys ++ y ∷ [])
+each_more : {A B : Type 0} (R : A → B → Type 0) (xs : List A) (ys : List B) (x : A) (y : B) → AllZip R xs ys → R x y
+    → AllZip R (xs ++ x ∷ []) (ys ++ y ∷ [])
 each_more R [] [] x y all one = (one, tt)
 each_more R [] (b ∷ ys) x y all one = absurd all
 each_more R (a ∷ xs) [] x y all one = absurd all
 each_more R (a ∷ xs) (b ∷ ys) x y all one = (all.0, each_more R xs ys x y all.1 one)
 
 -- the tables of the definitions so far
-pub record AreLoaded {T : Type 0} (fields : T → List FieldDef) (msdb : T → Msdb) (defs : List MsdbDef) (tables : List T) : Type 0 where
+pub record AreLoaded {T : Type 0} (fields : T → List FieldDef) (msdb : T → Msdb) (defs : List MsdbDef) (tables : List T)
+    : Type 0 where
   pub layouts : map fields tables ≡ map (λ d. d.fields) defs
   pub segments : map msdb tables ≡ map loaded defs
   pub each : AllZip IsMsdbOf defs (map msdb tables)
   pub few : AreFew (map msdb tables)
 
-pub next_table : {T : Type 0} (fields : T → List FieldDef) (msdb : T → Msdb) (defs : List MsdbDef) (i : ℕ) (d : MsdbDef) (tables more : List T) (t : T) → i < length defs → d ≡ slice_index_or defs i d → AreLoaded fields msdb (take i defs) tables
-    → more ≡ tables ++ t ∷ [] → fields t ≡ d.fields → msdb t ≡ loaded d → IsMsdbOf d (msdb t) → length (msdb t).segments < 2 ^ 32 → AreLoaded fields msdb (take (i + 1) defs) more
+pub next_table : {T : Type 0} (fields : T → List FieldDef) (msdb : T → Msdb) (defs : List MsdbDef) (i : ℕ) (d : MsdbDef)
+    (tables more : List T) (t : T) → i < length defs → d ≡ slice_index_or defs i d
+    → AreLoaded fields msdb (take i defs) tables
+    → more ≡ tables ++ t ∷ [] → fields t ≡ d.fields → msdb t ≡ loaded d → IsMsdbOf d (msdb t)
+    → length (msdb t).segments < 2 ^ 32 → AreLoaded fields msdb (take (i + 1) defs) more
 next_table fields msdb defs i d tables more t within d_is is more_is fields_are segments_are good short =
-    let front : take (i + 1) defs ≡ take i defs ++ d ∷ [] = take_more defs i d within ∙ ap (λ e. take i defs ++ e ∷ []) (sym d_is) in
-    subst (λ ds. AreLoaded fields msdb ds more) (sym front) (subst (AreLoaded fields msdb (take i defs ++ d ∷ [])) (sym more_is) (record {
-      layouts = map-append fields tables (t ∷ []) ∙ ap (λ fs. fs ++ fields t ∷ []) is.layouts ∙ ap (λ f. map (λ e. e.fields) (take i defs) ++ f ∷ []) fields_are ∙ sym (map-append (λ (e : MsdbDef). e.fields) (take i defs) (d ∷ []));
-      segments = map-append msdb tables (t ∷ []) ∙ ap (λ ms. ms ++ msdb t ∷ []) is.segments ∙ ap (λ m. map loaded (take i defs) ++ m ∷ []) segments_are ∙ sym (map-append loaded (take i defs) (d ∷ []));
-      each = subst (AllZip IsMsdbOf (take i defs ++ d ∷ [])) (sym (map-append msdb tables (t ∷ []))) (each_more IsMsdbOf (take i defs) (map msdb tables) d (msdb t) is.each good);
+    let front : take (i + 1) defs ≡ take i defs ++ d ∷ [] =
+    take_more defs i d within ∙ ap (λ e. take i defs ++ e ∷ []) (sym d_is) in
+    subst (λ ds. AreLoaded fields msdb ds more) (sym front)
+    (subst (AreLoaded fields msdb (take i defs ++ d ∷ [])) (sym more_is) (record {
+      layouts = map-append fields tables (t ∷ []) ∙ ap (λ fs. fs ++ fields t ∷ []) is.layouts ∙ ap
+          (λ f. map (λ e. e.fields) (take i defs) ++ f ∷ []) fields_are ∙ sym
+          (map-append (λ (e : MsdbDef). e.fields) (take i defs) (d ∷ []));
+      segments = map-append msdb tables (t ∷ []) ∙ ap (λ ms. ms ++ msdb t ∷ []) is.segments ∙ ap
+          (λ m. map loaded (take i defs) ++ m ∷ []) segments_are ∙ sym (map-append loaded (take i defs) (d ∷ []));
+      each = subst (AllZip IsMsdbOf (take i defs ++ d ∷ [])) (sym (map-append msdb tables (t ∷ [])))
+          (each_more IsMsdbOf (take i defs) (map msdb tables) d (msdb t) is.each good);
       few = few_push msdb tables t is.few short;
     }))

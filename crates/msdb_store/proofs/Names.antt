@@ -23,10 +23,12 @@ right_true : (a b : Bool) → b ≡ true → (a || b) ≡ true
 right_true true b e = refl
 right_true false b e = e
 
-contains_any : {X : Type 0} (p : X → Bool) (xs : List X) (x : X) (i : ℕ) → i < length xs → slice_index_or xs i x ≡ x → p x ≡ true → list_any p xs ≡ true
+contains_any : {X : Type 0} (p : X → Bool) (xs : List X) (x : X) (i : ℕ) → i < length xs → slice_index_or xs i x ≡ x
+    → p x ≡ true → list_any p xs ≡ true
 contains_any p [] x i within is passes = absurd (omega (arith, within))
 contains_any p (y ∷ ys) x zero within is passes = left_true (p y) (list_any p ys) (ap p is ∙ passes)
-contains_any p (y ∷ ys) x (suc i) within is passes = right_true (p y) (list_any p ys) (contains_any p ys x i (omega (arith, within)) is passes)
+contains_any p (y ∷ ys) x (suc i) within is passes =
+    right_true (p y) (list_any p ys) (contains_any p ys x i (omega (arith, within)) is passes)
 
 record Passing {X : Type 0} (p : X → Bool) (xs : List X) : Type 0 where
   it : X
@@ -63,13 +65,20 @@ pair_is n k e same =
 its_pair : (n : ℕ) (k : List ℕ) → is_pair n k (n, k) ≡ true
 its_pair n k = rw (is_number n) (is_same k)
 
-named_any : (defs : List MsdbDef) (calls : List Deferred) (n : ℕ) (k : List ℕ) → IsNamed defs calls n k → list_any (names defs n k) calls ≡ true
-named_any defs calls n k is = sym (any_map (named defs) (is_pair n k) calls) ∙ contains_any (is_pair n k) (map (named defs) calls) (n, k) is.0 is.1 is.2 (its_pair n k)
+named_any : (defs : List MsdbDef) (calls : List Deferred) (n : ℕ) (k : List ℕ) → IsNamed defs calls n k
+    → list_any (names defs n k) calls ≡ true
+named_any defs calls n k is = sym (any_map (named defs) (is_pair n k) calls) ∙ contains_any (is_pair n k)
+    (map (named defs) calls) (n, k) is.0 is.1 is.2 (its_pair n k)
 
-any_named : (defs : List MsdbDef) (calls : List Deferred) (n : ℕ) (k : List ℕ) → list_any (names defs n k) calls ≡ true → IsNamed defs calls n k
+any_named : (defs : List MsdbDef) (calls : List Deferred) (n : ℕ) (k : List ℕ) → list_any (names defs n k) calls ≡ true
+    → IsNamed defs calls n k
 any_named defs calls n k e =
-    let p = any_contains (is_pair n k) (map (named defs) calls) (any_map (named defs) (is_pair n k) calls ∙ e) in
-    (p.place, p.within, subst (λ x. slice_index_or (map (named defs) calls) p.place x ≡ x) (pair_is n k p.it p.passes) p.is)
+    let p = any_contains (is_pair n k) (map (named defs) calls) (any_map (named defs) (is_pair n k) calls ∙ e) in (
+      p.place,
+      p.within,
+      subst (λ x. slice_index_or (map (named defs) calls) p.place x ≡ x) (pair_is n k p.it p.passes)
+          p.is,
+    )
 
 -- ---- the staged segments
 
@@ -86,24 +95,39 @@ of_key n k (Segment m j bytes) = m == n && same_text j k
 of_key n k (Image set ci bytes) = false
 of_key n k (Range set ci at bytes) = false
 
-item_any : (ts : List Touch) (n : ℕ) (k : List ℕ) → HasItem (map item_of ts) n k → list_any (λ t. has_key t n k) ts ≡ true
-item_any ts n k has = sym (any_map item_of (of_key n k) ts) ∙ contains_any (of_key n k) (map item_of ts) (Segment n k has.0) has.1.0 has.1.1 has.1.2 (its_pair n k)
+item_any : (ts : List Touch) (n : ℕ) (k : List ℕ) → HasItem (map item_of ts) n k
+    → list_any (λ t. has_key t n k) ts ≡ true
+item_any ts n k has = sym (any_map item_of (of_key n k) ts) ∙ contains_any (of_key n k) (map item_of ts)
+    (Segment n k has.0) has.1.0 has.1.1 has.1.2 (its_pair n k)
 
-any_item : (ts : List Touch) (n : ℕ) (k : List ℕ) → list_any (λ t. has_key t n k) ts ≡ true → HasItem (map item_of ts) n k
-any_item ts n k e = let p = any_contains (of_key n k) (map item_of ts) (any_map item_of (of_key n k) ts ∙ e) in by p.it p.place p.within p.is p.passes
+any_item : (ts : List Touch) (n : ℕ) (k : List ℕ) → list_any (λ t. has_key t n k) ts ≡ true
+    → HasItem (map item_of ts) n k
+any_item ts n k e = let p = any_contains (of_key n k) (map item_of ts) (any_map item_of (of_key n k) ts ∙ e) in
+    by p.it p.place p.within p.is p.passes
   where
-    by : (x : Item) (i : ℕ) → i < length (map item_of ts) → slice_index_or (map item_of ts) i x ≡ x → of_key n k x ≡ true → HasItem (map item_of ts) n k
+    by : (x : Item) (i : ℕ) → i < length (map item_of ts) → slice_index_or (map item_of ts) i x ≡ x
+        → of_key n k x ≡ true → HasItem (map item_of ts) n k
     by (Segment m j bytes) i within is passes =
         let first : m ≡ n = number_is m n (first_true (m == n) (same_text j k) passes) in
-        let second : j ≡ k = same_is j k (second_true (m == n) (same_text j k) passes) in
-        (bytes, (i, within, subst (λ x. slice_index_or (map item_of ts) i x ≡ x) (ap (λ a. Segment a j bytes) first ∙ ap (λ b. Segment n b bytes) second) is))
+        let second : j ≡ k = same_is j k (second_true (m == n) (same_text j k) passes) in (
+          bytes,
+          (
+            i,
+            within,
+            subst (λ x. slice_index_or (map item_of ts) i x ≡ x)
+                (ap (λ a. Segment a j bytes) first ∙ ap (λ b. Segment n b bytes) second) is,
+          ),
+        )
     by (Image set ci bytes) i within is passes = cc
     by (Range set ci at bytes) i within is passes = cc
 
 -- where the tests agree, so do the facts
-pub same_keys : (defs : List MsdbDef) (calls : List Deferred) (ts : List Touch) (items : List Item) (n : ℕ) (k : List ℕ) → items ≡ map item_of ts → is_some (bytes_at ts n k) ≡ list_any (names defs n k) calls
+pub same_keys : (defs : List MsdbDef) (calls : List Deferred) (ts : List Touch) (items : List Item) (n : ℕ) (k : List ℕ)
+    → items ≡ map item_of ts → is_some (bytes_at ts n k) ≡ list_any (names defs n k) calls
     → (HasItem items n k) ↔ (IsNamed defs calls n k)
 same_keys defs calls ts items n k is same = (
-  λ has. any_named defs calls n k (sym same ∙ some_any ts n k ∙ item_any ts n k (subst (λ its. HasItem its n k) is has)),
-  λ it_is. subst (λ its. HasItem its n k) (sym is) (any_item ts n k (sym (some_any ts n k) ∙ same ∙ named_any defs calls n k it_is)),
+  λ has. any_named defs calls n k (sym same ∙ some_any ts n k ∙ item_any ts n k
+      (subst (λ its. HasItem its n k) is has)),
+  λ it_is. subst (λ its. HasItem its n k) (sym is) (any_item ts n k
+      (sym (some_any ts n k) ∙ same ∙ named_any defs calls n k it_is)),
 )

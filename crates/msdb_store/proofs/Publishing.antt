@@ -43,7 +43,8 @@ both n k m j (inr same) =
     by true = refl
     by false = refl
 
-before_trans : (n : ℕ) (k : List ℕ) (m : ℕ) (j : List ℕ) (o : ℕ) (l : List ℕ) → Before n k m j → Before m j o l → Before n k o l
+before_trans : (n : ℕ) (k : List ℕ) (m : ℕ) (j : List ℕ) (o : ℕ) (l : List ℕ) → Before n k m j → Before m j o l
+    → Before n k o l
 before_trans n k m j o l (inl a) (inl b) = inl (omega (arith, a, b))
 before_trans n k m j o l (inl a) (inr b) = inl (omega (arith, a, b.0))
 before_trans n k m j o l (inr a) (inl b) = inl (omega (arith, a.0, b))
@@ -58,17 +59,25 @@ differs n k m j (inr same) = rw (below_differs k j same.1) (by (n == m))
     by false = refl
 
 -- a segment before all others
-all_behind : (n : ℕ) (k bytes : List ℕ) (rest : List Item) → AllByRecursion IsSegmentItem rest → is_ascending (Segment n k bytes ∷ rest) ≡ true → AllByRecursion (λ item. precedes (Segment n k bytes) item ≡ true) rest
+all_behind : (n : ℕ) (k bytes : List ℕ) (rest : List Item) → AllByRecursion IsSegmentItem rest
+    → is_ascending (Segment n k bytes ∷ rest) ≡ true
+    → AllByRecursion (λ item. precedes (Segment n k bytes) item ≡ true) rest
 all_behind n k bytes [] all order = tt
 all_behind n k bytes (Segment m j b ∷ rest) all order =
-    let first : precedes (Segment n k bytes) (Segment m j b) ≡ true = first_true _ (is_ascending (Segment m j b ∷ rest)) order in
+    let first : precedes (Segment n k bytes) (Segment m j b) ≡ true =
+    first_true _ (is_ascending (Segment m j b ∷ rest)) order in
     let later = all_behind m j b rest all.1 (second_true (precedes (Segment n k bytes) (Segment m j b)) _ order) in
     (first, above rest all.1 later first)
   where
-    above : (items : List Item) → AllByRecursion IsSegmentItem items → AllByRecursion (λ item. precedes (Segment m j b) item ≡ true) items → precedes (Segment n k bytes) (Segment m j b) ≡ true → AllByRecursion (λ item. precedes (Segment n k bytes) item ≡ true) items
+    above : (items : List Item) → AllByRecursion IsSegmentItem items
+        → AllByRecursion (λ item. precedes (Segment m j b) item ≡ true) items
+        → precedes (Segment n k bytes) (Segment m j b) ≡ true
+        → AllByRecursion (λ item. precedes (Segment n k bytes) item ≡ true) items
     above [] segments later first = tt
-    above (Segment o l c ∷ items) segments later first =
-        (both n k o l (before_trans n k m j o l (split n k m j first) (split m j o l later.0)), above items segments.1 later.1 first)
+    above (Segment o l c ∷ items) segments later first = (
+      both n k o l (before_trans n k m j o l (split n k m j first) (split m j o l later.0)),
+      above items segments.1 later.1 first,
+    )
     above (Image set ci c ∷ items) segments later first = absurd segments.0
     above (Range set ci at c ∷ items) segments later first = absurd segments.0
 all_behind n k bytes (Image set ci b ∷ rest) all order = absurd all.0
@@ -78,11 +87,14 @@ order_behind : (item : Item) (rest : List Item) → is_ascending (item ∷ rest)
 order_behind item [] order = refl
 order_behind item (next ∷ rest) order = second_true (precedes item next) (is_ascending (next ∷ rest)) order
 
-count_cons : (p : Item → Bool) (x : Item) (items : List Item) → count_by p (x ∷ items) ≡ (if p x then 1 else 0) + count_by p items
+count_cons : (p : Item → Bool) (x : Item) (items : List Item)
+    → count_by p (x ∷ items) ≡ (if p x then 1 else 0) + count_by p items
 count_cons p x items = sum_by-cons (λ y. if p y then 1 else 0) x items
 
 -- an item doesn't change which of those behind it add a segment
-count_behind : (defs : List MsdbDef) (store : Stored) (n : ℕ) (k bytes : List ℕ) → IsOf defs store → IsFitSegment defs (Segment n k bytes) → (rest : List Item) → AllByRecursion IsSegmentItem rest → AllByRecursion (λ item. precedes (Segment n k bytes) item ≡ true) rest
+count_behind : (defs : List MsdbDef) (store : Stored) (n : ℕ) (k bytes : List ℕ) → IsOf defs store
+    → IsFitSegment defs (Segment n k bytes) → (rest : List Item) → AllByRecursion IsSegmentItem rest
+    → AllByRecursion (λ item. precedes (Segment n k bytes) item ≡ true) rest
     → count_by (adds defs (with_item defs store.msdbs (Segment n k bytes))) rest ≡ count_by (adds defs store.msdbs) rest
 count_behind defs store n k bytes of fit [] segments behind = refl
 count_behind defs store n k bytes of fit (Image set ci b ∷ rest) segments behind = absurd segments.0
@@ -91,13 +103,18 @@ count_behind defs store n k bytes of fit (Segment m j b ∷ rest) segments behin
     let t : Touch = record { number = n; key = k; bytes = bytes } in
     let apart : (n == m && same_text k j) ≡ false = differs n k m j (split n k m j behind.0) in
     let same : segment_in defs (with_item defs store.msdbs (Segment n k bytes)) m j ≡ segment_in defs store.msdbs m j =
-    behind_item defs store.msdbs of.each t fit m j ∙ ap (λ (x : Bool). if x then made bytes else segment_in defs store.msdbs m j) apart in
-    let one : adds defs (with_item defs store.msdbs (Segment n k bytes)) (Segment m j b) ≡ adds defs store.msdbs (Segment m j b) = ap (λ o. has_bytes b && is_none o) same in
-    count_more (adds defs (with_item defs store.msdbs (Segment n k bytes))) (adds defs store.msdbs) (Segment m j b) rest one (count_behind defs store n k bytes of fit rest segments.1 behind.1)
+    behind_item defs store.msdbs of.each t fit m j ∙ ap
+    (λ (x : Bool). if x then made bytes else segment_in defs store.msdbs m j) apart in
+    let one : adds defs (with_item defs store.msdbs (Segment n k bytes)) (Segment m j b) ≡ adds defs store.msdbs
+    (Segment m j b) = ap (λ o. has_bytes b && is_none o) same in
+    count_more (adds defs (with_item defs store.msdbs (Segment n k bytes))) (adds defs store.msdbs) (Segment m j b) rest
+    one (count_behind defs store n k bytes of fit rest segments.1 behind.1)
   where
-    count_more : (p q : Item → Bool) (x : Item) (items : List Item) → p x ≡ q x → count_by p items ≡ count_by q items → count_by p (x ∷ items) ≡ count_by q (x ∷ items)
+    count_more : (p q : Item → Bool) (x : Item) (items : List Item) → p x ≡ q x → count_by p items ≡ count_by q items
+        → count_by p (x ∷ items) ≡ count_by q (x ∷ items)
     count_more p q x items one more =
-        count_cons p x items ∙ ap (λ (b : Bool). (if b then 1 else 0) + count_by p items) one ∙ ap (λ (n : ℕ). (if q x then 1 else 0) + n) more ∙ sym (count_cons q x items)
+        count_cons p x items ∙ ap (λ (b : Bool). (if b then 1 else 0) + count_by p items) one ∙ ap
+        (λ (n : ℕ). (if q x then 1 else 0) + n) more ∙ sym (count_cons q x items)
 
 -- ---- publishing
 
@@ -111,7 +128,8 @@ pub record IsPublishing (defs : List MsdbDef) (old now : Stored) (staged : Chang
   pub spare : old.spare + count_by (adds defs now.msdbs) rest ≤ now.spare + staged.inserts
   pub few : AreFew old.msdbs → AreFew now.msdbs
 
-pub at_first : (defs : List MsdbDef) (old : Stored) (staged : Changes) → IsOf defs old → IsStaged defs old.msdbs staged → staged.inserts ≤ old.spare → IsPublishing defs old old staged staged.items
+pub at_first : (defs : List MsdbDef) (old : Stored) (staged : Changes) → IsOf defs old → IsStaged defs old.msdbs staged
+    → staged.inserts ≤ old.spare → IsPublishing defs old old staged staged.items
 at_first defs old staged of is room = record {
   of = of;
   whole = refl;
@@ -124,11 +142,13 @@ at_first defs old staged of is room = record {
 }
 
 -- the first of the items left may be put
-pub first_can : (defs : List MsdbDef) (old now : Stored) (staged : Changes) (item : Item) (rest : List Item) → IsPublishing defs old now staged (item ∷ rest) → CanPut defs now item
+pub first_can : (defs : List MsdbDef) (old now : Stored) (staged : Changes) (item : Item) (rest : List Item)
+    → IsPublishing defs old now staged (item ∷ rest) → CanPut defs now item
 first_can defs old now staged item rest s = record {
   of = s.of;
   fit = s.fit.0;
-  room = λ adds_one. one (adds defs now.msdbs item) adds_one (subst (λ n. n ≤ now.spare) (count_cons (adds defs now.msdbs) item rest) s.room);
+  room = λ adds_one. one (adds defs now.msdbs item) adds_one
+      (subst (λ n. n ≤ now.spare) (count_cons (adds defs now.msdbs) item rest) s.room);
 }
   where
     one : (b : Bool) → b ≡ true → (if b then 1 else 0) + count_by (adds defs now.msdbs) rest ≤ now.spare → 0 < now.spare
@@ -136,13 +156,17 @@ first_can defs old now staged item rest s = record {
     one false e enough = absurd (not_both (sym e))
 
 -- and then the others are left
-pub one_more : (defs : List MsdbDef) (old now new : Stored) (staged : Changes) (item : Item) (rest : List Item) → IsPublishing defs old now staged (item ∷ rest)
-    → new.msdbs ≡ with_item defs now.msdbs item → IsOf defs new → KeepsRoom now new (adds defs now.msdbs item) → IsPublishing defs old new staged rest
+pub one_more : (defs : List MsdbDef) (old now new : Stored) (staged : Changes) (item : Item) (rest : List Item)
+    → IsPublishing defs old now staged (item ∷ rest)
+    → new.msdbs ≡ with_item defs now.msdbs item → IsOf defs new → KeepsRoom now new (adds defs now.msdbs item)
+    → IsPublishing defs old new staged rest
 one_more defs old now new staged (Image set ci bytes) rest s is of keeps = absurd s.segments.0
 one_more defs old now new staged (Range set ci at bytes) rest s is of keeps = absurd s.segments.0
 one_more defs old now new staged (Segment n k bytes) rest s is of keeps =
     let behind = all_behind n k bytes rest s.segments.1 s.order in
-    let count : count_by (adds defs new.msdbs) rest ≡ count_by (adds defs now.msdbs) rest = ap (λ ms. count_by (adds defs ms) rest) is ∙ count_behind defs now n k bytes s.of s.fit.0 rest s.segments.1 behind in
+    let count : count_by (adds defs new.msdbs) rest ≡ count_by (adds defs now.msdbs) rest =
+    ap (λ ms. count_by (adds defs ms) rest) is ∙ count_behind defs now n k bytes s.of s.fit.0 rest s.segments.1
+    behind in
     let first = count_cons (adds defs now.msdbs) (Segment n k bytes) rest in
     let room = s.room in
     let spare = s.spare in
@@ -158,5 +182,6 @@ one_more defs old now new staged (Segment n k bytes) rest s is of keeps =
     }
 
 -- at the end
-pub all_put : (defs : List MsdbDef) (old now : Stored) (staged : Changes) → IsPublishing defs old now staged [] → (now.msdbs ≡ with_items defs old.msdbs staged.items) × (old.spare ≤ now.spare + staged.inserts)
+pub all_put : (defs : List MsdbDef) (old now : Stored) (staged : Changes) → IsPublishing defs old now staged []
+    → (now.msdbs ≡ with_items defs old.msdbs staged.items) × (old.spare ≤ now.spare + staged.inserts)
 all_put defs old now staged s = (s.whole, omega (arith, s.spare))

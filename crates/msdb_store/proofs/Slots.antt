@@ -33,7 +33,8 @@ other number n apart = ap one_if (by (n == number) refl)
     by false e = refl
 
 apart_from : (number n : ℕ) → is number n ≡ 0 → n ≡ number → ⊥
-apart_from number n none same = let one : is number n ≡ 1 = ap (is number) same ∙ itself number in omega (arith, none, one)
+apart_from number n none same = let one : is number n ≡ 1 = ap (is number) same ∙ itself number in
+    omega (arith, none, one)
 
 times_cons : (number n : ℕ) (ns : List ℕ) → times number (n ∷ ns) ≡ is number n + times number ns
 times_cons number n ns = sum_by-cons (is number) n ns
@@ -41,38 +42,51 @@ times_cons number n ns = sum_by-cons (is number) n ns
 -- what is below an end isn't that end
 none_above : (end : ℕ) (ns : List ℕ) → AllByRecursion (λ n. n < end) ns → times end ns ≡ 0
 none_above end [] all = refl
-none_above end (n ∷ ns) all = omega (arith, times_cons end n ns, other end n (λ same. omega (arith, all.0, same)), none_above end ns all.1)
+none_above end (n ∷ ns) all = omega (
+  arith,
+  times_cons end n ns,
+  other end n (λ same. omega (arith, all.0, same)),
+  none_above end ns all.1,
+)
 
 -- ---- a write into one slot
 
 -- numbers of other slots see no change
-elsewhere : (slots : List (List ℕ)) (h : ℕ) (s : List ℕ) (ns : List ℕ) → times h ns ≡ 0 → in_slots (slice_set slots h s) ns ≡ in_slots slots ns
+elsewhere : (slots : List (List ℕ)) (h : ℕ) (s : List ℕ) (ns : List ℕ) → times h ns ≡ 0
+    → in_slots (slice_set slots h s) ns ≡ in_slots slots ns
 elsewhere slots h s [] none = refl
 elsewhere slots h s (n ∷ ns) none =
     let more = times_cons h n ns in
     let first : is h n ≡ 0 = omega (arith, none, more) in
     let rest : times h ns ≡ 0 = omega (arith, none, more) in
-    ap (λ x. x ∷ in_slots (slice_set slots h s) ns) (get_or-set_other slots h n s [] (apart_from h n first)) ∙ ap (λ xs. slot_of slots n ∷ xs) (elsewhere slots h s ns rest)
+    ap (λ x. x ∷ in_slots (slice_set slots h s) ns) (get_or-set_other slots h n s [] (apart_from h n first)) ∙ ap
+    (λ xs. slot_of slots n ∷ xs) (elsewhere slots h s ns rest)
 
 stands_times : (h : ℕ) (ns : List ℕ) (at : ℕ) → at < length ns → slice_index_or ns at h ≡ h → 1 ≤ times h ns
 stands_times h ns at within e = omega (arith, get_or-le-sum_by (is h) ns at h within, ap (is h) e, itself h)
 
 -- the segment at a place
-pub set_at : (slots : List (List ℕ)) (h : ℕ) (s : List ℕ) (ns : List ℕ) (at : ℕ) → h < length slots → at < length ns → slice_index_or ns at h ≡ h → times h ns ≤ 1 → in_slots (slice_set slots h s) ns ≡ slice_set (in_slots slots ns) at s
+pub set_at : (slots : List (List ℕ)) (h : ℕ) (s : List ℕ) (ns : List ℕ) (at : ℕ) → h < length slots → at < length ns
+    → slice_index_or ns at h ≡ h → times h ns ≤ 1 → in_slots (slice_set slots h s) ns ≡ slice_set (in_slots slots ns) at
+    s
 set_at slots h s [] at there within e once = absurd (omega (arith, within))
 set_at slots h s (n ∷ ns) zero there within e once =
     let more = times_cons h n ns in
     let rest : times h ns ≡ 0 = omega (arith, once, more, ap (is h) e, itself h) in
-    ap (λ x. x ∷ in_slots (slice_set slots h s) ns) (ap (slot_of (slice_set slots h s)) e ∙ get_or-set_same slots h s [] there) ∙ ap (λ xs. s ∷ xs) (elsewhere slots h s ns rest)
+    ap (λ x. x ∷ in_slots (slice_set slots h s) ns)
+    (ap (slot_of (slice_set slots h s)) e ∙ get_or-set_same slots h s [] there) ∙ ap (λ xs. s ∷ xs)
+    (elsewhere slots h s ns rest)
 set_at slots h s (n ∷ ns) (suc at) there within e once =
     let more = times_cons h n ns in
     let inner : at < length ns = omega (arith, within) in
     let first : is h n ≡ 0 = omega (arith, once, more, stands_times h ns at inner e) in
-    ap (λ x. x ∷ in_slots (slice_set slots h s) ns) (get_or-set_other slots h n s [] (apart_from h n first)) ∙ ap (λ xs. slot_of slots n ∷ xs) (set_at slots h s ns at there inner e (omega (arith, once, more)))
+    ap (λ x. x ∷ in_slots (slice_set slots h s) ns) (get_or-set_other slots h n s [] (apart_from h n first)) ∙ ap
+    (λ xs. slot_of slots n ∷ xs) (set_at slots h s ns at there inner e (omega (arith, once, more)))
 
 -- ---- edits of a list and of what its elements give
 
-map_insert : {A B : Type 0} (f : A → B) (xs : List A) (i : ℕ) (x : A) → map f (insert xs i x) ≡ insert (map f xs) i (f x)
+map_insert : {A B : Type 0} (f : A → B) (xs : List A) (i : ℕ) (x : A)
+    → map f (insert xs i x) ≡ insert (map f xs) i (f x)
 map_insert f xs zero x = refl
 map_insert f [] (suc i) x = refl
 map_insert f (y ∷ ys) (suc i) x = ap (λ zs. f y ∷ zs) (map_insert f ys i x)
@@ -83,7 +97,8 @@ map_remove f [] (suc i) = refl
 map_remove f (y ∷ ys) zero = refl
 map_remove f (y ∷ ys) (suc i) = ap (λ zs. f y ∷ zs) (map_remove f ys i)
 
-all_insert : {A : Type 0} (P : A → Type 0) (xs : List A) (i : ℕ) (x : A) → P x → AllByRecursion P xs → AllByRecursion P (insert xs i x)
+all_insert : {A : Type 0} (P : A → Type 0) (xs : List A) (i : ℕ) (x : A) → P x → AllByRecursion P xs
+    → AllByRecursion P (insert xs i x)
 all_insert P xs zero x one all = (one, all)
 all_insert P [] (suc i) x one all = (one, tt)
 all_insert P (y ∷ ys) (suc i) x one all = (all.0, all_insert P ys i x one all.1)
@@ -94,11 +109,13 @@ all_remove P [] (suc i) all = tt
 all_remove P (y ∷ ys) zero all = all.1
 all_remove P (y ∷ ys) (suc i) all = (all.0, all_remove P ys i all.1)
 
-all_push : {A : Type 0} (P : A → Type 0) (xs : List A) (x : A) → P x → AllByRecursion P xs → AllByRecursion P (xs ++ x ∷ [])
+all_push : {A : Type 0} (P : A → Type 0) (xs : List A) (x : A) → P x → AllByRecursion P xs
+    → AllByRecursion P (xs ++ x ∷ [])
 all_push P [] x one all = (one, tt)
 all_push P (y ∷ ys) x one all = (all.0, all_push P ys x one all.1)
 
-all_weaker : {A : Type 0} (P Q : A → Type 0) (xs : List A) → ((x : A) → P x → Q x) → AllByRecursion P xs → AllByRecursion Q xs
+all_weaker : {A : Type 0} (P Q : A → Type 0) (xs : List A) → ((x : A) → P x → Q x) → AllByRecursion P xs
+    → AllByRecursion Q xs
 all_weaker P Q [] weaker all = tt
 all_weaker P Q (x ∷ xs) weaker all = (weaker x all.0, all_weaker P Q xs weaker all.1)
 
@@ -118,18 +135,22 @@ take_before (suc n) [] = refl
 take_before (suc n) (y ∷ ys) = ap (λ zs. y ∷ zs) (take_before n ys)
 
 -- the first free number, put among those in use
-taken_in : (order : List ℕ) (used at h : ℕ) → at ≤ used → used < length order → take (suc used) (insert (remove order used) at h) ≡ insert (take used order) at h
+taken_in : (order : List ℕ) (used at h : ℕ) → at ≤ used → used < length order
+    → take (suc used) (insert (remove order used) at h) ≡ insert (take used order) at h
 taken_in order used zero h low within = ap (λ ns. h ∷ ns) (take_before used order)
 taken_in [] used (suc at) h low within = absurd (omega (arith, within))
 taken_in (n ∷ ns) zero (suc at) h low within = absurd (omega (arith, low))
-taken_in (n ∷ ns) (suc used) (suc at) h low within = ap (λ ms. n ∷ ms) (taken_in ns used at h (omega (arith, low)) (omega (arith, within)))
+taken_in (n ∷ ns) (suc used) (suc at) h low within =
+    ap (λ ms. n ∷ ms) (taken_in ns used at h (omega (arith, low)) (omega (arith, within)))
 
 -- a number in use, put behind all
-taken_out : (order : List ℕ) (used at h : ℕ) → at ≤ used → used < length order → take used (remove order at ++ h ∷ []) ≡ remove (take (suc used) order) at
+taken_out : (order : List ℕ) (used at h : ℕ) → at ≤ used → used < length order
+    → take used (remove order at ++ h ∷ []) ≡ remove (take (suc used) order) at
 taken_out [] used at h low within = absurd (omega (arith, within))
 taken_out (n ∷ ns) used zero h low within = take_whole used ns h (omega (arith, within))
 taken_out (n ∷ ns) zero (suc at) h low within = absurd (omega (arith, low))
-taken_out (n ∷ ns) (suc used) (suc at) h low within = ap (λ ms. n ∷ ms) (taken_out ns used at h (omega (arith, low)) (omega (arith, within)))
+taken_out (n ∷ ns) (suc used) (suc at) h low within =
+    ap (λ ms. n ∷ ms) (taken_out ns used at h (omega (arith, low)) (omega (arith, within)))
 
 -- ---- the edits
 
@@ -150,71 +171,124 @@ map_length f (x ∷ xs) = ap suc (map_length f xs)
 
 -- there are as many segments as slots are used
 pub used_length : (slots : List (List ℕ)) (order : List ℕ) (used : ℕ) → AreSlots (length slots) order used → length (in_slots slots (take used order)) ≡ used
-used_length slots order used are = map_length (slot_of slots) (take used order) ∙ length-take used order ∙ omega (arith, are.within)
+used_length slots order used are = map_length (slot_of slots) (take used order) ∙ length-take used order ∙ omega
+    (arith, are.within)
 
 -- a number of the order names a slot
-pub named_slot : (slots : ℕ) (order : List ℕ) (used at d : ℕ) → AreSlots slots order used → at < length order → slice_index_or order at d < slots
-named_slot slots order used at d s within = omega (arith, all_at (λ n. n < length order) order at d within s.below, s.there)
+pub named_slot : (slots : ℕ) (order : List ℕ) (used at d : ℕ) → AreSlots slots order used → at < length order
+    → slice_index_or order at d < slots
+named_slot slots order used at d s within = omega (
+  arith,
+  all_at (λ n. n < length order) order at d within s.below,
+  s.there,
+)
 
 -- the slot of a number that is in use
-pub set_used : (slots : List (List ℕ)) (order : List ℕ) (used at h : ℕ) (s : List ℕ) → AreSlots (length slots) order used → at < used → slice_index_or order at h ≡ h
+pub set_used : (slots : List (List ℕ)) (order : List ℕ) (used at h : ℕ) (s : List ℕ)
+    → AreSlots (length slots) order used → at < used → slice_index_or order at h ≡ h
     → in_slots (slice_set slots h s) (take used order) ≡ slice_set (in_slots slots (take used order)) at s
 set_used slots order used at h s are within e =
     let long : length (take used order) ≡ used = length-take used order ∙ omega (arith, are.within) in
-    set_at slots h s (take used order) at (subst (λ n. n < length slots) e (named_slot (length slots) order used at h are (omega (arith, within, are.within)))) (omega (arith, within, long))
+    set_at slots h s (take used order) at (subst (λ n. n < length slots) e
+    (named_slot (length slots) order used at h are (omega (arith, within, are.within))))
+    (omega (arith, within, long))
     (take_reads order used at h within ∙ e) (omega (arith, sum_by-take-le (is h) order used, are.once h))
 
 -- the first free number isn't in use
-free_times : (slots : ℕ) (order : List ℕ) (used h : ℕ) → AreSlots slots order used → used < length order → slice_index_or order used h ≡ h → times h (take used order) ≡ 0
+free_times : (slots : ℕ) (order : List ℕ) (used h : ℕ) → AreSlots slots order used → used < length order
+    → slice_index_or order used h ≡ h → times h (take used order) ≡ 0
 free_times slots order used h are within e =
-    omega (arith, sum_by-take-drop (is h) order used, sum_by-drop_more (is h) order used h within, ap (is h) e, itself h, are.once h)
+    omega (
+      arith,
+      sum_by-take-drop (is h) order used,
+      sum_by-drop_more (is h) order used h within,
+      ap (is h) e,
+      itself h,
+      are.once h,
+    )
 
-pub put_free : (slots : List (List ℕ)) (order : List ℕ) (used at h : ℕ) (s : List ℕ) → AreSlots (length slots) order used → at ≤ used → used < length order → slice_index_or order used h ≡ h
-    → in_slots (slice_set slots h s) (take (used + 1) (insert (remove order used) at h)) ≡ insert (in_slots slots (take used order)) at s
+pub put_free : (slots : List (List ℕ)) (order : List ℕ) (used at h : ℕ) (s : List ℕ)
+    → AreSlots (length slots) order used → at ≤ used → used < length order → slice_index_or order used h ≡ h
+    → in_slots (slice_set slots h s) (take (used + 1) (insert (remove order used) at h)) ≡ insert
+    (in_slots slots (take used order)) at s
 put_free slots order used at h s are low within e =
-    let there : h < length slots = subst (λ n. n < length slots) e (named_slot (length slots) order used used h are within) in
+    let there : h < length slots = subst (λ n. n < length slots) e
+    (named_slot (length slots) order used used h are within) in
     let next : used + 1 ≡ suc used = omega arith in
     ap (λ n. in_slots (slice_set slots h s) (take n (insert (remove order used) at h))) next
     ∙ ap (in_slots (slice_set slots h s)) (taken_in order used at h low within)
     ∙ map_insert (slot_of (slice_set slots h s)) (take used order) at h
     ∙ ap (λ x. insert (in_slots (slice_set slots h s) (take used order)) at x) (get_or-set_same slots h s [] there)
-    ∙ ap (λ xs. insert xs at s) (elsewhere slots h s (take used order) (free_times (length slots) order used h are within e))
+    ∙ ap (λ xs. insert xs at s) (elsewhere slots h s (take used order)
+    (free_times (length slots) order used h are within e))
 
-pub are_put : (slots : ℕ) (order : List ℕ) (used at h : ℕ) → AreSlots slots order used → at ≤ used → used < length order → slice_index_or order used h ≡ h → AreSlots slots (insert (remove order used) at h) (used + 1)
+pub are_put : (slots : ℕ) (order : List ℕ) (used at h : ℕ) → AreSlots slots order used → at ≤ used → used < length order
+    → slice_index_or order used h ≡ h → AreSlots slots (insert (remove order used) at h) (used + 1)
 are_put slots order used at h are low within e =
     let shorter = length-remove order used within in
-    let long : length (insert (remove order used) at h) ≡ length order = length-insert (remove order used) at h (omega (arith, shorter, low, within)) ∙ omega (arith, shorter) in
-    let below : h < length order = subst (λ n. n < length order) e (all_at (λ n. n < length order) order used h within are.below) in
+    let long : length (insert (remove order used) at h) ≡ length order =
+    length-insert (remove order used) at h (omega (arith, shorter, low, within)) ∙ omega (arith, shorter) in
+    let below : h < length order = subst (λ n. n < length order) e
+    (all_at (λ n. n < length order) order used h within are.below) in
     record {
-      once = λ n. omega (arith, sum_by-insert (is n) (remove order used) at h, sum_by-remove (is n) order used h within, ap (is n) e, are.once n);
-      below = subst (λ end. AllByRecursion (λ n. n < end) (insert (remove order used) at h)) (sym long) (all_insert (λ n. n < length order) (remove order used) at h below (all_remove (λ n. n < length order) order used are.below));
+      once = λ n. omega (
+        arith,
+        sum_by-insert (is n) (remove order used) at h,
+        sum_by-remove (is n) order used h within,
+        ap (is n) e,
+        are.once n,
+      );
+      below = subst (λ end. AllByRecursion (λ n. n < end) (insert (remove order used) at h)) (sym long)
+          (all_insert (λ n. n < length order) (remove order used) at h below
+          (all_remove (λ n. n < length order) order used are.below));
       there = omega (arith, long, are.there);
       within = omega (arith, long, within);
     }
 
-pub take_out : (slots : List (List ℕ)) (order : List ℕ) (used at h : ℕ) (s : List ℕ) → AreSlots (length slots) order used → at < used → slice_index_or order at h ≡ h
-    → in_slots (slice_set slots h s) (take (used - 1) (remove order at ++ h ∷ [])) ≡ remove (in_slots slots (take used order)) at
+pub take_out : (slots : List (List ℕ)) (order : List ℕ) (used at h : ℕ) (s : List ℕ)
+    → AreSlots (length slots) order used → at < used → slice_index_or order at h ≡ h
+    → in_slots (slice_set slots h s) (take (used - 1) (remove order at ++ h ∷ [])) ≡ remove
+    (in_slots slots (take used order)) at
 take_out slots order zero at h s are within e = absurd (omega (arith, within))
 take_out slots order (suc used) at h s are within e =
     let one : suc used - 1 ≡ used = omega arith in
     let inside : used < length order = omega (arith, are.within) in
     let long : length (take (suc used) order) ≡ suc used = length-take (suc used) order ∙ omega (arith, are.within) in
     let reads : slice_index_or (take (suc used) order) at h ≡ h = take_reads order (suc used) at h within ∙ e in
-    let gone : times h (remove (take (suc used) order) at) ≡ 0 = omega (arith, sum_by-remove (is h) (take (suc used) order) at h (omega (arith, within, long)), ap (is h) reads, itself h, sum_by-take-le (is h) order (suc used), are.once h) in
+    let gone : times h (remove (take (suc used) order) at) ≡ 0 =
+    omega (
+      arith,
+      sum_by-remove (is h) (take (suc used) order) at h (omega (arith, within, long)),
+      ap (is h) reads,
+      itself h,
+      sum_by-take-le (is h) order (suc used),
+      are.once h,
+    ) in
     ap (λ n. in_slots (slice_set slots h s) (take n (remove order at ++ h ∷ []))) one
     ∙ ap (in_slots (slice_set slots h s)) (taken_out order used at h (omega (arith, within)) inside)
     ∙ elsewhere slots h s (remove (take (suc used) order) at) gone
     ∙ map_remove (slot_of slots) (take (suc used) order) at
 
-pub are_out : (slots : ℕ) (order : List ℕ) (used at h : ℕ) → AreSlots slots order used → at < used → slice_index_or order at h ≡ h → AreSlots slots (remove order at ++ h ∷ []) (used - 1)
+pub are_out : (slots : ℕ) (order : List ℕ) (used at h : ℕ) → AreSlots slots order used → at < used
+    → slice_index_or order at h ≡ h → AreSlots slots (remove order at ++ h ∷ []) (used - 1)
 are_out slots order used at h are within e =
     let inside : at < length order = omega (arith, within, are.within) in
     let shorter = length-remove order at inside in
-    let long : length (remove order at ++ h ∷ []) ≡ length order = length_push (remove order at) h ∙ omega (arith, shorter) in
-    let below : h < length order = subst (λ n. n < length order) e (all_at (λ n. n < length order) order at h inside are.below) in
+    let long : length (remove order at ++ h ∷ []) ≡ length order =
+    length_push (remove order at) h ∙ omega (arith, shorter) in
+    let below : h < length order = subst (λ n. n < length order) e
+    (all_at (λ n. n < length order) order at h inside are.below) in
     record {
-      once = λ n. omega (arith, sum_by_push (is n) (remove order at) h, sum_by-remove (is n) order at h inside, ap (is n) e, are.once n);
-      below = subst (λ end. AllByRecursion (λ n. n < end) (remove order at ++ h ∷ [])) (sym long) (all_push (λ n. n < length order) (remove order at) h below (all_remove (λ n. n < length order) order at are.below));
+      once = λ n. omega (
+        arith,
+        sum_by_push (is n) (remove order at) h,
+        sum_by-remove (is n) order at h inside,
+        ap (is n) e,
+        are.once n,
+      );
+      below = subst (λ end. AllByRecursion (λ n. n < end) (remove order at ++ h ∷ [])) (sym long)
+          (all_push (λ n. n < length order) (remove order at) h below
+          (all_remove (λ n. n < length order) order at are.below));
       there = omega (arith, long, are.there);
       within = omega (arith, long, are.within);
     }
@@ -229,18 +303,29 @@ one_more_slot (s ∷ slots) (suc n) = one_more_slot slots n
 
 pub slots_more : (slots : List (List ℕ)) (ns : List ℕ) → in_slots (slots ++ [] ∷ []) ns ≡ in_slots slots ns
 slots_more slots [] = refl
-slots_more slots (n ∷ ns) = ap (λ x. x ∷ in_slots (slots ++ [] ∷ []) ns) (one_more_slot slots n) ∙ ap (λ xs. slot_of slots n ∷ xs) (slots_more slots ns)
+slots_more slots (n ∷ ns) = ap (λ x. x ∷ in_slots (slots ++ [] ∷ []) ns) (one_more_slot slots n) ∙ ap
+    (λ xs. slot_of slots n ∷ xs) (slots_more slots ns)
 
-pub are_wider : (slots more : ℕ) (order : List ℕ) (used : ℕ) → AreSlots slots order used → slots ≤ more → AreSlots more order used
-are_wider slots more order used are le = record { once = are.once; below = are.below; there = omega (arith, are.there, le); within = are.within }
+pub are_wider : (slots more : ℕ) (order : List ℕ) (used : ℕ) → AreSlots slots order used → slots ≤ more
+    → AreSlots more order used
+are_wider slots more order used are le = record {
+  once = are.once;
+  below = are.below;
+  there =
+      omega (arith, are.there, le);
+  within = are.within;
+}
 
-pub are_more : (slots : ℕ) (order : List ℕ) (used : ℕ) → AreSlots slots order used → length order < slots → AreSlots slots (order ++ length order ∷ []) used
+pub are_more : (slots : ℕ) (order : List ℕ) (used : ℕ) → AreSlots slots order used → length order < slots
+    → AreSlots slots (order ++ length order ∷ []) used
 are_more slots order used are room =
     let long : length (order ++ length order ∷ []) ≡ length order + 1 = length_push order (length order) in
     record {
       once = λ n. omega (arith, sum_by_push (is n) order (length order), once n (is n (length order)) refl);
       below = subst (λ end. AllByRecursion (λ n. n < end) (order ++ length order ∷ [])) (sym long)
-          (all_push (λ n. n < length order + 1) order (length order) (omega arith) (all_weaker (λ n. n < length order) (λ n. n < length order + 1) order (λ n lt. omega (arith, lt)) are.below));
+          (all_push (λ n. n < length order + 1) order (length order) (omega arith)
+          (all_weaker (λ n. n < length order) (λ n. n < length order + 1) order (λ n lt. omega (arith, lt))
+          are.below));
       there = omega (arith, long, room);
       within = omega (arith, long, are.within);
     }
@@ -252,11 +337,13 @@ are_more slots order used are room =
         by : (b : Bool) → (length order == n) ≡ b → one_if (length order == n) ≡ suc m → times n order + suc m ≤ 1
         by true same one =
             let at : length order ≡ n = grind (arith, nat_tests) in
-            let none : times n order ≡ 0 = subst (λ k. times k order ≡ 0) at (none_above (length order) order are.below) in
+            let none : times n order ≡ 0 = subst (λ k. times k order ≡ 0) at (none_above (length order) order are.below)
+            in
             omega (arith, none, one, ap one_if same)
         by false same one = absurd (omega (arith, one, ap one_if same))
 
-pub take_more_order : (order : List ℕ) (used n : ℕ) → used ≤ length order → take used (order ++ n ∷ []) ≡ take used order
+pub take_more_order : (order : List ℕ) (used n : ℕ) → used ≤ length order
+    → take used (order ++ n ∷ []) ≡ take used order
 take_more_order order used n within = take_whole used order n within
 
 -- ---- slots in the order of their numbers
@@ -267,20 +354,35 @@ up_length (suc n) from = ap suc (up_length n (from + 1))
 
 up_below : (n from : ℕ) → AllByRecursion (λ m. m < from + n) (numbers_up n from)
 up_below zero from = tt
-up_below (suc n) from = (omega arith, all_weaker (λ m. m < from + 1 + n) (λ m. m < from + suc n) (numbers_up n (from + 1)) (λ m lt. omega (arith, lt)) (up_below n (from + 1)))
+up_below (suc n) from = (
+  omega arith,
+  all_weaker (λ m. m < from + 1 + n) (λ m. m < from + suc n)
+      (numbers_up n (from + 1)) (λ m lt. omega (arith, lt)) (up_below n (from + 1)),
+)
 
 up_none : (number n from : ℕ) → number < from → times number (numbers_up n from) ≡ 0
 up_none number zero from low = refl
-up_none number (suc n) from low = omega (arith, times_cons number from (numbers_up n (from + 1)), other number from (λ same. omega (arith, low, same)), up_none number n (from + 1) (omega (arith, low)))
+up_none number (suc n) from low = omega (
+  arith,
+  times_cons number from (numbers_up n (from + 1)),
+  other number from (λ same. omega (arith, low, same)),
+  up_none number n (from + 1) (omega (arith, low)),
+)
 
 up_once : (number n from : ℕ) → times number (numbers_up n from) ≤ 1
 up_once number zero from = omega arith
 up_once number (suc n) from = by (from == number) refl (up_once number n (from + 1))
   where
-    by : (b : Bool) → (from == number) ≡ b → times number (numbers_up n (from + 1)) ≤ 1 → times number (from ∷ numbers_up n (from + 1)) ≤ 1
+    by : (b : Bool) → (from == number) ≡ b → times number (numbers_up n (from + 1)) ≤ 1
+        → times number (from ∷ numbers_up n (from + 1)) ≤ 1
     by true e later =
         let same : from ≡ number = grind (arith, nat_tests) in
-        omega (arith, times_cons number from (numbers_up n (from + 1)), ap one_if e, up_none number n (from + 1) (omega (arith, same)))
+        omega (
+          arith,
+          times_cons number from (numbers_up n (from + 1)),
+          ap one_if e,
+          up_none number n (from + 1) (omega (arith, same)),
+        )
     by false e later = omega (arith, times_cons number from (numbers_up n (from + 1)), ap one_if e, later)
 
 pub are_up : (n : ℕ) → AreSlots n (numbers_up n 0) n
@@ -288,16 +390,19 @@ are_up n =
     let long = up_length n 0 in
     record {
       once = λ number. up_once number n 0;
-      below = subst (λ end. AllByRecursion (λ m. m < end) (numbers_up n 0)) (sym long) (all_weaker (λ m. m < 0 + n) (λ m. m < n) (numbers_up n 0) (λ m lt. omega (arith, lt)) (up_below n 0));
+      below = subst (λ end. AllByRecursion (λ m. m < end) (numbers_up n 0)) (sym long)
+          (all_weaker (λ m. m < 0 + n) (λ m. m < n) (numbers_up n 0) (λ m lt. omega (arith, lt)) (up_below n 0));
       there = omega (arith, long);
       within = omega (arith, long);
     }
 
-up_slots : (front xs : List (List ℕ)) (from : ℕ) → from ≡ length front → in_slots (front ++ xs) (numbers_up (length xs) from) ≡ xs
+up_slots : (front xs : List (List ℕ)) (from : ℕ) → from ≡ length front
+    → in_slots (front ++ xs) (numbers_up (length xs) from) ≡ xs
 up_slots front [] from at = refl
 up_slots front (x ∷ xs) from at =
     ap (λ y. y ∷ in_slots (front ++ x ∷ xs) (numbers_up (length xs) (from + 1))) (reads front from at)
-    ∙ ap (λ ys. x ∷ ys) (ap (λ all. in_slots all (numbers_up (length xs) (from + 1))) (again front) ∙ up_slots (front ++ x ∷ []) xs (from + 1) (omega (arith, at, length_push front x)))
+    ∙ ap (λ ys. x ∷ ys) (ap (λ all. in_slots all (numbers_up (length xs) (from + 1))) (again front) ∙ up_slots
+    (front ++ x ∷ []) xs (from + 1) (omega (arith, at, length_push front x)))
   where
     reads : (ys : List (List ℕ)) (n : ℕ) → n ≡ length ys → slot_of (ys ++ x ∷ xs) n ≡ x
     reads [] n e = ap (slot_of (x ∷ xs)) e
@@ -328,7 +433,8 @@ up_push n = up_next n 0 ∙ ap (λ k. numbers_up n 0 ++ k ∷ []) (let e : 0 + n
     up_next (suc m) from =
         let on : suc m + 1 ≡ suc (m + 1) = omega arith in
         let end : from + 1 + m ≡ from + suc m = omega arith in
-        ap (λ k. numbers_up k from) on ∙ ap (λ ns. from ∷ ns) (up_next m (from + 1) ∙ ap (λ k. numbers_up m (from + 1) ++ k ∷ []) end)
+        ap (λ k. numbers_up k from) on ∙ ap (λ ns. from ∷ ns)
+        (up_next m (from + 1) ∙ ap (λ k. numbers_up m (from + 1) ++ k ∷ []) end)
 
 -- ---- places
 
@@ -337,12 +443,16 @@ map_both f g [] = refl
 map_both f g (x ∷ xs) = ap (λ ys. g (f x) ∷ ys) (map_both f g xs)
 
 -- keys that ascend among segments ascend among the numbers of their slots
-pub ascends_as : (slots : List (List ℕ)) (count : ℕ) (ns : List ℕ) → ascend (map (take count) (in_slots slots ns)) ≡ true → ascend (map (λ n. take count (slot_of slots n)) ns) ≡ true
+pub ascends_as : (slots : List (List ℕ)) (count : ℕ) (ns : List ℕ)
+    → ascend (map (take count) (in_slots slots ns)) ≡ true → ascend (map (λ n. take count (slot_of slots n)) ns) ≡ true
 ascends_as slots count ns up = ap ascend (sym (map_both (slot_of slots) (take count) ns)) ∙ up
 
 -- and a place among the numbers is one among the segments
-pub place_as : (slots : List (List ℕ)) (count : ℕ) (key : List ℕ) (ns : List ℕ) (n : ℕ) → n ≤ length ns → IsPlace (λ m. take count (slot_of slots m)) key ns n → IsPlace (take count) key (in_slots slots ns) n
+pub place_as : (slots : List (List ℕ)) (count : ℕ) (key : List ℕ) (ns : List ℕ) (n : ℕ) → n ≤ length ns
+    → IsPlace (λ m. take count (slot_of slots m)) key ns n → IsPlace (take count) key (in_slots slots ns) n
 place_as slots count key ns n within p = (
-  λ i d low high. ap (λ s. is_below (take count s) key) (get_or-map (slot_of slots) ns i 0 d (omega (arith, within, high))) ∙ p.0 i 0 low high,
-  λ i d low high. let inside : i < length ns = omega (arith, high, map_length (slot_of slots) ns) in ap (λ s. is_below (take count s) key) (get_or-map (slot_of slots) ns i 0 d inside) ∙ p.1 i 0 low inside,
+  λ i d low high. ap (λ s. is_below (take count s) key)
+      (get_or-map (slot_of slots) ns i 0 d (omega (arith, within, high))) ∙ p.0 i 0 low high,
+  λ i d low high. let inside : i < length ns = omega (arith, high, map_length (slot_of slots) ns) in
+      ap (λ s. is_below (take count s) key) (get_or-map (slot_of slots) ns i 0 d inside) ∙ p.1 i 0 low inside,
 )

@@ -14,7 +14,8 @@ IsWithin n (Lacks at) = at ≤ n
 module _ {X : Type 0} (key : X → List ℕ) (k : List ℕ) where
   -- those in front of the place are below the key, and those from it on aren't
   abbrev pub IsPlace : List X → ℕ → Type 0
-  IsPlace xs n = AllWithin (λ x. is_below (key x) k ≡ true) xs 0 n × AllWithin (λ x. is_below (key x) k ≡ false) xs n (length xs)
+  IsPlace xs n = AllWithin (λ x. is_below (key x) k ≡ true) xs 0 n
+      × AllWithin (λ x. is_below (key x) k ≡ false) xs n (length xs)
 
   -- the element, if it has the key
   abbrev pub if_same : Option X → Option X

@@ -21,14 +21,16 @@ use Rattle.msdb_store.specs.Touches.{Touch, item_of, put_touch, seen}
 pub record Stages (defs : List MsdbDef) (msdbs : List Msdb) (ts : List Touch) (now : List Msdb) : Type 0 where
   pub of : AllZip IsMsdbOf defs now
   pub fit : AllByRecursion (λ t. IsFitSegment defs (item_of t)) ts
-  pub agree : (number : ℕ) (key : List ℕ) → segment_in defs now number key ≡ seen ts (segment_in defs msdbs number key) number key
+  pub agree : (number : ℕ) (key : List ℕ) → segment_in defs now number key ≡ seen ts (segment_in defs msdbs number key)
+      number key
 
 -- a call comes to be settled on these databases
-pub record AtCall (defs : List MsdbDef) (store : Stored) (ts : List Touch) (now : List Msdb) (call : Deferred) : Type 0 where
-  pub of : IsOf defs store
-  pub defined : AllByRecursion IsMsdbDef defs
-  pub stages : Stages defs store.msdbs ts now
-  pub fit : IsFitDeferred defs call
+pub record AtCall (defs : List MsdbDef) (store : Stored) (ts : List Touch) (now : List Msdb) (call : Deferred) : Type 0
+  where
+    pub of : IsOf defs store
+    pub defined : AllByRecursion IsMsdbDef defs
+    pub stages : Stages defs store.msdbs ts now
+    pub fit : IsFitDeferred defs call
 
 -- the bytes that a call gives its segment, or how it fails
 abbrev pub IsGiven : List MsdbDef → List Msdb → Deferred → Result (List ℕ) SettleFault → Type 0
@@ -41,7 +43,8 @@ IsGiven defs now call (Err fault.Memory) = ⊤
 -- they are staged
 abbrev pub IsStep : List MsdbDef → List Msdb → Deferred → List Touch → List Touch → Result ⊤ SettleFault → Type 0
 IsStep defs now call old new (Ok done) =
-    (bytes : List ℕ) × IsGiven defs now call (Ok bytes) × (new ≡ put_touch (record { number = (named defs call).0; key = (named defs call).1; bytes = bytes }) old)
+    (bytes : List ℕ) × IsGiven defs now call (Ok bytes)
+    × (new ≡ put_touch (record { number = (named defs call).0; key = (named defs call).1; bytes = bytes }) old)
 IsStep defs now call old new (Err (fault.Bad place found)) = applied defs call now ≡ Fails place found
 IsStep defs now call old new (Err fault.Memory) = ⊤
 

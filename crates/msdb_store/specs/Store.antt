@@ -51,7 +51,8 @@ found_after defs store number key = elim (slice_get defs number) [
 
 -- a segment item is fit: its segment is one that its database may have; other items are left aside
 abbrev pub IsFitSegment : List MsdbDef → Item → Type 0
-IsFitSegment defs (Segment number key bytes) = (def : MsdbDef) × (slice_get defs number ≡ Some def) × FitsMsdb def key bytes
+IsFitSegment defs (Segment number key bytes) = (def : MsdbDef) × (slice_get defs number ≡ Some def)
+    × FitsMsdb def key bytes
 IsFitSegment defs (Image set ci bytes) = ⊤
 IsFitSegment defs (Range set ci at bytes) = ⊤
 

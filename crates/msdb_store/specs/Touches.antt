@@ -1,4 +1,5 @@
--- Segments that settling touches, by ascending database and key, with their bytes: none where the segment is taken away.
+-- Segments that settling touches, by ascending database and key, with their bytes: none where the segment is taken
+-- away.
 use Rattle.std.specs.Prelude.{◌≡◌, ⊤, ℕ, List, [], ◌∷◌, Bool, ◌&&◌, ◌==◌, Option, None, Some, if◌then◌else◌}
 use Rattle.std.specs.declared.cmp.Ordering.{Ordering}
 use Rattle.std.specs.declared.cmp.Ordering.TheVariants.{Less}
@@ -24,7 +25,8 @@ touch_cmp t u = ordering_then (nat_cmp t.number u.number) (slice_cmp nat_cmp t.k
 -- with a segment in place of that of its key, or at its place
 abbrev pub put_touch : Touch → List Touch → List Touch
 put_touch t [] = t ∷ []
-put_touch t (u ∷ us) = match_ordering (touch_cmp t u) (t ∷ u ∷ us) (record u { bytes = t.bytes } ∷ us) (u ∷ put_touch t us)
+put_touch t (u ∷ us) = match_ordering (touch_cmp t u) (t ∷ u ∷ us) (record u { bytes = t.bytes } ∷ us)
+    (u ∷ put_touch t us)
 
 -- whether a segment has this key
 abbrev pub has_key : Touch → ℕ → List ℕ → Bool

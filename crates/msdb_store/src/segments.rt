@@ -48,7 +48,8 @@ fn in_slot(slots: &[Bytes], number: u32) -> &[u8]
 // How many of the segments in the slots of these numbers have a lower key.
 fn count_below(slots: &[Bytes], numbers: &[u32], count: usize, key: &[u8]) -> usize
     ensures within { result ≤ length numbers.now }
-    ensures place { ascend (map (take count) (in_slots slots.now numbers.now)) ≡ true → IsPlace (take count) key.now (in_slots slots.now numbers.now) result }
+    ensures place { ascend (map (take count) (in_slots slots.now numbers.now)) ≡ true
+        → IsPlace (take count) key.now (in_slots slots.now numbers.now) result }
 {
     numbers.partition_point(
         |number: &u32| -> bool
@@ -111,7 +112,8 @@ impl Segments {
     pub(crate) fn count_below(&self, count: usize, key: &[u8]) -> usize
         ensures within { result ≤ length self.now.items }
         ensures fits { length self.now.items < 2 ^ 64 }
-        ensures place { ascend (map (take count) self.now.items) ≡ true → IsPlace (take count) key.now self.now.items result }
+        ensures place { ascend (map (take count) self.now.items) ≡ true
+            → IsPlace (take count) key.now self.now.items result }
     {
         count_below(&self.slots, &self.order[..self.used], count, key)
     }

@@ -44,7 +44,8 @@ impl MsdbStore {
     // The segment of a key, as it is staged or else as the databases have it.
     fn current<'a>(&'a self, staging: &'a Staging, key: &SegmentKey) -> Option<&'a [u8]>
         requires { key.now.msdb < length self.now.msdbs }
-        ensures { (defs : ListOf DefOf) → (now : ListOf MsdbOf) → IsOf defs self.now → Stages defs self.now.msdbs staging.now now
+        ensures { (defs : ListOf DefOf) → (now : ListOf MsdbOf) → IsOf defs self.now
+            → Stages defs self.now.msdbs staging.now now
             → option_copied result ≡ segment_in defs now key.now.msdb key.now.key.items }
     {
         match staging.look(key) {
@@ -87,8 +88,10 @@ impl MsdbStore {
         key: &SegmentKey,
         fsas: &Bytes,
     ) -> Result<Bytes, SettleFault>
-        requires { (defs : ListOf DefOf) × (now : ListOf MsdbOf) × AtCall defs self.now staging.now now (Fld key.now.msdb key.now.key.items fsas.now) }
-        ensures { (defs : ListOf DefOf) → (now : ListOf MsdbOf) → AtCall defs self.now staging.now now (Fld key.now.msdb key.now.key.items fsas.now)
+        requires { (defs : ListOf DefOf) × (now : ListOf MsdbOf)
+            × AtCall defs self.now staging.now now (Fld key.now.msdb key.now.key.items fsas.now) }
+        ensures { (defs : ListOf DefOf) → (now : ListOf MsdbOf)
+            → AtCall defs self.now staging.now now (Fld key.now.msdb key.now.key.items fsas.now)
             → IsGiven defs now (Fld key.now.msdb key.now.key.items fsas.now) result }
     {
         let Some(segment) = self.current(staging, key) else {
@@ -108,8 +111,10 @@ impl MsdbStore {
         key: &SegmentKey,
         call: &Deferred,
     ) -> Result<Bytes, SettleFault>
-        requires { (defs : ListOf DefOf) × (now : ListOf MsdbOf) × AtCall defs self.now staging.now now call.now × (key.now.msdb ≡ (named defs call.now).0) × (key.now.key.items ≡ (named defs call.now).1) }
-        ensures { (defs : ListOf DefOf) → (now : ListOf MsdbOf) → AtCall defs self.now staging.now now call.now → IsGiven defs now call.now result }
+        requires { (defs : ListOf DefOf) × (now : ListOf MsdbOf) × AtCall defs self.now staging.now now call.now
+            × (key.now.msdb ≡ (named defs call.now).0) × (key.now.key.items ≡ (named defs call.now).1) }
+        ensures { (defs : ListOf DefOf) → (now : ListOf MsdbOf) → AtCall defs self.now staging.now now call.now
+            → IsGiven defs now call.now result }
     {
         match call {
             Deferred::Fld { fsas, .. } => self.given_by_field_call(staging, key, fsas),
@@ -122,7 +127,8 @@ impl MsdbStore {
     // Settles one call.
     fn settle_call(&self, staging: &mut Staging, call: &Deferred) -> Result<(), SettleFault>
         requires { (defs : ListOf DefOf) × (now : ListOf MsdbOf) × AtCall defs self.now staging.old now call.now }
-        ensures { (defs : ListOf DefOf) → (now : ListOf MsdbOf) → AtCall defs self.now staging.old now call.now → IsStep defs now call.now staging.old staging.new result }
+        ensures { (defs : ListOf DefOf) → (now : ListOf MsdbOf) → AtCall defs self.now staging.old now call.now
+            → IsStep defs now call.now staging.old staging.new result }
     {
         let key = self.named(call)?;
         let bytes = self.given(staging, &key, call)?;
@@ -165,10 +171,13 @@ impl MsdbStore {
     pub fn check(&self, deferred: &List<Deferred>) -> Result<Staged, VerifyFault>
         requires fit { (defs : ListOf DefOf) × CanSettle defs self.now deferred.now }
         requires few { length deferred.now < 2 ^ 32 }
-        ensures answer { (defs : ListOf DefOf) → CanSettle defs self.now deferred.now → IsAnswer defs self.now.msdbs result (settle defs self.now.msdbs deferred.now) }
-        ensures staged { (defs : ListOf DefOf) → CanSettle defs self.now deferred.now → IfOk result (IsStaged defs self.now.msdbs) }
+        ensures answer { (defs : ListOf DefOf) → CanSettle defs self.now deferred.now
+            → IsAnswer defs self.now.msdbs result (settle defs self.now.msdbs deferred.now) }
+        ensures staged { (defs : ListOf DefOf) → CanSettle defs self.now deferred.now
+            → IfOk result (IsStaged defs self.now.msdbs) }
         ensures keys { (defs : ListOf DefOf) → CanSettle defs self.now deferred.now
-            → IfOk result (λ staged. (number : ℕ) → (key : ListOf ℕ) → (HasItem staged.items number key) ↔ (IsNamed defs deferred.now number key)) }
+            → IfOk result (λ staged. (number : ℕ) → (key : ListOf ℕ) → (HasItem staged.items number key)
+            ↔ (IsNamed defs deferred.now number key)) }
     {
         let mut staging = Staging::new(self.alloc());
         for (at, call) in deferred.as_slice().iter().enumerate() {

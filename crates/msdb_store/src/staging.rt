@@ -61,7 +61,8 @@ impl Staging {
 
     // Puts the bytes of a key in place of those that it has. It fails only for want of memory.
     pub(crate) fn put(&mut self, key: SegmentKey, bytes: Bytes) -> Result<(), AllocError>
-        ensures { OnOk result (self.new ≡ put_touch (record { number = key.msdb; key = key.key.items; bytes = bytes }) self.old) }
+        ensures { OnOk result (self.new ≡ put_touch (record { number = key.msdb; key = key.key.items; bytes = bytes })
+            self.old) }
     {
         self.segments.insert(key, bytes)?;
         Ok(())

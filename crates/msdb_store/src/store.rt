@@ -135,7 +135,8 @@ impl MsdbStore {
     /// there is none. Takes no memory.
     pub fn after(&self, msdb: u8, key: Option<&[u8]>) -> Option<&[u8]>
         requires { msdb < length self.now.msdbs }
-        ensures { (defs : ListOf DefOf) → IsOf defs self.now → option_copied result ≡ found_after defs self.now msdb (option_copied key.entry) }
+        ensures { (defs : ListOf DefOf) → IsOf defs self.now
+            → option_copied result ≡ found_after defs self.now msdb (option_copied key.entry) }
     {
         match key {
             None => self.tables[msdb as usize].at(0),
@@ -147,7 +148,8 @@ impl MsdbStore {
     /// None exactly where there are no more. Takes no memory.
     pub fn segment_at(&self, msdb: u8, place: usize) -> Option<&[u8]>
         requires { msdb < length self.now.msdbs }
-        ensures { (its : MsdbOf) → slice_get self.now.msdbs msdb ≡ Some its → option_copied result ≡ slice_get its.segments place }
+        ensures { (its : MsdbOf) → slice_get self.now.msdbs msdb ≡ Some its
+            → option_copied result ≡ slice_get its.segments place }
     {
         self.tables[msdb as usize].at(place)
     }
@@ -164,13 +166,16 @@ impl MsdbStore {
     }
 
     /// Puts the segments of items in their order; no bytes take a segment away, and other items are left aside. It
-    /// fails for want of memory, and where a database would have 2^32 segments. Then the items up to some one are put, and the store is to be thrown away.
+    /// fails for want of memory, and where a database would have 2^32 segments. Then the items up to some one are put,
+    /// and the store is to be thrown away.
     pub fn apply(&mut self, items: &List<Item>) -> Result<(), AllocError>
         ensures msdbs { (defs : ListOf DefOf) → IsOf defs self.old → AllByRecursion (IsFitSegment defs) items.now
             → OnOk result (self.new.msdbs ≡ with_items defs self.old.msdbs items.now) }
-        ensures of { (defs : ListOf DefOf) → IsOf defs self.old → AllByRecursion (IsFitSegment defs) items.now → IsOf defs self.new }
+        ensures of { (defs : ListOf DefOf) → IsOf defs self.old → AllByRecursion (IsFitSegment defs) items.now
+            → IsOf defs self.new }
         ensures count { length self.new.msdbs ≡ length self.old.msdbs }
-        ensures few { AllByRecursion (λ msdb. length msdb.segments < 2 ^ 32) self.old.msdbs → AllByRecursion (λ msdb. length msdb.segments < 2 ^ 32) self.new.msdbs }
+        ensures few { AllByRecursion (λ msdb. length msdb.segments < 2 ^ 32) self.old.msdbs
+            → AllByRecursion (λ msdb. length msdb.segments < 2 ^ 32) self.new.msdbs }
     {
         for item in items.as_slice() {
             self.put_item(item)?;
@@ -180,7 +185,8 @@ impl MsdbStore {
 
     // Puts the segment of one item.
     fn put_item(&mut self, item: &Item) -> Result<(), AllocError>
-        ensures msdbs { (defs : ListOf DefOf) → IsOf defs self.old → IsFitSegment defs item.now → OnOk result (self.new.msdbs ≡ with_item defs self.old.msdbs item.now) }
+        ensures msdbs { (defs : ListOf DefOf) → IsOf defs self.old → IsFitSegment defs item.now
+            → OnOk result (self.new.msdbs ≡ with_item defs self.old.msdbs item.now) }
         ensures of { (defs : ListOf DefOf) → IsOf defs self.old → IsFitSegment defs item.now → IsOf defs self.new }
         ensures count { length self.new.msdbs ≡ length self.old.msdbs }
         ensures few { AreFew self.old.msdbs → AreFew self.new.msdbs }
@@ -198,11 +204,13 @@ impl MsdbStore {
     fn put_segment(&mut self, msdb: u8, key: &[u8], bytes: Bytes) -> Result<(), AllocError>
         ensures msdbs { (defs : ListOf DefOf) → IsOf defs self.old → IsFitSegment defs (Segment msdb key.now bytes)
             → OnOk result (self.new.msdbs ≡ with_item defs self.old.msdbs (Segment msdb key.now bytes)) }
-        ensures of { (defs : ListOf DefOf) → IsOf defs self.old → IsFitSegment defs (Segment msdb key.now bytes) → IsOf defs self.new }
+        ensures of { (defs : ListOf DefOf) → IsOf defs self.old → IsFitSegment defs (Segment msdb key.now bytes)
+            → IsOf defs self.new }
         ensures count { length self.new.msdbs ≡ length self.old.msdbs }
         ensures few { AreFew self.old.msdbs → AreFew self.new.msdbs }
         ensures done { (defs : ListOf DefOf) → CanPut defs self.old (Segment msdb key.now bytes) → IsOk result }
-        ensures room { (defs : ListOf DefOf) → CanPut defs self.old (Segment msdb key.now bytes) → KeepsRoom self.old self.new (adds defs self.old.msdbs (Segment msdb key.now bytes)) }
+        ensures room { (defs : ListOf DefOf) → CanPut defs self.old (Segment msdb key.now bytes)
+            → KeepsRoom self.old self.new (adds defs self.old.msdbs (Segment msdb key.now bytes)) }
     {
         let at = msdb as usize;
         if at >= self.tables.len() {
@@ -242,10 +250,13 @@ impl MsdbStore {
     pub fn publish(&mut self, staged: Staged)
         requires staged { (defs : ListOf DefOf) × IsOf defs self.old × IsStaged defs self.old.msdbs staged }
         requires room { staged.inserts ≤ self.old.spare }
-        ensures msdbs { (defs : ListOf DefOf) → IsOf defs self.old → IsStaged defs self.old.msdbs staged → self.new.msdbs ≡ with_items defs self.old.msdbs staged.items }
-        ensures of { (defs : ListOf DefOf) → IsOf defs self.old → IsStaged defs self.old.msdbs staged → IsOf defs self.new }
+        ensures msdbs { (defs : ListOf DefOf) → IsOf defs self.old → IsStaged defs self.old.msdbs staged
+            → self.new.msdbs ≡ with_items defs self.old.msdbs staged.items }
+        ensures of { (defs : ListOf DefOf) → IsOf defs self.old → IsStaged defs self.old.msdbs staged
+            → IsOf defs self.new }
         ensures spare { self.old.spare ≤ self.new.spare + staged.inserts }
-        ensures few { AllByRecursion (λ msdb. length msdb.segments < 2 ^ 32) self.old.msdbs → AllByRecursion (λ msdb. length msdb.segments < 2 ^ 32) self.new.msdbs }
+        ensures few { AllByRecursion (λ msdb. length msdb.segments < 2 ^ 32) self.old.msdbs
+            → AllByRecursion (λ msdb. length msdb.segments < 2 ^ 32) self.new.msdbs }
     {
         let Staged { items, inserts: _ } = staged;
         for item in items.into_vec() {
@@ -255,9 +266,11 @@ impl MsdbStore {
 
     // Gives the databases the segment of one item.
     fn publish_item(&mut self, item: Item)
-        ensures msdbs { (defs : ListOf DefOf) → CanPut defs self.old item → self.new.msdbs ≡ with_item defs self.old.msdbs item }
+        ensures msdbs { (defs : ListOf DefOf) → CanPut defs self.old item
+            → self.new.msdbs ≡ with_item defs self.old.msdbs item }
         ensures of { (defs : ListOf DefOf) → CanPut defs self.old item → IsOf defs self.new }
-        ensures room { (defs : ListOf DefOf) → CanPut defs self.old item → KeepsRoom self.old self.new (adds defs self.old.msdbs item) }
+        ensures room { (defs : ListOf DefOf) → CanPut defs self.old item
+            → KeepsRoom self.old self.new (adds defs self.old.msdbs item) }
     {
         match item {
             Item::Segment { msdb, key, bytes } => {

@@ -44,7 +44,8 @@ impl Table {
     fn place(&self, key: &[u8]) -> Place
         ensures within { IsWithin (length self.now.segments.items) result }
         ensures fits { length self.now.segments.items < 2 ^ 64 }
-        ensures place { ascend (map (key_of self.now.fields) self.now.segments.items) ≡ true → IsPlaced (key_of self.now.fields) key.now self.now.segments.items result }
+        ensures place { ascend (map (key_of self.now.fields) self.now.segments.items) ≡ true
+            → IsPlaced (key_of self.now.fields) key.now self.now.segments.items result }
     {
         let count = self.key_length();
         let at = self.segments.count_below(count, key);
@@ -90,7 +91,8 @@ impl Table {
     // How many segments stand before the first with a greater key.
     fn count_up_to(&self, key: &[u8]) -> usize
         ensures { ascend (map (key_of self.now.fields) self.now.segments.items) ≡ true
-            → slice_get self.now.segments.items result ≡ find (λ s. is_below key.now (key_of self.now.fields s)) self.now.segments.items }
+            → slice_get self.now.segments.items result ≡ find (λ s. is_below key.now (key_of self.now.fields s))
+            self.now.segments.items }
     {
         match self.place(key) {
             Place::Stands(at) => at + 1,
@@ -100,14 +102,18 @@ impl Table {
 
     // Puts a segment in place of that of its key, or at its place. It fails only for want of memory.
     pub(crate) fn put(&mut self, segment: Bytes) -> Result<(), AllocError>
-        ensures ok { ascend (map (key_of self.old.fields) self.old.segments.items) ≡ true → OnOk result (self.new.segments.items
-            ≡ put_by_key (key_of self.old.fields) segment (drop_key (key_of self.old.fields) (key_of self.old.fields segment) self.old.segments.items)) }
+        ensures ok { ascend (map (key_of self.old.fields) self.old.segments.items) ≡ true
+            → OnOk result (self.new.segments.items
+            ≡ put_by_key (key_of self.old.fields) segment
+            (drop_key (key_of self.old.fields) (key_of self.old.fields segment) self.old.segments.items)) }
         ensures err { OnErr result (self.new.segments.items ≡ self.old.segments.items) }
         ensures fields { self.new.fields ≡ self.old.fields }
         ensures done { ascend (map (key_of self.old.fields) self.old.segments.items) ≡ true
-            → (lacks self.old.fields self.old.segments.items segment ≡ true → 0 < room self.old.segments.capacity (length self.old.segments.items)) → IsOk result }
+            → (lacks self.old.fields self.old.segments.items segment ≡ true
+            → 0 < room self.old.segments.capacity (length self.old.segments.items)) → IsOk result }
         ensures long { ascend (map (key_of self.old.fields) self.old.segments.items) ≡ true
-            → length self.new.segments.items ≤ length self.old.segments.items + (if lacks self.old.fields self.old.segments.items segment then 1 else 0) }
+            → length self.new.segments.items ≤ length self.old.segments.items +
+            (if lacks self.old.fields self.old.segments.items segment then 1 else 0) }
         ensures few { length self.old.segments.items < 2 ^ 32 → length self.new.segments.items < 2 ^ 32 }
         ensures capacity { self.old.segments.capacity ≤ self.new.segments.capacity }
     {

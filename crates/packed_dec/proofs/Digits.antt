@@ -21,7 +21,8 @@ value_snoc base [] d = rw (pow-zero base) (omega arith)
 value_snoc base (x ∷ xs) d = rw (value_snoc base xs d, length_snoc xs d, pow-suc base (length xs)) (grind arith)
 
 -- below the power
-pub value_below : (base : ℕ) (ds : List ℕ) → ((i : ℕ) → i < length ds → get_or ds i 0 < base) → value base ds < base ^ length ds
+pub value_below : (base : ℕ) (ds : List ℕ) → ((i : ℕ) → i < length ds → get_or ds i 0 < base)
+    → value base ds < base ^ length ds
 value_below base [] fits = rw (pow-zero base) (omega arith)
 value_below base (d ∷ ds) fits =
     let h : value base ds < base ^ length ds = value_below base ds (λ i lt. fits (suc i) (omega arith)) in
@@ -57,11 +58,14 @@ pairs_small xs few h =
     omega (arith, below, power)
 
 -- and so do the first of them
-pub prefix_small : (xs : List ℕ) (i : ℕ) → length xs ≤ 8 → list_all is_digit (halves (take i xs)) ≡ true → value 10 (halves (take i xs)) < 10 ^ 16
+pub prefix_small : (xs : List ℕ) (i : ℕ) → length xs ≤ 8 → list_all is_digit (halves (take i xs)) ≡ true
+    → value 10 (halves (take i xs)) < 10 ^ 16
 prefix_small xs i few h = pairs_small (take i xs) (omega (arith, length-take i xs)) h
 
 -- a half byte above 9 is no digit
-pub not_digits : (xs : List ℕ) (i : ℕ) → i < length xs → ((9 < get_or xs i 0 / 16) ⊎ ((get_or xs i 0 / 16 ≤ 9) × (9 < get_or xs i 0 % 16))) → list_all is_digit (halves xs) ≡ false
+pub not_digits : (xs : List ℕ) (i : ℕ) → i < length xs
+    → ((9 < get_or xs i 0 / 16) ⊎ ((get_or xs i 0 / 16 ≤ 9) × (9 < get_or xs i 0 % 16)))
+    → list_all is_digit (halves xs) ≡ false
 not_digits [] i lt either = absurd (omega arith)
 not_digits (x ∷ xs) zero lt (inl high) = rw (le-ltb (x / 16) 10 (omega arith)) refl
 not_digits (x ∷ xs) zero lt (inr low) = rw (le-ltb (x % 16) 10 (omega (arith, low.1))) (and-false (is_digit (x / 16)))
@@ -69,17 +73,27 @@ not_digits (x ∷ xs) (suc i) lt either =
     rw (not_digits xs i (omega arith) either, and-false (is_digit (x % 16))) (and-false (is_digit (x / 16)))
 
 -- a byte of two digits more
-pub digits_snoc : (xs : List ℕ) (b : ℕ) → list_all is_digit (halves xs) ≡ true → b / 16 ≤ 9 → b % 16 ≤ 9 → list_all is_digit (halves (xs ++ b ∷ [])) ≡ true
-digits_snoc xs b h high low = rw (halves_snoc xs b, list_all-append is_digit (halves xs) (b / 16 ∷ b % 16 ∷ []), h, lt-ltb (b / 16) 10 (omega arith), lt-ltb (b % 16) 10 (omega arith)) refl
+pub digits_snoc : (xs : List ℕ) (b : ℕ) → list_all is_digit (halves xs) ≡ true → b / 16 ≤ 9 → b % 16 ≤ 9
+    → list_all is_digit (halves (xs ++ b ∷ [])) ≡ true
+digits_snoc xs b h high low = rw (
+  halves_snoc xs b,
+  list_all-append is_digit (halves xs) (b / 16 ∷ b % 16 ∷ []),
+  h,
+  lt-ltb (b / 16) 10 (omega arith),
+  lt-ltb (b % 16) 10 (omega arith),
+) refl
 
 -- two digits more
-pub pair_snoc : (xs : List ℕ) (b : ℕ) → value 10 (halves (xs ++ b ∷ [])) ≡ value 10 (halves xs) * 100 + b / 16 * 10 + b % 16
+pub pair_snoc : (xs : List ℕ) (b : ℕ) → value 10 (halves (xs ++ b ∷ [])) ≡ value 10 (halves xs) * 100 + b / 16 * 10 + b
+    % 16
 pair_snoc xs b =
-    let apart : halves (xs ++ b ∷ []) ≡ (halves xs ++ b / 16 ∷ []) ++ b % 16 ∷ [] = halves_snoc xs b ∙ sym (append_assoc (halves xs) (b / 16 ∷ []) (b % 16 ∷ [])) in
+    let apart : halves (xs ++ b ∷ []) ≡ (halves xs ++ b / 16 ∷ []) ++ b % 16 ∷ [] =
+    halves_snoc xs b ∙ sym (append_assoc (halves xs) (b / 16 ∷ []) (b % 16 ∷ [])) in
     rw (apart, value_snoc 10 (halves xs ++ b / 16 ∷ []) (b % 16), value_snoc 10 (halves xs) (b / 16)) (omega arith)
 
 -- the last byte of packed bytes has one digit
-pub packed_digits_snoc : (front : List ℕ) (last : ℕ) → packed_digits (front ++ last ∷ []) ≡ halves front ++ last / 16 ∷ []
+pub packed_digits_snoc : (front : List ℕ) (last : ℕ)
+    → packed_digits (front ++ last ∷ []) ≡ halves front ++ last / 16 ∷ []
 packed_digits_snoc [] last = refl
 packed_digits_snoc (b ∷ []) last = refl
 packed_digits_snoc (b ∷ c ∷ bs) last = ap (λ (t : List ℕ). b / 16 ∷ b % 16 ∷ t) (packed_digits_snoc (c ∷ bs) last)
@@ -92,18 +106,27 @@ packed_sign_snoc (b ∷ c ∷ bs) last = packed_sign_snoc (c ∷ bs) last
 
 -- what packed bytes are, from their last byte and those in front of it
 pub magnitude_snoc : (front : List ℕ) (last : ℕ) → magnitude (front ++ last ∷ [])
-    ≡ (if (list_all is_digit (halves front) && (is_digit (last / 16) && true)) && nat_le 10 (last % 16) then Some (value 10 (halves front) * 10 + last / 16) else None)
-magnitude_snoc front last = rw (packed_digits_snoc front last, packed_sign_snoc front last, list_all-append is_digit (halves front) (last / 16 ∷ []), value_snoc 10 (halves front) (last / 16)) refl
+    ≡ (if (list_all is_digit (halves front) && (is_digit (last / 16) && true)) && nat_le 10 (last % 16) then Some
+    (value 10 (halves front) * 10 + last / 16) else None)
+magnitude_snoc front last = rw (
+  packed_digits_snoc front last,
+  packed_sign_snoc front last,
+  list_all-append is_digit (halves front) (last / 16 ∷ []),
+  value_snoc 10 (halves front) (last / 16),
+) refl
 
 -- the first bytes with the next one
 pub take_snoc : (xs : List ℕ) (i : ℕ) → i < length xs → take (i + 1) xs ≡ take i xs ++ get_or xs i 0 ∷ []
 take_snoc xs i lt = take_more xs i 0 lt
 
 -- the bytes before one of at most eight
-pub prefix_below : (xs : List ℕ) (i : ℕ) → length xs ≤ 8 → ((j : ℕ) → get_or xs j 0 < 256) → i < length xs → value 256 (take i xs) < 256 ^ 7
+pub prefix_below : (xs : List ℕ) (i : ℕ) → length xs ≤ 8 → ((j : ℕ) → get_or xs j 0 < 256) → i < length xs
+    → value 256 (take i xs) < 256 ^ 7
 prefix_below xs i few bytes lt =
     let len : length (take i xs) ≤ 7 = omega (arith, length-take i xs) in
-    let below : value 256 (take i xs) < 256 ^ length (take i xs) = value_below 256 (take i xs) (λ j h. let within : j < i = omega (arith, length-take i xs) in rw (get_or-take i xs j 0 within) (bytes j)) in
+    let below : value 256 (take i xs) < 256 ^ length (take i xs) =
+    value_below 256 (take i xs) (λ j h. let within : j < i =
+    omega (arith, length-take i xs) in rw (get_or-take i xs j 0 within) (bytes j)) in
     let some : 0 < 256 = omega arith in
     let power : 256 ^ length (take i xs) ≤ 256 ^ 7 = pow-le-pow_right some len in
     omega (arith, below, power)
@@ -118,14 +141,25 @@ tested_some true x y e = (refl, cc)
 tested_some false x y e = absurd cc
 
 -- packed bytes are no number where those in front of the last are no digits
-pub no_pairs : (text front : List ℕ) (last : ℕ) → text ≡ front ++ last ∷ [] → None ≡ pairs_value front → None ≡ magnitude text
+pub no_pairs : (text front : List ℕ) (last : ℕ) → text ≡ front ++ last ∷ [] → None ≡ pairs_value front
+    → None ≡ magnitude text
 no_pairs text front last is none = rw (is, magnitude_snoc front last, tested_none _ _ none) refl
 
 -- nor where the last byte has no digit or no sign
 pub bad_end : (text front : List ℕ) (last : ℕ) → text ≡ front ++ last ∷ []
     → ((9 < last / 16) ⊎ ((last / 16 ≤ 9) × (last % 16 < 10))) → None ≡ magnitude text
-bad_end text front last is (inl high) = rw (is, magnitude_snoc front last, le-ltb (last / 16) 10 (omega arith), and-false (list_all is_digit (halves front))) refl
-bad_end text front last is (inr low) = rw (is, magnitude_snoc front last, lt-leb 10 (last % 16) (omega (arith, low.1)), and-false (list_all is_digit (halves front) && (is_digit (last / 16) && true))) refl
+bad_end text front last is (inl high) = rw (
+  is,
+  magnitude_snoc front last,
+  le-ltb (last / 16) 10 (omega arith),
+  and-false (list_all is_digit (halves front)),
+) refl
+bad_end text front last is (inr low) = rw (
+  is,
+  magnitude_snoc front last,
+  lt-leb 10 (last % 16) (omega (arith, low.1)),
+  and-false (list_all is_digit (halves front) && (is_digit (last / 16) && true)),
+) refl
 
 -- else they are one
 pub good_end : (text front : List ℕ) (last n : ℕ) → text ≡ front ++ last ∷ []
@@ -135,16 +169,19 @@ good_end text front last n is some high low =
     rw (is, magnitude_snoc front last, t.0, t.1, lt-ltb (last / 16) 10 (omega arith), le-leb 10 (last % 16) low) refl
 
 -- digits in front of others weigh a power of the base more
-pub value_append : (base : ℕ) (xs ys : List ℕ) → value base (xs ++ ys) ≡ value base xs * base ^ length ys + value base ys
+pub value_append : (base : ℕ) (xs ys : List ℕ) → value base (xs ++ ys) ≡ value base xs * base ^ length ys + value base
+    ys
 value_append base [] ys = omega arith
-value_append base (x ∷ xs) ys = rw (value_append base xs ys, length-append xs ys, pow-add base (length xs) (length ys)) (grind arith)
+value_append base (x ∷ xs) ys = rw (value_append base xs ys, length-append xs ys, pow-add base (length xs) (length ys))
+    (grind arith)
 
 -- bytes in front of packed bytes are digits
 packed_digits_append : (xs ys : List ℕ) → 1 ≤ length ys → packed_digits (xs ++ ys) ≡ halves xs ++ packed_digits ys
 packed_digits_append xs [] some = absurd (omega arith)
 packed_digits_append [] (y ∷ ys) some = refl
 packed_digits_append (b ∷ []) (y ∷ ys) some = refl
-packed_digits_append (b ∷ c ∷ bs) (y ∷ ys) some = ap (λ (t : List ℕ). b / 16 ∷ b % 16 ∷ t) (packed_digits_append (c ∷ bs) (y ∷ ys) some)
+packed_digits_append (b ∷ c ∷ bs) (y ∷ ys) some = ap (λ (t : List ℕ). b / 16 ∷ b % 16 ∷ t)
+    (packed_digits_append (c ∷ bs) (y ∷ ys) some)
 
 -- and do not touch the sign
 packed_sign_append : (xs ys : List ℕ) → 1 ≤ length ys → packed_sign (xs ++ ys) ≡ packed_sign ys
@@ -169,27 +206,42 @@ sign_is_last (b ∷ c ∷ bs) =
 
 -- what packed bytes are, cut in two
 magnitude_append : (xs ys : List ℕ) → 1 ≤ length ys → magnitude (xs ++ ys)
-    ≡ (if (list_all is_digit (halves xs) && list_all is_digit (packed_digits ys)) && nat_le 10 (packed_sign ys) then Some (value 10 (halves xs) * 10 ^ length (packed_digits ys) + value 10 (packed_digits ys)) else None)
-magnitude_append xs ys some = rw (packed_digits_append xs ys some, packed_sign_append xs ys some, list_all-append is_digit (halves xs) (packed_digits ys), value_append 10 (halves xs) (packed_digits ys)) refl
+    ≡ (if (list_all is_digit (halves xs) && list_all is_digit (packed_digits ys)) && nat_le 10 (packed_sign ys) then
+    Some (value 10 (halves xs) * 10 ^ length (packed_digits ys) + value 10 (packed_digits ys)) else None)
+magnitude_append xs ys some = rw (
+  packed_digits_append xs ys some,
+  packed_sign_append xs ys some,
+  list_all-append is_digit (halves xs) (packed_digits ys),
+  value_append 10 (halves xs) (packed_digits ys),
+) refl
 
 still_false : (a b c : Bool) → (b && c) ≡ false → ((a && b) && c) ≡ false
 still_false true b c e = e
 still_false false b c e = refl
 
 -- packed bytes in front of which stand no digits
-pub no_front : (text front back : List ℕ) → text ≡ front ++ back → 1 ≤ length back → None ≡ pairs_value front → None ≡ magnitude text
+pub no_front : (text front back : List ℕ) → text ≡ front ++ back → 1 ≤ length back → None ≡ pairs_value front
+    → None ≡ magnitude text
 no_front text front back is some none = rw (is, magnitude_append front back some, tested_none _ _ none) refl
 
 -- the last of them are no packed bytes
-pub no_back : (text front back : List ℕ) → text ≡ front ++ back → 1 ≤ length back → None ≡ magnitude back → None ≡ magnitude text
-no_back text front back is some none = rw (is, magnitude_append front back some, still_false (list_all is_digit (halves front)) _ _ (tested_none _ _ none)) refl
+pub no_back : (text front back : List ℕ) → text ≡ front ++ back → 1 ≤ length back → None ≡ magnitude back
+    → None ≡ magnitude text
+no_back text front back is some none = rw (
+  is,
+  magnitude_append front back some,
+  still_false (list_all is_digit (halves front)) _ _ (tested_none _ _ none),
+) refl
 
 -- digits in front of nine packed bytes
-pub joined : (text front back : List ℕ) (high low : ℕ) → text ≡ front ++ back → length back ≡ 9 → Some high ≡ pairs_value front → Some low ≡ magnitude back
+pub joined : (text front back : List ℕ) (high low : ℕ) → text ≡ front ++ back → length back ≡ 9
+    → Some high ≡ pairs_value front → Some low ≡ magnitude back
     → Some (high * 100000000000000000 + low) ≡ magnitude text
 joined text front back high low is nine some_high some_low =
-    let h : (list_all is_digit (halves front) ≡ true) × (high ≡ value 10 (halves front)) = tested_some _ _ _ some_high in
-    let l : ((list_all is_digit (packed_digits back) && nat_le 10 (packed_sign back)) ≡ true) × (low ≡ value 10 (packed_digits back)) = tested_some _ _ _ some_low in
+    let h : (list_all is_digit (halves front) ≡ true) × (high ≡ value 10 (halves front)) =
+    tested_some _ _ _ some_high in
+    let l : ((list_all is_digit (packed_digits back) && nat_le 10 (packed_sign back)) ≡ true)
+    × (low ≡ value 10 (packed_digits back)) = tested_some _ _ _ some_low in
     let both = and_parts (list_all is_digit (packed_digits back)) (nat_le 10 (packed_sign back)) l.0 in
     let digits : length (packed_digits back) ≡ 17 = omega (arith, length-packed_digits back) in
     rw (is, magnitude_append front back (omega arith), h.0, both.0, both.1, digits, h.1, l.1) refl
@@ -203,9 +255,11 @@ pub unsigned_none : (bytes : List ℕ) → None ≡ magnitude bytes → None ≡
 unsigned_none bytes none = rw (tested_none _ _ none) refl
 
 -- else the sign makes the magnitude a number
-pub signed_some : (bytes : List ℕ) (n : ℕ) → Some n ≡ magnitude bytes → Some (signed_by (packed_sign bytes) n) ≡ packed bytes
+pub signed_some : (bytes : List ℕ) (n : ℕ) → Some n ≡ magnitude bytes
+    → Some (signed_by (packed_sign bytes) n) ≡ packed bytes
 signed_some bytes n some = let t = tested_some _ _ _ some in rw (t.0, t.1) refl
 
 -- with the sign read from the last byte
-pub signed_at : (bytes : List ℕ) (n : ℕ) (z : ℤ) → z ≡ signed_by (get_or bytes (length bytes - 1) 0 % 16) n → Some n ≡ magnitude bytes → Some z ≡ packed bytes
+pub signed_at : (bytes : List ℕ) (n : ℕ) (z : ℤ) → z ≡ signed_by (get_or bytes (length bytes - 1) 0 % 16) n
+    → Some n ≡ magnitude bytes → Some z ≡ packed bytes
 signed_at bytes n z is some = rw (is, sym (sign_is_last bytes)) (signed_some bytes n some)

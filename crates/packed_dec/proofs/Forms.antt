@@ -10,12 +10,20 @@ use Rattle.packed_dec.proofs.Digits.{length_snoc}
 -- so many bytes
 pub length-pairs : (k n : ℕ) → length (pairs k n) ≡ k
 length-pairs zero n = refl
-length-pairs (suc k) n = omega (arith, length_snoc (pairs k (n / 100)) (n / 10 % 10 * 16 + n % 10), length-pairs k (n / 100))
+length-pairs (suc k) n = omega (
+  arith,
+  length_snoc (pairs k (n / 100)) (n / 10 % 10 * 16 + n % 10),
+  length-pairs k (n / 100),
+)
 
 -- so many bytes
 pub length-big_endian : (k n : ℕ) → length (big_endian k n) ≡ k
 length-big_endian zero n = refl
-length-big_endian (suc k) n = omega (arith, length_snoc (big_endian k (n / 256)) (n % 256), length-big_endian k (n / 256))
+length-big_endian (suc k) n = omega (
+  arith,
+  length_snoc (big_endian k (n / 256)) (n % 256),
+  length-big_endian k (n / 256),
+)
 
 -- the high digits fill the front, and the low ones the back
 pairs_apart : (k j high low : ℕ) → low < 100 ^ j → pairs (k + j) (high * 100 ^ j + low) ≡ pairs k high ++ pairs j low
@@ -32,7 +40,8 @@ pairs_apart k (suc j) high low below =
     let tens : (high * 100 ^ suc j + low) / 10 % 10 ≡ low / 10 % 10 = omega (arith, weigh) in
     let ones : (high * 100 ^ suc j + low) % 10 ≡ low % 10 = omega (arith, weigh) in
     let size : k + suc j ≡ suc (k + j) = omega arith in
-    rw (size, up, tens, ones, pairs_apart k j high (low / 100) rest) (append_assoc (pairs k high) (pairs j (low / 100)) ((low / 10 % 10 * 16 + low % 10) ∷ []))
+    rw (size, up, tens, ones, pairs_apart k j high (low / 100) rest)
+    (append_assoc (pairs k high) (pairs j (low / 100)) ((low / 10 % 10 * 16 + low % 10) ∷ []))
 
 -- the last nine bytes hold seventeen digits and the sign
 seventeen : (k n high low sign : ℕ) → n ≡ high * 100000000000000000 + low → low < 100000000000000000
@@ -42,10 +51,12 @@ seventeen k n high low sign is below =
     let rest : low / 10 < 100 ^ 8 = omega arith in
     let up : n / 10 ≡ high * 100 ^ 8 + low / 10 = omega (arith, is) in
     let ones : n % 10 ≡ low % 10 = omega (arith, is) in
-    rw (size, up, ones, pairs_apart k 8 high (low / 10) rest) (sym (append_assoc (pairs k high) (pairs 8 (low / 10)) ((low % 10 * 16 + sign) ∷ [])))
+    rw (size, up, ones, pairs_apart k 8 high (low / 10) rest)
+    (sym (append_assoc (pairs k high) (pairs 8 (low / 10)) ((low % 10 * 16 + sign) ∷ [])))
 
 -- the same of two parts that were written
-pub form_apart : (size k j n high low sign : ℕ) (front back : List ℕ) → front ≡ pairs k high → back ≡ packed_form j low sign → j ≡ 9 → size ≡ k + 9
+pub form_apart : (size k j n high low sign : ℕ) (front back : List ℕ) → front ≡ pairs k high
+    → back ≡ packed_form j low sign → j ≡ 9 → size ≡ k + 9
     → n ≡ high * 100000000000000000 + low → low < 100000000000000000 → front ++ back ≡ packed_form size n sign
 form_apart size k j n high low sign front back first last nine whole is below =
     rw (whole, first, last, nine) (seventeen k n high low sign is below)

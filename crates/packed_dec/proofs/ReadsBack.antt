@@ -16,7 +16,8 @@ use Rattle.packed_dec.proofs.Digits.{length_snoc, value_snoc, digits_snoc, pair_
 use Rattle.packed_dec.proofs.Forms.{length-pairs, length-big_endian}
 
 -- a value that stands under a test
-pub under_test : {A : Type 0} (b : Bool) (o : Option A) (x : A) → (if b then o else None) ≡ Some x → (b ≡ true) × (o ≡ Some x)
+pub under_test : {A : Type 0} (b : Bool) (o : Option A) (x : A) → (if b then o else None) ≡ Some x → (b ≡ true)
+    × (o ≡ Some x)
 under_test true o x e = (refl, e)
 under_test false o x e = absurd cc
 
@@ -31,7 +32,8 @@ value_big_endian (suc k) n below =
 digits_of_pairs : (k n : ℕ) → list_all is_digit (halves (pairs k n)) ≡ true
 digits_of_pairs zero n = refl
 digits_of_pairs (suc k) n =
-    digits_snoc (pairs k (n / 100)) (n / 10 % 10 * 16 + n % 10) (digits_of_pairs k (n / 100)) (omega arith) (omega arith)
+    digits_snoc (pairs k (n / 100)) (n / 10 % 10 * 16 + n % 10) (digits_of_pairs k (n / 100)) (omega arith)
+    (omega arith)
 
 value_pairs : (k n : ℕ) → n < 100 ^ k → value 10 (halves (pairs k n)) ≡ n
 value_pairs zero n below = omega (arith, below, pow-zero 100)
@@ -58,19 +60,23 @@ length-form size n sign some =
     omega (arith, some, length_snoc (pairs (size - 1) (n / 10)) (n % 10 * 16 + sign), length-pairs (size - 1) (n / 10))
 
 -- the packed form of a magnitude is read as it, with its sign
-form_is_number : (size n sign : ℕ) → 1 ≤ size → n < 10 ^ (2 * size - 1) → 10 ≤ sign → sign < 16 → packed (packed_form size n sign) ≡ Some (signed_by sign n)
+form_is_number : (size n sign : ℕ) → 1 ≤ size → n < 10 ^ (2 * size - 1) → 10 ≤ sign → sign < 16
+    → packed (packed_form size n sign) ≡ Some (signed_by sign n)
 form_is_number size n sign some below low high =
     let front = pairs (size - 1) (n / 10) in
     let last = n % 10 * 16 + sign in
     let rest : n / 10 < 100 ^ (size - 1) = omega (arith, below, odd_digits size some) in
-    let first : Some (n / 10) ≡ pairs_value front = rw (digits_of_pairs (size - 1) (n / 10), value_pairs (size - 1) (n / 10) rest) refl in
+    let first : Some (n / 10) ≡ pairs_value front =
+    rw (digits_of_pairs (size - 1) (n / 10), value_pairs (size - 1) (n / 10) rest) refl in
     let digit : last / 16 ≡ n % 10 = omega (arith, high) in
     let half : last % 16 ≡ sign = omega (arith, high) in
     let again : n / 10 * 10 + last / 16 ≡ n = omega (arith, digit) in
-    let whole = good_end (packed_form size n sign) front last (n / 10) refl first (omega (arith, digit)) (omega (arith, half, low)) in
+    let whole = good_end (packed_form size n sign) front last (n / 10) refl first (omega (arith, digit))
+    (omega (arith, half, low)) in
     let Reads : ℕ → Type 0 = λ m. Some m ≡ magnitude (packed_form size n sign) in
     let Signed : ℕ → Type 0 = λ s. packed (packed_form size n sign) ≡ Some (signed_by s n) in
-    subst Signed (packed_sign_snoc front last ∙ half) (sym (signed_some (packed_form size n sign) n (subst Reads again whole)))
+    subst Signed (packed_sign_snoc front last ∙ half)
+    (sym (signed_some (packed_form size n sign) n (subst Reads again whole)))
 
 -- the preferred sign is that of the number, and one of the six
 preferred_sign : (n : ℤ) → signed_by (sign_of n) (unsigned_abs n) ≡ n
@@ -86,21 +92,32 @@ sign_below (pos n) = omega arith
 sign_below (negsuc n) = omega arith
 
 -- each kind of field, read back
-packed_back : (size : ℕ) (n : ℤ) (form : List ℕ) → 1 ≤ size → packed_of size n ≡ Some form → (length form ≡ size) × (packed form ≡ Some n)
+packed_back : (size : ℕ) (n : ℤ) (form : List ℕ) → 1 ≤ size → packed_of size n ≡ Some form → (length form ≡ size)
+    × (packed form ≡ Some n)
 packed_back size n form some e =
-    let t = under_test (nat_lt (unsigned_abs n) (10 ^ (2 * size - 1))) (Some (packed_form size (unsigned_abs n) (sign_of n))) form e in
+    let t = under_test (nat_lt (unsigned_abs n) (10 ^ (2 * size - 1)))
+    (Some (packed_form size (unsigned_abs n) (sign_of n))) form e in
     let same : packed_form size (unsigned_abs n) (sign_of n) ≡ form = cc in
     let below = ltb-true (unsigned_abs n) (10 ^ (2 * size - 1)) t.0 in
     let Back : List ℕ → Type 0 = λ bytes. (length bytes ≡ size) × (packed bytes ≡ Some n) in
-    subst Back same (length-form size (unsigned_abs n) (sign_of n) some, form_is_number size (unsigned_abs n) (sign_of n) some below (sign_at_least n) (sign_below n) ∙ ap (λ z. Some z) (preferred_sign n))
+    subst Back same (
+      length-form size (unsigned_abs n) (sign_of n) some,
+      form_is_number size (unsigned_abs n) (sign_of n) some below (sign_at_least n) (sign_below n) ∙ ap (λ z. Some z)
+          (preferred_sign n),
+    )
 
-unsigned_back : (size : ℕ) (n : ℤ) (form : List ℕ) → unsigned_of size n ≡ Some form → (length form ≡ size) × (Some (pos (value 256 form)) ≡ Some n)
+unsigned_back : (size : ℕ) (n : ℤ) (form : List ℕ) → unsigned_of size n ≡ Some form → (length form ≡ size)
+    × (Some (pos (value 256 form)) ≡ Some n)
 unsigned_back size (negsuc n) form e = absurd cc
 unsigned_back size (pos n) form e =
     let t = under_test (nat_lt n (256 ^ size)) (Some (big_endian size n)) form e in
     let same : big_endian size n ≡ form = cc in
     let Back : List ℕ → Type 0 = λ bytes. (length bytes ≡ size) × (Some (pos (value 256 bytes)) ≡ Some (pos n)) in
-    subst Back same (length-big_endian size n, ap (λ m. Some (pos m)) (value_big_endian size n (ltb-true n (256 ^ size) t.0)))
+    subst Back same (
+      length-big_endian size n,
+      ap (λ m. Some (pos m))
+          (value_big_endian size n (ltb-true n (256 ^ size) t.0)),
+    )
 
 -- two bytes and four bytes of two's complement
 fits_16 : (n : ℤ) → fits_twos 16 n ≡ true → FitsSigned w16 n
@@ -126,27 +143,39 @@ value_16 m below = omega (arith, from_be_bytes-to_be_bytes_2 m below)
 value_32 : (m : ℕ) → m < 2 ^ 32 → value 256 (to_be_bytes w32 m) ≡ m
 value_32 m below = omega (arith, from_be_bytes-to_be_bytes_4 m below)
 
-half_back : (n : ℤ) (form : List ℕ) → form_of H 2 n ≡ Some form → (length form ≡ 2) × (Some (cast_signed w16 (value 256 form)) ≡ Some n)
+half_back : (n : ℤ) (form : List ℕ) → form_of H 2 n ≡ Some form → (length form ≡ 2)
+    × (Some (cast_signed w16 (value 256 form)) ≡ Some n)
 half_back n form e =
     let t = under_test (fits_twos 16 n) (Some (to_be_bytes w16 (cast_unsigned w16 n))) form e in
     let same : to_be_bytes w16 (cast_unsigned w16 n) ≡ form = cc in
     let Back : List ℕ → Type 0 = λ bytes. (length bytes ≡ 2) × (Some (cast_signed w16 (value 256 bytes)) ≡ Some n) in
     let Whole : ℕ → Type 0 = λ m. Some (cast_signed w16 m) ≡ Some n in
-    subst Back same (refl, subst Whole (sym (value_16 (cast_unsigned w16 n) (bits_16 n t.0))) (ap (λ z. Some z) (to_z-of_z w16 n (fits_16 n t.0))))
+    subst Back same (
+      refl,
+      subst Whole (sym (value_16 (cast_unsigned w16 n) (bits_16 n t.0)))
+          (ap (λ z. Some z) (to_z-of_z w16 n (fits_16 n t.0))),
+    )
 
-full_back : (n : ℤ) (form : List ℕ) → form_of F 4 n ≡ Some form → (length form ≡ 4) × (Some (cast_signed w32 (value 256 form)) ≡ Some n)
+full_back : (n : ℤ) (form : List ℕ) → form_of F 4 n ≡ Some form → (length form ≡ 4)
+    × (Some (cast_signed w32 (value 256 form)) ≡ Some n)
 full_back n form e =
     let t = under_test (fits_twos 32 n) (Some (to_be_bytes w32 (cast_unsigned w32 n))) form e in
     let same : to_be_bytes w32 (cast_unsigned w32 n) ≡ form = cc in
     let Back : List ℕ → Type 0 = λ bytes. (length bytes ≡ 4) × (Some (cast_signed w32 (value 256 bytes)) ≡ Some n) in
     let Whole : ℕ → Type 0 = λ m. Some (cast_signed w32 m) ≡ Some n in
-    subst Back same (refl, subst Whole (sym (value_32 (cast_unsigned w32 n) (bits_32 n t.0))) (ap (λ z. Some z) (to_z-of_z w32 n (fits_32 n t.0))))
+    subst Back same (
+      refl,
+      subst Whole (sym (value_32 (cast_unsigned w32 n) (bits_32 n t.0)))
+          (ap (λ z. Some z) (to_z-of_z w32 n (fits_32 n t.0))),
+    )
 
 -- the length holds of the form, as it holds of the field
-of_its_length : (kind : FieldKind) (size : ℕ) (n : ℤ) (form : List ℕ) → is_length_of kind size ≡ true → (length form ≡ size) × (number_of kind form ≡ Some n) → (length form ≡ size) × (number kind form ≡ Some n)
+of_its_length : (kind : FieldKind) (size : ℕ) (n : ℤ) (form : List ℕ) → is_length_of kind size ≡ true
+    → (length form ≡ size) × (number_of kind form ≡ Some n) → (length form ≡ size) × (number kind form ≡ Some n)
 of_its_length kind size n form fits back = (back.0, rw (back.0, fits) back.1)
 
-pub reads_back : (kind : FieldKind) (size : ℕ) (n : ℤ) (form : List ℕ) → bytes_of kind size n ≡ Some form → (length form ≡ size) × (number kind form ≡ Some n)
+pub reads_back : (kind : FieldKind) (size : ℕ) (n : ℤ) (form : List ℕ) → bytes_of kind size n ≡ Some form
+    → (length form ≡ size) × (number kind form ≡ Some n)
 reads_back C size n form e = absurd cc
 reads_back X size n form e =
     let t = under_test (is_length_of X size) (form_of X size n) form e in

@@ -35,8 +35,10 @@ pair_back : (k : ℕ) (front : List ℕ) (last : ℕ)
     → pairs (suc k) (value 10 (halves (front ++ last ∷ []))) ≡ front ++ last ∷ []
 pair_back k front last before digits =
     let apart : (list_all is_digit (halves front) && (is_digit (last / 16) && (is_digit (last % 16) && true))) ≡ true =
-    sym (ap (list_all is_digit) (halves_snoc front last) ∙ list_all-append is_digit (halves front) (last / 16 ∷ last % 16 ∷ [])) ∙ digits in
-    let both = and_parts (list_all is_digit (halves front)) (is_digit (last / 16) && (is_digit (last % 16) && true)) apart in
+    sym (ap (list_all is_digit) (halves_snoc front last) ∙ list_all-append is_digit (halves front)
+    (last / 16 ∷ last % 16 ∷ [])) ∙ digits in
+    let both = and_parts (list_all is_digit (halves front)) (is_digit (last / 16) && (is_digit (last % 16) && true))
+    apart in
     let ends = and_parts (is_digit (last / 16)) (is_digit (last % 16) && true) both.1 in
     let low = and_parts (is_digit (last % 16)) true ends.1 in
     let high_digit : last / 16 < 10 = ltb-true (last / 16) 10 ends.0 in
@@ -47,7 +49,8 @@ pair_back k front last before digits =
     let byte : n / 10 % 10 * 16 + n % 10 ≡ last = omega (arith, high_digit, low_digit) in
     rw (pair_snoc front last, up, byte, before both.0) refl
 
-pairs_back : (k : ℕ) (bs : List ℕ) → length bs ≡ k → list_all is_digit (halves bs) ≡ true → pairs k (value 10 (halves bs)) ≡ bs
+pairs_back : (k : ℕ) (bs : List ℕ) → length bs ≡ k → list_all is_digit (halves bs) ≡ true
+    → pairs k (value 10 (halves bs)) ≡ bs
 pairs_back zero [] size digits = refl
 pairs_back zero (b ∷ bs) size digits = absurd (omega arith)
 pairs_back (suc k) [] size digits = absurd (omega arith)
@@ -67,7 +70,8 @@ byte_back k front last before small =
     rw (value_snoc 256 front last, up, byte, before) refl
 
 -- each of some bytes is one
-small_front : (front : List ℕ) (last : ℕ) → ((i : ℕ) → get_or (front ++ last ∷ []) i 0 < 256) → (i : ℕ) → get_or front i 0 < 256
+small_front : (front : List ℕ) (last : ℕ) → ((i : ℕ) → get_or (front ++ last ∷ []) i 0 < 256) → (i : ℕ)
+    → get_or front i 0 < 256
 small_front [] last small i = omega arith
 small_front (x ∷ xs) last small zero = small zero
 small_front (x ∷ xs) last small (suc i) = small_front xs last (λ j. small (suc j)) i
@@ -84,7 +88,8 @@ bytes_back (suc k) (b ∷ bs) size small =
     let e = ending b bs in
     let short : length e.front ≡ k = omega (arith, length_snoc e.front e.last, ap length e.is) in
     let Back : List ℕ → Type 0 = λ t. ((i : ℕ) → get_or t i 0 < 256) → big_endian (suc k) (value 256 t) ≡ t in
-    subst Back (sym e.is) (λ each. byte_back k e.front e.last (bytes_back k e.front short (small_front e.front e.last each)) (small_last e.front e.last each)) small
+    subst Back (sym e.is) (λ each. byte_back k e.front e.last
+    (bytes_back k e.front short (small_front e.front e.last each)) (small_last e.front e.last each)) small
 
 -- the sign takes nothing from the magnitude
 abs_either : (b : Bool) (n : ℕ) → unsigned_abs (if b then neg_ℤ (pos n) else pos n) ≡ n
@@ -96,21 +101,25 @@ abs_signed : (sign n : ℕ) → unsigned_abs (signed_by sign n) ≡ n
 abs_signed sign n = abs_either (sign == 11 || sign == 13) n
 
 -- the sign stands in the last byte alone
-signed_as_snoc : (sign : ℕ) (front : List ℕ) (last : ℕ) → signed_as sign (front ++ last ∷ []) ≡ front ++ (last / 16 * 16 + sign) ∷ []
+signed_as_snoc : (sign : ℕ) (front : List ℕ) (last : ℕ)
+    → signed_as sign (front ++ last ∷ []) ≡ front ++ (last / 16 * 16 + sign) ∷ []
 signed_as_snoc sign [] last = refl
 signed_as_snoc sign (b ∷ []) last = refl
 signed_as_snoc sign (b ∷ c ∷ bs) last = ap (λ (t : List ℕ). b ∷ t) (signed_as_snoc sign (c ∷ bs) last)
 
 -- the form of the magnitude that packed bytes are is these bytes, with the sign of the form
-form_again : (front : List ℕ) (last u sign : ℕ) → list_all is_digit (packed_digits (front ++ last ∷ [])) ≡ true → u ≡ value 10 (packed_digits (front ++ last ∷ []))
+form_again : (front : List ℕ) (last u sign : ℕ) → list_all is_digit (packed_digits (front ++ last ∷ [])) ≡ true
+    → u ≡ value 10 (packed_digits (front ++ last ∷ []))
     → packed_form (length (front ++ last ∷ [])) u sign ≡ signed_as sign (front ++ last ∷ [])
 form_again front last u sign digits is =
     let apart : (list_all is_digit (halves front) && (is_digit (last / 16) && true)) ≡ true =
-    sym (ap (list_all is_digit) (packed_digits_snoc front last) ∙ list_all-append is_digit (halves front) (last / 16 ∷ [])) ∙ digits in
+    sym (ap (list_all is_digit) (packed_digits_snoc front last) ∙ list_all-append is_digit (halves front)
+    (last / 16 ∷ [])) ∙ digits in
     let both = and_parts (list_all is_digit (halves front)) (is_digit (last / 16) && true) apart in
     let ends = and_parts (is_digit (last / 16)) true both.1 in
     let digit : last / 16 < 10 = ltb-true (last / 16) 10 ends.0 in
-    let whole : u ≡ value 10 (halves front) * 10 + last / 16 = is ∙ ap (value 10) (packed_digits_snoc front last) ∙ value_snoc 10 (halves front) (last / 16) in
+    let whole : u ≡ value 10 (halves front) * 10 + last / 16 =
+    is ∙ ap (value 10) (packed_digits_snoc front last) ∙ value_snoc 10 (halves front) (last / 16) in
     let up : u / 10 ≡ value 10 (halves front) = omega (arith, whole, digit) in
     let ones : u % 10 ≡ last / 16 = omega (arith, whole, digit) in
     let size : length (front ++ last ∷ []) - 1 ≡ length front = omega (arith, length_snoc front last) in
@@ -120,14 +129,19 @@ again_snoc : (front : List ℕ) (last : ℕ) (n : ℤ) → packed (front ++ last
     → packed_of (length (front ++ last ∷ [])) n ≡ Some (signed_as (sign_of n) (front ++ last ∷ []))
 again_snoc front last n e =
     let text = front ++ last ∷ [] in
-    let t = under_test (list_all is_digit (packed_digits text) && nat_le 10 (packed_sign text)) (Some (signed_by (packed_sign text) (value 10 (packed_digits text)))) n e in
+    let t = under_test (list_all is_digit (packed_digits text) && nat_le 10 (packed_sign text))
+    (Some (signed_by (packed_sign text) (value 10 (packed_digits text)))) n e in
     let both = and_parts (list_all is_digit (packed_digits text)) (nat_le 10 (packed_sign text)) t.0 in
     let number_is : signed_by (packed_sign text) (value 10 (packed_digits text)) ≡ n = cc in
-    let size : unsigned_abs n ≡ value 10 (packed_digits text) = sym (ap unsigned_abs number_is) ∙ abs_signed (packed_sign text) (value 10 (packed_digits text)) in
-    let below : value 10 (packed_digits text) < 10 ^ length (packed_digits text) = value_below 10 (packed_digits text) (digits_at (packed_digits text) both.0) in
+    let size : unsigned_abs n ≡ value 10 (packed_digits text) =
+    sym (ap unsigned_abs number_is) ∙ abs_signed (packed_sign text) (value 10 (packed_digits text)) in
+    let below : value 10 (packed_digits text) < 10 ^ length (packed_digits text) =
+    value_below 10 (packed_digits text) (digits_at (packed_digits text) both.0) in
     let Below : ℕ → Type 0 = λ k. value 10 (packed_digits text) < 10 ^ k in
-    let fits : unsigned_abs n < 10 ^ (2 * length text - 1) = omega (arith, size, subst Below (length-packed_digits text) below) in
-    rw (lt-ltb (unsigned_abs n) (10 ^ (2 * length text - 1)) fits) (ap (λ (f : List ℕ). Some f) (form_again front last (unsigned_abs n) (sign_of n) both.0 size))
+    let fits : unsigned_abs n < 10 ^ (2 * length text - 1) =
+    omega (arith, size, subst Below (length-packed_digits text) below) in
+    rw (lt-ltb (unsigned_abs n) (10 ^ (2 * length text - 1)) fits)
+    (ap (λ (f : List ℕ). Some f) (form_again front last (unsigned_abs n) (sign_of n) both.0 size))
 
 -- what two or four bytes are fits two's complement
 twos_fit_16 : (v : ℕ) → v < 65536 → fits_twos 16 (cast_signed w16 v) ≡ true
@@ -164,32 +178,40 @@ below_power bs k size small =
     subst Below size (value_below 256 bs (λ i within. small i))
 
 -- each kind of field, written again
-unsigned_again : (bs : List ℕ) → ((i : ℕ) → get_or bs i 0 < 256) → unsigned_of (length bs) (pos (value 256 bs)) ≡ Some bs
+unsigned_again : (bs : List ℕ) → ((i : ℕ) → get_or bs i 0 < 256)
+    → unsigned_of (length bs) (pos (value 256 bs)) ≡ Some bs
 unsigned_again bs small =
-    rw (lt-ltb (value 256 bs) (256 ^ length bs) (below_power bs (length bs) refl small)) (ap (λ (f : List ℕ). Some f) (bytes_back (length bs) bs refl small))
+    rw (lt-ltb (value 256 bs) (256 ^ length bs) (below_power bs (length bs) refl small))
+    (ap (λ (f : List ℕ). Some f) (bytes_back (length bs) bs refl small))
 
-half_again : (bs : List ℕ) → length bs ≡ 2 → ((i : ℕ) → get_or bs i 0 < 256) → form_of H 2 (cast_signed w16 (value 256 bs)) ≡ Some bs
+half_again : (bs : List ℕ) → length bs ≡ 2 → ((i : ℕ) → get_or bs i 0 < 256)
+    → form_of H 2 (cast_signed w16 (value 256 bs)) ≡ Some bs
 half_again bs two small =
     let below : value 256 bs < 65536 = below_power bs 2 two small in
     let same : to_be_bytes w16 (cast_unsigned w16 (cast_signed w16 (value 256 bs))) ≡ bs =
-    ap (to_be_bytes w16) (of_z-to_z w16 (value 256 bs) below) ∙ be_bytes_2 bs (value 256 bs) two small (from_16 bs two) in
+    ap (to_be_bytes w16) (of_z-to_z w16 (value 256 bs) below) ∙ be_bytes_2 bs (value 256 bs) two small (from_16 bs two)
+    in
     rw (twos_fit_16 (value 256 bs) below) (ap (λ (f : List ℕ). Some f) same)
 
-full_again : (bs : List ℕ) → length bs ≡ 4 → ((i : ℕ) → get_or bs i 0 < 256) → form_of F 4 (cast_signed w32 (value 256 bs)) ≡ Some bs
+full_again : (bs : List ℕ) → length bs ≡ 4 → ((i : ℕ) → get_or bs i 0 < 256)
+    → form_of F 4 (cast_signed w32 (value 256 bs)) ≡ Some bs
 full_again bs four small =
     let below : value 256 bs < 4294967296 = below_power bs 4 four small in
     let same : to_be_bytes w32 (cast_unsigned w32 (cast_signed w32 (value 256 bs))) ≡ bs =
-    ap (to_be_bytes w32) (of_z-to_z w32 (value 256 bs) below) ∙ be_bytes_4 bs (value 256 bs) four small (from_32 bs four) in
+    ap (to_be_bytes w32) (of_z-to_z w32 (value 256 bs) below) ∙ be_bytes_4 bs (value 256 bs) four small
+    (from_32 bs four) in
     rw (twos_fit_32 (value 256 bs) below) (ap (λ (f : List ℕ). Some f) same)
 
-packed_again : (bs : List ℕ) (n : ℤ) → 1 ≤ length bs → packed bs ≡ Some n → packed_of (length bs) n ≡ Some (signed_as (sign_of n) bs)
+packed_again : (bs : List ℕ) (n : ℤ) → 1 ≤ length bs → packed bs ≡ Some n
+    → packed_of (length bs) n ≡ Some (signed_as (sign_of n) bs)
 packed_again [] n some = absurd (omega arith)
 packed_again (b ∷ bs) n some =
     let e = ending b bs in
     let Again : List ℕ → Type 0 = λ t. packed t ≡ Some n → packed_of (length t) n ≡ Some (signed_as (sign_of n) t) in
     subst Again (sym e.is) (again_snoc e.front e.last n)
 
-pub writes_again : (kind : FieldKind) (bytes : List ℕ) (n : ℤ) → ((i : ℕ) → get_or bytes i 0 < 256) → number kind bytes ≡ Some n → bytes_of kind (length bytes) n ≡ Some (preferred kind n bytes)
+pub writes_again : (kind : FieldKind) (bytes : List ℕ) (n : ℤ) → ((i : ℕ) → get_or bytes i 0 < 256)
+    → number kind bytes ≡ Some n → bytes_of kind (length bytes) n ≡ Some (preferred kind n bytes)
 writes_again C bytes n small e = absurd cc
 writes_again X bytes n small e =
     let t = under_test (is_length_of X (length bytes)) (number_of X bytes) n e in

@@ -15,4 +15,5 @@ pairs_value bytes = if list_all is_digit (halves bytes) then Some (value 10 (hal
 
 -- the number that packed bytes are, apart from its sign
 abbrev pub magnitude : List ℕ → Option ℕ
-magnitude bytes = if list_all is_digit (packed_digits bytes) && nat_le 10 (packed_sign bytes) then Some (value 10 (packed_digits bytes)) else None
+magnitude bytes = if list_all is_digit (packed_digits bytes) && nat_le 10 (packed_sign bytes) then Some
+    (value 10 (packed_digits bytes)) else None

@@ -23,7 +23,8 @@ holds_or (x ∷ xs) at = elim (pointer_or x at) as (λ _. Contains (x ∷ xs) at
 
 -- ---- each once
 
-pub apart-both : (xs ys : List Pointer) → AreApart xs → AreApart ys → ((at : Pointer) → Contains xs at → ¬ Contains ys at) → AreApart (xs ++ ys)
+pub apart-both : (xs ys : List Pointer) → AreApart xs → AreApart ys
+    → ((at : Pointer) → Contains xs at → ¬ Contains ys at) → AreApart (xs ++ ys)
 apart-both [] ys a b d = b
 apart-both (x ∷ xs) ys a b d = (
   (λ c. elim (Contains-append_cases xs ys x c) as (λ _. ⊥) [ inl l ↦ a.0 l | inr r ↦ d x (front_in x xs) r ]),
@@ -61,11 +62,13 @@ met-before (x ∷ xs) met at c = met-before xs (x ∷ met) at (behind_in x met a
 pub met-now : (xs met : List Pointer) (at : Pointer) → Contains xs at → Contains (met_after xs met) at
 met-now [] met at c = absurd (none_in at c)
 met-now (x ∷ xs) met at c = elim (in_cases x xs at c) as (λ _. Contains (met_after xs (x ∷ met)) at) [
-  | inl e ↦ (let P : Pointer → Type 0 = λ y. Contains (met_after xs (x ∷ met)) y in subst P e (met-before xs (x ∷ met) x (front_in x met)))
+  | inl e ↦ (let P : Pointer → Type 0 = λ y. Contains (met_after xs (x ∷ met)) y in
+      subst P e (met-before xs (x ∷ met) x (front_in x met)))
   | inr d ↦ met-now xs (x ∷ met) at d
 ]
 
-pub met-cases : (xs met : List Pointer) (at : Pointer) → Contains (met_after xs met) at → Contains xs at ⊎ Contains met at
+pub met-cases : (xs met : List Pointer) (at : Pointer) → Contains (met_after xs met) at → Contains xs at
+    ⊎ Contains met at
 met-cases [] met at c = inr c
 met-cases (x ∷ xs) met at c = elim (met-cases xs (x ∷ met) at c) as (λ _. Contains (x ∷ xs) at ⊎ Contains met at) [
   | inl d ↦ inl (behind_in x xs at d)

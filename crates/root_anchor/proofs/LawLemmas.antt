@@ -11,13 +11,19 @@ use Rattle.root_anchor.specs.Chains.{AreRoots, root_of, IsChain}
 use Rattle.root_anchor.proofs.Framing.{roots_stay}
 use Rattle.root_anchor.proofs.OneChain.{HasSome, chain_has}
 
-pub chain_element : (shape : Shape) (types : List SegDef) (area : List (List ℕ)) (anchor : ℕ) (roots : List Root) (elements : List Pointer) (at : Pointer)
-    → IsChain shape types area anchor roots elements → Contains elements at → (type : ℕ) × ((s : Segment) × HasSegment types area type at s)
-chain_element shape types area anchor roots elements at c m = let h : HasSome types area at = chain_has c at m in (h.type, (h.segment, h.has))
+pub chain_element : (shape : Shape) (types : List SegDef) (area : List (List ℕ)) (anchor : ℕ) (roots : List Root)
+    (elements : List Pointer) (at : Pointer)
+    → IsChain shape types area anchor roots elements → Contains elements at → (type : ℕ)
+    × ((s : Segment) × HasSegment types area type at s)
+chain_element shape types area anchor roots elements at c m = let h : HasSome types area at = chain_has c at m in
+    (h.type, (h.segment, h.has))
 
-pub chain_stays : (shape : Shape) (types : List SegDef) (old new : List (List ℕ)) (anchor : ℕ) (roots : List Root) (elements : List Pointer)
-    → IsChain shape types old anchor roots elements → IsInPlace shape new (base_of shape anchor) → root_of shape new anchor ≡ root_of shape old anchor
-    → ((at : Pointer) (type : ℕ) (s : Segment) → Contains elements at → HasSegment types old type at s → HasSegment types new type at s)
+pub chain_stays : (shape : Shape) (types : List SegDef) (old new : List (List ℕ)) (anchor : ℕ) (roots : List Root)
+    (elements : List Pointer)
+    → IsChain shape types old anchor roots elements → IsInPlace shape new (base_of shape anchor)
+    → root_of shape new anchor ≡ root_of shape old anchor
+    → ((at : Pointer) (type : ℕ) (s : Segment) → Contains elements at → HasSegment types old type at s
+    → HasSegment types new type at s)
     → IsChain shape types new anchor roots elements
 chain_stays shape types old new anchor roots elements c place same stay = record {
   base = place;

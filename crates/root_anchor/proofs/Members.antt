@@ -14,6 +14,7 @@ behind_in y xs x h = Contains-append_right (y ∷ []) xs x h
 
 pub in_cases : {X : Type 0} (y : X) (xs : List X) (x : X) → Contains (y ∷ xs) x → (y ≡ x) ⊎ Contains xs x
 in_cases y xs x h = elim (Contains-append_cases (y ∷ []) xs x h) as (λ _. (y ≡ x) ⊎ Contains xs x) [
-  | inl one ↦ elim (Contains-push_cases [] y x one) as (λ _. (y ≡ x) ⊎ Contains xs x) [ inl none ↦ absurd (none_in x none) | inr same ↦ inl same ]
+  | inl one ↦ elim (Contains-push_cases [] y x one) as (λ _. (y ≡ x) ⊎ Contains xs x)
+      [ inl none ↦ absurd (none_in x none) | inr same ↦ inl same ]
   | inr rest ↦ inr rest
 ]

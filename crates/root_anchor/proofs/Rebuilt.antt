@@ -1,4 +1,5 @@
--- An anchor that was rebuilt in an area that is whole: it has its new roots, the other anchors theirs, and the area is whole.
+-- An anchor that was rebuilt in an area that is whole: it has its new roots, the other anchors theirs, and the area is
+-- whole.
 use Rattle.std.proofs.Common.{◌≡◌, ◌≢◌, ℕ, ◌<◌, inl, inr, List, [], ◌++◌, Contains, refl, sym, ◌∙◌, subst, arith}
 use Rattle.ci_space.specs.declared.intervals.Shape.{Shape}
 use Rattle.ci_space.specs.Interval.{HasUsed, IsUsed}
@@ -28,29 +29,39 @@ use Rattle.root_anchor.proofs.OneChain.{one_chain, chain_has, HasSome}
 use Rattle.root_anchor.proofs.PutLemmas.{base_before, root_keeps_order, root_keeps_used, root_keeps_segment, root_is_put, root_keeps_roots, root_keeps_sequential, segment_stays}
 
 -- an anchor below the count has its base interval in its place
-pub base-in-place : (shape : Shape) (area : List (List ℕ)) (anchor : ℕ) → IsInOrder shape area → anchor < anchor_count shape → IsInPlace shape area (base_of shape anchor)
-base-in-place shape area anchor o b = o.in_place (base_of shape anchor) (omega (arith, base_before shape anchor b, o.whole))
+pub base-in-place : (shape : Shape) (area : List (List ℕ)) (anchor : ℕ) → IsInOrder shape area
+    → anchor < anchor_count shape → IsInPlace shape area (base_of shape anchor)
+base-in-place shape area anchor o b = o.in_place (base_of shape anchor)
+    (omega (arith, base_before shape anchor b, o.whole))
 
--- The elements `had` of an anchor gave way to `has`, in which its new roots stand, and its root anchor point leads there.
-pub record IsRebuilt (shape : Shape) (types : List SegDef) (old middle new : List (List ℕ)) (anchor : ℕ) (had has : List Pointer) (first : Pointer) (roots : List Root) : Type 0 where
+-- The elements `had` of an anchor gave way to `has`, in which its new roots stand, and its root anchor point leads
+-- there.
+pub record IsRebuilt (shape : Shape) (types : List SegDef) (old middle new : List (List ℕ)) (anchor : ℕ)
+    (had has : List Pointer) (first : Pointer) (roots : List Root) : Type 0 where
   pub below : anchor < anchor_count shape
   pub exchange : Exchanges shape old middle had has
   pub stand : RootsStand types middle first roots has
   pub put : PutsRoot shape middle new anchor first
 
-module _ (shape : Shape) (types : List SegDef) (old middle new : List (List ℕ)) (anchor : ℕ) (had has : List Pointer) (first : Pointer) (roots : List Root)
+module _ (shape : Shape) (types : List SegDef) (old middle new : List (List ℕ)) (anchor : ℕ) (had has : List Pointer)
+    (first : Pointer) (roots : List Root)
     (it : IsRebuilt shape types old middle new anchor had has first roots) where
   pub new-order : IsInOrder shape new
   new-order = root_keeps_order shape middle new anchor first it.exchange.in_order it.put it.below
 
   -- a used element that the anchor hadn't stays
-  stays : (at : Pointer) (type : ℕ) (content : List ℕ) → ¬ Contains had at → HasUsed (bytes_at old at.0) at.1 type content → HasUsed (bytes_at new at.0) at.1 type content
-  stays at type content n h = (root_keeps_used shape middle new anchor first it.put at.0).stay at.1 type content (it.exchange.stay at type content n h)
+  stays : (at : Pointer) (type : ℕ) (content : List ℕ) → ¬ Contains had at
+      → HasUsed (bytes_at old at.0) at.1 type content → HasUsed (bytes_at new at.0) at.1 type content
+  stays at type content n h = (root_keeps_used shape middle new anchor first it.put at.0).stay at.1 type content
+      (it.exchange.stay at type content n h)
 
   pub new-chain : IsChain shape types new anchor roots (met_after has [])
   new-chain =
       let from : AreRoots types middle [] first roots (met_after has []) = it.stand [] (λ at c. none_in at) in
-      let there : AreRoots types new [] first roots (met_after has []) = roots_stay from (record { each = λ p _ _ type s h. root_keeps_segment shape types middle new anchor first it.put type p s h }) in
+      let there : AreRoots types new [] first roots (met_after has []) = roots_stay from (record {
+        each =
+            λ p _ _ type s h. root_keeps_segment shape types middle new anchor first it.put type p s h;
+      }) in
       let P : Pointer → Type 0 = λ at. AreRoots types new [] at roots (met_after has []) in
       record {
         base = base-in-place shape new anchor new-order it.below;
@@ -58,26 +69,34 @@ module _ (shape : Shape) (types : List SegDef) (old middle new : List (List ℕ)
       }
 
   pub new-sequential : KeepsSequential shape old new
-  new-sequential = sequential-joined shape old middle new it.exchange.sequential (root_keeps_sequential shape middle new anchor first it.put it.below)
+  new-sequential = sequential-joined shape old middle new it.exchange.sequential
+      (root_keeps_sequential shape middle new anchor first it.put it.below)
 
-  module _ (types_had : List Pointer) (olds : List Root) (chain : IsChain shape types old anchor olds types_had) (same : (at : Pointer) → Contains had at → Contains types_had at)
+  module _ (types_had : List Pointer) (olds : List Root) (chain : IsChain shape types old anchor olds types_had)
+      (same : (at : Pointer) → Contains had at → Contains types_had at)
       (back : (at : Pointer) → Contains types_had at → Contains had at) (formed : IsFormed shape types old) where
     -- the anchor met what it had
     met-had : (at : Pointer) → Meets shape types old anchor at → Contains had at
-    met-had at m = let P : List Pointer → Type 0 = λ l. Contains l at in back at (subst P ((one_chain m.is_chain chain).1) m.met)
+    met-had at m = let P : List Pointer → Type 0 = λ l. Contains l at in
+        back at (subst P ((one_chain m.is_chain chain).1) m.met)
 
     -- another anchor met none of that
-    apart-had : (other : ℕ) (at : Pointer) → other < anchor_count shape → other ≢ anchor → Meets shape types old other at → ¬ Contains had at
-    apart-had other at b n m c = n (formed.apart other anchor at b it.below m (record { roots = olds; elements = types_had; is_chain = chain; met = same at c }))
+    apart-had : (other : ℕ) (at : Pointer) → other < anchor_count shape → other ≢ anchor
+        → Meets shape types old other at → ¬ Contains had at
+    apart-had other at b n m c = n (formed.apart other anchor at b it.below m
+        (record { roots = olds; elements = types_had; is_chain = chain; met = same at c }))
 
     pub others-keep : OthersKeep shape types old new anchor
     others-keep other rs es b n c =
         let stay : Stay types old new [] es = record {
           each = λ p h _ type s x. segment_stays types old new type p s
-              (λ content. stays p type content (apart-had other p b n (record { roots = rs; elements = es; is_chain = c; met = h }))) x;
+              (λ content. stays p type content (apart-had other p b n
+              (record { roots = rs; elements = es; is_chain = c; met = h }))) x;
         } in
         let there : AreRoots types new [] (root_of shape old other) rs es = roots_stay c.are_roots stay in
-        let e : root_of shape new other ≡ root_of shape old other = root_keeps_roots shape middle new anchor first it.put it.below other b n ∙ it.exchange.roots (base_of shape other) in
+        let e : root_of shape new other ≡ root_of shape old other =
+        root_keeps_roots shape middle new anchor first it.put it.below other b n ∙ it.exchange.roots
+        (base_of shape other) in
         let P : Pointer → Type 0 = λ at. AreRoots types new [] at rs es in
         record { base = base-in-place shape new other new-order b; are_roots = subst P (sym e) there }
 
@@ -85,9 +104,11 @@ module _ (shape : Shape) (types : List SegDef) (old middle new : List (List ℕ)
     met-new : (at : Pointer) → Meets shape types new anchor at → Contains has at
     met-new at m =
         let P : List Pointer → Type 0 = λ l. Contains l at in
-        elim (met-cases has [] at (subst P ((one_chain m.is_chain new-chain).1) m.met)) as (λ _. Contains has at) [ inl c ↦ c | inr c ↦ absurd (none_in at c) ]
+        elim (met-cases has [] at (subst P ((one_chain m.is_chain new-chain).1) m.met)) as (λ _. Contains has at)
+        [ inl c ↦ c | inr c ↦ absurd (none_in at c) ]
 
-    met-before : (other : ℕ) (at : Pointer) → other < anchor_count shape → other ≢ anchor → Meets shape types new other at → Meets shape types old other at
+    met-before : (other : ℕ) (at : Pointer) → other < anchor_count shape → other ≢ anchor
+        → Meets shape types new other at → Meets shape types old other at
     met-before other at b n m =
         let h : HasChain shape types old other = formed.chains other b in
         let P : List Pointer → Type 0 = λ l. Contains l at in
@@ -99,10 +120,12 @@ module _ (shape : Shape) (types : List SegDef) (old middle new : List (List ℕ)
         }
 
     used-before : (other : ℕ) (at : Pointer) → Meets shape types old other at → IsUsed (bytes_at old at.0) at.1
-    used-before other at m = let s : HasSome types old at = chain_has m.is_chain at m.met in record { segment = s.type; content = s.has.content; used = s.has.used }
+    used-before other at m = let s : HasSome types old at = chain_has m.is_chain at m.met in
+        record { segment = s.type; content = s.has.content; used = s.has.used }
 
     -- what the anchor has, no other has
-    has-alone : (other : ℕ) (at : Pointer) → other < anchor_count shape → other ≢ anchor → Meets shape types new anchor at → ¬ Meets shape types new other at
+    has-alone : (other : ℕ) (at : Pointer) → other < anchor_count shape → other ≢ anchor
+        → Meets shape types new anchor at → ¬ Meets shape types new other at
     has-alone other at b n m o =
         let x : Meets shape types old other at = met-before other at b n o in
         elim (it.exchange.fresh at (met-new at m)) as (λ _. ⊥) [
@@ -110,7 +133,8 @@ module _ (shape : Shape) (types : List SegDef) (old middle new : List (List ℕ)
           | inr u ↦ u (used-before other at x)
         ]
 
-    new-apart : (a b : ℕ) (at : Pointer) → a < anchor_count shape → b < anchor_count shape → Meets shape types new a at → Meets shape types new b at → a ≡ b
+    new-apart : (a b : ℕ) (at : Pointer) → a < anchor_count shape → b < anchor_count shape → Meets shape types new a at
+        → Meets shape types new b at → a ≡ b
     new-apart a b at x y m n = elim (same_or a anchor) as (λ _. a ≡ b) [
       | inl e ↦ elim (same_or b anchor) as (λ _. a ≡ b) [
         | inl f ↦ e ∙ sym f
@@ -124,26 +148,52 @@ module _ (shape : Shape) (types : List SegDef) (old middle new : List (List ℕ)
 
     new-chains : (other : ℕ) → other < anchor_count shape → HasChain shape types new other
     new-chains other b = elim (same_or other anchor) as (λ _. HasChain shape types new other) [
-      | inl e ↦ (let P : ℕ → Type 0 = λ c. HasChain shape types new c in subst P (sym e) (record { roots = roots; elements = met_after has []; is_chain = new-chain }))
-      | inr n ↦ (let h : HasChain shape types old other = formed.chains other b in record { roots = h.roots; elements = h.elements; is_chain = others-keep other h.roots h.elements b n h.is_chain })
+      | inl e ↦ (let P : ℕ → Type 0 = λ c. HasChain shape types new c in
+          subst P (sym e) (record { roots = roots; elements = met_after has []; is_chain = new-chain }))
+      | inr n ↦ (let h : HasChain shape types old other = formed.chains other b in
+          record {
+            roots = h.roots;
+            elements = h.elements;
+            is_chain =
+                others-keep other h.roots h.elements b n h.is_chain;
+          })
     ]
 
     each-met : (at : Pointer) → IsUsed (bytes_at new at.0) at.1 → IsMet shape types new at
     each-met at u =
-        let f : (type : ℕ) (content : List ℕ) → HasUsed (bytes_at new at.0) at.1 type content → HasUsed (bytes_at middle at.0) at.1 type content =
+        let f : (type : ℕ) (content : List ℕ) → HasUsed (bytes_at new at.0) at.1 type content
+        → HasUsed (bytes_at middle at.0) at.1 type content =
         λ type content. (root_keeps_used shape middle new anchor first it.put at.0).none_comes at.1 type content
         in
         elim (holds_or has at) as (λ _. IsMet shape types new at) [
-          | inl c ↦ record { anchor = anchor; below = it.below; meets = record { roots = roots; elements = met_after has []; is_chain = new-chain; met = met-now has [] at c } }
+          | inl c ↦ record {
+            anchor = anchor;
+            below = it.below;
+            meets =
+                record { roots = roots; elements = met_after has []; is_chain = new-chain; met = met-now has [] at c };
+          }
           | inr n ↦
               (let b = it.exchange.none_comes at u.segment u.content n (f u.segment u.content u.used) in
-              let m : IsMet shape types old at = formed.each_met at (record { segment = u.segment; content = u.content; used = b.1 }) in
+              let m : IsMet shape types old at = formed.each_met at (record {
+                segment = u.segment;
+                content =
+                    u.content;
+                used = b.1;
+              }) in
               elim (same_or m.anchor anchor) as (λ _. IsMet shape types new at) [
-                | inl e ↦ (let P : ℕ → Type 0 = λ c. Meets shape types old c at in absurd (b.0 (met-had at (subst P e m.meets))))
+                | inl e ↦ (let P : ℕ → Type 0 = λ c. Meets shape types old c at in
+                    absurd (b.0 (met-had at (subst P e m.meets))))
                 | inr d ↦ record {
                   anchor = m.anchor;
                   below = m.below;
-                  meets = record { roots = m.meets.roots; elements = m.meets.elements; is_chain = others-keep m.anchor m.meets.roots m.meets.elements m.below d m.meets.is_chain; met = m.meets.met };
+                  meets = record {
+                    roots = m.meets.roots;
+                    elements = m.meets.elements;
+                    is_chain =
+                        others-keep m.anchor m.meets.roots m.meets.elements m.below d m.meets.is_chain;
+                    met =
+                        m.meets.met;
+                  };
                 }
               ])
         ]
@@ -153,80 +203,120 @@ module _ (shape : Shape) (types : List SegDef) (old middle new : List (List ℕ)
 
 -- ---- the steps of a rebuilding
 
-pub givable : (shape : Shape) (types : List SegDef) (area : List (List ℕ)) (plan : List Planned) (rest : List Standing) (roots : List Root) → IsRebuildable shape types area plan rest roots → AreGivable area (places_of rest)
-givable shape types area plan rest roots r = record { used = r.used; once = apart-right (reserved plan) (places_of rest) r.once }
+pub givable : (shape : Shape) (types : List SegDef) (area : List (List ℕ)) (plan : List Planned) (rest : List Standing)
+    (roots : List Root) → IsRebuildable shape types area plan rest roots → AreGivable area (places_of rest)
+givable shape types area plan rest roots r = record
+    { used = r.used; once = apart-right (reserved plan) (places_of rest) r.once }
 
-pub still-planned : (shape : Shape) (types : List SegDef) (old mid : List (List ℕ)) (plan : List Planned) (rest : List Standing) (roots : List Root) → IsRebuildable shape types old plan rest roots → Exchanges shape old mid (places_of rest) []
+pub still-planned : (shape : Shape) (types : List SegDef) (old mid : List (List ℕ)) (plan : List Planned)
+    (rest : List Standing) (roots : List Root) → IsRebuildable shape types old plan rest roots
+    → Exchanges shape old mid (places_of rest) []
     → IsPlanned shape types mid plan [] plan (types_of_roots types roots)
 still-planned shape types old mid plan rest roots r e = record {
   in_order = e.in_order;
   parts = refl;
   kinds_are = r.kinds_are;
   are_reserved = record {
-    rooms = rooms-stay types old mid plan (λ at t content c h. e.stay at t content (apart-disjoint (reserved plan) (places_of rest) at r.once c) h) r.rooms;
+    rooms = rooms-stay types old mid plan (λ at t content c h. e.stay at t content
+        (apart-disjoint (reserved plan) (places_of rest) at r.once c) h) r.rooms;
     once = apart-left (reserved plan) (places_of rest) r.once;
   };
 }
 
-pub rebuilds : (shape : Shape) (types : List SegDef) (old mid mid2 new : List (List ℕ)) (anchor : ℕ) (plan : List Planned) (rest : List Standing) (roots : List Root) (first : Pointer)
-    → IsRebuildable shape types old plan rest roots → Exchanges shape old mid (places_of rest) [] → BuildsRoots shape types mid mid2 plan first roots → PutsRoot shape mid2 new anchor first
+pub rebuilds : (shape : Shape) (types : List SegDef) (old mid mid2 new : List (List ℕ)) (anchor : ℕ)
+    (plan : List Planned) (rest : List Standing) (roots : List Root) (first : Pointer)
+    → IsRebuildable shape types old plan rest roots → Exchanges shape old mid (places_of rest) []
+    → BuildsRoots shape types mid mid2 plan first roots → PutsRoot shape mid2 new anchor first
     → Rebuilds shape types old new anchor plan rest roots
 rebuilds shape types old mid mid2 new anchor plan rest roots first r e b p =
     let x : Exchanges shape old mid2 (reserved plan ++ places_of rest) (b.elements ++ []) =
-    exchange-both shape old mid mid2 (places_of rest) [] (reserved plan) b.elements e b.exchange (rooms-used types old plan r.rooms) (λ at c. apart-disjoint (reserved plan) (places_of rest) at r.once c)
+    exchange-both shape old mid mid2 (places_of rest) [] (reserved plan) b.elements e b.exchange
+    (rooms-used types old plan r.rooms) (λ at c. apart-disjoint (reserved plan) (places_of rest) at r.once c)
     in
     let P : List Pointer → Type 0 = λ has. Exchanges shape old mid2 (reserved plan ++ places_of rest) has in
-    record { middle = mid2; first = first; elements = b.elements; exchange = subst P (append-nil b.elements) x; stand = b.stand; put = p }
+    record {
+      middle = mid2;
+      first = first;
+      elements = b.elements;
+      exchange = subst P (append-nil b.elements) x;
+      stand =
+          b.stand;
+      put = p;
+    }
 
 -- ---- from what an anchor had to its new roots
 
-pub rebuildable : (shape : Shape) (types : List SegDef) (area : List (List ℕ)) (anchor : ℕ) (all rest : List Standing) (plan : List Planned) (roots : List Root) → IsInOrder shape area → AreStanding shape types area anchor all
+pub rebuildable : (shape : Shape) (types : List SegDef) (area : List (List ℕ)) (anchor : ℕ) (all rest : List Standing)
+    (plan : List Planned) (roots : List Root) → IsInOrder shape area → AreStanding shape types area anchor all
     → Shares all plan rest → types_of plan ≡ types_of_roots types roots → IsRebuildable shape types area plan rest roots
 rebuildable shape types area anchor all rest plan roots o a s k = record {
   in_order = o;
   kinds_are = k;
   rooms = (plan-reserved shape types area anchor all rest plan a s).rooms;
   used = λ at c.
-      let h : HasSome types area at = chain_has a.is_chain at ((a.same at).0 (s.has at (Contains-append_right (reserved plan) (places_of rest) at c))) in
+      let h : HasSome types area at = chain_has a.is_chain at
+      ((a.same at).0 (s.has at (Contains-append_right (reserved plan) (places_of rest) at c))) in
       record { segment = h.type; content = h.has.content; used = h.has.used };
   once = s.once (apart-pairs (places_of all) a.once);
 }
 
 -- what a store leaves in an area that was whole
-pub record IsStored (shape : Shape) (types : List SegDef) (old new : List (List ℕ)) (anchor : ℕ) (roots : List Root) : Type 0 where
+pub record IsStored (shape : Shape) (types : List SegDef) (old new : List (List ℕ)) (anchor : ℕ) (roots : List Root) :
+    Type 0 where
   pub stored : HasRoots shape types new anchor roots
   pub others : OthersKeep shape types old new anchor
   pub sequential : KeepsSequential shape old new
   pub formed : IsFormed shape types new
 
-pub is-stored : (shape : Shape) (types : List SegDef) (old new : List (List ℕ)) (anchor : ℕ) (all rest : List Standing) (plan : List Planned) (roots : List Root) → anchor < anchor_count shape → IsFormed shape types old
-    → AreStanding shape types old anchor all → Shares all plan rest → Rebuilds shape types old new anchor plan rest roots → IsStored shape types old new anchor roots
+pub is-stored : (shape : Shape) (types : List SegDef) (old new : List (List ℕ)) (anchor : ℕ) (all rest : List Standing)
+    (plan : List Planned) (roots : List Root) → anchor < anchor_count shape → IsFormed shape types old
+    → AreStanding shape types old anchor all → Shares all plan rest
+    → Rebuilds shape types old new anchor plan rest roots → IsStored shape types old new anchor roots
 is-stored shape types old new anchor all rest plan roots b f a s r =
     let had : List Pointer = reserved plan ++ places_of rest in
-    let it : IsRebuilt shape types old r.middle new anchor had r.elements r.first roots = record { below = b; exchange = r.exchange; stand = r.stand; put = r.put } in
+    let it : IsRebuilt shape types old r.middle new anchor had r.elements r.first roots = record {
+      below = b;
+      exchange =
+          r.exchange;
+      stand = r.stand;
+      put = r.put;
+    } in
     let same : (at : Pointer) → Contains had at → Contains a.elements at = λ at c. (a.same at).0 (s.has at c) in
     let back : (at : Pointer) → Contains a.elements at → Contains had at = λ at c. s.had at ((a.same at).1 c) in
     record {
-      stored = record { elements = met_after r.elements []; is_chain = new-chain shape types old r.middle new anchor had r.elements r.first roots it };
-      others = others-keep shape types old r.middle new anchor had r.elements r.first roots it a.elements a.roots a.is_chain same back f;
+      stored = record {
+        elements = met_after r.elements [];
+        is_chain =
+            new-chain shape types old r.middle new anchor had r.elements r.first roots it;
+      };
+      others = others-keep shape types old r.middle new anchor had r.elements r.first roots it a.elements a.roots
+          a.is_chain same back f;
       sequential = new-sequential shape types old r.middle new anchor had r.elements r.first roots it;
-      formed = new-formed shape types old r.middle new anchor had r.elements r.first roots it a.elements a.roots a.is_chain same back f;
+      formed = new-formed shape types old r.middle new anchor had r.elements r.first roots it a.elements a.roots
+          a.is_chain same back f;
     }
 
-pub ready : (shape : Shape) (types : List SegDef) (old now : List (List ℕ)) (anchor : ℕ) (all rest slice : List Standing) (plan : List Planned) (roots : List Root) → now ≡ old → slice ≡ rest → IsInOrder shape old
-    → AreStanding shape types old anchor all → Shares all plan rest → types_of plan ≡ types_of_roots types roots → IsRebuildable shape types now plan slice roots
+pub ready : (shape : Shape) (types : List SegDef) (old now : List (List ℕ)) (anchor : ℕ)
+    (all rest slice : List Standing) (plan : List Planned) (roots : List Root) → now ≡ old → slice ≡ rest
+    → IsInOrder shape old
+    → AreStanding shape types old anchor all → Shares all plan rest → types_of plan ≡ types_of_roots types roots
+    → IsRebuildable shape types now plan slice roots
 ready shape types old now anchor all rest slice plan roots e s o a h k =
     let P : List (List ℕ) → Type 0 = λ area. IsRebuildable shape types area plan slice roots in
     let Q : List Standing → Type 0 = λ xs. IsRebuildable shape types old plan xs roots in
     subst P (sym e) (subst Q (sym s) (rebuildable shape types old anchor all rest plan roots o a h k))
 
-pub stores : (shape : Shape) (types : List SegDef) (old now new : List (List ℕ)) (anchor : ℕ) (all rest slice : List Standing) (plan : List Planned) (roots : List Root) → now ≡ old → slice ≡ rest → anchor < anchor_count shape
-    → IsFormed shape types old → AreStanding shape types old anchor all → Shares all plan rest → Rebuilds shape types now new anchor plan slice roots → IsStored shape types old new anchor roots
+pub stores : (shape : Shape) (types : List SegDef) (old now new : List (List ℕ)) (anchor : ℕ)
+    (all rest slice : List Standing) (plan : List Planned) (roots : List Root) → now ≡ old → slice ≡ rest
+    → anchor < anchor_count shape
+    → IsFormed shape types old → AreStanding shape types old anchor all → Shares all plan rest
+    → Rebuilds shape types now new anchor plan slice roots → IsStored shape types old new anchor roots
 stores shape types old now new anchor all rest slice plan roots e s b f a h r =
     let P : List (List ℕ) → Type 0 = λ area. Rebuilds shape types area new anchor plan slice roots in
     let Q : List Standing → Type 0 = λ xs. Rebuilds shape types old new anchor plan xs roots in
     is-stored shape types old new anchor all rest plan roots b f a h (subst Q s (subst P e r))
 
 -- an anchor has the roots that stand in its elements
-pub has_chain : {shape : Shape} {types : List SegDef} {area : List (List ℕ)} {anchor : ℕ} {list : List Standing} → AreStanding shape types area anchor list → HasChain shape types area anchor
+pub has_chain : {shape : Shape} {types : List SegDef} {area : List (List ℕ)} {anchor : ℕ} {list : List Standing}
+    → AreStanding shape types area anchor list → HasChain shape types area anchor
 has_chain standing = record { roots = standing.roots; elements = standing.elements; is_chain = standing.is_chain }

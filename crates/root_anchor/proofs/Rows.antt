@@ -18,85 +18,127 @@ use Rattle.root_anchor.proofs.Framing.{rows_stay, roots_stay}
 pub no-rows : (types : List SegDef) (area : List (List ℕ)) → RowsStand types area [] [] [] []
 no-rows types area met d = no_row
 
-pub row-ends : (types : List SegDef) (area : List (List ℕ)) (type : ℕ) → RowsStand types area (type ∷ []) (nothing ∷ []) ([] ∷ []) []
+pub row-ends : (types : List SegDef) (area : List (List ℕ)) (type : ℕ)
+    → RowsStand types area (type ∷ []) (nothing ∷ []) ([] ∷ []) []
 row-ends types area type met d = row_end no_row
 
 -- what is met in front of others, where each is met once
-front_apart : (at : Pointer) (xs ys met : List Pointer) → AreApart (at ∷ (xs ++ ys)) → ((p : Pointer) → Contains (at ∷ (xs ++ ys)) p → ¬ Contains met p) → (p : Pointer) → Contains xs p → ¬ Contains (at ∷ met) p
+front_apart : (at : Pointer) (xs ys met : List Pointer) → AreApart (at ∷ (xs ++ ys))
+    → ((p : Pointer) → Contains (at ∷ (xs ++ ys)) p → ¬ Contains met p) → (p : Pointer) → Contains xs p
+    → ¬ Contains (at ∷ met) p
 front_apart at xs ys met a d p c m = elim (in_cases at met p m) as (λ _. ⊥) [
   | inl e ↦ (let P : Pointer → Type 0 = λ q. Contains xs q in a.0 (Contains-append_left xs ys at (subst P (sym e) c)))
   | inr n ↦ d p (behind_in at (xs ++ ys) p (Contains-append_left xs ys p c)) n
 ]
 
-back_apart : (at : Pointer) (xs ys met : List Pointer) → AreApart (at ∷ (xs ++ ys)) → ((p : Pointer) → Contains (at ∷ (xs ++ ys)) p → ¬ Contains met p) → (p : Pointer) → Contains ys p → ¬ Contains (met_after xs (at ∷ met)) p
+back_apart : (at : Pointer) (xs ys met : List Pointer) → AreApart (at ∷ (xs ++ ys))
+    → ((p : Pointer) → Contains (at ∷ (xs ++ ys)) p → ¬ Contains met p) → (p : Pointer) → Contains ys p
+    → ¬ Contains (met_after xs (at ∷ met)) p
 back_apart at xs ys met a d p c m = elim (met-cases xs (at ∷ met) p m) as (λ _. ⊥) [
   | inl n ↦ apart-disjoint xs ys p a.1 n c
   | inr n ↦ elim (in_cases at met p n) as (λ _. ⊥) [
-    | inl e ↦ (let P : Pointer → Type 0 = λ q. Contains ys q in a.0 (Contains-append_right xs ys at (subst P (sym e) c)))
+    | inl e ↦ (let P : Pointer → Type 0 = λ q. Contains ys q in
+        a.0 (Contains-append_right xs ys at (subst P (sym e) c)))
     | inr o ↦ d p (behind_in at (xs ++ ys) p (Contains-append_right xs ys p c)) o
   ]
 ]
 
-pub row-begins : (types : List SegDef) (area : List (List ℕ)) (type : ℕ) (at : Pointer) (s : Segment) (below : List (List Node)) (row : List Node) (xs ys : List Pointer) (node : Node)
-    → HasSegment types area type at s → RowsStand types area (child_types types type) s.firsts below xs → RowsStand types area (type ∷ []) (s.next ∷ []) (row ∷ []) ys → AreApart (at ∷ (xs ++ ys))
+pub row-begins : (types : List SegDef) (area : List (List ℕ)) (type : ℕ) (at : Pointer) (s : Segment)
+    (below : List (List Node)) (row : List Node) (xs ys : List Pointer) (node : Node)
+    → HasSegment types area type at s → RowsStand types area (child_types types type) s.firsts below xs
+    → RowsStand types area (type ∷ []) (s.next ∷ []) (row ∷ []) ys → AreApart (at ∷ (xs ++ ys))
     → s.bytes ≡ (out-Node node).bytes → below ≡ (out-Node node).children
     → RowsStand types area (type ∷ []) (at ∷ []) ((node ∷ row) ∷ []) (at ∷ (xs ++ ys))
 row-begins types area type at s below row xs ys node h f g a b c met d =
     let n : roll-Node (record { bytes = s.bytes; children = below }) ≡ node = rw (b, c) (roll-out-Node node) in
-    let P : Node → Type 0 = λ m. AreRows types area met (type ∷ []) (at ∷ []) ((m ∷ row) ∷ []) (met_after xs (at ∷ met)) in
+    let P : Node → Type 0 = λ m. AreRows types area met (type ∷ []) (at ∷ []) ((m ∷ row) ∷ []) (met_after xs (at ∷ met))
+    in
     let Q : List Pointer → Type 0 = λ after. AreRows types area met (type ∷ []) (at ∷ []) ((node ∷ row) ∷ []) after in
-    let R : Node → Type 0 = λ m. AreRows types area met (type ∷ []) (at ∷ []) ((m ∷ row) ∷ []) (met_after ys (met_after xs (at ∷ met))) in
-    let all : AreRows types area met (type ∷ []) (at ∷ []) ((roll-Node (record { bytes = s.bytes; children = below }) ∷ row) ∷ []) (met_after ys (met_after xs (at ∷ met))) =
-    segment s h (d at (front_in at (xs ++ ys))) (f (at ∷ met) (front_apart at xs ys met a d)) (g (met_after xs (at ∷ met)) (back_apart at xs ys met a d))
+    let R : Node → Type 0 = λ m. AreRows types area met (type ∷ []) (at ∷ []) ((m ∷ row) ∷ [])
+    (met_after ys (met_after xs (at ∷ met))) in
+    let all : AreRows types area met (type ∷ []) (at ∷ []) ((roll-Node (record {
+      bytes = s.bytes;
+      children =
+          below;
+    }) ∷ row) ∷ []) (met_after ys (met_after xs (at ∷ met))) =
+    segment s h (d at (front_in at (xs ++ ys))) (f (at ∷ met) (front_apart at xs ys met a d))
+    (g (met_after xs (at ∷ met)) (back_apart at xs ys met a d))
     in
     subst Q (sym (met-append xs ys (at ∷ met))) (subst R n all)
 
 -- rows and others behind them
-rows_joined : {types : List SegDef} {area : List (List ℕ)} {met : List Pointer} {kinds : List ℕ} {firsts : List Pointer} {rows : List (List Node)} {between : List Pointer}
-    → AreRows types area met kinds firsts rows between → {more : List ℕ} {others : List Pointer} {later : List (List Node)} {after : List Pointer}
-    → AreRows types area between more others later after → AreRows types area met (kinds ++ more) (firsts ++ others) (rows ++ later) after
+rows_joined : {types : List SegDef} {area : List (List ℕ)} {met : List Pointer} {kinds : List ℕ} {firsts : List Pointer}
+    {rows : List (List Node)} {between : List Pointer}
+    → AreRows types area met kinds firsts rows between
+    → {more : List ℕ} {others : List Pointer} {later : List (List Node)} {after : List Pointer}
+    → AreRows types area between more others later after
+    → AreRows types area met (kinds ++ more) (firsts ++ others) (rows ++ later) after
 rows_joined no_row r = r
 rows_joined (row_end next) r = row_end (rows_joined next r)
 rows_joined (segment s has fresh below next) r = segment s has fresh below (rows_joined next r)
 
-pub row-before : (types : List SegDef) (area : List (List ℕ)) (type : ℕ) (kinds : List ℕ) (first : Pointer) (firsts : List Pointer) (row : List Node) (rows : List (List Node)) (xs ys : List Pointer)
-    → RowsStand types area (type ∷ []) (first ∷ []) (row ∷ []) xs → RowsStand types area kinds firsts rows ys → AreApart (xs ++ ys)
+pub row-before : (types : List SegDef) (area : List (List ℕ)) (type : ℕ) (kinds : List ℕ) (first : Pointer)
+    (firsts : List Pointer) (row : List Node) (rows : List (List Node)) (xs ys : List Pointer)
+    → RowsStand types area (type ∷ []) (first ∷ []) (row ∷ []) xs → RowsStand types area kinds firsts rows ys
+    → AreApart (xs ++ ys)
     → RowsStand types area (type ∷ kinds) (first ∷ firsts) (row ∷ rows) (xs ++ ys)
 row-before types area type kinds first firsts row rows xs ys f g a met d =
     let e : (p : Pointer) → Contains xs p → ¬ Contains met p = λ p c. d p (Contains-append_left xs ys p c) in
-    let h : (p : Pointer) → Contains ys p → ¬ Contains (met_after xs met) p = λ p c m. elim (met-cases xs met p m) as (λ _. ⊥) [
+    let h : (p : Pointer) → Contains ys p → ¬ Contains (met_after xs met) p =
+    λ p c m. elim (met-cases xs met p m) as (λ _. ⊥) [
       | inl n ↦ apart-disjoint xs ys p a n c
       | inr n ↦ d p (Contains-append_right xs ys p c) n
     ] in
-    let all : AreRows types area met (type ∷ kinds) (first ∷ firsts) (row ∷ rows) (met_after ys (met_after xs met)) = rows_joined (f met e) (g (met_after xs met) h) in
-    let P : List Pointer → Type 0 = λ after. AreRows types area met (type ∷ kinds) (first ∷ firsts) (row ∷ rows) after in
+    let all : AreRows types area met (type ∷ kinds) (first ∷ firsts) (row ∷ rows) (met_after ys (met_after xs met)) =
+    rows_joined (f met e) (g (met_after xs met) h) in
+    let P : List Pointer → Type 0 = λ after. AreRows types area met (type ∷ kinds) (first ∷ firsts) (row ∷ rows) after
+    in
     subst P (sym (met-append xs ys met)) all
 
 -- in any area in which their elements stay
-pub rows-stay : (types : List SegDef) (old new : List (List ℕ)) (kinds : List ℕ) (firsts : List Pointer) (rows : List (List Node)) (xs : List Pointer)
-    → ((p : Pointer) → Contains xs p → (type : ℕ) (s : Segment) → HasSegment types old type p s → HasSegment types new type p s) → RowsStand types old kinds firsts rows xs → RowsStand types new kinds firsts rows xs
+pub rows-stay : (types : List SegDef) (old new : List (List ℕ)) (kinds : List ℕ) (firsts : List Pointer)
+    (rows : List (List Node)) (xs : List Pointer)
+    → ((p : Pointer) → Contains xs p → (type : ℕ) (s : Segment) → HasSegment types old type p s
+    → HasSegment types new type p s) → RowsStand types old kinds firsts rows xs
+    → RowsStand types new kinds firsts rows xs
 rows-stay types old new kinds firsts rows xs f r met d =
-    rows_stay (r met d) (record { each = λ p c n type s h. elim (met-cases xs met p c) as (λ _. HasSegment types new type p s) [ inl x ↦ f p x type s h | inr x ↦ absurd (n x) ] })
+    rows_stay (r met d) (record {
+      each = λ p c n type s h. elim (met-cases xs met p c) as
+          (λ _. HasSegment types new type p s) [ inl x ↦ f p x type s h | inr x ↦ absurd (n x) ];
+    })
 
 -- ---- roots
 
 pub no-roots : (types : List SegDef) (area : List (List ℕ)) → RootsStand types area nothing [] []
 no-roots types area met d = no_root
 
-pub root-begins : (types : List SegDef) (area : List (List ℕ)) (at : Pointer) (s : Segment) (first : Root) (roots : List Root) (xs ys : List Pointer)
-    → HasSegment types area 0 at s → RowsStand types area (child_types types 0) s.firsts first.children xs → RootsStand types area s.next roots ys → AreApart (at ∷ (xs ++ ys))
+pub root-begins : (types : List SegDef) (area : List (List ℕ)) (at : Pointer) (s : Segment) (first : Root)
+    (roots : List Root) (xs ys : List Pointer)
+    → HasSegment types area 0 at s → RowsStand types area (child_types types 0) s.firsts first.children xs
+    → RootsStand types area s.next roots ys → AreApart (at ∷ (xs ++ ys))
     → s.bytes ≡ first.bytes → newest s.serial ≡ first.seqs
     → RootsStand types area at (first ∷ roots) (at ∷ (xs ++ ys))
 root-begins types area at s first roots xs ys h f g a b c met d =
     let n : record { bytes = s.bytes; children = first.children; seqs = newest s.serial } ≡ first = rw (b, c) refl in
     let Q : List Pointer → Type 0 = λ after. AreRoots types area met at (first ∷ roots) after in
     let R : Root → Type 0 = λ r. AreRoots types area met at (r ∷ roots) (met_after ys (met_after xs (at ∷ met))) in
-    let all : AreRoots types area met at (record { bytes = s.bytes; children = first.children; seqs = newest s.serial } ∷ roots) (met_after ys (met_after xs (at ∷ met))) =
-    root s h (d at (front_in at (xs ++ ys))) (f (at ∷ met) (front_apart at xs ys met a d)) (g (met_after xs (at ∷ met)) (back_apart at xs ys met a d))
+    let all : AreRoots types area met at (record {
+      bytes = s.bytes;
+      children = first.children;
+      seqs =
+          newest s.serial;
+    } ∷ roots) (met_after ys (met_after xs (at ∷ met))) =
+    root s h (d at (front_in at (xs ++ ys))) (f (at ∷ met) (front_apart at xs ys met a d))
+    (g (met_after xs (at ∷ met)) (back_apart at xs ys met a d))
     in
     subst Q (sym (met-append xs ys (at ∷ met))) (subst R n all)
 
-pub roots-stay : (types : List SegDef) (old new : List (List ℕ)) (first : Pointer) (roots : List Root) (xs : List Pointer)
-    → ((p : Pointer) → Contains xs p → (type : ℕ) (s : Segment) → HasSegment types old type p s → HasSegment types new type p s) → RootsStand types old first roots xs → RootsStand types new first roots xs
+pub roots-stay : (types : List SegDef) (old new : List (List ℕ)) (first : Pointer) (roots : List Root)
+    (xs : List Pointer)
+    → ((p : Pointer) → Contains xs p → (type : ℕ) (s : Segment) → HasSegment types old type p s
+    → HasSegment types new type p s) → RootsStand types old first roots xs → RootsStand types new first roots xs
 roots-stay types old new first roots xs f r met d =
-    roots_stay (r met d) (record { each = λ p c n type s h. elim (met-cases xs met p c) as (λ _. HasSegment types new type p s) [ inl x ↦ f p x type s h | inr x ↦ absurd (n x) ] })
+    roots_stay (r met d) (record {
+      each = λ p c n type s h. elim (met-cases xs met p c) as
+          (λ _. HasSegment types new type p s) [ inl x ↦ f p x type s h | inr x ↦ absurd (n x) ];
+    })

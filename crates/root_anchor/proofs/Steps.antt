@@ -31,7 +31,8 @@ used-below area at u = elim (cases_lt at.0 (length area)) as (λ _. at.0 < lengt
   | inl l ↦ l
   | inr l ↦
       let e : bytes_at area at.0 ≡ [] = get_or_past area at.0 [] l in
-      let b : (512 ≤ length (bytes_at area at.0)) × (length (bytes_at area at.0) ≤ 4096) = size-bounds (length (bytes_at area at.0)) u.used.tiles.size in
+      let b : (512 ≤ length (bytes_at area at.0)) × (length (bytes_at area at.0) ≤ 4096) =
+      size-bounds (length (bytes_at area at.0)) u.used.tiles.size in
       let z : length (bytes_at area at.0) ≡ 0 = ap length e in
       absurd (omega (arith, b.0, z))
 ]
@@ -40,41 +41,51 @@ pub used-elements : (bytes : List ℕ) (at : ℕ) → IsUsed bytes at → has_el
 used-elements bytes at u = used-kind bytes u.used.before u.used.after (Used u.segment u.content) u.used.tiles
 
 pub used-kind-at : (shape : Shape) (area : List (List ℕ)) (at : Pointer) → IsInOrder shape area → IsUsed (bytes_at area at.0) at.1 → has_elements (kind_at shape at.0) ≡ true
-used-kind-at shape area at o u = ap has_elements (sym (o.in_place at.0 (used-below area at u)).is_kind) ∙ used-elements (bytes_at area at.0) at.1 u
+used-kind-at shape area at o u = ap has_elements (sym (o.in_place at.0 (used-below area at u)).is_kind) ∙ used-elements
+    (bytes_at area at.0) at.1 u
 
 pub used-not-sequential : (shape : Shape) (area : List (List ℕ)) (at : Pointer) (ci : ℕ) → IsInOrder shape area → IsUsed (bytes_at area at.0) at.1 → kind_at shape ci ≡ 4 → ci ≢ at.0
 used-not-sequential shape area at ci o u k e =
-    let h : has_elements 4 ≡ true = ap has_elements (sym k) ∙ ap (λ c. has_elements (kind_at shape c)) e ∙ used-kind-at shape area at o u in
+    let h : has_elements 4 ≡ true = ap has_elements (sym k) ∙ ap (λ c. has_elements (kind_at shape c)) e ∙ used-kind-at
+    shape area at o u in
     let f : false ≡ true = h in
     cc
 
 -- a sequential interval is no base interval
-base_not_sequential : (shape : Shape) (uow ci : ℕ) → uow < shape.uows → 0 < shape.base → kind_at shape ci ≡ 4 → ci ≢ first_base shape uow
+base_not_sequential : (shape : Shape) (uow ci : ℕ) → uow < shape.uows → 0 < shape.base → kind_at shape ci ≡ 4
+    → ci ≢ first_base shape uow
 base_not_sequential shape uow ci u b k e =
     let z : first_base shape uow + 0 ≡ first_base shape uow = omega arith in
     omega (arith, k, ap (kind_at shape) e, ap (kind_at shape) z, kind-base shape uow 0 u b)
 
 -- ---- elements that stay
 
-pub one-stays : (old new : List (List ℕ)) (at p : Pointer) (type : ℕ) (content : List ℕ) → OnlyOneChanges old new at.0 at.1 → p ≢ at → HasUsed (bytes_at old p.0) p.1 type content → HasUsed (bytes_at new p.0) p.1 type content
-one-stays old new at p type content o n h = elim (same_or p.0 at.0) as (λ _. HasUsed (bytes_at new p.0) p.1 type content) [
-  | inl e ↦
-      let P : ℕ → Type 0 = λ c. HasUsed (bytes_at old c) p.1 type content in
-      let Q : ℕ → Type 0 = λ c. HasUsed (bytes_at new c) p.1 type content in
-      subst Q (sym e) (o.here.stay p.1 type content (λ f. n (same_pointer p at e f)) (subst P e h))
-  | inr d ↦ (o.elsewhere p.0 d).stay p.1 type content h
-]
+pub one-stays : (old new : List (List ℕ)) (at p : Pointer) (type : ℕ) (content : List ℕ)
+    → OnlyOneChanges old new at.0 at.1 → p ≢ at → HasUsed (bytes_at old p.0) p.1 type content
+    → HasUsed (bytes_at new p.0) p.1 type content
+one-stays old new at p type content o n h = elim (same_or p.0 at.0) as
+    (λ _. HasUsed (bytes_at new p.0) p.1 type content) [
+      | inl e ↦
+          let P : ℕ → Type 0 = λ c. HasUsed (bytes_at old c) p.1 type content in
+          let Q : ℕ → Type 0 = λ c. HasUsed (bytes_at new c) p.1 type content in
+          subst Q (sym e) (o.here.stay p.1 type content (λ f. n (same_pointer p at e f)) (subst P e h))
+      | inr d ↦ (o.elsewhere p.0 d).stay p.1 type content h
+    ]
 
-pub one-comes : (old new : List (List ℕ)) (at p : Pointer) (type : ℕ) (content : List ℕ) → OnlyOneChanges old new at.0 at.1 → p ≢ at → HasUsed (bytes_at new p.0) p.1 type content → HasUsed (bytes_at old p.0) p.1 type content
-one-comes old new at p type content o n h = elim (same_or p.0 at.0) as (λ _. HasUsed (bytes_at old p.0) p.1 type content) [
-  | inl e ↦
-      let P : ℕ → Type 0 = λ c. HasUsed (bytes_at old c) p.1 type content in
-      let Q : ℕ → Type 0 = λ c. HasUsed (bytes_at new c) p.1 type content in
-      subst P (sym e) (o.here.none_comes p.1 type content (λ f. n (same_pointer p at e f)) (subst Q e h))
-  | inr d ↦ (o.elsewhere p.0 d).none_comes p.1 type content h
-]
+pub one-comes : (old new : List (List ℕ)) (at p : Pointer) (type : ℕ) (content : List ℕ)
+    → OnlyOneChanges old new at.0 at.1 → p ≢ at → HasUsed (bytes_at new p.0) p.1 type content
+    → HasUsed (bytes_at old p.0) p.1 type content
+one-comes old new at p type content o n h = elim (same_or p.0 at.0) as
+    (λ _. HasUsed (bytes_at old p.0) p.1 type content) [
+      | inl e ↦
+          let P : ℕ → Type 0 = λ c. HasUsed (bytes_at old c) p.1 type content in
+          let Q : ℕ → Type 0 = λ c. HasUsed (bytes_at new c) p.1 type content in
+          subst P (sym e) (o.here.none_comes p.1 type content (λ f. n (same_pointer p at e f)) (subst Q e h))
+      | inr d ↦ (o.elsewhere p.0 d).none_comes p.1 type content h
+    ]
 
-is_at : (area : List (List ℕ)) (at p : Pointer) → p ≡ at → IsUsed (bytes_at area p.0) p.1 → IsUsed (bytes_at area at.0) at.1
+is_at : (area : List (List ℕ)) (at p : Pointer) → p ≡ at → IsUsed (bytes_at area p.0) p.1
+    → IsUsed (bytes_at area at.0) at.1
 is_at area at p e u = let P : Pointer → Type 0 = λ q. IsUsed (bytes_at area q.0) q.1 in subst P e u
 
 not_one : (at p : Pointer) → p ≢ at → ¬ Contains (at ∷ []) p
@@ -85,7 +96,8 @@ not_in at p n e = let P : Pointer → Type 0 = λ q. Contains (at ∷ []) q in n
 
 -- ---- the steps
 
-pub gives-back : (shape : Shape) (old new : List (List ℕ)) (at : Pointer) → GivesBack shape old new at.0 at.1 → IsInOrder shape new → Exchanges shape old new (at ∷ []) []
+pub gives-back : (shape : Shape) (old new : List (List ℕ)) (at : Pointer) → GivesBack shape old new at.0 at.1
+    → IsInOrder shape new → Exchanges shape old new (at ∷ []) []
 gives-back shape old new at g o = record {
   in_order = o;
   stay = λ p type content n h. one-stays old new at p type content g.others (not_in at p n) h;
@@ -99,14 +111,24 @@ gives-back shape old new at g o = record {
   sequential = record { ends = g.ends; intervals = g.sequential };
 }
 
-pub finds-room : (shape : Shape) (old new : List (List ℕ)) (anchor n : ℕ) (room : Pointer) → FindsRoom shape old new anchor n room → IsInOrder shape new → uow_of shape anchor < shape.uows → 0 < shape.base
+pub finds-room : (shape : Shape) (old new : List (List ℕ)) (anchor n : ℕ) (room : Pointer)
+    → FindsRoom shape old new anchor n room → IsInOrder shape new → uow_of shape anchor < shape.uows → 0 < shape.base
     → Exchanges shape old new [] (room ∷ [])
 finds-room shape old new anchor n room f o u b =
-    let used : IsUsed (bytes_at new room.0) room.1 = record { segment = f.has_room.segment; content = f.has_room.content; used = f.has_room.used } in
+    let used : IsUsed (bytes_at new room.0) room.1 = record {
+      segment = f.has_room.segment;
+      content =
+          f.has_room.content;
+      used = f.has_room.used;
+    } in
     record {
       in_order = o;
-      stay = λ p type content _ h. one-stays old new room p type content f.others (λ e. f.fresh (is_at old room p e (record { segment = type; content = content; used = h }))) h;
-      none_comes = λ p type content m h. (none_in p, one-comes old new room p type content f.others (not_in room p m) h);
+      stay = λ p type content _ h. one-stays old new room p type content f.others
+          (λ e. f.fresh (is_at old room p e (record { segment = type; content = content; used = h }))) h;
+      none_comes = λ p type content m h. (
+        none_in p,
+        one-comes old new room p type content f.others (not_in room p m) h,
+      );
       fresh = λ p c. inr (λ x. f.fresh (is_at old room p (sym (contains-one room p c)) x));
       used = λ p c. is_at new p room (contains-one room p c) used;
       once = (none_in room, tt);
@@ -114,18 +136,23 @@ finds-room shape old new anchor n room f o u b =
       sequential = record {
         ends = f.ends;
         intervals = λ ci k.
-            f.named ci (λ e. let h : 1 ≡ 4 = ap (kind_at shape) (sym e) ∙ k in cc) (base_not_sequential shape (uow_of shape anchor) ci u b k) (used-not-sequential shape new room ci o used k);
+            f.named ci (λ e. let h : 1 ≡ 4 = ap (kind_at shape) (sym e) ∙ k in cc)
+            (base_not_sequential shape (uow_of shape anchor) ci u b k)
+            (used-not-sequential shape new room ci o used k);
       };
     }
 
-pub puts-segment : (shape : Shape) (types : List SegDef) (old new : List (List ℕ)) (type : ℕ) (at : Pointer) (s : Segment) → PutsSegment types old new type at s
-    → IsInOrder shape old → IsInOrder shape new → IsUsed (bytes_at old at.0) at.1 → Exchanges shape old new (at ∷ []) (at ∷ [])
+pub puts-segment : (shape : Shape) (types : List SegDef) (old new : List (List ℕ)) (type : ℕ) (at : Pointer)
+    (s : Segment) → PutsSegment types old new type at s
+    → IsInOrder shape old → IsInOrder shape new → IsUsed (bytes_at old at.0) at.1
+    → Exchanges shape old new (at ∷ []) (at ∷ [])
 puts-segment shape types old new type at s p i o u = record {
   in_order = o;
   stay = λ q t content n h. one-stays old new at q t content p.others (not_in at q n) h;
   none_comes = λ q t content n h. (n, one-comes old new at q t content p.others (not_in at q n) h);
   fresh = λ q c. inl c;
-  used = λ q c. is_at new q at (contains-one at q c) (record { segment = type; content = p.stands.content; used = p.stands.used });
+  used = λ q c. is_at new q at (contains-one at q c)
+      (record { segment = type; content = p.stands.content; used = p.stands.used });
   once = (none_in at, tt);
   roots = λ ci. ap (λ (h : Head). h.root) (put_keeps_head types old new type at s p ci);
   sequential = put_keeps_sequential shape types old new type at s i u p;
@@ -133,7 +160,8 @@ puts-segment shape types old new type at s p i o u = record {
 
 -- ---- a place for a segment
 
-pub keeps-place : (shape : Shape) (types : List SegDef) (area : List (List ℕ)) (type : ℕ) (planned : Option Pointer) (at : Pointer) → IsInOrder shape area → planned ≡ Some at → HaveRoom types area type planned
+pub keeps-place : (shape : Shape) (types : List SegDef) (area : List (List ℕ)) (type : ℕ) (planned : Option Pointer)
+    (at : Pointer) → IsInOrder shape area → planned ≡ Some at → HaveRoom types area type planned
     → TakesPlace shape types area area type planned at
 keeps-place shape types area type planned at o e h =
     let P : Option Pointer → Type 0 = HaveRoom types area type in
@@ -145,28 +173,46 @@ keeps-place shape types area type planned at o e h =
         stay = λ p t content n u. u;
         none_comes = λ p t content n u. (n, u);
         fresh = λ p c. inl c;
-        used = λ p c. is_at area p at (contains-one at p c) (record { segment = r.segment; content = r.content; used = r.used });
+        used = λ p c. is_at area p at (contains-one at p c)
+            (record { segment = r.segment; content = r.content; used = r.used });
         once = (none_in at, tt);
         roots = λ ci. refl;
-        sequential = record { ends = record { begin = refl; end = refl; head = λ k x y. refl }; intervals = λ ci k. refl };
+        sequential = record {
+          ends = record { begin = refl; end = refl; head = λ k x y. refl };
+          intervals =
+              λ ci k. refl;
+        };
       };
       room = r;
     })
 
-pub finds-place : (shape : Shape) (types : List SegDef) (old new : List (List ℕ)) (type anchor n : ℕ) (planned : Option Pointer) (at : Pointer) → planned ≡ None → n ≡ content_length types type
+pub finds-place : (shape : Shape) (types : List SegDef) (old new : List (List ℕ)) (type anchor n : ℕ)
+    (planned : Option Pointer) (at : Pointer) → planned ≡ None → n ≡ content_length types type
     → FindsRoom shape old new anchor n at → IsInOrder shape new → anchor < anchor_count shape
     → TakesPlace shape types old new type planned at
 finds-place shape types old new type anchor n planned at e m f o b =
     let Q : Option Pointer → Type 0 = λ p. TakesPlace shape types old new type p at in
     let R : ℕ → Type 0 = λ n. HasRoom (bytes_at new at.0) at.1 n in
-    subst Q (sym e) (record { exchange = finds-room shape old new anchor n at f o (uow_below shape anchor b) (base-some anchor shape.uows shape.base b); room = subst R m f.has_room })
+    subst Q (sym e) (record {
+      exchange = finds-room shape old new anchor n at f o (uow_below shape anchor b)
+          (base-some anchor shape.uows shape.base b);
+      room = subst R m f.has_room;
+    })
 
-pub places-segment : (shape : Shape) (types : List SegDef) (old mid new : List (List ℕ)) (type : ℕ) (planned : Option Pointer) (at : Pointer) (s : Segment) → TakesPlace shape types old mid type planned at → PutsSegment types mid new type at s
+pub places-segment : (shape : Shape) (types : List SegDef) (old mid new : List (List ℕ)) (type : ℕ)
+    (planned : Option Pointer) (at : Pointer) (s : Segment) → TakesPlace shape types old mid type planned at
+    → PutsSegment types mid new type at s
     → PlacesSegment shape types old new type planned at s
 places-segment shape types old mid new type planned at s t p =
-    let u : IsUsed (bytes_at mid at.0) at.1 = record { segment = t.room.segment; content = t.room.content; used = t.room.used } in
+    let u : IsUsed (bytes_at mid at.0) at.1 = record {
+      segment = t.room.segment;
+      content = t.room.content;
+      used =
+          t.room.used;
+    } in
     let o : IsInOrder shape new = put_keeps_order shape types mid new type at s t.exchange.in_order u p in
     record {
-      exchange = exchange-again shape old mid new (and_place planned []) (at ∷ []) (at ∷ []) t.exchange (puts-segment shape types mid new type at s p t.exchange.in_order o u);
+      exchange = exchange-again shape old mid new (and_place planned []) (at ∷ []) (at ∷ []) t.exchange
+          (puts-segment shape types mid new type at s p t.exchange.in_order o u);
       has = p.stands;
     }

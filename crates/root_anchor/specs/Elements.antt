@@ -59,7 +59,8 @@ segment_in types type content = record {
 }
 
 -- a used element of this type stands at a pointer and says this; behind the segment it has zeros
-pub record HasSegment (types : List SegDef) (area : List (List ℕ)) (type : ℕ) (at : Pointer) (segment : Segment) : Type 0 where
+pub record HasSegment (types : List SegDef) (area : List (List ℕ)) (type : ℕ) (at : Pointer) (segment : Segment) : Type
+    0 where
   pub content : List ℕ
   pub used : HasUsed (bytes_at area at.0) at.1 type content
   pub fits : content_length types type ≤ length content

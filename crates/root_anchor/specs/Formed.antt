@@ -9,7 +9,8 @@ use Rattle.root_anchor.specs.Elements.{Pointer}
 use Rattle.root_anchor.specs.Chains.{IsChain, anchor_count}
 
 -- an anchor has these roots
-pub record HasRoots (shape : Shape) (types : List SegDef) (area : List (List ℕ)) (anchor : ℕ) (roots : List Root) : Type 0 where
+pub record HasRoots (shape : Shape) (types : List SegDef) (area : List (List ℕ)) (anchor : ℕ) (roots : List Root) : Type
+    0 where
   pub elements : List Pointer
   pub is_chain : IsChain shape types area anchor roots elements
 
@@ -32,9 +33,9 @@ pub record IsMet (shape : Shape) (types : List SegDef) (area : List (List ℕ)) 
   pub below : anchor < anchor_count shape
   pub meets : Meets shape types area anchor at
 
--- Each interval that control counts is one and has the kind of its place, the overflow lists are in order, and exactly one
--- pointer leads to each used element: the pointers of each anchor give roots, no element is met from two anchors, and
--- each used element is met.
+-- Each interval that control counts is one and has the kind of its place, the overflow lists are in order, and exactly
+-- one pointer leads to each used element: the pointers of each anchor give roots, no element is met from two anchors,
+-- and each used element is met.
 pub record IsFormed (shape : Shape) (types : List SegDef) (area : List (List ℕ)) : Type 0 where
   pub in_order : IsInOrder shape area
   pub chains : (anchor : ℕ) → anchor < anchor_count shape → HasChain shape types area anchor

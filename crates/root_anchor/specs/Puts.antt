@@ -10,7 +10,8 @@ use Rattle.fp_model.specs.declared.definitions.SegDef.{SegDef}
 use Rattle.root_anchor.specs.Elements.{Pointer, Segment, HasSegment}
 
 -- a segment of this type is put into the used element at a pointer; every other element stays, and every head
-pub record PutsSegment (types : List SegDef) (old new : List (List ℕ)) (type : ℕ) (at : Pointer) (segment : Segment) : Type 0 where
+pub record PutsSegment (types : List SegDef) (old new : List (List ℕ)) (type : ℕ) (at : Pointer) (segment : Segment) :
+    Type 0 where
   pub stands : HasSegment types new type at segment
   pub others : OnlyOneChanges old new at.0 at.1
   pub head : Keeps (bytes_at old at.0) (bytes_at new at.0) 0 32
@@ -19,7 +20,8 @@ pub record PutsSegment (types : List SegDef) (old new : List (List ℕ)) (type :
 
 -- an anchor's root anchor point becomes this pointer; every element stays, and what else the heads say
 pub record PutsRoot (shape : Shape) (old new : List (List ℕ)) (anchor : ℕ) (at : Pointer) : Type 0 where
-  pub head : head_of (bytes_at new (base_of shape anchor)) ≡ (record (head_of (bytes_at old (base_of shape anchor))) { root = at })
+  pub head : head_of (bytes_at new (base_of shape anchor)) ≡
+      (record (head_of (bytes_at old (base_of shape anchor))) { root = at })
   pub used : KeepsUsed (bytes_at old (base_of shape anchor)) (bytes_at new (base_of shape anchor))
   pub is_interval : IsInterval (bytes_at new (base_of shape anchor))
   pub elsewhere : (ci : ℕ) → ci ≢ base_of shape anchor → bytes_at new ci ≡ bytes_at old ci

@@ -16,7 +16,13 @@ pointers_of firsts = map (λ f. f.at) firsts
 
 -- what an element says that was read
 abbrev pub segment_of : Said → Segment
-segment_of said = record { next = said.next; serial = said.serial; firsts = pointers_of said.firsts.items; bytes = said.bytes }
+segment_of said = record {
+  next = said.next;
+  serial = said.serial;
+  firsts = pointers_of said.firsts.items;
+  bytes =
+      said.bytes;
+}
 
 -- a content is as long as its type needs, and zeros stand behind the segment
 pub record IsWhole (types : List SegDef) (type : ℕ) (content : List ℕ) : Type 0 where

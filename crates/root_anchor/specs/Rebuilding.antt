@@ -23,12 +23,14 @@ abbrev pub AreApart : List Pointer → Type 0
 AreApart [] = ⊤
 AreApart (at ∷ rest) = (¬ Contains rest at) × AreApart rest
 
--- The elements `had` give way to the elements `has`: every other used element stays, and none comes; an element that comes
--- was none before. Root anchor points and the sequential part stay.
+-- The elements `had` give way to the elements `has`: every other used element stays, and none comes; an element that
+-- comes was none before. Root anchor points and the sequential part stay.
 pub record Exchanges (shape : Shape) (old new : List (List ℕ)) (had has : List Pointer) : Type 0 where
   pub in_order : IsInOrder shape new
-  pub stay : (at : Pointer) (type : ℕ) (content : List ℕ) → ¬ Contains had at → HasUsed (bytes_at old at.0) at.1 type content → HasUsed (bytes_at new at.0) at.1 type content
-  pub none_comes : (at : Pointer) (type : ℕ) (content : List ℕ) → ¬ Contains has at → HasUsed (bytes_at new at.0) at.1 type content
+  pub stay : (at : Pointer) (type : ℕ) (content : List ℕ) → ¬ Contains had at
+      → HasUsed (bytes_at old at.0) at.1 type content → HasUsed (bytes_at new at.0) at.1 type content
+  pub none_comes : (at : Pointer) (type : ℕ) (content : List ℕ) → ¬ Contains has at
+      → HasUsed (bytes_at new at.0) at.1 type content
       → (¬ Contains had at) × HasUsed (bytes_at old at.0) at.1 type content
   pub fresh : (at : Pointer) → Contains has at → Contains had at ⊎ (¬ IsUsed (bytes_at old at.0) at.1)
   pub used : (at : Pointer) → Contains has at → IsUsed (bytes_at new at.0) at.1
@@ -97,15 +99,18 @@ abbrev pub met_after : List Pointer → List Pointer → List Pointer
 met_after [] met = met
 met_after (at ∷ elements) met = met_after elements (at ∷ met)
 
--- Rows that the pointers give from these first ones on, and their elements in hierarchical order, whatever else was met.
+-- Rows that the pointers give from these first ones on, and their elements in hierarchical order, whatever else was
+-- met.
 abbrev pub RowsStand : List SegDef → List (List ℕ) → List ℕ → List Pointer → List (List Node) → List Pointer → Type 0
 RowsStand types area kinds firsts rows elements =
-    (met : List Pointer) → ((at : Pointer) → Contains elements at → ¬ Contains met at) → AreRows types area met kinds firsts rows (met_after elements met)
+    (met : List Pointer) → ((at : Pointer) → Contains elements at → ¬ Contains met at)
+    → AreRows types area met kinds firsts rows (met_after elements met)
 
 -- the same for roots
 abbrev pub RootsStand : List SegDef → List (List ℕ) → Pointer → List Root → List Pointer → Type 0
 RootsStand types area first roots elements =
-    (met : List Pointer) → ((at : Pointer) → Contains elements at → ¬ Contains met at) → AreRoots types area met first roots (met_after elements met)
+    (met : List Pointer) → ((at : Pointer) → Contains elements at → ¬ Contains met at)
+    → AreRoots types area met first roots (met_after elements met)
 
 -- ---- what a call builds
 
@@ -115,36 +120,42 @@ pub record IsDirect (types : List SegDef) (type : ℕ) : Type 0 where
   pub direct : IfSome (slice_get types type) (λ def. def.sequential ≡ false)
 
 -- In an area in order a plan ends in places reserved for segments of these types.
-pub record IsPlanned (shape : Shape) (types : List SegDef) (area : List (List ℕ)) (plan before used : List Planned) (kinds : List ℕ) : Type 0 where
+pub record IsPlanned (shape : Shape) (types : List SegDef) (area : List (List ℕ)) (plan before used : List Planned)
+    (kinds : List ℕ) : Type 0 where
   pub in_order : IsInOrder shape area
   pub parts : plan ≡ before ++ used
   pub kinds_are : types_of used ≡ kinds
   pub are_reserved : AreReserved types area used
 
 -- the place that was planned is given, or one that is new, with room for the type
-pub record TakesPlace (shape : Shape) (types : List SegDef) (old new : List (List ℕ)) (type : ℕ) (planned : Option Pointer) (at : Pointer) : Type 0 where
+pub record TakesPlace (shape : Shape) (types : List SegDef) (old new : List (List ℕ)) (type : ℕ)
+    (planned : Option Pointer) (at : Pointer) : Type 0 where
   pub exchange : Exchanges shape old new (and_place planned []) (at ∷ [])
   pub room : HasRoom (bytes_at new at.0) at.1 (content_length types type)
 
 -- a segment is put into the place that was planned, or into a new one
-pub record PlacesSegment (shape : Shape) (types : List SegDef) (old new : List (List ℕ)) (type : ℕ) (planned : Option Pointer) (at : Pointer) (segment : Segment) : Type 0 where
+pub record PlacesSegment (shape : Shape) (types : List SegDef) (old new : List (List ℕ)) (type : ℕ)
+    (planned : Option Pointer) (at : Pointer) (segment : Segment) : Type 0 where
   pub exchange : Exchanges shape old new (and_place planned []) (at ∷ [])
   pub has : HasSegment types new type at segment
 
 -- rows are built in the places that were reserved for them, and in new ones
-pub record BuildsRows (shape : Shape) (types : List SegDef) (old new : List (List ℕ)) (used : List Planned) (kinds : List ℕ) (firsts : List Pointer) (rows : List (List Node)) : Type 0 where
+pub record BuildsRows (shape : Shape) (types : List SegDef) (old new : List (List ℕ)) (used : List Planned)
+    (kinds : List ℕ) (firsts : List Pointer) (rows : List (List Node)) : Type 0 where
   pub elements : List Pointer
   pub exchange : Exchanges shape old new (reserved used) elements
   pub stand : RowsStand types new kinds firsts rows elements
 
 -- the same for roots
-pub record BuildsRoots (shape : Shape) (types : List SegDef) (old new : List (List ℕ)) (used : List Planned) (first : Pointer) (roots : List Root) : Type 0 where
+pub record BuildsRoots (shape : Shape) (types : List SegDef) (old new : List (List ℕ)) (used : List Planned)
+    (first : Pointer) (roots : List Root) : Type 0 where
   pub elements : List Pointer
   pub exchange : Exchanges shape old new (reserved used) elements
   pub stand : RootsStand types new first roots elements
 
 -- the same for one segment and all below it
-pub record BuildsSegment (shape : Shape) (types : List SegDef) (old new : List (List ℕ)) (used : List Planned) (type : ℕ) (at next : Pointer) (serial : ℕ) (bytes : List ℕ) (rows : List (List Node)) : Type 0 where
+pub record BuildsSegment (shape : Shape) (types : List SegDef) (old new : List (List ℕ)) (used : List Planned)
+    (type : ℕ) (at next : Pointer) (serial : ℕ) (bytes : List ℕ) (rows : List (List Node)) : Type 0 where
   pub firsts : List Pointer
   pub below : List Pointer
   pub exchange : Exchanges shape old new (reserved used) (at ∷ below)
@@ -174,7 +185,8 @@ abbrev pub AreTyped : List Standing → List Planned → Type 0
 AreTyped all [] = ⊤
 AreTyped all (p ∷ plan) = IfSome p.at (IsOneOf all p.segment) × AreTyped all plan
 
--- These elements are those of a plan and a rest, each in one of them: each planned place is that of an element of its type.
+-- These elements are those of a plan and a rest, each in one of them: each planned place is that of an element of its
+-- type.
 pub record Shares (all : List Standing) (plan : List Planned) (rest : List Standing) : Type 0 where
   pub typed : AreTyped all plan
   pub of_rest : (s : Standing) → Contains rest s → Contains all s
@@ -187,9 +199,10 @@ pub record AreGivable (area : List (List ℕ)) (places : List Pointer) : Type 0 
   pub used : (at : Pointer) → Contains places at → IsUsed (bytes_at area at.0) at.1
   pub once : AreApart places
 
--- An area in order, a plan for these roots, and the rest of what their anchor had: the places of both are used elements, each
--- once, and those of the plan have room.
-pub record IsRebuildable (shape : Shape) (types : List SegDef) (area : List (List ℕ)) (plan : List Planned) (rest : List Standing) (roots : List Root) : Type 0 where
+-- An area in order, a plan for these roots, and the rest of what their anchor had: the places of both are used
+-- elements, each once, and those of the plan have room.
+pub record IsRebuildable (shape : Shape) (types : List SegDef) (area : List (List ℕ)) (plan : List Planned)
+    (rest : List Standing) (roots : List Root) : Type 0 where
   pub in_order : IsInOrder shape area
   pub kinds_are : types_of plan ≡ types_of_roots types roots
   pub rooms : HaveRooms types area plan
@@ -197,7 +210,8 @@ pub record IsRebuildable (shape : Shape) (types : List SegDef) (area : List (Lis
   pub once : AreApart (reserved plan ++ places_of rest)
 
 -- The places of a plan and a rest give way to the elements of these roots, and the root anchor point leads to them.
-pub record Rebuilds (shape : Shape) (types : List SegDef) (old new : List (List ℕ)) (anchor : ℕ) (plan : List Planned) (rest : List Standing) (roots : List Root) : Type 0 where
+pub record Rebuilds (shape : Shape) (types : List SegDef) (old new : List (List ℕ)) (anchor : ℕ) (plan : List Planned)
+    (rest : List Standing) (roots : List Root) : Type 0 where
   pub middle : List (List ℕ)
   pub first : Pointer
   pub elements : List Pointer

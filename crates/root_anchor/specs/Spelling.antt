@@ -7,7 +7,13 @@ use Rattle.root_anchor.specs.Elements.{Segment, pointer_at, pointers_from}
 
 -- the segment that an element is to say
 abbrev pub said : Saying → Segment
-said saying = record { next = saying.next; serial = saying.serial; firsts = saying.firsts.now; bytes = saying.bytes.now }
+said saying = record {
+  next = saying.next;
+  serial = saying.serial;
+  firsts = saying.firsts.now;
+  bytes =
+      saying.bytes.now;
+}
 
 -- where the first children begin: behind the next twin, and behind the newest serial where there is one
 abbrev pub firsts_at : Bool → ℕ

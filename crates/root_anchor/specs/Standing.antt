@@ -17,7 +17,8 @@ pub record Stands (types : List SegDef) (area : List (List ℕ)) (s : Standing) 
   pub has : HasSegment types area s.segment s.at segment
 
 -- these are all elements of an anchor's roots, each once, with their types
-pub record AreStanding (shape : Shape) (types : List SegDef) (area : List (List ℕ)) (anchor : ℕ) (list : List Standing) : Type 0 where
+pub record AreStanding (shape : Shape) (types : List SegDef) (area : List (List ℕ)) (anchor : ℕ) (list : List Standing)
+    : Type 0 where
   pub roots : List Root
   pub elements : List Pointer
   pub is_chain : IsChain shape types area anchor roots elements
@@ -26,10 +27,12 @@ pub record AreStanding (shape : Shape) (types : List SegDef) (area : List (List 
   pub typed : (s : Standing) → Contains list s → Stands types area s
 
 -- they come in hierarchical order: as the pointers of an anchor meet them
-pub record AreInTurn (shape : Shape) (types : List SegDef) (area : List (List ℕ)) (anchor : ℕ) (list : List Standing) : Type 0 where
+pub record AreInTurn (shape : Shape) (types : List SegDef) (area : List (List ℕ)) (anchor : ℕ) (list : List Standing) :
+    Type 0 where
   pub roots : List Root
   pub is_chain : IsChain shape types area anchor roots (reverse (places_of list))
 
 -- each has its segment's key
 abbrev pub AreKeyed : List SegDef → List (List ℕ) → List Standing → Type 0
-AreKeyed types area list = (s : Standing) (segment : Segment) → Contains list s → HasSegment types area s.segment s.at segment → s.key ≡ key_in types s.segment segment.bytes
+AreKeyed types area list = (s : Standing) (segment : Segment) → Contains list s
+    → HasSegment types area s.segment s.at segment → s.key ≡ key_in types s.segment segment.bytes

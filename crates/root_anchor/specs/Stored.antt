@@ -21,7 +21,8 @@ pub record AreTypes (size : ℕ) (types : List SegDef) : Type 0 where
   pub places : HavePlaces 0 types
   pub fits : EachFits size types 0 types
 
--- a root's sequential list as an anchor keeps it: at most its newest serial, without bytes, where there is a sequential type
+-- a root's sequential list as an anchor keeps it: at most its newest serial, without bytes, where there is a sequential
+-- type
 abbrev pub is_newest : List SegDef → List SeqItem → Bool
 is_newest types [] = true
 is_newest types (item ∷ []) = has_sequential types && nat_lt 0 item.serial && length item.bytes == 0
@@ -30,7 +31,8 @@ is_newest types (item ∷ next ∷ items) = false
 -- a root in the shape of its types
 abbrev pub is_storable : List SegDef → Root → Bool
 is_storable types root =
-    has_length types 0 root.bytes && are_rows types (child_types types 0) (map (map (seen_as types)) root.children) && is_newest types root.seqs
+    has_length types 0 root.bytes && are_rows types (child_types types 0) (map (map (seen_as types)) root.children) &&
+    is_newest types root.seqs
 
 abbrev pub are_storable : List SegDef → List Root → Bool
 are_storable types roots = list_all (is_storable types) roots
@@ -38,7 +40,8 @@ are_storable types roots = list_all (is_storable types) roots
 -- every other anchor keeps its roots, and the elements that they stand in
 abbrev pub OthersKeep : Shape → List SegDef → List (List ℕ) → List (List ℕ) → ℕ → Type 0
 OthersKeep shape types old new anchor =
-    (other : ℕ) (roots : List Root) (elements : List Pointer) → other < anchor_count shape → ¬ (other ≡ anchor) → IsChain shape types old other roots elements → IsChain shape types new other roots elements
+    (other : ℕ) (roots : List Root) (elements : List Pointer) → other < anchor_count shape → ¬ (other ≡ anchor)
+    → IsChain shape types old other roots elements → IsChain shape types new other roots elements
 
 -- control keeps begin and end, and the sequential intervals stay
 pub record KeepsSequential (shape : Shape) (old new : List (List ℕ)) : Type 0 where

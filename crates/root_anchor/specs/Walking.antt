@@ -50,39 +50,54 @@ pub record AllStand (types : List SegDef) (area : List (List ℕ)) (walk : Walk)
   pub keys : walk.keyed ≡ true → AreKeyed types area walk.met.items
 
 -- the intervals are looked at, and stay
-pub record IsLook {I : Type 0} (told : I → Type 0) (intervals : I → List (List ℕ)) (number size faults : I → ℕ) (keeps : I → I → Type 0) (old new : I) : Type 0 where
+pub record IsLook {I : Type 0} (told : I → Type 0) (intervals : I → List (List ℕ)) (number size faults : I → ℕ)
+    (keeps : I → I → Type 0) (old new : I) : Type 0 where
   pub same : told old → intervals new ≡ intervals old
   pub same_number : number new ≡ number old
   pub goes_on : GoesOn told size faults keeps old new
 
 -- a pointer of this type leads to this row: whatever follows it, rows or a wrong pointer, follows it
-pub record IsRow (types : List SegDef) (area : List (List ℕ)) (met : List Pointer) (type : ℕ) (at : Pointer) (row : List Node) (after : List Pointer) : Type 0 where
+pub record IsRow (types : List SegDef) (area : List (List ℕ)) (met : List Pointer) (type : ℕ) (at : Pointer)
+    (row : List Node) (after : List Pointer) : Type 0 where
   pub in_front : (more : List ℕ) (firsts : List Pointer) (rows : List (List Node)) (last : List Pointer)
-      → AreRows types area after more firsts rows last → AreRows types area met (type ∷ more) (at ∷ firsts) (row ∷ rows) last
+      → AreRows types area after more firsts rows last
+      → AreRows types area met (type ∷ more) (at ∷ firsts) (row ∷ rows) last
   pub behind : (home from : ℕ) (more : List ℕ) (firsts : List Pointer) (ci : ℕ)
-      → RowsFail types area after home home more firsts ci → RowsFail types area met home from (type ∷ more) (at ∷ firsts) ci
+      → RowsFail types area after home home more firsts ci
+      → RowsFail types area met home from (type ∷ more) (at ∷ firsts) ci
 
 -- a pointer of this type in the interval `from` comes to a wrong one, whichever pointers follow it
-pub record RowFails (types : List SegDef) (area : List (List ℕ)) (met : List Pointer) (from type : ℕ) (at : Pointer) (ci : ℕ) : Type 0 where
-  pub whatever : (home : ℕ) (more : List ℕ) (firsts : List Pointer) → RowsFail types area met home from (type ∷ more) (at ∷ firsts) ci
+pub record RowFails (types : List SegDef) (area : List (List ℕ)) (met : List Pointer) (from type : ℕ) (at : Pointer)
+    (ci : ℕ) : Type 0 where
+  pub whatever : (home : ℕ) (more : List ℕ) (firsts : List Pointer)
+      → RowsFail types area met home from (type ∷ more) (at ∷ firsts) ci
 
 -- the walk along a row has read so much of it, and is at this pointer, which stands in the interval `from`
-pub record IsAlong (types : List SegDef) (area : List (List ℕ)) (start : List Pointer) (home type : ℕ) (first : Pointer) (row : List Node) (met : List Pointer) (from : ℕ) (at : Pointer) : Type 0 where
-  pub reads : (rest : List Node) (after : List Pointer) → IsRow types area met type at rest after → IsRow types area start type first (row ++ rest) after
+pub record IsAlong (types : List SegDef) (area : List (List ℕ)) (start : List Pointer) (home type : ℕ) (first : Pointer)
+    (row : List Node) (met : List Pointer) (from : ℕ) (at : Pointer) : Type 0 where
+  pub reads : (rest : List Node) (after : List Pointer) → IsRow types area met type at rest after
+      → IsRow types area start type first (row ++ rest) after
   pub fails : (ci : ℕ) → RowFails types area met from type at ci → RowFails types area start home type first ci
 
 -- the walk over rows has read those of so many types, and these are left
-pub record IsAmong (types : List SegDef) (area : List (List ℕ)) (start : List Pointer) (home : ℕ) (all : List ℕ) (firsts : List Pointer) (rows : List (List Node)) (met : List Pointer) (left : List ℕ) (left_firsts : List Pointer) : Type 0 where
-  pub reads : (rest : List (List Node)) (after : List Pointer) → AreRows types area met left left_firsts rest after → AreRows types area start all firsts (rows ++ rest) after
-  pub fails : (ci : ℕ) → RowsFail types area met home home left left_firsts ci → RowsFail types area start home home all firsts ci
+pub record IsAmong (types : List SegDef) (area : List (List ℕ)) (start : List Pointer) (home : ℕ) (all : List ℕ)
+    (firsts : List Pointer) (rows : List (List Node)) (met : List Pointer) (left : List ℕ) (left_firsts : List Pointer)
+    : Type 0 where
+  pub reads : (rest : List (List Node)) (after : List Pointer) → AreRows types area met left left_firsts rest after
+      → AreRows types area start all firsts (rows ++ rest) after
+  pub fails : (ci : ℕ) → RowsFail types area met home home left left_firsts ci
+      → RowsFail types area start home home all firsts ci
 
 -- the whole walk over an anchor: its roots, and its elements in hierarchical order, each once, with their types
-pub record IsWalked (shape : Shape) (types : List SegDef) (area : List (List ℕ)) (anchor : ℕ) (walked : Walked) : Type 0 where
-  pub is_chain : IsChain shape types area anchor walked.roots (reverse (places_of walked.met.items))
-  pub once : AllPairs (λ a b. a ≢ b) (places_of walked.met.items)
-  pub stand : (s : Standing) → Contains walked.met.items s → Stands types area s
+pub record IsWalked (shape : Shape) (types : List SegDef) (area : List (List ℕ)) (anchor : ℕ) (walked : Walked) : Type 0
+  where
+    pub is_chain : IsChain shape types area anchor walked.roots (reverse (places_of walked.met.items))
+    pub once : AllPairs (λ a b. a ≢ b) (places_of walked.met.items)
+    pub stand : (s : Standing) → Contains walked.met.items s → Stands types area s
 
 -- the walk along the roots has read so many, and is at this pointer, which stands in the interval `from`
-pub record IsAlongRoots (types : List SegDef) (area : List (List ℕ)) (base : ℕ) (first : Pointer) (roots : List Root) (met : List Pointer) (from : ℕ) (at : Pointer) : Type 0 where
-  pub reads : (rest : List Root) (after : List Pointer) → AreRoots types area met at rest after → AreRoots types area [] first (roots ++ rest) after
+pub record IsAlongRoots (types : List SegDef) (area : List (List ℕ)) (base : ℕ) (first : Pointer) (roots : List Root)
+    (met : List Pointer) (from : ℕ) (at : Pointer) : Type 0 where
+  pub reads : (rest : List Root) (after : List Pointer) → AreRoots types area met at rest after
+      → AreRoots types area [] first (roots ++ rest) after
   pub fails : (ci : ℕ) → RootsFail types area met from at ci → RootsFail types area [] base first ci

@@ -50,7 +50,8 @@ fn root_anchor_point<I: Intervals>(
     requires base { base ≡ base_of shape.now anchor }
     ensures root { I.told i.old → IfOk result (λ at. at ≡ root_of shape.now (I.intervals i.old) anchor) }
     ensures in_place { I.told i.old → OnOk result (IsInPlace shape.now (I.intervals i.old) (base_of shape.now anchor)) }
-    ensures damaged { I.told i.old → (types : List SegDef) (ci : ℕ) → result ≡ Err (AnchorFault.Damaged ci) → ChainFails shape.now types (I.intervals i.old) anchor ci }
+    ensures damaged { I.told i.old → (types : List SegDef) (ci : ℕ) → result ≡ Err (AnchorFault.Damaged ci)
+        → ChainFails shape.now types (I.intervals i.old) anchor ci }
     ensures failed { IsErrOf result AnchorFault.Failed → Rose (I.faults i.old) (I.faults i.new) }
     ensures look { IsLook I.told I.intervals I.number I.size I.faults I.keeps i.old i.new }
 {
@@ -74,8 +75,10 @@ pub(crate) fn walk_anchor<I: Intervals>(
     requires anchor { anchor < anchor_count shape.now }
     requires types { AreTypes (I.size i.old) segments.now }
     ensures walked { I.told i.old → IfOk result (IsWalked shape.now segments.now (I.intervals i.old) anchor) }
-    ensures keys { I.told i.old → keyed ≡ true → IfOk result (λ walked. AreKeyed segments.now (I.intervals i.old) walked.met.items) }
-    ensures damaged { I.told i.old → (ci : ℕ) → result ≡ Err (AnchorFault.Damaged ci) → ChainFails shape.now segments.now (I.intervals i.old) anchor ci }
+    ensures keys { I.told i.old → keyed ≡ true → IfOk result
+        (λ walked. AreKeyed segments.now (I.intervals i.old) walked.met.items) }
+    ensures damaged { I.told i.old → (ci : ℕ) → result ≡ Err (AnchorFault.Damaged ci)
+        → ChainFails shape.now segments.now (I.intervals i.old) anchor ci }
     ensures failed { IsErrOf result AnchorFault.Failed → Rose (I.faults i.old) (I.faults i.new) }
     ensures look { IsLook I.told I.intervals I.number I.size I.faults I.keeps i.old i.new }
 {

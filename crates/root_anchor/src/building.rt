@@ -57,9 +57,12 @@ fn place_for<I: Intervals>(
     requires anchor { home.now.anchor < anchor_count home.now.shape.now }
     requires types { AreTypes (I.size i.old) home.now.segments.now }
     requires direct { IsDirect home.now.segments.now segment }
-    ensures place { I.told i.old → IsInOrder home.now.shape.now (I.intervals i.old) → HaveRoom home.now.segments.now (I.intervals i.old) segment planned
-        → IfOk result (λ at. TakesPlace home.now.shape.now home.now.segments.now (I.intervals i.old) (I.intervals i.new) segment planned at) }
-    ensures sound { I.told i.old → IsInOrder home.now.shape.now (I.intervals i.old) → (ci : ℕ) → result ≢ Err (AnchorFault.Damaged ci) }
+    ensures place { I.told i.old → IsInOrder home.now.shape.now (I.intervals i.old)
+        → HaveRoom home.now.segments.now (I.intervals i.old) segment planned
+        → IfOk result (λ at. TakesPlace home.now.shape.now home.now.segments.now (I.intervals i.old) (I.intervals i.new)
+        segment planned at) }
+    ensures sound { I.told i.old → IsInOrder home.now.shape.now (I.intervals i.old) → (ci : ℕ)
+        → result ≢ Err (AnchorFault.Damaged ci) }
     ensures failed { IsErrOf result AnchorFault.Failed → Rose (I.faults i.old) (I.faults i.new) }
     ensures number { I.number i.old ≤ I.number i.new }
     ensures goes_on { GoesOn I.told I.size I.faults I.keeps i.old i.new }
@@ -98,9 +101,19 @@ fn place_segment<I: Intervals>(
     requires firsts { length saying.firsts.now ≡ length (child_types home.now.segments.now segment) }
     requires bytes { length saying.bytes.now ≡ segment_length home.now.segments.now segment }
     requires serial { has_serial home.now.segments.now segment ≡ false → saying.serial ≡ 0 }
-    ensures placed { I.told i.old → IsInOrder home.now.shape.now (I.intervals i.old) → HaveRoom home.now.segments.now (I.intervals i.old) segment planned
-        → IfOk result (λ at. PlacesSegment home.now.shape.now home.now.segments.now (I.intervals i.old) (I.intervals i.new) segment planned at (record { next = saying.entry.next; serial = saying.entry.serial; firsts = saying.entry.firsts.now; bytes = saying.entry.bytes.now })) }
-    ensures sound { I.told i.old → IsInOrder home.now.shape.now (I.intervals i.old) → HaveRoom home.now.segments.now (I.intervals i.old) segment planned → (ci : ℕ) → result ≢ Err (AnchorFault.Damaged ci) }
+    ensures placed { I.told i.old → IsInOrder home.now.shape.now (I.intervals i.old)
+        → HaveRoom home.now.segments.now (I.intervals i.old) segment planned
+        → IfOk result (λ at. PlacesSegment home.now.shape.now home.now.segments.now (I.intervals i.old)
+        (I.intervals i.new) segment planned at (record {
+          next = saying.entry.next;
+          serial = saying.entry.serial;
+          firsts = saying.entry.firsts.now;
+          bytes =
+              saying.entry.bytes.now;
+        })) }
+    ensures sound { I.told i.old → IsInOrder home.now.shape.now (I.intervals i.old)
+        → HaveRoom home.now.segments.now (I.intervals i.old) segment planned → (ci : ℕ)
+        → result ≢ Err (AnchorFault.Damaged ci) }
     ensures failed { IsErrOf result AnchorFault.Failed → Rose (I.faults i.old) (I.faults i.new) }
     ensures number { I.number i.old ≤ I.number i.new }
     ensures goes_on { GoesOn I.told I.size I.faults I.keeps i.old i.new }
@@ -112,7 +125,8 @@ fn place_segment<I: Intervals>(
 
 /// Takes the last place of a plan.
 fn next_place(plan: &mut VecDeque<Planned>) -> Option<Pointer>
-    ensures { (before : List PlannedOf) (p : PlannedOf) → plan.old.items ≡ before ++ p ∷ [] → (plan.new.items ≡ before) × (result ≡ p.at) }
+    ensures { (before : List PlannedOf) (p : PlannedOf) → plan.old.items ≡ before ++ p ∷ [] → (plan.new.items ≡ before)
+        × (result ≡ p.at) }
 {
     plan.pop_back()?.at
 }
@@ -163,10 +177,17 @@ fn build_segment<I: Intervals>(
     requires direct { IsDirect home.now.segments.now segment }
     requires bytes { length itself.now.bytes.now ≡ segment_length home.now.segments.now segment }
     requires serial { has_serial home.now.segments.now segment ≡ false → itself.now.serial ≡ 0 }
-    requires rows { are_rows home.now.segments.now (child_types home.now.segments.now segment) (map (map (seen_as home.now.segments.now)) children.now) ≡ true }
-    ensures built { I.told i.old → (before used : List PlannedOf) → IsPlanned home.now.shape.now home.now.segments.now (I.intervals i.old) plan.old.items before used (types_of_segment home.now.segments.now segment children.now)
-        → IfOk result (λ at. (plan.new.items ≡ before) × BuildsSegment home.now.shape.now home.now.segments.now (I.intervals i.old) (I.intervals i.new) used segment at itself.now.next itself.now.serial itself.now.bytes.now children.now) }
-    ensures sound { I.told i.old → (before used : List PlannedOf) → IsPlanned home.now.shape.now home.now.segments.now (I.intervals i.old) plan.old.items before used (types_of_segment home.now.segments.now segment children.now)
+    requires rows { are_rows home.now.segments.now (child_types home.now.segments.now segment)
+        (map (map (seen_as home.now.segments.now)) children.now) ≡ true }
+    ensures built { I.told i.old → (before used : List PlannedOf)
+        → IsPlanned home.now.shape.now home.now.segments.now (I.intervals i.old) plan.old.items before used
+        (types_of_segment home.now.segments.now segment children.now)
+        → IfOk result (λ at. (plan.new.items ≡ before)
+        × BuildsSegment home.now.shape.now home.now.segments.now (I.intervals i.old) (I.intervals i.new) used
+        segment at itself.now.next itself.now.serial itself.now.bytes.now children.now) }
+    ensures sound { I.told i.old → (before used : List PlannedOf)
+        → IsPlanned home.now.shape.now home.now.segments.now (I.intervals i.old) plan.old.items before used
+        (types_of_segment home.now.segments.now segment children.now)
         → (ci : ℕ) → result ≢ Err (AnchorFault.Damaged ci) }
     ensures failed { IsErrOf result AnchorFault.Failed → Rose (I.faults i.old) (I.faults i.new) }
     ensures number { I.number i.old ≤ I.number i.new }
@@ -198,9 +219,15 @@ fn build_row<I: Intervals>(
     requires direct { IsDirect home.now.segments.now segment }
     requires child { has_serial home.now.segments.now segment ≡ false }
     requires row { is_row home.now.segments.now segment (map (seen_as home.now.segments.now) row.now) ≡ true }
-    ensures built { I.told i.old → (before used : List PlannedOf) → IsPlanned home.now.shape.now home.now.segments.now (I.intervals i.old) plan.old.items before used (types_of_row home.now.segments.now segment row.now)
-        → IfOk result (λ first. (plan.new.items ≡ before) × BuildsRows home.now.shape.now home.now.segments.now (I.intervals i.old) (I.intervals i.new) used (segment ∷ []) (first ∷ []) (row.now ∷ [])) }
-    ensures sound { I.told i.old → (before used : List PlannedOf) → IsPlanned home.now.shape.now home.now.segments.now (I.intervals i.old) plan.old.items before used (types_of_row home.now.segments.now segment row.now)
+    ensures built { I.told i.old → (before used : List PlannedOf)
+        → IsPlanned home.now.shape.now home.now.segments.now (I.intervals i.old) plan.old.items before used
+        (types_of_row home.now.segments.now segment row.now)
+        → IfOk result (λ first. (plan.new.items ≡ before)
+        × BuildsRows home.now.shape.now home.now.segments.now (I.intervals i.old) (I.intervals i.new) used
+        (segment ∷ []) (first ∷ []) (row.now ∷ [])) }
+    ensures sound { I.told i.old → (before used : List PlannedOf)
+        → IsPlanned home.now.shape.now home.now.segments.now (I.intervals i.old) plan.old.items before used
+        (types_of_row home.now.segments.now segment row.now)
         → (ci : ℕ) → result ≢ Err (AnchorFault.Damaged ci) }
     ensures failed { IsErrOf result AnchorFault.Failed → Rose (I.faults i.old) (I.faults i.new) }
     ensures number { I.number i.old ≤ I.number i.new }
@@ -233,11 +260,18 @@ fn build_rows<I: Intervals>(
 ) -> Result<Vec<Pointer>, AnchorFault>
     requires anchor { home.now.anchor < anchor_count home.now.shape.now }
     requires types { AreTypes (I.size i.old) home.now.segments.now }
-    requires rows { are_rows home.now.segments.now (child_types home.now.segments.now segment) (map (map (seen_as home.now.segments.now)) rows.now) ≡ true }
+    requires rows { are_rows home.now.segments.now (child_types home.now.segments.now segment)
+        (map (map (seen_as home.now.segments.now)) rows.now) ≡ true }
     ensures count { IfOk result (λ firsts. length firsts.items ≡ length (child_types home.now.segments.now segment)) }
-    ensures built { I.told i.old → (before used : List PlannedOf) → IsPlanned home.now.shape.now home.now.segments.now (I.intervals i.old) plan.old.items before used (types_of_rows home.now.segments.now (child_types home.now.segments.now segment) rows.now)
-        → IfOk result (λ firsts. (plan.new.items ≡ before) × BuildsRows home.now.shape.now home.now.segments.now (I.intervals i.old) (I.intervals i.new) used (child_types home.now.segments.now segment) firsts.items rows.now) }
-    ensures sound { I.told i.old → (before used : List PlannedOf) → IsPlanned home.now.shape.now home.now.segments.now (I.intervals i.old) plan.old.items before used (types_of_rows home.now.segments.now (child_types home.now.segments.now segment) rows.now)
+    ensures built { I.told i.old → (before used : List PlannedOf)
+        → IsPlanned home.now.shape.now home.now.segments.now (I.intervals i.old) plan.old.items before used
+        (types_of_rows home.now.segments.now (child_types home.now.segments.now segment) rows.now)
+        → IfOk result (λ firsts. (plan.new.items ≡ before)
+        × BuildsRows home.now.shape.now home.now.segments.now (I.intervals i.old) (I.intervals i.new) used
+        (child_types home.now.segments.now segment) firsts.items rows.now) }
+    ensures sound { I.told i.old → (before used : List PlannedOf)
+        → IsPlanned home.now.shape.now home.now.segments.now (I.intervals i.old) plan.old.items before used
+        (types_of_rows home.now.segments.now (child_types home.now.segments.now segment) rows.now)
         → (ci : ℕ) → result ≢ Err (AnchorFault.Damaged ci) }
     ensures failed { IsErrOf result AnchorFault.Failed → Rose (I.faults i.old) (I.faults i.new) }
     ensures number { I.number i.old ≤ I.number i.new }
@@ -275,9 +309,15 @@ pub(crate) fn build_roots<I: Intervals>(
     requires anchor { home.now.anchor < anchor_count home.now.shape.now }
     requires types { AreTypes (I.size i.old) home.now.segments.now }
     requires roots { are_storable home.now.segments.now roots.now ≡ true }
-    ensures built { I.told i.old → (before used : List PlannedOf) → IsPlanned home.now.shape.now home.now.segments.now (I.intervals i.old) plan.old.items before used (types_of_roots home.now.segments.now roots.now)
-        → IfOk result (λ first. (plan.new.items ≡ before) × BuildsRoots home.now.shape.now home.now.segments.now (I.intervals i.old) (I.intervals i.new) used first roots.now) }
-    ensures sound { I.told i.old → (before used : List PlannedOf) → IsPlanned home.now.shape.now home.now.segments.now (I.intervals i.old) plan.old.items before used (types_of_roots home.now.segments.now roots.now)
+    ensures built { I.told i.old → (before used : List PlannedOf)
+        → IsPlanned home.now.shape.now home.now.segments.now (I.intervals i.old) plan.old.items before used
+        (types_of_roots home.now.segments.now roots.now)
+        → IfOk result (λ first. (plan.new.items ≡ before)
+        × BuildsRoots home.now.shape.now home.now.segments.now (I.intervals i.old) (I.intervals i.new) used first
+        roots.now) }
+    ensures sound { I.told i.old → (before used : List PlannedOf)
+        → IsPlanned home.now.shape.now home.now.segments.now (I.intervals i.old) plan.old.items before used
+        (types_of_roots home.now.segments.now roots.now)
         → (ci : ℕ) → result ≢ Err (AnchorFault.Damaged ci) }
     ensures failed { IsErrOf result AnchorFault.Failed → Rose (I.faults i.old) (I.faults i.new) }
     ensures number { I.number i.old ≤ I.number i.new }

@@ -161,7 +161,8 @@ fn firsts_at(
     requires few { length segments.now ≤ 15 }
     requires room { start + 10 * length (child_types segments.now parent) ≤ length content.now }
     ensures types { IfOk result (λ firsts. types_of firsts.items ≡ child_types segments.now parent) }
-    ensures pointers { IfOk result (λ firsts. pointers_of firsts.items ≡ pointers_from content.now start (length (child_types segments.now parent))) }
+    ensures pointers { IfOk result (λ firsts. pointers_of firsts.items ≡ pointers_from content.now start
+        (length (child_types segments.now parent))) }
 {
     let mut firsts = Vec::new(alloc);
     let mut place = start;
@@ -236,8 +237,10 @@ fn said_at(
     requires few { length segments.now ≤ 15 }
     requires defined { segment < length segments.now }
     requires element { IsOfType interval.now segment at }
-    ensures some { IfOk result (λ said. IfSome said (λ said. Holds segments.now interval.now segment at (segment_of said))) }
-    ensures types { IfOk result (λ said. IfSome said (λ said. types_of said.firsts.items ≡ child_types segments.now segment)) }
+    ensures some { IfOk result (λ said. IfSome said
+        (λ said. Holds segments.now interval.now segment at (segment_of said))) }
+    ensures types { IfOk result (λ said. IfSome said
+        (λ said. types_of said.firsts.items ≡ child_types segments.now segment)) }
     ensures none { IfOk result (λ said. IfNone said ((s : Segment) → ¬ Holds segments.now interval.now segment at s)) }
 {
     let content = interval.content(at);
@@ -258,7 +261,8 @@ pub(crate) fn interval_at<I: Intervals>(
     ensures below { OnOk result (ci < I.number i.old) }
     ensures interval { IfOk result IsInterval }
     ensures size { IfOk result (λ interval. length interval ≡ I.size i.old) }
-    ensures missing { I.told i.old → (n : ℕ) → result ≡ Err (AnchorFault.Damaged n) → IsMissing (I.intervals i.old) from ci n }
+    ensures missing { I.told i.old → (n : ℕ) → result ≡ Err (AnchorFault.Damaged n)
+        → IsMissing (I.intervals i.old) from ci n }
     ensures named { (n : ℕ) → result ≡ Err (AnchorFault.Damaged n) → (n ≡ from) ⊎ (n ≡ ci) }
     ensures failed { IsErrOf result AnchorFault.Failed → Rose (I.faults i.old) (I.faults i.new) }
     ensures same { I.told i.old → I.intervals i.new ≡ I.intervals i.old }
@@ -287,11 +291,13 @@ pub(crate) fn read_element<I: Intervals>(
 ) -> Result<Said, AnchorFault>
     requires few { length segments.now ≤ 15 }
     requires defined { segment < length segments.now }
-    ensures says { I.told i.old → IfOk result (λ said. HasSegment segments.now (I.intervals i.old) segment at (segment_of said)) }
+    ensures says { I.told i.old → IfOk result (λ said. HasSegment segments.now (I.intervals i.old) segment at
+        (segment_of said)) }
     ensures types { IfOk result (λ said. types_of said.firsts.items ≡ child_types segments.now segment) }
     ensures below { OnOk result (at.0 < I.number i.old) }
     ensures inside { OnOk result (at.1 < 4096) }
-    ensures wrong { I.told i.old → (ci : ℕ) → result ≡ Err (AnchorFault.Damaged ci) → (met : List Pointer) → IsWrong segments.now (I.intervals i.old) met from segment at ci }
+    ensures wrong { I.told i.old → (ci : ℕ) → result ≡ Err (AnchorFault.Damaged ci) → (met : List Pointer)
+        → IsWrong segments.now (I.intervals i.old) met from segment at ci }
     ensures failed { IsErrOf result AnchorFault.Failed → Rose (I.faults i.old) (I.faults i.new) }
     ensures same { I.told i.old → I.intervals i.new ≡ I.intervals i.old }
     ensures number { I.number i.new ≡ I.number i.old }

@@ -60,6 +60,7 @@ pub fn a_chain_stays_with_its_elements()
         → IsChain shape types old anchor roots elements
         → IsInPlace shape new (base_of shape anchor)
         → root_of shape new anchor ≡ root_of shape old anchor
-        → ((at : Pointer) (type : ℕ) (s : Segment) → Contains elements at → HasSegment types old type at s → HasSegment types new type at s)
+        → ((at : Pointer) (type : ℕ) (s : Segment) → Contains elements at → HasSegment types old type at s
+        → HasSegment types new type at s)
         → IsChain shape types new anchor roots elements }
 {}

@@ -4,8 +4,8 @@
 //!     root anchor point -->  next root | first child .. -->   next twin | first child ..
 //!
 //! A pointer is the number of an interval and a place in it. `load` follows the pointers from an anchor's root anchor
-//! point, in hierarchical order, and meets no element twice. `store` gives an anchor other roots, in the elements that it
-//! had and in new ones.
+//! point, in hierarchical order, and meets no element twice. `store` gives an anchor other roots, in the elements that
+//! it had and in new ones.
 #![tactic(auto)]
 
 mod anchor;

@@ -17,8 +17,8 @@ use std::alloc::Global;
 /// list has its newest serial alone, without bytes, or nothing for 0. An anchor is counted from 0 within its area.
 ///
 /// `Damaged` names the interval that is damaged where the pointers give no roots: the base interval where it isn't in
-/// its place; the one that a pointer leads to, where its bytes are no interval or the element there has not the form of its
-/// type; else the one that holds a pointer which leads to no element of its type or to one that was met before. The
+/// its place; the one that a pointer leads to, where its bytes are no interval or the element there has not the form of
+/// its type; else the one that holds a pointer which leads to no element of its type or to one that was met before. The
 /// order of keys is not looked at.
 pub fn load<I: Intervals>(
     alloc: Global,
@@ -34,8 +34,10 @@ pub fn load<I: Intervals>(
     ensures roots { I.told i.old → IfOk result (HasRoots shape.now segments.now (I.intervals i.old) anchor) }
 
     // The interval that it names is damaged, and it names none where the anchor's chain stands.
-    ensures damaged { I.told i.old → (ci : ℕ) → result ≡ Err (AnchorFault.Damaged ci) → ChainFails shape.now segments.now (I.intervals i.old) anchor ci }
-    ensures sound { I.told i.old → HasChain shape.now segments.now (I.intervals i.old) anchor → (ci : ℕ) → result ≢ Err (AnchorFault.Damaged ci) }
+    ensures damaged { I.told i.old → (ci : ℕ) → result ≡ Err (AnchorFault.Damaged ci)
+        → ChainFails shape.now segments.now (I.intervals i.old) anchor ci }
+    ensures sound { I.told i.old → HasChain shape.now segments.now (I.intervals i.old) anchor → (ci : ℕ)
+        → result ≢ Err (AnchorFault.Damaged ci) }
 
     // It fails only with what holds the intervals.
     ensures failed { IsErrOf result AnchorFault.Failed → Rose (I.faults i.old) (I.faults i.new) }

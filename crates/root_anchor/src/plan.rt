@@ -1,9 +1,9 @@
 //! The places that a plan has for an anchor's new segments.
 //!
 //! Each new segment takes the element in which the segment of its type and its key stood, below the element that its
-//! parent takes. So what doesn't change isn't written again. New segments and elements are both in hierarchical order, and
-//! both are gone through once, from the last to the first: what is left to look at ends at `to`. What a plan promises
-//! doesn't rest on that order: only that no element is taken twice, and each by a segment of its type.
+//! parent takes. So what doesn't change isn't written again. New segments and elements are both in hierarchical order,
+//! and both are gone through once, from the last to the first: what is left to look at ends at `to`. What a plan
+//! promises doesn't rest on that order: only that no element is taken twice, and each by a segment of its type.
 
 ghost use Rattle.std.specs.Prelude.{◌≡◌, ◌<◌, ◌≤◌, ◌++◌, ◌∷◌, List, OnOk, IfOk, IsErr, Err, IfSome, IfNone, length, map, true};
 ghost use Rattle.fp_model.specs.Order.{child_types};
@@ -21,8 +21,8 @@ use std::alloc::Global;
 use std::cmp::Ordering;
 use std::collections::VecDeque;
 
-/// The place that a segment of a type is to take: an element in which one of that type stands. None where it takes a new
-/// one.
+/// The place that a segment of a type is to take: an element in which one of that type stands. None where it takes a
+/// new one.
 #[derive(Clone, Copy, Debug)]
 pub(crate) struct Planned {
     pub(crate) segment: u8,
@@ -101,7 +101,8 @@ fn plan_itself(
     segment: u8,
 ) -> Result<(), AnchorFault>
     ensures types { OnOk result (types_of plan.new.items ≡ segment ∷ types_of plan.old.items) }
-    ensures shares { (all : List StandingOf) → Shares all plan.old.items standing.old.items → OnOk result (Shares all plan.new.items standing.new.items) }
+    ensures shares { (all : List StandingOf) → Shares all plan.old.items standing.old.items
+        → OnOk result (Shares all plan.new.items standing.new.items) }
     ensures memory { IsErr result → result ≡ Err AnchorFault.Memory }
 {
     let at = take_out(standing, place, segment);
@@ -126,9 +127,12 @@ fn plan_segment(
 ) -> Result<(), AnchorFault>
     requires few { length segments.now ≤ 15 }
     requires places { HavePlaces 0 segments.now }
-    requires rows { are_rows segments.now (child_types segments.now segment) (map (map (seen_as segments.now)) children.now) ≡ true }
-    ensures types { OnOk result (types_of plan.new.items ≡ types_of_segment segments.now segment children.now ++ types_of plan.old.items) }
-    ensures shares { (all : List StandingOf) → Shares all plan.old.items standing.old.items → OnOk result (Shares all plan.new.items standing.new.items) }
+    requires rows { are_rows segments.now (child_types segments.now segment)
+        (map (map (seen_as segments.now)) children.now) ≡ true }
+    ensures types { OnOk result (types_of plan.new.items ≡ types_of_segment segments.now segment children.now ++
+        types_of plan.old.items) }
+    ensures shares { (all : List StandingOf) → Shares all plan.old.items standing.old.items
+        → OnOk result (Shares all plan.new.items standing.new.items) }
     ensures memory { IsErr result → result ≡ Err AnchorFault.Memory }
 {
     let key = key_in(segments, segment, bytes.as_slice());
@@ -160,8 +164,10 @@ fn plan_row(
     requires places { HavePlaces 0 segments.now }
     requires row { is_row segments.now segment (map (seen_as segments.now) row.now) ≡ true }
     requires defined { segment < length segments.now }
-    ensures types { OnOk result (types_of plan.new.items ≡ types_of_row segments.now segment row.now ++ types_of plan.old.items) }
-    ensures shares { (all : List StandingOf) → Shares all plan.old.items standing.old.items → OnOk result (Shares all plan.new.items standing.new.items) }
+    ensures types { OnOk result (types_of plan.new.items ≡ types_of_row segments.now segment row.now ++ types_of
+        plan.old.items) }
+    ensures shares { (all : List StandingOf) → Shares all plan.old.items standing.old.items
+        → OnOk result (Shares all plan.new.items standing.new.items) }
     ensures memory { IsErr result → result ≡ Err AnchorFault.Memory }
 {
     let mut left = row.len();
@@ -197,9 +203,12 @@ fn plan_rows(
 ) -> Result<(), AnchorFault>
     requires few { length segments.now ≤ 15 }
     requires places { HavePlaces 0 segments.now }
-    requires rows { are_rows segments.now (child_types segments.now segment) (map (map (seen_as segments.now)) rows.now) ≡ true }
-    ensures types { OnOk result (types_of plan.new.items ≡ types_of_rows segments.now (child_types segments.now segment) rows.now ++ types_of plan.old.items) }
-    ensures shares { (all : List StandingOf) → Shares all plan.old.items standing.old.items → OnOk result (Shares all plan.new.items standing.new.items) }
+    requires rows { are_rows segments.now (child_types segments.now segment) (map (map (seen_as segments.now)) rows.now)
+        ≡ true }
+    ensures types { OnOk result (types_of plan.new.items ≡ types_of_rows segments.now (child_types segments.now segment)
+        rows.now ++ types_of plan.old.items) }
+    ensures shares { (all : List StandingOf) → Shares all plan.old.items standing.old.items
+        → OnOk result (Shares all plan.new.items standing.new.items) }
     ensures memory { IsErr result → result ≡ Err AnchorFault.Memory }
 {
     let types = types_below(alloc, segments.as_slice(), segment)?;

@@ -117,8 +117,16 @@ pub(crate) fn put_segment<I: Intervals>(
     requires bytes { length saying.bytes.now ≡ segment_length segments.now segment }
     requires serial { has_serial segments.now segment ≡ false → saying.serial ≡ 0 }
     ensures put { I.told i.old → HasRoom (bytes_at (I.intervals i.old) at.0) at.1 (content_length segments.now segment)
-        → OnOk result (PutsSegment segments.now (I.intervals i.old) (I.intervals i.new) segment at (record { next = saying.entry.next; serial = saying.entry.serial; firsts = saying.entry.firsts.now; bytes = saying.entry.bytes.now })) }
-    ensures sound { I.told i.old → HasRoom (bytes_at (I.intervals i.old) at.0) at.1 (content_length segments.now segment) → (ci : ℕ) → ¬ (result ≡ Err (AnchorFault.Damaged ci)) }
+        → OnOk result (PutsSegment segments.now (I.intervals i.old) (I.intervals i.new) segment at
+        (record {
+          next = saying.entry.next;
+          serial = saying.entry.serial;
+          firsts = saying.entry.firsts.now;
+          bytes =
+              saying.entry.bytes.now;
+        })) }
+    ensures sound { I.told i.old → HasRoom (bytes_at (I.intervals i.old) at.0) at.1
+        (content_length segments.now segment) → (ci : ℕ) → ¬ (result ≡ Err (AnchorFault.Damaged ci)) }
     ensures damaged { (ci : ℕ) → result ≡ Err (AnchorFault.Damaged ci) → ci ≡ at.0 }
     ensures failed { IsErrOf result AnchorFault.Failed → Rose (I.faults i.old) (I.faults i.new) }
     ensures number { I.number i.new ≡ I.number i.old }
@@ -147,8 +155,10 @@ pub(crate) fn put_root<I: Intervals>(
     at: Pointer,
 ) -> Result<(), AnchorFault>
     requires anchor { anchor < anchor_count shape.now }
-    ensures put { I.told i.old → IsInPlace shape.now (I.intervals i.old) (base_of shape.now anchor) → OnOk result (PutsRoot shape.now (I.intervals i.old) (I.intervals i.new) anchor at) }
-    ensures sound { I.told i.old → IsInPlace shape.now (I.intervals i.old) (base_of shape.now anchor) → (ci : ℕ) → ¬ (result ≡ Err (AnchorFault.Damaged ci)) }
+    ensures put { I.told i.old → IsInPlace shape.now (I.intervals i.old) (base_of shape.now anchor)
+        → OnOk result (PutsRoot shape.now (I.intervals i.old) (I.intervals i.new) anchor at) }
+    ensures sound { I.told i.old → IsInPlace shape.now (I.intervals i.old) (base_of shape.now anchor) → (ci : ℕ)
+        → ¬ (result ≡ Err (AnchorFault.Damaged ci)) }
     ensures damaged { (ci : ℕ) → result ≡ Err (AnchorFault.Damaged ci) → ci ≡ base_of shape.now anchor }
     ensures failed { IsErrOf result AnchorFault.Failed → Rose (I.faults i.old) (I.faults i.new) }
     ensures number { I.number i.new ≡ I.number i.old }

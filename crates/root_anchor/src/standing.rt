@@ -36,10 +36,13 @@ pub(crate) fn elements_of<I: Intervals>(
 ) -> Result<Vec<Standing>, AnchorFault>
     requires anchor { anchor < anchor_count shape.now }
     requires types { AreTypes (I.size i.old) segments.now }
-    ensures standing { I.told i.old → IfOk result (λ list. AreStanding shape.now segments.now (I.intervals i.old) anchor list.items) }
-    ensures in_turn { I.told i.old → IfOk result (λ list. AreInTurn shape.now segments.now (I.intervals i.old) anchor list.items) }
+    ensures standing { I.told i.old → IfOk result (λ list. AreStanding shape.now segments.now (I.intervals i.old) anchor
+        list.items) }
+    ensures in_turn { I.told i.old → IfOk result (λ list. AreInTurn shape.now segments.now (I.intervals i.old) anchor
+        list.items) }
     ensures keys { I.told i.old → IfOk result (λ list. AreKeyed segments.now (I.intervals i.old) list.items) }
-    ensures damaged { I.told i.old → (ci : ℕ) → result ≡ Err (AnchorFault.Damaged ci) → ChainFails shape.now segments.now (I.intervals i.old) anchor ci }
+    ensures damaged { I.told i.old → (ci : ℕ) → result ≡ Err (AnchorFault.Damaged ci)
+        → ChainFails shape.now segments.now (I.intervals i.old) anchor ci }
     ensures failed { IsErrOf result AnchorFault.Failed → Rose (I.faults i.old) (I.faults i.new) }
     ensures same { I.told i.old → I.intervals i.new ≡ I.intervals i.old }
     ensures number { I.number i.new ≡ I.number i.old }

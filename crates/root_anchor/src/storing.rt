@@ -31,8 +31,11 @@ fn give_back_all<I: Intervals>(
     shape: &Shape,
     elements: &[Standing],
 ) -> Result<(), AnchorFault>
-    ensures given { I.told i.old → IsInOrder shape.now (I.intervals i.old) → AreGivable (I.intervals i.old) (places_of elements.now) → OnOk result (Exchanges shape.now (I.intervals i.old) (I.intervals i.new) (places_of elements.now) []) }
-    ensures sound { I.told i.old → IsInOrder shape.now (I.intervals i.old) → AreGivable (I.intervals i.old) (places_of elements.now) → (ci : ℕ) → result ≢ Err (AnchorFault.Damaged ci) }
+    ensures given { I.told i.old → IsInOrder shape.now (I.intervals i.old)
+        → AreGivable (I.intervals i.old) (places_of elements.now)
+        → OnOk result (Exchanges shape.now (I.intervals i.old) (I.intervals i.new) (places_of elements.now) []) }
+    ensures sound { I.told i.old → IsInOrder shape.now (I.intervals i.old)
+        → AreGivable (I.intervals i.old) (places_of elements.now) → (ci : ℕ) → result ≢ Err (AnchorFault.Damaged ci) }
     ensures failed { IsErrOf result AnchorFault.Failed → Rose (I.faults i.old) (I.faults i.new) }
     ensures number { I.number i.new ≡ I.number i.old }
     ensures goes_on { GoesOn I.told I.size I.faults I.keeps i.old i.new }
@@ -49,7 +52,8 @@ fn give_back_all<I: Intervals>(
     Ok(())
 }
 
-/// Gives an anchor roots in the places that are planned for them and in new ones; the rest of what it had is given back.
+/// Gives an anchor roots in the places that are planned for them and in new ones; the rest of what it had is given
+/// back.
 fn rebuild<I: Intervals>(
     alloc: Global,
     i: &mut I,
@@ -61,9 +65,12 @@ fn rebuild<I: Intervals>(
     requires anchor { home.now.anchor < anchor_count home.now.shape.now }
     requires types { AreTypes (I.size i.old) home.now.segments.now }
     requires roots { are_storable home.now.segments.now roots.now ≡ true }
-    ensures rebuilt { I.told i.old → IsRebuildable home.now.shape.now home.now.segments.now (I.intervals i.old) plan.old.items rest.now roots.now
-        → OnOk result (Rebuilds home.now.shape.now home.now.segments.now (I.intervals i.old) (I.intervals i.new) home.now.anchor plan.old.items rest.now roots.now) }
-    ensures sound { I.told i.old → IsRebuildable home.now.shape.now home.now.segments.now (I.intervals i.old) plan.old.items rest.now roots.now → (ci : ℕ) → result ≢ Err (AnchorFault.Damaged ci) }
+    ensures rebuilt { I.told i.old → IsRebuildable home.now.shape.now home.now.segments.now (I.intervals i.old)
+        plan.old.items rest.now roots.now
+        → OnOk result (Rebuilds home.now.shape.now home.now.segments.now (I.intervals i.old) (I.intervals i.new)
+        home.now.anchor plan.old.items rest.now roots.now) }
+    ensures sound { I.told i.old → IsRebuildable home.now.shape.now home.now.segments.now (I.intervals i.old)
+        plan.old.items rest.now roots.now → (ci : ℕ) → result ≢ Err (AnchorFault.Damaged ci) }
     ensures failed { IsErrOf result AnchorFault.Failed → Rose (I.faults i.old) (I.faults i.new) }
     ensures number { I.number i.old ≤ I.number i.new }
     ensures goes_on { GoesOn I.told I.size I.faults I.keeps i.old i.new }
@@ -73,14 +80,14 @@ fn rebuild<I: Intervals>(
     put_root(i, home.shape, home.anchor, first)
 }
 
-/// Gives an anchor these roots, in this order: `load` gives just them afterwards. A root's sequential list is its newest
-/// serial alone, in an item without bytes, or none. An anchor is counted from 0 within its area.
+/// Gives an anchor these roots, in this order: `load` gives just them afterwards. A root's sequential list is its
+/// newest serial alone, in an item without bytes, or none. An anchor is counted from 0 within its area.
 ///
 /// The root anchor point, pointers and segments are written where they change. Elements that no segment keeps are given
 /// back before room is looked for.
 ///
-/// `Damaged` names the interval that is damaged, where the anchor's chain is broken; in a formed area it never comes. `Failed` comes only with what
-/// holds the intervals. After a fault what holds them is thrown away.
+/// `Damaged` names the interval that is damaged, where the anchor's chain is broken; in a formed area it never comes.
+/// `Failed` comes only with what holds the intervals. After a fault what holds them is thrown away.
 pub fn store<I: Intervals>(
     alloc: Global,
     i: &mut I,
@@ -94,16 +101,23 @@ pub fn store<I: Intervals>(
     requires roots { are_storable segments.now roots.now ≡ true }
 
     // In a formed area this anchor has these roots, all others keep theirs, and the area is formed again.
-    ensures stored { I.told i.old → IsFormed shape.now segments.now (I.intervals i.old) → OnOk result (HasRoots shape.now segments.now (I.intervals i.new) anchor roots.now) }
-    ensures others { I.told i.old → IsFormed shape.now segments.now (I.intervals i.old) → OnOk result (OthersKeep shape.now segments.now (I.intervals i.old) (I.intervals i.new) anchor) }
-    ensures sequential { I.told i.old → IsFormed shape.now segments.now (I.intervals i.old) → OnOk result (KeepsSequential shape.now (I.intervals i.old) (I.intervals i.new)) }
-    ensures formed { I.told i.old → IsFormed shape.now segments.now (I.intervals i.old) → OnOk result (IsFormed shape.now segments.now (I.intervals i.new)) }
+    ensures stored { I.told i.old → IsFormed shape.now segments.now (I.intervals i.old)
+        → OnOk result (HasRoots shape.now segments.now (I.intervals i.new) anchor roots.now) }
+    ensures others { I.told i.old → IsFormed shape.now segments.now (I.intervals i.old)
+        → OnOk result (OthersKeep shape.now segments.now (I.intervals i.old) (I.intervals i.new) anchor) }
+    ensures sequential { I.told i.old → IsFormed shape.now segments.now (I.intervals i.old)
+        → OnOk result (KeepsSequential shape.now (I.intervals i.old) (I.intervals i.new)) }
+    ensures formed { I.told i.old → IsFormed shape.now segments.now (I.intervals i.old)
+        → OnOk result (IsFormed shape.now segments.now (I.intervals i.new)) }
 
     // Where the area is in order and the anchor's chain stands, nothing is damaged.
-    ensures sound { I.told i.old → IsInOrder shape.now (I.intervals i.old) → HasChain shape.now segments.now (I.intervals i.old) anchor → (ci : ℕ) → result ≢ Err (AnchorFault.Damaged ci) }
+    ensures sound { I.told i.old → IsInOrder shape.now (I.intervals i.old)
+        → HasChain shape.now segments.now (I.intervals i.old) anchor → (ci : ℕ)
+        → result ≢ Err (AnchorFault.Damaged ci) }
 
     // Where its chain is broken, the interval that is damaged is named, and `Ok` doesn't come.
-    ensures damaged { I.told i.old → ¬ HasChain shape.now segments.now (I.intervals i.old) anchor → (ci : ℕ) → result ≡ Err (AnchorFault.Damaged ci) → ChainFails shape.now segments.now (I.intervals i.old) anchor ci }
+    ensures damaged { I.told i.old → ¬ HasChain shape.now segments.now (I.intervals i.old) anchor → (ci : ℕ)
+        → result ≡ Err (AnchorFault.Damaged ci) → ChainFails shape.now segments.now (I.intervals i.old) anchor ci }
     ensures stood { I.told i.old → OnOk result (HasChain shape.now segments.now (I.intervals i.old) anchor) }
 
     // It fails only with what holds the intervals.

@@ -62,7 +62,8 @@ impl Walk {
     /// Meets an element.
     fn meet(&mut self, standing: Standing) -> Result<(), AllocError>
         ensures met { OnOk result (self.new.met.items ≡ self.old.met.items ++ standing ∷ []) }
-        ensures walk { (number : ℕ) → IsWalk number self.old → ¬ Contains (met_of self.old) standing.at → standing.at.0 < number → standing.at.1 < 4096 → OnOk result (IsWalk number self.new) }
+        ensures walk { (number : ℕ) → IsWalk number self.old → ¬ Contains (met_of self.old) standing.at
+            → standing.at.0 < number → standing.at.1 < 4096 → OnOk result (IsWalk number self.new) }
         ensures keyed { self.new.keyed ≡ self.old.keyed }
     {
         self.places.insert(standing.at)?;
@@ -99,7 +100,8 @@ impl Walk {
     ) -> Result<(), AllocError>
         requires defined { segment < length segments.now }
         ensures met { OnOk result (IsNoted segments.now self.old self.new segment at bytes.now) }
-        ensures walk { (number : ℕ) → IsWalk number self.old → ¬ Contains (met_of self.old) at → at.0 < number → at.1 < 4096 → OnOk result (IsWalk number self.new) }
+        ensures walk { (number : ℕ) → IsWalk number self.old → ¬ Contains (met_of self.old) at → at.0 < number
+            → at.1 < 4096 → OnOk result (IsWalk number self.new) }
     {
         let key = self.wanted_key(alloc, segments, segment, bytes)?;
         self.meet(Standing { segment, at, key })
@@ -121,10 +123,12 @@ fn visit<I: Intervals>(
     requires walk { IsWalk (I.number i.old) walk.old }
 
     // What the element says, which wasn't met before.
-    ensures says { I.told i.old → IfOk result (λ said. HasSegment segments.now (I.intervals i.old) segment at (segment_of said)) }
+    ensures says { I.told i.old → IfOk result (λ said. HasSegment segments.now (I.intervals i.old) segment at
+        (segment_of said)) }
     ensures types { IfOk result (λ said. types_of said.firsts.items ≡ child_types segments.now segment) }
     ensures fresh { OnOk result (¬ Contains (met_of walk.old) at) }
-    ensures wrong { I.told i.old → (ci : ℕ) → result ≡ Err (AnchorFault.Damaged ci) → IsWrong segments.now (I.intervals i.old) (met_of walk.old) from segment at ci }
+    ensures wrong { I.told i.old → (ci : ℕ) → result ≡ Err (AnchorFault.Damaged ci)
+        → IsWrong segments.now (I.intervals i.old) (met_of walk.old) from segment at ci }
     ensures failed { IsErrOf result AnchorFault.Failed → Rose (I.faults i.old) (I.faults i.new) }
 
     // It is met now.
@@ -132,7 +136,8 @@ fn visit<I: Intervals>(
     ensures more { OnOk result (length walk.old.met.items < length walk.new.met.items) }
     ensures keyed { OnOk result (walk.new.keyed ≡ walk.old.keyed) }
     ensures walk { OnOk result (IsWalk (I.number i.old) walk.new) }
-    ensures stand { I.told i.old → AllStand segments.now (I.intervals i.old) walk.old → OnOk result (AllStand segments.now (I.intervals i.old) walk.new) }
+    ensures stand { I.told i.old → AllStand segments.now (I.intervals i.old) walk.old
+        → OnOk result (AllStand segments.now (I.intervals i.old) walk.new) }
     ensures look { IsLook I.told I.intervals I.number I.size I.faults I.keeps i.old i.new }
 {
     if walk.has_met(at) {
@@ -159,12 +164,15 @@ fn row<I: Intervals>(
     requires defined { segment < length segments.now }
     requires walk { IsWalk (I.number i.old) walk.old }
 
-    ensures row { I.told i.old → IfOk result (λ row. IsRow segments.now (I.intervals i.old) (met_of walk.old) segment first row (met_of walk.new)) }
-    ensures damaged { I.told i.old → (ci : ℕ) → result ≡ Err (AnchorFault.Damaged ci) → RowFails segments.now (I.intervals i.old) (met_of walk.old) home segment first ci }
+    ensures row { I.told i.old → IfOk result (λ row. IsRow segments.now (I.intervals i.old) (met_of walk.old) segment
+        first row (met_of walk.new)) }
+    ensures damaged { I.told i.old → (ci : ℕ) → result ≡ Err (AnchorFault.Damaged ci)
+        → RowFails segments.now (I.intervals i.old) (met_of walk.old) home segment first ci }
     ensures failed { IsErrOf result AnchorFault.Failed → Rose (I.faults i.old) (I.faults i.new) }
 
     ensures walk { OnOk result (WalksOn (I.number i.old) walk.old walk.new) }
-    ensures stand { I.told i.old → AllStand segments.now (I.intervals i.old) walk.old → OnOk result (AllStand segments.now (I.intervals i.old) walk.new) }
+    ensures stand { I.told i.old → AllStand segments.now (I.intervals i.old) walk.old
+        → OnOk result (AllStand segments.now (I.intervals i.old) walk.new) }
     ensures look { IsLook I.told I.intervals I.number I.size I.faults I.keeps i.old i.new }
 {
     let mut row = List::new(alloc);
@@ -202,12 +210,16 @@ fn rows<I: Intervals>(
     requires children { types_of firsts.now ≡ child_types segments.now segment }
     requires walk { IsWalk (I.number i.old) walk.old }
 
-    ensures rows { I.told i.old → IfOk result (λ rows. AreRows segments.now (I.intervals i.old) (met_of walk.old) (types_of firsts.now) (pointers_of firsts.now) rows (met_of walk.new)) }
-    ensures damaged { I.told i.old → (ci : ℕ) → result ≡ Err (AnchorFault.Damaged ci) → RowsFail segments.now (I.intervals i.old) (met_of walk.old) home home (types_of firsts.now) (pointers_of firsts.now) ci }
+    ensures rows { I.told i.old → IfOk result (λ rows. AreRows segments.now (I.intervals i.old) (met_of walk.old)
+        (types_of firsts.now) (pointers_of firsts.now) rows (met_of walk.new)) }
+    ensures damaged { I.told i.old → (ci : ℕ) → result ≡ Err (AnchorFault.Damaged ci)
+        → RowsFail segments.now (I.intervals i.old) (met_of walk.old) home home (types_of firsts.now)
+        (pointers_of firsts.now) ci }
     ensures failed { IsErrOf result AnchorFault.Failed → Rose (I.faults i.old) (I.faults i.new) }
 
     ensures walk { OnOk result (WalksOn (I.number i.old) walk.old walk.new) }
-    ensures stand { I.told i.old → AllStand segments.now (I.intervals i.old) walk.old → OnOk result (AllStand segments.now (I.intervals i.old) walk.new) }
+    ensures stand { I.told i.old → AllStand segments.now (I.intervals i.old) walk.old
+        → OnOk result (AllStand segments.now (I.intervals i.old) walk.new) }
     ensures look { IsLook I.told I.intervals I.number I.size I.faults I.keeps i.old i.new }
 {
     let mut rows = List::new(alloc);
@@ -245,8 +257,10 @@ pub(crate) fn roots<I: Intervals>(
     requires walk { IsWalk (I.number i.old) walk.old }
     requires none { walk.old.met.items ≡ [] }
 
-    ensures roots { I.told i.old → IfOk result (λ roots. AreRoots segments.now (I.intervals i.old) [] first roots (met_of walk.new)) }
-    ensures damaged { I.told i.old → (ci : ℕ) → result ≡ Err (AnchorFault.Damaged ci) → RootsFail segments.now (I.intervals i.old) [] base first ci }
+    ensures roots { I.told i.old → IfOk result (λ roots. AreRoots segments.now (I.intervals i.old) [] first roots
+        (met_of walk.new)) }
+    ensures damaged { I.told i.old → (ci : ℕ) → result ≡ Err (AnchorFault.Damaged ci)
+        → RootsFail segments.now (I.intervals i.old) [] base first ci }
     ensures failed { IsErrOf result AnchorFault.Failed → Rose (I.faults i.old) (I.faults i.new) }
 
     ensures walk { OnOk result (WalksOn (I.number i.old) walk.old walk.new) }

@@ -109,14 +109,16 @@ module _ (defs : Defs) (scripts : List Script) (are : AreDefs defs) where
     rest : Machine
     rest = at_rest (rules_of defs scripts) whole.from.lines whole.from.start
 
-    resting_kept : Kept (rules_of defs scripts) (view_of defs) (at_rest (rules_of defs scripts) whole.from.lines whole.from.start)
+    resting_kept : Kept (rules_of defs scripts) (view_of defs)
+        (at_rest (rules_of defs scripts) whole.from.lines whole.from.start)
     resting_kept = rest_kept (rules_of defs scripts) (view_of defs)
         (at_rest (rules_of defs scripts) whole.from.lines whole.from.start)
         (at_rest_rests (rules_of defs scripts) whole.from.lines whole.from.start whole.is_serial)
 
     kept : Kept (rules_of defs scripts) (view_of defs) m
     kept = run_kept (rules_of defs scripts) (view_of defs) order
-        (at_rest (rules_of defs scripts) whole.from.lines whole.from.start) whole.from.steps m whole.from.runs resting_kept
+        (at_rest (rules_of defs scripts) whole.from.lines whole.from.start) whole.from.steps m whole.from.runs
+        resting_kept
 
     resting : IsReached (rules_of defs scripts) (gauge_with (all_calls scripts) defs)
         (at_rest (rules_of defs scripts) whole.from.lines whole.from.start)
@@ -132,7 +134,8 @@ module _ (defs : Defs) (scripts : List Script) (are : AreDefs defs) where
     tidy : IsTidy (rules_of defs scripts) m
     tidy = run_tidy (rules_of defs scripts) (gauge_with (all_calls scripts) defs) ends (view_of defs) order
         (λ db db2 own held call same. needs_alike defs held own db db2 same call)
-        (at_rest (rules_of defs scripts) whole.from.lines whole.from.start) whole.from.steps m resting resting_kept whole.from.runs
+        (at_rest (rules_of defs scripts) whole.from.lines whole.from.start) whole.from.steps m resting resting_kept
+        whole.from.runs
         (rest_tidy (rules_of defs scripts) (gauge_with (all_calls scripts) defs) ends (view_of defs) order
         (λ db db2 own held call same. needs_alike defs held own db db2 same call)
         whole.from.lines whole.from.start resting_kept.terminals)

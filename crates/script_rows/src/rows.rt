@@ -35,7 +35,8 @@ pub fn the_sample_is_its_scripts()
 pub fn faults_of_lines()
     ensures bogus { text_in sample_defs (flat_map with_newline (codes "TRAN A" ∷ codes "BOGUS" ∷ codes "GU NOPE" ∷ []))
         ≡ Err (fault.Syntax 2) }
-    ensures unknown { text_in sample_defs (flat_map with_newline (codes "TRAN A" ∷ codes "GU NOPE" ∷ codes "BOGUS" ∷ []))
+    ensures unknown { text_in sample_defs (flat_map with_newline
+        (codes "TRAN A" ∷ codes "GU NOPE" ∷ codes "BOGUS" ∷ []))
         ≡ Err (fault.UnknownName 2) }
     ensures both { text_in sample_defs (flat_map with_newline (codes "TRAN A" ∷ codes "GU NOPE KEY(" ∷ []))
         ≡ Err (fault.Syntax 2) }
@@ -45,7 +46,8 @@ pub fn faults_of_lines()
         ≡ Err (fault.Syntax 2) }
     ensures key_of_dedb { text_in sample_defs (flat_map with_newline (codes "TRAN A" ∷ codes "GU CUST KEY(#1)" ∷ []))
         ≡ Err (fault.UnknownName 2) }
-    ensures field { text_in sample_defs (flat_map with_newline (codes "TRAN A" ∷ codes "ISRT TELLERS TNO=#1 BAL=0" ∷ []))
+    ensures field { text_in sample_defs (flat_map with_newline
+        (codes "TRAN A" ∷ codes "ISRT TELLERS TNO=#1 BAL=0" ∷ []))
         ≡ Err (fault.UnknownName 2) }
     ensures any_field { text_in sample_defs (flat_map with_newline (codes "TRAN A" ∷ codes "SET B IO.NOPE" ∷ []))
         ≡ Err (fault.UnknownName 2) }

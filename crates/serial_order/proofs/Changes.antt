@@ -26,7 +26,8 @@ use Rattle.serial_order.proofs.Lists.{eqb_same, true_is_not_false, some_is, none
 -- ---- elements at a place
 
 -- a write leaves the other places
-pub get_set_other : {X : Type 0} (xs : List X) (r s : ℕ) (a : X) → ¬ (s ≡ r) → slice_get (slice_set xs r a) s ≡ slice_get xs s
+pub get_set_other : {X : Type 0} (xs : List X) (r s : ℕ) (a : X) → ¬ (s ≡ r)
+    → slice_get (slice_set xs r a) s ≡ slice_get xs s
 get_set_other [] r s a ne = refl
 get_set_other (x ∷ xs) zero zero a ne = absurd (ne refl)
 get_set_other (x ∷ xs) zero (suc s) a ne = refl
@@ -34,7 +35,8 @@ get_set_other (x ∷ xs) (suc r) zero a ne = refl
 get_set_other (x ∷ xs) (suc r) (suc s) a ne = get_set_other xs r s a (λ e. ne (ap (λ (n : ℕ). suc n) e))
 
 -- and puts its value at its own
-pub get_set_same : {X : Type 0} (xs : List X) (r : ℕ) (a x : X) → slice_get xs r ≡ Some x → slice_get (slice_set xs r a) r ≡ Some a
+pub get_set_same : {X : Type 0} (xs : List X) (r : ℕ) (a x : X) → slice_get xs r ≡ Some x
+    → slice_get (slice_set xs r a) r ≡ Some a
 get_set_same [] r a x e = absurd (none_is_not_some x e)
 get_set_same (y ∷ ys) zero a x e = refl
 get_set_same (y ∷ ys) (suc r) a x e = get_set_same ys r a x e
@@ -44,116 +46,170 @@ get_set_same (y ∷ ys) (suc r) a x e = get_set_same ys r a x e
 module _ (dedb anchor : ℕ) where
   -- a data entry database changed where it leaves the anchor
   pub roots_with_dedb : (number : ℕ) (change : Dedb → Dedb) (db : Db)
-      → ((d : Dedb) → dedb ≡ number → unwrap_or (slice_get (change d).anchors anchor) [] ≡ unwrap_or (slice_get d.anchors anchor) [])
+      → ((d : Dedb) → dedb ≡ number → unwrap_or (slice_get (change d).anchors anchor) [] ≡ unwrap_or
+      (slice_get d.anchors anchor) [])
       → roots_at (with_dedb number change db) dedb anchor ≡ roots_at db dedb anchor
   roots_with_dedb number change db leaves = at (slice_get db.dedbs number) refl
     where
       at : (o : Option Dedb) → slice_get db.dedbs number ≡ o
-          → option_map_or (λ (d : Dedb). unwrap_or (slice_get d.anchors anchor) []) (slice_get (option_map_or (λ (d : Dedb). slice_set db.dedbs number (change d)) o db.dedbs) dedb) [] ≡ roots_at db dedb anchor
+          → option_map_or (λ (d : Dedb). unwrap_or (slice_get d.anchors anchor) [])
+          (slice_get (option_map_or (λ (d : Dedb). slice_set db.dedbs number (change d)) o db.dedbs) dedb) [] ≡
+          roots_at db dedb anchor
       at None is = refl
       at (Some d) is = elim (cases_eq dedb number) [
         | inl same ↦
-            let here : slice_get db.dedbs dedb ≡ Some d = subst (λ (n : ℕ). slice_get db.dedbs n ≡ Some d) (sym same) is in
-            let there : slice_get (slice_set db.dedbs number (change d)) dedb ≡ Some (change d) = subst (λ (n : ℕ). slice_get (slice_set db.dedbs number (change d)) n ≡ Some (change d)) (sym same) (get_set_same db.dedbs number (change d) d is) in
+            let here : slice_get db.dedbs dedb ≡ Some d =
+            subst (λ (n : ℕ). slice_get db.dedbs n ≡ Some d) (sym same) is in
+            let there : slice_get (slice_set db.dedbs number (change d)) dedb ≡ Some (change d) =
+            subst (λ (n : ℕ). slice_get (slice_set db.dedbs number (change d)) n ≡ Some (change d)) (sym same)
+            (get_set_same db.dedbs number (change d) d is) in
             rw (here, there) (leaves d same)
-        | inr other ↦ ap (λ (o : Option Dedb). option_map_or (λ (d : Dedb). unwrap_or (slice_get d.anchors anchor) []) o []) (get_set_other db.dedbs number dedb (change d) other)
+        | inr other ↦ ap (λ (o : Option Dedb). option_map_or (λ (d : Dedb). unwrap_or (slice_get d.anchors anchor) []) o
+            []) (get_set_other db.dedbs number dedb (change d) other)
       ]
 
   -- other ends
-  pub roots_with_ends : (area : Area) (ends : AreaEnds) (db : Db) → roots_at (with_ends area ends db) dedb anchor ≡ roots_at db dedb anchor
-  roots_with_ends area ends db = roots_with_dedb area.dedb (λ d. record d { areas = slice_set d.areas area.number ends }) db (λ d e. refl)
+  pub roots_with_ends : (area : Area) (ends : AreaEnds) (db : Db)
+      → roots_at (with_ends area ends db) dedb anchor ≡ roots_at db dedb anchor
+  roots_with_ends area ends db = roots_with_dedb area.dedb
+      (λ d. record d { areas = slice_set d.areas area.number ends }) db (λ d e. refl)
 
   -- other roots at another anchor
-  roots_with_roots : (c : AnchorChange) (db : Db) → ¬ (Anchor c.dedb c.anchor ≡ Anchor dedb anchor) → roots_at (with_roots c.dedb c.anchor c.roots db) dedb anchor ≡ roots_at db dedb anchor
-  roots_with_roots c db ne = roots_with_dedb c.dedb (λ d. record d { anchors = slice_set d.anchors c.anchor c.roots }) db
-      (λ d same. ap (λ (o : Option (List Root)). unwrap_or o []) (get_set_other d.anchors c.anchor anchor c.roots (λ e. ne (ap (λ (n : ℕ). Anchor n c.anchor) (sym same) ∙ ap (λ (n : ℕ). Anchor dedb n) (sym e)))))
+  roots_with_roots : (c : AnchorChange) (db : Db) → ¬ (Anchor c.dedb c.anchor ≡ Anchor dedb anchor)
+      → roots_at (with_roots c.dedb c.anchor c.roots db) dedb anchor ≡ roots_at db dedb anchor
+  roots_with_roots c db ne = roots_with_dedb c.dedb (λ d. record d { anchors = slice_set d.anchors c.anchor c.roots })
+      db
+      (λ d same. ap (λ (o : Option (List Root)). unwrap_or o [])
+      (get_set_other d.anchors c.anchor anchor c.roots
+      (λ e. ne (ap (λ (n : ℕ). Anchor n c.anchor) (sym same) ∙ ap (λ (n : ℕ). Anchor dedb n) (sym e)))))
 
   -- all changed anchors
-  pub roots_with_anchors : (cs : List AnchorChange) (db : Db) → AllByRecursion (λ (c : AnchorChange). ¬ (Anchor c.dedb c.anchor ≡ Anchor dedb anchor)) cs → roots_at (with_anchors cs db) dedb anchor ≡ roots_at db dedb anchor
+  pub roots_with_anchors : (cs : List AnchorChange) (db : Db)
+      → AllByRecursion (λ (c : AnchorChange). ¬ (Anchor c.dedb c.anchor ≡ Anchor dedb anchor)) cs
+      → roots_at (with_anchors cs db) dedb anchor ≡ roots_at db dedb anchor
   roots_with_anchors [] db h = refl
-  roots_with_anchors (c ∷ cs) db h = roots_with_anchors cs (with_roots c.dedb c.anchor c.roots db) h.1 ∙ roots_with_roots c db h.0
+  roots_with_anchors (c ∷ cs) db h = roots_with_anchors cs (with_roots c.dedb c.anchor c.roots db) h.1 ∙
+      roots_with_roots c db h.0
 
   -- a sequential insert at another anchor
-  roots_with_insert : (defs : Defs) (db : Db) (i : SeqInsert) → ¬ (Anchor i.dedb i.anchor ≡ Anchor dedb anchor) → roots_at (with_insert defs db i) dedb anchor ≡ roots_at db dedb anchor
+  roots_with_insert : (defs : Defs) (db : Db) (i : SeqInsert) → ¬ (Anchor i.dedb i.anchor ≡ Anchor dedb anchor)
+      → roots_at (with_insert defs db i) dedb anchor ≡ roots_at db dedb anchor
   roots_with_insert defs db i ne = at (find (λ area. takes area i) (areas_of defs))
     where
       dependent : (item : SeqItem) → roots_at (with_dependent defs i item db) dedb anchor ≡ roots_at db dedb anchor
-      dependent item = roots_with_dedb i.dedb (λ d. record d { anchors = option_map_or (λ roots. slice_set d.anchors i.anchor (change_key (root_key (types_of defs i.dedb)) i.key (with_newest item) roots)) (slice_get d.anchors i.anchor) d.anchors }) db
-          (λ d same. put d (slice_get d.anchors i.anchor) (λ e. ne (ap (λ (n : ℕ). Anchor n i.anchor) (sym same) ∙ ap (λ (n : ℕ). Anchor dedb n) (sym e))))
+      dependent item = roots_with_dedb i.dedb (λ d. record d {
+        anchors = option_map_or (λ roots. slice_set d.anchors i.anchor
+            (change_key (root_key (types_of defs i.dedb)) i.key (with_newest item) roots))
+            (slice_get d.anchors i.anchor)
+            d.anchors;
+      }) db
+          (λ d same. put d (slice_get d.anchors i.anchor)
+          (λ e. ne (ap (λ (n : ℕ). Anchor n i.anchor) (sym same) ∙ ap (λ (n : ℕ). Anchor dedb n) (sym e))))
         where
           put : (d : Dedb) (o : Option (List Root)) → ¬ (anchor ≡ i.anchor)
-              → unwrap_or (slice_get (option_map_or (λ roots. slice_set d.anchors i.anchor (change_key (root_key (types_of defs i.dedb)) i.key (with_newest item) roots)) o d.anchors) anchor) [] ≡ unwrap_or (slice_get d.anchors anchor) []
+              → unwrap_or (slice_get (option_map_or
+              (λ roots. slice_set d.anchors i.anchor
+              (change_key (root_key (types_of defs i.dedb)) i.key (with_newest item) roots)) o d.anchors) anchor) []
+              ≡ unwrap_or (slice_get d.anchors anchor) []
           put d None other = refl
-          put d (Some roots) other = ap (λ (o : Option (List Root)). unwrap_or o []) (get_set_other d.anchors i.anchor anchor (change_key (root_key (types_of defs i.dedb)) i.key (with_newest item) roots) other)
+          put d (Some roots) other = ap (λ (o : Option (List Root)). unwrap_or o [])
+              (get_set_other d.anchors i.anchor anchor
+              (change_key (root_key (types_of defs i.dedb)) i.key (with_newest item) roots) other)
 
-      at : (o : Option Area) → roots_at (option_map_or (λ area. numbered_at defs i area db) o db) dedb anchor ≡ roots_at db dedb anchor
+      at : (o : Option Area) → roots_at (option_map_or (λ area. numbered_at defs i area db) o db) dedb anchor ≡ roots_at
+          db dedb anchor
       at None = refl
-      at (Some area) = roots_with_ends area (record (ends_at db area) { end = (ends_at db area).end + 1 }) (with_dependent defs i (record { serial = (ends_at db area).end; bytes = i.bytes }) db) ∙ dependent (record { serial = (ends_at db area).end; bytes = i.bytes })
+      at (Some area) = roots_with_ends area (record (ends_at db area) { end = (ends_at db area).end + 1 })
+          (with_dependent defs i (record { serial = (ends_at db area).end; bytes = i.bytes }) db) ∙ dependent
+          (record { serial = (ends_at db area).end; bytes = i.bytes })
 
   -- all sequential inserts
-  pub roots_with_inserts : (defs : Defs) (is : List SeqInsert) (db : Db) → AllByRecursion (λ (i : SeqInsert). ¬ (Anchor i.dedb i.anchor ≡ Anchor dedb anchor)) is → roots_at (with_inserts defs is db) dedb anchor ≡ roots_at db dedb anchor
+  pub roots_with_inserts : (defs : Defs) (is : List SeqInsert) (db : Db)
+      → AllByRecursion (λ (i : SeqInsert). ¬ (Anchor i.dedb i.anchor ≡ Anchor dedb anchor)) is
+      → roots_at (with_inserts defs is db) dedb anchor ≡ roots_at db dedb anchor
   roots_with_inserts defs [] db h = refl
-  roots_with_inserts defs (i ∷ is) db h = roots_with_inserts defs is (with_insert defs db i) h.1 ∙ roots_with_insert defs db i h.0
+  roots_with_inserts defs (i ∷ is) db h = roots_with_inserts defs is (with_insert defs db i) h.1 ∙ roots_with_insert
+      defs db i h.0
 
 -- ---- Purge
 
 -- an element outside of those that are changed
-get_outside : {X : Type 0} (first n end : ℕ) (change : X → X) (xs : List X) (a : ℕ) → end ≡ first + n → (a < first) ⊎ (end ≤ a)
+get_outside : {X : Type 0} (first n end : ℕ) (change : X → X) (xs : List X) (a : ℕ) → end ≡ first + n → (a < first)
+    ⊎ (end ≤ a)
     → slice_get (take first xs ++ map change (take n (drop first xs)) ++ drop end xs) a ≡ slice_get xs a
 get_outside zero n end change xs a is (inl below) = absurd (omega (arith, below))
 get_outside {X} zero n end change xs a is (inr behind) = behind_those n end xs a (omega (arith, is)) behind
   where
-    behind_those : (n end : ℕ) (xs : List X) (a : ℕ) → end ≡ n → end ≤ a → slice_get (map change (take n xs) ++ drop end xs) a ≡ slice_get xs a
+    behind_those : (n end : ℕ) (xs : List X) (a : ℕ) → end ≡ n → end ≤ a
+        → slice_get (map change (take n xs) ++ drop end xs) a ≡ slice_get xs a
     behind_those zero zero xs a is le = refl
     behind_those zero (suc end) xs a is le = absurd (omega (arith, is))
     behind_those (suc n) zero xs a is le = absurd (omega (arith, is))
     behind_those (suc n) (suc end) [] a is le = refl
     behind_those (suc n) (suc end) (x ∷ xs) zero is le = absurd (omega (arith, le))
-    behind_those (suc n) (suc end) (x ∷ xs) (suc a) is le = behind_those n end xs a (omega (arith, is)) (omega (arith, le))
+    behind_those (suc n) (suc end) (x ∷ xs) (suc a) is le =
+        behind_those n end xs a (omega (arith, is)) (omega (arith, le))
 get_outside (suc first) n zero change xs a is h = absurd (omega (arith, is))
 get_outside (suc first) zero (suc end) change [] a is h = refl
 get_outside (suc first) (suc n) (suc end) change [] a is h = refl
 get_outside (suc first) n (suc end) change (x ∷ xs) zero is h = refl
-get_outside (suc first) n (suc end) change (x ∷ xs) (suc a) is h = get_outside first n end change xs a (omega (arith, is)) (less h)
+get_outside (suc first) n (suc end) change (x ∷ xs) (suc a) is h =
+    get_outside first n end change xs a (omega (arith, is)) (less h)
   where
     less : (suc a < suc first) ⊎ (suc end ≤ suc a) → (a < first) ⊎ (end ≤ a)
     less (inl below) = inl (omega (arith, below))
     less (inr behind) = inr (omega (arith, behind))
 
 -- an anchor that an area doesn't have, of its database
-lies_outside : (area : Area) (anchor : ℕ) → has_anchor area area.dedb anchor ≡ false → (anchor < area.first_anchor) ⊎ (area.first_anchor + anchors_in area.def ≤ anchor)
-lies_outside area anchor e = either (nat_le area.first_anchor anchor) (nat_lt anchor (area.first_anchor + anchors_in area.def)) refl refl (rw (eqb_same area.dedb) at e)
+lies_outside : (area : Area) (anchor : ℕ) → has_anchor area area.dedb anchor ≡ false → (anchor < area.first_anchor)
+    ⊎ (area.first_anchor + anchors_in area.def ≤ anchor)
+lies_outside area anchor e = either (nat_le area.first_anchor anchor)
+    (nat_lt anchor (area.first_anchor + anchors_in area.def)) refl refl (rw (eqb_same area.dedb) at e)
   where
-    either : (a b : Bool) → nat_le area.first_anchor anchor ≡ a → nat_lt anchor (area.first_anchor + anchors_in area.def) ≡ b → (a && b) ≡ false → (anchor < area.first_anchor) ⊎ (area.first_anchor + anchors_in area.def ≤ anchor)
+    either : (a b : Bool) → nat_le area.first_anchor anchor ≡ a
+        → nat_lt anchor (area.first_anchor + anchors_in area.def) ≡ b → (a && b) ≡ false → (anchor < area.first_anchor)
+        ⊎ (area.first_anchor + anchors_in area.def ≤ anchor)
     either true true p q e = absurd (true_is_not_false e)
-    either true false p q e = inr (let h : area.first_anchor + anchors_in area.def ≤ anchor = grind (arith, common_steps, q) in h)
+    either true false p q e =
+        inr (let h : area.first_anchor + anchors_in area.def ≤ anchor = grind (arith, common_steps, q) in h)
     either false b p q e = inl (let h : anchor < area.first_anchor = grind (arith, common_steps, p) in h)
 
 -- A Purge leaves the anchors outside of its area.
-roots_with_purge : (area : Area) (n : ℕ) (db : Db) (dedb anchor : ℕ) → has_anchor area dedb anchor ≡ false → roots_at (purged_area area n db) dedb anchor ≡ roots_at db dedb anchor
+roots_with_purge : (area : Area) (n : ℕ) (db : Db) (dedb anchor : ℕ) → has_anchor area dedb anchor ≡ false
+    → roots_at (purged_area area n db) dedb anchor ≡ roots_at db dedb anchor
 roots_with_purge area n db dedb anchor outside =
     let begin : ℕ = min (ends_at db area).end ((ends_at db area).begin + n) in
     let change : Dedb → Dedb = λ d. record d { anchors = in_anchors area (map (kept_from begin)) d.anchors } in
     roots_with_ends dedb anchor area (record (ends_at db area) { begin = begin }) (with_dedb area.dedb change db)
     ∙ roots_with_dedb dedb anchor area.dedb change db
     (λ d same. ap (λ (o : Option (List Root)). unwrap_or o [])
-    (get_outside area.first_anchor (anchors_in area.def) (area.first_anchor + anchors_in area.def) (map (kept_from begin)) d.anchors anchor refl
+    (get_outside area.first_anchor (anchors_in area.def) (area.first_anchor + anchors_in area.def)
+    (map (kept_from begin)) d.anchors anchor refl
     (lies_outside area anchor (subst (λ (k : ℕ). has_anchor area k anchor ≡ false) same outside))))
 
 -- A Purge changes nothing that isn't an anchor of its area.
-pub purge_leaves : (defs : Defs) (set n : ℕ) (db next : Db) → purged defs set n db ≡ Some next → (resource : Resource) → is_anchor_of_set defs set resource ≡ false → seen_in defs resource next ≡ seen_in defs resource db
+pub purge_leaves : (defs : Defs) (set n : ℕ) (db next : Db) → purged defs set n db ≡ Some next → (resource : Resource)
+    → is_anchor_of_set defs set resource ≡ false → seen_in defs resource next ≡ seen_in defs resource db
 unfolding purged
 purge_leaves defs set n db next e resource outside = by (area_of_set defs set) refl e
   where
-    in_area : (area : Area) (resource : Resource) → area_of_set defs set ≡ Some area → is_anchor_of_set defs set resource ≡ false → seen_in defs resource (purged_area area n db) ≡ seen_in defs resource db
+    in_area : (area : Area) (resource : Resource) → area_of_set defs set ≡ Some area
+        → is_anchor_of_set defs set resource ≡ false
+        → seen_in defs resource (purged_area area n db) ≡ seen_in defs resource db
     in_area area (Segment msdb key) is outside = refl
     in_area area (Anchor dedb anchor) is outside =
-        ap (λ (roots : List Root). RootsAre roots) (roots_with_purge area n db dedb anchor (subst (λ (o : Option Area). option_map_or (λ area. has_anchor area dedb anchor) o false ≡ false) is outside))
+        ap (λ (roots : List Root). RootsAre roots) (roots_with_purge area n db dedb anchor
+        (subst (λ (o : Option Area). option_map_or (λ area. has_anchor area dedb anchor) o false ≡ false) is
+        outside))
 
-    by : (o : Option Area) → area_of_set defs set ≡ o → option_map_or (λ area. if nat_lt 0 area.def.capacity then Some (purged_area area n db) else None) o None ≡ Some next → seen_in defs resource next ≡ seen_in defs resource db
+    by : (o : Option Area) → area_of_set defs set ≡ o
+        → option_map_or (λ area. if nat_lt 0 area.def.capacity then Some (purged_area area n db) else None) o None ≡
+        Some next → seen_in defs resource next ≡ seen_in defs resource db
     by None is e = absurd (none_is_not_some next e)
     by (Some area) is e = either (nat_lt 0 area.def.capacity) e
       where
-        either : (b : Bool) → (if b then Some (purged_area area n db) else None) ≡ Some next → seen_in defs resource next ≡ seen_in defs resource db
-        either true e = subst (λ (q : Db). seen_in defs resource q ≡ seen_in defs resource db) (some_is (purged_area area n db) next e) (in_area area resource is outside)
+        either : (b : Bool) → (if b then Some (purged_area area n db) else None) ≡ Some next
+            → seen_in defs resource next ≡ seen_in defs resource db
+        either true e = subst (λ (q : Db). seen_in defs resource q ≡ seen_in defs resource db)
+            (some_is (purged_area area n db) next e) (in_area area resource is outside)
         either false e = absurd (none_is_not_some next e)

@@ -65,12 +65,14 @@ module _ (defs : Defs) where
   times-fair (suc n) body h env = loops_on-fair (body env) (times n body) (h env) (times-fair n body h)
 
   -- a value that there may be
-  or_rolls-fair : {A : Type 0} (o : Option A) (f : A → Way) → ((x : A) → o ≡ Some x → WayIsFair (f x)) → WayIsFair (or_rolls o f)
+  or_rolls-fair : {A : Type 0} (o : Option A) (f : A → Way) → ((x : A) → o ≡ Some x → WayIsFair (f x))
+      → WayIsFair (or_rolls o f)
   or_rolls-fair None f h = tt
   or_rolls-fair (Some x) f h = h x refl
 
   -- a call
-  called-fair : (c : Call) (env : Env) (answers : List Answer) → env.answers ≡ answers → is_call defs c ≡ true → WayIsFair (called c env)
+  called-fair : (c : Call) (env : Env) (answers : List Answer) → env.answers ≡ answers → is_call defs c ≡ true
+      → WayIsFair (called c env)
   called-fair c env [] e h = rw e h
   called-fair c env (answer ∷ rest) e h = rw e tt
 
@@ -89,28 +91,38 @@ module _ (defs : Defs) where
   fitted_whole n text key e = either (nat_le (length text) n) e
     where
       either : (b : Bool) → (if b then Some (padded n text) else None) ≡ Some key → nat_le n (length key) ≡ true
-      either true e = subst (λ (k : List ℕ). nat_le n (length k) ≡ true) (some_is (padded n text) key e) (padded_whole n text)
+      either true e = subst (λ (k : List ℕ). nat_le n (length k) ≡ true) (some_is (padded n text) key e)
+          (padded_whole n text)
       either false e = absurd (none_is_not_some key e)
 
   -- what is behind a value that there may be
-  behind : {A B : Type 0} (o : Option A) (f : A → Option B) (y : B) → (o >>= f) ≡ Some y → (x : A) × ((o ≡ Some x) × (f x ≡ Some y))
+  behind : {A B : Type 0} (o : Option A) (f : A → Option B) (y : B) → (o >>= f) ≡ Some y → (x : A)
+      × ((o ≡ Some x) × (f x ≡ Some y))
   behind None f y e = absurd (none_is_not_some y e)
   behind (Some x) f y e = (x, (refl, e))
 
   -- the key of a field call
-  layout_whole : (db : ℕ) (o : Option MsdbDef) → slice_get defs.msdbs db ≡ o → (text key : List ℕ) → (layout_of defs db 0 >>= (λ (layout : Layout). fitted_key layout text)) ≡ Some key → is_whole defs db key ≡ true
+  layout_whole : (db : ℕ) (o : Option MsdbDef) → slice_get defs.msdbs db ≡ o → (text key : List ℕ)
+      → (layout_of defs db 0 >>= (λ (layout : Layout). fitted_key layout text)) ≡ Some key → is_whole defs db key ≡ true
   layout_whole db None is text key e = rw is (any (length key))
     where
       any : (n : ℕ) → nat_le 0 n ≡ true
       any n = grind (arith, common_steps)
-  layout_whole db (Some def) is text key e = rw is (fitted_whole (key_length def.fields) text key (rw (is, layout_of) at e))
+  layout_whole db (Some def) is text key e = rw is (fitted_whole (key_length def.fields) text key
+      (rw (is, layout_of) at e))
 
-  fld_whole : (message : Message) (env : Env) (db : ℕ) (key : Operand) (fsas : List FsaText) (c : Call) → fld_call defs message env db key fsas ≡ Some c → is_call defs c ≡ true
+  fld_whole : (message : Message) (env : Env) (db : ℕ) (key : Operand) (fsas : List FsaText) (c : Call)
+      → fld_call defs message env db key fsas ≡ Some c → is_call defs c ≡ true
   fld_whole message env db key fsas c e =
-      let bytes = behind (key_text defs message env db 0 key) (λ (k : List ℕ). fsas_given defs message env fsas >>= (λ (list : List Fsa). Some (call.Fld db k (list_text list)))) c e in
-      let list = behind (fsas_given defs message env fsas) (λ (list : List Fsa). Some (call.Fld db bytes.0 (list_text list))) c bytes.1.1 in
-      let text = behind (text_of defs message env key) (λ (t : List ℕ). layout_of defs db 0 >>= (λ (layout : Layout). fitted_key layout t)) bytes.0 bytes.1.0 in
-      let whole : is_whole defs db bytes.0 ≡ true = layout_whole db (slice_get defs.msdbs db) refl text.0 bytes.0 text.1.1 in
+      let bytes = behind (key_text defs message env db 0 key)
+      (λ (k : List ℕ). fsas_given defs message env fsas >>=
+      (λ (list : List Fsa). Some (call.Fld db k (list_text list)))) c e in
+      let list = behind (fsas_given defs message env fsas)
+      (λ (list : List Fsa). Some (call.Fld db bytes.0 (list_text list))) c bytes.1.1 in
+      let text = behind (text_of defs message env key)
+      (λ (t : List ℕ). layout_of defs db 0 >>= (λ (layout : Layout). fitted_key layout t)) bytes.0 bytes.1.0 in
+      let whole : is_whole defs db bytes.0 ≡ true =
+      layout_whole db (slice_get defs.msdbs db) refl text.0 bytes.0 text.1.1 in
       subst (λ (q : Call). is_call defs q ≡ true) (some_is (call.Fld db bytes.0 (list_text list.0)) c list.1.1) whole
 
   -- ---- statements
@@ -122,11 +134,14 @@ module _ (defs : Defs) where
 
   module _ (message : Message) where
     -- GU, GN, GNP and their holds
-    get_fair : (env : Env) (g : GetKind) (hold : Bool) (db : ℕ) (ssas : List SsaText) (c : Call) → get_call defs message env (call.Get g hold db) db ssas ≡ Some c → is_call defs c ≡ true
-    get_fair env g hold db ssas c e = let of = mapped (call.Get g hold db) (ssas_of defs message env db ssas) c e in subst (λ (q : Call). is_call defs q ≡ true) of.1 refl
+    get_fair : (env : Env) (g : GetKind) (hold : Bool) (db : ℕ) (ssas : List SsaText) (c : Call)
+        → get_call defs message env (call.Get g hold db) db ssas ≡ Some c → is_call defs c ≡ true
+    get_fair env g hold db ssas c e = let of = mapped (call.Get g hold db) (ssas_of defs message env db ssas) c e in
+        subst (λ (q : Call). is_call defs q ≡ true) of.1 refl
 
     -- ISRT
-    isrt_fair : (env : Env) (db : ℕ) (ssas : List SsaText) (fields : List FieldText) (c : Call) → isrt_call defs message env db ssas fields ≡ Some c → is_call defs c ≡ true
+    isrt_fair : (env : Env) (db : ℕ) (ssas : List SsaText) (fields : List FieldText) (c : Call)
+        → isrt_call defs message env db ssas fields ≡ Some c → is_call defs c ≡ true
     isrt_fair env db ssas fields c e =
         let found = behind (ssas_of defs message env db ssas) _ c e in
         let layout = behind (layout_of defs db (new_type defs message ssas)) _ c found.1.1 in
@@ -135,7 +150,8 @@ module _ (defs : Defs) where
         subst (λ (q : Call). is_call defs q ≡ true) (some_is (call.Isrt db found.0 bytes.0) c bytes.1.1) refl
 
     -- REPL
-    repl_fair : (env : Env) (db : ℕ) (fields : List FieldText) (c : Call) → repl_call defs message env db fields ≡ Some c → is_call defs c ≡ true
+    repl_fair : (env : Env) (db : ℕ) (fields : List FieldText) (c : Call)
+        → repl_call defs message env db fields ≡ Some c → is_call defs c ≡ true
     repl_fair env db fields c e =
         let shown = behind (shown_on db env) _ c e in
         let layout = behind (layout_of defs db shown.0.type_number) _ c shown.1.1 in
@@ -143,13 +159,15 @@ module _ (defs : Defs) where
         subst (λ (q : Call). is_call defs q ≡ true) (some_is (call.Repl db bytes.0) c bytes.1.1) refl
 
     -- a call that there may be
-    asked-fair : (o : Option Call) (env : Env) → ((c : Call) → o ≡ Some c → is_call defs c ≡ true) → WayIsFair (or_rolls o (λ c. called c env))
+    asked-fair : (o : Option Call) (env : Env) → ((c : Call) → o ≡ Some c → is_call defs c ≡ true)
+        → WayIsFair (or_rolls o (λ c. called c env))
     asked-fair o env h = or_rolls-fair o (λ c. called c env) (λ c e. called-fair c env env.answers refl (h c e))
 
     -- ---- statements
 
     -- a block of statements
-    block-fair : (ss : List ((s : Statement) × IsFair (run defs message s))) → IsFair (in_order (map (run defs message) (map (λ e. e.0) ss)))
+    block-fair : (ss : List ((s : Statement) × IsFair (run defs message s)))
+        → IsFair (in_order (map (run defs message) (map (λ e. e.0) ss)))
     block-fair [] env = tt
     block-fair (s ∷ ss) env = goes_on-fair (run defs message s.0 env) _ (s.1 env) (block-fair ss)
 
@@ -159,29 +177,38 @@ module _ (defs : Defs) where
     choice-fair false x y h g = g
 
     -- one statement, over the runs of those in it
-    step-fair : (y : Statement-F ((s : Statement) × IsFair (run defs message s))) → IsFair (run_step defs message (map-Statement _ _ (run defs message) (map-Statement _ _ (λ e. e.0) y)))
+    step-fair : (y : Statement-F ((s : Statement) × IsFair (run defs message s)))
+        → IsFair (run_step defs message (map-Statement _ _ (run defs message) (map-Statement _ _ (λ e. e.0) y)))
     step-fair (Set variable first rest) env = or_rolls-fair (set_text defs message env first rest) _ (λ text e. tt)
     step-fair (If left comparison right taken otherwise) env =
         let first = in_order (map (run defs message) (map (λ e. e.0) taken)) in
         let second = in_order (map (run defs message) (map (λ e. e.0) otherwise)) in
-        or_rolls-fair (chosen defs message env left comparison right) (λ holds. (if holds then first else second) env) (λ holds e. choice-fair holds first second (block-fair taken) (block-fair otherwise) env)
-    step-fair (Repeat n body) env = times-fair n (in_order (map (run defs message) (map (λ e. e.0) body))) (block-fair body) env
+        or_rolls-fair (chosen defs message env left comparison right) (λ holds. (if holds then first else second) env)
+        (λ holds e. choice-fair holds first second (block-fair taken) (block-fair otherwise) env)
+    step-fair (Repeat n body) env = times-fair n (in_order (map (run defs message) (map (λ e. e.0) body)))
+        (block-fair body) env
     step-fair Break env = tt
     step-fair (Reply operands) env = or_rolls-fair (reply_text defs message env operands) _ (λ text e. tt)
     step-fair (Roll code) env = tt
-    step-fair (Get g hold db ssas) env = asked-fair (get_call defs message env (call.Get g hold db) db ssas) env (get_fair env g hold db ssas)
-    step-fair (Fld db key fsas) env = asked-fair (fld_call defs message env db key fsas) env (fld_whole message env db key fsas)
-    step-fair (Isrt db ssas fields) env = asked-fair (isrt_call defs message env db ssas fields) env (isrt_fair env db ssas fields)
+    step-fair (Get g hold db ssas) env = asked-fair (get_call defs message env (call.Get g hold db) db ssas) env
+        (get_fair env g hold db ssas)
+    step-fair (Fld db key fsas) env = asked-fair (fld_call defs message env db key fsas) env
+        (fld_whole message env db key fsas)
+    step-fair (Isrt db ssas fields) env = asked-fair (isrt_call defs message env db ssas fields) env
+        (isrt_fair env db ssas fields)
     step-fair (Repl db fields) env = asked-fair (repl_call defs message env db fields) env (repl_fair env db fields)
     step-fair (Dlet db) env = called-fair (call.Dlet db) env env.answers refl refl
 
     -- a statement from its parts
-    rolled-fair : (x : Statement-F Statement) → IsFair (run_step defs message (map-Statement _ _ (run defs message) x)) → IsFair (run defs message (roll-Statement x))
+    rolled-fair : (x : Statement-F Statement) → IsFair (run_step defs message (map-Statement _ _ (run defs message) x))
+        → IsFair (run defs message (roll-Statement x))
     rolled-fair x h = rw (fold-roll-Statement (Env → Way) (run_step defs message) x) h
 
     -- every statement
     statement-fair : (s : Statement) → IsFair (run defs message s)
-    statement-fair = ind-Statement (λ s. IsFair (run defs message s)) (λ x y is. rolled-fair x (subst (λ z. IsFair (run_step defs message (map-Statement _ _ (run defs message) z))) is (step-fair y)))
+    statement-fair = ind-Statement (λ s. IsFair (run defs message s))
+        (λ x y is. rolled-fair x (subst (λ z. IsFair (run_step defs message (map-Statement _ _ (run defs message) z)))
+        is (step-fair y)))
 
     -- every script
     script-fair : (ss : List Statement) → IsFair (in_order (map (run defs message) ss))
@@ -197,13 +224,16 @@ module _ (defs : Defs) where
     -- what a script asks
     asks-fair : (statements : List Statement) (answers : List Answer) → EndIsFair (ask defs statements message answers)
     unfolding ask
-    asks-fair statements answers = ended-fair (in_order (map (run defs message) statements) (at_top answers)) (script-fair statements (at_top answers))
+    asks-fair statements answers = ended-fair (in_order (map (run defs message) statements) (at_top answers))
+        (script-fair statements (at_top answers))
 
     -- the script of a name
-    by_script : (o : Option Script) (answers : List Answer) → EndIsFair (option_map_or (λ script. ask defs script.statements message answers) o (Replies []))
+    by_script : (o : Option Script) (answers : List Answer)
+        → EndIsFair (option_map_or (λ script. ask defs script.statements message answers) o (Replies []))
     by_script None answers = tt
     by_script (Some script) answers = asks-fair script.statements answers
 
   -- A call that a script asks has its form.
-  pub asks_form : (scripts : List Script) (message : Message) (answers : List Answer) (c : Call) → asked_by defs scripts message answers ≡ Asks c → is_call defs c ≡ true
+  pub asks_form : (scripts : List Script) (message : Message) (answers : List Answer) (c : Call)
+      → asked_by defs scripts message answers ≡ Asks c → is_call defs c ≡ true
   asks_form scripts message answers c e = subst EndIsFair e (by_script message (script_of scripts message.tran) answers)

@@ -41,7 +41,8 @@ use Rattle.serial_order.proofs.Queue.{sync_leaves}
 -- ---- the laws
 
 -- This system keeps the laws.
-pub laws_of : (defs : Defs) (scripts : List Script) → AllByRecursion IsMsdbDef defs.msdbs → Laws (rules_of defs scripts) (view_of defs)
+pub laws_of : (defs : Defs) (scripts : List Script) → AllByRecursion IsMsdbDef defs.msdbs
+    → Laws (rules_of defs scripts) (view_of defs)
 laws_of defs scripts each = record {
   lines = keeps_line scripts;
   terminals = keeps_terminal scripts;
@@ -51,7 +52,8 @@ laws_of defs scripts each = record {
   ends = asks_fewer defs scripts;
   asked = asks_form defs scripts;
   begins = fresh_covered defs;
-  answers = λ db db2 shown shown2 own held c need same looks. replies_alike defs held own db db2 shown shown2 c same need looks;
+  answers = λ db db2 shown shown2 own held c need same looks. replies_alike defs held own db db2 shown shown2 c same
+      need looks;
   covers = λ db shown own held c fair need covered. replies_covered defs held db shown own c fair need covered;
   wants = λ db own held c needed e. calls_want held needed defs db own c e;
   lacks = sync_wants;
@@ -62,26 +64,40 @@ laws_of defs scripts each = record {
 -- ---- no call looks at the ends of an area
 
 -- what is seen is the same beside other ends
-pub seen_with_ends : (defs : Defs) (area : Area) (ends : AreaEnds) (db : Db) (resource : Resource) → seen_in defs resource (with_ends area ends db) ≡ seen_in defs resource db
+pub seen_with_ends : (defs : Defs) (area : Area) (ends : AreaEnds) (db : Db) (resource : Resource)
+    → seen_in defs resource (with_ends area ends db) ≡ seen_in defs resource db
 seen_with_ends defs area ends db (Segment msdb key) = refl
-seen_with_ends defs area ends db (Anchor dedb anchor) = ap (λ (roots : List Root). RootsAre roots) (roots_with_ends dedb anchor area ends db)
+seen_with_ends defs area ends db (Anchor dedb anchor) =
+    ap (λ (roots : List Root). RootsAre roots) (roots_with_ends dedb anchor area ends db)
 
 -- a search over like looks
-unlocked_alike : (is_locked : ℕ → Bool) (look look2 : ℕ → Option Occurrence) (anchors : List ℕ) → ((anchor : ℕ) → look2 anchor ≡ look anchor) → dedb.first_unlocked is_locked look2 anchors ≡ dedb.first_unlocked is_locked look anchors
+unlocked_alike : (is_locked : ℕ → Bool) (look look2 : ℕ → Option Occurrence) (anchors : List ℕ)
+    → ((anchor : ℕ) → look2 anchor ≡ look anchor) → dedb.first_unlocked is_locked look2 anchors ≡ dedb.first_unlocked
+    is_locked look anchors
 unlocked_alike is_locked look look2 [] same = refl
 unlocked_alike is_locked look look2 (a ∷ rest) same = rw (same a, unlocked_alike is_locked look look2 rest same) refl
 
 module _ (area : Area) (ends : AreaEnds) (db : Db) (own : Workspace) where
   -- what a get finds at an anchor
-  look_alike : (def : DedbDef) (number : ℕ) (g : Get) (ssas : List Ssa) (anchor : ℕ) → dedb.look_at def number (with_ends area ends db) own g ssas anchor ≡ dedb.look_at def number db own g ssas anchor
-  look_alike def number g ssas anchor = ap (λ (roots : List Root). first_admitted def.segments anchor (option_map_or (λ (c : AnchorChange). c.roots) (find (dedb.is_change_of def number anchor) own.changes) roots) (dedb.begins_behind def number (dedb.position_of def number own) g) (dedb.stays_below def number (dedb.position_of def number own) g) ssas)
+  look_alike : (def : DedbDef) (number : ℕ) (g : Get) (ssas : List Ssa) (anchor : ℕ)
+      → dedb.look_at def number (with_ends area ends db) own g ssas anchor ≡ dedb.look_at def number db own g ssas
+      anchor
+  look_alike def number g ssas anchor = ap (λ (roots : List Root). first_admitted def.segments anchor
+      (option_map_or (λ (c : AnchorChange). c.roots) (find (dedb.is_change_of def number anchor) own.changes) roots)
+      (dedb.begins_behind def number (dedb.position_of def number own) g)
+      (dedb.stays_below def number (dedb.position_of def number own) g) ssas)
       (roots_with_ends number anchor area ends db)
 
   -- which lock a call to a data entry database needs
-  dedb_need_alike : (def : DedbDef) (number : ℕ) (held : Resource → Option Mode) (c : Call) → dedb.dedb_need def number (with_ends area ends db) own held c ≡ dedb.dedb_need def number db own held c
+  dedb_need_alike : (def : DedbDef) (number : ℕ) (held : Resource → Option Mode) (c : Call)
+      → dedb.dedb_need def number (with_ends area ends db) own held c ≡ dedb.dedb_need def number db own held c
   dedb_need_alike def number held (call.Get g hold n ssas) =
-      ap (λ (o : Option ℕ). if not (dedb.are_get_arguments def number ssas) || dedb.lacks_parent def number own g then None else option_map (dedb.anchor_lock def number (dedb.lock_of def number hold)) o)
-      (unlocked_alike (λ (anchor : ℕ). serves (held (Anchor number anchor)) (dedb.lock_of def number hold)) (dedb.look_at def number db own g ssas) (dedb.look_at def number (with_ends area ends db) own g ssas) (dedb.anchors_searched def number (dedb.position_of def number own) g (dedb.root_named def number ssas)) (look_alike def number g ssas))
+      ap (λ (o : Option ℕ). if not (dedb.are_get_arguments def number ssas) || dedb.lacks_parent def number own g then
+      None else option_map (dedb.anchor_lock def number (dedb.lock_of def number hold)) o)
+      (unlocked_alike (λ (anchor : ℕ). serves (held (Anchor number anchor)) (dedb.lock_of def number hold))
+      (dedb.look_at def number db own g ssas) (dedb.look_at def number (with_ends area ends db) own g ssas)
+      (dedb.anchors_searched def number (dedb.position_of def number own) g (dedb.root_named def number ssas))
+      (look_alike def number g ssas))
   dedb_need_alike def number held (call.Fld n key fsas) = refl
   dedb_need_alike def number held (call.Isrt n ssas bytes) = refl
   dedb_need_alike def number held (call.Repl n bytes) = refl
@@ -89,26 +105,33 @@ module _ (area : Area) (ends : AreaEnds) (db : Db) (own : Workspace) where
 
   -- which lock a call needs
   module _ (defs : Defs) (held : Resource → Option Mode) (c : Call) where
-    dedb_target_need : (number : ℕ) (o : Option DedbDef) → need_on (option_map_or (λ def. OnDedb def number) o Nowhere) (with_ends area ends db) own held c ≡ need_on (option_map_or (λ def. OnDedb def number) o Nowhere) db own held c
+    dedb_target_need : (number : ℕ) (o : Option DedbDef)
+        → need_on (option_map_or (λ def. OnDedb def number) o Nowhere) (with_ends area ends db) own held c ≡ need_on
+        (option_map_or (λ def. OnDedb def number) o Nowhere) db own held c
     dedb_target_need number None = refl
     dedb_target_need number (Some def) = dedb_need_alike def number held c
 
     -- main storage databases are looked for first
-    target_need : (number dedb_number : ℕ) (o : Option MsdbDef) → need_on (option_map_or (λ def. OnMsdb def number) o (dedb_target defs dedb_number)) (with_ends area ends db) own held c ≡ need_on (option_map_or (λ def. OnMsdb def number) o (dedb_target defs dedb_number)) db own held c
+    target_need : (number dedb_number : ℕ) (o : Option MsdbDef)
+        → need_on (option_map_or (λ def. OnMsdb def number) o (dedb_target defs dedb_number)) (with_ends area ends db)
+        own held c ≡ need_on (option_map_or (λ def. OnMsdb def number) o (dedb_target defs dedb_number)) db own held c
     target_need number dedb_number None = dedb_target_need dedb_number (slice_get defs.dedbs dedb_number)
     target_need number dedb_number (Some def) = refl
 
     -- Which lock a call needs depends on no ends.
     pub needs_with_ends : need_of defs (with_ends area ends db) own held c ≡ need_of defs db own held c
     unfolding need_of
-    needs_with_ends = target_need (database_of c) (database_of c - length defs.msdbs) (slice_get defs.msdbs (database_of c))
+    needs_with_ends = target_need (database_of c) (database_of c - length defs.msdbs)
+        (slice_get defs.msdbs (database_of c))
 
   -- a region that holds all needs no lock
-  none_unlocked : (look : ℕ → Option Occurrence) (anchors : List ℕ) → dedb.first_unlocked (λ (anchor : ℕ). true) look anchors ≡ None
+  none_unlocked : (look : ℕ → Option Occurrence) (anchors : List ℕ)
+      → dedb.first_unlocked (λ (anchor : ℕ). true) look anchors ≡ None
   none_unlocked look [] = refl
   none_unlocked look (a ∷ rest) = by (is_some (look a)) (none_unlocked look rest)
     where
-      by : (b : Bool) → dedb.first_unlocked (λ (anchor : ℕ). true) look rest ≡ None → (if b then None else dedb.first_unlocked (λ (anchor : ℕ). true) look rest) ≡ None
+      by : (b : Bool) → dedb.first_unlocked (λ (anchor : ℕ). true) look rest ≡ None
+          → (if b then None else dedb.first_unlocked (λ (anchor : ℕ). true) look rest) ≡ None
       by true later = refl
       by false later = later
 
@@ -128,11 +151,14 @@ module _ (area : Area) (ends : AreaEnds) (db : Db) (own : Workspace) where
     dedb_needs_none (call.Get g hold n ssas) =
         either_none (not (dedb.are_get_arguments def number ssas) || dedb.lacks_parent def number own g) _
         (ap (λ (o : Option ℕ). option_map (dedb.anchor_lock def number (dedb.lock_of def number hold)) o)
-        (none_unlocked (dedb.look_at def number db own g ssas) (dedb.anchors_searched def number (dedb.position_of def number own) g (dedb.root_named def number ssas))))
+        (none_unlocked (dedb.look_at def number db own g ssas)
+        (dedb.anchors_searched def number (dedb.position_of def number own) g (dedb.root_named def number ssas))))
     dedb_needs_none (call.Fld n key fsas) = refl
     dedb_needs_none (call.Isrt n ssas bytes) = insert_needs_none (dedb.are_insert_arguments def number ssas)
       where
-        insert_needs_none : (b : Bool) → (if b then dedb.unless_locked def number (λ (resource : Resource). Some Exclusive) Exclusive (dedb.anchor_of_path def number (dedb.insert_path def number ssas bytes)) else None) ≡ None
+        insert_needs_none : (b : Bool) → (if b then dedb.unless_locked def number
+            (λ (resource : Resource). Some Exclusive) Exclusive
+            (dedb.anchor_of_path def number (dedb.insert_path def number ssas bytes)) else None) ≡ None
         insert_needs_none true = refl
         insert_needs_none false = refl
     dedb_needs_none (call.Repl n bytes) = place_needs_none (dedb.held_place def number own)
@@ -140,17 +166,26 @@ module _ (area : Area) (ends : AreaEnds) (db : Db) (own : Workspace) where
 
   -- what a call is answered
   module _ (defs : Defs) (area2 : Area) (ends2 : AreaEnds) (shown : Db) (c : Call) where
-    dedb_target_reply : (number : ℕ) (o : Option DedbDef) → reply_on (option_map_or (λ def. OnDedb def number) o Nowhere) (with_ends area ends db) (with_ends area2 ends2 shown) own c ≡ reply_on (option_map_or (λ def. OnDedb def number) o Nowhere) db shown own c
+    dedb_target_reply : (number : ℕ) (o : Option DedbDef)
+        → reply_on (option_map_or (λ def. OnDedb def number) o Nowhere) (with_ends area ends db)
+        (with_ends area2 ends2 shown) own c ≡ reply_on (option_map_or (λ def. OnDedb def number) o Nowhere) db shown own
+        c
     dedb_target_reply number None = refl
-    dedb_target_reply number (Some def) = dedb_alike def number (λ (resource : Resource). Some Exclusive) own db (with_ends area ends db) (λ anchor h. roots_with_ends number anchor area ends db) c (dedb_needs_none def number c)
+    dedb_target_reply number (Some def) = dedb_alike def number (λ (resource : Resource). Some Exclusive) own db
+        (with_ends area ends db) (λ anchor h. roots_with_ends number anchor area ends db) c
+        (dedb_needs_none def number c)
 
     -- main storage databases are looked for first
     target_reply : (number dedb_number : ℕ) (o : Option MsdbDef)
-        → reply_on (option_map_or (λ def. OnMsdb def number) o (dedb_target defs dedb_number)) (with_ends area ends db) (with_ends area2 ends2 shown) own c ≡ reply_on (option_map_or (λ def. OnMsdb def number) o (dedb_target defs dedb_number)) db shown own c
+        → reply_on (option_map_or (λ def. OnMsdb def number) o (dedb_target defs dedb_number)) (with_ends area ends db)
+        (with_ends area2 ends2 shown) own c ≡ reply_on
+        (option_map_or (λ def. OnMsdb def number) o (dedb_target defs dedb_number)) db shown own c
     target_reply number dedb_number None = dedb_target_reply dedb_number (slice_get defs.dedbs dedb_number)
     target_reply number dedb_number (Some def) = refl
 
     -- What a call is answered depends on no ends.
-    pub replies_with_ends : reply_to defs (with_ends area ends db) (with_ends area2 ends2 shown) own c ≡ reply_to defs db shown own c
+    pub replies_with_ends : reply_to defs (with_ends area ends db) (with_ends area2 ends2 shown) own c ≡ reply_to defs
+        db shown own c
     unfolding reply_to
-    replies_with_ends = target_reply (database_of c) (database_of c - length defs.msdbs) (slice_get defs.msdbs (database_of c))
+    replies_with_ends = target_reply (database_of c) (database_of c - length defs.msdbs)
+        (slice_get defs.msdbs (database_of c))

@@ -56,7 +56,8 @@ pub fn what_fields_are_shown_as()
 pub fn a_group_is_shown()
     ensures { group_text 0 0 three_entries ≡ lines
         (codes "group 0 entries 3" ∷ codes "0 from 0 notes 0 DONE T1 DEPOSIT A001 10 => NEW"
-        ∷ codes "1 from 1 notes 1 DONE T3 DEPOSIT A001 20 => NEW" ∷ codes "2 from 1 notes 1 DONE T2 ASK A001 => 110" ∷ []) }
+        ∷ codes "1 from 1 notes 1 DONE T3 DEPOSIT A001 20 => NEW" ∷ codes "2 from 1 notes 1 DONE T2 ASK A001 => 110" ∷
+        []) }
 {}
 
 /// How transactions end.

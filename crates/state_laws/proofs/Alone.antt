@@ -61,7 +61,9 @@ module _ (defs : Defs) where
 
 -- ---- on its way
 
-module _ (defs : Defs) (scripts : List Script) (now : Db) (states : List Db) (message : Message) (are : AreDefs defs) (good : IsDbOf defs now) (past : AllByRecursion (IsDbOf defs) states) (fit : CallsFit defs (asked_by defs scripts message)) where
+module _ (defs : Defs) (scripts : List Script) (now : Db) (states : List Db) (message : Message) (are : AreDefs defs)
+    (good : IsDbOf defs now) (past : AllByRecursion (IsDbOf defs) states)
+    (fit : CallsFit defs (asked_by defs scripts message)) where
   -- A point whose workspace fits, and what was shown to it.
   record IsGood (point : Point) : Type 0 where
     shown : ℕ → Option ℕ

@@ -13,7 +13,8 @@ use Rattle.state_laws.proofs.DedbReplies.{dedb_keeps}
 use Rattle.state_laws.proofs.MsdbReplies.{msdb_keeps}
 use Rattle.state_laws.proofs.Targets.{IsTarget, is_dedb, is_msdb, is_nowhere, its_target}
 
-module _ (defs : Defs) (now visible : Db) (shown : ℕ → Option ℕ) (own : Workspace) (c : Call) (are : AreDefs defs) (good : IsDbOf defs now) (f : FitsWorkspace defs now own) (tied : IsTied defs shown own) where
+module _ (defs : Defs) (now visible : Db) (shown : ℕ → Option ℕ) (own : Workspace) (c : Call) (are : AreDefs defs)
+    (good : IsDbOf defs now) (f : FitsWorkspace defs now own) (tied : IsTied defs shown own) where
   target_keeps : (t : Target) → IsTarget defs (database_of c) t → FitsTarget t (shown (database_of c)) c
       → FitsWorkspace defs now (reply_on t now visible own c).own
   target_keeps t (is_msdb def at) fit =

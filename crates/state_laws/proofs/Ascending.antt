@@ -62,7 +62,9 @@ same_or_above a b below same = by (is_below b a) refl
   where
     by : (t : Bool) → is_below b a ≡ t → t ≡ true
     by true e = refl
-    by false e = absurd (not_both (sym (is_same b) ∙ ap (λ k. same_text k b) (sym (exact_bytes a b (neither (slice_cmp nat_cmp a b) (slice_cmp nat_cmp b a) (nat_list_cmp_total.antisymm a b) below e))) ∙ same))
+    by false e = absurd (not_both (sym (is_same b) ∙ ap (λ k. same_text k b)
+        (sym (exact_bytes a b (neither (slice_cmp nat_cmp a b) (slice_cmp nat_cmp b a) (nat_list_cmp_total.antisymm a b)
+        below e))) ∙ same))
 
 -- what is below is not above
 pub not_above : (a b : List ℕ) → is_below a b ≡ true → is_below b a ≡ false
@@ -92,14 +94,16 @@ module _ {X : Type 0} (key : X → List ℕ) where
   IsAscending xs = ascend (map key xs) ≡ true
 
   -- behind an element all are above it
-  pub all_above : (x : X) (xs : List X) → IsAscending (x ∷ xs) → AllByRecursion (λ y. is_below (key x) (key y) ≡ true) xs
+  pub all_above : (x : X) (xs : List X) → IsAscending (x ∷ xs)
+      → AllByRecursion (λ y. is_below (key x) (key y) ≡ true) xs
   all_above x [] up = tt
   all_above x (y ∷ ys) up =
       let first = first_of (is_below (key x) (key y)) (ascend (map key (y ∷ ys))) up in
       let later = all_above y ys (second_of (is_below (key x) (key y)) (ascend (map key (y ∷ ys))) up) in
       (first, above ys later first)
     where
-      above : (zs : List X) → AllByRecursion (λ z. is_below (key y) (key z) ≡ true) zs → is_below (key x) (key y) ≡ true → AllByRecursion (λ z. is_below (key x) (key z) ≡ true) zs
+      above : (zs : List X) → AllByRecursion (λ z. is_below (key y) (key z) ≡ true) zs → is_below (key x) (key y) ≡ true
+          → AllByRecursion (λ z. is_below (key x) (key z) ≡ true) zs
       above [] all less = tt
       above (z ∷ zs) all less = (below_trans (key x) (key y) (key z) less all.0, above zs all.1 less)
 
@@ -109,7 +113,8 @@ module _ {X : Type 0} (key : X → List ℕ) where
 
   -- ---- order after edits
 
-  pub before_all : (x : X) (xs : List X) → AllByRecursion (λ y. is_below (key x) (key y) ≡ true) xs → IsAscending xs → IsAscending (x ∷ xs)
+  pub before_all : (x : X) (xs : List X) → AllByRecursion (λ y. is_below (key x) (key y) ≡ true) xs → IsAscending xs
+      → IsAscending (x ∷ xs)
   before_all x [] all up = refl
   before_all x (y ∷ ys) all up = rw all.0 up
 
@@ -117,23 +122,29 @@ module _ {X : Type 0} (key : X → List ℕ) where
   all_kept P k [] all = tt
   all_kept P k (x ∷ xs) all = by (same_text (key x) k) refl (all_kept P k xs all.1)
     where
-      by : (t : Bool) → same_text (key x) k ≡ t → AllByRecursion P (drop_key key k xs) → AllByRecursion P (drop_key key k (x ∷ xs))
+      by : (t : Bool) → same_text (key x) k ≡ t → AllByRecursion P (drop_key key k xs)
+          → AllByRecursion P (drop_key key k (x ∷ xs))
       by true e later = rw e later
       by false e later = rw e (all.0, later)
 
   pub still_ascends : (k : List ℕ) (xs : List X) → IsAscending xs → IsAscending (drop_key key k xs)
   still_ascends k [] up = refl
-  still_ascends k (x ∷ xs) up = by (same_text (key x) k) refl (still_ascends k xs (tail_ascends x xs up)) (all_kept (λ y. is_below (key x) (key y) ≡ true) k xs (all_above x xs up))
+  still_ascends k (x ∷ xs) up = by (same_text (key x) k) refl (still_ascends k xs (tail_ascends x xs up))
+      (all_kept (λ y. is_below (key x) (key y) ≡ true) k xs (all_above x xs up))
     where
-      by : (t : Bool) → same_text (key x) k ≡ t → IsAscending (drop_key key k xs) → AllByRecursion (λ y. is_below (key x) (key y) ≡ true) (drop_key key k xs) → IsAscending (drop_key key k (x ∷ xs))
+      by : (t : Bool) → same_text (key x) k ≡ t → IsAscending (drop_key key k xs)
+          → AllByRecursion (λ y. is_below (key x) (key y) ≡ true) (drop_key key k xs)
+          → IsAscending (drop_key key k (x ∷ xs))
       by true e later all = rw e later
       by false e later all = rw e (before_all x (drop_key key k xs) all later)
 
-  pub all_put : (P : X → Type 0) (x : X) (xs : List X) → P x → AllByRecursion P xs → AllByRecursion P (put_by_key key x xs)
+  pub all_put : (P : X → Type 0) (x : X) (xs : List X) → P x → AllByRecursion P xs
+      → AllByRecursion P (put_by_key key x xs)
   all_put P x [] one all = (one, tt)
   all_put P x (y ∷ ys) one all = by (is_below (key x) (key y)) refl (all_put P x ys one all.1)
     where
-      by : (t : Bool) → is_below (key x) (key y) ≡ t → AllByRecursion P (put_by_key key x ys) → AllByRecursion P (put_by_key key x (y ∷ ys))
+      by : (t : Bool) → is_below (key x) (key y) ≡ t → AllByRecursion P (put_by_key key x ys)
+          → AllByRecursion P (put_by_key key x (y ∷ ys))
       by true e later = rw e (one, all)
       by false e later = rw e (all.0, later)
 
@@ -144,17 +155,24 @@ module _ {X : Type 0} (key : X → List ℕ) where
   differ k [] = tt
   differ k (x ∷ xs) = by (same_text (key x) k) refl (differ k xs)
     where
-      by : (t : Bool) → same_text (key x) k ≡ t → AllByRecursion (λ y. same_text (key y) k ≡ false) (drop_key key k xs) → AllByRecursion (λ y. same_text (key y) k ≡ false) (drop_key key k (x ∷ xs))
+      by : (t : Bool) → same_text (key x) k ≡ t → AllByRecursion (λ y. same_text (key y) k ≡ false) (drop_key key k xs)
+          → AllByRecursion (λ y. same_text (key y) k ≡ false) (drop_key key k (x ∷ xs))
       by true e later = rw e later
       by false e later = rw e (e, later)
 
-  pub put_ascends : (x : X) (xs : List X) → IsAscending xs → AllByRecursion (λ y. same_text (key y) (key x) ≡ false) xs → IsAscending (put_by_key key x xs)
+  pub put_ascends : (x : X) (xs : List X) → IsAscending xs → AllByRecursion (λ y. same_text (key y) (key x) ≡ false) xs
+      → IsAscending (put_by_key key x xs)
   put_ascends x [] up others = refl
-  put_ascends x (y ∷ ys) up others = by (is_below (key x) (key y)) refl (put_ascends x ys (tail_ascends y ys up) others.1)
+  put_ascends x (y ∷ ys) up others = by (is_below (key x) (key y)) refl
+      (put_ascends x ys (tail_ascends y ys up) others.1)
     where
-      by : (t : Bool) → is_below (key x) (key y) ≡ t → IsAscending (put_by_key key x ys) → IsAscending (put_by_key key x (y ∷ ys))
+      by : (t : Bool) → is_below (key x) (key y) ≡ t → IsAscending (put_by_key key x ys)
+          → IsAscending (put_by_key key x (y ∷ ys))
       by true e later = rw e (rw e up)
-      by false e later = rw e (before_all y (put_by_key key x ys) (all_put (λ z. is_below (key y) (key z) ≡ true) x ys (same_or_above (key x) (key y) e (differs_back (key y) (key x) others.0)) (all_above y ys up)) later)
+      by false e later = rw e (before_all y (put_by_key key x ys)
+          (all_put (λ z. is_below (key y) (key z) ≡ true) x ys
+          (same_or_above (key x) (key y) e (differs_back (key y) (key x) others.0)) (all_above y ys up)) later)
 
-  pub with_one_ascends : (x : X) (xs : List X) → IsAscending xs → IsAscending (put_by_key key x (drop_key key (key x) xs))
+  pub with_one_ascends : (x : X) (xs : List X) → IsAscending xs
+      → IsAscending (put_by_key key x (drop_key key (key x) xs))
   with_one_ascends x xs up = put_ascends x (drop_key key (key x) xs) (still_ascends (key x) xs up) (differ (key x) xs)

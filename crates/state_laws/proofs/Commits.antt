@@ -32,7 +32,8 @@ still_fit defs db msdbs (c ∷ others) all =
       still_fit defs db msdbs others all.1,
     )
 
-module _ (defs : Defs) (db : Db) (own : Workspace) (are : AreDefs defs) (good : IsDbOf defs db) (fits : FitsState defs db own) where
+module _ (defs : Defs) (db : Db) (own : Workspace) (are : AreDefs defs) (good : IsDbOf defs db)
+    (fits : FitsState defs db own) where
   -- all that the workspace holds, done to the state
   done_good : (msdbs : List Msdb) → AllZip IsMsdbOf defs.msdbs msdbs
       → first_full db own.inserts first_area_set (areas_of defs) ≡ None → IsDbOf defs (committed defs own msdbs db)

@@ -34,19 +34,23 @@ few_times [] d n = omega arith
 few_times (m ∷ ms) d n = by (m == n) refl (few_times ms d.1 n)
   where
     by : (b : Bool) → (m == n) ≡ b → times n ms ≤ 1 → (if b then 1 else 0) + times n ms ≤ 1
-    by true is rest = let none = none_times m ms d.0 in let same : times n ms ≡ 0 = subst (λ (k : ℕ). times k ms ≡ 0) (number_is m n is) none in omega (arith, same)
+    by true is rest = let none = none_times m ms d.0 in
+        let same : times n ms ≡ 0 = subst (λ (k : ℕ). times k ms ≡ 0) (number_is m n is) none in omega (arith, same)
     by false is rest = omega (arith, rest)
 
 no_more : (m : ℕ) (ks : List ℕ) → times m ks ≤ 0 → AllByRecursion (λ k. (m == k) ≡ false) ks
 no_more m [] h = tt
 no_more m (k ∷ ks) h = by (k == m) refl h (no_more m ks)
   where
-    by : (b : Bool) → (k == m) ≡ b → (if b then 1 else 0) + times m ks ≤ 0 → (times m ks ≤ 0 → AllByRecursion (λ j. (m == j) ≡ false) ks) → ((m == k) ≡ false) × AllByRecursion (λ j. (m == j) ≡ false) ks
+    by : (b : Bool) → (k == m) ≡ b → (if b then 1 else 0) + times m ks ≤ 0
+        → (times m ks ≤ 0 → AllByRecursion (λ j. (m == j) ≡ false) ks) → ((m == k) ≡ false)
+        × AllByRecursion (λ j. (m == j) ≡ false) ks
     by true is h later = absurd (omega (arith, h))
     by false is h later = (turned (m == k) refl, later (omega (arith, h)))
       where
         turned : (c : Bool) → (m == k) ≡ c → c ≡ false
-        turned true e = absurd (true_is_not_false (sym (ap (λ (z : ℕ). z == m) (sym (number_is m k e)) ∙ is_number m) ∙ is))
+        turned true e = absurd (true_is_not_false (sym (ap (λ (z : ℕ). z == m) (sym (number_is m k e)) ∙ is_number m) ∙
+            is))
         turned false e = refl
 
 pub distinct_few : (ms : List ℕ) → ((n : ℕ) → times n ms ≤ 1) → IsDistinct ◌==◌ ms
@@ -65,7 +69,9 @@ distinct_few (m ∷ ms) h =
 
 -- a part of a list of lists, element by element with no more of a number, and one more where one element is
 module _ {X : Type 0} (f : X → List ℕ) (n : ℕ) where
-  front_fewer : (count : ℕ) (xs ys : List X) → ((k : ℕ) (y : X) → slice_get ys k ≡ Some y → (x : X) × (slice_get xs k ≡ Some x) × (times n (f y) ≤ times n (f x))) → times n (flat_map f (take count ys)) ≤ times n (flat_map f (take count xs))
+  front_fewer : (count : ℕ) (xs ys : List X) → ((k : ℕ) (y : X) → slice_get ys k ≡ Some y → (x : X)
+      × (slice_get xs k ≡ Some x) × (times n (f y) ≤ times n (f x)))
+      → times n (flat_map f (take count ys)) ≤ times n (flat_map f (take count xs))
   front_fewer zero xs ys h = omega arith
   front_fewer (suc count) xs [] h = omega arith
   front_fewer (suc count) [] (y ∷ ys) h = let one = h 0 y refl in absurd (none one.0 one.1)
@@ -89,7 +95,10 @@ module _ {X : Type 0} (f : X → List ℕ) (n : ℕ) where
   drop_nothing (suc k) = refl
 
   -- a part with no more of a number in each element has no more of it
-  pub part_fewer : (count first : ℕ) (xs ys : List X) → ((k : ℕ) (y : X) → slice_get ys k ≡ Some y → (x : X) × (slice_get xs k ≡ Some x) × (times n (f y) ≤ times n (f x))) → times n (flat_map f (take count (drop first ys))) ≤ times n (flat_map f (take count (drop first xs)))
+  pub part_fewer : (count first : ℕ) (xs ys : List X)
+      → ((k : ℕ) (y : X) → slice_get ys k ≡ Some y → (x : X) × (slice_get xs k ≡ Some x)
+      × (times n (f y) ≤ times n (f x))) → times n (flat_map f (take count (drop first ys))) ≤ times n
+      (flat_map f (take count (drop first xs)))
   part_fewer count zero xs ys h = front_fewer count xs ys h
   part_fewer zero (suc first) xs ys h = omega arith
   part_fewer (suc count) (suc first) xs [] h = omega arith

@@ -24,7 +24,8 @@ pub both_true : (a b : Bool) → a ≡ true → b ≡ true → (a && b) ≡ true
 both_true a b p q = rw (p, q) refl
 
 -- what is found has what all have
-pub found_has : {X : Type 0} (P : X → Type 0) (p : X → Bool) (xs : List X) (x : X) → AllByRecursion P xs → find p xs ≡ Some x → P x
+pub found_has : {X : Type 0} (P : X → Type 0) (p : X → Bool) (xs : List X) (x : X) → AllByRecursion P xs
+    → find p xs ≡ Some x → P x
 found_has P p [] x all e = absurd (none_is_not_some x e)
 found_has {X} P p (y ∷ ys) x all e = by (p y) e (λ f. found_has P p ys x all.1 f)
   where
@@ -33,7 +34,8 @@ found_has {X} P p (y ∷ ys) x all e = by (p y) e (λ f. found_has P p ys x all.
     by false e later = later e
 
 -- with another element at a place that has the relation to its partner there
-pub each_set : {A B : Type 0} (R : A → B → Type 0) (xs : List A) (ys : List B) (n : ℕ) (x : A) (y : B) → AllZip R xs ys → slice_get xs n ≡ Some x → R x y → AllZip R xs (slice_set ys n y)
+pub each_set : {A B : Type 0} (R : A → B → Type 0) (xs : List A) (ys : List B) (n : ℕ) (x : A) (y : B) → AllZip R xs ys
+    → slice_get xs n ≡ Some x → R x y → AllZip R xs (slice_set ys n y)
 each_set R [] [] n x y all at one = tt
 each_set R [] (b ∷ ys) n x y all at one = absurd all
 each_set R (a ∷ xs) [] n x y all at one = absurd all
@@ -41,20 +43,24 @@ each_set R (a ∷ xs) (b ∷ ys) zero x y all at one = (subst (λ z. R z y) (sym
 each_set R (a ∷ xs) (b ∷ ys) (suc n) x y all at one = (all.0, each_set R xs ys n x y all.1 at one)
 
 -- partners at a place have the relation
-pub each_at : {A B : Type 0} (R : A → B → Type 0) (xs : List A) (ys : List B) (n : ℕ) (x : A) (y : B) → AllZip R xs ys → slice_get xs n ≡ Some x → slice_get ys n ≡ Some y → R x y
+pub each_at : {A B : Type 0} (R : A → B → Type 0) (xs : List A) (ys : List B) (n : ℕ) (x : A) (y : B) → AllZip R xs ys
+    → slice_get xs n ≡ Some x → slice_get ys n ≡ Some y → R x y
 each_at R [] ys n x y all at there = absurd (none_is_not_some x at)
 each_at R (a ∷ xs) [] n x y all at there = absurd all
-each_at {A} {B} R (a ∷ xs) (b ∷ ys) zero x y all at there = subst (λ z. R z y) (some_is a x at) (subst (λ z. R a z) (some_is b y there) all.0)
+each_at {A} {B} R (a ∷ xs) (b ∷ ys) zero x y all at there =
+    subst (λ z. R z y) (some_is a x at) (subst (λ z. R a z) (some_is b y there) all.0)
 each_at R (a ∷ xs) (b ∷ ys) (suc n) x y all at there = each_at R xs ys n x y all.1 at there
 
-pub all_at : {X : Type 0} (P : X → Type 0) (xs : List X) (n : ℕ) (x : X) → AllByRecursion P xs → slice_get xs n ≡ Some x → P x
+pub all_at : {X : Type 0} (P : X → Type 0) (xs : List X) (n : ℕ) (x : X) → AllByRecursion P xs → slice_get xs n ≡ Some x
+    → P x
 all_at P [] n x all at = absurd (none_is_not_some x at)
 all_at P (y ∷ ys) zero x all at = subst P (some_is y x at) all.0
 all_at P (y ∷ ys) (suc n) x all at = all_at P ys n x all.1 at
 
 -- ---- filters
 
-pub all_filter : {X : Type 0} (P : X → Type 0) (p : X → Bool) (xs : List X) → AllByRecursion P xs → AllByRecursion P (filter p xs)
+pub all_filter : {X : Type 0} (P : X → Type 0) (p : X → Bool) (xs : List X) → AllByRecursion P xs
+    → AllByRecursion P (filter p xs)
 all_filter P p [] all = tt
 all_filter {X} P p (x ∷ xs) all = by (p x) (all_filter P p xs all.1)
   where
@@ -62,11 +68,13 @@ all_filter {X} P p (x ∷ xs) all = by (p x) (all_filter P p xs all.1)
     by true rest = (all.0, rest)
     by false rest = rest
 
-pub distinct_filter : {X : Type 0} (e : X → X → Bool) (p : X → Bool) (xs : List X) → IsDistinct e xs → IsDistinct e (filter p xs)
+pub distinct_filter : {X : Type 0} (e : X → X → Bool) (p : X → Bool) (xs : List X) → IsDistinct e xs
+    → IsDistinct e (filter p xs)
 unfolding IsDistinct
 distinct_filter e p [] d = d
 distinct_filter {X} e p (x ∷ xs) d = by (p x) (all_filter (λ y. e x y ≡ false) p xs d.0) (distinct_filter e p xs d.1)
   where
-    by : (b : Bool) → AllByRecursion (λ y. e x y ≡ false) (filter p xs) → IsDistinct e (filter p xs) → IsDistinct e (if b then x ∷ filter p xs else filter p xs)
+    by : (b : Bool) → AllByRecursion (λ y. e x y ≡ false) (filter p xs) → IsDistinct e (filter p xs)
+        → IsDistinct e (if b then x ∷ filter p xs else filter p xs)
     by true head rest = (head, rest)
     by false head rest = rest

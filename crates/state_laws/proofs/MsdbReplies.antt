@@ -24,7 +24,8 @@ use Rattle.state_laws.proofs.Keeping.{with_deferred, with_msdb}
 use Rattle.state_laws.proofs.Lists.{none_is_not_some, some_is}
 use Rattle.state_laws.proofs.Stands.{found_passes}
 
-module _ (defs : Defs) (db : Db) (own : Workspace) (f : FitsWorkspace defs db own) (number : ℕ) (def : MsdbDef) (defined : slice_get defs.msdbs number ≡ Some def) where
+module _ (defs : Defs) (db : Db) (own : Workspace) (f : FitsWorkspace defs db own) (number : ℕ) (def : MsdbDef)
+    (defined : slice_get defs.msdbs number ≡ Some def) where
   -- the answer leaves a workspace that fits
   abbrev Keeps : Replied → Type 0
   Keeps r = FitsWorkspace defs db r.own

@@ -104,7 +104,8 @@ full_is db inserts set (area ∷ areas) next e =
 
 -- ---- one insert
 
-module _ (defs : Defs) (db : Db) (good : IsDbOf defs db) (i : SeqInsert) (fit : FitsSeqInsert defs i) (area : Area) (c : Contains (areas_of defs) area) (takes_it : takes area i ≡ true) where
+module _ (defs : Defs) (db : Db) (good : IsDbOf defs db) (i : SeqInsert) (fit : FitsSeqInsert defs i) (area : Area)
+    (c : Contains (areas_of defs) area) (takes_it : takes area i ≡ true) where
   its : AtArea defs db area
   its = at_area defs db good area c
 

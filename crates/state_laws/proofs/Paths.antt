@@ -44,7 +44,8 @@ is_at : {X : Type 0} (xs : List X) (n : ℕ) (x d : X) → slice_get xs n ≡ So
 is_at xs n x d e = some_is (get_or xs n d) x (sym (slice_get-get_or xs n d (get_below xs n x e)) ∙ e)
 
 -- the sequential type is the second
-module _ (types : List SegDef) (places : HavePlaces 0 types) (type : ℕ) (def : SegDef) (at : slice_get types type ≡ Some def) (sequential : def.sequential ≡ true) where
+module _ (types : List SegDef) (places : HavePlaces 0 types) (type : ℕ) (def : SegDef)
+    (at : slice_get types type ≡ Some def) (sequential : def.sequential ≡ true) where
   second_type : type ≡ 1
   second_type = ((its_place types type def places at).3 sequential).0
 

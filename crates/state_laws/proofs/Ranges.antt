@@ -6,14 +6,16 @@ use Rattle.state_laws.proofs.Lists.{some_is, none_is_not_some}
 
 -- ---- elements at a place
 
-pub get_set_other : {X : Type 0} (xs : List X) (r s : ℕ) (a : X) → ¬ (s ≡ r) → slice_get (slice_set xs r a) s ≡ slice_get xs s
+pub get_set_other : {X : Type 0} (xs : List X) (r s : ℕ) (a : X) → ¬ (s ≡ r)
+    → slice_get (slice_set xs r a) s ≡ slice_get xs s
 get_set_other [] r s a ne = refl
 get_set_other (x ∷ xs) zero zero a ne = absurd (ne refl)
 get_set_other (x ∷ xs) zero (suc s) a ne = refl
 get_set_other (x ∷ xs) (suc r) zero a ne = refl
 get_set_other (x ∷ xs) (suc r) (suc s) a ne = get_set_other xs r s a (λ e. ne (ap (λ (n : ℕ). suc n) e))
 
-pub get_set_same : {X : Type 0} (xs : List X) (r : ℕ) (a x : X) → slice_get xs r ≡ Some x → slice_get (slice_set xs r a) r ≡ Some a
+pub get_set_same : {X : Type 0} (xs : List X) (r : ℕ) (a x : X) → slice_get xs r ≡ Some x
+    → slice_get (slice_set xs r a) r ≡ Some a
 get_set_same [] r a x e = absurd (none_is_not_some x e)
 get_set_same (y ∷ ys) zero a x e = refl
 get_set_same (y ∷ ys) (suc r) a x e = get_set_same ys r a x e
@@ -30,7 +32,8 @@ drop_nothing zero = refl
 drop_nothing (suc n) = refl
 
 module _ {X Y : Type 0} (c : X → Y) where
-  front_mapped : (n : ℕ) (xs : List X) (ys : List Y) → ((k : ℕ) → k < n → slice_get ys k ≡ option_map c (slice_get xs k)) → take n ys ≡ map c (take n xs)
+  front_mapped : (n : ℕ) (xs : List X) (ys : List Y)
+      → ((k : ℕ) → k < n → slice_get ys k ≡ option_map c (slice_get xs k)) → take n ys ≡ map c (take n xs)
   front_mapped zero xs ys h = refl
   front_mapped (suc n) [] [] h = refl
   front_mapped (suc n) [] (y ∷ ys) h = absurd (none_is_not_some y (sym (h 0 (omega arith))))
@@ -40,14 +43,19 @@ module _ {X Y : Type 0} (c : X → Y) where
       ap (λ (z : Y). z ∷ take n ys) (some_is y (c x) (h 0 (omega arith))) ∙ ap (λ (zs : List Y). c x ∷ zs) rest
 
   -- a part whose elements are the images of those of another list
-  pub part_mapped : (n first : ℕ) (xs : List X) (ys : List Y) → ((k : ℕ) → first ≤ k → k < first + n → slice_get ys k ≡ option_map c (slice_get xs k)) → take n (drop first ys) ≡ map c (take n (drop first xs))
+  pub part_mapped : (n first : ℕ) (xs : List X) (ys : List Y)
+      → ((k : ℕ) → first ≤ k → k < first + n → slice_get ys k ≡ option_map c (slice_get xs k))
+      → take n (drop first ys) ≡ map c (take n (drop first xs))
   part_mapped n zero xs ys h = front_mapped n xs ys (λ k low. h k (omega arith) (omega (arith, low)))
   part_mapped n (suc first) [] [] h = front_mapped n [] [] (λ k low. refl)
   part_mapped n (suc first) [] (y ∷ ys) h =
-      part_mapped n first [] ys (λ k low high. h (suc k) (omega (arith, low)) (omega (arith, high))) ∙ ap (λ (zs : List X). map c (take n zs)) (drop_nothing first)
+      part_mapped n first [] ys (λ k low high. h (suc k) (omega (arith, low)) (omega (arith, high))) ∙ ap
+      (λ (zs : List X). map c (take n zs)) (drop_nothing first)
   part_mapped n (suc first) (x ∷ xs) [] h =
-      sym (ap (λ (zs : List Y). take n zs) (drop_nothing first)) ∙ part_mapped n first xs [] (λ k low high. h (suc k) (omega (arith, low)) (omega (arith, high)))
-  part_mapped n (suc first) (x ∷ xs) (y ∷ ys) h = part_mapped n first xs ys (λ k low high. h (suc k) (omega (arith, low)) (omega (arith, high)))
+      sym (ap (λ (zs : List Y). take n zs) (drop_nothing first)) ∙ part_mapped n first xs []
+      (λ k low high. h (suc k) (omega (arith, low)) (omega (arith, high)))
+  part_mapped n (suc first) (x ∷ xs) (y ∷ ys) h = part_mapped n first xs ys
+      (λ k low high. h (suc k) (omega (arith, low)) (omega (arith, high)))
 
 same_mapped : {X : Type 0} (xs : List X) → map (λ x. x) xs ≡ xs
 same_mapped [] = refl
@@ -58,40 +66,50 @@ same_option None = refl
 same_option (Some x) = refl
 
 -- a part with the same elements
-pub part_same : {X : Type 0} (n first : ℕ) (xs ys : List X) → ((k : ℕ) → first ≤ k → k < first + n → slice_get ys k ≡ slice_get xs k) → take n (drop first ys) ≡ take n (drop first xs)
-part_same n first xs ys h = part_mapped (λ x. x) n first xs ys (λ k low high. h k low high ∙ same_option (slice_get xs k)) ∙ same_mapped (take n (drop first xs))
+pub part_same : {X : Type 0} (n first : ℕ) (xs ys : List X)
+    → ((k : ℕ) → first ≤ k → k < first + n → slice_get ys k ≡ slice_get xs k)
+    → take n (drop first ys) ≡ take n (drop first xs)
+part_same n first xs ys h = part_mapped (λ x. x) n first xs ys
+    (λ k low high. h k low high ∙ same_option (slice_get xs k)) ∙ same_mapped (take n (drop first xs))
 
 -- ---- a list with a part changed
 
 -- an element outside
-pub get_outside : {X : Type 0} (first n end : ℕ) (change : X → X) (xs : List X) (a : ℕ) → end ≡ first + n → (a < first) ⊎ (end ≤ a)
+pub get_outside : {X : Type 0} (first n end : ℕ) (change : X → X) (xs : List X) (a : ℕ) → end ≡ first + n → (a < first)
+    ⊎ (end ≤ a)
     → slice_get (take first xs ++ map change (take n (drop first xs)) ++ drop end xs) a ≡ slice_get xs a
 get_outside zero n end change xs a is (inl below) = absurd (omega (arith, below))
 get_outside {X} zero n end change xs a is (inr behind) = behind_those n end xs a (omega (arith, is)) behind
   where
-    behind_those : (n end : ℕ) (xs : List X) (a : ℕ) → end ≡ n → end ≤ a → slice_get (map change (take n xs) ++ drop end xs) a ≡ slice_get xs a
+    behind_those : (n end : ℕ) (xs : List X) (a : ℕ) → end ≡ n → end ≤ a
+        → slice_get (map change (take n xs) ++ drop end xs) a ≡ slice_get xs a
     behind_those zero zero xs a is le = refl
     behind_those zero (suc end) xs a is le = absurd (omega (arith, is))
     behind_those (suc n) zero xs a is le = absurd (omega (arith, is))
     behind_those (suc n) (suc end) [] a is le = refl
     behind_those (suc n) (suc end) (x ∷ xs) zero is le = absurd (omega (arith, le))
-    behind_those (suc n) (suc end) (x ∷ xs) (suc a) is le = behind_those n end xs a (omega (arith, is)) (omega (arith, le))
+    behind_those (suc n) (suc end) (x ∷ xs) (suc a) is le =
+        behind_those n end xs a (omega (arith, is)) (omega (arith, le))
 get_outside (suc first) n zero change xs a is h = absurd (omega (arith, is))
 get_outside (suc first) zero (suc end) change [] a is h = refl
 get_outside (suc first) (suc n) (suc end) change [] a is h = refl
 get_outside (suc first) n (suc end) change (x ∷ xs) zero is h = refl
-get_outside (suc first) n (suc end) change (x ∷ xs) (suc a) is h = get_outside first n end change xs a (omega (arith, is)) (less h)
+get_outside (suc first) n (suc end) change (x ∷ xs) (suc a) is h =
+    get_outside first n end change xs a (omega (arith, is)) (less h)
   where
     less : (suc a < suc first) ⊎ (suc end ≤ suc a) → (a < first) ⊎ (end ≤ a)
     less (inl below) = inl (omega (arith, below))
     less (inr behind) = inr (omega (arith, behind))
 
 -- an element inside
-pub get_inside : {X : Type 0} (first n end : ℕ) (change : X → X) (xs : List X) (a : ℕ) → end ≡ first + n → first ≤ a → a < end
-    → slice_get (take first xs ++ map change (take n (drop first xs)) ++ drop end xs) a ≡ option_map change (slice_get xs a)
+pub get_inside : {X : Type 0} (first n end : ℕ) (change : X → X) (xs : List X) (a : ℕ) → end ≡ first + n → first ≤ a
+    → a < end
+    → slice_get (take first xs ++ map change (take n (drop first xs)) ++ drop end xs) a ≡ option_map change
+    (slice_get xs a)
 get_inside {X} zero n end change xs a is low high = among n end xs a (omega (arith, is)) high
   where
-    among : (n end : ℕ) (xs : List X) (a : ℕ) → end ≡ n → a < end → slice_get (map change (take n xs) ++ drop end xs) a ≡ option_map change (slice_get xs a)
+    among : (n end : ℕ) (xs : List X) (a : ℕ) → end ≡ n → a < end
+        → slice_get (map change (take n xs) ++ drop end xs) a ≡ option_map change (slice_get xs a)
     among n zero xs a is less = absurd (omega (arith, less))
     among zero (suc end) xs a is less = absurd (omega (arith, is))
     among (suc n) (suc end) [] a is less = refl
@@ -101,10 +119,12 @@ get_inside (suc first) n zero change xs a is low high = absurd (omega (arith, is
 get_inside (suc first) zero (suc end) change [] a is low high = refl
 get_inside (suc first) (suc n) (suc end) change [] a is low high = refl
 get_inside (suc first) n (suc end) change (x ∷ xs) zero is low high = absurd (omega (arith, low))
-get_inside (suc first) n (suc end) change (x ∷ xs) (suc a) is low high = get_inside first n end change xs a (omega (arith, is)) (omega (arith, low)) (omega (arith, high))
+get_inside (suc first) n (suc end) change (x ∷ xs) (suc a) is low high =
+    get_inside first n end change xs a (omega (arith, is)) (omega (arith, low)) (omega (arith, high))
 
 -- the length
-pub length_changed : {X : Type 0} (first n end : ℕ) (change : X → X) (xs : List X) → end ≡ first + n → length (take first xs ++ map change (take n (drop first xs)) ++ drop end xs) ≡ length xs
+pub length_changed : {X : Type 0} (first n end : ℕ) (change : X → X) (xs : List X) → end ≡ first + n
+    → length (take first xs ++ map change (take n (drop first xs)) ++ drop end xs) ≡ length xs
 length_changed first n end change xs is =
     let a = length-append (take first xs) (map change (take n (drop first xs))) in
     let b = length-append (take first xs ++ map change (take n (drop first xs))) (drop end xs) in

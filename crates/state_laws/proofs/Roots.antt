@@ -18,15 +18,18 @@ use Rattle.state_laws.proofs.Ascending.{is_same}
 use Rattle.state_laws.proofs.Lists.{both_true, first_true, none_is_not_some, second_true}
 use Rattle.state_laws.proofs.Nodes.{IsFree, IsGood, below_good, change_good, drop_good, each_contained, empty_rows, fits_later, flat_map_contains, from_all, map_contains, none_found, not_second, other_key, put_good, step_is, to_all, is_number}
 
-both_all : {X : Type 0} (p q : X → Bool) (xs : List X) → AllByRecursion (λ x. p x ≡ true) xs → AllByRecursion (λ x. q x ≡ true) xs → AllByRecursion (λ x. (p x && q x) ≡ true) xs
+both_all : {X : Type 0} (p q : X → Bool) (xs : List X) → AllByRecursion (λ x. p x ≡ true) xs
+    → AllByRecursion (λ x. q x ≡ true) xs → AllByRecursion (λ x. (p x && q x) ≡ true) xs
 both_all p q [] a b = tt
 both_all p q (x ∷ xs) a b = (both_true (p x) (q x) a.0 b.0, both_all p q xs a.1 b.1)
 
-first_all : {X : Type 0} (p q : X → Bool) (xs : List X) → AllByRecursion (λ x. (p x && q x) ≡ true) xs → AllByRecursion (λ x. p x ≡ true) xs
+first_all : {X : Type 0} (p q : X → Bool) (xs : List X) → AllByRecursion (λ x. (p x && q x) ≡ true) xs
+    → AllByRecursion (λ x. p x ≡ true) xs
 first_all p q [] a = tt
 first_all p q (x ∷ xs) a = (first_true (p x) (q x) a.0, first_all p q xs a.1)
 
-second_all : {X : Type 0} (p q : X → Bool) (xs : List X) → AllByRecursion (λ x. (p x && q x) ≡ true) xs → AllByRecursion (λ x. q x ≡ true) xs
+second_all : {X : Type 0} (p q : X → Bool) (xs : List X) → AllByRecursion (λ x. (p x && q x) ≡ true) xs
+    → AllByRecursion (λ x. q x ≡ true) xs
 second_all p q [] a = tt
 second_all p q (x ∷ xs) a = (second_true (p x) (q x) a.0, second_all p q xs a.1)
 
@@ -49,21 +52,26 @@ module _ (def : DedbDef) (anchor : ℕ) (ends : AreaEnds) where
       let a = list_all (is_root def.segments ends) roots in
       let b = ascend (map (root_key def.segments) roots) in
       let c = list_all sent roots in
-      let ab = first_true (a && b) c e in
-      (both_all (is_root def.segments ends) sent roots (to_all (is_root def.segments ends) roots (first_true a b ab)) (to_all sent roots (second_true (a && b) c e)), second_true a b ab)
+      let ab = first_true (a && b) c e in (
+        both_all (is_root def.segments ends) sent roots (to_all (is_root def.segments ends) roots (first_true a b ab))
+            (to_all sent roots (second_true (a && b) c e)),
+        second_true a b ab,
+      )
 
   pub from_good : (roots : List Root) → AreGood roots → is_anchor def anchor ends roots ≡ true
   from_good roots good =
       let a = list_all (is_root def.segments ends) roots in
       let b = ascend (map (root_key def.segments) roots) in
       let c = list_all sent roots in
-      both_true (a && b) c (both_true a b (from_all (is_root def.segments ends) roots (first_all (is_root def.segments ends) sent roots good.0)) good.1)
+      both_true (a && b) c (both_true a b (from_all (is_root def.segments ends) roots
+      (first_all (is_root def.segments ends) sent roots good.0)) good.1)
       (from_all sent roots (second_all (is_root def.segments ends) sent roots good.0))
 
   -- the parts of a root
   pub record IsWhole (root : Root) : Type 0 where
     pub long : has_length def.segments 0 root.bytes ≡ true
-    pub rows : are_rows def.segments (child_types def.segments 0) (map (map (seen_as def.segments)) root.children) ≡ true
+    pub rows : are_rows def.segments (child_types def.segments 0) (map (map (seen_as def.segments)) root.children) ≡
+        true
     pub newest : are_newest_first ends.begin ends.end root.seqs ≡ true
     pub lengths : have_lengths def.segments root.seqs ≡ true
     pub here : sent root ≡ true
@@ -77,7 +85,14 @@ module _ (def : DedbDef) (anchor : ℕ) (ends : AreaEnds) where
       let abcd = first_true (((a && b) && c) && d) (sent root) e in
       let abc = first_true ((a && b) && c) d abcd in
       let ab = first_true (a && b) c abc in
-      record { long = first_true a b ab; rows = second_true a b ab; newest = second_true (a && b) c abc; lengths = second_true ((a && b) && c) d abcd; here = second_true (((a && b) && c) && d) (sent root) e }
+      record {
+        long = first_true a b ab;
+        rows = second_true a b ab;
+        newest = second_true (a && b) c abc;
+        lengths =
+            second_true ((a && b) && c) d abcd;
+        here = second_true (((a && b) && c) && d) (sent root) e;
+      }
 
   pub of_parts : (root : Root) → IsWhole root → passes root ≡ true
   of_parts root k =
@@ -85,46 +100,64 @@ module _ (def : DedbDef) (anchor : ℕ) (ends : AreaEnds) where
       let b = are_rows def.segments (child_types def.segments 0) (map (map (seen_as def.segments)) root.children) in
       let c = are_newest_first ends.begin ends.end root.seqs in
       let d = have_lengths def.segments root.seqs in
-      both_true (((a && b) && c) && d) (sent root) (both_true ((a && b) && c) d (both_true (a && b) c (both_true a b k.long k.rows) k.newest) k.lengths) k.here
+      both_true (((a && b) && c) && d) (sent root) (both_true ((a && b) && c) d
+      (both_true (a && b) c (both_true a b k.long k.rows) k.newest) k.lengths) k.here
 
   -- ---- what is inserted isn't there
 
   -- what a root shows has another path
   abbrev IsFreeAt : Edit → List Root → List Step → Type 0
-  IsFreeAt (Inserts bytes) roots path = (occurrence : Occurrence) → Contains (sequence def.segments roots) occurrence → same_path occurrence.path path ≡ false
+  IsFreeAt (Inserts bytes) roots path = (occurrence : Occurrence) → Contains (sequence def.segments roots) occurrence
+      → same_path occurrence.path path ≡ false
   IsFreeAt (Replaces bytes) roots path = Unit {0}
   IsFreeAt Deletes roots path = Unit {0}
 
-  free_at : (edit : Edit) (roots : List Root) (path : List Step) → IsNew def anchor roots path edit → IsFreeAt edit roots path
+  free_at : (edit : Edit) (roots : List Root) (path : List Step) → IsNew def anchor roots path edit
+      → IsFreeAt edit roots path
   free_at (Inserts bytes) roots path new = λ occurrence c.
-      none_found (λ (s : Occurrence). same_path s.path path) (sequence def.segments roots) occurrence (found_nothing (find (λ (s : Occurrence). same_path s.path path) (sequence def.segments roots)) new.0) c
+      none_found (λ (s : Occurrence). same_path s.path path) (sequence def.segments roots) occurrence
+      (found_nothing (find (λ (s : Occurrence). same_path s.path path) (sequence def.segments roots)) new.0) c
   free_at (Replaces bytes) roots path new = tt
   free_at Deletes roots path new = tt
 
-  others : (roots : List Root) (s : Step) → s.segment ≡ 0 → s.serial ≡ 0 → ((occurrence : Occurrence) → Contains (sequence def.segments roots) occurrence → same_path occurrence.path (s ∷ []) ≡ false)
+  others : (roots : List Root) (s : Step) → s.segment ≡ 0 → s.serial ≡ 0
+      → ((occurrence : Occurrence) → Contains (sequence def.segments roots) occurrence
+      → same_path occurrence.path (s ∷ []) ≡ false)
       → AllByRecursion (λ (y : Root). same_text (root_key def.segments y) s.key ≡ false) roots
-  others roots s kind serial free = each_contained (λ (y : Root). same_text (root_key def.segments y) s.key ≡ false) roots (λ r c.
+  others roots s kind serial free = each_contained (λ (y : Root). same_text (root_key def.segments y) s.key ≡ false)
+      roots (λ r c.
       let first : Occurrence = one_down (direct 0 (root_key def.segments r)) (at_end r.bytes) in
-      other_key def.segments 0 (root_key def.segments r) s (sym kind) serial (free first (flat_map_contains (root_order def.segments) roots r first c (contains_first _ _))))
+      other_key def.segments 0 (root_key def.segments r) s (sym kind) serial
+      (free first (flat_map_contains (root_order def.segments) roots r first c (contains_first _ _))))
 
-  free_root : (edit : Edit) (roots : List Root) (s t : Step) (ts : List Step) (r : Root) → s.segment ≡ 0 → s.serial ≡ 0 → Contains roots r → root_key def.segments r ≡ s.key → IsFreeAt edit roots (s ∷ t ∷ ts) → IsFree def.segments edit 0 r.children (t ∷ ts)
+  free_root : (edit : Edit) (roots : List Root) (s t : Step) (ts : List Step) (r : Root) → s.segment ≡ 0 → s.serial ≡ 0
+      → Contains roots r → root_key def.segments r ≡ s.key → IsFreeAt edit roots (s ∷ t ∷ ts)
+      → IsFree def.segments edit 0 r.children (t ∷ ts)
   free_root (Inserts bytes) roots s t ts r kind serial c is free = λ occurrence d.
       let step : Step = direct 0 (root_key def.segments r) in
-      let below : List Occurrence = rows_in_order (child_types def.segments 0) (map (map (node_order def.segments)) r.children) in
+      let below : List Occurrence = rows_in_order (child_types def.segments 0)
+      (map (map (node_order def.segments)) r.children) in
       let front : List Occurrence = at_end r.bytes ∷ sequentials def.segments r.seqs in
-      let shown : Contains (root_order def.segments r) (one_down step occurrence) = map_contains (one_down step) (front ++ below) occurrence (Contains-append_right front below occurrence d) in
+      let shown : Contains (root_order def.segments r) (one_down step occurrence) =
+      map_contains (one_down step) (front ++ below) occurrence (Contains-append_right front below occurrence d) in
       not_second (same_step step s) (same_path occurrence.path (t ∷ ts))
-      (step_is def.segments 0 (root_key def.segments r) s (sym kind) serial (subst (λ (k : List ℕ). same_text k s.key ≡ true) (sym is) (is_same s.key)))
-      (free (one_down step occurrence) (flat_map_contains (root_order def.segments) roots r (one_down step occurrence) c shown))
+      (step_is def.segments 0 (root_key def.segments r) s (sym kind) serial
+      (subst (λ (k : List ℕ). same_text k s.key ≡ true) (sym is) (is_same s.key)))
+      (free (one_down step occurrence) (flat_map_contains (root_order def.segments) roots r (one_down step occurrence) c
+      shown))
   free_root (Replaces bytes) roots s t ts r kind serial c is free = tt
   free_root Deletes roots s t ts r kind serial c is free = tt
 
   -- ---- edits
 
-  root_edited : (edit : Edit) (roots : List Root) (s : Step) → s.segment ≡ 0 → s.serial ≡ 0 → FitsBytes def.segments (s ∷ []) edit → IsNew def anchor roots (s ∷ []) edit → AreGood roots → AreGood (edited def.segments roots (s ∷ []) edit)
+  root_edited : (edit : Edit) (roots : List Root) (s : Step) → s.segment ≡ 0 → s.serial ≡ 0
+      → FitsBytes def.segments (s ∷ []) edit → IsNew def anchor roots (s ∷ []) edit → AreGood roots
+      → AreGood (edited def.segments roots (s ∷ []) edit)
   root_edited (Inserts bytes) roots s kind serial fits new good =
-      let long : has_length def.segments 0 bytes ≡ true = subst (λ (t : ℕ). has_length def.segments t bytes ≡ true) kind fits.0 in
-      let key : key_in def.segments 0 bytes ≡ s.key = subst (λ (t : ℕ). key_in def.segments t bytes ≡ s.key) kind fits.1 in
+      let long : has_length def.segments 0 bytes ≡ true =
+      subst (λ (t : ℕ). has_length def.segments t bytes ≡ true) kind fits.0 in
+      let key : key_in def.segments 0 bytes ≡ s.key =
+      subst (λ (t : ℕ). key_in def.segments t bytes ≡ s.key) kind fits.1 in
       let at : anchor_of def (key_in def.segments 0 bytes) ≡ anchor = ap (anchor_of def) key ∙ new.1 in
       put_good (root_key def.segments) passes (new_root def.segments bytes) roots
       (of_parts (new_root def.segments bytes) (record {
@@ -132,13 +165,17 @@ module _ (def : DedbDef) (anchor : ℕ) (ends : AreaEnds) where
         rows = empty_rows def.segments (child_types def.segments 0);
         newest = refl;
         lengths = refl;
-        here = subst (λ (a : ℕ). (anchor_of def (key_in def.segments 0 bytes) == a) ≡ true) at (is_number def.segments (anchor_of def (key_in def.segments 0 bytes)));
+        here = subst (λ (a : ℕ). (anchor_of def (key_in def.segments 0 bytes) == a) ≡ true) at
+            (is_number def.segments (anchor_of def (key_in def.segments 0 bytes)));
       }))
-      (subst (λ (k : List ℕ). AllByRecursion (λ (y : Root). same_text (root_key def.segments y) k ≡ false) roots) (sym key) (others roots s kind serial (free_at (Inserts bytes) roots (s ∷ []) new)))
+      (subst (λ (k : List ℕ). AllByRecursion (λ (y : Root). same_text (root_key def.segments y) k ≡ false) roots)
+      (sym key) (others roots s kind serial (free_at (Inserts bytes) roots (s ∷ []) new)))
       good
   root_edited (Replaces bytes) roots s kind serial fits new good =
-      let long : has_length def.segments 0 bytes ≡ true = subst (λ (t : ℕ). has_length def.segments t bytes ≡ true) kind fits.0 in
-      let key : key_in def.segments 0 bytes ≡ s.key = subst (λ (t : ℕ). key_in def.segments t bytes ≡ s.key) kind fits.1 in
+      let long : has_length def.segments 0 bytes ≡ true =
+      subst (λ (t : ℕ). has_length def.segments t bytes ≡ true) kind fits.0 in
+      let key : key_in def.segments 0 bytes ≡ s.key =
+      subst (λ (t : ℕ). key_in def.segments t bytes ≡ s.key) kind fits.1 in
       change_good (root_key def.segments) passes s.key (λ (r : Root). record r { bytes = bytes }) roots
       (each_contained _ roots (λ r c passing is.
       let k = whole r passing in (
@@ -153,17 +190,22 @@ module _ (def : DedbDef) (anchor : ℕ) (ends : AreaEnds) where
       ))) good
   root_edited Deletes roots s kind serial fits new good = drop_good (root_key def.segments) passes s.key roots good
 
-  pub edit_good : (edit : Edit) (roots : List Root) (path : List Step) → FitsEdit def anchor roots path edit → AreGood roots → AreGood (edited def.segments roots path edit)
+  pub edit_good : (edit : Edit) (roots : List Root) (path : List Step) → FitsEdit def anchor roots path edit
+      → AreGood roots → AreGood (edited def.segments roots path edit)
   edit_good edit roots [] fits good = good
-  edit_good edit roots (s ∷ []) fits good = root_edited edit roots s fits.direct.0 fits.direct.1.0 fits.bytes_fit fits.new good
+  edit_good edit roots (s ∷ []) fits good = root_edited edit roots s fits.direct.0 fits.direct.1.0 fits.bytes_fit
+      fits.new good
   edit_good edit roots (s ∷ t ∷ ts) fits good =
       let free = free_at edit roots (s ∷ t ∷ ts) fits.new in
-      change_good (root_key def.segments) passes s.key (λ (r : Root). record r { children = below_edited def.segments edit 0 (t ∷ ts) r.children }) roots
+      change_good (root_key def.segments) passes s.key
+      (λ (r : Root). record r { children = below_edited def.segments edit 0 (t ∷ ts) r.children }) roots
       (each_contained _ roots (λ r c passing is.
       let k = whole r passing in (
         of_parts (record r { children = below_edited def.segments edit 0 (t ∷ ts) r.children }) (record {
           long = k.long;
-          rows = below_good def.segments edit (t ∷ ts) 0 r.children fits.direct.1.1 (fits_later def.segments edit s t ts fits.bytes_fit) (free_root edit roots s t ts r fits.direct.0 fits.direct.1.0 c is free) k.rows;
+          rows = below_good def.segments edit (t ∷ ts) 0 r.children fits.direct.1.1
+              (fits_later def.segments edit s t ts fits.bytes_fit)
+              (free_root edit roots s t ts r fits.direct.0 fits.direct.1.0 c is free) k.rows;
           newest = k.newest;
           lengths = k.lengths;
           here = k.here;
@@ -171,5 +213,9 @@ module _ (def : DedbDef) (anchor : ℕ) (ends : AreaEnds) where
         refl,
       ))) good
 
-pub edited_good : (def : DedbDef) (anchor : ℕ) (ends : AreaEnds) (roots : List Root) (path : List Step) (edit : Edit) → is_anchor def anchor ends roots ≡ true → FitsEdit def anchor roots path edit → is_anchor def anchor ends (edited def.segments roots path edit) ≡ true
-edited_good def anchor ends roots path edit e fits = from_good def anchor ends (edited def.segments roots path edit) (edit_good def anchor ends edit roots path fits (to_good def anchor ends roots e))
+pub edited_good : (def : DedbDef) (anchor : ℕ) (ends : AreaEnds) (roots : List Root) (path : List Step) (edit : Edit)
+    → is_anchor def anchor ends roots ≡ true → FitsEdit def anchor roots path edit
+    → is_anchor def anchor ends (edited def.segments roots path edit) ≡ true
+edited_good def anchor ends roots path edit e fits =
+    from_good def anchor ends (edited def.segments roots path edit)
+    (edit_good def anchor ends edit roots path fits (to_good def anchor ends roots e))

@@ -159,7 +159,10 @@ pub record AreSeen (def : DedbDef) (dedb : Dedb) (anchor : ℕ) (roots : List Ro
   pub fit : FitsChange def dedb anchor roots
   pub may_stand : MayStand def anchor roots
 
-module _ (defs : Defs) (db : Db) (own : Workspace) (changes : AllByRecursion (FitsAnchorChange defs db) own.changes) (stand : AllByRecursion (ChangeMayStand defs) own.changes) (number : ℕ) (def : DedbDef) (dedb : Dedb) (defined : slice_get defs.dedbs number ≡ Some def) (now : slice_get db.dedbs number ≡ Some dedb) (good : IsDedbOf def dedb) (anchor : ℕ) where
+module _ (defs : Defs) (db : Db) (own : Workspace) (changes : AllByRecursion (FitsAnchorChange defs db) own.changes)
+    (stand : AllByRecursion (ChangeMayStand defs) own.changes) (number : ℕ) (def : DedbDef) (dedb : Dedb)
+    (defined : slice_get defs.dedbs number ≡ Some def) (now : slice_get db.dedbs number ≡ Some dedb)
+    (good : IsDedbOf def dedb) (anchor : ℕ) where
   seen_at : (c : AnchorChange) → is_change_of def number anchor c ≡ true → FitsAnchorChange defs db c
       → ChangeMayStand defs c → AreSeen def dedb anchor c.roots
   seen_at c e fit may =

@@ -27,12 +27,14 @@ use Rattle.state_laws.proofs.Lists.{each_set, each_at, all_at, found_has, none_i
 
 big_length : (k n : ℕ) → length (big_endian k n) ≡ k
 big_length zero n = refl
-big_length (suc k) n = let a = length-append (big_endian k (n / 256)) (n % 256 ∷ []) in let b = big_length k (n / 256) in omega (arith, a, b)
+big_length (suc k) n = let a = length-append (big_endian k (n / 256)) (n % 256 ∷ []) in
+    let b = big_length k (n / 256) in omega (arith, a, b)
 
 pairs_length : (k n : ℕ) → length (pairs k n) ≡ k
 pairs_length zero n = refl
 pairs_length (suc k) n =
-    let a = length-append (pairs k (n / 100)) (((n / 10) % 10 * 16 + n % 10) ∷ []) in let b = pairs_length k (n / 100) in omega (arith, a, b)
+    let a = length-append (pairs k (n / 100)) (((n / 10) % 10 * 16 + n % 10) ∷ []) in
+    let b = pairs_length k (n / 100) in omega (arith, a, b)
 
 packed_length : (size n sign : ℕ) → 1 ≤ size → length (packed_form size n sign) ≡ size
 packed_length size n sign some =
@@ -45,20 +47,25 @@ under_test : (b : Bool) (x bytes : List ℕ) → (if b then Some x else None) �
 under_test true x bytes e = some_is x bytes e
 under_test false x bytes e = absurd (none_is_not_some bytes e)
 
-form_length : (kind : FieldKind) (size : ℕ) (n : ℤ) (bytes : List ℕ) → is_length_of kind size ≡ true → form_of kind size n ≡ Some bytes → length bytes ≡ size
+form_length : (kind : FieldKind) (size : ℕ) (n : ℤ) (bytes : List ℕ) → is_length_of kind size ≡ true
+    → form_of kind size n ≡ Some bytes → length bytes ≡ size
 form_length C size n bytes fits e = absurd (none_is_not_some bytes e)
 form_length X size (pos n) bytes fits e = sym (ap length (under_test _ (big_endian size n) bytes e)) ∙ big_length size n
 form_length X size (negsuc n) bytes fits e = absurd (none_is_not_some bytes e)
-form_length H size n bytes fits e = let two : size ≡ 2 = grind (arith, nat_tests) in sym (ap length (under_test _ _ bytes e)) ∙ sym two
-form_length F size n bytes fits e = let four : size ≡ 4 = grind (arith, nat_tests) in sym (ap length (under_test _ _ bytes e)) ∙ sym four
+form_length H size n bytes fits e = let two : size ≡ 2 = grind (arith, nat_tests) in
+    sym (ap length (under_test _ _ bytes e)) ∙ sym two
+form_length F size n bytes fits e = let four : size ≡ 4 = grind (arith, nat_tests) in
+    sym (ap length (under_test _ _ bytes e)) ∙ sym four
 form_length P size n bytes fits e =
     let some : 1 ≤ size = grind (arith, nat_tests) in
     sym (ap length (under_test _ _ bytes e)) ∙ packed_length size _ _ some
 
-bytes_length : (kind : FieldKind) (size : ℕ) (n : ℤ) (bytes : List ℕ) → bytes_of kind size n ≡ Some bytes → length bytes ≡ size
+bytes_length : (kind : FieldKind) (size : ℕ) (n : ℤ) (bytes : List ℕ) → bytes_of kind size n ≡ Some bytes
+    → length bytes ≡ size
 bytes_length kind size n bytes e = by (is_length_of kind size) refl e
   where
-    by : (b : Bool) → is_length_of kind size ≡ b → (if b then form_of kind size n else None) ≡ Some bytes → length bytes ≡ size
+    by : (b : Bool) → is_length_of kind size ≡ b → (if b then form_of kind size n else None) ≡ Some bytes
+        → length bytes ≡ size
     by true fits e = form_length kind size n bytes fits e
     by false fits e = absurd (none_is_not_some bytes e)
 
@@ -71,47 +78,58 @@ padded_length n text short =
 -- ---- field search arguments
 
 -- what a good change puts into a field has its length
-changed_length : (field : FieldDef) (op : ℕ) (old operand bytes : List ℕ) → suits field operand ≡ true → changed field op old operand ≡ Some bytes → length bytes ≡ field.length
+changed_length : (field : FieldDef) (op : ℕ) (old operand bytes : List ℕ) → suits field operand ≡ true
+    → changed field op old operand ≡ Some bytes → length bytes ≡ field.length
 changed_length field op old operand bytes good e = by (is_text field.kind) good e
   where
-    numbers : (o : Option ℤ) → option_and_then (bytes_of field.kind field.length) o ≡ Some bytes → length bytes ≡ field.length
+    numbers : (o : Option ℤ) → option_and_then (bytes_of field.kind field.length) o ≡ Some bytes
+        → length bytes ≡ field.length
     numbers None e = absurd (none_is_not_some bytes e)
     numbers (Some n) e = bytes_length field.kind field.length n bytes e
 
     by : (b : Bool) → (if b then nat_le (length operand) field.length else not (is_none (number_in operand))) ≡ true
-        → (if b then Some (padded field.length operand) else option_and_then (bytes_of field.kind field.length) (new_number field op old operand)) ≡ Some bytes
+        → (if b then Some (padded field.length operand) else option_and_then (bytes_of field.kind field.length)
+        (new_number field op old operand)) ≡ Some bytes
         → length bytes ≡ field.length
     by true short e =
         let le : length operand ≤ field.length = grind (arith, nat_tests) in
         sym (ap length (some_is (padded field.length operand) bytes e)) ∙ padded_length field.length operand le
     by false short e = numbers (new_number field op old operand) e
 
-third_letter : (a b c : Bool) (others : ℕ) → (if a then 65 else (if b then 67 else (if not c then 66 else others))) ≡ 32 → c ≡ true
+third_letter : (a b c : Bool) (others : ℕ) → (if a then 65 else (if b then 67 else (if not c then 66 else others))) ≡ 32
+    → c ≡ true
 third_letter true b c others e = cc
 third_letter false true c others e = cc
 third_letter false false true others e = refl
 third_letter false false false others e = cc
 
 -- the operand of a good argument suits its field
-good_suits : (field : FieldDef) (op : ℕ) (operand bytes : List ℕ) → letter_on field op operand bytes ≡ 32 → suits field operand ≡ true
-good_suits field op operand bytes e = third_letter (is_sum op && is_text field.kind) (is_change op && is_key field) (suits field operand) _ e
+good_suits : (field : FieldDef) (op : ℕ) (operand bytes : List ℕ) → letter_on field op operand bytes ≡ 32
+    → suits field operand ≡ true
+good_suits field op operand bytes e = third_letter (is_sum op && is_text field.kind) (is_change op && is_key field)
+    (suits field operand) _ e
 
 stand_below : (fields : List FieldDef) (at end : ℕ) → StandFrom at fields end → at ≤ end
 stand_below [] at end h = omega (arith, h)
 stand_below (f ∷ fs) at end h = omega (arith, stand_below fs (at + f.length) end h.2)
 
-within_first : (b : Bool) (first field : FieldDef) (others : Option FieldDef) (at end : ℕ) → first.at ≡ at → at + first.length ≤ end → (others ≡ Some field → field.at + field.length ≤ end)
+within_first : (b : Bool) (first field : FieldDef) (others : Option FieldDef) (at end : ℕ) → first.at ≡ at
+    → at + first.length ≤ end → (others ≡ Some field → field.at + field.length ≤ end)
     → (if b then Some first else others) ≡ Some field → field.at + field.length ≤ end
-within_first true first field others at end is le later found = subst (λ (f : FieldDef). f.at + f.length ≤ end) (some_is first field found) (omega (arith, is, le))
+within_first true first field others at end is le later found =
+    subst (λ (f : FieldDef). f.at + f.length ≤ end) (some_is first field found) (omega (arith, is, le))
 within_first false first field others at end is le later found = later found
 
 -- a field ends within its segment
-field_within : (fields : List FieldDef) (at end : ℕ) (name : List ℕ) (field : FieldDef) → StandFrom at fields end → field_of fields name ≡ Some field → field.at + field.length ≤ end
+field_within : (fields : List FieldDef) (at end : ℕ) (name : List ℕ) (field : FieldDef) → StandFrom at fields end
+    → field_of fields name ≡ Some field → field.at + field.length ≤ end
 field_within [] at end name field h found = absurd (none_is_not_some field found)
 field_within (f ∷ fs) at end name field h found =
-    within_first (same_text f.name.0 name) f field (field_of fs name) at end h.0 (stand_below fs (at + f.length) end h.2) (field_within fs (at + f.length) end name field h.2) found
+    within_first (same_text f.name.0 name) f field (field_of fs name) at end h.0
+    (stand_below fs (at + f.length) end h.2) (field_within fs (at + f.length) end name field h.2) found
 
-with_field_length : (field : FieldDef) (bytes segment : List ℕ) → length bytes ≡ field.length → field.at + field.length ≤ length segment → length (with_field field bytes segment) ≡ length segment
+with_field_length : (field : FieldDef) (bytes segment : List ℕ) → length bytes ≡ field.length
+    → field.at + field.length ≤ length segment → length (with_field field bytes segment) ≡ length segment
 with_field_length field bytes segment is le =
     let a = length-append (take field.at segment) bytes in
     let b = length-append (take field.at segment ++ bytes) (drop (field.at + length bytes) segment) in
@@ -120,59 +138,75 @@ with_field_length field bytes segment is le =
     omega (arith, a, b, c, d, is, le)
 
 module _ (def : MsdbDef) (end : ℕ) (stands : StandFrom 0 def.fields end) where
-  letter_is : (v c : Bool) (o : Option FieldDef) (field : FieldDef) (f : FieldDef → ℕ) → c ≡ true → o ≡ Some field → (if v || c then option_map_or f o 72 else 65) ≡ 32 → f field ≡ 32
-  letter_is v c o field f is at e = by v (subst (λ (d : Bool). (if v || d then option_map_or f (Some field) 72 else 65) ≡ 32) is (subst (λ (p : Option FieldDef). (if v || c then option_map_or f p 72 else 65) ≡ 32) at e))
+  letter_is : (v c : Bool) (o : Option FieldDef) (field : FieldDef) (f : FieldDef → ℕ) → c ≡ true → o ≡ Some field
+      → (if v || c then option_map_or f o 72 else 65) ≡ 32 → f field ≡ 32
+  letter_is v c o field f is at e = by v (subst (λ (d : Bool). (if v || d then option_map_or f (Some field) 72 else 65)
+      ≡ 32) is (subst (λ (p : Option FieldDef). (if v || c then option_map_or f p 72 else 65) ≡ 32) at e))
     where
       by : (v : Bool) → (if v || true then f field else 65) ≡ 32 → f field ≡ 32
       by true e = e
       by false e = e
 
   -- a good change leaves the length
-  change_length : (fsa : Fsa) (segment : List ℕ) → length segment ≡ end → letter_of def fsa segment ≡ 32 → length (changed_by def fsa segment) ≡ end
+  change_length : (fsa : Fsa) (segment : List ℕ) → length segment ≡ end → letter_of def fsa segment ≡ 32
+      → length (changed_by def fsa segment) ≡ end
   change_length fsa segment long good = by (is_change fsa.op) refl (field_of def.fields fsa.field) refl
     where
-      put : (field : FieldDef) → field_of def.fields fsa.field ≡ Some field → suits field fsa.operand ≡ true → (o : Option (List ℕ)) → changed field fsa.op (field_bytes field segment) fsa.operand ≡ o
+      put : (field : FieldDef) → field_of def.fields fsa.field ≡ Some field → suits field fsa.operand ≡ true
+          → (o : Option (List ℕ)) → changed field fsa.op (field_bytes field segment) fsa.operand ≡ o
           → length (option_map_or (λ bytes. with_field field bytes segment) o segment) ≡ end
       put field of good None is = long
       put field of good (Some bytes) is =
           let within = field_within def.fields 0 end fsa.field field stands of in
-          with_field_length field bytes segment (changed_length field fsa.op (field_bytes field segment) fsa.operand bytes good is) (omega (arith, within, long)) ∙ long
+          with_field_length field bytes segment (changed_length field fsa.op (field_bytes field segment) fsa.operand
+          bytes good is) (omega (arith, within, long)) ∙ long
 
       by : (b : Bool) → is_change fsa.op ≡ b → (o : Option FieldDef) → field_of def.fields fsa.field ≡ o
-          → length (if b then option_map_or (λ (field : FieldDef). option_map_or (λ bytes. with_field field bytes segment) (changed field fsa.op (field_bytes field segment) fsa.operand) segment) o segment else segment) ≡ end
+          → length (if b then option_map_or (λ (field : FieldDef). option_map_or
+          (λ bytes. with_field field bytes segment) (changed field fsa.op (field_bytes field segment) fsa.operand)
+          segment) o segment else segment) ≡ end
       by false is o of = long
       by true is None of = long
       by true is (Some field) of =
-          let letter = letter_is (is_verify fsa.op) (is_change fsa.op) (field_of def.fields fsa.field) field (λ f. letter_on f fsa.op fsa.operand (field_bytes f segment)) is of good in
-          put field of (good_suits field fsa.op fsa.operand (field_bytes field segment) letter) (changed field fsa.op (field_bytes field segment) fsa.operand) refl
+          let letter = letter_is (is_verify fsa.op) (is_change fsa.op) (field_of def.fields fsa.field) field
+          (λ f. letter_on f fsa.op fsa.operand (field_bytes f segment)) is of good in
+          put field of (good_suits field fsa.op fsa.operand (field_bytes field segment) letter)
+          (changed field fsa.op (field_bytes field segment) fsa.operand) refl
 
   fsa_length : (fsa : Fsa) (segment : List ℕ) → length segment ≡ end → length (fsa_on def fsa segment).segment ≡ end
   fsa_length fsa segment long = by (letter_of def fsa segment == 32) refl
     where
-      by : (b : Bool) → (letter_of def fsa segment == 32) ≡ b → length (if b then changed_by def fsa segment else segment) ≡ end
-      by true good = let blank : letter_of def fsa segment ≡ 32 = is_blank (letter_of def fsa segment) good in change_length fsa segment long blank
+      by : (b : Bool) → (letter_of def fsa segment == 32) ≡ b
+          → length (if b then changed_by def fsa segment else segment) ≡ end
+      by true good = let blank : letter_of def fsa segment ≡ 32 = is_blank (letter_of def fsa segment) good in
+          change_length fsa segment long blank
         where
           is_blank : (n : ℕ) → (n == 32) ≡ true → n ≡ 32
           is_blank n e = grind arith
       by false bad = long
 
   -- a list of arguments leaves the length
-  pub list_length : (fsas : List Fsa) (segment : List ℕ) → length segment ≡ end → length (list_on def fsas segment).segment ≡ end
+  pub list_length : (fsas : List Fsa) (segment : List ℕ) → length segment ≡ end
+      → length (list_on def fsas segment).segment ≡ end
   unfolding list_on
   list_length [] segment long = long
-  list_length (fsa ∷ fsas) segment long = list_length fsas (fsa_on def fsa segment).segment (fsa_length fsa segment long)
+  list_length (fsa ∷ fsas) segment long = list_length fsas (fsa_on def fsa segment).segment
+      (fsa_length fsa segment long)
 
 -- ---- one database
 
-pub without_good : (def : MsdbDef) (msdb : Msdb) (key : List ℕ) → IsMsdbOf def msdb → IsMsdbOf def (without_segment def key msdb)
+pub without_good : (def : MsdbDef) (msdb : Msdb) (key : List ℕ) → IsMsdbOf def msdb
+    → IsMsdbOf def (without_segment def key msdb)
 without_good def msdb key good = record {
   lengths = all_but (key_of def.fields) (λ segment. length segment ≡ def.length) key msdb.segments good.lengths;
   in_order = still_ascends (key_of def.fields) key msdb.segments good.in_order;
 }
 
-pub with_good : (def : MsdbDef) (segment : List ℕ) (msdb : Msdb) → length segment ≡ def.length → IsMsdbOf def msdb → IsMsdbOf def (with_segment def segment msdb)
+pub with_good : (def : MsdbDef) (segment : List ℕ) (msdb : Msdb) → length segment ≡ def.length → IsMsdbOf def msdb
+    → IsMsdbOf def (with_segment def segment msdb)
 with_good def segment msdb whole good = record {
-  lengths = all_put (key_of def.fields) (λ s. length s ≡ def.length) segment (drop_key (key_of def.fields) (key_of def.fields segment) msdb.segments) whole
+  lengths = all_put (key_of def.fields) (λ s. length s ≡ def.length) segment
+      (drop_key (key_of def.fields) (key_of def.fields segment) msdb.segments) whole
       (all_but (key_of def.fields) (λ s. length s ≡ def.length) (key_of def.fields segment) msdb.segments good.lengths);
   in_order = with_one_ascends (key_of def.fields) segment msdb.segments good.in_order;
 }
@@ -180,62 +214,98 @@ with_good def segment msdb whole good = record {
 -- ---- a queue
 
 module _ (defs : List MsdbDef) (are : AllByRecursion IsMsdbDef defs) where
-  fields_changed : (key fsas : List ℕ) (def : MsdbDef) (msdb : Msdb) → IsMsdbDef def → IsMsdbOf def msdb → IsMsdbOf def (with_field_changes defs key fsas def msdb)
+  fields_changed : (key fsas : List ℕ) (def : MsdbDef) (msdb : Msdb) → IsMsdbDef def → IsMsdbOf def msdb
+      → IsMsdbOf def (with_field_changes defs key fsas def msdb)
   fields_changed key fsas def msdb is good = by (segment_of def msdb key) refl
     where
-      by : (o : Option (List ℕ)) → segment_of def msdb key ≡ o → IsMsdbOf def (elim o as (λ x. Msdb) [ None ↦ msdb | Some segment ↦ with_segment def (list_on def (fsas_in fsas) segment).segment msdb ])
+      by : (o : Option (List ℕ)) → segment_of def msdb key ≡ o
+          → IsMsdbOf def (elim o as (λ x. Msdb) [
+            | None ↦ msdb
+            | Some segment ↦
+                with_segment def (list_on def (fsas_in fsas) segment).segment msdb
+          ])
       by None at = good
       by (Some segment) at =
-          let whole = found_has (λ (s : List ℕ). length s ≡ def.length) (λ s. same_text (key_of def.fields s) key) msdb.segments segment good.lengths at in
-          with_good def (list_on def (fsas_in fsas) segment).segment msdb (list_length def def.length is.layout.stand (fsas_in fsas) segment whole) good
+          let whole = found_has (λ (s : List ℕ). length s ≡ def.length) (λ s. same_text (key_of def.fields s) key)
+          msdb.segments segment good.lengths at in
+          with_good def (list_on def (fsas_in fsas) segment).segment msdb
+          (list_length def def.length is.layout.stand (fsas_in fsas) segment whole) good
 
   -- a database changed so that it stays in shape
   one_changed : (number : ℕ) (change : MsdbDef → Msdb → Msdb) (msdbs : List Msdb) → AllZip IsMsdbOf defs msdbs
-      → ((def : MsdbDef) (msdb : Msdb) → slice_get defs number ≡ Some def → IsMsdbOf def msdb → IsMsdbOf def (change def msdb))
+      → ((def : MsdbDef) (msdb : Msdb) → slice_get defs number ≡ Some def → IsMsdbOf def msdb
+      → IsMsdbOf def (change def msdb))
       → AllZip IsMsdbOf defs (with_msdb defs number change msdbs)
   one_changed number change msdbs good keeps = by (slice_get defs number) refl (slice_get msdbs number) refl
     where
       by : (o : Option MsdbDef) → slice_get defs number ≡ o → (m : Option Msdb) → slice_get msdbs number ≡ m
-          → AllZip IsMsdbOf defs (elim o as (λ x. List Msdb) [ None ↦ msdbs | Some def ↦ elim m as (λ x. List Msdb) [ None ↦ msdbs | Some msdb ↦ slice_set msdbs number (change def msdb) ] ])
+          → AllZip IsMsdbOf defs (elim o as (λ x. List Msdb) [
+            | None ↦ msdbs
+            | Some def ↦ elim m as (λ x. List Msdb)
+                [ None ↦ msdbs | Some msdb ↦ slice_set msdbs number (change def msdb) ]
+          ])
       by None at m there = good
       by (Some def) at None there = good
-      by (Some def) at (Some msdb) there = each_set IsMsdbOf defs msdbs number def (change def msdb) good at (keeps def msdb at (each_at IsMsdbOf defs msdbs number def msdb good at there))
+      by (Some def) at (Some msdb) there = each_set IsMsdbOf defs msdbs number def (change def msdb) good at
+          (keeps def msdb at (each_at IsMsdbOf defs msdbs number def msdb good at there))
 
   becomes_is : (msdbs changed : List Msdb) → Becomes msdbs ≡ Becomes changed → msdbs ≡ changed
   becomes_is msdbs changed e = cc
 
   -- a segment that fits its database is put there
-  put : (number : ℕ) (bytes : List ℕ) (msdbs : List Msdb) → ((def : MsdbDef) × (slice_get defs number ≡ Some def) × (length bytes ≡ def.length)) → AllZip IsMsdbOf defs msdbs
+  put : (number : ℕ) (bytes : List ℕ) (msdbs : List Msdb)
+      → ((def : MsdbDef) × (slice_get defs number ≡ Some def) × (length bytes ≡ def.length))
+      → AllZip IsMsdbOf defs msdbs
       → AllZip IsMsdbOf defs (with_msdb defs number (λ def msdb. with_segment def bytes msdb) msdbs)
   put number bytes msdbs fit good = one_changed number (λ def msdb. with_segment def bytes msdb) msdbs good
-      (λ def msdb at one. with_good def bytes msdb (subst (λ (d : MsdbDef). length bytes ≡ d.length) (some_is fit.0 def (sym fit.1 ∙ at)) fit.2) one)
+      (λ def msdb at one. with_good def bytes msdb (subst (λ (d : MsdbDef). length bytes ≡ d.length)
+      (some_is fit.0 def (sym fit.1 ∙ at)) fit.2) one)
 
-  one_applied : (call : Deferred) (msdbs changed : List Msdb) → IsFitDeferred defs call → AllZip IsMsdbOf defs msdbs → applied defs call msdbs ≡ Becomes changed → AllZip IsMsdbOf defs changed
+  one_applied : (call : Deferred) (msdbs changed : List Msdb) → IsFitDeferred defs call → AllZip IsMsdbOf defs msdbs
+      → applied defs call msdbs ≡ Becomes changed → AllZip IsMsdbOf defs changed
   one_applied (Fld number key fsas) msdbs changed fit good e = by (fld_failure defs number key fsas msdbs) e
     where
-      by : (o : Option Failure) → elim o as (λ x. Applied) [ None ↦ Becomes (with_msdb defs number (with_field_changes defs key fsas) msdbs) | Some failure ↦ Fails failure.place failure.found ] ≡ Becomes changed → AllZip IsMsdbOf defs changed
+      by : (o : Option Failure) → elim o as (λ x. Applied) [
+        | None ↦ Becomes (with_msdb defs number (with_field_changes defs key fsas) msdbs)
+        | Some failure ↦
+            Fails failure.place failure.found
+      ] ≡ Becomes changed → AllZip IsMsdbOf defs changed
       by None e = subst (AllZip IsMsdbOf defs) (becomes_is _ changed e)
-          (one_changed number (with_field_changes defs key fsas) msdbs good (λ def msdb at one. fields_changed key fsas def msdb (all_at IsMsdbDef defs number def are at) one))
+          (one_changed number (with_field_changes defs key fsas) msdbs good
+          (λ def msdb at one. fields_changed key fsas def msdb (all_at IsMsdbDef defs number def are at) one))
       by (Some failure) e = cc
-  one_applied (Repl number bytes) msdbs changed fit good e = subst (AllZip IsMsdbOf defs) (becomes_is _ changed e) (put number bytes msdbs fit good)
-  one_applied (Isrt number bytes) msdbs changed fit good e = subst (AllZip IsMsdbOf defs) (becomes_is _ changed e) (put number bytes msdbs fit good)
+  one_applied (Repl number bytes) msdbs changed fit good e =
+      subst (AllZip IsMsdbOf defs) (becomes_is _ changed e) (put number bytes msdbs fit good)
+  one_applied (Isrt number bytes) msdbs changed fit good e =
+      subst (AllZip IsMsdbOf defs) (becomes_is _ changed e) (put number bytes msdbs fit good)
   one_applied (Dlet number key) msdbs changed fit good e = subst (AllZip IsMsdbOf defs) (becomes_is _ changed e)
-      (one_changed number (λ def msdb. without_segment def key msdb) msdbs good (λ def msdb at one. without_good def msdb key one))
+      (one_changed number (λ def msdb. without_segment def key msdb) msdbs good
+      (λ def msdb at one. without_good def msdb key one))
 
   stands_is : (msdbs next : List Msdb) → Stands msdbs ≡ Stands next → msdbs ≡ next
   stands_is msdbs next e = cc
 
-  queue_good : (place : ℕ) (msdbs : List Msdb) (calls : List Deferred) (next : List Msdb) → AllByRecursion (IsFitDeferred defs) calls → AllZip IsMsdbOf defs msdbs → settle_from defs place msdbs calls ≡ Stands next → AllZip IsMsdbOf defs next
+  queue_good : (place : ℕ) (msdbs : List Msdb) (calls : List Deferred) (next : List Msdb)
+      → AllByRecursion (IsFitDeferred defs) calls → AllZip IsMsdbOf defs msdbs
+      → settle_from defs place msdbs calls ≡ Stands next → AllZip IsMsdbOf defs next
   unfolding settle_from
   queue_good place msdbs [] next fit good e = subst (AllZip IsMsdbOf defs) (stands_is msdbs next e) good
-  queue_good place msdbs (call ∷ calls) next fit good e = by (applied defs call msdbs) refl e (λ changed. queue_good (place + 1) changed calls next fit.1)
+  queue_good place msdbs (call ∷ calls) next fit good e =
+      by (applied defs call msdbs) refl e (λ changed. queue_good (place + 1) changed calls next fit.1)
     where
-      by : (a : Applied) → applied defs call msdbs ≡ a → elim a as (λ x. Settled) [ Becomes changed ↦ settle_from defs (place + 1) changed calls | Fails fsa found ↦ VerifyFails place fsa found ] ≡ Stands next
-          → ((changed : List Msdb) → AllZip IsMsdbOf defs changed → settle_from defs (place + 1) changed calls ≡ Stands next → AllZip IsMsdbOf defs next)
+      by : (a : Applied) → applied defs call msdbs ≡ a
+          → elim a as (λ x. Settled) [
+            | Becomes changed ↦ settle_from defs (place + 1) changed calls
+            | Fails fsa found ↦
+                VerifyFails place fsa found
+          ] ≡ Stands next
+          → ((changed : List Msdb) → AllZip IsMsdbOf defs changed
+          → settle_from defs (place + 1) changed calls ≡ Stands next → AllZip IsMsdbOf defs next)
           → AllZip IsMsdbOf defs next
       by (Becomes changed) is e later = later changed (one_applied call msdbs changed fit.0 good is) e
       by (Fails fsa found) is e later = cc
 
-pub settled_good : (defs : List MsdbDef) (msdbs : List Msdb) (deferred : List Deferred) (next : List Msdb) → AllByRecursion IsMsdbDef defs → AllByRecursion (IsFitDeferred defs) deferred → AllZip IsMsdbOf defs msdbs
+pub settled_good : (defs : List MsdbDef) (msdbs : List Msdb) (deferred : List Deferred) (next : List Msdb)
+    → AllByRecursion IsMsdbDef defs → AllByRecursion (IsFitDeferred defs) deferred → AllZip IsMsdbOf defs msdbs
     → settle defs msdbs deferred ≡ Stands next → AllZip IsMsdbOf defs next
 settled_good defs msdbs deferred next are fit good e = queue_good defs are 0 msdbs deferred next fit good e

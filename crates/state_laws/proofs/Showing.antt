@@ -102,55 +102,59 @@ its_segments defs db number def good at =
 
 -- ---- data entry databases
 
-module _ (defs : Defs) (db : Db) (are : AreDefs defs) (good : IsDbOf defs db) (own : Workspace) (f : FitsWorkspace defs db own) (number : ℕ) (def : DedbDef) (defined : slice_get defs.dedbs number ≡ Some def) where
-  abbrev ShowsOf : Call → Replied → Type 0
-  ShowsOf c r = FitsAnswerOf (OnDedb def number) c r.answer
+module _ (defs : Defs) (db : Db) (are : AreDefs defs) (good : IsDbOf defs db) (own : Workspace)
+    (f : FitsWorkspace defs db own) (number : ℕ) (def : DedbDef) (defined : slice_get defs.dedbs number ≡ Some def)
+  where
+    abbrev ShowsOf : Call → Replied → Type 0
+    ShowsOf c r = FitsAnswerOf (OnDedb def number) c r.answer
 
-  -- the letters where nothing is found aren't blank
-  no_blank : (g : Get) (ssas : List Ssa) → same_text (trimmed (dedb.not_found def number g ssas)) [] ≡ false
-  no_blank get.Unique ssas = refl
-  no_blank get.Next ssas = by (list_all (λ (a : Ssa). not (dedb.is_qualified a)) ssas)
-    where
-      by : (b : Bool) → same_text (trimmed (if b then codes "GB" else codes "GE")) [] ≡ false
-      by true = refl
-      by false = refl
-  no_blank get.NextInParent ssas = refl
+    -- the letters where nothing is found aren't blank
+    no_blank : (g : Get) (ssas : List Ssa) → same_text (trimmed (dedb.not_found def number g ssas)) [] ≡ false
+    no_blank get.Unique ssas = refl
+    no_blank get.Next ssas = by (list_all (λ (a : Ssa). not (dedb.is_qualified a)) ssas)
+      where
+        by : (b : Bool) → same_text (trimmed (if b then codes "GB" else codes "GE")) [] ≡ false
+        by true = refl
+        by false = refl
+    no_blank get.NextInParent ssas = refl
 
-  place_shows : (g : Get) (hold : Bool) (n : ℕ) (ssas : List Ssa) (o : Option (ℕ × Occurrence))
-      → ((found : ℕ × Occurrence) → o ≡ Some found → IsSegment def number found.1)
-      → ShowsOf (call.Get g hold n ssas) (dedb.found_or def number (dedb.not_found def number g ssas) g hold own o)
-  place_shows g hold n ssas None segments e = absurd (true_is_not_false (sym e ∙ no_blank g ssas))
-  place_shows g hold n ssas (Some found) segments e = (segments found refl).long
+    place_shows : (g : Get) (hold : Bool) (n : ℕ) (ssas : List Ssa) (o : Option (ℕ × Occurrence))
+        → ((found : ℕ × Occurrence) → o ≡ Some found → IsSegment def number found.1)
+        → ShowsOf (call.Get g hold n ssas) (dedb.found_or def number (dedb.not_found def number g ssas) g hold own o)
+    place_shows g hold n ssas None segments e = absurd (true_is_not_false (sym e ∙ no_blank g ssas))
+    place_shows g hold n ssas (Some found) segments e = (segments found refl).long
 
-  dedb_get_shows : (g : Get) (hold : Bool) (n : ℕ) (ssas : List Ssa)
-      → ShowsOf (call.Get g hold n ssas) (dedb.get_reply def number db own g hold ssas)
-  dedb_get_shows g hold n ssas = by (not (dedb.are_get_arguments def number ssas)) (dedb.lacks_parent def number own g)
-    where
-      by : (a b : Bool) → ShowsOf (call.Get g hold n ssas) (
-          if a then dedb.refused def number own (codes "AM")
-          else if b then dedb.refused def number own (codes "GP")
-          else dedb.found_or def number (dedb.not_found def number g ssas) g hold own
-          (dedb.first_found (dedb.look_at def number db own g ssas)
-          (dedb.anchors_searched def number (dedb.position_of def number own) g (dedb.root_named def number ssas)))
-          )
-      by true b e = absurd (true_is_not_false (sym e))
-      by false true e = absurd (true_is_not_false (sym e))
-      by false false e =
-          let anchors : List ℕ =
-          dedb.anchors_searched def number (dedb.position_of def number own) g (dedb.root_named def number ssas) in
-          place_shows g hold n ssas (dedb.first_found (dedb.look_at def number db own g ssas) anchors)
-          (found_segment defs db are good own f number def defined g ssas anchors) e
+    dedb_get_shows : (g : Get) (hold : Bool) (n : ℕ) (ssas : List Ssa)
+        → ShowsOf (call.Get g hold n ssas) (dedb.get_reply def number db own g hold ssas)
+    dedb_get_shows g hold n ssas = by (not (dedb.are_get_arguments def number ssas))
+        (dedb.lacks_parent def number own g)
+      where
+        by : (a b : Bool) → ShowsOf (call.Get g hold n ssas) (
+            if a then dedb.refused def number own (codes "AM")
+            else if b then dedb.refused def number own (codes "GP")
+            else dedb.found_or def number (dedb.not_found def number g ssas) g hold own
+            (dedb.first_found (dedb.look_at def number db own g ssas)
+            (dedb.anchors_searched def number (dedb.position_of def number own) g (dedb.root_named def number ssas)))
+            )
+        by true b e = absurd (true_is_not_false (sym e))
+        by false true e = absurd (true_is_not_false (sym e))
+        by false false e =
+            let anchors : List ℕ =
+            dedb.anchors_searched def number (dedb.position_of def number own) g (dedb.root_named def number ssas) in
+            place_shows g hold n ssas (dedb.first_found (dedb.look_at def number db own g ssas) anchors)
+            (found_segment defs db are good own f number def defined g ssas anchors) e
 
-  dedb_shows : (c : Call) → ShowsOf c (dedb.dedb_reply def number db own c)
-  dedb_shows (call.Get g hold n ssas) e = dedb_get_shows g hold n ssas e
-  dedb_shows (call.Fld n key fsas) e = absurd (true_is_not_false (sym e))
-  dedb_shows (call.Isrt n ssas bytes) e = absurd (true_is_not_false (sym e))
-  dedb_shows (call.Repl n bytes) e = absurd (true_is_not_false (sym e))
-  dedb_shows (call.Dlet n) e = absurd (true_is_not_false (sym e))
+    dedb_shows : (c : Call) → ShowsOf c (dedb.dedb_reply def number db own c)
+    dedb_shows (call.Get g hold n ssas) e = dedb_get_shows g hold n ssas e
+    dedb_shows (call.Fld n key fsas) e = absurd (true_is_not_false (sym e))
+    dedb_shows (call.Isrt n ssas bytes) e = absurd (true_is_not_false (sym e))
+    dedb_shows (call.Repl n bytes) e = absurd (true_is_not_false (sym e))
+    dedb_shows (call.Dlet n) e = absurd (true_is_not_false (sym e))
 
 -- ---- every target
 
-module _ (defs : Defs) (now visible : Db) (own : Workspace) (c : Call) (are : AreDefs defs) (good : IsDbOf defs now) (good2 : IsDbOf defs visible) (f : FitsWorkspace defs now own) where
+module _ (defs : Defs) (now visible : Db) (own : Workspace) (c : Call) (are : AreDefs defs) (good : IsDbOf defs now)
+    (good2 : IsDbOf defs visible) (f : FitsWorkspace defs now own) where
   finds_nothing : (c : Call) → finds c (answered (codes "AM")) ≡ false
   finds_nothing (call.Get g hold n ssas) = refl
   finds_nothing (call.Fld n key fsas) = refl

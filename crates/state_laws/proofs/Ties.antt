@@ -284,7 +284,8 @@ module _ (own : Workspace) (number : ℕ) (def : DedbDef) where
 
 -- ---- what is shown
 
-module _ (defs : Defs) (now visible : Db) (shown : ℕ → Option ℕ) (own : Workspace) (c : Call) (tied : IsTied defs shown own) where
+module _ (defs : Defs) (now visible : Db) (shown : ℕ → Option ℕ) (own : Workspace) (c : Call)
+    (tied : IsTied defs shown own) where
   -- what was shown of other databases stays
   shown_elsewhere : (answer : Answer) (n : ℕ) → ¬ (database_of c ≡ n) → shown_behind c answer shown n ≡ shown n
   shown_elsewhere answer n other = by (finds c answer) (database_of c == n) refl

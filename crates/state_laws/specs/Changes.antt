@@ -23,8 +23,8 @@ pub record IsNow (key : Root → List ℕ) (now : List Root) (root other : Root)
 abbrev pub HasNoneOrNow : (Root → List ℕ) → List Root → Root → Type 0
 HasNoneOrNow key now root = (root.seqs ≡ []) ⊎ ((other : Root) × IsNow key now root other)
 
--- Other roots that fit an anchor: in shape between the ends of its area now, and with no sequential dependents but those
--- that stand there now.
+-- Other roots that fit an anchor: in shape between the ends of its area now, and with no sequential dependents but
+-- those that stand there now.
 pub record FitsChange (def : DedbDef) (dedb : Dedb) (anchor : ℕ) (roots : List Root) : Type 0 where
   pub keys : ascend (map (root_key def.segments) roots) ≡ true
   pub in_shape : (area : Area) (ends : AreaEnds)

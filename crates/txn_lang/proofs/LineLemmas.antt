@@ -36,11 +36,13 @@ abbrev Has : {A : Type 0} → (A → Type 0) → Reading A → Type 0
 Has P (Ok x) = P x
 Has P (Err e) = Unit {0}
 
-has_bind : {A B : Type 0} (P : B → Type 0) (r : Reading A) (f : A → Reading B) → ((x : A) → r ≡ Ok x → Has P (f x)) → Has P (r >>= f)
+has_bind : {A B : Type 0} (P : B → Type 0) (r : Reading A) (f : A → Reading B) → ((x : A) → r ≡ Ok x → Has P (f x))
+    → Has P (r >>= f)
 has_bind P (Ok x) f h = h x refl
 has_bind P (Err e) f h = tt
 
-has_all : {A B : Type 0} (P : B → Type 0) (r : Reading A) (f : A → Reading B) → ((x : A) → Has P (f x)) → Has P (r >>= f)
+has_all : {A B : Type 0} (P : B → Type 0) (r : Reading A) (f : A → Reading B) → ((x : A) → Has P (f x))
+    → Has P (r >>= f)
 has_all P (Ok x) f h = h x
 has_all P (Err e) f h = tt
 
@@ -63,7 +65,8 @@ whole_is s one = (roll-Statement s, one, refl)
 -- what the word that a line begins with says of it
 abbrev pub IsOf : Keyword → Line → Type 0
 IsOf keyword.Tran said = (name : Name) × (said ≡ line.Tran name)
-IsOf keyword.If said = (left : Operand) × (comparison : Comparison) × (right : Operand) × (said ≡ line.If left comparison right)
+IsOf keyword.If said = (left : Operand) × (comparison : Comparison) × (right : Operand)
+    × (said ≡ line.If left comparison right)
 IsOf keyword.Else said = said ≡ line.Else
 IsOf keyword.End said = said ≡ line.End
 IsOf keyword.Repeat said = (times : ℕ) × IsCount times × (said ≡ line.Repeat times)
@@ -96,7 +99,8 @@ count_token (Sign byte) = tt
 
 count_has : (tokens : List Token) → Has (λ x. IsCount x.0) (count_at 1 10000 tokens)
 unfolding count_at
-count_has tokens = has_all _ (token_in tokens) _ (λ token. has_bind _ (count_of 1 10000 token.0) _ (λ n is. has_ok IsCount _ n (count_token token.0) is))
+count_has tokens = has_all _ (token_in tokens) _ (λ token. has_bind _ (count_of 1 10000 token.0) _
+    (λ n is. has_ok IsCount _ n (count_token token.0) is))
 
 tran_has : (tokens : List Token) → Has (IsOf keyword.Tran) (tran_line tokens)
 unfolding tran_line
@@ -105,59 +109,73 @@ tran_has tokens = has_all _ (word_at tokens) _ (λ name. has_ended (IsOf keyword
 if_has : (tokens : List Token) → Has (IsOf keyword.If) (if_line tokens)
 unfolding if_line
 if_has tokens =
-    has_all _ (operand_at tokens) _ (λ left. has_all _ (comparison_at left.1) _ (λ comparison. has_all _ (operand_at comparison.1) _ (λ right.
+    has_all _ (operand_at tokens) _ (λ left. has_all _ (comparison_at left.1) _
+    (λ comparison. has_all _ (operand_at comparison.1) _ (λ right.
     has_ended (IsOf keyword.If) _ right.1 (left.0, comparison.0, right.0, refl))))
 
 repeat_has : (tokens : List Token) → Has (IsOf keyword.Repeat) (repeat_line tokens)
 unfolding repeat_line
 repeat_has tokens =
     has_bind _ (count_at 1 10000 tokens) _ (λ times is.
-    has_ended (IsOf keyword.Repeat) _ times.1 (times.0, has_ok (λ (x : ℕ × List Token). IsCount x.0) _ times (count_has tokens) is, refl))
+    has_ended (IsOf keyword.Repeat) _ times.1 (
+      times.0,
+      has_ok (λ (x : ℕ × List Token). IsCount x.0) _ times (count_has tokens) is,
+      refl,
+    ))
 
 set_has : (tokens : List Token) → Has IsWhole (set_line tokens)
 unfolding set_line
 set_has tokens =
-    has_all _ (variable_at tokens) _ (λ variable. has_all _ (operand_at variable.1) _ (λ first. has_all _ (set_rest first.1) _ (λ rest.
+    has_all _ (variable_at tokens) _ (λ variable. has_all _ (operand_at variable.1) _
+    (λ first. has_all _ (set_rest first.1) _ (λ rest.
     whole_is (statement.Set variable.0 first.0 rest) (statement_cost_roll (statement.Set variable.0 first.0 rest)))))
 
 reply_has : (tokens : List Token) → Has IsWhole (reply_line tokens)
 unfolding reply_line
-reply_has tokens = has_all _ (operands_in tokens) _ (λ operands. whole_is (statement.Reply operands) (statement_cost_roll (statement.Reply operands)))
+reply_has tokens = has_all _ (operands_in tokens) _
+    (λ operands. whole_is (statement.Reply operands) (statement_cost_roll (statement.Reply operands)))
 
 rolb_has : (tokens : List Token) → Has IsWhole (rolb_line tokens)
 unfolding rolb_line
 rolb_has tokens =
-    has_all _ (count_at 0 98 tokens) _ (λ code. has_ended IsWhole _ code.1 (whole_is (statement.Roll code.0) (statement_cost_roll (statement.Roll code.0))))
+    has_all _ (count_at 0 98 tokens) _ (λ code. has_ended IsWhole _ code.1
+    (whole_is (statement.Roll code.0) (statement_cost_roll (statement.Roll code.0))))
 
 get_has : (defs : Defs) (get : Get) (hold : Bool) (tokens : List Token) → Has IsWhole (get_line defs get hold tokens)
 unfolding get_line
 get_has defs get hold tokens =
-    has_all _ (word_at tokens) _ (λ database. has_all _ (ssas_in database.1) _ (λ written. has_all _ (db_of defs database.0) _ (λ db. has_all _ (get_ssas defs db written) _ (λ ssas.
+    has_all _ (word_at tokens) _ (λ database. has_all _ (ssas_in database.1) _
+    (λ written. has_all _ (db_of defs database.0) _ (λ db. has_all _ (get_ssas defs db written) _ (λ ssas.
     whole_is (statement.Get get hold db ssas) (statement_cost_roll (statement.Get get hold db ssas))))))
 
 fld_has : (defs : Defs) (tokens : List Token) → Has IsWhole (fld_line defs tokens)
 unfolding fld_line
 fld_has defs tokens =
-    has_all _ (word_at tokens) _ (λ database. has_all _ (key_at database.1) _ (λ key. has_all _ (fsas_in key.1) _ (λ fsas. has_all _ (db_of defs database.0) _ (λ db.
+    has_all _ (word_at tokens) _ (λ database. has_all _ (key_at database.1) _
+    (λ key. has_all _ (fsas_in key.1) _ (λ fsas. has_all _ (db_of defs database.0) _ (λ db.
     whole_is (statement.Fld db key.0 fsas) (statement_cost_roll (statement.Fld db key.0 fsas))))))
 
 isrt_has : (defs : Defs) (tokens : List Token) → Has IsWhole (isrt_line defs tokens)
 unfolding isrt_line
 isrt_has defs tokens =
-    has_all _ (word_at tokens) _ (λ database. has_all _ (ssas_in (before_fields database.1)) _ (λ written. has_all _ (fields_in (from_fields database.1)) _ (λ given.
-    has_all _ (db_of defs database.0) _ (λ db. has_all _ (isrt_ssas defs db written) _ (λ ssas. has_all _ (isrt_fields defs db ssas given) _ (λ fields.
+    has_all _ (word_at tokens) _ (λ database. has_all _ (ssas_in (before_fields database.1)) _
+    (λ written. has_all _ (fields_in (from_fields database.1)) _ (λ given.
+    has_all _ (db_of defs database.0) _ (λ db. has_all _ (isrt_ssas defs db written) _
+    (λ ssas. has_all _ (isrt_fields defs db ssas given) _ (λ fields.
     whole_is (statement.Isrt db ssas fields) (statement_cost_roll (statement.Isrt db ssas fields))))))))
 
 repl_has : (defs : Defs) (tokens : List Token) → Has IsWhole (repl_line defs tokens)
 unfolding repl_line
 repl_has defs tokens =
-    has_all _ (word_at tokens) _ (λ database. has_all _ (fields_in database.1) _ (λ fields. has_all _ (db_of defs database.0) _ (λ db.
+    has_all _ (word_at tokens) _ (λ database. has_all _ (fields_in database.1) _
+    (λ fields. has_all _ (db_of defs database.0) _ (λ db.
     whole_is (statement.Repl db fields) (statement_cost_roll (statement.Repl db fields)))))
 
 dlet_has : (defs : Defs) (tokens : List Token) → Has IsWhole (dlet_line defs tokens)
 unfolding dlet_line
 dlet_has defs tokens =
-    has_all _ (word_at tokens) _ (λ database. has_all _ (ended database.0 database.1) _ (λ name. has_all _ (db_of defs name) _ (λ db.
+    has_all _ (word_at tokens) _ (λ database. has_all _ (ended database.0 database.1) _
+    (λ name. has_all _ (db_of defs name) _ (λ db.
     whole_is (statement.Dlet db) (statement_cost_roll (statement.Dlet db)))))
 
 line_has : (defs : Defs) (k : Keyword) (tokens : List Token) → Has (IsOf k) (line_behind defs k tokens)
@@ -168,7 +186,8 @@ line_has defs keyword.If tokens = if_has tokens
 line_has defs keyword.Else tokens = has_ended (IsOf keyword.Else) line.Else tokens refl
 line_has defs keyword.End tokens = has_ended (IsOf keyword.End) line.End tokens refl
 line_has defs keyword.Repeat tokens = repeat_has tokens
-line_has defs keyword.Break tokens = has_ended IsWhole _ tokens (whole_is statement.Break (statement_cost_roll statement.Break))
+line_has defs keyword.Break tokens = has_ended IsWhole _ tokens
+    (whole_is statement.Break (statement_cost_roll statement.Break))
 line_has defs keyword.Reply tokens = reply_has tokens
 line_has defs keyword.Rolb tokens = rolb_has tokens
 line_has defs (keyword.Get get hold) tokens = get_has defs get hold tokens
@@ -190,21 +209,25 @@ room_is : (b : Bool) (x next : Context) → cond b (Some x) None ≡ Some next �
 room_is true x next is = cc
 room_is false x next is = absurd cc
 
-open_is : (context : Context) (blocks : Option _) (next : Context) → with_open context blocks ≡ Some next → IsSome blocks × (next ≡ or_same context blocks)
+open_is : (context : Context) (blocks : Option _) (next : Context) → with_open context blocks ≡ Some next
+    → IsSome blocks × (next ≡ or_same context blocks)
 open_is context None next is = absurd cc
 open_is context (Some blocks) next is = (refl, cc)
 
 abbrev Goes : ℕ → Context → Context → Line → Type 0
 Goes number context next said = Follows said context × (next ≡ context_behind number said context)
 
-whole_goes : (number : ℕ) (said : Line) (context next : Context) → IsWhole said → within_script context (Some context) ≡ Some next → Goes number context next said
+whole_goes : (number : ℕ) (said : Line) (context next : Context) → IsWhole said
+    → within_script context (Some context) ≡ Some next → Goes number context next said
 whole_goes number said context next is stood =
     let in_script = within_is context.has_begun (Some context) next stood in
     subst (Goes number context next) (sym is.2) ((in_script.0, is.1), some_is context next in_script.1)
 
-pub line_goes : (number : ℕ) (k : Keyword) (said : Line) (context next : Context) → IsOf k said → stands number k context ≡ Some next → Goes number context next said
+pub line_goes : (number : ℕ) (k : Keyword) (said : Line) (context next : Context) → IsOf k said
+    → stands number k context ≡ Some next → Goes number context next said
 unfolding stands
-line_goes number keyword.Tran said context next is stood = subst (Goes number context next) (sym is.1) (tt, some_is (begun context) next stood)
+line_goes number keyword.Tran said context next is stood =
+    subst (Goes number context next) (sym is.1) (tt, some_is (begun context) next stood)
 line_goes number keyword.If said context next is stood =
     let in_script = within_is context.has_begun (opened Choice number context) next stood in
     subst (Goes number context next) (sym is.3) (in_script.0, room_is _ _ next in_script.1)
@@ -233,7 +256,8 @@ line_goes number keyword.Dlet said context next is stood = whole_goes number sai
 
 -- ---- a line that was read, and one that was refused
 
-bind_ok : {A B : Type 0} (r : Reading A) (f : A → Reading B) (y : B) → (r >>= f) ≡ Ok y → (x : A) × (r ≡ Ok x) × (f x ≡ Ok y)
+bind_ok : {A B : Type 0} (r : Reading A) (f : A → Reading B) (y : B) → (r >>= f) ≡ Ok y → (x : A) × (r ≡ Ok x)
+    × (f x ≡ Ok y)
 bind_ok (Ok x) f y e = (x, refl, e)
 bind_ok (Err d) f y e = absurd cc
 
@@ -243,7 +267,8 @@ err_of A e = Err e
 same_err : (A B : Type 0) (c d : LineFault) → err_of B c ≡ err_of B d → err_of A c ≡ err_of A d
 same_err A B c d e = cc
 
-bind_err : {A B : Type 0} (r : Reading A) (f : A → Reading B) (d : LineFault) → (r >>= f) ≡ Err d → (r ≡ Err d) ⊎ ((x : A) × (r ≡ Ok x) × (f x ≡ Err d))
+bind_err : {A B : Type 0} (r : Reading A) (f : A → Reading B) (d : LineFault) → (r >>= f) ≡ Err d → (r ≡ Err d)
+    ⊎ ((x : A) × (r ≡ Ok x) × (f x ≡ Err d))
 bind_err (Ok x) f d e = inr (x, refl, e)
 bind_err {A = A} {B = B} (Err c) f d e = inl (same_err A B c d e)
 
@@ -255,13 +280,15 @@ guard_err : {A : Type 0} (b : Bool) (x : A) (c d : LineFault) → cond b (Ok x) 
 guard_err true x c d e = absurd cc
 guard_err false x c d e = (refl, cc)
 
-same_some : (b r : Bool) (x y : Context) → is_some (cond b (cond r (Some x) None) None) ≡ is_some (cond b (cond r (Some y) None) None)
+same_some : (b r : Bool) (x y : Context) → is_some (cond b (cond r (Some x) None) None) ≡ is_some
+    (cond b (cond r (Some y) None) None)
 same_some true true x y = refl
 same_some true false x y = refl
 same_some false r x y = refl
 
 -- the number of a line doesn't say whether it can stand there
-any_number : (number : ℕ) (k : Keyword) (context : Context) → is_some (stands 0 k context) ≡ is_some (stands number k context)
+any_number : (number : ℕ) (k : Keyword) (context : Context)
+    → is_some (stands 0 k context) ≡ is_some (stands number k context)
 unfolding stands
 any_number number keyword.Tran context = refl
 any_number number keyword.If context = same_some context.has_begun (nat_lt (length context.open_blocks) 64) _ _
@@ -288,7 +315,8 @@ not_there (Some x) is = absurd cc
 
 module _ (defs : Defs) (context : Context) where
   abbrev then_last : List Token → Keyword × List Token → Reading (Keyword × Line)
-  then_last tokens k = line_behind defs k.0 k.1 >>= λ said. if are_known defs tokens then Ok (k.0, said) else Err UnknownName
+  then_last tokens k = line_behind defs k.0 k.1 >>= λ said. if are_known defs tokens then Ok (k.0, said) else Err
+      UnknownName
 
   abbrev then_line : List Token → Keyword × List Token → Reading (Keyword × Line)
   then_line tokens k = can_stand k.0 context >>= λ here. then_last tokens k
@@ -296,28 +324,42 @@ module _ (defs : Defs) (context : Context) where
   abbrev then_keyword : List Token → Reading (Keyword × Line)
   then_keyword tokens = keyword_at tokens >>= then_line tokens
 
-  statement_good : (number : ℕ) (bytes : List ℕ) (tokens : List Token) (k : Keyword × List Token) (next : Context) (said : Line)
-      → tokens_of bytes ≡ Ok tokens → keyword_at tokens ≡ Ok k → stands number k.0 context ≡ Some next → line_behind defs k.0 k.1 ≡ Ok said → are_known defs tokens ≡ true
+  statement_good : (number : ℕ) (bytes : List ℕ) (tokens : List Token) (k : Keyword × List Token) (next : Context)
+      (said : Line)
+      → tokens_of bytes ≡ Ok tokens → keyword_at tokens ≡ Ok k → stands number k.0 context ≡ Some next
+      → line_behind defs k.0 k.1 ≡ Ok said → are_known defs tokens ≡ true
       → statement_in defs number context bytes ≡ Ok (record { said = said ∷ []; context = next })
   unfolding statement_in
   statement_good number bytes tokens k next said a b s l known = rw (a, b, s, l, known) refl
 
   pub said_reads : (number : ℕ) (bytes : List ℕ) (read : Keyword × Line) → said_in defs context bytes ≡ Ok read
-      → Follows read.1 context × (statement_in defs number context bytes ≡ Ok (record { said = read.1 ∷ []; context = context_behind number read.1 context }))
+      → Follows read.1 context × (statement_in defs number context bytes ≡ Ok
+      (record { said = read.1 ∷ []; context = context_behind number read.1 context }))
   unfolding said_in
   said_reads number bytes read is =
       let a = bind_ok (tokens_of bytes) then_keyword read is in
       let b = bind_ok (keyword_at a.0) (then_line a.0) read a.2 in
       let s = bind_ok (can_stand b.0.0 context) (λ here. then_last a.0 b.0) read b.2 in
-      let l = bind_ok (line_behind defs b.0.0 b.0.1) (λ said. if are_known defs a.0 then Ok (b.0.0, said) else Err UnknownName) read s.2 in
+      let l = bind_ok (line_behind defs b.0.0 b.0.1)
+      (λ said. if are_known defs a.0 then Ok (b.0.0, said) else Err UnknownName) read s.2 in
       let known = guard_ok (are_known defs a.0) (b.0.0, l.0) read UnknownName l.2 in
-      let stood = is_there (stands number b.0.0 context) (sym (any_number number b.0.0 context) ∙ (guard_ok (is_some (stands 0 b.0.0 context)) tt s.0 Syntax s.1).0) in
-      let goes = line_goes number b.0.0 l.0 context stood.0 (has_ok (IsOf b.0.0) _ l.0 (line_has defs b.0.0 b.0.1) l.1) stood.1 in
-      let whole : statement_in defs number context bytes ≡ Ok (record { said = l.0 ∷ []; context = context_behind number l.0 context }) =
-      statement_good number bytes a.0 b.0 stood.0 l.0 a.1 b.1 stood.1 l.1 known.0 ∙ ap (λ (next : Context). Ok (record { said = l.0 ∷ []; context = next })) goes.1 in
-      subst (λ (x : Keyword × Line). Follows x.1 context × (statement_in defs number context bytes ≡ Ok (record { said = x.1 ∷ []; context = context_behind number x.1 context }))) known.1 (goes.0, whole)
+      let stood = is_there (stands number b.0.0 context)
+      (sym (any_number number b.0.0 context) ∙ (guard_ok (is_some (stands 0 b.0.0 context)) tt s.0 Syntax s.1).0) in
+      let goes = line_goes number b.0.0 l.0 context stood.0 (has_ok (IsOf b.0.0) _ l.0 (line_has defs b.0.0 b.0.1) l.1)
+      stood.1 in
+      let whole : statement_in defs number context bytes ≡ Ok (record {
+        said = l.0 ∷ [];
+        context =
+            context_behind number l.0 context;
+      }) =
+      statement_good number bytes a.0 b.0 stood.0 l.0 a.1 b.1 stood.1 l.1 known.0 ∙ ap
+      (λ (next : Context). Ok (record { said = l.0 ∷ []; context = next })) goes.1 in
+      subst (λ (x : Keyword × Line). Follows x.1 context
+      × (statement_in defs number context bytes ≡ Ok
+      (record { said = x.1 ∷ []; context = context_behind number x.1 context }))) known.1 (goes.0, whole)
 
-  refused : (number : ℕ) (bytes : List ℕ) (e : LineFault) → said_in defs context bytes ≡ Err e → statement_in defs number context bytes ≡ Err e
+  refused : (number : ℕ) (bytes : List ℕ) (e : LineFault) → said_in defs context bytes ≡ Err e
+      → statement_in defs number context bytes ≡ Err e
   unfolding said_in statement_in
   refused number bytes e is =
       ⊎_elim
@@ -330,19 +372,23 @@ module _ (defs : Defs) (context : Context) where
       let nothing = not_there (stands number b.0.0 context) (sym (any_number number b.0.0 context) ∙ stood.0) in
       rw (a.1, b.1, nothing) (ap (λ (c : LineFault). Err c) stood.1))
       (λ s.
-      let stood = is_there (stands number b.0.0 context) (sym (any_number number b.0.0 context) ∙ (guard_ok (is_some (stands 0 b.0.0 context)) tt s.0 Syntax s.1).0) in
+      let stood = is_there (stands number b.0.0 context)
+      (sym (any_number number b.0.0 context) ∙ (guard_ok (is_some (stands 0 b.0.0 context)) tt s.0 Syntax s.1).0) in
       ⊎_elim
       (λ t. rw (a.1, b.1, stood.1, t) refl)
       (λ l.
       let unknown = guard_err (are_known defs a.0) (b.0.0, l.0) UnknownName e l.2 in
       rw (a.1, b.1, stood.1, l.1, unknown.0) (ap (λ (c : LineFault). Err c) unknown.1))
-      (bind_err (line_behind defs b.0.0 b.0.1) (λ said. if are_known defs a.0 then Ok (b.0.0, said) else Err UnknownName) e s.2))
+      (bind_err (line_behind defs b.0.0 b.0.1) (λ said. if are_known defs a.0 then Ok (b.0.0, said) else Err
+      UnknownName) e s.2))
       (bind_err (can_stand b.0.0 context) (λ here. then_last a.0 b.0) e b.2))
       (bind_err (keyword_at a.0) (then_line a.0) e a.2))
       (bind_err (tokens_of bytes) then_keyword e is)
 
-  pub line_reads : (number : ℕ) (bytes : List ℕ) (read : Keyword × Line) → list_all is_ascii bytes ≡ true → is_skipped bytes ≡ false → said_in defs context bytes ≡ Ok read
-      → line_in defs number context bytes ≡ Ok (record { said = read.1 ∷ []; context = context_behind number read.1 context })
+  pub line_reads : (number : ℕ) (bytes : List ℕ) (read : Keyword × Line) → list_all is_ascii bytes ≡ true
+      → is_skipped bytes ≡ false → said_in defs context bytes ≡ Ok read
+      → line_in defs number context bytes ≡ Ok (record
+      { said = read.1 ∷ []; context = context_behind number read.1 context })
   unfolding line_in
   line_reads number bytes read ascii some is = rw (ascii, some) (said_reads number bytes read is).1
 
@@ -351,11 +397,13 @@ module _ (defs : Defs) (context : Context) where
   unfolding line_in
   line_skips number bytes ascii skip = rw (ascii, skip) refl
 
-  pub line_foreign : (number : ℕ) (bytes : List ℕ) → list_all is_ascii bytes ≡ false → line_in defs number context bytes ≡ Err Syntax
+  pub line_foreign : (number : ℕ) (bytes : List ℕ) → list_all is_ascii bytes ≡ false
+      → line_in defs number context bytes ≡ Err Syntax
   unfolding line_in
   line_foreign number bytes foreign = rw foreign refl
 
-  pub line_fails : (e : LineFault) (number : ℕ) (bytes : List ℕ) → list_all is_ascii bytes ≡ true → is_skipped bytes ≡ false → Fails e (said_in defs context bytes)
+  pub line_fails : (e : LineFault) (number : ℕ) (bytes : List ℕ) → list_all is_ascii bytes ≡ true
+      → is_skipped bytes ≡ false → Fails e (said_in defs context bytes)
       → Fails e (line_in defs number context bytes)
   unfolding line_in
   line_fails Memory number bytes ascii some is = tt

@@ -17,7 +17,8 @@ use Rattle.txn_lang.specs.Numbers.{name_cmp, place_of, Indexes}
 
 -- ---- places
 
-next_place : (n len : ℕ) (b : Bool) → nat_lt n len ≡ b → cond (nat_lt (1 + n) (suc len)) (Some (1 + n)) None ≡ option_map suc (cond (nat_lt n len) (Some n) None)
+next_place : (n len : ℕ) (b : Bool) → nat_lt n len ≡ b
+    → cond (nat_lt (1 + n) (suc len)) (Some (1 + n)) None ≡ option_map suc (cond (nat_lt n len) (Some n) None)
 next_place n len true is =
     let lt : n < len = ltb-true n len is in
     let more : nat_lt (1 + n) (suc len) ≡ true = lt-ltb _ _ (omega arith) in
@@ -29,7 +30,8 @@ next_place n len false is =
     rw (more, is) refl
 
 first_place : (b : Bool) (n len : ℕ)
-    → cond (nat_lt (cond (not b) (1 + n) 0) (suc len)) (Some (cond (not b) (1 + n) 0)) None ≡ cond b (Some 0) (option_map suc (cond (nat_lt n len) (Some n) None))
+    → cond (nat_lt (cond (not b) (1 + n) 0) (suc len)) (Some (cond (not b) (1 + n) 0)) None ≡ cond b (Some 0)
+    (option_map suc (cond (nat_lt n len) (Some n) None))
 first_place true n len = let yes : nat_lt 0 (suc len) ≡ true = lt-ltb _ _ (omega arith) in rw yes refl
 first_place false n len = next_place n len (nat_lt n len) refl
 
@@ -53,9 +55,11 @@ module _ {X : Type 0} (p : X → Bool) where
   place_old : (xs : List X) (y : X) → p y ≡ false → position p (xs ++ y ∷ []) ≡ position p xs
   place_old [] y is = position_cons y [] ∙ rw is refl
   place_old (x ∷ xs) y is =
-      position_cons x (xs ++ y ∷ []) ∙ ap (λ (o : Option ℕ). cond (p x) (Some 0) (option_map suc o)) (place_old xs y is) ∙ sym (position_cons x xs)
+      position_cons x (xs ++ y ∷ []) ∙ ap (λ (o : Option ℕ). cond (p x) (Some 0) (option_map suc o)) (place_old xs y is)
+      ∙ sym (position_cons x xs)
 
-  here_or_later : (b : Bool) (x : X) (o : Option ℕ) (f : Option X) → is_some o ≡ is_some f → is_some (cond b (Some 0) (option_map suc o)) ≡ is_some (cond b (Some x) f)
+  here_or_later : (b : Bool) (x : X) (o : Option ℕ) (f : Option X) → is_some o ≡ is_some f
+      → is_some (cond b (Some 0) (option_map suc o)) ≡ is_some (cond b (Some x) f)
   here_or_later true x o f is = refl
   here_or_later false x None f is = is
   here_or_later false x (Some n) f is = is
@@ -63,7 +67,8 @@ module _ {X : Type 0} (p : X → Bool) where
   -- there is a place where something is found
   place_found : (xs : List X) → is_some (position p xs) ≡ is_some (find p xs)
   place_found [] = refl
-  place_found (x ∷ xs) = ap is_some (position_cons x xs) ∙ here_or_later (p x) x (position p xs) (find p xs) (place_found xs)
+  place_found (x ∷ xs) = ap is_some (position_cons x xs) ∙ here_or_later (p x) x (position p xs) (find p xs)
+      (place_found xs)
 
   at_place : (b : Bool) (x : X) (xs : List X) (o : Option ℕ) (f : Option X) → option_and_then (slice_get xs) o ≡ f
       → option_and_then (slice_get (x ∷ xs)) (cond b (Some 0) (option_map suc o)) ≡ cond b (Some x) f
@@ -74,7 +79,8 @@ module _ {X : Type 0} (p : X → Bool) where
   -- what stands at the place is what is found
   pub found_at : (xs : List X) → option_and_then (slice_get xs) (position p xs) ≡ find p xs
   found_at [] = refl
-  found_at (x ∷ xs) = ap (option_and_then (slice_get (x ∷ xs))) (position_cons x xs) ∙ at_place (p x) x xs (position p xs) (find p xs) (found_at xs)
+  found_at (x ∷ xs) = ap (option_and_then (slice_get (x ∷ xs))) (position_cons x xs) ∙ at_place (p x) x xs
+      (position p xs) (find p xs) (found_at xs)
 
 -- ---- names
 
@@ -99,13 +105,15 @@ name_is a b is = ap (λ (text : List ℕ). record { 0 = text }) (text_is a.0 b.0
 pub seen_is : (numbers : BTreeMap Name ℕ) (earlier : List Script) (s : Script) → Indexes numbers earlier
     → fault_of_script (is_some (get name_cmp numbers s.name)) s ≡ script_fault earlier s
 seen_is numbers earlier s indexed =
-    ap (λ (seen : Bool). fault_of_script seen s) (ap is_some (indexed s.name) ∙ place_found (λ x. same_text x.name.0 s.name.0) earlier)
+    ap (λ (seen : Bool). fault_of_script seen s) (ap is_some (indexed s.name) ∙ place_found
+    (λ x. same_text x.name.0 s.name.0) earlier)
 
 none_seen : (numbers : BTreeMap Name ℕ) (s : Script) (o : Option ℕ) → fault_of_script (is_some o) s ≡ None → o ≡ None
 none_seen numbers s None is = refl
 none_seen numbers s (Some n) is = absurd cc
 
-next_by : (earlier : List Script) (s : Script) (name : Name) (place : ℕ) (b : Bool) → place ≡ length earlier → place_of earlier s.name ≡ None → same_text s.name.0 name.0 ≡ b
+next_by : (earlier : List Script) (s : Script) (name : Name) (place : ℕ) (b : Bool) → place ≡ length earlier
+    → place_of earlier s.name ≡ None → same_text s.name.0 name.0 ≡ b
     → cond b (Some place) (place_of earlier name) ≡ place_of (earlier ++ s ∷ []) name
 next_by earlier s name place true at new is =
     let same = name_is s.name name is in
@@ -114,12 +122,14 @@ next_by earlier s name place true at new is =
 next_by earlier s name place false at new is = sym (place_old (λ x. same_text x.name.0 name.0) earlier s is)
 
 -- a map with one script more
-pub indexes_more : (old new : BTreeMap Name ℕ) (earlier : List Script) (s : Script) (place : ℕ) → place ≡ length earlier → Indexes old earlier
+pub indexes_more : (old new : BTreeMap Name ℕ) (earlier : List Script) (s : Script) (place : ℕ) → place ≡ length earlier
+    → Indexes old earlier
     → fault_of_script (is_some (get name_cmp old s.name)) s ≡ None
     → ((name : Name) → get name_cmp new name ≡ cond (is_at (name_cmp s.name) name) (Some place) (get name_cmp old name))
     → Indexes new (earlier ++ s ∷ [])
 indexes_more old new earlier s place at indexed fair put name =
-    let unseen : place_of earlier s.name ≡ None = sym (indexed s.name) ∙ none_seen old s (get name_cmp old s.name) fair in
+    let unseen : place_of earlier s.name ≡ None = sym (indexed s.name) ∙ none_seen old s (get name_cmp old s.name) fair
+    in
     put name ∙ ap (λ (b : Bool). cond b (Some place) (get name_cmp old name)) (same_name s.name name)
     ∙ ap (λ (o : Option ℕ). cond (same_text s.name.0 name.0) (Some place) o) (indexed name)
     ∙ next_by earlier s name place (same_text s.name.0 name.0) at unseen refl
@@ -129,9 +139,11 @@ indexes_more old new earlier s place at indexed fair put name =
 pub fault_more : (earlier : List Script) (s : Script) (more : List Script) → script_fault earlier s ≡ None
     → scripts_fault earlier (s ∷ more) ≡ scripts_fault (earlier ++ s ∷ []) more
 unfolding scripts_fault
-fault_more earlier s more fair = ap (λ (o : Option ScriptFault). or_later o (scripts_fault (earlier ++ s ∷ []) more)) fair
+fault_more earlier s more fair = ap (λ (o : Option ScriptFault). or_later o (scripts_fault (earlier ++ s ∷ []) more))
+    fair
 
-pub fault_here : (earlier : List Script) (s : Script) (more : List Script) (e : ScriptFault) → script_fault earlier s ≡ Some e → scripts_fault earlier (s ∷ more) ≡ Some e
+pub fault_here : (earlier : List Script) (s : Script) (more : List Script) (e : ScriptFault)
+    → script_fault earlier s ≡ Some e → scripts_fault earlier (s ∷ more) ≡ Some e
 unfolding scripts_fault
 fault_here earlier s more e is = ap (λ (o : Option ScriptFault). or_later o (scripts_fault (earlier ++ s ∷ []) more)) is
 
@@ -149,10 +161,13 @@ no_memory fault.TooLong reason h = h
 
 -- ---- the script at a place
 
-pub front_at : (scripts : List Script) (i : ℕ) (s : Script) → i < length scripts → s ≡ get_or scripts i s → take (i + 1) scripts ≡ take i scripts ++ s ∷ []
+pub front_at : (scripts : List Script) (i : ℕ) (s : Script) → i < length scripts → s ≡ get_or scripts i s
+    → take (i + 1) scripts ≡ take i scripts ++ s ∷ []
 front_at scripts i s lt is = take_more scripts i s lt ∙ ap (λ (x : Script). take i scripts ++ x ∷ []) (sym is)
 
-pub rest_at : (scripts : List Script) (i : ℕ) (s : Script) → i < length scripts → s ≡ get_or scripts i s → drop i scripts ≡ s ∷ drop (i + 1) scripts
+pub rest_at : (scripts : List Script) (i : ℕ) (s : Script) → i < length scripts → s ≡ get_or scripts i s
+    → drop i scripts ≡ s ∷ drop (i + 1) scripts
 rest_at scripts i s lt is =
     let next : suc i ≡ i + 1 = omega arith in
-    drop-cons scripts i s lt ∙ ap (λ (x : Script). x ∷ drop (suc i) scripts) (sym is) ∙ ap (λ (k : ℕ). s ∷ drop k scripts) next
+    drop-cons scripts i s lt ∙ ap (λ (x : Script). x ∷ drop (suc i) scripts) (sym is) ∙ ap
+    (λ (k : ℕ). s ∷ drop k scripts) next

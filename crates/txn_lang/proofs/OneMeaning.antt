@@ -71,23 +71,32 @@ front_nothing (Turns t p) = refl
 front_nothing (Closes t p) = refl
 
 -- lines that are statements, in front of others
-read_statements : {lines : List Line} {s : List Statement} → AreStatements lines s → (more : List Line) → part_of (lines ++ more) ≡ in_front s (part_of more)
+read_statements : {lines : List Line} {s : List Statement} → AreStatements lines s → (more : List Line)
+    → part_of (lines ++ more) ≡ in_front s (part_of more)
 read_statements none more = sym (front_nothing (part_of more))
 read_statements (one s {lines = lines} {more = t} k) more =
     ap (in_front (s ∷ [])) (read_statements k more) ∙ front_front (s ∷ []) t (part_of more)
 read_statements (if_end l c r {a = a} {lines = lines} {taken = taken} {more = t} p k) more =
     ap (λ (ls : List Line). chosen l c r (part_of ls)) (append_assoc a (line.End ∷ lines) more)
-    ∙ ap (chosen l c r) (read_statements p (line.End ∷ (lines ++ more)) ∙ ap (λ (x : List Statement). Closes x (part_of (lines ++ more))) (append-nil taken))
-    ∙ ap (in_front (choice l c r taken [] ∷ [])) (read_statements k more) ∙ front_front (choice l c r taken [] ∷ []) t (part_of more)
-read_statements (if_else_end l c r {a = a} {b = b} {lines = lines} {taken = taken} {otherwise = otherwise} {more = t} p q k) more =
+    ∙ ap (chosen l c r) (read_statements p (line.End ∷ (lines ++ more)) ∙ ap
+    (λ (x : List Statement). Closes x (part_of (lines ++ more))) (append-nil taken))
+    ∙ ap (in_front (choice l c r taken [] ∷ [])) (read_statements k more) ∙ front_front (choice l c r taken [] ∷ []) t
+    (part_of more)
+read_statements (if_else_end l c r {a = a} {b = b} {lines = lines} {taken = taken} {otherwise = otherwise} {more = t} p
+    q k) more =
     let rest : List Line = line.End ∷ (lines ++ more) in
-    ap (λ (ls : List Line). chosen l c r (part_of ls)) (append_assoc (a ++ line.Else ∷ b) (line.End ∷ lines) more ∙ append_assoc a (line.Else ∷ b) rest)
-    ∙ ap (chosen l c r) (read_statements p (line.Else ∷ (b ++ rest)) ∙ ap (λ (x : List Statement). Turns x (part_of (b ++ rest))) (append-nil taken))
-    ∙ ap (second l c r taken) (read_statements q rest ∙ ap (λ (x : List Statement). Closes x (part_of (lines ++ more))) (append-nil otherwise))
-    ∙ ap (in_front (choice l c r taken otherwise ∷ [])) (read_statements k more) ∙ front_front (choice l c r taken otherwise ∷ []) t (part_of more)
+    ap (λ (ls : List Line). chosen l c r (part_of ls))
+    (append_assoc (a ++ line.Else ∷ b) (line.End ∷ lines) more ∙ append_assoc a (line.Else ∷ b) rest)
+    ∙ ap (chosen l c r) (read_statements p (line.Else ∷ (b ++ rest)) ∙ ap
+    (λ (x : List Statement). Turns x (part_of (b ++ rest))) (append-nil taken))
+    ∙ ap (second l c r taken) (read_statements q rest ∙ ap (λ (x : List Statement). Closes x (part_of (lines ++ more)))
+    (append-nil otherwise))
+    ∙ ap (in_front (choice l c r taken otherwise ∷ [])) (read_statements k more) ∙ front_front
+    (choice l c r taken otherwise ∷ []) t (part_of more)
 read_statements (repeat_end n {a = a} {lines = lines} {body = body} {more = t} p k) more =
     ap (λ (ls : List Line). looped n (part_of ls)) (append_assoc a (line.End ∷ lines) more)
-    ∙ ap (looped n) (read_statements p (line.End ∷ (lines ++ more)) ∙ ap (λ (x : List Statement). Closes x (part_of (lines ++ more))) (append-nil body))
+    ∙ ap (looped n) (read_statements p (line.End ∷ (lines ++ more)) ∙ ap
+    (λ (x : List Statement). Closes x (part_of (lines ++ more))) (append-nil body))
     ∙ ap (in_front (loop n body ∷ [])) (read_statements k more) ∙ front_front (loop n body ∷ []) t (part_of more)
 
 -- ---- scripts
@@ -116,7 +125,8 @@ behind_is (script next {a = a} {lines = lines} {statements = t} {more = more} p 
     ∙ ap (λ (x : Part). named name s ∷ scripts_behind next x) (read_statements p lines)
     ∙ ap (λ (x : List Script). named name s ∷ x) (behind_is k next t)
 
-scripts_is : {lines : List Line} {scripts : List Script} → AreScripts lines scripts → scripts_at (part_of lines) ≡ scripts
+scripts_is : {lines : List Line} {scripts : List Script} → AreScripts lines scripts
+    → scripts_at (part_of lines) ≡ scripts
 scripts_is no_script = refl
 scripts_is (script name {a = a} {lines = lines} {statements = t} {more = more} p k) =
     ap (scripts_behind name) (read_statements p lines) ∙ behind_is k name t
@@ -140,7 +150,8 @@ written_one defs text a b p q =
     let same = same_read q.read p.read (sym q.lines ∙ p.lines) in
     scripts_one p.shape (subst (λ (r : Read). AreScripts r.said b) same q.shape)
 
-pub one_list : (defs : Defs) (text : List ℕ) (a b : List Script) → AreScriptsOf defs text a → AreScriptsOf defs text b → a ≡ b
+pub one_list : (defs : Defs) (text : List ℕ) (a b : List Script) → AreScriptsOf defs text a → AreScriptsOf defs text b
+    → a ≡ b
 one_list defs text a b p q = written_one defs text a b p.written q.written
 
 abbrev some_fault : ScriptFault → Option ScriptFault
@@ -152,12 +163,14 @@ none_some o f n s = absurd cc
 none_open : (o : Option ℕ) (n : ℕ) → o ≡ None → o ≡ Some n → ⊥
 none_open o n p q = absurd cc
 
-pub apart : (defs : Defs) (text : List ℕ) (scripts : List Script) (f : ScriptFault) → AreScriptsOf defs text scripts → HasFault defs text f → ⊥
+pub apart : (defs : Defs) (text : List ℕ) (scripts : List Script) (f : ScriptFault) → AreScriptsOf defs text scripts
+    → HasFault defs text f → ⊥
 apart defs text scripts f p (is_long long) = absurd (omega (arith, p.written.short))
 apart defs text scripts f p (in_line short is) = no_fault p.written.read _ (sym p.written.lines ∙ is)
 apart defs text scripts f p (is_open {read = read} {number = number} short is left) =
     let same = same_read read p.written.read (sym is ∙ p.written.lines) in
-    none_open (unclosed p.written.read.context) number p.written.closed (subst (λ (r : Read). unclosed r.context ≡ Some number) same left)
+    none_open (unclosed p.written.read.context) number p.written.closed
+    (subst (λ (r : Read). unclosed r.context ≡ Some number) same left)
 apart defs text scripts f p (in_script {scripts = others} {f = g} written is) =
     let same = written_one defs text others scripts written p.written in
     none_some (scripts_fault [] scripts) g p.fair (subst (λ (xs : List Script). scripts_fault [] xs ≡ Some g) same is)
@@ -176,14 +189,17 @@ same_option f g e = cc
 same_number : (m n : ℕ) → (o : Option ℕ) → o ≡ Some m → o ≡ Some n → m ≡ n
 same_number m n o p q = cc
 
-not_both : (defs : Defs) (text : List ℕ) (r : Read) (f : ScriptFault) → text_in defs text ≡ Ok r → text_in defs text ≡ Err f → ⊥
+not_both : (defs : Defs) (text : List ℕ) (r : Read) (f : ScriptFault) → text_in defs text ≡ Ok r
+    → text_in defs text ≡ Err f → ⊥
 not_both defs text r f p q = no_fault r f (sym p ∙ q)
 
-open_written : (defs : Defs) (text : List ℕ) (scripts : List Script) (read : Read) (number : ℕ) → IsWritten defs text scripts → text_in defs text ≡ Ok read
+open_written : (defs : Defs) (text : List ℕ) (scripts : List Script) (read : Read) (number : ℕ)
+    → IsWritten defs text scripts → text_in defs text ≡ Ok read
     → unclosed read.context ≡ Some number → ⊥
 open_written defs text scripts read number w is left =
     let same = same_read read w.read (sym is ∙ w.lines) in
-    none_open (unclosed w.read.context) number w.closed (subst (λ (r : Read). unclosed r.context ≡ Some number) same left)
+    none_open (unclosed w.read.context) number w.closed
+    (subst (λ (r : Read). unclosed r.context ≡ Some number) same left)
 
 pub one_fault : (defs : Defs) (text : List ℕ) (f g : ScriptFault) → HasFault defs text f → HasFault defs text g → f ≡ g
 one_fault defs text f g (is_long long) (is_long long2) = refl
@@ -192,17 +208,24 @@ one_fault defs text f g (is_long long) (is_open short is left) = absurd (omega a
 one_fault defs text f g (is_long long) (in_script w is) = absurd (omega (arith, w.short))
 one_fault defs text f g (in_line short is) (is_long long) = absurd (omega arith)
 one_fault defs text f g (in_line {f = f2} short is) (in_line {f = g2} short2 is2) = same_fault f2 g2 (sym is ∙ is2)
-one_fault defs text f g (in_line {f = f2} short is) (is_open {read = read} short2 is2 left) = absurd (not_both defs text read f2 is2 is)
+one_fault defs text f g (in_line {f = f2} short is) (is_open {read = read} short2 is2 left) =
+    absurd (not_both defs text read f2 is2 is)
 one_fault defs text f g (in_line {f = f2} short is) (in_script w is2) = absurd (not_both defs text w.read f2 w.lines is)
 one_fault defs text f g (is_open short is left) (is_long long) = absurd (omega arith)
-one_fault defs text f g (is_open {read = read} short is left) (in_line {f = g2} short2 is2) = absurd (not_both defs text read g2 is is2)
-one_fault defs text f g (is_open {read = r} {number = m} short is left) (is_open {read = s} {number = n} short2 is2 left2) =
+one_fault defs text f g (is_open {read = read} short is left) (in_line {f = g2} short2 is2) =
+    absurd (not_both defs text read g2 is is2)
+one_fault defs text f g (is_open {read = r} {number = m} short is left)
+    (is_open {read = s} {number = n} short2 is2 left2) =
     let same = same_read s r (sym is2 ∙ is) in
-    ap fault.Syntax (same_number m n (unclosed r.context) left (subst (λ (x : Read). unclosed x.context ≡ Some n) same left2))
-one_fault defs text f g (is_open {read = read} {number = m} short is left) (in_script {scripts = scripts} w is2) = absurd (open_written defs text scripts read m w is left)
+    ap fault.Syntax (same_number m n (unclosed r.context) left
+    (subst (λ (x : Read). unclosed x.context ≡ Some n) same left2))
+one_fault defs text f g (is_open {read = read} {number = m} short is left) (in_script {scripts = scripts} w is2) =
+    absurd (open_written defs text scripts read m w is left)
 one_fault defs text f g (in_script w is) (is_long long) = absurd (omega (arith, w.short))
-one_fault defs text f g (in_script w is) (in_line {f = g2} short2 is2) = absurd (not_both defs text w.read g2 w.lines is2)
-one_fault defs text f g (in_script {scripts = scripts} w is) (is_open {read = read} {number = m} short2 is2 left) = absurd (open_written defs text scripts read m w is2 left)
+one_fault defs text f g (in_script w is) (in_line {f = g2} short2 is2) =
+    absurd (not_both defs text w.read g2 w.lines is2)
+one_fault defs text f g (in_script {scripts = scripts} w is) (is_open {read = read} {number = m} short2 is2 left) =
+    absurd (open_written defs text scripts read m w is2 left)
 one_fault defs text f g (in_script {scripts = a} {f = f2} w is) (in_script {scripts = b} {f = g2} v is2) =
     let same = written_one defs text b a v w in
     same_option f2 g2 (sym is ∙ subst (λ (xs : List Script). scripts_fault [] xs ≡ Some g2) same is2)

@@ -28,7 +28,8 @@ module _ (defs : Defs) (text : List ℕ) (short : length text ≤ 1000000) where
   pub left_open : (b : Builder) (e : ScriptFault) → ReadsText defs text b → IsLeftOpen b e → HasFault defs text e
   left_open b e read h = subst (HasFault defs text) (sym h.2) (is_open short read.reads h.1)
 
-  pub written : (b : Builder) (scripts : List Script) (costs : List ℕ) → ReadsText defs text b → Finishes b scripts costs → IsWritten defs text scripts
+  pub written : (b : Builder) (scripts : List Script) (costs : List ℕ) → ReadsText defs text b
+      → Finishes b scripts costs → IsWritten defs text scripts
   written b scripts costs read done = record {
     short = short;
     read = record { said = read.said; context = context_of b };

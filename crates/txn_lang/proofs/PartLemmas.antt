@@ -6,12 +6,14 @@ use Rattle.txn_lang.specs.Parts.{one_token, word_of, word_at, sign_is, sign_at, 
 use Rattle.txn_lang.proofs.ReadingLemmas.{IsShorter, Shrinks, shorter_if, shorter_bind, shorter_le}
 
 -- a part, and then what stands behind it
-shorter_seq : {X A B : Type 0} (n : ℕ) (r : Reading (B × List X)) (f : B × List X → Reading (A × List X)) → IsShorter n r
+shorter_seq : {X A B : Type 0} (n : ℕ) (r : Reading (B × List X)) (f : B × List X → Reading (A × List X))
+    → IsShorter n r
     → ((x : B × List X) → length x.1 < n → IsShorter n (f x)) → IsShorter n (r >>= f)
 shorter_seq n (Ok x) f h k = k x h
 shorter_seq n (Err e) f h k = tt
 
-one_shrinks : {A : Type 0} (read : Token → Reading A) (tokens : List Token) → IsShorter (length tokens) (one_token read tokens)
+one_shrinks : {A : Type 0} (read : Token → Reading A) (tokens : List Token)
+    → IsShorter (length tokens) (one_token read tokens)
 one_shrinks read [] = tt
 one_shrinks read (t ∷ ts) = shorter_bind (suc (length ts)) (read t) (λ part. Ok (part, ts)) (λ part is. omega arith)
 
@@ -52,7 +54,8 @@ unfolding fsa_at
 fsa_shrinks tokens =
     let n : ℕ = length tokens in
     shorter_seq n (word_at tokens) _ (word_shrinks tokens) (λ field lt.
-    shorter_seq n (one_token fsa_op_of field.1) _ (shorter_le _ n _ (omega arith) (one_shrinks fsa_op_of field.1)) (λ op lt.
+    shorter_seq n (one_token fsa_op_of field.1) _ (shorter_le _ n _ (omega arith) (one_shrinks fsa_op_of field.1))
+    (λ op lt.
     shorter_seq n (operand_at op.1) _ (shorter_le _ n _ (omega arith) (operand_shrinks op.1)) (λ operand lt. lt)))
 
 pub field_shrinks : Shrinks field_at

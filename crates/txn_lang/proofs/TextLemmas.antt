@@ -26,7 +26,8 @@ is_newline b = b == 10
 abbrev IsCons : List (List ℕ) → Type 0
 IsCons parts = (x : List ℕ) × (more : List (List ℕ)) × (parts ≡ x ∷ more)
 
-cons_by : (b : ℕ) (newline : Bool) (parts : List (List ℕ)) → IsCons parts → IsCons (cond newline ([] ∷ parts) (onto_first b parts))
+cons_by : (b : ℕ) (newline : Bool) (parts : List (List ℕ)) → IsCons parts
+    → IsCons (cond newline ([] ∷ parts) (onto_first b parts))
 cons_by b true parts is = ([], parts, refl)
 cons_by b false [] is = (b ∷ [], [], refl)
 cons_by b false (x ∷ more) is = (b ∷ x, more, refl)
@@ -35,7 +36,8 @@ split_is_cons : (bytes : List ℕ) → IsCons (slice_split is_newline bytes)
 split_is_cons [] = ([], [], refl)
 split_is_cons (b ∷ bytes) = cons_by b (is_newline b) (slice_split is_newline bytes) (split_is_cons bytes)
 
-lines_at : (x : List ℕ) (parts : List (List ℕ)) → IsCons parts → lines_of_parts (x ∷ parts) ≡ strip_carriage_return x ∷ lines_of_parts parts
+lines_at : (x : List ℕ) (parts : List (List ℕ)) → IsCons parts
+    → lines_of_parts (x ∷ parts) ≡ strip_carriage_return x ∷ lines_of_parts parts
 lines_at x parts is = rw is.2 refl
 
 -- up to a newline
@@ -44,20 +46,26 @@ pub lines_first : (text : List ℕ) (place : ℕ) → place < length text → po
 lines_first text place lt at =
     let within : position_or_len is_newline text < length text = omega (arith, at) in
     let split = slice_split_first is_newline text 0 within in
-    ap lines_of_parts split ∙ lines_at (take (position_or_len is_newline text) text) (slice_split is_newline (drop (position_or_len is_newline text + 1) text)) (split_is_cons (drop (position_or_len is_newline text + 1) text))
+    ap lines_of_parts split ∙ lines_at (take (position_or_len is_newline text) text)
+    (slice_split is_newline (drop (position_or_len is_newline text + 1) text))
+    (split_is_cons (drop (position_or_len is_newline text + 1) text))
     ∙ ap (λ (n : ℕ). strip_carriage_return (take n text) ∷ lines_of (drop (n + 1) text)) at
 
-whole_by : (b : ℕ) (newline : Bool) (rest : ℕ) (bytes : List ℕ) (parts : List (List ℕ)) → suc (length bytes) ≤ cond (not newline) (1 + rest) 0 → (length bytes ≤ rest → parts ≡ bytes ∷ [])
+whole_by : (b : ℕ) (newline : Bool) (rest : ℕ) (bytes : List ℕ) (parts : List (List ℕ))
+    → suc (length bytes) ≤ cond (not newline) (1 + rest) 0 → (length bytes ≤ rest → parts ≡ bytes ∷ [])
     → cond newline ([] ∷ parts) (onto_first b parts) ≡ (b ∷ bytes) ∷ []
 whole_by b true rest bytes parts le is = absurd (omega arith)
 whole_by b false rest bytes parts le is = let e : parts ≡ bytes ∷ [] = is (omega arith) in rw e refl
 
-split_whole : (bytes : List ℕ) → length bytes ≤ position_or_len is_newline bytes → slice_split is_newline bytes ≡ bytes ∷ []
+split_whole : (bytes : List ℕ) → length bytes ≤ position_or_len is_newline bytes
+    → slice_split is_newline bytes ≡ bytes ∷ []
 split_whole [] le = refl
-split_whole (b ∷ bytes) le = whole_by b (is_newline b) (position_or_len is_newline bytes) bytes (slice_split is_newline bytes) le (split_whole bytes)
+split_whole (b ∷ bytes) le = whole_by b (is_newline b) (position_or_len is_newline bytes) bytes
+    (slice_split is_newline bytes) le (split_whole bytes)
 
 -- a last line without newline
-pub lines_last : (text : List ℕ) → 0 < length text → length text ≤ position_or_len is_newline text → lines_of text ≡ text ∷ []
+pub lines_last : (text : List ℕ) → 0 < length text → length text ≤ position_or_len is_newline text
+    → lines_of text ≡ text ∷ []
 lines_last [] some le = absurd (omega arith)
 lines_last (b ∷ bytes) some le =
     let no : (length (b ∷ bytes) == 0) ≡ false = grind (arith, nat_tests) in
@@ -69,22 +77,29 @@ module _ (defs : Defs) where
   abbrev then_lines : ℕ → List (List ℕ) → Context → Result Read ScriptFault
   then_lines number more next = lines_in defs (number + 1) next more
 
-  front_more : (before said : List Line) (rest : Result Read ScriptFault) → in_front before (in_front said rest) ≡ in_front (before ++ said) rest
-  front_more before said (Ok read) = ap (λ (all : List Line). Ok (record read { said = all })) (sym (append_assoc before said read.said))
+  front_more : (before said : List Line) (rest : Result Read ScriptFault)
+      → in_front before (in_front said rest) ≡ in_front (before ++ said) rest
+  front_more before said (Ok read) = ap (λ (all : List Line). Ok (record read { said = all }))
+      (sym (append_assoc before said read.said))
   front_more before said (Err e) = refl
 
   -- a line was read
-  pub line_more : (number : ℕ) (context next : Context) (before said : List Line) (bytes : List ℕ) (all more : List (List ℕ)) (total : Result Read ScriptFault)
+  pub line_more : (number : ℕ) (context next : Context) (before said : List Line) (bytes : List ℕ)
+      (all more : List (List ℕ)) (total : Result Read ScriptFault)
       → all ≡ bytes ∷ more → line_in defs number context bytes ≡ Ok (record { said = said; context = next })
       → in_front before (lines_in defs number context all) ≡ total
       → in_front (before ++ said) (lines_in defs (number + 1) next more) ≡ total
   unfolding lines_in
   line_more number context next before said bytes all more total split is so_far =
-      let one : in_front before (lines_in defs number context (bytes ∷ more)) ≡ in_front (before ++ said) (lines_in defs (number + 1) next more) =
-      ap (λ (read : Reading Read). in_front before (and_then (numbered number read) (then_lines number more))) is ∙ front_more before said (lines_in defs (number + 1) next more) in
-      sym one ∙ ap (λ (lines : List (List ℕ)). in_front before (lines_in defs number context lines)) (sym split) ∙ so_far
+      let one : in_front before (lines_in defs number context (bytes ∷ more)) ≡ in_front (before ++ said)
+      (lines_in defs (number + 1) next more) =
+      ap (λ (read : Reading Read). in_front before (and_then (numbered number read) (then_lines number more))) is ∙
+      front_more before said (lines_in defs (number + 1) next more) in
+      sym one ∙ ap (λ (lines : List (List ℕ)). in_front before (lines_in defs number context lines)) (sym split) ∙
+      so_far
 
-  line_stops : (number : ℕ) (context : Context) (before : List Line) (bytes : List ℕ) (all more : List (List ℕ)) (e : LineFault) (total : Result Read ScriptFault)
+  line_stops : (number : ℕ) (context : Context) (before : List Line) (bytes : List ℕ) (all more : List (List ℕ))
+      (e : LineFault) (total : Result Read ScriptFault)
       → all ≡ bytes ∷ more → line_in defs number context bytes ≡ Err e
       → in_front before (lines_in defs number context all) ≡ total → total ≡ Err (at_line number e)
   unfolding lines_in
@@ -93,16 +108,22 @@ module _ (defs : Defs) where
       ∙ ap (λ (read : Reading Read). in_front before (and_then (numbered number read) (then_lines number more))) is
 
   -- a line was refused
-  pub line_refused : (e : LineFault) (number : ℕ) (context : Context) (before : List Line) (bytes : List ℕ) (all more : List (List ℕ)) (total : Result Read ScriptFault)
+  pub line_refused : (e : LineFault) (number : ℕ) (context : Context) (before : List Line) (bytes : List ℕ)
+      (all more : List (List ℕ)) (total : Result Read ScriptFault)
       → all ≡ bytes ∷ more → Fails e (line_in defs number context bytes)
-      → in_front before (lines_in defs number context all) ≡ total → Refuses (at_line number e) (total ≡ Err (at_line number e))
+      → in_front before (lines_in defs number context all) ≡ total
+      → Refuses (at_line number e) (total ≡ Err (at_line number e))
   line_refused Memory number context before bytes all more total split is so_far = tt
-  line_refused Syntax number context before bytes all more total split is so_far = line_stops number context before bytes all more Syntax total split is so_far
-  line_refused UnknownName number context before bytes all more total split is so_far = line_stops number context before bytes all more UnknownName total split is so_far
+  line_refused Syntax number context before bytes all more total split is so_far =
+      line_stops number context before bytes all more Syntax total split is so_far
+  line_refused UnknownName number context before bytes all more total split is so_far =
+      line_stops number context before bytes all more UnknownName total split is so_far
 
   -- no line is left
-  pub lines_done : (number : ℕ) (context : Context) (before : List Line) (all : List (List ℕ)) (total : Result Read ScriptFault) → all ≡ []
-      → in_front before (lines_in defs number context all) ≡ total → total ≡ Ok (record { said = before; context = context })
+  pub lines_done : (number : ℕ) (context : Context) (before : List Line) (all : List (List ℕ))
+      (total : Result Read ScriptFault) → all ≡ []
+      → in_front before (lines_in defs number context all) ≡ total
+      → total ≡ Ok (record { said = before; context = context })
   unfolding lines_in
   lines_done number context before all total none so_far =
       sym so_far ∙ ap (λ (lines : List (List ℕ)). in_front before (lines_in defs number context lines)) none

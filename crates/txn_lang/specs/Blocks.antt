@@ -123,16 +123,20 @@ pub data AreStatements : List Line → List Statement → Type 0 where
       → AreStatements lines more
       → AreStatements (line.Whole s ∷ lines) (s ∷ more)
   -- IF .. END, and more
-  if_end : (left : Operand) (comparison : Comparison) (right : Operand) {a lines : List Line} {taken more : List Statement}
+  if_end : (left : Operand) (comparison : Comparison) (right : Operand) {a lines : List Line}
+      {taken more : List Statement}
       → AreStatements a taken
       → AreStatements lines more
-      → AreStatements (line.If left comparison right ∷ a ++ line.End ∷ lines) (choice left comparison right taken [] ∷ more)
+      → AreStatements (line.If left comparison right ∷ a ++ line.End ∷ lines)
+      (choice left comparison right taken [] ∷ more)
   -- IF .. ELSE .. END, and more
-  if_else_end : (left : Operand) (comparison : Comparison) (right : Operand) {a b lines : List Line} {taken otherwise more : List Statement}
+  if_else_end : (left : Operand) (comparison : Comparison) (right : Operand) {a b lines : List Line}
+      {taken otherwise more : List Statement}
       → AreStatements a taken
       → AreStatements b otherwise
       → AreStatements lines more
-      → AreStatements (line.If left comparison right ∷ a ++ line.Else ∷ b ++ line.End ∷ lines) (choice left comparison right taken otherwise ∷ more)
+      → AreStatements (line.If left comparison right ∷ a ++ line.Else ∷ b ++ line.End ∷ lines)
+      (choice left comparison right taken otherwise ∷ more)
   -- REPEAT n .. END, and more
   repeat_end : (times : ℕ) {a lines : List Line} {body more : List Statement}
       → AreStatements a body

@@ -45,7 +45,12 @@ abbrev pub open_of : Frame → Open
 open_of frame = record { kind = kind_of frame.opening; line = frame.line }
 
 abbrev pub context_of : Builder → Context
-context_of b = record { has_begun = is_some b.begun; open_blocks = map open_of (reverse b.frames); left_open = b.left_open }
+context_of b = record {
+  has_begun = is_some b.begun;
+  open_blocks = map open_of (reverse b.frames);
+  left_open =
+      b.left_open;
+}
 
 -- what is open behind a line that can stand there
 abbrev pub or_same : Context → Option (List Open) → Context
@@ -53,7 +58,10 @@ or_same context None = context
 or_same context (Some blocks) = record context { open_blocks = blocks }
 
 abbrev pub with_block : Kind → ℕ → Context → Context
-with_block kind number context = record context { open_blocks = record { kind = kind; line = number } ∷ context.open_blocks }
+with_block kind number context = record context {
+  open_blocks =
+      record { kind = kind; line = number } ∷ context.open_blocks;
+}
 
 abbrev pub context_behind : ℕ → Line → Context → Context
 context_behind number (line.Tran name) context = begun context
@@ -83,7 +91,8 @@ abbrev pub IsOpened : Opening → List Statement → List Line → Type 0
 IsOpened (opening.Choice left comparison right) statements lines =
     (a : List Line) × (lines ≡ line.If left comparison right ∷ a) × AreStatements a statements
 IsOpened (opening.Otherwise left comparison right taken) statements lines =
-    (a b : List Line) × (lines ≡ line.If left comparison right ∷ a ++ line.Else ∷ b) × AreStatements a taken.statements × AreStatements b statements
+    (a b : List Line) × (lines ≡ line.If left comparison right ∷ a ++ line.Else ∷ b) × AreStatements a taken.statements
+    × AreStatements b statements
 IsOpened (opening.Loop times) statements lines =
     (a : List Line) × (lines ≡ line.Repeat times ∷ a) × AreStatements a statements
 
@@ -113,7 +122,8 @@ AreFrames (frame ∷ frames) = IsOpening frame.opening × IsBlock frame.outer ×
 -- the statement that a block makes at its END
 abbrev pub statement_by : Opening → List Statement → Statement
 statement_by (opening.Choice left comparison right) statements = choice left comparison right statements []
-statement_by (opening.Otherwise left comparison right taken) statements = choice left comparison right taken.statements statements
+statement_by (opening.Otherwise left comparison right taken) statements =
+    choice left comparison right taken.statements statements
 statement_by (opening.Loop times) statements = loop times statements
 
 -- whatever the lines are, costs are right; and where no script was left open, the scripts are the lines

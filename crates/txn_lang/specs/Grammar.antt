@@ -120,6 +120,8 @@ pub record AreScriptsOf (defs : Defs) (text : List ℕ) (scripts : List Script) 
 pub data HasFault (defs : Defs) (text : List ℕ) : ScriptFault → Type 0 where
   is_long : 1000000 < length text → HasFault defs text fault.TooLong
   in_line : {f : ScriptFault} → length text ≤ 1000000 → text_in defs text ≡ Err f → HasFault defs text f
-  is_open : {read : Read} {number : ℕ} → length text ≤ 1000000 → text_in defs text ≡ Ok read → unclosed read.context ≡ Some number
+  is_open : {read : Read} {number : ℕ} → length text ≤ 1000000 → text_in defs text ≡ Ok read
+      → unclosed read.context ≡ Some number
       → HasFault defs text (fault.Syntax number)
-  in_script : {scripts : List Script} {f : ScriptFault} → IsWritten defs text scripts → scripts_fault [] scripts ≡ Some f → HasFault defs text f
+  in_script : {scripts : List Script} {f : ScriptFault} → IsWritten defs text scripts
+      → scripts_fault [] scripts ≡ Some f → HasFault defs text f

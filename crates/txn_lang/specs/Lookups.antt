@@ -70,7 +70,8 @@ db_by None None count = Err UnknownName
 -- the number of a database
 unfoldable pub db_of : Defs → Name → Reading ℕ
 db_of defs name =
-    db_by (position (λ def. has_name name def.name) defs.msdbs) (position (λ def. has_name name def.name) defs.dedbs) (length defs.msdbs)
+    db_by (position (λ def. has_name name def.name) defs.msdbs) (position (λ def. has_name name def.name) defs.dedbs)
+    (length defs.msdbs)
 
 -- whether that of a number is a main storage database
 abbrev pub is_msdb : Defs → ℕ → Bool
@@ -91,7 +92,8 @@ pub record HaveByteNumbers (defs : Defs) : Type 0 where
 abbrev pub key_alone : WrittenSsa → Reading (List SsaText)
 key_alone written = elim written.key [
   | None ↦ Err Syntax
-  | Some key ↦ if is_word (codes "KEY") written.name then Ok (record { segment = 0; key = Some key } ∷ []) else Err Syntax
+  | Some key ↦ if is_word (codes "KEY") written.name then Ok (record { segment = 0; key = Some key } ∷ []) else Err
+      Syntax
 ]
 
 abbrev pub msdb_ssas : List WrittenSsa → Reading (List SsaText)

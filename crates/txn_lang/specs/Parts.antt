@@ -67,7 +67,8 @@ sign_at byte tokens = one_token (sign_is byte) tokens
 
 -- a variable is a word that isn't STATUS, FSAS, IO or KEY
 abbrev pub is_reserved : Name → Bool
-is_reserved name = is_word (codes "STATUS") name || is_word (codes "FSAS") name || is_word (codes "IO") name || is_word (codes "KEY") name
+is_reserved name = is_word (codes "STATUS") name || is_word (codes "FSAS") name || is_word (codes "IO") name || is_word
+    (codes "KEY") name
 
 abbrev pub variable_named : Name → Reading Name
 variable_named name = if is_reserved name then Err Syntax else Ok name

@@ -311,7 +311,8 @@ impl Builder {
         requires begun { IsSome self.begun }
         requires first { building.IsFirst opening }
         requires opening { building.IsOpening opening }
-        ensures context { IfOk result (λ b. context_of b ≡ building.with_block (building.kind_of opening) line (context_of self)) }
+        ensures context { IfOk result (λ b. context_of b ≡ building.with_block (building.kind_of opening) line
+            (context_of self)) }
         ensures built { IfOk result (λ b. Adds self (building.opening_line opening) b) }
     {
         let Builder {
@@ -342,7 +343,8 @@ impl Builder {
     fn turn(self, alloc: Global) -> Result<Builder, AllocError>
         requires begun { IsSome self.begun }
         requires choice { IsSome (blocks.else_in (context_of self).open_blocks) }
-        ensures context { IfOk result (λ b. context_of b ≡ building.or_same (context_of self) (blocks.else_in (context_of self).open_blocks)) }
+        ensures context { IfOk result (λ b. context_of b ≡ building.or_same (context_of self)
+            (blocks.else_in (context_of self).open_blocks)) }
         ensures built { IfOk result (λ b. Adds self line.Else b) }
     {
         let Builder {
@@ -393,7 +395,8 @@ impl Builder {
         requires some { IsSome (blocks.end_in (context_of self).open_blocks) }
         requires block { IsBlock self.block }
         requires frames { building.AreFrames (reverse self.frames) }
-        ensures context { IfOk result (λ b. context_of b ≡ building.or_same (context_of self) (blocks.end_in (context_of self).open_blocks)) }
+        ensures context { IfOk result (λ b. context_of b ≡ building.or_same (context_of self)
+            (blocks.end_in (context_of self).open_blocks)) }
         ensures built { IfOk result (λ b. Adds self line.End b) }
     {
         let Builder {
@@ -586,7 +589,8 @@ fn with_last(
 ) -> Result<(List<Script>, List<u64>), AllocError>
     requires { IsBlock block }
     ensures scripts { IfOk result (λ x. x.0 ≡ scripts ++ building.finished begun block.statements) }
-    ensures costs { IfOk result (λ x. costs ≡ map (λ s. cost s.statements) scripts → x.1 ≡ map (λ s. cost s.statements) x.0) }
+    ensures costs { IfOk result (λ x. costs ≡ map (λ s. cost s.statements) scripts
+        → x.1 ≡ map (λ s. cost s.statements) x.0) }
 {
     let mut scripts = scripts;
     let mut costs = costs;

@@ -17,15 +17,19 @@ pub fn definitions_have_byte_numbers()
 
 /// A text is one list of scripts at most, one that is scripts has no fault, and any other has one first fault at most.
 pub fn a_text_has_one_meaning()
-    ensures one { (defs : Defs) (text : List ℕ) (a b : List Script) → AreScriptsOf defs text a → AreScriptsOf defs text b → a ≡ b }
-    ensures fault { (defs : Defs) (text : List ℕ) (f g : ScriptFault) → HasFault defs text f → HasFault defs text g → f ≡ g }
-    ensures apart { (defs : Defs) (text : List ℕ) (scripts : List Script) (f : ScriptFault) → AreScriptsOf defs text scripts → HasFault defs text f → ⊥ }
+    ensures one { (defs : Defs) (text : List ℕ) (a b : List Script) → AreScriptsOf defs text a
+        → AreScriptsOf defs text b → a ≡ b }
+    ensures fault { (defs : Defs) (text : List ℕ) (f g : ScriptFault) → HasFault defs text f → HasFault defs text g
+        → f ≡ g }
+    ensures apart { (defs : Defs) (text : List ℕ) (scripts : List Script) (f : ScriptFault)
+        → AreScriptsOf defs text scripts → HasFault defs text f → ⊥ }
 {}
 
 /// Scripts that were read under definitions without data entry databases call databases that are defined, field calls
 /// have 1 to 255 search arguments, and each script takes at most 10,000 calls.
 pub fn what_was_read_fits()
-    ensures fit { (defs : Defs) (text : List ℕ) (scripts : List Script) → AreScriptsOf defs text scripts → defs.dedbs ≡ []
+    ensures fit { (defs : Defs) (text : List ℕ) (scripts : List Script) → AreScriptsOf defs text scripts
+        → defs.dedbs ≡ []
         → AllByRecursion (λ s. are_fit defs s.statements ≡ true) scripts }
     ensures cheap { (defs : Defs) (text : List ℕ) (scripts : List Script) → AreScriptsOf defs text scripts
         → AllByRecursion (λ s. full_cost s.statements ≤ 10000) scripts }

@@ -22,7 +22,8 @@ fn check_script(
 ) -> Result<(), ScriptFault>
     requires { script_cost ≡ cost script.now.statements }
     ensures ok { IfOk result (λ x. fault_of_script (is_some (get name_cmp seen.now script.now.name)) script.now ≡ None) }
-    ensures err { IfErr result (λ e. fault_of_script (is_some (get name_cmp seen.now script.now.name)) script.now ≡ Some e) }
+    ensures err { IfErr result (λ e. fault_of_script (is_some (get name_cmp seen.now script.now.name)) script.now ≡ Some
+        e) }
 {
     if seen.get(&script.name).is_some() {
         return Err(ScriptFault::Twice(script.name));

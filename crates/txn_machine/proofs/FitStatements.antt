@@ -41,12 +41,19 @@ all_mapped f [] = refl
 all_mapped f (s ∷ ss) = ap (λ (b : Bool). f s && b) (all_mapped f ss)
 
 module _ (defs : Defs) where
-  fit_out : (s : Statement) → fits_statement defs s ≡ fits_step defs (map-Statement Statement Bool (fits_statement defs) (out-Statement s))
+  fit_out : (s : Statement) → fits_statement defs s ≡ fits_step defs
+      (map-Statement Statement Bool (fits_statement defs) (out-Statement s))
   fit_out s = fold_out-Statement Bool (fits_step defs) s
 
-  fit_choice : (d : Statement-F Statement) (holds : Bool) → fits_step defs (map-Statement Statement Bool (fits_statement defs) d) ≡ true → are_fit defs (choice_in holds d) ≡ true
-  fit_choice (If left comparison right taken otherwise) true h = sym (all_mapped (fits_statement defs) taken) ∙ (and_parts (list_all (λ b. b) (map (fits_statement defs) taken)) _ h).0
-  fit_choice (If left comparison right taken otherwise) false h = sym (all_mapped (fits_statement defs) otherwise) ∙ (and_parts (list_all (λ b. b) (map (fits_statement defs) taken)) _ h).1
+  fit_choice : (d : Statement-F Statement) (holds : Bool)
+      → fits_step defs (map-Statement Statement Bool (fits_statement defs) d) ≡ true
+      → are_fit defs (choice_in holds d) ≡ true
+  fit_choice (If left comparison right taken otherwise) true h =
+      sym (all_mapped (fits_statement defs) taken) ∙
+      (and_parts (list_all (λ b. b) (map (fits_statement defs) taken)) _ h).0
+  fit_choice (If left comparison right taken otherwise) false h =
+      sym (all_mapped (fits_statement defs) otherwise) ∙
+      (and_parts (list_all (λ b. b) (map (fits_statement defs) taken)) _ h).1
   fit_choice (Set variable first rest) true h = refl
   fit_choice (Set variable first rest) false h = refl
   fit_choice (Repeat n body) true h = refl
@@ -68,7 +75,8 @@ module _ (defs : Defs) where
   fit_choice (Dlet db) true h = refl
   fit_choice (Dlet db) false h = refl
 
-  fit_loop : (d : Statement-F Statement) → fits_step defs (map-Statement Statement Bool (fits_statement defs) d) ≡ true → are_fit defs (loop_in d) ≡ true
+  fit_loop : (d : Statement-F Statement) → fits_step defs (map-Statement Statement Bool (fits_statement defs) d) ≡ true
+      → are_fit defs (loop_in d) ≡ true
   fit_loop (Repeat n body) h = sym (all_mapped (fits_statement defs) body) ∙ h
   fit_loop (If left comparison right taken otherwise) h = refl
   fit_loop (Set variable first rest) h = refl
@@ -81,28 +89,36 @@ module _ (defs : Defs) where
   fit_loop (Repl db fields) h = refl
   fit_loop (Dlet db) h = refl
 
-  pub fit_at : (ss : List Statement) (i : ℕ) (s : Statement) → are_fit defs ss ≡ true → slice_get ss i ≡ Some s → fits_statement defs s ≡ true
+  pub fit_at : (ss : List Statement) (i : ℕ) (s : Statement) → are_fit defs ss ≡ true → slice_get ss i ≡ Some s
+      → fits_statement defs s ≡ true
   fit_at [] i s h is = absurd cc
-  fit_at (t ∷ ts) zero s h is = let same : t ≡ s = cc in ap (fits_statement defs) (sym same) ∙ (and_parts (fits_statement defs t) (are_fit defs ts) h).0
+  fit_at (t ∷ ts) zero s h is = let same : t ≡ s = cc in
+      ap (fits_statement defs) (sym same) ∙ (and_parts (fits_statement defs t) (are_fit defs ts) h).0
   fit_at (t ∷ ts) (suc i) s h is = fit_at ts i s (and_parts (fits_statement defs t) (are_fit defs ts) h).1 is
 
-  fit_within : (f : Statement-F Statement → List Statement) (o : Option Statement) → ((s : Statement) → o ≡ Some s → fits_statement defs s ≡ true)
-      → ((d : Statement-F Statement) → fits_step defs (map-Statement Statement Bool (fits_statement defs) d) ≡ true → are_fit defs (f d) ≡ true) → are_fit defs (block_in f o) ≡ true
+  fit_within : (f : Statement-F Statement → List Statement) (o : Option Statement)
+      → ((s : Statement) → o ≡ Some s → fits_statement defs s ≡ true)
+      → ((d : Statement-F Statement) → fits_step defs (map-Statement Statement Bool (fits_statement defs) d) ≡ true
+      → are_fit defs (f d) ≡ true) → are_fit defs (block_in f o) ≡ true
   fit_within f None h k = refl
   fit_within f (Some s) h k = k (out-Statement s) (sym (fit_out s) ∙ h s refl)
 
   fit_inner : (f : Frame) (block : List Statement) → are_fit defs block ≡ true → are_fit defs (inner f block) ≡ true
-  fit_inner (frame.Choice behind holds) block h = fit_within (choice_in holds) (slice_get block _) (λ s is. fit_at block _ s h is) (λ d e. fit_choice d holds e)
-  fit_inner (frame.Loop behind left) block h = fit_within loop_in (slice_get block _) (λ s is. fit_at block _ s h is) (λ d e. fit_loop d e)
+  fit_inner (frame.Choice behind holds) block h = fit_within (choice_in holds) (slice_get block _)
+      (λ s is. fit_at block _ s h is) (λ d e. fit_choice d holds e)
+  fit_inner (frame.Loop behind left) block h = fit_within loop_in (slice_get block _) (λ s is. fit_at block _ s h is)
+      (λ d e. fit_loop d e)
 
-  pub fit_block : (frames : List Frame) (block : List Statement) → are_fit defs block ≡ true → are_fit defs (block_at frames block) ≡ true
+  pub fit_block : (frames : List Frame) (block : List Statement) → are_fit defs block ≡ true
+      → are_fit defs (block_at frames block) ≡ true
   fit_block [] block h = h
   fit_block (f ∷ fs) block h = fit_block fs (inner f block) (fit_inner f block h)
 
 -- ---- calls
 
 -- what is asked where a call is worked out
-asked_of : (o : Option Call) (asked : Call) (env : Env) → env.answers ≡ [] → or_rolls o (λ a. called a env) ≡ Ends (Asks asked) → o ≡ Some asked
+asked_of : (o : Option Call) (asked : Call) (env : Env) → env.answers ≡ []
+    → or_rolls o (λ a. called a env) ≡ Ends (Asks asked) → o ≡ Some asked
 asked_of None asked env none is = absurd cc
 asked_of (Some a) asked env none is =
     let at_once : called a env ≡ Ends (Asks a) = rw none refl in
@@ -116,16 +132,20 @@ module _ (defs : Defs) (message : Message) (env : Env) (well : AllByRecursion Is
   defined : (db : ℕ) → nat_lt db (length defs.msdbs) ≡ true → (def : MsdbDef) × (slice_get defs.msdbs db ≡ Some def)
   defined db h = def_at defs.msdbs db (ltb-true db (length defs.msdbs) h)
 
-  fit_get : (get : _) (hold : Bool) (db : ℕ) (ssas : _) (asked : Call) → nat_lt db (length defs.msdbs) ≡ true → get_call defs message env (call.Get get hold db) db ssas ≡ Some asked → IsMsdbCall defs.msdbs asked
+  fit_get : (get : _) (hold : Bool) (db : ℕ) (ssas : _) (asked : Call) → nat_lt db (length defs.msdbs) ≡ true
+      → get_call defs message env (call.Get get hold db) db ssas ≡ Some asked → IsMsdbCall defs.msdbs asked
   fit_get get hold db ssas asked h is =
       let m = mapped (ssas_of defs message env db ssas) (call.Get get hold db) asked is in
       let def = defined db h in
-      subst (λ (c : Call). IsMsdbCall defs.msdbs c) m.2 (def.0, def.1, ssas_fit defs message env db ssas def.0 m.0 def.1 m.1)
+      subst (λ (c : Call). IsMsdbCall defs.msdbs c) m.2
+      (def.0, def.1, ssas_fit defs message env db ssas def.0 m.0 def.1 m.1)
 
   fit_fld : (db : ℕ) (key : _) (fsas : _) (asked : Call) → (nat_lt db (length defs.msdbs) && is_some_few fsas) ≡ true
-      → ((list : List Fsa) → fsas_given defs message env fsas ≡ Some list → AllByRecursion IsFsa list) → fld_call defs message env db key fsas ≡ Some asked → IsMsdbCall defs.msdbs asked
+      → ((list : List Fsa) → fsas_given defs message env fsas ≡ Some list → AllByRecursion IsFsa list)
+      → fld_call defs message env db key fsas ≡ Some asked → IsMsdbCall defs.msdbs asked
   fit_fld db key fsas asked h spelled is =
-      let k = made (key_text defs message env db 0 key) (λ b. fsas_given defs message env fsas >>= (λ l. Some (call.Fld db b (list_text l)))) asked is in
+      let k = made (key_text defs message env db 0 key)
+      (λ b. fsas_given defs message env fsas >>= (λ l. Some (call.Fld db b (list_text l)))) asked is in
       let l = made (fsas_given defs message env fsas) (λ l. Some (call.Fld db k.0 (list_text l))) asked k.2 in
       let both = and_parts (nat_lt db (length defs.msdbs)) (is_some_few fsas) h in
       let few = and_parts (nat_le 1 (length fsas)) (nat_le (length fsas) 255) both.1 in
@@ -137,36 +157,71 @@ module _ (defs : Defs) (message : Message) (env : Env) (well : AllByRecursion Is
       subst (λ (c : Call). IsMsdbCall defs.msdbs c) same (
         def.0,
         def.1,
-        (key_fits defs message env db 0 key def.0 k.0 def.1 k.1, record { fsas = l.0; count = (omega (arith, long, low), omega (arith, long, high)); each = spelled l.0 l.1; text = refl }),
+        (
+          key_fits defs message env db 0 key def.0 k.0 def.1 k.1,
+          record {
+            fsas = l.0;
+            count = (omega (arith, long, low), omega (arith, long, high));
+            each =
+                spelled l.0 l.1;
+            text = refl;
+          },
+        ),
       )
 
-  fit_isrt : (db : ℕ) (ssas : _) (fields : _) (asked : Call) → nat_lt db (length defs.msdbs) ≡ true → isrt_call defs message env db ssas fields ≡ Some asked → IsMsdbCall defs.msdbs asked
+  fit_isrt : (db : ℕ) (ssas : _) (fields : _) (asked : Call) → nat_lt db (length defs.msdbs) ≡ true
+      → isrt_call defs message env db ssas fields ≡ Some asked → IsMsdbCall defs.msdbs asked
   fit_isrt db ssas fields asked h is =
       let def = defined db h in
-      let found = made (ssas_of defs message env db ssas) (λ f. layout_of defs db (new_type defs message ssas) >>= (λ l. empty_segment l.fields >>= (λ s. filled defs message env l.fields fields s >>= (λ b. Some (call.Isrt db f b))))) asked is in
-      let layout : (empty_segment def.0.fields >>= (λ s. filled defs message env def.0.fields fields s >>= (λ b. Some (call.Isrt db found.0 b)))) ≡ Some asked =
-      sym (ap (λ (o : Option Layout). o >>= (λ l. empty_segment l.fields >>= (λ s. filled defs message env l.fields fields s >>= (λ b. Some (call.Isrt db found.0 b))))) (layout_is defs db (new_type defs message ssas) def.0 def.1)) ∙ found.2 in
-      let segment = made (empty_segment def.0.fields) (λ s. filled defs message env def.0.fields fields s >>= (λ b. Some (call.Isrt db found.0 b))) asked layout in
-      let bytes = made (filled defs message env def.0.fields fields segment.0) (λ b. Some (call.Isrt db found.0 b)) asked segment.2 in
+      let found = made (ssas_of defs message env db ssas)
+      (λ f. layout_of defs db (new_type defs message ssas) >>=
+      (λ l. empty_segment l.fields >>= (λ s. filled defs message env l.fields fields s >>=
+      (λ b. Some (call.Isrt db f b))))) asked is in
+      let layout : (empty_segment def.0.fields >>= (λ s. filled defs message env def.0.fields fields s >>=
+      (λ b. Some (call.Isrt db found.0 b)))) ≡ Some asked =
+      sym (ap (λ (o : Option Layout). o >>= (λ l. empty_segment l.fields >>=
+      (λ s. filled defs message env l.fields fields s >>= (λ b. Some (call.Isrt db found.0 b)))))
+      (layout_is defs db (new_type defs message ssas) def.0 def.1)) ∙ found.2 in
+      let segment = made (empty_segment def.0.fields)
+      (λ s. filled defs message env def.0.fields fields s >>= (λ b. Some (call.Isrt db found.0 b))) asked layout in
+      let bytes = made (filled defs message env def.0.fields fields segment.0) (λ b. Some (call.Isrt db found.0 b))
+      asked segment.2 in
       let same : call.Isrt db found.0 bytes.0 ≡ asked = let e = bytes.2 in cc in
       let stands = stand db def.0 def.1 in
       let whole = empty_length def.0.fields 0 def.0.length segment.0 stands segment.1 in
-      subst (λ (c : Call). IsMsdbCall defs.msdbs c) same (def.0, def.1, filled_length defs message env def.0.fields def.0.length fields segment.0 bytes.0 stands (omega (arith, whole)) bytes.1)
+      subst (λ (c : Call). IsMsdbCall defs.msdbs c) same (
+        def.0,
+        def.1,
+        filled_length defs message env def.0.fields def.0.length fields segment.0 bytes.0 stands
+            (omega (arith, whole)) bytes.1,
+      )
 
-  fit_repl : (db : ℕ) (fields : _) (asked : Call) → nat_lt db (length defs.msdbs) ≡ true → AllByRecursion (IsShownSegment defs.msdbs) env.shown → repl_call defs message env db fields ≡ Some asked → IsMsdbCall defs.msdbs asked
+  fit_repl : (db : ℕ) (fields : _) (asked : Call) → nat_lt db (length defs.msdbs) ≡ true
+      → AllByRecursion (IsShownSegment defs.msdbs) env.shown → repl_call defs message env db fields ≡ Some asked
+      → IsMsdbCall defs.msdbs asked
   fit_repl db fields asked h all is =
-      let shown = made (shown_on db env) (λ s. layout_of defs db s.type_number >>= (λ l. filled defs message env l.fields fields s.bytes >>= (λ b. Some (call.Repl db b)))) asked is in
+      let shown = made (shown_on db env) (λ s. layout_of defs db s.type_number >>=
+      (λ l. filled defs message env l.fields fields s.bytes >>= (λ b. Some (call.Repl db b)))) asked is in
       let its = shown_at (IsShownSegment defs.msdbs) env.shown db shown.0 all shown.1 in
       let def : MsdbDef = its.0.0 in
       let at : slice_get defs.msdbs db ≡ Some def = ap (slice_get defs.msdbs) (sym its.1) ∙ its.0.1 in
-      let layout : (filled defs message env def.fields fields shown.0.bytes >>= (λ b. Some (call.Repl db b))) ≡ Some asked =
-      sym (ap (λ (o : Option Layout). o >>= (λ l. filled defs message env l.fields fields shown.0.bytes >>= (λ b. Some (call.Repl db b)))) (layout_is defs db shown.0.type_number def at)) ∙ shown.2 in
-      let bytes = made (filled defs message env def.fields fields shown.0.bytes) (λ b. Some (call.Repl db b)) asked layout in
+      let layout : (filled defs message env def.fields fields shown.0.bytes >>= (λ b. Some (call.Repl db b))) ≡ Some
+      asked =
+      sym (ap (λ (o : Option Layout). o >>= (λ l. filled defs message env l.fields fields shown.0.bytes >>=
+      (λ b. Some (call.Repl db b)))) (layout_is defs db shown.0.type_number def at)) ∙ shown.2 in
+      let bytes = made (filled defs message env def.fields fields shown.0.bytes) (λ b. Some (call.Repl db b)) asked
+      layout in
       let same : call.Repl db bytes.0 ≡ asked = let e = bytes.2 in cc in
-      subst (λ (c : Call). IsMsdbCall defs.msdbs c) same (def, at, filled_length defs message env def.fields def.length fields shown.0.bytes bytes.0 (stand db def at) its.0.2.whole bytes.1)
+      subst (λ (c : Call). IsMsdbCall defs.msdbs c) same (
+        def,
+        at,
+        filled_length defs message env def.fields def.length fields shown.0.bytes bytes.0 (stand db def at)
+            its.0.2.whole bytes.1,
+      )
 
 -- what isn't a call
-set_asks : (o : Option (List ℕ)) (f : List ℕ → Env) (asked : Call) → or_rolls o (λ text. Goes (f text)) ≡ Ends (Asks asked) → ⊥
+set_asks : (o : Option (List ℕ)) (f : List ℕ → Env) (asked : Call)
+    → or_rolls o (λ text. Goes (f text)) ≡ Ends (Asks asked) → ⊥
 set_asks None f asked is = absurd cc
 set_asks (Some text) f asked is = absurd cc
 
@@ -174,26 +229,38 @@ reply_asks : (o : Option (List ℕ)) (asked : Call) → or_rolls o (λ text. End
 reply_asks None asked is = absurd cc
 reply_asks (Some text) asked is = absurd cc
 
-module _ (defs : Defs) (known : Known) (asked : Call) (well : AllByRecursion IsMsdbDef defs.msdbs) (shown : AreShown defs.msdbs known.gets) where
-  step_fit : (d : Statement-F Statement) → fits_step defs (map-Statement Statement Bool (fits_statement defs) d) ≡ true → Spells defs known d
-      → run_step defs known.message (map-Statement Statement (Env → Way) (run defs known.message) d) (env_of known []) ≡ Ends (Asks asked) → IsMsdbCall defs.msdbs asked
-  step_fit (Set variable first rest) h spelled is = absurd (set_asks (set_text defs known.message (env_of known []) first rest) (λ text. with_setting variable.0 text (env_of known [])) asked is)
+module _ (defs : Defs) (known : Known) (asked : Call) (well : AllByRecursion IsMsdbDef defs.msdbs)
+    (shown : AreShown defs.msdbs known.gets) where
+  step_fit : (d : Statement-F Statement) → fits_step defs (map-Statement Statement Bool (fits_statement defs) d) ≡ true
+      → Spells defs known d
+      → run_step defs known.message (map-Statement Statement (Env → Way) (run defs known.message) d) (env_of known []) ≡
+      Ends (Asks asked) → IsMsdbCall defs.msdbs asked
+  step_fit (Set variable first rest) h spelled is =
+      absurd (set_asks (set_text defs known.message (env_of known []) first rest)
+      (λ text. with_setting variable.0 text (env_of known [])) asked is)
   step_fit (If left comparison right taken otherwise) h spelled is = absurd spelled
   step_fit (Repeat n body) h spelled is = absurd spelled
   step_fit Break h spelled is = absurd cc
-  step_fit (Reply operands) h spelled is = absurd (reply_asks (reply_text defs known.message (env_of known []) operands) asked is)
+  step_fit (Reply operands) h spelled is = absurd (reply_asks (reply_text defs known.message (env_of known []) operands)
+      asked is)
   step_fit (Roll code) h spelled is = absurd cc
-  step_fit (Get get hold db ssas) h spelled is = fit_get defs known.message (env_of known []) well get hold db ssas asked h (asked_of _ asked (env_of known []) refl is)
-  step_fit (Fld db key fsas) h spelled is = fit_fld defs known.message (env_of known []) well db key fsas asked h spelled (asked_of _ asked (env_of known []) refl is)
-  step_fit (Isrt db ssas fields) h spelled is = fit_isrt defs known.message (env_of known []) well db ssas fields asked h (asked_of _ asked (env_of known []) refl is)
-  step_fit (Repl db fields) h spelled is = fit_repl defs known.message (env_of known []) well db fields asked h shown.each (asked_of _ asked (env_of known []) refl is)
+  step_fit (Get get hold db ssas) h spelled is = fit_get defs known.message (env_of known []) well get hold db ssas
+      asked h (asked_of _ asked (env_of known []) refl is)
+  step_fit (Fld db key fsas) h spelled is = fit_fld defs known.message (env_of known []) well db key fsas asked h
+      spelled (asked_of _ asked (env_of known []) refl is)
+  step_fit (Isrt db ssas fields) h spelled is = fit_isrt defs known.message (env_of known []) well db ssas fields asked
+      h (asked_of _ asked (env_of known []) refl is)
+  step_fit (Repl db fields) h spelled is = fit_repl defs known.message (env_of known []) well db fields asked h
+      shown.each (asked_of _ asked (env_of known []) refl is)
   step_fit (Dlet db) h spelled is =
       let def = def_at defs.msdbs db (ltb-true db (length defs.msdbs) h) in
       let same : call.Dlet db ≡ asked = cc in
       subst (λ (c : Call). IsMsdbCall defs.msdbs c) same (def.0, def.1, tt)
 
-  pub statement_fit : (s : Statement) → fits_statement defs s ≡ true → Spells defs known (out-Statement s) → Does defs known s (deed.Ask asked) → IsMsdbCall defs.msdbs asked
-  statement_fit s h spelled does = step_fit (out-Statement s) (sym (fit_out defs s) ∙ h) spelled (sym (run_out defs known.message s (out-Statement s) (env_of known []) refl) ∙ does [])
+  pub statement_fit : (s : Statement) → fits_statement defs s ≡ true → Spells defs known (out-Statement s)
+      → Does defs known s (deed.Ask asked) → IsMsdbCall defs.msdbs asked
+  statement_fit s h spelled does = step_fit (out-Statement s) (sym (fit_out defs s) ∙ h) spelled
+      (sym (run_out defs known.message s (out-Statement s) (env_of known []) refl) ∙ does [])
 
 -- ---- what is given
 
@@ -202,7 +269,8 @@ end_fits msdbs (next.Call asked) h = absurd h
 end_fits msdbs (next.Reply text) h = tt
 end_fits msdbs (next.Roll code) h = tt
 
-given_fits : (msdbs : List MsdbDef) (did : Deed) (given : Next) → IsGivenBy did given → ((asked : Call) → did ≡ deed.Ask asked → IsMsdbCall msdbs asked) → IsFitNext msdbs given
+given_fits : (msdbs : List MsdbDef) (did : Deed) (given : Next) → IsGivenBy did given
+    → ((asked : Call) → did ≡ deed.Ask asked → IsMsdbCall msdbs asked) → IsFitNext msdbs given
 given_fits msdbs (deed.Ask asked) given h fit = subst (λ (n : Next). IsFitNext msdbs n) (sym h) (fit asked refl)
 given_fits msdbs (deed.Set name text) given h fit = end_fits msdbs given h
 given_fits msdbs deed.Pass given h fit = end_fits msdbs given h
@@ -212,7 +280,8 @@ given_fits msdbs deed.Leave given h fit = end_fits msdbs given h
 given_fits msdbs (deed.Reply text) given h fit = end_fits msdbs given h
 given_fits msdbs (deed.Roll code) given h fit = end_fits msdbs given h
 
-pub result_fits : (msdbs : List MsdbDef) (did : Deed) (r : Result (Option Next) AllocError) → IfOk r (λ given. IfSome given (IsGivenBy did)) → ((asked : Call) → did ≡ deed.Ask asked → IsMsdbCall msdbs asked)
+pub result_fits : (msdbs : List MsdbDef) (did : Deed) (r : Result (Option Next) AllocError)
+    → IfOk r (λ given. IfSome given (IsGivenBy did)) → ((asked : Call) → did ≡ deed.Ask asked → IsMsdbCall msdbs asked)
     → IfOk r (λ given. IfSome given (IsFitNext msdbs))
 result_fits msdbs did (Ok None) h fit = tt
 result_fits msdbs did (Ok (Some given)) h fit = given_fits msdbs did given h fit

@@ -27,7 +27,8 @@ module _ (defs : Defs) (message : Message) where
   way_of s (deed.Set name text) env = Goes (with_setting name.0 text env)
   way_of s deed.Pass env = Goes env
   way_of s (deed.Choose holds) env = block_of (choice_in holds (out-Statement s)) env
-  way_of s (deed.Repeat left) env = loops_on (block_of (loop_in (out-Statement s)) env) (times left (block_of (loop_in (out-Statement s))))
+  way_of s (deed.Repeat left) env = loops_on (block_of (loop_in (out-Statement s)) env)
+      (times left (block_of (loop_in (out-Statement s))))
   way_of s deed.Leave env = Leaves env
   way_of s (deed.Reply text) env = Ends (Replies text)
   way_of s (deed.Roll code) env = Ends (Rolls code)
@@ -35,7 +36,8 @@ module _ (defs : Defs) (message : Message) where
 
 -- A statement does this, whatever is answered further.
 abbrev pub Does : Defs → Known → Statement → Deed → Type 0
-Does defs known s did = (more : List Answer) → run defs known.message s (env_of known more) ≡ way_of defs known.message s did (env_of known more)
+Does defs known s did = (more : List Answer) → run defs known.message s (env_of known more) ≡ way_of defs known.message
+    s did (env_of known more)
 
 -- what REPEAT does: its block runs once, and the other times more; an empty block is passed, whatever the times
 abbrev pub deed_of_loop : ℕ → List Statement → Deed
@@ -62,7 +64,8 @@ IsCall (deed.Roll code) = ⊥
 
 -- a call is that of a statement without blocks, and the search arguments of a field call have a spelling
 abbrev pub Spells : Defs → Known → Statement-F Statement → Type 0
-Spells defs known (Fld db key fsas) = (list : List Fsa) → fsas_given defs known.message (env_of known []) fsas ≡ Some list → AllByRecursion IsFsa list
+Spells defs known (Fld db key fsas) = (list : List Fsa)
+    → fsas_given defs known.message (env_of known []) fsas ≡ Some list → AllByRecursion IsFsa list
 Spells defs known (Set variable first rest) = ⊤
 Spells defs known (If left comparison right taken otherwise) = ⊥
 Spells defs known (Repeat n body) = ⊥

@@ -22,6 +22,7 @@ pub record AreShown (defs : List MsdbDef) (gets : Option Gets) : Type 0 where
 -- where the lesson is a segment, and the answer says that it found, the answer shows one
 abbrev pub FitsLesson : List MsdbDef → Lesson → Answer → Type 0
 FitsLesson defs (lesson.Segment db) answer =
-    same_text (trimmed answer.status) [] ≡ true → IsShownSegment defs (record { db = db; type_number = answer.segment; bytes = answer.bytes })
+    same_text (trimmed answer.status) [] ≡ true → IsShownSegment defs
+    (record { db = db; type_number = answer.segment; bytes = answer.bytes })
 FitsLesson defs lesson.Letters answer = ⊤
 FitsLesson defs lesson.Nothing answer = ⊤

@@ -48,7 +48,8 @@ module _ (defs : Defs) (message : Message) where
   abbrev pub beyond : Frame → List Statement → Way → Way
   beyond (frame.Choice behind holds) block way = goes_on way (from_place behind block)
   beyond (frame.Loop behind left) block way =
-      goes_on (loops_on way (times left (from_place 0 (inner (frame.Loop behind left) block)))) (from_place behind block)
+      goes_on (loops_on way (times left (from_place 0 (inner (frame.Loop behind left) block))))
+      (from_place behind block)
 
   -- what follows behind the blocks of all frames
   abbrev pub around : List Frame → List Statement → Way → Way
@@ -57,7 +58,8 @@ module _ (defs : Defs) (message : Message) where
 
   -- where a script leads from a place on, and what it comes to
   abbrev pub way_from : List Statement → Place → Env → Way
-  way_from statements place env = around place.frames statements (from_place place.at (block_at place.frames statements) env)
+  way_from statements place env = around place.frames statements
+      (from_place place.at (block_at place.frames statements) env)
 
   abbrev pub end_from : List Statement → Place → Env → Ask
   end_from statements place env = ended (way_from statements place env)

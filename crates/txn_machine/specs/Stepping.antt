@@ -38,7 +38,8 @@ Costs s (deed.Ask asked) = ⊤
 -- from both places the script comes to the same, whatever is answered
 pub record ComesAlike (defs : Defs) (statements : List Statement) (old new : Program) : Type 0 where
   pub message : new.known.message ≡ old.known.message
-  pub comes : (more : List Answer) → end_of defs statements old.known.message old more ≡ end_of defs statements old.known.message new more
+  pub comes : (more : List Answer) → end_of defs statements old.known.message old more ≡ end_of defs statements
+      old.known.message new more
 
 -- the deed of the statement at the place, in a script of so many statements
 pub record IsDeed (defs : Defs) (statements : List Statement) (end : ℕ) (program : Program) (did : Deed) : Type 0 where

@@ -32,7 +32,8 @@ work_from place block = sum (map statement_work (drop place block))
 -- that of what follows behind the block of a frame
 abbrev pub work_beyond : Frame → List Statement → ℕ
 work_beyond (frame.Choice behind holds) block = 1 + work_from behind block
-work_beyond (frame.Loop behind left) block = 1 + left * (1 + work_from 0 (inner (frame.Loop behind left) block)) + work_from behind block
+work_beyond (frame.Loop behind left) block = 1 + left * (1 + work_from 0 (inner (frame.Loop behind left) block)) +
+    work_from behind block
 
 abbrev pub work_around : List Frame → List Statement → ℕ
 work_around [] block = 0

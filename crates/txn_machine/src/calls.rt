@@ -217,7 +217,8 @@ impl Known {
 
     // The segment that the last successful get on a database showed.
     fn shown_on(&self, db: u8) -> Option<&Shown>
-        ensures { MatchOption result (shown_on db (env_of self.now []) ≡ None) (λ shown. shown_on db (env_of self.now []) ≡ Some (segment_on db shown.now)) }
+        ensures { MatchOption result (shown_on db (env_of self.now []) ≡ None)
+            (λ shown. shown_on db (env_of self.now []) ≡ Some (segment_on db shown.now)) }
     {
         match &self.gets {
             Some(gets) => gets.on(db),

@@ -74,7 +74,8 @@ impl Known {
 
     /// Sets a variable. After want of memory all is as before.
     pub(crate) fn set(&mut self, name: Name, text: Bytes) -> Result<(), AllocError>
-        ensures ok { (answers : List Answer) → OnOk result (AreAlike (with_setting name.0 text (env_of self.old answers)) (env_of self.new answers)) }
+        ensures ok { (answers : List Answer) → OnOk result
+            (AreAlike (with_setting name.0 text (env_of self.old answers)) (env_of self.new answers)) }
         ensures err { (answers : List Answer) → OnErr result (env_of self.new answers ≡ env_of self.old answers) }
         ensures message { self.new.message ≡ self.old.message }
         ensures gets { self.new.gets ≡ self.old.gets }
@@ -99,8 +100,10 @@ impl Known {
     // A segment that a get on a database showed. Takes no memory.
     fn show(&mut self, db: u8, shown: Shown)
         requires { HasPlace self.old.gets }
-        ensures shows { (answers : List Answer) → AreTwins (showing (segment_on db shown) (env_of self.old answers)) (env_of self.new answers) }
-        ensures fit { (msdbs : List MsdbDef) → AreShown msdbs self.old.gets → IsShownSegment msdbs (segment_on db shown) → AreShown msdbs self.new.gets }
+        ensures shows { (answers : List Answer) → AreTwins (showing (segment_on db shown) (env_of self.old answers))
+            (env_of self.new answers) }
+        ensures fit { (msdbs : List MsdbDef) → AreShown msdbs self.old.gets → IsShownSegment msdbs (segment_on db shown)
+            → AreShown msdbs self.new.gets }
         ensures message { self.new.message ≡ self.old.message }
     {
         let gets = Gets::show(self.gets.take(), self.alloc, db, shown);
@@ -111,8 +114,10 @@ impl Known {
     pub(crate) fn learn(&mut self, lesson: Lesson, answer: Answer)
         requires { HasPlace self.old.gets }
         ensures learns { (answers : List Answer)
-            → AreTwins (taught lesson answer (record (env_of self.old answers) { status = answer.status })) (env_of self.new answers) }
-        ensures fit { (msdbs : List MsdbDef) → AreShown msdbs self.old.gets → FitsLesson msdbs lesson answer → AreShown msdbs self.new.gets }
+            → AreTwins (taught lesson answer (record (env_of self.old answers) { status = answer.status }))
+            (env_of self.new answers) }
+        ensures fit { (msdbs : List MsdbDef) → AreShown msdbs self.old.gets → FitsLesson msdbs lesson answer
+            → AreShown msdbs self.new.gets }
         ensures message { self.new.message ≡ self.old.message }
     {
         let Answer {

@@ -92,7 +92,8 @@ impl Place {
     // Round the innermost loop once more, which has this frame then.
     fn again(&mut self, frame: Frame)
         requires { self.old.frames ≢ [] }
-        ensures frames { (front : List Frame) (last : Frame) → self.old.frames ≡ front ++ last ∷ [] → self.new.frames ≡ front ++ frame ∷ [] }
+        ensures frames { (front : List Frame) (last : Frame) → self.old.frames ≡ front ++ last ∷ []
+            → self.new.frames ≡ front ++ frame ∷ [] }
         ensures at { self.new.at ≡ 0 }
     {
         let last = self.frames.len() - 1;
@@ -102,7 +103,8 @@ impl Place {
 
     // Out of the innermost block, to the place behind it.
     fn close(&mut self, behind: usize)
-        ensures frames { (front : List Frame) (last : Frame) → self.old.frames ≡ front ++ last ∷ [] → self.new.frames ≡ front }
+        ensures frames { (front : List Frame) (last : Frame) → self.old.frames ≡ front ++ last ∷ []
+            → self.new.frames ≡ front }
         ensures at { self.new.at ≡ behind }
     {
         let _ = self.frames.pop();
@@ -134,8 +136,10 @@ impl Place {
     /// Behind the innermost block. False where no block is open: then the script is at its end.
     pub(crate) fn end_block(&mut self) -> bool
         ensures leads { (defs : Defs) (message : Message) (statements : List Statement) (env : Env)
-            → ended (around defs message self.old.frames statements (Goes env)) ≡ (if result then end_from defs message statements self.new env else Replies []) }
-        ensures less { (statements : List Statement) → IsTrue result → work statements self.new < work statements self.old }
+            → ended (around defs message self.old.frames statements (Goes env)) ≡
+            (if result then end_from defs message statements self.new env else Replies []) }
+        ensures less { (statements : List Statement) → IsTrue result
+            → work statements self.new < work statements self.old }
         ensures stays { IsFalse result → self.new ≡ self.old }
     {
         match innermost(self.frames.as_slice()) {
@@ -160,9 +164,12 @@ impl Place {
 
     /// Behind the innermost loop; where none is open, to the end of the script, which has so many statements.
     pub(crate) fn leave_loop(&mut self, end: usize)
-        ensures leads { (defs : Defs) (message : Message) (statements : List Statement) (env : Env) → end ≡ length statements
-            → ended (around defs message self.old.frames statements (Leaves env)) ≡ end_from defs message statements self.new env }
-        ensures less { (statements : List Statement) → end ≡ length statements → work statements self.new ≤ work_around self.old.frames statements }
+        ensures leads { (defs : Defs) (message : Message) (statements : List Statement) (env : Env)
+            → end ≡ length statements
+            → ended (around defs message self.old.frames statements (Leaves env)) ≡ end_from defs message statements
+            self.new env }
+        ensures less { (statements : List Statement) → end ≡ length statements
+            → work statements self.new ≤ work_around self.old.frames statements }
     {
         while let Some(frame) = self.frames.pop() {
             if let Frame::Loop { behind, .. } = frame {

@@ -79,7 +79,8 @@ impl Program {
         ensures number { IfOk result (λ program. program.number ≡ number) }
 
         // The program is where each script of these statements is before its first answer.
-        ensures at { IfOk result (λ program. (defs : Defs) (statements : List Statement) → IsAt defs statements message.now [] program) }
+        ensures at { IfOk result (λ program. (defs : Defs) (statements : List Statement)
+            → IsAt defs statements message.now [] program) }
         ensures fit { IfOk result (λ program. (msdbs : List MsdbDef) → IsFit msdbs program) }
     {
         Ok(Program {
@@ -160,8 +161,10 @@ impl Program {
     // Sets a variable, and goes on.
     fn set(&mut self, name: Name, text: Bytes, behind: usize) -> Result<Option<Next>, AllocError>
         ensures nothing { IfOk result (λ given. given ≡ None) }
-        ensures ok { (answers : List Answer) → OnOk result (AreAlike (with_setting name.0 text (env_of self.old.known answers)) (env_of self.new.known answers)) }
-        ensures err { (answers : List Answer) → OnErr result (env_of self.new.known answers ≡ env_of self.old.known answers) }
+        ensures ok { (answers : List Answer) → OnOk result
+            (AreAlike (with_setting name.0 text (env_of self.old.known answers)) (env_of self.new.known answers)) }
+        ensures err { (answers : List Answer) → OnErr result
+            (env_of self.new.known answers ≡ env_of self.old.known answers) }
         ensures at { OnOk result (self.new.place ≡ record self.old.place { at = behind }) }
         ensures stays { OnErr result (self.new.place ≡ self.old.place) }
         ensures number { self.new.number ≡ self.old.number }
@@ -186,7 +189,8 @@ impl Program {
     // Goes into a block.
     fn enter(&mut self, frame: Frame) -> Result<Option<Next>, AllocError>
         ensures nothing { IfOk result (λ given. given ≡ None) }
-        ensures ok { OnOk result (self.new ≡ record self.old { place = record { frames = self.old.place.frames ++ frame ∷ []; at = 0 } }) }
+        ensures ok { OnOk result (self.new ≡ record self.old
+            { place = record { frames = self.old.place.frames ++ frame ∷ []; at = 0 } }) }
         ensures err { OnErr result (self.new ≡ self.old) }
     {
         self.place.enter(frame)?;
@@ -196,9 +200,12 @@ impl Program {
     // Leaves the innermost loop.
     fn leave(&mut self, end: usize) -> Result<Option<Next>, AllocError>
         ensures nothing { result ≡ Ok None }
-        ensures leads { (defs : Defs) (message : Message) (statements : List Statement) (env : Env) → end ≡ length statements
-            → ended (around defs message self.old.place.frames statements (Leaves env)) ≡ end_from defs message statements self.new.place env }
-        ensures less { (statements : List Statement) → end ≡ length statements → work statements self.new.place ≤ work_around self.old.place.frames statements }
+        ensures leads { (defs : Defs) (message : Message) (statements : List Statement) (env : Env)
+            → end ≡ length statements
+            → ended (around defs message self.old.place.frames statements (Leaves env)) ≡ end_from defs message
+            statements self.new.place env }
+        ensures less { (statements : List Statement) → end ≡ length statements
+            → work statements self.new.place ≤ work_around self.old.place.frames statements }
         ensures number { self.new.number ≡ self.old.number }
         ensures wait { self.new.wait ≡ self.old.wait }
         ensures known { self.new.known ≡ self.old.known }
@@ -212,9 +219,11 @@ impl Program {
         requires behind { behind ≡ self.old.place.at + 1 }
         requires none { self.old.wait ≡ None }
         ensures number { self.new.number ≡ self.old.number }
-        ensures alike { (defs : Defs) (statements : List Statement) → IsDeed defs statements end self.old deed → ComesAlike defs statements self.old self.new }
+        ensures alike { (defs : Defs) (statements : List Statement) → IsDeed defs statements end self.old deed
+            → ComesAlike defs statements self.old self.new }
         ensures asked { (defs : Defs) (statements : List Statement) → IsDeed defs statements end self.old deed
-            → IfOk result (λ given. IfSome given (λ next. IsAsked next (end_of defs statements self.old.known.message self.old []))) }
+            → IfOk result (λ given. IfSome given (λ next. IsAsked next
+            (end_of defs statements self.old.known.message self.old []))) }
         ensures call { (defs : Defs) (statements : List Statement) → IsDeed defs statements end self.old deed
             → IfSome self.new.wait (StandsAtCall defs statements self.new) }
         ensures less { (defs : Defs) (statements : List Statement) → IsDeed defs statements end self.old deed
@@ -241,9 +250,11 @@ impl Program {
         requires { self.old.wait ≡ None }
         ensures number { self.new.number ≡ self.old.number }
         ensures alike { ComesAlike defs.now statements.now self.old self.new }
-        ensures asked { IfOk result (λ given. IfSome given (λ next. IsAsked next (end_of defs.now statements.now self.old.known.message self.old []))) }
+        ensures asked { IfOk result (λ given. IfSome given
+            (λ next. IsAsked next (end_of defs.now statements.now self.old.known.message self.old []))) }
         ensures call { IfSome self.new.wait (StandsAtCall defs.now statements.now self.new) }
-        ensures less { IfOk result (λ given. given ≡ None → work statements.now self.new.place < work statements.now self.old.place) }
+        ensures less { IfOk result (λ given. given ≡ None
+            → work statements.now self.new.place < work statements.now self.old.place) }
         ensures open { IfOk result (λ given. given ≡ None → self.new.wait ≡ None) }
         ensures waits { IfOk result (λ given. IfSome given (λ next. Awaits next self.new)) }
         ensures shown { segments_of self.new.known.gets ≡ segments_of self.old.known.gets }

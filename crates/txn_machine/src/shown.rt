@@ -26,7 +26,8 @@ pub(crate) struct Gets {
 
 // The segment at the place of a database.
 fn shown_at(places: &List<Option<Shown>>, db: u8) -> Option<&Shown>
-    ensures { MatchOption result (in_place (slice_get places.now db) ≡ None) (λ shown. in_place (slice_get places.now db) ≡ Some shown.now) }
+    ensures { MatchOption result (in_place (slice_get places.now db) ≡ None)
+        (λ shown. in_place (slice_get places.now db) ≡ Some shown.now) }
 {
     match places.get(usize::from(db)) {
         Some(Some(shown)) => Some(shown),
@@ -50,7 +51,8 @@ impl Gets {
     fn next(self, db: u8, newest: Shown) -> Gets
         requires { HasPlace (Some self) }
         ensures shows { ShowAlike (segment_on db newest ∷ segments_of (Some self)) (segments_of (Some result)) }
-        ensures fit { (msdbs : List MsdbDef) → AreShown msdbs (Some self) → IsShownSegment msdbs (segment_on db newest) → AreShown msdbs (Some result) }
+        ensures fit { (msdbs : List MsdbDef) → AreShown msdbs (Some self) → IsShownSegment msdbs (segment_on db newest)
+            → AreShown msdbs (Some result) }
     {
         let Gets {
             db: place,
@@ -65,7 +67,8 @@ impl Gets {
     pub(crate) fn show(gets: Option<Gets>, alloc: Global, db: u8, newest: Shown) -> Gets
         requires { HasPlace gets }
         ensures shows { ShowAlike (segment_on db newest ∷ segments_of gets) (segments_of (Some result)) }
-        ensures fit { (msdbs : List MsdbDef) → AreShown msdbs gets → IsShownSegment msdbs (segment_on db newest) → AreShown msdbs (Some result) }
+        ensures fit { (msdbs : List MsdbDef) → AreShown msdbs gets → IsShownSegment msdbs (segment_on db newest)
+            → AreShown msdbs (Some result) }
     {
         match gets {
             Some(gets) => gets.next(db, newest),

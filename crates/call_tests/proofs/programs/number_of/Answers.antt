@@ -8,4 +8,5 @@ within n k true is = ltb-true n k is
 within n k false is = tt
 
 pub returns : goal.returns
-returns c = subst (λ (o : Option ℕ). IfSome o (λ i. i < length c.args.scripts.now.scripts)) (sym c.find.ensures.number) (within _ (length c.args.scripts.now.scripts) _ refl)
+returns c = subst (λ (o : Option ℕ). IfSome o (λ i. i < length c.args.scripts.now.scripts)) (sym c.find.ensures.number)
+    (within _ (length c.args.scripts.now.scripts) _ refl)

@@ -22,30 +22,38 @@ left_out true false e is = absurd (cc)
 left_out false b e is = absurd (cc)
 
 -- the way so far, its last region apart
-split : (path : List ℕ) (count : ℕ) → 0 < count → count ≤ length path → take count path ≡ take (count - 1) path ++ get_or path (count - 1) 0 ∷ []
+split : (path : List ℕ) (count : ℕ) → 0 < count → count ≤ length path
+    → take count path ≡ take (count - 1) path ++ get_or path (count - 1) 0 ∷ []
 split path count some most =
     let e : count ≡ (count - 1) + 1 = omega (arith, some) in
     ap (λ k. take k path) e ∙ take_last path (count - 1) (omega (arith, some, most))
 
-apart : (next : ℕ → List ℕ) (asker regions : ℕ) (met : ℕ → Bool) (path : List ℕ) (count : ℕ) → 0 < count → count ≤ length path → Searched next asker regions met (take count path)
+apart : (next : ℕ → List ℕ) (asker regions : ℕ) (met : ℕ → Bool) (path : List ℕ) (count : ℕ) → 0 < count
+    → count ≤ length path → Searched next asker regions met (take count path)
     → Searched next asker regions met (take (count - 1) path ++ get_or path (count - 1) 0 ∷ [])
-apart next asker regions met path count some most s = let P : List ℕ → Type 0 = Searched next asker regions met in subst P (split path count some most) s
+apart next asker regions met path count some most s = let P : List ℕ → Type 0 = Searched next asker regions met in
+    subst P (split path count some most) s
 
 -- on to a region that is not met
-further : (next : ℕ → List ℕ) (asker regions : ℕ) (met met2 : ℕ → Bool) (path : List ℕ) (count r : ℕ) → 0 < count → count ≤ length path → Searched next asker regions met (take count path)
-    → is_in (next (get_or path (count - 1) 0)) r ≡ true → met r ≡ false → (1 ≤ r) × (r ≤ regions) → ((x : ℕ) → met2 x ≡ (x == r || met x))
+further : (next : ℕ → List ℕ) (asker regions : ℕ) (met met2 : ℕ → Bool) (path : List ℕ) (count r : ℕ) → 0 < count
+    → count ≤ length path → Searched next asker regions met (take count path)
+    → is_in (next (get_or path (count - 1) 0)) r ≡ true → met r ≡ false → (1 ≤ r) × (r ≤ regions)
+    → ((x : ℕ) → met2 x ≡ (x == r || met x))
     → Searched next asker regions met2 (take count path ++ r ∷ [])
 further next asker regions met met2 path count r some most s edge fresh range is =
     let P : List ℕ → Type 0 = λ l. Searched next asker regions met2 (l ++ r ∷ []) in
     subst P (sym (split path count some most))
-    (onward next asker regions met met2 (take (count - 1) path) (get_or path (count - 1) 0) r (apart next asker regions met path count some most s) edge fresh range is)
+    (onward next asker regions met met2 (take (count - 1) path) (get_or path (count - 1) 0) r
+    (apart next asker regions met path count some most s) edge fresh range is)
 
 long : (path : List ℕ) (count r : ℕ) → count ≤ length path → length (take count path ++ r ∷ []) ≡ count + 1
-long path count r most = let e = length-take count path in omega (arith, length-append (take count path) (r ∷ []), e, most)
+long path count r most = let e = length-take count path in
+    omega (arith, length-append (take count path) (r ∷ []), e, most)
 
 pub loop-count-init : goal.loop-count-init
 loop-count-init c = record {
-  searched = begins (leads c.args.regions.now c.args.asker c.args.ahead.0) c.args.asker (length c.args.regions.now) (has c.with-met.result.0) c.requires.some c.requires.within
+  searched = begins (leads c.args.regions.now c.args.asker c.args.ahead.0) c.args.asker (length c.args.regions.now)
+      (has c.with-met.result.0) c.requires.some c.requires.within
       (λ x. c.with-met.ensures x ∙ ap (λ b. x == c.args.asker || b) (c.empty.ensures x));
   long = omega (arith, c.requires.some, c.requires.within);
   room = refl;
@@ -54,68 +62,94 @@ loop-count-init c = record {
 pub set_at-on-requires-clause-some : goal.set_at-on-requires-clause-some
 set_at-on-requires-clause-some c =
     let next = leads c.args.regions.now c.args.asker c.args.ahead.0 in
-    let most : c.loop-count.count ≤ length c.loop-count.path = omega (arith, c.loop-count.invariant.long, c.loop-count.invariant.room, c.requires.most) in
-    (end_within next c.args.asker (length c.args.regions.now) (has c.loop-count.met.0) (take (c.loop-count.count - 1) c.loop-count.path) (get_or c.loop-count.path (c.loop-count.count - 1) 0)
-    (apart next c.args.asker (length c.args.regions.now) (has c.loop-count.met.0) c.loop-count.path c.loop-count.count c.loop-count-test.true most c.loop-count.invariant.searched)).0
+    let most : c.loop-count.count ≤ length c.loop-count.path =
+    omega (arith, c.loop-count.invariant.long, c.loop-count.invariant.room, c.requires.most) in
+    (end_within next c.args.asker (length c.args.regions.now) (has c.loop-count.met.0)
+    (take (c.loop-count.count - 1) c.loop-count.path) (get_or c.loop-count.path (c.loop-count.count - 1) 0)
+    (apart next c.args.asker (length c.args.regions.now) (has c.loop-count.met.0) c.loop-count.path c.loop-count.count
+    c.loop-count-test.true most c.loop-count.invariant.searched)).0
 
 pub set_at-on-requires-clause-within : goal.set_at-on-requires-clause-within
 set_at-on-requires-clause-within c =
     let next = leads c.args.regions.now c.args.asker c.args.ahead.0 in
-    let most : c.loop-count.count ≤ length c.loop-count.path = omega (arith, c.loop-count.invariant.long, c.loop-count.invariant.room, c.requires.most) in
-    (end_within next c.args.asker (length c.args.regions.now) (has c.loop-count.met.0) (take (c.loop-count.count - 1) c.loop-count.path) (get_or c.loop-count.path (c.loop-count.count - 1) 0)
-    (apart next c.args.asker (length c.args.regions.now) (has c.loop-count.met.0) c.loop-count.path c.loop-count.count c.loop-count-test.true most c.loop-count.invariant.searched)).1
+    let most : c.loop-count.count ≤ length c.loop-count.path =
+    omega (arith, c.loop-count.invariant.long, c.loop-count.invariant.room, c.requires.most) in
+    (end_within next c.args.asker (length c.args.regions.now) (has c.loop-count.met.0)
+    (take (c.loop-count.count - 1) c.loop-count.path) (get_or c.loop-count.path (c.loop-count.count - 1) 0)
+    (apart next c.args.asker (length c.args.regions.now) (has c.loop-count.met.0) c.loop-count.path c.loop-count.count
+    c.loop-count-test.true most c.loop-count.invariant.searched)).1
 
 pub returns-then-has-clause-found : goal.returns-then-has-clause-found
 returns-then-has-clause-found c =
     let next = leads c.args.regions.now c.args.asker c.args.ahead.0 in
     let end = get_or c.loop-count.path (c.loop-count.count - 1) 0 in
-    let most : c.loop-count.count ≤ length c.loop-count.path = omega (arith, c.loop-count.invariant.long, c.loop-count.invariant.room, c.requires.most) in
+    let most : c.loop-count.count ≤ length c.loop-count.path =
+    omega (arith, c.loop-count.invariant.long, c.loop-count.invariant.room, c.requires.most) in
     let edge : is_in (next end) c.args.asker ≡ true =
-    is_member (set_at c.args.regions.now c.args.asker c.args.ahead.0 end) c.args.asker c.requires.some (omega (arith, c.requires.within, c.requires.most))
+    is_member (set_at c.args.regions.now c.args.asker c.args.ahead.0 end) c.args.asker c.requires.some
+    (omega (arith, c.requires.within, c.requires.most))
     (ap (λ word. has word c.args.asker) (sym c.set_at-on.ensures) ∙ sym c.has.ensures ∙ c.if-has.true) in
-    let found = closes next c.args.asker (length c.args.regions.now) (has c.loop-count.met.0) (take (c.loop-count.count - 1) c.loop-count.path) end
-    (apart next c.args.asker (length c.args.regions.now) (has c.loop-count.met.0) c.loop-count.path c.loop-count.count c.loop-count-test.true most c.loop-count.invariant.searched) edge in
-    let P : List ℕ → Type 0 = λ list. (cycle : List ℕ) × (list ≡ c.args.asker ∷ cycle) × Along next c.args.asker cycle c.args.asker × IsDistinct ◌==◌ list in
-    subst P (sym (c.in_ok-from_slice.ensures ∙ split c.loop-count.path c.loop-count.count c.loop-count-test.true most)) found
+    let found = closes next c.args.asker (length c.args.regions.now) (has c.loop-count.met.0)
+    (take (c.loop-count.count - 1) c.loop-count.path) end
+    (apart next c.args.asker (length c.args.regions.now) (has c.loop-count.met.0) c.loop-count.path c.loop-count.count
+    c.loop-count-test.true most c.loop-count.invariant.searched) edge in
+    let P : List ℕ → Type 0 = λ list. (cycle : List ℕ) × (list ≡ c.args.asker ∷ cycle)
+    × Along next c.args.asker cycle c.args.asker × IsDistinct ◌==◌ list in
+    subst P (sym (c.in_ok-from_slice.ensures ∙ split c.loop-count.path c.loop-count.count c.loop-count-test.true most))
+    found
 
-step : (c : After-with-met-in-Some) → Searched (leads c.args.regions.now c.args.asker c.args.ahead.0) c.args.asker (length c.args.regions.now) (has c.with-met-in-Some.result.0) (take c.loop-count.count c.loop-count.path ++ c.in-Some.region ∷ [])
+step : (c : After-with-met-in-Some) → Searched (leads c.args.regions.now c.args.asker c.args.ahead.0) c.args.asker
+    (length c.args.regions.now) (has c.with-met-in-Some.result.0)
+    (take c.loop-count.count c.loop-count.path ++ c.in-Some.region ∷ [])
 step c =
     let next = leads c.args.regions.now c.args.asker c.args.ahead.0 in
     let end = get_or c.loop-count.path (c.loop-count.count - 1) 0 in
     let word = set_at c.args.regions.now c.args.asker c.args.ahead.0 end in
     let r = c.in-Some.region in
-    let parts = both (has c.set_at-on.result.0 r) (not (has c.loop-count.met.0 r)) (sym (c.less.ensures r) ∙ c.in-Some.ensures.some) in
+    let parts = both (has c.set_at-on.result.0 r) (not (has c.loop-count.met.0 r))
+    (sym (c.less.ensures r) ∙ c.in-Some.ensures.some) in
     let on : has word r ≡ true = ap (λ w. has w r) (sym c.set_at-on.ensures) ∙ parts.0 in
     let range = c.requires.range end r on in
-    further next c.args.asker (length c.args.regions.now) (has c.loop-count.met.0) (has c.with-met-in-Some.result.0) c.loop-count.path c.loop-count.count r c.loop-count-test.true
-    (omega (arith, c.loop-count.invariant.long, c.loop-count.invariant.room, c.requires.most)) c.loop-count.invariant.searched
-    (is_member word r range.0 (omega (arith, range.1, c.requires.most)) on) (not_true (has c.loop-count.met.0 r) parts.1) range c.with-met-in-Some.ensures
+    further next c.args.asker (length c.args.regions.now) (has c.loop-count.met.0) (has c.with-met-in-Some.result.0)
+    c.loop-count.path c.loop-count.count r c.loop-count-test.true
+    (omega (arith, c.loop-count.invariant.long, c.loop-count.invariant.room, c.requires.most))
+    c.loop-count.invariant.searched
+    (is_member word r range.0 (omega (arith, range.1, c.requires.most)) on)
+    (not_true (has c.loop-count.met.0 r) parts.1) range c.with-met-in-Some.ensures
 
 pub bounds-path-count-in-Some : goal.bounds-path-count-in-Some
 bounds-path-count-in-Some c =
     let next = leads c.args.regions.now c.args.asker c.args.ahead.0 in
-    let most : c.loop-count.count ≤ length c.loop-count.path = omega (arith, c.loop-count.invariant.long, c.loop-count.invariant.room, c.requires.most) in
-    let count = few next c.args.asker (length c.args.regions.now) (has c.with-met-in-Some.result.0) (take c.loop-count.count c.loop-count.path ++ c.in-Some.region ∷ []) (step c) in
+    let most : c.loop-count.count ≤ length c.loop-count.path =
+    omega (arith, c.loop-count.invariant.long, c.loop-count.invariant.room, c.requires.most) in
+    let count = few next c.args.asker (length c.args.regions.now) (has c.with-met-in-Some.result.0)
+    (take c.loop-count.count c.loop-count.path ++ c.in-Some.region ∷ []) (step c) in
     omega (arith, count, long c.loop-count.path c.loop-count.count c.in-Some.region most, c.requires.most)
 
 pub loop-count-smaller-in-Some : goal.loop-count-smaller-in-Some
 loop-count-smaller-in-Some c =
     let r = c.in-Some.region in
     let end = get_or c.loop-count.path (c.loop-count.count - 1) 0 in
-    let parts = both (has c.set_at-on.result.0 r) (not (has c.loop-count.met.0 r)) (sym (c.less.ensures r) ∙ c.in-Some.ensures.some) in
+    let parts = both (has c.set_at-on.result.0 r) (not (has c.loop-count.met.0 r))
+    (sym (c.less.ensures r) ∙ c.in-Some.ensures.some) in
     let range = c.requires.range end r (ap (λ w. has w r) (sym c.set_at-on.ensures) ∙ parts.0) in
-    let less = fewer (has c.loop-count.met.0) (has c.with-met-in-Some.result.0) r (length c.args.regions.now) (not_true (has c.loop-count.met.0 r) parts.1) range c.with-met-in-Some.ensures in
+    let less = fewer (has c.loop-count.met.0) (has c.with-met-in-Some.result.0) r (length c.args.regions.now)
+    (not_true (has c.loop-count.met.0 r) parts.1) range c.with-met-in-Some.ensures in
     omega (arith, less)
 
 pub loop-count-preserved-in-Some : goal.loop-count-preserved-in-Some
 loop-count-preserved-in-Some c =
     let next = leads c.args.regions.now c.args.asker c.args.ahead.0 in
-    let most : c.loop-count.count ≤ length c.loop-count.path = omega (arith, c.loop-count.invariant.long, c.loop-count.invariant.room, c.requires.most) in
-    let count = few next c.args.asker (length c.args.regions.now) (has c.with-met-in-Some.result.0) (take c.loop-count.count c.loop-count.path ++ c.in-Some.region ∷ []) (step c) in
+    let most : c.loop-count.count ≤ length c.loop-count.path =
+    omega (arith, c.loop-count.invariant.long, c.loop-count.invariant.room, c.requires.most) in
+    let count = few next c.args.asker (length c.args.regions.now) (has c.with-met-in-Some.result.0)
+    (take c.loop-count.count c.loop-count.path ++ c.in-Some.region ∷ []) (step c) in
     let more = long c.loop-count.path c.loop-count.count c.in-Some.region most in
-    let P : List ℕ → Type 0 = Searched next c.args.asker (length c.args.regions.now) (has c.with-met-in-Some.result.0) in
+    let P : List ℕ → Type 0 = Searched next c.args.asker (length c.args.regions.now) (has c.with-met-in-Some.result.0)
+    in
     record {
-      searched = subst P (sym (take_put c.loop-count.path c.loop-count.count c.in-Some.region (omega (arith, count, more, c.requires.most, c.loop-count.invariant.room)))) (step c);
+      searched = subst P (sym (take_put c.loop-count.path c.loop-count.count c.in-Some.region
+          (omega (arith, count, more, c.requires.most, c.loop-count.invariant.room)))) (step c);
       long = omega (arith, count, more);
       room = length-set c.loop-count.path c.loop-count.count c.in-Some.region ∙ c.loop-count.invariant.room;
     }
@@ -125,14 +159,20 @@ loop-count-preserved c =
     let next = leads c.args.regions.now c.args.asker c.args.ahead.0 in
     let end = get_or c.loop-count.path (c.loop-count.count - 1) 0 in
     let met = has c.loop-count.met.0 in
-    let most : c.loop-count.count ≤ length c.loop-count.path = omega (arith, c.loop-count.invariant.long, c.loop-count.invariant.room, c.requires.most) in
+    let most : c.loop-count.count ≤ length c.loop-count.path =
+    omega (arith, c.loop-count.invariant.long, c.loop-count.invariant.room, c.requires.most) in
     record {
-      searched = back next c.args.asker (length c.args.regions.now) met (take (c.loop-count.count - 1) c.loop-count.path) end
-          (apart next c.args.asker (length c.args.regions.now) met c.loop-count.path c.loop-count.count c.loop-count-test.true most c.loop-count.invariant.searched)
+      searched = back next c.args.asker (length c.args.regions.now) met
+          (take (c.loop-count.count - 1) c.loop-count.path) end
+          (apart next c.args.asker (length c.args.regions.now) met c.loop-count.path c.loop-count.count
+          c.loop-count-test.true most c.loop-count.invariant.searched)
           (λ b edge.
-          let on : has c.set_at-on.result.0 b ≡ true = ap (λ word. has word b) c.set_at-on.ensures ∙ member_is (set_at c.args.regions.now c.args.asker c.args.ahead.0 end) b edge in (
+          let on : has c.set_at-on.result.0 b ≡ true =
+          ap (λ word. has word b) c.set_at-on.ensures ∙ member_is
+          (set_at c.args.regions.now c.args.asker c.args.ahead.0 end) b edge in (
             left_out (has c.set_at-on.result.0 b) (met b) (sym (c.less.ensures b) ∙ c.in-None.ensures.none b) on,
-            (λ same. let wrong : false ≡ true = sym c.if-has.false ∙ c.has.ensures ∙ ap (has c.set_at-on.result.0) (sym same) ∙ on in absurd (cc)),
+            (λ same. let wrong : false ≡ true = sym c.if-has.false ∙ c.has.ensures ∙ ap (has c.set_at-on.result.0)
+                (sym same) ∙ on in absurd (cc)),
           ));
       long = omega (arith, c.loop-count.invariant.long);
       room = c.loop-count.invariant.room;
@@ -142,5 +182,7 @@ pub returns-clause-found : goal.returns-clause-found
 returns-clause-found c =
     let next = leads c.args.regions.now c.args.asker c.args.ahead.0 in
     let zero : c.loop-count.count ≡ 0 = omega (arith, c.loop-count-test.false) in
-    let P : ℕ → Type 0 = λ k. Searched next c.args.asker (length c.args.regions.now) (has c.loop-count.met.0) (take k c.loop-count.path) in
-    none next c.args.asker (length c.args.regions.now) (has c.loop-count.met.0) (subst P zero c.loop-count.invariant.searched)
+    let P : ℕ → Type 0 = λ k. Searched next c.args.asker (length c.args.regions.now) (has c.loop-count.met.0)
+    (take k c.loop-count.path) in
+    none next c.args.asker (length c.args.regions.now) (has c.loop-count.met.0)
+    (subst P zero c.loop-count.invariant.searched)

@@ -6,7 +6,8 @@ use Rattle.ci_locks.proofs.search.cycle_through.Given as goal
 
 abbrev pub invariant-loop-count : goal.invariant-loop-count
 invariant-loop-count l = record {
-  searched : Searched (leads l.regions l.asker l.ahead.0) l.asker (length l.regions) (has l.met.0) (take l.count l.path);
+  searched : Searched (leads l.regions l.asker l.ahead.0) l.asker (length l.regions) (has l.met.0)
+      (take l.count l.path);
   long : l.count ≤ length l.regions;
   room : length l.path ≡ 64;
 }

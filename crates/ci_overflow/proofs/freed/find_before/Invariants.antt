@@ -18,11 +18,14 @@ invariant-loop-next g l = record {
   kind : (kind_of l.before.interval ≡ 2) ⊎ (kind_of l.before.interval ≡ 5);
   size : length l.before.interval ≡ g.I.Intervals.size l.fn.i;
   next : l.next ≡ link_of l.before.interval;
-  stands : g.I.Intervals.told l.fn.i → (l.before.ci ≡ first_base l.shape l.uow) ⊎ IsOwned l.shape (g.I.Intervals.intervals l.fn.i) (l.uow + 1) l.before.ci;
+  stands : g.I.Intervals.told l.fn.i → (l.before.ci ≡ first_base l.shape l.uow)
+      ⊎ IsOwned l.shape (g.I.Intervals.intervals l.fn.i) (l.uow + 1) l.before.ci;
   apart : g.I.Intervals.told l.fn.i → kind_of (bytes_at (g.I.Intervals.intervals l.fn.i) l.ci) ≡ 5 → l.before.ci ≢ l.ci;
   turns : l.turns ≤ l.initial.turns;
-  walked : g.I.Intervals.told l.fn.i → l.uow < l.shape.uows → IsWalked l.shape (g.I.Intervals.intervals l.fn.i) (l.uow + 1) l.before.ci l.next (l.initial.turns - l.turns);
-  built : g.I.Intervals.told l.fn.i → IsBuilt (g.I.Intervals.intervals l.fn.i) (link_of (bytes_at (g.I.Intervals.intervals l.fn.i) (first_base l.shape l.uow))) l.ci l.next;
+  walked : g.I.Intervals.told l.fn.i → l.uow < l.shape.uows
+      → IsWalked l.shape (g.I.Intervals.intervals l.fn.i) (l.uow + 1) l.before.ci l.next (l.initial.turns - l.turns);
+  built : g.I.Intervals.told l.fn.i → IsBuilt (g.I.Intervals.intervals l.fn.i)
+      (link_of (bytes_at (g.I.Intervals.intervals l.fn.i) (first_base l.shape l.uow))) l.ci l.next;
 }
 
 abbrev pub decreases-loop-next : goal.decreases-loop-next

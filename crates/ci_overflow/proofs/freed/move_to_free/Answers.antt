@@ -13,20 +13,24 @@ pub returns-in_err-uow-clause-damaged : goal.returns-in_err-uow-clause-damaged
 returns-in_err-uow-clause-damaged g c = λ t k m n e.
     let p = err_from_is_err_and c.from_residual.result c.from_residual.ensures.1 in
     let h = c.in_err-uow.ensures.damaged n (same_fault _ _ _ _ p.1 p.2 e) in
-    let below : c.args.ci < length (g.I.Intervals.intervals c.args.i.now) = omega (arith, g.met.I.Intervals.numbered c.args.i.now t, c.requires.in_range) in
+    let below : c.args.ci < length (g.I.Intervals.intervals c.args.i.now) =
+    omega (arith, g.met.I.Intervals.numbered c.args.i.now t, c.requires.in_range) in
     rw h.0 (unit-fault c.args.shape.now _ c.args.ci _ k below c.requires.kind m h.1)
 
 pub returns-in_err-before-clause-damaged : goal.returns-in_err-before-clause-damaged
 returns-in_err-before-clause-damaged g c = λ t k m n e.
     let p = err_from_is_err_and c.from_residual-in_err-before.result c.from_residual-in_err-before.ensures.1 in
-    let owner : owner_of (bytes_at (g.I.Intervals.intervals c.args.i.now) c.args.ci) ≡ c.in_ok-uow.uow + 1 = sym (keeps-owner _ _ k) ∙ c.in_ok-uow.ensures.unit in
-    c.in_err-before.ensures.damaged t c.in_ok-uow.ensures.has_base c.in_ok-uow.ensures.bound owner c.requires.in_range n (same_fault _ _ _ _ p.1 p.2 e)
+    let owner : owner_of (bytes_at (g.I.Intervals.intervals c.args.i.now) c.args.ci) ≡ c.in_ok-uow.uow + 1 =
+    sym (keeps-owner _ _ k) ∙ c.in_ok-uow.ensures.unit in
+    c.in_err-before.ensures.damaged t c.in_ok-uow.ensures.has_base c.in_ok-uow.ensures.bound owner c.requires.in_range n
+    (same_fault _ _ _ _ p.1 p.2 e)
 
 pub returns-in_err-control-clause-damaged : goal.returns-in_err-control-clause-damaged
 returns-in_err-control-clause-damaged g c = λ t k m n e.
     let p = err_from_is_err_and c.from_residual-in_err-control.result c.from_residual-in_err-control.ensures.1 in
     let t1 = c.find_before.ensures.goes_on.tells t in
-    let h = rw (c.in_ok-before.ensures.same t) at (c.in_err-control.ensures.damaged t1 n (same_fault _ _ _ _ p.1 p.2 e)) in
+    let h = rw (c.in_ok-before.ensures.same t) at (c.in_err-control.ensures.damaged t1 n (same_fault _ _ _ _ p.1 p.2 e))
+    in
     control-fault c.args.shape.now _ n h
 
 pub returns-in_err-put_link-clause-damaged : goal.returns-in_err-put_link-clause-damaged
@@ -42,7 +46,10 @@ returns-clause-moved g c = λ t k.
     let t1 = c.find_before.ensures.goes_on.tells t in
     let t2 = c.read.ensures.goes_on.tells t1 in
     let t3 = c.put_link.ensures.goes_on.tells t2 in
-    let five : kind_of (bytes_at (g.I.Intervals.intervals c.args.i.now) c.args.ci) ≡ 5 = keeps-kind _ _ k ∙ c.requires.kind in
-    on_ok-map _ _ _ (λ q. moves _ _ _ _ _ _ _ _ _ _ _ c.in_ok-before.before c.in_ok-uow.ensures.bound c.in_ok-uow.ensures.has_base c.in_ok-uow.ensures.from c.in_ok-uow.ensures.unit (c.in_ok-before.ensures.before t five)
+    let five : kind_of (bytes_at (g.I.Intervals.intervals c.args.i.now) c.args.ci) ≡ 5 =
+    keeps-kind _ _ k ∙ c.requires.kind in
+    on_ok-map _ _ _ (λ q. moves _ _ _ _ _ _ _ _ _ _ _ c.in_ok-before.before c.in_ok-uow.ensures.bound
+    c.in_ok-uow.ensures.has_base c.in_ok-uow.ensures.from c.in_ok-uow.ensures.unit
+    (c.in_ok-before.ensures.before t five)
     (c.in_ok-before.ensures.same t) (c.in_ok-control.ensures.bytes t1) (c.in_ok-control.ensures.same t1)
     (ap (λ h. h.link) c.head.ensures.head) (c.in_ok-put_link.ensures.put t2) q) (c.put_free.ensures.put t3)

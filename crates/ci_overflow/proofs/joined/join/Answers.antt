@@ -9,7 +9,8 @@ pub returns-in_ok-write-in-Some-2-clause-joined : goal.returns-in_ok-write-in-So
 returns-in_ok-write-in-Some-2-clause-joined g c = λ t.
     let t1 = c.read.ensures.goes_on.tells t in
     let t2 = c.write.ensures.goes_on.tells t1 in
-    joins _ _ _ _ _ _ _ _ _ _ _ _ _ _ _ _ c.head-head.result c.first_base-first.ensures.number c.requires.behind (c.in_ok-base.ensures.same t) (c.in_ok-base.ensures.bytes t) c.in_ok-base.ensures.interval c.requires.interval
+    joins _ _ _ _ _ _ _ _ _ _ _ _ _ _ _ _ c.head-head.result c.first_base-first.ensures.number c.requires.behind
+    (c.in_ok-base.ensures.same t) (c.in_ok-base.ensures.bytes t) c.in_ok-base.ensures.interval c.requires.interval
     c.head-head.ensures.head c.set_head.ensures.head c.set_head.ensures.tiles c.set_head.ensures.others
     c.set_head-2.ensures.head (ap (λ n. n + 1) c.from.ensures) c.set_head-2.ensures.tiles
     c.in-Some.ensures.some c.in-Some.ensures.room c.in-Some.ensures.fresh c.in-Some.ensures.others c.take.ensures.head
@@ -17,10 +18,12 @@ returns-in_ok-write-in-Some-2-clause-joined g c = λ t.
 
 pub returns-in-None-clause-damaged : goal.returns-in-None-clause-damaged
 returns-in-None-clause-damaged g c = λ t n e.
-    let full : IsFull c.args.interval c.args.needed = full-behind _ _ _ c.requires.interval c.set_head-2.ensures.tiles c.in-None.ensures.full in
+    let full : IsFull c.args.interval c.args.needed =
+    full-behind _ _ _ c.requires.interval c.set_head-2.ensures.tiles c.in-None.ensures.full in
     let k : c.args.ci ≡ n = cc in
     inr (sym k, full)
 
 pub returns-in_ok-write-in-Some-2-clause-goes_on : goal.returns-in_ok-write-in-Some-2-clause-goes_on
 returns-in_ok-write-in-Some-2-clause-goes_on g c =
-    goes_on_joined _ _ _ _ _ _ _ (goes_on_joined _ _ _ _ _ _ _ c.read.ensures.goes_on c.write.ensures.goes_on) c.write-in-Some.ensures.goes_on
+    goes_on_joined _ _ _ _ _ _ _ (goes_on_joined _ _ _ _ _ _ _ c.read.ensures.goes_on c.write.ensures.goes_on)
+    c.write-in-Some.ensures.goes_on

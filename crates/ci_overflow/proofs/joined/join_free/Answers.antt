@@ -10,36 +10,51 @@ use Rattle.ci_overflow.proofs.Joins.{joins-free, base-before}
 use Rattle.ci_overflow.proofs.joined.join_free.Goals as goal
 
 pub join-requires-clause-behind : goal.join-requires-clause-behind
-join-requires-clause-behind g c = omega (arith, base-before c.args.shape.now c.args.uow c.requires.uow c.requires.base, c.first_independent.ensures.number, c.if-ci-first_independent.false)
+join-requires-clause-behind g c = omega (
+  arith,
+  base-before c.args.shape.now c.args.uow c.requires.uow c.requires.base,
+  c.first_independent.ensures.number,
+  c.if-ci-first_independent.false,
+)
 
 pub returns-in_err-at-clause-goes_on : goal.returns-in_err-at-clause-goes_on
-returns-in_err-at-clause-goes_on g c = goes_on_joined _ _ _ _ _ _ _ (goes_on_joined _ _ _ _ _ _ _ c.read.ensures.goes_on c.put_counts.ensures.goes_on) c.join.ensures.goes_on
+returns-in_err-at-clause-goes_on g c = goes_on_joined _ _ _ _ _ _ _
+    (goes_on_joined _ _ _ _ _ _ _ c.read.ensures.goes_on c.put_counts.ensures.goes_on) c.join.ensures.goes_on
 
 pub returns-clause-joined : goal.returns-clause-joined
 returns-clause-joined g c = λ t e.
     let t1 = c.read.ensures.goes_on.tells t in
     let t2 = c.put_counts.ensures.goes_on.tells t1 in
-    let from : first_independent c.args.shape.now ≤ slice_index_or c.ends-ends.result 3 0 = omega (arith, c.first_independent.ensures.number, c.if-ci-first_independent.false) in
-    let below : slice_index_or c.ends-ends.result 3 0 < length (g.I.Intervals.intervals c.args.i.now) = omega (arith, g.met.I.Intervals.numbered c.args.i.now t, c.in_ok-interval.ensures.below) in
-    joins-free _ _ _ _ _ _ _ _ _ _ _ _ _ e c.ends-ends.ensures refl from below (c.in_ok-interval.ensures.same t) (c.in_ok-interval.ensures.bytes t) c.in_ok-interval.ensures.kind (c.if-not-is_empty.ensures.0 refl)
+    let from : first_independent c.args.shape.now ≤ slice_index_or c.ends-ends.result 3 0 =
+    omega (arith, c.first_independent.ensures.number, c.if-ci-first_independent.false) in
+    let below : slice_index_or c.ends-ends.result 3 0 < length (g.I.Intervals.intervals c.args.i.now) =
+    omega (arith, g.met.I.Intervals.numbered c.args.i.now t, c.in_ok-interval.ensures.below) in
+    joins-free _ _ _ _ _ _ _ _ _ _ _ _ _ e c.ends-ends.ensures refl from below (c.in_ok-interval.ensures.same t)
+    (c.in_ok-interval.ensures.bytes t) c.in_ok-interval.ensures.kind (c.if-not-is_empty.ensures.0 refl)
     (ap (λ h. h.link) c.head-next.ensures.head) (c.in_ok-put_counts.ensures.put t1) (c.in_ok-at.ensures.joined t2)
 
 pub returns-then-ci-first_independent-clause-damaged : goal.returns-then-ci-first_independent-clause-damaged
 returns-then-ci-first_independent-clause-damaged g c = λ t e z f n i.
     named_fault (IsAtFault c.args.shape.now (g.I.Intervals.intervals c.args.i.now)) 0 n i
-    (early-fault _ _ 0 0 _ (control-link _ _ _ _ e c.ends-ends.ensures) (control-some _ _ _ e c.ends-ends.ensures z) (omega (arith, c.if-ci-first_independent.true, c.first_independent.ensures.number)))
+    (early-fault _ _ 0 0 _ (control-link _ _ _ _ e c.ends-ends.ensures) (control-some _ _ _ e c.ends-ends.ensures z)
+    (omega (arith, c.if-ci-first_independent.true, c.first_independent.ensures.number)))
 
 pub returns-in_err-interval-clause-damaged : goal.returns-in_err-interval-clause-damaged
 returns-in_err-interval-clause-damaged g c = λ t e z f n i.
     let p = err_from_is_err_and c.from_residual.result c.from_residual.ensures.1 in
-    shared-fault _ _ _ n (control-link _ _ _ _ e c.ends-ends.ensures) (control-some _ _ _ e c.ends-ends.ensures z) refl (c.in_err-interval.ensures.damaged t n (same_fault _ _ _ _ p.1 p.2 i))
+    shared-fault _ _ _ n (control-link _ _ _ _ e c.ends-ends.ensures) (control-some _ _ _ e c.ends-ends.ensures z) refl
+    (c.in_err-interval.ensures.damaged t n (same_fault _ _ _ _ p.1 p.2 i))
 
 pub returns-then-not-is_empty-clause-damaged : goal.returns-then-not-is_empty-clause-damaged
 returns-then-not-is_empty-clause-damaged g c = λ t e z f n i.
-    let below : slice_index_or c.ends-ends.result 3 0 < length (g.I.Intervals.intervals c.args.i.now) = omega (arith, g.met.I.Intervals.numbered c.args.i.now t, c.in_ok-interval.ensures.below) in
-    let not_empty : IsEmpty c.in_ok-interval.interval → ⊥ = λ h. (let q : false ≡ true = c.if-not-is_empty.ensures.1 h in cc) in
-    named_fault (IsAtFault c.args.shape.now (g.I.Intervals.intervals c.args.i.now)) (slice_index_or c.ends-ends.result 3 0) n i
-    (free-fault _ _ _ _ (omega (arith, c.if-ci-first_independent.false, c.first_independent.ensures.number)) below (c.in_ok-interval.ensures.bytes t) c.in_ok-interval.ensures.owner not_empty)
+    let below : slice_index_or c.ends-ends.result 3 0 < length (g.I.Intervals.intervals c.args.i.now) =
+    omega (arith, g.met.I.Intervals.numbered c.args.i.now t, c.in_ok-interval.ensures.below) in
+    let not_empty : IsEmpty c.in_ok-interval.interval → ⊥ = λ h. (let q : false ≡ true =
+    c.if-not-is_empty.ensures.1 h in cc) in
+    named_fault (IsAtFault c.args.shape.now (g.I.Intervals.intervals c.args.i.now))
+    (slice_index_or c.ends-ends.result 3 0) n i
+    (free-fault _ _ _ _ (omega (arith, c.if-ci-first_independent.false, c.first_independent.ensures.number)) below
+    (c.in_ok-interval.ensures.bytes t) c.in_ok-interval.ensures.owner not_empty)
 
 pub returns-in_err-put_counts-clause-damaged : goal.returns-in_err-put_counts-clause-damaged
 returns-in_err-put_counts-clause-damaged g c = λ t e z f n i.
@@ -53,7 +68,8 @@ returns-in_err-at-clause-damaged g c = λ t e z f n i.
     let t2 = c.put_counts.ensures.goes_on.tells t1 in
     let put = rw (c.in_ok-interval.ensures.same t) at (c.in_ok-put_counts.ensures.put t1) in
     let fits : FitsEmpty (length c.in_ok-interval.interval) c.args.needed = rw c.in_ok-interval.ensures.size f in
-    elim (c.in_err-at.ensures.damaged t2 n (same_fault _ _ _ _ p.1 p.2 i)) as (λ _. IsAtFault c.args.shape.now (g.I.Intervals.intervals c.args.i.now) n) [
+    elim (c.in_err-at.ensures.damaged t2 n (same_fault _ _ _ _ p.1 p.2 i)) as
+    (λ _. IsAtFault c.args.shape.now (g.I.Intervals.intervals c.args.i.now) n) [
       | inl h ↦ base-moved _ _ _ _ _ _ _ _ c.requires.uow c.requires.base put h
       | inr h ↦ absurd (empty-fits _ _ (c.if-not-is_empty.ensures.0 refl) fits h.1)
     ]

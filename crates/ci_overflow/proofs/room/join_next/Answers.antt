@@ -14,7 +14,8 @@ returns-then-ends-eq0-clause-joined g c = λ t.
     let same = c.in_ok-control.ensures.same t in
     let bytes = c.in_ok-control.ensures.bytes t in
     let now = bytes ∙ ap (λ xs. bytes_at xs 0) (sym same) in
-    if_ok-map _ _ _ (λ room j. next-new _ _ _ room _ _ _ _ _ bytes c.ends.ensures c.if-ends-eq0.true same (λ _. j)) (c.join_new.ensures.joined (c.read.ensures.goes_on.tells t) now)
+    if_ok-map _ _ _ (λ room j. next-new _ _ _ room _ _ _ _ _ bytes c.ends.ensures c.if-ends-eq0.true same (λ _. j))
+    (c.join_new.ensures.joined (c.read.ensures.goes_on.tells t) now)
 
 pub returns-in_err-control-clause-damaged : goal.returns-in_err-control-clause-damaged
 returns-in_err-control-clause-damaged g c = λ t f n e.
@@ -33,4 +34,5 @@ returns-else-ends-eq0-clause-damaged g c = λ t f n e.
     let same = c.in_ok-control.ensures.same t in
     let now = c.in_ok-control.ensures.bytes t ∙ ap (λ xs. bytes_at xs 0) (sym same) in
     let fits : FitsEmpty (g.I.Intervals.size c.read.new.i) c.args.needed = rw c.read.ensures.goes_on.same_size f in
-    rw same at (c.join_free.ensures.damaged (c.read.ensures.goes_on.tells t) now (λ z. c.if-ends-eq0.false (first_free_is _ _ _ now c.ends.ensures ∙ z)) fits n e)
+    rw same at (c.join_free.ensures.damaged (c.read.ensures.goes_on.tells t) now
+    (λ z. c.if-ends-eq0.false (first_free_is _ _ _ now c.ends.ensures ∙ z)) fits n e)

@@ -12,7 +12,8 @@ invariant-loop-ci g l = record {
   number : g.I.Intervals.number l.i ≡ g.I.Intervals.number l.initial.i;
   same : g.I.Intervals.told l.initial.i → g.I.Intervals.intervals l.i ≡ g.I.Intervals.intervals l.initial.i;
   turns : l.turns ≤ l.initial.turns;
-  walked : g.I.Intervals.told l.initial.i → l.uow < l.shape.uows → l.base ≡ first_base l.shape l.uow → l.first ≡ link_of (bytes_at (g.I.Intervals.intervals l.initial.i) l.base)
+  walked : g.I.Intervals.told l.initial.i → l.uow < l.shape.uows → l.base ≡ first_base l.shape l.uow
+      → l.first ≡ link_of (bytes_at (g.I.Intervals.intervals l.initial.i) l.base)
       → IsWalked l.shape (g.I.Intervals.intervals l.initial.i) (l.uow + 1) l.from l.ci (l.initial.turns - l.turns);
   on_chain : g.I.Intervals.told l.initial.i → IsOnChain (g.I.Intervals.intervals l.initial.i) l.length l.first l.ci;
 }

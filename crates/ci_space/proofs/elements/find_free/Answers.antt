@@ -7,7 +7,8 @@ loop-at-init c = walk-begins _ _ _ c.requires.tiled
 
 pub holds-requires : goal.holds-requires
 holds-requires c =
-    let w : IsWhole c.args.bytes.now c.loop-at.at (length c.args.bytes.now) = first-whole c.loop-at.invariant.after _ _ _ c.loop-at-test.true c.loop-at.invariant.left in
+    let w : IsWhole c.args.bytes.now c.loop-at.at (length c.args.bytes.now) =
+    first-whole c.loop-at.invariant.after _ _ _ c.loop-at-test.true c.loop-at.invariant.left in
     omega arith
 
 pub returns-then-holds-clause-found : goal.returns-then-holds-clause-found
@@ -17,18 +18,22 @@ returns-then-holds-clause-found c =
 
 pub length_at-at-requires : goal.length_at-at-requires
 length_at-at-requires c =
-    let w : IsWhole c.args.bytes.now c.loop-at.at (length c.args.bytes.now) = first-whole c.loop-at.invariant.after _ _ _ c.loop-at-test.true c.loop-at.invariant.left in
+    let w : IsWhole c.args.bytes.now c.loop-at.at (length c.args.bytes.now) =
+    first-whole c.loop-at.invariant.after _ _ _ c.loop-at-test.true c.loop-at.invariant.left in
     omega arith
 
 pub loop-at-smaller : goal.loop-at-smaller
 loop-at-smaller c =
-    let w : IsWhole c.args.bytes.now c.loop-at.at (length c.args.bytes.now) = first-whole c.loop-at.invariant.after _ _ _ c.loop-at-test.true c.loop-at.invariant.left in
+    let w : IsWhole c.args.bytes.now c.loop-at.at (length c.args.bytes.now) =
+    first-whole c.loop-at.invariant.after _ _ _ c.loop-at-test.true c.loop-at.invariant.left in
     omega arith
 
 pub loop-at-preserved : goal.loop-at-preserved
 loop-at-preserved c =
     rw c.length_at-at.ensures.length
-    (walk-on _ _ _ c.requires.some c.loop-at-test.true c.loop-at.invariant (λ t h. let e : c.holds.result ≡ true = c.holds.ensures.1 (t, h) in let f : c.holds.result ≡ false = c.if-holds.false in cc))
+    (walk-on _ _ _ c.requires.some c.loop-at-test.true c.loop-at.invariant
+    (λ t h. let e : c.holds.result ≡ true = c.holds.ensures.1 (t, h) in
+    let f : c.holds.result ≡ false = c.if-holds.false in cc))
 
 pub returns-clause-none : goal.returns-clause-none
 returns-clause-none c =

@@ -15,4 +15,5 @@ returns-clause-reached g c =
     c.new.ensures.rules
 
 pub returns-clause-regions : goal.returns-clause-regions
-returns-clause-regions g c = if_ok_by _ _ c.new.result (λ core same. ap (λ (r : Rules). r.regions) same) c.new.ensures.rules
+returns-clause-regions g c = if_ok_by _ _ c.new.result (λ core same. ap (λ (r : Rules). r.regions) same)
+    c.new.ensures.rules

@@ -8,6 +8,7 @@ returns-clause-reached g c =
     let before = c.requires.reached.1 in
     let same : c.step.new.self.engine.defs.now ≡ c.args.core.now.engine.defs.now = cc in
     on_ok_by _ _ c.step.result
-    (λ did given. reached_behind c.args.core.now.engine c.step.new.self.engine c.args.event.now c.requires.reached.0 given.0 did
+    (λ did given. reached_behind c.args.core.now.engine c.step.new.self.engine c.args.event.now c.requires.reached.0
+    given.0 did
     c.step.ensures.rules same before given.1.turned)
     (c.step.ensures.turned c.requires.reached.0 before.stands)

@@ -13,21 +13,26 @@ use Rattle.dli_calls.proofs.answering.answer.Goals as goal
 
 pub ready-requires-clause-positions : goal.ready-requires-clause-positions
 ready-requires-clause-positions c =
-    positions_within c.args.defs.now.msdbs c.args.work.now.own.msdbs _ _ c.requires.work.positions c.database_for-database.ensures.def
+    positions_within c.args.defs.now.msdbs c.args.work.now.own.msdbs _ _ c.requires.work.positions
+    c.database_for-database.ensures.def
 
 pub ready-requires-clause-position : goal.ready-requires-clause-position
 ready-requires-clause-position c =
-    position_fits c.args.defs.now.msdbs c.args.work.now.own.msdbs _ _ c.requires.work.positions c.database_for-database.ensures.def
+    position_fits c.args.defs.now.msdbs c.args.work.now.own.msdbs _ _ c.requires.work.positions
+    c.database_for-database.ensures.def
 
 pub ready-requires-clause-changes : goal.ready-requires-clause-changes
 ready-requires-clause-changes c = c.requires.work.changes _ _ c.database_for-database.ensures.def
 
-it : (c : goal.After-ready) → Names c.args.defs.now.msdbs c.args.call.now c.database_for-database.result.number c.database_for-database.result.def.now
+it : (c : goal.After-ready) → Names c.args.defs.now.msdbs c.args.call.now c.database_for-database.result.number
+    c.database_for-database.result.def.now
 it c = record { same = c.database_for-database.ensures.number; there = c.database_for-database.ensures.def }
 
 pub returns-clause-need : goal.returns-clause-need
 returns-clause-need c =
-    λ db same. if_ok c.ready.result c.ready.ensures.need (λ ready is. is ∙ sym (needs c.args.defs.now c.args.call.now _ _ (it c) db c.args.work.now.own ((standing c.args.locks.now).holds c.args.region)))
+    λ db same. if_ok c.ready.result c.ready.ensures.need
+    (λ ready is. is ∙ sym (needs c.args.defs.now c.args.call.now _ _ (it c) db c.args.work.now.own
+    ((standing c.args.locks.now).holds c.args.region)))
 
 pub returns-clause-answer : goal.returns-clause-answer
 returns-clause-answer c =
@@ -35,12 +40,15 @@ returns-clause-answer c =
     let database = c.database_for-database.result in
     let own = c.args.work.now.own in
     let segments = segments_in database in
-    let stored : c.args.msdbs.now.msdbs ≡ database.store.now.msdbs = ap (λ store. store.msdbs) (sym c.database_for-database.ensures.store) in
+    let stored : c.args.msdbs.now.msdbs ≡ database.store.now.msdbs =
+    ap (λ store. store.msdbs) (sym c.database_for-database.ensures.store) in
     let replied : Answer → Replied = λ answer. record { answer = answer; own = c.ready.new.work.own } in
     if_ok c.ready.result c.ready.ensures.answer (λ ready is.
-    if_answer (λ answer. msdb_reply database.def.now database.number segments segments own c.args.call.now ≡ replied answer)
+    if_answer (λ answer. msdb_reply database.def.now database.number segments segments own c.args.call.now ≡ replied
+    answer)
     (λ answer. reply_to c.args.defs.now db db own c.args.call.now ≡ replied answer) ready is
-    (λ answer so. replies c.args.defs.now c.args.call.now _ _ (it c) db database.store.now.msdbs own (same ∙ stored) ∙ so))
+    (λ answer so. replies c.args.defs.now c.args.call.now _ _ (it c) db database.store.now.msdbs own (same ∙ stored) ∙
+    so))
 
 pub returns-clause-notes : goal.returns-clause-notes
 returns-clause-notes c =
@@ -48,14 +56,18 @@ returns-clause-notes c =
     let own = c.args.work.now.own in
     let notes = c.args.work.now.notes in
     if_ok c.ready.result c.ready.ensures.notes (λ ready is.
-    if_answer (λ answer. c.ready.new.work.notes ≡ (if msdb_looks database.def.now database.number own c.args.call.now then notes ++ c.args.count ∷ [] else notes))
-    (λ answer. c.ready.new.work.notes ≡ (if looks_unheld c.args.defs.now own c.args.call.now then notes ++ c.args.count ∷ [] else notes)) ready is
-    (λ answer so. so ∙ ap (λ looked. if looked then notes ++ c.args.count ∷ [] else notes) (sym (looks c.args.defs.now c.args.call.now _ _ (it c) own))))
+    if_answer (λ answer. c.ready.new.work.notes ≡ (if msdb_looks database.def.now database.number own c.args.call.now
+    then notes ++ c.args.count ∷ [] else notes))
+    (λ answer. c.ready.new.work.notes ≡ (if looks_unheld c.args.defs.now own c.args.call.now then notes ++ c.args.count
+    ∷ [] else notes)) ready is
+    (λ answer so. so ∙ ap (λ looked. if looked then notes ++ c.args.count ∷ [] else notes)
+    (sym (looks c.args.defs.now c.args.call.now _ _ (it c) own))))
 
 pub returns-clause-fits : goal.returns-clause-fits
 returns-clause-fits c =
     if_ok c.ready.result c.ready.ensures.shown (λ ready is.
-    if_answer (ShowsFound c.database_for-database.result.def.now c.args.call.now) (FitsAnswer c.args.defs.now.msdbs c.args.call.now) ready is
+    if_answer (ShowsFound c.database_for-database.result.def.now c.args.call.now)
+    (FitsAnswer c.args.defs.now.msdbs c.args.call.now) ready is
     (λ answer shows. fits_answer c.args.defs.now.msdbs c.args.call.now _ _ answer (it c) shows))
 
 pub returns-clause-of : goal.returns-clause-of

@@ -7,11 +7,13 @@ use Rattle.dli_tree.proofs.edit.delete_root.Goals as goal
 pub returns-in-Stands : goal.returns-in-Stands
 returns-in-Stands c up =
     let key = root_key c.args.segments.now in
-    let place = placed_in key c.args.step.now.key c.as_slice-2.result.now c.args.roots.now c.as_slice.result.now (Stands c.in-Stands.at) c.as_slice.ensures c.as_slice-2.ensures c.in-Stands.ensures.place up in
+    let place = placed_in key c.args.step.now.key c.as_slice-2.result.now c.args.roots.now c.as_slice.result.now
+    (Stands c.in-Stands.at) c.as_slice.ensures c.as_slice-2.ensures c.in-Stands.ensures.place up in
     c.remove.ensures.others ∙ drop_stands key c.args.step.now.key c.args.roots.now c.in-Stands.at up place
 
 pub returns-in-Lacks : goal.returns-in-Lacks
 returns-in-Lacks c up =
     let key = root_key c.args.segments.now in
-    let place = placed_in key c.args.step.now.key c.as_slice-2.result.now c.args.roots.now c.as_slice.result.now (Lacks c.in-Lacks.field-0) c.as_slice.ensures c.as_slice-2.ensures c.in-Lacks.ensures.place up in
+    let place = placed_in key c.args.step.now.key c.as_slice-2.result.now c.args.roots.now c.as_slice.result.now
+    (Lacks c.in-Lacks.field-0) c.as_slice.ensures c.as_slice-2.ensures c.in-Lacks.ensures.place up in
     drop_lacks key c.args.step.now.key c.args.roots.now c.in-Lacks.field-0 up place

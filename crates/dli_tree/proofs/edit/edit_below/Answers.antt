@@ -11,7 +11,8 @@ use Rattle.dli_tree.proofs.edit.edit_below.Goals as goal
 
 pub returns-then-is_empty-clause-ok : goal.returns-then-is_empty-clause-ok
 returns-then-is_empty-clause-ok c order =
-    on_ok_with _ _ c.edit_root.result (λ is. is ∙ anchor_end c.args.segments.now (edit_of c.args.change) (step_of c.args.step.now) c.args.rest.now c.args.roots.now (sym c.is_empty.ensures ∙ c.if-is_empty.true))
+    on_ok_with _ _ c.edit_root.result (λ is. is ∙ anchor_end c.args.segments.now (edit_of c.args.change)
+    (step_of c.args.step.now) c.args.rest.now c.args.roots.now (sym c.is_empty.ensures ∙ c.if-is_empty.true))
     (c.edit_root.ensures.ok (roots_ascend c.args.segments.now c.args.roots.now order))
 
 pub returns-in-Stands-clause-ok : goal.returns-in-Stands-clause-ok
@@ -23,17 +24,27 @@ returns-in-Stands-clause-ok c order =
     let r = c.item_mut.result.now in
     let up = roots_ascend types roots order in
     let key = root_key types in
-    let place = placed_in key c.args.step.now.key c.as_slice-2.result.now roots c.as_slice.result.now (Stands at) c.as_slice.ensures c.as_slice-2.ensures c.in-Stands.ensures.place up in
-    let lt : at < length roots = omega (arith, c.in-Stands.ensures.within, ap (λ (xs : List Root). length xs) c.as_slice.ensures) in
-    let below = (shaped types r (root_shape types roots at r order lt (twin_there roots at r c.item_mut.ensures.value))).rows in
-    on_ok_with _ _ c.edit_rows.result (λ is. ap (λ (rows : List (List Node)). slice_set roots at (record r { children = rows })) is
-    ∙ change_stands key c.args.step.now.key (root_changed types edit (steps_of c.args.rest.now)) roots at r up place c.item_mut.ensures.value
-    ∙ anchor_goes types edit (step_of c.args.step.now) c.args.rest.now roots (sym c.is_empty.ensures ∙ c.if-is_empty.false)) (c.edit_rows.ensures.ok below)
+    let place = placed_in key c.args.step.now.key c.as_slice-2.result.now roots c.as_slice.result.now (Stands at)
+    c.as_slice.ensures c.as_slice-2.ensures c.in-Stands.ensures.place up in
+    let lt : at < length roots = omega (
+      arith,
+      c.in-Stands.ensures.within,
+      ap (λ (xs : List Root). length xs) c.as_slice.ensures,
+    ) in
+    let below = (shaped types r (root_shape types roots at r order lt
+    (twin_there roots at r c.item_mut.ensures.value))).rows in
+    on_ok_with _ _ c.edit_rows.result (λ is. ap (λ (rows : List (List Node)). slice_set roots at
+    (record r { children = rows })) is
+    ∙ change_stands key c.args.step.now.key (root_changed types edit (steps_of c.args.rest.now)) roots at r up place
+    c.item_mut.ensures.value
+    ∙ anchor_goes types edit (step_of c.args.step.now) c.args.rest.now roots
+    (sym c.is_empty.ensures ∙ c.if-is_empty.false)) (c.edit_rows.ensures.ok below)
 
 pub returns-in-Stands-clause-err : goal.returns-in-Stands-clause-err
 returns-in-Stands-clause-err c =
     let r = c.item_mut.result.now in
-    on_err_with _ _ c.edit_rows.result (λ is. ap (λ (rows : List (List Node)). slice_set c.args.roots.now c.in-Stands.at (record r { children = rows })) is
+    on_err_with _ _ c.edit_rows.result (λ is. ap (λ (rows : List (List Node)). slice_set c.args.roots.now c.in-Stands.at
+    (record r { children = rows })) is
     ∙ same_set c.args.roots.now c.in-Stands.at r c.item_mut.ensures.value) c.edit_rows.ensures.err
 
 pub returns-in-Lacks-clause-ok : goal.returns-in-Lacks-clause-ok
@@ -43,6 +54,9 @@ returns-in-Lacks-clause-ok c order =
     let edit = edit_of c.args.change in
     let up = roots_ascend types roots order in
     let key = root_key types in
-    let place = placed_in key c.args.step.now.key c.as_slice-2.result.now roots c.as_slice.result.now (Lacks c.in-Lacks.field-0) c.as_slice.ensures c.as_slice-2.ensures c.in-Lacks.ensures.place up in
-    change_lacks key c.args.step.now.key (root_changed types edit (steps_of c.args.rest.now)) roots c.in-Lacks.field-0 up place
-    ∙ anchor_goes types edit (step_of c.args.step.now) c.args.rest.now roots (sym c.is_empty.ensures ∙ c.if-is_empty.false)
+    let place = placed_in key c.args.step.now.key c.as_slice-2.result.now roots c.as_slice.result.now
+    (Lacks c.in-Lacks.field-0) c.as_slice.ensures c.as_slice-2.ensures c.in-Lacks.ensures.place up in
+    change_lacks key c.args.step.now.key (root_changed types edit (steps_of c.args.rest.now)) roots c.in-Lacks.field-0
+    up place
+    ∙ anchor_goes types edit (step_of c.args.step.now) c.args.rest.now roots
+    (sym c.is_empty.ensures ∙ c.if-is_empty.false)

@@ -13,8 +13,10 @@ returns-in-Stands-clause-ok c up =
     let types = c.args.segments.now in
     let roots = c.args.roots.now in
     let key = c.key_in-key.ensures ∙ ap (key_in types 0) c.as_slice.ensures in
-    let place = placed_in (root_key types) _ _ roots c.as_slice-2.result.now (Stands c.in-Stands.at) c.as_slice-2.ensures key c.in-Stands.ensures.place up in
-    on_ok_with _ _ c.insert.result (λ is. is ∙ root_made (λ (r : Root). insert roots (c.in-Stands.at + 1) r) c.args.bytes c.in_ok-children.ensures c.new-seqs.ensures
+    let place = placed_in (root_key types) _ _ roots c.as_slice-2.result.now (Stands c.in-Stands.at)
+    c.as_slice-2.ensures key c.in-Stands.ensures.place up in
+    on_ok_with _ _ c.insert.result (λ is. is ∙ root_made (λ (r : Root). insert roots (c.in-Stands.at + 1) r)
+    c.args.bytes c.in_ok-children.ensures c.new-seqs.ensures
     ∙ put_stands (root_key types) (new_root types c.args.bytes) roots c.in-Stands.at up place) c.insert.ensures.ok
 
 pub returns-in-Lacks-clause-ok : goal.returns-in-Lacks-clause-ok
@@ -22,6 +24,10 @@ returns-in-Lacks-clause-ok c up =
     let types = c.args.segments.now in
     let roots = c.args.roots.now in
     let key = c.key_in-key.ensures ∙ ap (key_in types 0) c.as_slice.ensures in
-    let place = placed_in (root_key types) _ _ roots c.as_slice-2.result.now (Lacks c.in-Lacks.at) c.as_slice-2.ensures key c.in-Lacks.ensures.place up in
-    on_ok_with _ _ c.insert-in-Lacks.result (λ is. is ∙ root_made (λ (r : Root). insert roots c.in-Lacks.at r) c.args.bytes c.in_ok-children.ensures c.new-seqs.ensures
-    ∙ put_lacks (root_key types) (new_root types c.args.bytes) roots c.in-Lacks.at (omega (arith, c.in-Lacks.ensures.within, ap (λ (xs : List Root). length xs) c.as_slice-2.ensures)) place) c.insert-in-Lacks.ensures.ok
+    let place = placed_in (root_key types) _ _ roots c.as_slice-2.result.now (Lacks c.in-Lacks.at) c.as_slice-2.ensures
+    key c.in-Lacks.ensures.place up in
+    on_ok_with _ _ c.insert-in-Lacks.result (λ is. is ∙ root_made (λ (r : Root). insert roots c.in-Lacks.at r)
+    c.args.bytes c.in_ok-children.ensures c.new-seqs.ensures
+    ∙ put_lacks (root_key types) (new_root types c.args.bytes) roots c.in-Lacks.at
+    (omega (arith, c.in-Lacks.ensures.within, ap (λ (xs : List Root). length xs) c.as_slice-2.ensures)) place)
+    c.insert-in-Lacks.ensures.ok

@@ -11,17 +11,27 @@ returns-in-Stands-clause-ok c up =
     let types = c.args.segments.now in
     let type = c.args.segment in
     let twins = c.args.twins.now in
-    let key = c.key_in-key.ensures ∙ ap (key_in types type) c.as_slice.ensures ∙ sym (new_node_key types type c.args.bytes) in
-    let place = placed_in (node_key types type) _ _ twins c.as_slice-2.result.now (Stands c.in-Stands.at) c.as_slice-2.ensures key c.in-Stands.ensures.place up in
-    on_ok_with _ _ c.insert.result (λ is. is ∙ ap (λ (rows : List (List Node)). insert twins (c.in-Stands.at + 1) (roll-Node (record { bytes = c.args.bytes; children = rows }))) c.in_ok-children.ensures
-    ∙ put_stands (node_key types type) (new_node types type c.args.bytes) twins c.in-Stands.at up place) c.insert.ensures.ok
+    let key = c.key_in-key.ensures ∙ ap (key_in types type) c.as_slice.ensures ∙ sym
+    (new_node_key types type c.args.bytes) in
+    let place = placed_in (node_key types type) _ _ twins c.as_slice-2.result.now (Stands c.in-Stands.at)
+    c.as_slice-2.ensures key c.in-Stands.ensures.place up in
+    on_ok_with _ _ c.insert.result (λ is. is ∙ ap (λ (rows : List (List Node)). insert twins (c.in-Stands.at + 1)
+    (roll-Node (record { bytes = c.args.bytes; children = rows }))) c.in_ok-children.ensures
+    ∙ put_stands (node_key types type) (new_node types type c.args.bytes) twins c.in-Stands.at up place)
+    c.insert.ensures.ok
 
 pub returns-in-Lacks-clause-ok : goal.returns-in-Lacks-clause-ok
 returns-in-Lacks-clause-ok c up =
     let types = c.args.segments.now in
     let type = c.args.segment in
     let twins = c.args.twins.now in
-    let key = c.key_in-key.ensures ∙ ap (key_in types type) c.as_slice.ensures ∙ sym (new_node_key types type c.args.bytes) in
-    let place = placed_in (node_key types type) _ _ twins c.as_slice-2.result.now (Lacks c.in-Lacks.at) c.as_slice-2.ensures key c.in-Lacks.ensures.place up in
-    on_ok_with _ _ c.insert-in-Lacks.result (λ is. is ∙ ap (λ (rows : List (List Node)). insert twins c.in-Lacks.at (roll-Node (record { bytes = c.args.bytes; children = rows }))) c.in_ok-children.ensures
-    ∙ put_lacks (node_key types type) (new_node types type c.args.bytes) twins c.in-Lacks.at (omega (arith, c.in-Lacks.ensures.within, ap (λ (xs : List Node). length xs) c.as_slice-2.ensures)) place) c.insert-in-Lacks.ensures.ok
+    let key = c.key_in-key.ensures ∙ ap (key_in types type) c.as_slice.ensures ∙ sym
+    (new_node_key types type c.args.bytes) in
+    let place = placed_in (node_key types type) _ _ twins c.as_slice-2.result.now (Lacks c.in-Lacks.at)
+    c.as_slice-2.ensures key c.in-Lacks.ensures.place up in
+    on_ok_with _ _ c.insert-in-Lacks.result (λ is. is ∙ ap
+    (λ (rows : List (List Node)). insert twins c.in-Lacks.at
+    (roll-Node (record { bytes = c.args.bytes; children = rows }))) c.in_ok-children.ensures
+    ∙ put_lacks (node_key types type) (new_node types type c.args.bytes) twins c.in-Lacks.at
+    (omega (arith, c.in-Lacks.ensures.within, ap (λ (xs : List Node). length xs) c.as_slice-2.ensures)) place)
+    c.insert-in-Lacks.ensures.ok

@@ -13,9 +13,11 @@ returns-in-Some c shape =
     let types = c.args.segments.now in
     let aim = aim_of c.args.aim in
     let root = c.args.root.now in
-    let found = seq_answer types aim root.seqs c.as_slice.result.now c.in_ok-found.field-0 c.as_slice.ensures c.in_ok-found.ensures (shaped types root shape).newest in
+    let found = seq_answer types aim root.seqs c.as_slice.result.now c.in_ok-found.field-0 c.as_slice.ensures
+    c.in_ok-found.ensures (shaped types root shape).newest in
     sym (root_past types aim root (sym c.is_met.ensures ∙ c.if-is_met.false)
-    ∙ ap (λ o. option_or o (find (looks_for aim) (rows_in_order (child_types types 0) (orders types root.children)))) (sym found ∙ ap (option_map occurrence_of) c.in-Some.is))
+    ∙ ap (λ o. option_or o (find (looks_for aim) (rows_in_order (child_types types 0) (orders types root.children))))
+    (sym found ∙ ap (option_map occurrence_of) c.in-Some.is))
 
 pub returns : goal.returns
 returns c shape =
@@ -23,7 +25,10 @@ returns c shape =
     let aim = aim_of c.args.aim in
     let root = c.args.root.now in
     let parts = shaped types root shape in
-    let none = seq_answer types aim root.seqs c.as_slice.result.now c.in_ok-found.field-0 c.as_slice.ensures c.in_ok-found.ensures parts.newest in
-    let rest = rows_answer types aim root.children c.as_slice-2.result.now c.in_rows.result c.as_slice-2.ensures c.in_rows.ensures parts.rows in
+    let none = seq_answer types aim root.seqs c.as_slice.result.now c.in_ok-found.field-0 c.as_slice.ensures
+    c.in_ok-found.ensures parts.newest in
+    let rest = rows_answer types aim root.children c.as_slice-2.result.now c.in_rows.result c.as_slice-2.ensures
+    c.in_rows.ensures parts.rows in
     ok_with _ _ c.in_rows.result (λ r is. is ∙ sym (root_past types aim root (sym c.is_met.ensures ∙ c.if-is_met.false)
-    ∙ ap (λ o. option_or o (find (looks_for aim) (rows_in_order (child_types types 0) (orders types root.children)))) (sym none ∙ ap (option_map occurrence_of) c.in_default.is))) rest
+    ∙ ap (λ o. option_or o (find (looks_for aim) (rows_in_order (child_types types 0) (orders types root.children))))
+    (sym none ∙ ap (option_map occurrence_of) c.in_default.is))) rest

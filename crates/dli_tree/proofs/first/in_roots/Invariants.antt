@@ -10,4 +10,5 @@ use Rattle.dli_tree.proofs.first.in_roots.Given as goal
 abbrev pub invariant-loop-at : goal.invariant-loop-at
 invariant-loop-at l =
     are_in_order l.segments l.roots ≡ true
-    → find (looks_for (aim_of l.aim)) (sequence l.segments l.roots) ≡ found_from (looks_for (aim_of l.aim)) (root_order l.segments) l.at l.roots
+    → find (looks_for (aim_of l.aim)) (sequence l.segments l.roots) ≡ found_from (looks_for (aim_of l.aim))
+    (root_order l.segments) l.at l.roots

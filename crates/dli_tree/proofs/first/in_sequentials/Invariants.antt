@@ -11,4 +11,5 @@ use Rattle.dli_tree.proofs.first.in_sequentials.Given as goal
 abbrev pub invariant-loop-at : goal.invariant-loop-at
 invariant-loop-at l =
     are_newest_first 0 (2 ^ 64) l.seqs ≡ true
-    → find (looks_for (aim_of l.aim)) (sequentials l.segments l.seqs) ≡ found_from (looks_for (aim_of l.aim)) (alone l.segment) l.at l.seqs
+    → find (looks_for (aim_of l.aim)) (sequentials l.segments l.seqs) ≡ found_from (looks_for (aim_of l.aim))
+    (alone l.segment) l.at l.seqs

@@ -9,5 +9,7 @@ pub returns-clause-left : goal.returns-clause-left
 returns-clause-left c newest aim rest e i d lt =
     let serial = c.args.first.now.serial in
     let place =
-    IsPartitionPoint-from_clause (λ item. nat_le serial item.serial) _ _ c.partition_point.ensures.partitioned (newest_partitioned serial 0 18446744073709551616 c.args.seqs.now newest) (λ a r q k. search rules) in
-    not_older aim (step_of c.args.first.now) rest c.args.segment (get_or c.args.seqs.now i d).serial e (omega arith) (late_enough serial (get_or c.args.seqs.now i d).serial (place.0 i d (omega arith) lt))
+    IsPartitionPoint-from_clause (λ item. nat_le serial item.serial) _ _ c.partition_point.ensures.partitioned
+    (newest_partitioned serial 0 18446744073709551616 c.args.seqs.now newest) (λ a r q k. search rules) in
+    not_older aim (step_of c.args.first.now) rest c.args.segment (get_or c.args.seqs.now i d).serial e (omega arith)
+    (late_enough serial (get_or c.args.seqs.now i d).serial (place.0 i d (omega arith) lt))

@@ -5,4 +5,5 @@ use Rattle.dli_tree.proofs.Roots.{below_one}
 use Rattle.dli_tree.proofs.first.wants_dependent.Goals as goal
 
 pub returns-in-Some : goal.returns-in-Some
-returns-in-Some c = c.is_met.ensures ∙ below_one (aim_of c.args.aim) (numbered c.args.segment c.args.serial) c.enter.result c.in-Some.below c.enter.ensures c.in-Some.is
+returns-in-Some c = c.is_met.ensures ∙ below_one (aim_of c.args.aim) (numbered c.args.segment c.args.serial)
+    c.enter.result c.in-Some.below c.enter.ensures c.in-Some.is

@@ -7,5 +7,6 @@ use Rattle.dli_tree.proofs.place.roots_below.Goals as goal
 
 pub returns-clause-place : goal.returns-clause-place
 returns-clause-place c up =
-    IsPartitionPoint-from_clause (λ x. is_below (root_key c.args.segments.now x) c.args.key.now) _ _ c.partition_point.ensures.partitioned
+    IsPartitionPoint-from_clause (λ x. is_below (root_key c.args.segments.now x) c.args.key.now) _ _
+    c.partition_point.ensures.partitioned
     (partitioned (root_key c.args.segments.now) c.args.key.now c.args.roots.now up) (λ a r q k. search rules)

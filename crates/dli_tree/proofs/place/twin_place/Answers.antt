@@ -6,7 +6,11 @@ use Rattle.dli_tree.proofs.Ascending.{differs_there, past_none, stands_there}
 use Rattle.dli_tree.proofs.place.twin_place.Goals as goal
 
 pub returns-then-at-twins-clause-place : goal.returns-then-at-twins-clause-place
-returns-then-at-twins-clause-place c up = (c.twins_below-at.ensures.place up, past_none (node_key c.args.segments.now c.args.segment) c.args.key.now c.args.twins.now c.twins_below-at.result (omega arith))
+returns-then-at-twins-clause-place c up = (
+  c.twins_below-at.ensures.place up,
+  past_none (node_key c.args.segments.now c.args.segment) c.args.key.now c.args.twins.now c.twins_below-at.result
+      (omega arith),
+)
 
 pub returns-then-eq-clause-place : goal.returns-then-eq-clause-place
 returns-then-eq-clause-place c up =
@@ -15,7 +19,9 @@ returns-then-eq-clause-place c up =
       c.twins_below-at.ensures.place up,
       x,
       stands_there c.args.twins.now c.twins_below-at.result c.index-twins-at.result lt,
-      ap (λ (k : List ℕ). same_text k c.args.key.now) (sym (c.key_in.ensures ∙ ap (key_in c.args.segments.now c.args.segment) c.as_slice.ensures)) ∙ sym c.eq.ensures ∙ c.if-eq.true,
+      ap (λ (k : List ℕ). same_text k c.args.key.now)
+          (sym (c.key_in.ensures ∙ ap (key_in c.args.segments.now c.args.segment) c.as_slice.ensures)) ∙ sym
+          c.eq.ensures ∙ c.if-eq.true,
     )
 
 pub returns-else-eq-clause-place : goal.returns-else-eq-clause-place
@@ -23,6 +29,9 @@ returns-else-eq-clause-place c up =
     let x = get_or c.args.twins.now c.twins_below-at.result c.index-twins-at.result in
     let lt : c.twins_below-at.result < length c.args.twins.now = omega (arith, c.twins_below-at.ensures.within) in (
       c.twins_below-at.ensures.place up,
-      differs_there (node_key c.args.segments.now c.args.segment) c.args.key.now c.args.twins.now c.twins_below-at.result x (stands_there c.args.twins.now c.twins_below-at.result c.index-twins-at.result lt)
-          (ap (λ (k : List ℕ). same_text k c.args.key.now) (sym (c.key_in.ensures ∙ ap (key_in c.args.segments.now c.args.segment) c.as_slice.ensures)) ∙ sym c.eq.ensures ∙ c.if-eq.false),
+      differs_there (node_key c.args.segments.now c.args.segment) c.args.key.now c.args.twins.now
+          c.twins_below-at.result x (stands_there c.args.twins.now c.twins_below-at.result c.index-twins-at.result lt)
+          (ap (λ (k : List ℕ). same_text k c.args.key.now)
+          (sym (c.key_in.ensures ∙ ap (key_in c.args.segments.now c.args.segment) c.as_slice.ensures)) ∙ sym
+          c.eq.ensures ∙ c.if-eq.false),
     )

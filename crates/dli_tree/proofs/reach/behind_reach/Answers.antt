@@ -13,7 +13,8 @@ returns-then-first-segment c aim e key less =
     let first = c.first-item.result in
     behind_key aim (step_of first) (steps_of (drop 1 xs)) c.args.segment
     (opened aim.behind xs first e (omega (arith, c.in-len1-up.len_at_least)) c.first-item.is)
-    (is_equal first.segment c.args.segment c.if-first-segment.true) key (subst (λ (k : List ℕ). is_below key k ≡ true) c.as_slice.ensures less)
+    (is_equal first.segment c.args.segment c.if-first-segment.true) key
+    (subst (λ (k : List ℕ). is_below key k ≡ true) c.as_slice.ensures less)
 
 pub returns-else-first-segment-2 : goal.returns-else-first-segment-2
 returns-else-first-segment-2 c aim e key =
@@ -21,4 +22,5 @@ returns-else-first-segment-2 c aim e key =
     let first = c.first-item.result in
     behind_type aim (step_of first) (steps_of (drop 1 xs)) c.args.segment
     (opened aim.behind xs first e (omega (arith, c.in-len1-up.len_at_least)) c.first-item.is)
-    (is_other first.segment c.args.segment c.if-first-segment.false) (not_less first.segment c.args.segment c.if-first-segment-2.false) key
+    (is_other first.segment c.args.segment c.if-first-segment.false)
+    (not_less first.segment c.args.segment c.if-first-segment-2.false) key

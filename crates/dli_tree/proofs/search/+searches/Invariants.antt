@@ -10,13 +10,15 @@ use Rattle.dli_tree.proofs.search.+searches.Given as goal
 abbrev pub invariant-in_row-loop-at : goal.invariant-in_row-loop-at
 invariant-in_row-loop-at l =
     is_row l.segments l.segment (map (seen_as l.segments) l.twins) ≡ true
-    → find (looks_for (aim_of l.aim)) (flat_map (λ node. node_order l.segments node l.segment) l.twins) ≡ found_from (looks_for (aim_of l.aim)) (λ node. node_order l.segments node l.segment) l.at l.twins
+    → find (looks_for (aim_of l.aim)) (flat_map (λ node. node_order l.segments node l.segment) l.twins) ≡ found_from
+    (looks_for (aim_of l.aim)) (λ node. node_order l.segments node l.segment) l.at l.twins
 
 -- nothing is found in the rows so far
 abbrev pub invariant-in_rows-loop-child : goal.invariant-in_rows-loop-child
 invariant-in_rows-loop-child l =
     are_rows l.segments (child_types l.segments l.parent) (map (map (seen_as l.segments)) l.rows) ≡ true
-    → IsLeftOf l.segments (aim_of l.aim) (rows_left l.segments (aim_of l.aim) (child_types l.segments l.parent) l.rows) (kinds_from l.segments (λ def. is_child_of l.parent def && not def.sequential) l.child) (drop l.at l.rows)
+    → IsLeftOf l.segments (aim_of l.aim) (rows_left l.segments (aim_of l.aim) (child_types l.segments l.parent) l.rows)
+    (kinds_from l.segments (λ def. is_child_of l.parent def && not def.sequential) l.child) (drop l.at l.rows)
 
 -- a child type's number is greater than its parent's
 abbrev pub decreases-in_row : goal.decreases-in_row

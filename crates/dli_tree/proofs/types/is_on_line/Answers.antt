@@ -10,12 +10,14 @@ loop-preserved c =
     let m = length types - (c.loop.counter + 1) in
     let left : length types - c.loop.counter ≡ suc m = omega arith in
     c.loop.invariant ∙ ap (λ (n : ℕ). list_any (λ t. t == c.args.segment) (line_within n types c.loop.at)) left
-    ∙ line_up (λ t. t == c.args.segment) types m c.loop.at c.in-Some.parent (is_other c.loop.at c.args.segment c.if-at-segment.false) (sym c.parent_of.ensures ∙ c.in-Some.is)
+    ∙ line_up (λ t. t == c.args.segment) types m c.loop.at c.in-Some.parent
+    (is_other c.loop.at c.args.segment c.if-at-segment.false) (sym c.parent_of.ensures ∙ c.in-Some.is)
 
 pub returns-then-at-segment : goal.returns-then-at-segment
 returns-then-at-segment c =
     let types = c.args.segments.now in
-    sym (c.loop.invariant ∙ line_here (λ t. t == c.args.segment) types (length types - c.loop.counter) c.loop.at (is_equal c.loop.at c.args.segment c.if-at-segment.true))
+    sym (c.loop.invariant ∙ line_here (λ t. t == c.args.segment) types (length types - c.loop.counter) c.loop.at
+    (is_equal c.loop.at c.args.segment c.if-at-segment.true))
 
 pub returns-in-None : goal.returns-in-None
 returns-in-None c =
@@ -23,7 +25,8 @@ returns-in-None c =
     let m = length types - (c.loop.counter + 1) in
     let left : length types - c.loop.counter ≡ suc m = omega arith in
     sym (c.loop.invariant ∙ ap (λ (n : ℕ). list_any (λ t. t == c.args.segment) (line_within n types c.loop.at)) left
-    ∙ line_top (λ t. t == c.args.segment) types m c.loop.at (is_other c.loop.at c.args.segment c.if-at-segment.false) (sym c.parent_of.ensures ∙ c.in-None.is))
+    ∙ line_top (λ t. t == c.args.segment) types m c.loop.at (is_other c.loop.at c.args.segment c.if-at-segment.false)
+    (sym c.parent_of.ensures ∙ c.in-None.is))
 
 pub returns : goal.returns
 returns c =

@@ -5,4 +5,5 @@ use Rattle.dli_tree.proofs.types.sequential_type.Given as goal
 
 -- no type so far is sequential
 abbrev pub invariant-loop-at : goal.invariant-loop-at
-invariant-loop-at l = sequential_type l.segments ≡ on_from l.at (position (λ def. def.sequential) (drop l.at l.segments))
+invariant-loop-at l = sequential_type l.segments ≡ on_from l.at
+    (position (λ def. def.sequential) (drop l.at l.segments))

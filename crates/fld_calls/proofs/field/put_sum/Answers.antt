@@ -20,9 +20,13 @@ returns-clause-letter c =
     let sum : c.of.result ≡ summed (sum_byte c.args.sum) number given = rw (same, same2) at c.of.ensures in
     let fits : FitsSigned w128 c.of.result = search rules in
     let same3 = to_z-of_z w128 c.of.result fits in
-    let done : IsDone c.fill.result c.args.held.now c.fill.new.held (bytes_of field.kind field.length (summed (sum_byte c.args.sum) number given)) = rw (same3, sum) at c.fill.ensures in
-    done-letter c.fill.result c.args.held.now c.fill.new.held (bytes_of field.kind field.length (summed (sum_byte c.args.sum) number given)) done
-    ∙ sym (sum-letter field c.args.operand.now c.args.held.now given c.requires.number (sym c.is_key.ensures ∙ c.if-is_key.false) (sym c.in-Some.ensures.exact)
+    let done : IsDone c.fill.result c.args.held.now c.fill.new.held
+    (bytes_of field.kind field.length (summed (sum_byte c.args.sum) number given)) =
+    rw (same3, sum) at c.fill.ensures in
+    done-letter c.fill.result c.args.held.now c.fill.new.held
+    (bytes_of field.kind field.length (summed (sum_byte c.args.sum) number given)) done
+    ∙ sym (sum-letter field c.args.operand.now c.args.held.now given c.requires.number
+    (sym c.is_key.ensures ∙ c.if-is_key.false) (sym c.in-Some.ensures.exact)
     number (sym c.in-Some-number_of.ensures.exact) c.args.sum)
 
 pub returns-clause-ok : goal.returns-clause-ok
@@ -35,10 +39,14 @@ returns-clause-ok c =
     let sum : c.of.result ≡ summed (sum_byte c.args.sum) number given = rw (same, same2) at c.of.ensures in
     let fits : FitsSigned w128 c.of.result = search rules in
     let same3 = to_z-of_z w128 c.of.result fits in
-    let done : IsDone c.fill.result c.args.held.now c.fill.new.held (bytes_of field.kind field.length (summed (sum_byte c.args.sum) number given)) = rw (same3, sum) at c.fill.ensures in
-    rw (sum-changed field c.args.operand.now c.args.held.now given c.requires.number (sym c.is_key.ensures ∙ c.if-is_key.false) (sym c.in-Some.ensures.exact)
+    let done : IsDone c.fill.result c.args.held.now c.fill.new.held
+    (bytes_of field.kind field.length (summed (sum_byte c.args.sum) number given)) =
+    rw (same3, sum) at c.fill.ensures in
+    rw (sum-changed field c.args.operand.now c.args.held.now given c.requires.number
+    (sym c.is_key.ensures ∙ c.if-is_key.false) (sym c.in-Some.ensures.exact)
     number (sym c.in-Some-number_of.ensures.exact) c.args.sum)
-    (done-ok c.fill.result c.args.held.now c.fill.new.held (bytes_of field.kind field.length (summed (sum_byte c.args.sum) number given)) done)
+    (done-ok c.fill.result c.args.held.now c.fill.new.held
+    (bytes_of field.kind field.length (summed (sum_byte c.args.sum) number given)) done)
 
 pub returns-clause-err : goal.returns-clause-err
 returns-clause-err c = done-err c.fill.result c.args.held.now c.fill.new.held _ c.fill.ensures

@@ -12,10 +12,13 @@ loop-fsa-preserved c =
     let a : Argument = c.fsa-item.result in
     let text = c.loop-fsa.text in
     let here = from-item xs i a c.loop-fsa-test.true c.fsa-item.is in
-    let left : length (drop (i + 1) xs) ≡ c.loop-fsa.left - 1 = omega (arith, length-drop (i + 1) xs, c.loop-fsa.invariant.many, c.loop-fsa-test.true) in
+    let left : length (drop (i + 1) xs) ≡ c.loop-fsa.left - 1 =
+    omega (arith, length-drop (i + 1) xs, c.loop-fsa.invariant.many, c.loop-fsa-test.true) in
     let step = text-step text a (drop (i + 1) xs) (c.loop-fsa.left - 1) left in
-    let new : c.put_fsa.new.text ≡ text ++ fsa_text (form_of a) ++ (if c.loop-fsa.left - 1 == 0 then 32 else 42) ∷ [] = rw c.connector.ensures at c.in_ok-put_fsa.ensures in
+    let new : c.put_fsa.new.text ≡ text ++ fsa_text (form_of a) ++ (if c.loop-fsa.left - 1 == 0 then 32 else 42) ∷ [] =
+    rw c.connector.ensures at c.in_ok-put_fsa.ensures in
     record {
       many = omega (arith, c.loop-fsa.invariant.many, c.loop-fsa-test.true);
-      so_far = ap (λ (t : List ℕ). t ++ list_text (forms (drop (i + 1) xs))) new ∙ step ∙ ap (λ (ys : List Argument). text ++ list_text (forms ys)) (sym here) ∙ c.loop-fsa.invariant.so_far;
+      so_far = ap (λ (t : List ℕ). t ++ list_text (forms (drop (i + 1) xs))) new ∙ step ∙ ap
+          (λ (ys : List Argument). text ++ list_text (forms ys)) (sym here) ∙ c.loop-fsa.invariant.so_far;
     }

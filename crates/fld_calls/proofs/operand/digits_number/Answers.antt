@@ -7,10 +7,13 @@ use Rattle.fld_calls.proofs.operand.digits_number.Goals as goal
 
 pub returns-then-not-is_ascii_digit-clause-exact : goal.returns-then-not-is_ascii_digit-clause-exact
 returns-then-not-is_ascii_digit-clause-exact c =
-    no_number c.args.digits.now (not_all_digits c.args.digits.now c.loop-digit.digit-index c.loop-digit-test.true (sym c.is_ascii_digit.ensures.value ∙ c.if-not-is_ascii_digit.true))
+    no_number c.args.digits.now (not_all_digits c.args.digits.now c.loop-digit.digit-index c.loop-digit-test.true
+    (sym c.is_ascii_digit.ensures.value ∙ c.if-not-is_ascii_digit.true))
 
 pub overflow_mul-n : goal.overflow_mul-n
-overflow_mul-n c = let h = prefix_below c.args.digits.now c.loop-digit.digit-index (omega arith) c.loop-digit.invariant.digits in omega (arith, h, c.loop-digit.invariant.so_far)
+overflow_mul-n c =
+    let h = prefix_below c.args.digits.now c.loop-digit.digit-index (omega arith) c.loop-digit.invariant.digits in
+    omega (arith, h, c.loop-digit.invariant.so_far)
 
 pub overflow_add-n : goal.overflow_add-n
 overflow_add-n c =
@@ -25,11 +28,15 @@ loop-digit-preserved c =
     let more = take_more ds i 0 c.loop-digit-test.true in
     let figure : c.from.result ≡ get_or ds i 0 - 48 = search rules in
     record {
-      digits = ap all_ascii_digits more ∙ digits_snoc (take i ds) (get_or ds i 0) c.loop-digit.invariant.digits (sym c.is_ascii_digit.ensures.value ∙ c.if-not-is_ascii_digit.false);
+      digits = ap all_ascii_digits more ∙ digits_snoc (take i ds) (get_or ds i 0) c.loop-digit.invariant.digits
+          (sym c.is_ascii_digit.ensures.value ∙ c.if-not-is_ascii_digit.false);
       so_far =
-          ap (λ n. c.loop-digit.n * 10 + n) figure ∙ ap (λ n. n * 10 + (get_or ds i 0 - 48)) c.loop-digit.invariant.so_far
+          ap (λ n. c.loop-digit.n * 10 + n) figure ∙ ap (λ n. n * 10 + (get_or ds i 0 - 48))
+          c.loop-digit.invariant.so_far
           ∙ sym (number_snoc (take i ds) (get_or ds i 0)) ∙ ap (λ xs. value 10 (figures xs)) (sym more);
     }
 
 pub returns-clause-small : goal.returns-clause-small
-returns-clause-small c = let h = prefix_below c.args.digits.now c.loop-digit.digit-index (omega arith) c.loop-digit.invariant.digits in omega (arith, h, c.loop-digit.invariant.so_far)
+returns-clause-small c =
+    let h = prefix_below c.args.digits.now c.loop-digit.digit-index (omega arith) c.loop-digit.invariant.digits in
+    omega (arith, h, c.loop-digit.invariant.so_far)

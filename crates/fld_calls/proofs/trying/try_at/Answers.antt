@@ -16,7 +16,11 @@ returns-clause-ok c =
     let m = c.from-at.result + c.from.result - c.from-at.result in
     let many : m ≡ field.length = omega arith in
     let ends : c.from-at.result + m ≡ field.at + field.length = omega arith in
-    let held : take m (drop c.from-at.result segment) ≡ field_bytes field segment = ap (λ (n : ℕ). take n (drop c.from-at.result segment)) many ∙ ap (λ (n : ℕ). take field.length (drop n segment)) at in
+    let held : take m (drop c.from-at.result segment) ≡ field_bytes field segment =
+    ap (λ (n : ℕ). take n (drop c.from-at.result segment)) many ∙ ap (λ (n : ℕ). take field.length (drop n segment))
+    at in
     let long : length new ≡ field.length = omega (arith, c.try_field.auto.held, many, at, size, c.requires) in
-    let post : post_of c.from-at.result m segment ≡ drop (field.at + field.length) segment = drop-drop m c.from-at.result segment ∙ ap (λ (n : ℕ). drop n segment) ends in
-    rw (post, at) (put-ok field segment new long (byte_of c.args.operation) c.args.operand.now c.try_field.result (rw held at c.try_field.ensures.ok))
+    let post : post_of c.from-at.result m segment ≡ drop (field.at + field.length) segment =
+    drop-drop m c.from-at.result segment ∙ ap (λ (n : ℕ). drop n segment) ends in
+    rw (post, at) (put-ok field segment new long (byte_of c.args.operation) c.args.operand.now c.try_field.result
+    (rw held at c.try_field.ensures.ok))

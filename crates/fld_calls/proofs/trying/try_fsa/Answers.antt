@@ -8,7 +8,8 @@ use Rattle.fld_calls.proofs.trying.try_fsa.Goals as goal
 
 pub try_at-requires : goal.try_at-requires
 try_at-requires c =
-    found_within c.args.fields.now (length c.args.segment.now) c.args.fsa.now.field.0 c.in-Some-find_field.field c.requires c.in-Some-find_field.ensures
+    found_within c.args.fields.now (length c.args.segment.now) c.args.fsa.now.field.0 c.in-Some-find_field.field
+    c.requires c.in-Some-find_field.ensures
 
 pub returns-clause-letter : goal.returns-clause-letter
 returns-clause-letter c =
@@ -16,8 +17,10 @@ returns-clause-letter c =
     let fsa = form_of c.args.fsa.now in
     let segment = c.args.segment.now in
     let its = c.in-Some.ensures.some in
-    let letter : letter_in c.try_at.result ≡ letter_on field fsa.op fsa.operand (field_bytes field segment) = rw (its, c.as_slice.ensures) at c.try_at.ensures.letter in
-    letter ∙ sym (its-letter (of_fields c.args.fields.now) fsa segment field (rw its at (known c.in-Some.operation)) c.in-Some-find_field.ensures)
+    let letter : letter_in c.try_at.result ≡ letter_on field fsa.op fsa.operand (field_bytes field segment) =
+    rw (its, c.as_slice.ensures) at c.try_at.ensures.letter in
+    letter ∙ sym (its-letter (of_fields c.args.fields.now) fsa segment field (rw its at (known c.in-Some.operation))
+    c.in-Some-find_field.ensures)
 
 pub returns-clause-segment : goal.returns-clause-segment
 returns-clause-segment c =
@@ -25,6 +28,9 @@ returns-clause-segment c =
     let fsa = form_of c.args.fsa.now in
     let segment = c.args.segment.now in
     let its = c.in-Some.ensures.some in
-    let letter : letter_in c.try_at.result ≡ letter_on field fsa.op fsa.operand (field_bytes field segment) = rw (its, c.as_slice.ensures) at c.try_at.ensures.letter in
-    let ok : OnOk c.try_at.result (c.try_at.new.segment ≡ segment_behind field fsa.op fsa.operand segment) = rw (its, c.as_slice.ensures) at c.try_at.ensures.ok in
-    answered (of_fields c.args.fields.now) fsa segment field (rw its at (known c.in-Some.operation)) c.in-Some-find_field.ensures c.try_at.new.segment c.try_at.result letter ok c.try_at.ensures.err
+    let letter : letter_in c.try_at.result ≡ letter_on field fsa.op fsa.operand (field_bytes field segment) =
+    rw (its, c.as_slice.ensures) at c.try_at.ensures.letter in
+    let ok : OnOk c.try_at.result (c.try_at.new.segment ≡ segment_behind field fsa.op fsa.operand segment) =
+    rw (its, c.as_slice.ensures) at c.try_at.ensures.ok in
+    answered (of_fields c.args.fields.now) fsa segment field (rw its at (known c.in-Some.operation))
+    c.in-Some-find_field.ensures c.try_at.new.segment c.try_at.result letter ok c.try_at.ensures.err

@@ -17,28 +17,38 @@ loop-at-preserved c =
     let t = c.loop-at.invariant.trying in
     let lt : i < length fsas = omega arith in
     let here = drop_got fsas i x c.item_mut-fsa.ensures.value in
-    let step = trying-step c.args.def.now c.args.fsas.now c.args.segment.now (take i fsas) x (drop (i + 1) fsas) c.loop-at.segment c.try_fsa-outcome.new.segment c.loop-at.good c.try_fsa-outcome.result (rw here at t) c.try_fsa-outcome.ensures.letter c.try_fsa-outcome.ensures.segment in
+    let step = trying-step c.args.def.now c.args.fsas.now c.args.segment.now (take i fsas) x (drop (i + 1) fsas)
+    c.loop-at.segment c.try_fsa-outcome.new.segment c.loop-at.good c.try_fsa-outcome.result (rw here at t)
+    c.try_fsa-outcome.ensures.letter c.try_fsa-outcome.ensures.segment in
     record {
       all = search rules;
       whole = omega (arith, c.try_fsa-outcome.auto.segment, c.loop-at.invariant.whole);
-      trying = rw (take_more_set fsas i y lt, drop-set-lt (i + 1) fsas i y (omega arith), c.letter-fsa.ensures, c.is_ok-good.ensures.value) step;
+      trying = rw (
+        take_more_set fsas i y lt,
+        drop-set-lt (i + 1) fsas i y (omega arith),
+        c.letter-fsa.ensures,
+        c.is_ok-good.ensures.value,
+      ) step;
     }
 
 pub returns-clause-good : goal.returns-clause-good
 returns-clause-good c =
     let fsas = c.loop-at.fsas in
     let none = drop_all c.loop-at.at fsas (omega arith) in
-    (trying-end c.args.def.now c.args.fsas.now c.args.segment.now (take c.loop-at.at fsas) c.loop-at.segment c.loop-at.good (rw none at c.loop-at.invariant.trying)).0
+    (trying-end c.args.def.now c.args.fsas.now c.args.segment.now (take c.loop-at.at fsas) c.loop-at.segment
+    c.loop-at.good (rw none at c.loop-at.invariant.trying)).0
 
 pub returns-clause-letters : goal.returns-clause-letters
 returns-clause-letters c =
     let fsas = c.loop-at.fsas in
     let none = drop_all c.loop-at.at fsas (omega arith) in
     let all = take_all c.loop-at.at fsas (omega arith) in
-    sym all ∙ (trying-end c.args.def.now c.args.fsas.now c.args.segment.now (take c.loop-at.at fsas) c.loop-at.segment c.loop-at.good (rw none at c.loop-at.invariant.trying)).1.0
+    sym all ∙ (trying-end c.args.def.now c.args.fsas.now c.args.segment.now (take c.loop-at.at fsas) c.loop-at.segment
+    c.loop-at.good (rw none at c.loop-at.invariant.trying)).1.0
 
 pub returns-clause-segment : goal.returns-clause-segment
 returns-clause-segment c =
     let fsas = c.loop-at.fsas in
     let none = drop_all c.loop-at.at fsas (omega arith) in
-    (trying-end c.args.def.now c.args.fsas.now c.args.segment.now (take c.loop-at.at fsas) c.loop-at.segment c.loop-at.good (rw none at c.loop-at.invariant.trying)).1.1
+    (trying-end c.args.def.now c.args.fsas.now c.args.segment.now (take c.loop-at.at fsas) c.loop-at.segment
+    c.loop-at.good (rw none at c.loop-at.invariant.trying)).1.1

@@ -7,5 +7,6 @@ use Rattle.fp_core.proofs.sealing.free.Goals as goal
 
 pub returns-in-Some-clause-freed : goal.returns-in-Some-clause-freed
 returns-in-Some-clause-freed c =
-    subst (λ (o : Option Name). AreFreed c.args.queues.now.busy c.answered.new.self.busy (terminal_in o)) c.in-Some.ensures
+    subst (λ (o : Option Name). AreFreed c.args.queues.now.busy c.answered.new.self.busy (terminal_in o))
+    c.in-Some.ensures
     (freed_one c.args.queues.now.busy c.answered.new.self.busy c.in-Some.name c.answered.ensures.freed)

@@ -18,9 +18,11 @@ returns-in_err-tell_one-clause-part g c told =
     let a = replies_of (take c.loop.counter items) in
     let b = reply_of c.in-Some.first in
     let less : c.loop.counter < c.args.count = omega arith in
-    let all = flat_goes_on reply_of c.loop.counter c.args.count items c.in-Some.first c.pop_front.new.self.items less (sym before.rest ∙ c.in-Some.ensures.items) in
+    let all = flat_goes_on reply_of c.loop.counter c.args.count items c.in-Some.first c.pop_front.new.self.items less
+    (sym before.rest ∙ c.in-Some.ensures.items) in
     subst (λ (t : List ℕ). (n : ℕ) × (s2 ≡ s0 ++ take n t)) (sym all.1)
-    (part_wider s0 s2 (a ++ b) all.0 (part_after s0 s1 s2 a b (before.sent told) (c.tell_one.ensures.part (before.site.still_told told))))
+    (part_wider s0 s2 (a ++ b) all.0 (part_after s0 s1 s2 a b (before.sent told)
+    (c.tell_one.ensures.part (before.site.still_told told))))
 
 pub returns-in_err-tell_one-clause-crash : goal.returns-in_err-tell_one-clause-crash
 returns-in_err-tell_one-clause-crash g c told =
@@ -30,10 +32,14 @@ returns-in_err-tell_one-clause-crash g c told =
     let b = reply_of c.in-Some.first in
     let told1 = before.site.still_told told in
     let less : c.loop.counter < c.args.count = omega arith in
-    let all = flat_goes_on reply_of c.loop.counter c.args.count items c.in-Some.first c.pop_front.new.self.items less (sym before.rest ∙ c.in-Some.ensures.items) in
-    subst (λ (t : List ℕ). Elapses (g.T.Site.disk c.args.site.now) (g.T.Site.disk c.tell_one.new.site) (Sends (g.T.Site.disk c.args.site.now) t)) (sym all.1)
+    let all = flat_goes_on reply_of c.loop.counter c.args.count items c.in-Some.first c.pop_front.new.self.items less
+    (sym before.rest ∙ c.in-Some.ensures.items) in
+    subst (λ (t : List ℕ). Elapses (g.T.Site.disk c.args.site.now) (g.T.Site.disk c.tell_one.new.site)
+    (Sends (g.T.Site.disk c.args.site.now) t)) (sym all.1)
     (sent_wider (g.T.Site.disk c.args.site.now) (g.T.Site.disk c.tell_one.new.site) (a ++ b) all.0
-    (sent_after (g.T.Site.disk c.args.site.now) (g.T.Site.disk c.loop.site) a b (g.met.T.Site.lawful c.args.site.now told) (g.met.T.Site.lawful c.loop.site told1) (before.sent told) (before.crash told) (g.T.Site.disk c.tell_one.new.site) (c.tell_one.ensures.crash told1)))
+    (sent_after (g.T.Site.disk c.args.site.now) (g.T.Site.disk c.loop.site) a b
+    (g.met.T.Site.lawful c.args.site.now told) (g.met.T.Site.lawful c.loop.site told1) (before.sent told)
+    (before.crash told) (g.T.Site.disk c.tell_one.new.site) (c.tell_one.ensures.crash told1)))
 
 pub loop-preserved : goal.loop-preserved
 loop-preserved g c =
@@ -45,21 +51,26 @@ loop-preserved g c =
     let a = replies_of (take k items) in
     let popped : drop k items ≡ first ∷ c.pop_front.new.self.items = sym before.rest ∙ c.in-Some.ensures.items in
     let replies = flat_next reply_of k items first c.pop_front.new.self.items popped in
-    let names = flat_next (λ (o : Owed). terminal_in (terminal_of o.line)) k items first c.pop_front.new.self.items popped in
+    let names = flat_next (λ (o : Owed). terminal_in (terminal_of o.line)) k items first c.pop_front.new.self.items
+    popped in
     record {
       sent = λ told.
-          all_after (g.T.Site.disk c.args.site.now).sent (g.T.Site.disk c.loop.site).sent (g.T.Site.disk c.tell_one.new.site).sent a (reply_of first) (before.sent told) (c.in_ok-tell_one.ensures.sent (before.site.still_told told))
+          all_after (g.T.Site.disk c.args.site.now).sent (g.T.Site.disk c.loop.site).sent
+          (g.T.Site.disk c.tell_one.new.site).sent a (reply_of first) (before.sent told)
+          (c.in_ok-tell_one.ensures.sent (before.site.still_told told))
           ∙ ap (λ (t : List ℕ). (g.T.Site.disk c.args.site.now).sent ++ t) (sym replies);
       freed =
           subst (λ (ns : List Name). AreFreed c.args.queues.now.busy c.tell_one.new.queues.busy ns) (sym names)
-          (freed_both c.args.queues.now.busy c.loop.queues.busy c.tell_one.new.queues.busy _ _ before.freed c.in_ok-tell_one.ensures.freed);
+          (freed_both c.args.queues.now.busy c.loop.queues.busy c.tell_one.new.queues.busy _ _ before.freed
+          c.in_ok-tell_one.ensures.freed);
       rest =
           let e : k + 1 ≡ suc k = omega arith in
           sym (drop_next k items first c.pop_front.new.self.items popped) ∙ ap (λ (j : ℕ). drop j items) (sym e);
       queues = one.queues ∙ before.queues;
       capacity = c.pop_front.ensures.capacity ∙ before.capacity;
       same = λ told. one.same (before.site.still_told told) ∙ before.same told;
-      reads = λ set h. let after = one.reads set h in let earlier = before.reads set after.0 in (earlier.0, after.1 ∙ earlier.1);
+      reads = λ set h. let after = one.reads set h in let earlier = before.reads set after.0 in
+          (earlier.0, after.1 ∙ earlier.1);
       site = record {
         later = omega (arith, before.site.later, one.site.later);
         still_told = λ told. one.site.still_told (before.site.still_told told);
@@ -68,8 +79,11 @@ loop-preserved g c =
       };
       crash = λ told.
           let told1 = before.site.still_told told in
-          subst (λ (t : List ℕ). Elapses (g.T.Site.disk c.args.site.now) (g.T.Site.disk c.tell_one.new.site) (Sends (g.T.Site.disk c.args.site.now) t)) (sym replies)
-          (sent_after (g.T.Site.disk c.args.site.now) (g.T.Site.disk c.loop.site) a (reply_of first) (g.met.T.Site.lawful c.args.site.now told) (g.met.T.Site.lawful c.loop.site told1) (before.sent told) (before.crash told) (g.T.Site.disk c.tell_one.new.site) (one.crash told1));
+          subst (λ (t : List ℕ). Elapses (g.T.Site.disk c.args.site.now) (g.T.Site.disk c.tell_one.new.site)
+          (Sends (g.T.Site.disk c.args.site.now) t)) (sym replies)
+          (sent_after (g.T.Site.disk c.args.site.now) (g.T.Site.disk c.loop.site) a (reply_of first)
+          (g.met.T.Site.lawful c.args.site.now told) (g.met.T.Site.lawful c.loop.site told1) (before.sent told)
+          (before.crash told) (g.T.Site.disk c.tell_one.new.site) (one.crash told1));
     }
 
 pub returns-clause-part : goal.returns-clause-part
@@ -80,5 +94,6 @@ returns-clause-part g c told =
     let all : c.loop.counter ≡ c.args.count = omega arith in
     let text = replies_of (take c.args.count items) in (
       length text,
-      before.sent told ∙ ap (λ (j : ℕ). s0 ++ replies_of (take j items)) all ∙ ap (λ (t : List ℕ). s0 ++ t) (sym (take_whole text)),
+      before.sent told ∙ ap (λ (j : ℕ). s0 ++ replies_of (take j items)) all ∙ ap (λ (t : List ℕ). s0 ++ t)
+          (sym (take_whole text)),
     )

@@ -8,4 +8,5 @@ abbrev pub invariant-loop-table : goal.invariant-loop-table
 invariant-loop-table l =
     (l.taken ≡ intervals_of l.defs)
     × (l.taken ≤ 524288)
-    × (in_turn (dedb_of l.msdbs) l.defs (map (λ t. table_view t.now) (drop l.table-index l.tables)) ≡ in_turn (dedb_of l.msdbs) [] (map (λ t. table_view t.now) l.tables))
+    × (in_turn (dedb_of l.msdbs) l.defs (map (λ t. table_view t.now) (drop l.table-index l.tables)) ≡ in_turn
+    (dedb_of l.msdbs) [] (map (λ t. table_view t.now) l.tables))

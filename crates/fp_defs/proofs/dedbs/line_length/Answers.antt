@@ -9,10 +9,12 @@ loop-preserved c =
     let n = length types in
     let i = c.loop.counter in
     let same : n - i - 1 ≡ n - (i + 1) = omega arith in
-    let longer : length (line_within (n - i) types c.loop.at) ≡ length (line_within (n - i - 1) types c.in-Some.parent) + 1 =
+    let longer : length (line_within (n - i) types c.loop.at) ≡ length (line_within (n - i - 1) types c.in-Some.parent)
+    + 1 =
     line_longer (n - i) types c.loop.at c.in-Some.parent (omega arith) (sym c.in-Some.ensures)
     in
-    let there : length (line_within (n - (i + 1)) types c.from-at.result) + 1 ≡ length (line_within (n - i) types c.loop.at) =
+    let there : length (line_within (n - (i + 1)) types c.from-at.result) + 1 ≡ length
+    (line_within (n - i) types c.loop.at) =
     ap (λ (p : ℕ). length (line_within (n - (i + 1)) types p) + 1) c.from-at.ensures
     ∙ ap (λ (k : ℕ). length (line_within k types c.in-Some.parent) + 1) (sym same)
     ∙ sym longer

@@ -3,4 +3,5 @@ use Rattle.fp_model.specs.WellFormed.{sequential_intervals}
 use Rattle.fp_defs.proofs.dedbs.sequential_intervals.Given as goal
 
 abbrev pub invariant-loop-def : goal.invariant-loop-def
-invariant-loop-def l = sequential_intervals l.ci (drop l.def-index l.types) l.capacity ≡ sequential_intervals l.ci l.types l.capacity
+invariant-loop-def l = sequential_intervals l.ci (drop l.def-index l.types) l.capacity ≡ sequential_intervals l.ci
+    l.types l.capacity

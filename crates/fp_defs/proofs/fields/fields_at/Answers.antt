@@ -7,4 +7,5 @@ use Rattle.fp_defs.proofs.fields.fields_at.Goals as goal
 
 pub laid_out-requires-clause-short : goal.laid_out-requires-clause-short
 laid_out-requires-clause-short c =
-    subst (AllByRecursion IsShort) (sym c.as_slice-triples.ensures.value) (triples-short _ _ (some_from_ok _ _ _ c.in_ok-read.ensures))
+    subst (AllByRecursion IsShort) (sym c.as_slice-triples.ensures.value)
+    (triples-short _ _ (some_from_ok _ _ _ c.in_ok-read.ensures))

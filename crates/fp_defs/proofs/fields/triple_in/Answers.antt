@@ -7,7 +7,9 @@ use Rattle.fp_defs.proofs.FieldLemmas.{triple_below, triple_above}
 use Rattle.fp_defs.proofs.fields.triple_in.Goals as goal
 
 pub returns-in_default : goal.returns-in_default
-returns-in_default c = sym (triple_below (map view c.args.items.now.items) (omega (arith, length-map {A = Value} {B = Data})))
+returns-in_default c = sym (triple_below (map view c.args.items.now.items)
+    (omega (arith, length-map {A = Value} {B = Data})))
 
 pub returns-in_default-2 : goal.returns-in_default-2
-returns-in_default-2 c = sym (triple_above (map view c.args.items.now.items) (omega (arith, length-map {A = Value} {B = Data})))
+returns-in_default-2 c = sym (triple_above (map view c.args.items.now.items)
+    (omega (arith, length-map {A = Value} {B = Data})))

@@ -5,4 +5,5 @@ use Rattle.fp_defs.proofs.Loops.{onto}
 use Rattle.fp_defs.proofs.fields.triples_of.Given as goal
 
 abbrev pub invariant-loop-item : goal.invariant-loop-item
-invariant-loop-item l = onto l.triples.items (each as_triple (items_view (drop l.item-index l.items.items))) ≡ each as_triple (items_view l.items.items)
+invariant-loop-item l = onto l.triples.items (each as_triple (items_view (drop l.item-index l.items.items))) ≡ each
+    as_triple (items_view l.items.items)

@@ -7,4 +7,5 @@ use Rattle.fp_defs.proofs.keys.tables_of.Given as goal
 
 abbrev pub invariant-loop-item : goal.invariant-loop-item
 invariant-loop-item l =
-    (length l.tables.items ≡ l.item-index) × (onto (map (λ t. table_view t.now) l.tables.items) (each as_table (items_view (drop l.item-index l.items.items))) ≡ each as_table (items_view l.items.items))
+    (length l.tables.items ≡ l.item-index) × (onto (map (λ t. table_view t.now) l.tables.items)
+    (each as_table (items_view (drop l.item-index l.items.items))) ≡ each as_table (items_view l.items.items))

@@ -5,4 +5,5 @@ use Rattle.fp_defs.specs.Msdbs.{msdb_of}
 use Rattle.fp_defs.proofs.msdbs.msdbs_of.Given as goal
 
 abbrev pub invariant-loop-table : goal.invariant-loop-table
-invariant-loop-table l = in_turn msdb_of l.defs (map (λ t. table_view t.now) (drop l.table-index l.tables)) ≡ in_turn msdb_of [] (map (λ t. table_view t.now) l.tables)
+invariant-loop-table l = in_turn msdb_of l.defs (map (λ t. table_view t.now) (drop l.table-index l.tables)) ≡ in_turn
+    msdb_of [] (map (λ t. table_view t.now) l.tables)

@@ -22,7 +22,8 @@ returns-in-Ok-false c =
     sym (c.loop-text.invariant.0 t) ∙ from_not _ _ c.in-Ok-false.ensures.added c.in-Ok-false.field-0-test
     in
     let is : repeated [] (map (λ t. t.now) texts) ≡ Some t.now =
-    sym c.loop-text.invariant.1 ∙ repeated_here (λ t. t.now) texts i (record { ref_ptr = (0, 0); now = [] }) c.loop-text-test.true occurred
+    sym c.loop-text.invariant.1 ∙ repeated_here (λ t. t.now) texts i (record { ref_ptr = (0, 0); now = [] })
+    c.loop-text-test.true occurred
     in
     λ real. rw is (ap (λ text. Err (Twice text)) (sym c.without_blanks.ensures) ∙ ap Err (sym (c.twice.ensures real)))
 
@@ -34,6 +35,8 @@ loop-text-preserved c =
     let new : occurs (map (λ t. t.now) (take i texts)) t.now ≡ false =
     sym (c.loop-text.invariant.0 t) ∙ from_not-true _ _ c.in-Ok-true.ensures.added c.in-Ok-true.field-0-test
     in (
-      λ q. seen_more (λ t. t.now) texts i (record { ref_ptr = (0, 0); now = [] }) c.loop-text-test.true q.now _ _ (c.in-Ok-true.ensures.updates.0 q) (c.loop-text.invariant.0 q),
-      sym (repeated_later (λ t. t.now) texts i (record { ref_ptr = (0, 0); now = [] }) c.loop-text-test.true new) ∙ c.loop-text.invariant.1,
+      λ q. seen_more (λ t. t.now) texts i (record { ref_ptr = (0, 0); now = [] }) c.loop-text-test.true q.now _ _
+          (c.in-Ok-true.ensures.updates.0 q) (c.loop-text.invariant.0 q),
+      sym (repeated_later (λ t. t.now) texts i (record { ref_ptr = (0, 0); now = [] }) c.loop-text-test.true new) ∙
+          c.loop-text.invariant.1,
     )

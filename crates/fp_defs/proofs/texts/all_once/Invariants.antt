@@ -8,5 +8,7 @@ use Rattle.fp_defs.proofs.texts.all_once.Given as goal
 -- the set has the texts so far, of which none occurred before
 abbrev pub invariant-loop-text : goal.invariant-loop-text
 invariant-loop-text l =
-    ((q : Bor (List ℕ)) → sorted.contains_by (λ x. slice_cmp nat_cmp q.now x.now) l.seen ≡ occurs (map (λ t. t.now) (take l.text-index l.texts)) q.now)
-    × (repeated (map (λ t. t.now) (take l.text-index l.texts)) (map (λ t. t.now) (drop l.text-index l.texts)) ≡ repeated [] (map (λ t. t.now) l.texts))
+    ((q : Bor (List ℕ)) → sorted.contains_by (λ x. slice_cmp nat_cmp q.now x.now) l.seen ≡ occurs
+    (map (λ t. t.now) (take l.text-index l.texts)) q.now)
+    × (repeated (map (λ t. t.now) (take l.text-index l.texts)) (map (λ t. t.now) (drop l.text-index l.texts)) ≡ repeated
+    [] (map (λ t. t.now) l.texts))

@@ -5,4 +5,5 @@ use Rattle.fp_defs.proofs.whole.group_count.Goals as goal
 
 pub returns-clause-bounds : goal.returns-clause-bounds
 returns-clause-bounds c are =
-    subst (λ n. (1 ≤ n) × (n ≤ 16)) (sym (c.greatest.ensures ∙ ap greatest c.as_slice.ensures)) (groups_bounded c.args.defs.now.regions are.regions.0 are.groups.0)
+    subst (λ n. (1 ≤ n) × (n ≤ 16)) (sym (c.greatest.ensures ∙ ap greatest c.as_slice.ensures))
+    (groups_bounded c.args.defs.now.regions are.regions.0 are.groups.0)

@@ -5,4 +5,5 @@ use Rattle.fp_defs.specs.Whole.{items_in, group_of}
 use Rattle.fp_defs.proofs.whole.groups_of.Given as goal
 
 abbrev pub invariant-loop-item : goal.invariant-loop-item
-invariant-loop-item l = in_turn group_of l.groups (items_in (items_view (drop l.item-index l.items.items))) ≡ in_turn group_of [] (items_in (items_view l.items.items))
+invariant-loop-item l = in_turn group_of l.groups (items_in (items_view (drop l.item-index l.items.items))) ≡ in_turn
+    group_of [] (items_in (items_view l.items.items))

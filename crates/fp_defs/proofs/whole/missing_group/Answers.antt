@@ -8,11 +8,13 @@ returns-then-not-has_group c =
     let groups = c.args.groups.now in
     let is : c.greatest-i-end.result ≡ greatest groups = c.greatest-i-end.ensures in
     let below : c.loop-i.i < greatest groups = omega arith in
-    sym (gap_here groups (greatest groups) c.loop-i.i below (sym c.has_group.ensures ∙ c.if-not-has_group.true)) ∙ c.loop-i.invariant
+    sym (gap_here groups (greatest groups) c.loop-i.i below (sym c.has_group.ensures ∙ c.if-not-has_group.true)) ∙
+    c.loop-i.invariant
 
 pub loop-i-preserved : goal.loop-i-preserved
 loop-i-preserved c =
     let groups = c.args.groups.now in
     let is : c.greatest-i-end.result ≡ greatest groups = c.greatest-i-end.ensures in
     let below : c.loop-i.i < greatest groups = omega arith in
-    sym (gap_later groups (greatest groups) c.loop-i.i below (sym c.has_group.ensures ∙ c.if-not-has_group.false)) ∙ c.loop-i.invariant
+    sym (gap_later groups (greatest groups) c.loop-i.i below (sym c.has_group.ensures ∙ c.if-not-has_group.false)) ∙
+    c.loop-i.invariant

@@ -7,5 +7,6 @@ use Rattle.fp_messages.proofs.words.is_name.Goals as goal
 
 pub returns-then-matches : goal.returns-then-matches
 returns-then-matches c =
-    let all = all_from_yields_List is_letter_or_digit _ _ c.all.result c.all.ensures.ran (YieldsList-from_slice c.args.text.now cc) (λ x b q k. search (rules, tests)) in
+    let all = all_from_yields_List is_letter_or_digit _ _ c.all.result c.all.ensures.ran
+    (YieldsList-from_slice c.args.text.now cc) (λ x b q k. search (rules, tests)) in
     grind (arith, nat_tests)

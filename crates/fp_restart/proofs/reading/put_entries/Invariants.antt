@@ -7,5 +7,7 @@ use Rattle.fp_restart.proofs.reading.put_entries.Given as goal
 
 -- the items of the entries so far are put
 abbrev pub invariant-loop-entry : goal.invariant-loop-entry
-invariant-loop-entry l = (defs : List MsdbDef) → IsOf defs l.initial.store → AllByRecursion (IsFitSegment defs) (items_of l.entries)
-    → IsOf defs l.store × (l.store.msdbs ≡ with_items defs l.initial.store.msdbs (items_of (take l.entry-index l.entries)))
+invariant-loop-entry l = (defs : List MsdbDef) → IsOf defs l.initial.store
+    → AllByRecursion (IsFitSegment defs) (items_of l.entries)
+    → IsOf defs l.store × (l.store.msdbs ≡ with_items defs l.initial.store.msdbs
+    (items_of (take l.entry-index l.entries)))

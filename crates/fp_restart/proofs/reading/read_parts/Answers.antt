@@ -8,7 +8,9 @@ pub returns-in_err-replay-clause-damaged : goal.returns-in_err-replay-clause-dam
 returns-in_err-replay-clause-damaged g c set at t is =
     let same = ap (λ f. f 0) (c.open.ensures.stays t).contents in
     let bad = c.replay.ensures.damaged set at (c.open.ensures.told t) (search rules) in
-    let gate : c.in_ok-log.log.gate ≡ first_gate (as_front c.args.front.now) = ap (λ l. l.gate) c.in_ok-log.ensures.log in (
+    let gate : c.in_ok-log.log.gate ≡ first_gate (as_front c.args.front.now) =
+    ap (λ l. l.gate) c.in_ok-log.ensures.log in (
       bad.0,
-      subst (λ n. IsFirstBadAt c.args.defs.now ((g.T.Site.disk c.args.site.now).contents 0) n at) gate (subst (λ l. IsFirstBadAt c.args.defs.now l c.in_ok-log.log.gate at) same bad.1),
+      subst (λ n. IsFirstBadAt c.args.defs.now ((g.T.Site.disk c.args.site.now).contents 0) n at) gate
+          (subst (λ l. IsFirstBadAt c.args.defs.now l c.in_ok-log.log.gate at) same bad.1),
     )

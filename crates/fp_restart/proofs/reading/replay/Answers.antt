@@ -21,7 +21,8 @@ loop-begun-init g c =
       log = refl;
       followed = λ t.
           subst
-          (λ at. IsFollowed defs bytes (record { first = c.args.log.now.gate; at = at; count = 0 }) c.new-begun.result store store)
+          (λ at. IsFollowed defs bytes (record { first = c.args.log.now.gate; at = at; count = 0 }) c.new-begun.result
+          store store)
           (sym gate) (followed_none defs bytes c.args.log.now.gate c.new-begun.result store c.new-begun.ensures);
       site = looks_none g.T.Site.told g.T.Site.disk g.T.Site.faults g.T.Site.holds g.T.Site.keeps c.args.site.now;
     }
@@ -37,7 +38,8 @@ returns-in_err-taken-clause-damaged g c set at t is =
     let same = ap (λ f. f 0) (it.site.stays t).contents in
     let so_far = it.followed t in
     let earlier = entries_of so_far.replayed.groups in
-    let bad = c.take_group.ensures.damaged earlier so_far.intervals so_far.replayed.holds.fit set at (it.site.told_still t)
+    let bad = c.take_group.ensures.damaged earlier so_far.intervals so_far.replayed.holds.fit set at
+    (it.site.told_still t)
     (search rules) in
     let here : IsBadAt defs bytes earlier c.loop-begun.at =
     subst (λ l. IsBadAt defs l earlier c.loop-begun.at) same bad.2 in (
@@ -53,10 +55,13 @@ returns-in_err-taken-clause-cause g c is =
     grind (arith, later, rose)
 
 -- what the loop and one call more leave of the site
-looked : (g : given.Over) (c : goal.After-drop-begun g) → Looks g.T.Site.told g.T.Site.disk g.T.Site.faults g.T.Site.holds g.T.Site.keeps c.args.site.now c.take_group.new.site
+looked : (g : given.Over) (c : goal.After-drop-begun g)
+    → Looks g.T.Site.told g.T.Site.disk g.T.Site.faults g.T.Site.holds g.T.Site.keeps c.args.site.now
+    c.take_group.new.site
 looked g c =
     let call = c.take_group.ensures in
-    looks_on g.T.Site.told g.T.Site.disk g.T.Site.faults g.T.Site.holds g.T.Site.keeps g.met.T.Site.lawful _ _ _ c.loop-begun.invariant.site call.later call.stays call.told call.holds call.keeps
+    looks_on g.T.Site.told g.T.Site.disk g.T.Site.faults g.T.Site.holds g.T.Site.keeps g.met.T.Site.lawful _ _ _
+    c.loop-begun.invariant.site call.later call.stays call.told call.holds call.keeps
 
 pub returns-in_err-taken-clause-stays : goal.returns-in_err-taken-clause-stays
 returns-in_err-taken-clause-stays g c = (looked g c).stays
@@ -66,9 +71,23 @@ returns-in_default-clause-replayed g c t =
     let it = c.loop-begun.invariant in
     let bytes = (g.T.Site.disk c.args.site.now).contents 0 in
     let kept : c.take_group.new.store ≡ c.loop-begun.store = search rules in
-    let at_gate = subst (λ n. IsReplayed c.args.defs.now bytes (record { first = c.args.log.now.gate; at = n; count = c.loop-begun.count }) c.args.store.now.msdbs c.loop-begun.store.msdbs) (sym c.end_at.ensures.gate) (it.followed t).replayed in
-    let counted = subst (λ n. IsReplayed c.args.defs.now bytes (record { first = c.args.log.now.gate; at = c.end_at.new.self.gate; count = n }) c.args.store.now.msdbs c.loop-begun.store.msdbs) (sym c.end_at.ensures.sealed) at_gate in
-    subst (λ s. IsReplayed c.args.defs.now bytes (record { first = c.args.log.now.gate; at = c.end_at.new.self.gate; count = c.end_at.new.self.sealed }) c.args.store.now.msdbs s.msdbs) (sym kept) counted
+    let at_gate = subst (λ n. IsReplayed c.args.defs.now bytes (record {
+      first = c.args.log.now.gate;
+      at = n;
+      count =
+          c.loop-begun.count;
+    }) c.args.store.now.msdbs c.loop-begun.store.msdbs) (sym c.end_at.ensures.gate)
+    (it.followed t).replayed in
+    let counted = subst (λ n. IsReplayed c.args.defs.now bytes (record {
+      first = c.args.log.now.gate;
+      at =
+          c.end_at.new.self.gate;
+      count = n;
+    }) c.args.store.now.msdbs c.loop-begun.store.msdbs)
+    (sym c.end_at.ensures.sealed) at_gate in
+    subst (λ s. IsReplayed c.args.defs.now bytes (record
+    { first = c.args.log.now.gate; at = c.end_at.new.self.gate; count = c.end_at.new.self.sealed })
+    c.args.store.now.msdbs s.msdbs) (sym kept) counted
 
 pub returns-in_default-clause-closed : goal.returns-in_default-clause-closed
 returns-in_default-clause-closed g c t =
@@ -76,12 +95,14 @@ returns-in_default-clause-closed g c t =
     let same = ap (λ f. f 0) (it.site.stays t).contents in
     let t1 = it.site.told_still t in
     let closed : slice_index ((g.T.Site.disk c.loop-begun.site).contents 0) c.loop-begun.at ≢ 1 = search rules in
-    subst (λ n. slice_index ((g.T.Site.disk c.args.site.now).contents 0) n ≢ 1) (sym c.end_at.ensures.gate) (subst (λ l. slice_index l c.loop-begun.at ≢ 1) same closed)
+    subst (λ n. slice_index ((g.T.Site.disk c.args.site.now).contents 0) n ≢ 1) (sym c.end_at.ensures.gate)
+    (subst (λ l. slice_index l c.loop-begun.at ≢ 1) same closed)
 
 pub returns-in_default-clause-stays : goal.returns-in_default-clause-stays
 returns-in_default-clause-stays g c =
     let call = c.take_group.ensures in
-    (looks_on g.T.Site.told g.T.Site.disk g.T.Site.faults g.T.Site.holds g.T.Site.keeps g.met.T.Site.lawful _ _ _ c.loop-begun.invariant.site call.later call.stays call.told call.holds call.keeps).stays
+    (looks_on g.T.Site.told g.T.Site.disk g.T.Site.faults g.T.Site.holds g.T.Site.keeps g.met.T.Site.lawful _ _ _
+    c.loop-begun.invariant.site call.later call.stays call.told call.holds call.keeps).stays
 
 pub loop-begun-preserved : goal.loop-begun-preserved
 loop-begun-preserved g c =
@@ -108,5 +129,6 @@ loop-begun-preserved g c =
           c.loop-begun.store.msdbs c.take_group.new.store.msdbs so_far
           (subst (λ l. IsTaken defs l earlier c.loop-begun.at c.in-Some.taken.next c.in-Some.taken.count
           c.take_group.new.begun c.loop-begun.store.msdbs c.take_group.new.store.msdbs) same taken);
-      site = looks_on g.T.Site.told g.T.Site.disk g.T.Site.faults g.T.Site.holds g.T.Site.keeps g.met.T.Site.lawful _ _ _ it.site call.later call.stays call.told call.holds call.keeps;
+      site = looks_on g.T.Site.told g.T.Site.disk g.T.Site.faults g.T.Site.holds g.T.Site.keeps g.met.T.Site.lawful _ _
+          _ it.site call.later call.stays call.told call.holds call.keeps;
     }

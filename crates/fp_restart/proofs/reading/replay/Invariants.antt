@@ -11,7 +11,8 @@ invariant-loop-begun g l = record {
   within : l.at ≤ 2 ^ 62;
   few : l.count ≤ l.at;
   log : l.log ≡ l.initial.log;
-  followed : g.T.Site.told l.initial.site → IsFollowed l.fn.defs ((g.T.Site.disk l.initial.site).contents 0) (record { first = l.initial.log.gate; at = l.at; count = l.count }) l.begun l.initial.store.msdbs l.store.msdbs;
+  followed : g.T.Site.told l.initial.site → IsFollowed l.fn.defs ((g.T.Site.disk l.initial.site).contents 0)
+      (record { first = l.initial.log.gate; at = l.at; count = l.count }) l.begun l.initial.store.msdbs l.store.msdbs;
   site : Looks g.T.Site.told g.T.Site.disk g.T.Site.faults g.T.Site.holds g.T.Site.keeps l.initial.site l.site;
 }
 

@@ -13,8 +13,10 @@ use Rattle.fp_restart.proofs.reading.take_group.Goals as goal
 pub returns-then-not-stands_behind-clause-damaged : goal.returns-then-not-stands_behind-clause-damaged
 returns-then-not-stands_behind-clause-damaged g c earlier by_these front set place t e =
     let bytes = (g.T.Site.disk c.args.site.now).contents 0 in
-    let has : HasGroup bytes c.args.at c.in-Some.group.entries c.in-Some.group.next = rw c.in-Some.is at (c.in_ok-group.ensures.some t) in
-    let far = stands_further bytes c.args.at c.in-Some.group.entries c.in-Some.group.next has ((g.met.T.Site.lawful c.args.site.now t).bounded 0) in
+    let has : HasGroup bytes c.args.at c.in-Some.group.entries c.in-Some.group.next =
+    rw c.in-Some.is at (c.in_ok-group.ensures.some t) in
+    let far = stands_further bytes c.args.at c.in-Some.group.entries c.in-Some.group.next has
+    ((g.met.T.Site.lawful c.args.site.now t).bounded 0) in
     absurd (c.stands_behind.ensures.not c.if-not-stands_behind.true far.0 far.1 far.2)
 
 -- what was judged of the items of the group

@@ -25,16 +25,21 @@ returns-clause-sound g c scripts entries t sound =
     let t1 = c.sync.ensures.told t in
     let t2 = c.read_parts.ensures.told t1 in
     let stays = c.read_parts.ensures.stays t1 in
-    let durable = durable_stays (g.T.Site.disk c.sync.new.self) new 0 (g.met.T.Site.lawful c.sync.new.self t1) (g.met.T.Site.lawful c.read_parts.new.site t2) stays (c.in_ok-sync.ensures.durable t) in
-    let here : IsSound defs scripts front bytes entries = subst (λ l. IsSound defs scripts front l entries) (sym same) sound in
+    let durable = durable_stays (g.T.Site.disk c.sync.new.self) new 0 (g.met.T.Site.lawful c.sync.new.self t1)
+    (g.met.T.Site.lawful c.read_parts.new.site t2) stays (c.in_ok-sync.ensures.durable t) in
+    let here : IsSound defs scripts front bytes entries =
+    subst (λ l. IsSound defs scripts front l entries) (sym same) sound in
     of_four c.read_parts.result
-    (λ parts. IsReplayed defs bytes (record { first = first_gate front; at = parts.1.gate; count = parts.1.sealed }) (start defs).msdbs parts.0.msdbs)
+    (λ parts. IsReplayed defs bytes (record { first = first_gate front; at = parts.1.gate; count = parts.1.sealed })
+    (start defs).msdbs parts.0.msdbs)
     (λ parts. slice_index bytes parts.1.gate ≢ 1)
     (λ parts. parts.1.unsealed ≡ [])
     (λ parts. IsOf defs.msdbs parts.0)
     (λ parts. StandsFor defs scripts front new entries parts.0 parts.1)
-    (λ parts replayed closed unsealed of. sound_stands defs scripts front bytes entries here new parts.0 parts.1 durable (ap (λ f. f 0) stays.contents) of unsealed replayed closed)
-    (c.read_parts.ensures.replayed t1) (c.read_parts.ensures.closed t1) c.read_parts.ensures.unsealed c.read_parts.ensures.of
+    (λ parts replayed closed unsealed of. sound_stands defs scripts front bytes entries here new parts.0 parts.1 durable
+    (ap (λ f. f 0) stays.contents) of unsealed replayed closed)
+    (c.read_parts.ensures.replayed t1) (c.read_parts.ensures.closed t1) c.read_parts.ensures.unsealed
+    c.read_parts.ensures.of
 
 pub returns-clause-never : goal.returns-clause-never
 returns-clause-never g c scripts entries t sound =
@@ -42,7 +47,8 @@ returns-clause-never g c scripts entries t sound =
     let front = as_front c.args.front.now in
     let bytes = (g.T.Site.disk c.sync.new.self).contents 0 in
     let t1 = c.sync.ensures.told t in
-    let here : IsSound defs scripts front bytes entries = subst (λ l. IsSound defs scripts front l entries) (sym (c.sync.ensures.same t)) sound in (
+    let here : IsSound defs scripts front bytes entries =
+    subst (λ l. IsSound defs scripts front l entries) (sym (c.sync.ensures.same t)) sound in (
       λ is. c.read_parts.ensures.foreign t1 is (sound_begins defs scripts front bytes entries here),
       λ set at is. sound_not_bad defs scripts front bytes entries here at (c.read_parts.ensures.damaged set at t1 is).1,
     )
@@ -53,11 +59,13 @@ returns-clause-damaged g c set at t is = (c.read_parts.ensures.damaged set at (c
 pub returns-clause-place : goal.returns-clause-place
 returns-clause-place g c set at t is =
     let bad = c.read_parts.ensures.damaged set at (c.sync.ensures.told t) is in
-    subst (λ l. IsFirstBadAt c.args.defs.now l (first_gate (as_front c.args.front.now)) at) (c.sync.ensures.same t) bad.1
+    subst (λ l. IsFirstBadAt c.args.defs.now l (first_gate (as_front c.args.front.now)) at) (c.sync.ensures.same t)
+    bad.1
 
 pub returns-clause-begun : goal.returns-clause-begun
 returns-clause-begun g c set at t is =
-    subst (λ l. StartsWithFront l (as_front c.args.front.now)) (c.sync.ensures.same t) (c.read_parts.ensures.begun set at (c.sync.ensures.told t) is)
+    subst (λ l. StartsWithFront l (as_front c.args.front.now)) (c.sync.ensures.same t)
+    (c.read_parts.ensures.begun set at (c.sync.ensures.told t) is)
 
 pub returns-clause-only_damaged : goal.returns-clause-only_damaged
 returns-clause-only_damaged g c at t begins bad =
@@ -66,8 +74,10 @@ returns-clause-only_damaged g c at t begins bad =
     let bytes = (g.T.Site.disk c.sync.new.self).contents 0 in
     let same = sym (c.sync.ensures.same t) in
     let t1 = c.sync.ensures.told t in
-    damage_or c.read_parts.result defs bytes (first_gate front) at (c.read_parts.ensures.readable t1) (λ is. c.read_parts.ensures.foreign t1 is (subst (λ l. StartsWithFront l front) same begins))
-    (λ set place is. c.read_parts.ensures.damaged set place t1 is) (subst (λ l. IsFirstBadAt defs l (first_gate front) at) same bad)
+    damage_or c.read_parts.result defs bytes (first_gate front) at (c.read_parts.ensures.readable t1)
+    (λ is. c.read_parts.ensures.foreign t1 is (subst (λ l. StartsWithFront l front) same begins))
+    (λ set place is. c.read_parts.ensures.damaged set place t1 is)
+    (subst (λ l. IsFirstBadAt defs l (first_gate front) at) same bad)
 
 pub returns-clause-crash : goal.returns-clause-crash
 returns-clause-crash g c t =
@@ -77,5 +87,6 @@ returns-clause-crash g c t =
     let t1 = c.sync.ensures.told t in
     let law1 = g.met.T.Site.lawful c.sync.new.self t1 in
     let crash = c.sync.ensures.crash t in
-    stays_on (Syncs old 0) old mid (g.T.Site.disk c.read_parts.new.site) law1 (of_call old mid (Syncs old 0) law crash (same_synced old)) (c.read_parts.ensures.stays t1)
+    stays_on (Syncs old 0) old mid (g.T.Site.disk c.read_parts.new.site) law1
+    (of_call old mid (Syncs old 0) law crash (same_synced old)) (c.read_parts.ensures.stays t1)
     (now_one old mid (Syncs old 0) law law1 crash (same_synced old))

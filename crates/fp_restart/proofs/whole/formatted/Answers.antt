@@ -17,7 +17,10 @@ loop-area-preserved c =
     let areas = c.as_slice-area-items.result.now in
     let so_far = c.loop-area.invariant in
     record {
-      anchors = replicate_next anchors_in areas c.loop-area.area-index none [] c.add_anchors.new.anchors c.loop-area-test.true
-          (c.in_ok-add_anchors.ensures ∙ ap (λ l. l ++ replicate (anchors_in (get_or areas c.loop-area.area-index none)) []) so_far.anchors);
-      areas = constant_next areas c.loop-area.area-index none ends c.push.new.self c.loop-area.areas c.loop-area-test.true c.in_ok-push.ensures.ok so_far.areas;
+      anchors = replicate_next anchors_in areas c.loop-area.area-index none [] c.add_anchors.new.anchors
+          c.loop-area-test.true
+          (c.in_ok-add_anchors.ensures ∙ ap (λ l. l ++ replicate (anchors_in (get_or areas c.loop-area.area-index none))
+          []) so_far.anchors);
+      areas = constant_next areas c.loop-area.area-index none ends c.push.new.self c.loop-area.areas
+          c.loop-area-test.true c.in_ok-push.ensures.ok so_far.areas;
     }

@@ -10,7 +10,9 @@ zero_is_not_one e = grind arith
 
 -- no byte stands at the end
 past_end : (front : List ℕ) → slice_index front (length front) ≢ 1
-past_end front is_open = let past : slice_index front (length front) ≡ 0 = get_or_past front (length front) 0 (omega arith) in zero_is_not_one (sym past ∙ is_open)
+past_end front is_open =
+    let past : slice_index front (length front) ≡ 0 = get_or_past front (length front) 0 (omega arith) in
+    zero_is_not_one (sym past ∙ is_open)
 
 reads : (front : List ℕ) → Reads front (length front) (Groups [] (length front))
 reads front = (record { each = tt; next = grind arith; text = refl }, past_end front)

@@ -9,25 +9,34 @@ use Rattle.fp_rows.proofs.bytes.a_log_reads_as_its_groups.Goals as goal
 
 -- the bytes from the closed gate on
 at_gate : (front groups : List ℕ) → drop (length front + length groups) (front ++ groups ++ 0 ∷ []) ≡ 0 ∷ []
-at_gate front groups = ap (λ n. drop n (front ++ groups ++ 0 ∷ [])) (sym (length-append front groups)) ∙ drop-append_seam (front ++ groups) (0 ∷ [])
+at_gate front groups = ap (λ n. drop n (front ++ groups ++ 0 ∷ [])) (sym (length-append front groups)) ∙
+    drop-append_seam (front ++ groups) (0 ∷ [])
 
 -- the bytes from the first gate on
 at_first : (front groups : List ℕ) → drop (length front) (front ++ groups ++ 0 ∷ []) ≡ groups ++ 0 ∷ []
-at_first front groups = ap (drop (length front)) (append_assoc front groups (0 ∷ [])) ∙ drop-append_seam front (groups ++ 0 ∷ [])
+at_first front groups = ap (drop (length front)) (append_assoc front groups (0 ∷ [])) ∙ drop-append_seam front
+    (groups ++ 0 ∷ [])
 
 -- the closed gate
 is_closed : (front groups : List ℕ) → slice_index (front ++ groups ++ 0 ∷ []) (length front + length groups) ≡ 0
-is_closed front groups = ap (slice_index (front ++ groups ++ 0 ∷ [])) (sym (length-append front groups)) ∙ get_or-append_seam (front ++ groups) 0 [] 0
+is_closed front groups = ap (slice_index (front ++ groups ++ 0 ∷ [])) (sym (length-append front groups)) ∙
+    get_or-append_seam (front ++ groups) 0 [] 0
 
 not_one : (n : ℕ) → n ≡ 0 → n ≢ 1
 not_one n e = grind arith
 
 -- behind any front
 reads : (front : List ℕ) (groups : List (List Entry)) → AllByRecursion IsGroup groups
-    → Reads (front ++ groups_text groups ++ 0 ∷ []) (length front) (Groups groups (length front + length (groups_text groups)))
+    → Reads (front ++ groups_text groups ++ 0 ∷ []) (length front)
+    (Groups groups (length front + length (groups_text groups)))
 reads front groups each =
     let text = groups_text groups in (
-      record { each = each; next = refl; text = at_first front text ∙ ap (λ rest. text ++ rest) (sym (at_gate front text)) },
+      record {
+        each = each;
+        next = refl;
+        text = at_first front text ∙ ap (λ rest. text ++ rest)
+            (sym (at_gate front text));
+      },
       not_one _ (is_closed front text),
     )
 

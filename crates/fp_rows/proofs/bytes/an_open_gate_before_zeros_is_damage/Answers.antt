@@ -30,10 +30,12 @@ has_bytes [] some none = omega arith
 has_bytes (e ∷ entries) some none = omega arith
 
 -- no group begins with zeros behind its gate
-no_group : (n : ℕ) (entries : List Entry) (rest : List ℕ) → IsGroup entries → 1 ∷ replicate n 0 ≢ group_text entries ++ rest
+no_group : (n : ℕ) (entries : List Entry) (rest : List ℕ) → IsGroup entries
+    → 1 ∷ replicate n 0 ≢ group_text entries ++ rest
 no_group n entries rest group same =
     let behind = ap (drop 1) same in
-    has_bytes entries group.some (sym (in_front (length (body_text entries)) (body_text entries) rest group.fits) ∙ sym (ap (from_be_bytes w64) behind) ∙ zeros n)
+    has_bytes entries group.some (sym (in_front (length (body_text entries)) (body_text entries) rest group.fits) ∙ sym
+    (ap (from_be_bytes w64) behind) ∙ zeros n)
 
 -- behind any front
 reads : (front : List ℕ) (n : ℕ) → Reads (front ++ 1 ∷ replicate n 0) (length front) (Damage (length front))
@@ -42,7 +44,8 @@ reads front n = (
   record { each = tt; next = omega arith; text = refl },
   record {
     gate = get_or-append_seam front 1 (replicate n 0) 0;
-    no_group = λ entries rest group same. no_group n entries rest group (sym (drop-append_seam front (1 ∷ replicate n 0)) ∙ same);
+    no_group = λ entries rest group same. no_group n entries rest group
+        (sym (drop-append_seam front (1 ∷ replicate n 0)) ∙ same);
   },
 )
 

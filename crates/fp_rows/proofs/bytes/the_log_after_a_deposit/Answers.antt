@@ -11,4 +11,5 @@ unfolding be16 be32 be64
 behind_front = refl
 
 pub returns : goal.returns
-returns c = λ front. append_assoc (front_text 1 front) (groups_text ((deposit ∷ []) ∷ [])) (0 ∷ []) ∙ ap (λ rest. front_text 1 front ++ rest) behind_front
+returns c = λ front. append_assoc (front_text 1 front) (groups_text ((deposit ∷ []) ∷ [])) (0 ∷ []) ∙ ap
+    (λ rest. front_text 1 front ++ rest) behind_front

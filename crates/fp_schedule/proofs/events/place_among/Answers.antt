@@ -13,12 +13,16 @@ returns-in-Some-clause-place c =
     let within : at < length dedbs = subst (λ (ds : List DedbDef). at < length ds) same c.loop-dedb-test.true in
     let cons : drop at dedbs ≡ c.dedb-item.result ∷ drop (suc at) dedbs =
     drop-cons dedbs at c.dedb-item.result within
-    ∙ ap (λ (d : DedbDef). d ∷ drop (suc at) dedbs) (sym (c.dedb-item.is ∙ ap (λ (ds : List DedbDef). get_or ds at c.dedb-item.result) same)) in
-    let found : position (can_be_purged c.args.name.now) c.dedb-item.result.areas ≡ Some c.in-Some.place = search rules in
+    ∙ ap (λ (d : DedbDef). d ∷ drop (suc at) dedbs)
+    (sym (c.dedb-item.is ∙ ap (λ (ds : List DedbDef). get_or ds at c.dedb-item.result) same)) in
+    let found : position (can_be_purged c.args.name.now) c.dedb-item.result.areas ≡ Some c.in-Some.place =
+    search rules in
     sym (position_of_all (can_be_purged c.args.name.now) 0 dedbs
     ∙ c.loop-dedb.invariant.rest
-    ∙ ap (λ (ds : List DedbDef). option_map (λ k. c.loop-dedb.before + k) (place_among (can_be_purged c.args.name.now) ds)) cons
-    ∙ found_here (can_be_purged c.args.name.now) c.loop-dedb.before c.in-Some.place c.dedb-item.result (drop (suc at) dedbs) found)
+    ∙ ap (λ (ds : List DedbDef). option_map (λ k. c.loop-dedb.before + k)
+    (place_among (can_be_purged c.args.name.now) ds)) cons
+    ∙ found_here (can_be_purged c.args.name.now) c.loop-dedb.before c.in-Some.place c.dedb-item.result
+    (drop (suc at) dedbs) found)
 
 pub returns-clause-place : goal.returns-clause-place
 returns-clause-place c =
@@ -29,4 +33,5 @@ returns-clause-place c =
     let none = drop_of_length-le dedbs {i = c.loop-dedb.dedb-index} end in
     sym (position_of_all (can_be_purged c.args.name.now) 0 dedbs
     ∙ c.loop-dedb.invariant.rest
-    ∙ ap (λ (ds : List DedbDef). option_map (λ k. c.loop-dedb.before + k) (place_among (can_be_purged c.args.name.now) ds)) none)
+    ∙ ap (λ (ds : List DedbDef). option_map (λ k. c.loop-dedb.before + k)
+    (place_among (can_be_purged c.args.name.now) ds)) none)

@@ -9,24 +9,28 @@ use Rattle.fp_schedule.proofs.events.split_slash.Goals as goal
 
 pub returns-in-Some-clause-front : goal.returns-in-Some-clause-front
 returns-in-Some-clause-front c =
-    let found = position_from_yields_List is_slash _ _ c.position.result c.position.ensures.ran (YieldsList-from_slice c.args.bytes.now cc) (λ x b q k. search (rules, tests)) in
+    let found = position_from_yields_List is_slash _ _ c.position.result c.position.ensures.ran
+    (YieldsList-from_slice c.args.bytes.now cc) (λ x b q k. search (rules, tests)) in
     let place = place_is is_slash c.args.bytes.now c.in-Some.place (sym found ∙ c.in-Some.is) in
     ap (λ n. take n c.args.bytes.now) (sym place)
 
 pub returns-in-Some-clause-behind : goal.returns-in-Some-clause-behind
 returns-in-Some-clause-behind c =
-    let found = position_from_yields_List is_slash _ _ c.position.result c.position.ensures.ran (YieldsList-from_slice c.args.bytes.now cc) (λ x b q k. search (rules, tests)) in
+    let found = position_from_yields_List is_slash _ _ c.position.result c.position.ensures.ran
+    (YieldsList-from_slice c.args.bytes.now cc) (λ x b q k. search (rules, tests)) in
     let place = place_is is_slash c.args.bytes.now c.in-Some.place (sym found ∙ c.in-Some.is) in
     take_all _ _ (grind (arith, common_steps)) ∙ ap (λ n. drop (n + 1) c.args.bytes.now) (sym place)
 
 pub returns-in-None-clause-front : goal.returns-in-None-clause-front
 returns-in-None-clause-front c =
-    let found = position_from_yields_List is_slash _ _ c.position.result c.position.ensures.ran (YieldsList-from_slice c.args.bytes.now cc) (λ x b q k. search (rules, tests)) in
+    let found = position_from_yields_List is_slash _ _ c.position.result c.position.ensures.ran
+    (YieldsList-from_slice c.args.bytes.now cc) (λ x b q k. search (rules, tests)) in
     let place = whole_is is_slash c.args.bytes.now (sym found ∙ c.in-None.is) in
     sym (take_all _ _ place)
 
 pub returns-in-None-clause-behind : goal.returns-in-None-clause-behind
 returns-in-None-clause-behind c =
-    let found = position_from_yields_List is_slash _ _ c.position.result c.position.ensures.ran (YieldsList-from_slice c.args.bytes.now cc) (λ x b q k. search (rules, tests)) in
+    let found = position_from_yields_List is_slash _ _ c.position.result c.position.ensures.ran
+    (YieldsList-from_slice c.args.bytes.now cc) (λ x b q k. search (rules, tests)) in
     let place = whole_is is_slash c.args.bytes.now (sym found ∙ c.in-None.is) in
     grind (arith, common_steps)

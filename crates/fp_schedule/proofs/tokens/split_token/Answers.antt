@@ -10,7 +10,8 @@ use Rattle.fp_schedule.proofs.tokens.split_token.Goals as goal
 pub returns-in-Some-clause-some : goal.returns-in-Some-clause-some
 returns-in-Some-clause-some c =
     let bytes : List ℕ = c.unseparated-found.result.now in
-    let found = position_from_yields_List separates _ _ c.position.result c.position.ensures.ran (YieldsList-from_slice bytes cc) (λ x b q k. search (rules, tests)) in
+    let found = position_from_yields_List separates _ _ c.position.result c.position.ensures.ran
+    (YieldsList-from_slice bytes cc) (λ x b q k. search (rules, tests)) in
     let place = place_is separates bytes c.in-Some.end (sym found ∙ c.in-Some.is) in
     let some : 0 < length bytes = grind (arith, common_steps) in
     let starts : 0 < end_of bytes = starts_within bytes some c.unseparated-found.ensures.begins in
@@ -24,7 +25,8 @@ returns-in-Some-clause-some c =
 pub returns-in-None-clause-some : goal.returns-in-None-clause-some
 returns-in-None-clause-some c =
     let bytes : List ℕ = c.unseparated-found.result.now in
-    let found = position_from_yields_List separates _ _ c.position.result c.position.ensures.ran (YieldsList-from_slice bytes cc) (λ x b q k. search (rules, tests)) in
+    let found = position_from_yields_List separates _ _ c.position.result c.position.ensures.ran
+    (YieldsList-from_slice bytes cc) (λ x b q k. search (rules, tests)) in
     let place = whole_is separates bytes (sym found ∙ c.in-None.is) in
     let some : 0 < length bytes = grind (arith, common_steps) in
     sym c.unseparated-found.ensures.tokens ∙ token_alone bytes place some

@@ -11,12 +11,14 @@ loop-bytes-preserved c k lt =
       | inl below ↦ c.loop-bytes.invariant k below
       | inr above ↦
           let is : k ≡ i = omega arith in
-          let bytes = ap (set_bytes c.args.sets.now) is ∙ set_bytes_read c.args.sets.now i c.bytes-item.result c.loop-bytes-test.true c.bytes-item.is in
+          let bytes = ap (set_bytes c.args.sets.now) is ∙ set_bytes_read c.args.sets.now i c.bytes-item.result
+          c.loop-bytes-test.true c.bytes-item.is in
           omega (arith, ap length bytes)
     ]
 
 pub returns : goal.returns
 returns c true_is k = elim (cases_lt k c.loop-bytes.bytes-index) [
   | inl below ↦ c.loop-bytes.invariant k below
-  | inr above ↦ let bytes = set_bytes_past c.args.sets.now k (let t = c.loop-bytes-test.false in omega arith) in omega (arith, ap length bytes)
+  | inr above ↦ let bytes = set_bytes_past c.args.sets.now k (let t = c.loop-bytes-test.false in omega arith) in
+      omega (arith, ap length bytes)
 ]

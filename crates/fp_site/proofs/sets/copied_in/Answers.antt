@@ -13,7 +13,8 @@ loop-image-preserved c =
     record {
       count = ap length c.in_ok-push.ensures.items ∙ length-append old (v ∷ []) ∙ omega (arith, count);
       same = λ k lt. elim (cases_lt k i) [
-        | inl below ↦ ap (λ l. set_bytes l k) c.in_ok-push.ensures.items ∙ set_bytes-push_below old v k (omega (arith, count)) ∙ c.loop-image.invariant.same k below
+        | inl below ↦ ap (λ l. set_bytes l k) c.in_ok-push.ensures.items ∙ set_bytes-push_below old v k
+            (omega (arith, count)) ∙ c.loop-image.invariant.same k below
         | inr above ↦
             let is : k ≡ i = omega arith in
             ap (λ l. set_bytes l k) c.in_ok-push.ensures.items
@@ -28,5 +29,6 @@ loop-image-preserved c =
 pub returns : goal.returns
 returns c k = elim (cases_lt k c.loop-image.image-index) [
   | inl below ↦ c.loop-image.invariant.same k below
-  | inr above ↦ set_bytes_past c.loop-image.sets.items k (omega (arith, c.loop-image.invariant.count)) ∙ sym (image_at_past c.args.images.now k (let t = c.loop-image-test.false in omega arith))
+  | inr above ↦ set_bytes_past c.loop-image.sets.items k (omega (arith, c.loop-image.invariant.count)) ∙ sym
+      (image_at_past c.args.images.now k (let t = c.loop-image-test.false in omega arith))
 ]

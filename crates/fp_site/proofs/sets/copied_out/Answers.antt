@@ -13,7 +13,8 @@ loop-bytes-preserved c =
     record {
       count = ap length c.in_ok-push.ensures.ok ∙ length-append old (v ∷ []) ∙ omega (arith, count);
       same = λ k lt. elim (cases_lt k i) [
-        | inl below ↦ ap (λ l. image_at l k) c.in_ok-push.ensures.ok ∙ image_at-push_below old v k (omega (arith, count)) ∙ c.loop-bytes.invariant.same k below
+        | inl below ↦ ap (λ l. image_at l k) c.in_ok-push.ensures.ok ∙ image_at-push_below old v k
+            (omega (arith, count)) ∙ c.loop-bytes.invariant.same k below
         | inr above ↦
             let is : k ≡ i = omega arith in
             ap (λ l. image_at l k) c.in_ok-push.ensures.ok
@@ -28,5 +29,6 @@ loop-bytes-preserved c =
 pub returns : goal.returns
 returns c k = elim (cases_lt k c.loop-bytes.bytes-index) [
   | inl below ↦ c.loop-bytes.invariant.same k below
-  | inr above ↦ image_at_past c.loop-bytes.images k (omega (arith, c.loop-bytes.invariant.count)) ∙ sym (set_bytes_past c.args.sets.now k (let t = c.loop-bytes-test.false in omega arith))
+  | inr above ↦ image_at_past c.loop-bytes.images k (omega (arith, c.loop-bytes.invariant.count)) ∙ sym
+      (set_bytes_past c.args.sets.now k (let t = c.loop-bytes-test.false in omega arith))
 ]

@@ -6,14 +6,16 @@ use Rattle.fp_source.proofs.whole_part.whole.Goals as goal
 
 pub loop-bytes-init : goal.loop-bytes-init
 loop-bytes-init g c = record {
-  source = reads_none g.S.Source.told g.S.Source.left g.S.Source.faults g.S.Source.holds g.S.Source.keeps c.args.part c.args.source.now;
+  source = reads_none g.S.Source.told g.S.Source.left g.S.Source.faults g.S.Source.holds g.S.Source.keeps c.args.part
+      c.args.source.now;
   bytes = λ t. rw c.new-bytes.ensures refl;
   limit = rw c.new-bytes.ensures (omega arith);
   block = let l = c.in_ok-block.ensures.len in omega arith;
 }
 
 pub returns-in_err-count-clause-cause : goal.returns-in_err-count-clause-cause
-returns-in_err-count-clause-cause g c = λ e. rose_since _ _ _ c.loop-bytes.invariant.source.later c.in_err-count.ensures.cause.rose
+returns-in_err-count-clause-cause g c = λ e. rose_since _ _ _ c.loop-bytes.invariant.source.later
+    c.in_err-count.ensures.cause.rose
 
 pub returns-in_err-count-clause-source : goal.returns-in_err-count-clause-source
 returns-in_err-count-clause-source g c =
@@ -24,16 +26,20 @@ returns-in_err-count-clause-source g c =
 pub returns-then-count-eq0-clause-bytes : goal.returns-then-count-eq0-clause-bytes
 returns-then-count-eq0-clause-bytes g c = λ t.
     let it = c.loop-bytes.invariant in
-    let ended : g.S.Source.left c.loop-bytes.source c.args.part ≡ [] = c.in_ok-count.ensures.end (it.source.stays_told t) c.if-count-eq0.true in
-    let whole : g.S.Source.left c.args.source.now c.args.part ≡ c.loop-bytes.bytes ++ g.S.Source.left c.loop-bytes.source c.args.part = it.bytes t in
+    let ended : g.S.Source.left c.loop-bytes.source c.args.part ≡ [] =
+    c.in_ok-count.ensures.end (it.source.stays_told t) c.if-count-eq0.true in
+    let whole : g.S.Source.left c.args.source.now c.args.part ≡ c.loop-bytes.bytes ++ g.S.Source.left
+    c.loop-bytes.source c.args.part = it.bytes t in
     rw (whole, ended) (sym (append-nil c.loop-bytes.bytes))
 
 pub returns-then-count-eq0-clause-end : goal.returns-then-count-eq0-clause-end
 returns-then-count-eq0-clause-end g c = λ t.
     let it = c.loop-bytes.invariant in
-    let ended : g.S.Source.left c.loop-bytes.source c.args.part ≡ [] = c.in_ok-count.ensures.end (it.source.stays_told t) c.if-count-eq0.true in
+    let ended : g.S.Source.left c.loop-bytes.source c.args.part ≡ [] =
+    c.in_ok-count.ensures.end (it.source.stays_told t) c.if-count-eq0.true in
     let front = c.in_ok-count.ensures.bytes (it.source.stays_told t) in
-    let after : g.S.Source.left c.loop-bytes.source c.args.part ≡ g.S.Source.left c.read.new.self c.args.part = rw c.if-count-eq0.true at front in
+    let after : g.S.Source.left c.loop-bytes.source c.args.part ≡ g.S.Source.left c.read.new.self c.args.part =
+    rw c.if-count-eq0.true at front in
     cc (after, ended)
 
 pub returns-then-count-eq0-clause-source : goal.returns-then-count-eq0-clause-source
@@ -45,7 +51,8 @@ returns-then-count-eq0-clause-source g c =
 pub returns-then-count-limit-clause-too_long : goal.returns-then-count-limit-clause-too_long
 returns-then-count-limit-clause-too_long g c = λ t e.
     let it = c.loop-bytes.invariant in
-    more_than _ c.loop-bytes.bytes c.read.new.into _ _ c.in_ok-count.count c.args.limit (it.bytes t) (c.in_ok-count.ensures.bytes (it.source.stays_told t))
+    more_than _ c.loop-bytes.bytes c.read.new.into _ _ c.in_ok-count.count c.args.limit (it.bytes t)
+    (c.in_ok-count.ensures.bytes (it.source.stays_told t))
     (omega (arith, c.in_ok-count.ensures.bound, c.read.auto.into)) it.limit (omega arith)
 
 pub returns-then-count-limit-clause-source : goal.returns-then-count-limit-clause-source
@@ -59,18 +66,25 @@ loop-bytes-preserved g c =
     let call = c.read.ensures in
     let it = c.loop-bytes.invariant in
     record {
-      source = reads_on g.S.Source.told g.S.Source.left g.S.Source.faults g.S.Source.holds g.S.Source.keeps c.args.part _ _ _
+      source = reads_on g.S.Source.told g.S.Source.left g.S.Source.faults g.S.Source.holds g.S.Source.keeps c.args.part
+          _ _ _
           it.source call.cause.later call.others call.told call.holds call.keeps;
       bytes = λ t.
-          let front : take c.in_ok-count.count c.deref.result.now ≡ take c.in_ok-count.count c.read.new.into = rw c.deref.ensures.value (front_kept c.read.new.into _ c.in_ok-count.count c.loop-bytes.block.len
-          (omega (arith, c.in_ok-count.ensures.bound, c.deref_mut.ensures.len)) (omega (arith, c.in_ok-count.ensures.bound, c.read.auto.into))) in
-          let all : c.append.new.self ≡ c.loop-bytes.bytes ++ take c.in_ok-count.count c.deref.result.now = c.in_ok-append.ensures.ok in
-          rw (all, front) (piece_more _ c.loop-bytes.bytes _ _ _ (it.bytes t) (c.in_ok-count.ensures.bytes (it.source.stays_told t)));
+          let front : take c.in_ok-count.count c.deref.result.now ≡ take c.in_ok-count.count c.read.new.into =
+          rw c.deref.ensures.value (front_kept c.read.new.into _ c.in_ok-count.count c.loop-bytes.block.len
+          (omega (arith, c.in_ok-count.ensures.bound, c.deref_mut.ensures.len))
+          (omega (arith, c.in_ok-count.ensures.bound, c.read.auto.into))) in
+          let all : c.append.new.self ≡ c.loop-bytes.bytes ++ take c.in_ok-count.count c.deref.result.now =
+          c.in_ok-append.ensures.ok in
+          rw (all, front) (piece_more _ c.loop-bytes.bytes _ _ _ (it.bytes t)
+          (c.in_ok-count.ensures.bytes (it.source.stays_told t)));
       limit =
-          let all : c.append.new.self ≡ c.loop-bytes.bytes ++ take c.in_ok-count.count c.deref.result.now = c.in_ok-append.ensures.ok in
+          let all : c.append.new.self ≡ c.loop-bytes.bytes ++ take c.in_ok-count.count c.deref.result.now =
+          c.in_ok-append.ensures.ok in
           rw all (within c.loop-bytes.bytes c.deref.result.now c.in_ok-count.count c.args.limit it.limit (omega arith));
       block = some_kept c.read.new.into _ c.loop-bytes.block.len
-          (omega (arith, it.block, c.deref_mut.ensures.len, c.deref_mut.ensures.value)) (omega (arith, it.block, c.deref_mut.ensures.len, c.read.auto.into));
+          (omega (arith, it.block, c.deref_mut.ensures.len, c.deref_mut.ensures.value))
+          (omega (arith, it.block, c.deref_mut.ensures.len, c.read.auto.into));
     }
 
 pub returns-in_err-append-clause-source : goal.returns-in_err-append-clause-source

@@ -11,7 +11,8 @@ use Rattle.fp_system.proofs.parts.definitions_in.Goals as goal
 pub returns-in-Err-clause-refused : goal.returns-in-Err-clause-refused
 unfolding definitions_in
 returns-in-Err-clause-refused g c =
-    subst (λ (s : Status). MayStandIn s ⊎ (definitions_in (kinds_of c.args.exits.now) c.args.text.now ≡ Err s)) (sym c.definitions_status.ensures)
+    subst (λ (s : Status). MayStandIn s ⊎ (definitions_in (kinds_of c.args.exits.now) c.args.text.now ≡ Err s))
+    (sym c.definitions_status.ensures)
     (fault_is_answer (defs_for (kinds_of c.args.exits.now) c.args.text.now) c.in-Err.fault c.in-Err.ensures.fault)
 
 pub returns-then-not-are_built-clause-refused : goal.returns-then-not-are_built-clause-refused

@@ -9,4 +9,5 @@ use Rattle.fp_system.proofs.parts.read_definitions.Goals as goal
 pub returns-in-Err-TooLong-clause-refused : goal.returns-in-Err-TooLong-clause-refused
 returns-in-Err-TooLong-clause-refused g c t =
     let is : c.in-Err-TooLong.field-0 ≡ fault.TooLong = cc in
-    inr (long_definitions (kinds_of c.args.exits.now) (g.S.Source.left c.args.source.now part.Definitions) (c.in-Err-TooLong.ensures.too_long t (ap (λ x. Err x) is)))
+    inr (long_definitions (kinds_of c.args.exits.now) (g.S.Source.left c.args.source.now part.Definitions)
+    (c.in-Err-TooLong.ensures.too_long t (ap (λ x. Err x) is)))

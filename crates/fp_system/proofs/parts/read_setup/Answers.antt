@@ -16,4 +16,5 @@ returns-in_err-scripts-clause-refused g c t =
     let left = g.S.Source.left c.args.source.now in
     let aside = c.in_ok-defs.ensures.source.others t part.Scripts (λ (e : part.Scripts ≡ part.Definitions). cc) in
     let p = err_from_is_err_and c.from_residual-in_err-scripts.result c.from_residual-in_err-scripts.ensures.1 in
-    rw (p.1, p.2) (or_scripts (kinds_of c.args.exits.now) left c.in_ok-defs.defs _ _ (c.in_ok-defs.ensures.ok t) aside (c.in_err-scripts.ensures.refused (c.in_ok-defs.ensures.source.stays_told t)))
+    rw (p.1, p.2) (or_scripts (kinds_of c.args.exits.now) left c.in_ok-defs.defs _ _ (c.in_ok-defs.ensures.ok t) aside
+    (c.in_err-scripts.ensures.refused (c.in_ok-defs.ensures.source.stays_told t)))

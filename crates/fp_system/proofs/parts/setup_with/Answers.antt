@@ -14,7 +14,8 @@ pub returns-clause-setup : goal.returns-clause-setup
 returns-clause-setup c =
     let defs : c.in_ok-copy.field-0 ≡ c.args.defs.text = grind rules in
     let scripts : c.in_ok-from_slice.field-0 ≡ c.args.scripts.text = grind rules in
-    let none : c.args.defs.dedbs ≡ [] = none_of c.args.defs.dedbs (same_text c.args.defs.regions (1 ∷ [])) c.requires.built in
+    let none : c.args.defs.dedbs ≡ [] = none_of c.args.defs.dedbs (same_text c.args.defs.regions (1 ∷ []))
+    c.requires.built in
     let long : length c.args.defs.text < 2 ^ 32 = search rules in
     let short : length c.args.scripts.text < 2 ^ 32 = search rules in
     record {

@@ -26,5 +26,6 @@ returns c =
           ∙ ap trimmed (sym (take-last t n (omega arith) (omega arith)))
           ∙ c.loop-end.invariant.1
       | else-loop-end-test w ↦
-          (let none : n ≡ 0 = omega arith in subst (λ (m : ℕ). take m t ≡ trimmed (take m t)) (sym none) refl) ∙ c.loop-end.invariant.1
+          (let none : n ≡ 0 = omega arith in subst (λ (m : ℕ). take m t ≡ trimmed (take m t)) (sym none) refl) ∙
+          c.loop-end.invariant.1
     ]

@@ -7,5 +7,6 @@ use Rattle.fp_texts.proofs.names.is_name.Goals as goal
 
 pub returns-then-is_letter : goal.returns-then-is_letter
 returns-then-is_letter c =
-    let all = all_from_yields_List is_letter_or_digit _ _ c.all.result c.all.ensures.ran (YieldsList-from_slice c.args.text.now cc) (λ x b q k. search (rules, tests)) in
+    let all = all_from_yields_List is_letter_or_digit _ _ c.all.result c.all.ensures.ran
+    (YieldsList-from_slice c.args.text.now cc) (λ x b q k. search (rules, tests)) in
     grind (arith, nat_tests)

@@ -5,4 +5,5 @@ use Rattle.log_format.proofs.Loop.{with_front}
 use Rattle.log_format.proofs.takes.many_numbers_of.Given as goal
 
 abbrev pub invariant-loop : goal.invariant-loop
-invariant-loop l = with_front l.numbers (many_at (number_at w64) (l.count - l.counter) l.rest) ≡ many_at (number_at w64) l.count l.bytes
+invariant-loop l = with_front l.numbers (many_at (number_at w64) (l.count - l.counter) l.rest) ≡ many_at (number_at w64)
+    l.count l.bytes

@@ -6,4 +6,5 @@ use Rattle.log_format.proofs.takes.number_of.Goals as goal
 -- the number that they spell spells them
 pub returns-clause-text : goal.returns-clause-text
 unfolding be64
-returns-clause-text c = be_bytes_8 c.args.bytes.now c.from_be_bytes.result c.requires (λ i. omega (arith, c.type_inv.bytes i)) (search rules)
+returns-clause-text c = be_bytes_8 c.args.bytes.now c.from_be_bytes.result c.requires
+    (λ i. omega (arith, c.type_inv.bytes i)) (search rules)

@@ -14,5 +14,7 @@ returns-in_err-reserve-clause-sure c room =
 pub returns-clause-ok : goal.returns-clause-ok
 returns-clause-ok c =
     let rest = c.rest_length-rest.ensures.value ∙ sym (length_of_rest c.args.e.now) in
-    c.write_rest.ensures.items ∙ ap (λ l. l ++ rest_text c.args.e.now) (c.write_u64.ensures.items ∙ ap (λ l. l ++ be64 c.rest_length-rest.result) c.reserve.ensures.items ∙ ap (λ n. c.args.into.now.items ++ be64 n) rest)
+    c.write_rest.ensures.items ∙ ap (λ l. l ++ rest_text c.args.e.now)
+    (c.write_u64.ensures.items ∙ ap (λ l. l ++ be64 c.rest_length-rest.result) c.reserve.ensures.items ∙ ap
+    (λ n. c.args.into.now.items ++ be64 n) rest)
     ∙ append_assoc c.args.into.now.items (be64 (length (rest_text c.args.e.now))) (rest_text c.args.e.now)

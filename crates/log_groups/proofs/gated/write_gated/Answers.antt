@@ -15,28 +15,32 @@ returns-in_err-write_at-clause-crash g c t durable stands =
     let t1 = c.write_at.ensures.told t in
     let law = g.met.S.Site.lawful c.args.site.now t in
     let law1 = g.met.S.Site.lawful c.write_at.new.self t1 in
-    wrote1 c.args.gate c.args.bytes.now _ _ law law1 (c.write_at.ensures.leaves t) (c.write_at.ensures.crash t) durable stands
+    wrote1 c.args.gate c.args.bytes.now _ _ law law1 (c.write_at.ensures.leaves t) (c.write_at.ensures.crash t) durable
+    stands
 
 pub returns-in_err-write_at-clause-settles : goal.returns-in_err-write_at-clause-settles
 returns-in_err-write_at-clause-settles g c image t durable stands settles =
     let t1 = c.write_at.ensures.told t in
     let law = g.met.S.Site.lawful c.args.site.now t in
     let law1 = g.met.S.Site.lawful c.write_at.new.self t1 in
-    settled1 c.args.gate c.args.bytes.now _ _ law law1 (c.write_at.ensures.leaves t) (c.write_at.ensures.crash t) durable stands image settles
+    settled1 c.args.gate c.args.bytes.now _ _ law law1 (c.write_at.ensures.leaves t) (c.write_at.ensures.crash t)
+    durable stands image settles
 
 pub returns-in_err-sync-clause-only : goal.returns-in_err-sync-clause-only
 returns-in_err-sync-clause-only g c t =
     let t1 = c.write_at.ensures.told t in
     let law = g.met.S.Site.lawful c.args.site.now t in
     let law1 = g.met.S.Site.lawful c.write_at.new.self t1 in
-    only2 c.args.gate c.args.bytes.now _ _ law law1 (c.write_at.ensures.leaves t) (c.write_at.ensures.crash t) _ (c.sync.ensures.leaves t1) (c.sync.ensures.crash t1)
+    only2 c.args.gate c.args.bytes.now _ _ law law1 (c.write_at.ensures.leaves t) (c.write_at.ensures.crash t) _
+    (c.sync.ensures.leaves t1) (c.sync.ensures.crash t1)
 
 pub returns-in_err-sync-clause-crash : goal.returns-in_err-sync-clause-crash
 returns-in_err-sync-clause-crash g c t durable stands =
     let t1 = c.write_at.ensures.told t in
     let law = g.met.S.Site.lawful c.args.site.now t in
     let law1 = g.met.S.Site.lawful c.write_at.new.self t1 in
-    synced1 c.args.gate c.args.bytes.now _ _ law law1 (c.write_at.ensures.leaves t) (c.write_at.ensures.crash t) _ (c.sync.ensures.leaves t1) (c.sync.ensures.crash t1) durable stands
+    synced1 c.args.gate c.args.bytes.now _ _ law law1 (c.write_at.ensures.leaves t) (c.write_at.ensures.crash t) _
+    (c.sync.ensures.leaves t1) (c.sync.ensures.crash t1) durable stands
 
 pub returns-in_err-sync-clause-settles : goal.returns-in_err-sync-clause-settles
 returns-in_err-sync-clause-settles g c image t durable stands settles =
@@ -44,7 +48,8 @@ returns-in_err-sync-clause-settles g c image t durable stands settles =
     let law = g.met.S.Site.lawful c.args.site.now t in
     let law1 = g.met.S.Site.lawful c.write_at.new.self t1 in
     let law2 = g.met.S.Site.lawful c.sync.new.self (c.sync.ensures.told t1) in
-    settled2 c.args.gate c.args.bytes.now _ _ law law1 (c.write_at.ensures.leaves t) (c.write_at.ensures.crash t) _ (c.sync.ensures.leaves t1) (c.sync.ensures.crash t1) law2 durable stands image settles
+    settled2 c.args.gate c.args.bytes.now _ _ law law1 (c.write_at.ensures.leaves t) (c.write_at.ensures.crash t) _
+    (c.sync.ensures.leaves t1) (c.sync.ensures.crash t1) law2 durable stands image settles
 
 pub returns-in_err-write_at-2-clause-only : goal.returns-in_err-write_at-2-clause-only
 returns-in_err-write_at-2-clause-only g c t =
@@ -56,7 +61,9 @@ returns-in_err-write_at-2-clause-only g c t =
     let is = c.sync.ensures.same t1 ∙ c.in_ok-write_at.ensures.wrote t in
     let t3 = c.write_at-2.ensures.told t2 in
     let law3 = g.met.S.Site.lawful c.write_at-2.new.self t3 in
-    only3 c.args.gate c.args.bytes.now _ _ law law1 (c.write_at.ensures.leaves t) (c.write_at.ensures.crash t) _ (c.sync.ensures.leaves t1) (c.sync.ensures.crash t1) _ law2 law3 (c.in_ok-sync.ensures.durable t1) is (c.write_at-2.ensures.leaves t2) (c.write_at-2.ensures.crash t2)
+    only3 c.args.gate c.args.bytes.now _ _ law law1 (c.write_at.ensures.leaves t) (c.write_at.ensures.crash t) _
+    (c.sync.ensures.leaves t1) (c.sync.ensures.crash t1) _ law2 law3 (c.in_ok-sync.ensures.durable t1) is
+    (c.write_at-2.ensures.leaves t2) (c.write_at-2.ensures.crash t2)
 
 pub returns-in_err-write_at-2-clause-crash : goal.returns-in_err-write_at-2-clause-crash
 returns-in_err-write_at-2-clause-crash g c t durable stands =
@@ -68,7 +75,9 @@ returns-in_err-write_at-2-clause-crash g c t durable stands =
     let is = c.sync.ensures.same t1 ∙ c.in_ok-write_at.ensures.wrote t in
     let t3 = c.write_at-2.ensures.told t2 in
     let law3 = g.met.S.Site.lawful c.write_at-2.new.self t3 in
-    wrote2 c.args.gate c.args.bytes.now _ _ law law1 (c.write_at.ensures.leaves t) (c.write_at.ensures.crash t) _ (c.sync.ensures.leaves t1) (c.sync.ensures.crash t1) _ law2 law3 (c.in_ok-sync.ensures.durable t1) is (c.write_at-2.ensures.leaves t2) (c.write_at-2.ensures.crash t2) durable stands
+    wrote2 c.args.gate c.args.bytes.now _ _ law law1 (c.write_at.ensures.leaves t) (c.write_at.ensures.crash t) _
+    (c.sync.ensures.leaves t1) (c.sync.ensures.crash t1) _ law2 law3 (c.in_ok-sync.ensures.durable t1) is
+    (c.write_at-2.ensures.leaves t2) (c.write_at-2.ensures.crash t2) durable stands
 
 pub returns-in_err-write_at-2-clause-settles : goal.returns-in_err-write_at-2-clause-settles
 returns-in_err-write_at-2-clause-settles g c image t durable stands settles =
@@ -80,7 +89,9 @@ returns-in_err-write_at-2-clause-settles g c image t durable stands settles =
     let is = c.sync.ensures.same t1 ∙ c.in_ok-write_at.ensures.wrote t in
     let t3 = c.write_at-2.ensures.told t2 in
     let law3 = g.met.S.Site.lawful c.write_at-2.new.self t3 in
-    settled3 c.args.gate c.args.bytes.now _ _ law law1 (c.write_at.ensures.leaves t) (c.write_at.ensures.crash t) _ (c.sync.ensures.leaves t1) (c.sync.ensures.crash t1) _ law2 law3 (c.in_ok-sync.ensures.durable t1) is (c.write_at-2.ensures.leaves t2) (c.write_at-2.ensures.crash t2) durable stands image settles
+    settled3 c.args.gate c.args.bytes.now _ _ law law1 (c.write_at.ensures.leaves t) (c.write_at.ensures.crash t) _
+    (c.sync.ensures.leaves t1) (c.sync.ensures.crash t1) _ law2 law3 (c.in_ok-sync.ensures.durable t1) is
+    (c.write_at-2.ensures.leaves t2) (c.write_at-2.ensures.crash t2) durable stands image settles
 
 pub returns-in_err-sync-2-clause-only : goal.returns-in_err-sync-2-clause-only
 returns-in_err-sync-2-clause-only g c t =
@@ -92,7 +103,10 @@ returns-in_err-sync-2-clause-only g c t =
     let is = c.sync.ensures.same t1 ∙ c.in_ok-write_at.ensures.wrote t in
     let t3 = c.write_at-2.ensures.told t2 in
     let law3 = g.met.S.Site.lawful c.write_at-2.new.self t3 in
-    only4 c.args.gate c.args.bytes.now _ _ law law1 (c.write_at.ensures.leaves t) (c.write_at.ensures.crash t) _ (c.sync.ensures.leaves t1) (c.sync.ensures.crash t1) _ law2 law3 (c.in_ok-sync.ensures.durable t1) is (c.write_at-2.ensures.leaves t2) (c.write_at-2.ensures.crash t2) _ (c.sync-2.ensures.leaves t3) (c.sync-2.ensures.crash t3)
+    only4 c.args.gate c.args.bytes.now _ _ law law1 (c.write_at.ensures.leaves t) (c.write_at.ensures.crash t) _
+    (c.sync.ensures.leaves t1) (c.sync.ensures.crash t1) _ law2 law3 (c.in_ok-sync.ensures.durable t1) is
+    (c.write_at-2.ensures.leaves t2) (c.write_at-2.ensures.crash t2) _ (c.sync-2.ensures.leaves t3)
+    (c.sync-2.ensures.crash t3)
 
 pub returns-in_err-sync-2-clause-crash : goal.returns-in_err-sync-2-clause-crash
 returns-in_err-sync-2-clause-crash g c t durable stands =
@@ -104,7 +118,10 @@ returns-in_err-sync-2-clause-crash g c t durable stands =
     let is = c.sync.ensures.same t1 ∙ c.in_ok-write_at.ensures.wrote t in
     let t3 = c.write_at-2.ensures.told t2 in
     let law3 = g.met.S.Site.lawful c.write_at-2.new.self t3 in
-    synced2 c.args.gate c.args.bytes.now _ _ law law1 (c.write_at.ensures.leaves t) (c.write_at.ensures.crash t) _ (c.sync.ensures.leaves t1) (c.sync.ensures.crash t1) _ law2 law3 (c.in_ok-sync.ensures.durable t1) is (c.write_at-2.ensures.leaves t2) (c.write_at-2.ensures.crash t2) _ (c.sync-2.ensures.leaves t3) (c.sync-2.ensures.crash t3) durable stands
+    synced2 c.args.gate c.args.bytes.now _ _ law law1 (c.write_at.ensures.leaves t) (c.write_at.ensures.crash t) _
+    (c.sync.ensures.leaves t1) (c.sync.ensures.crash t1) _ law2 law3 (c.in_ok-sync.ensures.durable t1) is
+    (c.write_at-2.ensures.leaves t2) (c.write_at-2.ensures.crash t2) _ (c.sync-2.ensures.leaves t3)
+    (c.sync-2.ensures.crash t3) durable stands
 
 pub returns-in_err-sync-2-clause-settles : goal.returns-in_err-sync-2-clause-settles
 returns-in_err-sync-2-clause-settles g c image t durable stands settles =
@@ -117,7 +134,10 @@ returns-in_err-sync-2-clause-settles g c image t durable stands settles =
     let t3 = c.write_at-2.ensures.told t2 in
     let law3 = g.met.S.Site.lawful c.write_at-2.new.self t3 in
     let law4 = g.met.S.Site.lawful c.sync-2.new.self (c.sync-2.ensures.told t3) in
-    settled4 c.args.gate c.args.bytes.now _ _ law law1 (c.write_at.ensures.leaves t) (c.write_at.ensures.crash t) _ (c.sync.ensures.leaves t1) (c.sync.ensures.crash t1) _ law2 law3 (c.in_ok-sync.ensures.durable t1) is (c.write_at-2.ensures.leaves t2) (c.write_at-2.ensures.crash t2) _ (c.sync-2.ensures.leaves t3) (c.sync-2.ensures.crash t3) law4 durable stands image settles
+    settled4 c.args.gate c.args.bytes.now _ _ law law1 (c.write_at.ensures.leaves t) (c.write_at.ensures.crash t) _
+    (c.sync.ensures.leaves t1) (c.sync.ensures.crash t1) _ law2 law3 (c.in_ok-sync.ensures.durable t1) is
+    (c.write_at-2.ensures.leaves t2) (c.write_at-2.ensures.crash t2) _ (c.sync-2.ensures.leaves t3)
+    (c.sync-2.ensures.crash t3) law4 durable stands image settles
 
 pub returns-clause-only : goal.returns-clause-only
 returns-clause-only g c t =
@@ -129,7 +149,10 @@ returns-clause-only g c t =
     let is = c.sync.ensures.same t1 ∙ c.in_ok-write_at.ensures.wrote t in
     let t3 = c.write_at-2.ensures.told t2 in
     let law3 = g.met.S.Site.lawful c.write_at-2.new.self t3 in
-    only4 c.args.gate c.args.bytes.now _ _ law law1 (c.write_at.ensures.leaves t) (c.write_at.ensures.crash t) _ (c.sync.ensures.leaves t1) (c.sync.ensures.crash t1) _ law2 law3 (c.in_ok-sync.ensures.durable t1) is (c.write_at-2.ensures.leaves t2) (c.write_at-2.ensures.crash t2) _ (c.sync-2.ensures.leaves t3) (c.sync-2.ensures.crash t3)
+    only4 c.args.gate c.args.bytes.now _ _ law law1 (c.write_at.ensures.leaves t) (c.write_at.ensures.crash t) _
+    (c.sync.ensures.leaves t1) (c.sync.ensures.crash t1) _ law2 law3 (c.in_ok-sync.ensures.durable t1) is
+    (c.write_at-2.ensures.leaves t2) (c.write_at-2.ensures.crash t2) _ (c.sync-2.ensures.leaves t3)
+    (c.sync-2.ensures.crash t3)
 
 pub returns-clause-crash : goal.returns-clause-crash
 returns-clause-crash g c t durable stands =
@@ -141,7 +164,10 @@ returns-clause-crash g c t durable stands =
     let is = c.sync.ensures.same t1 ∙ c.in_ok-write_at.ensures.wrote t in
     let t3 = c.write_at-2.ensures.told t2 in
     let law3 = g.met.S.Site.lawful c.write_at-2.new.self t3 in
-    synced2 c.args.gate c.args.bytes.now _ _ law law1 (c.write_at.ensures.leaves t) (c.write_at.ensures.crash t) _ (c.sync.ensures.leaves t1) (c.sync.ensures.crash t1) _ law2 law3 (c.in_ok-sync.ensures.durable t1) is (c.write_at-2.ensures.leaves t2) (c.write_at-2.ensures.crash t2) _ (c.sync-2.ensures.leaves t3) (c.sync-2.ensures.crash t3) durable stands
+    synced2 c.args.gate c.args.bytes.now _ _ law law1 (c.write_at.ensures.leaves t) (c.write_at.ensures.crash t) _
+    (c.sync.ensures.leaves t1) (c.sync.ensures.crash t1) _ law2 law3 (c.in_ok-sync.ensures.durable t1) is
+    (c.write_at-2.ensures.leaves t2) (c.write_at-2.ensures.crash t2) _ (c.sync-2.ensures.leaves t3)
+    (c.sync-2.ensures.crash t3) durable stands
 
 pub returns-clause-settles : goal.returns-clause-settles
 returns-clause-settles g c image t durable stands settles =
@@ -154,7 +180,10 @@ returns-clause-settles g c image t durable stands settles =
     let t3 = c.write_at-2.ensures.told t2 in
     let law3 = g.met.S.Site.lawful c.write_at-2.new.self t3 in
     let law4 = g.met.S.Site.lawful c.sync-2.new.self (c.sync-2.ensures.told t3) in
-    settled4 c.args.gate c.args.bytes.now _ _ law law1 (c.write_at.ensures.leaves t) (c.write_at.ensures.crash t) _ (c.sync.ensures.leaves t1) (c.sync.ensures.crash t1) _ law2 law3 (c.in_ok-sync.ensures.durable t1) is (c.write_at-2.ensures.leaves t2) (c.write_at-2.ensures.crash t2) _ (c.sync-2.ensures.leaves t3) (c.sync-2.ensures.crash t3) law4 durable stands image settles
+    settled4 c.args.gate c.args.bytes.now _ _ law law1 (c.write_at.ensures.leaves t) (c.write_at.ensures.crash t) _
+    (c.sync.ensures.leaves t1) (c.sync.ensures.crash t1) _ law2 law3 (c.in_ok-sync.ensures.durable t1) is
+    (c.write_at-2.ensures.leaves t2) (c.write_at-2.ensures.crash t2) _ (c.sync-2.ensures.leaves t3)
+    (c.sync-2.ensures.crash t3) law4 durable stands image settles
 
 pub returns-clause-opened : goal.returns-clause-opened
 returns-clause-opened g c t durable stands =
@@ -162,5 +191,7 @@ returns-clause-opened g c t durable stands =
     let t2 = c.sync.ensures.told t1 in
     let t3 = c.write_at-2.ensures.told t2 in
     let is = c.sync.ensures.same t1 ∙ c.in_ok-write_at.ensures.wrote t in
-    let is4 = c.sync-2.ensures.same t3 ∙ c.in_ok-write_at-2.ensures.wrote t2 ∙ ap (λ l. written l c.args.gate (1 ∷ [])) is in
-    opened ((g.S.Site.disk c.args.site.now).contents 0) c.args.gate c.args.bytes.now stands _ (c.in_ok-sync-2.ensures.durable t3) is4
+    let is4 = c.sync-2.ensures.same t3 ∙ c.in_ok-write_at-2.ensures.wrote t2 ∙ ap (λ l. written l c.args.gate (1 ∷ []))
+    is in
+    opened ((g.S.Site.disk c.args.site.now).contents 0) c.args.gate c.args.bytes.now stands _
+    (c.in_ok-sync-2.ensures.durable t3) is4

@@ -12,7 +12,8 @@ returns-then-size-lt9-clause-none g c t one =
     let size = c.in_ok-size.ensures.value t in
     elim c.then-size-lt9.branch [
       | then-size-lt9-via-then-size-lt9 w ↦ cut_short bytes c.args.at one (omega (arith, size, w.if-size-lt9.true))
-      | then-size-lt9-via-else-size-lt9+then-at-size w ↦ cut_short bytes c.args.at one (omega (arith, size, w.if-size-lt9.false, w.if-at-size.true))
+      | then-size-lt9-via-else-size-lt9+then-at-size w ↦
+          cut_short bytes c.args.at one (omega (arith, size, w.if-size-lt9.false, w.if-at-size.true))
     ]
 
 -- it is 0, or passes the end
@@ -21,11 +22,16 @@ returns-then-len-eq0-clause-none g c t one =
     let bytes = (g.S.Site.disk c.args.site.now).contents 0 in
     let size = c.in_ok-size.ensures.value t in
     let bound = c.in_ok-size.ensures.bound in
-    let read = c.number_of-len.ensures.text ∙ c.in_ok-read_at.ensures.value (c.size.ensures.told t) ∙ ap (λ f. read_range (f 0) (c.args.at + 1) 8) (c.size.ensures.stays t).contents in
-    let text = length_read bytes c.args.at c.number_of-len.result (omega (arith, size, c.if-size-lt9.false, c.if-at-size.false)) read in
+    let read = c.number_of-len.ensures.text ∙ c.in_ok-read_at.ensures.value (c.size.ensures.told t) ∙ ap
+    (λ f. read_range (f 0) (c.args.at + 1) 8) (c.size.ensures.stays t).contents in
+    let text = length_read bytes c.args.at c.number_of-len.result
+    (omega (arith, size, c.if-size-lt9.false, c.if-at-size.false)) read in
     elim c.then-len-eq0.branch [
-      | then-len-eq0-via-then-len-eq0 w ↦ no_length_is_damage bytes c.args.at c.number_of-len.result one text w.if-len-eq0.true
-      | then-len-eq0-via-else-len-eq0+then-len-size w ↦ past_end_is_damage bytes c.args.at c.number_of-len.result one text c.number_of-len.type_inv (omega (arith, size, c.if-size-lt9.false, c.if-at-size.false, w.if-len-size.true))
+      | then-len-eq0-via-then-len-eq0 w ↦ no_length_is_damage bytes c.args.at c.number_of-len.result one text
+          w.if-len-eq0.true
+      | then-len-eq0-via-else-len-eq0+then-len-size w ↦
+          past_end_is_damage bytes c.args.at c.number_of-len.result one text c.number_of-len.type_inv
+          (omega (arith, size, c.if-size-lt9.false, c.if-at-size.false, w.if-len-size.true))
     ]
 
 pub returns-clause-found : goal.returns-clause-found
@@ -33,10 +39,12 @@ returns-clause-found g c t =
     let bytes = (g.S.Site.disk c.args.site.now).contents 0 in
     let size = c.in_ok-size.ensures.value t in
     let bound = c.in_ok-size.ensures.bound in
-    let read = c.number_of-len.ensures.text ∙ c.in_ok-read_at.ensures.value (c.size.ensures.told t) ∙ ap (λ f. read_range (f 0) (c.args.at + 1) 8) (c.size.ensures.stays t).contents in
+    let read = c.number_of-len.ensures.text ∙ c.in_ok-read_at.ensures.value (c.size.ensures.told t) ∙ ap
+    (λ f. read_range (f 0) (c.args.at + 1) 8) (c.size.ensures.stays t).contents in
     record {
       some = omega (arith, c.if-len-eq0.false);
       small = omega (arith, bound, c.if-size-lt9.false, c.if-at-size.false, c.if-len-size.false);
-      text = length_read bytes c.args.at c.number_of-len.result (omega (arith, size, c.if-size-lt9.false, c.if-at-size.false)) read;
+      text = length_read bytes c.args.at c.number_of-len.result
+          (omega (arith, size, c.if-size-lt9.false, c.if-at-size.false)) read;
       inside = omega (arith, size, c.if-size-lt9.false, c.if-at-size.false, c.if-len-size.false);
     }

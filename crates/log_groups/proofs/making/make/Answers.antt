@@ -11,7 +11,8 @@ use Rattle.log_groups.proofs.making.make.Goals as goal
 pub write_gated-requires : goal.write_gated-requires
 write_gated-requires g c =
     let front = as_front c.args.front.now in
-    let is : c.as_slice.result.now ≡ front_rest front ++ 0 ∷ [] = c.as_slice.ensures ∙ c.in_ok-push.ensures.ok ∙ ap (λ l. l ++ 0 ∷ []) c.in_ok-bytes.ensures in
+    let is : c.as_slice.result.now ≡ front_rest front ++ 0 ∷ [] =
+    c.as_slice.ensures ∙ c.in_ok-push.ensures.ok ∙ ap (λ l. l ++ 0 ∷ []) c.in_ok-bytes.ensures in
     let fits = c.requires in
     let long = length-append (front_rest front) (0 ∷ []) in
     record { room = omega (arith, ap length is, long, length-front front, fits.defs_fit, fits.scripts_fit) }
@@ -19,7 +20,8 @@ write_gated-requires g c =
 pub returns-in_err-write_gated-clause-only : goal.returns-in_err-write_gated-clause-only
 returns-in_err-write_gated-clause-only g c t =
     let t1 = c.shut.ensures.told t in
-    only_joined 0 _ _ _ (g.met.S.Site.lawful c.args.site.now t) (g.met.S.Site.lawful c.shut.new.site t1) (c.shut.ensures.only t) (c.write_gated.ensures.only t1)
+    only_joined 0 _ _ _ (g.met.S.Site.lawful c.args.site.now t) (g.met.S.Site.lawful c.shut.new.site t1)
+    (c.shut.ensures.only t) (c.write_gated.ensures.only t1)
 
 pub returns-in_err-write_gated-clause-crash : goal.returns-in_err-write_gated-clause-crash
 returns-in_err-write_gated-clause-crash g c t =
@@ -31,8 +33,11 @@ returns-in_err-write_gated-clause-crash g c t =
     let h = g.S.Site.disk c.args.site.now in
     let a = g.S.Site.disk c.shut.new.site in
     let b = g.S.Site.disk c.write_gated.new.site in
-    let is : c.as_slice.result.now ≡ front_rest front ++ 0 ∷ [] = c.as_slice.ensures ∙ c.in_ok-push.ensures.ok ∙ ap (λ l. l ++ 0 ∷ []) c.in_ok-bytes.ensures in
-    once_made front h a b law law1 (c.shut.ensures.crash t) shut (subst (λ l. Through a b (IsGated (a.contents 0) 0 l)) is (c.write_gated.ensures.crash t1 shut.durable shut.gate.some))
+    let is : c.as_slice.result.now ≡ front_rest front ++ 0 ∷ [] =
+    c.as_slice.ensures ∙ c.in_ok-push.ensures.ok ∙ ap (λ l. l ++ 0 ∷ []) c.in_ok-bytes.ensures in
+    once_made front h a b law law1 (c.shut.ensures.crash t) shut
+    (subst (λ l. Through a b (IsGated (a.contents 0) 0 l)) is
+    (c.write_gated.ensures.crash t1 shut.durable shut.gate.some))
 
 pub returns-in_err-write_gated-clause-settles : goal.returns-in_err-write_gated-clause-settles
 returns-in_err-write_gated-clause-settles g c image t settles =
@@ -40,14 +45,17 @@ returns-in_err-write_gated-clause-settles g c image t settles =
     let shut = c.in_ok-shut.ensures.shut t in
     let front = as_front c.args.front.now in
     let a = g.S.Site.disk c.shut.new.site in
-    let is : c.as_slice.result.now ≡ front_rest front ++ 0 ∷ [] = c.as_slice.ensures ∙ c.in_ok-push.ensures.ok ∙ ap (λ l. l ++ 0 ∷ []) c.in_ok-bytes.ensures in
+    let is : c.as_slice.result.now ≡ front_rest front ++ 0 ∷ [] =
+    c.as_slice.ensures ∙ c.in_ok-push.ensures.ok ∙ ap (λ l. l ++ 0 ∷ []) c.in_ok-bytes.ensures in
     made_image (g.S.Site.disk c.args.site.now) front (a.contents 0) image shut.gate
-    (subst (λ l. IsGatedImage (a.contents 0) 0 l image) is (c.write_gated.ensures.settles image t1 shut.durable shut.gate.some settles))
+    (subst (λ l. IsGatedImage (a.contents 0) 0 l image) is
+    (c.write_gated.ensures.settles image t1 shut.durable shut.gate.some settles))
 
 pub returns-clause-only : goal.returns-clause-only
 returns-clause-only g c t =
     let t1 = c.shut.ensures.told t in
-    only_joined 0 _ _ _ (g.met.S.Site.lawful c.args.site.now t) (g.met.S.Site.lawful c.shut.new.site t1) (c.shut.ensures.only t) (c.write_gated.ensures.only t1)
+    only_joined 0 _ _ _ (g.met.S.Site.lawful c.args.site.now t) (g.met.S.Site.lawful c.shut.new.site t1)
+    (c.shut.ensures.only t) (c.write_gated.ensures.only t1)
 
 pub returns-clause-crash : goal.returns-clause-crash
 returns-clause-crash g c t =
@@ -59,8 +67,11 @@ returns-clause-crash g c t =
     let h = g.S.Site.disk c.args.site.now in
     let a = g.S.Site.disk c.shut.new.site in
     let b = g.S.Site.disk c.write_gated.new.site in
-    let is : c.as_slice.result.now ≡ front_rest front ++ 0 ∷ [] = c.as_slice.ensures ∙ c.in_ok-push.ensures.ok ∙ ap (λ l. l ++ 0 ∷ []) c.in_ok-bytes.ensures in
-    once_made front h a b law law1 (c.shut.ensures.crash t) shut (subst (λ l. Through a b (IsGated (a.contents 0) 0 l)) is (c.write_gated.ensures.crash t1 shut.durable shut.gate.some))
+    let is : c.as_slice.result.now ≡ front_rest front ++ 0 ∷ [] =
+    c.as_slice.ensures ∙ c.in_ok-push.ensures.ok ∙ ap (λ l. l ++ 0 ∷ []) c.in_ok-bytes.ensures in
+    once_made front h a b law law1 (c.shut.ensures.crash t) shut
+    (subst (λ l. Through a b (IsGated (a.contents 0) 0 l)) is
+    (c.write_gated.ensures.crash t1 shut.durable shut.gate.some))
 
 pub returns-clause-settles : goal.returns-clause-settles
 returns-clause-settles g c image t settles =
@@ -68,9 +79,11 @@ returns-clause-settles g c image t settles =
     let shut = c.in_ok-shut.ensures.shut t in
     let front = as_front c.args.front.now in
     let a = g.S.Site.disk c.shut.new.site in
-    let is : c.as_slice.result.now ≡ front_rest front ++ 0 ∷ [] = c.as_slice.ensures ∙ c.in_ok-push.ensures.ok ∙ ap (λ l. l ++ 0 ∷ []) c.in_ok-bytes.ensures in
+    let is : c.as_slice.result.now ≡ front_rest front ++ 0 ∷ [] =
+    c.as_slice.ensures ∙ c.in_ok-push.ensures.ok ∙ ap (λ l. l ++ 0 ∷ []) c.in_ok-bytes.ensures in
     made_image (g.S.Site.disk c.args.site.now) front (a.contents 0) image shut.gate
-    (subst (λ l. IsGatedImage (a.contents 0) 0 l image) is (c.write_gated.ensures.settles image t1 shut.durable shut.gate.some settles))
+    (subst (λ l. IsGatedImage (a.contents 0) 0 l image) is
+    (c.write_gated.ensures.settles image t1 shut.durable shut.gate.some settles))
 
 pub returns-clause-made : goal.returns-clause-made
 returns-clause-made g c t =
@@ -82,5 +95,7 @@ returns-clause-made g c t =
     let h = g.S.Site.disk c.args.site.now in
     let a = g.S.Site.disk c.shut.new.site in
     let b = g.S.Site.disk c.write_gated.new.site in
-    let is : c.as_slice.result.now ≡ front_rest front ++ 0 ∷ [] = c.as_slice.ensures ∙ c.in_ok-push.ensures.ok ∙ ap (λ l. l ++ 0 ∷ []) c.in_ok-bytes.ensures in
-    made_log front (a.contents 0) b (subst (λ l. IsOpened (a.contents 0) 0 l b) is (c.in_ok-write_gated.ensures.opened t1 shut.durable shut.gate.some))
+    let is : c.as_slice.result.now ≡ front_rest front ++ 0 ∷ [] =
+    c.as_slice.ensures ∙ c.in_ok-push.ensures.ok ∙ ap (λ l. l ++ 0 ∷ []) c.in_ok-bytes.ensures in
+    made_log front (a.contents 0) b (subst (λ l. IsOpened (a.contents 0) 0 l b) is
+    (c.in_ok-write_gated.ensures.opened t1 shut.durable shut.gate.some))

@@ -38,7 +38,8 @@ returns-in_err-is_shut-clause-crash g c t =
     let law1 = g.met.S.Site.lawful c.sync.new.self t1 in
     let t2 = c.is_shut.ensures.told t1 in
     let law2 = g.met.S.Site.lawful c.is_shut.new.site t2 in
-    looked _ _ law law1 (c.sync.ensures.leaves t) (c.sync.ensures.crash t) _ law2 (c.is_shut.ensures.stays t1) (c.in_ok-sync.ensures.durable t) (c.sync.ensures.same t)
+    looked _ _ law law1 (c.sync.ensures.leaves t) (c.sync.ensures.crash t) _ law2 (c.is_shut.ensures.stays t1)
+    (c.in_ok-sync.ensures.durable t) (c.sync.ensures.same t)
 
 pub returns-in_err-is_shut-clause-settles : goal.returns-in_err-is_shut-clause-settles
 returns-in_err-is_shut-clause-settles g c image t settles =
@@ -47,7 +48,8 @@ returns-in_err-is_shut-clause-settles g c image t settles =
     let law1 = g.met.S.Site.lawful c.sync.new.self t1 in
     let t2 = c.is_shut.ensures.told t1 in
     let law2 = g.met.S.Site.lawful c.is_shut.new.site t2 in
-    settled2 _ _ law law1 (c.sync.ensures.leaves t) (c.sync.ensures.crash t) _ law2 (c.is_shut.ensures.stays t1) image settles
+    settled2 _ _ law law1 (c.sync.ensures.leaves t) (c.sync.ensures.crash t) _ law2 (c.is_shut.ensures.stays t1) image
+    settles
 
 pub returns-then-branch-clause-only : goal.returns-then-branch-clause-only
 returns-then-branch-clause-only g c t =
@@ -65,7 +67,8 @@ returns-then-branch-clause-crash g c t =
     let law1 = g.met.S.Site.lawful c.sync.new.self t1 in
     let t2 = c.is_shut.ensures.told t1 in
     let law2 = g.met.S.Site.lawful c.is_shut.new.site t2 in
-    looked _ _ law law1 (c.sync.ensures.leaves t) (c.sync.ensures.crash t) _ law2 (c.is_shut.ensures.stays t1) (c.in_ok-sync.ensures.durable t) (c.sync.ensures.same t)
+    looked _ _ law law1 (c.sync.ensures.leaves t) (c.sync.ensures.crash t) _ law2 (c.is_shut.ensures.stays t1)
+    (c.in_ok-sync.ensures.durable t) (c.sync.ensures.same t)
 
 pub returns-then-branch-clause-settles : goal.returns-then-branch-clause-settles
 returns-then-branch-clause-settles g c image t settles =
@@ -74,7 +77,8 @@ returns-then-branch-clause-settles g c image t settles =
     let law1 = g.met.S.Site.lawful c.sync.new.self t1 in
     let t2 = c.is_shut.ensures.told t1 in
     let law2 = g.met.S.Site.lawful c.is_shut.new.site t2 in
-    settled2 _ _ law law1 (c.sync.ensures.leaves t) (c.sync.ensures.crash t) _ law2 (c.is_shut.ensures.stays t1) image settles
+    settled2 _ _ law law1 (c.sync.ensures.leaves t) (c.sync.ensures.crash t) _ law2 (c.is_shut.ensures.stays t1) image
+    settles
 
 pub returns-in_err-write_at-clause-only : goal.returns-in_err-write_at-clause-only
 returns-in_err-write_at-clause-only g c t =
@@ -86,7 +90,9 @@ returns-in_err-write_at-clause-only g c t =
     let t3 = c.write_at.ensures.told t2 in
     let law3 = g.met.S.Site.lawful c.write_at.new.self t3 in
     let gate = c.in_ok-is_shut.ensures.open t1 c.if-branch.false in
-    only3 _ _ law law1 (c.sync.ensures.leaves t) (c.sync.ensures.crash t) _ law2 (c.is_shut.ensures.stays t1) (c.in_ok-sync.ensures.durable t) (c.sync.ensures.same t) _ law3 gate (c.write_at.ensures.leaves t2) (c.write_at.ensures.crash t2)
+    only3 _ _ law law1 (c.sync.ensures.leaves t) (c.sync.ensures.crash t) _ law2 (c.is_shut.ensures.stays t1)
+    (c.in_ok-sync.ensures.durable t) (c.sync.ensures.same t) _ law3 gate (c.write_at.ensures.leaves t2)
+    (c.write_at.ensures.crash t2)
 
 pub returns-in_err-write_at-clause-crash : goal.returns-in_err-write_at-clause-crash
 returns-in_err-write_at-clause-crash g c t =
@@ -98,7 +104,9 @@ returns-in_err-write_at-clause-crash g c t =
     let t3 = c.write_at.ensures.told t2 in
     let law3 = g.met.S.Site.lawful c.write_at.new.self t3 in
     let gate = c.in_ok-is_shut.ensures.open t1 c.if-branch.false in
-    wrote _ _ law law1 (c.sync.ensures.leaves t) (c.sync.ensures.crash t) _ law2 (c.is_shut.ensures.stays t1) (c.in_ok-sync.ensures.durable t) (c.sync.ensures.same t) _ law3 gate (c.write_at.ensures.leaves t2) (c.write_at.ensures.crash t2)
+    wrote _ _ law law1 (c.sync.ensures.leaves t) (c.sync.ensures.crash t) _ law2 (c.is_shut.ensures.stays t1)
+    (c.in_ok-sync.ensures.durable t) (c.sync.ensures.same t) _ law3 gate (c.write_at.ensures.leaves t2)
+    (c.write_at.ensures.crash t2)
 
 pub returns-in_err-write_at-clause-settles : goal.returns-in_err-write_at-clause-settles
 returns-in_err-write_at-clause-settles g c image t settles =
@@ -110,7 +118,9 @@ returns-in_err-write_at-clause-settles g c image t settles =
     let t3 = c.write_at.ensures.told t2 in
     let law3 = g.met.S.Site.lawful c.write_at.new.self t3 in
     let gate = c.in_ok-is_shut.ensures.open t1 c.if-branch.false in
-    settled3 _ _ law law1 (c.sync.ensures.leaves t) (c.sync.ensures.crash t) _ law2 (c.is_shut.ensures.stays t1) (c.in_ok-sync.ensures.durable t) (c.sync.ensures.same t) _ law3 gate (c.write_at.ensures.leaves t2) (c.write_at.ensures.crash t2) image settles
+    settled3 _ _ law law1 (c.sync.ensures.leaves t) (c.sync.ensures.crash t) _ law2 (c.is_shut.ensures.stays t1)
+    (c.in_ok-sync.ensures.durable t) (c.sync.ensures.same t) _ law3 gate (c.write_at.ensures.leaves t2)
+    (c.write_at.ensures.crash t2) image settles
 
 pub returns-in_err-sync-2-clause-only : goal.returns-in_err-sync-2-clause-only
 returns-in_err-sync-2-clause-only g c t =
@@ -122,7 +132,9 @@ returns-in_err-sync-2-clause-only g c t =
     let t3 = c.write_at.ensures.told t2 in
     let law3 = g.met.S.Site.lawful c.write_at.new.self t3 in
     let gate = c.in_ok-is_shut.ensures.open t1 c.if-branch.false in
-    only4 _ _ law law1 (c.sync.ensures.leaves t) (c.sync.ensures.crash t) _ law2 (c.is_shut.ensures.stays t1) (c.in_ok-sync.ensures.durable t) (c.sync.ensures.same t) _ law3 gate (c.write_at.ensures.leaves t2) (c.write_at.ensures.crash t2) _ (c.sync-2.ensures.leaves t3) (c.sync-2.ensures.crash t3)
+    only4 _ _ law law1 (c.sync.ensures.leaves t) (c.sync.ensures.crash t) _ law2 (c.is_shut.ensures.stays t1)
+    (c.in_ok-sync.ensures.durable t) (c.sync.ensures.same t) _ law3 gate (c.write_at.ensures.leaves t2)
+    (c.write_at.ensures.crash t2) _ (c.sync-2.ensures.leaves t3) (c.sync-2.ensures.crash t3)
 
 pub returns-in_err-sync-2-clause-crash : goal.returns-in_err-sync-2-clause-crash
 returns-in_err-sync-2-clause-crash g c t =
@@ -134,7 +146,9 @@ returns-in_err-sync-2-clause-crash g c t =
     let t3 = c.write_at.ensures.told t2 in
     let law3 = g.met.S.Site.lawful c.write_at.new.self t3 in
     let gate = c.in_ok-is_shut.ensures.open t1 c.if-branch.false in
-    synced2 _ _ law law1 (c.sync.ensures.leaves t) (c.sync.ensures.crash t) _ law2 (c.is_shut.ensures.stays t1) (c.in_ok-sync.ensures.durable t) (c.sync.ensures.same t) _ law3 gate (c.write_at.ensures.leaves t2) (c.write_at.ensures.crash t2) _ (c.sync-2.ensures.leaves t3) (c.sync-2.ensures.crash t3)
+    synced2 _ _ law law1 (c.sync.ensures.leaves t) (c.sync.ensures.crash t) _ law2 (c.is_shut.ensures.stays t1)
+    (c.in_ok-sync.ensures.durable t) (c.sync.ensures.same t) _ law3 gate (c.write_at.ensures.leaves t2)
+    (c.write_at.ensures.crash t2) _ (c.sync-2.ensures.leaves t3) (c.sync-2.ensures.crash t3)
 
 pub returns-in_err-sync-2-clause-settles : goal.returns-in_err-sync-2-clause-settles
 returns-in_err-sync-2-clause-settles g c image t settles =
@@ -147,7 +161,9 @@ returns-in_err-sync-2-clause-settles g c image t settles =
     let law3 = g.met.S.Site.lawful c.write_at.new.self t3 in
     let gate = c.in_ok-is_shut.ensures.open t1 c.if-branch.false in
     let law4 = g.met.S.Site.lawful c.sync-2.new.self (c.sync-2.ensures.told t3) in
-    settled4 _ _ law law1 (c.sync.ensures.leaves t) (c.sync.ensures.crash t) _ law2 (c.is_shut.ensures.stays t1) (c.in_ok-sync.ensures.durable t) (c.sync.ensures.same t) _ law3 gate (c.write_at.ensures.leaves t2) (c.write_at.ensures.crash t2) _ (c.sync-2.ensures.leaves t3) (c.sync-2.ensures.crash t3) law4 image settles
+    settled4 _ _ law law1 (c.sync.ensures.leaves t) (c.sync.ensures.crash t) _ law2 (c.is_shut.ensures.stays t1)
+    (c.in_ok-sync.ensures.durable t) (c.sync.ensures.same t) _ law3 gate (c.write_at.ensures.leaves t2)
+    (c.write_at.ensures.crash t2) _ (c.sync-2.ensures.leaves t3) (c.sync-2.ensures.crash t3) law4 image settles
 
 pub returns-clause-only : goal.returns-clause-only
 returns-clause-only g c t =
@@ -159,7 +175,9 @@ returns-clause-only g c t =
     let t3 = c.write_at.ensures.told t2 in
     let law3 = g.met.S.Site.lawful c.write_at.new.self t3 in
     let gate = c.in_ok-is_shut.ensures.open t1 c.if-branch.false in
-    only4 _ _ law law1 (c.sync.ensures.leaves t) (c.sync.ensures.crash t) _ law2 (c.is_shut.ensures.stays t1) (c.in_ok-sync.ensures.durable t) (c.sync.ensures.same t) _ law3 gate (c.write_at.ensures.leaves t2) (c.write_at.ensures.crash t2) _ (c.sync-2.ensures.leaves t3) (c.sync-2.ensures.crash t3)
+    only4 _ _ law law1 (c.sync.ensures.leaves t) (c.sync.ensures.crash t) _ law2 (c.is_shut.ensures.stays t1)
+    (c.in_ok-sync.ensures.durable t) (c.sync.ensures.same t) _ law3 gate (c.write_at.ensures.leaves t2)
+    (c.write_at.ensures.crash t2) _ (c.sync-2.ensures.leaves t3) (c.sync-2.ensures.crash t3)
 
 pub returns-clause-crash : goal.returns-clause-crash
 returns-clause-crash g c t =
@@ -171,7 +189,9 @@ returns-clause-crash g c t =
     let t3 = c.write_at.ensures.told t2 in
     let law3 = g.met.S.Site.lawful c.write_at.new.self t3 in
     let gate = c.in_ok-is_shut.ensures.open t1 c.if-branch.false in
-    synced2 _ _ law law1 (c.sync.ensures.leaves t) (c.sync.ensures.crash t) _ law2 (c.is_shut.ensures.stays t1) (c.in_ok-sync.ensures.durable t) (c.sync.ensures.same t) _ law3 gate (c.write_at.ensures.leaves t2) (c.write_at.ensures.crash t2) _ (c.sync-2.ensures.leaves t3) (c.sync-2.ensures.crash t3)
+    synced2 _ _ law law1 (c.sync.ensures.leaves t) (c.sync.ensures.crash t) _ law2 (c.is_shut.ensures.stays t1)
+    (c.in_ok-sync.ensures.durable t) (c.sync.ensures.same t) _ law3 gate (c.write_at.ensures.leaves t2)
+    (c.write_at.ensures.crash t2) _ (c.sync-2.ensures.leaves t3) (c.sync-2.ensures.crash t3)
 
 pub returns-clause-settles : goal.returns-clause-settles
 returns-clause-settles g c image t settles =
@@ -184,4 +204,6 @@ returns-clause-settles g c image t settles =
     let law3 = g.met.S.Site.lawful c.write_at.new.self t3 in
     let gate = c.in_ok-is_shut.ensures.open t1 c.if-branch.false in
     let law4 = g.met.S.Site.lawful c.sync-2.new.self (c.sync-2.ensures.told t3) in
-    settled4 _ _ law law1 (c.sync.ensures.leaves t) (c.sync.ensures.crash t) _ law2 (c.is_shut.ensures.stays t1) (c.in_ok-sync.ensures.durable t) (c.sync.ensures.same t) _ law3 gate (c.write_at.ensures.leaves t2) (c.write_at.ensures.crash t2) _ (c.sync-2.ensures.leaves t3) (c.sync-2.ensures.crash t3) law4 image settles
+    settled4 _ _ law law1 (c.sync.ensures.leaves t) (c.sync.ensures.crash t) _ law2 (c.is_shut.ensures.stays t1)
+    (c.in_ok-sync.ensures.durable t) (c.sync.ensures.same t) _ law3 gate (c.write_at.ensures.leaves t2)
+    (c.write_at.ensures.crash t2) _ (c.sync-2.ensures.leaves t3) (c.sync-2.ensures.crash t3) law4 image settles

@@ -10,4 +10,6 @@ returns-in_ok-unknown-in-None c =
     let scripts = c.args.scripts.now.scripts in
     let line = c.args.line.now in
     let none = rw (c.in-None.is, c.as_slice.ensures) at c.in_ok-request.ensures.none in
-    subst (λ (e : Entry). IsMade defs scripts c.args.store.now c.args.from line (record { entry = e; staged = None })) (sym c.in_ok-unknown-in-None.ensures) (unknown_made defs scripts c.args.store.now c.args.from line c.requires.short none)
+    subst (λ (e : Entry). IsMade defs scripts c.args.store.now c.args.from line (record { entry = e; staged = None }))
+    (sym c.in_ok-unknown-in-None.ensures) (unknown_made defs scripts c.args.store.now c.args.from line
+    c.requires.short none)

@@ -16,7 +16,8 @@ answered-requires c =
     let first = rw c.in-Need.is at (c.in_ok-given.ensures.need db refl) in
     let second = rw same at (c.in_ok-ready-in-Need.ensures.need db refl) in
     second
-    ∙ gained_is_enough defs db old.own ((standing c.args.locks.now).holds 1) ((standing c.gain.new.locks).holds 1) c.args.call.now (record { resource = c.in-Need.resource; mode = c.in-Need.field-1 }) c.requires.call (sym first)
+    ∙ gained_is_enough defs db old.own ((standing c.args.locks.now).holds 1) ((standing c.gain.new.locks).holds 1)
+    c.args.call.now (record { resource = c.in-Need.resource; mode = c.in-Need.field-1 }) c.requires.call (sym first)
     (λ msdb key is. rw is at c.in_ok-gain-in-Need.ensures.held)
 
 pub returns-in-Answer-clause-answer : goal.returns-in-Answer-clause-answer

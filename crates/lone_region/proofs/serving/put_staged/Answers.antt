@@ -7,10 +7,12 @@ use Rattle.lone_region.proofs.serving.put_staged.Goals as goal
 pub returns-clause-msdbs : goal.returns-clause-msdbs
 returns-clause-msdbs c defs of staged =
     let r = c.in_ok-reserve.ensures in
-    c.publish.ensures.msdbs defs (same_store defs c.args.store.now c.reserve.new.self r.layouts r.msdbs of) (rw r.msdbs staged)
+    c.publish.ensures.msdbs defs (same_store defs c.args.store.now c.reserve.new.self r.layouts r.msdbs of)
+    (rw r.msdbs staged)
     ∙ ap (λ (ms : List Msdb). with_items defs ms c.args.staged.items) r.msdbs
 
 pub returns-clause-of : goal.returns-clause-of
 returns-clause-of c defs of staged =
     let r = c.in_ok-reserve.ensures in
-    c.publish.ensures.of defs (same_store defs c.args.store.now c.reserve.new.self r.layouts r.msdbs of) (rw r.msdbs staged)
+    c.publish.ensures.of defs (same_store defs c.args.store.now c.reserve.new.self r.layouts r.msdbs of)
+    (rw r.msdbs staged)

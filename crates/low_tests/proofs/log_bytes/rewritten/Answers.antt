@@ -7,5 +7,6 @@ pub put_entry-requires : goal.put_entry-requires
 put_entry-requires c =
     let each = rw (← c.as_slice-e-items.ensures) at c.in_ok-found.ensures.found.each in
     let at = c.loop-e.e-index in
-    let one = element HasSpelling c.as_slice-e-items.result.now at c.e-item.result c.loop-e-test.true c.e-item.is each in
+    let one = element HasSpelling c.as_slice-e-items.result.now at c.e-item.result c.loop-e-test.true c.e-item.is each
+    in
     record { rules = one.rules; fits = one.fits }

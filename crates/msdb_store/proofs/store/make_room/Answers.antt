@@ -14,40 +14,77 @@ abbrev to_msdb : List (List ℕ) → Msdb
 to_msdb segments = record { segments = segments }
 
 -- more capacity, and the same segments
-no_less : (tables : List Table) (i : ℕ) (old t : Table) → slice_get tables i ≡ Some old → old.segments.capacity ≤ t.segments.capacity → t.segments.items ≡ old.segments.items → least (map room_of tables) ≤ least (map room_of (slice_set tables i t))
+no_less : (tables : List Table) (i : ℕ) (old t : Table) → slice_get tables i ≡ Some old
+    → old.segments.capacity ≤ t.segments.capacity → t.segments.items ≡ old.segments.items
+    → least (map room_of tables) ≤ least (map room_of (slice_set tables i t))
 no_less tables i old t at more same =
-    omega (arith, least_set room_of tables i 0 old t at (room_less old.segments.capacity t.segments.capacity (length old.segments.items) (length t.segments.items) 0 more (omega (arith, ap length same))))
+    omega (
+      arith,
+      least_set room_of tables i 0 old t at
+          (room_less old.segments.capacity t.segments.capacity (length old.segments.items) (length t.segments.items) 0
+          more (omega (arith, ap length same))),
+    )
 
-same_msdbs : (tables : List Table) (i : ℕ) (old t : Table) → slice_get tables i ≡ Some old → t.segments.items ≡ old.segments.items → map msdb_of (slice_set tables i t) ≡ map msdb_of tables
+same_msdbs : (tables : List Table) (i : ℕ) (old t : Table) → slice_get tables i ≡ Some old
+    → t.segments.items ≡ old.segments.items → map msdb_of (slice_set tables i t) ≡ map msdb_of tables
 same_msdbs [] i old t at same = cc
-same_msdbs (x ∷ xs) zero old t at same = let is : x ≡ old = cc in ap (λ ss. to_msdb ss ∷ map msdb_of xs) (same ∙ ap (λ y. y.segments.items) (sym is))
+same_msdbs (x ∷ xs) zero old t at same = let is : x ≡ old = cc in
+    ap (λ ss. to_msdb ss ∷ map msdb_of xs) (same ∙ ap (λ y. y.segments.items) (sym is))
 same_msdbs (x ∷ xs) (suc i) old t at same = ap (λ ms. msdb_of x ∷ ms) (same_msdbs xs i old t at same)
 
 pub returns-in_err-reserve-clause-more : goal.returns-in_err-reserve-clause-more
 returns-in_err-reserve-clause-more c =
-    let at : slice_get c.loop-table.tables c.loop-table.table-index ≡ Some (slice_index_or c.loop-table.tables c.loop-table.table-index c.table-item.result) = stands_there c.loop-table.tables c.loop-table.table-index c.table-item.result (search rules) in
-    omega (arith, c.loop-table.invariant.2, no_less c.loop-table.tables c.loop-table.table-index (slice_index_or c.loop-table.tables c.loop-table.table-index c.table-item.result) c.reserve.new.self at c.reserve.ensures.capacity c.reserve.ensures.segments)
+    let at : slice_get c.loop-table.tables c.loop-table.table-index ≡ Some
+    (slice_index_or c.loop-table.tables c.loop-table.table-index c.table-item.result) =
+    stands_there c.loop-table.tables c.loop-table.table-index c.table-item.result (search rules) in
+    omega (
+      arith,
+      c.loop-table.invariant.2,
+      no_less c.loop-table.tables c.loop-table.table-index
+          (slice_index_or c.loop-table.tables c.loop-table.table-index c.table-item.result) c.reserve.new.self at
+          c.reserve.ensures.capacity c.reserve.ensures.segments,
+    )
 
 pub returns-in_err-reserve-clause-layouts : goal.returns-in_err-reserve-clause-layouts
 returns-in_err-reserve-clause-layouts c =
-    let at : slice_get c.loop-table.tables c.loop-table.table-index ≡ Some (slice_index_or c.loop-table.tables c.loop-table.table-index c.table-item.result) = stands_there c.loop-table.tables c.loop-table.table-index c.table-item.result (search rules) in
-    fields_with (λ t. t.fields) msdb_of c.loop-table.tables c.loop-table.table-index (slice_index_or c.loop-table.tables c.loop-table.table-index c.table-item.result) c.reserve.new.self at c.reserve.ensures.fields ∙ c.loop-table.invariant.3
+    let at : slice_get c.loop-table.tables c.loop-table.table-index ≡ Some
+    (slice_index_or c.loop-table.tables c.loop-table.table-index c.table-item.result) =
+    stands_there c.loop-table.tables c.loop-table.table-index c.table-item.result (search rules) in
+    fields_with (λ t. t.fields) msdb_of c.loop-table.tables c.loop-table.table-index
+    (slice_index_or c.loop-table.tables c.loop-table.table-index c.table-item.result) c.reserve.new.self at
+    c.reserve.ensures.fields ∙ c.loop-table.invariant.3
 
 pub returns-in_err-reserve-clause-msdbs : goal.returns-in_err-reserve-clause-msdbs
 returns-in_err-reserve-clause-msdbs c =
-    let at : slice_get c.loop-table.tables c.loop-table.table-index ≡ Some (slice_index_or c.loop-table.tables c.loop-table.table-index c.table-item.result) = stands_there c.loop-table.tables c.loop-table.table-index c.table-item.result (search rules) in
-    same_msdbs c.loop-table.tables c.loop-table.table-index (slice_index_or c.loop-table.tables c.loop-table.table-index c.table-item.result) c.reserve.new.self at c.reserve.ensures.segments ∙ c.loop-table.invariant.4
+    let at : slice_get c.loop-table.tables c.loop-table.table-index ≡ Some
+    (slice_index_or c.loop-table.tables c.loop-table.table-index c.table-item.result) =
+    stands_there c.loop-table.tables c.loop-table.table-index c.table-item.result (search rules) in
+    same_msdbs c.loop-table.tables c.loop-table.table-index
+    (slice_index_or c.loop-table.tables c.loop-table.table-index c.table-item.result) c.reserve.new.self at
+    c.reserve.ensures.segments ∙ c.loop-table.invariant.4
 
 pub loop-table-preserved : goal.loop-table-preserved
 loop-table-preserved c =
     let tables = c.loop-table.tables in
     let i = c.loop-table.table-index in
-    let at : slice_get tables i ≡ Some (slice_index_or tables i c.table-item.result) = stands_there tables i c.table-item.result (search rules) in
-    let more : take (i + 1) (slice_set tables i c.reserve.new.self) ≡ take i tables ++ c.reserve.new.self ∷ [] = take_more_set tables i c.reserve.new.self (search rules) in (
+    let at : slice_get tables i ≡ Some (slice_index_or tables i c.table-item.result) =
+    stands_there tables i c.table-item.result (search rules) in
+    let more : take (i + 1) (slice_set tables i c.reserve.new.self) ≡ take i tables ++ c.reserve.new.self ∷ [] =
+    take_more_set tables i c.reserve.new.self (search rules) in (
       search rules,
-      subst (λ ts. c.args.n ≤ least (map room_of ts)) (sym more) (least_push room_of c.args.n (take i tables) c.reserve.new.self c.requires c.loop-table.invariant.1 c.in_ok-reserve.ensures.ok),
-      omega (arith, c.loop-table.invariant.2, no_less tables i (slice_index_or tables i c.table-item.result) c.reserve.new.self at c.reserve.ensures.capacity c.reserve.ensures.segments),
-      fields_with (λ t. t.fields) msdb_of tables i (slice_index_or tables i c.table-item.result) c.reserve.new.self at c.reserve.ensures.fields ∙ c.loop-table.invariant.3,
-      same_msdbs tables i (slice_index_or tables i c.table-item.result) c.reserve.new.self at c.reserve.ensures.segments ∙ c.loop-table.invariant.4,
-      subst (λ ts. AreFew (map msdb_of ts)) (sym more) (few_push msdb_of (take i tables) c.reserve.new.self c.loop-table.invariant.5 c.in_ok-reserve.ensures.few),
+      subst (λ ts. c.args.n ≤ least (map room_of ts)) (sym more)
+          (least_push room_of c.args.n (take i tables) c.reserve.new.self c.requires c.loop-table.invariant.1
+          c.in_ok-reserve.ensures.ok),
+      omega (
+        arith,
+        c.loop-table.invariant.2,
+        no_less tables i (slice_index_or tables i c.table-item.result)
+            c.reserve.new.self at c.reserve.ensures.capacity c.reserve.ensures.segments,
+      ),
+      fields_with (λ t. t.fields) msdb_of tables i (slice_index_or tables i c.table-item.result) c.reserve.new.self at
+          c.reserve.ensures.fields ∙ c.loop-table.invariant.3,
+      same_msdbs tables i (slice_index_or tables i c.table-item.result) c.reserve.new.self at c.reserve.ensures.segments
+          ∙ c.loop-table.invariant.4,
+      subst (λ ts. AreFew (map msdb_of ts)) (sym more)
+          (few_push msdb_of (take i tables) c.reserve.new.self c.loop-table.invariant.5 c.in_ok-reserve.ensures.few),
     )

@@ -3,16 +3,23 @@ use Rattle.packed_dec.proofs.Digits.{prefix_small, not_digits, digits_snoc, pair
 use Rattle.packed_dec.proofs.reading.digit_pairs.Goals as goal
 
 pub returns-then-high-gt9-clause-exact : goal.returns-then-high-gt9-clause-exact
-returns-then-high-gt9-clause-exact c = rw (not_digits c.args.bytes.now c.loop-byte.byte-index c.loop-byte-test.true c.then-high-gt9.either) refl
+returns-then-high-gt9-clause-exact c = rw (not_digits c.args.bytes.now c.loop-byte.byte-index c.loop-byte-test.true
+    c.then-high-gt9.either) refl
 
 pub overflow_mul-n : goal.overflow_mul-n
-overflow_mul-n c = let h = prefix_small c.args.bytes.now c.loop-byte.byte-index c.requires c.loop-byte.invariant.digits in omega (arith, h, c.loop-byte.invariant.so_far)
+overflow_mul-n c =
+    let h = prefix_small c.args.bytes.now c.loop-byte.byte-index c.requires c.loop-byte.invariant.digits in
+    omega (arith, h, c.loop-byte.invariant.so_far)
 
 pub overflow_add-n : goal.overflow_add-n
-overflow_add-n c = let h = prefix_small c.args.bytes.now c.loop-byte.byte-index c.requires c.loop-byte.invariant.digits in omega (arith, h, c.loop-byte.invariant.so_far)
+overflow_add-n c =
+    let h = prefix_small c.args.bytes.now c.loop-byte.byte-index c.requires c.loop-byte.invariant.digits in
+    omega (arith, h, c.loop-byte.invariant.so_far)
 
 pub overflow_add-n-in-loop-byte : goal.overflow_add-n-in-loop-byte
-overflow_add-n-in-loop-byte c = let h = prefix_small c.args.bytes.now c.loop-byte.byte-index c.requires c.loop-byte.invariant.digits in omega (arith, h, c.loop-byte.invariant.so_far)
+overflow_add-n-in-loop-byte c =
+    let h = prefix_small c.args.bytes.now c.loop-byte.byte-index c.requires c.loop-byte.invariant.digits in
+    omega (arith, h, c.loop-byte.invariant.so_far)
 
 pub loop-byte-preserved : goal.loop-byte-preserved
 loop-byte-preserved c =
@@ -24,4 +31,6 @@ loop-byte-preserved c =
     })
 
 pub returns-clause-small : goal.returns-clause-small
-returns-clause-small c = let h = prefix_small c.args.bytes.now c.loop-byte.byte-index c.requires c.loop-byte.invariant.digits in omega (arith, h, c.loop-byte.invariant.so_far)
+returns-clause-small c =
+    let h = prefix_small c.args.bytes.now c.loop-byte.byte-index c.requires c.loop-byte.invariant.digits in
+    omega (arith, h, c.loop-byte.invariant.so_far)

@@ -9,7 +9,8 @@ use Rattle.packed_dec.proofs.writing.write_unsigned.Goals as goal
 pub returns-in_default : goal.returns-in_default
 returns-in_default c =
     let Unfit : ℤ → Type 0 = λ z. FitsUnsigned w64 z → ⊥ in
-    rw (no_room (length c.args.into.now) c.args.n c.requires.few (subst Unfit (to_z-of_z w128 c.args.n c.ranges.n) c.in_default.ensures)) refl
+    rw (no_room (length c.args.into.now) c.args.n c.requires.few
+    (subst Unfit (to_z-of_z w128 c.args.n c.ranges.n) c.in_default.ensures)) refl
 
 pub pow-requires : goal.pow-requires
 pow-requires c =

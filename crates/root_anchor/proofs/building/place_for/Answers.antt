@@ -17,12 +17,14 @@ overflow_cast-length g c =
     omega (arith, s, c.content_length-length.ensures.exact)
 
 pub returns-in-Ok-clause-place : goal.returns-in-Ok-clause-place
-returns-in-Ok-clause-place g c = λ t o h. finds-place _ _ _ _ _ _ _ _ _ c.in_default.is c.content_length-length.ensures.exact (c.in-Ok.ensures.room t o) (c.in-Ok.ensures.lists t o) c.requires.anchor
+returns-in-Ok-clause-place g c = λ t o h. finds-place _ _ _ _ _ _ _ _ _ c.in_default.is
+    c.content_length-length.ensures.exact (c.in-Ok.ensures.room t o) (c.in-Ok.ensures.lists t o) c.requires.anchor
 
 pub returns-in-Err-clause-sound : goal.returns-in-Err-clause-sound
 returns-in-Err-clause-sound g c = λ t o ci e.
     let fault : c.fault_of.result ≡ Damaged ci = cc in
     let was : c.in-Err.fault ≡ SpaceDamaged ci = c.fault_of.ensures.damaged ci fault in
     let P : ℕ → Type 0 = λ n. FitsEmpty (g.I.Intervals.size c.args.i.now) n in
-    let fits = subst P (sym c.content_length-length.ensures.exact) (fits-empty _ _ _ c.requires.types c.requires.direct) in
+    let fits = subst P (sym c.content_length-length.ensures.exact) (fits-empty _ _ _ c.requires.types c.requires.direct)
+    in
     c.find_room.ensures.sound t o fits ci (c.in-Err.is ∙ ap Err was)

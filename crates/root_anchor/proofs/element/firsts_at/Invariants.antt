@@ -6,7 +6,8 @@ use Rattle.root_anchor.proofs.element.firsts_at.Given as goal
 
 abbrev pub invariant-loop-child : goal.invariant-loop-child
 invariant-loop-child l = record {
-  typed : types_of l.firsts.items ++ numbers_from l.child (λ def. is_child_of l.parent def && not def.sequential) (drop l.child l.segments) ≡ child_types l.segments l.parent;
+  typed : types_of l.firsts.items ++ numbers_from l.child (λ def. is_child_of l.parent def && not def.sequential)
+      (drop l.child l.segments) ≡ child_types l.segments l.parent;
   pointers : pointers_of l.firsts.items ≡ pointers_from l.content l.start (length l.firsts.items);
   place : l.place ≡ l.start + 10 * length l.firsts.items;
 }

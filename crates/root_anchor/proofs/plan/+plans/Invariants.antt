@@ -17,8 +17,10 @@ decreases-plan_rows l = 3 * (16 - l.segment)
 abbrev pub invariant-plan_row-loop-left : goal.invariant-plan_row-loop-left
 invariant-plan_row-loop-left l = record {
   within : l.left ≤ length l.row;
-  types : types_of l.plan.items ≡ types_of_row l.segments l.segment (drop l.left l.row) ++ types_of l.initial.plan.items;
-  shares : (all : List Standing) → Shares all l.initial.plan.items l.initial.standing.items → Shares all l.plan.items l.standing.items;
+  types : types_of l.plan.items ≡ types_of_row l.segments l.segment (drop l.left l.row) ++ types_of
+      l.initial.plan.items;
+  shares : (all : List Standing) → Shares all l.initial.plan.items l.initial.standing.items
+      → Shares all l.plan.items l.standing.items;
 }
 
 abbrev pub decreases-plan_row-loop-left : goal.decreases-plan_row-loop-left
@@ -28,8 +30,10 @@ decreases-plan_row-loop-left l = l.left
 abbrev pub invariant-plan_rows-loop-left : goal.invariant-plan_rows-loop-left
 invariant-plan_rows-loop-left l = record {
   within : l.left ≤ length l.rows;
-  types : types_of l.plan.items ≡ types_of_rows l.segments (drop l.left l.types.items) (drop l.left l.rows) ++ types_of l.initial.plan.items;
-  shares : (all : List Standing) → Shares all l.initial.plan.items l.initial.standing.items → Shares all l.plan.items l.standing.items;
+  types : types_of l.plan.items ≡ types_of_rows l.segments (drop l.left l.types.items) (drop l.left l.rows) ++ types_of
+      l.initial.plan.items;
+  shares : (all : List Standing) → Shares all l.initial.plan.items l.initial.standing.items
+      → Shares all l.plan.items l.standing.items;
 }
 
 abbrev pub decreases-plan_rows-loop-left : goal.decreases-plan_rows-loop-left

@@ -10,6 +10,10 @@ returns-clause-taken c =
     let k = c.in_ok-place.place in
     let taken = c.remove-taken.result in
     let here : k < length old = omega (arith, c.len.ensures, c.if-place-len.false) in
-    let stands : c.index.result.now ≡ get_or old k taken = get_or_read old k c.index.result.now here c.index.ensures taken in
-    let type : c.index.result.now.segment ≡ c.args.segment = first_of (search rules, omega (arith, c.if-index-segment.false)) in
-    takes-out old c.remove-taken.new.self.items k c.args.segment taken here (ap (λ (s : Standing). s.segment) (sym stands) ∙ type) c.remove-taken.ensures.value c.remove-taken.ensures.by_index.2
+    let stands : c.index.result.now ≡ get_or old k taken =
+    get_or_read old k c.index.result.now here c.index.ensures taken in
+    let type : c.index.result.now.segment ≡ c.args.segment =
+    first_of (search rules, omega (arith, c.if-index-segment.false)) in
+    takes-out old c.remove-taken.new.self.items k c.args.segment taken here
+    (ap (λ (s : Standing). s.segment) (sym stands) ∙ type) c.remove-taken.ensures.value
+    c.remove-taken.ensures.by_index.2

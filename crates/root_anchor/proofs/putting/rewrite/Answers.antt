@@ -11,7 +11,8 @@ write-requires c = record {
 }
 
 pub returns-clause-element : goal.returns-clause-element
-returns-clause-element c = written_used _ _ _ _ _ _ (typed_used _ _ _ _ c.requires.used c.set_type.ensures.becomes) (c.requires.whole c.requires.used.segment c.requires.used.content c.requires.used.used) c.write.ensures.wrote
+returns-clause-element c = written_used _ _ _ _ _ _ (typed_used _ _ _ _ c.requires.used c.set_type.ensures.becomes)
+    (c.requires.whole c.requires.used.segment c.requires.used.content c.requires.used.used) c.write.ensures.wrote
 
 pub returns-clause-others : goal.returns-clause-others
 returns-clause-others c = others_joined _ _ _ _ c.set_type.ensures.others c.write.ensures.others

@@ -11,8 +11,10 @@ invariant-loop-left g l = record {
   within : l.left ≤ length l.elements;
   number : g.I.Intervals.number l.i ≡ g.I.Intervals.number l.initial.i;
   goes_on : GoesOn g.I.Intervals.told g.I.Intervals.size g.I.Intervals.faults g.I.Intervals.keeps l.initial.i l.i;
-  given : g.I.Intervals.told l.initial.i → IsInOrder l.shape (g.I.Intervals.intervals l.initial.i) → AreGivable (g.I.Intervals.intervals l.initial.i) (places_of l.elements)
-      → Exchanges l.shape (g.I.Intervals.intervals l.initial.i) (g.I.Intervals.intervals l.i) (places_of (drop l.left l.elements)) [];
+  given : g.I.Intervals.told l.initial.i → IsInOrder l.shape (g.I.Intervals.intervals l.initial.i)
+      → AreGivable (g.I.Intervals.intervals l.initial.i) (places_of l.elements)
+      → Exchanges l.shape (g.I.Intervals.intervals l.initial.i) (g.I.Intervals.intervals l.i)
+      (places_of (drop l.left l.elements)) [];
 }
 
 abbrev pub decreases-loop-left : goal.decreases-loop-left

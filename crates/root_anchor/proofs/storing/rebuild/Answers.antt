@@ -8,28 +8,34 @@ use Rattle.root_anchor.proofs.storing.rebuild.Goals as goal
 pub returns-in_err-give_back_all-clause-sound : goal.returns-in_err-give_back_all-clause-sound
 returns-in_err-give_back_all-clause-sound g c = λ told r ci e.
     let f = err_from_is_err_and c.from_residual.result c.from_residual.ensures.1 in
-    c.in_err-give_back_all.ensures.sound told r.in_order (givable _ _ _ c.args.plan.now.items c.args.rest.now c.args.roots.now r) ci (same_fault _ _ _ _ f.1 f.2 e)
+    c.in_err-give_back_all.ensures.sound told r.in_order
+    (givable _ _ _ c.args.plan.now.items c.args.rest.now c.args.roots.now r) ci (same_fault _ _ _ _ f.1 f.2 e)
 
 pub returns-in_err-first-clause-sound : goal.returns-in_err-first-clause-sound
 returns-in_err-first-clause-sound g c = λ told r ci e.
     let f = err_from_is_err_and c.from_residual-in_err-first.result c.from_residual-in_err-first.ensures.1 in
-    let given = c.in_ok-give_back_all.ensures.given told r.in_order (givable _ _ _ c.args.plan.now.items c.args.rest.now c.args.roots.now r) in
+    let given = c.in_ok-give_back_all.ensures.given told r.in_order
+    (givable _ _ _ c.args.plan.now.items c.args.rest.now c.args.roots.now r) in
     let planned = still-planned _ _ _ _ c.args.plan.now.items c.args.rest.now c.args.roots.now r given in
-    c.in_err-first.ensures.sound (c.give_back_all.ensures.goes_on.tells told) [] c.args.plan.now.items planned ci (same_fault _ _ _ _ f.1 f.2 e)
+    c.in_err-first.ensures.sound (c.give_back_all.ensures.goes_on.tells told) [] c.args.plan.now.items planned ci
+    (same_fault _ _ _ _ f.1 f.2 e)
 
 pub returns-clause-rebuilt : goal.returns-clause-rebuilt
 returns-clause-rebuilt g c = λ told r.
-    let given = c.in_ok-give_back_all.ensures.given told r.in_order (givable _ _ _ c.args.plan.now.items c.args.rest.now c.args.roots.now r) in
+    let given = c.in_ok-give_back_all.ensures.given told r.in_order
+    (givable _ _ _ c.args.plan.now.items c.args.rest.now c.args.roots.now r) in
     let planned = still-planned _ _ _ _ c.args.plan.now.items c.args.rest.now c.args.roots.now r given in
     let told1 = c.give_back_all.ensures.goes_on.tells told in
     let built = c.in_ok-first.ensures.built told1 [] c.args.plan.now.items planned in
     let told2 = c.build_roots.ensures.goes_on.tells told1 in
-    on_ok-map _ _ _ (λ put. rebuilds _ _ _ _ _ _ _ c.args.plan.now.items c.args.rest.now c.args.roots.now _ r given built.1 put)
+    on_ok-map _ _ _ (λ put. rebuilds _ _ _ _ _ _ _ c.args.plan.now.items c.args.rest.now c.args.roots.now _ r given
+    built.1 put)
     (c.put_root.ensures.put told2 (base-in-place _ _ _ built.1.exchange.in_order c.requires.anchor))
 
 pub returns-clause-sound : goal.returns-clause-sound
 returns-clause-sound g c = λ told r ci e.
-    let given = c.in_ok-give_back_all.ensures.given told r.in_order (givable _ _ _ c.args.plan.now.items c.args.rest.now c.args.roots.now r) in
+    let given = c.in_ok-give_back_all.ensures.given told r.in_order
+    (givable _ _ _ c.args.plan.now.items c.args.rest.now c.args.roots.now r) in
     let planned = still-planned _ _ _ _ c.args.plan.now.items c.args.rest.now c.args.roots.now r given in
     let told1 = c.give_back_all.ensures.goes_on.tells told in
     let built = c.in_ok-first.ensures.built told1 [] c.args.plan.now.items planned in

@@ -15,38 +15,51 @@ returns-clause-stored g c = λ told formed.
     let same = c.elements_of.ensures.same told in
     let standing = c.in_ok-standing.ensures.standing told in
     let shares = c.in_ok-plan.ensures.shares in
-    let is_ready = ready _ _ _ _ c.args.anchor _ _ _ _ _ same c.as_slice.ensures.value formed.in_order standing shares c.in_ok-plan.ensures.types in
-    on_ok-map _ _ _ (λ r. (stores _ _ _ _ _ c.args.anchor _ _ _ _ _ same c.as_slice.ensures.value c.requires.anchor formed standing shares r).stored) (c.rebuild.ensures.rebuilt (c.elements_of.ensures.goes_on.tells told) is_ready)
+    let is_ready = ready _ _ _ _ c.args.anchor _ _ _ _ _ same c.as_slice.ensures.value formed.in_order standing shares
+    c.in_ok-plan.ensures.types in
+    on_ok-map _ _ _ (λ r. (stores _ _ _ _ _ c.args.anchor _ _ _ _ _ same c.as_slice.ensures.value c.requires.anchor
+    formed standing shares r).stored) (c.rebuild.ensures.rebuilt (c.elements_of.ensures.goes_on.tells told)
+    is_ready)
 
 pub returns-clause-others : goal.returns-clause-others
 returns-clause-others g c = λ told formed.
     let same = c.elements_of.ensures.same told in
     let standing = c.in_ok-standing.ensures.standing told in
     let shares = c.in_ok-plan.ensures.shares in
-    let is_ready = ready _ _ _ _ c.args.anchor _ _ _ _ _ same c.as_slice.ensures.value formed.in_order standing shares c.in_ok-plan.ensures.types in
-    on_ok-map _ _ _ (λ r. (stores _ _ _ _ _ c.args.anchor _ _ _ _ _ same c.as_slice.ensures.value c.requires.anchor formed standing shares r).others) (c.rebuild.ensures.rebuilt (c.elements_of.ensures.goes_on.tells told) is_ready)
+    let is_ready = ready _ _ _ _ c.args.anchor _ _ _ _ _ same c.as_slice.ensures.value formed.in_order standing shares
+    c.in_ok-plan.ensures.types in
+    on_ok-map _ _ _ (λ r. (stores _ _ _ _ _ c.args.anchor _ _ _ _ _ same c.as_slice.ensures.value c.requires.anchor
+    formed standing shares r).others) (c.rebuild.ensures.rebuilt (c.elements_of.ensures.goes_on.tells told)
+    is_ready)
 
 pub returns-clause-sequential : goal.returns-clause-sequential
 returns-clause-sequential g c = λ told formed.
     let same = c.elements_of.ensures.same told in
     let standing = c.in_ok-standing.ensures.standing told in
     let shares = c.in_ok-plan.ensures.shares in
-    let is_ready = ready _ _ _ _ c.args.anchor _ _ _ _ _ same c.as_slice.ensures.value formed.in_order standing shares c.in_ok-plan.ensures.types in
-    on_ok-map _ _ _ (λ r. (stores _ _ _ _ _ c.args.anchor _ _ _ _ _ same c.as_slice.ensures.value c.requires.anchor formed standing shares r).sequential) (c.rebuild.ensures.rebuilt (c.elements_of.ensures.goes_on.tells told) is_ready)
+    let is_ready = ready _ _ _ _ c.args.anchor _ _ _ _ _ same c.as_slice.ensures.value formed.in_order standing shares
+    c.in_ok-plan.ensures.types in
+    on_ok-map _ _ _ (λ r. (stores _ _ _ _ _ c.args.anchor _ _ _ _ _ same c.as_slice.ensures.value c.requires.anchor
+    formed standing shares r).sequential) (c.rebuild.ensures.rebuilt (c.elements_of.ensures.goes_on.tells told)
+    is_ready)
 
 pub returns-clause-formed : goal.returns-clause-formed
 returns-clause-formed g c = λ told formed.
     let same = c.elements_of.ensures.same told in
     let standing = c.in_ok-standing.ensures.standing told in
     let shares = c.in_ok-plan.ensures.shares in
-    let is_ready = ready _ _ _ _ c.args.anchor _ _ _ _ _ same c.as_slice.ensures.value formed.in_order standing shares c.in_ok-plan.ensures.types in
-    on_ok-map _ _ _ (λ r. (stores _ _ _ _ _ c.args.anchor _ _ _ _ _ same c.as_slice.ensures.value c.requires.anchor formed standing shares r).formed) (c.rebuild.ensures.rebuilt (c.elements_of.ensures.goes_on.tells told) is_ready)
+    let is_ready = ready _ _ _ _ c.args.anchor _ _ _ _ _ same c.as_slice.ensures.value formed.in_order standing shares
+    c.in_ok-plan.ensures.types in
+    on_ok-map _ _ _ (λ r. (stores _ _ _ _ _ c.args.anchor _ _ _ _ _ same c.as_slice.ensures.value c.requires.anchor
+    formed standing shares r).formed) (c.rebuild.ensures.rebuilt (c.elements_of.ensures.goes_on.tells told)
+    is_ready)
 
 pub returns-clause-sound : goal.returns-clause-sound
 returns-clause-sound g c = λ told o h ci e.
     let same = c.elements_of.ensures.same told in
     let standing = c.in_ok-standing.ensures.standing told in
-    let is_ready = ready _ _ _ _ c.args.anchor _ _ _ _ _ same c.as_slice.ensures.value o standing c.in_ok-plan.ensures.shares c.in_ok-plan.ensures.types in
+    let is_ready = ready _ _ _ _ c.args.anchor _ _ _ _ _ same c.as_slice.ensures.value o standing
+    c.in_ok-plan.ensures.shares c.in_ok-plan.ensures.types in
     c.rebuild.ensures.sound (c.elements_of.ensures.goes_on.tells told) is_ready ci e
 
 pub returns-in_err-standing-clause-damaged : goal.returns-in_err-standing-clause-damaged
@@ -55,7 +68,8 @@ returns-in_err-standing-clause-damaged g c = λ told none ci e.
     c.in_err-standing.ensures.damaged told ci (same_fault _ _ _ _ f.1 f.2 e)
 
 pub returns-in_err-plan-clause-damaged : goal.returns-in_err-plan-clause-damaged
-returns-in_err-plan-clause-damaged g c = λ told none ci e. absurd (none (has_chain (c.in_ok-standing.ensures.standing told)))
+returns-in_err-plan-clause-damaged g c = λ told none ci e. absurd
+    (none (has_chain (c.in_ok-standing.ensures.standing told)))
 
 pub returns-clause-damaged : goal.returns-clause-damaged
 returns-clause-damaged g c = λ told none ci e. absurd (none (has_chain (c.in_ok-standing.ensures.standing told)))

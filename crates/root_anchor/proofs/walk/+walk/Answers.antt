@@ -10,7 +10,8 @@ pub row-returns-in_err-next-clause-damaged : goal.row-returns-in_err-next-clause
 row-returns-in_err-next-clause-damaged g m c = λ t ci e.
     let p = err_from_is_err_and c.from_residual.result c.from_residual.ensures.1 in
     let told = c.loop-alloc.invariant.look.goes_on.tells t in
-    along_wrong _ _ _ _ _ _ _ _ ci _ _ _ (c.loop-alloc.invariant.look.same t) (c.loop-alloc.invariant.along t) (refused c.is_nothing.ensures c.loop-alloc-test.true)
+    along_wrong _ _ _ _ _ _ _ _ ci _ _ _ (c.loop-alloc.invariant.look.same t) (c.loop-alloc.invariant.along t)
+    (refused c.is_nothing.ensures c.loop-alloc-test.true)
     (c.visit.ensures.wrong told ci (cc (p.1, p.2, c.in_err-next.was)))
 
 pub row-returns-in_err-children-clause-damaged : goal.row-returns-in_err-children-clause-damaged
@@ -32,14 +33,19 @@ row-returns-in_err-children-clause-damaged g m c = λ t ci e.
 
 pub row-loop-alloc-smaller : goal.row-loop-alloc-smaller
 row-loop-alloc-smaller g m c =
-    less_left (g.I.Intervals.number c.args.i.now) (g.I.Intervals.number c.visit.new.i) c.loop-alloc.walk c.visit.new.walk c.rows.new.walk
-    (c.visit.ensures.look.same_number ∙ c.loop-alloc.invariant.look.same_number) c.in_ok-next.ensures.more c.in_ok-children.ensures.walk
+    less_left (g.I.Intervals.number c.args.i.now) (g.I.Intervals.number c.visit.new.i) c.loop-alloc.walk
+    c.visit.new.walk c.rows.new.walk
+    (c.visit.ensures.look.same_number ∙ c.loop-alloc.invariant.look.same_number) c.in_ok-next.ensures.more
+    c.in_ok-children.ensures.walk
 
 pub row-loop-alloc-preserved : goal.row-loop-alloc-preserved
 row-loop-alloc-preserved g m c = record {
-  look = looks_joined _ _ _ _ _ _ _ _ _ (looks_joined _ _ _ _ _ _ _ _ _ c.loop-alloc.invariant.look c.visit.ensures.look) c.rows.ensures.look;
-  walk = walks_further (g.I.Intervals.number c.args.i.now) (g.I.Intervals.number c.visit.new.i) c.args.walk.now c.loop-alloc.walk c.visit.new.walk c.rows.new.walk
-      (c.visit.ensures.look.same_number ∙ c.loop-alloc.invariant.look.same_number) c.loop-alloc.invariant.walk c.in_ok-next.ensures.more c.in_ok-next.ensures.keyed c.in_ok-children.ensures.walk;
+  look = looks_joined _ _ _ _ _ _ _ _ _ (looks_joined _ _ _ _ _ _ _ _ _ c.loop-alloc.invariant.look
+      c.visit.ensures.look) c.rows.ensures.look;
+  walk = walks_further (g.I.Intervals.number c.args.i.now) (g.I.Intervals.number c.visit.new.i) c.args.walk.now
+      c.loop-alloc.walk c.visit.new.walk c.rows.new.walk
+      (c.visit.ensures.look.same_number ∙ c.loop-alloc.invariant.look.same_number) c.loop-alloc.invariant.walk
+      c.in_ok-next.ensures.more c.in_ok-next.ensures.keyed c.in_ok-children.ensures.walk;
   along = λ t.
       let told = c.loop-alloc.invariant.look.goes_on.tells t in
       along_next _ _ _ _ _ _ _ _ _ _ _ c.loop-alloc.at _ _ c.in_ok-next.field-0 c.as_slice.result.now _
@@ -56,38 +62,49 @@ row-loop-alloc-preserved g m c = record {
       (c.in_ok-children.ensures.rows (c.visit.ensures.look.goes_on.tells told)) c.in_ok-push.ensures.ok;
   stand = λ t stand.
       let told = c.loop-alloc.invariant.look.goes_on.tells t in
-      let visited = all_stand_on _ _ _ c.loop-alloc.walk c.visit.new.walk (c.loop-alloc.invariant.look.same t) (c.in_ok-next.ensures.stand told) (c.loop-alloc.invariant.stand t stand) in
-      all_stand_on _ _ _ c.visit.new.walk c.rows.new.walk (c.visit.ensures.look.same told ∙ c.loop-alloc.invariant.look.same t) (c.in_ok-children.ensures.stand (c.visit.ensures.look.goes_on.tells told)) visited;
+      let visited = all_stand_on _ _ _ c.loop-alloc.walk c.visit.new.walk (c.loop-alloc.invariant.look.same t)
+      (c.in_ok-next.ensures.stand told) (c.loop-alloc.invariant.stand t stand) in
+      all_stand_on _ _ _ c.visit.new.walk c.rows.new.walk
+      (c.visit.ensures.look.same told ∙ c.loop-alloc.invariant.look.same t)
+      (c.in_ok-children.ensures.stand (c.visit.ensures.look.goes_on.tells told)) visited;
 }
 
 pub row-returns-clause-row : goal.row-returns-clause-row
-row-returns-clause-row g m c = λ t. along_end _ _ _ _ _ _ _ _ _ _ (c.is_nothing.ensures.0 c.loop-alloc-test.false) (c.loop-alloc.invariant.along t)
+row-returns-clause-row g m c = λ t. along_end _ _ _ _ _ _ _ _ _ _ (c.is_nothing.ensures.0 c.loop-alloc-test.false)
+    (c.loop-alloc.invariant.along t)
 
 -- ---- from row to row
 
 pub rows-row-requires : goal.rows-row-requires
 rows-row-requires g m c =
-    let child = child_above c.args.segments.now c.args.segment c.args.firsts.now c.loop-first.first-index (record { segment = 0; at = (0, 0) }) c.requires.places c.requires.children c.loop-first-test.true in
+    let child = child_above c.args.segments.now c.args.segment c.args.firsts.now c.loop-first.first-index
+    (record { segment = 0; at = (0, 0) }) c.requires.places c.requires.children c.loop-first-test.true in
     search rules
 
 pub rows-returns-in_err-read-clause-damaged : goal.rows-returns-in_err-read-clause-damaged
 rows-returns-in_err-read-clause-damaged g m c = λ t ci e.
     let p = err_from_is_err_and c.from_residual.result c.from_residual.ensures.1 in
     let told = c.loop-first.invariant.look.goes_on.tells t in
-    among_fails _ _ _ _ _ _ ci c.args.firsts.now _ c.loop-first.first-index (record { segment = 0; at = (0, 0) }) (c.loop-first.invariant.look.same t) c.loop-first-test.true (c.loop-first.invariant.among t)
+    among_fails _ _ _ _ _ _ ci c.args.firsts.now _ c.loop-first.first-index (record { segment = 0; at = (0, 0) })
+    (c.loop-first.invariant.look.same t) c.loop-first-test.true (c.loop-first.invariant.among t)
     (c.row.ensures.damaged told ci (cc (p.1, p.2, c.in_err-read.was)))
 
 pub rows-loop-first-preserved : goal.rows-loop-first-preserved
 rows-loop-first-preserved g m c = record {
   look = looks_joined _ _ _ _ _ _ _ _ _ c.loop-first.invariant.look c.row.ensures.look;
-  walk = walks_joined (g.I.Intervals.number c.args.i.now) (g.I.Intervals.number c.loop-first.i) c.args.walk.now c.loop-first.walk c.row.new.walk
+  walk = walks_joined (g.I.Intervals.number c.args.i.now) (g.I.Intervals.number c.loop-first.i) c.args.walk.now
+      c.loop-first.walk c.row.new.walk
       c.loop-first.invariant.look.same_number c.loop-first.invariant.walk c.in_ok-read.ensures.walk;
   among = λ t.
-      among_next _ _ _ _ _ _ _ c.args.firsts.now _ _ _ c.loop-first.first-index (record { segment = 0; at = (0, 0) }) (c.loop-first.invariant.look.same t) c.loop-first-test.true (c.loop-first.invariant.among t)
+      among_next _ _ _ _ _ _ _ c.args.firsts.now _ _ _ c.loop-first.first-index (record { segment = 0; at = (0, 0) })
+      (c.loop-first.invariant.look.same t) c.loop-first-test.true (c.loop-first.invariant.among t)
       (c.in_ok-read.ensures.row (c.loop-first.invariant.look.goes_on.tells t)) c.in_ok-push.ensures.ok;
   stand = λ t stand.
-      all_stand_on _ _ _ c.loop-first.walk c.row.new.walk (c.loop-first.invariant.look.same t) (c.in_ok-read.ensures.stand (c.loop-first.invariant.look.goes_on.tells t)) (c.loop-first.invariant.stand t stand);
+      all_stand_on _ _ _ c.loop-first.walk c.row.new.walk (c.loop-first.invariant.look.same t)
+      (c.in_ok-read.ensures.stand (c.loop-first.invariant.look.goes_on.tells t))
+      (c.loop-first.invariant.stand t stand);
 }
 
 pub rows-returns-clause-rows : goal.rows-returns-clause-rows
-rows-returns-clause-rows g m c = λ t. among_end _ _ _ _ _ _ _ c.loop-first.first-index (omega arith) (c.loop-first.invariant.among t)
+rows-returns-clause-rows g m c = λ t. among_end _ _ _ _ _ _ _ c.loop-first.first-index (omega arith)
+    (c.loop-first.invariant.among t)

@@ -13,10 +13,13 @@ decreases-rows g l = 2 * (length l.segments.now - l.segment)
 -- the row so far, and what the rest of it gives
 abbrev pub invariant-row-loop-alloc : goal.invariant-row-loop-alloc
 invariant-row-loop-alloc g l = record {
-  look : IsLook g.I.Intervals.told g.I.Intervals.intervals g.I.Intervals.number g.I.Intervals.size g.I.Intervals.faults g.I.Intervals.keeps l.initial.i l.i;
+  look : IsLook g.I.Intervals.told g.I.Intervals.intervals g.I.Intervals.number g.I.Intervals.size g.I.Intervals.faults
+      g.I.Intervals.keeps l.initial.i l.i;
   walk : WalksOn (g.I.Intervals.number l.initial.i) l.initial.walk l.walk;
-  along : g.I.Intervals.told l.initial.i → IsAlong l.segments (g.I.Intervals.intervals l.initial.i) (met_of l.initial.walk) l.home l.segment l.fn.first l.row (met_of l.walk) l.from l.at;
-  stand : g.I.Intervals.told l.initial.i → AllStand l.segments (g.I.Intervals.intervals l.initial.i) l.initial.walk → AllStand l.segments (g.I.Intervals.intervals l.initial.i) l.walk;
+  along : g.I.Intervals.told l.initial.i → IsAlong l.segments (g.I.Intervals.intervals l.initial.i)
+      (met_of l.initial.walk) l.home l.segment l.fn.first l.row (met_of l.walk) l.from l.at;
+  stand : g.I.Intervals.told l.initial.i → AllStand l.segments (g.I.Intervals.intervals l.initial.i) l.initial.walk
+      → AllStand l.segments (g.I.Intervals.intervals l.initial.i) l.walk;
 }
 
 -- elements of the area that weren't met yet
@@ -26,8 +29,12 @@ decreases-row-loop-alloc g l = g.I.Intervals.number l.initial.i * 4096 - length 
 -- the rows so far, and what the other types give
 abbrev pub invariant-rows-loop-first : goal.invariant-rows-loop-first
 invariant-rows-loop-first g l = record {
-  look : IsLook g.I.Intervals.told g.I.Intervals.intervals g.I.Intervals.number g.I.Intervals.size g.I.Intervals.faults g.I.Intervals.keeps l.initial.i l.i;
+  look : IsLook g.I.Intervals.told g.I.Intervals.intervals g.I.Intervals.number g.I.Intervals.size g.I.Intervals.faults
+      g.I.Intervals.keeps l.initial.i l.i;
   walk : WalksOn (g.I.Intervals.number l.initial.i) l.initial.walk l.walk;
-  among : g.I.Intervals.told l.initial.i → IsAmong l.segments (g.I.Intervals.intervals l.initial.i) (met_of l.initial.walk) l.home (types_of l.firsts) (pointers_of l.firsts) l.rows (met_of l.walk) (types_of (drop l.first-index l.firsts)) (pointers_of (drop l.first-index l.firsts));
-  stand : g.I.Intervals.told l.initial.i → AllStand l.segments (g.I.Intervals.intervals l.initial.i) l.initial.walk → AllStand l.segments (g.I.Intervals.intervals l.initial.i) l.walk;
+  among : g.I.Intervals.told l.initial.i → IsAmong l.segments (g.I.Intervals.intervals l.initial.i)
+      (met_of l.initial.walk) l.home (types_of l.firsts) (pointers_of l.firsts) l.rows (met_of l.walk)
+      (types_of (drop l.first-index l.firsts)) (pointers_of (drop l.first-index l.firsts));
+  stand : g.I.Intervals.told l.initial.i → AllStand l.segments (g.I.Intervals.intervals l.initial.i) l.initial.walk
+      → AllStand l.segments (g.I.Intervals.intervals l.initial.i) l.walk;
 }

@@ -8,7 +8,8 @@ pub returns-in_err-next-clause-damaged : goal.returns-in_err-next-clause-damaged
 returns-in_err-next-clause-damaged g c = λ t ci e.
     let p = err_from_is_err_and c.from_residual.result c.from_residual.ensures.1 in
     let told = c.loop-alloc.invariant.look.goes_on.tells t in
-    roots_wrong _ _ _ _ _ _ ci _ _ _ (c.loop-alloc.invariant.look.same t) (c.loop-alloc.invariant.along t) (refused c.is_nothing.ensures c.loop-alloc-test.true)
+    roots_wrong _ _ _ _ _ _ ci _ _ _ (c.loop-alloc.invariant.look.same t) (c.loop-alloc.invariant.along t)
+    (refused c.is_nothing.ensures c.loop-alloc-test.true)
     (c.visit.ensures.wrong told ci (cc (p.1, p.2, c.in_err-next.was)))
 
 pub returns-in_err-children-clause-damaged : goal.returns-in_err-children-clause-damaged
@@ -30,14 +31,19 @@ returns-in_err-children-clause-damaged g c = λ t ci e.
 
 pub loop-alloc-smaller : goal.loop-alloc-smaller
 loop-alloc-smaller g c =
-    less_left (g.I.Intervals.number c.args.i.now) (g.I.Intervals.number c.visit.new.i) c.loop-alloc.walk c.visit.new.walk c.rows.new.walk
-    (c.visit.ensures.look.same_number ∙ c.loop-alloc.invariant.look.same_number) c.in_ok-next.ensures.more c.in_ok-children.ensures.walk
+    less_left (g.I.Intervals.number c.args.i.now) (g.I.Intervals.number c.visit.new.i) c.loop-alloc.walk
+    c.visit.new.walk c.rows.new.walk
+    (c.visit.ensures.look.same_number ∙ c.loop-alloc.invariant.look.same_number) c.in_ok-next.ensures.more
+    c.in_ok-children.ensures.walk
 
 pub loop-alloc-preserved : goal.loop-alloc-preserved
 loop-alloc-preserved g c = record {
-  look = looks_joined _ _ _ _ _ _ _ _ _ (looks_joined _ _ _ _ _ _ _ _ _ c.loop-alloc.invariant.look c.visit.ensures.look) c.rows.ensures.look;
-  walk = walks_further (g.I.Intervals.number c.args.i.now) (g.I.Intervals.number c.visit.new.i) c.args.walk.now c.loop-alloc.walk c.visit.new.walk c.rows.new.walk
-      (c.visit.ensures.look.same_number ∙ c.loop-alloc.invariant.look.same_number) c.loop-alloc.invariant.walk c.in_ok-next.ensures.more c.in_ok-next.ensures.keyed c.in_ok-children.ensures.walk;
+  look = looks_joined _ _ _ _ _ _ _ _ _ (looks_joined _ _ _ _ _ _ _ _ _ c.loop-alloc.invariant.look
+      c.visit.ensures.look) c.rows.ensures.look;
+  walk = walks_further (g.I.Intervals.number c.args.i.now) (g.I.Intervals.number c.visit.new.i) c.args.walk.now
+      c.loop-alloc.walk c.visit.new.walk c.rows.new.walk
+      (c.visit.ensures.look.same_number ∙ c.loop-alloc.invariant.look.same_number) c.loop-alloc.invariant.walk
+      c.in_ok-next.ensures.more c.in_ok-next.ensures.keyed c.in_ok-children.ensures.walk;
   along = λ t.
       let told = c.loop-alloc.invariant.look.goes_on.tells t in
       roots_next _ _ _ _ _ _ _ _ _ c.loop-alloc.at _ _ c.in_ok-next.field-0 c.as_slice.result.now _ _
@@ -51,12 +57,17 @@ loop-alloc-preserved g c = record {
         typed = c.in_ok-next.ensures.types;
         is_list = c.as_slice.ensures.value;
       })
-      (c.in_ok-children.ensures.rows (c.visit.ensures.look.goes_on.tells told)) c.in_ok-seqs.ensures c.in_ok-push.ensures.ok;
+      (c.in_ok-children.ensures.rows (c.visit.ensures.look.goes_on.tells told)) c.in_ok-seqs.ensures
+      c.in_ok-push.ensures.ok;
   stand = λ t.
       let told = c.loop-alloc.invariant.look.goes_on.tells t in
-      let visited = all_stand_on _ _ _ c.loop-alloc.walk c.visit.new.walk (c.loop-alloc.invariant.look.same t) (c.in_ok-next.ensures.stand told) (c.loop-alloc.invariant.stand t) in
-      all_stand_on _ _ _ c.visit.new.walk c.rows.new.walk (c.visit.ensures.look.same told ∙ c.loop-alloc.invariant.look.same t) (c.in_ok-children.ensures.stand (c.visit.ensures.look.goes_on.tells told)) visited;
+      let visited = all_stand_on _ _ _ c.loop-alloc.walk c.visit.new.walk (c.loop-alloc.invariant.look.same t)
+      (c.in_ok-next.ensures.stand told) (c.loop-alloc.invariant.stand t) in
+      all_stand_on _ _ _ c.visit.new.walk c.rows.new.walk
+      (c.visit.ensures.look.same told ∙ c.loop-alloc.invariant.look.same t)
+      (c.in_ok-children.ensures.stand (c.visit.ensures.look.goes_on.tells told)) visited;
 }
 
 pub returns-clause-roots : goal.returns-clause-roots
-returns-clause-roots g c = λ t. roots_end _ _ _ _ _ _ _ _ (c.is_nothing.ensures.0 c.loop-alloc-test.false) (c.loop-alloc.invariant.along t)
+returns-clause-roots g c = λ t. roots_end _ _ _ _ _ _ _ _ (c.is_nothing.ensures.0 c.loop-alloc-test.false)
+    (c.loop-alloc.invariant.along t)

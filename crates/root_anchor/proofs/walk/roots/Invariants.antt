@@ -5,9 +5,11 @@ use Rattle.root_anchor.proofs.walk.roots.Given as goal
 -- the roots so far, and what the rest gives
 abbrev pub invariant-loop-alloc : goal.invariant-loop-alloc
 invariant-loop-alloc g l = record {
-  look : IsLook g.I.Intervals.told g.I.Intervals.intervals g.I.Intervals.number g.I.Intervals.size g.I.Intervals.faults g.I.Intervals.keeps l.initial.i l.i;
+  look : IsLook g.I.Intervals.told g.I.Intervals.intervals g.I.Intervals.number g.I.Intervals.size g.I.Intervals.faults
+      g.I.Intervals.keeps l.initial.i l.i;
   walk : WalksOn (g.I.Intervals.number l.initial.i) l.initial.walk l.walk;
-  along : g.I.Intervals.told l.initial.i → IsAlongRoots l.segments (g.I.Intervals.intervals l.initial.i) l.base l.fn.first l.roots (met_of l.walk) l.from l.at;
+  along : g.I.Intervals.told l.initial.i → IsAlongRoots l.segments (g.I.Intervals.intervals l.initial.i) l.base
+      l.fn.first l.roots (met_of l.walk) l.from l.at;
   stand : g.I.Intervals.told l.initial.i → AllStand l.segments (g.I.Intervals.intervals l.initial.i) l.walk;
 }
 

@@ -9,5 +9,6 @@ returns c = record {
   run = λ defs scripts format before sealed ms m i j a b name number are lives c n n2 uses uses2.
       once_in defs scripts are format before sealed ms lives m i j a b name number c n n2 uses uses2;
   runs = λ defs scripts format before sealed ms m m2 i j a b name number are lives c c2 less less2 n n2 uses uses2.
-      one_effect defs scripts are format before sealed ms lives m m2 i j a b name number c c2 less less2 n n2 uses uses2;
+      one_effect defs scripts are format before sealed ms lives m m2 i j a b name number c c2 less less2 n n2 uses
+      uses2;
 }

@@ -11,7 +11,11 @@ use Rattle.txn_lang.specs.Grammar.{statement_in, line_in, lines_in, scripts_faul
 use Rattle.script_rows.proofs.rows.deposit_is_a_script.Goals as goal
 
 pub returns : goal.returns
-unfolding all_by letter_token number_token text_token hash_token token_at spaced_token_at tokens_of word_at sign_at variable_at operand_at operation_at comparison_at count_at bracket_at key_at key_behind ssa_at fsa_at field_at operands_in fsas_in fields_in db_of dedb_ssas get_ssas isrt_ssas isrt_fields keyword_at tran_line set_rest set_line if_line repeat_line reply_line rolb_line get_line fld_line isrt_line repl_line dlet_line line_behind stands statement_in line_in lines_in scripts_fault
+unfolding all_by letter_token number_token text_token hash_token token_at spaced_token_at tokens_of word_at sign_at
+    variable_at operand_at operation_at comparison_at count_at bracket_at key_at key_behind ssa_at fsa_at field_at
+    operands_in fsas_in fields_in db_of dedb_ssas get_ssas isrt_ssas isrt_fields keyword_at tran_line set_rest set_line
+    if_line repeat_line reply_line rolb_line get_line fld_line isrt_line repl_line dlet_line line_behind stands
+    statement_in line_in lines_in scripts_fault
 returns c = record {
   written = record {
     short = lit≤ tt;

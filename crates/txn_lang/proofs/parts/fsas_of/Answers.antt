@@ -12,14 +12,18 @@ loop-rest-init c = rw (c.new-fsas.ensures) (with_nothing (all_by fsa_at c.args.t
 pub returns-in_err-fsa : goal.returns-in_err-fsa
 returns-in_err-fsa c =
     let p = err_from_is_err_and c.from_residual.result c.from_residual.ensures.1 in
-    let some : 0 < length c.loop-rest.rest.now = is_some c.loop-rest.rest.now (sym c.is_empty.ensures ∙ c.loop-rest-test.true) in
-    rw (p.1, p.2) (fails fsa_at fsa_shrinks c.in_err-fsa.field-0.0 c.loop-rest.fsas c.loop-rest.rest.now (all_by fsa_at c.args.tokens.now) some c.in_err-fsa.ensures c.loop-rest.invariant)
+    let some : 0 < length c.loop-rest.rest.now = is_some c.loop-rest.rest.now
+    (sym c.is_empty.ensures ∙ c.loop-rest-test.true) in
+    rw (p.1, p.2) (fails fsa_at fsa_shrinks c.in_err-fsa.field-0.0 c.loop-rest.fsas c.loop-rest.rest.now
+    (all_by fsa_at c.args.tokens.now) some c.in_err-fsa.ensures c.loop-rest.invariant)
 
 pub loop-rest-smaller : goal.loop-rest-smaller
 loop-rest-smaller c = shorter_at _ _ _ _ c.in_ok-fsa.ensures (fsa_shrinks c.loop-rest.rest.now)
 
 pub loop-rest-preserved : goal.loop-rest-preserved
-loop-rest-preserved c = rw c.in_ok-push.ensures.ok (goes_on fsa_at fsa_shrinks c.loop-rest.fsas c.loop-rest.rest.now c.in_ok-fsa.fsa c.in_ok-fsa.behind.now (all_by fsa_at c.args.tokens.now) c.in_ok-fsa.ensures c.loop-rest.invariant)
+loop-rest-preserved c = rw c.in_ok-push.ensures.ok (goes_on fsa_at fsa_shrinks c.loop-rest.fsas c.loop-rest.rest.now
+    c.in_ok-fsa.fsa c.in_ok-fsa.behind.now (all_by fsa_at c.args.tokens.now) c.in_ok-fsa.ensures c.loop-rest.invariant)
 
 pub returns : goal.returns
-returns c = is_done fsa_at c.loop-rest.fsas c.loop-rest.rest.now (all_by fsa_at c.args.tokens.now) (is_nil c.loop-rest.rest.now (sym c.is_empty.ensures ∙ c.loop-rest-test.false)) c.loop-rest.invariant
+returns c = is_done fsa_at c.loop-rest.fsas c.loop-rest.rest.now (all_by fsa_at c.args.tokens.now)
+    (is_nil c.loop-rest.rest.now (sym c.is_empty.ensures ∙ c.loop-rest-test.false)) c.loop-rest.invariant

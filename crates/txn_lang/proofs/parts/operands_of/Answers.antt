@@ -12,14 +12,19 @@ loop-rest-init c = rw (c.new-operands.ensures) (with_nothing (all_by operand_at 
 pub returns-in_err-operand : goal.returns-in_err-operand
 returns-in_err-operand c =
     let p = err_from_is_err_and c.from_residual.result c.from_residual.ensures.1 in
-    let some : 0 < length c.loop-rest.rest.now = is_some c.loop-rest.rest.now (sym c.is_empty.ensures ∙ c.loop-rest-test.true) in
-    rw (p.1, p.2) (fails operand_at operand_shrinks c.in_err-operand.field-0.0 c.loop-rest.operands c.loop-rest.rest.now (all_by operand_at c.args.tokens.now) some c.in_err-operand.ensures c.loop-rest.invariant)
+    let some : 0 < length c.loop-rest.rest.now = is_some c.loop-rest.rest.now
+    (sym c.is_empty.ensures ∙ c.loop-rest-test.true) in
+    rw (p.1, p.2) (fails operand_at operand_shrinks c.in_err-operand.field-0.0 c.loop-rest.operands c.loop-rest.rest.now
+    (all_by operand_at c.args.tokens.now) some c.in_err-operand.ensures c.loop-rest.invariant)
 
 pub loop-rest-smaller : goal.loop-rest-smaller
 loop-rest-smaller c = shorter_at _ _ _ _ c.in_ok-operand.ensures (operand_shrinks c.loop-rest.rest.now)
 
 pub loop-rest-preserved : goal.loop-rest-preserved
-loop-rest-preserved c = rw c.in_ok-push.ensures.ok (goes_on operand_at operand_shrinks c.loop-rest.operands c.loop-rest.rest.now c.in_ok-operand.operand c.in_ok-operand.behind.now (all_by operand_at c.args.tokens.now) c.in_ok-operand.ensures c.loop-rest.invariant)
+loop-rest-preserved c = rw c.in_ok-push.ensures.ok (goes_on operand_at operand_shrinks c.loop-rest.operands
+    c.loop-rest.rest.now c.in_ok-operand.operand c.in_ok-operand.behind.now (all_by operand_at c.args.tokens.now)
+    c.in_ok-operand.ensures c.loop-rest.invariant)
 
 pub returns : goal.returns
-returns c = is_done operand_at c.loop-rest.operands c.loop-rest.rest.now (all_by operand_at c.args.tokens.now) (is_nil c.loop-rest.rest.now (sym c.is_empty.ensures ∙ c.loop-rest-test.false)) c.loop-rest.invariant
+returns c = is_done operand_at c.loop-rest.operands c.loop-rest.rest.now (all_by operand_at c.args.tokens.now)
+    (is_nil c.loop-rest.rest.now (sym c.is_empty.ensures ∙ c.loop-rest-test.false)) c.loop-rest.invariant

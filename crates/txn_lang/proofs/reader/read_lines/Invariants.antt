@@ -7,7 +7,8 @@ use Rattle.txn_lang.proofs.reader.read_lines.Given as goal
 
 abbrev pub invariant-loop-rest : goal.invariant-loop-rest
 invariant-loop-rest l = record {
-  so_far : (said : List Line) × IsBuilt l.builder said × (length said + length l.rest ≤ 1000000) × (in_front said (lines_in l.defs l.number (context_of l.builder) (lines_of l.rest)) ≡ text_in l.defs l.text);
+  so_far : (said : List Line) × IsBuilt l.builder said × (length said + length l.rest ≤ 1000000)
+      × (in_front said (lines_in l.defs l.number (context_of l.builder) (lines_of l.rest)) ≡ text_in l.defs l.text);
   few : l.number + length l.rest ≤ 1000001;
 }
 

@@ -9,24 +9,29 @@ use Rattle.txn_lang.proofs.statements.split_fields.Goals as goal
 
 pub returns-in-Some-clause-before : goal.returns-in-Some-clause-before
 returns-in-Some-clause-before c =
-    let found = position_from_yields_List begins_fields _ _ c.position.result c.position.ensures.ran (YieldsList-from_slice c.args.tokens.now cc) (λ x b q k. search (rules, tests)) in
+    let found = position_from_yields_List begins_fields _ _ c.position.result c.position.ensures.ran
+    (YieldsList-from_slice c.args.tokens.now cc) (λ x b q k. search (rules, tests)) in
     let place = place_is begins_fields c.args.tokens.now c.in-Some.place (sym found ∙ c.in-Some.is) in
     ap (λ n. take n c.args.tokens.now) (sym place)
 
 pub returns-in-Some-clause-from : goal.returns-in-Some-clause-from
 returns-in-Some-clause-from c =
-    let found = position_from_yields_List begins_fields _ _ c.position.result c.position.ensures.ran (YieldsList-from_slice c.args.tokens.now cc) (λ x b q k. search (rules, tests)) in
+    let found = position_from_yields_List begins_fields _ _ c.position.result c.position.ensures.ran
+    (YieldsList-from_slice c.args.tokens.now cc) (λ x b q k. search (rules, tests)) in
     let place = place_is begins_fields c.args.tokens.now c.in-Some.place (sym found ∙ c.in-Some.is) in
-    take_all _ _ (grind (arith, common_steps)) ∙ ap (λ n. drop n c.args.tokens.now) (sym place) ∙ sym (behind_take _ c.args.tokens.now)
+    take_all _ _ (grind (arith, common_steps)) ∙ ap (λ n. drop n c.args.tokens.now) (sym place) ∙ sym
+    (behind_take _ c.args.tokens.now)
 
 pub returns-in-None-clause-before : goal.returns-in-None-clause-before
 returns-in-None-clause-before c =
-    let found = position_from_yields_List begins_fields _ _ c.position.result c.position.ensures.ran (YieldsList-from_slice c.args.tokens.now cc) (λ x b q k. search (rules, tests)) in
+    let found = position_from_yields_List begins_fields _ _ c.position.result c.position.ensures.ran
+    (YieldsList-from_slice c.args.tokens.now cc) (λ x b q k. search (rules, tests)) in
     let place = whole_is begins_fields c.args.tokens.now (sym found ∙ c.in-None.is) in
     sym (take_all _ _ place)
 
 pub returns-in-None-clause-from : goal.returns-in-None-clause-from
 returns-in-None-clause-from c =
-    let found = position_from_yields_List begins_fields _ _ c.position.result c.position.ensures.ran (YieldsList-from_slice c.args.tokens.now cc) (λ x b q k. search (rules, tests)) in
+    let found = position_from_yields_List begins_fields _ _ c.position.result c.position.ensures.ran
+    (YieldsList-from_slice c.args.tokens.now cc) (λ x b q k. search (rules, tests)) in
     let place = whole_is begins_fields c.args.tokens.now (sym found ∙ c.in-None.is) in
     sym (behind_take _ c.args.tokens.now ∙ drop_past _ _ place)

@@ -15,5 +15,6 @@ returns c =
     let many : m ≡ field.length = omega arith in
     let ends : c.from-at.result + m ≡ field.at + field.length = omega arith in
     let long : length new ≡ field.length = omega (arith, c.put_value.auto.held, many, at, size, c.requires) in
-    let post : post_of c.from-at.result m segment ≡ drop (field.at + field.length) segment = drop-drop m c.from-at.result segment ∙ ap (λ (n : ℕ). drop n segment) ends in
+    let post : post_of c.from-at.result m segment ≡ drop (field.at + field.length) segment =
+    drop-drop m c.from-at.result segment ∙ ap (λ (n : ℕ). drop n segment) ends in
     rw (post, at) (put_is_filled field segment new c.args.text.now c.put_value.result long c.put_value.ensures)

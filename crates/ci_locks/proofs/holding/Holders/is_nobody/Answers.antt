@@ -15,5 +15,6 @@ found (Some n) P some p = (n, p)
 
 pub returns-clause-some : goal.returns-clause-some
 returns-clause-some c some =
-    let f = found c.first.result (λ region. has c.or.result.0 region ≡ true) (c.is_none.ensures ∙ ap not some) c.first.ensures.some in
+    let f = found c.first.result (λ region. has c.or.result.0 region ≡ true) (c.is_none.ensures ∙ ap not some)
+    c.first.ensures.some in
     (f.0, some_mode (has c.args.self.share.0 f.0) (has c.args.self.exclusive.0 f.0) (sym (c.or.ensures f.0) ∙ f.1))

@@ -8,6 +8,8 @@ is_true false e = absurd (e refl)
 
 pub returns : goal.returns
 returns c = (
-  (λ held. one_held c.self.inside.state c.args.self.now c.self.invariant c.self.view_is c.args.dedb c.args.first c.args.last (c.any_in.ensures.some held)),
-  (λ there. is_true c.any_in.result (λ none. none_held c.self.inside.state c.args.self.now c.self.invariant c.self.view_is c.args.dedb c.args.first c.args.last (c.any_in.ensures.none none) there)),
+  (λ held. one_held c.self.inside.state c.args.self.now c.self.invariant c.self.view_is c.args.dedb c.args.first
+      c.args.last (c.any_in.ensures.some held)),
+  (λ there. is_true c.any_in.result (λ none. none_held c.self.inside.state c.args.self.now c.self.invariant
+      c.self.view_is c.args.dedb c.args.first c.args.last (c.any_in.ensures.none none) there)),
 )

@@ -13,9 +13,11 @@ mode_of-requires-clause-most c =
 
 pub returns-clause-exact : goal.returns-clause-exact
 returns-clause-exact c =
-    c.mode_of.ensures ∙ ap (λ (s : Standing). s.holds c.args.region c.args.resource.now) (stands c.self.inside.state c.args.self.now c.self.invariant c.self.view_is)
+    c.mode_of.ensures ∙ ap (λ (s : Standing). s.holds c.args.region c.args.resource.now)
+    (stands c.self.inside.state c.args.self.now c.self.invariant c.self.view_is)
 
 pub returns-clause-of_lists : goal.returns-clause-of_lists
 returns-clause-of_lists c locks requests shows =
-    c.mode_of.ensures ∙ ap (λ (s : Standing). s.holds c.args.region c.args.resource.now) (stands c.self.inside.state c.args.self.now c.self.invariant c.self.view_is)
+    c.mode_of.ensures ∙ ap (λ (s : Standing). s.holds c.args.region c.args.resource.now)
+    (stands c.self.inside.state c.args.self.now c.self.invariant c.self.view_is)
     ∙ held_is (standing c.args.self.now) locks requests shows c.args.region c.args.resource.now

@@ -9,6 +9,9 @@ loop-place-preserved c =
     let number = c.loop-place.place + 1 in
     let more = filter_last (has c.args.self.0) c.loop-place.place in
     elim c.if-has.branch [
-      | then-has+in_ok-push w ↦ w.list-is ∙ w.in_ok-push.ensures.ok ∙ ap (λ list. list ++ number ∷ []) c.loop-place.invariant ∙ sym (yes_more _ number (has c.args.self.0 number) (sym c.has.ensures ∙ w.if-has.true)) ∙ sym more
-      | else-has w ↦ w.list-is ∙ c.loop-place.invariant ∙ sym (no_more _ number (has c.args.self.0 number) (sym c.has.ensures ∙ w.if-has.false)) ∙ sym more
+      | then-has+in_ok-push w ↦ w.list-is ∙ w.in_ok-push.ensures.ok ∙ ap (λ list. list ++ number ∷ [])
+          c.loop-place.invariant ∙ sym (yes_more _ number (has c.args.self.0 number)
+          (sym c.has.ensures ∙ w.if-has.true)) ∙ sym more
+      | else-has w ↦ w.list-is ∙ c.loop-place.invariant ∙ sym
+          (no_more _ number (has c.args.self.0 number) (sym c.has.ensures ∙ w.if-has.false)) ∙ sym more
     ]

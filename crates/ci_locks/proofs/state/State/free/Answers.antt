@@ -16,7 +16,8 @@ leave_all-requires-clause-listed c one mode held =
     let within : place < length s.regions.items = omega (arith, c.from.ensures, c.requires.some, c.requires.within) in
     let number : c.args.region ≡ suc place = omega (arith, c.from.ensures, c.requires.some) in
     let r : Region = c.index_mut-freed.result.now in
-    c.requires.sound.listed c.args.region r (at_old s.regions.items place c.args.region r within number c.index_mut-freed.ensures.value) one mode held
+    c.requires.sound.listed c.args.region r (at_old s.regions.items place c.args.region r within number
+    c.index_mut-freed.ensures.value) one mode held
 
 pub returns-clause-after : goal.returns-clause-after
 returns-clause-after c =
@@ -25,11 +26,21 @@ returns-clause-after c =
     let within : place < length s.regions.items = omega (arith, c.from.ensures, c.requires.some, c.requires.within) in
     let number : c.args.region ≡ suc place = omega (arith, c.from.ensures, c.requires.some) in
     let next : Region = record { held = c.leave_all.new.held; request = None; ahead = c.empty-freed.result } in
-    let t : State = record { regions = with_items (with_item s.regions place next) c.tell.new.regions; holdings = c.leave_all.new.holdings } in
-    let all : t.regions.items ≡ c.tell.new.regions = with_items_is (with_item s.regions place next) c.tell.new.regions (c.tell.ensures.long ∙ c.deref_mut.ensures.len) in
-    let Q : List Region → Type 0 = λ list. (k : ℕ) → AreTold (news.Freed c.args.region) k (region_at c.deref_mut.result.now k) (region_at list k) in
-    frees_now s t c.deref_mut.result.now place c.args.region next (news.Freed c.args.region) c.requires.sound within number
-    c.deref_mut.ensures.value refl c.empty-freed.ensures (ap length all ∙ c.tell.ensures.long) (subst Q (sym all) c.tell.ensures.all) c.leave_all.ensures.modes (λ k request old other. refl) c.leave_all.ensures.held
+    let t : State = record {
+      regions = with_items (with_item s.regions place next) c.tell.new.regions;
+      holdings =
+          c.leave_all.new.holdings;
+    } in
+    let all : t.regions.items ≡ c.tell.new.regions =
+    with_items_is (with_item s.regions place next) c.tell.new.regions
+    (c.tell.ensures.long ∙ c.deref_mut.ensures.len) in
+    let Q : List Region → Type 0 = λ list. (k : ℕ) → AreTold (news.Freed c.args.region) k
+    (region_at c.deref_mut.result.now k) (region_at list k) in
+    frees_now s t c.deref_mut.result.now place c.args.region next (news.Freed c.args.region) c.requires.sound within
+    number
+    c.deref_mut.ensures.value refl c.empty-freed.ensures (ap length all ∙ c.tell.ensures.long)
+    (subst Q (sym all) c.tell.ensures.all) c.leave_all.ensures.modes (λ k request old other. refl)
+    c.leave_all.ensures.held
 
 pub returns-clause-sound : goal.returns-clause-sound
 returns-clause-sound c =
@@ -38,8 +49,18 @@ returns-clause-sound c =
     let within : place < length s.regions.items = omega (arith, c.from.ensures, c.requires.some, c.requires.within) in
     let number : c.args.region ≡ suc place = omega (arith, c.from.ensures, c.requires.some) in
     let next : Region = record { held = c.leave_all.new.held; request = None; ahead = c.empty-freed.result } in
-    let t : State = record { regions = with_items (with_item s.regions place next) c.tell.new.regions; holdings = c.leave_all.new.holdings } in
-    let all : t.regions.items ≡ c.tell.new.regions = with_items_is (with_item s.regions place next) c.tell.new.regions (c.tell.ensures.long ∙ c.deref_mut.ensures.len) in
-    let Q : List Region → Type 0 = λ list. (k : ℕ) → AreTold (news.Freed c.args.region) k (region_at c.deref_mut.result.now k) (region_at list k) in
-    frees_sound s t c.deref_mut.result.now place c.args.region next (news.Freed c.args.region) c.requires.sound within number
-    c.deref_mut.ensures.value refl c.empty-freed.ensures (ap length all ∙ c.tell.ensures.long) (subst Q (sym all) c.tell.ensures.all) c.leave_all.ensures.modes (λ k request old other. refl) c.leave_all.ensures.held
+    let t : State = record {
+      regions = with_items (with_item s.regions place next) c.tell.new.regions;
+      holdings =
+          c.leave_all.new.holdings;
+    } in
+    let all : t.regions.items ≡ c.tell.new.regions =
+    with_items_is (with_item s.regions place next) c.tell.new.regions
+    (c.tell.ensures.long ∙ c.deref_mut.ensures.len) in
+    let Q : List Region → Type 0 = λ list. (k : ℕ) → AreTold (news.Freed c.args.region) k
+    (region_at c.deref_mut.result.now k) (region_at list k) in
+    frees_sound s t c.deref_mut.result.now place c.args.region next (news.Freed c.args.region) c.requires.sound within
+    number
+    c.deref_mut.ensures.value refl c.empty-freed.ensures (ap length all ∙ c.tell.ensures.long)
+    (subst Q (sym all) c.tell.ensures.all) c.leave_all.ensures.modes (λ k request old other. refl)
+    c.leave_all.ensures.held

@@ -17,4 +17,5 @@ loop-preserved c =
 pub returns-clause-sound : goal.returns-clause-sound
 returns-clause-sound c =
     idle_sound (record { regions = c.loop.made; holdings = c.new-2.result })
-    (let l = c.loop.invariant.long in omega (arith, l, c.requires, c.loop.auto.counter-end, c.from.ensures)) c.loop.invariant.idle c.new-2.ensures
+    (let l = c.loop.invariant.long in omega (arith, l, c.requires, c.loop.auto.counter-end, c.from.ensures))
+    c.loop.invariant.idle c.new-2.ensures

@@ -5,11 +5,17 @@ use Rattle.ci_space.proofs.interval.Interval.set_head.Goals as goal
 pub invariant_of-self : goal.invariant_of-self
 invariant_of-self c =
     let v : c.deref_mut.result.now ≡ c.args.self.now = c.deref_mut.ensures.value ∙ c.self.view_is in
-    let e = whole-again c.put_head.new.bytes c.self.inside.bytes.items c.self.inside.bytes.len (c.put_head.auto.bytes ∙ c.deref_mut.ensures.len) in
-    rw e (record { elements = c.self.invariant.elements; tiles = c.put_head.ensures.tiles _ (rw v (rw (← c.self.view_is) c.self.invariant.tiles)) })
+    let e = whole-again c.put_head.new.bytes c.self.inside.bytes.items c.self.inside.bytes.len
+    (c.put_head.auto.bytes ∙ c.deref_mut.ensures.len) in
+    rw e (record {
+      elements = c.self.invariant.elements;
+      tiles =
+          c.put_head.ensures.tiles _ (rw v (rw (← c.self.view_is) c.self.invariant.tiles));
+    })
 
 pub returns-clause-tiles : goal.returns-clause-tiles
 returns-clause-tiles c =
     let v : c.deref_mut.result.now ≡ c.args.self.now = c.deref_mut.ensures.value ∙ c.self.view_is in
-    let e = whole-again c.put_head.new.bytes c.self.inside.bytes.items c.self.inside.bytes.len (c.put_head.auto.bytes ∙ c.deref_mut.ensures.len) in
+    let e = whole-again c.put_head.new.bytes c.self.inside.bytes.items c.self.inside.bytes.len
+    (c.put_head.auto.bytes ∙ c.deref_mut.ensures.len) in
     rw (e, ← v) c.put_head.ensures.tiles

@@ -7,9 +7,11 @@ pub after-requires : goal.after-requires
 after-requires c = within c.args.self.now c.requires
 
 pub returns-clause-segment : goal.returns-clause-segment
-returns-clause-segment c = c.after.ensures c.requires.defs c.requires.store ∙ found_after_is c.args.self.now c.requires (option_copied c.args.key)
+returns-clause-segment c = c.after.ensures c.requires.defs c.requires.store ∙ found_after_is c.args.self.now c.requires
+    (option_copied c.args.key)
 
 pub returns-clause-whole : goal.returns-clause-whole
 returns-clause-whole c =
     shown_after_whole c.args.self.now c.requires c.after.result (option_copied c.args.key)
-    (c.after.ensures c.requires.defs c.requires.store ∙ found_after_is c.args.self.now c.requires (option_copied c.args.key))
+    (c.after.ensures c.requires.defs c.requires.store ∙ found_after_is c.args.self.now c.requires
+    (option_copied c.args.key))

@@ -7,7 +7,8 @@ use Rattle.dli_calls.specs.Replies.{key_to_change}
 use Rattle.dli_calls.proofs.database.Database.is_changed.Goals as goal
 
 -- none of the keys is one that there may be
-none_of : (test : List ℕ → Bool) (key : Option (List ℕ)) → ((k : List ℕ) → test k ≡ false) → option_map_or test key false ≡ false
+none_of : (test : List ℕ → Bool) (key : Option (List ℕ)) → ((k : List ℕ) → test k ≡ false)
+    → option_map_or test key false ≡ false
 none_of test None none = refl
 none_of test (Some k) none = none k
 
@@ -17,4 +18,5 @@ returns-then-changes_none c =
     let number = c.args.self.now.number in
     let own = c.args.work.now.own in
     let empty : IsTrue c.changes_none.result = c.if-changes_none.true in
-    none_of (is_put_or_dropped def number own) (key_to_change def number own c.args.call.now) (λ k. sym (c.requires.changes k) ∙ c.changes_none.ensures empty (Segment number k))
+    none_of (is_put_or_dropped def number own) (key_to_change def number own c.args.call.now)
+    (λ k. sym (c.requires.changes k) ∙ c.changes_none.ensures empty (Segment number k))

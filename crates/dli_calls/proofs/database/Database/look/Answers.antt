@@ -6,7 +6,8 @@ pub look-requires : goal.look-requires
 look-requires c = within c.args.self.now c.requires
 
 pub returns-clause-segment : goal.returns-clause-segment
-returns-clause-segment c = c.look.ensures c.requires.defs c.requires.store ∙ found_is c.args.self.now c.requires c.args.key.now
+returns-clause-segment c = c.look.ensures c.requires.defs c.requires.store ∙ found_is c.args.self.now c.requires
+    c.args.key.now
 
 pub returns-clause-whole : goal.returns-clause-whole
 returns-clause-whole c =

@@ -6,7 +6,8 @@ use Rattle.dli_calls.proofs.database.Database.ready.Goals as goal
 pub returns-clause-of : goal.returns-clause-of
 returns-clause-of c =
     λ defs there is.
-    keeps defs c.args.self.now.def.now c.args.self.now.number c.in_ok-answer.field-0.change c.args.work.now c.settle.new.self is there
+    keeps defs c.args.self.now.def.now c.args.self.now.number c.in_ok-answer.field-0.change c.args.work.now
+    c.settle.new.self is there
     c.in_ok-answer.ensures.change c.in_ok-settle.ensures.own c.in_ok-settle.ensures.changed
 
 pub returns-clause-changes : goal.returns-clause-changes

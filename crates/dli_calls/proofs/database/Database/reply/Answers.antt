@@ -13,6 +13,8 @@ returns-in-Isrt-clause-reply c =
     let number = c.args.self.now.number in
     let segments = segments_in c.args.self.now in
     let own = c.args.work.now.own in
-    let changed = subst (λ (call : Call). is_changed def number own call ≡ c.args.changed) c.in-Isrt.is c.requires.changed in
-    subst (λ (call : Call). IfOk c.isrt.result (λ (reply : Reply). replied_by def number reply own ≡ msdb_reply def number segments segments own call)) (sym c.in-Isrt.is)
+    let changed = subst (λ (call : Call). is_changed def number own call ≡ c.args.changed) c.in-Isrt.is
+    c.requires.changed in
+    subst (λ (call : Call). IfOk c.isrt.result (λ (reply : Reply). replied_by def number reply own ≡ msdb_reply def
+    number segments segments own call)) (sym c.in-Isrt.is)
     (if_ok c.isrt.result c.isrt.ensures.reply (λ reply is. is own changed))

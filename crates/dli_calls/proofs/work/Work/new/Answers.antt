@@ -9,7 +9,8 @@ use Rattle.dli_calls.proofs.BeginLemmas.{fresh_all, fresh_fit, fresh_positions}
 use Rattle.dli_calls.proofs.work.Work.new.Goals as goal
 
 all : (c : goal.After-new-4) → c.loop.positions.items ≡ replicate (length c.args.defs.now.msdbs) no_msdb_position
-all c = fresh_all c.loop.counter c.loop.positions.items c.args.defs.now.msdbs c.loop.invariant (omega (arith, c.len-end.ensures))
+all c = fresh_all c.loop.counter c.loop.positions.items c.args.defs.now.msdbs c.loop.invariant
+    (omega (arith, c.len-end.ensures))
 
 pub returns-clause-of : goal.returns-clause-of
 returns-clause-of c = record {
@@ -23,6 +24,30 @@ returns-clause-of c = record {
 pub returns-clause-own : goal.returns-clause-own
 returns-clause-own c =
     λ none.
-    ap (λ positions. let w : Workspace = record { msdbs = positions; dedbs = []; changes = []; deferred = c.new-3.result; inserts = [] } in w) (all c ∙ fresh_positions c.args.defs.now.msdbs)
-    ∙ ap (λ queue. let w : Workspace = record { msdbs = map (λ def. no_msdb_position) c.args.defs.now.msdbs; dedbs = []; changes = []; deferred = queue; inserts = [] } in w) c.new-3.ensures
-    ∙ ap (λ dedbs. let w : Workspace = record { msdbs = map (λ def. no_msdb_position) c.args.defs.now.msdbs; dedbs = map (λ def. no_dedb_position) dedbs; changes = []; deferred = []; inserts = [] } in w) (sym none)
+    ap (λ positions.
+    let w : Workspace = record {
+      msdbs = positions;
+      dedbs = [];
+      changes = [];
+      deferred = c.new-3.result;
+      inserts =
+          [];
+    } in w) (all c ∙ fresh_positions c.args.defs.now.msdbs)
+    ∙ ap (λ queue.
+    let w : Workspace = record {
+      msdbs = map (λ def. no_msdb_position) c.args.defs.now.msdbs;
+      dedbs = [];
+      changes =
+          [];
+      deferred = queue;
+      inserts = [];
+    } in w) c.new-3.ensures
+    ∙ ap (λ dedbs.
+    let w : Workspace = record {
+      msdbs = map (λ def. no_msdb_position) c.args.defs.now.msdbs;
+      dedbs =
+          map (λ def. no_dedb_position) dedbs;
+      changes = [];
+      deferred = [];
+      inserts = [];
+    } in w) (sym none)

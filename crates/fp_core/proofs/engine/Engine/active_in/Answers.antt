@@ -11,13 +11,15 @@ unreachable-requires c =
 pub returns-clause-short : goal.returns-clause-short
 returns-clause-short c =
     let u = c.requires.under in
-    let is = region_is c.args.self.now u.0 c.args.region u.1.0 (region.Active c.in-Active.active) u.1.1 (c.region.ensures ∙ ap (λ r. Some r) c.in-Active.is) in
+    let is = region_is c.args.self.now u.0 c.args.region u.1.0 (region.Active c.in-Active.active) u.1.1
+    (c.region.ensures ∙ ap (λ r. Some r) c.in-Active.is) in
     rw is.message is.short
 
 pub returns-clause-room : goal.returns-clause-room
 returns-clause-room c =
     let u = c.requires.under in
-    let is = region_is c.args.self.now u.0 c.args.region u.1.0 (region.Active c.in-Active.active) u.1.1 (c.region.ensures ∙ ap (λ r. Some r) c.in-Active.is) in
+    let is = region_is c.args.self.now u.0 c.args.region u.1.0 (region.Active c.in-Active.active) u.1.1
+    (c.region.ensures ∙ ap (λ r. Some r) c.in-Active.is) in
     rw is.message (room_within c.args.self.now u.0 c.args.region u.1.0 u.1.1)
 
 pub returns-clause-slot : goal.returns-clause-slot

@@ -23,8 +23,11 @@ use Rattle.fp_core.proofs.engine.Engine.commit.Goals as goal
 pub commit-requires-clause-able : goal.commit-requires-clause-able
 commit-requires-clause-able c =
     let engine = c.args.self.now in
-    let h = c.requires.holds in
-    (engine.defs.now.msdbs, (draft_at engine h.0 c.args.region h.1.0 c.active_in-active.result.now c.args.reply c.in_ok-draft.draft h.1.1.at_end.at_work c.active_in-active.ensures.there c.in_ok-draft.ensures).able)
+    let h = c.requires.holds in (
+      engine.defs.now.msdbs,
+      (draft_at engine h.0 c.args.region h.1.0 c.active_in-active.result.now c.args.reply
+          c.in_ok-draft.draft h.1.1.at_end.at_work c.active_in-active.ensures.there c.in_ok-draft.ensures).able,
+    )
 
 pub commit-requires-clause-reply : goal.commit-requires-clause-reply
 commit-requires-clause-reply c =
@@ -32,8 +35,10 @@ commit-requires-clause-reply c =
     let h = c.requires.holds in
     let w = h.1.1.at_end.at_work in
     let active = c.active_in-active.result.now in
-    let is = at_work_is engine h.0 c.args.region h.1.0 active c.args.reply c.in_ok-draft.draft w c.active_in-active.ensures.there c.in_ok-draft.ensures in
-    let same : length c.in_ok-draft.draft.reply ≡ length c.args.reply = ap (λ (d : Draft). length d.reply) c.in_ok-draft.ensures in
+    let is = at_work_is engine h.0 c.args.region h.1.0 active c.args.reply c.in_ok-draft.draft w
+    c.active_in-active.ensures.there c.in_ok-draft.ensures in
+    let same : length c.in_ok-draft.draft.reply ≡ length c.args.reply =
+    ap (λ (d : Draft). length d.reply) c.in_ok-draft.ensures in
     omega (arith, same, reply_is_short engine h.0 h.1.0 active w.stands is c.args.reply h.1.1.at_end.asked)
 
 pub fail-requires-clause-under : goal.fail-requires-clause-under
@@ -44,8 +49,10 @@ fail-requires-clause-under c =
       h.0,
       (
         h.1.0,
-        at_work_still engine h.0 c.args.region h.1.0 c.active_in-active.result.now c.args.reply c.in_ok-draft.draft h.1.1.at_end.at_work
-            c.active_in-active.ensures.there c.in_ok-draft.ensures c.commit.new.msdbs c.commit.new.log (e.of engine.defs.now.msdbs) e.segments e.sealed e.waiting e.spare,
+        at_work_still engine h.0 c.args.region h.1.0 c.active_in-active.result.now c.args.reply c.in_ok-draft.draft
+            h.1.1.at_end.at_work
+            c.active_in-active.ensures.there c.in_ok-draft.ensures c.commit.new.msdbs c.commit.new.log
+            (e.of engine.defs.now.msdbs) e.segments e.sealed e.waiting e.spare,
       ),
     )
 
@@ -59,7 +66,8 @@ returns-in-Ok-clause-turned c m t h =
     let w = h.at_end.at_work in
     let u = may_end engine m region t w in
     let is = at_work_is engine m region t active reply draft w c.active_in-active.ensures.there c.in_ok-draft.ensures in
-    let handed = draft_at engine m region t active reply draft w c.active_in-active.ensures.there c.in_ok-draft.ensures in
+    let handed = draft_at engine m region t active reply draft w c.active_in-active.ensures.there c.in_ok-draft.ensures
+    in
     let e = c.in-Ok.ensures in
     let entry = c.in-Ok.entry in
     let store = c.commit.new.msdbs in
@@ -68,18 +76,24 @@ returns-in-Ok-clause-turned c m t h =
     let room : ℕ = engine.room - c.refusal_room.result in
     let next : Db = record m.history.now { msdbs = store.msdbs } in
     let made : Entry = entry_of t (done_as m reply store) t.notes entry.items in
-    let done : entry ≡ made = done_is engine m region t reply store active draft entry is c.in_ok-draft.ensures e.entry in
+    let done : entry ≡ made = done_is engine m region t reply store active draft entry is c.in_ok-draft.ensures e.entry
+    in
     let line : length active.message.line ≡ length t.message.line = ap (λ message. length message.line) is.message in
     let most = room_within engine m region t u in
     let same : c.from.result - 1 ≡ region - 1 = ap (λ n. n - 1) c.from.ensures in
-    let slots : deque_capacity engine.owed ≤ deque_capacity owed = omega (arith, c.push_back_reserved.ensures.capacity) in
-    let less : room + refusal_room t.message.line ≡ engine.room = omega (arith, most, line, c.refusal_room.ensures.room) in
+    let slots : deque_capacity engine.owed ≤ deque_capacity owed =
+    omega (arith, c.push_back_reserved.ensures.capacity) in
+    let less : room + refusal_room t.message.line ≡ engine.room =
+    omega (arith, most, line, c.refusal_room.ensures.room) in
     let spare : room ≤ log.spare = omega (arith, w.stands.spare, e.spare) in
-    let unsealed : log.unsealed ≡ engine.log.unsealed ++ made ∷ [] = e.unsealed ∙ ap (λ (x : Entry). engine.log.unsealed ++ x ∷ []) done in
+    let unsealed : log.unsealed ≡ engine.log.unsealed ++ made ∷ [] =
+    e.unsealed ∙ ap (λ (x : Entry). engine.log.unsealed ++ x ∷ []) done in
     let owes : owed.items ≡ engine.owed.items ++ owed_of made ∷ [] =
-    c.push_back_reserved.ensures.items ∙ ap (λ o. engine.owed.items ++ o ∷ []) c.owed_of.ensures ∙ ap (λ (x : Entry). engine.owed.items ++ owed_of x ∷ []) done in
+    c.push_back_reserved.ensures.items ∙ ap (λ o. engine.owed.items ++ o ∷ []) c.owed_of.ensures ∙ ap
+    (λ (x : Entry). engine.owed.items ++ owed_of x ∷ []) done in
     let items : with_items engine.defs.now.msdbs m.history.now.msdbs entry.items ≡ store.msdbs =
-    ap (λ (msdbs : List Msdb). with_items engine.defs.now.msdbs msdbs entry.items) w.stands.msdbs ∙ sym (e.msdbs engine.defs.now.msdbs handed.able) in
+    ap (λ (msdbs : List Msdb). with_items engine.defs.now.msdbs msdbs entry.items) w.stands.msdbs ∙ sym
+    (e.msdbs engine.defs.now.msdbs handed.able) in
     let after : ℕ → Engine = λ n. record engine {
       regions = slice_set engine.regions n regions.Idle;
       locks = c.release_all.new.self;
@@ -89,9 +103,11 @@ returns-in-Ok-clause-turned c m t h =
       room = room;
     } in
     committed engine m region t reply store (after (c.from.result - 1)) entry.items h refl
-    (ends_done engine m region t reply store active draft entry (settlement engine.defs.now m.history.now t.point.own) c.in_ok-draft.ensures e.entry (e.end engine.defs.now m.history.now t.point.own handed))
+    (ends_done engine m region t reply store active draft entry (settlement engine.defs.now m.history.now t.point.own)
+    c.in_ok-draft.ensures e.entry (e.end engine.defs.now m.history.now t.point.own handed))
     (subst (λ n. StandsFor (after n) (ended_with region made next m)) (sym same)
-    (ended_at engine m region t made next c.release_all.new.self store log owed room u c.release_all.ensures.lists c.release_all.ensures.regions
+    (ended_at engine m region t made next c.release_all.new.self store log owed room u c.release_all.ensures.lists
+    c.release_all.ensures.regions
     e.sealed unsealed owes slots less spare (e.of engine.defs.now.msdbs handed.able) refl refl
     (record { fit = e.fit engine.defs.now handed.able; made = items })))
 
@@ -103,21 +119,28 @@ returns-in-Err-Verify-clause-turned c m t h =
     let draft = c.in_ok-draft.draft in
     let w = h.at_end.at_work in
     let e = c.in-Err-Verify.ensures in
-    let handed = draft_at engine m region t active c.args.reply draft w c.active_in-active.ensures.there c.in_ok-draft.ensures in
+    let handed = draft_at engine m region t active c.args.reply draft w c.active_in-active.ensures.there
+    c.in_ok-draft.ensures in
     let settled = settlement engine.defs.now m.history.now t.point.own in
-    let still = at_work_still engine m region t active c.args.reply draft w c.active_in-active.ensures.there c.in_ok-draft.ensures
+    let still = at_work_still engine m region t active c.args.reply draft w c.active_in-active.ensures.there
+    c.in_ok-draft.ensures
     c.commit.new.msdbs c.commit.new.log (e.of engine.defs.now.msdbs) e.segments e.sealed e.waiting e.spare in
-    let ends : settled_as m.history.now draft.reply settled ≡ refused_as (outcome.Verify c.in-Err-Verify.call c.in-Err-Verify.fsa c.in-Err-Verify.found) m.history.now =
-    subst (λ (f : Cause). IsEnd m.history.now c.commit.new.msdbs.msdbs (Err f) (settled_as m.history.now draft.reply settled)) c.in-Err-Verify.field-0-is
+    let ends : settled_as m.history.now draft.reply settled ≡ refused_as
+    (outcome.Verify c.in-Err-Verify.call c.in-Err-Verify.fsa c.in-Err-Verify.found) m.history.now =
+    subst (λ (f : Cause). IsEnd m.history.now c.commit.new.msdbs.msdbs (Err f)
+    (settled_as m.history.now draft.reply settled)) c.in-Err-Verify.field-0-is
     (e.end engine.defs.now m.history.now t.point.own handed) in
-    c.fail.ensures.turned m t still (ends_so engine m region t c.args.reply (refused_as (outcome.Verify c.in-Err-Verify.call c.in-Err-Verify.fsa c.in-Err-Verify.found) m.history.now) h
-    (ap (λ (text : List ℕ). settled_as m.history.now text settled) (sym (ap (λ (d : Draft). d.reply) c.in_ok-draft.ensures)) ∙ ends))
+    c.fail.ensures.turned m t still (ends_so engine m region t c.args.reply
+    (refused_as (outcome.Verify c.in-Err-Verify.call c.in-Err-Verify.fsa c.in-Err-Verify.found) m.history.now) h
+    (ap (λ (text : List ℕ). settled_as m.history.now text settled)
+    (sym (ap (λ (d : Draft). d.reply) c.in_ok-draft.ensures)) ∙ ends))
 
 pub returns-in-Err-Verify-clause-err : goal.returns-in-Err-Verify-clause-err
 returns-in-Err-Verify-clause-err c m t w =
     let engine = c.args.self.now in
     let e = c.in-Err-Verify.ensures in
-    c.fail.ensures.err m t (at_work_still engine m c.args.region t c.active_in-active.result.now c.args.reply c.in_ok-draft.draft w c.active_in-active.ensures.there c.in_ok-draft.ensures
+    c.fail.ensures.err m t (at_work_still engine m c.args.region t c.active_in-active.result.now c.args.reply
+    c.in_ok-draft.draft w c.active_in-active.ensures.there c.in_ok-draft.ensures
     c.commit.new.msdbs c.commit.new.log (e.of engine.defs.now.msdbs) e.segments e.sealed e.waiting e.spare)
 
 pub returns-in-Err-Memory-clause-err : goal.returns-in-Err-Memory-clause-err
@@ -125,5 +148,6 @@ returns-in-Err-Memory-clause-err c m t w =
     let engine = c.args.self.now in
     let e = c.in-Err-Memory.ensures in
     may_end (record engine { store = c.commit.new.msdbs; log = c.commit.new.log }) m c.args.region t
-    (at_work_still engine m c.args.region t c.active_in-active.result.now c.args.reply c.in_ok-draft.draft w c.active_in-active.ensures.there c.in_ok-draft.ensures
+    (at_work_still engine m c.args.region t c.active_in-active.result.now c.args.reply c.in_ok-draft.draft w
+    c.active_in-active.ensures.there c.in_ok-draft.ensures
     c.commit.new.msdbs c.commit.new.log (e.of engine.defs.now.msdbs) e.segments e.sealed e.waiting e.spare)

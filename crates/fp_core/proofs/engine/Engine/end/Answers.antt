@@ -7,5 +7,6 @@ pub returns-clause-room : goal.returns-clause-room
 returns-clause-room c m t u =
     let engine = c.args.self.now in
     let is = region_is engine m c.args.region t (regions.Active c.active_in.result.now) u c.active_in.ensures.there in
-    let line : length c.active_in.result.now.message.line ≡ length t.message.line = ap (λ message. length message.line) is.message in
+    let line : length c.active_in.result.now.message.line ≡ length t.message.line =
+    ap (λ message. length message.line) is.message in
     omega (arith, room_within engine m c.args.region t u, c.refusal_room.ensures.room, line)

@@ -12,16 +12,19 @@ use Rattle.fp_core.proofs.engine.Engine.fail.Goals as goal
 
 pub try_again-requires-clause-left : goal.try_again-requires-clause-left
 try_again-requires-clause-left c m t u =
-    let is = region_is c.args.self.now m c.args.region t (regions.Active c.active_in-active.result.now) u c.active_in-active.ensures.there in
+    let is = region_is c.args.self.now m c.args.region t (regions.Active c.active_in-active.result.now) u
+    c.active_in-active.ensures.there in
     omega (arith, is.tries, c.if-active-self.true)
 
 pub returns-then-active-self-clause-turned : goal.returns-then-active-self-clause-turned
 returns-then-active-self-clause-turned c m t w end =
     let engine = c.args.self.now in
     let u = may_end engine m c.args.region t w in
-    let is = region_is engine m c.args.region t (regions.Active c.active_in-active.result.now) u c.active_in-active.ensures.there in
+    let is = region_is engine m c.args.region t (regions.Active c.active_in-active.result.now) u
+    c.active_in-active.ensures.there in
     let left : t.tries < engine.defs.now.tries = omega (arith, is.tries, c.if-active-self.true) in
-    verify_tried engine c.try_again.new.self m c.args.region t c.try_again.ensures.rules c.args.call c.args.fsa c.args.found w end left (c.in_ok-try_again.ensures.again m t u)
+    verify_tried engine c.try_again.new.self m c.args.region t c.try_again.ensures.rules c.args.call c.args.fsa
+    c.args.found w end left (c.in_ok-try_again.ensures.again m t u)
 
 pub returns-clause-turned : goal.returns-clause-turned
 returns-clause-turned c m t w end =
@@ -31,7 +34,10 @@ returns-clause-turned c m t w end =
     let is = region_is engine m c.args.region t (regions.Active active) u c.active_in-active.ensures.there in
     let used : engine.defs.now.tries ≤ t.tries = omega (arith, is.tries, c.if-active-self.false) in
     let o : Outcome = outcome.Verify c.args.call c.args.fsa c.args.found in
-    let entry = c.in_ok-entry.ensures.entry ∙ ap (λ (notes : List ℕ). refused_entry active o notes) c.in_ok-notes.ensures.notes
+    let entry = c.in_ok-entry.ensures.entry ∙ ap (λ (notes : List ℕ). refused_entry active o notes)
+    c.in_ok-notes.ensures.notes
     ∙ refused_is engine.defs.now engine.scripts.now.scripts active t o m.history.now is in
-    verify_refused engine c.refuse.new.self m c.args.region t c.refuse.ensures.rules c.args.call c.args.fsa c.args.found w end used
-    (subst (λ (x : Entry). StandsFor c.refuse.new.self (ended_with c.args.region x m.history.now m)) entry (c.in_ok-refuse.ensures.ended m t u))
+    verify_refused engine c.refuse.new.self m c.args.region t c.refuse.ensures.rules c.args.call c.args.fsa c.args.found
+    w end used
+    (subst (λ (x : Entry). StandsFor c.refuse.new.self (ended_with c.args.region x m.history.now m)) entry
+    (c.in_ok-refuse.ensures.ended m t u))

@@ -11,7 +11,8 @@ returns-in-Some-clause-turned c m t e =
     c.lock.ensures.turned m t (record {
       at_work = e.at_work;
       wants = lacks (rules_in c.args.self.now) m c.args.region t c.args.reply e.asked
-          ∙ ap (option_map (λ resource. let needed : Needed = record { resource = resource; mode = Exclusive } in needed)) (sym (c.in_ok-resource.ensures m t e.at_work) ∙ c.in-Some.is);
+          ∙ ap (option_map (λ resource. let needed : Needed = record { resource = resource; mode = Exclusive } in
+          needed)) (sym (c.in_ok-resource.ensures m t e.at_work) ∙ c.in-Some.is);
     })
 
 pub returns-in-None-clause-turned : goal.returns-in-None-clause-turned
@@ -19,5 +20,6 @@ returns-in-None-clause-turned c m t e =
     c.commit.ensures.turned m t (record {
       at_end = e;
       lacks_none = lacks (rules_in c.args.self.now) m c.args.region t c.args.reply e.asked
-          ∙ ap (option_map (λ resource. let needed : Needed = record { resource = resource; mode = Exclusive } in needed)) (sym (c.in_ok-resource.ensures m t e.at_work) ∙ c.in-None.is);
+          ∙ ap (option_map (λ resource. let needed : Needed = record { resource = resource; mode = Exclusive } in
+          needed)) (sym (c.in_ok-resource.ensures m t e.at_work) ∙ c.in-None.is);
     })

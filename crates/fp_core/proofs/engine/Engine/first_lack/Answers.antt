@@ -19,15 +19,19 @@ first_unheld-requires-clause-within c =
 pub returns-in-Some : goal.returns-in-Some
 returns-in-Some c m t w =
     let engine = c.args.self.now in
-    let is = region_is engine m c.args.region t (region.Active c.active_in.result.now) (may_end engine m c.args.region t w) c.active_in.ensures.there in
-    let lack = is_first_lack engine m c.args.region t c.active_in.result.now c.as_slice.result.now w is (c.as_slice.ensures ∙ c.in_ok-named.ensures ∙ ap resources c.deferred.ensures) in
+    let is = region_is engine m c.args.region t (region.Active c.active_in.result.now)
+    (may_end engine m c.args.region t w) c.active_in.ensures.there in
+    let lack = is_first_lack engine m c.args.region t c.active_in.result.now c.as_slice.result.now w is
+    (c.as_slice.ensures ∙ c.in_ok-named.ensures ∙ ap resources c.deferred.ensures) in
     let found = rw c.in-Some.is at c.first_unheld.ensures in
     ap (λ r. Some r) c.in_ok-lack-in-Some.ensures ∙ found ∙ lack
 
 pub returns : goal.returns
 returns c m t w =
     let engine = c.args.self.now in
-    let is = region_is engine m c.args.region t (region.Active c.active_in.result.now) (may_end engine m c.args.region t w) c.active_in.ensures.there in
-    let lack = is_first_lack engine m c.args.region t c.active_in.result.now c.as_slice.result.now w is (c.as_slice.ensures ∙ c.in_ok-named.ensures ∙ ap resources c.deferred.ensures) in
+    let is = region_is engine m c.args.region t (region.Active c.active_in.result.now)
+    (may_end engine m c.args.region t w) c.active_in.ensures.there in
+    let lack = is_first_lack engine m c.args.region t c.active_in.result.now c.as_slice.result.now w is
+    (c.as_slice.ensures ∙ c.in_ok-named.ensures ∙ ap resources c.deferred.ensures) in
     let found = rw c.in-None.is at c.first_unheld.ensures in
     found ∙ lack

@@ -16,8 +16,12 @@ go_on-requires-clause-under c =
     let u = c.requires.under in
     let same : c.from.result - 1 ≡ c.args.region - 1 = ap (λ n. n - 1) c.from.ensures in
     let there : slice_get engine.regions (c.args.region - 1) ≡ Some (regions.Active c.in-Active.active) =
-    subst (λ n. slice_get engine.regions n ≡ Some (regions.Active c.in-Active.active)) same (c.item_mut.ensures.value ∙ ap (λ r. Some r) c.in-Active.is) in
-    (u.1.0, region_is engine u.0 c.args.region u.1.0 (regions.Active c.in-Active.active) (may_end engine u.0 c.args.region u.1.0 u.1.1) there)
+    subst (λ n. slice_get engine.regions n ≡ Some (regions.Active c.in-Active.active)) same
+    (c.item_mut.ensures.value ∙ ap (λ r. Some r) c.in-Active.is) in (
+      u.1.0,
+      region_is engine u.0 c.args.region u.1.0 (regions.Active c.in-Active.active)
+          (may_end engine u.0 c.args.region u.1.0 u.1.1) there,
+    )
 
 pub go_on-requires-clause-within : goal.go_on-requires-clause-within
 go_on-requires-clause-within c = omega (arith, c.requires.within, c.requires.under.1.1.stands.rows)
@@ -34,7 +38,8 @@ unreachable-requires c =
     let u = c.requires.under in
     let same : c.from.result - 1 ≡ c.args.region - 1 = ap (λ n. n - 1) c.from.ensures in
     let there : slice_get engine.regions (c.args.region - 1) ≡ Some regions.Idle =
-    subst (λ n. slice_get engine.regions n ≡ Some regions.Idle) same (c.item_mut.ensures.value ∙ ap (λ r. Some r) c.in-Idle.is) in
+    subst (λ n. slice_get engine.regions n ≡ Some regions.Idle) same
+    (c.item_mut.ensures.value ∙ ap (λ r. Some r) c.in-Idle.is) in
     not_idle engine u.0 c.args.region u.1.0 (may_end engine u.0 c.args.region u.1.0 u.1.1) there
 
 pub returns-clause-acted : goal.returns-clause-acted
@@ -43,9 +48,12 @@ returns-clause-acted c m t w =
     let new = c.go_on.new.active in
     let same : c.from.result - 1 ≡ c.args.region - 1 = ap (λ n. n - 1) c.from.ensures in
     let there : slice_get engine.regions (c.args.region - 1) ≡ Some (regions.Active c.in-Active.active) =
-    subst (λ n. slice_get engine.regions n ≡ Some (regions.Active c.in-Active.active)) same (c.item_mut.ensures.value ∙ ap (λ r. Some r) c.in-Active.is) in
-    let is = region_is engine m c.args.region t (regions.Active c.in-Active.active) (may_end engine m c.args.region t w) there in
-    if_ok_by (IsActed engine.defs.now engine.scripts.now.scripts ((standing engine.locks).holds c.args.region) m.history.now c.count-count.result t new)
+    subst (λ n. slice_get engine.regions n ≡ Some (regions.Active c.in-Active.active)) same
+    (c.item_mut.ensures.value ∙ ap (λ r. Some r) c.in-Active.is) in
+    let is = region_is engine m c.args.region t (regions.Active c.in-Active.active) (may_end engine m c.args.region t w)
+    there in
+    if_ok_by (IsActed engine.defs.now engine.scripts.now.scripts ((standing engine.locks).holds c.args.region)
+    m.history.now c.count-count.result t new)
     (HasActed (with_active engine (c.from.result - 1) new) m c.args.region t) c.go_on.result
     (λ a did. subst (λ n. HasActed (with_active engine n new) m c.args.region t a) (sym same)
     (has_acted engine m t new c.args.region w c.count-count.result (c.count-count.ensures ∙ w.stands.count) a did))
@@ -57,8 +65,12 @@ returns-clause-err c m t w =
     let new = c.go_on.new.active in
     let same : c.from.result - 1 ≡ c.args.region - 1 = ap (λ n. n - 1) c.from.ensures in
     let there : slice_get engine.regions (c.args.region - 1) ≡ Some (regions.Active c.in-Active.active) =
-    subst (λ n. slice_get engine.regions n ≡ Some (regions.Active c.in-Active.active)) same (c.item_mut.ensures.value ∙ ap (λ r. Some r) c.in-Active.is) in
-    let is = region_is engine m c.args.region t (regions.Active c.in-Active.active) (may_end engine m c.args.region t w) there in
-    on_err_by (IsTransaction engine.defs.now engine.scripts.now.scripts new t) (MayEnd (with_active engine (c.from.result - 1) new) m c.args.region t) c.go_on.result
-    (λ still. subst (λ n. MayEnd (with_active engine n new) m c.args.region t) (sym same) (works_still engine m t new c.args.region w still))
+    subst (λ n. slice_get engine.regions n ≡ Some (regions.Active c.in-Active.active)) same
+    (c.item_mut.ensures.value ∙ ap (λ r. Some r) c.in-Active.is) in
+    let is = region_is engine m c.args.region t (regions.Active c.in-Active.active) (may_end engine m c.args.region t w)
+    there in
+    on_err_by (IsTransaction engine.defs.now engine.scripts.now.scripts new t)
+    (MayEnd (with_active engine (c.from.result - 1) new) m c.args.region t) c.go_on.result
+    (λ still. subst (λ n. MayEnd (with_active engine n new) m c.args.region t) (sym same)
+    (works_still engine m t new c.args.region w still))
     (c.go_on.ensures.err t is)

@@ -25,6 +25,7 @@ returns-clause-ended c m t u =
     let entry = c.args.entry in
     let slots : deque_capacity engine.owed ≤ deque_capacity new.owed = omega (arith, e.slots) in
     subst (λ (x : Engine). StandsFor x (ended_with c.args.region entry m.history.now m)) (sym e.ok)
-    (ended_at engine m c.args.region t entry m.history.now new.locks engine.store new.log new.owed new.room u e.locks e.rows e.sealed e.unsealed e.owed
+    (ended_at engine m c.args.region t entry m.history.now new.locks engine.store new.log new.owed new.room u e.locks
+    e.rows e.sealed e.unsealed e.owed
     slots (e.room m t u) e.spare u.stands.of u.stands.msdbs (refusal_format entry.outcome c.requires.refusal)
     (refusal_makes engine.defs.now m.history.now entry c.requires.refusal c.requires.rules.parts))

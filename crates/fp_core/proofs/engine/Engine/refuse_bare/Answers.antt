@@ -17,26 +17,36 @@ pub returns-clause-refused : goal.returns-clause-refused
 returns-clause-refused c m t u =
     let engine = c.args.self.now in
     let same : c.from.result - 1 ≡ c.args.region - 1 = ap (λ n. n - 1) c.from.ensures in
-    let there : slice_get engine.regions (c.from.result - 1) ≡ Some (regions.Active c.in-Active.active) = c.item_mut.ensures.value ∙ ap (λ r. Some r) (sym c.replace.ensures.value ∙ c.in-Active.is) in
-    let at : slice_get engine.regions (c.args.region - 1) ≡ Some (regions.Active c.in-Active.active) = subst (λ n. slice_get engine.regions n ≡ Some (regions.Active c.in-Active.active)) same there in
+    let there : slice_get engine.regions (c.from.result - 1) ≡ Some (regions.Active c.in-Active.active) =
+    c.item_mut.ensures.value ∙ ap (λ r. Some r) (sym c.replace.ensures.value ∙ c.in-Active.is) in
+    let at : slice_get engine.regions (c.args.region - 1) ≡ Some (regions.Active c.in-Active.active) =
+    subst (λ n. slice_get engine.regions n ≡ Some (regions.Active c.in-Active.active)) same there in
     let is = region_is engine m c.args.region t (regions.Active c.in-Active.active) u at in
     let seen = region_is engine m c.args.region t (regions.Active c.active_in.result.now) u c.active_in.ensures.there in
-    let seen_line : length c.active_in.result.now.message.line ≡ length t.message.line = ap (λ message. length message.line) seen.message in
-    let entry = c.bare_entry-entry.ensures ∙ bare_is engine.defs.now engine.scripts.now.scripts c.in-Active.active t c.args.outcome m.history.now is in
+    let seen_line : length c.active_in.result.now.message.line ≡ length t.message.line =
+    ap (λ message. length message.line) seen.message in
+    let entry = c.bare_entry-entry.ensures ∙ bare_is engine.defs.now engine.scripts.now.scripts c.in-Active.active t
+    c.args.outcome m.history.now is in
     let long : length (entry_text c.bare_entry-entry.result) ≡ c.refusal_room.result =
     ap (λ (x : Entry). length (entry_text x)) entry
-    ∙ subst (λ text. length (entry_text (bare_entry t.from c.args.outcome text)) ≡ c.refusal_room.result) (ap (λ message. message.line) seen.message) (c.refusal_room.ensures.enough t.from c.args.outcome c.requires.bare) in
+    ∙ subst (λ text. length (entry_text (bare_entry t.from c.args.outcome text)) ≡ c.refusal_room.result)
+    (ap (λ message. message.line) seen.message)
+    (c.refusal_room.ensures.enough t.from c.args.outcome c.requires.bare) in
     let most = room_within engine m c.args.region t u in
-    let ok : IsOk c.append_owed.result = c.append_owed.ensures.sure (omega (arith, long, seen_line, most, c.refusal_room.ensures.room, u.stands.spare)) in
+    let ok : IsOk c.append_owed.result = c.append_owed.ensures.sure
+    (omega (arith, long, seen_line, most, c.refusal_room.ensures.room, u.stands.spare)) in
     let log = c.append_owed.new.log in
     let owed = c.append_owed.new.owed in
     let room : ℕ = engine.room - c.refusal_room.result in
-    let unsealed : log.unsealed ≡ engine.log.unsealed ++ c.bare_entry-entry.result ∷ [] = surely _ c.append_owed.result ok c.append_owed.ensures.unsealed in
-    let owes : owed.items ≡ engine.owed.items ++ owed_of c.bare_entry-entry.result ∷ [] = surely _ c.append_owed.result ok c.append_owed.ensures.owed in
+    let unsealed : log.unsealed ≡ engine.log.unsealed ++ c.bare_entry-entry.result ∷ [] =
+    surely _ c.append_owed.result ok c.append_owed.ensures.unsealed in
+    let owes : owed.items ≡ engine.owed.items ++ owed_of c.bare_entry-entry.result ∷ [] =
+    surely _ c.append_owed.result ok c.append_owed.ensures.owed in
     let spare : room ≤ log.spare = surely _ c.append_owed.result ok c.append_owed.ensures.room in
     let e : Entry = entry_of t (refused_as c.args.outcome m.history.now) [] [] in
     let slots : deque_capacity engine.owed ≤ deque_capacity owed = omega (arith, c.append_owed.ensures.slots) in
-    let less : room + refusal_room t.message.line ≡ engine.room = omega (arith, most, seen_line, c.refusal_room.ensures.room) in
+    let less : room + refusal_room t.message.line ≡ engine.room =
+    omega (arith, most, seen_line, c.refusal_room.ensures.room) in
     subst (λ (r : Region). StandsFor (record engine {
       regions = slice_set engine.regions (c.from.result - 1) r;
       locks = c.release_all.new.self;
@@ -51,7 +61,9 @@ returns-clause-refused c m t u =
       owed = owed;
       room = room;
     }) (ended_with c.args.region e m.history.now m)) (sym same)
-    (ended_at engine m c.args.region t e m.history.now c.release_all.new.self engine.store log owed room u c.release_all.ensures.lists c.release_all.ensures.regions
-    c.append_owed.ensures.sealed (unsealed ∙ ap (λ (x : Entry). engine.log.unsealed ++ x ∷ []) entry) (owes ∙ ap (λ (x : Entry). engine.owed.items ++ owed_of x ∷ []) entry)
+    (ended_at engine m c.args.region t e m.history.now c.release_all.new.self engine.store log owed room u
+    c.release_all.ensures.lists c.release_all.ensures.regions
+    c.append_owed.ensures.sealed (unsealed ∙ ap (λ (x : Entry). engine.log.unsealed ++ x ∷ []) entry)
+    (owes ∙ ap (λ (x : Entry). engine.owed.items ++ owed_of x ∷ []) entry)
     slots less spare u.stands.of u.stands.msdbs (bare_format c.args.outcome c.requires.bare)
     (makes_nothing engine.defs.now m.history.now t.from c.args.outcome t.message.line [] [])))

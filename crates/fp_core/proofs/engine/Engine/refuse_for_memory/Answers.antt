@@ -10,4 +10,5 @@ pub returns-clause-turned : goal.returns-clause-turned
 returns-clause-turned c m t u =
     let engine = c.refuse_bare.new.self in
     starved engine m c.args.region t u.active
-    (subst (λ (rules : Rules). StandsFor engine (refused_with rules m c.args.region t outcome.Memory)) (sym c.refuse_bare.ensures.rules) (c.refuse_bare.ensures.refused m t u))
+    (subst (λ (rules : Rules). StandsFor engine (refused_with rules m c.args.region t outcome.Memory))
+    (sym c.refuse_bare.ensures.rules) (c.refuse_bare.ensures.refused m t u))

@@ -19,4 +19,5 @@ returns-clause-turned c m t e =
     ∙ ap (λ (notes : List ℕ). refused_entry active (outcome.Roll c.args.code) notes) c.in_ok-notes.ensures.notes
     ∙ refused_is engine.defs.now engine.scripts.now.scripts active t (outcome.Roll c.args.code) m.history.now is in
     rolled engine c.refuse.new.self m c.args.region t c.refuse.ensures.rules c.args.code e
-    (subst (λ (x : Entry). StandsFor c.refuse.new.self (ended_with c.args.region x m.history.now m)) entry (c.in_ok-refuse.ensures.ended m t u))
+    (subst (λ (x : Entry). StandsFor c.refuse.new.self (ended_with c.args.region x m.history.now m)) entry
+    (c.in_ok-refuse.ensures.ended m t u))

@@ -14,14 +14,16 @@ returns-then-is_empty-clause-at g c origin m told at =
 
 pub returns-then-is_empty-clause-leaves : goal.returns-then-is_empty-clause-leaves
 returns-then-is_empty-clause-leaves g c origin m told at =
-    left_alone origin (rules_in c.args.self.now) m 1 (g.T.Site.disk c.args.site.now) c.args.self.now (g.met.T.Site.lawful c.args.site.now told) at
+    left_alone origin (rules_in c.args.self.now) m 1 (g.T.Site.disk c.args.site.now) c.args.self.now
+    (g.met.T.Site.lawful c.args.site.now told) at
 
 pub returns-in_err-count-clause-leaves : goal.returns-in_err-count-clause-leaves
 returns-in_err-count-clause-leaves g c origin m told at =
     let engine = c.args.self.now in
     let some : 1 ≤ length engine.owed.items = grind (arith, common_steps) in
     halts origin engine m (g.T.Site.disk c.args.site.now) at (g.met.T.Site.lawful c.args.site.now told) some
-    (g.T.Site.disk c.seal.new.site) (c.seal.ensures.only told) (c.seal.ensures.crash origin.front (origin.groups ++ m.groups) told at.at_rest)
+    (g.T.Site.disk c.seal.new.site) (c.seal.ensures.only told)
+    (c.seal.ensures.crash origin.front (origin.groups ++ m.groups) told at.at_rest)
     (λ image is. c.seal.ensures.settles origin.front (origin.groups ++ m.groups) image told at.at_rest is)
 
 pub returns-in_err-tell-clause-leaves : goal.returns-in_err-tell-clause-leaves
@@ -30,10 +32,13 @@ returns-in_err-tell-clause-leaves g c origin m told at =
     let some : 1 ≤ length engine.owed.items = grind (arith, common_steps) in
     let told1 = c.seal.ensures.told told in
     tells origin engine m (g.T.Site.disk c.args.site.now) at (g.met.T.Site.lawful c.args.site.now told) some
-    (g.T.Site.disk c.seal.new.site) (c.seal.ensures.only told) (c.seal.ensures.crash origin.front (origin.groups ++ m.groups) told at.at_rest)
-    (g.met.T.Site.lawful c.seal.new.site told1) c.seal.new.self.gate (c.in_ok-count.ensures.durable origin.front (origin.groups ++ m.groups) told at.at_rest)
+    (g.T.Site.disk c.seal.new.site) (c.seal.ensures.only told)
+    (c.seal.ensures.crash origin.front (origin.groups ++ m.groups) told at.at_rest)
+    (g.met.T.Site.lawful c.seal.new.site told1) c.seal.new.self.gate
+    (c.in_ok-count.ensures.durable origin.front (origin.groups ++ m.groups) told at.at_rest)
     c.in_ok-count.count c.in_ok-count.ensures.count
-    (g.T.Site.disk c.tell.new.site) (g.met.T.Site.lawful c.tell.new.site (c.tell.ensures.site.still_told told1)) (c.tell.ensures.same told1) (c.tell.ensures.crash told1)
+    (g.T.Site.disk c.tell.new.site) (g.met.T.Site.lawful c.tell.new.site (c.tell.ensures.site.still_told told1))
+    (c.tell.ensures.same told1) (c.tell.ensures.crash told1)
     (c.tell.ensures.part told1)
 
 pub returns-clause-turned : goal.returns-clause-turned
@@ -41,7 +46,9 @@ returns-clause-turned g c m s =
     let engine = c.args.self.now in
     let some : 1 ≤ length engine.owed.items = grind (arith, common_steps) in
     let w = c.in_ok-count.ensures in
-    log_turned engine m s c.in_ok-count.count w.count c.seal.new.self c.tell.new.queues c.tell.new.owed w.sealed w.unsealed c.seal.ensures.spare c.tell.ensures.queues c.in_ok-tell.ensures.freed c.in_ok-tell.ensures.rest c.tell.ensures.capacity some
+    log_turned engine m s c.in_ok-count.count w.count c.seal.new.self c.tell.new.queues c.tell.new.owed w.sealed
+    w.unsealed c.seal.ensures.spare c.tell.ensures.queues c.in_ok-tell.ensures.freed c.in_ok-tell.ensures.rest
+    c.tell.ensures.capacity some
 
 pub returns-clause-at : goal.returns-clause-at
 returns-clause-at g c origin m told at =
@@ -49,23 +56,33 @@ returns-clause-at g c origin m told at =
     let some : 1 ≤ length engine.owed.items = grind (arith, common_steps) in
     let w = c.in_ok-count.ensures in
     let told1 = c.seal.ensures.told told in
-    let turned = log_turned engine m at.parts c.in_ok-count.count w.count c.seal.new.self c.tell.new.queues c.tell.new.owed w.sealed w.unsealed c.seal.ensures.spare c.tell.ensures.queues c.in_ok-tell.ensures.freed c.in_ok-tell.ensures.rest c.tell.ensures.capacity some in
+    let turned = log_turned engine m at.parts c.in_ok-count.count w.count c.seal.new.self c.tell.new.queues
+    c.tell.new.owed w.sealed w.unsealed c.seal.ensures.spare c.tell.ensures.queues c.in_ok-tell.ensures.freed
+    c.in_ok-tell.ensures.rest c.tell.ensures.capacity some in
     record {
       turned = turned;
       at = record {
         parts = turned.stands;
         at_rest =
-            rest_behind origin engine m (g.T.Site.disk c.args.site.now) at (g.met.T.Site.lawful c.args.site.now told) some
-            (g.T.Site.disk c.seal.new.site) (c.seal.ensures.only told) (c.seal.ensures.crash origin.front (origin.groups ++ m.groups) told at.at_rest)
-            (g.met.T.Site.lawful c.seal.new.site told1) c.seal.new.self.gate (w.durable origin.front (origin.groups ++ m.groups) told at.at_rest)
+            rest_behind origin engine m (g.T.Site.disk c.args.site.now) at (g.met.T.Site.lawful c.args.site.now told)
+            some
+            (g.T.Site.disk c.seal.new.site) (c.seal.ensures.only told)
+            (c.seal.ensures.crash origin.front (origin.groups ++ m.groups) told at.at_rest)
+            (g.met.T.Site.lawful c.seal.new.site told1) c.seal.new.self.gate
+            (w.durable origin.front (origin.groups ++ m.groups) told at.at_rest)
             c.in_ok-count.count w.count
-            (g.T.Site.disk c.tell.new.site) (g.met.T.Site.lawful c.tell.new.site (c.tell.ensures.site.still_told told1)) (c.tell.ensures.same told1) (c.tell.ensures.crash told1);
+            (g.T.Site.disk c.tell.new.site) (g.met.T.Site.lawful c.tell.new.site (c.tell.ensures.site.still_told told1))
+            (c.tell.ensures.same told1) (c.tell.ensures.crash told1);
         sent =
-            sent_behind origin engine m (g.T.Site.disk c.args.site.now) at (g.met.T.Site.lawful c.args.site.now told) some
-            (g.T.Site.disk c.seal.new.site) (c.seal.ensures.only told) (c.seal.ensures.crash origin.front (origin.groups ++ m.groups) told at.at_rest)
-            (g.met.T.Site.lawful c.seal.new.site told1) c.seal.new.self.gate (w.durable origin.front (origin.groups ++ m.groups) told at.at_rest)
+            sent_behind origin engine m (g.T.Site.disk c.args.site.now) at (g.met.T.Site.lawful c.args.site.now told)
+            some
+            (g.T.Site.disk c.seal.new.site) (c.seal.ensures.only told)
+            (c.seal.ensures.crash origin.front (origin.groups ++ m.groups) told at.at_rest)
+            (g.met.T.Site.lawful c.seal.new.site told1) c.seal.new.self.gate
+            (w.durable origin.front (origin.groups ++ m.groups) told at.at_rest)
             c.in_ok-count.count w.count
-            (g.T.Site.disk c.tell.new.site) (g.met.T.Site.lawful c.tell.new.site (c.tell.ensures.site.still_told told1)) (c.tell.ensures.same told1) (c.tell.ensures.crash told1)
+            (g.T.Site.disk c.tell.new.site) (g.met.T.Site.lawful c.tell.new.site (c.tell.ensures.site.still_told told1))
+            (c.tell.ensures.same told1) (c.tell.ensures.crash told1)
             (c.in_ok-tell.ensures.sent told1);
       };
     }
@@ -76,8 +93,11 @@ returns-clause-leaves g c origin m told at =
     let some : 1 ≤ length engine.owed.items = grind (arith, common_steps) in
     let told1 = c.seal.ensures.told told in
     tells origin engine m (g.T.Site.disk c.args.site.now) at (g.met.T.Site.lawful c.args.site.now told) some
-    (g.T.Site.disk c.seal.new.site) (c.seal.ensures.only told) (c.seal.ensures.crash origin.front (origin.groups ++ m.groups) told at.at_rest)
-    (g.met.T.Site.lawful c.seal.new.site told1) c.seal.new.self.gate (c.in_ok-count.ensures.durable origin.front (origin.groups ++ m.groups) told at.at_rest)
+    (g.T.Site.disk c.seal.new.site) (c.seal.ensures.only told)
+    (c.seal.ensures.crash origin.front (origin.groups ++ m.groups) told at.at_rest)
+    (g.met.T.Site.lawful c.seal.new.site told1) c.seal.new.self.gate
+    (c.in_ok-count.ensures.durable origin.front (origin.groups ++ m.groups) told at.at_rest)
     c.in_ok-count.count c.in_ok-count.ensures.count
-    (g.T.Site.disk c.tell.new.site) (g.met.T.Site.lawful c.tell.new.site (c.tell.ensures.site.still_told told1)) (c.tell.ensures.same told1) (c.tell.ensures.crash told1)
+    (g.T.Site.disk c.tell.new.site) (g.met.T.Site.lawful c.tell.new.site (c.tell.ensures.site.still_told told1))
+    (c.tell.ensures.same told1) (c.tell.ensures.crash told1)
     (c.tell.ensures.part told1)

@@ -8,7 +8,8 @@ use Rattle.fp_core.proofs.engine.Engine.seal_all.Goals as goal
 
 pub returns-in_default-clause-leaves : goal.returns-in_default-clause-leaves
 returns-in_default-clause-leaves g c origin m told at =
-    left_alone origin (rules_in c.args.self.now) m (place_of m.history - m.sealed) (g.T.Site.disk c.args.site.now) c.args.self.now (g.met.T.Site.lawful c.args.site.now told) at
+    left_alone origin (rules_in c.args.self.now) m (place_of m.history - m.sealed) (g.T.Site.disk c.args.site.now)
+    c.args.self.now (g.met.T.Site.lawful c.args.site.now told) at
 
 pub returns-then-count-eq0-clause-at : goal.returns-then-count-eq0-clause-at
 returns-then-count-eq0-clause-at g c origin m told at =
@@ -18,14 +19,16 @@ returns-then-count-eq0-clause-at g c origin m told at =
 
 pub returns-then-count-eq0-clause-leaves : goal.returns-then-count-eq0-clause-leaves
 returns-then-count-eq0-clause-leaves g c origin m told at =
-    left_alone origin (rules_in c.args.self.now) m (place_of m.history - m.sealed) (g.T.Site.disk c.args.site.now) c.args.self.now (g.met.T.Site.lawful c.args.site.now told) at
+    left_alone origin (rules_in c.args.self.now) m (place_of m.history - m.sealed) (g.T.Site.disk c.args.site.now)
+    c.args.self.now (g.met.T.Site.lawful c.args.site.now told) at
 
 pub returns-clause-turned : goal.returns-clause-turned
 returns-clause-turned g c m s =
     let engine = c.args.self.now in
     let long : c.in-Ok.count ≡ length engine.owed.items = grind (arith, common_steps, c.in-Ok.ensures, c.len.ensures) in
     let some : 1 ≤ c.in-Ok.count = omega arith in
-    ckpt_turned engine c.seal_rest.new.self m c.in-Ok.count s c.seal_rest.ensures.rules long some (c.in_ok-seal_rest.ensures.sealed m s)
+    ckpt_turned engine c.seal_rest.new.self m c.in-Ok.count s c.seal_rest.ensures.rules long some
+    (c.in_ok-seal_rest.ensures.sealed m s)
 
 pub returns-clause-at : goal.returns-clause-at
 returns-clause-at g c origin m told at =
@@ -34,6 +37,7 @@ returns-clause-at g c origin m told at =
     let some : 1 ≤ c.in-Ok.count = omega arith in
     let behind = c.in_ok-seal_rest.ensures.at origin m told at in
     record {
-      turned = ckpt_turned engine c.seal_rest.new.self m c.in-Ok.count at.parts c.seal_rest.ensures.rules long some behind.parts;
+      turned = ckpt_turned engine c.seal_rest.new.self m c.in-Ok.count at.parts c.seal_rest.ensures.rules long some
+          behind.parts;
       at = behind;
     }

@@ -15,7 +15,8 @@ loop-self-init g c =
       stands = c.requires.stands;
       sealed = λ m s. record { times = 0; few = omega arith; stands = s };
       at = λ origin m told at. record { times = 0; few = omega arith; at = at };
-      leaves = λ origin m told at. left_alone origin (rules_in engine) m (place_of m.history - m.sealed) disk engine (g.met.T.Site.lawful c.args.site.now told) at;
+      leaves = λ origin m told at. left_alone origin (rules_in engine) m (place_of m.history - m.sealed) disk engine
+          (g.met.T.Site.lawful c.args.site.now told) at;
       rules = refl;
       defs = refl;
       scripts = refl;
@@ -49,13 +50,15 @@ loop-self-preserved g c =
       leaves = λ origin m told at.
           let h = before.at origin m told at in
           let told1 = before.site.still_told told in
-          leaves_step origin (rules_in first) m first old d0 d1 d2 before.rules at.parts some h (g.met.T.Site.lawful c.loop-self.site told1) (before.leaves origin m told at)
+          leaves_step origin (rules_in first) m first old d0 d1 d2 before.rules at.parts some h
+          (g.met.T.Site.lawful c.loop-self.site told1) (before.leaves origin m told at)
           (one.leaves origin (sealed_times h.times (rules_in first) m) told1 h.at);
       rules = one.rules ∙ before.rules;
       defs = one.defs ∙ before.defs;
       scripts = one.scripts ∙ before.scripts;
       count = one.count ∙ before.count;
-      reads = λ set h. let after = one.reads set h in let earlier = before.reads set after.0 in (earlier.0, after.1 ∙ earlier.1);
+      reads = λ set h. let after = one.reads set h in let earlier = before.reads set after.0 in
+          (earlier.0, after.1 ∙ earlier.1);
       site = record {
         later = omega (arith, before.site.later, one.site.later);
         still_told = λ told. one.site.still_told (before.site.still_told told);
@@ -69,7 +72,8 @@ loop-self-smaller g c =
     let old = c.loop-self.self in
     let some : 1 ≤ length old.owed.items = grind (arith, common_steps) in
     let before = c.loop-self.invariant in
-    let less = fewer old c.seal.new.self before.stands.0 c.in_ok-seal.field-0 c.seal.ensures.rules before.stands.1 (c.in_ok-seal.ensures.turned before.stands.0 before.stands.1) some in
+    let less = fewer old c.seal.new.self before.stands.0 c.in_ok-seal.field-0 c.seal.ensures.rules before.stands.1
+    (c.in_ok-seal.ensures.turned before.stands.0 before.stands.1) some in
     omega (arith, less)
 
 pub returns-in_err-seal-clause-leaves : goal.returns-in_err-seal-clause-leaves
@@ -80,7 +84,9 @@ returns-in_err-seal-clause-leaves g c origin m told at =
     let some : 1 ≤ length old.owed.items = grind (arith, common_steps) in
     let h = before.at origin m told at in
     let told1 = before.site.still_told told in
-    leaves_step origin (rules_in first) m first old (g.T.Site.disk c.args.site.now) (g.T.Site.disk c.loop-self.site) (g.T.Site.disk c.seal.new.site) before.rules at.parts some h (g.met.T.Site.lawful c.loop-self.site told1) (before.leaves origin m told at)
+    leaves_step origin (rules_in first) m first old (g.T.Site.disk c.args.site.now) (g.T.Site.disk c.loop-self.site)
+    (g.T.Site.disk c.seal.new.site) before.rules at.parts some h (g.met.T.Site.lawful c.loop-self.site told1)
+    (before.leaves origin m told at)
     (c.seal.ensures.leaves origin (sealed_times h.times (rules_in first) m) told1 h.at)
 
 pub returns-clause-sealed : goal.returns-clause-sealed
@@ -91,4 +97,5 @@ returns-clause-sealed g c m s =
 pub returns-clause-at : goal.returns-clause-at
 returns-clause-at g c origin m told at =
     let none : length c.loop-self.self.owed.items ≡ 0 = grind (arith, common_steps) in
-    all_at origin (rules_in c.args.self.now) m (g.T.Site.disk c.loop-self.site) c.args.self.now c.loop-self.self at.parts (c.loop-self.invariant.at origin m told at) none
+    all_at origin (rules_in c.args.self.now) m (g.T.Site.disk c.loop-self.site) c.args.self.now c.loop-self.self
+    at.parts (c.loop-self.invariant.at origin m told at) none

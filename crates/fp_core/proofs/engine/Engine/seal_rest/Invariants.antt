@@ -11,16 +11,21 @@ use Rattle.fp_core.proofs.engine.Engine.seal_rest.Given as goal
 abbrev pub invariant-loop-self : goal.invariant-loop-self
 invariant-loop-self g l = record {
   stands : (m : Machine) × StandsFor l.self m;
-  sealed : (m : Machine) → StandsFor l.initial.self m → IsSealed (rules_in l.initial.self) m (length l.initial.self.owed.items) l.self;
-  at : (origin : Origin) (m : Machine) → g.T.Site.told l.initial.site → StandsAt origin (g.T.Site.disk l.initial.site) l.initial.self m
+  sealed : (m : Machine) → StandsFor l.initial.self m
+      → IsSealed (rules_in l.initial.self) m (length l.initial.self.owed.items) l.self;
+  at : (origin : Origin) (m : Machine) → g.T.Site.told l.initial.site
+      → StandsAt origin (g.T.Site.disk l.initial.site) l.initial.self m
       → IsSealedAt origin (rules_in l.initial.self) m (length l.initial.self.owed.items) (g.T.Site.disk l.site) l.self;
-  leaves : (origin : Origin) (m : Machine) → g.T.Site.told l.initial.site → StandsAt origin (g.T.Site.disk l.initial.site) l.initial.self m
-      → Leaves origin (rules_in l.initial.self) m (place_of m.history - m.sealed) (g.T.Site.disk l.initial.site) (g.T.Site.disk l.site);
+  leaves : (origin : Origin) (m : Machine) → g.T.Site.told l.initial.site
+      → StandsAt origin (g.T.Site.disk l.initial.site) l.initial.self m
+      → Leaves origin (rules_in l.initial.self) m (place_of m.history - m.sealed) (g.T.Site.disk l.initial.site)
+      (g.T.Site.disk l.site);
   rules : rules_in l.self ≡ rules_in l.initial.self;
   defs : l.self.defs ≡ l.initial.self.defs;
   scripts : l.self.scripts ≡ l.initial.self.scripts;
   count : length l.self.regions ≡ length l.initial.self.regions;
-  reads : ReadsNothing (g.T.Site.tells_reads l.initial.site) (g.T.Site.tells_reads l.site) (g.T.Site.bytes_read l.initial.site) (g.T.Site.bytes_read l.site);
+  reads : ReadsNothing (g.T.Site.tells_reads l.initial.site) (g.T.Site.tells_reads l.site)
+      (g.T.Site.bytes_read l.initial.site) (g.T.Site.bytes_read l.site);
   site : IsContinued g.T.Site.told g.T.Site.faults g.T.Site.holds g.T.Site.keeps l.initial.site l.site;
 }
 

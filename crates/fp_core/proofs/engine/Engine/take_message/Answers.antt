@@ -11,50 +11,68 @@ group_of-group-requires-clause-within c =
 
 pub oldest-requires-clause-some : goal.oldest-requires-clause-some
 oldest-requires-clause-some c =
-    group_some c.args.self.now c.requires.stands.0 (c.args.region - 1) c.group_of-group.result c.requires.stands.1 c.group_of-group.ensures
+    group_some c.args.self.now c.requires.stands.0 (c.args.region - 1) c.group_of-group.result c.requires.stands.1
+    c.group_of-group.ensures
 
 pub oldest-requires-clause-within : goal.oldest-requires-clause-within
 oldest-requires-clause-within c =
-    group_within c.args.self.now c.requires.stands.0 (c.args.region - 1) c.group_of-group.result c.requires.stands.1 c.group_of-group.ensures
+    group_within c.args.self.now c.requires.stands.0 (c.args.region - 1) c.group_of-group.result c.requires.stands.1
+    c.group_of-group.ensures
 
 pub begin-requires-clause-no_dedbs : goal.begin-requires-clause-no_dedbs
 begin-requires-clause-no_dedbs c = c.requires.stands.1.setup.no_dedbs
 
 pub begin-requires-clause-named : goal.begin-requires-clause-named
 begin-requires-clause-named c =
-    let is = first_takeable c.args.self.now c.requires.stands.0 c.group_of-group.result c.in-Some.message.now c.requires.stands.1 (sym c.in-Some.ensures) in
+    let is = first_takeable c.args.self.now c.requires.stands.0 c.group_of-group.result c.in-Some.message.now
+    c.requires.stands.1 (sym c.in-Some.ensures) in
     (is.script, is.named)
 
 pub begin-requires-clause-short : goal.begin-requires-clause-short
 begin-requires-clause-short c =
-    (first_takeable c.args.self.now c.requires.stands.0 c.group_of-group.result c.in-Some.message.now c.requires.stands.1 (sym c.in-Some.ensures)).short
+    (first_takeable c.args.self.now c.requires.stands.0 c.group_of-group.result c.in-Some.message.now
+    c.requires.stands.1 (sym c.in-Some.ensures)).short
 
 pub take-requires-clause-some : goal.take-requires-clause-some
 take-requires-clause-some c =
-    group_some c.args.self.now c.requires.stands.0 (c.args.region - 1) c.group_of-group.result c.requires.stands.1 c.group_of-group.ensures
+    group_some c.args.self.now c.requires.stands.0 (c.args.region - 1) c.group_of-group.result c.requires.stands.1
+    c.group_of-group.ensures
 
 pub take-requires-clause-within : goal.take-requires-clause-within
 take-requires-clause-within c =
-    group_within c.args.self.now c.requires.stands.0 (c.args.region - 1) c.group_of-group.result c.requires.stands.1 c.group_of-group.ensures
+    group_within c.args.self.now c.requires.stands.0 (c.args.region - 1) c.group_of-group.result c.requires.stands.1
+    c.group_of-group.ensures
 
 pub returns-in-None-clause-turned : goal.returns-in-None-clause-turned
 returns-in-None-clause-turned c m s =
-    nothing c.args.self.now m c.args.region c.group_of-group.result c.requires.some s c.group_of-group.ensures c.requires.idle (sym c.in-None.ensures)
+    nothing c.args.self.now m c.args.region c.group_of-group.result c.requires.some s c.group_of-group.ensures
+    c.requires.idle (sym c.in-None.ensures)
 
 pub returns-in_err-make_room-clause-err : goal.returns-in_err-make_room-clause-err
 returns-in_err-make_room-clause-err c m s =
     on_err c.from_residual-in_err-make_room.result
-    (roomier c.args.self.now m c.make_room.new.log c.make_room.new.owed s c.make_room.ensures.log c.make_room.ensures.spare c.make_room.ensures.owed c.make_room.ensures.capacity)
+    (roomier c.args.self.now m c.make_room.new.log c.make_room.new.owed s c.make_room.ensures.log
+    c.make_room.ensures.spare c.make_room.ensures.owed c.make_room.ensures.capacity)
 
 pub returns-clause-turned : goal.returns-clause-turned
 returns-clause-turned c m s =
     let place : ℕ = c.from-place.result - 1 in
     let e : suc place ≡ c.args.region = omega (arith, c.from-place.ensures, c.requires.some) in
-    let same : c.in-Some-take.message ≡ c.in-Some.message.now = some_same _ _ (c.in-Some-take.ensures.oldest ∙ sym c.in-Some.ensures) in
-    takes c.args.self.now m place c.group_of-group.result c.args.region e s (rw c.from-place.ensures c.group_of-group.ensures) (rw c.from-place.ensures c.requires.idle)
+    let same : c.in-Some-take.message ≡ c.in-Some.message.now =
+    some_same _ _ (c.in-Some-take.ensures.oldest ∙ sym c.in-Some.ensures) in
+    takes c.args.self.now m place c.group_of-group.result c.args.region e s
+    (rw c.from-place.ensures c.group_of-group.ensures) (rw c.from-place.ensures c.requires.idle)
     c.in-Some.message.now
-    (record { from = c.count-from.result; message = c.in-Some-take.message; program = c.in_ok-program-in-Some.program; work = c.in_ok-program-in-Some.work; tries = 0 })
+    (record {
+      from = c.count-from.result;
+      message = c.in-Some-take.message;
+      program =
+          c.in_ok-program-in-Some.program;
+      work = c.in_ok-program-in-Some.work;
+      tries = 0;
+    })
     c.take.new.self c.make_room.new.log c.make_room.new.owed c.in_ok-program-in-Some.room
     (sym c.in-Some.ensures) c.take.ensures.rest c.take.ensures.busy c.make_room.ensures.log c.make_room.ensures.owed
-    (omega (arith, c.in_ok-make_room.ensures.slots, c.len.ensures)) c.in_ok-program-in-Some.ensures.room c.in_ok-make_room.ensures.room
+    (omega (arith, c.in_ok-make_room.ensures.slots, c.len.ensures)) c.in_ok-program-in-Some.ensures.room
+    c.in_ok-make_room.ensures.room
     c.count-from.ensures same (c.in_ok-program-in-Some.ensures.is c.count-from.result)

@@ -5,19 +5,38 @@ use Rattle.fp_core.proofs.engine.Engine.try_act.Goals as goal
 
 pub lock-requires-clause-needs : goal.lock-requires-clause-needs
 lock-requires-clause-needs c =
-    let u = c.requires.under in
-    (u.0, (u.1.0, subst (λ (a : Acted). HasActed c.go_on.new.self u.0 c.args.region u.1.0 a) c.in-Needs.is (c.in_ok-go_on.ensures.acted u.0 u.1.0 u.1.1)))
+    let u = c.requires.under in (
+      u.0,
+      (
+        u.1.0,
+        subst (λ (a : Acted). HasActed c.go_on.new.self u.0 c.args.region u.1.0 a) c.in-Needs.is
+            (c.in_ok-go_on.ensures.acted u.0 u.1.0 u.1.1),
+      ),
+    )
 
 pub finish-requires-clause-at_end : goal.finish-requires-clause-at_end
 finish-requires-clause-at_end c =
-    let u = c.requires.under in
-    (u.0, (u.1.0, subst (λ (a : Acted). HasActed c.go_on.new.self u.0 c.args.region u.1.0 a) c.in-Replies.is (c.in_ok-go_on.ensures.acted u.0 u.1.0 u.1.1)))
+    let u = c.requires.under in (
+      u.0,
+      (
+        u.1.0,
+        subst (λ (a : Acted). HasActed c.go_on.new.self u.0 c.args.region u.1.0 a) c.in-Replies.is
+            (c.in_ok-go_on.ensures.acted u.0 u.1.0 u.1.1),
+      ),
+    )
 
 pub roll-requires-clause-at_end : goal.roll-requires-clause-at_end
 roll-requires-clause-at_end c =
-    let u = c.requires.under in
-    (u.0, (u.1.0, subst (λ (a : Acted). HasActed c.go_on.new.self u.0 c.args.region u.1.0 a) c.in-Rolls.is (c.in_ok-go_on.ensures.acted u.0 u.1.0 u.1.1)))
+    let u = c.requires.under in (
+      u.0,
+      (
+        u.1.0,
+        subst (λ (a : Acted). HasActed c.go_on.new.self u.0 c.args.region u.1.0 a) c.in-Rolls.is
+            (c.in_ok-go_on.ensures.acted u.0 u.1.0 u.1.1),
+      ),
+    )
 
 pub returns-in-Needs-clause-err : goal.returns-in-Needs-clause-err
 returns-in-Needs-clause-err c m t w =
-    c.lock.ensures.err m t (subst (λ (a : Acted). HasActed c.go_on.new.self m c.args.region t a) c.in-Needs.is (c.in_ok-go_on.ensures.acted m t w))
+    c.lock.ensures.err m t (subst (λ (a : Acted). HasActed c.go_on.new.self m c.args.region t a) c.in-Needs.is
+    (c.in_ok-go_on.ensures.acted m t w))

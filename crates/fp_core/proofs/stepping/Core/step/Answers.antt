@@ -13,42 +13,52 @@ use Rattle.fp_core.proofs.stepping.Core.step.Goals as goal
 
 pub turn-requires-clause-within : goal.turn-requires-clause-within
 turn-requires-clause-within g c =
-    let of : IsEventOf c.args.self.now.engine.defs.now (event.Region c.in-Region.region) = subst (IsEventOf c.args.self.now.engine.defs.now) c.in-Region.is c.requires.event in
+    let of : IsEventOf c.args.self.now.engine.defs.now (event.Region c.in-Region.region) =
+    subst (IsEventOf c.args.self.now.engine.defs.now) c.in-Region.is c.requires.event in
     omega (arith, of.1, regions_long c.args.self.now.engine c.requires.stands.0 c.requires.stands.1)
 
 pub returns-in_err-turn-in-Region-clause-leaves : goal.returns-in_err-turn-in-Region-clause-leaves
 returns-in_err-turn-in-Region-clause-leaves g c origin m told at =
-    left_alone origin (rules_in c.args.self.now.engine) m (seals_of c.args.event.now m) (g.T.Site.disk c.args.site.now) c.args.self.now.engine (g.met.T.Site.lawful c.args.site.now told) at
+    left_alone origin (rules_in c.args.self.now.engine) m (seals_of c.args.event.now m) (g.T.Site.disk c.args.site.now)
+    c.args.self.now.engine (g.met.T.Site.lawful c.args.site.now told) at
 
 pub returns-in_ok-turn-in-Region-clause-leaves : goal.returns-in_ok-turn-in-Region-clause-leaves
 returns-in_ok-turn-in-Region-clause-leaves g c origin m told at =
-    left_alone origin (rules_in c.args.self.now.engine) m (seals_of c.args.event.now m) (g.T.Site.disk c.args.site.now) c.args.self.now.engine (g.met.T.Site.lawful c.args.site.now told) at
+    left_alone origin (rules_in c.args.self.now.engine) m (seals_of c.args.event.now m) (g.T.Site.disk c.args.site.now)
+    c.args.self.now.engine (g.met.T.Site.lawful c.args.site.now told) at
 
 pub returns-in-In-clause-leaves : goal.returns-in-In-clause-leaves
 returns-in-In-clause-leaves g c origin m told at =
-    left_alone origin (rules_in c.args.self.now.engine) m (seals_of c.args.event.now m) (g.T.Site.disk c.args.site.now) c.args.self.now.engine (g.met.T.Site.lawful c.args.site.now told) at
+    left_alone origin (rules_in c.args.self.now.engine) m (seals_of c.args.event.now m) (g.T.Site.disk c.args.site.now)
+    c.args.self.now.engine (g.met.T.Site.lawful c.args.site.now told) at
 
 pub returns-in-Out-clause-leaves : goal.returns-in-Out-clause-leaves
 returns-in-Out-clause-leaves g c origin m told at =
-    left_alone origin (rules_in c.args.self.now.engine) m (seals_of c.args.event.now m) (g.T.Site.disk c.args.site.now) c.args.self.now.engine (g.met.T.Site.lawful c.args.site.now told) at
+    left_alone origin (rules_in c.args.self.now.engine) m (seals_of c.args.event.now m) (g.T.Site.disk c.args.site.now)
+    c.args.self.now.engine (g.met.T.Site.lawful c.args.site.now told) at
 
 pub returns-in-In-clause-beside : goal.returns-in-In-clause-beside
 returns-in-In-clause-beside g c origin m told tells beside =
     let core = c.args.self.now in
     let disk = g.T.Site.disk c.args.site.now in
     let left = g.S.Source.left c.read_line.new.source part.Messages in
-    subst (λ (e : Event). IfOk c.read_line.result (SteppedBeside origin e m disk core.lines c.read_line.new.self.lines left c.read_line.new.self.engine)) (sym c.in-In.is)
+    subst (λ (e : Event). IfOk c.read_line.result (SteppedBeside origin e m disk core.lines c.read_line.new.self.lines
+    left c.read_line.new.self.engine)) (sym c.in-In.is)
     (if_ok_by (SteppedBy event.In m core.lines c.read_line.new.self.lines left c.read_line.new.self.engine)
-    (SteppedBeside origin event.In m disk core.lines c.read_line.new.self.lines left c.read_line.new.self.engine) c.read_line.result
-    (λ given by. in_beside origin disk left m core.lines c.read_line.new.self.lines core.engine c.read_line.new.self.engine given c.read_line.ensures.gate by beside.at)
+    (SteppedBeside origin event.In m disk core.lines c.read_line.new.self.lines left c.read_line.new.self.engine)
+    c.read_line.result
+    (λ given by. in_beside origin disk left m core.lines c.read_line.new.self.lines core.engine
+    c.read_line.new.self.engine given c.read_line.ensures.gate by beside.at)
     (c.read_line.ensures.read m tells beside.at.parts beside.lines_are))
 
 pub returns-in_ok-turn-in-Region-clause-turned : goal.returns-in_ok-turn-in-Region-clause-turned
 returns-in_ok-turn-in-Region-clause-turned g c m s =
     let core = c.args.self.now in (
       m.lines,
-      subst (λ (e : Event). Stepped e m core.lines core.lines c.turn.new.self c.in_ok-turn-in-Region.field-0) (sym c.in-Region.is)
-          (region_stepped c.in-Region.region m core.lines c.turn.new.self c.in_ok-turn-in-Region.field-0 (c.in_ok-turn-in-Region.ensures.turned m s)),
+      subst (λ (e : Event). Stepped e m core.lines core.lines c.turn.new.self c.in_ok-turn-in-Region.field-0)
+          (sym c.in-Region.is)
+          (region_stepped c.in-Region.region m core.lines c.turn.new.self c.in_ok-turn-in-Region.field-0
+          (c.in_ok-turn-in-Region.ensures.turned m s)),
     )
 
 pub returns-in_ok-turn-in-Region-clause-beside : goal.returns-in_ok-turn-in-Region-clause-beside
@@ -56,14 +66,19 @@ returns-in_ok-turn-in-Region-clause-beside g c origin m told tells beside =
     let core = c.args.self.now in
     let disk = g.T.Site.disk c.args.site.now in
     let left = g.S.Source.left c.args.source.now part.Messages in
-    subst (λ (e : Event). SteppedBeside origin e m disk core.lines core.lines left c.turn.new.self c.in_ok-turn-in-Region.field-0) (sym c.in-Region.is)
-    (region_beside origin disk left m c.in-Region.region core.lines core.engine c.turn.new.self c.in_ok-turn-in-Region.field-0 c.turn.ensures.gate (c.in_ok-turn-in-Region.ensures.turned m beside.at.parts) beside)
+    subst (λ (e : Event). SteppedBeside origin e m disk core.lines core.lines left c.turn.new.self
+    c.in_ok-turn-in-Region.field-0) (sym c.in-Region.is)
+    (region_beside origin disk left m c.in-Region.region core.lines core.engine c.turn.new.self
+    c.in_ok-turn-in-Region.field-0 c.turn.ensures.gate (c.in_ok-turn-in-Region.ensures.turned m beside.at.parts)
+    beside)
 
 pub returns-in-Log-clause-turned : goal.returns-in-Log-clause-turned
 returns-in-Log-clause-turned g c m s =
     let core = c.args.self.now in
-    subst (λ (e : Event). IfOk c.seal.result (λ given. (lines : List (List ℕ)) × Stepped e (record m { lines = lines }) core.lines core.lines c.seal.new.self given)) (sym c.in-Log.is)
-    (if_ok_by (Turned event.Log m c.seal.new.self) (λ given. (lines : List (List ℕ)) × Stepped event.Log (record m { lines = lines }) core.lines core.lines c.seal.new.self given) c.seal.result
+    subst (λ (e : Event). IfOk c.seal.result (λ given. (lines : List (List ℕ))
+    × Stepped e (record m { lines = lines }) core.lines core.lines c.seal.new.self given)) (sym c.in-Log.is)
+    (if_ok_by (Turned event.Log m c.seal.new.self) (λ given. (lines : List (List ℕ))
+    × Stepped event.Log (record m { lines = lines }) core.lines core.lines c.seal.new.self given) c.seal.result
     (λ given turned. (m.lines, log_stepped m core.lines c.seal.new.self given turned)) (c.seal.ensures.turned m s))
 
 pub returns-in-Log-clause-beside : goal.returns-in-Log-clause-beside
@@ -71,25 +86,35 @@ returns-in-Log-clause-beside g c origin m told tells beside =
     let core = c.args.self.now in
     let disk = g.T.Site.disk c.seal.new.site in
     let left = g.S.Source.left c.args.source.now part.Messages in
-    subst (λ (e : Event). IfOk c.seal.result (SteppedBeside origin e m disk core.lines core.lines left c.seal.new.self)) (sym c.in-Log.is)
-    (if_ok_by (SteppedAt origin event.Log m disk c.seal.new.self) (SteppedBeside origin event.Log m disk core.lines core.lines left c.seal.new.self) c.seal.result
-    (λ given at. log_beside origin disk left m core.lines c.seal.new.self given beside.lines_are at) (c.seal.ensures.at origin m told beside.at))
+    subst (λ (e : Event). IfOk c.seal.result (SteppedBeside origin e m disk core.lines core.lines left c.seal.new.self))
+    (sym c.in-Log.is)
+    (if_ok_by (SteppedAt origin event.Log m disk c.seal.new.self)
+    (SteppedBeside origin event.Log m disk core.lines core.lines left c.seal.new.self) c.seal.result
+    (λ given at. log_beside origin disk left m core.lines c.seal.new.self given beside.lines_are at)
+    (c.seal.ensures.at origin m told beside.at))
 
 pub returns-in-Ckpt-clause-turned : goal.returns-in-Ckpt-clause-turned
 returns-in-Ckpt-clause-turned g c m s =
     let core = c.args.self.now in
-    subst (λ (e : Event). IfOk c.seal_all.result (λ given. (lines : List (List ℕ)) × Stepped e (record m { lines = lines }) core.lines core.lines c.seal_all.new.self given)) (sym c.in-Ckpt.is)
-    (if_ok_by (Turned event.Ckpt m c.seal_all.new.self) (λ given. (lines : List (List ℕ)) × Stepped event.Ckpt (record m { lines = lines }) core.lines core.lines c.seal_all.new.self given) c.seal_all.result
-    (λ given turned. (m.lines, ckpt_stepped m core.lines c.seal_all.new.self given turned)) (c.seal_all.ensures.turned m s))
+    subst (λ (e : Event). IfOk c.seal_all.result (λ given. (lines : List (List ℕ))
+    × Stepped e (record m { lines = lines }) core.lines core.lines c.seal_all.new.self given)) (sym c.in-Ckpt.is)
+    (if_ok_by (Turned event.Ckpt m c.seal_all.new.self)
+    (λ given. (lines : List (List ℕ)) × Stepped event.Ckpt (record m { lines = lines }) core.lines core.lines
+    c.seal_all.new.self given) c.seal_all.result
+    (λ given turned. (m.lines, ckpt_stepped m core.lines c.seal_all.new.self given turned))
+    (c.seal_all.ensures.turned m s))
 
 pub returns-in-Ckpt-clause-beside : goal.returns-in-Ckpt-clause-beside
 returns-in-Ckpt-clause-beside g c origin m told tells beside =
     let core = c.args.self.now in
     let disk = g.T.Site.disk c.seal_all.new.site in
     let left = g.S.Source.left c.args.source.now part.Messages in
-    subst (λ (e : Event). IfOk c.seal_all.result (SteppedBeside origin e m disk core.lines core.lines left c.seal_all.new.self)) (sym c.in-Ckpt.is)
-    (if_ok_by (SteppedAt origin event.Ckpt m disk c.seal_all.new.self) (SteppedBeside origin event.Ckpt m disk core.lines core.lines left c.seal_all.new.self) c.seal_all.result
-    (λ given at. ckpt_beside origin disk left m core.lines c.seal_all.new.self given beside.lines_are at) (c.seal_all.ensures.at origin m told beside.at))
+    subst (λ (e : Event). IfOk c.seal_all.result (SteppedBeside origin e m disk core.lines core.lines left
+    c.seal_all.new.self)) (sym c.in-Ckpt.is)
+    (if_ok_by (SteppedAt origin event.Ckpt m disk c.seal_all.new.self)
+    (SteppedBeside origin event.Ckpt m disk core.lines core.lines left c.seal_all.new.self) c.seal_all.result
+    (λ given at. ckpt_beside origin disk left m core.lines c.seal_all.new.self given beside.lines_are at)
+    (c.seal_all.ensures.at origin m told beside.at))
 
 pub returns-in-Out-clause-turned : goal.returns-in-Out-clause-turned
 returns-in-Out-clause-turned g c m s =
@@ -104,5 +129,6 @@ returns-in-Out-clause-beside g c origin m told tells beside =
     let core = c.args.self.now in
     let disk = g.T.Site.disk c.args.site.now in
     let left = g.S.Source.left c.args.source.now part.Messages in
-    subst (λ (e : Event). SteppedBeside origin e m disk core.lines core.lines left core.engine did.Nothing) (sym c.in-Out.is)
+    subst (λ (e : Event). SteppedBeside origin e m disk core.lines core.lines left core.engine did.Nothing)
+    (sym c.in-Out.is)
     (out_beside origin disk left m core.lines core.engine beside)

@@ -11,7 +11,8 @@ pub returns-clause-begins : goal.returns-clause-begins
 returns-clause-begins c =
     let past = c.new-3.result in
     let is : past_of past ≡ Opened (image_at c.args.start.images) c.args.start.sent ∷ [] =
-    history_of-none past.start c.args.start past.calls.items past.kept.items c.new-3.ensures.calls c.new-3.ensures.start in
+    history_of-none past.start c.args.start past.calls.items past.kept.items c.new-3.ensures.calls c.new-3.ensures.start
+    in
     record {
       contents = ap contents_after is;
       durable = opened_durable (past_of past) (image_at c.args.start.images) c.args.start.sent is;

@@ -16,8 +16,10 @@ returns-in_err-take_part-clause-too_long g c = λ t n e.
     let long = c.in_err-take_part.ensures.too_long n (ap (λ x. Err x) same) in
     let left : List ℕ = g.S.Source.left c.fill.new.source Messages in
     let more = long_extended (c.loop-self.line.items ++ buffered c.fill.new.self) left long in
-    let now : to_come c.fill.new.self left ≡ to_come c.loop-self.self (g.S.Source.left c.loop-self.source Messages) = c.in_ok-fill.ensures.same (c.loop-self.invariant.source.stays_told t) in
-    let whole : to_come c.args.self.now (g.S.Source.left c.args.source.now Messages) ≡ c.loop-self.line.items ++ to_come c.loop-self.self (g.S.Source.left c.loop-self.source Messages) = c.loop-self.invariant.same t in
+    let now : to_come c.fill.new.self left ≡ to_come c.loop-self.self (g.S.Source.left c.loop-self.source Messages) =
+    c.in_ok-fill.ensures.same (c.loop-self.invariant.source.stays_told t) in
+    let whole : to_come c.args.self.now (g.S.Source.left c.args.source.now Messages) ≡ c.loop-self.line.items ++ to_come
+    c.loop-self.self (g.S.Source.left c.loop-self.source Messages) = c.loop-self.invariant.same t in
     rw (whole, ← now, ← append_assoc c.loop-self.line.items (buffered c.fill.new.self) left) more
 
 pub loop-self-preserved : goal.loop-self-preserved
@@ -27,15 +29,19 @@ loop-self-preserved g c =
     let left : List ℕ = g.S.Source.left c.fill.new.source Messages in
     let line : List ℕ = c.loop-self.line.items in
     record {
-      source = reads_joined g.S.Source.told g.S.Source.left g.S.Source.faults g.S.Source.holds g.S.Source.keeps Messages _ _ _ it.source c.in_ok-fill.ensures.source;
+      source = reads_joined g.S.Source.told g.S.Source.left g.S.Source.faults g.S.Source.holds g.S.Source.keeps Messages
+          _ _ _ it.source c.in_ok-fill.ensures.source;
       same = λ t.
-          let whole : to_come c.args.self.now (g.S.Source.left c.args.source.now Messages) ≡ line ++ to_come c.loop-self.self (g.S.Source.left c.loop-self.source Messages) = it.same t in
-          let now : to_come c.fill.new.self left ≡ to_come c.loop-self.self (g.S.Source.left c.loop-self.source Messages) = c.in_ok-fill.ensures.same (it.source.stays_told t) in
+          let whole : to_come c.args.self.now (g.S.Source.left c.args.source.now Messages) ≡ line ++ to_come
+          c.loop-self.self (g.S.Source.left c.loop-self.source Messages) = it.same t in
+          let now : to_come c.fill.new.self left ≡ to_come c.loop-self.self
+          (g.S.Source.left c.loop-self.source Messages) = c.in_ok-fill.ensures.same (it.source.stays_told t) in
           let all : buffered c.fill.new.self ≡ part.0 = part.1.all c.if-branch-2.false in
           let nothing : buffered c.take_part.new.self ≡ [] = part.1.nothing c.if-branch-2.false in
           let more : c.take_part.new.line.items ≡ line ++ part.0 = part.2 in
           rw (whole, ← now, all, more, nothing) (sym (append_assoc line part.0 left));
-      plain = let more : c.take_part.new.line.items ≡ line ++ part.0 = part.2 in rw more (plain_append line part.0 it.plain part.1.plain);
+      plain = let more : c.take_part.new.line.items ≡ line ++ part.0 = part.2 in
+          rw more (plain_append line part.0 it.plain part.1.plain);
       short = c.in_ok-take_part.ensures.short;
       given = c.in_ok-take_part.ensures.given ∙ c.in_ok-fill.ensures.given ∙ it.given;
     }

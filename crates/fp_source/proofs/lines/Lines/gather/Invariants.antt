@@ -7,9 +7,11 @@ use Rattle.fp_source.proofs.lines.Lines.gather.Given as goal
 
 abbrev pub invariant-loop-self : goal.invariant-loop-self
 invariant-loop-self g l = record {
-  source : ReadsOnly g.S.Source.told g.S.Source.left g.S.Source.faults g.S.Source.holds g.S.Source.keeps Messages l.initial.source l.source;
+  source : ReadsOnly g.S.Source.told g.S.Source.left g.S.Source.faults g.S.Source.holds g.S.Source.keeps Messages
+      l.initial.source l.source;
   same : g.S.Source.told l.initial.source →
-      to_come l.initial.self (g.S.Source.left l.initial.source Messages) ≡ l.line.items ++ to_come l.self (g.S.Source.left l.source Messages);
+      to_come l.initial.self (g.S.Source.left l.initial.source Messages) ≡ l.line.items ++ to_come l.self
+      (g.S.Source.left l.source Messages);
   plain : HasNoNewline l.line.items;
   short : length l.line.items ≤ 2100;
   given : lines_given l.self ≡ lines_given l.initial.self;

@@ -12,10 +12,12 @@ pub returns-then-self-eq-MOST_LINES-clause-too_many : goal.returns-then-self-eq-
 returns-then-self-eq-MOST_LINES-clause-too_many g c = λ t n e.
     let left : List ℕ = g.S.Source.left c.fill.new.source Messages in
     let number : n ≡ 1000001 = cc e in
-    let now : to_come c.fill.new.self left ≡ to_come c.args.self.now (g.S.Source.left c.args.source.now Messages) = c.in_ok-fill.ensures.same t in
+    let now : to_come c.fill.new.self left ≡ to_come c.args.self.now (g.S.Source.left c.args.source.now Messages) =
+    c.in_ok-fill.ensures.same t in
     let some : 0 < length (buffered c.fill.new.self) = c.in_ok-fill.ensures.some c.if-not-branch.false in
     let given : c.args.self.now.given ≡ 1000000 = sym c.in_ok-fill.ensures.given ∙ c.if-self-eq-MOST_LINES.true in
-    rw (number, ← now) (many_ahead c.args.self.now.given (to_come c.fill.new.self left) given (omega (arith, length-append (buffered c.fill.new.self) left)))
+    rw (number, ← now) (many_ahead c.args.self.now.given (to_come c.fill.new.self left) given
+    (omega (arith, length-append (buffered c.fill.new.self) left)))
 
 pub returns-in_err-by_newline-clause-too_long : goal.returns-in_err-by_newline-clause-too_long
 returns-in_err-by_newline-clause-too_long g c = λ t n e.
@@ -23,10 +25,13 @@ returns-in_err-by_newline-clause-too_long g c = λ t n e.
     let told : LineFault = c.in_err-by_newline.field-0.0 in
     let same : told ≡ TooLong n = cc (p.1, p.2, e) in
     let left : List ℕ = g.S.Source.left c.fill.new.source Messages in
-    let now : to_come c.fill.new.self left ≡ to_come c.args.self.now (g.S.Source.left c.args.source.now Messages) = c.in_ok-fill.ensures.same t in
-    let long = c.in_err-by_newline.ensures.too_long (c.in_ok-fill.ensures.source.stays_told t) n (ap (λ x. Err x) same) in
+    let now : to_come c.fill.new.self left ≡ to_come c.args.self.now (g.S.Source.left c.args.source.now Messages) =
+    c.in_ok-fill.ensures.same t in
+    let long = c.in_err-by_newline.ensures.too_long (c.in_ok-fill.ensures.source.stays_told t) n (ap (λ x. Err x) same)
+    in
     let given : c.fill.new.self.given ≡ c.args.self.now.given = c.in_ok-fill.ensures.given in
-    let number : n ≡ c.args.self.now.given + 1 = c.in_err-by_newline.ensures.number n (ap (λ x. Err x) same) ∙ ap (λ k. k + 1) given in
+    let number : n ≡ c.args.self.now.given + 1 = c.in_err-by_newline.ensures.number n (ap (λ x. Err x) same) ∙ ap
+    (λ k. k + 1) given in
     rw (number, ← now) (long_ahead c.args.self.now.given (to_come c.fill.new.self left) (omega arith) long)
 
 -- what the bytes ahead begin with
@@ -35,7 +40,8 @@ begins : (g : Over) (c : goal.After-finished g) → g.S.Source.told c.args.sourc
     (to_come c.gather.new.self (g.S.Source.left c.gather.new.source Messages)) c.in_ok-by_newline.by_newline
 begins g c t =
     let left : List ℕ = g.S.Source.left c.fill.new.source Messages in
-    let now : to_come c.fill.new.self left ≡ to_come c.args.self.now (g.S.Source.left c.args.source.now Messages) = c.in_ok-fill.ensures.same t in
+    let now : to_come c.fill.new.self left ≡ to_come c.args.self.now (g.S.Source.left c.args.source.now Messages) =
+    c.in_ok-fill.ensures.same t in
     let some : 0 < length (buffered c.fill.new.self) = c.in_ok-fill.ensures.some c.if-not-branch.false in
     let told = c.in_ok-fill.ensures.source.stays_told t in
     let it = c.in_ok-by_newline.ensures in
@@ -52,5 +58,6 @@ returns-clause-line g c = λ t. rw c.finished.ensures (line_given _ _ _ _ (begin
 
 pub returns-clause-fair : goal.returns-clause-fair
 returns-clause-fair g c = λ t.
-    let given : c.gather.new.self.given ≡ c.args.self.now.given = c.in_ok-by_newline.ensures.given ∙ c.in_ok-fill.ensures.given in
+    let given : c.gather.new.self.given ≡ c.args.self.now.given =
+    c.in_ok-by_newline.ensures.given ∙ c.in_ok-fill.ensures.given in
     rw given (fault_stays c.args.self.now.given _ _ _ _ (begins g c t) (omega arith) c.in_ok-by_newline.ensures.short)

@@ -21,11 +21,14 @@ returns-in_err-lines-clause-err g c entries s t stands =
     let h = g.T.Site.disk c.args.site.now in
     let job = job_of c.args.setup.now in
     let lines = lines_of (g.S.Source.left c.args.source.now part.Messages) in
-    at_err c.from_residual.result (StaysSafe job entries lines h h) (halts_here job entries lines h h c.args.self.now.store c.args.self.now.log refl stands)
+    at_err c.from_residual.result (StaysSafe job entries lines h h)
+    (halts_here job entries lines h h c.args.self.now.store c.args.self.now.log refl stands)
 
 pub returns-in_err-lines-clause-crash : goal.returns-in_err-lines-clause-crash
 returns-in_err-lines-clause-crash g c entries s t stands =
-    stays_here (job_of c.args.setup.now) entries (lines_of (g.S.Source.left c.args.source.now part.Messages)) (g.T.Site.disk c.args.site.now) c.args.self.now.store c.args.self.now.log (g.met.T.Site.lawful c.args.site.now t) stands
+    stays_here (job_of c.args.setup.now) entries (lines_of (g.S.Source.left c.args.source.now part.Messages))
+    (g.T.Site.disk c.args.site.now) c.args.self.now.store c.args.self.now.log
+    (g.met.T.Site.lawful c.args.site.now t) stands
 
 pub loop-lines-init : goal.loop-lines-init
 loop-lines-init g c = record {
@@ -38,9 +41,11 @@ loop-lines-init g c = record {
       let h = g.T.Site.disk c.args.site.now in
       let left = g.S.Source.left c.args.source.now part.Messages in
       let job = job_of c.args.setup.now in
-      served_none job entries stands.groups h (lines_of left) (lines_ahead c.in_ok-lines.lines left) (lines_given c.in_ok-lines.lines) c.args.self.now.store c.args.self.now.log
+      served_none job entries stands.groups h (lines_of left) (lines_ahead c.in_ok-lines.lines left)
+      (lines_given c.in_ok-lines.lines) c.args.self.now.store c.args.self.now.log
       (c.in_ok-lines.ensures.lines left) c.in_ok-lines.ensures.given
-      (going_none job entries h c.args.self.now.store c.args.self.now.log (g.met.T.Site.lawful c.args.site.now t) stands);
+      (going_none job entries h c.args.self.now.store c.args.self.now.log (g.met.T.Site.lawful c.args.site.now t)
+      stands);
 }
 
 pub returns-in_err-line-clause-before : goal.returns-in_err-line-clause-before
@@ -53,8 +58,10 @@ returns-in_err-line-clause-before g c entries number s t stands e =
     let same : status_of_line f ≡ status.Line number = cc (p.1, p.2, e) in
     let given = lines_given c.loop-lines.lines in
     let next : number ≡ given + 1 =
-    number_is f number (given + 1) same (λ n is. c.in_err-line.ensures.long_number n (ap (λ x. Err x) is)) (λ n is. c.in_err-line.ensures.last_number n (ap (λ x. Err x) is)) in
-    served_before (job_of c.args.setup.now) entries stands.groups (g.T.Site.disk c.args.site.now) (g.T.Site.disk c.loop-lines.site) (lines_of left) (lines_ahead c.loop-lines.lines now) given
+    number_is f number (given + 1) same (λ n is. c.in_err-line.ensures.long_number n (ap (λ x. Err x) is))
+    (λ n is. c.in_err-line.ensures.last_number n (ap (λ x. Err x) is)) in
+    served_before (job_of c.args.setup.now) entries stands.groups (g.T.Site.disk c.args.site.now)
+    (g.T.Site.disk c.loop-lines.site) (lines_of left) (lines_ahead c.loop-lines.lines now) given
     c.loop-lines.self.store c.loop-lines.self.log (inv.served entries s t stands) number next
 
 pub returns-in_err-line-clause-err : goal.returns-in_err-line-clause-err
@@ -66,12 +73,16 @@ returns-in_err-line-clause-err g c entries s t stands =
     let whole = lines_of (g.S.Source.left c.args.source.now part.Messages) in
     let now = g.S.Source.left c.loop-lines.source part.Messages in
     at_err c.from_residual-in_err-line.result (StaysSafe job entries whole h0 h)
-    (halts_going job entries stands.groups h0 h h so.served c.loop-lines.self.store c.loop-lines.self.log so.going whole (lines_ahead c.loop-lines.lines now) so.splits)
+    (halts_going job entries stands.groups h0 h h so.served c.loop-lines.self.store c.loop-lines.self.log so.going whole
+    (lines_ahead c.loop-lines.lines now) so.splits)
 
 pub returns-in_err-line-clause-crash : goal.returns-in_err-line-clause-crash
 returns-in_err-line-clause-crash g c entries s t stands =
-    moments_served (job_of c.args.setup.now) entries stands.groups (g.T.Site.disk c.args.site.now) (g.T.Site.disk c.loop-lines.site) (lines_of (g.S.Source.left c.args.source.now part.Messages))
-    (lines_ahead c.loop-lines.lines (g.S.Source.left c.loop-lines.source part.Messages)) (lines_given c.loop-lines.lines) c.loop-lines.self.store c.loop-lines.self.log (c.loop-lines.invariant.served entries s t stands)
+    moments_served (job_of c.args.setup.now) entries stands.groups (g.T.Site.disk c.args.site.now)
+    (g.T.Site.disk c.loop-lines.site) (lines_of (g.S.Source.left c.args.source.now part.Messages))
+    (lines_ahead c.loop-lines.lines (g.S.Source.left c.loop-lines.source part.Messages))
+    (lines_given c.loop-lines.lines) c.loop-lines.self.store c.loop-lines.self.log
+    (c.loop-lines.invariant.served entries s t stands)
 
 pub returns-in_err-serve-clause-err : goal.returns-in_err-serve-clause-err
 returns-in_err-serve-clause-err g c entries s t stands =
@@ -88,10 +99,13 @@ returns-in_err-serve-clause-err g c entries s t stands =
     let lines = c.loop-lines.lines in
     let lines1 = c.next.new.self in
     let line : List ℕ = c.in-Some.line in
-    let ahead = at_some c.in_ok-line.field-0 line (λ (l : List ℕ). lines_ahead lines now ≡ l ∷ lines_ahead lines1 next) c.in-Some.is (c.in_ok-line.ensures.line (inv.source.still_told s)) in
+    let ahead = at_some c.in_ok-line.field-0 line (λ (l : List ℕ). lines_ahead lines now ≡ l ∷ lines_ahead lines1 next)
+    c.in-Some.is (c.in_ok-line.ensures.line (inv.source.still_told s)) in
     at_err c.from_residual-in_err-serve.result (StaysSafe job entries whole h0 h1)
-    (halts_more job entries stands.groups h0 h h1 so.served c.loop-lines.self.store c.loop-lines.self.log so.going whole (lines_ahead lines1 next) line
-    (so.splits ∙ ap (λ (ls : List (List ℕ)). so.served ++ ls) ahead) (c.in_err-serve.ensures.err (entries ++ so.going.serves.later) t1 so.going.serves.stands))
+    (halts_more job entries stands.groups h0 h h1 so.served c.loop-lines.self.store c.loop-lines.self.log so.going whole
+    (lines_ahead lines1 next) line
+    (so.splits ∙ ap (λ (ls : List (List ℕ)). so.served ++ ls) ahead)
+    (c.in_err-serve.ensures.err (entries ++ so.going.serves.later) t1 so.going.serves.stands))
 
 pub returns-in_err-serve-clause-crash : goal.returns-in_err-serve-clause-crash
 returns-in_err-serve-clause-crash g c entries s t stands =
@@ -103,9 +117,13 @@ returns-in_err-serve-clause-crash g c entries s t stands =
     let lines = c.loop-lines.lines in
     let lines1 = c.next.new.self in
     let line : List ℕ = c.in-Some.line in
-    let ahead = at_some c.in_ok-line.field-0 line (λ (l : List ℕ). lines_ahead lines now ≡ l ∷ lines_ahead lines1 next) c.in-Some.is (c.in_ok-line.ensures.line (inv.source.still_told s)) in
-    moments_within (job_of c.args.setup.now) entries stands.groups (g.T.Site.disk c.args.site.now) (g.T.Site.disk c.loop-lines.site) (lines_of (g.S.Source.left c.args.source.now part.Messages)) (lines_ahead lines now) (lines_given lines)
-    c.loop-lines.self.store c.loop-lines.self.log so (g.T.Site.disk c.serve.new.site) line (lines_ahead lines1 next) ahead (c.serve.ensures.crash (entries ++ so.going.serves.later) t1 so.going.serves.stands)
+    let ahead = at_some c.in_ok-line.field-0 line (λ (l : List ℕ). lines_ahead lines now ≡ l ∷ lines_ahead lines1 next)
+    c.in-Some.is (c.in_ok-line.ensures.line (inv.source.still_told s)) in
+    moments_within (job_of c.args.setup.now) entries stands.groups (g.T.Site.disk c.args.site.now)
+    (g.T.Site.disk c.loop-lines.site) (lines_of (g.S.Source.left c.args.source.now part.Messages))
+    (lines_ahead lines now) (lines_given lines)
+    c.loop-lines.self.store c.loop-lines.self.log so (g.T.Site.disk c.serve.new.site) line (lines_ahead lines1 next)
+    ahead (c.serve.ensures.crash (entries ++ so.going.serves.later) t1 so.going.serves.stands)
 
 pub loop-lines-preserved : goal.loop-lines-preserved
 loop-lines-preserved g c =
@@ -132,18 +150,27 @@ loop-lines-preserved g c =
         kept = λ first k. read.source.kept first (inv.source.kept first k);
       };
       others = λ t.
-          spares_on IsLog (g.T.Site.disk c.args.site.now) (g.T.Site.disk c.loop-lines.site) (g.T.Site.disk c.serve.new.site) (g.met.T.Site.lawful c.loop-lines.site (inv.site.still_told t))
+          spares_on IsLog (g.T.Site.disk c.args.site.now) (g.T.Site.disk c.loop-lines.site)
+          (g.T.Site.disk c.serve.new.site) (g.met.T.Site.lawful c.loop-lines.site (inv.site.still_told t))
           (inv.others t) (c.serve.ensures.others (inv.site.still_told t));
-      fault = λ s. sym (at_some c.in_ok-line.field-0 line (λ (l : List ℕ). fault_ahead lines now ≡ fault_ahead lines1 next) c.in-Some.is (read.fair (inv.source.still_told s))) ∙ inv.fault s;
+      fault = λ s. sym (at_some c.in_ok-line.field-0 line
+          (λ (l : List ℕ). fault_ahead lines now ≡ fault_ahead lines1 next) c.in-Some.is
+          (read.fair (inv.source.still_told s))) ∙ inv.fault s;
       served = λ entries s t stands.
           let so = inv.served entries s t stands in
           let t1 = inv.site.still_told t in
-          let ahead = at_some c.in_ok-line.field-0 line (λ (l : List ℕ). lines_ahead lines now ≡ l ∷ lines_ahead lines1 next) c.in-Some.is (read.line (inv.source.still_told s)) in
-          let more = at_some c.in_ok-line.field-0 line (λ (l : List ℕ). lines_given lines1 ≡ lines_given lines + 1) c.in-Some.is read.given in
+          let ahead = at_some c.in_ok-line.field-0 line
+          (λ (l : List ℕ). lines_ahead lines now ≡ l ∷ lines_ahead lines1 next) c.in-Some.is
+          (read.line (inv.source.still_told s)) in
+          let more = at_some c.in_ok-line.field-0 line (λ (l : List ℕ). lines_given lines1 ≡ lines_given lines + 1)
+          c.in-Some.is read.given in
           let one = c.in_ok-serve.ensures.ok (entries ++ so.going.serves.later) t1 so.going.serves.stands in
           let run = c.serve.ensures.crash (entries ++ so.going.serves.later) t1 so.going.serves.stands in
-          served_more (job_of c.args.setup.now) entries stands.groups (g.T.Site.disk c.args.site.now) (g.T.Site.disk c.loop-lines.site) (lines_of left) (lines_ahead lines now) (lines_given lines)
-          c.loop-lines.self.store c.loop-lines.self.log so (g.T.Site.disk c.serve.new.site) line (lines_ahead lines1 next) (lines_given lines1) c.serve.new.self.store c.serve.new.self.log ahead more one run;
+          served_more (job_of c.args.setup.now) entries stands.groups (g.T.Site.disk c.args.site.now)
+          (g.T.Site.disk c.loop-lines.site) (lines_of left) (lines_ahead lines now) (lines_given lines)
+          c.loop-lines.self.store c.loop-lines.self.log so (g.T.Site.disk c.serve.new.site) line
+          (lines_ahead lines1 next) (lines_given lines1) c.serve.new.self.store c.serve.new.self.log ahead more one
+          run;
     }
 
 pub returns-clause-ok : goal.returns-clause-ok
@@ -153,23 +180,30 @@ returns-clause-ok g c entries s t stands =
     let now = g.S.Source.left c.loop-lines.source part.Messages in
     let lines = c.loop-lines.lines in
     let none : c.in_ok-line.field-0 ≡ None = first_of (search rules, grind rules, cc) in
-    let ahead = at_none c.in_ok-line.field-0 (to_come lines now ≡ []) none (c.in_ok-line.ensures.none (inv.source.still_told s)) in
-    served_all (job_of c.args.setup.now) entries stands.groups (g.T.Site.disk c.args.site.now) (g.T.Site.disk c.loop-lines.site) (lines_of left) (lines_ahead lines now) (lines_given lines)
+    let ahead = at_none c.in_ok-line.field-0 (to_come lines now ≡ []) none
+    (c.in_ok-line.ensures.none (inv.source.still_told s)) in
+    served_all (job_of c.args.setup.now) entries stands.groups (g.T.Site.disk c.args.site.now)
+    (g.T.Site.disk c.loop-lines.site) (lines_of left) (lines_ahead lines now) (lines_given lines)
     c.loop-lines.self.store c.loop-lines.self.log (inv.served entries s t stands) (ap lines_of ahead)
 
 pub returns-clause-crash : goal.returns-clause-crash
 returns-clause-crash g c entries s t stands =
-    moments_served (job_of c.args.setup.now) entries stands.groups (g.T.Site.disk c.args.site.now) (g.T.Site.disk c.loop-lines.site) (lines_of (g.S.Source.left c.args.source.now part.Messages))
-    (lines_ahead c.loop-lines.lines (g.S.Source.left c.loop-lines.source part.Messages)) (lines_given c.loop-lines.lines) c.loop-lines.self.store c.loop-lines.self.log (c.loop-lines.invariant.served entries s t stands)
+    moments_served (job_of c.args.setup.now) entries stands.groups (g.T.Site.disk c.args.site.now)
+    (g.T.Site.disk c.loop-lines.site) (lines_of (g.S.Source.left c.args.source.now part.Messages))
+    (lines_ahead c.loop-lines.lines (g.S.Source.left c.loop-lines.source part.Messages))
+    (lines_given c.loop-lines.lines) c.loop-lines.self.store c.loop-lines.self.log
+    (c.loop-lines.invariant.served entries s t stands)
 
 pub returns-clause-read : goal.returns-clause-read
 returns-clause-read g c s =
     let none : c.in_ok-line.field-0 ≡ None = first_of (search rules, grind rules, cc) in
     let left = g.S.Source.left c.next.new.source part.Messages in
-    nil_behind (buffered c.next.new.self) left (at_none c.in_ok-line.field-0 (to_come c.next.new.self left ≡ []) none (c.in_ok-line.ensures.ended (c.loop-lines.invariant.source.still_told s)))
+    nil_behind (buffered c.next.new.self) left (at_none c.in_ok-line.field-0 (to_come c.next.new.self left ≡ []) none
+    (c.in_ok-line.ensures.ended (c.loop-lines.invariant.source.still_told s)))
 
 pub returns-in_err-lines-clause-others : goal.returns-in_err-lines-clause-others
-returns-in_err-lines-clause-others g c t = spares_none IsLog (g.T.Site.disk c.args.site.now) (g.met.T.Site.lawful c.args.site.now t)
+returns-in_err-lines-clause-others g c t = spares_none IsLog (g.T.Site.disk c.args.site.now)
+    (g.met.T.Site.lawful c.args.site.now t)
 
 pub returns-in_err-line-clause-others : goal.returns-in_err-line-clause-others
 returns-in_err-line-clause-others g c t = c.loop-lines.invariant.others t
@@ -178,7 +212,8 @@ pub returns-in_err-serve-clause-others : goal.returns-in_err-serve-clause-others
 returns-in_err-serve-clause-others g c t =
     let inv = c.loop-lines.invariant in
     let t1 = inv.site.still_told t in
-    spares_on IsLog (g.T.Site.disk c.args.site.now) (g.T.Site.disk c.loop-lines.site) (g.T.Site.disk c.serve.new.site) (g.met.T.Site.lawful c.loop-lines.site t1) (inv.others t) (c.serve.ensures.others t1)
+    spares_on IsLog (g.T.Site.disk c.args.site.now) (g.T.Site.disk c.loop-lines.site) (g.T.Site.disk c.serve.new.site)
+    (g.met.T.Site.lawful c.loop-lines.site t1) (inv.others t) (c.serve.ensures.others t1)
 
 pub returns-clause-others : goal.returns-clause-others
 returns-clause-others g c t = c.loop-lines.invariant.others t

@@ -18,8 +18,13 @@ invariant-loop-lines g l = record {
   site : IsContinued g.T.Site.told g.T.Site.faults g.T.Site.holds g.T.Site.keeps l.initial.site l.site;
   source : IsContinued g.S.Source.told g.S.Source.faults g.S.Source.holds g.S.Source.keeps l.initial.source l.source;
   others : g.T.Site.told l.initial.site → Spares IsLog (g.T.Site.disk l.initial.site) (g.T.Site.disk l.site);
-  fault : g.S.Source.told l.initial.source → fault_ahead l.lines (g.S.Source.left l.source part.Messages) ≡ line_fault (g.S.Source.left l.initial.source part.Messages);
-  served : (entries : List Entry) → g.S.Source.told l.initial.source → g.T.Site.told l.initial.site → (stands : StandsAt (job_of l.setup) entries (g.T.Site.disk l.initial.site) l.initial.self.store l.initial.self.log) → HasServed (job_of l.setup) entries stands.groups (g.T.Site.disk l.initial.site) (g.T.Site.disk l.site) (lines_of (g.S.Source.left l.initial.source part.Messages)) (lines_ahead l.lines (g.S.Source.left l.source part.Messages)) (lines_given l.lines) l.self.store l.self.log;
+  fault : g.S.Source.told l.initial.source → fault_ahead l.lines (g.S.Source.left l.source part.Messages) ≡ line_fault
+      (g.S.Source.left l.initial.source part.Messages);
+  served : (entries : List Entry) → g.S.Source.told l.initial.source → g.T.Site.told l.initial.site
+      → (stands : StandsAt (job_of l.setup) entries (g.T.Site.disk l.initial.site) l.initial.self.store
+      l.initial.self.log) → HasServed (job_of l.setup) entries stands.groups (g.T.Site.disk l.initial.site)
+      (g.T.Site.disk l.site) (lines_of (g.S.Source.left l.initial.source part.Messages))
+      (lines_ahead l.lines (g.S.Source.left l.source part.Messages)) (lines_given l.lines) l.self.store l.self.log;
 }
 
 abbrev pub decreases-loop-lines : goal.decreases-loop-lines

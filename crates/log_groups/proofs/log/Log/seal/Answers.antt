@@ -40,7 +40,8 @@ invariant_of-self-2 g c =
     let rest : drop end f.buffer.items ≡ body_text (drop k entries) ++ 0 ∷ [] =
     ap (drop end) (sym value) ∙ c.end_of-end.ensures.rest entries i.each few (ap (drop f.start) value ∙ i.text) in
     let value2 = c.deref_mut.ensures.value in
-    now_buffered f.buffer c.seal_part.new.buffer f.start f.waiting f.sealed f.gate f.spare end k entries i (c.seal_part.ensures.len ∙ ap length value2) (c.seal_part.ensures.rest ∙ ap (drop f.start) value2)
+    now_buffered f.buffer c.seal_part.new.buffer f.start f.waiting f.sealed f.gate f.spare end k entries i
+    (c.seal_part.ensures.len ∙ ap length value2) (c.seal_part.ensures.rest ∙ ap (drop f.start) value2)
     c.end_of-end.ensures.start inside some (omega (arith, few, i.count)) rest
 
 pub returns-clause-unsealed : goal.returns-clause-unsealed
@@ -57,14 +58,16 @@ returns-clause-unsealed g c =
     let rest : drop end f.buffer.items ≡ body_text (drop k entries) ++ 0 ∷ [] =
     ap (drop end) (sym value) ∙ c.end_of-end.ensures.rest entries i.each few (ap (drop f.start) value ∙ i.text) in
     let value2 = c.deref_mut.ensures.value in
-    now_unsealed f.buffer c.seal_part.new.buffer f.start f.waiting f.sealed f.gate f.spare end k entries i (c.seal_part.ensures.len ∙ ap length value2) (c.seal_part.ensures.rest ∙ ap (drop f.start) value2)
+    now_unsealed f.buffer c.seal_part.new.buffer f.start f.waiting f.sealed f.gate f.spare end k entries i
+    (c.seal_part.ensures.len ∙ ap length value2) (c.seal_part.ensures.rest ∙ ap (drop f.start) value2)
     c.end_of-end.ensures.start inside some (omega (arith, few, i.count)) rest
     ∙ ap (λ s. drop k s.unsealed) c.self.view_is
 
 -- where nothing is unsealed nothing was written
 pub returns-then-self-eq0-clause-settles : goal.returns-then-self-eq0-clause-settles
 returns-then-self-eq0-clause-settles g c front groups image t at_rest settles =
-    inl (subst (λ l. IsLog front l groups c.args.self.now.gate) (sym (durable_settles (g.T.Site.disk c.args.site.now) 0 image at_rest.durable settles)) at_rest.log)
+    inl (subst (λ l. IsLog front l groups c.args.self.now.gate)
+    (sym (durable_settles (g.T.Site.disk c.args.site.now) 0 image at_rest.durable settles)) at_rest.log)
 
 pub returns-in_err-seal_part-clause-crash : goal.returns-in_err-seal_part-clause-crash
 returns-in_err-seal_part-clause-crash g c front groups t at_rest =
@@ -81,16 +84,25 @@ returns-in_err-seal_part-clause-crash g c front groups t at_rest =
     ap (drop end) (sym value) ∙ c.end_of-end.ensures.rest entries i.each few (ap (drop f.start) value ∙ i.text) in
     let body = span f.buffer.items f.start end k entries i.each i.text c.end_of-end.ensures.start inside few rest in
     let all = total f.buffer.items f.start end k entries i.each i.text c.end_of-end.ensures.start inside few rest in
-    let spelled = spells f.buffer.items f.start end k entries i.each i.text c.end_of-end.ensures.start inside few rest some (omega (arith, all, i.limit)) in
+    let spelled = spells f.buffer.items f.start end k entries i.each i.text c.end_of-end.ensures.start inside few rest
+    some (omega (arith, all, i.limit)) in
     let taken : take k entries ≡ take c.args.most c.args.self.now.unsealed =
-    ap (λ n. take n entries) (c.min-count.ensures ∙ ap (min c.args.most) (sym i.count)) ∙ sym (take_fewer entries c.args.most) ∙ ap (λ s. take c.args.most s.unsealed) c.self.view_is in
+    ap (λ n. take n entries) (c.min-count.ensures ∙ ap (min c.args.most) (sym i.count)) ∙ sym
+    (take_fewer entries c.args.most) ∙ ap (λ s. take c.args.most s.unsealed) c.self.view_is in
     let gate : f.gate ≡ c.args.self.now.gate = ap (λ s. s.gate) c.self.view_is in
-    let at_gate : IsAtRest (g.T.Site.disk c.args.site.now) front groups f.gate = subst (IsAtRest (g.T.Site.disk c.args.site.now) front groups) (sym gate) at_rest in
-    let run : Through (g.T.Site.disk c.args.site.now) (g.T.Site.disk c.seal_part.new.site) (IsGated ((g.T.Site.disk c.args.site.now).contents 0) f.gate (part_text f.buffer.items f.start end)) =
-    subst (λ l. Through (g.T.Site.disk c.args.site.now) (g.T.Site.disk c.seal_part.new.site) (IsGated ((g.T.Site.disk c.args.site.now).contents 0) f.gate (part_text l f.start end))) c.deref_mut.ensures.value (c.seal_part.ensures.crash t at_gate.durable at_gate.log.stands) in
-    subst (λ n. Through (g.T.Site.disk c.args.site.now) (g.T.Site.disk c.seal_part.new.site) (IsBeforeOrAfter front groups n (take c.args.most c.args.self.now.unsealed))) gate
-    (subst (λ es. Through (g.T.Site.disk c.args.site.now) (g.T.Site.disk c.seal_part.new.site) (IsBeforeOrAfter front groups f.gate es)) taken
-    (sealed_through front groups f.gate (part_text f.buffer.items f.start end) (take k entries) (g.T.Site.disk c.args.site.now) (g.T.Site.disk c.seal_part.new.site) at_gate spelled run))
+    let at_gate : IsAtRest (g.T.Site.disk c.args.site.now) front groups f.gate =
+    subst (IsAtRest (g.T.Site.disk c.args.site.now) front groups) (sym gate) at_rest in
+    let run : Through (g.T.Site.disk c.args.site.now) (g.T.Site.disk c.seal_part.new.site)
+    (IsGated ((g.T.Site.disk c.args.site.now).contents 0) f.gate (part_text f.buffer.items f.start end)) =
+    subst (λ l. Through (g.T.Site.disk c.args.site.now) (g.T.Site.disk c.seal_part.new.site)
+    (IsGated ((g.T.Site.disk c.args.site.now).contents 0) f.gate (part_text l f.start end)))
+    c.deref_mut.ensures.value (c.seal_part.ensures.crash t at_gate.durable at_gate.log.stands) in
+    subst (λ n. Through (g.T.Site.disk c.args.site.now) (g.T.Site.disk c.seal_part.new.site)
+    (IsBeforeOrAfter front groups n (take c.args.most c.args.self.now.unsealed))) gate
+    (subst (λ es. Through (g.T.Site.disk c.args.site.now) (g.T.Site.disk c.seal_part.new.site)
+    (IsBeforeOrAfter front groups f.gate es)) taken
+    (sealed_through front groups f.gate (part_text f.buffer.items f.start end) (take k entries)
+    (g.T.Site.disk c.args.site.now) (g.T.Site.disk c.seal_part.new.site) at_gate spelled run))
 
 pub returns-in_err-seal_part-clause-settles : goal.returns-in_err-seal_part-clause-settles
 returns-in_err-seal_part-clause-settles g c front groups image t at_rest settles =
@@ -106,16 +118,22 @@ returns-in_err-seal_part-clause-settles g c front groups image t at_rest settles
     let rest : drop end f.buffer.items ≡ body_text (drop k entries) ++ 0 ∷ [] =
     ap (drop end) (sym value) ∙ c.end_of-end.ensures.rest entries i.each few (ap (drop f.start) value ∙ i.text) in
     let all = total f.buffer.items f.start end k entries i.each i.text c.end_of-end.ensures.start inside few rest in
-    let spelled = spells f.buffer.items f.start end k entries i.each i.text c.end_of-end.ensures.start inside few rest some (omega (arith, all, i.limit)) in
+    let spelled = spells f.buffer.items f.start end k entries i.each i.text c.end_of-end.ensures.start inside few rest
+    some (omega (arith, all, i.limit)) in
     let taken : take k entries ≡ take c.args.most c.args.self.now.unsealed =
-    ap (λ n. take n entries) (c.min-count.ensures ∙ ap (min c.args.most) (sym i.count)) ∙ sym (take_fewer entries c.args.most) ∙ ap (λ s. take c.args.most s.unsealed) c.self.view_is in
+    ap (λ n. take n entries) (c.min-count.ensures ∙ ap (min c.args.most) (sym i.count)) ∙ sym
+    (take_fewer entries c.args.most) ∙ ap (λ s. take c.args.most s.unsealed) c.self.view_is in
     let gate : f.gate ≡ c.args.self.now.gate = ap (λ s. s.gate) c.self.view_is in
-    let at_gate : IsAtRest (g.T.Site.disk c.args.site.now) front groups f.gate = subst (IsAtRest (g.T.Site.disk c.args.site.now) front groups) (sym gate) at_rest in
-    let gated : IsGatedImage ((g.T.Site.disk c.args.site.now).contents 0) f.gate (part_text f.buffer.items f.start end) image =
-    subst (λ l. IsGatedImage ((g.T.Site.disk c.args.site.now).contents 0) f.gate (part_text l f.start end) image) c.deref_mut.ensures.value (c.seal_part.ensures.settles image t at_gate.durable at_gate.log.stands settles) in
+    let at_gate : IsAtRest (g.T.Site.disk c.args.site.now) front groups f.gate =
+    subst (IsAtRest (g.T.Site.disk c.args.site.now) front groups) (sym gate) at_rest in
+    let gated : IsGatedImage ((g.T.Site.disk c.args.site.now).contents 0) f.gate (part_text f.buffer.items f.start end)
+    image =
+    subst (λ l. IsGatedImage ((g.T.Site.disk c.args.site.now).contents 0) f.gate (part_text l f.start end) image)
+    c.deref_mut.ensures.value (c.seal_part.ensures.settles image t at_gate.durable at_gate.log.stands settles) in
     subst (λ n. IsWithOrWithout front groups n (take c.args.most c.args.self.now.unsealed) image) gate
     (subst (λ es. IsWithOrWithout front groups f.gate es image) taken
-    (gated_log front groups f.gate ((g.T.Site.disk c.args.site.now).contents 0) (part_text f.buffer.items f.start end) (take k entries) at_gate.log spelled image gated))
+    (gated_log front groups f.gate ((g.T.Site.disk c.args.site.now).contents 0) (part_text f.buffer.items f.start end)
+    (take k entries) at_gate.log spelled image gated))
 
 pub returns-clause-crash : goal.returns-clause-crash
 returns-clause-crash g c front groups t at_rest =
@@ -132,16 +150,25 @@ returns-clause-crash g c front groups t at_rest =
     ap (drop end) (sym value) ∙ c.end_of-end.ensures.rest entries i.each few (ap (drop f.start) value ∙ i.text) in
     let body = span f.buffer.items f.start end k entries i.each i.text c.end_of-end.ensures.start inside few rest in
     let all = total f.buffer.items f.start end k entries i.each i.text c.end_of-end.ensures.start inside few rest in
-    let spelled = spells f.buffer.items f.start end k entries i.each i.text c.end_of-end.ensures.start inside few rest some (omega (arith, all, i.limit)) in
+    let spelled = spells f.buffer.items f.start end k entries i.each i.text c.end_of-end.ensures.start inside few rest
+    some (omega (arith, all, i.limit)) in
     let taken : take k entries ≡ take c.args.most c.args.self.now.unsealed =
-    ap (λ n. take n entries) (c.min-count.ensures ∙ ap (min c.args.most) (sym i.count)) ∙ sym (take_fewer entries c.args.most) ∙ ap (λ s. take c.args.most s.unsealed) c.self.view_is in
+    ap (λ n. take n entries) (c.min-count.ensures ∙ ap (min c.args.most) (sym i.count)) ∙ sym
+    (take_fewer entries c.args.most) ∙ ap (λ s. take c.args.most s.unsealed) c.self.view_is in
     let gate : f.gate ≡ c.args.self.now.gate = ap (λ s. s.gate) c.self.view_is in
-    let at_gate : IsAtRest (g.T.Site.disk c.args.site.now) front groups f.gate = subst (IsAtRest (g.T.Site.disk c.args.site.now) front groups) (sym gate) at_rest in
-    let run : Through (g.T.Site.disk c.args.site.now) (g.T.Site.disk c.seal_part.new.site) (IsGated ((g.T.Site.disk c.args.site.now).contents 0) f.gate (part_text f.buffer.items f.start end)) =
-    subst (λ l. Through (g.T.Site.disk c.args.site.now) (g.T.Site.disk c.seal_part.new.site) (IsGated ((g.T.Site.disk c.args.site.now).contents 0) f.gate (part_text l f.start end))) c.deref_mut.ensures.value (c.seal_part.ensures.crash t at_gate.durable at_gate.log.stands) in
-    subst (λ n. Through (g.T.Site.disk c.args.site.now) (g.T.Site.disk c.seal_part.new.site) (IsBeforeOrAfter front groups n (take c.args.most c.args.self.now.unsealed))) gate
-    (subst (λ es. Through (g.T.Site.disk c.args.site.now) (g.T.Site.disk c.seal_part.new.site) (IsBeforeOrAfter front groups f.gate es)) taken
-    (sealed_through front groups f.gate (part_text f.buffer.items f.start end) (take k entries) (g.T.Site.disk c.args.site.now) (g.T.Site.disk c.seal_part.new.site) at_gate spelled run))
+    let at_gate : IsAtRest (g.T.Site.disk c.args.site.now) front groups f.gate =
+    subst (IsAtRest (g.T.Site.disk c.args.site.now) front groups) (sym gate) at_rest in
+    let run : Through (g.T.Site.disk c.args.site.now) (g.T.Site.disk c.seal_part.new.site)
+    (IsGated ((g.T.Site.disk c.args.site.now).contents 0) f.gate (part_text f.buffer.items f.start end)) =
+    subst (λ l. Through (g.T.Site.disk c.args.site.now) (g.T.Site.disk c.seal_part.new.site)
+    (IsGated ((g.T.Site.disk c.args.site.now).contents 0) f.gate (part_text l f.start end)))
+    c.deref_mut.ensures.value (c.seal_part.ensures.crash t at_gate.durable at_gate.log.stands) in
+    subst (λ n. Through (g.T.Site.disk c.args.site.now) (g.T.Site.disk c.seal_part.new.site)
+    (IsBeforeOrAfter front groups n (take c.args.most c.args.self.now.unsealed))) gate
+    (subst (λ es. Through (g.T.Site.disk c.args.site.now) (g.T.Site.disk c.seal_part.new.site)
+    (IsBeforeOrAfter front groups f.gate es)) taken
+    (sealed_through front groups f.gate (part_text f.buffer.items f.start end) (take k entries)
+    (g.T.Site.disk c.args.site.now) (g.T.Site.disk c.seal_part.new.site) at_gate spelled run))
 
 pub returns-clause-settles : goal.returns-clause-settles
 returns-clause-settles g c front groups image t at_rest settles =
@@ -157,16 +184,22 @@ returns-clause-settles g c front groups image t at_rest settles =
     let rest : drop end f.buffer.items ≡ body_text (drop k entries) ++ 0 ∷ [] =
     ap (drop end) (sym value) ∙ c.end_of-end.ensures.rest entries i.each few (ap (drop f.start) value ∙ i.text) in
     let all = total f.buffer.items f.start end k entries i.each i.text c.end_of-end.ensures.start inside few rest in
-    let spelled = spells f.buffer.items f.start end k entries i.each i.text c.end_of-end.ensures.start inside few rest some (omega (arith, all, i.limit)) in
+    let spelled = spells f.buffer.items f.start end k entries i.each i.text c.end_of-end.ensures.start inside few rest
+    some (omega (arith, all, i.limit)) in
     let taken : take k entries ≡ take c.args.most c.args.self.now.unsealed =
-    ap (λ n. take n entries) (c.min-count.ensures ∙ ap (min c.args.most) (sym i.count)) ∙ sym (take_fewer entries c.args.most) ∙ ap (λ s. take c.args.most s.unsealed) c.self.view_is in
+    ap (λ n. take n entries) (c.min-count.ensures ∙ ap (min c.args.most) (sym i.count)) ∙ sym
+    (take_fewer entries c.args.most) ∙ ap (λ s. take c.args.most s.unsealed) c.self.view_is in
     let gate : f.gate ≡ c.args.self.now.gate = ap (λ s. s.gate) c.self.view_is in
-    let at_gate : IsAtRest (g.T.Site.disk c.args.site.now) front groups f.gate = subst (IsAtRest (g.T.Site.disk c.args.site.now) front groups) (sym gate) at_rest in
-    let gated : IsGatedImage ((g.T.Site.disk c.args.site.now).contents 0) f.gate (part_text f.buffer.items f.start end) image =
-    subst (λ l. IsGatedImage ((g.T.Site.disk c.args.site.now).contents 0) f.gate (part_text l f.start end) image) c.deref_mut.ensures.value (c.seal_part.ensures.settles image t at_gate.durable at_gate.log.stands settles) in
+    let at_gate : IsAtRest (g.T.Site.disk c.args.site.now) front groups f.gate =
+    subst (IsAtRest (g.T.Site.disk c.args.site.now) front groups) (sym gate) at_rest in
+    let gated : IsGatedImage ((g.T.Site.disk c.args.site.now).contents 0) f.gate (part_text f.buffer.items f.start end)
+    image =
+    subst (λ l. IsGatedImage ((g.T.Site.disk c.args.site.now).contents 0) f.gate (part_text l f.start end) image)
+    c.deref_mut.ensures.value (c.seal_part.ensures.settles image t at_gate.durable at_gate.log.stands settles) in
     subst (λ n. IsWithOrWithout front groups n (take c.args.most c.args.self.now.unsealed) image) gate
     (subst (λ es. IsWithOrWithout front groups f.gate es image) taken
-    (gated_log front groups f.gate ((g.T.Site.disk c.args.site.now).contents 0) (part_text f.buffer.items f.start end) (take k entries) at_gate.log spelled image gated))
+    (gated_log front groups f.gate ((g.T.Site.disk c.args.site.now).contents 0) (part_text f.buffer.items f.start end)
+    (take k entries) at_gate.log spelled image gated))
 
 pub returns-clause-durable : goal.returns-clause-durable
 returns-clause-durable g c front groups t at_rest =
@@ -183,14 +216,23 @@ returns-clause-durable g c front groups t at_rest =
     ap (drop end) (sym value) ∙ c.end_of-end.ensures.rest entries i.each few (ap (drop f.start) value ∙ i.text) in
     let body = span f.buffer.items f.start end k entries i.each i.text c.end_of-end.ensures.start inside few rest in
     let all = total f.buffer.items f.start end k entries i.each i.text c.end_of-end.ensures.start inside few rest in
-    let spelled = spells f.buffer.items f.start end k entries i.each i.text c.end_of-end.ensures.start inside few rest some (omega (arith, all, i.limit)) in
+    let spelled = spells f.buffer.items f.start end k entries i.each i.text c.end_of-end.ensures.start inside few rest
+    some (omega (arith, all, i.limit)) in
     let taken : take k entries ≡ take c.args.most c.args.self.now.unsealed =
-    ap (λ n. take n entries) (c.min-count.ensures ∙ ap (min c.args.most) (sym i.count)) ∙ sym (take_fewer entries c.args.most) ∙ ap (λ s. take c.args.most s.unsealed) c.self.view_is in
+    ap (λ n. take n entries) (c.min-count.ensures ∙ ap (min c.args.most) (sym i.count)) ∙ sym
+    (take_fewer entries c.args.most) ∙ ap (λ s. take c.args.most s.unsealed) c.self.view_is in
     let gate : f.gate ≡ c.args.self.now.gate = ap (λ s. s.gate) c.self.view_is in
-    let at_gate : IsAtRest (g.T.Site.disk c.args.site.now) front groups f.gate = subst (IsAtRest (g.T.Site.disk c.args.site.now) front groups) (sym gate) at_rest in
-    let opened : IsOpened ((g.T.Site.disk c.args.site.now).contents 0) f.gate (part_text f.buffer.items f.start end) (g.T.Site.disk c.seal_part.new.site) =
-    subst (λ l. IsOpened ((g.T.Site.disk c.args.site.now).contents 0) f.gate (part_text l f.start end) (g.T.Site.disk c.seal_part.new.site)) c.deref_mut.ensures.value (c.in_ok-seal_part.ensures.opened t at_gate.durable at_gate.log.stands) in
-    let behind = gate_is f.buffer.items f.start end k entries i.each i.text c.end_of-end.ensures.start inside few rest f.gate in
-    let sealed = sealed_log front groups f.gate (part_text f.buffer.items f.start end) (take k entries) (g.T.Site.disk c.args.site.now) (g.T.Site.disk c.seal_part.new.site) at_gate spelled opened in
-    subst (λ gs. IsAtRest (g.T.Site.disk c.seal_part.new.site) front gs (f.gate + (9 + (end - f.start)))) (sym (with_some groups (take k entries) spelled.group.some) ∙ ap (with_group groups) taken)
+    let at_gate : IsAtRest (g.T.Site.disk c.args.site.now) front groups f.gate =
+    subst (IsAtRest (g.T.Site.disk c.args.site.now) front groups) (sym gate) at_rest in
+    let opened : IsOpened ((g.T.Site.disk c.args.site.now).contents 0) f.gate (part_text f.buffer.items f.start end)
+    (g.T.Site.disk c.seal_part.new.site) =
+    subst (λ l. IsOpened ((g.T.Site.disk c.args.site.now).contents 0) f.gate (part_text l f.start end)
+    (g.T.Site.disk c.seal_part.new.site)) c.deref_mut.ensures.value
+    (c.in_ok-seal_part.ensures.opened t at_gate.durable at_gate.log.stands) in
+    let behind = gate_is f.buffer.items f.start end k entries i.each i.text c.end_of-end.ensures.start inside few rest
+    f.gate in
+    let sealed = sealed_log front groups f.gate (part_text f.buffer.items f.start end) (take k entries)
+    (g.T.Site.disk c.args.site.now) (g.T.Site.disk c.seal_part.new.site) at_gate spelled opened in
+    subst (λ gs. IsAtRest (g.T.Site.disk c.seal_part.new.site) front gs (f.gate + (9 + (end - f.start))))
+    (sym (with_some groups (take k entries) spelled.group.some) ∙ ap (with_group groups) taken)
     (subst (IsAtRest (g.T.Site.disk c.seal_part.new.site) front (groups ++ take k entries ∷ [])) (sym behind) sealed)

@@ -13,4 +13,5 @@ invariant_of-result c =
 pub returns-clause-items : goal.returns-clause-items
 returns-clause-items c =
     let count : c.len-used.result ≡ length c.args.slots.items = c.len-used.ensures ∙ c.args.slots.ok.0 in
-    ap (λ order. in_slots c.args.slots.items (take c.len-used.result order)) c.in_ok-order.ensures ∙ slots_up c.args.slots.items c.len-used.result count
+    ap (λ order. in_slots c.args.slots.items (take c.len-used.result order)) c.in_ok-order.ensures ∙ slots_up
+    c.args.slots.items c.len-used.result count

@@ -6,6 +6,9 @@ pub returns-clause-items : goal.returns-clause-items
 returns-clause-items c =
     let slots = c.self.inside.slots.items in
     let order = c.self.inside.order.items in
-    let low : c.args.at < c.self.inside.used = subst (λ n. c.args.at < n) (ap (λ s. length s.items) (sym c.self.view_is) ∙ used_length slots order c.self.inside.used c.self.invariant) c.requires in
-    set_used slots order c.self.inside.used c.args.at c.index-number.result.now c.args.segment c.self.invariant low (sym c.index-number.ensures)
+    let low : c.args.at < c.self.inside.used = subst (λ n. c.args.at < n)
+    (ap (λ s. length s.items) (sym c.self.view_is) ∙ used_length slots order c.self.inside.used c.self.invariant)
+    c.requires in
+    set_used slots order c.self.inside.used c.args.at c.index-number.result.now c.args.segment c.self.invariant low
+    (sym c.index-number.ensures)
     ∙ ap (λ s. slice_set s.items c.args.at c.args.segment) c.self.view_is

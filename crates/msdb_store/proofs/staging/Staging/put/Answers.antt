@@ -7,4 +7,5 @@ pub returns : goal.returns
 returns c =
     ap (map (touch_of (λ k. k.msdb) (λ k. k.key.items))) c.in_ok-insert.ensures.entries
     ∙ put_entries (λ k. k.msdb) (λ k. k.key.items) c.self.inside.segments.entries c.args.key c.args.bytes
-    ∙ ap (put_touch (record { number = c.args.key.msdb; key = c.args.key.key.items; bytes = c.args.bytes })) c.self.view_is
+    ∙ ap (put_touch (record { number = c.args.key.msdb; key = c.args.key.key.items; bytes = c.args.bytes }))
+    c.self.view_is

@@ -7,4 +7,5 @@ use Rattle.msdb_store.proofs.store.MsdbStore.check.Given as goal
 -- the calls so far are settled and staged, and the rest is left
 abbrev pub invariant-loop-at : goal.invariant-loop-at
 invariant-loop-at l =
-    (length l.staging ≤ l.at) × ((defs : List MsdbDef) → CanSettle defs l.self l.deferred → IsSettling defs l.self.msdbs l.deferred (take l.at l.deferred) l.at (drop l.at l.deferred) l.staging)
+    (length l.staging ≤ l.at) × ((defs : List MsdbDef) → CanSettle defs l.self l.deferred
+    → IsSettling defs l.self.msdbs l.deferred (take l.at l.deferred) l.at (drop l.at l.deferred) l.staging)

@@ -5,5 +5,6 @@ use Rattle.msdb_store.proofs.store.MsdbStore.new.Goals as goal
 
 pub loop-def-init : goal.loop-def-init
 loop-def-init c =
-    let same : length c.args.defs.now.msdbs ≡ length c.args.msdbs = sym (AllZip-long IsMsdbOf c.args.defs.now.msdbs c.args.msdbs c.requires) in
+    let same : length c.args.defs.now.msdbs ≡ length c.args.msdbs =
+    sym (AllZip-long IsMsdbOf c.args.defs.now.msdbs c.args.msdbs c.requires) in
     (search rules, search rules, search rules, search rules)

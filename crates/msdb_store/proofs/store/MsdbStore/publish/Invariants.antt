@@ -8,5 +8,6 @@ use Rattle.msdb_store.proofs.store.MsdbStore.publish.Given as goal
 -- the items so far are put, and the others are left
 abbrev pub invariant-loop-item : goal.invariant-loop-item
 invariant-loop-item l =
-    (defs : List MsdbDef) → IsOf defs l.initial.self → IsStaged defs l.initial.self.msdbs l.fn.staged → l.fn.staged.inserts ≤ l.initial.self.spare
+    (defs : List MsdbDef) → IsOf defs l.initial.self → IsStaged defs l.initial.self.msdbs l.fn.staged
+    → l.fn.staged.inserts ≤ l.initial.self.spare
     → IsPublishing defs l.initial.self l.self l.fn.staged l.item-iterator.rest.items

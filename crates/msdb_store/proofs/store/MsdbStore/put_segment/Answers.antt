@@ -26,84 +26,139 @@ space t = room t.segments.capacity (length t.segments.items)
 
 -- the store that tables are
 abbrev all : List Table → Stored
-all tables = record { layouts = map fields tables; msdbs = map (msdb_in fields segments) tables; spare = least (map space tables) }
+all tables = record {
+  layouts = map fields tables;
+  msdbs = map (msdb_in fields segments) tables;
+  spare =
+      least (map space tables);
+}
 
 -- what a table at a place leaves of the room
-kept : (tables : List Table) (n : ℕ) (old t : Table) (added : Bool) → slice_get tables n ≡ Some old → old.segments.capacity ≤ t.segments.capacity
-    → length (segments t) ≤ length (segments old) + (if added then 1 else 0) → (length (segments old) < 2 ^ 32 → length (segments t) < 2 ^ 32) → KeepsRoom (all tables) (all (slice_set tables n t)) added
+kept : (tables : List Table) (n : ℕ) (old t : Table) (added : Bool) → slice_get tables n ≡ Some old
+    → old.segments.capacity ≤ t.segments.capacity
+    → length (segments t) ≤ length (segments old) + (if added then 1 else 0)
+    → (length (segments old) < 2 ^ 32 → length (segments t) < 2 ^ 32)
+    → KeepsRoom (all tables) (all (slice_set tables n t)) added
 kept tables n old t added at more longer few = record {
-  spare = least_set space tables n (if added then 1 else 0) old t at (room_less old.segments.capacity t.segments.capacity (length (segments old)) (length (segments t)) (if added then 1 else 0) more longer);
+  spare = least_set space tables n (if added then 1 else 0) old t at
+      (room_less old.segments.capacity t.segments.capacity (length (segments old)) (length (segments t))
+      (if added then 1 else 0) more longer);
   few = few_set fields segments tables n old t at few;
 }
 
 pub returns-then-is_empty-clause-msdbs : goal.returns-then-is_empty-clause-msdbs
 returns-then-is_empty-clause-msdbs c defs of fit =
-    let at : slice_get c.self.inside.tables.items c.args.msdb ≡ Some c.index_mut.result.now = stands_there c.self.inside.tables.items c.args.msdb c.index_mut.result.now (grind (arith, common_steps)) ∙ ap Some (sym c.index_mut.ensures.value) in
-    let gone = taken_away fields segments defs c.self.inside.tables.items c.args.msdb c.index_mut.result.now c.take_away.new.self c.args.key.now c.args.bytes (with_room 0 (subst (IsOf defs) (sym c.self.view_is) of)) at c.take_away.ensures.fields (search rules) (search rules) in
-    subst (λ s. map (msdb_in fields segments) (slice_set c.self.inside.tables.items c.args.msdb c.take_away.new.self) ≡ with_item defs s.msdbs (Segment c.args.msdb c.args.key.now c.args.bytes)) c.self.view_is gone.msdbs
+    let at : slice_get c.self.inside.tables.items c.args.msdb ≡ Some c.index_mut.result.now =
+    stands_there c.self.inside.tables.items c.args.msdb c.index_mut.result.now (grind (arith, common_steps)) ∙ ap
+    Some (sym c.index_mut.ensures.value) in
+    let gone = taken_away fields segments defs c.self.inside.tables.items c.args.msdb c.index_mut.result.now
+    c.take_away.new.self c.args.key.now c.args.bytes (with_room 0 (subst (IsOf defs) (sym c.self.view_is) of)) at
+    c.take_away.ensures.fields (search rules) (search rules) in
+    subst (λ s. map (msdb_in fields segments) (slice_set c.self.inside.tables.items c.args.msdb c.take_away.new.self) ≡
+    with_item defs s.msdbs (Segment c.args.msdb c.args.key.now c.args.bytes)) c.self.view_is gone.msdbs
 
 pub returns-then-is_empty-clause-of : goal.returns-then-is_empty-clause-of
 returns-then-is_empty-clause-of c defs of fit =
-    let at : slice_get c.self.inside.tables.items c.args.msdb ≡ Some c.index_mut.result.now = stands_there c.self.inside.tables.items c.args.msdb c.index_mut.result.now (grind (arith, common_steps)) ∙ ap Some (sym c.index_mut.ensures.value) in
-    let gone = taken_away fields segments defs c.self.inside.tables.items c.args.msdb c.index_mut.result.now c.take_away.new.self c.args.key.now c.args.bytes (with_room 0 (subst (IsOf defs) (sym c.self.view_is) of)) at c.take_away.ensures.fields (search rules) (search rules) in
+    let at : slice_get c.self.inside.tables.items c.args.msdb ≡ Some c.index_mut.result.now =
+    stands_there c.self.inside.tables.items c.args.msdb c.index_mut.result.now (grind (arith, common_steps)) ∙ ap
+    Some (sym c.index_mut.ensures.value) in
+    let gone = taken_away fields segments defs c.self.inside.tables.items c.args.msdb c.index_mut.result.now
+    c.take_away.new.self c.args.key.now c.args.bytes (with_room 0 (subst (IsOf defs) (sym c.self.view_is) of)) at
+    c.take_away.ensures.fields (search rules) (search rules) in
     with_room _ gone.of
 
 pub returns-then-is_empty-clause-room : goal.returns-then-is_empty-clause-room
 returns-then-is_empty-clause-room c defs can =
     let tables = c.self.inside.tables.items in
     let added = adds defs c.args.self.now.msdbs (Segment c.args.msdb c.args.key.now c.args.bytes) in
-    let at : slice_get tables c.args.msdb ≡ Some c.index_mut.result.now = stands_there tables c.args.msdb c.index_mut.result.now (grind (arith, common_steps)) ∙ ap Some (sym c.index_mut.ensures.value) in
+    let at : slice_get tables c.args.msdb ≡ Some c.index_mut.result.now =
+    stands_there tables c.args.msdb c.index_mut.result.now (grind (arith, common_steps)) ∙ ap Some
+    (sym c.index_mut.ensures.value) in
     subst (λ s. KeepsRoom s (all (slice_set tables c.args.msdb c.take_away.new.self)) added) c.self.view_is
-    (kept tables c.args.msdb c.index_mut.result.now c.take_away.new.self added at c.take_away.ensures.capacity (omega (arith, c.take_away.ensures.shorter)) (λ few. omega (arith, c.take_away.ensures.shorter, few)))
+    (kept tables c.args.msdb c.index_mut.result.now c.take_away.new.self added at c.take_away.ensures.capacity
+    (omega (arith, c.take_away.ensures.shorter)) (λ few. omega (arith, c.take_away.ensures.shorter, few)))
 
 pub returns-then-is_empty-clause-few : goal.returns-then-is_empty-clause-few
 returns-then-is_empty-clause-few c few =
     let tables = c.self.inside.tables.items in
-    let at : slice_get tables c.args.msdb ≡ Some c.index_mut.result.now = stands_there tables c.args.msdb c.index_mut.result.now (grind (arith, common_steps)) ∙ ap Some (sym c.index_mut.ensures.value) in
-    few_set fields segments tables c.args.msdb c.index_mut.result.now c.take_away.new.self at (λ one. omega (arith, c.take_away.ensures.shorter, one)) (subst (λ s. AreFew s.msdbs) (sym c.self.view_is) few)
+    let at : slice_get tables c.args.msdb ≡ Some c.index_mut.result.now =
+    stands_there tables c.args.msdb c.index_mut.result.now (grind (arith, common_steps)) ∙ ap Some
+    (sym c.index_mut.ensures.value) in
+    few_set fields segments tables c.args.msdb c.index_mut.result.now c.take_away.new.self at
+    (λ one. omega (arith, c.take_away.ensures.shorter, one)) (subst (λ s. AreFew s.msdbs) (sym c.self.view_is) few)
 
 pub returns-clause-few : goal.returns-clause-few
 returns-clause-few c few =
     let tables = c.self.inside.tables.items in
     let t = c.index_mut-2.result.now in
-    let at : slice_get tables c.args.msdb ≡ Some t = stands_there tables c.args.msdb t (grind (arith, common_steps)) ∙ ap Some (sym c.index_mut-2.ensures.value) in
-    few_set fields segments tables c.args.msdb t c.put.new.self at c.put.ensures.few (subst (λ s. AreFew s.msdbs) (sym c.self.view_is) few)
+    let at : slice_get tables c.args.msdb ≡ Some t =
+    stands_there tables c.args.msdb t (grind (arith, common_steps)) ∙ ap Some (sym c.index_mut-2.ensures.value) in
+    few_set fields segments tables c.args.msdb t c.put.new.self at c.put.ensures.few
+    (subst (λ s. AreFew s.msdbs) (sym c.self.view_is) few)
 
 pub returns-clause-msdbs : goal.returns-clause-msdbs
 returns-clause-msdbs c defs of fit =
-    let at : slice_get c.self.inside.tables.items c.args.msdb ≡ Some c.index_mut-2.result.now = stands_there c.self.inside.tables.items c.args.msdb c.index_mut-2.result.now (grind (arith, common_steps)) ∙ ap Some (sym c.index_mut-2.ensures.value) in
-    let done = put_into fields segments c.put.result defs c.self.inside.tables.items c.args.msdb c.index_mut-2.result.now c.put.new.self c.args.key.now c.args.bytes (with_room 0 (subst (IsOf defs) (sym c.self.view_is) of)) at c.put.ensures.fields (search rules) fit c.put.ensures.ok c.put.ensures.err in
-    subst (λ s. OnOk c.put.result (map (msdb_in fields segments) (slice_set c.self.inside.tables.items c.args.msdb c.put.new.self) ≡ with_item defs s.msdbs (Segment c.args.msdb c.args.key.now c.args.bytes))) c.self.view_is done.0
+    let at : slice_get c.self.inside.tables.items c.args.msdb ≡ Some c.index_mut-2.result.now =
+    stands_there c.self.inside.tables.items c.args.msdb c.index_mut-2.result.now (grind (arith, common_steps)) ∙ ap
+    Some (sym c.index_mut-2.ensures.value) in
+    let done = put_into fields segments c.put.result defs c.self.inside.tables.items c.args.msdb
+    c.index_mut-2.result.now c.put.new.self c.args.key.now c.args.bytes
+    (with_room 0 (subst (IsOf defs) (sym c.self.view_is) of)) at c.put.ensures.fields (search rules) fit
+    c.put.ensures.ok c.put.ensures.err in
+    subst (λ s. OnOk c.put.result (map (msdb_in fields segments)
+    (slice_set c.self.inside.tables.items c.args.msdb c.put.new.self) ≡ with_item defs s.msdbs
+    (Segment c.args.msdb c.args.key.now c.args.bytes))) c.self.view_is done.0
 
 pub returns-clause-of : goal.returns-clause-of
 returns-clause-of c defs of fit =
-    let at : slice_get c.self.inside.tables.items c.args.msdb ≡ Some c.index_mut-2.result.now = stands_there c.self.inside.tables.items c.args.msdb c.index_mut-2.result.now (grind (arith, common_steps)) ∙ ap Some (sym c.index_mut-2.ensures.value) in
-    let done = put_into fields segments c.put.result defs c.self.inside.tables.items c.args.msdb c.index_mut-2.result.now c.put.new.self c.args.key.now c.args.bytes (with_room 0 (subst (IsOf defs) (sym c.self.view_is) of)) at c.put.ensures.fields (search rules) fit c.put.ensures.ok c.put.ensures.err in
+    let at : slice_get c.self.inside.tables.items c.args.msdb ≡ Some c.index_mut-2.result.now =
+    stands_there c.self.inside.tables.items c.args.msdb c.index_mut-2.result.now (grind (arith, common_steps)) ∙ ap
+    Some (sym c.index_mut-2.ensures.value) in
+    let done = put_into fields segments c.put.result defs c.self.inside.tables.items c.args.msdb
+    c.index_mut-2.result.now c.put.new.self c.args.key.now c.args.bytes
+    (with_room 0 (subst (IsOf defs) (sym c.self.view_is) of)) at c.put.ensures.fields (search rules) fit
+    c.put.ensures.ok c.put.ensures.err in
     with_room _ done.1
 
 pub returns-clause-done : goal.returns-clause-done
 returns-clause-done c defs can =
     let tables = c.self.inside.tables.items in
     let t = c.index_mut-2.result.now in
-    let at : slice_get tables c.args.msdb ≡ Some t = stands_there tables c.args.msdb t (grind (arith, common_steps)) ∙ ap Some (sym c.index_mut-2.ensures.value) in
+    let at : slice_get tables c.args.msdb ≡ Some t =
+    stands_there tables c.args.msdb t (grind (arith, common_steps)) ∙ ap Some (sym c.index_mut-2.ensures.value) in
     let of = with_room 0 (subst (IsOf defs) (sym c.self.view_is) can.of) in
     let its = belongs fields (msdb_in fields segments) defs tables c.args.msdb t of at in
-    let up : ascend (map (key_of (fields t)) (segments t)) ≡ true = subst (λ fs. ascend (map (key_of fs) (segments t)) ≡ true) (sym its.same) its.good.in_order in
-    let same = adds_lacks fields segments defs tables c.args.msdb t c.args.key.now c.args.bytes of at can.fit (some_bytes c.is_empty.result c.args.bytes c.is_empty.ensures c.if-is_empty.false) in
-    let seen : adds defs c.args.self.now.msdbs (Segment c.args.msdb c.args.key.now c.args.bytes) ≡ lacks (fields t) (segments t) c.args.bytes = subst (λ s. adds defs s.msdbs (Segment c.args.msdb c.args.key.now c.args.bytes) ≡ lacks (fields t) (segments t) c.args.bytes) c.self.view_is same in
-    c.put.ensures.done up (λ e. omega (arith, subst (λ s. 0 < s.spare) (sym c.self.view_is) (can.room (seen ∙ e)), least_at space tables c.args.msdb t at))
+    let up : ascend (map (key_of (fields t)) (segments t)) ≡ true =
+    subst (λ fs. ascend (map (key_of fs) (segments t)) ≡ true) (sym its.same) its.good.in_order in
+    let same = adds_lacks fields segments defs tables c.args.msdb t c.args.key.now c.args.bytes of at can.fit
+    (some_bytes c.is_empty.result c.args.bytes c.is_empty.ensures c.if-is_empty.false) in
+    let seen : adds defs c.args.self.now.msdbs (Segment c.args.msdb c.args.key.now c.args.bytes) ≡ lacks (fields t)
+    (segments t) c.args.bytes = subst (λ s. adds defs s.msdbs (Segment c.args.msdb c.args.key.now c.args.bytes) ≡
+    lacks (fields t) (segments t) c.args.bytes) c.self.view_is same in
+    c.put.ensures.done up (λ e. omega (
+      arith,
+      subst (λ s. 0 < s.spare) (sym c.self.view_is) (can.room (seen ∙ e)),
+      least_at space tables c.args.msdb t at,
+    ))
 
 pub returns-clause-room : goal.returns-clause-room
 returns-clause-room c defs can =
     let tables = c.self.inside.tables.items in
     let t = c.index_mut-2.result.now in
     let added = adds defs c.args.self.now.msdbs (Segment c.args.msdb c.args.key.now c.args.bytes) in
-    let at : slice_get tables c.args.msdb ≡ Some t = stands_there tables c.args.msdb t (grind (arith, common_steps)) ∙ ap Some (sym c.index_mut-2.ensures.value) in
+    let at : slice_get tables c.args.msdb ≡ Some t =
+    stands_there tables c.args.msdb t (grind (arith, common_steps)) ∙ ap Some (sym c.index_mut-2.ensures.value) in
     let of = with_room 0 (subst (IsOf defs) (sym c.self.view_is) can.of) in
     let its = belongs fields (msdb_in fields segments) defs tables c.args.msdb t of at in
-    let up : ascend (map (key_of (fields t)) (segments t)) ≡ true = subst (λ fs. ascend (map (key_of fs) (segments t)) ≡ true) (sym its.same) its.good.in_order in
-    let same = adds_lacks fields segments defs tables c.args.msdb t c.args.key.now c.args.bytes of at can.fit (some_bytes c.is_empty.result c.args.bytes c.is_empty.ensures c.if-is_empty.false) in
-    let seen : added ≡ lacks (fields t) (segments t) c.args.bytes = subst (λ s. adds defs s.msdbs (Segment c.args.msdb c.args.key.now c.args.bytes) ≡ lacks (fields t) (segments t) c.args.bytes) c.self.view_is same in
-    let long : length (segments c.put.new.self) ≤ length (segments t) + (if added then 1 else 0) = subst (λ (b : Bool). length (segments c.put.new.self) ≤ length (segments t) + (if b then 1 else 0)) (sym seen) (c.put.ensures.long up) in
+    let up : ascend (map (key_of (fields t)) (segments t)) ≡ true =
+    subst (λ fs. ascend (map (key_of fs) (segments t)) ≡ true) (sym its.same) its.good.in_order in
+    let same = adds_lacks fields segments defs tables c.args.msdb t c.args.key.now c.args.bytes of at can.fit
+    (some_bytes c.is_empty.result c.args.bytes c.is_empty.ensures c.if-is_empty.false) in
+    let seen : added ≡ lacks (fields t) (segments t) c.args.bytes =
+    subst (λ s. adds defs s.msdbs (Segment c.args.msdb c.args.key.now c.args.bytes) ≡ lacks (fields t) (segments t)
+    c.args.bytes) c.self.view_is same in
+    let long : length (segments c.put.new.self) ≤ length (segments t) + (if added then 1 else 0) =
+    subst (λ (b : Bool). length (segments c.put.new.self) ≤ length (segments t) + (if b then 1 else 0)) (sym seen)
+    (c.put.ensures.long up) in
     subst (λ s. KeepsRoom s (all (slice_set tables c.args.msdb c.put.new.self)) added) c.self.view_is
     (kept tables c.args.msdb t c.put.new.self added at c.put.ensures.capacity long c.put.ensures.few)

@@ -10,5 +10,6 @@ loop-at-preserved c =
     let copy = c.in_ok-from_slice.field-0 in
     c.in_ok-push.ensures.ok
     ∙ ap (λ (xs : List (List ℕ)). xs ++ copy ∷ []) c.loop-at.invariant
-    ∙ ap (λ (x : List ℕ). take at items ++ x ∷ []) (c.in_ok-from_slice.ensures ∙ sym (get_or_from_slice_get items at c.at.result.now copy c.at.ensures))
+    ∙ ap (λ (x : List ℕ). take at items ++ x ∷ []) (c.in_ok-from_slice.ensures ∙ sym
+    (get_or_from_slice_get items at c.at.result.now copy c.at.ensures))
     ∙ sym (take_more items at copy (search rules))

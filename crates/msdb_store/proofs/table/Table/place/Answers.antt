@@ -24,7 +24,8 @@ returns-then-eq-clause-place c up = (
 pub returns-else-eq-clause-place : goal.returns-else-eq-clause-place
 returns-else-eq-clause-place c up = (
   same_place _ _ _ _ _ c.key_length-count.ensures c.count_below-at.ensures.place up,
-  lacks_there (key_of c.args.self.now.fields) c.args.key.now c.args.self.now.segments.items c.count_below-at.result c.in-Some.segment.now
+  lacks_there (key_of c.args.self.now.fields) c.args.key.now c.args.self.now.segments.items c.count_below-at.result
+      c.in-Some.segment.now
       (sym c.get.ensures ∙ ap option_copied c.in-Some.is)
       (subst (λ count. same_text (take count c.in-Some.segment.now) c.args.key.now ≡ false) c.key_length-count.ensures
       (ap (λ k. same_text k c.args.key.now) (sym c.key_in.ensures) ∙ sym c.eq.ensures ∙ c.if-eq.false)),

@@ -11,8 +11,10 @@ returns-in_ok-with_last-in-None-clause-ok c =
     let closed = nothing_open c.args.self.left_open (reverse c.args.self.frames) (is_some c.args.self.begun) none in
     record {
       closed = none;
-      shape = λ said built. rw (c.in_ok-with_last-in-None.ensures.scripts) (shape_scripts c.args.self.begun c.args.self.scripts c.args.self.block.statements said
-          (subst (λ (fs : List Frame). HasShape c.args.self.begun c.args.self.scripts fs c.args.self.block.statements said) closed.1 (built.shape closed.0)));
+      shape = λ said built. rw (c.in_ok-with_last-in-None.ensures.scripts)
+          (shape_scripts c.args.self.begun c.args.self.scripts c.args.self.block.statements said
+          (subst (λ (fs : List Frame). HasShape c.args.self.begun c.args.self.scripts fs c.args.self.block.statements
+          said) closed.1 (built.shape closed.0)));
       costed = λ said built. c.in_ok-with_last-in-None.ensures.costs built.costs;
     }
 

@@ -8,5 +8,6 @@ use Rattle.txn_lang.proofs.blocks.Builder.is_in_loop.Goals as goal
 
 pub returns : goal.returns
 returns c =
-    let found = any_from_yields_List (λ frame. is_loop (open_of frame)) _ _ c.any.result c.any.ensures.ran (YieldsList-from_slice c.args.self.now.frames cc) (λ x b q k. search (rules, tests)) in
+    let found = any_from_yields_List (λ frame. is_loop (open_of frame)) _ _ c.any.result c.any.ensures.ran
+    (YieldsList-from_slice c.args.self.now.frames cc) (λ x b q k. search (rules, tests)) in
     found ∙ any_reverse is_loop c.args.self.now.frames

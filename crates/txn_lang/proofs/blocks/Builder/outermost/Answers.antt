@@ -5,7 +5,9 @@ use Rattle.txn_lang.proofs.BlockLemmas.{outermost_first}
 use Rattle.txn_lang.proofs.blocks.Builder.outermost.Goals as goal
 
 pub returns-in-Some : goal.returns-in-Some
-returns-in-Some c = ap (option_map (λ (frame : Frame). frame.line)) c.in-Some.ensures.value ∙ outermost_first c.args.self.now.frames
+returns-in-Some c = ap (option_map (λ (frame : Frame). frame.line)) c.in-Some.ensures.value ∙ outermost_first
+    c.args.self.now.frames
 
 pub returns-in-None : goal.returns-in-None
-returns-in-None c = ap (option_map (λ (frame : Frame). frame.line)) c.in-None.ensures.value ∙ outermost_first c.args.self.now.frames
+returns-in-None c = ap (option_map (λ (frame : Frame). frame.line)) c.in-None.ensures.value ∙ outermost_first
+    c.args.self.now.frames

@@ -8,5 +8,7 @@ returns-clause-built c = λ said built. record {
   costs = built.costs;
   block = c.in_ok-block.ensures.costed;
   frames = built.frames;
-  shape = λ closed. rw (c.in_ok-block.ensures.statements) (shape_more c.args.self.begun c.args.self.scripts _ c.args.self.block.statements (c.args.statement ∷ []) said _ c.requires.begun (built.shape closed) (one c.args.statement none));
+  shape = λ closed. rw (c.in_ok-block.ensures.statements)
+      (shape_more c.args.self.begun c.args.self.scripts _ c.args.self.block.statements (c.args.statement ∷ []) said _
+      c.requires.begun (built.shape closed) (one c.args.statement none));
 }

@@ -6,5 +6,6 @@ use Rattle.txn_lang.proofs.scripts.Scripts.find.Goals as goal
 
 pub returns-clause-script : goal.returns-clause-script
 returns-clause-script c =
-    ap (option_and_then (slice_get c.args.self.now.scripts)) (c.copied.ensures ∙ c.get.ensures.value ∙ c.args.self.now.indexed c.args.tran.now)
+    ap (option_and_then (slice_get c.args.self.now.scripts))
+    (c.copied.ensures ∙ c.get.ensures.value ∙ c.args.self.now.indexed c.args.tran.now)
     ∙ found_at (λ s. same_text s.name.0 c.args.tran.now.0) c.args.self.now.scripts

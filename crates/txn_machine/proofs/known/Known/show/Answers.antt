@@ -4,4 +4,5 @@ use Rattle.txn_machine.specs.Fit.{AreShown}
 use Rattle.txn_machine.proofs.known.Known.show.Goals as goal
 
 pub returns-clause-fit : goal.returns-clause-fit
-returns-clause-fit c = λ msdbs all h. c.show-gets.ensures.fit msdbs (let is : c.take.result ≡ c.args.self.now.gets = search rules in rw is all) h
+returns-clause-fit c = λ msdbs all h. c.show-gets.ensures.fit msdbs
+    (let is : c.take.result ≡ c.args.self.now.gets = search rules in rw is all) h

@@ -10,8 +10,11 @@ use Rattle.txn_machine.proofs.place.Place.leave_loop.Given as goal
 
 abbrev pub invariant-loop-frame : goal.invariant-loop-frame
 invariant-loop-frame l = record {
-  leads : (defs : Defs) (message : Message) (statements : List Statement) (env : Env) → around defs message l.initial.self.frames statements (Leaves env) ≡ around defs message l.self.frames statements (Leaves env);
-  less : (statements : List Statement) → work_around l.self.frames statements ≤ work_around l.initial.self.frames statements;
+  leads : (defs : Defs) (message : Message) (statements : List Statement) (env : Env)
+      → around defs message l.initial.self.frames statements (Leaves env) ≡ around defs message l.self.frames statements
+      (Leaves env);
+  less : (statements : List Statement) → work_around l.self.frames statements ≤ work_around l.initial.self.frames
+      statements;
 }
 
 abbrev pub decreases-loop-frame : goal.decreases-loop-frame

@@ -11,11 +11,15 @@ use Rattle.txn_machine.proofs.EndLemmas.{stands_at}
 use Rattle.txn_machine.proofs.program.Program.step.Goals as goal
 
 -- the statement at the place, and its deed
-deed_here : (c : goal.After-act) → IsDeed c.args.defs.now c.args.statements.now (length c.args.statements.now) c.args.self.now c.in_ok-deed.deed
+deed_here : (c : goal.After-act) → IsDeed c.args.defs.now c.args.statements.now (length c.args.statements.now)
+    c.args.self.now c.in_ok-deed.deed
 deed_here c = record {
   ends = refl;
   statement = c.index-block-self.result;
-  here = ap (λ (b : List Statement). slice_get b c.args.self.now.place.at) (sym (c.block_at-block.ensures ∙ ap (λ (fs : List Frame). block_at fs c.args.statements.now) c.as_slice.ensures)) ∙ stands_at c.block_at-block.result.now c.args.self.now.place.at c.index-block-self.result (omega arith) c.index-block-self.is;
+  here = ap (λ (b : List Statement). slice_get b c.args.self.now.place.at)
+      (sym (c.block_at-block.ensures ∙ ap (λ (fs : List Frame). block_at fs c.args.statements.now) c.as_slice.ensures))
+      ∙ stands_at c.block_at-block.result.now c.args.self.now.place.at c.index-block-self.result (omega arith)
+      c.index-block-self.is;
   does = c.in_ok-deed.ensures.does;
   costs = c.in_ok-deed.ensures.costs;
 }
@@ -38,6 +42,9 @@ returns-then-self-block-clause-fit_call c = λ well fit shown.
     let d = deed_here c in
     result_fits c.args.defs.now.msdbs c.in_ok-deed.deed c.act.result c.act.ensures.given (λ asked is.
     statement_fit c.args.defs.now c.args.self.now.known asked well shown c.index-block-self.result
-    (fit_at c.args.defs.now (block_at c.args.self.now.place.frames c.args.statements.now) c.args.self.now.place.at c.index-block-self.result (fit_block c.args.defs.now c.args.self.now.place.frames c.args.statements.now fit) d.here)
+    (fit_at c.args.defs.now (block_at c.args.self.now.place.frames c.args.statements.now) c.args.self.now.place.at
+    c.index-block-self.result (fit_block c.args.defs.now c.args.self.now.place.frames c.args.statements.now fit)
+    d.here)
     (c.in_ok-deed.ensures.spelled (subst (λ (x : Deed). IsCall x) (sym is) tt))
-    (subst (λ (x : Deed). Does c.args.defs.now c.args.self.now.known c.index-block-self.result x) is c.in_ok-deed.ensures.does))
+    (subst (λ (x : Deed). Does c.args.defs.now c.args.self.now.known c.index-block-self.result x) is
+    c.in_ok-deed.ensures.does))

@@ -7,7 +7,8 @@ pub returns-clause-shows : goal.returns-clause-shows
 returns-clause-shows c =
     let is : c.from.result ≡ c.args.self.db = omega arith in
     let lt : c.from.result < length c.args.self.older = omega arith in
-    show_moves (segment_on c.args.db c.args.newest) c.args.self.older c.from.result c.args.self.db c.args.self.newest is lt
+    show_moves (segment_on c.args.db c.args.newest) c.args.self.older c.from.result c.args.self.db c.args.self.newest is
+    lt
 
 pub returns-clause-fit : goal.returns-clause-fit
 returns-clause-fit c = λ msdbs all h.
