@@ -186,16 +186,17 @@ module _ (shape : Shape) (old new : List (List ℕ)) (ci at : ℕ) (interval : L
     };
     kept = λ n. absurd (n (record { is_independent = five; is_empty = v.is_empty }));
     named = moved_named;
-    links = λ other z h. elim (same_or other v.before) as (λ _. KeepsButLink (bytes_at old other) (bytes_at new other)) [
-      | inl y ↦ (let P : ℕ → Type 0 = λ d. KeepsButLink (bytes_at old d) (bytes_at new d) in
-          subst P (sym y) (record {
-            rest = v.link.rest;
-            head =
-                head_link (head_of (bytes_at old v.before)) (head_of (bytes_at new v.before)) (link_of interval)
-                v.link.head;
-          }))
-      | inr y ↦ but-link-same (bytes_at old other) (bytes_at new other) (v.others other z y h)
-    ];
+    links = λ other z h. elim (same_or other v.before)
+        as (λ _. KeepsButLink (bytes_at old other) (bytes_at new other)) [
+          | inl y ↦ (let P : ℕ → Type 0 = λ d. KeepsButLink (bytes_at old d) (bytes_at new d) in
+              subst P (sym y) (record {
+                rest = v.link.rest;
+                head =
+                    head_link (head_of (bytes_at old v.before)) (head_of (bytes_at new v.before)) (link_of interval)
+                    v.link.head;
+              }))
+          | inr y ↦ but-link-same (bytes_at old other) (bytes_at new other) (v.others other z y h)
+        ];
     ends = λ _. record {
       begin = ap (λ (xs : List ℕ). slice_index xs 0) v.ends.ends;
       end = ap (λ (xs : List ℕ). slice_index xs 1) v.ends.ends;

@@ -26,7 +26,8 @@ use ci_space::{Head, Interval, Intervals, Shape};
 pub fn give_back<I: Intervals>(i: &mut I, shape: &Shape, ci: u64, at: u16) -> Result<(), SpaceFault>
     // At `Ok` the element is gone and all else stays, in whatever order the lists were. Where they were
     // in order, they are so again.
-    ensures takes_back { I.told i.old → OnOk result (TakesBack shape.now (I.intervals i.old) (I.intervals i.new) ci at) }
+    ensures takes_back { I.told i.old → OnOk result
+        (TakesBack shape.now (I.intervals i.old) (I.intervals i.new) ci at) }
     ensures given { I.told i.old → IsInOrder shape.now (I.intervals i.old)
         → OnOk result (GivesBack shape.now (I.intervals i.old) (I.intervals i.new) ci at) }
     ensures lists { I.told i.old → IsInOrder shape.now (I.intervals i.old)

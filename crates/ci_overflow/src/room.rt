@@ -71,7 +71,8 @@ fn join_next<I: Intervals>(
 ) -> Result<(u64, u16), SpaceFault>
     requires uow { uow < shape.now.uows }
     requires base { 0 < shape.now.base }
-    ensures joined { I.told i.old → IfOk result (JoinsNext shape.now uow (I.intervals i.old) (I.intervals i.new) needed) }
+    ensures joined { I.told i.old → IfOk result (JoinsNext shape.now uow (I.intervals i.old) (I.intervals i.new)
+        needed) }
     ensures in_range { IfOk result (λ room. room.0 < I.number i.new) }
     ensures failed { IsErrOf result SpaceFault.Failed → Rose (I.faults i.old) (I.faults i.new) }
     ensures damaged { I.told i.old → FitsEmpty (I.size i.old) needed → (n : ℕ) → result ≡ Err (SpaceFault.Damaged n)

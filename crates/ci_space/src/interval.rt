@@ -80,7 +80,8 @@ impl Interval {
         ensures bytes { IfOk result (λ interval. interval ≡ empty_bytes size kind) }
         ensures kind { IfOk result (λ interval. kind_of interval ≡ kind) }
         ensures size { IfOk result (λ interval. length interval ≡ size) }
-        ensures one_free { IfOk result (λ interval. IsTrue (has_elements kind) → Tiles interval (Free (size - 32) ∷ [])) }
+        ensures one_free { IfOk result (λ interval. IsTrue (has_elements kind)
+            → Tiles interval (Free (size - 32) ∷ [])) }
     {
         let mut bytes = vec![in alloc; 0u8; usize::from(size)]?;
         elements::put_empty(&mut bytes, kind);

@@ -203,7 +203,8 @@ impl Database<'_> {
             ≡ option_map_or (unless_held ((standing locks.now).holds region))
             (msdb_need self.now.def.now self.now.number work.old.own call.now) None) }
         ensures answer { IfOk result (λ ready. IfAnswer ready (λ answer.
-            msdb_reply self.now.def.now self.now.number (segments_in self.now) (segments_in self.now) work.old.own call.now ≡ record { answer = answer; own = work.new.own })) }
+            msdb_reply self.now.def.now self.now.number (segments_in self.now) (segments_in self.now) work.old.own
+            call.now ≡ record { answer = answer; own = work.new.own })) }
         ensures notes { IfOk result (λ ready. IfAnswer ready (λ answer. work.new.notes
             ≡ (if msdb_looks self.now.def.now self.now.number work.old.own call.now then work.old.notes ++ count ∷ []
             else work.old.notes))) }
@@ -256,7 +257,8 @@ pub fn answer(
     ensures answer { (db : DbOf) → db.msdbs ≡ msdbs.now.msdbs → IfOk result (λ ready. IfAnswer ready (λ answer.
         reply_to defs.now db db work.old.own call.now ≡ record { answer = answer; own = work.new.own })) }
     ensures notes { IfOk result (λ ready. IfAnswer ready (λ answer.
-        work.new.notes ≡ (if looks_unheld defs.now work.old.own call.now then work.old.notes ++ count ∷ [] else work.old.notes))) }
+        work.new.notes ≡ (if looks_unheld defs.now work.old.own call.now then work.old.notes ++ count ∷ [] else
+        work.old.notes))) }
     ensures fits { IfOk result (λ ready. IfAnswer ready (FitsAnswer defs.now.msdbs call.now)) }
 
     // No anchor is changed, and no sequential dependent inserted.

@@ -134,7 +134,8 @@ impl Database<'_> {
             → is_put_or_dropped self.now.def.now self.now.number own key.now ≡ changed
             → replied_by self.now.def.now self.now.number reply own
             ≡ (if changed then refused self.now.def.now self.now.number own (codes "XP")
-            else fld_reply self.now.def.now self.now.number own key.now fsas.now (segment_of self.now.def.now (segments_in self.now) key.now))) }
+            else fld_reply self.now.def.now self.now.number own key.now fsas.now
+            (segment_of self.now.def.now (segments_in self.now) key.now))) }
         ensures change { IfOk result (λ reply. FitsChange self.now.def.now self.now.number reply.change) }
     {
         if changed {
@@ -229,7 +230,8 @@ impl Database<'_> {
             changed
             → replied_by self.now.def.now self.now.number reply own
             ≡ (if not self.now.def.now.dynamic then refused self.now.def.now self.now.number own (codes "AM")
-            else if_held self.now.def.now self.now.number own (dlet_reply self.now.def.now self.now.number own) (option_copied held.entry))) }
+            else if_held self.now.def.now self.now.number own (dlet_reply self.now.def.now self.now.number own)
+            (option_copied held.entry))) }
         ensures change { IfOk result (λ reply. FitsChange self.now.def.now self.now.number reply.change) }
     {
         if !self.def.dynamic {

@@ -221,7 +221,8 @@ impl Work {
         requires { msdb < length self.old.own.msdbs }
         ensures { self.new ≡ record self.old {
           own = record self.old.own {
-            msdbs = slice_set self.old.own.msdbs msdb (record (unwrap_or (slice_get self.old.own.msdbs msdb) no_msdb_position) { held = false });
+            msdbs = slice_set self.old.own.msdbs msdb
+                (record (unwrap_or (slice_get self.old.own.msdbs msdb) no_msdb_position) { held = false });
           };
         } }
     {
@@ -233,7 +234,10 @@ impl Work {
         requires { msdb < length self.old.own.msdbs }
         ensures { self.new ≡ record self.old {
           own =
-              record self.old.own { msdbs = slice_set self.old.own.msdbs msdb (record { key = Some key; held = hold }) };
+              record self.old.own {
+                msdbs = slice_set self.old.own.msdbs msdb
+                    (record { key = Some key; held = hold });
+              };
         } }
     {
         self.positions[msdb as usize] = Position {

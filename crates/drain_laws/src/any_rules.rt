@@ -123,7 +123,8 @@ pub fn a_drain_comes()
         → Laws rules view
         → EndLaws rules gauge
         → IsReached rules gauge m
-        → (rounds : List (List RunStep)) × ((m2 : Machine) × (Drains rules m rounds m2 × AllByRecursion AreFair rounds)) }
+        → (rounds : List (List RunStep)) × ((m2 : Machine)
+        × (Drains rules m rounds m2 × AllByRecursion AreFair rounds)) }
 {}
 
 /// What is left to do is bounded by counts: of lines that may still be read or are held, of messages queued, of active

@@ -48,7 +48,8 @@ fn go_on(
     requires under { (t : Transaction) × IsTransaction defs.now scripts.now.scripts active.old t }
     ensures acted { (now : Db) (t : Transaction) → now.msdbs ≡ store.now.msdbs
         → IsTransaction defs.now scripts.now.scripts active.old t
-        → IfOk result (IsActed defs.now scripts.now.scripts ((standing locks.now).holds region) now count t active.new) }
+        → IfOk result (IsActed defs.now scripts.now.scripts ((standing locks.now).holds region) now count t
+        active.new) }
     ensures err { (t : Transaction) → IsTransaction defs.now scripts.now.scripts active.old t
         → OnErr result (IsTransaction defs.now scripts.now.scripts active.new t) }
 {

@@ -75,7 +75,14 @@ fn begin(
     requires short { IsShort message.now.line }
     ensures is { (from : ℕ) → IfOk result (λ made. IsTransaction defs.now scripts.now.scripts
         (record { from = from; message = message.now; program = made.0; work = made.1; tries = 0 })
-        (record { from = from; message = message.now; point = begun (rules_of defs.now scripts.now.scripts); notes = []; tries = 0 })) }
+        (record {
+          from = from;
+          message = message.now;
+          point = begun (rules_of defs.now scripts.now.scripts);
+          notes =
+              [];
+          tries = 0;
+        })) }
     ensures room { IfOk result (λ made. made.2 ≡ room + refusal_room message.now.line) }
 {
     let room = room_with(room, &message.line)?;

@@ -134,7 +134,8 @@ fn triples_of(alloc: Global, items: &Vec<Value>) -> Result<Vec<Triple>, DefsFaul
 /// The fields that the items of a value are.
 #[tactic(auto, unfolding(crate::specs::Values::as_triples))]
 fn triples_in(alloc: Global, value: &Value) -> Result<Vec<Triple>, DefsFault>
-    ensures { Gives (λ ts. ts.items) result (or_fault (faults.BadField (codes "fields")) (as_triples (view value.now))) }
+    ensures { Gives (λ ts. ts.items) result (or_fault (faults.BadField (codes "fields"))
+        (as_triples (view value.now))) }
 {
     match value.as_array() {
         Some(items) => triples_of(alloc, items),

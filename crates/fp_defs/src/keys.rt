@@ -294,7 +294,8 @@ pub(crate) fn tables_at<'a>(
     table: &'a Table,
 ) -> Result<Vec<&'a Table>, DefsFault>
     ensures few { IfOk result (λ ts. length ts.items ≤ 1000000) }
-    ensures exact { Gives (λ ts. map (λ t. table_view t.now) ts.items) result (tables_at key.now (table_view table.now)) }
+    ensures exact { Gives (λ ts. map (λ t. table_view t.now) ts.items) result
+        (tables_at key.now (table_view table.now)) }
 {
     let value = needed(alloc, key, table)?;
     let tables = tables_in(alloc, key, value)?;

@@ -31,15 +31,18 @@ pub fn the_least_missing_group_is_named()
 
 /// A key that stands twice among the loaded segments is found behind all values that don't fit.
 pub fn a_loaded_key_stands_once()
-    ensures twice { defs_of (codes "regions = [1]\nrouter = \"RANGE\"\n[[msdb]]\nname = \"M\"\nfields = [[\"K\", \"C\", 3]]\nload = [[\"A\"], [\"B\"], [\"A \"]]\n")
+    ensures twice { defs_of
+        (codes "regions = [1]\nrouter = \"RANGE\"\n[[msdb]]\nname = \"M\"\nfields = [[\"K\", \"C\", 3]]\nload = [[\"A\"], [\"B\"], [\"A \"]]\n")
         ≡ Err (fault.Twice (codes "A")) }
-    ensures misfit { defs_of (codes "regions = [1]\nrouter = \"RANGE\"\n[[msdb]]\nname = \"M\"\nfields = [[\"K\", \"C\", 3]]\nload = [[\"A\"], [\"A\"], [\"ABCD\"]]\n")
+    ensures misfit { defs_of
+        (codes "regions = [1]\nrouter = \"RANGE\"\n[[msdb]]\nname = \"M\"\nfields = [[\"K\", \"C\", 3]]\nload = [[\"A\"], [\"A\"], [\"ABCD\"]]\n")
         ≡ Err (fault.BadField (codes "load")) }
 {}
 
 /// The element of a root with a sequential type: 4 bytes in front, 10 to its next twin, 8 for the newest serial, and
 /// 461 of its own make 483, which is 484 in fours. An interval of 512 has room for 480.
 pub fn an_element_has_its_sequential_pointer()
-    ensures { defs_of (codes "regions = [1]\nrouter = \"RANGE\"\n[[dedb]]\nname = \"D\"\nrandomizer = \"FOLD\"\nci = 512\narea = [{}]\n[[dedb.segment]]\nname = \"R\"\nfields = [[\"K\", \"C\", 4], [\"F\", \"C\", 457]]\n[[dedb.segment]]\nname = \"S\"\nparent = \"R\"\nsequential = true\nfields = [[\"F\", \"P\", 4]]\n")
+    ensures { defs_of
+        (codes "regions = [1]\nrouter = \"RANGE\"\n[[dedb]]\nname = \"D\"\nrandomizer = \"FOLD\"\nci = 512\narea = [{}]\n[[dedb.segment]]\nname = \"R\"\nfields = [[\"K\", \"C\", 4], [\"F\", \"C\", 457]]\n[[dedb.segment]]\nname = \"S\"\nparent = \"R\"\nsequential = true\nfields = [[\"F\", \"P\", 4]]\n")
         ≡ Err (fault.OutOfLimit (codes "fields") (pos 484)) }
 {}

@@ -39,7 +39,14 @@ impl Model for Draft {
 
     ghost Value = { SegDef };
 
-    ghost view = { λ d. record { name = d.name; parent = d.parent; sequential = d.sequential; fields = d.fields; length = d.length } };
+    ghost view = { λ d. record {
+      name = d.name;
+      parent = d.parent;
+      sequential = d.sequential;
+      fields =
+          d.fields;
+      length = d.length;
+    } };
 }
 
 /// Whether one of these segments has a name.

@@ -14,7 +14,8 @@ pub struct Router {
     kind: Kind,
     f: Routing,
     ghost may_call: { (tran : _) (n : ℕ) → IsRoutable tran.now n → Routing.pre f tran n },
-    ghost routes: { (tran : _) (n : ℕ) (group : ℕ) → IsRoutable tran.now n → Routing.post f tran n group → group ≡ route kind n tran.now },
+    ghost routes: { (tran : _) (n : ℕ) (group : ℕ) → IsRoutable tran.now n → Routing.post f tran n group
+        → group ≡ route kind n tran.now },
 }
 
 impl Router {

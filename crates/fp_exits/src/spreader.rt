@@ -14,7 +14,8 @@ pub struct Spreader {
     kind: Kind,
     f: Spreading,
     ghost may_call: { (key : _) (n : ℕ) → IsSpreadable key.now n → Spreading.pre f key n },
-    ghost spreads: { (key : _) (n : ℕ) (place : ℕ) → IsSpreadable key.now n → Spreading.post f key n place → place ≡ spread kind n key.now },
+    ghost spreads: { (key : _) (n : ℕ) (place : ℕ) → IsSpreadable key.now n → Spreading.post f key n place
+        → place ≡ spread kind n key.now },
 }
 
 impl Spreader {

@@ -97,7 +97,8 @@ fn is_area_interval(defs: &Defs, set: u16, ci: u64, len: usize) -> bool
 fn set_size(defs: &Defs, set: u16) -> Option<u16>
     ensures size { IfSome result (λ size. slice_get (area_sizes defs.now) (set - first_area_set) ≡ Some size) }
     ensures is_area { OnSome result (first_area_set ≤ set) }
-    ensures none { IfNone result (first_area_set ≤ set → slice_get (area_sizes defs.now) (set - first_area_set) ≡ None) }
+    ensures none { IfNone result (first_area_set ≤ set
+        → slice_get (area_sizes defs.now) (set - first_area_set) ≡ None) }
 {
     if set < FIRST_AREA {
         return None;

@@ -48,7 +48,8 @@ pub(crate) fn read_parts<T: Site>(
 
     // The groups up to the first gate that isn't open are put.
     ensures replayed { T.told site.old → IfOk result (λ parts. IsReplayed defs.now ((T.disk site.old).contents 0)
-        (record { first = first_gate (as_front front.now); at = parts.1.gate; count = parts.1.sealed }) (start defs.now).msdbs parts.0.msdbs) }
+        (record { first = first_gate (as_front front.now); at = parts.1.gate; count = parts.1.sealed })
+        (start defs.now).msdbs parts.0.msdbs) }
     ensures closed { T.told site.old → IfOk result (λ parts. slice_index ((T.disk site.old).contents 0) parts.1.gate ≢
         1) }
     ensures readable { T.told site.old → OnOk result
@@ -57,7 +58,8 @@ pub(crate) fn read_parts<T: Site>(
     ensures of { IfOk result (λ parts. IsOf defs.now.msdbs parts.0) }
 
     // When each refusal comes.
-    ensures front { T.told site.old → OnOk result (StartsWithFront ((T.disk site.old).contents 0) (as_front front.now)) }
+    ensures front { T.told site.old → OnOk result (StartsWithFront ((T.disk site.old).contents 0)
+        (as_front front.now)) }
     ensures foreign { T.told site.old → IsErrOf result faults.Foreign
         → StartsWithFront ((T.disk site.old).contents 0) (as_front front.now) → ⊥ }
     ensures damaged { (set at : ℕ) → T.told site.old → IsErrOf result (faults.Damaged set at) →

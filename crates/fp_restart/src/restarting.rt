@@ -51,7 +51,8 @@ pub fn restart<T: Site>(
     ensures of { IfOk result (λ parts. IsOf defs.now.msdbs parts.0) }
 
     // When each refusal comes.
-    ensures front { T.told site.old → OnOk result (StartsWithFront ((T.disk site.old).contents 0) (as_front front.now)) }
+    ensures front { T.told site.old → OnOk result (StartsWithFront ((T.disk site.old).contents 0)
+        (as_front front.now)) }
     ensures foreign { T.told site.old → IsErrOf result faults.Foreign
         → StartsWithFront ((T.disk site.old).contents 0) (as_front front.now) → ⊥ }
     ensures damaged { (set at : ℕ) → T.told site.old → IsErrOf result (faults.Damaged set at) → set ≡ 0 }

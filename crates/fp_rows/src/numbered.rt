@@ -91,7 +91,8 @@ pub fn notes_that_fall_do_not_come()
         (record asking_three { from = 0; notes = 1 ∷ 0 ∷ [] }) next }
     ensures before_it_began { (next : Db) → ¬ Comes sample_rules behind_one (record asking_three { notes = 0 ∷ [] })
         next }
-    ensures past_its_place { (next : Db) → ¬ Comes sample_rules behind_one (record asking_three { notes = 2 ∷ [] }) next }
+    ensures past_its_place { (next : Db) → ¬ Comes sample_rules behind_one (record asking_three { notes = 2 ∷ [] })
+        next }
 {}
 
 /// The reply lines: the last number, the line as it was sent, and none for the change of formats.

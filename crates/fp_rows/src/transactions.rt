@@ -39,13 +39,15 @@ pub fn two_that_want_each_other()
 
 /// A new teller is good, and a second insert of the key in the same transaction is answered XP.
 pub fn an_insert_and_another_of_the_key()
-    ensures first { (reply_to sample_defs at_start at_start (fresh sample_defs) (call.Isrt 1 [] (hex (codes "54303039 00000000")))).answer
+    ensures first { (reply_to sample_defs at_start at_start (fresh sample_defs)
+        (call.Isrt 1 [] (hex (codes "54303039 00000000")))).answer
         ≡ sample.answered (codes "  ") }
     ensures second { (reply_to sample_defs at_start at_start
         (reply_to sample_defs at_start at_start (fresh sample_defs) (call.Isrt 1 [] (hex (codes "54303039 00000000")))).own
         (call.Isrt 1 [] (hex (codes "54303039 00000000")))).answer
         ≡ sample.answered (codes "XP") }
-    ensures standing { (reply_to sample_defs at_start at_start (fresh sample_defs) (call.Isrt 1 [] (hex (codes "54303031 00000000")))).answer
+    ensures standing { (reply_to sample_defs at_start at_start (fresh sample_defs)
+        (call.Isrt 1 [] (hex (codes "54303031 00000000")))).answer
         ≡ sample.answered (codes "II") }
 {}
 

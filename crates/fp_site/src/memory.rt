@@ -183,7 +183,8 @@ impl Site for MemorySite {
 
     ghost keeps_on = { λ a b c f g. tt };
 
-    ghost lawful = { λ m told. lawful (past_of m.past) (bounded_by (past_of m.past) (set_bytes m.sets.items) m.stands m.bounded) };
+    ghost lawful = { λ m told. lawful (past_of m.past)
+        (bounded_by (past_of m.past) (set_bytes m.sets.items) m.stands m.bounded) };
 
     fn size(&mut self, set: u16) -> Result<u64, Failed>
         ensures value { IfOk result (λ n. n ≡ length ((memory_disk self.old).contents set)) }
@@ -395,7 +396,8 @@ fn first_half(text: &[u8]) -> &[u8]
 
 // Counts bytes read of a data set.
 fn count_read(reads: &mut Vec<u64>, set: u16, count: usize) -> Result<(), AllocError>
-    ensures this { OnOk result (get_or reads.new.items set 0 ≡ min (get_or reads.old.items set 0 + count) (2 ^ 64 - 1)) }
+    ensures this { OnOk result (get_or reads.new.items set 0 ≡ min (get_or reads.old.items set 0 + count)
+        (2 ^ 64 - 1)) }
     ensures others { (k : ℕ) → (k ≡ set → ⊥) → get_or reads.new.items k 0 ≡ get_or reads.old.items k 0 }
     ensures err { OnErr result ((k : ℕ) → get_or reads.new.items k 0 ≡ get_or reads.old.items k 0) }
 {

@@ -194,7 +194,8 @@ fn replace(
 
 // The bytes sent after one call.
 fn send_on(sent: &mut Bytes, call: Call, left: &[u8]) -> Result<(), AllocError>
-    ensures { OnOk result ((h : History) → sent.old ≡ sent_after h → sent.new ≡ sent_after (event_of call left.now ∷ h)) }
+    ensures { OnOk result ((h : History) → sent.old ≡ sent_after h
+        → sent.new ≡ sent_after (event_of call left.now ∷ h)) }
 {
     match call {
         Call::Send(count) => sent.append(front_of(left, count)),

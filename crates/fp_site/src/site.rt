@@ -54,7 +54,8 @@ pub trait Site {
 
         // Nothing changes, and nothing is read.
         ensures stays { told self.old → Stays (disk self.old) (disk self.new) }
-        ensures reads { ReadsNothing (tells_reads self.old) (tells_reads self.new) (bytes_read self.old) (bytes_read self.new) }
+        ensures reads { ReadsNothing (tells_reads self.old) (tells_reads self.new) (bytes_read self.old)
+            (bytes_read self.new) }
         ensures told { told self.old → told self.new }
         ensures holds { holds self.new ≡ holds self.old }
         ensures keeps { (first : Self) → keeps first self.old → keeps first self.new };
@@ -64,7 +65,8 @@ pub trait Site {
         requires { end ≤ 2 ^ 62 }
         ensures cause { Counts (faults self.old) (faults self.new) result }
         ensures stays { told self.old → Stays (disk self.old) (disk self.new) }
-        ensures reads { ReadsNothing (tells_reads self.old) (tells_reads self.new) (bytes_read self.old) (bytes_read self.new) }
+        ensures reads { ReadsNothing (tells_reads self.old) (tells_reads self.new) (bytes_read self.old)
+            (bytes_read self.new) }
         ensures told { told self.old → told self.new }
         ensures holds { holds self.new ≡ holds self.old }
         ensures keeps { (first : Self) → keeps first self.old → keeps first self.new };
@@ -79,7 +81,8 @@ pub trait Site {
         // The bytes read are counted. At `Failed` some of them may be.
         ensures count { tells_reads self.new set →
             OnOk result (bytes_read self.new set ≡ bytes_read self.old set + length into.old) }
-        ensures at_most { tells_reads self.new set → bytes_read self.new set ≤ bytes_read self.old set + length into.old }
+        ensures at_most { tells_reads self.new set → bytes_read self.new set ≤ bytes_read self.old set + length
+            into.old }
         ensures reads { (k : ℕ) → tells_reads self.new k → tells_reads self.old k }
         ensures others { (k : ℕ) → (k ≡ set → ⊥) → tells_reads self.new k
             → bytes_read self.new k ≡ bytes_read self.old k }
@@ -102,7 +105,8 @@ pub trait Site {
 
         // No other data set changes, and nothing is sent.
         ensures leaves { told self.old → Leaves set (disk self.old) (disk self.new) }
-        ensures reads { ReadsNothing (tells_reads self.old) (tells_reads self.new) (bytes_read self.old) (bytes_read self.new) }
+        ensures reads { ReadsNothing (tells_reads self.old) (tells_reads self.new) (bytes_read self.old)
+            (bytes_read self.new) }
         ensures told { told self.old → told self.new }
         ensures holds { holds self.new ≡ holds self.old }
         ensures keeps { (first : Self) → keeps first self.old → keeps first self.new }
@@ -119,7 +123,8 @@ pub trait Site {
 
         // No other data set changes, and nothing is sent.
         ensures leaves { told self.old → Leaves set (disk self.old) (disk self.new) }
-        ensures reads { ReadsNothing (tells_reads self.old) (tells_reads self.new) (bytes_read self.old) (bytes_read self.new) }
+        ensures reads { ReadsNothing (tells_reads self.old) (tells_reads self.new) (bytes_read self.old)
+            (bytes_read self.new) }
         ensures told { told self.old → told self.new }
         ensures holds { holds self.new ≡ holds self.old }
         ensures keeps { (first : Self) → keeps first self.old → keeps first self.new }
@@ -136,7 +141,8 @@ pub trait Site {
 
         // No data set changes.
         ensures same { told self.old → (disk self.new).contents ≡ (disk self.old).contents }
-        ensures reads { ReadsNothing (tells_reads self.old) (tells_reads self.new) (bytes_read self.old) (bytes_read self.new) }
+        ensures reads { ReadsNothing (tells_reads self.old) (tells_reads self.new) (bytes_read self.old)
+            (bytes_read self.new) }
         ensures told { told self.old → told self.new }
         ensures holds { holds self.new ≡ holds self.old }
         ensures keeps { (first : Self) → keeps first self.old → keeps first self.new }

@@ -95,9 +95,11 @@ impl Lines {
     pub fn next<S: Source>(&mut self, source: &mut S) -> Result<Option<Bytes>, LineFault>
         // A line is the first of those ahead, and is none that there is a fault for.
         ensures line { S.told source.old → IfOk result (λ next. IfSome next (λ line.
-            lines_ahead self.old (S.left source.old Part.Messages) ≡ line ∷ lines_ahead self.new (S.left source.new Part.Messages))) }
+            lines_ahead self.old (S.left source.old Part.Messages) ≡ line ∷ lines_ahead self.new
+            (S.left source.new Part.Messages))) }
         ensures fair { S.told source.old → IfOk result (λ next. IfSome next (λ line.
-            fault_ahead self.old (S.left source.old Part.Messages) ≡ fault_ahead self.new (S.left source.new Part.Messages))) }
+            fault_ahead self.old (S.left source.old Part.Messages) ≡ fault_ahead self.new
+            (S.left source.new Part.Messages))) }
         ensures short { IfOk result (λ next. IfSome next (λ line. length line ≤ 2100)) }
 
         // It counts as one, and 1,000,000 are given at most.
@@ -142,7 +144,8 @@ impl Lines {
     fn gather<S: Source>(&mut self, source: &mut S, line: &mut Vec<u8>) -> Result<bool, LineFault>
         requires { line.old.items ≡ [] }
         ensures by_newline { S.told source.old → IfOk result (λ by_newline. by_newline ≡ true →
-            to_come self.old (S.left source.old Part.Messages) ≡ line.new.items ++ 10 ∷ to_come self.new (S.left source.new Part.Messages)) }
+            to_come self.old (S.left source.old Part.Messages) ≡ line.new.items ++ 10 ∷ to_come self.new
+            (S.left source.new Part.Messages)) }
         ensures at_end { S.told source.old → IfOk result (λ by_newline. by_newline ≡ false →
             to_come self.old (S.left source.old Part.Messages) ≡ line.new.items) }
         ensures ended { S.told source.old → IfOk result (λ by_newline. by_newline ≡ false →

@@ -89,7 +89,8 @@ fn read_definitions<S: Source>(alloc: Global, source: &mut S, exits: &Exits) -> 
     ensures are { IfOk result AreDefs }
     ensures built { IfOk result (λ defs. are_built defs ≡ true) }
     ensures refused { S.told source.old →
-        IfErr result (λ answer. MayStandIn answer ⊎ (definitions_in (kinds_of exits.now) (S.left source.old part.Definitions) ≡ Err answer)) }
+        IfErr result (λ answer. MayStandIn answer ⊎
+        (definitions_in (kinds_of exits.now) (S.left source.old part.Definitions) ≡ Err answer)) }
     ensures early { IfErr result IsOfParts }
     ensures cause { IsErrOf result status.ReadFault → Rose (S.faults source.old) (S.faults source.new) }
     ensures source { ReadsOnly S.told S.left S.faults S.holds S.keeps part.Definitions source.old source.new }

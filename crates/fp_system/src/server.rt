@@ -40,7 +40,8 @@ impl Server {
         ensures ready { (entries : ListOf Entry) (account : IsAccount (job_of setup.now) entries)
             → self.old.store.msdbs ≡ account.last.msdbs
             → self.old.log.unsealed ≡ [] → self.old.log.sealed ≡ length entries →
-            IfOk result (λ reply. AwaitsSeal (job_of setup.now) entries line.now reply self.old.log.gate self.new.store self.new.log) }
+            IfOk result (λ reply. AwaitsSeal (job_of setup.now) entries line.now reply self.old.log.gate self.new.store
+            self.new.log) }
         ensures store { IsOf setup.now.defs.msdbs self.new.store }
     {
         serve_line(
@@ -66,7 +67,8 @@ impl Server {
         requires short { length line.now ≤ 2100 }
         ensures ok { (entries : ListOf Entry) → T.told site.old
             → (stands : StandsAt (job_of setup.now) entries (T.disk site.old) self.old.store self.old.log) →
-            OnOk result (Serves (job_of setup.now) entries stands.groups (T.disk site.old) (T.disk site.new) (line.now ∷ []) self.new.store self.new.log) }
+            OnOk result (Serves (job_of setup.now) entries stands.groups (T.disk site.old) (T.disk site.new)
+            (line.now ∷ []) self.new.store self.new.log) }
         ensures store { IsOf setup.now.defs.msdbs self.new.store }
         ensures stop { IfErr result IsOfSite }
         ensures cause { IsErrOf result status.SiteFault → Rose (T.faults site.old) (T.faults site.new) }
@@ -84,7 +86,8 @@ impl Server {
         // A crash at any moment leaves the entries and no more sent, or these with the new one, and a part of its line.
         ensures crash { (entries : ListOf Entry) → T.told site.old
             → StandsAt (job_of setup.now) entries (T.disk site.old) self.old.store self.old.log →
-            Through (T.disk site.old) (T.disk site.new) (GoesOnBy (job_of setup.now) (line.now ∷ []) (T.disk site.old) entries) }
+            Through (T.disk site.old) (T.disk site.new)
+            (GoesOnBy (job_of setup.now) (line.now ∷ []) (T.disk site.old) entries) }
     {
         let reply = self.prepare(alloc, setup, line)?;
         self.log.seal(site, 1)?;
@@ -105,7 +108,8 @@ impl Server {
         // At `Ok` each has an entry, and all reply lines were sent.
         ensures ok { (entries : ListOf Entry) → S.told source.old → T.told site.old
             → (stands : StandsAt (job_of setup.now) entries (T.disk site.old) self.old.store self.old.log) →
-            OnOk result (Serves (job_of setup.now) entries stands.groups (T.disk site.old) (T.disk site.new) (lines_of (S.left source.old part.Messages)) self.new.store self.new.log) }
+            OnOk result (Serves (job_of setup.now) entries stands.groups (T.disk site.old) (T.disk site.new)
+            (lines_of (S.left source.old part.Messages)) self.new.store self.new.log) }
         ensures all { S.told source.old → OnOk result (faulty_line (S.left source.old part.Messages) ≡ None) }
 
         ensures read { S.told source.old → OnOk result (S.left source.new part.Messages ≡ []) }
@@ -116,7 +120,8 @@ impl Server {
         ensures before { (entries : ListOf Entry) (number : ℕ) → S.told source.old → T.told site.old
             → (stands : StandsAt (job_of setup.now) entries (T.disk site.old) self.old.store self.old.log)
             → IsErrOf result (status.Line number) →
-            Serves (job_of setup.now) entries stands.groups (T.disk site.old) (T.disk site.new) (take (number - 1) (lines_of (S.left source.old part.Messages))) self.new.store self.new.log }
+            Serves (job_of setup.now) entries stands.groups (T.disk site.old) (T.disk site.new)
+            (take (number - 1) (lines_of (S.left source.old part.Messages))) self.new.store self.new.log }
         ensures stop { IfErr result IsStop }
         ensures site_cause { IsErrOf result status.SiteFault → Rose (T.faults site.old) (T.faults site.new) }
         ensures source_cause { IsErrOf result status.ReadFault → Rose (S.faults source.old) (S.faults source.new) }
@@ -124,7 +129,8 @@ impl Server {
         // However it ends.
         ensures err { (entries : ListOf Entry) → S.told source.old → T.told site.old
             → StandsAt (job_of setup.now) entries (T.disk site.old) self.old.store self.old.log →
-            OnErr result (StaysSafe (job_of setup.now) entries (lines_of (S.left source.old part.Messages)) (T.disk site.old) (T.disk site.new)) }
+            OnErr result (StaysSafe (job_of setup.now) entries (lines_of (S.left source.old part.Messages))
+            (T.disk site.old) (T.disk site.new)) }
         ensures others { T.told site.old → Spares IsLog (T.disk site.old) (T.disk site.new) }
         ensures source { IsContinued S.told S.faults S.holds S.keeps source.old source.new }
         ensures site { IsContinued T.told T.faults T.holds T.keeps site.old site.new }
@@ -133,7 +139,8 @@ impl Server {
         // their replies.
         ensures crash { (entries : ListOf Entry) → S.told source.old → T.told site.old
             → StandsAt (job_of setup.now) entries (T.disk site.old) self.old.store self.old.log →
-            Through (T.disk site.old) (T.disk site.new) (GoesOnBy (job_of setup.now) (lines_of (S.left source.old part.Messages)) (T.disk site.old) entries) }
+            Through (T.disk site.old) (T.disk site.new)
+            (GoesOnBy (job_of setup.now) (lines_of (S.left source.old part.Messages)) (T.disk site.old) entries) }
     {
         let mut lines = Lines::new(alloc)?;
         while let Some(line) = lines.next(source)? {

@@ -107,7 +107,8 @@ fn numbered(alloc: Global, front: &[u8], number: u64) -> Result<Bytes, AllocErro
 // What is said of a transaction.
 #[tactic(auto, using(std::proofs::Common::append_assoc))]
 fn transaction_text(alloc: Global, name: &Name, back: &[u8]) -> Result<Bytes, AllocError>
-    ensures { IfOk result (λ text. text ≡ codes "scripts: " ++ (codes "transaction " ++ trimmed name.now.0 ++ back.now)) }
+    ensures { IfOk result (λ text. text ≡ codes "scripts: " ++
+        (codes "transaction " ++ trimmed name.now.0 ++ back.now)) }
 {
     joined(
         alloc,

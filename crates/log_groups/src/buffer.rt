@@ -69,19 +69,22 @@ pub(crate) fn seal_part<S: Site>(
 
     // No other data set changes, nothing is sent or read.
     ensures only { S.told site.old → OnlyOn 0 (S.disk site.old) (S.disk site.new) }
-    ensures reads { ReadsNothing (S.tells_reads site.old) (S.tells_reads site.new) (S.bytes_read site.old) (S.bytes_read site.new) }
+    ensures reads { ReadsNothing (S.tells_reads site.old) (S.tells_reads site.new) (S.bytes_read site.old)
+        (S.bytes_read site.new) }
     ensures told { S.told site.old → S.told site.new }
     ensures holds { S.holds site.new ≡ S.holds site.old }
     ensures keeps { (first : S) → S.keeps first site.old → S.keeps first site.new }
 
     // A crash at any moment leaves the gate as it was, or the group whole behind it.
     ensures crash { S.told site.old → IsDurable (S.disk site.old) 0 → gate < length ((S.disk site.old).contents 0) →
-        Through (S.disk site.old) (S.disk site.new) (IsGated ((S.disk site.old).contents 0) gate (part_text buffer.old start end)) }
+        Through (S.disk site.old) (S.disk site.new)
+        (IsGated ((S.disk site.old).contents 0) gate (part_text buffer.old start end)) }
 
     // So does each image that a further sync may make of what a crash may leave now.
     ensures settles { (image : ListOf ℕ) → S.told site.old → IsDurable (S.disk site.old) 0
         → gate < length ((S.disk site.old).contents 0) →
-        Settles (S.disk site.new) 0 image → IsGatedImage ((S.disk site.old).contents 0) gate (part_text buffer.old start end) image }
+        Settles (S.disk site.new) 0 image → IsGatedImage ((S.disk site.old).contents 0) gate
+        (part_text buffer.old start end) image }
 {
     let next = buffer[end];
     make_ready(buffer, start, end);

@@ -30,9 +30,11 @@ fn is_open<S: Site>(site: &mut S, at: u64) -> Result<bool, Failed>
     ensures cause { Counts (S.faults site.old) (S.faults site.new) result }
 
     // Nothing changes, and one byte is read.
-    ensures count { S.tells_reads site.new 0 → IfOk result (λ _. S.bytes_read site.new 0 ≡ S.bytes_read site.old 0 + 1) }
+    ensures count { S.tells_reads site.new 0 → IfOk result
+        (λ _. S.bytes_read site.new 0 ≡ S.bytes_read site.old 0 + 1) }
     ensures stays { S.told site.old → Stays (S.disk site.old) (S.disk site.new) }
-    ensures reads { ReadsOnlyLog (S.tells_reads site.old) (S.tells_reads site.new) (S.bytes_read site.old) (S.bytes_read site.new) }
+    ensures reads { ReadsOnlyLog (S.tells_reads site.old) (S.tells_reads site.new) (S.bytes_read site.old)
+        (S.bytes_read site.new) }
     ensures told { S.told site.old → S.told site.new }
     ensures holds { S.holds site.new ≡ S.holds site.old }
     ensures keeps { (first : S) → S.keeps first site.old → S.keeps first site.new }
@@ -44,7 +46,8 @@ fn is_open<S: Site>(site: &mut S, at: u64) -> Result<bool, Failed>
 
 // The length of the body behind the gate at this place; None where it is 0, cut short, or passes the log's end.
 fn length_at<S: Site>(site: &mut S, at: u64) -> Result<Option<u64>, Failed>
-    ensures found { S.told site.old → IfOk result (λ found. IfSome found (HasLength ((S.disk site.old).contents 0) at)) }
+    ensures found { S.told site.old → IfOk result (λ found. IfSome found
+        (HasLength ((S.disk site.old).contents 0) at)) }
     ensures none { S.told site.old → slice_index ((S.disk site.old).contents 0) at ≡ 1 →
         IfOk result (λ found. IfNone found (IsDamaged ((S.disk site.old).contents 0) at)) }
     ensures within { IfOk result (λ found. IfSome found (λ n. at + 9 + n ≤ 2 ^ 62)) }
@@ -54,7 +57,8 @@ fn length_at<S: Site>(site: &mut S, at: u64) -> Result<Option<u64>, Failed>
     ensures count { S.tells_reads site.new 0 →
         IfOk result (λ found. IfSome found (λ _. S.bytes_read site.new 0 ≡ S.bytes_read site.old 0 + 8)) }
     ensures stays { S.told site.old → Stays (S.disk site.old) (S.disk site.new) }
-    ensures reads { ReadsOnlyLog (S.tells_reads site.old) (S.tells_reads site.new) (S.bytes_read site.old) (S.bytes_read site.new) }
+    ensures reads { ReadsOnlyLog (S.tells_reads site.old) (S.tells_reads site.new) (S.bytes_read site.old)
+        (S.bytes_read site.new) }
     ensures told { S.told site.old → S.told site.new }
     ensures holds { S.holds site.new ≡ S.holds site.old }
     ensures keeps { (first : S) → S.keeps first site.old → S.keeps first site.new }
@@ -91,7 +95,8 @@ pub(crate) fn bytes_at<S: Site>(
     ensures count { S.tells_reads site.new 0 → IfOk result
         (λ _. S.bytes_read site.new 0 ≡ S.bytes_read site.old 0 + len) }
     ensures stays { S.told site.old → Stays (S.disk site.old) (S.disk site.new) }
-    ensures reads { ReadsOnlyLog (S.tells_reads site.old) (S.tells_reads site.new) (S.bytes_read site.old) (S.bytes_read site.new) }
+    ensures reads { ReadsOnlyLog (S.tells_reads site.old) (S.tells_reads site.new) (S.bytes_read site.old)
+        (S.bytes_read site.new) }
     ensures told { S.told site.old → S.told site.new }
     ensures holds { S.holds site.new ≡ S.holds site.old }
     ensures keeps { (first : S) → S.keeps first site.old → S.keeps first site.new }
@@ -115,9 +120,11 @@ fn body_at<S: Site>(alloc: Global, site: &mut S, at: u64) -> Result<Option<Vec<u
 
     // Nothing changes, and the length and the body are read once.
     ensures count { S.tells_reads site.new 0 →
-        IfOk result (λ found. IfSome found (λ body. S.bytes_read site.new 0 ≡ S.bytes_read site.old 0 + 8 + length body.items)) }
+        IfOk result (λ found. IfSome found (λ body. S.bytes_read site.new 0 ≡ S.bytes_read site.old 0 + 8 + length
+        body.items)) }
     ensures stays { S.told site.old → Stays (S.disk site.old) (S.disk site.new) }
-    ensures reads { ReadsOnlyLog (S.tells_reads site.old) (S.tells_reads site.new) (S.bytes_read site.old) (S.bytes_read site.new) }
+    ensures reads { ReadsOnlyLog (S.tells_reads site.old) (S.tells_reads site.new) (S.bytes_read site.old)
+        (S.bytes_read site.new) }
     ensures told { S.told site.old → S.told site.new }
     ensures holds { S.holds site.new ≡ S.holds site.old }
     ensures keeps { (first : S) → S.keeps first site.old → S.keeps first site.new }
@@ -150,11 +157,13 @@ pub(crate) fn read_group<S: Site>(
 
     // Nothing changes. The group's bytes are read once, or one byte where there is none.
     ensures count { S.tells_reads site.new 0 →
-        IfOk result (λ found. IfSome found (λ group. S.bytes_read site.new 0 + at ≡ S.bytes_read site.old 0 + group.next)) }
+        IfOk result (λ found. IfSome found (λ group. S.bytes_read site.new 0 + at ≡ S.bytes_read site.old 0 +
+        group.next)) }
     ensures looked { S.tells_reads site.new 0 →
         IfOk result (λ found. IfNone found (S.bytes_read site.new 0 ≡ S.bytes_read site.old 0 + 1)) }
     ensures stays { S.told site.old → Stays (S.disk site.old) (S.disk site.new) }
-    ensures reads { ReadsOnlyLog (S.tells_reads site.old) (S.tells_reads site.new) (S.bytes_read site.old) (S.bytes_read site.new) }
+    ensures reads { ReadsOnlyLog (S.tells_reads site.old) (S.tells_reads site.new) (S.bytes_read site.old)
+        (S.bytes_read site.new) }
     ensures told { S.told site.old → S.told site.new }
     ensures holds { S.holds site.new ≡ S.holds site.old }
     ensures keeps { (first : S) → S.keeps first site.old → S.keeps first site.new }

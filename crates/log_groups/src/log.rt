@@ -44,9 +44,16 @@ impl Model for Log {
 
     ghost Value = { LogState };
 
-    ghost view = { λ l. record { sealed = l.sealed; gate = l.gate; unsealed = entries_in l.waiting (drop l.start l.buffer.items); spare = l.spare } };
+    ghost view = { λ l. record {
+      sealed = l.sealed;
+      gate = l.gate;
+      unsealed =
+          entries_in l.waiting (drop l.start l.buffer.items);
+      spare = l.spare;
+    } };
 
-    ghost invariant = { λ l. IsBuffered l.buffer l.start l.waiting l.sealed l.gate l.spare (entries_in l.waiting (drop l.start l.buffer.items)) };
+    ghost invariant = { λ l. IsBuffered l.buffer l.start l.waiting l.sealed l.gate l.spare
+        (entries_in l.waiting (drop l.start l.buffer.items)) };
 }
 
 impl Log {
@@ -87,13 +94,15 @@ impl Log {
 
         // No other data set changes or is read, and nothing is sent.
         ensures only { T.told site.old → OnlyOn 0 (T.disk site.old) (T.disk site.new) }
-        ensures reads { ReadsOnlyLog (T.tells_reads site.old) (T.tells_reads site.new) (T.bytes_read site.old) (T.bytes_read site.new) }
+        ensures reads { ReadsOnlyLog (T.tells_reads site.old) (T.tells_reads site.new) (T.bytes_read site.old)
+            (T.bytes_read site.new) }
         ensures told { T.told site.old → T.told site.new }
         ensures holds { T.holds site.new ≡ T.holds site.old }
         ensures keeps { (first : T) → T.keeps first site.old → T.keeps first site.new }
 
         // A crash at any moment leaves the log as a sync might have left it before, or with no open front.
-        ensures crash { T.told site.old → Through (T.disk site.old) (T.disk site.new) (IsBeforeOrShut (T.disk site.old)) }
+        ensures crash { T.told site.old → Through (T.disk site.old) (T.disk site.new)
+            (IsBeforeOrShut (T.disk site.old)) }
 
         // Where a sync had left the log, it leaves it so, or with no open front, and all else as before.
         ensures kept { T.told site.old → IsDurable (T.disk site.old) 0 →
@@ -121,7 +130,8 @@ impl Log {
 
         // No other data set changes or is read, and nothing is sent.
         ensures only { T.told site.old → OnlyOn 0 (T.disk site.old) (T.disk site.new) }
-        ensures reads { ReadsOnlyLog (T.tells_reads site.old) (T.tells_reads site.new) (T.bytes_read site.old) (T.bytes_read site.new) }
+        ensures reads { ReadsOnlyLog (T.tells_reads site.old) (T.tells_reads site.new) (T.bytes_read site.old)
+            (T.bytes_read site.new) }
         ensures told { T.told site.old → T.told site.new }
         ensures holds { T.holds site.new ≡ T.holds site.old }
         ensures keeps { (first : T) → T.keeps first site.old → T.keeps first site.new }
@@ -132,7 +142,8 @@ impl Log {
 
         // Where a sync had left the log, it leaves it so, or with no open front, or made, and all else as before.
         ensures kept { T.told site.old → IsDurable (T.disk site.old) 0 →
-            Through (T.disk site.old) (T.disk site.new) (Differs (T.disk site.old) 0 (IsSameOrMade (as_front front.now))) }
+            Through (T.disk site.old) (T.disk site.new)
+            (Differs (T.disk site.old) 0 (IsSameOrMade (as_front front.now))) }
 
         // Each image that a further sync may make of what a crash may leave now is one that a sync might have left
         // before, or has no open front, or is the new log.
@@ -161,7 +172,8 @@ impl Log {
         ensures count { T.tells_reads site.new 0 → OnOk result
             (T.bytes_read site.new 0 ≤ T.bytes_read site.old 0 + first_gate (as_front front.now)) }
         ensures stays { T.told site.old → Stays (T.disk site.old) (T.disk site.new) }
-        ensures reads { ReadsOnlyLog (T.tells_reads site.old) (T.tells_reads site.new) (T.bytes_read site.old) (T.bytes_read site.new) }
+        ensures reads { ReadsOnlyLog (T.tells_reads site.old) (T.tells_reads site.new) (T.bytes_read site.old)
+            (T.bytes_read site.new) }
         ensures told { T.told site.old → T.told site.new }
         ensures holds { T.holds site.new ≡ T.holds site.old }
         ensures keeps { (first : T) → T.keeps first site.old → T.keeps first site.new }
@@ -185,7 +197,8 @@ impl Log {
     /// site, and for want of memory.
     pub fn group_at<T: Site>(&mut self, site: &mut T, at: u64) -> Result<Option<Group>, LogFault>
         ensures some { T.told site.old →
-            IfOk result (λ found. IfSome found (λ group. HasGroup ((T.disk site.old).contents 0) at group.entries group.next)) }
+            IfOk result (λ found. IfSome found (λ group. HasGroup ((T.disk site.old).contents 0) at group.entries
+            group.next)) }
         ensures none { T.told site.old → IfOk result
             (λ found. IfNone found (slice_index ((T.disk site.old).contents 0) at ≢ 1)) }
         ensures damaged { (place : ℕ) → T.told site.old → IsErrOf result (faults.Damaged place) →
@@ -198,11 +211,13 @@ impl Log {
         // Nothing changes. The group's bytes are read once, or one byte where there is none.
         ensures same { self.new ≡ self.old }
         ensures count { T.tells_reads site.new 0 →
-            IfOk result (λ found. IfSome found (λ group. T.bytes_read site.new 0 + at ≡ T.bytes_read site.old 0 + group.next)) }
+            IfOk result (λ found. IfSome found (λ group. T.bytes_read site.new 0 + at ≡ T.bytes_read site.old 0 +
+            group.next)) }
         ensures looked { T.tells_reads site.new 0 →
             IfOk result (λ found. IfNone found (T.bytes_read site.new 0 ≡ T.bytes_read site.old 0 + 1)) }
         ensures stays { T.told site.old → Stays (T.disk site.old) (T.disk site.new) }
-        ensures reads { ReadsOnlyLog (T.tells_reads site.old) (T.tells_reads site.new) (T.bytes_read site.old) (T.bytes_read site.new) }
+        ensures reads { ReadsOnlyLog (T.tells_reads site.old) (T.tells_reads site.new) (T.bytes_read site.old)
+            (T.bytes_read site.new) }
         ensures told { T.told site.old → T.told site.new }
         ensures holds { T.holds site.new ≡ T.holds site.old }
         ensures keeps { (first : T) → T.keeps first site.old → T.keeps first site.new }
@@ -315,7 +330,8 @@ impl Log {
 
         // No other data set changes, and nothing is sent or read.
         ensures only { T.told site.old → OnlyOn 0 (T.disk site.old) (T.disk site.new) }
-        ensures reads { ReadsNothing (T.tells_reads site.old) (T.tells_reads site.new) (T.bytes_read site.old) (T.bytes_read site.new) }
+        ensures reads { ReadsNothing (T.tells_reads site.old) (T.tells_reads site.new) (T.bytes_read site.old)
+            (T.bytes_read site.new) }
         ensures told { T.told site.old → T.told site.new }
         ensures holds { T.holds site.new ≡ T.holds site.old }
         ensures keeps { (first : T) → T.keeps first site.old → T.keeps first site.new }

@@ -21,7 +21,8 @@ fn is_shut<S: Site>(site: &mut S) -> Result<bool, Failed>
 
     // Nothing changes.
     ensures stays { S.told site.old → Stays (S.disk site.old) (S.disk site.new) }
-    ensures reads { ReadsOnlyLog (S.tells_reads site.old) (S.tells_reads site.new) (S.bytes_read site.old) (S.bytes_read site.new) }
+    ensures reads { ReadsOnlyLog (S.tells_reads site.old) (S.tells_reads site.new) (S.bytes_read site.old)
+        (S.bytes_read site.new) }
     ensures told { S.told site.old → S.told site.new }
     ensures holds { S.holds site.new ≡ S.holds site.old }
     ensures keeps { (first : S) → S.keeps first site.old → S.keeps first site.new }
@@ -41,7 +42,8 @@ pub(crate) fn shut<S: Site>(site: &mut S) -> Result<(), Failed>
 
     // No other data set changes, and nothing is sent.
     ensures only { S.told site.old → OnlyOn 0 (S.disk site.old) (S.disk site.new) }
-    ensures reads { ReadsOnlyLog (S.tells_reads site.old) (S.tells_reads site.new) (S.bytes_read site.old) (S.bytes_read site.new) }
+    ensures reads { ReadsOnlyLog (S.tells_reads site.old) (S.tells_reads site.new) (S.bytes_read site.old)
+        (S.bytes_read site.new) }
     ensures told { S.told site.old → S.told site.new }
     ensures holds { S.holds site.new ≡ S.holds site.old }
     ensures keeps { (first : S) → S.keeps first site.old → S.keeps first site.new }
@@ -74,7 +76,8 @@ pub(crate) fn make<S: Site>(alloc: Global, site: &mut S, front: &Front) -> Resul
 
     // No other data set changes, and nothing is sent.
     ensures only { S.told site.old → OnlyOn 0 (S.disk site.old) (S.disk site.new) }
-    ensures reads { ReadsOnlyLog (S.tells_reads site.old) (S.tells_reads site.new) (S.bytes_read site.old) (S.bytes_read site.new) }
+    ensures reads { ReadsOnlyLog (S.tells_reads site.old) (S.tells_reads site.new) (S.bytes_read site.old)
+        (S.bytes_read site.new) }
     ensures told { S.told site.old → S.told site.new }
     ensures holds { S.holds site.new ≡ S.holds site.old }
     ensures keeps { (first : S) → S.keeps first site.old → S.keeps first site.new }

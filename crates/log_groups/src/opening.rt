@@ -28,7 +28,8 @@ pub(crate) fn begins_with<S: Site>(
     ensures count { S.tells_reads site.new 0 → OnOk result
         (S.bytes_read site.new 0 ≤ S.bytes_read site.old 0 + length text.now) }
     ensures stays { S.told site.old → Stays (S.disk site.old) (S.disk site.new) }
-    ensures reads { ReadsOnlyLog (S.tells_reads site.old) (S.tells_reads site.new) (S.bytes_read site.old) (S.bytes_read site.new) }
+    ensures reads { ReadsOnlyLog (S.tells_reads site.old) (S.tells_reads site.new) (S.bytes_read site.old)
+        (S.bytes_read site.new) }
     ensures told { S.told site.old → S.told site.new }
     ensures holds { S.holds site.new ≡ S.holds site.old }
     ensures keeps { (first : S) → S.keeps first site.old → S.keeps first site.new }

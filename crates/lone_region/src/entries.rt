@@ -142,7 +142,11 @@ fn unsettled(
     fault: VerifyFault,
 ) -> Result<Made, AllocError>
     ensures verify { (call fsa : ℕ) (found : ListOf ℕ) → fault ≡ faults.Verify call fsa found →
-        IfOk result (λ made. made ≡ record { entry = refused_entry from (Verify call fsa found) line.now work.now.notes; staged = None }) }
+        IfOk result (λ made. made ≡ record {
+          entry =
+              refused_entry from (Verify call fsa found) line.now work.now.notes;
+          staged = None;
+        }) }
     ensures memory { fault ≡ faults.Memory → IsErr result }
 {
     match fault {

@@ -21,11 +21,13 @@ pub fn an_element_has_one_segment()
 
 /// An anchor has one list of roots, in one list of elements.
 pub fn an_anchor_has_one_chain()
-    ensures roots { (shape : Shape) (types : List SegDef) (area : List (List ℕ)) (anchor : ℕ) (roots others : List Root) (elements more : List Pointer)
+    ensures roots { (shape : Shape) (types : List SegDef) (area : List (List ℕ)) (anchor : ℕ) (roots others : List Root)
+        (elements more : List Pointer)
         → IsChain shape types area anchor roots elements
         → IsChain shape types area anchor others more
         → roots ≡ others }
-    ensures elements { (shape : Shape) (types : List SegDef) (area : List (List ℕ)) (anchor : ℕ) (roots others : List Root) (elements more : List Pointer)
+    ensures elements { (shape : Shape) (types : List SegDef) (area : List (List ℕ)) (anchor : ℕ)
+        (roots others : List Root) (elements more : List Pointer)
         → IsChain shape types area anchor roots elements
         → IsChain shape types area anchor others more
         → elements ≡ more }
@@ -48,7 +50,8 @@ pub fn one_interval_is_damaged()
 
 /// A segment stands in each element of an anchor's roots.
 pub fn each_element_has_a_segment()
-    ensures { (shape : Shape) (types : List SegDef) (area : List (List ℕ)) (anchor : ℕ) (roots : List Root) (elements : List Pointer) (at : Pointer)
+    ensures { (shape : Shape) (types : List SegDef) (area : List (List ℕ)) (anchor : ℕ) (roots : List Root)
+        (elements : List Pointer) (at : Pointer)
         → IsChain shape types area anchor roots elements
         → Contains elements at
         → (type : ℕ) × ((s : Segment) × HasSegment types area type at s) }
@@ -56,7 +59,8 @@ pub fn each_element_has_a_segment()
 
 /// An anchor keeps its roots where its root anchor point and its elements stay.
 pub fn a_chain_stays_with_its_elements()
-    ensures { (shape : Shape) (types : List SegDef) (old new : List (List ℕ)) (anchor : ℕ) (roots : List Root) (elements : List Pointer)
+    ensures { (shape : Shape) (types : List SegDef) (old new : List (List ℕ)) (anchor : ℕ) (roots : List Root)
+        (elements : List Pointer)
         → IsChain shape types old anchor roots elements
         → IsInPlace shape new (base_of shape anchor)
         → root_of shape new anchor ≡ root_of shape old anchor

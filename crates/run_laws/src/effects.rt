@@ -28,7 +28,8 @@ pub fn a_message_takes_effect_once()
         → uses_number a.outcome ≡ true
         → uses_number b.outcome ≡ true
         → i ≡ j }
-    ensures run { (defs : Defs) (scripts : List Script) (format : ℕ) (before : List Entry) (sealed : ℕ) (ms : List Machine) (m : Machine)
+    ensures run { (defs : Defs) (scripts : List Script) (format : ℕ) (before : List Entry) (sealed : ℕ)
+        (ms : List Machine) (m : Machine)
         → (i j : ℕ) (a b : Entry) (name : Name) (number : ℕ)
         → AreDefs defs
         → Lives (rules_of defs scripts) format before sealed ms
@@ -38,7 +39,8 @@ pub fn a_message_takes_effect_once()
         → uses_number a.outcome ≡ true
         → uses_number b.outcome ≡ true
         → i ≡ j }
-    ensures runs { (defs : Defs) (scripts : List Script) (format : ℕ) (before : List Entry) (sealed : ℕ) (ms : List Machine)
+    ensures runs { (defs : Defs) (scripts : List Script) (format : ℕ) (before : List Entry) (sealed : ℕ)
+        (ms : List Machine)
         → (m m2 : Machine)
         → (i j : ℕ) (a b : Entry) (name : Name) (number : ℕ)
         → AreDefs defs
@@ -82,7 +84,8 @@ pub fn a_message_has_one_line()
         → IsNumbered h.format h.entries j b name number
         → b.outcome ≡ outcome.Repeat line
         → WasUsed h.format h.entries j name number (line_text b) }
-    ensures runs { (defs : Defs) (scripts : List Script) (format : ℕ) (before : List Entry) (sealed : ℕ) (ms : List Machine)
+    ensures runs { (defs : Defs) (scripts : List Script) (format : ℕ) (before : List Entry) (sealed : ℕ)
+        (ms : List Machine)
         → (m m2 : Machine)
         → (i j : ℕ) (a b : Entry) (name : Name) (number : ℕ)
         → AreDefs defs

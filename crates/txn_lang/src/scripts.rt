@@ -21,7 +21,8 @@ fn check_script(
     script_cost: u64,
 ) -> Result<(), ScriptFault>
     requires { script_cost ≡ cost script.now.statements }
-    ensures ok { IfOk result (λ x. fault_of_script (is_some (get name_cmp seen.now script.now.name)) script.now ≡ None) }
+    ensures ok { IfOk result (λ x. fault_of_script (is_some (get name_cmp seen.now script.now.name)) script.now ≡
+        None) }
     ensures err { IfErr result (λ e. fault_of_script (is_some (get name_cmp seen.now script.now.name)) script.now ≡ Some
         e) }
 {

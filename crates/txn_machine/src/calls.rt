@@ -103,7 +103,8 @@ impl Known {
         value: &FieldText,
         segment: Bytes,
     ) -> Result<Bytes, Stop>
-        ensures { Gives result (with_value defs.now self.now.message (env_of self.now []) fields.now value.now segment) }
+        ensures { Gives result (with_value defs.now self.now.message (env_of self.now []) fields.now value.now
+            segment) }
     {
         let field = field_of(fields, &value.field)?;
         let text = self.text_of(defs, &value.value)?;
@@ -137,7 +138,8 @@ impl Known {
         db: u8,
         ssas: &List<SsaText>,
     ) -> Result<Call, Stop>
-        ensures { Gives result (get_call defs.now self.now.message (env_of self.now []) (call.Get get hold db) db ssas.now) }
+        ensures { Gives result (get_call defs.now self.now.message (env_of self.now []) (call.Get get hold db) db
+            ssas.now) }
     {
         let ssas = self.ssas_of(defs, db, ssas.as_slice())?;
         Ok(Call::Get {
@@ -171,7 +173,8 @@ impl Known {
     fn new_layout<'a>(&self, defs: &'a Defs, db: u8, ssas: &[SsaText]) -> Result<Layout<'a>, Stop>
         ensures ok { IfOk result (λ layout. layout_of defs.now db (new_type defs.now self.now.message ssas.now)
             ≡ Some (record { fields = layout.fields.now; has_key = layout.has_key })) }
-        ensures err { IfErr result (λ e. Stops e (layout_of defs.now db (new_type defs.now self.now.message ssas.now))) }
+        ensures err { IfErr result (λ e. Stops e (layout_of defs.now db
+            (new_type defs.now self.now.message ssas.now))) }
     {
         layout_of(defs, db, new_type(ssas))
     }

@@ -271,7 +271,8 @@ pub(crate) fn empty_segment(alloc: Global, fields: &[FieldDef]) -> Result<Bytes,
 impl Layout<'_> {
     /// A text as a key, with blanks behind it; a type without keys takes it as it is.
     pub(crate) fn fitted_key(&self, alloc: Global, text: &[u8]) -> Result<Bytes, Stop>
-        ensures { Gives result (fitted_key (record { fields = self.now.fields.now; has_key = self.now.has_key }) text.now) }
+        ensures { Gives result (fitted_key (record { fields = self.now.fields.now; has_key = self.now.has_key })
+            text.now) }
     {
         if self.has_key {
             fitted(alloc, usize::from(key_length(self.fields)), text)

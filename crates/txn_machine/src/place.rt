@@ -115,7 +115,8 @@ impl Place {
     fn go_beyond(&mut self, frame: Frame)
         requires { (front : List Frame) × (self.old.frames ≡ front ++ frame ∷ []) }
         ensures leads { (defs : Defs) (message : Message) (statements : List Statement) (env : Env)
-            → around defs message self.old.frames statements (Goes env) ≡ way_from defs message statements self.new env }
+            → around defs message self.old.frames statements (Goes env) ≡ way_from defs message statements self.new
+            env }
         ensures less { (statements : List Statement) → work statements self.new < work statements self.old }
     {
         match frame {
