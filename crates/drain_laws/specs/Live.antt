@@ -54,8 +54,8 @@ pub record EndLaws (rules : Rules) (gauge : Gauge) : Type 0 where
   -- there are few of them: for a call a fixed number, at the end one for each call before
   pub many : (own : Workspace) (ask : Ask) → length (gauge.locks own ask) ≤ gauge.most + gauge.queued own
   pub begins : gauge.queued rules.fresh ≡ 0
-  pub queues : (db shown : Db) (own : Workspace) (call : Call)
-      → gauge.queued (rules.reply_to db shown own call).own ≤ gauge.queued own + 1
+  pub queues : (db visible : Db) (own : Workspace) (call : Call)
+      → gauge.queued (rules.reply_to db visible own call).own ≤ gauge.queued own + 1
 
 -- ---- of the machine
 

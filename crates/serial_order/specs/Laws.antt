@@ -98,17 +98,17 @@ pub record Laws (rules : Rules) (view : View) : Type 0 where
   pub begins : (held : Resource → Option Mode) → IsCovered view rules.fresh held
   -- A call that needs no further lock is answered alike on any state that agrees at what is held. An unheld look needs
   -- the state that it shows.
-  pub answers : (db db2 shown shown2 : Db) (own : Workspace) (held : Resource → Option Mode) (call : Call)
+  pub answers : (db db2 visible visible2 : Db) (own : Workspace) (held : Resource → Option Mode) (call : Call)
       → rules.need db own held call ≡ None
       → IsSame view held db db2
-      → (rules.looks own call ≡ true → shown2 ≡ shown)
-      → rules.reply_to db2 shown2 own call ≡ rules.reply_to db shown own call
+      → (rules.looks own call ≡ true → visible2 ≡ visible)
+      → rules.reply_to db2 visible2 own call ≡ rules.reply_to db visible own call
   -- what its answer leaves to rely on is held
-  pub covers : (db shown : Db) (own : Workspace) (held : Resource → Option Mode) (call : Call)
+  pub covers : (db visible : Db) (own : Workspace) (held : Resource → Option Mode) (call : Call)
       → view.is_call call ≡ true
       → rules.need db own held call ≡ None
       → IsCovered view own held
-      → IsCovered view (rules.reply_to db shown own call).own held
+      → IsCovered view (rules.reply_to db visible own call).own held
   -- a call asks for no lock on what is held Exclusive
   pub wants : (db : Db) (own : Workspace) (held : Resource → Option Mode) (call : Call) (needed : Needed)
       → rules.need db own held call ≡ Some needed

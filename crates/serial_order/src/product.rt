@@ -30,22 +30,22 @@ ghost use Rattle.serial_order.specs.Kept.{AreApart, HaveNoCycle, IsAtRest, Kept}
 /// A call that needs no further lock is answered alike on any two states that have the same at what is held. Only an
 /// unheld look needs the state that it shows.
 pub fn calls_look_at_what_is_held()
-    ensures { (defs : Defs) (db db2 shown shown2 : Db) (own : Workspace) (held : Resource → Option Mode) (asked : Call)
+    ensures { (defs : Defs) (db db2 visible visible2 : Db) (own : Workspace) (held : Resource → Option Mode) (asked : Call)
         → need_of defs db own held asked ≡ None
         → IsSame (view_of defs) held db db2
-        → (looks_unheld defs own asked ≡ true → shown2 ≡ shown)
-        → reply_to defs db2 shown2 own asked ≡ reply_to defs db shown own asked }
+        → (looks_unheld defs own asked ≡ true → visible2 ≡ visible)
+        → reply_to defs db2 visible2 own asked ≡ reply_to defs db visible own asked }
 {}
 
 /// What a call leaves to rely on is held Exclusive, as long as it names a whole key: scripts ask no others.
 pub fn calls_rely_on_what_is_held()
     ensures begins { (defs : Defs) (held : Resource → Option Mode)
         → IsCovered (view_of defs) (fresh defs) held }
-    ensures goes_on { (defs : Defs) (db shown : Db) (own : Workspace) (held : Resource → Option Mode) (asked : Call)
+    ensures goes_on { (defs : Defs) (db visible : Db) (own : Workspace) (held : Resource → Option Mode) (asked : Call)
         → is_call defs asked ≡ true
         → need_of defs db own held asked ≡ None
         → IsCovered (view_of defs) own held
-        → IsCovered (view_of defs) (reply_to defs db shown own asked).own held }
+        → IsCovered (view_of defs) (reply_to defs db visible own asked).own held }
     ensures whole { (defs : Defs) (scripts : List Script) (message : Message) (answers : List Answer) (asked : Call)
         → asked_by defs scripts message answers ≡ Asks asked
         → is_call defs asked ≡ true }
@@ -54,9 +54,9 @@ pub fn calls_rely_on_what_is_held()
 /// Neither what a call is answered nor the lock that it needs depends on the ends of an area.
 pub fn calls_look_at_no_ends()
     ensures reply { (defs : Defs)
-        → (area area2 : Area) (ends ends2 : AreaEnds) (db shown : Db) (own : Workspace) (asked : Call)
-        → reply_to defs (with_ends area ends db) (with_ends area2 ends2 shown) own asked
-        ≡ reply_to defs db shown own asked }
+        → (area area2 : Area) (ends ends2 : AreaEnds) (db visible : Db) (own : Workspace) (asked : Call)
+        → reply_to defs (with_ends area ends db) (with_ends area2 ends2 visible) own asked
+        ≡ reply_to defs db visible own asked }
     ensures need { (defs : Defs)
         → (area : Area) (ends : AreaEnds) (db : Db)
         → (own : Workspace) (held : Resource → Option Mode) (asked : Call)
