@@ -1,14 +1,16 @@
 -- Which answers come where.
 use Rattle.std.specs.Prelude.{◌≡◌, ◌⊎◌, ⊤, ℕ, List, Option, option_map}
+use Rattle.fp_core.specs.declared.stop.Stop.{Stop}
+use Rattle.fp_core.specs.declared.stop.Stop.TheVariants as stop
 use Rattle.fp_defs.specs.declared.fault.DefsFault.{DefsFault}
 use Rattle.fp_defs.specs.declared.fault.DefsFault.TheVariants as bad
 use Rattle.fp_model.specs.Messages.{LineFault, LineTooLong, TooManyLines, line_fault}
 use Rattle.fp_restart.specs.declared.fault.RestartFault.{RestartFault}
 use Rattle.fp_restart.specs.declared.fault.RestartFault.TheVariants as fault
-use Rattle.fp_source.specs.declared.lines.LineFault.{LineFault as Stopped}
-use Rattle.fp_source.specs.declared.lines.LineFault.TheVariants as stopped
+use Rattle.fp_schedule.specs.declared.fault.ScheduleFault.{ScheduleFault}
+use Rattle.fp_schedule.specs.declared.fault.ScheduleFault.TheVariants as unfit
 use Rattle.fp_system.specs.declared.status.Status.{Status}
-use Rattle.fp_system.specs.declared.status.Status.TheVariants.{Usage, Definitions, Scripts, ReadFault, SiteFault, Foreign, Damaged, Line, NoMemory, NotBuilt}
+use Rattle.fp_system.specs.declared.status.Status.TheVariants.{Usage, Definitions, Scripts, Schedule, ReadFault, SiteFault, Foreign, Damaged, Line, NoMemory, NotBuilt}
 use Rattle.txn_lang.specs.declared.fault.ScriptFault.{ScriptFault}
 use Rattle.txn_lang.specs.declared.fault.ScriptFault.TheVariants as wrong
 
@@ -28,6 +30,7 @@ abbrev pub IsEarly : Status → Type 0
 IsEarly Usage = ⊤
 IsEarly (Definitions fault) = ⊤
 IsEarly (Scripts fault) = ⊤
+IsEarly (Schedule fault) = ⊤
 IsEarly (NotBuilt part) = ⊤
 IsEarly _ = ⊥
 
@@ -35,18 +38,13 @@ IsEarly _ = ⊥
 abbrev pub IsOfParts : Status → Type 0
 IsOfParts (Definitions fault) = ⊤
 IsOfParts (Scripts fault) = ⊤
+IsOfParts (Schedule fault) = ⊤
 IsOfParts (NotBuilt part) = ⊤
 IsOfParts ReadFault = ⊤
 IsOfParts NoMemory = ⊤
 IsOfParts _ = ⊥
 
--- an answer that ends a message
-abbrev pub IsOfSite : Status → Type 0
-IsOfSite SiteFault = ⊤
-IsOfSite NoMemory = ⊤
-IsOfSite _ = ⊥
-
--- an answer that ends a run before its last line
+-- an answer that ends a run before it is drained
 abbrev pub IsStop : Status → Type 0
 IsStop ReadFault = ⊤
 IsStop SiteFault = ⊤
@@ -66,6 +64,11 @@ abbrev pub status_of_scripts : ScriptFault → Status
 status_of_scripts wrong.Memory = NoMemory
 status_of_scripts fault = Scripts fault
 
+-- of the schedule
+abbrev pub status_of_schedule : ScheduleFault → Status
+status_of_schedule unfit.Memory = NoMemory
+status_of_schedule fault = Schedule fault
+
 -- of storage
 abbrev pub status_of_fault : RestartFault → Status
 status_of_fault fault.Foreign = Foreign
@@ -73,12 +76,12 @@ status_of_fault fault.SiteFault = SiteFault
 status_of_fault (fault.Damaged set at) = Damaged set at
 status_of_fault fault.Memory = NoMemory
 
--- of the message lines
-abbrev pub status_of_line : Stopped → Status
-status_of_line (stopped.TooLong number) = Line number
-status_of_line stopped.Failed = ReadFault
-status_of_line (stopped.TooMany number) = Line number
-status_of_line stopped.Memory = NoMemory
+-- of a step that ended the run
+abbrev pub status_of_stop : Stop → Status
+status_of_stop stop.LogFault = SiteFault
+status_of_stop stop.ReadFault = ReadFault
+status_of_stop (stop.LineFault number) = Line number
+status_of_stop stop.Memory = NoMemory
 
 -- ---- the first line that isn't taken
 

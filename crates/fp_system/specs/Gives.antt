@@ -1,23 +1,25 @@
 -- What the commands give, whatever the answer is.
-use Rattle.std.specs.Prelude.{◌≡◌, ⊤, ℕ, ◌-◌, List, [], ◌++◌, map, take, Option, Some, None}
+use Rattle.std.specs.Prelude.{◌≡◌, ◌⊎◌, ⊤, ℕ, List, [], ◌++◌, take, Option, Some}
+use Rattle.fp_model.specs.declared.events.Event.{Event}
 use Rattle.fp_model.specs.declared.log.Entry.{Entry}
 use Rattle.fp_model.specs.Groups.{entries_of}
 use Rattle.fp_model.specs.LogText.{first_gate}
-use Rattle.fp_model.specs.Messages.{lines_of}
+use Rattle.fp_model.specs.Items.{AreFit, items_of}
+use Rattle.fp_model.specs.Machine.{Machine, at_rest}
 use Rattle.fp_model.specs.Recovery.{Holds}
-use Rattle.fp_site.specs.Disk.{Disk, Snapshot, IsDurable}
+use Rattle.fp_site.specs.Disk.{Disk, Snapshot, IsDurable, Syncs}
 use Rattle.fp_site.specs.Moments.{OnlyOn, Through}
-use Rattle.log_groups.specs.Images.{IsAtRest, IsBeforeOrMade}
-use Rattle.log_groups.specs.Kept.{IsSafe, lines_of_entries}
+use Rattle.log_groups.specs.Images.{IsAtRest, IsBeforeOrMade, IsLog as HasLog}
+use Rattle.log_groups.specs.Kept.{IsSafe}
 use Rattle.fp_system.specs.Answers.{IsEarly}
 use Rattle.fp_system.specs.Frame.{IsLog, Spares}
 use Rattle.fp_system.specs.Ims.{IsUnchanged}
-use Rattle.fp_system.specs.Parts.{Job, IsJob, front_for}
-use Rattle.fp_system.specs.Serving.{AreAlone, IsKeptBy, one_each}
+use Rattle.fp_system.specs.Parts.{Job, IsJob, front_for, rules_for}
+use Rattle.fp_system.specs.Courses.{Course, EndsAt, HasSealed, Input, IsKeptBy}
 use Rattle.fp_system.specs.Stops.{GoesOnFrom, IsSoundFor, standing}
 use Rattle.fp_system.specs.Table.{Given, IsSpared}
 use Rattle.fp_system.specs.declared.status.Status.{Status}
-use Rattle.fp_system.specs.declared.status.Status.TheVariants.{Done, ReadFault, Line}
+use Rattle.fp_system.specs.declared.status.Status.TheVariants.{Done, ReadFault}
 use Rattle.fp_system.specs.declared.words.Command.{Command}
 use Rattle.fp_system.specs.declared.words.Command.TheVariants.{Define, Run}
 
@@ -37,45 +39,42 @@ pub record Defined (g : Given) (answer : Status) (old new : Disk) : Type 0 where
 
 -- ---- run
 
--- the lines that are answered where a run ends so: all, or those before the line that isn't taken
-abbrev pub lines_to : Status → List (List ℕ) → Option (List (List ℕ))
-lines_to Done lines = Some lines
-lines_to (Line number) lines = Some (take (number - 1) lines)
-lines_to _ lines = None
+-- A crash leaves the bytes before the gate, but for a sync of the log.
+abbrev pub KeepsFront : ℕ → Disk → Snapshot → Type 0
+KeepsFront gate old s = Syncs old 0 s ⊎ (take gate (s.images 0) ≡ take gate (old.contents 0))
 
--- Just these lines have entries, each in a group of its own behind the groups that the log held, and it is at rest; and
--- all their reply lines were sent.
-pub record IsWhole (job : Job) (earlier later : List Entry) (lines : List (List ℕ)) (old new : Disk) : Type 0 where
-  pub of_lines : map (λ e. e.line) later ≡ lines
-  pub sent : new.sent ≡ old.sent ++ lines_of_entries later
-  pub groups : List (List Entry)
-  pub before : entries_of groups ≡ earlier
+-- How a run from a safe site ended: turns of the table led from the machine at rest behind the earlier entries, which
+-- stand in these groups, to where it ended. The groups that were added to the log are those that the machine sealed, and
+-- just its bytes were sent; where a step ended the run early, the turns before it are such a run. The site is safe, with
+-- Done at rest. At each moment since the call's start a crash leaves what stood, or a log that goes on from it.
+pub record Went (job : Job) (given : Input) (earlier : List Entry) (answer : Status) (old new : Disk) : Type 0 where
+  pub left : List Event
+  pub here : Machine
+  pub course : Course job given earlier left here
+  pub ends : EndsAt job given answer (at_rest (rules_for job) given.lines course.behind) left here
+  pub before : List (List Entry)
+  pub stood : entries_of before ≡ earlier
   pub old_gate : ℕ
-  pub held : Holds (front_for job) (old.contents 0) groups old_gate
+  pub held : Holds (front_for job) (old.contents 0) before old_gate
+  pub groups : List (List Entry)
+  pub text : List ℕ
+  pub sealed : HasSealed job left here groups text
   pub gate : ℕ
-  pub at_rest : IsAtRest new (front_for job) (groups ++ one_each later) gate
+  pub holds : HasLog (front_for job) (new.contents 0) (before ++ groups) gate
+  pub sent : new.sent ≡ old.sent ++ text
+  pub safe : IsSafeFor job new (earlier ++ entries_of groups)
+  pub rest : answer ≡ Done → IsDurable new 0
+  pub moments : Through old new (IsKeptBy job given earlier old)
 
--- Entries of a first part of the lines stand safely behind those from before, and a first part of their reply lines was
--- sent. At each moment since the call's start a crash leaves what stood, or it with some of these entries, and no reply
--- without its entry.
-pub record Goes (job : Job) (earlier : List Entry) (lines : List (List ℕ)) (answer : Status) (old new : Disk) : Type 0
-  where
-    pub later : List Entry
-    pub rest : List (List ℕ)
-    pub of_lines : lines ≡ map (λ e. e.line) later ++ rest
-    pub alone : AreAlone later
-    pub safe : IsSafeFor job new (earlier ++ later)
-    pub count : ℕ
-    pub sent : new.sent ≡ old.sent ++ take count (lines_of_entries later)
-    pub whole : (taken : List (List ℕ)) → lines_to answer lines ≡ Some taken → IsWhole job earlier later taken old new
-    pub moments : Through old new (IsKeptBy job lines old earlier)
-
--- Whatever the answer is: another's log stays, and a bad one, and all other data sets. A safe site goes on. Where every
--- crash left the log as it was, each snapshot since then goes on from it.
-pub record Ran (job : Job) (messages : List ℕ) (answer : Status) (old new : Disk) : Type 0 where
+-- Whatever the answer is: another's log stays, and a bad one, and all other data sets. A log that can be read stays up to
+-- its first gate that isn't open, where that is there, also if its entries are no history. A safe site goes on. Where
+-- every crash left the log as it was, each snapshot since then goes on from it.
+pub record Ran (job : Job) (given : Input) (answer : Status) (old new : Disk) : Type 0 where
   pub spares : IsSpared job (old.contents 0) → IsUnchanged old new
   pub others : Spares IsLog old new
-  pub goes : (earlier : List Entry) → IsSafeFor job old earlier → Goes job earlier (lines_of messages) answer old new
+  pub keeps : (groups : List (List Entry)) (gate : ℕ) → HasLog (front_for job) (old.contents 0) groups gate
+      → AreFit job.defs (items_of (entries_of groups)) → Through old new (KeepsFront gate old)
+  pub goes : (earlier : List Entry) → IsSafeFor job old earlier → Went job given earlier answer old new
   pub stops : (earlier : List Entry) → IsDurable old 0 → old.tells_sent → IsSoundFor job (old.contents 0) earlier
       → (s : Snapshot) → new.left_since old.moment s
       → GoesOnFrom job (standing (old.contents 0) earlier old.sent) (s.images 0) s.sent

@@ -3,7 +3,7 @@ pub mod Texts
 pub mod Answers
 pub mod Parts
 pub mod Setups
-pub mod Serving
+pub mod Courses
 pub mod Ims
 pub mod Table
 pub mod Frame

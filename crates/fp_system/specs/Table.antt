@@ -1,7 +1,7 @@
--- Which answer is due: of the words, then of the definitions and the scripts, then of the log, then of the message
+-- Which answer is due: of the words, then of definitions, scripts and schedule, then of the log, then of the message
 -- lines.
 use denote.Param.Members.{Mut}
-use Rattle.std.specs.Prelude.{◌≡◌, ◌⊎◌, ℕ, List, Option, Some, None, IsSome, ⊤, map, String, string_bytes}
+use Rattle.std.specs.Prelude.{◌≡◌, ◌⊎◌, ℕ, List, Option, Some, None, ⊤, map, String, string_bytes}
 use Rattle.std.specs.Borrow.{Bor}
 use Rattle.fp_exits.specs.Kinds.{Kinds, kinds_of}
 use Rattle.fp_exits.specs.declared.exits.Exits.{Exits}
@@ -12,7 +12,7 @@ use Rattle.fp_site.specs.Disk.{Disk}
 use Rattle.fp_source.specs.declared.part.Part.{Part}
 use Rattle.fp_source.specs.declared.part.Part.TheVariants as part
 use Rattle.fp_system.specs.Answers.{MayStandIn, faulty_line}
-use Rattle.fp_system.specs.Parts.{Job, IsJob, Refuses, front_for}
+use Rattle.fp_system.specs.Parts.{Job, HasSchedule, IsJob, Refuses, front_for}
 use Rattle.fp_system.specs.Words.{command_of}
 use Rattle.fp_system.specs.declared.status.Status.{Status}
 use Rattle.fp_system.specs.declared.status.Status.TheVariants.{Done, Usage, Foreign, Damaged, Line}
@@ -34,10 +34,11 @@ abbrev pub given :
 given exits words left disk =
     record { kinds = kinds_of exits; words = map string_bytes words; left = left; contents = disk.contents }
 
--- the words ask for this command, and the parts are this job
+-- the words ask for this command, and the parts are this job, for a run with a schedule
 pub record Asks (g : Given) (command : Command) (job : Job) : Type 0 where
   pub command_is : command_of g.words ≡ Some command
   pub job_is : IsJob g.kinds g.left job
+  pub schedule_is : HasSchedule command job g.left
 
 -- ---- the log
 
@@ -85,7 +86,8 @@ IsDueTo Run job g answer = ByLog job (g.contents 0) (IsEnd (g.left part.Messages
 -- the answer that a call is due
 pub data IsDue (g : Given) : Status → Type 0 where
   no_command : command_of g.words ≡ None → IsDue g Usage
-  refused : {answer : Status} → IsSome (command_of g.words) → Refuses g.kinds g.left answer → IsDue g answer
+  refused : {command : Command} {answer : Status} → command_of g.words ≡ Some command
+      → Refuses g.kinds g.left command answer → IsDue g answer
   asked : {command : Command} {job : Job} {answer : Status} → Asks g command job → IsDueTo command job g answer
       → IsDue g answer
 

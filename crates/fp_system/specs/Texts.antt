@@ -4,12 +4,14 @@ use Rattle.std.specs.Fmt.{decimal, signed_decimal}
 use Rattle.fp_defs.specs.declared.fault.DefsFault.{DefsFault}
 use Rattle.fp_defs.specs.declared.fault.DefsFault.TheVariants as bad
 use Rattle.fp_model.specs.Texts.{trimmed}
+use Rattle.fp_schedule.specs.declared.fault.ScheduleFault.{ScheduleFault}
+use Rattle.fp_schedule.specs.declared.fault.ScheduleFault.TheVariants as unfit
 use Rattle.fp_model.specs.declared.definitions.Kind.{Kind}
 use Rattle.fp_model.specs.declared.definitions.Kind.TheVariants.{Fold, Range}
 use Rattle.fp_source.specs.declared.part.Part.{Part}
 use Rattle.fp_source.specs.declared.part.Part.TheVariants as part
 use Rattle.fp_system.specs.declared.status.Status.{Status}
-use Rattle.fp_system.specs.declared.status.Status.TheVariants.{Done, Usage, Definitions, Scripts, ReadFault, SiteFault, Foreign, Damaged, Line, NoMemory, NotBuilt}
+use Rattle.fp_system.specs.declared.status.Status.TheVariants.{Done, Usage, Definitions, Scripts, Schedule, ReadFault, SiteFault, Foreign, Damaged, Line, NoMemory, NotBuilt}
 use Rattle.txn_lang.specs.declared.fault.ScriptFault.{ScriptFault}
 use Rattle.txn_lang.specs.declared.fault.ScriptFault.TheVariants as wrong
 
@@ -44,12 +46,20 @@ scripts_text (wrong.Twice name) = codes "transaction " ++ trimmed name.0 ++ code
 scripts_text wrong.TooLong = codes "too long"
 scripts_text wrong.Memory = codes "no memory"
 
+-- what is said of a fault of the schedule
+abbrev pub schedule_text : ScheduleFault → List ℕ
+schedule_text (unfit.BadToken place) = codes "bad token " ++ decimal place
+schedule_text unfit.TooMany = codes "too many tokens"
+schedule_text unfit.TooLong = codes "too long"
+schedule_text unfit.Memory = codes "no memory"
+
 -- what is said of a status, without a newline; nothing of Done
 abbrev pub fault_text : Status → List ℕ
 fault_text Done = []
 fault_text Usage = codes "usage: ims_fp define DIR | run DIR"
 fault_text (Definitions fault) = codes "definitions: " ++ definitions_text fault
 fault_text (Scripts fault) = codes "scripts: " ++ scripts_text fault
+fault_text (Schedule fault) = codes "schedule: " ++ schedule_text fault
 fault_text ReadFault = codes "read fault"
 fault_text SiteFault = codes "site fault"
 fault_text Foreign = codes "foreign log"
@@ -64,6 +74,7 @@ number_of Done = 0
 number_of Usage = 1
 number_of (Definitions fault) = 2
 number_of (Scripts fault) = 3
+number_of (Schedule fault) = 4
 number_of ReadFault = 5
 number_of SiteFault = 6
 number_of Foreign = 7

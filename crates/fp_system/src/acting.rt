@@ -1,10 +1,16 @@
 //! What the commands do on the site, once the parts are read.
+ghost use Rattle.fp_core.specs.Standing.{IsEventOf, Origin};
+ghost use Rattle.fp_exits.specs.Kinds.{has_kind, kinds_of};
+ghost use Rattle.fp_model.specs.History.{History};
 ghost use Rattle.fp_model.specs.LogText.{first_gate};
+ghost use Rattle.fp_model.specs.Messages.{lines_of};
 ghost use Rattle.fp_site.specs.Disk.{Disk};
 ghost use Rattle.fp_site.specs.Moments.{OnlyOn, Through};
 ghost use Rattle.fp_source.specs.Source.{Rose};
 ghost use Rattle.fp_source.specs.declared.part.Part.TheVariants as part;
-ghost use Rattle.fp_system.specs.Answers.{IsEarly, IsOr, MayStandIn, status_of_fault};
+ghost use Rattle.fp_system.specs.Answers.{IsEarly, IsOr, IsStop, MayStandIn, faulty_line, status_of_fault};
+ghost use Rattle.fp_system.specs.Courses.{IsBegun, RanFrom, input};
+ghost use Rattle.fp_system.specs.Frame.{IsLog, Spares};
 ghost use Rattle.fp_system.specs.Gives.{Ran};
 ghost use Rattle.fp_system.specs.Ims.{IsContinued};
 ghost use Rattle.fp_system.specs.Parts.{front_for};
@@ -12,14 +18,18 @@ ghost use Rattle.fp_system.specs.Setups.{IsSetup, job_of};
 ghost use Rattle.fp_system.specs.Table.{ByLog, IsEnd};
 ghost use Rattle.fp_system.specs.declared.status.Status.TheVariants as status;
 ghost use Rattle.log_groups.specs.Images.{IsAtRest, IsBeforeOrMade};
-ghost use Rattle.std.specs.Prelude.{◌≡◌, ◌⊎◌, ◌≤◌, []};
+ghost use Rattle.msdb_store.specs.Store.{IsOf};
+ghost use Rattle.std.specs.List.{AllByRecursion};
+ghost use Rattle.std.specs.Prelude.{◌≡◌, ◌⊎◌, ◌≤◌, ℕ, [], None, Some, true};
 
 use crate::Status;
-use crate::parts::Setup;
-use crate::server::Server;
+use crate::parts::{Setup, Task};
+use fp_core::{Core, Started};
+use fp_exits::Exits;
 use fp_restart::{RestartFault, define, restart};
 use fp_site::Site;
 use fp_source::Source;
+use schedule_runs::run_schedule;
 use std::alloc::Global;
 
 // The status of a fault of storage.
@@ -57,19 +67,67 @@ pub(crate) fn define_on<T: Site>(alloc: Global, site: &mut T, setup: &Setup) -> 
     }
 }
 
-/// Restarts, and serves the message lines.
+// Runs the schedule and the drain, behind what a restart gave.
+fn run_started<S: Source, T: Site>(
+    alloc: Global,
+    source: &mut S,
+    site: &mut T,
+    exits: &Exits,
+    task: &Task,
+    started: Started,
+) -> Status
+    requires setup { IsSetup task.now.setup }
+    requires router { has_kind (kinds_of exits.now).routers task.now.setup.defs.router ≡ true }
+    requires events { AllByRecursion (IsEventOf task.now.setup.defs) task.now.events }
+    requires store { IsOf task.now.setup.defs.msdbs started.msdbs }
+    requires unsealed { started.log.unsealed ≡ [] }
+
+    // Behind any entries that come to these databases, where their log is at rest.
+    ensures ran { (origin : Origin) (h : History) → S.told source.old → T.told site.old
+        → IsBegun origin h started.msdbs started.log (T.disk site.old) →
+        RanFrom (job_of task.now.setup) (input task.now.events (lines_of (S.left source.old part.Messages))) origin h
+        result (T.disk site.old) (T.disk site.new) }
+    ensures outcome { result ≡ status.Done ⊎ IsStop result }
+    ensures all { S.told source.old → result ≡ status.Done → faulty_line (S.left source.old part.Messages) ≡ None }
+    ensures line { (number : ℕ) → S.told source.old → result ≡ status.Line number
+        → faulty_line (S.left source.old part.Messages) ≡ Some number }
+    ensures source_cause { result ≡ status.ReadFault → Rose (S.faults source.old) (S.faults source.new) }
+    ensures site_cause { result ≡ status.SiteFault → Rose (T.faults site.old) (T.faults site.new) }
+
+    // At the end no message is left.
+    ensures read { S.told source.old → result ≡ status.Done → S.left source.new part.Messages ≡ [] }
+    ensures others { T.told site.old → Spares IsLog (T.disk site.old) (T.disk site.new) }
+    ensures source { IsContinued S.told S.faults S.holds S.keeps source.old source.new }
+    ensures site { IsContinued T.told T.faults T.holds T.keeps site.old site.new }
+{
+    let setup = &task.setup;
+    let mut core = match Core::new(alloc, &setup.defs, &setup.scripts, exits, started) {
+        Ok(core) => core,
+        Err(_) => return Status::NoMemory,
+    };
+    match run_schedule(&mut core, task.events.as_slice(), site, source) {
+        Ok(()) => Status::Done,
+        Err(stop) => Status::from(stop),
+    }
+}
+
+/// Restarts, runs the schedule, and drains.
 pub(crate) fn run_on<S: Source, T: Site>(
     alloc: Global,
     source: &mut S,
     site: &mut T,
-    setup: &Setup,
+    exits: &Exits,
+    task: &Task,
 ) -> Status
-    requires { IsSetup setup.now }
+    requires setup { IsSetup task.now.setup }
+    requires router { has_kind (kinds_of exits.now).routers task.now.setup.defs.router ≡ true }
+    requires events { AllByRecursion (IsEventOf task.now.setup.defs) task.now.events }
     ensures due { S.told source.old → T.told site.old →
-        ByLog (job_of setup.now) ((T.disk site.old).contents 0) (IsEnd (S.left source.old part.Messages)) result
+        ByLog (job_of task.now.setup) ((T.disk site.old).contents 0) (IsEnd (S.left source.old part.Messages)) result
         ⊎ MayStandIn result }
     ensures ran { S.told source.old → T.told site.old →
-        Ran (job_of setup.now) (S.left source.old part.Messages) result (T.disk site.old) (T.disk site.new) }
+        Ran (job_of task.now.setup) (input task.now.events (lines_of (S.left source.old part.Messages))) result
+        (T.disk site.old) (T.disk site.new) }
     ensures early { IsEarly result → ⊥ }
     ensures source_cause { result ≡ status.ReadFault → Rose (S.faults source.old) (S.faults source.new) }
     ensures site_cause { result ≡ status.SiteFault → Rose (T.faults site.old) (T.faults site.new) }
@@ -79,13 +137,10 @@ pub(crate) fn run_on<S: Source, T: Site>(
     ensures source { IsContinued S.told S.faults S.holds S.keeps source.old source.new }
     ensures site { IsContinued T.told T.faults T.holds T.keeps site.old site.new }
 {
-    let (store, log) = match restart(alloc, &setup.defs, &setup.front, site) {
+    let setup = &task.setup;
+    let (msdbs, log) = match restart(alloc, &setup.defs, &setup.front, site) {
         Ok(parts) => parts,
         Err(fault) => return fault_status(fault),
     };
-    let mut server = Server { store, log };
-    match server.serve_all(alloc, setup, source, site) {
-        Ok(()) => Status::Done,
-        Err(answer) => answer,
-    }
+    run_started(alloc, source, site, exits, task, Started { msdbs, log })
 }

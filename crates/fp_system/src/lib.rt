@@ -5,7 +5,6 @@ mod acting;
 mod laws;
 mod lives;
 mod parts;
-mod server;
 mod status;
 mod texts;
 mod top;

@@ -1,20 +1,28 @@
-//! The parts of the source: the definitions, and then the scripts.
-ghost use Rattle.fp_exits.specs.Kinds.{kinds_of};
+//! The parts of the source: the definitions, then the scripts, and of a run then the schedule.
+ghost use Rattle.fp_core.specs.Standing.{IsEventOf};
+ghost use Rattle.fp_exits.specs.Kinds.{has_kind, kinds_of};
 ghost use Rattle.fp_model.specs.WellFormed.{AreDefs};
 ghost use Rattle.fp_source.specs.Source.{ReadsOnly, Rose};
 ghost use Rattle.fp_source.specs.declared.part.Part.TheVariants as part;
-ghost use Rattle.fp_system.specs.Answers.{MayStandIn, IsOfParts, status_of_definitions, status_of_scripts};
-ghost use Rattle.fp_system.specs.Parts.{IsJob, Refuses, are_built, definitions_in};
-ghost use Rattle.fp_system.specs.Setups.{IsSetup, job_of};
+ghost use Rattle.fp_schedule.specs.Schedule.{events_of};
+ghost use Rattle.fp_schedule.specs.declared.fault.ScheduleFault.{ScheduleFault as ScheduleFaultOf};
+ghost use Rattle.fp_system.specs.Answers.{MayStandIn, IsOfParts, status_of_definitions, status_of_schedule, status_of_scripts};
+ghost use Rattle.fp_system.specs.Parts.{HasSchedule, IsJob, Refuses, are_built, definitions_in};
+ghost use Rattle.fp_system.specs.Setups.{HasEventsFor, IsRefusedSchedule, IsSetup, job_of};
+ghost use Rattle.fp_system.specs.declared.words.Command.{Command as CommandOf};
+ghost use Rattle.fp_source.specs.declared.part.Part.{Part as PartOf};
+ghost use Rattle.std.specs.List.{AllByRecursion};
 ghost use Rattle.fp_system.specs.declared.status.Status.TheVariants as status;
-ghost use Rattle.std.specs.Prelude.{◌≡◌, ◌⊎◌, ◌≤◌, Err, IfErr, IfOk, IsErrOf, Ok, true};
+ghost use Rattle.std.specs.Prelude.{◌≡◌, ◌⊎◌, ◌≤◌, [], Err, IfErr, IfOk, IsErrOf, Ok, true};
 ghost use Rattle.txn_lang.specs.Grammar.{AreScriptsOf, HasFault};
 ghost use Rattle.txn_lang.specs.declared.fault.ScriptFault.{ScriptFault as ScriptFaultOf};
 
+use crate::words::Command;
 use crate::Status;
 use fp_defs::{DefsFault, read_defs};
 use fp_exits::Exits;
-use fp_model::{Bytes, Defs};
+use fp_model::{Bytes, Defs, Event, List};
+use fp_schedule::{ScheduleFault, read_events};
 use fp_source::{Part, Source, WholeFault, whole};
 use log_groups::Front;
 use std::alloc::{AllocError, Global};
@@ -23,8 +31,11 @@ use txn_lang::{ScriptFault, Scripts, parse};
 // The format of a log that is made: in this one no message has a number.
 const FORMAT: u8 = 1;
 
-// How many bytes a part has at most.
+// How many bytes definitions and scripts have at most.
 const MOST_BYTES: u64 = 1_000_000;
+
+// How many bytes a schedule has at most.
+const MOST_SCHEDULE: u64 = 32_000_000;
 
 /// What definitions and scripts ask for.
 #[derive(Debug, Drop)]
@@ -33,6 +44,14 @@ pub(crate) struct Setup {
     pub scripts: Scripts,
     /// The front of a log of theirs.
     pub front: Front,
+}
+
+/// What a command is to do.
+#[derive(Debug, Drop)]
+pub(crate) struct Task {
+    pub setup: Setup,
+    /// The events of the schedule, in order; none where the command reads no schedule.
+    pub events: List<Event>,
 }
 
 // The answer to a fault of the definitions.
@@ -55,11 +74,21 @@ fn scripts_status(fault: ScriptFault) -> Status
     }
 }
 
-// Whether definitions are built: one region, and no data entry database.
+// The answer to a fault of the schedule.
+fn schedule_status(fault: ScheduleFault) -> Status
+    ensures { result ≡ status_of_schedule fault }
+{
+    match fault {
+        ScheduleFault::Memory => Status::NoMemory,
+        fault => Status::Schedule(fault),
+    }
+}
+
+// Whether definitions are built: they have no data entry database.
 fn are_built(defs: &Defs) -> bool
     ensures { result ≡ are_built defs.now }
 {
-    defs.regions.as_slice() == [1].as_slice() && defs.dedbs.is_empty()
+    defs.dedbs.is_empty()
 }
 
 // The definitions that a text is for these exits, where they are built.
@@ -67,6 +96,7 @@ fn definitions_in(alloc: Global, text: &[u8], exits: &Exits) -> Result<Defs, Sta
     ensures ok { IfOk result (λ defs. definitions_in (kinds_of exits.now) text.now ≡ Ok defs) }
     ensures are { IfOk result AreDefs }
     ensures built { IfOk result (λ defs. are_built defs ≡ true) }
+    ensures router { IfOk result (λ defs. has_kind (kinds_of exits.now).routers defs.router ≡ true) }
     ensures refused { IfErr result (λ answer. MayStandIn answer
         ⊎ (definitions_in (kinds_of exits.now) text.now ≡ Err answer)) }
     ensures early { IfErr result IsOfParts }
@@ -88,6 +118,7 @@ fn read_definitions<S: Source>(alloc: Global, source: &mut S, exits: &Exits) -> 
         (S.left source.old part.Definitions) ≡ Ok defs) }
     ensures are { IfOk result AreDefs }
     ensures built { IfOk result (λ defs. are_built defs ≡ true) }
+    ensures router { IfOk result (λ defs. has_kind (kinds_of exits.now).routers defs.router ≡ true) }
     ensures refused { S.told source.old →
         IfErr result (λ answer. MayStandIn answer ⊎
         (definitions_in (kinds_of exits.now) (S.left source.old part.Definitions) ≡ Err answer)) }
@@ -160,19 +191,114 @@ fn setup_with(alloc: Global, defs: Defs, scripts: Scripts) -> Result<Setup, Allo
     })
 }
 
-/// What definitions and scripts ask for, or the answer that is given instead.
-pub(crate) fn read_setup<S: Source>(
-    alloc: Global,
-    source: &mut S,
-    exits: &Exits,
-) -> Result<Setup, Status>
+// What definitions and scripts ask for, or the answer that is given instead.
+fn read_setup<S: Source>(alloc: Global, source: &mut S, exits: &Exits) -> Result<Setup, Status>
     ensures job { S.told source.old → IfOk result (λ setup. IsJob (kinds_of exits.now) (S.left source.old)
         (job_of setup)) }
     ensures setup { IfOk result IsSetup }
+    ensures router { IfOk result (λ setup. has_kind (kinds_of exits.now).routers setup.defs.router ≡ true) }
 
     // Otherwise it is the first reason why they are no job.
+    ensures refused { (command : CommandOf) → S.told source.old → IfErr result
+        (λ answer. MayStandIn answer ⊎ Refuses (kinds_of exits.now) (S.left source.old) command answer) }
+    ensures early { IfErr result IsOfParts }
+    ensures cause { IsErrOf result status.ReadFault → Rose (S.faults source.old) (S.faults source.new) }
+
+    // Schedule and messages aren't read.
+    ensures others { S.told source.old → (p : PartOf) → ¬ (p ≡ part.Definitions) → ¬ (p ≡ part.Scripts)
+        → S.left source.new p ≡ S.left source.old p }
+    ensures later { S.faults source.old ≤ S.faults source.new }
+    ensures told { S.told source.old → S.told source.new }
+    ensures holds { S.holds source.new ≡ S.holds source.old }
+    ensures keeps { (first : S) → S.keeps first source.old → S.keeps first source.new }
+{
+    let defs = read_definitions(alloc, source, exits)?;
+    let scripts = read_scripts(alloc, source, &defs)?;
+    Ok(setup_with(alloc, defs, scripts)?)
+}
+
+// The events that a text has under definitions.
+fn events_in(alloc: Global, defs: &Defs, text: &[u8]) -> Result<List<Event>, Status>
+    requires { AreDefs defs.now }
+    ensures ok { IfOk result (λ events. events_of defs.now text.now ≡ Ok events) }
+    ensures refused { IfErr result (λ answer. MayStandIn answer
+        ⊎ ((fault : ScheduleFaultOf) × (answer ≡ status.Schedule fault) × (events_of defs.now text.now ≡ Err fault))) }
+    ensures early { IfErr result IsOfParts }
+    ensures never { IsErrOf result status.ReadFault → ⊥ }
+{
+    match read_events(alloc, text, defs) {
+        Ok(events) => Ok(events),
+        Err(fault) => Err(schedule_status(fault)),
+    }
+}
+
+// The events of the schedule.
+fn read_schedule<S: Source>(
+    alloc: Global,
+    source: &mut S,
+    defs: &Defs,
+) -> Result<List<Event>, Status>
+    requires are { AreDefs defs.now }
+    requires no_dedbs { defs.now.dedbs ≡ [] }
+    ensures ok { S.told source.old → IfOk result (λ events.
+        events_of defs.now (S.left source.old part.Schedule) ≡ Ok events) }
+    ensures events { IfOk result (λ events. AllByRecursion (IsEventOf defs.now) events) }
+    ensures refused { S.told source.old → IfErr result (λ answer. MayStandIn answer
+        ⊎ ((fault : ScheduleFaultOf) × (answer ≡ status.Schedule fault)
+        × (events_of defs.now (S.left source.old part.Schedule) ≡ Err fault))) }
+    ensures early { IfErr result IsOfParts }
+    ensures cause { IsErrOf result status.ReadFault → Rose (S.faults source.old) (S.faults source.new) }
+    ensures source { ReadsOnly S.told S.left S.faults S.holds S.keeps part.Schedule source.old source.new }
+{
+    match whole(alloc, source, Part::Schedule, MOST_SCHEDULE) {
+        Ok(text) => events_in(alloc, defs, text.as_slice()),
+        Err(WholeFault::TooLong) => Err(Status::Schedule(ScheduleFault::TooLong)),
+        Err(WholeFault::Failed) => Err(Status::ReadFault),
+        Err(WholeFault::Memory) => Err(Status::NoMemory),
+    }
+}
+
+// The events that a command takes: of a run those of the schedule.
+fn read_rest<S: Source>(
+    alloc: Global,
+    source: &mut S,
+    command: Command,
+    setup: &Setup,
+) -> Result<List<Event>, Status>
+    requires setup { IsSetup setup.now }
+    ensures ok { S.told source.old → IfOk result (λ events.
+        HasEventsFor command (job_of setup.now) (S.left source.old) events) }
+    ensures events { IfOk result (λ events. AllByRecursion (IsEventOf setup.now.defs) events) }
+    ensures refused { S.told source.old → IfErr result (λ answer. MayStandIn answer
+        ⊎ IsRefusedSchedule command (job_of setup.now) (S.left source.old) answer) }
+    ensures early { IfErr result IsOfParts }
+    ensures cause { IsErrOf result status.ReadFault → Rose (S.faults source.old) (S.faults source.new) }
+    ensures source { ReadsOnly S.told S.left S.faults S.holds S.keeps part.Schedule source.old source.new }
+{
+    match command {
+        Command::Define => Ok(List::new(alloc)),
+        Command::Run => read_schedule(alloc, source, &setup.defs),
+    }
+}
+
+/// What a command is to do, or the answer that is given instead.
+pub(crate) fn read_task<S: Source>(
+    alloc: Global,
+    source: &mut S,
+    exits: &Exits,
+    command: Command,
+) -> Result<Task, Status>
+    ensures job { S.told source.old → IfOk result (λ task. IsJob (kinds_of exits.now) (S.left source.old)
+        (job_of task.setup)) }
+    ensures schedule { S.told source.old → IfOk result (λ task.
+        HasEventsFor command (job_of task.setup) (S.left source.old) task.events) }
+    ensures setup { IfOk result (λ task. IsSetup task.setup) }
+    ensures router { IfOk result (λ task. has_kind (kinds_of exits.now).routers task.setup.defs.router ≡ true) }
+    ensures events { IfOk result (λ task. AllByRecursion (IsEventOf task.setup.defs) task.events) }
+
+    // Otherwise it is the first reason why the parts aren't what the command asks for.
     ensures refused { S.told source.old → IfErr result
-        (λ answer. MayStandIn answer ⊎ Refuses (kinds_of exits.now) (S.left source.old) answer) }
+        (λ answer. MayStandIn answer ⊎ Refuses (kinds_of exits.now) (S.left source.old) command answer) }
     ensures early { IfErr result IsOfParts }
     ensures cause { IsErrOf result status.ReadFault → Rose (S.faults source.old) (S.faults source.new) }
 
@@ -183,7 +309,7 @@ pub(crate) fn read_setup<S: Source>(
     ensures holds { S.holds source.new ≡ S.holds source.old }
     ensures keeps { (first : S) → S.keeps first source.old → S.keeps first source.new }
 {
-    let defs = read_definitions(alloc, source, exits)?;
-    let scripts = read_scripts(alloc, source, &defs)?;
-    Ok(setup_with(alloc, defs, scripts)?)
+    let setup = read_setup(alloc, source, exits)?;
+    let events = read_rest(alloc, source, command, &setup)?;
+    Ok(Task { setup, events })
 }

@@ -2,11 +2,14 @@
 ghost use Rattle.std.specs.Prelude.{◌≡◌, IfOk};
 ghost use Rattle.fp_system.specs.Texts.{fault_text, number_of};
 
-use crate::texts::{damage_text, definitions_text, joined, line_text, part_name, scripts_text};
+use crate::texts::{
+    damage_text, definitions_text, joined, line_text, part_name, schedule_text, scripts_text,
+};
+use fp_core::Stop;
 use fp_defs::DefsFault;
 use fp_model::Bytes;
-use fp_source::{LineFault, Part};
-use log_groups::SealFault;
+use fp_schedule::ScheduleFault;
+use fp_source::Part;
 use std::alloc::{AllocError, Global};
 use txn_lang::ScriptFault;
 
@@ -21,6 +24,8 @@ pub enum Status {
     Definitions(DefsFault),
     /// The scripts have this fault.
     Scripts(ScriptFault),
+    /// The schedule has this fault.
+    Schedule(ScheduleFault),
     /// A read of a part failed.
     ReadFault,
     /// The site failed.
@@ -55,36 +60,17 @@ impl From<AllocError> for Status {
     }
 }
 
-impl From<fp_site::Failed> for Status {
-    ghost use Rattle.fp_system.specs.declared.status.Status.TheVariants as status;
+impl From<Stop> for Status {
+    ghost use Rattle.fp_system.specs.Answers.{status_of_stop};
 
-    ghost from_gives = { λ _ e. e ≡ status.SiteFault };
+    ghost from_gives = { λ stop e. e ≡ status_of_stop stop };
 
-    fn from(_: fp_site::Failed) -> Status {
-        Status::SiteFault
-    }
-}
-
-impl From<SealFault> for Status {
-    ghost use Rattle.fp_system.specs.declared.status.Status.TheVariants as status;
-
-    ghost from_gives = { λ _ e. e ≡ status.SiteFault };
-
-    fn from(_: SealFault) -> Status {
-        Status::SiteFault
-    }
-}
-
-impl From<LineFault> for Status {
-    ghost use Rattle.fp_system.specs.Answers.{status_of_line};
-
-    ghost from_gives = { λ fault e. e ≡ status_of_line fault };
-
-    fn from(fault: LineFault) -> Status {
-        match fault {
-            LineFault::TooLong(number) | LineFault::TooMany(number) => Status::Line { number },
-            LineFault::Failed => Status::ReadFault,
-            LineFault::Memory => Status::NoMemory,
+    fn from(stop: Stop) -> Status {
+        match stop {
+            Stop::LogFault => Status::SiteFault,
+            Stop::ReadFault => Status::ReadFault,
+            Stop::LineFault(number) => Status::Line { number },
+            Stop::Memory => Status::NoMemory,
         }
     }
 }
@@ -99,6 +85,7 @@ impl Status {
             Status::Usage => 1,
             Status::Definitions(_) => 2,
             Status::Scripts(_) => 3,
+            Status::Schedule(_) => 4,
             Status::ReadFault => 5,
             Status::SiteFault => 6,
             Status::Foreign => 7,
@@ -119,6 +106,7 @@ pub fn fault_text(alloc: Global, status: &Status) -> Result<Bytes, AllocError>
         Status::Usage => Bytes::from_slice(alloc, b"usage: ims_fp define DIR | run DIR"),
         Status::Definitions(fault) => definitions_text(alloc, fault),
         Status::Scripts(fault) => scripts_text(alloc, *fault),
+        Status::Schedule(fault) => schedule_text(alloc, *fault),
         Status::ReadFault => Bytes::from_slice(alloc, b"read fault"),
         Status::SiteFault => Bytes::from_slice(alloc, b"site fault"),
         Status::Foreign => Bytes::from_slice(alloc, b"foreign log"),

@@ -1,11 +1,12 @@
 //! What is said of each fault on standard error.
 ghost use Rattle.fp_model.specs.Texts.{trimmed};
-ghost use Rattle.fp_system.specs.Texts.{definitions_text, kind_name, part_name, scripts_text};
+ghost use Rattle.fp_system.specs.Texts.{definitions_text, kind_name, part_name, schedule_text, scripts_text};
 ghost use Rattle.std.specs.Fmt.{decimal, signed_decimal};
 ghost use Rattle.std.specs.Prelude.{◌≡◌, ◌++◌, IfOk, codes};
 
 use fp_defs::DefsFault;
 use fp_model::{Bytes, Kind, Name};
+use fp_schedule::ScheduleFault;
 use fp_source::Part;
 use std::alloc::{AllocError, Global};
 use txn_lang::ScriptFault;
@@ -91,6 +92,20 @@ pub(crate) fn scripts_text(alloc: Global, fault: ScriptFault) -> Result<Bytes, A
         ScriptFault::Twice(name) => transaction_text(alloc, &name, b" twice"),
         ScriptFault::TooLong => Bytes::from_slice(alloc, b"scripts: too long"),
         ScriptFault::Memory => Bytes::from_slice(alloc, b"scripts: no memory"),
+    }
+}
+
+/// What is said of a fault of the schedule.
+pub(crate) fn schedule_text(alloc: Global, fault: ScheduleFault) -> Result<Bytes, AllocError>
+    ensures { IfOk result (λ text. text ≡ codes "schedule: " ++ schedule_text fault) }
+{
+    match fault {
+        ScheduleFault::BadToken(place) => {
+            numbered(alloc, b"schedule: bad token ", u64::from(place))
+        }
+        ScheduleFault::TooMany => Bytes::from_slice(alloc, b"schedule: too many tokens"),
+        ScheduleFault::TooLong => Bytes::from_slice(alloc, b"schedule: too long"),
+        ScheduleFault::Memory => Bytes::from_slice(alloc, b"schedule: no memory"),
     }
 }
 

@@ -1,19 +1,22 @@
 //! The top call.
-ghost use Rattle.fp_exits.specs.Kinds.{kinds_of};
+ghost use Rattle.fp_model.specs.Messages.{lines_of};
+ghost use Rattle.fp_model.specs.declared.events.Event.{Event};
 ghost use Rattle.fp_source.specs.declared.part.Part.TheVariants as part;
 ghost use Rattle.fp_system.specs.Causes.{IsCaused};
+ghost use Rattle.fp_system.specs.Courses.{input};
 ghost use Rattle.fp_system.specs.Gives.{Defined, IsBeforeSite, Ran, Took};
 ghost use Rattle.fp_system.specs.Ims.{IsContinued};
-ghost use Rattle.fp_system.specs.Parts.{IsJob, Job};
+ghost use Rattle.fp_system.specs.Parts.{HasEvents, Job};
 ghost use Rattle.fp_system.specs.Table.{Asks, IsAnswerTo, given};
 ghost use Rattle.fp_system.specs.Words.{command_of};
 ghost use Rattle.fp_system.specs.declared.status.Status.TheVariants as status;
+ghost use Rattle.fp_system.specs.declared.words.Command.{Command as CommandOf};
 ghost use Rattle.fp_system.specs.declared.words.Command.TheVariants as command;
-ghost use Rattle.std.specs.Prelude.{◌≡◌, ◌↔◌, None, Some, map, string_bytes};
+ghost use Rattle.std.specs.Prelude.{◌≡◌, ◌↔◌, None, Some, List as ListOf, map, string_bytes};
 
 use crate::Status;
 use crate::acting::{define_on, run_on};
-use crate::parts::read_setup;
+use crate::parts::read_task;
 use crate::words::{Command, command_of};
 use fp_exits::Exits;
 use fp_site::Site;
@@ -21,15 +24,15 @@ use fp_source::Source;
 use std::alloc::Global;
 
 /// All that the program does. `words` are those behind its name: `define DIR` makes the site anew from the parts
-/// Definitions and Scripts; `run DIR` restarts and answers each line of the part Messages, behind what the log has.
-/// Words are judged first, then the definitions, then the scripts, then the site; the message lines are read one by
-/// one.
+/// Definitions and Scripts; `run DIR` restarts, takes the events of the part Schedule one after another, behind what the
+/// log has, and drains: so each line of the part Messages is answered. Words are judged first, then the definitions, the
+/// scripts, of a run the schedule, then the site; the message lines are read one by one.
 ///
 /// # What contracts say
 ///
 /// `given` is what the call is given, as it is told. What is due of it is answered, or a fault stands in its place:
 /// want of memory (`NoMemory`) may come at any place, a fault of the source or the site only where its count rose.
-/// `Asks` says that the words are a command, and that the parts are a job.
+/// `Asks` says that the words are a command, that the parts are a job, and of a run that its schedule is one.
 pub fn ims<S: Source, T: Site>(
     alloc: Global,
     words: &[String],
@@ -49,14 +52,16 @@ pub fn ims<S: Source, T: Site>(
         → command_of (map string_bytes words.now) ≡ Some command.Define →
         Defined (given exits.now words.now (S.left source.old) (T.disk site.old)) result
         (T.disk site.old) (T.disk site.new) }
-    ensures ran { (job : Job) → S.told source.old → T.told site.old
-        → Asks (given exits.now words.now (S.left source.old) (T.disk site.old)) command.Run job →
-        Ran job (S.left source.old part.Messages) result (T.disk site.old) (T.disk site.new) }
+    ensures ran { (job : Job) (events : ListOf Event) → S.told source.old → T.told site.old
+        → Asks (given exits.now words.now (S.left source.old) (T.disk site.old)) command.Run job
+        → HasEvents job (S.left source.old) events →
+        Ran job (input events (lines_of (S.left source.old part.Messages))) result (T.disk site.old)
+        (T.disk site.new) }
 
     // What stays.
     ensures untouched { IsBeforeSite (command_of (map string_bytes words.now)) result → site.new ≡ site.old }
-    ensures no_job { S.told source.old → ¬ ((job : Job) × IsJob (kinds_of exits.now) (S.left source.old) job) →
-        site.new ≡ site.old }
+    ensures no_job { S.told source.old → ¬ ((which : CommandOf) × ((job : Job)
+        × Asks (given exits.now words.now (S.left source.old) (T.disk site.old)) which job)) → site.new ≡ site.old }
     ensures parts { S.told source.old → Took (command_of (map string_bytes words.now)) result
         (S.left source.old part.Messages) (S.left source.new part.Messages) }
     ensures source { IsContinued S.told S.faults S.holds S.keeps source.old source.new }
@@ -65,10 +70,10 @@ pub fn ims<S: Source, T: Site>(
     let Some(command) = command_of(words) else {
         return Status::Usage;
     };
-    match read_setup(alloc, source, exits) {
-        Ok(setup) => match command {
-            Command::Define => define_on(alloc, site, &setup),
-            Command::Run => run_on(alloc, source, site, &setup),
+    match read_task(alloc, source, exits, command) {
+        Ok(task) => match command {
+            Command::Define => define_on(alloc, site, &task.setup),
+            Command::Run => run_on(alloc, source, site, exits, &task),
         },
         Err(answer) => answer,
     }
