@@ -24,7 +24,8 @@ invariant-loop-done g l = record {
       → StandsBeside origin (g.T.Site.disk l.initial.site) l.initial.self.lines
       (g.S.Source.left l.initial.source part.Messages) l.initial.self.engine m
       → Through (g.T.Site.disk l.initial.site) (g.T.Site.disk l.site)
-      (IsLeftByDrain origin (rules_in l.initial.self.engine) m (g.T.Site.disk l.initial.site));
+      (IsLeftByDrain origin l.initial.self.engine.defs.now (rules_in l.initial.self.engine) m
+          (g.T.Site.disk l.initial.site));
   fair : g.S.Source.told l.initial.source → fault_ahead l.self.lines (g.S.Source.left l.source part.Messages)
       ≡ fault_ahead l.initial.self.lines (g.S.Source.left l.initial.source part.Messages);
   rules : rules_in l.self.engine ≡ rules_in l.initial.self.engine;
