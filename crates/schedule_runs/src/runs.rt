@@ -1,12 +1,12 @@
 //! Takes the events of a schedule, drains, and closes.
 ghost use Rattle.fp_core.specs.Draining.{IsReachedBy};
 ghost use Rattle.fp_core.specs.Relation.{rules_in};
-ghost use Rattle.fp_core.specs.Standing.{IsContinued, IsEventOf, Origin, StandsBeside, number_of};
+ghost use Rattle.fp_core.specs.Standing.{IsCausedBySite, IsCausedBySource, IsContinued, IsEventOf, Origin, StandsBeside, number_of};
 ghost use Rattle.fp_model.specs.Machine.{Machine};
 ghost use Rattle.fp_site.specs.Moments.{Through};
 ghost use Rattle.fp_site.specs.Site.{ReadsNothing};
 ghost use Rattle.fp_source.specs.Lines.{fault_ahead};
-ghost use Rattle.fp_source.specs.Source.{ReadsOnly, Rose};
+ghost use Rattle.fp_source.specs.Source.{ReadsOnly};
 ghost use Rattle.schedule_runs.specs.Standing.{IsDone, IsLeftOnWay, IsStopped, StandsOnWay};
 ghost use Rattle.std.specs.List.{AllByRecursion};
 ghost use Rattle.std.specs.Prelude.{◌≡◌, ℕ, [], IfErr, IsErrOf, None, OnOk, Some, option_map};
@@ -35,6 +35,8 @@ fn take_events<T: Site, S: Source>(
         → OnOk result (StandsOnWay origin core.old.engine.defs.now (rules_in core.old.engine) events.now m
         (T.disk site.old) core.old.lines [] (T.disk site.new) core.new.lines (S.left source.new Part.Messages)
         core.new.engine) }
+    ensures site_calm { OnOk result (T.faults site.new ≡ T.faults site.old) }
+    ensures source_calm { OnOk result (S.faults source.new ≡ S.faults source.old) }
 
     // When it stops, and what a crash leaves at every moment.
     ensures stopped { (origin : Origin) (m : Machine) → T.told site.old → S.told source.old
@@ -49,8 +51,8 @@ fn take_events<T: Site, S: Source>(
         (IsLeftOnWay origin core.old.engine.defs.now (rules_in core.old.engine) events.now m (T.disk site.old)) }
     ensures fair { S.told source.old → OnOk result (fault_ahead core.new.lines (S.left source.new Part.Messages)
         ≡ fault_ahead core.old.lines (S.left source.old Part.Messages)) }
-    ensures log { IsErrOf result Stop.LogFault → Rose (T.faults site.old) (T.faults site.new) }
-    ensures failed { IsErrOf result Stop.ReadFault → Rose (S.faults source.old) (S.faults source.new) }
+    ensures site_cause { IfErr result (IsCausedBySite (T.faults site.old) (T.faults site.new)) }
+    ensures source_cause { IfErr result (IsCausedBySource (S.faults source.old) (S.faults source.new)) }
     ensures line { S.told source.old → (n : ℕ) → IsErrOf result (Stop.LineFault n)
         → option_map number_of (fault_ahead core.old.lines (S.left source.old Part.Messages)) ≡ Some n }
 
@@ -86,7 +88,7 @@ pub fn run_schedule<T: Site, S: Source>(
     requires routed { core.old.router.now.kind ≡ core.old.engine.defs.now.router }
 
     // At `Ok` turns of the table led over all events and the drain to a machine that is drained, and core, site and
-    // source stand beside it. All lines were taken.
+    // source stand beside it. All lines were taken, and no call failed.
     ensures reached { OnOk result ((m : Machine) × IsReachedBy core.new.engine m) }
     ensures done { (origin : Origin) (m : Machine) → T.told site.old → S.told source.old
         → StandsBeside origin (T.disk site.old) core.old.lines (S.left source.old Part.Messages) core.old.engine m
@@ -97,6 +99,8 @@ pub fn run_schedule<T: Site, S: Source>(
     ensures all { S.told source.old
         → OnOk result (fault_ahead core.old.lines (S.left source.old Part.Messages) ≡ None) }
     ensures read { S.told source.old → OnOk result (S.left source.new Part.Messages ≡ []) }
+    ensures site_calm { OnOk result (T.faults site.new ≡ T.faults site.old) }
+    ensures source_calm { OnOk result (S.faults source.new ≡ S.faults source.old) }
 
     // When it stops: turns led to the machine before that step.
     ensures stopped { (origin : Origin) (m : Machine) → T.told site.old → S.told source.old
@@ -104,8 +108,8 @@ pub fn run_schedule<T: Site, S: Source>(
         → IsReachedBy core.old.engine m
         → IfErr result (IsStopped origin core.old.engine.defs.now (rules_in core.old.engine) events.now m
         (T.disk site.old) core.old.lines (T.disk site.new)) }
-    ensures log { IsErrOf result Stop.LogFault → Rose (T.faults site.old) (T.faults site.new) }
-    ensures failed { IsErrOf result Stop.ReadFault → Rose (S.faults source.old) (S.faults source.new) }
+    ensures site_cause { IfErr result (IsCausedBySite (T.faults site.old) (T.faults site.new)) }
+    ensures source_cause { IfErr result (IsCausedBySource (S.faults source.old) (S.faults source.new)) }
     ensures line { S.told source.old → (n : ℕ) → IsErrOf result (Stop.LineFault n)
         → option_map number_of (fault_ahead core.old.lines (S.left source.old Part.Messages)) ≡ Some n }
 
