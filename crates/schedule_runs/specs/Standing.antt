@@ -6,7 +6,7 @@ use Rattle.fp_model.specs.Machine.{Machine}
 use Rattle.fp_model.specs.Rules.{Rules}
 use Rattle.fp_model.specs.Runs.{IsDrained}
 use Rattle.fp_site.specs.Disk.{Disk, Snapshot}
-use Rattle.fp_source.specs.Lines.{lines_given, to_come}
+use Rattle.fp_source.specs.Lines.{lines_given}
 use Rattle.fp_source.specs.declared.lines.Lines.{Lines}
 use Rattle.fp_core.specs.declared.engine.Engine.{Engine}
 use Rattle.fp_core.specs.declared.stop.Stop.{Stop}
@@ -27,12 +27,14 @@ module _ (origin : Origin) (defs : Defs) (rules : Rules) (events : List Event) (
     pub given : lines_given lines + length here.lines ≡ lines_given old_lines + length m.lines
     pub others : (set : ℕ) → ¬ (set ≡ 0) → new.contents set ≡ old.contents set
 
-  -- The run is done: no event is left, the machine is drained, and the messages were read to their end.
-  pub record IsDone (old_lines : Lines) (new : Disk) (lines : Lines) (bytes : List ℕ) (engine : Engine)
-      : Type 0 where
-    pub stands : StandsOnWay old_lines [] new lines bytes engine
-    pub drained : IsDrained rules stands.here
-    pub read : to_come lines bytes ≡ []
+  -- The run is done: no event is left, and the machine is drained. Engine, site and source stand beside it, and no data
+  -- set but the log changed.
+  pub record IsDone (new : Disk) (lines : Lines) (bytes : List ℕ) (engine : Engine) : Type 0 where
+    pub here : Machine
+    pub comes : Comes defs rules events m [] here
+    pub drained : IsDrained rules here
+    pub beside : StandsBeside origin new lines bytes engine here
+    pub others : (set : ℕ) → ¬ (set ≡ 0) → new.contents set ≡ old.contents set
 
   -- The run stopped in the step behind this machine, and the disk is one that this step may end with. Where it stopped
   -- for a line, that is the first one that the machine has not read.

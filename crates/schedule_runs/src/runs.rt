@@ -94,8 +94,7 @@ pub fn run_schedule<T: Site, S: Source>(
         → StandsBeside origin (T.disk site.old) core.old.lines (S.left source.old Part.Messages) core.old.engine m
         → IsReachedBy core.old.engine m
         → OnOk result (IsDone origin core.old.engine.defs.now (rules_in core.old.engine) events.now m
-        (T.disk site.old) core.old.lines (T.disk site.new) core.new.lines (S.left source.new Part.Messages)
-        core.new.engine) }
+        (T.disk site.old) (T.disk site.new) core.new.lines (S.left source.new Part.Messages) core.new.engine) }
     ensures all { S.told source.old
         → OnOk result (fault_ahead core.old.lines (S.left source.old Part.Messages) ≡ None) }
     ensures read { S.told source.old → OnOk result (S.left source.new Part.Messages ≡ []) }
