@@ -2,7 +2,7 @@
 ghost use Rattle.balancing.specs.Backlog.{AreSame};
 ghost use Rattle.fp_core.specs.Reading.{request_for};
 ghost use Rattle.fp_core.specs.Relation.{IsShort, IsTakeable, StandsFor, rules_in};
-ghost use Rattle.fp_core.specs.Standing.{MayStop, Stepped, SteppedBy, number_of};
+ghost use Rattle.fp_core.specs.Standing.{IsCausedBySource, MayStop, Stepped, SteppedBy, number_of};
 ghost use Rattle.fp_core.specs.Turning.{did_with};
 ghost use Rattle.fp_model.specs.Asking.{script_of};
 ghost use Rattle.fp_model.specs.History.{History};
@@ -12,10 +12,10 @@ ghost use Rattle.fp_model.specs.Messages.{terminal_of};
 ghost use Rattle.fp_model.specs.Product.{request_of};
 ghost use Rattle.fp_model.specs.declared.events.Event.TheVariants as events;
 ghost use Rattle.fp_model.specs.declared.log.Outcome.TheVariants as outcomes;
-ghost use Rattle.fp_source.specs.Lines.{fault_ahead, lines_ahead, lines_given};
-ghost use Rattle.fp_source.specs.Source.{ReadsOnly, Rose};
+ghost use Rattle.fp_source.specs.Lines.{fault_ahead, lines_ahead, lines_given, to_come};
+ghost use Rattle.fp_source.specs.Source.{ReadsOnly};
 ghost use Rattle.std.specs.List.{list_any};
-ghost use Rattle.std.specs.Prelude.{◌≡◌, ◌+◌, ◌++◌, ℕ, IfErr, IfNone, IfOk, IfSome, IsErrOf, IsSome, List as ListOf, None, OnErr, OnOk, Some, false, length, option_map};
+ghost use Rattle.std.specs.Prelude.{◌≡◌, ◌+◌, ◌++◌, ℕ, [], IfErr, IfNone, IfOk, IfSome, IsErrOf, IsSome, List as ListOf, None, OnErr, OnOk, Some, false, length, option_map};
 
 use crate::did::Did;
 use crate::ending::append_owed;
@@ -184,12 +184,15 @@ impl<'a> Core<'a> {
             → m.lines ≡ lines_ahead self.old.lines (S.left source.old Part.Messages)
             → IfOk result (SteppedBy events.In m self.old.lines self.new.lines
             (S.left source.new Part.Messages) self.new.engine) }
+        ensures ended { S.told source.old → IfOk result (λ did. did ≡ Did.Nothing
+            → to_come self.new.lines (S.left source.new Part.Messages) ≡ []) }
         ensures fair { S.told source.old → OnOk result (fault_ahead self.new.lines (S.left source.new Part.Messages)
             ≡ fault_ahead self.old.lines (S.left source.old Part.Messages)) }
 
         // When it stops: only where no line waits.
         ensures stops { IfErr result (MayStop events.In self.old.engine.held) }
-        ensures failed { IsErrOf result Stop.ReadFault → Rose (S.faults source.old) (S.faults source.new) }
+        ensures cause { IfErr result (IsCausedBySource (S.faults source.old) (S.faults source.new)) }
+        ensures calm { OnOk result (S.faults source.new ≡ S.faults source.old) }
         ensures line { S.told source.old → (n : ℕ) → IsErrOf result (Stop.LineFault n)
             → option_map number_of (fault_ahead self.old.lines (S.left source.old Part.Messages)) ≡ Some n }
         ensures number { (n : ℕ) → IsErrOf result (Stop.LineFault n) → n ≡ lines_given self.old.lines + 1 }
@@ -223,12 +226,15 @@ impl<'a> Core<'a> {
             → m.lines ≡ lines_ahead self.old.lines (S.left source.old Part.Messages)
             → IfOk result (SteppedBy events.In m self.old.lines self.new.lines
             (S.left source.new Part.Messages) self.new.engine) }
+        ensures ended { S.told source.old → IfOk result (λ did. did ≡ Did.Nothing
+            → to_come self.new.lines (S.left source.new Part.Messages) ≡ []) }
         ensures fair { S.told source.old → OnOk result (fault_ahead self.new.lines (S.left source.new Part.Messages)
             ≡ fault_ahead self.old.lines (S.left source.old Part.Messages)) }
 
         // When it stops: only where no line waits.
         ensures stops { IfErr result (MayStop events.In self.old.engine.held) }
-        ensures failed { IsErrOf result Stop.ReadFault → Rose (S.faults source.old) (S.faults source.new) }
+        ensures cause { IfErr result (IsCausedBySource (S.faults source.old) (S.faults source.new)) }
+        ensures calm { OnOk result (S.faults source.new ≡ S.faults source.old) }
         ensures line { S.told source.old → (n : ℕ) → IsErrOf result (Stop.LineFault n)
             → option_map number_of (fault_ahead self.old.lines (S.left source.old Part.Messages)) ≡ Some n }
         ensures number { (n : ℕ) → IsErrOf result (Stop.LineFault n) → n ≡ lines_given self.old.lines + 1 }

@@ -1,4 +1,5 @@
 use Rattle.std.proofs.Common.{◌∙◌, ap, subst, arith, ◌+◌, ◌-◌, Bool}
+use Rattle.fp_model.specs.declared.definitions.Defs.{Defs}
 use Rattle.fp_model.specs.Machine.{Machine}
 use Rattle.fp_model.specs.Rules.{Rules}
 use Rattle.fp_site.specs.Moments.{Through}
@@ -28,11 +29,12 @@ returns-in_err-round-clause-stopped g c origin m told tells beside reached =
     let tells1 = i.source.stays_told tells in
     let come = i.come origin m told tells beside in
     let stop = c.in_err-round.field-0.0 in
-    if_err_from (DrainStopped origin rules m core.lines disk disk2) c.from_residual.result stop
+    if_err_from (DrainStopped origin core.engine.defs.now rules m core.lines disk disk2) c.from_residual.result stop
     c.from_residual.ensures.1
-    (stopped_behind origin rules m disk core.lines disk1 mid.lines left1 mid.engine come disk2 stop
-    (subst (λ (r : Rules). DrainStopped origin r come.after mid.lines disk1 disk2 stop) i.rules
-    (c.in_err-round.ensures.stopped origin come.after told1 tells1 come.beside)))
+    (stopped_behind origin rules m disk core.lines disk1 mid.lines left1 mid.engine come core.engine.defs.now disk2 stop
+    (subst (λ (d : Defs). DrainStopped origin d rules come.after mid.lines disk1 disk2 stop) (ap (λ d. d.now) i.defs)
+    (subst (λ (r : Rules). DrainStopped origin mid.engine.defs.now r come.after mid.lines disk1 disk2 stop) i.rules
+    (c.in_err-round.ensures.stopped origin come.after told1 tells1 come.beside))))
 
 pub returns-in_err-round-clause-moments : goal.returns-in_err-round-clause-moments
 returns-in_err-round-clause-moments g c origin m told tells beside reached =
@@ -47,11 +49,12 @@ returns-in_err-round-clause-moments g c origin m told tells beside reached =
     let told1 = i.site.still_told told in
     let tells1 = i.source.stays_told tells in
     let come = i.come origin m told tells beside in
-    moments_both origin rules m disk core.lines disk1 mid.lines left1 mid.engine come disk2
+    moments_both origin rules m disk core.lines disk1 mid.lines left1 mid.engine come core.engine.defs.now disk2
     (g.met.T.Site.lawful c.loop-done.site told1)
     (i.moments origin m told tells beside)
-    (subst (λ (r : Rules). Through disk1 disk2 (IsLeftByDrain origin r come.after disk1)) i.rules
-    (c.round.ensures.moments origin come.after told1 tells1 come.beside))
+    (subst (λ (d : Defs). Through disk1 disk2 (IsLeftByDrain origin d rules come.after disk1)) (ap (λ d. d.now) i.defs)
+    (subst (λ (r : Rules). Through disk1 disk2 (IsLeftByDrain origin mid.engine.defs.now r come.after disk1)) i.rules
+    (c.round.ensures.moments origin come.after told1 tells1 come.beside)))
 
 -- ---- the end
 
@@ -82,11 +85,12 @@ returns-then-not-branch-clause-moments g c origin m told tells beside reached =
     let told1 = i.site.still_told told in
     let tells1 = i.source.stays_told tells in
     let come = i.come origin m told tells beside in
-    moments_both origin rules m disk core.lines disk1 mid.lines left1 mid.engine come disk2
+    moments_both origin rules m disk core.lines disk1 mid.lines left1 mid.engine come core.engine.defs.now disk2
     (g.met.T.Site.lawful c.loop-done.site told1)
     (i.moments origin m told tells beside)
-    (subst (λ (r : Rules). Through disk1 disk2 (IsLeftByDrain origin r come.after disk1)) i.rules
-    (c.round.ensures.moments origin come.after told1 tells1 come.beside))
+    (subst (λ (d : Defs). Through disk1 disk2 (IsLeftByDrain origin d rules come.after disk1)) (ap (λ d. d.now) i.defs)
+    (subst (λ (r : Rules). Through disk1 disk2 (IsLeftByDrain origin mid.engine.defs.now r come.after disk1)) i.rules
+    (c.round.ensures.moments origin come.after told1 tells1 come.beside)))
 
 pub returns-then-not-branch-clause-drained : goal.returns-then-not-branch-clause-drained
 returns-then-not-branch-clause-drained g c origin m told tells beside reached =
@@ -154,11 +158,14 @@ loop-done-preserved g c =
           let told1 = i.site.still_told told in
           let tells1 = i.source.stays_told tells in
           let come = i.come origin m told tells beside in
-          moments_both origin rules m disk core.lines disk1 mid.lines left1 mid.engine come disk2
+          moments_both origin rules m disk core.lines disk1 mid.lines left1 mid.engine come core.engine.defs.now disk2
           (g.met.T.Site.lawful c.loop-done.site told1)
           (i.moments origin m told tells beside)
-          (subst (λ (r : Rules). Through disk1 disk2 (IsLeftByDrain origin r come.after disk1)) i.rules
-          (c.round.ensures.moments origin come.after told1 tells1 come.beside));
+          (subst (λ (d : Defs). Through disk1 disk2 (IsLeftByDrain origin d rules come.after disk1))
+          (ap (λ d. d.now) i.defs)
+          (subst (λ (r : Rules). Through disk1 disk2 (IsLeftByDrain origin mid.engine.defs.now r come.after disk1))
+          i.rules
+          (c.round.ensures.moments origin come.after told1 tells1 come.beside)));
       fair = λ tells. c.in_ok-round.ensures.fair (i.source.stays_told tells) ∙ i.fair tells;
       rules = c.round.ensures.rules ∙ i.rules;
       defs = c.round.ensures.defs ∙ i.defs;
@@ -168,6 +175,8 @@ loop-done-preserved g c =
           (g.T.Site.tells_reads c.round.new.site)
           (g.T.Site.bytes_read c.args.site.now) (g.T.Site.bytes_read c.loop-done.site)
           (g.T.Site.bytes_read c.round.new.site) i.reads c.round.ensures.reads;
+      site_calm = c.in_ok-round.ensures.site_calm ∙ i.site_calm;
+      source_calm = c.in_ok-round.ensures.source_calm ∙ i.source_calm;
       site = continued_both g.T.Site.told g.T.Site.faults g.T.Site.holds g.T.Site.keeps c.args.site.now
           c.loop-done.site c.round.new.site
           i.site c.round.ensures.site;

@@ -24,7 +24,8 @@ invariant-loop-done g l = record {
       → StandsBeside origin (g.T.Site.disk l.initial.site) l.initial.self.lines
       (g.S.Source.left l.initial.source part.Messages) l.initial.self.engine m
       → Through (g.T.Site.disk l.initial.site) (g.T.Site.disk l.site)
-      (IsLeftByDrain origin (rules_in l.initial.self.engine) m (g.T.Site.disk l.initial.site));
+      (IsLeftByDrain origin l.initial.self.engine.defs.now (rules_in l.initial.self.engine) m
+          (g.T.Site.disk l.initial.site));
   fair : g.S.Source.told l.initial.source → fault_ahead l.self.lines (g.S.Source.left l.source part.Messages)
       ≡ fault_ahead l.initial.self.lines (g.S.Source.left l.initial.source part.Messages);
   rules : rules_in l.self.engine ≡ rules_in l.initial.self.engine;
@@ -33,6 +34,8 @@ invariant-loop-done g l = record {
   router : l.self.router ≡ l.initial.self.router;
   reads : ReadsNothing (g.T.Site.tells_reads l.initial.site) (g.T.Site.tells_reads l.site)
       (g.T.Site.bytes_read l.initial.site) (g.T.Site.bytes_read l.site);
+  site_calm : g.T.Site.faults l.site ≡ g.T.Site.faults l.initial.site;
+  source_calm : g.S.Source.faults l.source ≡ g.S.Source.faults l.initial.source;
   site : IsContinued g.T.Site.told g.T.Site.faults g.T.Site.holds g.T.Site.keeps l.initial.site l.site;
   source : ReadsOnly g.S.Source.told g.S.Source.left g.S.Source.faults g.S.Source.holds g.S.Source.keeps part.Messages
       l.initial.source l.source;
