@@ -3,7 +3,7 @@ use Rattle.std.proofs.Common.{◌≡◌, inl, inr, refl, arith, ℕ, ◌≤◌}
 use Rattle.fp_source.specs.Source.{Rose}
 use Rattle.fp_system.specs.Causes.{IsCaused}
 use Rattle.fp_system.specs.declared.status.Status.{Status}
-use Rattle.fp_system.specs.declared.status.Status.TheVariants.{Done, Usage, Definitions, Scripts, ReadFault, SiteFault}
+use Rattle.fp_system.specs.declared.status.Status.TheVariants.{Done, Usage, Definitions, Scripts, Schedule, ReadFault, SiteFault}
 use Rattle.fp_system.specs.declared.status.Status.TheVariants.{Foreign, Damaged, Line, NoMemory, NotBuilt}
 
 -- a count that rose later has risen
@@ -19,6 +19,7 @@ caused read read2 site site2 Done r s = tt
 caused read read2 site site2 Usage r s = tt
 caused read read2 site site2 (Definitions fault) r s = tt
 caused read read2 site site2 (Scripts fault) r s = tt
+caused read read2 site site2 (Schedule fault) r s = tt
 caused read read2 site site2 Foreign r s = tt
 caused read read2 site site2 (Damaged set at) r s = tt
 caused read read2 site site2 (Line number) r s = tt

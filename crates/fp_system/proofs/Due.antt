@@ -12,7 +12,7 @@ use Rattle.fp_system.specs.Parts.{front_for}
 use Rattle.fp_system.specs.Setups.{IsSetup, job_of}
 use Rattle.fp_system.specs.Table.{ByLog, foreign, damaged, good, IsBadFirst, IsEnd, IsGood, IsSpared, end_of_lines}
 use Rattle.fp_system.specs.declared.status.Status.{Status}
-use Rattle.fp_system.specs.declared.status.Status.TheVariants.{Done, Usage, Definitions, Scripts, ReadFault, SiteFault}
+use Rattle.fp_system.specs.declared.status.Status.TheVariants.{Done, Usage, Definitions, Scripts, Schedule, ReadFault, SiteFault}
 use Rattle.fp_system.specs.declared.status.Status.TheVariants.{Foreign, Damaged, Line, NoMemory, NotBuilt}
 
 module _ (setup : Setup) (is : IsSetup setup) (log : List ℕ) where
@@ -71,6 +71,7 @@ module _ (setup : Setup) (is : IsSetup setup) (log : List ℕ) where
     stop_due Usage stop line = absurd stop
     stop_due (Definitions f) stop line = absurd stop
     stop_due (Scripts f) stop line = absurd stop
+    stop_due (Schedule f) stop line = absurd stop
     stop_due Foreign stop line = absurd stop
     stop_due (Damaged set at) stop line = absurd stop
     stop_due (NotBuilt p) stop line = absurd stop

@@ -27,7 +27,7 @@ use Rattle.schedule_runs.specs.Standing.{IsDone, IsLeftOnWay, IsStopped}
 use Rattle.schedule_runs.specs.Ways as way
 use Rattle.schedule_runs.specs.Ways.{Comes, next_event}
 use Rattle.fp_system.specs.Answers.{status_of_stop}
-use Rattle.fp_system.specs.Courses.{EndsAt, Input, IsAtLine, IsBegun, RanFrom}
+use Rattle.fp_system.specs.Courses.{EndsAt, Input, IsAtLine, IsBegun, IsSealing, RanFrom}
 use Rattle.fp_system.specs.Parts.{Job, rules_for}
 use Rattle.fp_system.specs.declared.status.Status.{Status}
 use Rattle.fp_system.specs.declared.status.Status.TheVariants.{Done, NoMemory}
@@ -127,44 +127,37 @@ module _ (job : Job) (given : Input) (origin : Origin) (h : History) where
   )
   stop_ends left here stop.Memory comes may first = tt
 
-  stop_not_done : {Any : Type 0} (why : Stop) → status_of_stop why ≡ Done → Any
-  stop_not_done stop.LogFault e = absurd cc
-  stop_not_done stop.ReadFault e = absurd cc
-  stop_not_done (stop.LineFault number) e = absurd cc
-  stop_not_done stop.Memory e = absurd cc
-
   abbrev Moments : Disk → Disk → Type 0
   Moments old new = Through old new (IsLeftOnWay origin job.defs (rules_for job) given.events begun old)
 
   pub ended_early : (old new : Disk) (lines : Lines) (why : Stop)
       → (it : IsStopped origin job.defs (rules_for job) given.events begun old lines new why)
       → ((number : ℕ) → why ≡ stop.LineFault number → number + length it.here.lines ≡ 1 + length given.lines)
-      → Moments old new → Ran (status_of_stop why) old new
-  ended_early old new lines why it first moments = record {
+      → (¬ IsSealing (next_event it.left) → IsDurable new 0) → Moments old new → Ran (status_of_stop why) old new
+  ended_early old new lines why it first rest moments = record {
     left = it.left;
     here = it.here;
     comes = it.comes;
     ends = stop_ends it.left it.here why it.comes it.may first;
     within = it.within;
-    rest = λ done. stop_not_done why done;
+    rest = rest;
     moments = moments;
   }
 
   -- ---- where it was done
 
-  pub ended_done : (old new : Disk) (old_lines lines : Lines) (bytes : List ℕ) (engine : Engine)
-      → IsDone origin job.defs (rules_for job) given.events begun old old_lines new lines bytes engine
+  pub ended_done : (old new : Disk) (lines : Lines) (bytes : List ℕ) (engine : Engine)
+      → IsDone origin job.defs (rules_for job) given.events begun old new lines bytes engine
       → Moments old new → Ran Done old new
-  ended_done old new old_lines lines bytes engine it moments =
-      let at = it.stands.beside.at in
+  ended_done old new lines bytes engine it moments =
+      let at = it.beside.at in
       record {
         left = [];
-        here = it.stands.here;
-        comes = it.stands.comes;
+        here = it.here;
+        comes = it.comes;
         ends = (refl, it.drained);
-        within =
-            within_at job origin it.stands.here 0 new engine.log.gate at.at_rest old at.sent it.stands.others;
-        rest = λ done. at.at_rest.durable;
+        within = within_at job origin it.here 0 new engine.log.gate at.at_rest old at.sent it.others;
+        rest = λ quiet. at.at_rest.durable;
         moments = moments;
       }
 
@@ -200,7 +193,7 @@ module _ (job : Job) (given : Input) (origin : Origin) (h : History) where
       within =
           within_at job origin begun (seals_of (next_event given.events) begun) disk log.gate its_rest disk its_sent
           (λ set other. refl);
-      rest = λ done. absurd cc;
+      rest = λ quiet. is.at_rest.durable;
       moments =
           started (IsLeftOnWay origin job.defs (rules_for job) given.events begun disk) disk law
           (λ s left. record {

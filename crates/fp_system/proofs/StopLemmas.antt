@@ -1,5 +1,5 @@
 -- A stop begins a safe site, and what was answered is held.
-use Rattle.std.proofs.Common.{inl, ◌≡◌, ⊎_elim, refl, sym, ap, subst, ◌∙◌, ℕ, List, [], ◌∷◌, ◌++◌, take, append_assoc}
+use Rattle.std.proofs.Common.{inl, ◌≡◌, ⊎_elim, refl, sym, ap, subst, ◌∙◌, ℕ, List, [], ◌∷◌, ◌++◌, length, take, append_assoc}
 use Rattle.std.proofs.lemmas.List.{append-nil}
 use Rattle.fp_model.specs.LogText.{first_gate}
 use Rattle.fp_model.specs.declared.log.Entry.{Entry}
@@ -11,10 +11,13 @@ use Rattle.fp_site.specs.Moments.{OnlyOn, Through}
 use Rattle.fp_site.proofs.Images.{durable_settles}
 use Rattle.log_groups.specs.Images.{IsAtRest}
 use Rattle.log_groups.specs.Kept.{lines_of_entries}
-use Rattle.fp_system.proofs.Acted.{new_safe}
+use Rattle.fp_model.specs.Groups.{entries_of}
+use Rattle.fp_restart.proofs.Replays.{new_safe}
+use Rattle.sealed_runs.proofs.SoundLogs.{text_told}
+use Rattle.fp_system.proofs.Ways.{comes_behind}
 use Rattle.fp_system.specs.Gives.{IsSafeFor}
 use Rattle.fp_system.specs.Parts.{Job, front_for}
-use Rattle.fp_system.specs.Serving.{GoesOnBy, IsKeptBy}
+use Rattle.fp_system.specs.Courses.{GoesOnBy, Input, IsKeptBy}
 use Rattle.fp_system.specs.Stops.{Follows, GoesOnFrom, HoldsSince, IsNew, IsSoundFor, IsTold, KeepsAnswered, Lives}
 use Rattle.fp_system.specs.Stops.{Standing, last_of, nothing, run, standing}
 
@@ -28,7 +31,7 @@ durable_safe job disk entries durable sound = record {
       (entries, subst (λ (l : List ℕ). IsSoundFor job l entries) (sym same) sound);
 }
 
-module _ (job : Job) (earlier : List Entry) (lines : List (List ℕ)) (old new : Disk) (law : IsLawful old)
+module _ (job : Job) (earlier : List Entry) (given : Input) (old new : Disk) (law : IsLawful old)
     (durable : IsDurable old 0) (tells : old.tells_sent) (sound : IsSoundFor job (old.contents 0) earlier) where
   abbrev stood : Standing
   stood = standing (old.contents 0) earlier old.sent
@@ -49,19 +52,25 @@ module _ (job : Job) (earlier : List Entry) (lines : List (List ℕ)) (old new :
   }
 
   -- one with entries more
-  further : (s : Snapshot) → GoesOnBy job lines old earlier s → GoesOnFrom job stood (s.images 0) s.sent
+  further : (s : Snapshot) → GoesOnBy job given earlier old s → GoesOnFrom job stood (s.images 0) s.sent
   further s by = record {
-    entries = earlier ++ by.goes.later;
+    entries = earlier ++ entries_of by.groups;
     follows = record {
-      sound = by.goes.sound;
-      later = by.goes.later;
+      sound = by.sound;
+      later = entries_of by.groups;
       entries = refl;
-      count = by.goes.count;
-      sent = by.goes.sent tells;
+      count = length by.text;
+      sent =
+          by.sent tells ∙ ap (λ (t : List ℕ). old.sent ++ t)
+          (subst (λ (gs : List (List Entry)). by.text ≡ take (length by.text) (lines_of_entries (entries_of gs)))
+          (sym by.sealed.groups_are)
+          (text_told job.defs job.scripts earlier by.here by.sealed.times by.text
+          (comes_behind job earlier by.course.behind given.lines given.events by.left by.here by.course.history
+          by.course.comes) by.sealed.told));
     };
   }
 
-  pub a_stop_follows : Through old new (IsKeptBy job lines old earlier) → (s : Snapshot) → new.left_since old.moment s
+  pub a_stop_follows : Through old new (IsKeptBy job given earlier old) → (s : Snapshot) → new.left_since old.moment s
       → GoesOnFrom job stood (s.images 0) s.sent
   a_stop_follows moments s left = ⊎_elim (λ synced. as_before s synced) (λ by. further s by) (moments.each s left)
 
@@ -121,8 +130,11 @@ begun_follows job before s m begins on =
 -- what it made is a new log
 pub made_new : (job : Job) (old new : Disk) → OnlyOn 0 old new
     → IsAtRest new (front_for job) [] (first_gate (front_for job)) → IsNew job old.sent new
-made_new job old new only rest =
-    record { durable = rest.durable; sound = (new_safe job new rest).now; same = only.now.sent }
+made_new job old new only rest = record {
+  durable = rest.durable;
+  sound = (new_safe job.defs job.scripts (front_for job) new rest).now;
+  same = only.now.sent;
+}
 
 -- from a new log on, two runs
 pub twice_held : (job : Job) (sent : List ℕ) (disk : Disk) (log text log2 text2 : List ℕ) → IsNew job sent disk

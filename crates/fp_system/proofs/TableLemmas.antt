@@ -1,12 +1,11 @@
 -- At most one answer is due.
 use Rattle.std.proofs.Common.{◌≡◌, refl, sym, ap, subst, ◌∙◌, ℕ, List, Option, Some, None}
-use Rattle.std.specs.Prelude.{IsSome}
 use Rattle.fp_model.specs.LogText.{first_gate}
 use Rattle.fp_model.specs.Items.{AreFit, items_of}
 use Rattle.fp_model.specs.declared.log.Entry.{Entry}
 use Rattle.fp_restart.proofs.Replays.{one_first_bad, readable_not_bad, sound_begins}
 use Rattle.fp_system.specs.Answers.{faulty_line}
-use Rattle.fp_system.specs.Parts.{Job, front_for}
+use Rattle.fp_system.specs.Parts.{Job, Refuses, front_for}
 use Rattle.fp_source.specs.declared.part.Part.TheVariants as part
 use Rattle.fp_system.specs.Words.{command_of}
 use Rattle.fp_system.specs.declared.status.Status.{Status}
@@ -48,10 +47,6 @@ one_due_to Run job g a b p q =
 same_command : (found : Option Command) (c d : Command) → found ≡ Some c → found ≡ Some d → c ≡ d
 same_command found c d p q = cc
 
-none_or_some : {Any : Type 0} (found : Option Command) → found ≡ None → IsSome found → Any
-none_or_some None e is = absurd cc
-none_or_some (Some c) e is = absurd cc
-
 none_or_one : {Any : Type 0} (found : Option Command) (c : Command) → found ≡ None → found ≡ Some c → Any
 none_or_one found c p q = absurd cc
 
@@ -59,13 +54,19 @@ none_or_one found c p q = absurd cc
 
 pub one_due : (g : Given) (a b : Status) → IsDue g a → IsDue g b → a ≡ b
 one_due g a b (no_command p) (no_command q) = refl
-one_due g a b (no_command p) (refused is q) = none_or_some (command_of g.words) p is
+one_due g a b (no_command p) (refused {command = c} is q) = none_or_one (command_of g.words) c p is
 one_due g a b (no_command p) (asked {command = c} asks q) = none_or_one (command_of g.words) c p asks.command_is
-one_due g a b (refused is p) (no_command q) = none_or_some (command_of g.words) q is
-one_due g a b (refused is p) (refused is2 q) = one_answer g.kinds g.left a b p q
-one_due g a b (refused is p) (asked {job = job} asks q) = no_job_refused g.kinds g.left job a asks.job_is p
+one_due g a b (refused {command = c} is p) (no_command q) = none_or_one (command_of g.words) c q is
+one_due g a b (refused {command = c} is p) (refused {command = d} is2 q) =
+    one_answer g.kinds g.left c a b p
+    (subst (λ (x : Command). Refuses g.kinds g.left x b) (same_command (command_of g.words) d c is2 is) q)
+one_due g a b (refused {command = c} is p) (asked {command = d} {job = job} asks q) =
+    no_job_refused g.kinds g.left job d a asks.job_is asks.schedule_is
+    (subst (λ (x : Command). Refuses g.kinds g.left x a) (same_command (command_of g.words) c d is asks.command_is) p)
 one_due g a b (asked {command = c} asks p) (no_command q) = none_or_one (command_of g.words) c q asks.command_is
-one_due g a b (asked {job = job} asks p) (refused is q) = no_job_refused g.kinds g.left job b asks.job_is q
+one_due g a b (asked {command = d} {job = job} asks p) (refused {command = c} is q) =
+    no_job_refused g.kinds g.left job d b asks.job_is asks.schedule_is
+    (subst (λ (x : Command). Refuses g.kinds g.left x b) (same_command (command_of g.words) c d is asks.command_is) q)
 one_due g a b (asked {command = c} {job = job} asks p) (asked {command = d} {job = job2} asks2 q) =
     let same : d ≡ c = same_command (command_of g.words) d c asks2.command_is asks.command_is in
     let same2 : job2 ≡ job = one_job g.kinds g.left job2 job asks2.job_is asks.job_is in

@@ -1,7 +1,10 @@
 -- What a run gives: of a safe site, of a log that can be read, and of the moments that a crash may take.
 use Rattle.std.proofs.Common.{◌≡◌, inl, inr, ⊎_elim, refl, sym, ◌∙◌, ap, subst, arith, ℕ, ◌+◌, ◌<◌, List, [], ◌∷◌, ◌++◌, length, take, append_assoc}
 use Rattle.std.proofs.lemmas.List.{append-nil, take_at}
+use Rattle.std.proofs.lemmas.Option.{slice_get_within}
+use Rattle.fp_core.specs.Relation.{AreMade}
 use Rattle.fp_core.specs.Standing.{IsLeft, Origin, seals_of}
+use Rattle.fp_model.specs.declared.events.Event.{Event}
 use Rattle.fp_model.specs.declared.log.Entry.{Entry}
 use Rattle.fp_model.specs.Groups.{entries_of}
 use Rattle.fp_model.specs.History.{History, beginning, place_of}
@@ -15,7 +18,7 @@ use Rattle.fp_model.specs.WellFormed.{AreDefs}
 use Rattle.fp_model.proofs.HistoryLemmas.{entries_put, format_stays, states_counted}
 use Rattle.fp_restart.proofs.Results.{same_synced}
 use Rattle.fp_restart.specs.Restarts.{StandsFor}
-use Rattle.fp_site.specs.Disk.{Disk, IsLawful, Settles, Snapshot, Syncs}
+use Rattle.fp_site.specs.Disk.{Disk, IsDurable, IsLawful, Settles, Snapshot, Syncs}
 use Rattle.fp_site.specs.Moments.{OnlyOn, Through}
 use Rattle.fp_site.proofs.Images.{settles_again, settles_contents, settles_left}
 use Rattle.fp_site.proofs.Runs.{joined, started, weaker}
@@ -24,14 +27,17 @@ use Rattle.log_groups.specs.Kept.{IsSafe, IsSound}
 use Rattle.log_groups.specs.Log.{LogState}
 use Rattle.msdb_store.specs.Store.{Stored}
 use Rattle.schedule_runs.specs.Standing.{IsLeftOnWay}
+use Rattle.schedule_runs.specs.Ways as way
 use Rattle.schedule_runs.specs.Ways.{Comes, next_event}
 use Rattle.sealed_runs.proofs.Disks.{safe_within}
 use Rattle.sealed_runs.proofs.SoundLogs.{groups_sound}
-use Rattle.fp_system.specs.Courses.{Course, GoesOnBy, Input, IsBegun, IsHistoryOf, IsKeptBy, RanFrom}
-use Rattle.fp_system.specs.Gives.{IsSafeFor, Went}
+use Rattle.fp_system.specs.Courses.{Course, EndsAt, GoesOnBy, Input, IsBegun, IsHistoryOf, IsKeptBy, IsSealing, RanFrom}
+use Rattle.fp_system.specs.Gives.{IsSafeFor, RestsBehind, Went}
 use Rattle.fp_system.specs.Ims.{IsUnchanged}
 use Rattle.fp_system.specs.Parts.{Job, front_for, rules_for}
 use Rattle.fp_system.specs.declared.status.Status.{Status}
+use Rattle.fp_system.specs.declared.status.Status.TheVariants.{Done, Usage, Definitions, Scripts, Schedule, ReadFault}
+use Rattle.fp_system.specs.declared.status.Status.TheVariants.{SiteFault, Foreign, Damaged, Line, NoMemory, NotBuilt}
 use Rattle.fp_system.proofs.Ways.{comes_behind}
 
 -- ---- the history of a sound log
@@ -78,6 +84,26 @@ module _ (job : Job) (log : List ℕ) (earlier : List Entry)
     sent = refl;
   }
 
+-- ---- where the log is at rest
+
+-- the next step seals nothing there
+rests_behind : (job : Job) (given : Input) (answer : Status) (first : Machine) (left : List Event) (here : Machine)
+    → EndsAt job given answer first left here → RestsBehind answer → ¬ IsSealing (next_event left)
+rests_behind job given Done first left here ends done =
+    subst (λ (l : List Event). ¬ IsSealing (next_event l)) (sym ends.0) (λ s. s)
+rests_behind job given (Line number) first left here ends done =
+    subst (λ (e : Event). ¬ IsSealing e) (sym ends.0.takes) (λ s. s)
+rests_behind job given Usage first left here ends done = absurd done
+rests_behind job given (Definitions f) first left here ends done = absurd done
+rests_behind job given (Scripts f) first left here ends done = absurd done
+rests_behind job given (Schedule f) first left here ends done = absurd done
+rests_behind job given ReadFault first left here ends done = absurd done
+rests_behind job given SiteFault first left here ends done = absurd done
+rests_behind job given Foreign first left here ends done = absurd done
+rests_behind job given (Damaged set at) first left here ends done = absurd done
+rests_behind job given NoMemory first left here ends done = absurd done
+rests_behind job given (NotBuilt p) first left here ends done = absurd done
+
 -- ---- a run from a safe site
 
 module _ (job : Job) (given : Input) (earlier : List Entry) (are : AreDefs job.defs) (none : job.defs.dedbs ≡ [])
@@ -102,27 +128,27 @@ module _ (job : Job) (given : Input) (earlier : List Entry) (are : AreDefs job.d
         abbrev begun : Machine
         begun = at_rest (rules_for job) given.lines before
 
-        course_of : (left : _) (here : Machine) → Comes job.defs (rules_for job) given.events begun left here
+        course_of : (left : List Event) (here : Machine) → Comes job.defs (rules_for job) given.events begun left here
             → Course job given earlier left here
         course_of left here comes = record { behind = before; history = its_history; comes = comes }
 
         -- a snapshot that a step on the way left
         goes_on : (s : Snapshot)
             → IsLeftOnWay origin job.defs (rules_for job) given.events begun h1 s → GoesOnBy job given earlier h s
-        goes_on s way =
-            let is = way.is_left in
+        goes_on s on =
+            let is = on.is_left in
             let times = is.groups.times in
             record {
-              left = way.left;
-              here = way.here;
-              course = course_of way.left way.here way.comes;
-              groups = (sealed_times times (rules_for job) way.here).groups;
+              left = on.left;
+              here = on.here;
+              course = course_of on.left on.here on.comes;
+              groups = (sealed_times times (rules_for job) on.here).groups;
               text = is.text;
               sealed = record { times = times; few = is.groups.few; groups_are = refl; told = is.groups.lines };
               sound =
-                  groups_sound job.defs job.scripts origin (h.contents 0) earlier way.here
-                  (seals_of (next_event way.left) way.here) is.text (s.images 0) are none refl safe.now
-                  (comes_behind job earlier before given.lines given.events way.left way.here its_history way.comes) all
+                  groups_sound job.defs job.scripts origin (h.contents 0) earlier on.here
+                  (seals_of (next_event on.left) on.here) is.text (s.images 0) are none refl safe.now
+                  (comes_behind job earlier before given.lines given.events on.left on.here its_history on.comes) all
                   is.groups;
               sent = λ tells. is.sent (run.tells_sent tells) ∙ ap (λ (t : List ℕ). t ++ is.text) sent;
             }
@@ -132,7 +158,7 @@ module _ (job : Job) (given : Input) (earlier : List Entry) (are : AreDefs job.d
             joined (IsKeptBy job given earlier h) h h1 h2
             (weaker (Syncs h 0) (IsKeptBy job given earlier h) h h1 (λ s d. inl d) run)
             (weaker (IsLeftOnWay origin job.defs (rules_for job) given.events begun h1)
-            (IsKeptBy job given earlier h) h1 h2 (λ s way. inr (goes_on s way)) it.moments)
+            (IsKeptBy job given earlier h) h1 h2 (λ s left. inr (goes_on s left)) it.moments)
 
         pub went : Went job given earlier answer h h2
         went =
@@ -157,10 +183,81 @@ module _ (job : Job) (given : Input) (earlier : List Entry) (are : AreDefs job.d
                   (seals_of (next_event it.left) it.here) are none refl safe.now
                   (comes_behind job earlier before given.lines given.events it.left it.here its_history it.comes) all h1
                   h2 law2 it.within;
-              rest = it.rest;
+              rest = λ done. it.rest (rests_behind job given answer begun it.left it.here it.ends done);
               moments = moments_of;
             }
 
--- ---- where nothing was done on the site, or it was only synced
+-- ---- where a run ended before it began: in the restart, or before the site
 
--- A run that ended in the restart, or before it: the log holds what it held.
+pub unchanged_same : (h : Disk) → IsLawful h → IsUnchanged h h
+unchanged_same h law = record { contents = λ set. refl; sent = refl; crash = started (Syncs h 0) h law (same_synced h) }
+
+module _ (job : Job) (given : Input) (earlier : List Entry) (h h1 : Disk) (law : IsLawful h) (law1 : IsLawful h1)
+    (safe : IsSafeFor job h earlier) (contents : (set : ℕ) → h1.contents set ≡ h.contents set) (sent : h1.sent ≡ h.sent)
+    (run : Through h h1 (Syncs h 0)) where
+  abbrev its : History
+  its = stood job (h.contents 0) earlier safe.now
+
+  abbrev at_first : Machine
+  at_first = at_rest (rules_for job) given.lines its
+
+  none_made : AreMade job.defs at_first
+  none_made place b after e past here there a =
+      absurd (omega (arith, past, slice_get_within its.entries place e there))
+
+  settled : (s : Snapshot) → h1.may_leave s → Settles h 0 (s.images 0)
+  settled s left = (run.each s (law1.earlier h.moment h1.moment s run.later (law1.counts_now s left))).this
+
+  its_course : Course job given earlier given.events at_first
+  its_course = record {
+    behind = its;
+    history = is_history job (h.contents 0) earlier safe.now;
+    comes = record {
+      environments = [];
+      goes = way.here;
+      calm = refl;
+      made = none_made;
+      format =
+          ap (λ (format : ℕ). format_at format its.entries)
+          (format_stays (rules_for job) (beginning 1 (start job.defs)) earlier its safe.now.history.leads)
+          ∙ ap (format_at 1)
+          (entries_put (rules_for job) (beginning 1 (start job.defs)) earlier its safe.now.history.leads)
+          ∙ safe.now.still;
+    };
+  }
+
+  pub went_not : (answer : Status) → EndsAt job given answer at_first given.events at_first
+      → (RestsBehind answer → ⊥) → Went job given earlier answer h h1
+  went_not answer ends early = record {
+    left = given.events;
+    here = at_first;
+    course = its_course;
+    ends = ends;
+    before = safe.now.groups;
+    stood = sym safe.now.all;
+    old_gate = safe.now.gate;
+    held = safe.now.holds;
+    groups = [];
+    text = [];
+    sealed = record {
+      times = 0;
+      few = omega arith;
+      groups_are = refl;
+      told = record { more = []; rest = []; from = refl; to = refl };
+    };
+    gate = safe.now.gate;
+    holds =
+        subst (λ (gs : List (List Entry)). IsLog (front_for job) (h1.contents 0) gs safe.now.gate)
+        (sym (append-nil safe.now.groups))
+        (subst (λ (l : List ℕ). IsLog (front_for job) l safe.now.groups safe.now.gate) (sym (contents 0))
+        (record { holds = safe.now.holds; stands = safe.now.stands }));
+    sent = sent ∙ sym (append-nil h.sent);
+    safe =
+        subst (IsSafeFor job h1) (sym (append-nil earlier)) (record {
+          now =
+              subst (λ (l : List ℕ). IsSound job.defs job.scripts (front_for job) l earlier) (sym (contents 0)) safe.now;
+          crash = λ image settles. safe.crash image (settles_again h h1 0 image settled settles);
+        });
+    rest = λ done. absurd (early done);
+    moments = weaker (Syncs h 0) (IsKeptBy job given earlier h) h h1 (λ s d. inl d) run;
+  }

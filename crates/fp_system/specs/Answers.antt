@@ -1,10 +1,11 @@
 -- Which answers come where.
 use Rattle.std.specs.Prelude.{◌≡◌, ◌⊎◌, ⊤, ℕ, List, Option, option_map}
+use Rattle.fp_core.specs.Standing.{number_of}
 use Rattle.fp_core.specs.declared.stop.Stop.{Stop}
 use Rattle.fp_core.specs.declared.stop.Stop.TheVariants as stop
 use Rattle.fp_defs.specs.declared.fault.DefsFault.{DefsFault}
 use Rattle.fp_defs.specs.declared.fault.DefsFault.TheVariants as bad
-use Rattle.fp_model.specs.Messages.{LineFault, LineTooLong, TooManyLines, line_fault}
+use Rattle.fp_model.specs.Messages.{line_fault}
 use Rattle.fp_restart.specs.declared.fault.RestartFault.{RestartFault}
 use Rattle.fp_restart.specs.declared.fault.RestartFault.TheVariants as fault
 use Rattle.fp_schedule.specs.declared.fault.ScheduleFault.{ScheduleFault}
@@ -85,10 +86,6 @@ status_of_stop stop.Memory = NoMemory
 
 -- ---- the first line that isn't taken
 
-abbrev pub number_of_fault : LineFault → ℕ
-number_of_fault (LineTooLong number) = number
-number_of_fault (TooManyLines number) = number
-
 -- its number, if there is one
 abbrev pub faulty_line : List ℕ → Option ℕ
-faulty_line bytes = option_map number_of_fault (line_fault bytes)
+faulty_line bytes = option_map number_of (line_fault bytes)

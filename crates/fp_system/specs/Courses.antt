@@ -22,6 +22,12 @@ use Rattle.fp_system.specs.Stops.{IsSoundFor}
 use Rattle.fp_system.specs.declared.status.Status.{Status}
 use Rattle.fp_system.specs.declared.status.Status.TheVariants.{Done, ReadFault, SiteFault, Line, NoMemory}
 
+-- (trial) the events that make calls on the site
+abbrev pub IsSealing : Event → Type 0
+IsSealing event.Log = ⊤
+IsSealing event.Ckpt = ⊤
+IsSealing _ = ⊥
+
 -- what a run is given: the events of its schedule, and the message lines
 pub record Input : Type 0 where
   pub events : List Event
@@ -97,8 +103,8 @@ pub record IsBegun (origin : Origin) (h : History) (store : Stored) (log : LogSt
   pub at_rest : IsAtRest disk origin.front origin.groups log.gate
   pub sent : disk.sent ≡ origin.sent
 
--- How a run went from there: it came to a machine, the disk is one that the next step may end with, with Done for good,
--- and at each moment a crash left what one within the step behind some machine on the way leaves.
+-- How a run went from there: it came to a machine, and the disk is one that the next step may end with, for good where
+-- that seals nothing. At each moment a crash left what one within the step behind some machine on the way leaves.
 pub record RanFrom (job : Job) (given : Input) (origin : Origin) (h : History) (answer : Status) (old new : Disk)
     : Type 0 where
   pub left : List Event
@@ -106,6 +112,6 @@ pub record RanFrom (job : Job) (given : Input) (origin : Origin) (h : History) (
   pub comes : Comes job.defs (rules_for job) given.events (at_rest (rules_for job) given.lines h) left here
   pub ends : EndsAt job given answer (at_rest (rules_for job) given.lines h) left here
   pub within : IsWithin origin (rules_for job) here (seals_of (next_event left) here) old new
-  pub rest : answer ≡ Done → IsDurable new 0
+  pub rest : ¬ IsSealing (next_event left) → IsDurable new 0
   pub moments : Through old new (IsLeftOnWay origin job.defs (rules_for job) given.events
       (at_rest (rules_for job) given.lines h) old)

@@ -4,7 +4,6 @@ use Rattle.fp_model.specs.declared.events.Event.{Event}
 use Rattle.fp_model.specs.declared.log.Entry.{Entry}
 use Rattle.fp_model.specs.Groups.{entries_of}
 use Rattle.fp_model.specs.LogText.{first_gate}
-use Rattle.fp_model.specs.Items.{AreFit, items_of}
 use Rattle.fp_model.specs.Machine.{Machine, at_rest}
 use Rattle.fp_model.specs.Recovery.{Holds}
 use Rattle.fp_site.specs.Disk.{Disk, Snapshot, IsDurable, Syncs}
@@ -19,7 +18,7 @@ use Rattle.fp_system.specs.Courses.{Course, EndsAt, HasSealed, Input, IsKeptBy}
 use Rattle.fp_system.specs.Stops.{GoesOnFrom, IsSoundFor, standing}
 use Rattle.fp_system.specs.Table.{Given, IsSpared}
 use Rattle.fp_system.specs.declared.status.Status.{Status}
-use Rattle.fp_system.specs.declared.status.Status.TheVariants.{Done, ReadFault}
+use Rattle.fp_system.specs.declared.status.Status.TheVariants.{Done, ReadFault, Line}
 use Rattle.fp_system.specs.declared.words.Command.{Command}
 use Rattle.fp_system.specs.declared.words.Command.TheVariants.{Define, Run}
 
@@ -43,10 +42,16 @@ pub record Defined (g : Given) (answer : Status) (old new : Disk) : Type 0 where
 abbrev pub KeepsFront : ℕ → Disk → Snapshot → Type 0
 KeepsFront gate old s = Syncs old 0 s ⊎ (take gate (s.images 0) ≡ take gate (old.contents 0))
 
+-- an answer behind which the log is at rest
+abbrev pub RestsBehind : Status → Type 0
+RestsBehind Done = ⊤
+RestsBehind (Line number) = ⊤
+RestsBehind _ = ⊥
+
 -- How a run from a safe site ended: turns of the table led from the machine at rest behind the earlier entries, which
 -- stand in these groups, to where it ended. The groups that were added to the log are those that the machine sealed, and
--- just its bytes were sent; where a step ended the run early, the turns before it are such a run. The site is safe, with
--- Done at rest. At each moment since the call's start a crash leaves what stood, or a log that goes on from it.
+-- just its bytes were sent; where a step ended the run early, the turns before it are such a run. The site is safe.
+-- At each moment since the call's start a crash leaves what stood, or a log that goes on from it.
 pub record Went (job : Job) (given : Input) (earlier : List Entry) (answer : Status) (old new : Disk) : Type 0 where
   pub left : List Event
   pub here : Machine
@@ -63,7 +68,7 @@ pub record Went (job : Job) (given : Input) (earlier : List Entry) (answer : Sta
   pub holds : HasLog (front_for job) (new.contents 0) (before ++ groups) gate
   pub sent : new.sent ≡ old.sent ++ text
   pub safe : IsSafeFor job new (earlier ++ entries_of groups)
-  pub rest : answer ≡ Done → IsDurable new 0
+  pub rest : RestsBehind answer → IsDurable new 0
   pub moments : Through old new (IsKeptBy job given earlier old)
 
 -- Whatever the answer is: another's log stays, and a bad one, and all other data sets. A log that can be read stays up to
@@ -73,7 +78,7 @@ pub record Ran (job : Job) (given : Input) (answer : Status) (old new : Disk) : 
   pub spares : IsSpared job (old.contents 0) → IsUnchanged old new
   pub others : Spares IsLog old new
   pub keeps : (groups : List (List Entry)) (gate : ℕ) → HasLog (front_for job) (old.contents 0) groups gate
-      → AreFit job.defs (items_of (entries_of groups)) → Through old new (KeepsFront gate old)
+      → Through old new (KeepsFront gate old)
   pub goes : (earlier : List Entry) → IsSafeFor job old earlier → Went job given earlier answer old new
   pub stops : (earlier : List Entry) → IsDurable old 0 → old.tells_sent → IsSoundFor job (old.contents 0) earlier
       → (s : Snapshot) → new.left_since old.moment s

@@ -2,7 +2,7 @@ use Rattle.std.proofs.Common.{◌≡◌, inr, true, false, sym, subst, rules}
 use Rattle.std.specs.Prelude.{◌⊎◌, Err}
 use Rattle.fp_defs.specs.Exits.{defs_for}
 use Rattle.fp_exits.specs.Kinds.{kinds_of}
-use Rattle.fp_system.proofs.Jobs.{fault_is_answer, is_built, isnt_built}
+use Rattle.fp_system.proofs.Jobs.{fault_is_answer, has_router, is_built, isnt_built}
 use Rattle.fp_system.specs.Answers.{MayStandIn}
 use Rattle.fp_system.specs.Parts.{are_built, definitions_in}
 use Rattle.fp_system.specs.declared.status.Status.{Status}
@@ -24,3 +24,6 @@ pub returns-clause-ok : goal.returns-clause-ok
 returns-clause-ok g c =
     let e : are_built c.in-Ok.defs ≡ true = grind rules in
     is_built (kinds_of c.args.exits.now) c.args.text.now c.in-Ok.defs c.in-Ok.ensures.ok e
+
+pub returns-clause-router : goal.returns-clause-router
+returns-clause-router g c = has_router (kinds_of c.args.exits.now) c.args.text.now c.in-Ok.defs c.in-Ok.ensures.ok

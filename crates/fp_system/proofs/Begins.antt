@@ -1,0 +1,89 @@
+-- What a core begins with: a history of any log that can be read, and a machine that turns led to.
+use Rattle.std.proofs.Common.{◌≡◌, refl, sym, ap, subst, ◌∙◌, ℕ, zero, suc, List, [], ◌∷◌, ◌++◌, length, take, drop, append_assoc}
+use Rattle.std.specs.Prelude.{replicate}
+use Rattle.std.proofs.lemmas.List.{take_at}
+use Rattle.std.proofs.lemmas.List.Concat.{flat_map-append}
+use Rattle.drain_laws.specs.Live.{IsReached}
+use Rattle.drain_laws.specs.ProductGauge.{gauge_of}
+use Rattle.drain_laws.proofs.InOrder.{rest_ordered}
+use Rattle.drain_laws.proofs.Live.{rest_live}
+use Rattle.fp_core.specs.Draining.{IsReachedBy}
+use Rattle.fp_core.specs.Relation.{StandsFor, rules_in}
+use Rattle.fp_core.specs.declared.engine.Engine.{Engine}
+use Rattle.fp_model.specs.declared.database.Db.{Db}
+use Rattle.fp_model.specs.declared.database.Msdb.{Msdb}
+use Rattle.fp_model.specs.declared.log.Entry.{Entry}
+use Rattle.fp_model.specs.declared.log.Outcome.TheVariants as outcome
+use Rattle.fp_model.specs.History.{History, place_of}
+use Rattle.fp_model.specs.Lasts.{format_at}
+use Rattle.fp_model.specs.LogText.{Front, front_text, group_text, groups_text}
+use Rattle.fp_model.specs.Machine.{Machine, at_rest}
+use Rattle.fp_model.specs.Rules.{Rules}
+use Rattle.log_groups.specs.Images.{IsLog, before_gate}
+use Rattle.log_groups.proofs.LogImages.{front_of, shape_of}
+
+-- ---- a history of so many entries
+
+length-same : {X : Type 0} (n : ℕ) (x : X) → length (replicate n x) ≡ n
+length-same zero x = refl
+length-same (suc n) x = ap suc (length-same n x)
+
+-- an entry that nobody made: it changes nothing
+abbrev plain_entry : Entry
+plain_entry = record { from = 0; outcome = outcome.Unknown; line = []; reply = []; notes = []; items = [] }
+
+abbrev plain_db : List Msdb → Db
+plain_db msdbs = record { msdbs = msdbs; dedbs = [] }
+
+-- a history of so many entries, of which only the databases now are known
+abbrev pub any_history : ℕ → List Msdb → History
+any_history n msdbs = record {
+  format = 1;
+  entries = replicate n plain_entry;
+  past = replicate n (plain_db msdbs);
+  now = plain_db msdbs;
+}
+
+pub any_place : (n : ℕ) (msdbs : List Msdb) → place_of (any_history n msdbs) ≡ n
+any_place n msdbs = length-same n plain_entry
+
+pub any_states : (n : ℕ) (msdbs : List Msdb) → length (any_history n msdbs).past ≡ place_of (any_history n msdbs)
+any_states n msdbs = length-same n (plain_db msdbs) ∙ sym (length-same n plain_entry)
+
+pub any_format : (n : ℕ) (msdbs : List Msdb)
+    → format_at (any_history n msdbs).format (any_history n msdbs).entries ≡ 1
+any_format zero msdbs = refl
+any_format (suc n) msdbs = any_format n msdbs
+
+-- ---- a machine at rest
+
+pub reached_at_rest : (engine : Engine) (rules : Rules) (lines : List (List ℕ)) (h : History) → rules_in engine ≡ rules
+    → StandsFor engine (at_rest rules lines h) → IsReachedBy engine (at_rest rules lines h)
+reached_at_rest engine rules lines h same stands =
+    let m : Machine = at_rest rules lines h in
+    let reached : IsReached rules (gauge_of engine.defs.now) m = record {
+      in_order = rest_ordered rules lines h;
+      live = rest_live rules (gauge_of engine.defs.now) lines h;
+    } in
+    record {
+      stands = stands;
+      reached = subst (λ (r : Rules). IsReached r (gauge_of engine.defs.now) m) (sym same) reached;
+    }
+
+-- ---- the bytes before a gate
+
+-- a log that goes on by more groups has the bytes from before
+pub front_kept : (front : Front) (old image : List ℕ) (groups more : List (List Entry)) (gate gate2 : ℕ)
+    → IsLog front old groups gate → IsLog front image (groups ++ more) gate2 → take gate image ≡ take gate old
+front_kept front old image groups more gate gate2 first log =
+    let shape = shape_of front groups gate old first in
+    let longer = shape_of front (groups ++ more) gate2 image log in
+    let rest : List ℕ = groups_text more ++ drop gate2 image in
+    let all : image ≡ before_gate front groups ++ rest =
+    longer.text
+    ∙ ap (λ (t : List ℕ). (front_text 1 front ++ t) ++ drop gate2 image) (flat_map-append group_text groups more)
+    ∙ ap (λ (t : List ℕ). t ++ drop gate2 image)
+    (sym (append_assoc (front_text 1 front) (groups_text groups) (groups_text more)))
+    ∙ append_assoc (before_gate front groups) (groups_text more) (drop gate2 image) in
+    ap (take gate) all ∙ take_at (before_gate front groups) rest gate (sym shape.place)
+    ∙ sym (front_of front groups gate old shape)
