@@ -1,7 +1,7 @@
 -- What a core begins with: a history of any log that can be read, and a machine that turns led to.
 use Rattle.std.proofs.Common.{◌≡◌, refl, sym, ap, subst, ◌∙◌, ℕ, zero, suc, List, [], ◌∷◌, ◌++◌, length, take, drop, append_assoc}
 use Rattle.std.specs.Prelude.{replicate}
-use Rattle.std.proofs.lemmas.List.{take_at}
+use Rattle.std.proofs.lemmas.List.{append-nil, take_at}
 use Rattle.std.proofs.lemmas.List.Concat.{flat_map-append}
 use Rattle.drain_laws.specs.Live.{IsReached}
 use Rattle.drain_laws.specs.ProductGauge.{gauge_of}
@@ -9,7 +9,15 @@ use Rattle.drain_laws.proofs.InOrder.{rest_ordered}
 use Rattle.drain_laws.proofs.Live.{rest_live}
 use Rattle.fp_core.specs.Draining.{IsReachedBy}
 use Rattle.fp_core.specs.Relation.{StandsFor, rules_in}
+use Rattle.fp_core.specs.Standing.{Origin, StandsBeside}
 use Rattle.fp_core.specs.declared.engine.Engine.{Engine}
+use Rattle.fp_model.specs.Messages.{lines_of}
+use Rattle.fp_site.specs.Disk.{Disk}
+use Rattle.fp_source.specs.Lines.{lines_ahead}
+use Rattle.fp_source.specs.declared.lines.Lines.{Lines}
+use Rattle.log_groups.specs.Log.{LogState}
+use Rattle.msdb_store.specs.Store.{Stored}
+use Rattle.fp_system.specs.Courses.{IsBegun}
 use Rattle.fp_model.specs.declared.database.Db.{Db}
 use Rattle.fp_model.specs.declared.database.Msdb.{Msdb}
 use Rattle.fp_model.specs.declared.log.Entry.{Entry}
@@ -19,7 +27,7 @@ use Rattle.fp_model.specs.Lasts.{format_at}
 use Rattle.fp_model.specs.LogText.{Front, front_text, group_text, groups_text}
 use Rattle.fp_model.specs.Machine.{Machine, at_rest}
 use Rattle.fp_model.specs.Rules.{Rules}
-use Rattle.log_groups.specs.Images.{IsLog, before_gate}
+use Rattle.log_groups.specs.Images.{IsAtRest, IsLog, before_gate}
 use Rattle.log_groups.proofs.LogImages.{front_of, shape_of}
 
 -- ---- a history of so many entries
@@ -69,6 +77,24 @@ reached_at_rest engine rules lines h same stands =
       stands = stands;
       reached = subst (λ (r : Rules). IsReached r (gauge_of engine.defs.now) m) (sym same) reached;
     }
+
+-- engine, site and source stand for it
+pub stands_beside : (origin : Origin) (h : History) (store : Stored) (log : LogState) (disk : Disk) (engine : Engine)
+    (rules : Rules) (lines : Lines) (left : List ℕ) → IsBegun origin h store log disk
+    → StandsFor engine (at_rest rules (lines_of left) h) → engine.log.gate ≡ log.gate
+    → lines_ahead lines left ≡ lines_of left
+    → StandsBeside origin disk lines left engine (at_rest rules (lines_of left) h)
+stands_beside origin h store log disk engine rules lines left is stands gate ahead = record {
+  at = record {
+    parts = stands;
+    at_rest =
+        subst (λ (g : ℕ). IsAtRest disk origin.front (origin.groups ++ []) g) (sym gate)
+        (subst (λ (gs : List (List Entry)). IsAtRest disk origin.front gs log.gate) (sym (append-nil origin.groups))
+        is.at_rest);
+    sent = is.sent ∙ sym (append-nil origin.sent);
+  };
+  lines_are = sym ahead;
+}
 
 -- ---- the bytes before a gate
 

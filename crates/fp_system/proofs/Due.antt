@@ -7,7 +7,7 @@ use Rattle.fp_restart.specs.declared.fault.RestartFault.{RestartFault}
 use Rattle.fp_restart.specs.declared.fault.RestartFault.TheVariants as fault
 use Rattle.log_groups.specs.Images.{as_front}
 use Rattle.fp_system.specs.declared.parts.Setup.{Setup}
-use Rattle.fp_system.specs.Answers.{MayStandIn, IsOfParts, IsStop, faulty_line, status_of_fault}
+use Rattle.fp_system.specs.Answers.{IsEarly, MayStandIn, IsOfParts, IsStop, faulty_line, status_of_fault}
 use Rattle.fp_system.specs.Parts.{front_for}
 use Rattle.fp_system.specs.Setups.{IsSetup, job_of}
 use Rattle.fp_system.specs.Table.{ByLog, foreign, damaged, good, IsBadFirst, IsEnd, IsGood, IsSpared, end_of_lines}
@@ -76,7 +76,39 @@ module _ (setup : Setup) (is : IsSetup setup) (log : List ℕ) where
     stop_due (Damaged set at) stop line = absurd stop
     stop_due (NotBuilt p) stop line = absurd stop
 
+    -- how a run ends that came to its core
+    pub ended_due : (answer : Status) → (answer ≡ Done) ⊎ IsStop answer → (answer ≡ Done → faulty_line messages ≡ None)
+        → ((number : ℕ) → answer ≡ Line number → faulty_line messages ≡ Some number)
+        → ByLog (job_of setup) log (IsEnd messages) answer ⊎ MayStandIn answer
+    ended_due answer (inl e) all line =
+        subst (λ (a : Status). ByLog (job_of setup) log (IsEnd messages) a ⊎ MayStandIn a) (sym e) (end_due (all e))
+    ended_due answer (inr stop) all line = stop_due answer stop line
+
+-- a fault of storage that isn't of the log's bytes
+pub fault_stands : (f : RestartFault) → (f ≡ fault.Foreign → ⊥)
+    → ((set at : ℕ) → f ≡ fault.Damaged set at → ⊥) → MayStandIn (status_of_fault f)
+fault_stands fault.Foreign foreign damaged = absurd (foreign refl)
+fault_stands fault.SiteFault foreign damaged = tt
+fault_stands (fault.Damaged set at) foreign damaged = absurd (damaged set at refl)
+fault_stands fault.Memory foreign damaged = tt
+
 -- ---- answers that end no lines
+
+-- a run that came to its core has no early answer
+pub late : (answer : Status) → (answer ≡ Done) ⊎ IsStop answer → IsEarly answer → ⊥
+late answer (inl e) early = subst IsEarly e early
+late ReadFault (inr stop) early = early
+late SiteFault (inr stop) early = early
+late (Line number) (inr stop) early = early
+late NoMemory (inr stop) early = early
+late Done (inr stop) early = stop
+late Usage (inr stop) early = stop
+late (Definitions f) (inr stop) early = stop
+late (Scripts f) (inr stop) early = stop
+late (Schedule f) (inr stop) early = stop
+late Foreign (inr stop) early = stop
+late (Damaged set at) (inr stop) early = stop
+late (NotBuilt p) (inr stop) early = stop
 
 pub fault_not_done : {Any : Type 0} (f : RestartFault) → status_of_fault f ≡ Done → Any
 fault_not_done fault.Foreign e = absurd cc

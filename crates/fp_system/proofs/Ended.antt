@@ -110,9 +110,7 @@ module _ (job : Job) (given : Input) (origin : Origin) (h : History) where
     where
       some_line : length here.lines ≤ length given.lines
       some_line = let rest = goes_rest (rules_for job) given.events left begun here comes.environments comes.goes in
-          omega (arith, ap length rest.1, dropped rest.0 given.lines)
-      dropped : {X : Type 0} (k : ℕ) (xs : List X) → length (drop k xs) ≤ length xs
-      dropped k xs = omega (arith, length-drop k xs)
+          omega (arith, ap length rest.1, length-drop rest.0 given.lines)
 
   stop_ends : (left : List Event) (here : Machine) (why : Stop)
       → Comes job.defs (rules_for job) given.events begun left here

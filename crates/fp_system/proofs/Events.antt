@@ -14,7 +14,8 @@ use Rattle.fp_model.specs.declared.events.Event.TheVariants as event
 use Rattle.fp_model.specs.declared.name.Name.{Name}
 use Rattle.fp_model.specs.Names.{name_in}
 use Rattle.fp_model.specs.State.{Area, areas_of, areas_of_all, first_area_set}
-use Rattle.fp_model.specs.Texts.{all_ascii_digits, digits_number, same_text, value}
+use Rattle.fp_model.specs.Texts.{digits_number, same_text, value}
+use Rattle.std.specs.Str.{all_ascii_digits}
 use Rattle.fp_schedule.specs.Schedule.{can_be_purged, event_of, events_of, is_slash, number_up_to, numbered_event, purge_event, purged_set, region_event, schedule_fault, tokens_of}
 use Rattle.fp_schedule.specs.declared.fault.ScheduleFault.{ScheduleFault}
 
@@ -126,12 +127,13 @@ module _ (defs : Defs) (none : defs.dedbs ≡ []) where
 
   all_fit : (tokens : List (List ℕ)) → AllByRecursion (IsEventOf defs) (filter_map (event_of defs) tokens)
   all_fit [] = tt
-  all_fit (token ∷ tokens) = by (event_of defs token) refl
+  all_fit (token ∷ tokens) = by (event_of defs token) refl (all_fit tokens)
     where
       by : (o : Option Event) → event_of defs token ≡ o
+          → AllByRecursion (IsEventOf defs) (filter_map (event_of defs) tokens)
           → AllByRecursion (IsEventOf defs) (cons_option o (filter_map (event_of defs) tokens))
-      by None is = all_fit tokens
-      by (Some e) is = (token_fits token e is, all_fit tokens)
+      by None is rest = rest
+      by (Some e) is rest = (token_fits token e is, rest)
 
   pub events_fit : (text : List ℕ) (events : List Event) → events_of defs text ≡ Ok events
       → AllByRecursion (IsEventOf defs) events

@@ -95,6 +95,28 @@ only_same h = record {
 pub unmade : (front : Front) (h : Disk) → IsLawful h → Through h h (IsBeforeOrMade h front)
 unmade front h law = started (IsBeforeOrMade h front) h law (λ s left. inl (inl (settles_left h 0 s left)))
 
+not_at_rest : (a : Status) → MayStandIn a → RestsBehind a → ⊥
+not_at_rest ReadFault s r = r
+not_at_rest SiteFault s r = r
+not_at_rest NoMemory s r = r
+not_at_rest Done s r = s
+not_at_rest (Line number) s r = s
+not_at_rest Usage s r = r
+not_at_rest (Definitions f) s r = r
+not_at_rest (Scripts f) s r = r
+not_at_rest (Schedule f) s r = r
+not_at_rest Foreign s r = r
+not_at_rest (Damaged set at) s r = r
+not_at_rest (NotBuilt p) s r = r
+
+-- a run from a safe site that ended before its core began
+pub went_in_place : (job : Job) (given : Input) (answer : Status) (earlier : List Entry) (h h1 : Disk) → IsLawful h
+    → IsLawful h1 → IsSafeFor job h earlier → ((set : ℕ) → h1.contents set ≡ h.contents set) → h1.sent ≡ h.sent
+    → Through h h1 (Syncs h 0) → MayStandIn answer → Went job given earlier answer h h1
+went_in_place job given answer earlier h h1 law law1 safe contents sent run stands =
+    went_not job given earlier h h1 law law1 safe contents sent run answer
+    (stands_in_ends job given answer safe.now.history.history stands) (λ done. not_at_rest answer stands done)
+
 -- where nothing was done
 pub ran_not : (job : Job) (given : Input) (answer : Status) (h : Disk) → IsLawful h → MayStandIn answer
     → Ran job given answer h h
@@ -102,22 +124,8 @@ ran_not job given answer h law stands =
     ran job given answer h h law (λ why. unchanged_same h law) (spares_none IsLog h law)
     (λ groups gate log. kept_synced job given answer h h (started (Syncs h 0) h law (same_synced h)) gate)
     (λ earlier safe.
-    went_not job given earlier h h law law safe (λ set. refl) refl (started (Syncs h 0) h law (same_synced h)) answer
-    (stands_in_ends job given answer safe.now.history.history stands) (λ done. not_at_rest answer stands done))
-  where
-    not_at_rest : (a : Status) → MayStandIn a → RestsBehind a → ⊥
-    not_at_rest ReadFault s r = r
-    not_at_rest SiteFault s r = r
-    not_at_rest NoMemory s r = r
-    not_at_rest Done s r = s
-    not_at_rest (Line number) s r = s
-    not_at_rest Usage s r = r
-    not_at_rest (Definitions f) s r = r
-    not_at_rest (Scripts f) s r = r
-    not_at_rest (Schedule f) s r = r
-    not_at_rest Foreign s r = r
-    not_at_rest (Damaged set at) s r = r
-    not_at_rest (NotBuilt p) s r = r
+    went_in_place job given answer earlier h h law law safe (λ set. refl) refl
+    (started (Syncs h 0) h law (same_synced h)) stands)
 
 pub before_site : {P : Type 0} (found : Option Command) (answer : Status) → (IsEarly answer → P)
     → (found ≡ Some Define → answer ≡ ReadFault → P) → IsBeforeSite found answer → P

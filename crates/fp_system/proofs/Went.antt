@@ -208,7 +208,7 @@ module _ (job : Job) (given : Input) (earlier : List Entry) (h h1 : Disk) (law :
   settled : (s : Snapshot) → h1.may_leave s → Settles h 0 (s.images 0)
   settled s left = (run.each s (law1.earlier h.moment h1.moment s run.later (law1.counts_now s left))).this
 
-  its_course : Course job given earlier given.events at_first
+  abbrev its_course : Course job given earlier given.events at_first
   its_course = record {
     behind = its;
     history = is_history job (h.contents 0) earlier safe.now;

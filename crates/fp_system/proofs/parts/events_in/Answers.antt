@@ -8,8 +8,8 @@ use Rattle.fp_system.specs.declared.status.Status.{Status}
 use Rattle.fp_system.specs.declared.status.Status.TheVariants as status
 use Rattle.fp_system.proofs.parts.events_in.Goals as goal
 
-pub returns-clause-refused : goal.returns-clause-refused
-returns-clause-refused c =
+pub returns-in-Err-clause-refused : goal.returns-in-Err-clause-refused
+returns-in-Err-clause-refused c =
     let defs = c.args.defs.now in
     let text = c.args.text.now in
     subst (λ (s : Status). MayStandIn s

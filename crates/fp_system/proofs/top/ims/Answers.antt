@@ -1,5 +1,7 @@
-use Rattle.std.proofs.Common.{◌≡◌, ℕ, List, [], Some, None, ◌⊎◌, ⊎_elim, inl, inr, refl, ap, subst, map, string_bytes}
-use Rattle.std.specs.Prelude.{Err, IsSome}
+use Rattle.std.proofs.Common.{◌≡◌, ℕ, List, [], Option, Some, None, ◌⊎◌, ⊎_elim, inl, inr, refl, ap, subst, map, string_bytes}
+use Rattle.std.specs.Prelude.{Err}
+use Rattle.fp_model.specs.declared.events.Event.{Event}
+use Rattle.fp_model.specs.Messages.{lines_of}
 use Rattle.fp_exits.specs.Kinds.{kinds_of}
 use Rattle.fp_model.specs.LogText.{first_gate}
 use Rattle.fp_site.specs.Moments.{Through}
@@ -7,17 +9,18 @@ use Rattle.fp_source.specs.declared.part.Part.TheVariants as part
 use Rattle.log_groups.specs.Images.{IsAtRest, IsBeforeOrMade}
 use Rattle.fp_system.specs.Answers.{IsOfParts, MayStandIn}
 use Rattle.fp_system.specs.Gives.{Ran}
-use Rattle.fp_system.specs.Parts.{Job, front_for}
-use Rattle.fp_system.specs.Setups.{job_of}
+use Rattle.fp_system.specs.Courses.{input}
+use Rattle.fp_system.specs.Parts.{HasEvents, Job, Refuses, front_for}
+use Rattle.fp_system.specs.Setups.{HasEventsFor, job_of}
 use Rattle.fp_system.specs.Table as table
 use Rattle.fp_system.specs.Table.{ByLog, IsEnd}
 use Rattle.fp_system.specs.Words.{command_of}
+use Rattle.fp_system.specs.declared.words.Command.{Command}
 use Rattle.fp_system.specs.declared.words.Command.TheVariants as command
-use Rattle.fp_system.proofs.Acted.{only_same, unmade}
 use Rattle.fp_system.proofs.CauseLemmas.{caused, rose_since}
 use Rattle.fp_system.proofs.Due.{parts_not_done}
-use Rattle.fp_system.proofs.GivesLemmas.{before_site, ran_not}
-use Rattle.fp_system.proofs.Jobs.{one_job}
+use Rattle.fp_system.proofs.Runs.{before_site, only_same, ran_not, unmade}
+use Rattle.fp_system.proofs.Jobs.{no_job_refused, one_job, same_events, schedule_had}
 use Rattle.fp_system.proofs.top.ims.Goals as goal
 
 -- ---- the answer
@@ -25,23 +28,30 @@ use Rattle.fp_system.proofs.top.ims.Goals as goal
 pub returns-in-Define-clause-due : goal.returns-in-Define-clause-due
 returns-in-Define-clause-due g c s t =
     let named : command_of (map string_bytes c.args.words.now) ≡ Some command.Define = cc in
-    ⊎_elim (λ done. inl (table.asked (record { command_is = named; job_is = c.in-Ok.ensures.job s }) done))
+    ⊎_elim (λ done. inl (table.asked
+    (record { command_is = named; job_is = c.in-Ok.ensures.job s; schedule_is = tt }) done))
     (λ fault. inr fault) c.define_on.ensures.outcome
 
 pub returns-in-Ok-clause-due : goal.returns-in-Ok-clause-due
 returns-in-Ok-clause-due g c s t =
-    let mine = job_of c.in-Ok.setup in
+    let mine = job_of c.in-Ok.task.setup in
     let log = (g.T.Site.disk c.args.site.now).contents 0 in
     let named : command_of (map string_bytes c.args.words.now) ≡ Some command.Run = cc in
     let said =
     subst (λ (text : List ℕ). ByLog mine log (IsEnd text) c.run_on.result ⊎ MayStandIn c.run_on.result)
-    (c.read_setup.ensures.messages s) (c.run_on.ensures.due (c.read_setup.ensures.told s) t) in
-    ⊎_elim (λ due. inl (table.asked (record { command_is = named; job_is = c.in-Ok.ensures.job s }) due))
+    (c.read_task.ensures.messages s) (c.run_on.ensures.due (c.read_task.ensures.told s) t) in
+    let left = g.S.Source.left c.args.source.now in
+    let events = c.in-Ok.task.events in
+    let run_is : COMMAND ≡ command.Run = cc in
+    let has : HasEvents mine left events =
+    subst (λ (x : Command). HasEventsFor x mine left events) run_is (c.in-Ok.ensures.schedule s) in
+    ⊎_elim (λ due. inl (table.asked
+    (record { command_is = named; job_is = c.in-Ok.ensures.job s; schedule_is = (events, has) }) due))
     (λ fault. inr fault) said
 
 pub returns-clause-due : goal.returns-clause-due
 returns-clause-due g c s t =
-    let named : IsSome (command_of (map string_bytes c.args.words.now)) = cc in
+    let named : command_of (map string_bytes c.args.words.now) ≡ Some COMMAND = cc in
     ⊎_elim (λ fault. inr fault) (λ why. inl (table.refused named why)) (c.in-Err.ensures.refused s)
 
 pub returns-in_default-clause-due : goal.returns-in_default-clause-due
@@ -56,7 +66,7 @@ returns-in-Define-clause-cause g c =
 pub returns-in-Ok-clause-cause : goal.returns-in-Ok-clause-cause
 returns-in-Ok-clause-cause g c =
     caused _ _ _ _ c.run_on.result
-    (λ e. rose_since _ _ _ c.read_setup.ensures.later (c.run_on.ensures.source_cause e))
+    (λ e. rose_since _ _ _ c.read_task.ensures.later (c.run_on.ensures.source_cause e))
     (λ e. c.run_on.ensures.site_cause e)
 
 pub returns-clause-cause : goal.returns-clause-cause
@@ -70,7 +80,7 @@ pub returns-in-Define-clause-defined : goal.returns-in-Define-clause-defined
 returns-in-Define-clause-defined g c s t named =
     let kinds = kinds_of c.args.exits.now in
     let left = g.S.Source.left c.args.source.now in
-    let mine = job_of c.in-Ok.setup in
+    let mine = job_of c.in-Ok.task.setup in
     let is = c.in-Ok.ensures.job s in
     let old = g.T.Site.disk c.args.site.now in
     let new = g.T.Site.disk c.define_on.new.site in
@@ -94,20 +104,39 @@ returns-clause-defined g c s t named =
     }
 
 pub returns-in-Ok-clause-ran : goal.returns-in-Ok-clause-ran
-returns-in-Ok-clause-ran g c job s t asks =
-    let mine = job_of c.in-Ok.setup in
+returns-in-Ok-clause-ran g c job events s t asks has =
+    let mine = job_of c.in-Ok.task.setup in
     let left = g.S.Source.left c.args.source.now in
     let old = g.T.Site.disk c.args.site.now in
     let new = g.T.Site.disk c.run_on.new.site in
     let same = one_job (kinds_of c.args.exits.now) left mine job (c.in-Ok.ensures.job s) asks.job_is in
-    subst (λ (text : List ℕ). Ran job text c.run_on.result old new) (c.read_setup.ensures.messages s)
-    (subst (λ (j : Job). Ran j (g.S.Source.left c.read_setup.new.source part.Messages) c.run_on.result old new) same
-    (c.run_on.ensures.ran (c.read_setup.ensures.told s) t))
+    let run_is : COMMAND ≡ command.Run = cc in
+    let read : HasEvents mine left c.in-Ok.task.events =
+    subst (λ (x : Command). HasEventsFor x mine left c.in-Ok.task.events) run_is (c.in-Ok.ensures.schedule s) in
+    let read_of : HasEvents job left c.in-Ok.task.events =
+    subst (λ (j : Job). HasEvents j left c.in-Ok.task.events) same read in
+    subst (λ (es : List Event). Ran job (input es (lines_of (left part.Messages))) c.run_on.result old new)
+    (same_events job left c.in-Ok.task.events events read_of has)
+    (subst (λ (text : List ℕ). Ran job (input c.in-Ok.task.events (lines_of text)) c.run_on.result old new)
+    (c.read_task.ensures.messages s)
+    (subst (λ (j : Job). Ran j (input c.in-Ok.task.events (lines_of (g.S.Source.left c.read_task.new.source
+    part.Messages))) c.run_on.result old new) same
+    (c.run_on.ensures.ran (c.read_task.ensures.told s) t)))
 
 pub returns-clause-ran : goal.returns-clause-ran
-returns-clause-ran g c job s t asks =
-    ran_not job (g.S.Source.left c.args.source.now part.Messages) c.in-Err.answer (g.T.Site.disk c.args.site.now)
-    (g.met.T.Site.lawful c.args.site.now t) c.in-Err.ensures.early
+returns-clause-ran g c job events s t asks has =
+    let left = g.S.Source.left c.args.source.now in
+    let kinds = kinds_of c.args.exits.now in
+    let named : command_of (map string_bytes c.args.words.now) ≡ Some COMMAND = cc in
+    let run_is : COMMAND ≡ command.Run = same_found named asks.command_is in
+    ⊎_elim
+    (λ stands. ran_not job (input events (lines_of (left part.Messages))) c.in-Err.answer
+    (g.T.Site.disk c.args.site.now) (g.met.T.Site.lawful c.args.site.now t) stands)
+    (λ why. no_job_refused kinds left job command.Run c.in-Err.answer asks.job_is asks.schedule_is
+    (subst (λ (x : Command). Refuses kinds left x c.in-Err.answer) run_is why)) (c.in-Err.ensures.refused s)
+  where
+    same_found : {o : Option Command} {a b : Command} → o ≡ Some a → o ≡ Some b → a ≡ b
+    same_found e f = cc
 
 -- ---- what stays
 
@@ -122,24 +151,35 @@ returns-in-Ok-clause-untouched g c before =
     (λ early. absurd (c.run_on.ensures.early early)) (λ named fault. absurd cc) before
 
 pub returns-in-Define-clause-no_job : goal.returns-in-Define-clause-no_job
-returns-in-Define-clause-no_job g c s none = absurd (none (job_of c.in-Ok.setup, c.in-Ok.ensures.job s))
+returns-in-Define-clause-no_job g c s none =
+    let named : command_of (map string_bytes c.args.words.now) ≡ Some command.Define = cc in
+    absurd (none (command.Define, job_of c.in-Ok.task.setup, record
+    { command_is = named; job_is = c.in-Ok.ensures.job s; schedule_is = tt }))
 
 pub returns-in-Ok-clause-no_job : goal.returns-in-Ok-clause-no_job
-returns-in-Ok-clause-no_job g c s none = absurd (none (job_of c.in-Ok.setup, c.in-Ok.ensures.job s))
+returns-in-Ok-clause-no_job g c s none =
+    let named : command_of (map string_bytes c.args.words.now) ≡ Some COMMAND = cc in
+    let mine = job_of c.in-Ok.task.setup in
+    absurd (none (COMMAND, mine, record {
+      command_is = named;
+      job_is = c.in-Ok.ensures.job s;
+      schedule_is =
+          schedule_had COMMAND mine (g.S.Source.left c.args.source.now) c.in-Ok.task.events (c.in-Ok.ensures.schedule s);
+    }))
 
 pub returns-in-Define-clause-parts : goal.returns-in-Define-clause-parts
 returns-in-Define-clause-parts g c s =
-    record { unread = λ named. c.read_setup.ensures.messages s; all = λ named done. absurd cc }
+    record { unread = λ named. c.read_task.ensures.messages s; all = λ named done. absurd cc }
 
 pub returns-in-Ok-clause-parts : goal.returns-in-Ok-clause-parts
 returns-in-Ok-clause-parts g c s = record {
   unread = λ named. absurd cc;
-  all = λ named done. c.run_on.ensures.read (c.read_setup.ensures.told s) done;
+  all = λ named done. c.run_on.ensures.read (c.read_task.ensures.told s) done;
 }
 
 pub returns-clause-parts : goal.returns-clause-parts
 returns-clause-parts g c s = record {
-  unread = λ named. c.read_setup.ensures.messages s;
+  unread = λ named. c.read_task.ensures.messages s;
   all = λ named done. parts_not_done c.in-Err.answer c.in-Err.ensures.early done;
 }
 
