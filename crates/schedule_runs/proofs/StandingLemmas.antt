@@ -9,7 +9,7 @@ use Rattle.fp_model.specs.Machine.{Machine}
 use Rattle.fp_model.specs.Rules.{Rules}
 use Rattle.fp_model.specs.Runs.{IsDrained}
 use Rattle.fp_model.specs.Turns.{Turn}
-use Rattle.fp_site.specs.Disk.{Disk, IsLawful, Snapshot}
+use Rattle.fp_site.specs.Disk.{Disk, IsDurable, IsLawful, Snapshot}
 use Rattle.fp_site.specs.Moments.{Through}
 use Rattle.fp_site.proofs.Runs.{joined, weaker}
 use Rattle.fp_source.specs.Lines.{lines_given}
@@ -20,6 +20,7 @@ use Rattle.fp_core.specs.declared.stop.Stop.{Stop}
 use Rattle.fp_core.specs.declared.stop.Stop.TheVariants as stops
 use Rattle.fp_core.specs.Draining.{DrainStopped, Drained, IsLeftByDrain, IsReachedBy}
 use Rattle.fp_core.specs.Relation.{rules_in}
+use Rattle.fp_core.specs.Sparing.{IsSealing}
 use Rattle.fp_core.specs.Standing.{IsCausedBySite, IsCausedBySource, IsLeft, IsWithin, Leaves, MayStop, Origin, StandsAt, StandsBeside, SteppedBeside, seals_of}
 use Rattle.fp_core.specs.Turning.{Turned}
 use Rattle.fp_core.proofs.Steps.{left_alone}
@@ -145,14 +146,16 @@ module _ (origin : Origin) (events : List Event) (m : Machine) (old : Disk) (old
       -- a stop in it
       pub stopped_step : (stop : Stop) → MayStop (next_event part) engine.held stop
           → ((number : ℕ) → stop ≡ stops.LineFault number → number ≡ lines_given mid_lines + 1)
+          → (¬ IsSealing (next_event part) → IsDurable new 0)
           → IsStopped origin defs rules events m old old_lines new stop
-      stopped_step stop may number = record {
+      stopped_step stop may number rest = record {
         left = part;
         here = on.here;
         comes = on.comes;
         may = subst (λ (h : _). MayStop (next_event part) h stop) on.reached.stands.held may;
         first = λ n is. omega (arith, number n is, on.given);
         within = within_behind new on.here (seals_of (next_event part) on.here) leaves_so.within;
+        rest = rest;
       }
 
     -- its end
@@ -224,6 +227,7 @@ module _ (origin : Origin) (events : List Event) (m : Machine) (old : Disk) (old
             first = λ n is. omega (arith, d.first n is, on.given);
             within = within_behind new d.here (seals_of (next_event b.left) d.here)
                 (subst (λ (e : Event). IsWithin origin rules d.here (seals_of e d.here) mid new) (sym b.next) d.within);
+            rest = λ calm. d.rest (subst (λ (e : Event). ¬ IsSealing e) b.next calm);
           }
 
       -- its end
