@@ -128,35 +128,35 @@ module _ (origin : Origin) (events : List Event) (m : Machine) (old : Disk) (old
 
     module _ (new : Disk) (leaves : Leaves origin (rules_in engine) on.here (seals_of (next_event part) on.here) mid new)
       where
-      leaves_so : Leaves origin rules on.here (seals_of (next_event part) on.here) mid new
-      leaves_so =
-          subst (λ (r : Rules). Leaves origin r on.here (seals_of (next_event part) on.here) mid new) same leaves
+        leaves_so : Leaves origin rules on.here (seals_of (next_event part) on.here) mid new
+        leaves_so =
+            subst (λ (r : Rules). Leaves origin r on.here (seals_of (next_event part) on.here) mid new) same leaves
 
-      still : Comes defs rules part on.here part on.here
-      still = subst (λ (d : Defs). Comes d rules part on.here part on.here) same_defs
-          (comes_still rules part engine on.here on.reached.stands)
+        still : Comes defs rules part on.here part on.here
+        still = subst (λ (d : Defs). Comes d rules part on.here part on.here) same_defs
+            (comes_still rules part engine on.here on.reached.stands)
 
-      -- a crash in it
-      pub moments_step : IsLawful mid → Through old mid Left → Through old new Left
-      moments_step law before =
-          joined Left old mid new before
-          (weaker (IsLeft origin rules on.here (seals_of (next_event part) on.here) mid) Left mid new
-          (λ s is. left_behind law before part on.here still s is) leaves_so.moments)
+        -- a crash in it
+        pub moments_step : IsLawful mid → Through old mid Left → Through old new Left
+        moments_step law before =
+            joined Left old mid new before
+            (weaker (IsLeft origin rules on.here (seals_of (next_event part) on.here) mid) Left mid new
+            (λ s is. left_behind law before part on.here still s is) leaves_so.moments)
 
-      -- a stop in it
-      pub stopped_step : (stop : Stop) → MayStop (next_event part) engine.held stop
-          → ((number : ℕ) → stop ≡ stops.LineFault number → number ≡ lines_given mid_lines + 1)
-          → (¬ IsSealing (next_event part) → IsDurable new 0)
-          → IsStopped origin defs rules events m old old_lines new stop
-      stopped_step stop may number rest = record {
-        left = part;
-        here = on.here;
-        comes = on.comes;
-        may = subst (λ (h : _). MayStop (next_event part) h stop) on.reached.stands.held may;
-        first = λ n is. omega (arith, number n is, on.given);
-        within = within_behind new on.here (seals_of (next_event part) on.here) leaves_so.within;
-        rest = rest;
-      }
+        -- a stop in it
+        pub stopped_step : (stop : Stop) → MayStop (next_event part) engine.held stop
+            → ((number : ℕ) → stop ≡ stops.LineFault number → number ≡ lines_given mid_lines + 1)
+            → (¬ IsSealing (next_event part) → IsDurable new 0)
+            → IsStopped origin defs rules events m old old_lines new stop
+        stopped_step stop may number rest = record {
+          left = part;
+          here = on.here;
+          comes = on.comes;
+          may = subst (λ (h : _). MayStop (next_event part) h stop) on.reached.stands.held may;
+          first = λ n is. omega (arith, number n is, on.given);
+          within = within_behind new on.here (seals_of (next_event part) on.here) leaves_so.within;
+          rest = rest;
+        }
 
     -- its end
     pub one_on_way : (e : Event) (left : List Event) (new : Disk) (lines : Lines) (bytes : List ℕ) (next : Engine)
