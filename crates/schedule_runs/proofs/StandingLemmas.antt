@@ -1,8 +1,10 @@
 -- A run beside a site and a source: one step more, a stop in one, a crash in one; and the drain behind all events.
 use Rattle.std.proofs.Common.{◌≡◌, refl, sym, ◌∙◌, ap, subst, arith, ℕ, ◌+◌, List, [], ◌∷◌, ◌++◌, length, inl, inr}
+use Rattle.std.specs.Prelude.{Result, Ok, Err, OnOk}
 use Rattle.drain_laws.specs.Live.{IsReached}
 use Rattle.drain_laws.specs.ProductGauge.{gauge_of}
 use Rattle.drain_laws.proofs.OfSystem.{turn_of}
+use Rattle.drain_laws.proofs.Rounds.{relined}
 use Rattle.fp_model.specs.declared.definitions.Defs.{Defs}
 use Rattle.fp_model.specs.declared.events.Event.{Event}
 use Rattle.fp_model.specs.Machine.{Machine}
@@ -12,7 +14,7 @@ use Rattle.fp_model.specs.Turns.{Turn}
 use Rattle.fp_site.specs.Disk.{Disk, IsDurable, IsLawful, Snapshot}
 use Rattle.fp_site.specs.Moments.{Through}
 use Rattle.fp_site.proofs.Runs.{joined, weaker}
-use Rattle.fp_source.specs.Lines.{lines_given}
+use Rattle.fp_source.specs.Lines.{buffered, lines_given, to_come}
 use Rattle.fp_source.specs.declared.lines.Lines.{Lines}
 use Rattle.fp_core.specs.declared.did.Did.{Did}
 use Rattle.fp_core.specs.declared.engine.Engine.{Engine}
@@ -21,7 +23,7 @@ use Rattle.fp_core.specs.declared.stop.Stop.TheVariants as stops
 use Rattle.fp_core.specs.Draining.{DrainStopped, Drained, IsLeftByDrain, IsReachedBy}
 use Rattle.fp_core.specs.Relation.{rules_in}
 use Rattle.fp_core.specs.Sparing.{IsSealing}
-use Rattle.fp_core.specs.Standing.{IsCausedBySite, IsCausedBySource, IsLeft, IsWithin, Leaves, MayStop, Origin, StandsAt, StandsBeside, SteppedBeside, seals_of}
+use Rattle.fp_core.specs.Standing.{IsLeft, IsWithin, Leaves, MayStop, Origin, StandsAt, StandsBeside, SteppedBeside, seals_of}
 use Rattle.fp_core.specs.Turning.{Turned}
 use Rattle.fp_core.proofs.Steps.{left_alone}
 use Rattle.schedule_runs.specs.Standing.{IsDone, IsLeftOnWay, IsStopped, StandsOnWay}
@@ -49,6 +51,16 @@ reached_turn old new e m given same defs h t =
       reached = turn_of new.defs.now new.scripts.now.scripts setup.defined setup.cheap m e t.environment t.after
           (reached_too old new m same defs h) t.turn;
     }
+
+-- so does a step, of some lines
+pub reached_step : (old new : Engine) (e : Event) (m : Machine) (lines : List (List ℕ)) (given : Did)
+    → rules_in new ≡ rules_in old → new.defs.now ≡ old.defs.now → IsReachedBy old m
+    → Turned e (record m { lines = lines }) new given → (m2 : Machine) × IsReachedBy new m2
+reached_step old new e m lines given same defs before t = (
+  t.after,
+  reached_turn old new e (record m { lines = lines }) given same defs
+      (relined (rules_in old) (gauge_of old.defs.now) m lines before.reached) t,
+)
 
 module _ (origin : Origin) (events : List Event) (m : Machine) (old : Disk) (old_lines : Lines) (first : Engine) where
   -- the definitions and rules of the run
@@ -249,13 +261,16 @@ module _ (origin : Origin) (events : List Event) (m : Machine) (old : Disk) (old
             others = λ set other. d.others set other ∙ on.others set other;
           }
 
--- ---- counts of faults
+-- ---- answers, and the end of the messages
 
--- by a count that stayed and then did so, a count from the first
-pub site_behind : (old mid new : ℕ) (stop : Stop) → mid ≡ old → IsCausedBySite mid new stop
-    → IsCausedBySite old new stop
-site_behind old mid new stop same cause = subst (λ (n : ℕ). IsCausedBySite n new stop) same cause
+pub on_ok_sure : {A E : Type 0} (P : Type 0) (r : Result A E) → P → OnOk r P
+on_ok_sure P (Ok a) h = h
+on_ok_sure P (Err e) h = tt
 
-pub source_behind : (old mid new : ℕ) (stop : Stop) → mid ≡ old → IsCausedBySource mid new stop
-    → IsCausedBySource old new stop
-source_behind old mid new stop same cause = subst (λ (n : ℕ). IsCausedBySource n new stop) same cause
+-- where nothing is to come, nothing is left
+pub nothing_behind : (lines : Lines) (left : List ℕ) → to_come lines left ≡ [] → left ≡ []
+nothing_behind lines left none = by (buffered lines) none
+  where
+    by : (front : List ℕ) → front ++ left ≡ [] → left ≡ []
+    by [] e = e
+    by (b ∷ bytes) e = absurd cc
