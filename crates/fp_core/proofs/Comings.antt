@@ -107,6 +107,7 @@ module _ (origin : Origin) (rules : Rules) (m : Machine) (old : Disk) (old_lines
         groups = d.within.groups;
         others = λ set other. d.within.others set other ∙ come.others set other;
       };
+      rest = d.rest;
     }
 
     -- a crash behind them
@@ -332,6 +333,7 @@ module _ (origin : Origin) (rules : Rules) (m : Machine) (old_lines : Lines) (di
     may = subst (λ h. MayStop event.In h stop) at.parts.held may;
     first = λ n is. omega (arith, number n is);
     within = (left_alone origin rules m 0 disk engine law at).within;
+    rest = λ calm. at.at_rest.durable;
   }
 
   -- in the turn of a region, for want of memory
@@ -346,6 +348,7 @@ module _ (origin : Origin) (rules : Rules) (m : Machine) (old_lines : Lines) (di
     may = subst (λ (s : Stop). MayStop (event.Region region) here.held s) (sym is) tt;
     first = λ n e. absurd cc;
     within = (left_alone origin rules here 0 disk engine law at).within;
+    rest = λ calm. at.at_rest.durable;
   }
 
 -- in LOG
@@ -408,6 +411,7 @@ module _ (origin : Origin) (rules : Rules) (m : Machine) (old new : Disk) (old_l
     may = subst (λ h. MayStop event.Log h stop) b.took.stands.held may;
     first = λ n is. absurd (no_line_in_log engine.held stop n may is);
     within = subst (λ (r : Rules). IsWithin origin r b.took.after 1 old new) same leaves.within;
+    rest = λ calm. absurd (calm tt);
   }
 
   -- what a crash leaves

@@ -10,13 +10,14 @@ use Rattle.fp_model.specs.Lasts.{format_at}
 use Rattle.fp_model.specs.Machine.{Machine}
 use Rattle.fp_model.specs.Rules.{Rules}
 use Rattle.fp_model.specs.Runs.{RunStep, TakesOf, Runs, IsDrained, device_faults, round, Drains}
-use Rattle.fp_site.specs.Disk.{Disk, Snapshot}
+use Rattle.fp_site.specs.Disk.{Disk, IsDurable, Snapshot}
 use Rattle.fp_source.specs.Lines.{lines_given}
 use Rattle.fp_source.specs.declared.lines.Lines.{Lines}
 use Rattle.fp_core.specs.declared.engine.Engine.{Engine}
 use Rattle.fp_core.specs.declared.stop.Stop.{Stop}
 use Rattle.fp_core.specs.declared.stop.Stop.TheVariants as stops
 use Rattle.fp_core.specs.Relation.{AreMade, StandsFor, rules_in}
+use Rattle.fp_core.specs.Sparing.{IsSealing}
 use Rattle.fp_core.specs.Standing.{IsLeft, IsWithin, MayStop, Origin, StandsBeside, seals_of}
 
 -- The engine stands for a machine that turns led to from rest.
@@ -56,7 +57,7 @@ pub record Drained (origin : Origin) (m : Machine) (old new : Disk) (lines : Lin
   pub others : (set : ℕ) → ¬ (set ≡ 0) → new.contents set ≡ old.contents set
 
 -- The drain stopped in a step, and the disk is one that this step may end with. Where it stopped for a line, that is
--- the first one that the machine has not read.
+-- the first one that the machine has not read. Where the step makes no calls on the site, the log is durable.
 pub record DrainStopped (origin : Origin) (defs : Defs) (rules : Rules) (m : Machine) (old_lines : Lines)
     (old new : Disk)
     (stop : Stop) : Type 0 where
@@ -67,6 +68,7 @@ pub record DrainStopped (origin : Origin) (defs : Defs) (rules : Rules) (m : Mac
   pub first : (number : ℕ) → stop ≡ stops.LineFault number
       → number + length here.lines ≡ lines_given old_lines + 1 + length m.lines
   pub within : IsWithin origin rules here (seals_of event here) old new
+  pub rest : ¬ IsSealing event → IsDurable new 0
 
 -- A crash within the drain left what might have been left before it, or what a crash within one of its steps leaves.
 pub record IsLeftByStep (origin : Origin) (defs : Defs) (rules : Rules) (m : Machine) (old : Disk) (s : Snapshot) : Type

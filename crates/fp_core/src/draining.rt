@@ -3,6 +3,7 @@ ghost use Rattle.drain_laws.specs.ProductGauge.{weight_of_line};
 ghost use Rattle.fp_core.specs.Draining.{DrainStopped, Drained, IsLeftByDrain, IsReachedBy};
 ghost use Rattle.fp_core.specs.Relation.{StandsFor, rules_in};
 ghost use Rattle.fp_core.specs.Rounding.{Began, BeganBy, IsQuiet, StoppedAmong, TookTurns, Went, WentBeside, is_at_rest, turns_of, work_ahead};
+ghost use Rattle.fp_core.specs.Sparing.{IsLogSet, Spares};
 ghost use Rattle.fp_core.specs.Standing.{IsCausedBySite, IsCausedBySource, IsContinued, MayStop, Origin, StandsBeside, number_of};
 ghost use Rattle.fp_model.specs.Machine.{Machine};
 ghost use Rattle.fp_model.specs.declared.events.Event.TheVariants as events;
@@ -157,6 +158,7 @@ impl<'a> Core<'a> {
         ensures router { self.new.router ≡ self.old.router }
         ensures reads { ReadsNothing (T.tells_reads site.old) (T.tells_reads site.new)
             (T.bytes_read site.old) (T.bytes_read site.new) }
+        ensures spares { T.told site.old → Spares IsLogSet (T.disk site.old) (T.disk site.new) }
         ensures site { IsContinued T.told T.faults T.holds T.keeps site.old site.new }
         ensures source { ReadsOnly S.told S.left S.faults S.holds S.keeps Part.Messages source.old source.new }
     {
@@ -226,6 +228,7 @@ impl<'a> Core<'a> {
         ensures routed { self.new.router.now.kind ≡ self.new.engine.defs.now.router }
         ensures reads { ReadsNothing (T.tells_reads site.old) (T.tells_reads site.new)
             (T.bytes_read site.old) (T.bytes_read site.new) }
+        ensures spares { T.told site.old → Spares IsLogSet (T.disk site.old) (T.disk site.new) }
         ensures site { IsContinued T.told T.faults T.holds T.keeps site.old site.new }
         ensures source { ReadsOnly S.told S.left S.faults S.holds S.keeps Part.Messages source.old source.new }
     {

@@ -1,18 +1,20 @@
 -- A run beside a site and a source: one step more, a stop in one, a crash in one; and the drain behind all events.
 use Rattle.std.proofs.Common.{◌≡◌, refl, sym, ◌∙◌, ap, subst, arith, ℕ, ◌+◌, List, [], ◌∷◌, ◌++◌, length, inl, inr}
+use Rattle.std.specs.Prelude.{Result, Ok, Err, OnOk}
 use Rattle.drain_laws.specs.Live.{IsReached}
 use Rattle.drain_laws.specs.ProductGauge.{gauge_of}
 use Rattle.drain_laws.proofs.OfSystem.{turn_of}
+use Rattle.drain_laws.proofs.Rounds.{relined}
 use Rattle.fp_model.specs.declared.definitions.Defs.{Defs}
 use Rattle.fp_model.specs.declared.events.Event.{Event}
 use Rattle.fp_model.specs.Machine.{Machine}
 use Rattle.fp_model.specs.Rules.{Rules}
 use Rattle.fp_model.specs.Runs.{IsDrained}
 use Rattle.fp_model.specs.Turns.{Turn}
-use Rattle.fp_site.specs.Disk.{Disk, IsLawful, Snapshot}
+use Rattle.fp_site.specs.Disk.{Disk, IsDurable, IsLawful, Snapshot}
 use Rattle.fp_site.specs.Moments.{Through}
 use Rattle.fp_site.proofs.Runs.{joined, weaker}
-use Rattle.fp_source.specs.Lines.{lines_given}
+use Rattle.fp_source.specs.Lines.{buffered, lines_given, to_come}
 use Rattle.fp_source.specs.declared.lines.Lines.{Lines}
 use Rattle.fp_core.specs.declared.did.Did.{Did}
 use Rattle.fp_core.specs.declared.engine.Engine.{Engine}
@@ -20,7 +22,8 @@ use Rattle.fp_core.specs.declared.stop.Stop.{Stop}
 use Rattle.fp_core.specs.declared.stop.Stop.TheVariants as stops
 use Rattle.fp_core.specs.Draining.{DrainStopped, Drained, IsLeftByDrain, IsReachedBy}
 use Rattle.fp_core.specs.Relation.{rules_in}
-use Rattle.fp_core.specs.Standing.{IsCausedBySite, IsCausedBySource, IsLeft, IsWithin, Leaves, MayStop, Origin, StandsAt, StandsBeside, SteppedBeside, seals_of}
+use Rattle.fp_core.specs.Sparing.{IsSealing}
+use Rattle.fp_core.specs.Standing.{IsLeft, IsWithin, Leaves, MayStop, Origin, StandsAt, StandsBeside, SteppedBeside, seals_of}
 use Rattle.fp_core.specs.Turning.{Turned}
 use Rattle.fp_core.proofs.Steps.{left_alone}
 use Rattle.schedule_runs.specs.Standing.{IsDone, IsLeftOnWay, IsStopped, StandsOnWay}
@@ -48,6 +51,16 @@ reached_turn old new e m given same defs h t =
       reached = turn_of new.defs.now new.scripts.now.scripts setup.defined setup.cheap m e t.environment t.after
           (reached_too old new m same defs h) t.turn;
     }
+
+-- so does a step, of some lines
+pub reached_step : (old new : Engine) (e : Event) (m : Machine) (lines : List (List ℕ)) (given : Did)
+    → rules_in new ≡ rules_in old → new.defs.now ≡ old.defs.now → IsReachedBy old m
+    → Turned e (record m { lines = lines }) new given → (m2 : Machine) × IsReachedBy new m2
+reached_step old new e m lines given same defs before t = (
+  t.after,
+  reached_turn old new e (record m { lines = lines }) given same defs
+      (relined (rules_in old) (gauge_of old.defs.now) m lines before.reached) t,
+)
 
 module _ (origin : Origin) (events : List Event) (m : Machine) (old : Disk) (old_lines : Lines) (first : Engine) where
   -- the definitions and rules of the run
@@ -127,33 +140,35 @@ module _ (origin : Origin) (events : List Event) (m : Machine) (old : Disk) (old
 
     module _ (new : Disk) (leaves : Leaves origin (rules_in engine) on.here (seals_of (next_event part) on.here) mid new)
       where
-      leaves_so : Leaves origin rules on.here (seals_of (next_event part) on.here) mid new
-      leaves_so =
-          subst (λ (r : Rules). Leaves origin r on.here (seals_of (next_event part) on.here) mid new) same leaves
+        leaves_so : Leaves origin rules on.here (seals_of (next_event part) on.here) mid new
+        leaves_so =
+            subst (λ (r : Rules). Leaves origin r on.here (seals_of (next_event part) on.here) mid new) same leaves
 
-      still : Comes defs rules part on.here part on.here
-      still = subst (λ (d : Defs). Comes d rules part on.here part on.here) same_defs
-          (comes_still rules part engine on.here on.reached.stands)
+        still : Comes defs rules part on.here part on.here
+        still = subst (λ (d : Defs). Comes d rules part on.here part on.here) same_defs
+            (comes_still rules part engine on.here on.reached.stands)
 
-      -- a crash in it
-      pub moments_step : IsLawful mid → Through old mid Left → Through old new Left
-      moments_step law before =
-          joined Left old mid new before
-          (weaker (IsLeft origin rules on.here (seals_of (next_event part) on.here) mid) Left mid new
-          (λ s is. left_behind law before part on.here still s is) leaves_so.moments)
+        -- a crash in it
+        pub moments_step : IsLawful mid → Through old mid Left → Through old new Left
+        moments_step law before =
+            joined Left old mid new before
+            (weaker (IsLeft origin rules on.here (seals_of (next_event part) on.here) mid) Left mid new
+            (λ s is. left_behind law before part on.here still s is) leaves_so.moments)
 
-      -- a stop in it
-      pub stopped_step : (stop : Stop) → MayStop (next_event part) engine.held stop
-          → ((number : ℕ) → stop ≡ stops.LineFault number → number ≡ lines_given mid_lines + 1)
-          → IsStopped origin defs rules events m old old_lines new stop
-      stopped_step stop may number = record {
-        left = part;
-        here = on.here;
-        comes = on.comes;
-        may = subst (λ (h : _). MayStop (next_event part) h stop) on.reached.stands.held may;
-        first = λ n is. omega (arith, number n is, on.given);
-        within = within_behind new on.here (seals_of (next_event part) on.here) leaves_so.within;
-      }
+        -- a stop in it
+        pub stopped_step : (stop : Stop) → MayStop (next_event part) engine.held stop
+            → ((number : ℕ) → stop ≡ stops.LineFault number → number ≡ lines_given mid_lines + 1)
+            → (¬ IsSealing (next_event part) → IsDurable new 0)
+            → IsStopped origin defs rules events m old old_lines new stop
+        stopped_step stop may number rest = record {
+          left = part;
+          here = on.here;
+          comes = on.comes;
+          may = subst (λ (h : _). MayStop (next_event part) h stop) on.reached.stands.held may;
+          first = λ n is. omega (arith, number n is, on.given);
+          within = within_behind new on.here (seals_of (next_event part) on.here) leaves_so.within;
+          rest = rest;
+        }
 
     -- its end
     pub one_on_way : (e : Event) (left : List Event) (new : Disk) (lines : Lines) (bytes : List ℕ) (next : Engine)
@@ -224,6 +239,7 @@ module _ (origin : Origin) (events : List Event) (m : Machine) (old : Disk) (old
             first = λ n is. omega (arith, d.first n is, on.given);
             within = within_behind new d.here (seals_of (next_event b.left) d.here)
                 (subst (λ (e : Event). IsWithin origin rules d.here (seals_of e d.here) mid new) (sym b.next) d.within);
+            rest = λ calm. d.rest (subst (λ (e : Event). ¬ IsSealing e) b.next calm);
           }
 
       -- its end
@@ -245,13 +261,16 @@ module _ (origin : Origin) (events : List Event) (m : Machine) (old : Disk) (old
             others = λ set other. d.others set other ∙ on.others set other;
           }
 
--- ---- counts of faults
+-- ---- answers, and the end of the messages
 
--- by a count that stayed and then did so, a count from the first
-pub site_behind : (old mid new : ℕ) (stop : Stop) → mid ≡ old → IsCausedBySite mid new stop
-    → IsCausedBySite old new stop
-site_behind old mid new stop same cause = subst (λ (n : ℕ). IsCausedBySite n new stop) same cause
+pub on_ok_sure : {A E : Type 0} (P : Type 0) (r : Result A E) → P → OnOk r P
+on_ok_sure P (Ok a) h = h
+on_ok_sure P (Err e) h = tt
 
-pub source_behind : (old mid new : ℕ) (stop : Stop) → mid ≡ old → IsCausedBySource mid new stop
-    → IsCausedBySource old new stop
-source_behind old mid new stop same cause = subst (λ (n : ℕ). IsCausedBySource n new stop) same cause
+-- where nothing is to come, nothing is left
+pub nothing_behind : (lines : Lines) (left : List ℕ) → to_come lines left ≡ [] → left ≡ []
+nothing_behind lines left none = by (buffered lines) none
+  where
+    by : (front : List ℕ) → front ++ left ≡ [] → left ≡ []
+    by [] e = e
+    by (b ∷ bytes) e = absurd cc

@@ -5,13 +5,14 @@ use Rattle.fp_model.specs.declared.definitions.Defs.{Defs}
 use Rattle.fp_model.specs.Machine.{Machine}
 use Rattle.fp_model.specs.Rules.{Rules}
 use Rattle.fp_model.specs.Runs.{IsDrained}
-use Rattle.fp_site.specs.Disk.{Disk, Snapshot}
+use Rattle.fp_site.specs.Disk.{Disk, IsDurable, Snapshot}
 use Rattle.fp_source.specs.Lines.{lines_given}
 use Rattle.fp_source.specs.declared.lines.Lines.{Lines}
 use Rattle.fp_core.specs.declared.engine.Engine.{Engine}
 use Rattle.fp_core.specs.declared.stop.Stop.{Stop}
 use Rattle.fp_core.specs.declared.stop.Stop.TheVariants as stops
 use Rattle.fp_core.specs.Draining.{IsReachedBy}
+use Rattle.fp_core.specs.Sparing.{IsSealing}
 use Rattle.fp_core.specs.Standing.{IsLeft, IsWithin, MayStop, Origin, StandsBeside, seals_of}
 use Rattle.schedule_runs.specs.Ways.{Comes, next_event}
 
@@ -37,7 +38,8 @@ module _ (origin : Origin) (defs : Defs) (rules : Rules) (events : List Event) (
     pub others : (set : ℕ) → ¬ (set ≡ 0) → new.contents set ≡ old.contents set
 
   -- The run stopped in the step behind this machine, and the disk is one that this step may end with. Where it stopped
-  -- for a line, that is the first one that the machine has not read.
+  -- for a line, that is the first one that the machine has not read. Where the step makes no calls on the site, the log
+  -- is durable.
   pub record IsStopped (old_lines : Lines) (new : Disk) (stop : Stop) : Type 0 where
     pub left : List Event
     pub here : Machine
@@ -46,6 +48,7 @@ module _ (origin : Origin) (defs : Defs) (rules : Rules) (events : List Event) (
     pub first : (number : ℕ) → stop ≡ stops.LineFault number
         → number + length here.lines ≡ lines_given old_lines + 1 + length m.lines
     pub within : IsWithin origin rules here (seals_of (next_event left) here) old new
+    pub rest : ¬ IsSealing (next_event left) → IsDurable new 0
 
   -- A crash within the run left what one within the step behind this machine leaves.
   pub record IsLeftOnWay (s : Snapshot) : Type 0 where

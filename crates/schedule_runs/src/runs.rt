@@ -1,6 +1,7 @@
 //! Takes the events of a schedule, drains, and closes.
 ghost use Rattle.fp_core.specs.Draining.{IsReachedBy};
 ghost use Rattle.fp_core.specs.Relation.{rules_in};
+ghost use Rattle.fp_core.specs.Sparing.{IsLogSet, Spares};
 ghost use Rattle.fp_core.specs.Standing.{IsCausedBySite, IsCausedBySource, IsContinued, IsEventOf, Origin, StandsBeside, number_of};
 ghost use Rattle.fp_model.specs.Machine.{Machine};
 ghost use Rattle.fp_site.specs.Moments.{Through};
@@ -63,6 +64,7 @@ fn take_events<T: Site, S: Source>(
     ensures routed { core.new.router.now.kind ≡ core.new.engine.defs.now.router }
     ensures reads { ReadsNothing (T.tells_reads site.old) (T.tells_reads site.new)
         (T.bytes_read site.old) (T.bytes_read site.new) }
+    ensures spares { T.told site.old → Spares IsLogSet (T.disk site.old) (T.disk site.new) }
     ensures site { IsContinued T.told T.faults T.holds T.keeps site.old site.new }
     ensures source { ReadsOnly S.told S.left S.faults S.holds S.keeps Part.Messages source.old source.new }
 {
@@ -125,6 +127,7 @@ pub fn run_schedule<T: Site, S: Source>(
     ensures scripts { core.new.engine.scripts ≡ core.old.engine.scripts }
     ensures reads { ReadsNothing (T.tells_reads site.old) (T.tells_reads site.new)
         (T.bytes_read site.old) (T.bytes_read site.new) }
+    ensures spares { T.told site.old → Spares IsLogSet (T.disk site.old) (T.disk site.new) }
     ensures site { IsContinued T.told T.faults T.holds T.keeps site.old site.new }
     ensures source { ReadsOnly S.told S.left S.faults S.holds S.keeps Part.Messages source.old source.new }
 {

@@ -6,10 +6,12 @@ use Rattle.fp_site.specs.Moments.{Through}
 use Rattle.fp_source.specs.declared.part.Part.TheVariants as part
 use Rattle.fp_core.specs.Draining.{DrainStopped, IsLeftByDrain}
 use Rattle.fp_core.specs.Relation.{rules_in}
+use Rattle.fp_core.specs.Sparing.{IsLogSet}
 use Rattle.fp_core.specs.Rounding.{Went, WentBeside}
 use Rattle.fp_core.proofs.Bounds.{needs_fewer, with_lines_reached}
 use Rattle.fp_core.proofs.Comings.{come_both, drained_by, moments_both, stopped_behind}
 use Rattle.fp_core.proofs.Onwards.{continued_both, reads_nothing_both, reads_only_both}
+use Rattle.fp_core.proofs.Spared.{spares_on}
 use Rattle.fp_core.proofs.Rounds.{if_err_from}
 use Rattle.fp_core.proofs.stepping.Core.drain.Goals as goal
 
@@ -166,6 +168,11 @@ loop-done-preserved g c =
           (subst (λ (r : Rules). Through disk1 disk2 (IsLeftByDrain origin mid.engine.defs.now r come.after disk1))
           i.rules
           (c.round.ensures.moments origin come.after told1 tells1 come.beside)));
+      spares = λ told.
+          let told1 = i.site.still_told told in
+          spares_on IsLogSet (g.T.Site.disk c.args.site.now) (g.T.Site.disk c.loop-done.site)
+          (g.T.Site.disk c.round.new.site) (g.met.T.Site.lawful c.loop-done.site told1) (i.spares told)
+          (c.round.ensures.spares told1);
       fair = λ tells. c.in_ok-round.ensures.fair (i.source.stays_told tells) ∙ i.fair tells;
       rules = c.round.ensures.rules ∙ i.rules;
       defs = c.round.ensures.defs ∙ i.defs;
@@ -184,3 +191,17 @@ loop-done-preserved g c =
           part.Messages
           c.args.source.now c.loop-done.source c.round.new.source i.source c.round.ensures.source;
     }
+
+-- ---- other data sets
+
+pub returns-in_err-round-clause-spares : goal.returns-in_err-round-clause-spares
+returns-in_err-round-clause-spares g c told =
+    let told1 = c.loop-done.invariant.site.still_told told in
+    spares_on IsLogSet (g.T.Site.disk c.args.site.now) (g.T.Site.disk c.loop-done.site) (g.T.Site.disk c.round.new.site)
+    (g.met.T.Site.lawful c.loop-done.site told1) (c.loop-done.invariant.spares told) (c.round.ensures.spares told1)
+
+pub returns-then-not-branch-clause-spares : goal.returns-then-not-branch-clause-spares
+returns-then-not-branch-clause-spares g c told =
+    let told1 = c.loop-done.invariant.site.still_told told in
+    spares_on IsLogSet (g.T.Site.disk c.args.site.now) (g.T.Site.disk c.loop-done.site) (g.T.Site.disk c.round.new.site)
+    (g.met.T.Site.lawful c.loop-done.site told1) (c.loop-done.invariant.spares told) (c.round.ensures.spares told1)
