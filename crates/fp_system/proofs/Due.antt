@@ -87,10 +87,10 @@ module _ (setup : Setup) (is : IsSetup setup) (log : List ℕ) where
 -- a fault of storage that isn't of the log's bytes
 pub fault_stands : (f : RestartFault) → (f ≡ fault.Foreign → ⊥)
     → ((set at : ℕ) → f ≡ fault.Damaged set at → ⊥) → MayStandIn (status_of_fault f)
-fault_stands fault.Foreign foreign damaged = absurd (foreign refl)
-fault_stands fault.SiteFault foreign damaged = tt
-fault_stands (fault.Damaged set at) foreign damaged = absurd (damaged set at refl)
-fault_stands fault.Memory foreign damaged = tt
+fault_stands fault.Foreign away harm = absurd (away refl)
+fault_stands fault.SiteFault away harm = tt
+fault_stands (fault.Damaged set at) away harm = absurd (harm set at refl)
+fault_stands fault.Memory away harm = tt
 
 -- ---- answers that end no lines
 

@@ -4,6 +4,7 @@ use Rattle.std.proofs.Common.{◌≡◌, inl, inr, refl, sym, ◌∙◌, ap, sub
 use Rattle.std.specs.Prelude.{slice_get}
 use Rattle.std.proofs.lemmas.List.{append-nil, length-drop}
 use Rattle.std.proofs.lemmas.Option.{slice_get_within}
+use Rattle.fp_core.specs.Sparing.{IsSealing}
 use Rattle.fp_core.specs.Standing.{HasGroups, IsBetween, IsLeft, IsWithin, MayStop, Origin, StandsAt, seals_of}
 use Rattle.fp_core.specs.Relation.{AreMade}
 use Rattle.fp_core.specs.declared.engine.Engine.{Engine}
@@ -27,7 +28,7 @@ use Rattle.schedule_runs.specs.Standing.{IsDone, IsLeftOnWay, IsStopped}
 use Rattle.schedule_runs.specs.Ways as way
 use Rattle.schedule_runs.specs.Ways.{Comes, next_event}
 use Rattle.fp_system.specs.Answers.{status_of_stop}
-use Rattle.fp_system.specs.Courses.{EndsAt, Input, IsAtLine, IsBegun, IsSealing, RanFrom}
+use Rattle.fp_system.specs.Courses.{EndsAt, Input, IsAtLine, IsBegun, RanFrom}
 use Rattle.fp_system.specs.Parts.{Job, rules_for}
 use Rattle.fp_system.specs.declared.status.Status.{Status}
 use Rattle.fp_system.specs.declared.status.Status.TheVariants.{Done, NoMemory}
@@ -131,14 +132,14 @@ module _ (job : Job) (given : Input) (origin : Origin) (h : History) where
   pub ended_early : (old new : Disk) (lines : Lines) (why : Stop)
       → (it : IsStopped origin job.defs (rules_for job) given.events begun old lines new why)
       → ((number : ℕ) → why ≡ stop.LineFault number → number + length it.here.lines ≡ 1 + length given.lines)
-      → (¬ IsSealing (next_event it.left) → IsDurable new 0) → Moments old new → Ran (status_of_stop why) old new
-  ended_early old new lines why it first rest moments = record {
+      → Moments old new → Ran (status_of_stop why) old new
+  ended_early old new lines why it first moments = record {
     left = it.left;
     here = it.here;
     comes = it.comes;
     ends = stop_ends it.left it.here why it.comes it.may first;
     within = it.within;
-    rest = rest;
+    rest = it.rest;
     moments = moments;
   }
 

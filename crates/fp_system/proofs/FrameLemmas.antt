@@ -3,7 +3,7 @@ use Rattle.std.proofs.Common.{◌≡◌, inl, inr, ⊎_elim, refl, ap, ◌∙◌
 use Rattle.fp_site.specs.Disk.{Disk, Snapshot, Elapses, IsLawful, Sends, Syncs}
 use Rattle.fp_site.specs.Moments.{OnlyOn, Through}
 use Rattle.fp_site.proofs.Runs.{joined, of_call, started, weaker}
-use Rattle.fp_system.specs.Frame.{HasOthers, IsLog, Spares}
+use Rattle.fp_core.specs.Sparing.{HasOthers, IsLogSet as IsLog, Spares}
 
 itself : (these : ℕ → Type 0) (h : Disk) (s : Snapshot) → h.may_leave s → HasOthers these h s
 itself these h s left = record { before = s; left = left; same = λ set other. refl }

@@ -22,7 +22,7 @@ use Rattle.msdb_store.specs.Store.{Stored}
 use Rattle.schedule_runs.specs.Standing.{IsLeftOnWay}
 use Rattle.fp_system.specs.Answers.{IsEarly, IsOfParts, MayStandIn}
 use Rattle.fp_system.specs.Courses.{EndsAt, Input, IsBegun, RanFrom}
-use Rattle.fp_system.specs.Frame.{IsLog, Spares}
+use Rattle.fp_core.specs.Sparing.{IsLogSet as IsLog, Spares}
 use Rattle.fp_system.specs.Gives.{IsBeforeSite, IsSafeFor, KeepsFront, Ran, RestsBehind, Went}
 use Rattle.fp_system.specs.Ims.{IsUnchanged}
 use Rattle.fp_system.specs.Parts.{Job, front_for, rules_for}

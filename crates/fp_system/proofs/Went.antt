@@ -3,6 +3,7 @@ use Rattle.std.proofs.Common.{◌≡◌, inl, inr, ⊎_elim, refl, sym, ◌∙�
 use Rattle.std.proofs.lemmas.List.{append-nil, take_at}
 use Rattle.std.proofs.lemmas.Option.{slice_get_within}
 use Rattle.fp_core.specs.Relation.{AreMade}
+use Rattle.fp_core.specs.Sparing.{IsSealing}
 use Rattle.fp_core.specs.Standing.{IsLeft, Origin, seals_of}
 use Rattle.fp_model.specs.declared.events.Event.{Event}
 use Rattle.fp_model.specs.declared.log.Entry.{Entry}
@@ -31,7 +32,7 @@ use Rattle.schedule_runs.specs.Ways as way
 use Rattle.schedule_runs.specs.Ways.{Comes, next_event}
 use Rattle.sealed_runs.proofs.Disks.{safe_within}
 use Rattle.sealed_runs.proofs.SoundLogs.{groups_sound}
-use Rattle.fp_system.specs.Courses.{Course, EndsAt, GoesOnBy, Input, IsBegun, IsHistoryOf, IsKeptBy, IsSealing, RanFrom}
+use Rattle.fp_system.specs.Courses.{Course, EndsAt, GoesOnBy, Input, IsBegun, IsHistoryOf, IsKeptBy, RanFrom}
 use Rattle.fp_system.specs.Gives.{IsSafeFor, RestsBehind, Went}
 use Rattle.fp_system.specs.Ims.{IsUnchanged}
 use Rattle.fp_system.specs.Parts.{Job, front_for, rules_for}

@@ -1,5 +1,6 @@
 -- Courses of a run: how far turns of the table come behind what a log has, and what was sealed and sent by then.
 use Rattle.std.specs.Prelude.{◌≡◌, ◌⊎◌, ⊤, ℕ, ◌-◌, ◌≤◌, List, [], ◌++◌, drop, length, None}
+use Rattle.fp_core.specs.Sparing.{IsSealing}
 use Rattle.fp_core.specs.Standing.{IsBetween, IsWithin, Origin, seals_of}
 use Rattle.fp_model.specs.declared.events.Event.{Event}
 use Rattle.fp_model.specs.declared.events.Event.TheVariants as event
@@ -21,12 +22,6 @@ use Rattle.fp_system.specs.Parts.{Job, rules_for}
 use Rattle.fp_system.specs.Stops.{IsSoundFor}
 use Rattle.fp_system.specs.declared.status.Status.{Status}
 use Rattle.fp_system.specs.declared.status.Status.TheVariants.{Done, ReadFault, SiteFault, Line, NoMemory}
-
--- (trial) the events that make calls on the site
-abbrev pub IsSealing : Event → Type 0
-IsSealing event.Log = ⊤
-IsSealing event.Ckpt = ⊤
-IsSealing _ = ⊥
 
 -- what a run is given: the events of its schedule, and the message lines
 pub record Input : Type 0 where

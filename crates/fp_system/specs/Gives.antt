@@ -11,7 +11,7 @@ use Rattle.fp_site.specs.Moments.{OnlyOn, Through}
 use Rattle.log_groups.specs.Images.{IsAtRest, IsBeforeOrMade, IsLog as HasLog}
 use Rattle.log_groups.specs.Kept.{IsSafe}
 use Rattle.fp_system.specs.Answers.{IsEarly}
-use Rattle.fp_system.specs.Frame.{IsLog, Spares}
+use Rattle.fp_core.specs.Sparing.{IsLogSet as IsLog, Spares}
 use Rattle.fp_system.specs.Ims.{IsUnchanged}
 use Rattle.fp_system.specs.Parts.{Job, IsJob, front_for, rules_for}
 use Rattle.fp_system.specs.Courses.{Course, EndsAt, HasSealed, Input, IsKeptBy}

@@ -6,7 +6,6 @@ pub mod Setups
 pub mod Courses
 pub mod Ims
 pub mod Table
-pub mod Frame
 pub mod Stops
 pub mod Causes
 pub mod Gives

@@ -10,7 +10,7 @@ ghost use Rattle.fp_source.specs.Source.{Rose};
 ghost use Rattle.fp_source.specs.declared.part.Part.TheVariants as part;
 ghost use Rattle.fp_system.specs.Answers.{IsEarly, IsOr, IsStop, MayStandIn, faulty_line, status_of_fault};
 ghost use Rattle.fp_system.specs.Courses.{IsBegun, RanFrom, input};
-ghost use Rattle.fp_system.specs.Frame.{IsLog, Spares};
+ghost use Rattle.fp_core.specs.Sparing.{IsLogSet as IsLog, Spares};
 ghost use Rattle.fp_system.specs.Gives.{Ran};
 ghost use Rattle.fp_system.specs.Ims.{IsContinued};
 ghost use Rattle.fp_system.specs.Parts.{front_for};

@@ -10,7 +10,7 @@ use Rattle.log_groups.specs.Images.{as_front}
 use Rattle.log_groups.specs.Kept.{IsSound}
 use Rattle.fp_system.specs.Answers.{MayStandIn}
 use Rattle.fp_system.specs.Courses.{input}
-use Rattle.fp_system.specs.Frame.{IsLog}
+use Rattle.fp_core.specs.Sparing.{IsLogSet as IsLog}
 use Rattle.fp_system.specs.Parts.{front_for}
 use Rattle.fp_system.specs.Setups.{job_of}
 use Rattle.fp_system.specs.Table.{ByLog, IsEnd}

@@ -11,7 +11,7 @@ use Rattle.fp_system.proofs.parts.read_schedule.Goals as goal
 pub returns-in-Ok-clause-events : goal.returns-in-Ok-clause-events
 returns-in-Ok-clause-events g c =
     ok_with c.events_in.result _ _
-    (λ events is. events_fit c.args.defs.now c.requires.no_dedbs c.in-Ok.text events is) c.events_in.ensures.ok
+    (λ events is. events_fit c.args.defs.now c.requires.no_dedbs c.as_slice.result.now events is) c.events_in.ensures.ok
 
 pub returns-in-Err-TooLong-clause-refused : goal.returns-in-Err-TooLong-clause-refused
 returns-in-Err-TooLong-clause-refused g c t =

@@ -42,7 +42,7 @@ returns-in-Ok-clause-due g c s t =
     (c.read_task.ensures.messages s) (c.run_on.ensures.due (c.read_task.ensures.told s) t) in
     let left = g.S.Source.left c.args.source.now in
     let events = c.in-Ok.task.events in
-    let run_is : COMMAND ≡ command.Run = cc in
+    let run_is : c.in-Some.command ≡ command.Run = cc in
     let has : HasEvents mine left events =
     subst (λ (x : Command). HasEventsFor x mine left events) run_is (c.in-Ok.ensures.schedule s) in
     ⊎_elim (λ due. inl (table.asked
@@ -51,7 +51,7 @@ returns-in-Ok-clause-due g c s t =
 
 pub returns-clause-due : goal.returns-clause-due
 returns-clause-due g c s t =
-    let named : command_of (map string_bytes c.args.words.now) ≡ Some COMMAND = cc in
+    let named : command_of (map string_bytes c.args.words.now) ≡ Some c.in-Some.command = cc in
     ⊎_elim (λ fault. inr fault) (λ why. inl (table.refused named why)) (c.in-Err.ensures.refused s)
 
 pub returns-in_default-clause-due : goal.returns-in_default-clause-due
@@ -110,7 +110,7 @@ returns-in-Ok-clause-ran g c job events s t asks has =
     let old = g.T.Site.disk c.args.site.now in
     let new = g.T.Site.disk c.run_on.new.site in
     let same = one_job (kinds_of c.args.exits.now) left mine job (c.in-Ok.ensures.job s) asks.job_is in
-    let run_is : COMMAND ≡ command.Run = cc in
+    let run_is : c.in-Some.command ≡ command.Run = cc in
     let read : HasEvents mine left c.in-Ok.task.events =
     subst (λ (x : Command). HasEventsFor x mine left c.in-Ok.task.events) run_is (c.in-Ok.ensures.schedule s) in
     let read_of : HasEvents job left c.in-Ok.task.events =
@@ -127,8 +127,8 @@ pub returns-clause-ran : goal.returns-clause-ran
 returns-clause-ran g c job events s t asks has =
     let left = g.S.Source.left c.args.source.now in
     let kinds = kinds_of c.args.exits.now in
-    let named : command_of (map string_bytes c.args.words.now) ≡ Some COMMAND = cc in
-    let run_is : COMMAND ≡ command.Run = same_found named asks.command_is in
+    let named : command_of (map string_bytes c.args.words.now) ≡ Some c.in-Some.command = cc in
+    let run_is : c.in-Some.command ≡ command.Run = same_found named asks.command_is in
     ⊎_elim
     (λ stands. ran_not job (input events (lines_of (left part.Messages))) c.in-Err.answer
     (g.T.Site.disk c.args.site.now) (g.met.T.Site.lawful c.args.site.now t) stands)
@@ -153,19 +153,19 @@ returns-in-Ok-clause-untouched g c before =
 pub returns-in-Define-clause-no_job : goal.returns-in-Define-clause-no_job
 returns-in-Define-clause-no_job g c s none =
     let named : command_of (map string_bytes c.args.words.now) ≡ Some command.Define = cc in
-    absurd (none (command.Define, job_of c.in-Ok.task.setup, record
-    { command_is = named; job_is = c.in-Ok.ensures.job s; schedule_is = tt }))
+    absurd (none (command.Define, (job_of c.in-Ok.task.setup, record
+    { command_is = named; job_is = c.in-Ok.ensures.job s; schedule_is = tt })))
 
 pub returns-in-Ok-clause-no_job : goal.returns-in-Ok-clause-no_job
 returns-in-Ok-clause-no_job g c s none =
-    let named : command_of (map string_bytes c.args.words.now) ≡ Some COMMAND = cc in
+    let named : command_of (map string_bytes c.args.words.now) ≡ Some c.in-Some.command = cc in
     let mine = job_of c.in-Ok.task.setup in
-    absurd (none (COMMAND, mine, record {
+    absurd (none (c.in-Some.command, (mine, record {
       command_is = named;
       job_is = c.in-Ok.ensures.job s;
       schedule_is =
-          schedule_had COMMAND mine (g.S.Source.left c.args.source.now) c.in-Ok.task.events (c.in-Ok.ensures.schedule s);
-    }))
+          schedule_had c.in-Some.command mine (g.S.Source.left c.args.source.now) c.in-Ok.task.events (c.in-Ok.ensures.schedule s);
+    })))
 
 pub returns-in-Define-clause-parts : goal.returns-in-Define-clause-parts
 returns-in-Define-clause-parts g c s =
