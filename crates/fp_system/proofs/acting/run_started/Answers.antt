@@ -7,7 +7,15 @@ use Rattle.fp_model.specs.Machine.{Machine, at_rest}
 use Rattle.fp_model.specs.Messages.{LineFault, line_fault, lines_of}
 use Rattle.fp_source.specs.declared.part.Part.TheVariants as part
 use Rattle.fp_core.specs.declared.stop.Stop.TheVariants as stop
-use Rattle.fp_system.specs.Courses.{input}
+use Rattle.std.specs.List.{AllByRecursion}
+use Rattle.fp_core.specs.Standing.{IsEventOf}
+use Rattle.fp_model.specs.declared.definitions.Defs.{Defs}
+use Rattle.fp_model.specs.declared.events.Event.{Event}
+use Rattle.fp_model.specs.Rules.{Rules}
+use Rattle.fp_site.specs.Moments.{Through}
+use Rattle.schedule_runs.specs.Standing.{IsDone, IsLeftOnWay, IsStopped}
+use Rattle.fp_system.specs.Courses.{RanFrom, input}
+use Rattle.fp_system.specs.declared.status.Status.{Status}
 use Rattle.fp_system.specs.Parts.{rules_for}
 use Rattle.fp_system.specs.Setups.{job_of}
 use Rattle.fp_system.proofs.Begins.{any_format, any_history, any_place, any_states, reached_at_rest, stands_beside}
@@ -24,3 +32,76 @@ returns-in-Err-clause-ran g c origin h s t is =
 pub returns-in-Err-clause-others : goal.returns-in-Err-clause-others
 returns-in-Err-clause-others g c t =
     spares_none IsLog (g.T.Site.disk c.args.site.now) (g.met.T.Site.lawful c.args.site.now t)
+
+pub run_schedule-requires : goal.run_schedule-requires
+run_schedule-requires g c =
+    let core = c.in-Ok.core in
+    let setup = c.args.task.now.setup in
+    let n = c.args.started.log.sealed in
+    let msdbs = c.args.started.msdbs.msdbs in
+    let rules = rules_for (job_of setup) in
+    let h = any_history n msdbs in
+    let stands = c.in-Ok.ensures.stands [] h refl (any_place n msdbs) (any_states n msdbs) (any_format n msdbs) in
+    record {
+      reached = (at_rest rules [] h, reached_at_rest core.engine rules [] h c.in-Ok.ensures.rules stands);
+      events =
+          subst (λ (es : List Event). AllByRecursion (IsEventOf core.engine.defs.now) es) (sym c.as_slice.ensures)
+          (subst (λ (d : Defs). AllByRecursion (IsEventOf d) c.args.task.now.events) (sym c.in-Ok.ensures.defs)
+          c.requires.events);
+      routed = c.in-Ok.ensures.routed;
+    }
+
+-- what is so of the core's definitions, rules and events is so of the task's
+as_given : (P : Defs → Rules → List Event → Type 0) {d d2 : Defs} {r r2 : Rules} {es es2 : List Event} → d ≡ d2 → r ≡ r2
+    → es ≡ es2 → P d r es → P d2 r2 es2
+as_given P {d = d} {d2 = d2} {r = r} {r2 = r2} {es = es} {es2 = es2} same same2 same3 it =
+    subst (λ (x : List Event). P d2 r2 x) same3
+    (subst (λ (x : Rules). P d2 x es) same2 (subst (λ (x : Defs). P x r es) same it))
+
+pub returns-in-Ok-run_schedule-clause-ran : goal.returns-in-Ok-run_schedule-clause-ran
+returns-in-Ok-run_schedule-clause-ran g c origin h s t is =
+    let setup = c.args.task.now.setup in
+    let job = job_of setup in
+    let left = g.S.Source.left c.args.source.now part.Messages in
+    let bytes = g.S.Source.left c.run_schedule.new.source part.Messages in
+    let given = input c.args.task.now.events (lines_of left) in
+    let rules = rules_for job in
+    let core = c.in-Ok.core in
+    let next = c.run_schedule.new.core in
+    let m = at_rest rules (lines_of left) h in
+    let old = g.T.Site.disk c.args.site.now in
+    let new = g.T.Site.disk c.run_schedule.new.site in
+    let stands = c.in-Ok.ensures.stands (lines_of left) h is.msdbs is.place is.states is.format in
+    let beside = stands_beside origin h c.args.started.msdbs c.args.started.log old core.engine rules core.lines left is
+    stands c.in-Ok.ensures.gate (c.in-Ok.ensures.lines left) in
+    let reached = reached_at_rest core.engine rules (lines_of left) h c.in-Ok.ensures.rules stands in
+    ended_done job given origin h old new next.lines bytes next.engine
+    (as_given (λ d r es. IsDone origin d r es m old new next.lines bytes next.engine) c.in-Ok.ensures.defs
+    c.in-Ok.ensures.rules c.as_slice.ensures (c.in-Ok-run_schedule.ensures.done origin m t s beside reached))
+    (as_given (λ d r es. Through old new (IsLeftOnWay origin d r es m old)) c.in-Ok.ensures.defs c.in-Ok.ensures.rules
+    c.as_slice.ensures (c.run_schedule.ensures.moments origin m t s beside reached))
+
+pub returns-clause-ran : goal.returns-clause-ran
+returns-clause-ran g c origin h s t is =
+    let setup = c.args.task.now.setup in
+    let job = job_of setup in
+    let left = g.S.Source.left c.args.source.now part.Messages in
+    let given = input c.args.task.now.events (lines_of left) in
+    let rules = rules_for job in
+    let core = c.in-Ok.core in
+    let why = c.in-Err-run_schedule.stop in
+    let m = at_rest rules (lines_of left) h in
+    let old = g.T.Site.disk c.args.site.now in
+    let new = g.T.Site.disk c.run_schedule.new.site in
+    let stands = c.in-Ok.ensures.stands (lines_of left) h is.msdbs is.place is.states is.format in
+    let beside = stands_beside origin h c.args.started.msdbs c.args.started.log old core.engine rules core.lines left is
+    stands c.in-Ok.ensures.gate (c.in-Ok.ensures.lines left) in
+    let reached = reached_at_rest core.engine rules (lines_of left) h c.in-Ok.ensures.rules stands in
+    let stopped = as_given (λ d r es. IsStopped origin d r es m old core.lines new why) c.in-Ok.ensures.defs
+    c.in-Ok.ensures.rules c.as_slice.ensures (c.in-Err-run_schedule.ensures.stopped origin m t s beside reached) in
+    let none = c.in-Ok.ensures.given in
+    subst (λ (answer : Status). RanFrom job given origin h answer old new) (sym c.from.ensures)
+    (ended_early job given origin h old new core.lines why stopped
+    (λ number e. omega (arith, stopped.first number e, none))
+    (as_given (λ d r es. Through old new (IsLeftOnWay origin d r es m old)) c.in-Ok.ensures.defs c.in-Ok.ensures.rules
+    c.as_slice.ensures (c.run_schedule.ensures.moments origin m t s beside reached)))
