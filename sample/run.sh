@@ -56,7 +56,7 @@ if [ ! -x out/ims_fp ] || [ -n "$(find ../*/src ../*/specs ../*/proofs ../../cra
     prove
     say "building the program"
 fi
-cp data/defs.toml data/scripts.txt data/messages.txt "$room"
+cp data/defs.toml data/scripts.txt data/schedule.txt data/messages.txt "$room"
 say "making the databases"
 rt run -- define "$room"
 say "running the messages"

@@ -10,7 +10,7 @@ fi
 cd "$(dirname "$0")/../crates/ims_fp"
 say "NOT PROVED: this builds the program and runs it with no proof, in about a minute. sample/run.sh proves it first."
 status=0
-rt try --data defs.toml=data/defs.toml --data scripts.txt=data/scripts.txt --data messages.txt=data/messages.txt \
-    --data log=data/log -- run . || status=$?
+rt try --data defs.toml=data/defs.toml --data scripts.txt=data/scripts.txt --data schedule.txt=data/schedule.txt \
+    --data messages.txt=data/messages.txt --data log=data/log -- run . || status=$?
 say "NOT PROVED: what ran above was built with no proof."
 exit "$status"

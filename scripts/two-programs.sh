@@ -12,5 +12,5 @@ if [ ! -x "$program" ] || ! command -v python3 >/dev/null; then
 fi
 room=$(mktemp -d)
 trap 'rm -rf "$room"' EXIT
-cp crates/ims_fp/data/defs.toml crates/ims_fp/data/scripts.txt "$room"
+cp crates/ims_fp/data/defs.toml crates/ims_fp/data/scripts.txt crates/ims_fp/data/schedule.txt "$room"
 python3 scripts/two_programs.py "$program" "$room" "${2:-100}"
