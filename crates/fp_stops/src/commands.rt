@@ -6,6 +6,7 @@ ghost use Rattle.fp_model.specs.Exits.{route};
 use fp_defs::DefsFault;
 use fp_exits::{Exits, Router, Routing, fold_group};
 use fp_model::{Bytes, Kind, Name};
+use fp_schedule::ScheduleFault;
 use fp_site::MemorySite;
 use fp_source::{MemorySource, Part};
 use fp_system::{Status, fault_text, ims};
@@ -53,11 +54,12 @@ fn refused(
     words: &[&str],
     definitions: &str,
     scripts: &str,
+    schedule: &str,
 ) -> Result<(String, bool), AllocError> {
     let parts = [
         Bytes::from_slice(alloc, definitions.as_bytes())?,
         Bytes::from_slice(alloc, scripts.as_bytes())?,
-        Bytes::new(alloc),
+        Bytes::from_slice(alloc, schedule.as_bytes())?,
         Bytes::new(alloc),
     ];
     let mut source = MemorySource::new(alloc, parts, &[])?;
@@ -67,9 +69,21 @@ fn refused(
 }
 
 // Answers of a run, with what is said of each and its number.
-const ANSWERS: [(Status, &str); 9] = [
+const ANSWERS: [(Status, &str); 12] = [
     (Status::Done, "|0"),
     (Status::Usage, "usage: ims_fp define DIR | run DIR|1"),
+    (
+        Status::Schedule(ScheduleFault::BadToken(3)),
+        "schedule: bad token 3|4",
+    ),
+    (
+        Status::Schedule(ScheduleFault::TooMany),
+        "schedule: too many tokens|4",
+    ),
+    (
+        Status::Schedule(ScheduleFault::TooLong),
+        "schedule: too long|4",
+    ),
     (Status::ReadFault, "read fault|5"),
     (Status::SiteFault, "site fault|6"),
     (Status::Foreign, "foreign log|7"),
@@ -169,7 +183,7 @@ const NO_FORMS: [&[&str]; 7] = [
 #[test]
 fn words_in_no_form_are_usage(rt: HostRuntime) -> Result<(), Fail> {
     for form in NO_FORMS {
-        let (said, same) = refused(rt.alloc(), form, GOOD, "")?;
+        let (said, same) = refused(rt.alloc(), form, GOOD, "", "")?;
         assert_eq!(rt;
             said.as_str(),
             "usage: ims_fp define DIR | run DIR|1",
@@ -180,46 +194,51 @@ fn words_in_no_form_are_usage(rt: HostRuntime) -> Result<(), Fail> {
     Ok(())
 }
 
-// A command, definitions and scripts, and what is said.
-const REFUSALS: [(&str, &str, &str, &str); 7] = [
+// A command, definitions, scripts and a schedule, and what is said.
+const REFUSALS: [(&str, &str, &str, &str, &str); 7] = [
     (
         "run",
         "",
         "TRAN A\nBOGUS\n",
+        "BOGUS",
         "definitions: missing regions|2",
     ),
-    ("define", "[", "BOGUS\n", "definitions: not TOML|2"),
+    ("define", "[", "BOGUS\n", "BOGUS", "definitions: not TOML|2"),
     (
-        "define",
+        "run",
         "regions = [1, 1]\nrouter = \"FOLD\"\n",
-        "BOGUS\n",
-        "not built: definitions|11",
+        "TRAN A\nREPLY 'A'\n",
+        "IN R2 R3",
+        "schedule: bad token 3|4",
     ),
     (
         "run",
         "regions = [1]\nrouter = \"RANGE\"\n",
         "BOGUS\n",
+        "",
         "definitions: no exit RANGE|2",
     ),
     (
         "run",
         GOOD,
         "TRAN A\nBOGUS\n",
+        "BOGUS",
         "scripts: syntax at line 2|3",
     ),
     (
         "define",
         GOOD,
         "TRAN A\nGU ACCTS\n",
+        "",
         "scripts: unknown name at line 2|3",
     ),
-    ("run", GOOD, "TRAN A\nREPLY 'A'\n", "foreign log|7"),
+    ("run", GOOD, "TRAN A\nREPLY 'A'\n", "IN R1", "foreign log|7"),
 ];
 
 #[test]
 fn the_first_fault_of_the_parts_is_told(rt: HostRuntime) -> Result<(), Fail> {
-    for (command, definitions, scripts, wanted) in REFUSALS {
-        let (said, same) = refused(rt.alloc(), &[command, "D"], definitions, scripts)?;
+    for (command, definitions, scripts, schedule, wanted) in REFUSALS {
+        let (said, same) = refused(rt.alloc(), &[command, "D"], definitions, scripts, schedule)?;
         assert_eq!(rt; said.as_str(), wanted);
         assert!(rt; same);
     }

@@ -56,8 +56,19 @@ ISRT TELLERS TNO=#1 CASH=0
 REPLY A '/ ' STATUS
 ";
 
-// What a command answers over the definitions, these scripts and messages, and a site; the reads with these numbers
-// fail.
+// Eight messages one after another: each is read, run to its end, and sealed before the next.
+const SCHEDULE: &str = "IN R1 R1 R1 R1 R1 R1 R1 R1 LOG
+IN R1 R1 R1 R1 R1 R1 R1 R1 LOG
+IN R1 R1 R1 R1 R1 R1 R1 R1 LOG
+IN R1 R1 R1 R1 R1 R1 R1 R1 LOG
+IN R1 R1 R1 R1 R1 R1 R1 R1 LOG
+IN R1 R1 R1 R1 R1 R1 R1 R1 LOG
+IN R1 R1 R1 R1 R1 R1 R1 R1 LOG
+IN R1 R1 R1 R1 R1 R1 R1 R1 LOG
+";
+
+// What a command answers over the definitions, these scripts, the schedule, these messages, and a site; the reads with
+// these numbers fail.
 pub(crate) fn run(
     alloc: Global,
     command: &str,
@@ -69,7 +80,7 @@ pub(crate) fn run(
     let parts = [
         Bytes::from_slice(alloc, DEFINITIONS.as_bytes())?,
         Bytes::from_slice(alloc, scripts.as_bytes())?,
-        Bytes::new(alloc),
+        Bytes::from_slice(alloc, SCHEDULE.as_bytes())?,
         Bytes::from_slice(alloc, messages)?,
     ];
     let mut source = MemorySource::new(alloc, parts, failing)?;
@@ -205,7 +216,7 @@ fn a_read_may_fail_in_the_middle(rt: HostRuntime) -> Result<(), Fail> {
     let alloc = rt.alloc();
     let (_, mut site) = new_run(alloc, b"")?;
     let messages = b"T1 DEPOSIT A001 10\n";
-    let status = run(alloc, "run", SCRIPTS, messages, &[5], &mut site)?;
+    let status = run(alloc, "run", SCRIPTS, messages, &[7], &mut site)?;
     assert_eq!(rt; status, Status::ReadFault);
     assert_eq!(rt; site.sent(), b"T1 OK NEW\n".as_slice());
     Ok(())

@@ -1,11 +1,10 @@
 -- How a run ended: from what the run of the schedule says, where it was done, where a step ended it, and where nothing
 -- was done.
-use Rattle.std.proofs.Common.{◌≡◌, inl, inr, refl, sym, ◌∙◌, ap, subst, arith, ℕ, ◌+◌, ◌-◌, ◌≤◌, List, [], ◌++◌, length, drop, Option, Some, None}
+use Rattle.std.proofs.Common.{◌≡◌, inl, refl, sym, ◌∙◌, ap, subst, arith, ℕ, ◌+◌, ◌-◌, ◌≤◌, List, [], ◌++◌, length, drop, Some}
 use Rattle.std.specs.Prelude.{slice_get}
 use Rattle.std.proofs.lemmas.List.{append-nil, length-drop}
 use Rattle.std.proofs.lemmas.Option.{slice_get_within}
-use Rattle.fp_core.specs.Sparing.{IsSealing}
-use Rattle.fp_core.specs.Standing.{HasGroups, IsBetween, IsLeft, IsWithin, MayStop, Origin, StandsAt, seals_of}
+use Rattle.fp_core.specs.Standing.{HasGroups, IsLeft, IsWithin, MayStop, Origin, seals_of}
 use Rattle.fp_core.specs.Relation.{AreMade}
 use Rattle.fp_core.specs.declared.engine.Engine.{Engine}
 use Rattle.fp_core.specs.declared.stop.Stop.{Stop}
@@ -14,9 +13,8 @@ use Rattle.fp_model.specs.declared.events.Event.{Event}
 use Rattle.fp_model.specs.declared.events.Event.TheVariants as event
 use Rattle.fp_model.specs.declared.log.Entry.{Entry}
 use Rattle.fp_model.specs.History.{History}
-use Rattle.fp_model.specs.Lasts.{format_at}
 use Rattle.fp_model.specs.Machine.{Machine, at_rest}
-use Rattle.fp_site.specs.Disk.{Disk, IsDurable, IsLawful, Settles, Snapshot}
+use Rattle.fp_site.specs.Disk.{Disk, IsLawful, Snapshot}
 use Rattle.fp_site.specs.Moments.{Through}
 use Rattle.fp_site.proofs.Images.{durable_settles}
 use Rattle.fp_site.proofs.Runs.{started}

@@ -1,6 +1,6 @@
 -- The events of a schedule over definitions without data entry databases: the core takes each.
-use Rattle.std.proofs.Common.{◌≡◌, refl, sym, ◌∙◌, ap, subst, arith, ℕ, zero, suc, ◌+◌, ◌-◌, ◌*◌, ◌<◌, ◌≤◌, List, [], ◌∷◌, length, take, drop, Bool, true, false, Option, Some, None, slice_get}
-use Rattle.std.specs.Prelude.{◌^◌, ◌&&◌, ◌==◌, codes, filter_map, if◌then◌else◌, map, nat_le, position, slice_index, Result, Ok, Err}
+use Rattle.std.proofs.Common.{◌≡◌, refl, sym, ◌∙◌, ap, subst, arith, ℕ, zero, suc, ◌+◌, ◌-◌, ◌*◌, ◌≤◌, List, [], ◌∷◌, length, take, drop, Bool, true, false, Option, Some, None}
+use Rattle.std.specs.Prelude.{◌^◌, ◌&&◌, ◌==◌, codes, filter_map, if◌then◌else◌, map, nat_le, position, slice_index, Ok, Err}
 use Rattle.std.specs.List.{AllByRecursion, after_first, before_first, cons_option}
 use Rattle.std.specs.Option.{option_and_then, option_map, option_map_or}
 use Rattle.std.proofs.Math.Nat.{one-le-pow}
@@ -22,7 +22,8 @@ use Rattle.fp_schedule.specs.declared.fault.ScheduleFault.{ScheduleFault}
 -- ---- numbers
 
 -- digits of which the first isn't 0 are a number from 1 on
-value_some : (digits : List ℕ) → 1 ≤ length digits → all_ascii_digits digits ≡ true → (slice_index digits 0 == 48) ≡ false
+value_some : (digits : List ℕ) → 1 ≤ length digits → all_ascii_digits digits ≡ true
+    → (slice_index digits 0 == 48) ≡ false
     → 1 ≤ value 10 (map (λ c. c - 48) digits)
 value_some [] some all first = absurd (omega (arith, some))
 value_some (c ∷ cs) some all first =
@@ -114,7 +115,8 @@ module _ (defs : Defs) (none : defs.dedbs ≡ []) where
           none_some e = cc
       numbered false false is = absurd cc
 
-      by : (a b c d : Bool) → (if a then Some event.In else (if b then Some event.Log else (if c then Some event.Out else
+      by : (a b c d : Bool) → (if a then Some event.In else
+          (if b then Some event.Log else (if c then Some event.Out else
           (if d then Some event.Ckpt else numbered_event defs token)))) ≡ Some e → IsEventOf defs e
       by true b c d is = subst (IsEventOf defs) (some_is is) tt
       by false true c d is = subst (IsEventOf defs) (some_is is) tt

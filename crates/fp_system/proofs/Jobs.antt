@@ -161,7 +161,8 @@ has_router kinds text defs e = by (defs_of text) refl
   where
     with_its : (d : Defs) (b : Bool) → has_kind kinds.routers d.router ≡ b
         → option_map_or (λ (kind : Kind). Err (bad.NoExit kind))
-        (if b then first_lacking kinds.spreaders (map (λ (x : DedbDef). x.randomizer) d.dedbs) else Some d.router) (Ok d)
+        (if b then first_lacking kinds.spreaders (map (λ (x : DedbDef). x.randomizer) d.dedbs) else Some d.router)
+        (Ok d)
         ≡ Ok defs
         → has_kind kinds.routers defs.router ≡ true
     with_its d true is all = by_lack (first_lacking kinds.spreaders (map (λ (x : DedbDef). x.randomizer) d.dedbs)) all
@@ -196,7 +197,8 @@ pub or_scripts : (kinds : Kinds) (left : Part → List ℕ) (command : Command) 
     ⊎ Refuses kinds left command a
 or_scripts kinds left command defs text a e same (inl f) = inl f
 or_scripts kinds left command defs text a e same (inr (f, is, has)) =
-    inr (subst (Refuses kinds left command) (sym is) (by_scripts e (subst (λ (t : List ℕ). HasFault defs t f) same has)))
+    inr (subst (Refuses kinds left command) (sym is)
+    (by_scripts e (subst (λ (t : List ℕ). HasFault defs t f) same has)))
 
 pub or_schedule : (kinds : Kinds) (left left2 : Part → List ℕ) (command : Command) (job : Job) (a : Status)
     → IsJob kinds left job → left2 part.Schedule ≡ left part.Schedule

@@ -1,9 +1,7 @@
 -- The whole of what a run gives, by how it ended.
-use Rattle.std.proofs.Common.{◌≡◌, inl, inr, refl, sym, ap, subst, ◌∙◌, arith, ℕ, ◌<◌, List, [], ◌++◌, length, take}
-use Rattle.std.specs.Prelude.{◌⊎◌}
+use Rattle.std.proofs.Common.{◌≡◌, inl, inr, refl, sym, subst, arith, ℕ, ◌<◌, List, length, take}
 use Rattle.fp_core.specs.Standing.{Origin}
 use Rattle.fp_model.specs.declared.log.Entry.{Entry}
-use Rattle.fp_model.specs.Groups.{entries_of}
 use Rattle.fp_model.specs.History.{History}
 use Rattle.fp_model.specs.LogText.{first_gate}
 use Rattle.fp_model.specs.Machine.{at_rest}
@@ -11,16 +9,16 @@ use Rattle.fp_restart.proofs.Groups.{same_reading}
 use Rattle.fp_restart.proofs.Replays.{read_at_rest}
 use Rattle.fp_restart.proofs.Results.{same_synced}
 use Rattle.fp_restart.specs.Replayed.{ReadsBack}
-use Rattle.fp_site.specs.Disk.{Disk, IsLawful, Snapshot, Syncs}
+use Rattle.fp_site.specs.Disk.{Disk, IsLawful, Syncs}
 use Rattle.fp_site.specs.Moments.{OnlyOn, Through}
 use Rattle.fp_site.proofs.Images.{settles_left}
 use Rattle.fp_site.proofs.Runs.{joined, started, weaker}
-use Rattle.log_groups.specs.Images.{IsAtRest, IsBeforeOrMade, IsLog as HasLog}
+use Rattle.log_groups.specs.Images.{IsBeforeOrMade, IsLog as HasLog}
 use Rattle.fp_model.specs.LogText.{Front}
 use Rattle.log_groups.specs.Log.{LogState}
 use Rattle.msdb_store.specs.Store.{Stored}
 use Rattle.schedule_runs.specs.Standing.{IsLeftOnWay}
-use Rattle.fp_system.specs.Answers.{IsEarly, IsOfParts, MayStandIn}
+use Rattle.fp_system.specs.Answers.{IsEarly, MayStandIn}
 use Rattle.fp_system.specs.Courses.{EndsAt, Input, IsBegun, RanFrom}
 use Rattle.fp_core.specs.Sparing.{IsLogSet as IsLog, Spares}
 use Rattle.fp_system.specs.Gives.{IsBeforeSite, IsSafeFor, KeepsFront, Ran, RestsBehind, Went}
@@ -58,7 +56,8 @@ module _ (job : Job) (given : Input) (answer : Status) where
   }
 
   -- a restart alone keeps each log
-  pub kept_synced : (old new : Disk) → Through old new (Syncs old 0) → (gate : ℕ) → Through old new (KeepsFront gate old)
+  pub kept_synced : (old new : Disk) → Through old new (Syncs old 0) → (gate : ℕ)
+      → Through old new (KeepsFront gate old)
   kept_synced old new run gate = weaker (Syncs old 0) (KeepsFront gate old) old new (λ s d. inl d) run
 
 -- ---- answers that stand in the place of what is due
@@ -175,7 +174,8 @@ module _ (job : Job) (given : Input) (answer : Status) (h h1 h2 : Disk) (law1 : 
       let ran = from origin history begun in
       joined (KeepsFront gate h) h h1 h2
       (weaker (Syncs h 0) (KeepsFront gate h) h h1 (λ s d. inl d) run)
-      (weaker (IsLeftOnWay origin job.defs (rules_for job) given.events (at_rest (rules_for job) given.lines history) h1)
+      (weaker (IsLeftOnWay origin job.defs (rules_for job) given.events (at_rest (rules_for job) given.lines history)
+      h1)
       (KeepsFront gate h) h1 h2
       (λ s on.
       inr (subst (λ (l : List ℕ). take gate (s.images 0) ≡ take gate l) (contents 0)

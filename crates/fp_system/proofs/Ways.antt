@@ -1,5 +1,5 @@
 -- Turns over a schedule and the drain: the run that they are, and the lines that they leave.
-use Rattle.std.proofs.Common.{◌≡◌, refl, sym, ◌∙◌, ap, subst, arith, ℕ, zero, suc, ◌+◌, ◌-◌, List, [], ◌∷◌, length, drop, Bool, true, false, Option, Some, None}
+use Rattle.std.proofs.Common.{◌≡◌, refl, sym, ◌∙◌, ap, subst, arith, ℕ, zero, suc, ◌+◌, List, [], ◌∷◌, length, drop, Bool, true, false, Option, Some, None}
 use Rattle.std.specs.Prelude.{if◌then◌else◌}
 use Rattle.std.specs.List.{list_any}
 use Rattle.std.specs.Option.{option_map_or}
@@ -35,7 +35,8 @@ pub comes_behind : (job : Job) (earlier : List Entry) (h : History) (lines : Lis
     → Comes job.defs (rules_for job) events (at_rest (rules_for job) lines h) left m
     → IsBehind job.defs job.scripts earlier m
 comes_behind job earlier h lines events left m is comes =
-    let steps = goes_runs (rules_for job) events left (at_rest (rules_for job) lines h) m comes.environments comes.goes in
+    let steps = goes_runs (rules_for job) events left (at_rest (rules_for job) lines h) m comes.environments comes.goes
+    in
     record {
       start = h;
       is_serial = is.is_serial;

@@ -1,30 +1,29 @@
 -- What a run gives: of a safe site, of a log that can be read, and of the moments that a crash may take.
-use Rattle.std.proofs.Common.{◌≡◌, inl, inr, ⊎_elim, refl, sym, ◌∙◌, ap, subst, arith, ℕ, ◌+◌, ◌<◌, List, [], ◌∷◌, ◌++◌, length, take, append_assoc}
-use Rattle.std.proofs.lemmas.List.{append-nil, take_at}
+use Rattle.std.proofs.Common.{◌≡◌, inl, inr, refl, sym, ◌∙◌, ap, subst, arith, ℕ, List, [], ◌++◌, length}
+use Rattle.std.proofs.lemmas.List.{append-nil}
 use Rattle.std.proofs.lemmas.Option.{slice_get_within}
 use Rattle.fp_core.specs.Relation.{AreMade}
 use Rattle.fp_core.specs.Sparing.{IsSealing}
-use Rattle.fp_core.specs.Standing.{IsLeft, Origin, seals_of}
+use Rattle.fp_core.specs.Standing.{Origin, seals_of}
 use Rattle.fp_model.specs.declared.events.Event.{Event}
 use Rattle.fp_model.specs.declared.log.Entry.{Entry}
 use Rattle.fp_model.specs.Groups.{entries_of}
-use Rattle.fp_model.specs.History.{History, beginning, place_of}
+use Rattle.fp_model.specs.History.{History, beginning}
 use Rattle.fp_model.specs.Lasts.{format_at}
-use Rattle.fp_model.specs.LogText.{first_gate}
 use Rattle.fp_model.specs.Machine.{Machine, at_rest, sealed_times}
 use Rattle.fp_model.specs.Recovery.{Holds}
-use Rattle.fp_model.specs.SerialHistory.{IsSerial, LeadsOn}
+use Rattle.fp_model.specs.SerialHistory.{LeadsOn}
 use Rattle.fp_model.specs.State.{start}
 use Rattle.fp_model.specs.WellFormed.{AreDefs}
 use Rattle.fp_model.proofs.HistoryLemmas.{entries_put, format_stays, states_counted}
 use Rattle.fp_restart.proofs.Results.{same_synced}
 use Rattle.fp_restart.specs.Restarts.{StandsFor}
-use Rattle.fp_site.specs.Disk.{Disk, IsDurable, IsLawful, Settles, Snapshot, Syncs}
-use Rattle.fp_site.specs.Moments.{OnlyOn, Through}
-use Rattle.fp_site.proofs.Images.{settles_again, settles_contents, settles_left}
+use Rattle.fp_site.specs.Disk.{Disk, IsLawful, Settles, Snapshot, Syncs}
+use Rattle.fp_site.specs.Moments.{Through}
+use Rattle.fp_site.proofs.Images.{settles_again, settles_contents}
 use Rattle.fp_site.proofs.Runs.{joined, started, weaker}
-use Rattle.log_groups.specs.Images.{IsAtRest, IsBeforeOrMade, IsLog}
-use Rattle.log_groups.specs.Kept.{IsSafe, IsSound}
+use Rattle.log_groups.specs.Images.{IsAtRest, IsLog}
+use Rattle.log_groups.specs.Kept.{IsSound}
 use Rattle.log_groups.specs.Log.{LogState}
 use Rattle.msdb_store.specs.Store.{Stored}
 use Rattle.schedule_runs.specs.Standing.{IsLeftOnWay}
@@ -256,7 +255,8 @@ module _ (job : Job) (given : Input) (earlier : List Entry) (h h1 : Disk) (law :
     safe =
         subst (IsSafeFor job h1) (sym (append-nil earlier)) (record {
           now =
-              subst (λ (l : List ℕ). IsSound job.defs job.scripts (front_for job) l earlier) (sym (contents 0)) safe.now;
+              subst (λ (l : List ℕ). IsSound job.defs job.scripts (front_for job) l earlier) (sym (contents 0))
+              safe.now;
           crash = λ image settles. safe.crash image (settles_again h h1 0 image settled settles);
         });
     rest = λ done. absurd (early done);

@@ -76,8 +76,8 @@ pub record IsAtLine (left : List Event) (here : Machine) : Type 0 where
   pub takes : next_event left ≡ event.In
   pub none_held : here.held ≡ None
 
--- Where a run ends with this answer. With Done all events were taken, and the drain. A line that isn't taken is the next
--- one that would be read. Where a read failed the next step reads a line, or nothing was done.
+-- Where a run ends with this answer. With Done all events were taken, and the drain. A line that isn't taken is the
+-- next one that would be read. Where a read failed the next step reads a line, or nothing was done.
 abbrev pub EndsAt : Job → Input → Status → Machine → List Event → Machine → Type 0
 EndsAt job given Done start left here = (left ≡ []) × IsDrained (rules_for job) here
 EndsAt job given (Line number) start left here = IsAtLine left here × (here.lines ≡ drop (number - 1) given.lines)

@@ -49,8 +49,8 @@ RestsBehind (Line number) = ⊤
 RestsBehind _ = ⊥
 
 -- How a run from a safe site ended: turns of the table led from the machine at rest behind the earlier entries, which
--- stand in these groups, to where it ended. The groups that were added to the log are those that the machine sealed, and
--- just its bytes were sent; where a step ended the run early, the turns before it are such a run. The site is safe.
+-- stand in these groups, to where it ended. The groups that were added to the log are those that the machine sealed,
+-- and just its bytes were sent; where a step ended the run early, the turns before it are such a run. The site is safe.
 -- At each moment since the call's start a crash leaves what stood, or a log that goes on from it.
 pub record Went (job : Job) (given : Input) (earlier : List Entry) (answer : Status) (old new : Disk) : Type 0 where
   pub left : List Event
@@ -71,9 +71,9 @@ pub record Went (job : Job) (given : Input) (earlier : List Entry) (answer : Sta
   pub rest : RestsBehind answer → IsDurable new 0
   pub moments : Through old new (IsKeptBy job given earlier old)
 
--- Whatever the answer is: another's log stays, and a bad one, and all other data sets. A log that can be read stays up to
--- its first gate that isn't open, where that is there, also if its entries are no history. A safe site goes on. Where
--- every crash left the log as it was, each snapshot since then goes on from it.
+-- Whatever the answer is: another's log stays, and a bad one, and all other data sets. A log that can be read stays up
+-- to its first gate that isn't open, where that is there, also if its entries are no history. A safe site goes on.
+-- Where every crash left the log as it was, each snapshot since then goes on from it.
 pub record Ran (job : Job) (given : Input) (answer : Status) (old new : Disk) : Type 0 where
   pub spares : IsSpared job (old.contents 0) → IsUnchanged old new
   pub others : Spares IsLog old new

@@ -17,8 +17,8 @@ ghost use Rattle.std.specs.Prelude.{◌≡◌, ◌⊎◌, ◌≤◌, [], Err, If
 ghost use Rattle.txn_lang.specs.Grammar.{AreScriptsOf, HasFault};
 ghost use Rattle.txn_lang.specs.declared.fault.ScriptFault.{ScriptFault as ScriptFaultOf};
 
-use crate::words::Command;
 use crate::Status;
+use crate::words::Command;
 use fp_defs::{DefsFault, read_defs};
 use fp_exits::Exits;
 use fp_model::{Bytes, Defs, Event, List};

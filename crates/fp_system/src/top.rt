@@ -24,9 +24,9 @@ use fp_source::Source;
 use std::alloc::Global;
 
 /// All that the program does. `words` are those behind its name: `define DIR` makes the site anew from the parts
-/// Definitions and Scripts; `run DIR` restarts, takes the events of the part Schedule one after another, behind what the
-/// log has, and drains: so each line of the part Messages is answered. Words are judged first, then the definitions, the
-/// scripts, of a run the schedule, then the site; the message lines are read one by one.
+/// Definitions and Scripts; `run DIR` restarts, takes the events of the part Schedule one after another, behind what
+/// the log has, and drains: so each line of the part Messages is answered. Words are judged first, then the
+/// definitions, the scripts, of a run the schedule, then the site; the message lines are read one by one.
 ///
 /// # What contracts say
 ///

@@ -6,7 +6,6 @@ use Rattle.fp_model.specs.Messages.{lines_of}
 use Rattle.fp_restart.specs.Replayed.{ReadsBack}
 use Rattle.fp_restart.specs.Restarts.{StandsFor}
 use Rattle.fp_source.specs.declared.part.Part.TheVariants as part
-use Rattle.log_groups.specs.Images.{as_front}
 use Rattle.log_groups.specs.Kept.{IsSound}
 use Rattle.fp_system.specs.Answers.{MayStandIn}
 use Rattle.fp_system.specs.Courses.{input}

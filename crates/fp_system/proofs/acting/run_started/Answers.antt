@@ -1,12 +1,8 @@
-use Rattle.std.proofs.Common.{◌≡◌, ◌≢◌, inl, inr, refl, sym, ◌∙◌, ap, subst, arith, ℕ, ◌+◌, List, [], length}
-use Rattle.std.specs.Prelude.{Option, Some, None, Err, option_map}
-use Rattle.fp_core.specs.Draining.{IsReachedBy}
+use Rattle.std.proofs.Common.{◌≡◌, refl, sym, subst, arith, List, []}
 use Rattle.fp_core.specs.Sparing.{IsLogSet as IsLog}
-use Rattle.fp_core.specs.Standing.{StandsBeside, number_of}
-use Rattle.fp_model.specs.Machine.{Machine, at_rest}
-use Rattle.fp_model.specs.Messages.{LineFault, line_fault, lines_of}
+use Rattle.fp_model.specs.Machine.{at_rest}
+use Rattle.fp_model.specs.Messages.{lines_of}
 use Rattle.fp_source.specs.declared.part.Part.TheVariants as part
-use Rattle.fp_core.specs.declared.stop.Stop.TheVariants as stop
 use Rattle.std.specs.List.{AllByRecursion}
 use Rattle.fp_core.specs.Standing.{IsEventOf}
 use Rattle.fp_model.specs.declared.definitions.Defs.{Defs}

@@ -14,9 +14,9 @@ returns g c job s s2 s3 asks asks2 asks3 =
     let last = memory_disk c.in_ok-last.last in
     let new = c.is_made.ensures job s asks made in
     let run : Asks (given c.args.exits.now c.args.run.now (left c.args.second.now) site) command.Run job =
-    record { command_is = asks2.command_is; job_is = asks2.job_is } in
+    record { command_is = asks2.command_is; job_is = asks2.job_is; schedule_is = asks2.schedule_is } in
     let again : Asks (given c.args.exits.now c.args.run.now (left c.args.third.now) next) command.Run job =
-    record { command_is = asks3.command_is; job_is = asks3.job_is } in
+    record { command_is = asks3.command_is; job_is = asks3.job_is; schedule_is = asks3.schedule_is } in
     let first = c.in_ok-next.ensures.follows job [] s2 run new.durable new.sound in
     let second =
     c.in_ok-last.ensures.follows job first.entries s3 again c.in_ok-next.ensures.durable first.follows.sound in

@@ -16,5 +16,9 @@ returns-in-Ok-clause-events g c =
 pub returns-in-Err-TooLong-clause-refused : goal.returns-in-Err-TooLong-clause-refused
 returns-in-Err-TooLong-clause-refused g c t =
     let is : c.in-Err-TooLong.field-0 ≡ fault.TooLong = cc in
-    inr (unfit.TooLong, refl, long_schedule c.args.defs.now (g.S.Source.left c.args.source.now part.Schedule)
-    (c.in-Err-TooLong.ensures.too_long t (ap (λ x. Err x) is)))
+    inr (
+      unfit.TooLong,
+      refl,
+      long_schedule c.args.defs.now (g.S.Source.left c.args.source.now part.Schedule)
+          (c.in-Err-TooLong.ensures.too_long t (ap (λ x. Err x) is)),
+    )

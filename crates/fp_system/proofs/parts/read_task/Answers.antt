@@ -3,7 +3,7 @@ use Rattle.std.proofs.lemmas.Result.{err_from_is_err_and}
 use Rattle.fp_exits.specs.Kinds.{kinds_of}
 use Rattle.fp_source.specs.declared.part.Part.TheVariants as part
 use Rattle.fp_system.specs.Setups.{job_of}
-use Rattle.fp_system.proofs.Jobs.{events_same, or_schedule}
+use Rattle.fp_system.proofs.Jobs.{or_schedule}
 use Rattle.fp_system.proofs.parts.read_task.Goals as goal
 
 pub returns-in_err-setup-clause-refused : goal.returns-in_err-setup-clause-refused

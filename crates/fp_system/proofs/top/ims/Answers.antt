@@ -153,19 +153,32 @@ returns-in-Ok-clause-untouched g c before =
 pub returns-in-Define-clause-no_job : goal.returns-in-Define-clause-no_job
 returns-in-Define-clause-no_job g c s none =
     let named : command_of (map string_bytes c.args.words.now) ≡ Some command.Define = cc in
-    absurd (none (command.Define, (job_of c.in-Ok.task.setup, record
-    { command_is = named; job_is = c.in-Ok.ensures.job s; schedule_is = tt })))
+    absurd (none (
+      command.Define,
+      (
+        job_of c.in-Ok.task.setup,
+        record
+            { command_is = named; job_is = c.in-Ok.ensures.job s; schedule_is = tt },
+      ),
+    ))
 
 pub returns-in-Ok-clause-no_job : goal.returns-in-Ok-clause-no_job
 returns-in-Ok-clause-no_job g c s none =
     let named : command_of (map string_bytes c.args.words.now) ≡ Some c.in-Some.command = cc in
     let mine = job_of c.in-Ok.task.setup in
-    absurd (none (c.in-Some.command, (mine, record {
-      command_is = named;
-      job_is = c.in-Ok.ensures.job s;
-      schedule_is =
-          schedule_had c.in-Some.command mine (g.S.Source.left c.args.source.now) c.in-Ok.task.events (c.in-Ok.ensures.schedule s);
-    })))
+    absurd (none (
+      c.in-Some.command,
+      (
+        mine,
+        record {
+          command_is = named;
+          job_is = c.in-Ok.ensures.job s;
+          schedule_is =
+              schedule_had c.in-Some.command mine (g.S.Source.left c.args.source.now) c.in-Ok.task.events
+              (c.in-Ok.ensures.schedule s);
+        },
+      ),
+    ))
 
 pub returns-in-Define-clause-parts : goal.returns-in-Define-clause-parts
 returns-in-Define-clause-parts g c s =
