@@ -12,6 +12,7 @@ use Rattle.fp_model.specs.Rules.{Rules}
 use Rattle.fp_site.specs.Disk.{Disk, Snapshot, Settles}
 use Rattle.fp_site.specs.Moments.{Through}
 use Rattle.fp_source.specs.Lines.{lines_ahead, lines_given}
+use Rattle.fp_source.specs.Source.{Rose}
 use Rattle.fp_source.specs.declared.lines.Lines.{Lines}
 use Rattle.log_groups.specs.Images.{IsAtRest, IsLog}
 use Rattle.fp_core.specs.declared.did.Did.{Did}
@@ -146,6 +147,17 @@ MayStop event.Ckpt held (stop.LineFault number) = ⊥
 MayStop event.Out held given = ⊥
 MayStop (event.Purge set n) held given = ⊥
 MayStop event held stop.Memory = ⊤
+
+-- Why a step stopped, by a count of faults before and behind it. That of the site rose where the log failed, and else
+-- it stayed;
+abbrev pub IsCausedBySite : ℕ → ℕ → Stop → Type 0
+IsCausedBySite before now stop.LogFault = Rose before now
+IsCausedBySite before now _ = now ≡ before
+
+-- that of the source rose where a read failed, and else it stayed.
+abbrev pub IsCausedBySource : ℕ → ℕ → Stop → Type 0
+IsCausedBySource before now stop.ReadFault = Rose before now
+IsCausedBySource before now _ = now ≡ before
 
 -- By what is told and by the numbers: calls were made of a source or a site, and it is the same one.
 pub record IsContinued {X : Type 0} (told : X → Type 0) (faults : X → ℕ) (holds : X → ℕ) (keeps : X → X → Type 0)

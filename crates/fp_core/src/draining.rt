@@ -3,13 +3,13 @@ ghost use Rattle.drain_laws.specs.ProductGauge.{weight_of_line};
 ghost use Rattle.fp_core.specs.Draining.{DrainStopped, Drained, IsLeftByDrain, IsReachedBy};
 ghost use Rattle.fp_core.specs.Relation.{StandsFor, rules_in};
 ghost use Rattle.fp_core.specs.Rounding.{Began, BeganBy, IsQuiet, StoppedAmong, TookTurns, Went, WentBeside, is_at_rest, turns_of, work_ahead};
-ghost use Rattle.fp_core.specs.Standing.{IsContinued, MayStop, Origin, StandsBeside, number_of};
+ghost use Rattle.fp_core.specs.Standing.{IsCausedBySite, IsCausedBySource, IsContinued, MayStop, Origin, StandsBeside, number_of};
 ghost use Rattle.fp_model.specs.Machine.{Machine};
 ghost use Rattle.fp_model.specs.declared.events.Event.TheVariants as events;
 ghost use Rattle.fp_site.specs.Moments.{Through};
 ghost use Rattle.fp_site.specs.Site.{ReadsNothing};
 ghost use Rattle.fp_source.specs.Lines.{fault_ahead, lines_ahead, lines_given};
-ghost use Rattle.fp_source.specs.Source.{ReadsOnly, Rose};
+ghost use Rattle.fp_source.specs.Source.{ReadsOnly};
 ghost use Rattle.std.specs.List.{list_all};
 ghost use Rattle.std.specs.Prelude.{◌≡◌, ◌+◌, ◌<◌, ◌↔◌, ℕ, IfErr, IfOk, IsErrOf, IsTrue, List as ListOf, OnErr, OnOk, Some, length, option_map};
 
@@ -95,7 +95,8 @@ impl<'a> Core<'a> {
 
         // When it stops.
         ensures stops { IfErr result (MayStop events.In self.old.engine.held) }
-        ensures failed { IsErrOf result Stop.ReadFault → Rose (S.faults source.old) (S.faults source.new) }
+        ensures cause { IfErr result (IsCausedBySource (S.faults source.old) (S.faults source.new)) }
+        ensures calm { OnOk result (S.faults source.new ≡ S.faults source.old) }
         ensures line { S.told source.old → (n : ℕ) → IsErrOf result (Stop.LineFault n)
             → option_map number_of (fault_ahead self.old.lines (S.left source.old Part.Messages)) ≡ Some n }
         ensures number { (n : ℕ) → IsErrOf result (Stop.LineFault n) → n ≡ lines_given self.old.lines + 1 }
@@ -138,8 +139,10 @@ impl<'a> Core<'a> {
             → StandsBeside origin (T.disk site.old) self.old.lines (S.left source.old Part.Messages) self.old.engine m
             → Through (T.disk site.old) (T.disk site.new)
             (IsLeftByDrain origin (rules_in self.old.engine) m (T.disk site.old)) }
-        ensures log { IsErrOf result Stop.LogFault → Rose (T.faults site.old) (T.faults site.new) }
-        ensures failed { IsErrOf result Stop.ReadFault → Rose (S.faults source.old) (S.faults source.new) }
+        ensures site_cause { IfErr result (IsCausedBySite (T.faults site.old) (T.faults site.new)) }
+        ensures source_cause { IfErr result (IsCausedBySource (S.faults source.old) (S.faults source.new)) }
+        ensures site_calm { OnOk result (T.faults site.new ≡ T.faults site.old) }
+        ensures source_calm { OnOk result (S.faults source.new ≡ S.faults source.old) }
         ensures line { S.told source.old → (n : ℕ) → IsErrOf result (Stop.LineFault n)
             → option_map number_of (fault_ahead self.old.lines (S.left source.old Part.Messages)) ≡ Some n }
 
@@ -202,8 +205,10 @@ impl<'a> Core<'a> {
             (IsLeftByDrain origin (rules_in self.old.engine) m (T.disk site.old)) }
         ensures fair { S.told source.old → OnOk result (fault_ahead self.new.lines (S.left source.new Part.Messages)
             ≡ fault_ahead self.old.lines (S.left source.old Part.Messages)) }
-        ensures log { IsErrOf result Stop.LogFault → Rose (T.faults site.old) (T.faults site.new) }
-        ensures failed { IsErrOf result Stop.ReadFault → Rose (S.faults source.old) (S.faults source.new) }
+        ensures site_cause { IfErr result (IsCausedBySite (T.faults site.old) (T.faults site.new)) }
+        ensures source_cause { IfErr result (IsCausedBySource (S.faults source.old) (S.faults source.new)) }
+        ensures site_calm { OnOk result (T.faults site.new ≡ T.faults site.old) }
+        ensures source_calm { OnOk result (S.faults source.new ≡ S.faults source.old) }
         ensures line { S.told source.old → (n : ℕ) → IsErrOf result (Stop.LineFault n)
             → option_map number_of (fault_ahead self.old.lines (S.left source.old Part.Messages)) ≡ Some n }
 

@@ -2,7 +2,7 @@
 ghost use Rattle.balancing.specs.Backlog.{AreSame};
 ghost use Rattle.fp_core.specs.Reading.{request_for};
 ghost use Rattle.fp_core.specs.Relation.{IsShort, IsTakeable, StandsFor, rules_in};
-ghost use Rattle.fp_core.specs.Standing.{MayStop, Stepped, SteppedBy, number_of};
+ghost use Rattle.fp_core.specs.Standing.{IsCausedBySource, MayStop, Stepped, SteppedBy, number_of};
 ghost use Rattle.fp_core.specs.Turning.{did_with};
 ghost use Rattle.fp_model.specs.Asking.{script_of};
 ghost use Rattle.fp_model.specs.History.{History};
@@ -13,7 +13,7 @@ ghost use Rattle.fp_model.specs.Product.{request_of};
 ghost use Rattle.fp_model.specs.declared.events.Event.TheVariants as events;
 ghost use Rattle.fp_model.specs.declared.log.Outcome.TheVariants as outcomes;
 ghost use Rattle.fp_source.specs.Lines.{fault_ahead, lines_ahead, lines_given};
-ghost use Rattle.fp_source.specs.Source.{ReadsOnly, Rose};
+ghost use Rattle.fp_source.specs.Source.{ReadsOnly};
 ghost use Rattle.std.specs.List.{list_any};
 ghost use Rattle.std.specs.Prelude.{◌≡◌, ◌+◌, ◌++◌, ℕ, IfErr, IfNone, IfOk, IfSome, IsErrOf, IsSome, List as ListOf, None, OnErr, OnOk, Some, false, length, option_map};
 
@@ -189,7 +189,8 @@ impl<'a> Core<'a> {
 
         // When it stops: only where no line waits.
         ensures stops { IfErr result (MayStop events.In self.old.engine.held) }
-        ensures failed { IsErrOf result Stop.ReadFault → Rose (S.faults source.old) (S.faults source.new) }
+        ensures cause { IfErr result (IsCausedBySource (S.faults source.old) (S.faults source.new)) }
+        ensures calm { OnOk result (S.faults source.new ≡ S.faults source.old) }
         ensures line { S.told source.old → (n : ℕ) → IsErrOf result (Stop.LineFault n)
             → option_map number_of (fault_ahead self.old.lines (S.left source.old Part.Messages)) ≡ Some n }
         ensures number { (n : ℕ) → IsErrOf result (Stop.LineFault n) → n ≡ lines_given self.old.lines + 1 }
@@ -228,7 +229,8 @@ impl<'a> Core<'a> {
 
         // When it stops: only where no line waits.
         ensures stops { IfErr result (MayStop events.In self.old.engine.held) }
-        ensures failed { IsErrOf result Stop.ReadFault → Rose (S.faults source.old) (S.faults source.new) }
+        ensures cause { IfErr result (IsCausedBySource (S.faults source.old) (S.faults source.new)) }
+        ensures calm { OnOk result (S.faults source.new ≡ S.faults source.old) }
         ensures line { S.told source.old → (n : ℕ) → IsErrOf result (Stop.LineFault n)
             → option_map number_of (fault_ahead self.old.lines (S.left source.old Part.Messages)) ≡ Some n }
         ensures number { (n : ℕ) → IsErrOf result (Stop.LineFault n) → n ≡ lines_given self.old.lines + 1 }

@@ -1,15 +1,14 @@
 //! LOG and CKPT: entries are sealed, their reply lines sent, and their terminals freed.
 ghost use Rattle.fp_core.specs.Relation.{StandsFor, rules_in};
 ghost use Rattle.fp_core.specs.Sealing.{AreFreed, IsOfLog, replies_of, reply_of, terminals_of};
-ghost use Rattle.fp_core.specs.Standing.{IsContinued, Leaves, MayStop, Origin, StandsAt, SteppedAt, seals_of};
+ghost use Rattle.fp_core.specs.Standing.{IsCausedBySite, IsContinued, Leaves, MayStop, Origin, StandsAt, SteppedAt, seals_of};
 ghost use Rattle.fp_core.specs.Turning.{Turned};
 ghost use Rattle.fp_model.specs.Machine.{Machine, sealed_all, terminal_in};
 ghost use Rattle.fp_model.specs.Messages.{terminal_of};
 ghost use Rattle.fp_site.specs.Disk.{Elapses, Sends};
 ghost use Rattle.fp_model.specs.declared.events.Event.TheVariants as events;
 ghost use Rattle.fp_site.specs.Site.{ReadsNothing};
-ghost use Rattle.fp_source.specs.Source.{Rose};
-ghost use Rattle.std.specs.Prelude.{◌≡◌, ◌≤◌, ◌++◌, ℕ, IfErr, IfOk, IsErrOf, OnOk, drop, length, take};
+ghost use Rattle.std.specs.Prelude.{◌≡◌, ◌≤◌, ◌++◌, ℕ, IfErr, IfOk, OnOk, drop, length, take};
 ghost use Rattle.std.specs.VecDeque.{deque_capacity};
 
 use crate::did::Did;
@@ -48,7 +47,8 @@ fn tell_one<T: Site>(
 
     // When it stops: with the site, or for want of memory.
     ensures stops { IfErr result IsOfLog }
-    ensures failed { IsErrOf result Stop.LogFault → Rose (T.faults site.old) (T.faults site.new) }
+    ensures cause { IfErr result (IsCausedBySite (T.faults site.old) (T.faults site.new)) }
+    ensures calm { OnOk result (T.faults site.new ≡ T.faults site.old) }
 
     // What stays. A crash at any moment leaves a first part of the line sent.
     ensures queues { queues.new.queues ≡ queues.old.queues }
@@ -91,7 +91,8 @@ fn tell<T: Site>(
 
     // When it stops: with the site, or for want of memory.
     ensures stops { IfErr result IsOfLog }
-    ensures failed { IsErrOf result Stop.LogFault → Rose (T.faults site.old) (T.faults site.new) }
+    ensures cause { IfErr result (IsCausedBySite (T.faults site.old) (T.faults site.new)) }
+    ensures calm { OnOk result (T.faults site.new ≡ T.faults site.old) }
 
     // What stays. A crash at any moment leaves a first part of the lines sent.
     ensures queues { queues.new.queues ≡ queues.old.queues }
@@ -129,7 +130,8 @@ impl Engine<'_> {
 
         // When it stops: with the site, or for want of memory.
         ensures stops { IfErr result (MayStop events.Log self.old.held) }
-        ensures failed { IsErrOf result Stop.LogFault → Rose (T.faults site.old) (T.faults site.new) }
+        ensures cause { IfErr result (IsCausedBySite (T.faults site.old) (T.faults site.new)) }
+        ensures calm { OnOk result (T.faults site.new ≡ T.faults site.old) }
 
         // What stays.
         ensures rules { rules_in self.new ≡ rules_in self.old }
@@ -165,7 +167,8 @@ impl Engine<'_> {
 
         // When it stops: with the site, or for want of memory.
         ensures stops { IfErr result IsOfLog }
-        ensures failed { IsErrOf result Stop.LogFault → Rose (T.faults site.old) (T.faults site.new) }
+        ensures cause { IfErr result (IsCausedBySite (T.faults site.old) (T.faults site.new)) }
+        ensures calm { OnOk result (T.faults site.new ≡ T.faults site.old) }
 
         // What stays.
         ensures rules { rules_in self.new ≡ rules_in self.old }
@@ -198,7 +201,8 @@ impl Engine<'_> {
 
         // When it stops: with the site, or for want of memory.
         ensures stops { IfErr result (MayStop events.Ckpt self.old.held) }
-        ensures failed { IsErrOf result Stop.LogFault → Rose (T.faults site.old) (T.faults site.new) }
+        ensures cause { IfErr result (IsCausedBySite (T.faults site.old) (T.faults site.new)) }
+        ensures calm { OnOk result (T.faults site.new ≡ T.faults site.old) }
 
         // What stays.
         ensures rules { rules_in self.new ≡ rules_in self.old }

@@ -1,6 +1,6 @@
 //! The core: one event of a schedule at a time.
 ghost use Rattle.fp_core.specs.Relation.{IsSetup, StandsFor, rules_in};
-ghost use Rattle.fp_core.specs.Standing.{IsContinued, IsEventOf, Leaves, MayStop, Origin, StandsAt, StandsBeside, Stepped, SteppedBeside, number_of, seals_of};
+ghost use Rattle.fp_core.specs.Standing.{IsCausedBySite, IsCausedBySource, IsContinued, IsEventOf, Leaves, MayStop, Origin, StandsAt, StandsBeside, Stepped, SteppedBeside, number_of, seals_of};
 ghost use Rattle.fp_core.specs.declared.engine.Region.TheVariants as regions;
 ghost use Rattle.fp_exits.specs.Kinds.{has_kind, kinds_of};
 ghost use Rattle.fp_model.specs.History.{History, place_of};
@@ -11,7 +11,7 @@ ghost use Rattle.fp_model.specs.Product.{rules_of};
 ghost use Rattle.fp_model.specs.declared.events.Event.TheVariants as events;
 ghost use Rattle.fp_site.specs.Site.{ReadsNothing};
 ghost use Rattle.fp_source.specs.Lines.{fault_ahead, lines_ahead, lines_given};
-ghost use Rattle.fp_source.specs.Source.{ReadsOnly, Rose};
+ghost use Rattle.fp_source.specs.Source.{ReadsOnly};
 ghost use Rattle.msdb_store.specs.Store.{IsOf};
 ghost use Rattle.std.specs.Prelude.{◌≡◌, ◌+◌, ◌-◌, ℕ, [], IfErr, IfOk, IsErrOf, List as ListOf, IsOk, OnErr, OnOk, Some, length, option_map, slice_get, true};
 
@@ -125,8 +125,10 @@ impl<'a> Core<'a> {
 
         // When it stops.
         ensures stops { IfErr result (MayStop event.now self.old.engine.held) }
-        ensures log { IsErrOf result Stop.LogFault → Rose (T.faults site.old) (T.faults site.new) }
-        ensures failed { IsErrOf result Stop.ReadFault → Rose (S.faults source.old) (S.faults source.new) }
+        ensures site_cause { IfErr result (IsCausedBySite (T.faults site.old) (T.faults site.new)) }
+        ensures source_cause { IfErr result (IsCausedBySource (S.faults source.old) (S.faults source.new)) }
+        ensures site_calm { OnOk result (T.faults site.new ≡ T.faults site.old) }
+        ensures source_calm { OnOk result (S.faults source.new ≡ S.faults source.old) }
         ensures line { S.told source.old → (n : ℕ) → IsErrOf result (Stop.LineFault n)
             → option_map number_of (fault_ahead self.old.lines (S.left source.old Part.Messages)) ≡ Some n }
         ensures number { (n : ℕ) → IsErrOf result (Stop.LineFault n) → n ≡ lines_given self.old.lines + 1 }

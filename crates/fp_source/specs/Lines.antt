@@ -1,8 +1,11 @@
 -- The lines of the messages that are still to come.
-use Rattle.std.specs.Prelude.{ℕ, ◌+◌, ◌-◌, List, ◌++◌, take, drop, Option, slice_get, filter_map}
+use Rattle.std.specs.Prelude.{◌≡◌, ℕ, ◌+◌, ◌-◌, List, ◌++◌, take, drop, Option, slice_get, filter_map}
 use Rattle.std.specs.List.{enumerate_from}
 use Rattle.fp_model.specs.Messages.{LineFault, lines_of, raw_lines, fault_of_line}
+use Rattle.fp_source.specs.declared.lines.LineFault.{LineFault as Fault}
+use Rattle.fp_source.specs.declared.lines.LineFault.TheVariants.{Failed}
 use Rattle.fp_source.specs.declared.lines.Lines.{Lines}
+use Rattle.fp_source.specs.Source.{Rose}
 
 -- the bytes that were read and not given
 abbrev pub buffered : Lines → List ℕ
@@ -27,3 +30,8 @@ fault_from number lines = slice_get (filter_map (λ line. fault_of_line line.0 l
 -- the fault ahead
 abbrev pub fault_ahead : Lines → List ℕ → Option LineFault
 fault_ahead it left = fault_from (lines_given it + 1) (raw_lines (to_come it left))
+
+-- Why no line is given, by the source's count of faults: it rose where a read failed, and else it stayed.
+abbrev pub IsCausedBy : ℕ → ℕ → Fault → Type 0
+IsCausedBy before now Failed = Rose before now
+IsCausedBy before now _ = now ≡ before

@@ -3,10 +3,10 @@
 //! A line ends at a newline and loses one byte 13 directly before it. A last line without newline counts, and keeps
 //! its byte 13. The bytes are read in blocks; a block is given line by line and is never moved. After a fault or want
 //! of memory a part of the line is lost: drop the `Lines`.
-ghost use Rattle.std.specs.Prelude.{◌≡◌, ◌<◌, ◌≤◌, ◌+◌, ◌∷◌, ◌++◌, ℕ, List, [], IfOk, IfSome, IfNone, OnErr, OnOk, IsErrOf, Some, None, length, true, false, if◌then◌else◌};
+ghost use Rattle.std.specs.Prelude.{◌≡◌, ◌<◌, ◌≤◌, ◌+◌, ◌∷◌, ◌++◌, ℕ, List, [], IfErr, IfOk, IfSome, IfNone, OnOk, IsErrOf, Some, None, length, true, false, if◌then◌else◌};
 ghost use Rattle.std.specs.Str.Lines.{strip_carriage_return};
 ghost use Rattle.fp_model.specs.Messages.{LineTooLong, TooManyLines, lines_of, line_fault};
-ghost use Rattle.fp_source.specs.Source.{ReadsOnly, Rose};
+ghost use Rattle.fp_source.specs.Source.{Counts, ReadsOnly};
 ghost use Rattle.fp_source.specs.Newlines.{HasLongLine, HasNoNewline, IsFirstPart, after_part};
 
 use crate::{Failed, Part, Source};
@@ -72,7 +72,7 @@ pub struct Lines {
 }
 
 impl Lines {
-    ghost use Rattle.fp_source.specs.Lines.{buffered, fault_ahead, lines_ahead, lines_given, to_come};
+    ghost use Rattle.fp_source.specs.Lines.{IsCausedBy, buffered, fault_ahead, lines_ahead, lines_given, to_come};
 
     /// Stands before the first line.
     pub fn new(alloc: Global) -> Result<Lines, AllocError>
@@ -118,7 +118,8 @@ impl Lines {
             fault_ahead self.old (S.left source.old Part.Messages) ≡ Some (LineTooLong n) }
         ensures too_many { S.told source.old → (n : ℕ) → IsErrOf result (LineFault.TooMany n) →
             fault_ahead self.old (S.left source.old Part.Messages) ≡ Some (TooManyLines n) }
-        ensures cause { IsErrOf result LineFault.Failed → Rose (S.faults source.old) (S.faults source.new) }
+        ensures cause { IfErr result (IsCausedBy (S.faults source.old) (S.faults source.new)) }
+        ensures calm { OnOk result (S.faults source.new ≡ S.faults source.old) }
 
         // The line of a fault is the next one.
         ensures long_number { (n : ℕ) → IsErrOf result (LineFault.TooLong n) → n ≡ lines_given self.old + 1 }
@@ -156,7 +157,8 @@ impl Lines {
             HasLongLine (to_come self.old (S.left source.old Part.Messages)) }
         ensures number { (n : ℕ) → IsErrOf result (LineFault.TooLong n) → n ≡ lines_given self.old + 1 }
         ensures not_many { (n : ℕ) → IsErrOf result (LineFault.TooMany n) → ⊥ }
-        ensures cause { IsErrOf result LineFault.Failed → Rose (S.faults source.old) (S.faults source.new) }
+        ensures cause { IfErr result (IsCausedBy (S.faults source.old) (S.faults source.new)) }
+        ensures calm { OnOk result (S.faults source.new ≡ S.faults source.old) }
         ensures given { lines_given self.new ≡ lines_given self.old }
         ensures source { ReadsOnly S.told S.left S.faults S.holds S.keeps Part.Messages source.old source.new }
     {
@@ -175,7 +177,7 @@ impl Lines {
             to_come self.new (S.left source.new Part.Messages) ≡ []) }
         ensures same { S.told source.old →
             to_come self.new (S.left source.new Part.Messages) ≡ to_come self.old (S.left source.old Part.Messages) }
-        ensures cause { OnErr result (Rose (S.faults source.old) (S.faults source.new)) }
+        ensures cause { Counts (S.faults source.old) (S.faults source.new) result }
         ensures given { lines_given self.new ≡ lines_given self.old }
         ensures source { ReadsOnly S.told S.left S.faults S.holds S.keeps Part.Messages source.old source.new }
     {

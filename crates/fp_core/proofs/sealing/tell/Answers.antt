@@ -71,6 +71,7 @@ loop-preserved g c =
       same = λ told. one.same (before.site.still_told told) ∙ before.same told;
       reads = λ set h. let after = one.reads set h in let earlier = before.reads set after.0 in
           (earlier.0, after.1 ∙ earlier.1);
+      calm = c.in_ok-tell_one.ensures.calm ∙ before.calm;
       site = record {
         later = omega (arith, before.site.later, one.site.later);
         still_told = λ told. one.site.still_told (before.site.still_told told);

@@ -18,6 +18,7 @@ invariant-loop g l = record {
   same : g.T.Site.told l.initial.site → (g.T.Site.disk l.site).contents ≡ (g.T.Site.disk l.initial.site).contents;
   reads : ReadsNothing (g.T.Site.tells_reads l.initial.site) (g.T.Site.tells_reads l.site)
       (g.T.Site.bytes_read l.initial.site) (g.T.Site.bytes_read l.site);
+  calm : g.T.Site.faults l.site ≡ g.T.Site.faults l.initial.site;
   site : IsContinued g.T.Site.told g.T.Site.faults g.T.Site.holds g.T.Site.keeps l.initial.site l.site;
   crash : g.T.Site.told l.initial.site → Elapses (g.T.Site.disk l.initial.site) (g.T.Site.disk l.site)
       (Sends (g.T.Site.disk l.initial.site) (replies_of (take l.counter l.initial.owed.items)));

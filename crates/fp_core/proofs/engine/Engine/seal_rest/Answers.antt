@@ -22,6 +22,7 @@ loop-self-init g c =
       scripts = refl;
       count = refl;
       reads = λ set h. (h, refl);
+      calm = refl;
       site = record { later = omega arith; still_told = λ told. told; reference = refl; kept = λ x h. h };
     }
 
@@ -59,6 +60,7 @@ loop-self-preserved g c =
       count = one.count ∙ before.count;
       reads = λ set h. let after = one.reads set h in let earlier = before.reads set after.0 in
           (earlier.0, after.1 ∙ earlier.1);
+      calm = c.in_ok-seal.ensures.calm ∙ before.calm;
       site = record {
         later = omega (arith, before.site.later, one.site.later);
         still_told = λ told. one.site.still_told (before.site.still_told told);

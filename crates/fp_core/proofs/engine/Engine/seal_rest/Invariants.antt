@@ -26,6 +26,7 @@ invariant-loop-self g l = record {
   count : length l.self.regions ≡ length l.initial.self.regions;
   reads : ReadsNothing (g.T.Site.tells_reads l.initial.site) (g.T.Site.tells_reads l.site)
       (g.T.Site.bytes_read l.initial.site) (g.T.Site.bytes_read l.site);
+  calm : g.T.Site.faults l.site ≡ g.T.Site.faults l.initial.site;
   site : IsContinued g.T.Site.told g.T.Site.faults g.T.Site.holds g.T.Site.keeps l.initial.site l.site;
 }
 

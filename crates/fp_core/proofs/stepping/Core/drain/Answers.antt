@@ -168,6 +168,8 @@ loop-done-preserved g c =
           (g.T.Site.tells_reads c.round.new.site)
           (g.T.Site.bytes_read c.args.site.now) (g.T.Site.bytes_read c.loop-done.site)
           (g.T.Site.bytes_read c.round.new.site) i.reads c.round.ensures.reads;
+      site_calm = c.in_ok-round.ensures.site_calm ∙ i.site_calm;
+      source_calm = c.in_ok-round.ensures.source_calm ∙ i.source_calm;
       site = continued_both g.T.Site.told g.T.Site.faults g.T.Site.holds g.T.Site.keeps c.args.site.now
           c.loop-done.site c.round.new.site
           i.site c.round.ensures.site;

@@ -33,6 +33,8 @@ invariant-loop-done g l = record {
   router : l.self.router ≡ l.initial.self.router;
   reads : ReadsNothing (g.T.Site.tells_reads l.initial.site) (g.T.Site.tells_reads l.site)
       (g.T.Site.bytes_read l.initial.site) (g.T.Site.bytes_read l.site);
+  site_calm : g.T.Site.faults l.site ≡ g.T.Site.faults l.initial.site;
+  source_calm : g.S.Source.faults l.source ≡ g.S.Source.faults l.initial.source;
   site : IsContinued g.T.Site.told g.T.Site.faults g.T.Site.holds g.T.Site.keeps l.initial.site l.site;
   source : ReadsOnly g.S.Source.told g.S.Source.left g.S.Source.faults g.S.Source.holds g.S.Source.keeps part.Messages
       l.initial.source l.source;

@@ -44,4 +44,5 @@ loop-self-preserved g c =
           rw more (plain_append line part.0 it.plain part.1.plain);
       short = c.in_ok-take_part.ensures.short;
       given = c.in_ok-take_part.ensures.given ∙ c.in_ok-fill.ensures.given ∙ it.given;
+      calm = c.in_ok-fill.ensures.cause.stayed ∙ it.calm;
     }

@@ -15,6 +15,7 @@ invariant-loop-self g l = record {
   plain : HasNoNewline l.line.items;
   short : length l.line.items ≤ 2100;
   given : lines_given l.self ≡ lines_given l.initial.self;
+  calm : g.S.Source.faults l.source ≡ g.S.Source.faults l.initial.source;
 }
 
 abbrev pub decreases-loop-self : goal.decreases-loop-self
