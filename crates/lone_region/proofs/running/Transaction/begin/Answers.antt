@@ -8,10 +8,10 @@ returns c script message msdbs from cheap named numbered =
     record {
       script = script;
       named = named;
-      numbered = rw c.start.ensures.number numbered;
+      numbered = rw c.start-program.ensures.number numbered;
       answers = [];
-      at = c.start.ensures.at c.args.defs.now script.statements message;
-      fit = c.start.ensures.fit c.args.defs.now.msdbs;
+      at = c.start-program.ensures.at c.args.defs.now script.statements message;
+      fit = c.start-program.ensures.fit c.args.defs.now.msdbs;
       locks = record {
         one = c.in_ok-locks.ensures.regions;
         locks = [];
