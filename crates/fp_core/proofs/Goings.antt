@@ -7,6 +7,7 @@ use Rattle.std.proofs.lemmas.List.{length-set}
 use Rattle.ci_locks.specs.Table.{standing}
 use Rattle.drain_laws.specs.Measure.{one_if_active}
 use Rattle.fp_model.specs.declared.calls.Call.{Call}
+use Rattle.fp_model.specs.declared.calls.Message.{Message}
 use Rattle.fp_model.specs.declared.calls.Mode.{Mode}
 use Rattle.fp_model.specs.declared.calls.Resource.{Resource}
 use Rattle.fp_model.specs.declared.database.Db.{Db}
@@ -48,17 +49,23 @@ noted_is rules false notes n = refl
 
 module _ (defs : Defs) (scripts : List Script) (active : Active) (t : Transaction)
     (s : IsTransaction defs scripts active t) where
+  -- the program is where its script is, for the message that the code keeps
+  pub is_here : IsAt defs s.script.statements active.message t.point.answers active.program
+  is_here = subst (λ (message : Message). IsAt defs s.script.statements message t.point.answers active.program)
+      (sym s.message) s.at
+
   -- what its message asks is what its script asks
-  pub asks_are : (a : Ask) → ask defs s.script.statements t.message t.point.answers ≡ a
+  pub asks_are : (a : Ask) → ask defs s.script.statements active.message t.point.answers ≡ a
       → asks (rules_of defs scripts) t ≡ a
   asks_are a e =
       ap (λ (o : Option Script). option_map_or (λ (x : Script). ask defs x.statements t.message t.point.answers) o
       (Replies [])) s.named
+      ∙ ap (λ (message : Message). ask defs s.script.statements message t.point.answers) (sym s.message)
       ∙ e
 
   -- the program moves on to its next call
   pub moves : (program : Program) → program.number ≡ active.program.number
-      → IsAt defs s.script.statements t.message t.point.answers program
+      → IsAt defs s.script.statements active.message t.point.answers program
       → IsFit defs.msdbs program
       → IsTransaction defs scripts (record active { program = program }) t
   moves program number at fit = record {
@@ -74,7 +81,7 @@ module _ (defs : Defs) (scripts : List Script) (active : Active) (t : Transactio
     script = s.script;
     named = s.named;
     numbered = rw number s.numbered;
-    at = at;
+    at = subst (λ (message : Message). IsAt defs s.script.statements message t.point.answers program) s.message at;
     fit = fit;
   }
 

@@ -53,7 +53,7 @@ fn go_on(
     ensures err { (t : Transaction) → IsTransaction defs.now scripts.now.scripts active.old t
         → OnErr result (IsTransaction defs.now scripts.now.scripts active.new t) }
 {
-    match active.program.next(scripts, defs)? {
+    match active.program.next(scripts, defs, &active.message)? {
         Next::Call(call) => {
             match answer(
                 alloc,

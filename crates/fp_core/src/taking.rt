@@ -57,7 +57,7 @@ pub(crate) fn start(
     let Some(number) = scripts.find(&message.tran) else {
         unreachable!()
     };
-    let program = Program::start(alloc, scripts, number, message)?;
+    let program = Program::start(alloc, scripts, number);
     let work = Work::new(alloc, defs)?;
     Ok((program, work))
 }

@@ -1,5 +1,6 @@
 use Rattle.std.proofs.Common.{refl, ◌≡◌, sym, ◌∙◌, ap, subst, ℕ, List, [], ◌∷◌, ◌++◌, true, Some, None}
 use Rattle.fp_model.specs.declared.calls.Answer.{Answer}
+use Rattle.fp_model.specs.declared.calls.Message.{Message}
 use Rattle.fp_model.specs.Answers.{Replied}
 use Rattle.fp_model.specs.Asking.{Asks, Replies, Rolls, ask}
 use Rattle.fp_model.specs.Calls.{reply_to, looks_unheld}
@@ -9,7 +10,7 @@ use Rattle.fp_model.specs.Turns.{noted}
 use Rattle.fp_model.specs.Workspace.{Workspace}
 use Rattle.ci_locks.specs.Table.{standing}
 use Rattle.txn_machine.specs.Running.{IsAt}
-use Rattle.fp_core.proofs.Goings.{asks_are, moves, needs_are, noted_is, on_err}
+use Rattle.fp_core.proofs.Goings.{asks_are, is_here, moves, needs_are, noted_is, on_err}
 use Rattle.fp_core.proofs.Places.{each_has}
 use Rattle.fp_core.proofs.answering.go_on.Goals as goal
 
@@ -23,14 +24,16 @@ answer-requires-clause-call c =
 pub returns-in_err-call-clause-err : goal.returns-in_err-call-clause-err
 returns-in_err-call-clause-err c t s = on_err c.from_residual.result
     (moves c.args.defs.now c.args.scripts.now.scripts c.args.active.now t s c.next.new.self c.in_err-call.ensures.number
-    (c.in_err-call.ensures.at s.script t.message t.point.answers s.numbered s.at)
+    (c.in_err-call.ensures.at s.script t.point.answers s.numbered
+    (is_here c.args.defs.now c.args.scripts.now.scripts c.args.active.now t s))
     (c.in_err-call.ensures.fit c.args.defs.now.msdbs s.fit))
 
 pub returns-in_err-given-in-Call-clause-err : goal.returns-in_err-given-in-Call-clause-err
 returns-in_err-given-in-Call-clause-err c t s =
     on_err c.from_residual-in_err-given-in-Call.result (rw c.in_err-given-in-Call.ensures.err
     (moves c.args.defs.now c.args.scripts.now.scripts c.args.active.now t s c.next.new.self c.in_ok-call.ensures.number
-    (c.in_ok-call.ensures.at s.script t.message t.point.answers s.numbered s.at)
+    (c.in_ok-call.ensures.at s.script t.point.answers s.numbered
+    (is_here c.args.defs.now c.args.scripts.now.scripts c.args.active.now t s))
     (c.in_ok-call.ensures.fit c.args.defs.now.msdbs s.fit)))
 
 pub returns-in-Answer-clause-acted : goal.returns-in-Answer-clause-acted
@@ -41,8 +44,9 @@ returns-in-Answer-clause-acted c now t e s =
     let given : Answer = c.in-Answer.given in
     let old = c.args.active.now.work in
     let new = c.answer.new.work in
-    let asked : ask defs s.script.statements t.message t.point.answers ≡ Asks call =
-    rw c.in-Call.is at (c.in_ok-call.ensures.exact s.script t.message t.point.answers s.numbered s.at) in
+    let asked : ask defs s.script.statements c.args.active.now.message t.point.answers ≡ Asks call =
+    rw c.in-Call.is at (c.in_ok-call.ensures.exact s.script t.point.answers s.numbered
+    (is_here defs scripts c.args.active.now t s)) in
     let needed = rw c.in-Answer.is at (c.in_ok-given-in-Call.ensures.need now e) in
     let answered : reply_to defs now now old.own call ≡ record { answer = given; own = new.own } =
     rw c.in-Answer.is at (c.in_ok-given-in-Call.ensures.answer now e) in
@@ -79,7 +83,10 @@ returns-in-Answer-clause-acted c now t e s =
         at = subst (λ (a : Answer). IsAt defs s.script.statements t.message (t.point.answers ++ a ∷ []) c.give.new.self)
             (sym (ap (λ (r : Replied). r.answer) reply))
             (c.give.ensures.at defs s.script.statements t.message t.point.answers
-            (c.in_ok-call.ensures.at s.script t.message t.point.answers s.numbered s.at));
+            (subst (λ (message : Message). IsAt defs s.script.statements message t.point.answers c.next.new.self)
+            s.message
+            (c.in_ok-call.ensures.at s.script t.point.answers s.numbered
+            (is_here defs scripts c.args.active.now t s))));
         fit = c.give.ensures.fit defs.msdbs call (rw c.in-Call.is at c.in_ok-call.ensures.waits)
             (c.in_ok-call.ensures.fit defs.msdbs s.fit) fits;
       };
@@ -90,8 +97,9 @@ returns-in-Call-clause-acted c now t e s =
     let defs = c.args.defs.now in
     let scripts = c.args.scripts.now.scripts in
     let call = c.in-Call.call in
-    let asked : ask defs s.script.statements t.message t.point.answers ≡ Asks call =
-    rw c.in-Call.is at (c.in_ok-call.ensures.exact s.script t.message t.point.answers s.numbered s.at) in
+    let asked : ask defs s.script.statements c.args.active.now.message t.point.answers ≡ Asks call =
+    rw c.in-Call.is at (c.in_ok-call.ensures.exact s.script t.point.answers s.numbered
+    (is_here defs scripts c.args.active.now t s)) in
     let needed = rw c.in-Need.is at (c.in_ok-given-in-Call.ensures.need now e) in
     let same = rw c.in-Need.is at c.in_ok-given-in-Call.ensures.needing in
     record {
@@ -100,26 +108,30 @@ returns-in-Call-clause-acted c now t e s =
       needs = needs_are defs scripts c.args.active.now t s ((standing c.args.locks.now).holds c.args.region) now call
           (Some (record { resource = c.in-Need.resource; mode = c.in-Need.mode })) needed;
       is = rw same (moves defs scripts c.args.active.now t s c.next.new.self c.in_ok-call.ensures.number
-          (c.in_ok-call.ensures.at s.script t.message t.point.answers s.numbered s.at)
+          (c.in_ok-call.ensures.at s.script t.point.answers s.numbered (is_here defs scripts c.args.active.now t s))
           (c.in_ok-call.ensures.fit defs.msdbs s.fit));
     }
 
 pub returns-in-Reply-clause-acted : goal.returns-in-Reply-clause-acted
 returns-in-Reply-clause-acted c now t e s = record {
   asked = asks_are c.args.defs.now c.args.scripts.now.scripts c.args.active.now t s (Replies c.in-Reply.reply)
-      (rw c.in-Reply.is at (c.in_ok-call.ensures.exact s.script t.message t.point.answers s.numbered s.at));
+      (rw c.in-Reply.is at (c.in_ok-call.ensures.exact s.script t.point.answers s.numbered
+      (is_here c.args.defs.now c.args.scripts.now.scripts c.args.active.now t s)));
   is = moves c.args.defs.now c.args.scripts.now.scripts c.args.active.now t s c.next.new.self
       c.in_ok-call.ensures.number
-      (c.in_ok-call.ensures.at s.script t.message t.point.answers s.numbered s.at)
+      (c.in_ok-call.ensures.at s.script t.point.answers s.numbered
+      (is_here c.args.defs.now c.args.scripts.now.scripts c.args.active.now t s))
       (c.in_ok-call.ensures.fit c.args.defs.now.msdbs s.fit);
 }
 
 pub returns-clause-acted : goal.returns-clause-acted
 returns-clause-acted c now t e s = record {
   asked = asks_are c.args.defs.now c.args.scripts.now.scripts c.args.active.now t s (Rolls c.in-Roll.code)
-      (rw c.in-Roll.is at (c.in_ok-call.ensures.exact s.script t.message t.point.answers s.numbered s.at));
+      (rw c.in-Roll.is at (c.in_ok-call.ensures.exact s.script t.point.answers s.numbered
+      (is_here c.args.defs.now c.args.scripts.now.scripts c.args.active.now t s)));
   is = moves c.args.defs.now c.args.scripts.now.scripts c.args.active.now t s c.next.new.self
       c.in_ok-call.ensures.number
-      (c.in_ok-call.ensures.at s.script t.message t.point.answers s.numbered s.at)
+      (c.in_ok-call.ensures.at s.script t.point.answers s.numbered
+      (is_here c.args.defs.now c.args.scripts.now.scripts c.args.active.now t s))
       (c.in_ok-call.ensures.fit c.args.defs.now.msdbs s.fit);
 }

@@ -9,8 +9,8 @@ use Rattle.txn_machine.proofs.known.Known.fsas_of.Given as goal
 
 abbrev pub invariant-loop-fsa : goal.invariant-loop-fsa
 invariant-loop-fsa l = record {
-  gives : prefixed (forms l.given) (fsas_given l.defs l.self.message (env_of l.self []) (drop l.fsa-index l.fsas)) ≡
-      fsas_given l.defs l.self.message (env_of l.self []) l.fsas;
+  gives : prefixed (forms l.given) (fsas_given l.defs l.message (env_of l.self []) (drop l.fsa-index l.fsas)) ≡
+      fsas_given l.defs l.message (env_of l.self []) l.fsas;
   short : AllByRecursion IsShort l.given;
   spelled : AllByRecursion IsFsa (forms l.given);
 }
