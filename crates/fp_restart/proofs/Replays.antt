@@ -1,5 +1,5 @@
 -- Reading a log group by group, and what that gives of a sound log.
-use Rattle.std.proofs.Common.{◌≡◌, ◌≢◌, ⊎_elim, ℕ, ◌+◌, List, [], ◌∷◌, ◌++◌, length, drop, refl, sym, ◌∙◌, ap, subst, arith, append_assoc}
+use Rattle.std.proofs.Common.{◌≡◌, ◌≢◌, ⊎_elim, ℕ, ◌+◌, ◌<◌, List, [], ◌∷◌, ◌++◌, length, drop, refl, sym, ◌∙◌, ap, subst, arith, append_assoc}
 use Rattle.std.specs.Prelude.{slice_index}
 use Rattle.std.specs.List.{AllByRecursion}
 use Rattle.std.proofs.lemmas.List.{append-nil, length-append}
@@ -30,7 +30,7 @@ use Rattle.log_groups.specs.Log.{LogState}
 use Rattle.msdb_store.specs.Store.{IsFitSegment, IsOf, Stored}
 use Rattle.fp_restart.specs.Begun.{IsBegunBy}
 use Rattle.fp_restart.specs.declared.begun.Begun.{Begun}
-use Rattle.fp_restart.specs.Replayed.{IsFirstBadAt, IsFollowed, IsReadable, IsReplayed, IsTaken}
+use Rattle.fp_restart.specs.Replayed.{IsFirstBadAt, IsFollowed, IsReadable, IsReplayed, IsTaken, ReadsBack}
 use Rattle.fp_restart.specs.Restarts.{HasUnfit, IsBadAt, StandsFor}
 use Rattle.fp_restart.proofs.Firsts.{fit-front, fit-nothing}
 use Rattle.fp_restart.proofs.Fits.{entries-append, entries-more, items-append}
@@ -217,6 +217,36 @@ module _ (defs : Defs) (scripts : List Script) (front : Front) (log : List ℕ) 
       same_history history =
           one_end (rules_of defs scripts) (beginning front.format (start defs)) entries history.history
           sound.history.history history.leads sound.history.leads
+
+-- ---- of any log that can be read
+
+module _ (defs : Defs) (front : Front) (log : List ℕ) (disk : Disk) (store : Stored) (l : LogState) where
+  -- what was read stands on the disk
+  pub reads_back : IsDurable disk 0 → disk.contents 0 ≡ log → StartsWithFront log front → l.unsealed ≡ []
+      → IsReplayed defs log (record { first = first_gate front; at = l.gate; count = l.sealed }) (start defs).msdbs
+      store.msdbs → slice_index log l.gate ≢ 1
+      → ReadsBack defs front disk store l
+  reads_back durable now begins unsealed replayed closed = record {
+    durable = durable;
+    begins = subst (λ bytes. StartsWithFront bytes front) (sym now) begins;
+    replayed = subst (λ bytes. IsReplayed defs bytes
+        (record { first = first_gate front; at = l.gate; count = l.sealed }) (start defs).msdbs store.msdbs) (sym now)
+        replayed;
+    closed = subst (λ bytes. slice_index bytes l.gate ≢ 1) (sym now) closed;
+    unsealed = unsealed;
+  }
+
+-- where the gate that isn't open is there, the log is at rest
+pub read_at_rest : (defs : Defs) (front : Front) (disk : Disk) (store : Stored) (l : LogState)
+    → (it : ReadsBack defs front disk store l) → l.gate < length (disk.contents 0)
+    → IsAtRest disk front it.replayed.groups l.gate
+read_at_rest defs front disk store l it stands = record {
+  durable = it.durable;
+  log = record {
+    holds = record { begins = it.begins; reads = (it.replayed.holds.holds, it.closed) };
+    stands = stands;
+  };
+}
 
 -- ---- of a new log
 

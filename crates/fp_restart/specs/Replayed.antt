@@ -1,11 +1,16 @@
 -- What reading the groups of a log makes of the databases.
-use Rattle.std.specs.Prelude.{◌≡◌, ◌≢◌, ℕ, List, ◌++◌, length, slice_index}
+use Rattle.std.specs.Prelude.{◌≡◌, ◌≢◌, ℕ, List, [], ◌++◌, length, slice_index}
+use Rattle.fp_site.specs.Disk.{Disk, IsDurable}
 use Rattle.fp_model.specs.declared.definitions.Defs.{Defs}
 use Rattle.fp_model.specs.declared.database.Msdb.{Msdb}
 use Rattle.fp_model.specs.declared.log.Entry.{Entry}
 use Rattle.fp_model.specs.Groups.{HoldsGroups, entries_of}
 use Rattle.fp_model.specs.Items.{AreFit, with_items, items_of}
+use Rattle.fp_model.specs.LogText.{Front, StartsWithFront, first_gate}
+use Rattle.fp_model.specs.State.{start}
+use Rattle.log_groups.specs.Log.{LogState}
 use Rattle.log_groups.specs.Reads.{HasGroup}
+use Rattle.msdb_store.specs.Store.{Stored}
 use Rattle.fp_restart.specs.declared.begun.Begun.{Begun}
 use Rattle.fp_restart.specs.Begun.{IsBegunBy}
 use Rattle.fp_restart.specs.Restarts.{IsBadAt}
@@ -56,3 +61,17 @@ module _ (defs : Defs) (log : List ℕ) where
     pub groups : List (List Entry)
     pub holds : HoldsFit first at groups
     pub bad : IsBadAt defs log (entries_of groups) at
+
+-- ---- any log that can be read
+
+-- What a restart gives of a log, whether or not its entries are a history: every crash leaves it as it is, it begins
+-- with the front, and whole groups stand up to the first gate that isn't open. All their entries are sealed, and the
+-- store has their segments.
+pub record ReadsBack (defs : Defs) (front : Front) (disk : Disk) (store : Stored) (log : LogState) : Type 0 where
+  pub durable : IsDurable disk 0
+  pub begins : StartsWithFront (disk.contents 0) front
+  pub replayed : IsReplayed defs (disk.contents 0)
+      (record { first = first_gate front; at = log.gate; count = log.sealed })
+      (start defs).msdbs store.msdbs
+  pub closed : slice_index (disk.contents 0) log.gate ≢ 1
+  pub unsealed : log.unsealed ≡ []

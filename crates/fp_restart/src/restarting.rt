@@ -3,7 +3,7 @@ ghost use Rattle.fp_model.specs.LogText.{FitsFront, StartsWithFront, first_gate}
 ghost use Rattle.fp_model.specs.WellFormed.{IsMsdbDef};
 ghost use Rattle.fp_model.specs.declared.log.Entry.{Entry};
 ghost use Rattle.fp_model.specs.declared.scripts.Script.{Script};
-ghost use Rattle.fp_restart.specs.Replayed.{IsFirstBadAt, IsReadable};
+ghost use Rattle.fp_restart.specs.Replayed.{IsFirstBadAt, IsReadable, ReadsBack};
 ghost use Rattle.fp_restart.specs.Restarts.{IsDamageOr, StandsFor};
 ghost use Rattle.fp_restart.specs.declared.fault.RestartFault.TheVariants as faults;
 ghost use Rattle.fp_site.specs.Disk.{Syncs};
@@ -12,7 +12,7 @@ ghost use Rattle.log_groups.specs.Images.{as_front};
 ghost use Rattle.log_groups.specs.Kept.{IsSound};
 ghost use Rattle.msdb_store.specs.Store.{IsOf};
 ghost use Rattle.std.specs.List.{AllByRecursion};
-ghost use Rattle.std.specs.Prelude.{◌≡◌, ◌⊎◌, ◌-◌, ◌<◌, ◌≤◌, ◌^◌, ℕ, IfOk, IsErrOf, List as ListOf, OnOk};
+ghost use Rattle.std.specs.Prelude.{◌≡◌, ◌⊎◌, ◌-◌, ◌<◌, ◌≤◌, ◌^◌, ℕ, [], IfOk, IsErrOf, List as ListOf, OnOk};
 
 use crate::RestartFault;
 use crate::reading::read_parts;
@@ -47,8 +47,12 @@ pub fn restart<T: Site>(
         → IsSound defs.now scripts (as_front front.now) ((T.disk site.old).contents 0) entries
         → (IsErrOf result faults.Foreign → ⊥) × ((set at : ℕ) → IsErrOf result (faults.Damaged set at) → ⊥) }
 
-    // In any case the store is one of these definitions.
+    // In any case the store is one of these definitions, and no entry waits to be sealed. What was read of the log
+    // stands there, whether or not its entries are a history, and every crash leaves it.
     ensures of { IfOk result (λ parts. IsOf defs.now.msdbs parts.0) }
+    ensures unsealed { IfOk result (λ parts. parts.1.unsealed ≡ []) }
+    ensures reads { T.told site.old →
+        IfOk result (λ parts. ReadsBack defs.now (as_front front.now) (T.disk site.new) parts.0 parts.1) }
 
     // When each refusal comes.
     ensures front { T.told site.old → OnOk result (StartsWithFront ((T.disk site.old).contents 0)

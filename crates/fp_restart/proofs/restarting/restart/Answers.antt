@@ -5,13 +5,13 @@ use Rattle.fp_model.specs.State.{start}
 use Rattle.fp_site.proofs.Images.{durable_stays}
 use Rattle.fp_site.proofs.Runs.{now_one, of_call, stays_on}
 use Rattle.fp_site.specs.Disk.{Syncs}
-use Rattle.fp_restart.specs.Replayed.{IsFirstBadAt, IsReplayed}
+use Rattle.fp_restart.specs.Replayed.{IsFirstBadAt, IsReplayed, ReadsBack}
 use Rattle.fp_restart.specs.Restarts.{StandsFor}
 use Rattle.log_groups.specs.Kept.{IsSound}
 use Rattle.log_groups.specs.Images.{as_front}
 use Rattle.msdb_store.specs.Store.{IsOf}
-use Rattle.fp_restart.proofs.Replays.{sound_begins, sound_not_bad, sound_stands}
-use Rattle.fp_restart.proofs.Results.{damage_or, of_four, same_synced}
+use Rattle.fp_restart.proofs.Replays.{reads_back, sound_begins, sound_not_bad, sound_stands}
+use Rattle.fp_restart.proofs.Results.{as_each, damage_or, of_four, same_synced}
 use Rattle.fp_restart.proofs.restarting.restart.Goals as goal
 
 pub returns-clause-sound : goal.returns-clause-sound
@@ -90,3 +90,27 @@ returns-clause-crash g c t =
     stays_on (Syncs old 0) old mid (g.T.Site.disk c.read_parts.new.site) law1
     (of_call old mid (Syncs old 0) law crash (same_synced old)) (c.read_parts.ensures.stays t1)
     (now_one old mid (Syncs old 0) law law1 crash (same_synced old))
+
+pub returns-clause-reads : goal.returns-clause-reads
+returns-clause-reads g c t =
+    let defs = c.args.defs.now in
+    let front = as_front c.args.front.now in
+    let mid = g.T.Site.disk c.sync.new.self in
+    let new = g.T.Site.disk c.read_parts.new.site in
+    let bytes = mid.contents 0 in
+    let t1 = c.sync.ensures.told t in
+    let t2 = c.read_parts.ensures.told t1 in
+    let stays = c.read_parts.ensures.stays t1 in
+    let durable = durable_stays mid new 0 (g.met.T.Site.lawful c.sync.new.self t1)
+    (g.met.T.Site.lawful c.read_parts.new.site t2) stays (c.in_ok-sync.ensures.durable t) in
+    of_four c.read_parts.result
+    (λ parts. IsReplayed defs bytes (record { first = first_gate front; at = parts.1.gate; count = parts.1.sealed })
+    (start defs).msdbs parts.0.msdbs)
+    (λ parts. slice_index bytes parts.1.gate ≢ 1)
+    (λ parts. parts.1.unsealed ≡ [])
+    (λ parts. StartsWithFront bytes front)
+    (λ parts. ReadsBack defs front new parts.0 parts.1)
+    (λ parts replayed closed unsealed begins. reads_back defs front bytes new parts.0 parts.1 durable
+    (ap (λ f. f 0) stays.contents) begins unsealed replayed closed)
+    (c.read_parts.ensures.replayed t1) (c.read_parts.ensures.closed t1) c.read_parts.ensures.unsealed
+    (as_each c.read_parts.result (StartsWithFront bytes front) (c.read_parts.ensures.front t1))
