@@ -185,6 +185,7 @@ module _ (engine : Engine) (m : Machine) (place : ℕ) (t : Transaction) (new : 
             ∙ w.ready,
         refl,
       )
+      tt
       (stands_with (with_answer (rules_in engine) m t w.call) refl
       (subst (λ (n : ℕ). IsTransaction engine.defs.now engine.scripts.now.scripts new
       (record (with_answer (rules_in engine) m t w.call) {

@@ -119,9 +119,11 @@ idle_turned engine new m place messages rules idle are stands =
       turn = subst (λ (r : Rules). RegionTurn r m (suc place) (slice_get m.regions place) NoFault after) (sym rules)
           (subst (λ (o : Option machine.Region). RegionTurn (rules_in engine) m (suc place) o NoFault after) (sym idle)
           (ap (begins_in (rules_in engine) m (suc place)) (sym are)));
-      is_did = subst (λ (r : Rules). IsDidOfRegion r m (suc place) (slice_get m.regions place) NoFault after
+      is_did = subst (λ (r : Rules). IsDidOfRegion new.defs.now r m (suc place) (slice_get m.regions place) NoFault
+          after
           (did_take messages)) (sym rules)
-          (subst (λ (o : Option machine.Region). IsDidOfRegion (rules_in engine) m (suc place) o NoFault after
+          (subst (λ (o : Option machine.Region). IsDidOfRegion new.defs.now (rules_in engine) m (suc place) o NoFault
+          after
           (did_take messages)) (sym idle)
           (ap did_take (sym are)));
       no_device = λ e. subst is_device (sym e) tt;

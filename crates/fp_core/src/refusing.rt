@@ -91,16 +91,14 @@ pub(crate) fn refused_entry(
     })
 }
 
-// The entry of a transaction that would close a cycle: it has no notes. It fails also where there would be 256 regions.
+// The entry of a transaction that would close a cycle: it has no notes.
 fn cycle_entry(alloc: Global, active: &Active, cycle: Bytes) -> Result<Entry, AllocError>
     requires line { IsShort active.now.message.line }
+    requires few { length cycle ≤ 64 }
     ensures entry { IfOk result (λ entry. entry ≡ refused_entry active.now (Deadlock cycle) []) }
     ensures rules { IfOk result KeepsRules }
     ensures fits { IfOk result FitsEntry }
 {
-    if cycle.len() > 255 {
-        return Err(AllocError);
-    }
     refused_entry(alloc, active, Outcome::Deadlock(cycle), List::new(alloc))
 }
 
