@@ -17,4 +17,5 @@ returns c from tries = record {
   numbered = rw c.in_ok-program.ensures.number (c.in-Some.ensures.script ∙ c.requires.named.1);
   at = c.in_ok-program.ensures.at c.args.defs.now c.requires.named.0.statements;
   fit = c.in_ok-program.ensures.fit c.args.defs.now.msdbs;
+  ahead = tt;
 }
