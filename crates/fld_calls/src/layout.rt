@@ -104,8 +104,8 @@ fn put_fsa(text: &mut Bytes, fsa: &LentFsa, connector: u8) -> Result<(), AllocEr
     text.push(connector)
 }
 
-/// Adds an argument to the bytes of a list: `*` behind one that another follows, and a blank behind the last. Fails only
-/// for want of memory.
+/// Adds an argument to the bytes of a list: `*` behind one that another follows, and a blank behind the last. Fails
+/// only for want of memory.
 ///
 /// Condition: its operand's length fits two bytes.
 pub fn append_fsa(text: &mut Bytes, fsa: &LentFsa, last: bool) -> Result<(), AllocError>

@@ -55,7 +55,8 @@ fn is_printable(text: &[u8]) -> bool
 impl Known {
     // A field of the segment that was shown last.
     fn shown_field(&self, defs: &Defs, name: &Name) -> Result<OperandText<'_>, Stop>
-        ensures { (message : MessageOf) → GivesAs bytes_in result (shown_field defs.now message name.now.0 (env_of self.now [])) }
+        ensures { (message : MessageOf) → GivesAs bytes_in result
+            (shown_field defs.now message name.now.0 (env_of self.now [])) }
     {
         let Some(gets) = &self.gets else {
             return Err(Stop::NoValue);

@@ -36,7 +36,8 @@ returns-then-last-clause-exact c =
     rw (c.connector.ensures, c.is_last-last.ensures) at c.if-front-connector.false in
     let blank : front.connector ≡ 32 = rw last at good in
     let fsa : Argument = c.in_ok-to_fsa.field-0 in
-    at-last c.loop-front.rest.now (form_of fsa) front.connector (length front.fsa.operand.now) front.rest.now e.connector
+    at-last c.loop-front.rest.now (form_of fsa) front.connector (length front.fsa.operand.now) front.rest.now
+    e.connector
     e.operand e.rest (e.fsa ∙ sym c.in_ok-to_fsa.ensures) c.args.bytes.now (forms c.loop-front.fsas) c.loop-front.place
     c.loop-front.invariant.stands last blank
     ∙ ap Whole (sym (forms-more c.loop-front.fsas fsa) ∙ ap forms (sym c.in_ok-push.ensures.ok))
@@ -61,7 +62,8 @@ loop-front-preserved c =
     let place : c.loop-front.place + 12 + length front.fsa.operand.now + 1 ≡ c.loop-front.place + 13 + length
     front.fsa.operand.now = omega arith in
     let all = e.all in
-    let stands = at-more c.loop-front.rest.now (form_of fsa) front.connector (length front.fsa.operand.now) front.rest.now
+    let stands = at-more c.loop-front.rest.now (form_of fsa) front.connector (length front.fsa.operand.now)
+    front.rest.now
     e.connector e.operand e.rest (e.fsa ∙ sym c.in_ok-to_fsa.ensures) c.args.bytes.now (forms c.loop-front.fsas)
     c.loop-front.place c.loop-front.invariant.stands (omega (arith, all)) more star in
     let operand : length fsa.operand ≡ length front.fsa.operand.now =

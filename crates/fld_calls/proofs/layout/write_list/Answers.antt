@@ -17,8 +17,10 @@ loop-fsa-preserved c =
     omega (arith, length-drop (i + 1) xs, c.loop-fsa.invariant.many, c.loop-fsa-test.true) in
     let step = text-step text (form_of a) (forms (drop (i + 1) xs)) (c.loop-fsa.left - 1)
     (length-map (drop (i + 1) xs) form_of ∙ left) in
-    let new : c.append_fsa.new.text ≡ text ++ fsa_text (form_of a) ++ (if c.loop-fsa.left - 1 == 0 then 32 else 42) ∷ [] =
-    subst (λ (f : Fsa). c.append_fsa.new.text ≡ text ++ fsa_text f ++ (if c.loop-fsa.left - 1 == 0 then 32 else 42) ∷ [])
+    let new : c.append_fsa.new.text ≡ text ++ fsa_text (form_of a) ++ (if c.loop-fsa.left - 1 == 0 then 32 else 42) ∷ []
+    =
+    subst (λ (f : Fsa). c.append_fsa.new.text ≡ text ++ fsa_text f ++ (if c.loop-fsa.left - 1 == 0 then 32 else 42) ∷
+    [])
     c.lent.ensures.form c.in_ok-append_fsa.ensures in
     record {
       many = omega (arith, c.loop-fsa.invariant.many, c.loop-fsa-test.true);
