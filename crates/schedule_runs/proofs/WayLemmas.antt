@@ -7,7 +7,6 @@ use Rattle.std.proofs.lemmas.List.Elements.{filter-append}
 use Rattle.drain_laws.specs.Rounds.{GoesRounds}
 use Rattle.fp_model.specs.declared.definitions.Defs.{Defs}
 use Rattle.fp_model.specs.declared.events.Event.{Event}
-use Rattle.fp_model.specs.declared.events.Event.TheVariants as event
 use Rattle.fp_model.specs.Machine.{Machine}
 use Rattle.fp_model.specs.Rules.{Rules}
 use Rattle.fp_model.specs.Runs.{Drains, IsDrained, RunStep, Runs, TakesOf, device_faults, is_device_fault, machine_after, round, step_events}
