@@ -15,6 +15,7 @@ pub mod Readings
 pub mod Tells
 pub mod Seals
 pub mod Leavings
+pub mod Spared
 pub mod Logs
 pub mod Checkpoints
 pub mod Quiets
