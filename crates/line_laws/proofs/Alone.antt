@@ -1,5 +1,5 @@
 -- Lists in which at most one element stands, as pieces of them move.
-use Rattle.std.proofs.Common.{◌≡◌, ◌⊎◌, inl, inr, refl, sym, ◌∙◌, ap, subst, arith, ℕ, zero, suc, ◌+◌, ◌≤◌, List, [], ◌∷◌, ◌++◌, length, Option, Some, None, slice_get, slice_set}
+use Rattle.std.proofs.Common.{◌≡◌, ◌⊎◌, inl, inr, refl, sym, ◌∙◌, ap, subst, arith, ℕ, zero, suc, ◌≤◌, List, [], ◌∷◌, ◌++◌, length, Some, slice_get, slice_set}
 use Rattle.std.specs.Prelude.{flat_map}
 use Rattle.std.proofs.lemmas.List.{append-nil, append_assoc, length-append}
 use Rattle.serial_order.proofs.Lists.{some_is}
@@ -42,8 +42,13 @@ moves_out d [] (y ∷ x) [] [] r few =
     append_assoc d (y ∷ x) r
     ∙ ap (λ l. d ++ (l ++ r)) (sym (append-nil ((y ∷ x) ++ []) ∙ append-nil (y ∷ x)))
 moves_out d (z ∷ a) (y ∷ x) b q r few =
-    absurd (omega (arith, few, length-append ((z ∷ a) ++ ((y ∷ x) ++ b)) q, length-append (z ∷ a) ((y ∷ x) ++ b),
-    length-append (y ∷ x) b))
+    absurd (omega (
+      arith,
+      few,
+      length-append ((z ∷ a) ++ ((y ∷ x) ++ b)) q,
+      length-append (z ∷ a) ((y ∷ x) ++ b),
+      length-append (y ∷ x) b,
+    ))
 moves_out d [] (y ∷ x) (z ∷ b) q r few =
     absurd (omega (arith, few, length-append ((y ∷ x) ++ (z ∷ b)) q, length-append (y ∷ x) (z ∷ b)))
 moves_out d [] (y ∷ x) [] (z ∷ q) r few =
@@ -55,14 +60,32 @@ pub moves_over : {A : Type 0} (a x b u v w : List A) → length ((a ++ b) ++ (u 
 moves_over a [] b u v w few = refl
 moves_over [] (y ∷ x) [] [] [] [] few = refl
 moves_over (z ∷ a) (y ∷ x) b u v w few =
-    absurd (omega (arith, few, length-append ((z ∷ a) ++ b) (u ++ (((y ∷ x) ++ v) ++ w)), length-append (z ∷ a) b,
-    length-append u (((y ∷ x) ++ v) ++ w), length-append ((y ∷ x) ++ v) w, length-append (y ∷ x) v))
+    absurd (omega (
+      arith,
+      few,
+      length-append ((z ∷ a) ++ b) (u ++ (((y ∷ x) ++ v) ++ w)),
+      length-append (z ∷ a) b,
+      length-append u (((y ∷ x) ++ v) ++ w),
+      length-append ((y ∷ x) ++ v) w,
+      length-append (y ∷ x) v,
+    ))
 moves_over [] (y ∷ x) (z ∷ b) u v w few =
-    absurd (omega (arith, few, length-append (z ∷ b) (u ++ (((y ∷ x) ++ v) ++ w)),
-    length-append u (((y ∷ x) ++ v) ++ w), length-append ((y ∷ x) ++ v) w, length-append (y ∷ x) v))
+    absurd (omega (
+      arith,
+      few,
+      length-append (z ∷ b) (u ++ (((y ∷ x) ++ v) ++ w)),
+      length-append u (((y ∷ x) ++ v) ++ w),
+      length-append ((y ∷ x) ++ v) w,
+      length-append (y ∷ x) v,
+    ))
 moves_over [] (y ∷ x) [] (z ∷ u) v w few =
-    absurd (omega (arith, few, length-append (z ∷ u) (((y ∷ x) ++ v) ++ w), length-append ((y ∷ x) ++ v) w,
-    length-append (y ∷ x) v))
+    absurd (omega (
+      arith,
+      few,
+      length-append (z ∷ u) (((y ∷ x) ++ v) ++ w),
+      length-append ((y ∷ x) ++ v) w,
+      length-append (y ∷ x) v,
+    ))
 moves_over [] (y ∷ x) [] [] (z ∷ v) w few =
     absurd (omega (arith, few, length-append ((y ∷ x) ++ (z ∷ v)) w, length-append (y ∷ x) (z ∷ v)))
 moves_over [] (y ∷ x) [] [] [] (z ∷ w) few =

@@ -17,5 +17,5 @@ returns c = λ defs scripts m are run drained.
     let start = run.from.start in
     run_answers rules gauge (ends defs scripts are) (view_of defs) (order defs scripts are) lines start run.from.steps m
     (rest_kept rules (view_of defs) (at_rest rules lines start) (at_rest_rests rules lines start run.is_serial))
-    (record { in_order = rest_ordered rules lines start; live = rest_live rules gauge lines start; })
+    (record { in_order = rest_ordered rules lines start; live = rest_live rules gauge lines start })
     run.from.runs drained
