@@ -1,16 +1,16 @@
 -- At most one line of a terminal is under way, and none that has no terminal.
-use Rattle.std.proofs.Common.{◌≡◌, ◌⊎◌, inl, inr, refl, sym, ◌∙◌, ap, subst, arith, ℕ, zero, suc, ◌+◌, ◌-◌, ◌<◌, ◌≤◌, List, [], ◌∷◌, ◌++◌, length, Bool, true, false, not, Option, Some, None, slice_get}
-use Rattle.std.specs.Prelude.{filter, flat_map, if◌then◌else◌, is_some, nat_lt, sum_by}
+use Rattle.std.proofs.Common.{◌≡◌, ◌⊎◌, inl, inr, refl, sym, ◌∙◌, ap, arith, ℕ, zero, suc, ◌<◌, ◌≤◌, List, [], ◌∷◌, ◌++◌, length, Bool, true, false, not, Option, Some, None, slice_get}
+use Rattle.std.specs.Prelude.{flat_map, if◌then◌else◌, is_some, nat_lt, sum_by}
 use Rattle.std.specs.List.{list_any}
 use Rattle.std.proofs.lemmas.Grind.{common_steps}
 use Rattle.std.proofs.lemmas.List.{length-append}
 use Rattle.std.proofs.lemmas.List.Sums.{sum_by-cons}
 use Rattle.fp_model.specs.declared.calls.Message.{Message}
 use Rattle.fp_model.specs.declared.name.Name.{Name}
-use Rattle.fp_model.specs.History.{History, Accepts}
-use Rattle.fp_model.specs.Machine.{Transaction, Region, Idle, Active, Machine, is_among, terminal_in}
+use Rattle.fp_model.specs.History.{Accepts}
+use Rattle.fp_model.specs.Machine.{Region, Idle, Active, Machine, is_among, terminal_in}
 use Rattle.fp_model.specs.Rules.{Rules}
-use Rattle.serial_order.specs.Kept.{Kept, active_count, count, line_count, queued_count, region_count}
+use Rattle.serial_order.specs.Kept.{Kept, count, line_count, region_count}
 use Rattle.serial_order.specs.Laws.{Laws, View}
 use Rattle.serial_order.proofs.Lists.{get_contains, none_passes, true_is_not_false}
 use Rattle.serial_order.proofs.Terminals.{contained}

@@ -1,13 +1,13 @@
 -- Runs from rest: their entries answer just the lines.
-use Rattle.std.proofs.Common.{◌≡◌, refl, sym, ◌∙◌, ap, subst, arith, ℕ, zero, suc, ◌+◌, ◌-◌, ◌<◌, ◌≤◌, List, [], ◌∷◌, ◌++◌, length, drop, map, replicate, Bool, true, false, Option, Some, None, slice_get}
-use Rattle.std.specs.Prelude.{filter, flat_map, if◌then◌else◌}
+use Rattle.std.proofs.Common.{◌≡◌, refl, sym, ◌∙◌, ap, arith, ℕ, zero, suc, ◌-◌, ◌<◌, ◌≤◌, List, [], ◌∷◌, ◌++◌, length, drop, map, replicate, Bool, true, Option, Some, slice_get}
+use Rattle.std.specs.Prelude.{filter, flat_map}
 use Rattle.std.specs.List.{list_all}
 use Rattle.std.proofs.lemmas.List.{append-nil, append_assoc, drop_at, length-append}
 use Rattle.std.proofs.lemmas.List.Elements.{filter-append}
 use Rattle.fp_model.specs.declared.calls.Message.{Message}
 use Rattle.fp_model.specs.declared.log.Entry.{Entry}
 use Rattle.fp_model.specs.declared.name.Name.{Name}
-use Rattle.fp_model.specs.History.{History, Accepts, place_of}
+use Rattle.fp_model.specs.History.{History}
 use Rattle.fp_model.specs.Machine.{Region, Idle, Active, Machine, at_rest}
 use Rattle.fp_model.specs.Rules.{Rules}
 use Rattle.fp_model.specs.Runs.{IsDrained, RunStep, Runs, is_empty, is_idle}
@@ -20,6 +20,7 @@ use Rattle.serial_order.specs.Laws.{Laws, View}
 use Rattle.serial_order.proofs.Turns.{turn_kept}
 use Rattle.line_laws.specs.Answered.{AreAnswered, answered_by, is_from, lines_answered}
 use Rattle.line_laws.proofs.Counted.{few_of, free_of}
+use Rattle.line_laws.proofs.Seals.{all_sealed, rests_sealed, sealed_run}
 use Rattle.line_laws.proofs.Turned.{ahead, all_of, of, of_entry, of_held, of_queue, of_region, turned}
 
 -- ---- lists
@@ -96,9 +97,14 @@ module _ (rules : Rules) (gauge : Gauge) (ends : EndLaws rules gauge) (view : Vi
       → AreAnswered rules lines start.entries m
   run_answers lines start steps m k h runs drained =
       let adds = run_adds steps (at_rest rules lines start) m runs in
+      let s = sealed_run rules start.entries steps (at_rest rules lines start) m runs
+      (rests_sealed rules lines start) in
+      let sealed = all_sealed rules start.entries adds.0 m drained.no_unsealed adds.1 s in
       record {
         later = adds.0;
         entries = adds.1;
+        sealed = sealed;
+        sent = s.sent ∙ ap (λ (es : List Entry). flat_map rules.line_of es) sealed;
         in_order = λ terminal.
             let p : List ℕ → Bool = is_from rules terminal in
             let n = length start.entries in

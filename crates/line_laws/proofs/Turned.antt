@@ -1,10 +1,10 @@
 -- What a turn makes of the lines that were answered, those under way and those ahead: together they stay.
-use Rattle.std.proofs.Common.{◌≡◌, ◌⊎◌, inl, inr, refl, sym, ◌∙◌, ap, subst, arith, ℕ, zero, suc, ◌+◌, ◌-◌, ◌≤◌, List, [], ◌∷◌, ◌++◌, length, drop, Bool, true, false, Option, Some, None, unwrap_or, slice_get, slice_set}
-use Rattle.std.specs.Prelude.{filter, flat_map, if◌then◌else◌, nat_lt}
+use Rattle.std.proofs.Common.{◌≡◌, ◌⊎◌, inl, inr, refl, sym, ◌∙◌, ap, subst, ℕ, zero, suc, ◌-◌, ◌≤◌, List, [], ◌∷◌, ◌++◌, length, drop, Bool, true, false, Option, Some, None, unwrap_or, slice_get, slice_set}
+use Rattle.std.specs.Prelude.{filter, flat_map, if◌then◌else◌}
 use Rattle.std.specs.List.{list_any}
 use Rattle.std.specs.Option.{option_map_or}
 use Rattle.std.proofs.lemmas.Grind.{flat_map-append}
-use Rattle.std.proofs.lemmas.List.{append-nil, drop-append-le, length-append}
+use Rattle.std.proofs.lemmas.List.{append-nil, drop-append-le}
 use Rattle.fp_model.specs.declared.database.Db.{Db}
 use Rattle.fp_model.specs.declared.calls.Message.{Message}
 use Rattle.fp_model.specs.declared.events.Event.{Event}
@@ -15,8 +15,8 @@ use Rattle.fp_model.specs.declared.log.Outcome.TheVariants as outcome
 use Rattle.fp_model.specs.Asking.{Ask, Asks, Replies, Rolls}
 use Rattle.fp_model.specs.Commit.{Settlement, Commits, FailsVerify, FillsPart}
 use Rattle.fp_model.specs.Frames.{KeepsLines, KeepsRegions, KeepsHistory}
-use Rattle.fp_model.specs.History.{History, Request, Accepts, Refuses, place_of}
-use Rattle.fp_model.specs.Machine.{Transaction, Region, Idle, Active, Machine, region_at, ended_with, entry_here, entry_of, is_among, terminal_in, next_line, queued_at, taken_in, with_line, without_line, with_request_of}
+use Rattle.fp_model.specs.History.{History, Request, Accepts, Refuses}
+use Rattle.fp_model.specs.Machine.{Transaction, Region, Idle, Active, Machine, ended_with, entry_here, entry_of, is_among, terminal_in, queued_at, taken_in, with_line, with_request_of}
 use Rattle.fp_model.specs.Rules.{Rules}
 use Rattle.fp_model.specs.Serial.{Ending, refused_as, settled_as}
 use Rattle.fp_model.specs.Turns.{Act, Answers, Gains, Waits, Deadlocks, Retries_at_cycle, Finishes, Retries_at_verify, Does, Environment, NoFault, DeviceFault, OutOfMemory, PurgeTurn, RegionTurn, Turn, begins_in, begun_in, ending_of, is_area_held, messages_for, queue_of_region}
@@ -24,7 +24,7 @@ use Rattle.fp_model.proofs.FrameLemmas.{turn_keeps}
 use Rattle.serial_order.specs.Laws.{IsRefusal}
 use Rattle.serial_order.proofs.Lists.{some_is, none_is_not_some}
 use Rattle.line_laws.specs.Answered.{answered_by}
-use Rattle.line_laws.proofs.Alone.{IsPut, moves_in, moves_out, moves_over, moves_past, put, put_same}
+use Rattle.line_laws.proofs.Alone.{moves_in, moves_out, moves_over, moves_past, put}
 
 module _ (rules : Rules) (p : List ℕ → Bool) where
   -- ---- the lines of which p is so
@@ -123,7 +123,8 @@ module _ (rules : Rules) (p : List ℕ → Bool) where
     does place t is (Answers call) m2 d = ap (λ (x : Machine). all_of n x) d.2 ∙ stays_all place t is _ refl
     does place t is (Gains needed) m2 d = ap (λ (x : Machine). all_of n x) d.2
     does place t is (Waits needed) m2 d = ap (λ (x : Machine). all_of n x) d.3
-    does place t is (Deadlocks needed cycle) m2 d = ap (λ (x : Machine). all_of n x) d.2 ∙ ends place t is _ m.history.now refl
+    does place t is (Deadlocks needed cycle) m2 d =
+        ap (λ (x : Machine). all_of n x) d.2 ∙ ends place t is _ m.history.now refl
     does place t is (Retries_at_cycle needed cycle) m2 d =
         ap (λ (x : Machine). all_of n x) d.2 ∙ stays_all place t is _ refl
     does place t is (Finishes ending items) m2 d =

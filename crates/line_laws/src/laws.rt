@@ -10,7 +10,8 @@ ghost use Rattle.run_laws.specs.Starts.{IsFromSerial};
 ghost use Rattle.std.specs.Prelude.{List};
 
 /// Where a run from rest behind a serial history led to a machine that is drained, each line of its messages has just
-/// one entry, and the entries of each terminal answer its lines in their order. It holds whatever befell the turns.
+/// one entry, and the entries of each terminal answer its lines in their order. Each entry is in one group, and its
+/// reply line was sent, in log order. It holds whatever befell the turns.
 pub fn every_line_is_answered()
     ensures { (defs : Defs) (scripts : List Script) (m : Machine)
         → AreDefs defs

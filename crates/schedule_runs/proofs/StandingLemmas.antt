@@ -137,7 +137,8 @@ module _ (origin : Origin) (events : List Event) (m : Machine) (old : Disk) (old
 
     -- ---- one step
 
-    module _ (new : Disk) (leaves : Leaves origin (rules_in engine) on.here (seals_of (next_event part) on.here) mid new)
+    module _ (new : Disk) (leaves : Leaves origin (rules_in engine) on.here (seals_of (next_event part) on.here) mid
+        new)
       where
         leaves_so : Leaves origin rules on.here (seals_of (next_event part) on.here) mid new
         leaves_so =
@@ -201,7 +202,8 @@ module _ (origin : Origin) (events : List Event) (m : Machine) (old : Disk) (old
       left_drain : (law : IsLawful mid) → Through old mid Left → (s : Snapshot)
           → IsLeftByDrain origin defs rules on.here mid s → Left s
       left_drain law before s (inl left) =
-          let alone = left_alone origin rules on.here (seals_of (next_event part) on.here) mid engine law on.beside.at in
+          let alone = left_alone origin rules on.here (seals_of (next_event part) on.here) mid engine law on.beside.at
+          in
           let still = subst (λ (d : Defs). Comes d rules part on.here part on.here) same_defs
           (comes_still rules part engine on.here on.reached.stands) in
           left_behind law before part on.here still s (alone.moments.each s (law.counts_now s left))

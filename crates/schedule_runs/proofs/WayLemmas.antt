@@ -72,6 +72,18 @@ pub goes_steps : (rules : Rules) (steps : List RunStep) (m m2 : Machine) (left :
 goes_steps rules [] m m2 left runs = subst (λ (x : Machine). Goes rules left m [] left x) (sym runs) ways.here
 goes_steps rules (s ∷ steps) m m2 left runs = ways.turn runs.0 (goes_steps rules steps s.after m2 left runs.1)
 
+-- and back
+pub steps_of : {rules : Rules} {events left : List Event} {m here : Machine} {vs : List Environment}
+    → Goes rules events m vs left here
+    → (steps : List RunStep) × (Runs rules m steps here × (environments_of steps ≡ vs))
+steps_of ways.here = ([], (refl, refl))
+steps_of (ways.turn {e = e} {v = v} {mid = mid} t rest) =
+    let more = steps_of rest in (
+      record { event = e; environment = v; after = mid } ∷ more.0,
+      ((t, more.1.0), ap (λ (xs : List Environment). v ∷ xs) more.1.1),
+    )
+steps_of (ways.again undone rest) = steps_of rest
+
 -- ---- rounds
 
 pub goes_rounds : (rules : Rules) (rounds : List (List RunStep)) (m m2 : Machine)
