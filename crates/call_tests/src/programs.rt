@@ -157,6 +157,7 @@ fn is_end(end: End, next: &Next) -> bool {
 fn follows(
     scripts: &Scripts,
     defs: &Defs,
+    message: &Message,
     program: Program,
     turns: &[Turn],
     end: End,
@@ -167,8 +168,8 @@ fn follows(
     let mut program = program;
     for turn in turns {
         let answer = answer(alloc, turn)?;
-        let _ = program.next(scripts, defs)?;
-        match program.next(scripts, defs)? {
+        let _ = program.next(scripts, defs, message)?;
+        match program.next(scripts, defs, message)? {
             Next::Call(asked) => {
                 if spelled(alloc, &asked)?.as_slice() != turn.wanted() {
                     return Ok(false);
@@ -178,7 +179,7 @@ fn follows(
             _ => return Ok(false),
         }
     }
-    Ok(is_end(end, &program.next(scripts, defs)?))
+    Ok(is_end(end, &program.next(scripts, defs, message)?))
 }
 
 // The number of a transaction.
@@ -213,8 +214,10 @@ fn goes(alloc: Global, text: &[u8], case: &Case) -> Result<bool, Fail> {
     let scripts = read(alloc, text, &defs)?;
     let number = number_of(&scripts, case.tran).ok_or("no such transaction")?;
     let message = message(alloc, case.tran, case.text)?;
-    let program = Program::start(alloc, &scripts, number, &message)?;
-    Ok(follows(&scripts, &defs, program, case.turns, case.end, alloc)?)
+    let program = Program::start(alloc, &scripts, number);
+    Ok(follows(
+        &scripts, &defs, &message, program, case.turns, case.end, alloc,
+    )?)
 }
 
 // A customer with ten notes, all alike: no eleventh is asked for.

@@ -59,7 +59,7 @@ in_either (y ∷ xs) ys x (inr i) = by (in_either xs ys x i)
     by (inl j) = inl (inr j)
     by (inr j) = inr j
 
-in_map : {X Y : Type 0} (f : X → Y) (xs : List X) (y : Y) → In (map f xs) y → (x : X) × In xs x × (f x ≡ y)
+pub in_map : {X Y : Type 0} (f : X → Y) (xs : List X) (y : Y) → In (map f xs) y → (x : X) × In xs x × (f x ≡ y)
 in_map f [] y i = absurd i
 in_map f (x ∷ xs) y (inl same) = (x, inl refl, same)
 in_map f (x ∷ xs) y (inr i) = let r = in_map f xs y i in (r.0, inr r.1, r.2)
@@ -69,7 +69,8 @@ map_in f [] x i = absurd i
 map_in f (y ∷ xs) x (inl same) = inl (ap f same)
 map_in f (y ∷ xs) x (inr i) = inr (map_in f xs x i)
 
-in_flat : {X Y : Type 0} (f : X → List Y) (xs : List X) (y : Y) → In (flat_map f xs) y → (x : X) × In xs x × In (f x) y
+pub in_flat : {X Y : Type 0} (f : X → List Y) (xs : List X) (y : Y) → In (flat_map f xs) y → (x : X) × In xs x
+    × In (f x) y
 in_flat f [] y i = absurd i
 in_flat {X = X} f (x ∷ xs) y i = by (in_either (f x) (flat_map f xs) y i) (in_flat f xs y)
   where
@@ -86,7 +87,7 @@ flat_in f (z ∷ xs) x y (inr i) j = in_right (f z) (flat_map f xs) y (flat_in f
 
 -- ---- who stands in the way, and who waits
 
-abbrev pair : ℕ → ℕ → ℕ × ℕ
+abbrev pub pair : ℕ → ℕ → ℕ × ℕ
 pair a b = (a, b)
 
 -- a request that stands is its region's

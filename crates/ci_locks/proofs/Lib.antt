@@ -1,6 +1,7 @@
 pub mod Answered
 pub mod Asking
 pub mod Bridge
+pub mod Firsts
 pub mod Holdings
 pub mod Members
 pub mod Modes

@@ -110,6 +110,17 @@ first_is n some small =
     let it = bit_at-trailing_zeros w64 n (omega (arith, some)) small in
     ap (has n) (add-one (count_trailing_zeros 64 n)) ∙ ap (λ bit. bit == 1) it.1
 
+pub first_least : (n : ℕ) → n ≢ 0 → n < 18446744073709551616 → (other : ℕ) → has n other ≡ true
+    → count_trailing_zeros 64 n + 1 ≤ other
+first_least n some small zero e = absurd (cc)
+first_least n some small (suc place) e =
+    ⊎_elim
+    (λ (low : place < count_trailing_zeros 64 n).
+    let none : bit_at n place ≡ 0 = (bit_at-trailing_zeros w64 n (omega (arith, some)) small).2 place low in
+    absurd (let wrong : false ≡ true = sym (ap (λ bit. bit == 1) none) ∙ e in cc))
+    (λ (high : count_trailing_zeros 64 n ≤ place). omega (arith, high))
+    (cases_lt place (count_trailing_zeros 64 n))
+
 -- ---- their numbers
 
 numbers_last : (n from : ℕ) → numbers_up (suc n) from ≡ numbers_up n from ++ (from + n) ∷ []

@@ -1,12 +1,14 @@
 -- A search that follows one way at a time: what it finds is a cycle, and when it ends without one there is none.
-use Rattle.std.proofs.Common.{refl, arith, ◌≡◌, ◌≢◌, ℕ, zero, suc, ◌+◌, ◌<◌, ◌≤◌, List, [], ◌∷◌, ◌++◌, length, filter, Bool, true, false, cond, not, ◌||◌, ◌==◌, ap, sym, subst, ◌∙◌, length-append}
+use Rattle.std.proofs.Common.{refl, arith, ◌≡◌, ◌≢◌, ℕ, zero, suc, ◌+◌, ◌<◌, ◌≤◌, List, [], ◌∷◌, ◌++◌, length, filter, Bool, true, false, cond, not, ◌||◌, ◌==◌, inl, inr, ap, sym, subst, ◌∙◌, length-append}
 use Rattle.std.specs.Cmp.{nat_eq_equiv}
 use Rattle.std.specs.List.{AllByRecursion, IsDistinct}
 use Rattle.std.proofs.lemmas.List.Folds.{list_any-append}
 use Rattle.std.proofs.lemmas.Map.Keys.{IsDistinct-push}
 use Rattle.std.proofs.lemmas.Map.Steps.{length-le_from_distinct_below}
 use Rattle.fp_model.specs.State.{numbers_up}
+use Rattle.ci_locks.specs.Cycles.{IsNoLater}
 use Rattle.ci_locks.specs.Graph.{is_in, Along}
+use Rattle.ci_locks.proofs.Firsts.{GoesOn, apart_of, goes_on, no_later_front, no_later_next}
 
 number_is : (a b : ℕ) → (a == b) ≡ true → a ≡ b
 number_is a b e = grind arith
@@ -231,6 +233,67 @@ module _ (next : ℕ → List ℕ) (asker : ℕ) where
       from : (cycle : List ℕ) (r : ℕ) → met r ≡ true → ¬ Along next r cycle asker
       from [] r here walk = (s.behind r here refl asker walk).1 refl
       from (t ∷ ts) r here walk = from ts t (s.behind r here refl t walk.0).0 walk.1
+
+  -- ---- the way comes no later than a cycle
+
+  abbrev pub AreNoLater : List ℕ → Type 0
+  AreNoLater path = (cycle : List ℕ) → Along next asker cycle asker → IsDistinct ◌==◌ (asker ∷ cycle)
+      → IsNoLater path (asker ∷ cycle)
+
+  pub none_before : AreNoLater (asker ∷ [])
+  none_before cycle along apart = inr (refl, tt)
+
+  pub still_before : (through : List ℕ) (end : ℕ) → AreNoLater (through ++ end ∷ []) → AreNoLater through
+  still_before through end first cycle along apart =
+      no_later_front through (end ∷ []) (asker ∷ cycle) (first cycle along apart)
+
+  along_from : (a : ℕ) (rs : List ℕ) (e : ℕ) (rest : List ℕ) (goal : ℕ) → Along next a ((rs ++ e ∷ []) ++ rest) goal
+      → Along next e rest goal
+  along_from a [] e rest goal along = along.1
+  along_from a (r ∷ rs) e rest goal along = along_from r rs e rest goal along.1
+
+  walk_from : (through : List ℕ) (e : ℕ) (rest : List ℕ) (goal : ℕ) → Walk ((through ++ e ∷ []) ++ rest) goal
+      → Along next e rest goal
+  walk_from [] e rest goal walk = let P : ℕ → Type 0 = λ n. Along next n rest goal in subst P (sym walk.0) walk.1
+  walk_from (t ∷ ts) e rest goal walk = along_from asker ts e rest goal walk.1
+
+  -- a region that was left behind leads to the asker only through the way
+  none_off : (regions : ℕ) (met : ℕ → Bool) (path : List ℕ) → Searched regions met path → (x : ℕ) (xs : List ℕ)
+      → met x ≡ true → ((y : ℕ) → is_in (x ∷ xs) y ≡ true → is_in path y ≡ false) → ¬ Along next x xs asker
+  none_off regions met path s x [] here out along =
+      (s.behind x here (out x (in_one x)) asker along).1 refl
+  none_off regions met path s x (y ∷ ys) here out along =
+      none_off regions met path s y ys (s.behind x here (out x (or_left (x == x) (is_in (y ∷ ys) x) (is_number x))) y
+      along.0).0 (λ z e. out z (or_right (z == x) (is_in (y ∷ ys) z) e)) along.1
+
+  -- on to the least region not met
+  pub onward_before : (regions : ℕ) (met : ℕ → Bool) (through : List ℕ) (end r : ℕ)
+      → Searched regions met (through ++ end ∷ []) → is_in (next end) asker ≡ false
+      → ((b : ℕ) → is_in (next end) b ≡ true → met b ≡ false → r ≤ b)
+      → AreNoLater (through ++ end ∷ []) → AreNoLater ((through ++ end ∷ []) ++ r ∷ [])
+  onward_before regions met through end r s shut least first cycle along apart =
+      by (goes_on (through ++ end ∷ []) (asker ∷ cycle) (first cycle along apart))
+    where
+      step : (rest : List ℕ) → asker ∷ cycle ≡ (through ++ end ∷ []) ++ rest → Along next end rest asker
+          → IsDistinct ◌==◌ ((through ++ end ∷ []) ++ rest)
+          → IsNoLater ((through ++ end ∷ []) ++ r ∷ []) ((through ++ end ∷ []) ++ rest)
+      step [] e walk distinct = absurd (let wrong : false ≡ true = sym shut ∙ walk in cc)
+      step (x ∷ xs) e walk distinct = on (met x) refl
+        where
+          on : (b : Bool) → met x ≡ b
+              → IsNoLater ((through ++ end ∷ []) ++ r ∷ []) ((through ++ end ∷ []) ++ x ∷ xs)
+          on true here = absurd (none_off regions met (through ++ end ∷ []) s x xs here
+              (apart_of (through ++ end ∷ []) (x ∷ xs) distinct) walk.1)
+          on false fresh = no_later_next (through ++ end ∷ []) r x xs (least x walk.0 fresh)
+
+      by : GoesOn (through ++ end ∷ []) (asker ∷ cycle) → IsNoLater ((through ++ end ∷ []) ++ r ∷ []) (asker ∷ cycle)
+      by (inr further) = further (r ∷ [])
+      by (inl (rest, e)) =
+          let P : List ℕ → Type 0 = λ l. Walk l asker in
+          let Q : List ℕ → Type 0 = λ l. IsDistinct ◌==◌ l in
+          let R : List ℕ → Type 0 = λ l. IsNoLater ((through ++ end ∷ []) ++ r ∷ []) l in
+          subst R (sym e)
+          (step rest e (walk_from through end rest asker (subst P e (refl, along))) (subst Q e apart))
 
 -- ---- regions not met yet
 

@@ -1,3 +1,4 @@
+pub mod Cycles
 pub mod Graph
 pub mod Holdings
 pub mod Regions

@@ -1,7 +1,8 @@
 //! The locks of all regions.
+ghost use Rattle.ci_locks.specs.Cycles.{IsFirstCycle, first_cycle};
 ghost use Rattle.ci_locks.specs.Table.{standing};
 ghost use Rattle.ci_locks.specs.Standing.{IfCycle, IsGrant, Shows, locks_after, requests_after};
-ghost use Rattle.fp_model.specs.Waiting.{Lock, held_as, without_region};
+ghost use Rattle.fp_model.specs.Waiting.{Lock, held_as, waits, with_request, without_region};
 ghost use Rattle.fp_model.specs.declared.calls.Resource.TheVariants.{Anchor};
 ghost use Rattle.std.specs.Prelude.{◌≡◌, ◌≤◌, [], OnOk, length, ℕ, List as ListOf, ◌↔◌, IfOk, IsSome, IsTrue, OnErr};
 
@@ -64,6 +65,16 @@ impl Locks {
         ensures grant { (locks requests : ListOf Lock) → Shows (standing self.old) locks requests
             → IfOk result (IsGrant (length self.old) locks requests
             (record { region = region; resource = resource.now; mode = mode })) }
+
+        // The cycle is the first in the order of words: it is a function of what stands and of the request.
+        ensures first { (locks requests : ListOf Lock) → Shows (standing self.old) locks requests
+            → IfOk result (λ grant. IfCycle grant (IsFirstCycle
+            (waits (with_request (record { region = region; resource = resource.now; mode = mode }) requests) locks)
+            region)) }
+        ensures named { (locks requests : ListOf Lock) → Shows (standing self.old) locks requests
+            → IfOk result (λ grant. IfCycle grant (λ list. list ≡ first_cycle (length self.old)
+            (with_request (record { region = region; resource = resource.now; mode = mode }) requests) locks
+            region)) }
         ensures short { IfOk result (λ grant. IfCycle grant (λ list. length list ≤ length self.old)) }
 
         // What these lists become.

@@ -1,4 +1,5 @@
 //! Who waits for whom.
+ghost use Rattle.ci_locks.specs.Cycles.{IsNoLater};
 ghost use Rattle.ci_locks.specs.Graph.{Along, leads, set_at};
 ghost use Rattle.ci_locks.specs.Sets.{has};
 ghost use Rattle.std.specs.List.{IsDistinct};
@@ -22,8 +23,8 @@ fn set_at(regions: &[Region], asker: u8, ahead: RegionSet, region: u8) -> Region
     }
 }
 
-// A cycle through a region, from it on, no region twice, where it would wait for these. `None` where there is none. The
-// search takes no memory; it fails only for want of memory for the cycle.
+// The first cycle through a region in the order of words, from it on, no region twice, where it would wait for these.
+// `None` where there is none. The search takes no memory; it fails only for want of memory for the cycle.
 //
 // It follows one way at a time, to the least region that it hasn't met. A region that leads on to none is left behind:
 // no cycle goes through it.
@@ -43,6 +44,9 @@ pub(crate) fn cycle_through(
         ((cycle : ListOf ℕ) → ¬ Along (leads regions.now asker ahead.0) asker cycle asker)
         (λ list. (cycle : ListOf ℕ) × (list ≡ asker ∷ cycle)
         × Along (leads regions.now asker ahead.0) asker cycle asker × IsDistinct ◌==◌ list)) }
+    ensures first { IfOk result (λ found. IfSome found (λ list. (cycle : ListOf ℕ)
+        → Along (leads regions.now asker ahead.0) asker cycle asker → IsDistinct ◌==◌ (asker ∷ cycle)
+        → IsNoLater list (asker ∷ cycle))) }
     ensures short { IfOk result (λ found. IfSome found (λ list. length list ≤ length regions.now)) }
 {
     let mut path = [0u8; 64];

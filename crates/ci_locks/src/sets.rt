@@ -62,7 +62,8 @@ impl RegionSet {
     // The least.
     pub(crate) fn first(self) -> Option<u8>
         ensures some { IfSome result (λ region. has self.0 region ≡ true) }
-        ensures least { IfSome result (λ region. 1 ≤ region) }
+        ensures least { IfSome result (λ region. (other : ℕ) → has self.0 other ≡ true → region ≤ other) }
+        ensures from_one { IfSome result (λ region. 1 ≤ region) }
         ensures most { IfSome result (λ region. region ≤ 64) }
         ensures none { IfNone result ((region : ℕ) → has self.0 region ≡ false) }
     {

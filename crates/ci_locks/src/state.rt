@@ -5,12 +5,13 @@
 //! its request it keeps a set. A lock that another gains puts that region into the set where the request is for the
 //! same
 //! resource, and a region that drops its locks leaves every set.
+ghost use Rattle.ci_locks.specs.Cycles.{IsFirstCycle};
 ghost use Rattle.ci_locks.specs.Holdings.{AreHeld, held_by};
 ghost use Rattle.ci_locks.specs.Regions.{AreTold, Hears, IsRegion, IsSound, is_ahead, region_at, standing_of};
 ghost use Rattle.ci_locks.specs.Sets.{has};
 ghost use Rattle.ci_locks.specs.Standing.{Asks, Frees, Gains, IfCycle, IsGrant, Shows, locks_after, requests_after};
 ghost use Rattle.ci_locks.specs.Table.{lock_of};
-ghost use Rattle.fp_model.specs.Waiting.{Lock, same_resource};
+ghost use Rattle.fp_model.specs.Waiting.{Lock, same_resource, waits, with_request};
 ghost use Rattle.fp_model.specs.declared.calls.Mode.{Mode as ModeOf};
 ghost use Rattle.std.specs.Prelude.{◌≡◌, ◌≤◌, ◌==◌, Contains, IfOk, List as ListOf, None, OnErr, OnOk, Some, if◌then◌else◌, length, ℕ};
 
@@ -227,6 +228,10 @@ impl State {
         ensures grant { (locks requests : ListOf Lock) → Shows (standing_of self.old) locks requests
             → IfOk result (IsGrant (length self.old.regions.items) locks requests
             (record { region = region; resource = resource.now; mode = mode })) }
+        ensures first { (locks requests : ListOf Lock) → Shows (standing_of self.old) locks requests
+            → IfOk result (λ grant. IfCycle grant (IsFirstCycle
+            (waits (with_request (record { region = region; resource = resource.now; mode = mode }) requests) locks)
+            region)) }
         ensures short { IfOk result (λ grant. IfCycle grant (λ list. length list ≤ length self.old.regions.items)) }
         ensures after { (locks requests : ListOf Lock) → Shows (standing_of self.old) locks requests
             → IfOk result (λ grant. Shows (standing_of self.new) (locks_after grant

@@ -28,7 +28,7 @@ use Rattle.fp_core.specs.declared.engine.Region.TheVariants as regions
 use Rattle.fp_core.specs.Acting.{HoldsAll, IsAtWork}
 use Rattle.fp_core.specs.Ending.{draft_of}
 use Rattle.fp_core.specs.Relation.{IsTransaction, StandsFor, rules_in}
-use Rattle.fp_core.specs.Turning.{Turned}
+use Rattle.fp_core.specs.Turning.{AreItemsOf, Turned}
 use Rattle.fp_core.proofs.Ends.{may_end, region_is}
 use Rattle.fp_core.proofs.Refusals.{unsettled_stands}
 use Rattle.fp_core.proofs.Turns.{acted}
@@ -139,14 +139,18 @@ module _ (engine : Engine) (m : Machine) (region : ℕ) (t : Transaction) (reply
   pub committed : (after : Engine) (items : List Item)
       → HoldsAll engine m region t reply
       → rules_in after ≡ rules_in engine
+      → after.defs ≡ engine.defs
+      → AreItemsOf engine.defs.now t.point.own.deferred m.history.now.msdbs store.msdbs items
       → settled_as m.history.now reply (settlement engine.defs.now m.history.now t.point.own) ≡ done_as m reply store
       → StandsFor after (ended_with region (entry_of t (done_as m reply store) t.notes items)
       (record m.history.now { msdbs = store.msdbs }) m)
       → Turned (event.Region region) m after did.Committed
-  committed after items h same ends stands =
+  committed after items h same same_defs its ends stands =
       let ending : Ending = done_as m reply store in
       let at_end = ends_so engine m region t reply ending h ends in
       let m2 : Machine = ended_with region (entry_of t ending t.notes items) ending.next m in
       acted after m region t (Finishes ending items) m2 h.at_end.at_work.active
       (subst (λ (rules : Rules). Does rules m region t (Finishes ending items) m2) (sym same)
-      (at_end, (λ fails. absurd cc), tt, refl)) stands
+      (at_end, (λ fails. absurd cc), tt, refl))
+      (subst (λ d. AreItemsOf d.now t.point.own.deferred m.history.now.msdbs store.msdbs items) (sym same_defs) its)
+      stands

@@ -1,7 +1,9 @@
 -- What becomes of a request for a lock.
-use Rattle.std.proofs.Common.{◌≡◌, refl, sym, ◌∙◌, ap, subst, ℕ, List, [], ◌∷◌, Bool, true, false, not, ◌==◌, if◌then◌else◌, length, Option, Some, None}
+use Rattle.std.proofs.Common.{◌≡◌, refl, sym, ◌∙◌, ap, subst, ℕ, ◌≤◌, List, [], ◌∷◌, Bool, true, false, not, ◌==◌, if◌then◌else◌, length, Option, Some, None}
 use Rattle.std.specs.Prelude.{Result, Ok, Err, OnErr, option_map}
-use Rattle.ci_locks.specs.Standing.{IsGrant, Shows, Standing, gained_over, locks_after, requests_after}
+use Rattle.std.proofs.lemmas.Slice.Zip.{AllZip-long}
+use Rattle.ci_locks.specs.Cycles.{first_cycle}
+use Rattle.ci_locks.specs.Standing.{IfCycle, IsGrant, Shows, Standing, gained_over, locks_after, requests_after}
 use Rattle.ci_locks.specs.Table.{Row, standing}
 use Rattle.ci_locks.specs.declared.locks.Grant.{Grant}
 use Rattle.ci_locks.specs.declared.locks.Grant.TheVariants as grant
@@ -11,14 +13,14 @@ use Rattle.fp_model.specs.declared.calls.Resource.{Resource}
 use Rattle.fp_model.specs.Answers.{Needed}
 use Rattle.fp_model.specs.Asking.{Ask, Asks, Replies, Rolls}
 use Rattle.fp_model.specs.Machine.{Transaction, Machine}
-use Rattle.fp_model.specs.Turns.{Gains, Waits, as_lock, asks, wanted}
+use Rattle.fp_model.specs.Turns.{Gains, Waits, as_lock, asks, requests_with, wanted}
 use Rattle.fp_model.specs.Waiting.{Lock, held_as, without_region}
 use Rattle.serial_order.proofs.ProductLaws.{laws_of}
 use Rattle.fp_core.specs.declared.engine.Engine.{Engine}
 use Rattle.fp_core.specs.declared.locking.Asked.{Asked}
 use Rattle.fp_core.specs.declared.locking.Asked.TheVariants as asked
 use Rattle.fp_core.specs.Acting.{HasAsked, IsAtWork, MayEnd, NeedsLock}
-use Rattle.fp_core.specs.Relation.{StandsFor, rules_in}
+use Rattle.fp_core.specs.Relation.{IsRegion, StandsFor, rules_in}
 use Rattle.fp_core.proofs.Places.{none_some, some_same}
 use Rattle.fp_core.proofs.Turns.{acted}
 
@@ -118,6 +120,13 @@ locked_stands engine m rows locks requests s shows same_rows = record {
   slots = s.slots;
 }
 
+-- as many rows as regions
+rows_long : (engine : Engine) (m : Machine) → StandsFor engine m
+    → length engine.locks ≡ length engine.defs.now.regions
+rows_long engine m s =
+    s.rows ∙ sym (AllZip-long (IsRegion engine.defs.now engine.scripts.now.scripts) engine.regions m.regions s.regions)
+    ∙ s.numbers
+
 -- ---- the answer
 
 -- what the region's request came to
@@ -133,30 +142,37 @@ pub has_asked : (engine : Engine) (m : Machine) (region : ℕ) (t : Transaction)
     → Shows (standing rows) (locks_after g (as_lock (rules_in engine) region needed) m.locks)
     (requests_after g (as_lock (rules_in engine) region needed) m.requests)
     → length rows ≡ length engine.locks
+    → IfCycle g (λ list. list ≡ first_cycle regions (requests_with (rules_in engine) m region needed) m.locks region)
+    → IfCycle g (λ list. length list ≤ regions)
+    → regions ≡ length engine.locks
     → HasAsked (record engine { locks = rows }) m region t (asked_of g)
-has_asked engine m region t needed regions rows grant.Held n granted shows same_rows =
+has_asked engine m region t needed regions rows grant.Held n granted shows same_rows named short many =
     let after : Engine = record engine { locks = rows } in
     let lock : Lock = as_lock (rules_in engine) region needed in
     let new = wanted_is_new engine m region t (asks (rules_in engine) t) needed n.at_work.stands n.wants in
     let in_front = gained_is (held_as m.locks region needed.resource) lock m.locks new in
     let m2 : Machine = record m { locks = lock ∷ m.locks; requests = without_region region m.requests } in
-    acted after m region t (Gains needed) m2 n.at_work.active (n.wants, granted, refl)
+    acted after m region t (Gains needed) m2 n.at_work.active (n.wants, granted, refl) tt
     (locked_stands engine m rows (lock ∷ m.locks) (without_region region m.requests) n.at_work.stands
     (subst (λ (ls : List Lock). Shows (standing rows) ls (without_region region m.requests)) in_front shows) same_rows)
-has_asked engine m region t needed regions rows (grant.Wait holders) n granted shows same_rows =
+has_asked engine m region t needed regions rows (grant.Wait holders) n granted shows same_rows named short many =
     let after : Engine = record engine { locks = rows } in
     let lock : Lock = as_lock (rules_in engine) region needed in
     let waiting : List Lock = requests_after (grant.Wait holders) lock m.requests in
     let m2 : Machine = record m { requests = waiting } in
-    acted after m region t (Waits needed) m2 n.at_work.active (n.wants, granted.0, granted.2, refl)
+    acted after m region t (Waits needed) m2 n.at_work.active (n.wants, granted.0, granted.2, refl) tt
     (locked_stands engine m rows m.locks waiting n.at_work.stands shows same_rows)
-has_asked engine m region t needed regions rows (grant.Cycle list) n granted shows same_rows =
+has_asked engine m region t needed regions rows (grant.Cycle list) n granted shows same_rows named short many =
+    let all : regions ≡ length (rules_in engine).regions = many ∙ rows_long engine m n.at_work.stands in
     let left : List Lock = without_region region m.requests in
     record {
       needed = needed;
       cycle = granted.0;
       is = granted.1;
       closes = record { wants = n.wants; closes = granted.2; distinct = granted.3 };
+      named = named ∙ ap (λ (k : ℕ). first_cycle k (requests_with (rules_in engine) m region needed) m.locks region)
+          all;
+      short = subst (λ (k : ℕ). length list ≤ k) all short;
       may_end =
           record {
             requests = left;

@@ -1,6 +1,7 @@
 pub mod Places
 pub mod Ends
 pub mod Turns
+pub mod Exacts
 pub mod Steps
 pub mod Goings
 pub mod Takes

@@ -26,7 +26,7 @@ use Rattle.fp_core.specs.declared.engine.Engine.{Engine}
 use Rattle.fp_core.specs.Acting.{HasClosed, IsAtEndOf, IsAtWork, MayEnd}
 use Rattle.fp_core.specs.Ending.{IsRefusal, refused_entry}
 use Rattle.fp_core.specs.Relation.{IsMade, IsTransaction, StandsFor, owed_of, rules_in}
-use Rattle.fp_core.specs.Turning.{Turned}
+use Rattle.fp_core.specs.Turning.{IsExact, Turned}
 use Rattle.fp_core.proofs.Turns.{acted}
 
 -- ---- its entry
@@ -157,7 +157,7 @@ module _ (engine after : Engine) (m : Machine) (region : ℕ) (t : Transaction) 
         } in
         acted after m region t (Finishes ending []) m2 e.at_work.active
         (subst (λ (rules : Rules). Does rules m region t (Finishes ending []) m2) (sym same)
-        (at_end, (λ fails. absurd cc), refl, refl)) stands
+        (at_end, (λ fails. absurd cc), refl, refl)) tt stands
 
     -- its request would close a cycle, and it begins again, or is refused,
     pub cycle_tried : (list : List ℕ) → HasClosed engine m region t list → t.tries < (rules_in engine).tries
@@ -167,7 +167,7 @@ module _ (engine after : Engine) (m : Machine) (region : ℕ) (t : Transaction) 
         let m2 : Machine = tried_again (rules_in engine) region t m in
         acted after m region t (Retries_at_cycle h.needed h.cycle) m2 h.may_end.active
         (subst (λ (rules : Rules). Does rules m region t (Retries_at_cycle h.needed h.cycle) m2) (sym same)
-        (h.closes, left, refl)) stands
+        (h.closes, left, refl)) tt stands
 
     pub cycle_refused : (list : List ℕ) → HasClosed engine m region t list → (rules_in engine).tries ≤ t.tries
         → StandsFor after (ended_with region (entry_of t (refused_as (outcome.Deadlock list) m.history.now) [] [])
@@ -178,6 +178,8 @@ module _ (engine after : Engine) (m : Machine) (region : ℕ) (t : Transaction) 
         acted after m region t (Deadlocks h.needed h.cycle) m2 h.may_end.active
         (subst (λ (rules : Rules). Does rules m region t (Deadlocks h.needed h.cycle) m2) (sym same)
         (h.closes, used, refl))
+        (subst (λ (rules : Rules). IsExact after.defs.now rules m region t (Deadlocks h.needed h.cycle)) (sym same)
+        (sym h.is ∙ h.named))
         (subst (λ (xs : List ℕ). StandsFor after (ended_with region
         (entry_of t (refused_as (outcome.Deadlock xs) m.history.now) [] []) m.history.now m)) h.is stands)
 
@@ -192,7 +194,7 @@ module _ (engine after : Engine) (m : Machine) (region : ℕ) (t : Transaction) 
         let m2 : Machine = tried_again (rules_in engine) region t m in
         acted after m region t (Retries_at_verify ending) m2 w.active
         (subst (λ (rules : Rules). Does rules m region t (Retries_at_verify ending) m2) (sym same)
-        (end, refl, left, refl)) stands
+        (end, refl, left, refl)) tt stands
 
     pub verify_refused : (call fsa : ℕ) (found : List ℕ) → IsAtWork engine m region t
         → IsAtEnd (rules_in engine) m region t (refused_as (outcome.Verify call fsa found) m.history.now)
@@ -205,4 +207,4 @@ module _ (engine after : Engine) (m : Machine) (region : ℕ) (t : Transaction) 
         let m2 : Machine = ended_with region (entry_of t ending t.notes []) m.history.now m in
         acted after m region t (Finishes ending []) m2 w.active
         (subst (λ (rules : Rules). Does rules m region t (Finishes ending []) m2) (sym same)
-        (end, (λ fails. used), refl, refl)) stands
+        (end, (λ fails. used), refl, refl)) tt stands

@@ -15,7 +15,7 @@ use Rattle.fp_core.specs.declared.engine.Engine.{Engine}
 use Rattle.fp_core.specs.declared.engine.Region.TheVariants as regions
 use Rattle.fp_core.specs.Acting.{IsAtWork}
 use Rattle.fp_core.specs.Relation.{IsRegion, StandsFor, rules_in}
-use Rattle.fp_core.specs.Turning.{IsDidOfRegion, Turned, did_of}
+use Rattle.fp_core.specs.Turning.{IsDidOfRegion, IsExact, Turned, did_of}
 use Rattle.fp_core.proofs.Places.{right_of}
 
 abbrev pub is_device : Environment → Type 0
@@ -27,14 +27,15 @@ is_device OutOfMemory = ⊥
 pub acted : (engine : Engine) (m : Machine) (region : ℕ) (t : Transaction) (act : Act) (after : Machine)
     → region_at m region ≡ Some (Active t)
     → Does (rules_in engine) m region t act after
+    → IsExact engine.defs.now (rules_in engine) m region t act
     → StandsFor engine after
     → Turned (event.Region region) m engine (did_of act)
-acted engine m region t act after there does stands = record {
+acted engine m region t act after there does exact stands = record {
   after = after;
   environment = NoFault;
   turn = subst (λ (o : Option Region). RegionTurn (rules_in engine) m region o NoFault after) (sym there) (act, does);
-  is_did = subst (λ (o : Option Region). IsDidOfRegion (rules_in engine) m region o NoFault after (did_of act))
-      (sym there) (act, does, refl);
+  is_did = subst (λ (o : Option Region). IsDidOfRegion engine.defs.now (rules_in engine) m region o NoFault after
+      (did_of act)) (sym there) (act, does, exact, refl);
   no_device = λ e. subst is_device (sym e) tt;
   stands = stands;
 }
@@ -50,8 +51,8 @@ starved engine m region t there stands =
       after = after;
       environment = OutOfMemory;
       turn = subst (λ (o : Option Region). RegionTurn (rules_in engine) m region o OutOfMemory after) (sym there) refl;
-      is_did = subst (λ (o : Option Region). IsDidOfRegion (rules_in engine) m region o OutOfMemory after did.Refused)
-          (sym there) refl;
+      is_did = subst (λ (o : Option Region). IsDidOfRegion engine.defs.now (rules_in engine) m region o OutOfMemory
+          after did.Refused) (sym there) refl;
       no_device = λ e. subst is_device (sym e) tt;
       stands = stands;
     }

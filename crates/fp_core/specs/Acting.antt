@@ -1,10 +1,11 @@
 -- What an active region does in its turn, step by step.
-use Rattle.std.specs.Prelude.{◌≡◌, ℕ, List, ◌∷◌, Some, None}
+use Rattle.std.specs.Prelude.{◌≡◌, ℕ, ◌≤◌, List, ◌∷◌, length, Some, None}
+use Rattle.ci_locks.specs.Cycles.{first_cycle}
 use Rattle.fp_model.specs.declared.events.Event.TheVariants as event
 use Rattle.fp_model.specs.Answers.{Needed}
 use Rattle.fp_model.specs.Asking.{Ask, Replies, Rolls}
 use Rattle.fp_model.specs.Machine.{Transaction, Active, Machine, region_at}
-use Rattle.fp_model.specs.Turns.{ClosesCycle, asks, wanted}
+use Rattle.fp_model.specs.Turns.{ClosesCycle, asks, requests_with, wanted}
 use Rattle.fp_model.specs.Waiting.{Lock, without_region}
 use Rattle.fp_core.specs.declared.answering.Acted.{Acted}
 use Rattle.fp_core.specs.declared.answering.Acted.TheVariants as acted
@@ -30,12 +31,16 @@ module _ (engine : Engine) (m : Machine) (region : ℕ) (t : Transaction) where
     pub stands : StandsFor engine (record m { requests = requests })
     pub active : region_at m region ≡ Some (Active t)
 
-  -- The region would close this cycle by the request for a lock that it needs. The request doesn't stand.
+  -- The region would close this cycle by the request for a lock that it needs. The request doesn't stand. Of the cycles
+  -- that it would close this is the first in the order of words, and no region is in it twice.
   pub record HasClosed (list : List ℕ) : Type 0 where
     pub needed : Needed
     pub cycle : List ℕ
     pub is : list ≡ region ∷ cycle
     pub closes : ClosesCycle (rules_in engine) m region t needed cycle
+    pub named : list ≡ first_cycle (length (rules_in engine).regions) (requests_with (rules_in engine) m region needed)
+        m.locks region
+    pub short : length list ≤ length (rules_in engine).regions
     pub may_end : MayEnd
 
   -- The region is at work and needs this lock,
@@ -57,7 +62,7 @@ module _ (engine : Engine) (m : Machine) (region : ℕ) (t : Transaction) where
   abbrev pub HasActed : Acted → Type 0
   HasActed acted.Answered = Turned (event.Region region) m engine did.Answered
   HasActed (acted.Needs resource mode) = NeedsLock (record { resource = resource; mode = mode })
-  HasActed (acted.Replies reply) = IsAtEndOf (Replies reply)
+  HasActed (acted.Replies reply) = HoldsAll reply
   HasActed (acted.Rolls code) = IsAtEndOf (Rolls code)
 
   -- it asked for the lock that it needs

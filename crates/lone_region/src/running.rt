@@ -112,16 +112,16 @@ impl Transaction {
         defs: &Defs,
         scripts: &Scripts,
         number: u32,
-        message: &Message,
     ) -> Result<Transaction, AllocError>
         requires no_dedbs { defs.now.dedbs ≡ [] }
         requires number { number < length scripts.now.scripts }
-        ensures { (script : Script) → (msdbs : ListOf Msdb) → (from : ℕ) → IsCheap scripts.now.scripts message.now
-            → script_of scripts.now.scripts message.now.tran ≡ Some script
+        ensures { (script : Script) (message : MessageOf) (msdbs : ListOf Msdb) (from : ℕ)
+            → IsCheap scripts.now.scripts message
+            → script_of scripts.now.scripts message.tran ≡ Some script
             → slice_get scripts.now.scripts number ≡ Some script
-            → IfOk result (IsUnderway defs.now scripts.now.scripts message.now msdbs from 10000) }
+            → IfOk result (IsUnderway defs.now scripts.now.scripts message msdbs from 10000) }
     {
-        let program = Program::start(alloc, scripts, number, message)?;
+        let program = Program::start(alloc, scripts, number);
         let work = Work::new(alloc, defs)?;
         let locks = Locks::new(alloc, REGION)?;
         Ok(Transaction {
@@ -139,20 +139,21 @@ impl Transaction {
         scripts: &Scripts,
         store: &MsdbStore,
         from: u64,
+        message: &Message,
     ) -> Result<Option<End>, AllocError>
         requires ready { IsReady defs.now scripts.now.scripts store.now }
-        requires under { (message : MessageOf) × ((left : ℕ)
-            × IsUnderway defs.now scripts.now.scripts message store.now.msdbs from left self.old) }
-        ensures goes { (message : MessageOf) (left : ℕ) → IsCheap scripts.now.scripts message
-            → IsUnderway defs.now scripts.now.scripts message store.now.msdbs from left self.old
-            → IfOk result (λ end. IfNone end (IsStepped defs.now scripts.now.scripts message store.now.msdbs from left
-            self.new)) }
-        ensures ends { (message : MessageOf) (left : ℕ) → IsCheap scripts.now.scripts message
-            → IsUnderway defs.now scripts.now.scripts message store.now.msdbs from left self.old
-            → IfOk result (λ end. IfSome end (HasEnded defs.now scripts.now.scripts message store.now.msdbs from
+        requires under { (left : ℕ)
+            × IsUnderway defs.now scripts.now.scripts message.now store.now.msdbs from left self.old }
+        ensures goes { (left : ℕ) → IsCheap scripts.now.scripts message.now
+            → IsUnderway defs.now scripts.now.scripts message.now store.now.msdbs from left self.old
+            → IfOk result (λ end. IfNone end
+            (IsStepped defs.now scripts.now.scripts message.now store.now.msdbs from left self.new)) }
+        ensures ends { (left : ℕ) → IsCheap scripts.now.scripts message.now
+            → IsUnderway defs.now scripts.now.scripts message.now store.now.msdbs from left self.old
+            → IfOk result (λ end. IfSome end (HasEnded defs.now scripts.now.scripts message.now store.now.msdbs from
             self.new.work)) }
     {
-        match self.program.next(scripts, defs)? {
+        match self.program.next(scripts, defs, message)? {
             Next::Call(call) => {
                 calls_are_fewer_than_the_cost(); // so the count of calls that are left isn't used up
                 let Transaction {
@@ -188,10 +189,10 @@ pub(crate) fn run_alone(
     ensures { IfOk result (λ ended. HasEnded defs.now scripts.now.scripts message.now store.now.msdbs from ended.0
         ended.1) }
 {
-    let mut transaction = Transaction::begin(alloc, defs, scripts, number, message)?;
+    let mut transaction = Transaction::begin(alloc, defs, scripts, number)?;
     let mut left = MOST_CALLS;
     loop {
-        if let Some(end) = transaction.step(alloc, defs, scripts, store, from)? {
+        if let Some(end) = transaction.step(alloc, defs, scripts, store, from, message)? {
             return Ok((transaction.work, end));
         }
         left -= 1;

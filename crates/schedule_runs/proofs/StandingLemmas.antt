@@ -1,5 +1,5 @@
 -- A run beside a site and a source: one step more, a stop in one, a crash in one; and the drain behind all events.
-use Rattle.std.proofs.Common.{◌≡◌, refl, sym, ◌∙◌, ap, subst, arith, ℕ, ◌+◌, List, [], ◌∷◌, ◌++◌, length, inl, inr}
+use Rattle.std.proofs.Common.{◌≡◌, refl, sym, ◌∙◌, subst, arith, ℕ, ◌+◌, List, [], ◌∷◌, ◌++◌, inl, inr}
 use Rattle.std.specs.Prelude.{Result, Ok, Err, OnOk}
 use Rattle.drain_laws.specs.Live.{IsReached}
 use Rattle.drain_laws.specs.ProductGauge.{gauge_of}
@@ -10,7 +10,6 @@ use Rattle.fp_model.specs.declared.events.Event.{Event}
 use Rattle.fp_model.specs.Machine.{Machine}
 use Rattle.fp_model.specs.Rules.{Rules}
 use Rattle.fp_model.specs.Runs.{IsDrained}
-use Rattle.fp_model.specs.Turns.{Turn}
 use Rattle.fp_site.specs.Disk.{Disk, IsDurable, IsLawful, Snapshot}
 use Rattle.fp_site.specs.Moments.{Through}
 use Rattle.fp_site.proofs.Runs.{joined, weaker}
@@ -23,7 +22,7 @@ use Rattle.fp_core.specs.declared.stop.Stop.TheVariants as stops
 use Rattle.fp_core.specs.Draining.{DrainStopped, Drained, IsLeftByDrain, IsReachedBy}
 use Rattle.fp_core.specs.Relation.{rules_in}
 use Rattle.fp_core.specs.Sparing.{IsSealing}
-use Rattle.fp_core.specs.Standing.{IsLeft, IsWithin, Leaves, MayStop, Origin, StandsAt, StandsBeside, SteppedBeside, seals_of}
+use Rattle.fp_core.specs.Standing.{IsLeft, IsWithin, Leaves, MayStop, Origin, StandsBeside, SteppedBeside, seals_of}
 use Rattle.fp_core.specs.Turning.{Turned}
 use Rattle.fp_core.proofs.Steps.{left_alone}
 use Rattle.schedule_runs.specs.Standing.{IsDone, IsLeftOnWay, IsStopped, StandsOnWay}
@@ -138,7 +137,8 @@ module _ (origin : Origin) (events : List Event) (m : Machine) (old : Disk) (old
 
     -- ---- one step
 
-    module _ (new : Disk) (leaves : Leaves origin (rules_in engine) on.here (seals_of (next_event part) on.here) mid new)
+    module _ (new : Disk) (leaves : Leaves origin (rules_in engine) on.here (seals_of (next_event part) on.here) mid
+        new)
       where
         leaves_so : Leaves origin rules on.here (seals_of (next_event part) on.here) mid new
         leaves_so =
@@ -202,7 +202,8 @@ module _ (origin : Origin) (events : List Event) (m : Machine) (old : Disk) (old
       left_drain : (law : IsLawful mid) → Through old mid Left → (s : Snapshot)
           → IsLeftByDrain origin defs rules on.here mid s → Left s
       left_drain law before s (inl left) =
-          let alone = left_alone origin rules on.here (seals_of (next_event part) on.here) mid engine law on.beside.at in
+          let alone = left_alone origin rules on.here (seals_of (next_event part) on.here) mid engine law on.beside.at
+          in
           let still = subst (λ (d : Defs). Comes d rules part on.here part on.here) same_defs
           (comes_still rules part engine on.here on.reached.stands) in
           left_behind law before part on.here still s (alone.moments.each s (law.counts_now s left))

@@ -7,7 +7,6 @@ use Rattle.std.proofs.lemmas.List.Elements.{filter-append}
 use Rattle.drain_laws.specs.Rounds.{GoesRounds}
 use Rattle.fp_model.specs.declared.definitions.Defs.{Defs}
 use Rattle.fp_model.specs.declared.events.Event.{Event}
-use Rattle.fp_model.specs.declared.events.Event.TheVariants as event
 use Rattle.fp_model.specs.Machine.{Machine}
 use Rattle.fp_model.specs.Rules.{Rules}
 use Rattle.fp_model.specs.Runs.{Drains, IsDrained, RunStep, Runs, TakesOf, device_faults, is_device_fault, machine_after, round, step_events}
@@ -72,6 +71,18 @@ pub goes_steps : (rules : Rules) (steps : List RunStep) (m m2 : Machine) (left :
     → Runs rules m steps m2 → Goes rules (step_events steps ++ left) m (environments_of steps) left m2
 goes_steps rules [] m m2 left runs = subst (λ (x : Machine). Goes rules left m [] left x) (sym runs) ways.here
 goes_steps rules (s ∷ steps) m m2 left runs = ways.turn runs.0 (goes_steps rules steps s.after m2 left runs.1)
+
+-- and back
+pub steps_of : {rules : Rules} {events left : List Event} {m here : Machine} {vs : List Environment}
+    → Goes rules events m vs left here
+    → (steps : List RunStep) × (Runs rules m steps here × (environments_of steps ≡ vs))
+steps_of ways.here = ([], (refl, refl))
+steps_of (ways.turn {e = e} {v = v} {mid = mid} t rest) =
+    let more = steps_of rest in (
+      record { event = e; environment = v; after = mid } ∷ more.0,
+      ((t, more.1.0), ap (λ (xs : List Environment). v ∷ xs) more.1.1),
+    )
+steps_of (ways.again undone rest) = steps_of rest
 
 -- ---- rounds
 

@@ -2,5 +2,7 @@
 #![tactic(auto)]
 
 mod runs;
+mod ways;
 
 pub use runs::run_schedule;
+pub use ways::a_way_is_a_run;

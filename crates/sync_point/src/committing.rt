@@ -2,6 +2,7 @@
 //! and the databases are given what is staged, which takes no memory. So both happen or neither.
 ghost use Rattle.fp_model.specs.Items.{IsFit, with_items};
 ghost use Rattle.fp_model.specs.Commit.{settlement};
+ghost use Rattle.fp_model.specs.ItemTargets.{is_ascending};
 ghost use Rattle.fp_model.specs.LogText.{FitsEntry, KeepsRules};
 ghost use Rattle.fp_model.specs.Serial.{settled_as};
 ghost use Rattle.fp_model.specs.Settle.{Stands, VerifyFails, settle};
@@ -9,10 +10,10 @@ ghost use Rattle.fp_model.specs.Workspace.{Workspace};
 ghost use Rattle.fp_model.specs.declared.database.Db.{Db};
 ghost use Rattle.fp_model.specs.declared.definitions.Defs.{Defs};
 ghost use Rattle.fp_model.specs.declared.definitions.MsdbDef.{MsdbDef};
-ghost use Rattle.msdb_store.specs.Settling.{CanSettle, HasItem, IsNamed, IsStaged};
+ghost use Rattle.msdb_store.specs.Settling.{CanSettle, HasItem, IsNamed, IsSegmentItem, IsStaged};
 ghost use Rattle.msdb_store.specs.Store.{IsOf};
 ghost use Rattle.std.specs.List.{AllByRecursion};
-ghost use Rattle.std.specs.Prelude.{◌≡◌, ◌↔◌, ℕ, ◌<◌, ◌≤◌, ◌^◌, ◌++◌, ◌∷◌, [], IfOk, IsErrOf, List as ListOf, OnErr, OnOk, length};
+ghost use Rattle.std.specs.Prelude.{◌≡◌, ◌↔◌, ℕ, ◌<◌, ◌≤◌, ◌^◌, ◌++◌, ◌∷◌, [], IfOk, IsErrOf, IsTrue, List as ListOf, OnErr, OnOk, length};
 ghost use Rattle.sync_point.specs.Drafts.{IsDraftOf, IsEnd, done_entry};
 ghost use Rattle.sync_point.specs.declared.committing.Cause.TheVariants as causes;
 
@@ -168,6 +169,11 @@ pub fn commit(draft: Draft, msdbs: &mut MsdbStore, log: &mut Log) -> Result<Entr
     ensures keys { (defs : ListOf MsdbDef) → CanSettle defs msdbs.old draft.deferred
         → IfOk result (λ entry. (number : ℕ) → (key : ListOf ℕ)
         → (HasItem entry.items number key) ↔ (IsNamed defs draft.deferred number key)) }
+
+    ensures kinds { (defs : ListOf MsdbDef) → CanSettle defs msdbs.old draft.deferred
+        → IfOk result (λ entry. AllByRecursion IsSegmentItem entry.items) }
+    ensures in_order { (defs : ListOf MsdbDef) → CanSettle defs msdbs.old draft.deferred
+        → IfOk result (λ entry. IsTrue (is_ascending entry.items)) }
 
     // A cause changes neither databases nor entries.
     ensures segments { OnErr result (msdbs.new.msdbs ≡ msdbs.old.msdbs) }

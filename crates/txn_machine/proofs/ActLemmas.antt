@@ -35,29 +35,26 @@ use Rattle.txn_machine.proofs.WorkLemmas.{work_here, work_push, work_at, some_wo
 suc_times : (n m : ℕ) → suc n * m ≡ n * m + m
 suc_times n m = omega arith
 
-module _ (defs : Defs) (statements : List Statement) (end : ℕ) (old : Program) (did : Deed)
-    (d : IsDeed defs statements end old did) where
-  abbrev message_of : Message
-  message_of = old.known.message
-
+module _ (defs : Defs) (statements : List Statement) (message : Message) (end : ℕ) (old : Program) (did : Deed)
+    (d : IsDeed defs statements message end old did) where
   abbrev block_of_old : List Statement
   block_of_old = block_at old.place.frames statements
 
   -- what follows behind a deed
   abbrev end_behind : Deed → List Answer → Ask
-  end_behind x more = ended (around defs message_of old.place.frames statements
-      (goes_on (way_of defs message_of d.statement x (env_of old.known more))
-      (from_place defs message_of (old.place.at + 1) block_of_old)))
+  end_behind x more = ended (around defs message old.place.frames statements
+      (goes_on (way_of defs message d.statement x (env_of old.known more))
+      (from_place defs message (old.place.at + 1) block_of_old)))
 
   -- from the place on comes what the statement there does
   pub here : (x : Deed) → did ≡ x → (more : List Answer)
-      → end_of defs statements message_of old more ≡ end_behind x more
+      → end_of defs statements message old more ≡ end_behind x more
   here x is more =
-      ap (λ (ss : List Statement). ended (around defs message_of old.place.frames statements
-      (in_order (map (run defs message_of) ss) (env_of old.known more))))
+      ap (λ (ss : List Statement). ended (around defs message old.place.frames statements
+      (in_order (map (run defs message) ss) (env_of old.known more))))
       (drop_here block_of_old old.place.at d.statement d.here)
-      ∙ ap (λ (way : Way). ended (around defs message_of old.place.frames statements
-      (goes_on way (from_place defs message_of (old.place.at + 1) block_of_old)))) (d.does more)
+      ∙ ap (λ (way : Way). ended (around defs message old.place.frames statements
+      (goes_on way (from_place defs message (old.place.at + 1) block_of_old)))) (d.does more)
       ∙ ap (λ (y : Deed). end_behind y more) is
 
   -- the work from the place on
@@ -69,14 +66,13 @@ module _ (defs : Defs) (statements : List Statement) (end : ℕ) (old : Program)
   -- ---- on to the next statement
 
   pub passed : (new : Program) (behind : ℕ) → behind ≡ old.place.at + 1 → did ≡ deed.Pass
-      → new ≡ record old { place = record old.place { at = behind } } → ComesAlike defs statements old new
+      → new ≡ record old { place = record old.place { at = behind } } → ComesAlike defs statements message old new
   passed new behind next is to = record {
-    message = ap (λ (p : Program). p.known.message) to;
     comes = λ more.
         here deed.Pass is more
-        ∙ ap (λ (n : ℕ). end_from defs message_of statements (record old.place { at = n }) (env_of old.known more))
+        ∙ ap (λ (n : ℕ). end_from defs message statements (record old.place { at = n }) (env_of old.known more))
         (sym next)
-        ∙ ap (λ (p : Program). end_of defs statements message_of p more) (sym to);
+        ∙ ap (λ (p : Program). end_of defs statements message p more) (sym to);
   }
 
   pub next_less : (place : Place) (behind : ℕ) → behind ≡ old.place.at + 1 → place ≡ record old.place { at = behind }
@@ -92,40 +88,39 @@ module _ (defs : Defs) (statements : List Statement) (end : ℕ) (old : Program)
   -- ---- a variable
 
   pub was_set : (new : Program) (behind : ℕ) (name : Name) (text : List ℕ) → behind ≡ old.place.at + 1
-      → did ≡ deed.Set name text → new.known.message ≡ old.known.message
+      → did ≡ deed.Set name text
       → new.place ≡ record old.place { at = behind }
       → ((more : List Answer) → AreAlike (with_setting name.0 text (env_of old.known more)) (env_of new.known more))
-      → ComesAlike defs statements old new
-  was_set new behind name text next is same to alike = record {
-    message = same;
+      → ComesAlike defs statements message old new
+  was_set new behind name text next is to alike = record {
     comes = λ more.
         here (deed.Set name text) is more
-        ∙ same_end defs message_of statements (record old.place { at = old.place.at + 1 })
+        ∙ same_end defs message statements (record old.place { at = old.place.at + 1 })
         (with_setting name.0 text (env_of old.known more)) (env_of new.known more)
         (record { alike = alike more; answers = refl })
-        ∙ ap (λ (n : ℕ). end_from defs message_of statements (record old.place { at = n }) (env_of new.known more))
+        ∙ ap (λ (n : ℕ). end_from defs message statements (record old.place { at = n }) (env_of new.known more))
         (sym next)
-        ∙ ap (λ (place : Place). end_from defs message_of statements place (env_of new.known more)) (sym to);
+        ∙ ap (λ (place : Place). end_from defs message statements place (env_of new.known more)) (sym to);
   }
 
   -- nothing has changed that matters
-  pub unchanged : (new : Program) → new.known.message ≡ old.known.message → new.place ≡ old.place
-      → ((more : List Answer) → env_of new.known more ≡ env_of old.known more) → ComesAlike defs statements old new
-  unchanged new same to env = record {
-    message = same;
-    comes = λ more. ap (λ (place : Place). end_from defs message_of statements place (env_of old.known more)) (sym to) ∙
-        ap (λ (e : Env). end_from defs message_of statements new.place e) (sym (env more));
+  pub unchanged : (new : Program) → new.place ≡ old.place
+      → ((more : List Answer) → env_of new.known more ≡ env_of old.known more)
+      → ComesAlike defs statements message old new
+  unchanged new to env = record {
+    comes = λ more. ap (λ (place : Place). end_from defs message statements place (env_of old.known more)) (sym to) ∙
+        ap (λ (e : Env). end_from defs message statements new.place e) (sym (env more));
   }
 
   pub set_alike_program : (r : Result (Option Next) AllocError) (new : Program) (behind : ℕ) (name : Name)
-      (text : List ℕ) → behind ≡ old.place.at + 1 → did ≡ deed.Set name text → new.known.message ≡ old.known.message
+      (text : List ℕ) → behind ≡ old.place.at + 1 → did ≡ deed.Set name text
       → OnOk r (new.place ≡ record old.place { at = behind }) → OnErr r (new.place ≡ old.place)
       → ((more : List Answer) → OnOk r (AreAlike (with_setting name.0 text (env_of old.known more))
       (env_of new.known more))) → ((more : List Answer) → OnErr r (env_of new.known more ≡ env_of old.known more))
-      → ComesAlike defs statements old new
-  set_alike_program (Ok given) new behind name text next is same to stays alike err =
-      was_set new behind name text next is same to alike
-  set_alike_program (Err e) new behind name text next is same to stays alike err = unchanged new same stays err
+      → ComesAlike defs statements message old new
+  set_alike_program (Ok given) new behind name text next is to stays alike err =
+      was_set new behind name text next is to alike
+  set_alike_program (Err e) new behind name text next is to stays alike err = unchanged new stays err
 
   pub set_less : (r : Result (Option Next) AllocError) (place : Place) (behind : ℕ) → behind ≡ old.place.at + 1
       → OnOk r (place ≡ record old.place { at = behind })
@@ -149,56 +144,54 @@ module _ (defs : Defs) (statements : List Statement) (end : ℕ) (old : Program)
 
   -- from the first statement of a new block on
   entered : (f : Frame) (place : Place) (env : Env) → place ≡ record { frames = old.place.frames ++ f ∷ []; at = 0 }
-      → end_from defs message_of statements place env ≡ ended
-      (around defs message_of old.place.frames statements
-      (beyond defs message_of f block_of_old (block_of defs message_of (inner f block_of_old) env)))
+      → end_from defs message statements place env ≡ ended
+      (around defs message old.place.frames statements
+      (beyond defs message f block_of_old (block_of defs message (inner f block_of_old) env)))
   entered f place env to =
-      ap (λ (p : Place). end_from defs message_of statements p env) to
-      ∙ ap (λ (b : List Statement). ended (around defs message_of (old.place.frames ++ f ∷ []) statements
-      (block_of defs message_of b env))) (block_push old.place.frames f statements)
-      ∙ ap ended (around_push defs message_of old.place.frames f statements
-      (block_of defs message_of (inner f block_of_old) env))
+      ap (λ (p : Place). end_from defs message statements p env) to
+      ∙ ap (λ (b : List Statement). ended (around defs message (old.place.frames ++ f ∷ []) statements
+      (block_of defs message b env))) (block_push old.place.frames f statements)
+      ∙ ap ended (around_push defs message old.place.frames f statements
+      (block_of defs message (inner f block_of_old) env))
 
   chose : (new : Program) (behind : ℕ) (holds : Bool) → behind ≡ old.place.at + 1 → did ≡ deed.Choose holds
       → new ≡ record old { place = record { frames = old.place.frames ++ frame.Choice behind holds ∷ []; at = 0 } }
-      → ComesAlike defs statements old new
+      → ComesAlike defs statements message old new
   chose new behind holds next is to = record {
-    message = ap (λ (p : Program). p.known.message) to;
     comes = λ more.
         here (deed.Choose holds) is more
-        ∙ ap (λ (n : ℕ). ended (around defs message_of old.place.frames statements
-        (goes_on (block_of defs message_of (choice_in holds (out-Statement d.statement)) (env_of old.known more))
-        (from_place defs message_of n block_of_old)))) (sym next)
-        ∙ ap (λ (b : List Statement). ended (around defs message_of old.place.frames statements
-        (goes_on (block_of defs message_of b (env_of old.known more))
-        (from_place defs message_of behind block_of_old)))) (sym (inner_choice behind holds next))
+        ∙ ap (λ (n : ℕ). ended (around defs message old.place.frames statements
+        (goes_on (block_of defs message (choice_in holds (out-Statement d.statement)) (env_of old.known more))
+        (from_place defs message n block_of_old)))) (sym next)
+        ∙ ap (λ (b : List Statement). ended (around defs message old.place.frames statements
+        (goes_on (block_of defs message b (env_of old.known more))
+        (from_place defs message behind block_of_old)))) (sym (inner_choice behind holds next))
         ∙ sym (entered (frame.Choice behind holds) (record
         { frames = old.place.frames ++ frame.Choice behind holds ∷ []; at = 0 }) (env_of old.known more) refl)
-        ∙ ap (λ (p : Program). end_of defs statements message_of p more) (sym to);
+        ∙ ap (λ (p : Program). end_of defs statements message p more) (sym to);
   }
 
   repeats : (new : Program) (behind left : ℕ) → behind ≡ old.place.at + 1 → did ≡ deed.Repeat left
       → new ≡ record old { place = record { frames = old.place.frames ++ frame.Loop behind left ∷ []; at = 0 } }
-      → ComesAlike defs statements old new
+      → ComesAlike defs statements message old new
   repeats new behind left next is to = record {
-    message = ap (λ (p : Program). p.known.message) to;
     comes = λ more.
         here (deed.Repeat left) is more
-        ∙ ap (λ (n : ℕ). ended (around defs message_of old.place.frames statements
-        (goes_on (loops_on (block_of defs message_of (loop_in (out-Statement d.statement)) (env_of old.known more))
-        (times left (block_of defs message_of (loop_in (out-Statement d.statement)))))
-        (from_place defs message_of n block_of_old)))) (sym next)
-        ∙ ap (λ (b : List Statement). ended (around defs message_of old.place.frames statements
-        (goes_on (loops_on (block_of defs message_of b (env_of old.known more))
-        (times left (block_of defs message_of b))) (from_place defs message_of behind block_of_old))))
+        ∙ ap (λ (n : ℕ). ended (around defs message old.place.frames statements
+        (goes_on (loops_on (block_of defs message (loop_in (out-Statement d.statement)) (env_of old.known more))
+        (times left (block_of defs message (loop_in (out-Statement d.statement)))))
+        (from_place defs message n block_of_old)))) (sym next)
+        ∙ ap (λ (b : List Statement). ended (around defs message old.place.frames statements
+        (goes_on (loops_on (block_of defs message b (env_of old.known more))
+        (times left (block_of defs message b))) (from_place defs message behind block_of_old))))
         (sym (inner_loop behind left next))
         ∙ sym (entered (frame.Loop behind left) (record
         { frames = old.place.frames ++ frame.Loop behind left ∷ []; at = 0 }) (env_of old.known more) refl)
-        ∙ ap (λ (p : Program). end_of defs statements message_of p more) (sym to);
+        ∙ ap (λ (p : Program). end_of defs statements message p more) (sym to);
   }
 
-  pub same_program : (new : Program) → new ≡ old → ComesAlike defs statements old new
-  same_program new to = unchanged new (ap (λ (p : Program). p.known.message) to) (ap (λ (p : Program). p.place) to)
+  pub same_program : (new : Program) → new ≡ old → ComesAlike defs statements message old new
+  same_program new to = unchanged new (ap (λ (p : Program). p.place) to)
       (λ more. ap (λ (p : Program). env_of p.known more) to)
 
   pub chose_alike : (r : Result (Option Next) AllocError) (new : Program) (behind : ℕ) (holds : Bool)
@@ -209,7 +202,7 @@ module _ (defs : Defs) (statements : List Statement) (end : ℕ) (old : Program)
           at =
               0;
         };
-      }) → OnErr r (new ≡ old) → ComesAlike defs statements old new
+      }) → OnErr r (new ≡ old) → ComesAlike defs statements message old new
   chose_alike (Ok given) new behind holds next is to err = chose new behind holds next is to
   chose_alike (Err e) new behind holds next is to err = same_program new err
 
@@ -217,7 +210,7 @@ module _ (defs : Defs) (statements : List Statement) (end : ℕ) (old : Program)
       → behind ≡ old.place.at + 1 → did ≡ deed.Repeat left
       → OnOk r (new ≡ record old {
         place = record { frames = old.place.frames ++ frame.Loop behind left ∷ []; at = 0 };
-      }) → OnErr r (new ≡ old) → ComesAlike defs statements old new
+      }) → OnErr r (new ≡ old) → ComesAlike defs statements message old new
   repeats_alike (Ok given) new behind left next is to err = repeats new behind left next is to
   repeats_alike (Err e) new behind left next is to err = same_program new err
 
@@ -227,11 +220,10 @@ module _ (defs : Defs) (statements : List Statement) (end : ℕ) (old : Program)
       → ((defs : Defs) (message : Message) (statements : List Statement) (env : Env) → end ≡ length statements
       → ended (around defs message old.place.frames statements (Leaves env)) ≡ end_from defs message statements
       new.place env)
-      → ComesAlike defs statements old new
+      → ComesAlike defs statements message old new
   left_alike new is same leads = record {
-    message = ap (λ (k : Known). k.message) same;
-    comes = λ more. here deed.Leave is more ∙ leads defs message_of statements (env_of old.known more) d.ends ∙ ap
-        (λ (k : Known). end_from defs message_of statements new.place (env_of k more)) (sym same);
+    comes = λ more. here deed.Leave is more ∙ leads defs message statements (env_of old.known more) d.ends ∙ ap
+        (λ (k : Known). end_from defs message statements new.place (env_of k more)) (sym same);
   }
 
   pub left_work : (place : Place) → work statements place ≤ work_around old.place.frames statements
@@ -240,18 +232,18 @@ module _ (defs : Defs) (statements : List Statement) (end : ℕ) (old : Program)
 
   -- ---- ends
 
-  pub replied : (text : List ℕ) → did ≡ deed.Reply text → end_of defs statements message_of old [] ≡ Replies text
+  pub replied : (text : List ℕ) → did ≡ deed.Reply text → end_of defs statements message old [] ≡ Replies text
   replied text is = here (deed.Reply text) is [] ∙ ap ended
-      (around_end defs message_of old.place.frames statements (Replies text))
+      (around_end defs message old.place.frames statements (Replies text))
 
-  pub rolled : (code : ℕ) → did ≡ deed.Roll code → end_of defs statements message_of old [] ≡ Rolls code
+  pub rolled : (code : ℕ) → did ≡ deed.Roll code → end_of defs statements message old [] ≡ Rolls code
   rolled code is = here (deed.Roll code) is [] ∙ ap ended
-      (around_end defs message_of old.place.frames statements (Rolls code))
+      (around_end defs message old.place.frames statements (Rolls code))
 
   pub asked_is : (asked : Call) (given : Next) → did ≡ deed.Ask asked → given ≡ next.Call asked
-      → IsAsked given (end_of defs statements message_of old [])
-  asked_is asked given is to = subst (λ (n : Next). IsAsked n (end_of defs statements message_of old [])) (sym to)
-      (here (deed.Ask asked) is [] ∙ ap ended (around_end defs message_of old.place.frames statements (Asks asked)))
+      → IsAsked given (end_of defs statements message old [])
+  asked_is asked given is to = subst (λ (n : Next). IsAsked n (end_of defs statements message old [])) (sym to)
+      (here (deed.Ask asked) is [] ∙ ap ended (around_end defs message old.place.frames statements (Asks asked)))
 
   -- ---- less work in a block
 
@@ -316,24 +308,22 @@ module _ (defs : Defs) (statements : List Statement) (end : ℕ) (old : Program)
   -- ---- a call
 
   pub stands : (new : Program) (asked : Call) (behind : ℕ) → behind ≡ old.place.at + 1 → did ≡ deed.Ask asked
-      → new.known.message ≡ old.known.message → new.place ≡ old.place
+      → new.place ≡ old.place
       → ((more : List Answer) → env_of new.known more ≡ env_of old.known more)
       → new.wait ≡ Some (record { behind = behind; lesson = lesson_of asked })
-      → IfSome new.wait (StandsAtCall defs statements new)
-  stands new asked behind next is same to env waits =
-      subst (λ (w : Option Wait). IfSome w (StandsAtCall defs statements new)) (sym waits) (record {
+      → IfSome new.wait (StandsAtCall defs statements message new)
+  stands new asked behind next is to env waits =
+      subst (λ (w : Option Wait). IfSome w (StandsAtCall defs statements message new)) (sym waits) (record {
         asked = asked;
         lesson = refl;
         comes = λ more.
-            ap (λ (m : Message). end_of defs statements m new more) same
-            ∙ sym ((unchanged new same to env).comes more)
+            sym ((unchanged new to env).comes more)
             ∙ here (deed.Ask asked) is more
-            ∙ ap (λ (n : ℕ). end_at_call defs statements message_of old asked n more) (sym next)
-            ∙ ap (λ (place : Place). ended (around defs message_of place.frames statements
+            ∙ ap (λ (n : ℕ). end_at_call defs statements message old asked n more) (sym next)
+            ∙ ap (λ (place : Place). ended (around defs message place.frames statements
             (goes_on (called asked (env_of old.known more))
-            (from_place defs message_of behind (block_at place.frames statements))))) (sym to)
-            ∙ ap (λ (e : Env). ended (around defs message_of new.place.frames statements
-            (goes_on (called asked e) (from_place defs message_of behind (block_at new.place.frames statements)))))
-            (sym (env more))
-            ∙ ap (λ (m : Message). end_at_call defs statements m new asked behind more) (sym same);
+            (from_place defs message behind (block_at place.frames statements))))) (sym to)
+            ∙ ap (λ (e : Env). ended (around defs message new.place.frames statements
+            (goes_on (called asked e) (from_place defs message behind (block_at new.place.frames statements)))))
+            (sym (env more));
       })

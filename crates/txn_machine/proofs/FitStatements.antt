@@ -229,38 +229,38 @@ reply_asks : (o : Option (List ℕ)) (asked : Call) → or_rolls o (λ text. End
 reply_asks None asked is = absurd cc
 reply_asks (Some text) asked is = absurd cc
 
-module _ (defs : Defs) (known : Known) (asked : Call) (well : AllByRecursion IsMsdbDef defs.msdbs)
+module _ (defs : Defs) (message : Message) (known : Known) (asked : Call) (well : AllByRecursion IsMsdbDef defs.msdbs)
     (shown : AreShown defs.msdbs known.gets) where
   step_fit : (d : Statement-F Statement) → fits_step defs (map-Statement Statement Bool (fits_statement defs) d) ≡ true
-      → Spells defs known d
-      → run_step defs known.message (map-Statement Statement (Env → Way) (run defs known.message) d) (env_of known []) ≡
+      → Spells defs message known d
+      → run_step defs message (map-Statement Statement (Env → Way) (run defs message) d) (env_of known []) ≡
       Ends (Asks asked) → IsMsdbCall defs.msdbs asked
   step_fit (Set variable first rest) h spelled is =
-      absurd (set_asks (set_text defs known.message (env_of known []) first rest)
+      absurd (set_asks (set_text defs message (env_of known []) first rest)
       (λ text. with_setting variable.0 text (env_of known [])) asked is)
   step_fit (If left comparison right taken otherwise) h spelled is = absurd spelled
   step_fit (Repeat n body) h spelled is = absurd spelled
   step_fit Break h spelled is = absurd cc
-  step_fit (Reply operands) h spelled is = absurd (reply_asks (reply_text defs known.message (env_of known []) operands)
+  step_fit (Reply operands) h spelled is = absurd (reply_asks (reply_text defs message (env_of known []) operands)
       asked is)
   step_fit (Roll code) h spelled is = absurd cc
-  step_fit (Get get hold db ssas) h spelled is = fit_get defs known.message (env_of known []) well get hold db ssas
+  step_fit (Get get hold db ssas) h spelled is = fit_get defs message (env_of known []) well get hold db ssas
       asked h (asked_of _ asked (env_of known []) refl is)
-  step_fit (Fld db key fsas) h spelled is = fit_fld defs known.message (env_of known []) well db key fsas asked h
+  step_fit (Fld db key fsas) h spelled is = fit_fld defs message (env_of known []) well db key fsas asked h
       spelled (asked_of _ asked (env_of known []) refl is)
-  step_fit (Isrt db ssas fields) h spelled is = fit_isrt defs known.message (env_of known []) well db ssas fields asked
+  step_fit (Isrt db ssas fields) h spelled is = fit_isrt defs message (env_of known []) well db ssas fields asked
       h (asked_of _ asked (env_of known []) refl is)
-  step_fit (Repl db fields) h spelled is = fit_repl defs known.message (env_of known []) well db fields asked h
+  step_fit (Repl db fields) h spelled is = fit_repl defs message (env_of known []) well db fields asked h
       shown.each (asked_of _ asked (env_of known []) refl is)
   step_fit (Dlet db) h spelled is =
       let def = def_at defs.msdbs db (ltb-true db (length defs.msdbs) h) in
       let same : call.Dlet db ≡ asked = cc in
       subst (λ (c : Call). IsMsdbCall defs.msdbs c) same (def.0, def.1, tt)
 
-  pub statement_fit : (s : Statement) → fits_statement defs s ≡ true → Spells defs known (out-Statement s)
-      → Does defs known s (deed.Ask asked) → IsMsdbCall defs.msdbs asked
+  pub statement_fit : (s : Statement) → fits_statement defs s ≡ true → Spells defs message known (out-Statement s)
+      → Does defs message known s (deed.Ask asked) → IsMsdbCall defs.msdbs asked
   statement_fit s h spelled does = step_fit (out-Statement s) (sym (fit_out defs s) ∙ h) spelled
-      (sym (run_out defs known.message s (out-Statement s) (env_of known []) refl) ∙ does [])
+      (sym (run_out defs message s (out-Statement s) (env_of known []) refl) ∙ does [])
 
 -- ---- what is given
 

@@ -82,16 +82,15 @@ module _ (defs : Defs) (message : Message) where
 
 pub given : (defs : Defs) (statements : List Statement) (message : Message) (answers : List Answer) (old : Program)
     (wait : Wait) (known : Known) (answer : Answer)
-    → IsAt defs statements message answers old → old.wait ≡ Some wait → known.message ≡ old.known.message
+    → IsAt defs statements message answers old → old.wait ≡ Some wait
     → ((more : List Answer) → AreTwins (taught wait.lesson answer
     (record (env_of old.known more) { status = answer.status })) (env_of known more))
     → IsAt defs statements message (answers ++ answer ∷ [])
     (record old { known = known; place = record old.place { at = wait.behind }; wait = None })
-given defs statements message answers old wait known answer at is same learns =
+given defs statements message answers old wait known answer at is learns =
     let call : IsAtCall defs statements message answers old wait =
     subst (λ (w : Option Wait). IfSome w (IsAtCall defs statements message answers old)) is at.waits in
     record {
-      heard = same ∙ at.heard;
       comes = λ more.
           ap (ask defs statements message) (append_assoc answers (answer ∷ []) more) ∙ call.comes (answer ∷ more)
           ∙ ap (λ (env : Env). end_from defs message statements (record old.place { at = wait.behind }) env)

@@ -112,22 +112,24 @@ module _ (defs : Defs) (message : Message) where
   fld_none s db key fsas env is none =
       run_out s (open_statement.Fld db key fsas) env is ∙ ap (λ (o : Option Call). or_rolls o (λ a. called a env)) none
 
-pub choice_stops : (defs : Defs) (known : Known) (s : Statement) (left : Operand) (comparison : Comparison)
+pub choice_stops : (defs : Defs) (message : Message) (known : Known) (s : Statement) (left : Operand)
+    (comparison : Comparison)
     (right : Operand) (taken otherwise : List Statement) (e : Stop) (r : Result Deed Stop)
     → out-Statement s ≡ open_statement.If left comparison right taken otherwise
-    → Stops e (chosen defs known.message (env_of known []) left comparison right) → r ≡ Err e → Tries defs known s r
-choice_stops defs known s left comparison right taken otherwise stop.NoValue r is h to =
-    subst (λ (x : Result Deed Stop). Tries defs known s x) (sym to)
-    (λ more. choice_none defs known.message s left comparison right taken otherwise (env_of known more) is h)
-choice_stops defs known s left comparison right taken otherwise stop.Memory r is h to =
-    subst (λ (x : Result Deed Stop). Tries defs known s x) (sym to) tt
+    → Stops e (chosen defs message (env_of known []) left comparison right) → r ≡ Err e → Tries defs message known s r
+choice_stops defs message known s left comparison right taken otherwise stop.NoValue r is h to =
+    subst (λ (x : Result Deed Stop). Tries defs message known s x) (sym to)
+    (λ more. choice_none defs message s left comparison right taken otherwise (env_of known more) is h)
+choice_stops defs message known s left comparison right taken otherwise stop.Memory r is h to =
+    subst (λ (x : Result Deed Stop). Tries defs message known s x) (sym to) tt
 
-pub fld_stops : (defs : Defs) (known : Known) (s : Statement) (db : ℕ) (key : Operand) (fsas : List FsaText) (e : Stop)
+pub fld_stops : (defs : Defs) (message : Message) (known : Known) (s : Statement) (db : ℕ) (key : Operand)
+    (fsas : List FsaText) (e : Stop)
     (r : Result Deed Stop)
     → out-Statement s ≡ open_statement.Fld db key fsas
-    → Stops e (fld_call defs known.message (env_of known []) db key fsas) → r ≡ Err e → Tries defs known s r
-fld_stops defs known s db key fsas stop.NoValue r is h to =
-    subst (λ (x : Result Deed Stop). Tries defs known s x) (sym to)
-    (λ more. fld_none defs known.message s db key fsas (env_of known more) is h)
-fld_stops defs known s db key fsas stop.Memory r is h to =
-    subst (λ (x : Result Deed Stop). Tries defs known s x) (sym to) tt
+    → Stops e (fld_call defs message (env_of known []) db key fsas) → r ≡ Err e → Tries defs message known s r
+fld_stops defs message known s db key fsas stop.NoValue r is h to =
+    subst (λ (x : Result Deed Stop). Tries defs message known s x) (sym to)
+    (λ more. fld_none defs message s db key fsas (env_of known more) is h)
+fld_stops defs message known s db key fsas stop.Memory r is h to =
+    subst (λ (x : Result Deed Stop). Tries defs message known s x) (sym to) tt

@@ -35,9 +35,9 @@ module _ (defs : Defs) (message : Message) where
   way_of s (deed.Ask asked) env = called asked env
 
 -- A statement does this, whatever is answered further.
-abbrev pub Does : Defs → Known → Statement → Deed → Type 0
-Does defs known s did = (more : List Answer) → run defs known.message s (env_of known more) ≡ way_of defs known.message
-    s did (env_of known more)
+abbrev pub Does : Defs → Message → Known → Statement → Deed → Type 0
+Does defs message known s did = (more : List Answer) → run defs message s (env_of known more) ≡ way_of defs message s
+    did (env_of known more)
 
 -- what REPEAT does: its block runs once, and the other times more; an empty block is passed, whatever the times
 abbrev pub deed_of_loop : ℕ → List Statement → Deed
@@ -46,10 +46,10 @@ deed_of_loop zero (s ∷ body) = deed.Pass
 deed_of_loop (suc n) (s ∷ body) = deed.Repeat n
 
 -- what a try says of it; code 99 where there is no value, and nothing after want of memory
-abbrev pub Tries : Defs → Known → Statement → Result Deed Stop → Type 0
-Tries defs known s (Ok did) = Does defs known s did
-Tries defs known s (Err stop.NoValue) = Does defs known s (deed.Roll 99)
-Tries defs known s (Err stop.Memory) = ⊤
+abbrev pub Tries : Defs → Message → Known → Statement → Result Deed Stop → Type 0
+Tries defs message known s (Ok did) = Does defs message known s did
+Tries defs message known s (Err stop.NoValue) = Does defs message known s (deed.Roll 99)
+Tries defs message known s (Err stop.Memory) = ⊤
 
 -- a call is asked
 abbrev pub IsCall : Deed → Type 0
@@ -63,16 +63,16 @@ IsCall (deed.Reply text) = ⊥
 IsCall (deed.Roll code) = ⊥
 
 -- a call is that of a statement without blocks, and the search arguments of a field call have a spelling
-abbrev pub Spells : Defs → Known → Statement-F Statement → Type 0
-Spells defs known (Fld db key fsas) = (list : List Fsa)
-    → fsas_given defs known.message (env_of known []) fsas ≡ Some list → AllByRecursion IsFsa list
-Spells defs known (Set variable first rest) = ⊤
-Spells defs known (If left comparison right taken otherwise) = ⊥
-Spells defs known (Repeat n body) = ⊥
-Spells defs known Break = ⊤
-Spells defs known (Reply operands) = ⊤
-Spells defs known (Roll code) = ⊤
-Spells defs known (Get get hold db ssas) = ⊤
-Spells defs known (Isrt db ssas fields) = ⊤
-Spells defs known (Repl db fields) = ⊤
-Spells defs known (Dlet db) = ⊤
+abbrev pub Spells : Defs → Message → Known → Statement-F Statement → Type 0
+Spells defs message known (Fld db key fsas) = (list : List Fsa)
+    → fsas_given defs message (env_of known []) fsas ≡ Some list → AllByRecursion IsFsa list
+Spells defs message known (Set variable first rest) = ⊤
+Spells defs message known (If left comparison right taken otherwise) = ⊥
+Spells defs message known (Repeat n body) = ⊥
+Spells defs message known Break = ⊤
+Spells defs message known (Reply operands) = ⊤
+Spells defs message known (Roll code) = ⊤
+Spells defs message known (Get get hold db ssas) = ⊤
+Spells defs message known (Isrt db ssas fields) = ⊤
+Spells defs message known (Repl db fields) = ⊤
+Spells defs message known (Dlet db) = ⊤

@@ -2,6 +2,7 @@
 use Rattle.std.specs.Prelude.{◌≡◌, ⊤, ℕ, suc, ◌+◌, ◌*◌, ◌≤◌, List, [], length, Some, slice_get}
 use Rattle.fp_model.specs.declared.definitions.Defs.{Defs}
 use Rattle.fp_model.specs.declared.calls.Answer.{Answer}
+use Rattle.fp_model.specs.declared.calls.Message.{Message}
 use Rattle.fp_model.specs.declared.scripts.Statement.{Statement, out-Statement}
 use Rattle.txn_machine.specs.declared.doing.Deed.{Deed}
 use Rattle.txn_machine.specs.declared.doing.Deed.TheVariants as deed
@@ -36,17 +37,16 @@ Costs s (deed.Roll code) = ⊤
 Costs s (deed.Ask asked) = ⊤
 
 -- from both places the script comes to the same, whatever is answered
-pub record ComesAlike (defs : Defs) (statements : List Statement) (old new : Program) : Type 0 where
-  pub message : new.known.message ≡ old.known.message
-  pub comes : (more : List Answer) → end_of defs statements old.known.message old more ≡ end_of defs statements
-      old.known.message new more
+pub record ComesAlike (defs : Defs) (statements : List Statement) (message : Message) (old new : Program) : Type 0 where
+  pub comes : (more : List Answer) → end_of defs statements message old more ≡ end_of defs statements message new more
 
 -- the deed of the statement at the place, in a script of so many statements
-pub record IsDeed (defs : Defs) (statements : List Statement) (end : ℕ) (program : Program) (did : Deed) : Type 0 where
+pub record IsDeed (defs : Defs) (statements : List Statement) (message : Message) (end : ℕ) (program : Program)
+    (did : Deed) : Type 0 where
   pub ends : end ≡ length statements
   pub statement : Statement
   pub here : StandsHere statements program.place statement
-  pub does : Does defs program.known statement did
+  pub does : Does defs message program.known statement did
   pub costs : Costs statement did
 
 -- what is given is that of the deed

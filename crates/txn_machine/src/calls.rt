@@ -1,29 +1,30 @@
 //! Calls: what the statements that make them ask.
-ghost use Rattle.std.specs.Prelude.{◌≡◌, ◌≤◌, [], length, List, IfErr, IfOk, MatchOption, None, Some};
+ghost use Rattle.std.specs.Prelude.{◌≡◌, ◌<◌, ◌≤◌, [], List, IfErr, IfOk, MatchOption, None, OnOk, Some, length, option_map};
 ghost use Rattle.std.specs.List.{AllByRecursion};
 ghost use Rattle.fp_model.specs.declared.calls.Call.TheVariants as call;
-ghost use Rattle.fp_model.specs.declared.calls.Message.{Message};
+ghost use Rattle.fp_model.specs.declared.calls.Message.{Message as MessageOf};
 ghost use Rattle.fp_model.specs.declared.definitions.Defs.{Defs};
-ghost use Rattle.fp_model.specs.Fsas.{Fsa as Argument, IsFsa};
+ghost use Rattle.fp_model.specs.Fsas.{Fsa as Argument, IsFsa, list_text};
 ghost use Rattle.fp_model.specs.Operands.{filled, fsas_given, fld_call, get_call, isrt_call, new_type, repl_call, shown_on, ssa_of, ssas_of};
 ghost use Rattle.fp_model.specs.Values.{layout_of};
-ghost use Rattle.fld_calls.specs.Forms.{IsShort, form_of, forms};
-ghost use Rattle.txn_machine.specs.Filling.{fsa_given, with_value};
-ghost use Rattle.txn_machine.specs.Giving.{Gives, GivesAs, Stops};
+ghost use Rattle.fld_calls.specs.Forms.{lent_form_of};
+ghost use Rattle.txn_machine.specs.Filling.{fsa_given, with_fsa_text, with_value};
+ghost use Rattle.txn_machine.specs.Giving.{Gives, PutsIn, Stops};
 ghost use Rattle.txn_machine.specs.Knowing.{env_of, segment_on};
 
 use crate::fields::{Layout, empty_segment, field_of, fill_field, layout_of};
 use crate::known::Known;
 use crate::shown::Shown;
 use crate::stop::Stop;
-use fld_calls::{Fsa, write_list};
+use fld_calls::{LentFsa, append_fsa};
 use fp_model::{
-    Bytes, Call, Defs, FieldDef, FieldText, FsaText, Get, List, Name, Operand, Ssa, SsaText,
+    Bytes, Call, Defs, FieldDef, FieldText, FsaText, Get, List, Message, Name, Operand, Ssa,
+    SsaText,
 };
 
 // The number of the type that the last argument names; 0 where there is none.
 fn new_type(ssas: &[SsaText]) -> u8
-    ensures { (defs : Defs) (message : Message) → result ≡ new_type defs message ssas.now }
+    ensures { (defs : Defs) (message : MessageOf) → result ≡ new_type defs message ssas.now }
 {
     match ssas {
         [.., last] => last.segment,
@@ -31,14 +32,25 @@ fn new_type(ssas: &[SsaText]) -> u8
     }
 }
 
-// A field search argument that has no answer yet.
-fn unanswered(field: Name, op: u8, operand: Bytes) -> Fsa
-    requires { length operand ≤ 1024 }
-    ensures form { form_of result ≡ record { field = field.0; status = 32; op = op; operand = operand } }
-    ensures short { IsShort result }
-    ensures spelled { IsFsa (form_of result) }
+// The segment type that an insert names.
+fn new_layout<'a>(defs: &'a Defs, db: u8, ssas: &[SsaText]) -> Result<Layout<'a>, Stop>
+    ensures ok { (message : MessageOf) → IfOk result
+        (λ layout. layout_of defs.now db (new_type defs.now message ssas.now)
+        ≡ Some (record { fields = layout.fields.now; has_key = layout.has_key })) }
+    ensures err { (message : MessageOf) → IfErr result (λ e. Stops e (layout_of defs.now db
+        (new_type defs.now message ssas.now))) }
 {
-    Fsa {
+    layout_of(defs, db, new_type(ssas))
+}
+
+// A field search argument that has no answer yet.
+fn unanswered(field: Name, op: u8, operand: &[u8]) -> LentFsa<'_>
+    requires { length operand.now ≤ 1024 }
+    ensures form { lent_form_of result ≡ record { field = field.0; status = 32; op = op; operand = operand.now } }
+    ensures short { length result.operand.now < 65536 }
+    ensures spelled { IsFsa (lent_form_of result) }
+{
+    LentFsa {
         field,
         status: b' ',
         op,
@@ -48,11 +60,11 @@ fn unanswered(field: Name, op: u8, operand: Bytes) -> Fsa
 
 impl Known {
     // A segment search argument with its key worked out.
-    fn ssa_of(&self, defs: &Defs, db: u8, ssa: &SsaText) -> Result<Ssa, Stop>
-        ensures { Gives result (ssa_of defs.now self.now.message (env_of self.now []) db ssa.now) }
+    fn ssa_of(&self, defs: &Defs, message: &Message, db: u8, ssa: &SsaText) -> Result<Ssa, Stop>
+        ensures { Gives result (ssa_of defs.now message.now (env_of self.now []) db ssa.now) }
     {
         let key = match &ssa.key {
-            Some(operand) => Some(self.key_text(defs, db, ssa.segment, operand)?),
+            Some(operand) => Some(self.key_text(defs, message, db, ssa.segment, operand)?),
             None => None,
         };
         Ok(Ssa {
@@ -62,52 +74,73 @@ impl Known {
     }
 
     // Segment search arguments with their keys.
-    fn ssas_of(&self, defs: &Defs, db: u8, ssas: &[SsaText]) -> Result<List<Ssa>, Stop>
-        ensures { Gives result (ssas_of defs.now self.now.message (env_of self.now []) db ssas.now) }
+    fn ssas_of(
+        &self,
+        defs: &Defs,
+        message: &Message,
+        db: u8,
+        ssas: &[SsaText],
+    ) -> Result<List<Ssa>, Stop>
+        ensures { Gives result (ssas_of defs.now message.now (env_of self.now []) db ssas.now) }
     {
         let mut found = List::new(self.alloc);
         for ssa in ssas {
-            found.push(self.ssa_of(defs, db, ssa)?)?;
+            found.push(self.ssa_of(defs, message, db, ssa)?)?;
         }
         Ok(found)
     }
 
-    // A field search argument with its operand worked out.
-    fn fsa_of(&self, defs: &Defs, fsa: &FsaText) -> Result<Fsa, Stop>
-        ensures gives { GivesAs form_of result (fsa_given defs.now self.now.message (env_of self.now []) fsa.now) }
-        ensures short { IfOk result (λ fsa. IsShort fsa) }
-        ensures spelled { IfOk result (λ fsa. IsFsa (form_of fsa)) }
+    // Adds a field search argument, with its operand worked out, to the bytes of a list.
+    fn append_given(
+        &self,
+        defs: &Defs,
+        message: &Message,
+        fsa: &FsaText,
+        last: bool,
+        text: &mut Bytes,
+    ) -> Result<(), Stop>
+        ensures gives { PutsIn result text.new (option_map (with_fsa_text last text.old)
+            (fsa_given defs.now message.now (env_of self.now []) fsa.now)) }
+        ensures spelled { OnOk result ((given : Argument)
+            → fsa_given defs.now message.now (env_of self.now []) fsa.now ≡ Some given → IsFsa given) }
     {
-        let operand = self.text_of(defs, &fsa.operand)?;
-        Ok(unanswered(fsa.field, fsa.op, operand))
+        let operand = self.text_of(defs, message, &fsa.operand)?;
+        let given = unanswered(fsa.field, fsa.op, operand.as_slice());
+        append_fsa(text, &given, last)?;
+        Ok(())
     }
 
-    // Field search arguments with their operands.
-    fn fsas_of(&self, defs: &Defs, fsas: &[FsaText]) -> Result<List<Fsa>, Stop>
-        ensures gives { GivesAs forms result (fsas_given defs.now self.now.message (env_of self.now []) fsas.now) }
-        ensures short { IfOk result (λ list. AllByRecursion IsShort list) }
-        ensures spelled { IfOk result (λ list. AllByRecursion IsFsa (forms list)) }
+    // The bytes of field search arguments with their operands.
+    fn fsa_texts(&self, defs: &Defs, message: &Message, fsas: &[FsaText]) -> Result<Bytes, Stop>
+        ensures gives { Gives result (option_map list_text
+            (fsas_given defs.now message.now (env_of self.now []) fsas.now)) }
+        ensures spelled { OnOk result ((list : List Argument)
+            → fsas_given defs.now message.now (env_of self.now []) fsas.now ≡ Some list
+            → AllByRecursion IsFsa list) }
     {
-        let mut given = List::new(self.alloc);
+        let mut text = Bytes::new(self.alloc);
+        let mut left = fsas.len();
         for fsa in fsas {
-            given.push(self.fsa_of(defs, fsa)?)?;
+            left -= 1;
+            self.append_given(defs, message, fsa, left == 0, &mut text)?;
         }
-        Ok(given)
+        Ok(text)
     }
 
     // A segment with one value put into its field.
     fn with_value(
         &self,
         defs: &Defs,
+        message: &Message,
         fields: &[FieldDef],
         value: &FieldText,
         segment: Bytes,
     ) -> Result<Bytes, Stop>
-        ensures { Gives result (with_value defs.now self.now.message (env_of self.now []) fields.now value.now
+        ensures { Gives result (with_value defs.now message.now (env_of self.now []) fields.now value.now
             segment) }
     {
         let field = field_of(fields, &value.field)?;
-        let text = self.text_of(defs, &value.value)?;
+        let text = self.text_of(defs, message, &value.value)?;
         fill_field(self.alloc, &field, text.as_slice(), segment)
     }
 
@@ -116,15 +149,16 @@ impl Known {
     fn filled(
         &self,
         defs: &Defs,
+        message: &Message,
         fields: &[FieldDef],
         values: &[FieldText],
         segment: Bytes,
     ) -> Result<Bytes, Stop>
-        ensures { Gives result (filled defs.now self.now.message (env_of self.now []) fields.now values.now segment) }
+        ensures { Gives result (filled defs.now message.now (env_of self.now []) fields.now values.now segment) }
     {
         let mut segment = segment;
         for value in values {
-            segment = self.with_value(defs, fields, value, segment)?;
+            segment = self.with_value(defs, message, fields, value, segment)?;
         }
         Ok(segment)
     }
@@ -133,15 +167,16 @@ impl Known {
     pub(crate) fn get_call(
         &self,
         defs: &Defs,
+        message: &Message,
         get: Get,
         hold: bool,
         db: u8,
         ssas: &List<SsaText>,
     ) -> Result<Call, Stop>
-        ensures { Gives result (get_call defs.now self.now.message (env_of self.now []) (call.Get get hold db) db
+        ensures { Gives result (get_call defs.now message.now (env_of self.now []) (call.Get get hold db) db
             ssas.now) }
     {
-        let ssas = self.ssas_of(defs, db, ssas.as_slice())?;
+        let ssas = self.ssas_of(defs, message, db, ssas.as_slice())?;
         Ok(Call::Get {
             get,
             hold,
@@ -154,45 +189,36 @@ impl Known {
     pub(crate) fn fld_call(
         &self,
         defs: &Defs,
+        message: &Message,
         db: u8,
         key: &Operand,
         fsas: &List<FsaText>,
     ) -> Result<Call, Stop>
-        ensures gives { Gives result (fld_call defs.now self.now.message (env_of self.now []) db key.now fsas.now) }
+        ensures gives { Gives result (fld_call defs.now message.now (env_of self.now []) db key.now fsas.now) }
         ensures spelled { IfOk result (λ asked. (list : List Argument)
-            → fsas_given defs.now self.now.message (env_of self.now []) fsas.now ≡ Some list
+            → fsas_given defs.now message.now (env_of self.now []) fsas.now ≡ Some list
             → AllByRecursion IsFsa list) }
     {
-        let key = self.key_text(defs, db, 0, key)?;
-        let given = self.fsas_of(defs, fsas.as_slice())?;
-        let fsas = write_list(self.alloc, &given)?;
+        let key = self.key_text(defs, message, db, 0, key)?;
+        let fsas = self.fsa_texts(defs, message, fsas.as_slice())?;
         Ok(Call::Fld { db, key, fsas })
-    }
-
-    // The segment type that an insert names.
-    fn new_layout<'a>(&self, defs: &'a Defs, db: u8, ssas: &[SsaText]) -> Result<Layout<'a>, Stop>
-        ensures ok { IfOk result (λ layout. layout_of defs.now db (new_type defs.now self.now.message ssas.now)
-            ≡ Some (record { fields = layout.fields.now; has_key = layout.has_key })) }
-        ensures err { IfErr result (λ e. Stops e (layout_of defs.now db
-            (new_type defs.now self.now.message ssas.now))) }
-    {
-        layout_of(defs, db, new_type(ssas))
     }
 
     /// An insert.
     pub(crate) fn isrt_call(
         &self,
         defs: &Defs,
+        message: &Message,
         db: u8,
         ssas: &List<SsaText>,
         fields: &List<FieldText>,
     ) -> Result<Call, Stop>
-        ensures { Gives result (isrt_call defs.now self.now.message (env_of self.now []) db ssas.now fields.now) }
+        ensures { Gives result (isrt_call defs.now message.now (env_of self.now []) db ssas.now fields.now) }
     {
-        let found = self.ssas_of(defs, db, ssas.as_slice())?;
-        let layout = self.new_layout(defs, db, ssas.as_slice())?;
+        let found = self.ssas_of(defs, message, db, ssas.as_slice())?;
+        let layout = new_layout(defs, db, ssas.as_slice())?;
         let segment = empty_segment(self.alloc, layout.fields)?;
-        let bytes = self.filled(defs, layout.fields, fields.as_slice(), segment)?;
+        let bytes = self.filled(defs, message, layout.fields, fields.as_slice(), segment)?;
         Ok(Call::Isrt {
             db,
             ssas: found,
@@ -204,17 +230,18 @@ impl Known {
     pub(crate) fn repl_call(
         &self,
         defs: &Defs,
+        message: &Message,
         db: u8,
         fields: &List<FieldText>,
     ) -> Result<Call, Stop>
-        ensures { Gives result (repl_call defs.now self.now.message (env_of self.now []) db fields.now) }
+        ensures { Gives result (repl_call defs.now message.now (env_of self.now []) db fields.now) }
     {
         let Some(shown) = self.shown_on(db) else {
             return Err(Stop::NoValue);
         };
         let layout = layout_of(defs, db, shown.segment)?;
         let bytes = shown.bytes.copy()?;
-        let bytes = self.filled(defs, layout.fields, fields.as_slice(), bytes)?;
+        let bytes = self.filled(defs, message, layout.fields, fields.as_slice(), bytes)?;
         Ok(Call::Repl { db, bytes })
     }
 

@@ -6,7 +6,7 @@ ghost use Rattle.txn_machine.specs.Stepping.{Costs};
 
 use crate::known::Known;
 use crate::stop::Stop;
-use fp_model::{Bytes, Call, Defs, Name, Statement};
+use fp_model::{Bytes, Call, Defs, Message, Name, Statement};
 use std::alloc::AllocError;
 
 /// The rollback code of a script that has no value where it needs one.
@@ -48,51 +48,62 @@ fn repeated(times: u32, body: &[Statement]) -> Deed
 
 impl Known {
     // What a statement does, where its values are there.
-    fn tried(&self, defs: &Defs, statement: &Statement) -> Result<Deed, Stop>
-        ensures does { Tries defs.now self.now statement.now result }
+    fn tried(&self, defs: &Defs, message: &Message, statement: &Statement) -> Result<Deed, Stop>
+        ensures does { Tries defs.now message.now self.now statement.now result }
         ensures costs { IfOk result (λ did. Costs statement.now did) }
-        ensures spelled { IfOk result (λ did. IsCall did → Spells defs.now self.now (out-Statement statement.now)) }
+        ensures spelled { IfOk result (λ did. IsCall did
+            → Spells defs.now message.now self.now (out-Statement statement.now)) }
     {
         match statement {
             Statement::Set {
                 variable,
                 first,
                 rest,
-            } => Ok(Deed::Set(*variable, self.set_text(defs, first, rest)?)),
+            } => Ok(Deed::Set(*variable, self.set_text(defs, message, first, rest)?)),
             Statement::If {
                 left,
                 comparison,
                 right,
                 ..
-            } => Ok(Deed::Choose(self.chosen(defs, left, *comparison, right)?)),
+            } => Ok(Deed::Choose(self.chosen(defs, message, left, *comparison, right)?)),
             Statement::Repeat { times, body } => Ok(repeated(*times, body.as_slice())),
             Statement::Break => Ok(Deed::Leave),
-            Statement::Reply(operands) => Ok(Deed::Reply(self.reply_text(defs, operands)?)),
+            Statement::Reply(operands) => Ok(Deed::Reply(self.reply_text(
+                defs, message, operands,
+            )?)),
             Statement::Roll(code) => Ok(Deed::Roll(*code)),
             Statement::Get {
                 get,
                 hold,
                 db,
                 ssas,
-            } => Ok(Deed::Ask(self.get_call(defs, *get, *hold, *db, ssas)?)),
+            } => Ok(Deed::Ask(self.get_call(defs, message, *get, *hold, *db, ssas)?)),
             Statement::Fld { db, key, fsas } => {
-                Ok(Deed::Ask(self.fld_call(defs, *db, key, fsas)?))
+                Ok(Deed::Ask(self.fld_call(defs, message, *db, key, fsas)?))
             }
             Statement::Isrt { db, ssas, fields } => {
-                Ok(Deed::Ask(self.isrt_call(defs, *db, ssas, fields)?))
+                Ok(Deed::Ask(self.isrt_call(defs, message, *db, ssas, fields)?))
             }
-            Statement::Repl { db, fields } => Ok(Deed::Ask(self.repl_call(defs, *db, fields)?)),
+            Statement::Repl { db, fields } => Ok(Deed::Ask(self.repl_call(
+                defs, message, *db, fields,
+            )?)),
             Statement::Dlet { db } => Ok(Deed::Ask(Call::Dlet { db: *db })),
         }
     }
 
     /// What a statement does. It ends the script with code 99 where there is no value. Fails only for want of memory.
-    pub(crate) fn deed(&self, defs: &Defs, statement: &Statement) -> Result<Deed, AllocError>
-        ensures does { IfOk result (λ did. Does defs.now self.now statement.now did) }
+    pub(crate) fn deed(
+        &self,
+        defs: &Defs,
+        message: &Message,
+        statement: &Statement,
+    ) -> Result<Deed, AllocError>
+        ensures does { IfOk result (λ did. Does defs.now message.now self.now statement.now did) }
         ensures costs { IfOk result (λ did. Costs statement.now did) }
-        ensures spelled { IfOk result (λ did. IsCall did → Spells defs.now self.now (out-Statement statement.now)) }
+        ensures spelled { IfOk result (λ did. IsCall did
+            → Spells defs.now message.now self.now (out-Statement statement.now)) }
     {
-        match self.tried(defs, statement) {
+        match self.tried(defs, message, statement) {
             Ok(did) => Ok(did),
             Err(Stop::NoValue) => Ok(Deed::Roll(NO_VALUE)),
             Err(Stop::Memory) => Err(AllocError),

@@ -1,5 +1,5 @@
-//! What a program knows: its message, its variables, and what its calls were answered.
-ghost use Rattle.std.specs.Prelude.{◌≡◌, [], IfOk, OnErr, OnOk, List};
+//! What a program knows: its variables, and what its calls were answered.
+ghost use Rattle.std.specs.Prelude.{◌≡◌, [], OnErr, OnOk, List};
 ghost use Rattle.fp_model.specs.declared.calls.Answer.{Answer};
 ghost use Rattle.fp_model.specs.declared.definitions.MsdbDef.{MsdbDef};
 ghost use Rattle.fp_model.specs.Operands.{at_top, setting_of, with_setting};
@@ -9,7 +9,7 @@ ghost use Rattle.txn_machine.specs.Fit.{AreShown, FitsLesson, IsShownSegment};
 ghost use Rattle.txn_machine.specs.Knowing.{HasPlace, env_of, segment_on, segments_of, showing, taught};
 
 use crate::shown::{Gets, Shown};
-use fp_model::{Answer, Bytes, Message, Name};
+use fp_model::{Answer, Bytes, Name};
 use std::alloc::{AllocError, Global};
 use std::collections::BTreeMap;
 
@@ -27,7 +27,6 @@ pub(crate) enum Lesson {
 #[derive(Debug, Drop)]
 pub(crate) struct Known {
     pub(crate) alloc: Global,
-    pub(crate) message: Message,
     /// The variables that were set.
     pub(crate) settings: BTreeMap<Name, Bytes>,
     /// The status of the last call. None before the first.
@@ -47,19 +46,17 @@ fn is_blank(status: &[u8; 2]) -> bool
 }
 
 impl Known {
-    /// At the beginning. Fails only for want of memory.
-    pub(crate) fn new(alloc: Global, message: &Message) -> Result<Known, AllocError>
-        ensures message { IfOk result (λ known. known.message ≡ message.now) }
-        ensures nothing { IfOk result (λ known. (answers : List Answer) → env_of known answers ≡ at_top answers) }
+    /// At the beginning. Takes no memory.
+    pub(crate) fn new(alloc: Global) -> Known
+        ensures { (answers : List Answer) → env_of result answers ≡ at_top answers }
     {
-        Ok(Known {
+        Known {
             alloc,
-            message: message.clone()?,
             settings: BTreeMap::new(alloc),
             status: None,
             letters: Bytes::new(alloc),
             gets: None,
-        })
+        }
     }
 
     /// The text of a variable; one that was not set is empty.
@@ -77,7 +74,6 @@ impl Known {
         ensures ok { (answers : List Answer) → OnOk result
             (AreAlike (with_setting name.0 text (env_of self.old answers)) (env_of self.new answers)) }
         ensures err { (answers : List Answer) → OnErr result (env_of self.new answers ≡ env_of self.old answers) }
-        ensures message { self.new.message ≡ self.old.message }
         ensures gets { self.new.gets ≡ self.old.gets }
     {
         let _ = self.settings.insert(name, text)?;
@@ -89,7 +85,6 @@ impl Known {
         ensures place { OnOk result (HasPlace self.new.gets) }
         ensures same { (answers : List Answer) → env_of self.new answers ≡ env_of self.old answers }
         ensures shown { segments_of self.new.gets ≡ segments_of self.old.gets }
-        ensures message { self.new.message ≡ self.old.message }
     {
         if let Some(gets) = &mut self.gets {
             gets.make_place()?;
@@ -104,7 +99,6 @@ impl Known {
             (env_of self.new answers) }
         ensures fit { (msdbs : List MsdbDef) → AreShown msdbs self.old.gets → IsShownSegment msdbs (segment_on db shown)
             → AreShown msdbs self.new.gets }
-        ensures message { self.new.message ≡ self.old.message }
     {
         let gets = Gets::show(self.gets.take(), self.alloc, db, shown);
         self.gets = Some(gets);
@@ -118,7 +112,6 @@ impl Known {
             (env_of self.new answers) }
         ensures fit { (msdbs : List MsdbDef) → AreShown msdbs self.old.gets → FitsLesson msdbs lesson answer
             → AreShown msdbs self.new.gets }
-        ensures message { self.new.message ≡ self.old.message }
     {
         let Answer {
             status,

@@ -3,7 +3,7 @@ ghost use Rattle.std.specs.Prelude.{◌≡◌, ◌<◌, ◌++◌, ◌∷◌, [],
 ghost use Rattle.std.specs.List.{AllByRecursion};
 ghost use Rattle.fp_model.specs.declared.definitions.Defs.{Defs};
 ghost use Rattle.fp_model.specs.declared.definitions.MsdbDef.{MsdbDef};
-ghost use Rattle.fp_model.specs.declared.calls.Message.{Message};
+ghost use Rattle.fp_model.specs.declared.calls.Message.{Message as MessageOf};
 ghost use Rattle.fp_model.specs.declared.calls.Answer.{Answer};
 ghost use Rattle.fp_model.specs.declared.calls.Call.{Call};
 ghost use Rattle.fp_model.specs.declared.scripts.Statement.{Statement};
@@ -68,49 +68,50 @@ fn lesson_of(asked: &Call) -> Lesson
 }
 
 impl Program {
-    /// A script at its beginning, for a message. The later calls take the same scripts. Fails only for want of memory.
-    pub fn start(
-        alloc: Global,
-        scripts: &Scripts,
-        number: u32,
-        message: &Message,
-    ) -> Result<Program, AllocError>
+    /// A script at its beginning. The later calls take the same scripts, and the message that it is run for. Takes no
+    /// memory.
+    pub fn start(alloc: Global, scripts: &Scripts, number: u32) -> Program
         requires { number < length scripts.now.scripts }
-        ensures number { IfOk result (λ program. program.number ≡ number) }
+        ensures number { result.number ≡ number }
 
-        // The program is where each script of these statements is before its first answer.
-        ensures at { IfOk result (λ program. (defs : Defs) (statements : List Statement)
-            → IsAt defs statements message.now [] program) }
-        ensures fit { IfOk result (λ program. (msdbs : List MsdbDef) → IsFit msdbs program) }
+        // The program is where each script of these statements is before its first answer, whatever the message.
+        ensures at { (defs : Defs) (statements : List Statement) (message : MessageOf)
+            → IsAt defs statements message [] result }
+        ensures fit { (msdbs : List MsdbDef) → IsFit msdbs result }
     {
-        Ok(Program {
+        Program {
             number,
             place: Place {
                 frames: List::new(alloc),
                 at: 0,
             },
-            known: Known::new(alloc, message)?,
+            known: Known::new(alloc),
             wait: None,
-        })
+        }
     }
 
     /// Runs to the next call, or to the end. Called again without an answer it gives the same. Fails only for want of
     /// memory, and goes on from there when it is called again.
     ///
-    /// Condition: the scripts are those that the program was started with.
-    pub fn next(&mut self, scripts: &Scripts, defs: &Defs) -> Result<Next, AllocError>
+    /// Condition: the scripts are those that the program was started with. The message is the same at each call.
+    pub fn next(
+        &mut self,
+        scripts: &Scripts,
+        defs: &Defs,
+        message: &Message,
+    ) -> Result<Next, AllocError>
         requires { self.old.number < length scripts.now.scripts }
         ensures number { self.new.number ≡ self.old.number }
 
         // It gives what the script asks after these answers, and stays there.
-        ensures exact { (script : Script) (message : Message) (answers : List Answer)
+        ensures exact { (script : Script) (answers : List Answer)
             → slice_get scripts.now.scripts self.old.number ≡ Some script
-            → IsAt defs.now script.statements message answers self.old
-            → IfOk result (λ next. IsAsked next (ask defs.now script.statements message answers)) }
-        ensures at { (script : Script) (message : Message) (answers : List Answer)
+            → IsAt defs.now script.statements message.now answers self.old
+            → IfOk result (λ next. IsAsked next (ask defs.now script.statements message.now answers)) }
+        ensures at { (script : Script) (answers : List Answer)
             → slice_get scripts.now.scripts self.old.number ≡ Some script
-            → IsAt defs.now script.statements message answers self.old
-            → IsAt defs.now script.statements message answers self.new }
+            → IsAt defs.now script.statements message.now answers self.old
+            → IsAt defs.now script.statements message.now answers self.new }
         ensures waits { IfOk result (λ next. Awaits next self.new) }
 
         // Where only main storage databases are named, the calls fit them.
@@ -125,7 +126,7 @@ impl Program {
         self.wait = None;
         let statements = scripts.script(self.number).statements.as_slice();
         loop {
-            if let Some(next) = self.step(statements, defs)? {
+            if let Some(next) = self.step(statements, defs, message)? {
                 return Ok(next);
             }
         }
@@ -144,7 +145,6 @@ impl Program {
         ensures place { self.new.place ≡ self.old.place }
         ensures env { (answers : List Answer) → env_of self.new.known answers ≡ env_of self.old.known answers }
         ensures shown { segments_of self.new.known.gets ≡ segments_of self.old.known.gets }
-        ensures message { self.new.known.message ≡ self.old.known.message }
         ensures call { IfOk result (λ next. next ≡ Next.Call asked) }
         ensures waits { OnOk result (WaitsFor asked self.new) }
         ensures wait { OnOk result (self.new.wait ≡ Some (record { behind = behind; lesson = lesson_of asked })) }
@@ -169,7 +169,6 @@ impl Program {
         ensures stays { OnErr result (self.new.place ≡ self.old.place) }
         ensures number { self.new.number ≡ self.old.number }
         ensures wait { self.new.wait ≡ self.old.wait }
-        ensures message { self.new.known.message ≡ self.old.known.message }
         ensures gets { self.new.known.gets ≡ self.old.known.gets }
     {
         self.known.set(name, text)?;
@@ -200,7 +199,7 @@ impl Program {
     // Leaves the innermost loop.
     fn leave(&mut self, end: usize) -> Result<Option<Next>, AllocError>
         ensures nothing { result ≡ Ok None }
-        ensures leads { (defs : Defs) (message : Message) (statements : List Statement) (env : Env)
+        ensures leads { (defs : Defs) (message : MessageOf) (statements : List Statement) (env : Env)
             → end ≡ length statements
             → ended (around defs message self.old.place.frames statements (Leaves env)) ≡ end_from defs message
             statements self.new.place env }
@@ -219,14 +218,18 @@ impl Program {
         requires behind { behind ≡ self.old.place.at + 1 }
         requires none { self.old.wait ≡ None }
         ensures number { self.new.number ≡ self.old.number }
-        ensures alike { (defs : Defs) (statements : List Statement) → IsDeed defs statements end self.old deed
-            → ComesAlike defs statements self.old self.new }
-        ensures asked { (defs : Defs) (statements : List Statement) → IsDeed defs statements end self.old deed
+        ensures alike { (defs : Defs) (statements : List Statement) (message : MessageOf)
+            → IsDeed defs statements message end self.old deed
+            → ComesAlike defs statements message self.old self.new }
+        ensures asked { (defs : Defs) (statements : List Statement) (message : MessageOf)
+            → IsDeed defs statements message end self.old deed
             → IfOk result (λ given. IfSome given (λ next. IsAsked next
-            (end_of defs statements self.old.known.message self.old []))) }
-        ensures call { (defs : Defs) (statements : List Statement) → IsDeed defs statements end self.old deed
-            → IfSome self.new.wait (StandsAtCall defs statements self.new) }
-        ensures less { (defs : Defs) (statements : List Statement) → IsDeed defs statements end self.old deed
+            (end_of defs statements message self.old []))) }
+        ensures call { (defs : Defs) (statements : List Statement) (message : MessageOf)
+            → IsDeed defs statements message end self.old deed
+            → IfSome self.new.wait (StandsAtCall defs statements message self.new) }
+        ensures less { (defs : Defs) (statements : List Statement) (message : MessageOf)
+            → IsDeed defs statements message end self.old deed
             → IfOk result (λ given. given ≡ None → work statements self.new.place < work statements self.old.place) }
         ensures open { IfOk result (λ given. given ≡ None → self.new.wait ≡ None) }
         ensures waits { IfOk result (λ given. IfSome given (λ next. Awaits next self.new)) }
@@ -246,13 +249,18 @@ impl Program {
     }
 
     // One step: a statement, or the end of a block. What the script gives, where it gives something there.
-    fn step(&mut self, statements: &[Statement], defs: &Defs) -> Result<Option<Next>, AllocError>
+    fn step(
+        &mut self,
+        statements: &[Statement],
+        defs: &Defs,
+        message: &Message,
+    ) -> Result<Option<Next>, AllocError>
         requires { self.old.wait ≡ None }
         ensures number { self.new.number ≡ self.old.number }
-        ensures alike { ComesAlike defs.now statements.now self.old self.new }
+        ensures alike { ComesAlike defs.now statements.now message.now self.old self.new }
         ensures asked { IfOk result (λ given. IfSome given
-            (λ next. IsAsked next (end_of defs.now statements.now self.old.known.message self.old []))) }
-        ensures call { IfSome self.new.wait (StandsAtCall defs.now statements.now self.new) }
+            (λ next. IsAsked next (end_of defs.now statements.now message.now self.old []))) }
+        ensures call { IfSome self.new.wait (StandsAtCall defs.now statements.now message.now self.new) }
         ensures less { IfOk result (λ given. given ≡ None
             → work statements.now self.new.place < work statements.now self.old.place) }
         ensures open { IfOk result (λ given. given ≡ None → self.new.wait ≡ None) }
@@ -266,7 +274,7 @@ impl Program {
         let block = block_at(statements, self.place.frames.as_slice());
         if self.place.at < block.len() {
             let behind = self.place.at + 1;
-            let deed = self.known.deed(defs, &block[self.place.at])?;
+            let deed = self.known.deed(defs, message, &block[self.place.at])?;
             return self.act(deed, behind, statements.len());
         }
         if self.place.end_block() {
@@ -281,7 +289,7 @@ impl Program {
     pub fn give(&mut self, answer: Answer)
         requires { IsWaiting self.old }
         ensures number { self.new.number ≡ self.old.number }
-        ensures at { (defs : Defs) (statements : List Statement) (message : Message) (answers : List Answer)
+        ensures at { (defs : Defs) (statements : List Statement) (message : MessageOf) (answers : List Answer)
             → IsAt defs statements message answers self.old
             → IsAt defs statements message (answers ++ answer ∷ []) self.new }
         ensures fit { (msdbs : List MsdbDef) (asked : Call)

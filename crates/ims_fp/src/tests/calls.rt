@@ -92,13 +92,18 @@ fn long_byte(number: usize) -> u8 {
     (number / 251 % 256) as u8
 }
 
+fn long_bytes(rt: &HostRuntime, count: usize) -> Result<Vec<u8>, Fail> {
+    let mut bytes = vec![in rt.alloc(); 0u8; count]?;
+    for (number, byte) in bytes.iter_mut().enumerate() {
+        *byte = long_byte(number);
+    }
+    Ok(bytes)
+}
+
 #[test]
 fn what_was_written_is_not_read_from_an_older_block(rt: HostRuntime) -> Result<(), Fail> {
     let mut site = site_of(&rt, "long", "long/out")?;
-    let mut bytes = vec![in rt.alloc(); 0u8; 200_000]?;
-    for number in 0..200_000 {
-        bytes[number] = long_byte(number);
-    }
+    let mut bytes = long_bytes(&rt, 200_000)?;
     fs::write(&rt, "long/log", bytes.as_slice())?;
     assert!(rt; site.read_at(0, 0, bytes.as_mut_slice()).is_ok());
     for (number, byte) in bytes.iter().enumerate() {
@@ -114,10 +119,7 @@ const LENGTHS: [usize; 5] = [0, 1, 1_048_576, 1_048_577, 2_097_152];
 #[test]
 fn a_file_that_is_rewritten_holds_the_same_bytes(rt: HostRuntime) -> Result<(), Fail> {
     fresh(&rt, "same")?;
-    let mut bytes = vec![in rt.alloc(); 0u8; 2_097_152]?;
-    for number in 0..2_097_152 {
-        bytes[number] = long_byte(number);
-    }
+    let bytes = long_bytes(&rt, 2_097_152)?;
     for length in LENGTHS {
         let front = &bytes[..length.min(bytes.len())];
         fs::write(&rt, "same/log", front)?;

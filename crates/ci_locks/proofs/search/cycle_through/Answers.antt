@@ -4,7 +4,7 @@ use Rattle.std.proofs.lemmas.List.{length-set, length-take}
 use Rattle.ci_locks.specs.Graph.{Along, is_in, leads, set_at}
 use Rattle.ci_locks.specs.Sets.{has}
 use Rattle.ci_locks.proofs.Members.{is_member, member_is, take_last, take_put}
-use Rattle.ci_locks.proofs.Walks.{Searched, back, begins, closes, end_within, few, fewer, none, onward}
+use Rattle.ci_locks.proofs.Walks.{AreNoLater, Searched, back, begins, closes, end_within, few, fewer, none, none_before, onward, onward_before, still_before}
 use Rattle.ci_locks.proofs.search.cycle_through.Goals as goal
 use Rattle.ci_locks.proofs.search.cycle_through.Goals.{After-with-met-in-Some}
 
@@ -15,6 +15,15 @@ both false b e = absurd (cc)
 not_true : (b : Bool) → not b ≡ true → b ≡ false
 not_true true e = absurd (cc)
 not_true false e = refl
+
+no_edge : (b : Bool) → ¬ (b ≡ true) → b ≡ false
+no_edge true none = absurd (none refl)
+no_edge false none = refl
+
+and_not : (a b : Bool) → a ≡ true → b ≡ false → (a && not b) ≡ true
+and_not a true e f = absurd (cc)
+and_not true false e f = refl
+and_not false false e f = absurd (cc)
 
 left_out : (a b : Bool) → (a && not b) ≡ false → a ≡ true → b ≡ true
 left_out true true e is = refl
@@ -55,6 +64,7 @@ loop-count-init c = record {
   searched = begins (leads c.args.regions.now c.args.asker c.args.ahead.0) c.args.asker (length c.args.regions.now)
       (has c.with-met.result.0) c.requires.some c.requires.within
       (λ x. c.with-met.ensures x ∙ ap (λ b. x == c.args.asker || b) (c.empty.ensures x));
+  first = none_before (leads c.args.regions.now c.args.asker c.args.ahead.0) c.args.asker;
   long = omega (arith, c.requires.some, c.requires.within);
   room = refl;
 }
@@ -98,6 +108,11 @@ returns-then-has-clause-found c =
     subst P (sym (c.in_ok-from_slice.ensures ∙ split c.loop-count.path c.loop-count.count c.loop-count-test.true most))
     found
 
+pub returns-then-has-clause-first : goal.returns-then-has-clause-first
+returns-then-has-clause-first c =
+    let P : List ℕ → Type 0 = AreNoLater (leads c.args.regions.now c.args.asker c.args.ahead.0) c.args.asker in
+    subst P (sym c.in_ok-from_slice.ensures) c.loop-count.invariant.first
+
 step : (c : After-with-met-in-Some) → Searched (leads c.args.regions.now c.args.asker c.args.ahead.0) c.args.asker
     (length c.args.regions.now) (has c.with-met-in-Some.result.0)
     (take c.loop-count.count c.loop-count.path ++ c.in-Some.region ∷ [])
@@ -116,6 +131,32 @@ step c =
     c.loop-count.invariant.searched
     (is_member word r range.0 (omega (arith, range.1, c.requires.most)) on)
     (not_true (has c.loop-count.met.0 r) parts.1) range c.with-met-in-Some.ensures
+
+-- and no cycle comes before the way that goes on so
+before : (c : After-with-met-in-Some) → AreNoLater (leads c.args.regions.now c.args.asker c.args.ahead.0) c.args.asker
+    (take c.loop-count.count c.loop-count.path ++ c.in-Some.region ∷ [])
+before c =
+    let next = leads c.args.regions.now c.args.asker c.args.ahead.0 in
+    let end = get_or c.loop-count.path (c.loop-count.count - 1) 0 in
+    let word = set_at c.args.regions.now c.args.asker c.args.ahead.0 end in
+    let met = has c.loop-count.met.0 in
+    let most : c.loop-count.count ≤ length c.loop-count.path =
+    omega (arith, c.loop-count.invariant.long, c.loop-count.invariant.room, c.requires.most) in
+    let through = take (c.loop-count.count - 1) c.loop-count.path in
+    let way = split c.loop-count.path c.loop-count.count c.loop-count-test.true most in
+    let P : List ℕ → Type 0 = λ l. AreNoLater next c.args.asker (l ++ c.in-Some.region ∷ []) in
+    let Q : List ℕ → Type 0 = AreNoLater next c.args.asker in
+    let on : (b : ℕ) → has c.set_at-on.result.0 b ≡ has word b = λ b. ap (λ w. has w b) c.set_at-on.ensures in
+    subst P (sym way)
+    (onward_before next c.args.asker (length c.args.regions.now) met through end c.in-Some.region
+    (apart next c.args.asker (length c.args.regions.now) met c.loop-count.path c.loop-count.count
+    c.loop-count-test.true most c.loop-count.invariant.searched)
+    (no_edge (is_in (next end) c.args.asker) (λ edge.
+    let wrong : false ≡ true = sym c.if-has.false ∙ c.has.ensures ∙ on c.args.asker ∙ member_is word c.args.asker edge
+    in absurd (cc)))
+    (λ b edge fresh. c.in-Some.ensures.least b
+    (c.less.ensures b ∙ and_not (has c.set_at-on.result.0 b) (met b) (on b ∙ member_is word b edge) fresh))
+    (subst Q way c.loop-count.invariant.first))
 
 pub bounds-path-count-in-Some : goal.bounds-path-count-in-Some
 bounds-path-count-in-Some c =
@@ -147,9 +188,12 @@ loop-count-preserved-in-Some c =
     let more = long c.loop-count.path c.loop-count.count c.in-Some.region most in
     let P : List ℕ → Type 0 = Searched next c.args.asker (length c.args.regions.now) (has c.with-met-in-Some.result.0)
     in
+    let Q : List ℕ → Type 0 = AreNoLater next c.args.asker in
     record {
       searched = subst P (sym (take_put c.loop-count.path c.loop-count.count c.in-Some.region
           (omega (arith, count, more, c.requires.most, c.loop-count.invariant.room)))) (step c);
+      first = subst Q (sym (take_put c.loop-count.path c.loop-count.count c.in-Some.region
+          (omega (arith, count, more, c.requires.most, c.loop-count.invariant.room)))) (before c);
       long = omega (arith, count, more);
       room = length-set c.loop-count.path c.loop-count.count c.in-Some.region ∙ c.loop-count.invariant.room;
     }
@@ -174,6 +218,11 @@ loop-count-preserved c =
             (λ same. let wrong : false ≡ true = sym c.if-has.false ∙ c.has.ensures ∙ ap (has c.set_at-on.result.0)
                 (sym same) ∙ on in absurd (cc)),
           ));
+      first =
+          let P : List ℕ → Type 0 = AreNoLater next c.args.asker in
+          still_before next c.args.asker (take (c.loop-count.count - 1) c.loop-count.path) end
+          (subst P (split c.loop-count.path c.loop-count.count c.loop-count-test.true most)
+          c.loop-count.invariant.first);
       long = omega (arith, c.loop-count.invariant.long);
       room = c.loop-count.invariant.room;
     }

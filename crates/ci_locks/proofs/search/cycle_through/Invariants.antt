@@ -1,13 +1,14 @@
 use Rattle.std.proofs.Common.{◌≡◌, ◌≤◌, ◌+◌, ◌*◌, length, take}
 use Rattle.ci_locks.specs.Graph.{leads}
 use Rattle.ci_locks.specs.Sets.{has}
-use Rattle.ci_locks.proofs.Walks.{Searched, count_unmet}
+use Rattle.ci_locks.proofs.Walks.{AreNoLater, Searched, count_unmet}
 use Rattle.ci_locks.proofs.search.cycle_through.Given as goal
 
 abbrev pub invariant-loop-count : goal.invariant-loop-count
 invariant-loop-count l = record {
   searched : Searched (leads l.regions l.asker l.ahead.0) l.asker (length l.regions) (has l.met.0)
       (take l.count l.path);
+  first : AreNoLater (leads l.regions l.asker l.ahead.0) l.asker (take l.count l.path);
   long : l.count ≤ length l.regions;
   room : length l.path ≡ 64;
 }

@@ -14,7 +14,8 @@ returns c from tries = record {
   inserts = refl;
   script = c.requires.named.0;
   named = c.requires.named.1;
-  numbered = rw c.in_ok-program.ensures.number (c.in-Some.ensures.script ∙ c.requires.named.1);
-  at = c.in_ok-program.ensures.at c.args.defs.now c.requires.named.0.statements;
-  fit = c.in_ok-program.ensures.fit c.args.defs.now.msdbs;
+  numbered = rw c.start-program.ensures.number (c.in-Some.ensures.script ∙ c.requires.named.1);
+  at = c.start-program.ensures.at c.args.defs.now c.requires.named.0.statements c.args.message.now;
+  fit = c.start-program.ensures.fit c.args.defs.now.msdbs;
+  ahead = tt;
 }

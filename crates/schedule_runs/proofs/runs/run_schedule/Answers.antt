@@ -1,11 +1,9 @@
-use Rattle.std.proofs.Common.{◌≡◌, refl, sym, ◌∙◌, ap, subst, ℕ, List, [], ◌++◌}
-use Rattle.std.specs.Prelude.{OnOk}
-use Rattle.fp_site.specs.Disk.{Disk}
+use Rattle.std.proofs.Common.{refl, sym, ap, subst, []}
 use Rattle.fp_site.specs.Moments.{Through}
 use Rattle.fp_source.specs.declared.part.Part.TheVariants as part
 use Rattle.fp_core.specs.Relation.{rules_in}
 use Rattle.fp_core.specs.Sparing.{IsLogSet, Spares}
-use Rattle.fp_core.proofs.Rounds.{if_err_from, on_err_sure}
+use Rattle.fp_core.proofs.Rounds.{if_err_from}
 use Rattle.fp_core.proofs.Spared.{spares_on}
 use Rattle.schedule_runs.specs.Standing.{IsDone, IsLeftOnWay, IsStopped}
 use Rattle.schedule_runs.proofs.StandingLemmas.{drained_on_way, moments_drain, nothing_behind, on_ok_sure, stopped_drain}

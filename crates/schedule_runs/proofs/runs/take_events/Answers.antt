@@ -1,4 +1,4 @@
-use Rattle.std.proofs.Common.{◌≡◌, refl, sym, ◌∙◌, ap, subst, arith, ◌+◌, ◌≤◌, List, length, drop, get_or, Err}
+use Rattle.std.proofs.Common.{refl, sym, ◌∙◌, ap, subst, arith, ◌+◌, ◌≤◌, List, length, drop, get_or, Err}
 use Rattle.std.proofs.lemmas.List.{at_drop_all, drop_more}
 use Rattle.fp_model.specs.declared.events.Event.{Event}
 use Rattle.fp_model.specs.declared.events.Event.TheVariants as event

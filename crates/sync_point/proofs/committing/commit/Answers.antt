@@ -74,3 +74,11 @@ returns-clause-fit c defs can =
 pub returns-clause-keys : goal.returns-clause-keys
 returns-clause-keys c defs can =
     rw (c.in_ok-entry.ensures.entry, c.in_ok-items.ensures) (c.in_ok-staged.ensures.keys defs can)
+
+pub returns-clause-kinds : goal.returns-clause-kinds
+returns-clause-kinds c defs can =
+    rw (c.in_ok-entry.ensures.entry, c.in_ok-items.ensures) (c.in_ok-staged.ensures.staged defs can).segments
+
+pub returns-clause-in_order : goal.returns-clause-in_order
+returns-clause-in_order c defs can =
+    rw (c.in_ok-entry.ensures.entry, c.in_ok-items.ensures) (c.in_ok-staged.ensures.staged defs can).in_order

@@ -10,7 +10,7 @@ use Rattle.ci_locks.specs.Sets.{has}
 use Rattle.ci_locks.specs.Standing.{Asks, Shows, Standing, asking, blocking, in_way}
 use Rattle.ci_locks.specs.Table.{lock_of}
 use Rattle.ci_locks.specs.declared.state.Region.{Region}
-use Rattle.ci_locks.proofs.Answered.{asked, closes, gains, open_way, unasked, waits_for}
+use Rattle.ci_locks.proofs.Answered.{along_of, asked, closes, gains, open_way, unasked, waits_for}
 use Rattle.ci_locks.proofs.Asking.{asking_is}
 use Rattle.ci_locks.proofs.Members.{is_kept}
 use Rattle.ci_locks.proofs.Ways.{along_by, leads_next, leads_within, next_leads, owns_all, way_within}
@@ -66,6 +66,23 @@ returns-in-Some-clause-grant c locks requests shows =
     (next (asking (standing_of s) c.args.region (Some wanted)))
     (leads_next s c.requires.sound wanted c.in_way-found.result.0 c.in_way-found.ensures) found.0 c.args.region
     c.args.region (subst P c.deref.ensures.value found.2)) found.3
+
+pub returns-in-Some-clause-first : goal.returns-in-Some-clause-first
+returns-in-Some-clause-first c locks requests shows cycle closes apart =
+    let s = c.args.self.now in
+    let wanted : Lock = record { region = c.args.region; resource = c.args.resource.now; mode = c.args.mode } in
+    let asks = asking (standing_of s) c.args.region (Some wanted) in
+    let first = rw c.in-Some.is at c.in_ok-cycle.ensures.first in
+    let P : List Region → Type 0 = λ regions. Along (leads regions c.args.region c.in_way-found.result.0) c.args.region
+    cycle c.args.region in
+    first cycle
+    (subst P (sym c.deref.ensures.value)
+    (along_by (next asks) (leads s.regions.items c.args.region c.in_way-found.result.0)
+    (next_leads s c.requires.sound wanted c.in_way-found.result.0 c.in_way-found.ensures) cycle c.args.region
+    c.args.region
+    (along_of asks locks (with_request wanted requests) (asked (standing_of s) locks requests wanted shows) cycle
+    c.args.region c.args.region closes)))
+    apart
 
 pub returns-in-Some-clause-after : goal.returns-in-Some-clause-after
 returns-in-Some-clause-after c locks requests shows =

@@ -1,4 +1,4 @@
-use Rattle.std.proofs.Common.{arith, length}
+use Rattle.std.proofs.Common.{arith, refl, length}
 use Rattle.ci_locks.specs.declared.locks.Grant.TheVariants as grant
 use Rattle.fp_core.proofs.Grants.{has_asked, on_err, unlocked}
 use Rattle.fp_core.proofs.engine.Engine.ask.Goals as goal
@@ -14,6 +14,8 @@ returns-in-Held-clause-asked c m t n =
     (length c.args.self.now.locks) c.ask.new.self grant.Held n
     (rw c.in-Held.is at (c.in_ok-ask.ensures.grant m.locks m.requests n.at_work.stands.locks))
     (rw c.in-Held.is at (c.in_ok-ask.ensures.after m.locks m.requests n.at_work.stands.locks)) c.ask.ensures.regions
+    (rw c.in-Held.is at (c.in_ok-ask.ensures.named m.locks m.requests n.at_work.stands.locks))
+    (rw c.in-Held.is at c.in_ok-ask.ensures.short) refl
 
 pub returns-in-Wait-clause-asked : goal.returns-in-Wait-clause-asked
 returns-in-Wait-clause-asked c m t n =
@@ -21,6 +23,8 @@ returns-in-Wait-clause-asked c m t n =
     (length c.args.self.now.locks) c.ask.new.self (grant.Wait c.in-Wait.field-0) n
     (rw c.in-Wait.is at (c.in_ok-ask.ensures.grant m.locks m.requests n.at_work.stands.locks))
     (rw c.in-Wait.is at (c.in_ok-ask.ensures.after m.locks m.requests n.at_work.stands.locks)) c.ask.ensures.regions
+    (rw c.in-Wait.is at (c.in_ok-ask.ensures.named m.locks m.requests n.at_work.stands.locks))
+    (rw c.in-Wait.is at c.in_ok-ask.ensures.short) refl
 
 pub returns-clause-asked : goal.returns-clause-asked
 returns-clause-asked c m t n =
@@ -28,6 +32,8 @@ returns-clause-asked c m t n =
     (length c.args.self.now.locks) c.ask.new.self (grant.Cycle c.in-Cycle.cycle) n
     (rw c.in-Cycle.is at (c.in_ok-ask.ensures.grant m.locks m.requests n.at_work.stands.locks))
     (rw c.in-Cycle.is at (c.in_ok-ask.ensures.after m.locks m.requests n.at_work.stands.locks)) c.ask.ensures.regions
+    (rw c.in-Cycle.is at (c.in_ok-ask.ensures.named m.locks m.requests n.at_work.stands.locks))
+    (rw c.in-Cycle.is at c.in_ok-ask.ensures.short) refl
 
 pub returns-in_err-ask-clause-err : goal.returns-in_err-ask-clause-err
 returns-in_err-ask-clause-err c m t w =

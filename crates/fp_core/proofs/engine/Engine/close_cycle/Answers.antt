@@ -14,6 +14,11 @@ try_again-requires-clause-left c m t u =
     c.active_in-active.ensures.there in
     omega (arith, is.tries, c.if-active-self.true)
 
+pub cycle_entry-requires-clause-few : goal.cycle_entry-requires-clause-few
+cycle_entry-requires-clause-few c =
+    let h = c.requires.closed.1.1 in
+    omega (arith, h.short, h.may_end.stands.setup.defined.regions.1)
+
 pub returns-then-active-self-clause-turned : goal.returns-then-active-self-clause-turned
 returns-then-active-self-clause-turned c m t h =
     let engine = c.args.self.now in

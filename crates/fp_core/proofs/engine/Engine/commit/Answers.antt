@@ -1,6 +1,7 @@
 use Rattle.std.proofs.Common.{◌≡◌, refl, ◌∙◌, sym, ap, subst, arith, [], ◌∷◌, ◌++◌, ◌+◌, ◌≤◌, ℕ, ◌-◌, List, length, slice_set}
-use Rattle.std.specs.Prelude.{Err}
+use Rattle.std.specs.Prelude.{Err, ◌↔◌}
 use Rattle.std.specs.VecDeque.{deque_capacity}
+use Rattle.fp_model.specs.declared.calls.Deferred.{Deferred}
 use Rattle.fp_model.specs.declared.database.Db.{Db}
 use Rattle.fp_model.specs.declared.database.Msdb.{Msdb}
 use Rattle.fp_model.specs.declared.log.Entry.{Entry}
@@ -9,6 +10,7 @@ use Rattle.fp_model.specs.Commit.{settlement}
 use Rattle.fp_model.specs.Items.{with_items}
 use Rattle.fp_model.specs.Machine.{ended_with, entry_of}
 use Rattle.fp_model.specs.Serial.{refused_as, settled_as}
+use Rattle.msdb_store.specs.Settling.{HasItem, IsNamed}
 use Rattle.sync_point.specs.declared.committing.Cause.{Cause}
 use Rattle.sync_point.specs.declared.committing.Draft.{Draft}
 use Rattle.sync_point.specs.Drafts.{IsEnd}
@@ -16,6 +18,7 @@ use Rattle.sync_point.specs.Refusals.{refusal_room}
 use Rattle.fp_core.specs.declared.engine.Engine.{Engine}
 use Rattle.fp_core.specs.declared.engine.Region.TheVariants as regions
 use Rattle.fp_core.specs.Relation.{StandsFor, owed_of}
+use Rattle.fp_core.specs.Turning.{AreItemsOf}
 use Rattle.fp_core.proofs.Commits.{at_work_is, at_work_still, committed, done_as, done_is, draft_at, ends_done, ends_so, reply_is_short}
 use Rattle.fp_core.proofs.Ends.{ended_at, may_end, room_within}
 use Rattle.fp_core.proofs.engine.Engine.commit.Goals as goal
@@ -102,7 +105,16 @@ returns-in-Ok-clause-turned c m t h =
       owed = owed;
       room = room;
     } in
-    committed engine m region t reply store (after (c.from.result - 1)) entry.items h refl
+    let its : AreItemsOf engine.defs.now t.point.own.deferred m.history.now.msdbs store.msdbs entry.items = record {
+      kinds = e.kinds engine.defs.now.msdbs handed.able;
+      in_order = e.in_order engine.defs.now.msdbs handed.able;
+      keys = subst (λ (calls : List Deferred). (number : ℕ) (key : List ℕ) → HasItem entry.items number key
+          ↔ IsNamed engine.defs.now.msdbs calls number key) (sym handed.deferred)
+          (e.keys engine.defs.now.msdbs handed.able);
+      fit = e.fit engine.defs.now handed.able;
+      made = items;
+    } in
+    committed engine m region t reply store (after (c.from.result - 1)) entry.items h refl refl its
     (ends_done engine m region t reply store active draft entry (settlement engine.defs.now m.history.now t.point.own)
     c.in_ok-draft.ensures e.entry (e.end engine.defs.now m.history.now t.point.own handed))
     (subst (λ n. StandsFor (after n) (ended_with region made next m)) (sym same)

@@ -3,15 +3,15 @@ use Rattle.fp_model.specs.Workspace.{Workspace}
 use Rattle.lone_region.proofs.running.Transaction.begin.Goals as goal
 
 pub returns : goal.returns
-returns c script msdbs from cheap named numbered =
+returns c script message msdbs from cheap named numbered =
     let fresh = c.in_ok-work.ensures.own c.requires.no_dedbs in
     record {
       script = script;
       named = named;
-      numbered = rw c.in_ok-program.ensures.number numbered;
+      numbered = rw c.start-program.ensures.number numbered;
       answers = [];
-      at = c.in_ok-program.ensures.at c.args.defs.now script.statements;
-      fit = c.in_ok-program.ensures.fit c.args.defs.now.msdbs;
+      at = c.start-program.ensures.at c.args.defs.now script.statements message;
+      fit = c.start-program.ensures.fit c.args.defs.now.msdbs;
       locks = record {
         one = c.in_ok-locks.ensures.regions;
         locks = [];

@@ -15,7 +15,8 @@ use Rattle.sync_point.proofs.Scripts.{asked_is, each_has}
 use Rattle.lone_region.proofs.running.Transaction.step.Goals as goal
 
 pub returns-in_ok-given-in-Call-clause-goes : goal.returns-in_ok-given-in-Call-clause-goes
-returns-in_ok-given-in-Call-clause-goes c message left cheap u =
+returns-in_ok-given-in-Call-clause-goes c left cheap u =
+    let message = c.args.message.now in
     let defs = c.args.defs.now in
     let scripts = c.args.scripts.now.scripts in
     let old = c.args.self.now.work in
@@ -23,7 +24,7 @@ returns-in_ok-given-in-Call-clause-goes c message left cheap u =
     let call = c.in-Call.call in
     let given : Answer = c.in_ok-given-in-Call.given in
     let asks : ask defs u.script.statements message u.answers ≡ Asks call =
-    rw c.in-Call.is at (c.in_ok-call.ensures.exact u.script message u.answers u.numbered u.at) in
+    rw c.in-Call.is at (c.in_ok-call.ensures.exact u.script u.answers u.numbered u.at) in
     let by_name : asked_by defs scripts message u.answers ≡ Asks call =
     asked_is defs scripts message u.script u.answers u.named ∙ asks in
     let fewer : length u.answers < full_cost u.script.statements =
@@ -50,7 +51,7 @@ returns-in_ok-given-in-Call-clause-goes c message left cheap u =
         numbered = rw (c.give.ensures.number, c.in_ok-call.ensures.number) u.numbered;
         answers = u.answers ++ given ∷ [];
         at = c.give.ensures.at defs u.script.statements message u.answers
-            (c.in_ok-call.ensures.at u.script message u.answers u.numbered u.at);
+            (c.in_ok-call.ensures.at u.script u.answers u.numbered u.at);
         fit = c.give.ensures.fit defs.msdbs call (rw c.in-Call.is at c.in_ok-call.ensures.waits)
             (c.in_ok-call.ensures.fit defs.msdbs u.fit) c.in_ok-given-in-Call.ensures.fits;
         locks = c.answer_alone.ensures.locks;
@@ -72,13 +73,14 @@ returns-in_ok-given-in-Call-clause-goes c message left cheap u =
     }
 
 pub returns-in-Reply-clause-ends : goal.returns-in-Reply-clause-ends
-returns-in-Reply-clause-ends c message left cheap u =
+returns-in-Reply-clause-ends c left cheap u =
+    let message = c.args.message.now in
     let defs = c.args.defs.now in
     let scripts = c.args.scripts.now.scripts in
     let old = c.args.self.now.work in
     let text = c.in-Reply.text in
     let asks : ask defs u.script.statements message u.answers ≡ Replies text =
-    rw c.in-Reply.is at (c.in_ok-call.ensures.exact u.script message u.answers u.numbered u.at) in
+    rw c.in-Reply.is at (c.in_ok-call.ensures.exact u.script u.answers u.numbered u.at) in
     let by_name : asked_by defs scripts message u.answers ≡ Replies text =
     asked_is defs scripts message u.script u.answers u.named ∙ asks in
     record {
@@ -95,13 +97,14 @@ returns-in-Reply-clause-ends c message left cheap u =
     }
 
 pub returns-in-Roll-clause-ends : goal.returns-in-Roll-clause-ends
-returns-in-Roll-clause-ends c message left cheap u =
+returns-in-Roll-clause-ends c left cheap u =
+    let message = c.args.message.now in
     let defs = c.args.defs.now in
     let scripts = c.args.scripts.now.scripts in
     let old = c.args.self.now.work in
     let code = c.in-Roll.code in
     let asks : ask defs u.script.statements message u.answers ≡ Rolls code =
-    rw c.in-Roll.is at (c.in_ok-call.ensures.exact u.script message u.answers u.numbered u.at) in
+    rw c.in-Roll.is at (c.in_ok-call.ensures.exact u.script u.answers u.numbered u.at) in
     let by_name : asked_by defs scripts message u.answers ≡ Rolls code =
     asked_is defs scripts message u.script u.answers u.named ∙ asks in
     record {

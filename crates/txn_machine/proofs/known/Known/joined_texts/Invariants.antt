@@ -6,5 +6,5 @@ use Rattle.txn_machine.proofs.known.Known.joined_texts.Given as goal
 
 abbrev pub invariant-loop-operand : goal.invariant-loop-operand
 invariant-loop-operand l =
-    prefixed l.joined (joined_texts l.defs l.self.message (env_of l.self []) (drop l.operand-index l.operands)) ≡
-    joined_texts l.defs l.self.message (env_of l.self []) l.operands
+    prefixed l.joined (joined_texts l.defs l.message (env_of l.self []) (drop l.operand-index l.operands)) ≡
+    joined_texts l.defs l.message (env_of l.self []) l.operands

@@ -5,5 +5,5 @@ use Rattle.txn_machine.proofs.FieldLemmas.{prefixed}
 use Rattle.txn_machine.proofs.known.Known.ssas_of.Given as goal
 
 abbrev pub invariant-loop-ssa : goal.invariant-loop-ssa
-invariant-loop-ssa l = prefixed l.found (ssas_of l.defs l.self.message (env_of l.self []) l.db
-    (drop l.ssa-index l.ssas)) ≡ ssas_of l.defs l.self.message (env_of l.self []) l.db l.ssas
+invariant-loop-ssa l = prefixed l.found (ssas_of l.defs l.message (env_of l.self []) l.db
+    (drop l.ssa-index l.ssas)) ≡ ssas_of l.defs l.message (env_of l.self []) l.db l.ssas

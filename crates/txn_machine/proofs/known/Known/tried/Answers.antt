@@ -11,7 +11,7 @@ returns-in_ok-chosen-in-If-clause-does c = λ more.
     let is : out-Statement c.args.statement.now ≡ open_statement.If c.in-If.left c.in-If.comparison c.in-If.right
     c.in-If.then c.in-If.otherwise = is_choice c.args.statement.now c.in-If.left c.in-If.comparison c.in-If.right
     c.in-If.then c.in-If.otherwise c.in-If.is in
-    choice_runs c.args.defs.now c.args.self.now.message c.args.statement.now c.in-If.left c.in-If.comparison
+    choice_runs c.args.defs.now c.args.message.now c.args.statement.now c.in-If.left c.in-If.comparison
     c.in-If.right c.in-If.then c.in-If.otherwise c.in_ok-chosen-in-If.field-0
     (env_of c.args.self.now more) is c.in_ok-chosen-in-If.ensures
 
@@ -22,14 +22,15 @@ returns-in_err-chosen-in-If-clause-does c =
     let is : out-Statement c.args.statement.now ≡ open_statement.If c.in-If.left c.in-If.comparison c.in-If.right
     c.in-If.then c.in-If.otherwise = is_choice c.args.statement.now c.in-If.left c.in-If.comparison c.in-If.right
     c.in-If.then c.in-If.otherwise c.in-If.is in
-    choice_stops c.args.defs.now c.args.self.now c.args.statement.now c.in-If.left c.in-If.comparison c.in-If.right
+    choice_stops c.args.defs.now c.args.message.now c.args.self.now c.args.statement.now c.in-If.left c.in-If.comparison
+    c.in-If.right
     c.in-If.then c.in-If.otherwise e _ is c.in_err-chosen-in-If.ensures to
 
 pub returns-in_ok-fld_call-in-Fld-clause-does : goal.returns-in_ok-fld_call-in-Fld-clause-does
 returns-in_ok-fld_call-in-Fld-clause-does c = λ more.
     let is : out-Statement c.args.statement.now ≡ open_statement.Fld c.in-Fld.db c.in-Fld.key c.in-Fld.fsas =
     is_fld c.args.statement.now c.in-Fld.db c.in-Fld.key c.in-Fld.fsas c.in-Fld.is in
-    fld_runs c.args.defs.now c.args.self.now.message c.args.statement.now c.in-Fld.db c.in-Fld.key c.in-Fld.fsas
+    fld_runs c.args.defs.now c.args.message.now c.args.statement.now c.in-Fld.db c.in-Fld.key c.in-Fld.fsas
     c.in_ok-fld_call-in-Fld.field-0 (env_of c.args.self.now more) is
     c.in_ok-fld_call-in-Fld.ensures.gives
 
@@ -39,7 +40,8 @@ returns-in_err-fld_call-in-Fld-clause-does c =
     let to : c.from_residual-in_err-fld_call-in-Fld.result ≡ Err e = search rules in
     let is : out-Statement c.args.statement.now ≡ open_statement.Fld c.in-Fld.db c.in-Fld.key c.in-Fld.fsas =
     is_fld c.args.statement.now c.in-Fld.db c.in-Fld.key c.in-Fld.fsas c.in-Fld.is in
-    fld_stops c.args.defs.now c.args.self.now c.args.statement.now c.in-Fld.db c.in-Fld.key c.in-Fld.fsas e _ is
+    fld_stops c.args.defs.now c.args.message.now c.args.self.now c.args.statement.now c.in-Fld.db c.in-Fld.key
+    c.in-Fld.fsas e _ is
     c.in_err-fld_call-in-Fld.ensures.gives to
 
 pub returns-in-Repeat-clause-does : goal.returns-in-Repeat-clause-does
@@ -47,5 +49,5 @@ returns-in-Repeat-clause-does c = λ more.
     let is : out-Statement c.args.statement.now ≡ open_statement.Repeat c.in-Repeat.times c.in-Repeat.body =
     is_loop c.args.statement.now c.in-Repeat.times c.in-Repeat.body c.in-Repeat.is in
     let to : c.repeated.result ≡ deed_of_loop c.in-Repeat.times c.in-Repeat.body = search rules in
-    loop_runs c.args.defs.now c.args.self.now.message c.args.statement.now c.in-Repeat.times c.in-Repeat.body
+    loop_runs c.args.defs.now c.args.message.now c.args.statement.now c.in-Repeat.times c.in-Repeat.body
     c.repeated.result (env_of c.args.self.now more) is to

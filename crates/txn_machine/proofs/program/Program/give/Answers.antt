@@ -13,7 +13,7 @@ returns-clause-at c = λ defs statements message answers at.
     let is : c.args.self.now.wait ≡ Some c.in-Some.wait = cc in
     let none = c.take.ensures.after in
     rw none (given defs statements message answers c.args.self.now c.in-Some.wait c.learn.new.self c.args.answer at is
-    c.learn.ensures.message c.learn.ensures.learns)
+    c.learn.ensures.learns)
 
 pub returns-clause-fit : goal.returns-clause-fit
 returns-clause-fit c = λ msdbs asked waits fit answer.

@@ -6,7 +6,7 @@ use Rattle.txn_machine.proofs.program.Program.next.Given as goal
 
 abbrev pub invariant-loop-next : goal.invariant-loop-next
 invariant-loop-next l = record {
-  alike : ComesAlike l.defs l.statements l.initial.self l.self;
+  alike : ComesAlike l.defs l.statements l.message l.initial.self l.self;
   number : l.self.number ≡ l.initial.self.number;
   wait : l.self.wait ≡ None;
   shown : segments_of l.self.known.gets ≡ segments_of l.initial.self.known.gets;

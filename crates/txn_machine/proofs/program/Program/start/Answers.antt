@@ -11,13 +11,12 @@ use Rattle.txn_machine.proofs.program.Program.start.Goals as goal
 
 pub returns-clause-at : goal.returns-clause-at
 unfolding ask
-returns-clause-at c = λ defs statements. record {
-  heard = c.in_ok-new.ensures.message;
+returns-clause-at c = λ defs statements message. record {
   comes = λ more.
-      ap (λ (env : Env). end_from defs c.args.message.now statements (record { frames = []; at = 0 }) env)
-      (sym (c.in_ok-new.ensures.nothing more))
-      ∙ ap (λ (fs : List Frame). end_from defs c.args.message.now statements (record { frames = fs; at = 0 })
-      (env_of c.in_ok-new.field-0 more)) (sym c.new.ensures);
+      ap (λ (env : Env). end_from defs message statements (record { frames = []; at = 0 }) env)
+      (sym (c.new-2.ensures more))
+      ∙ ap (λ (fs : List Frame). end_from defs message statements (record { frames = fs; at = 0 })
+      (env_of c.new-2.result more)) (sym c.new.ensures);
   waits = tt;
 }
 
@@ -25,6 +24,6 @@ pub returns-clause-fit : goal.returns-clause-fit
 returns-clause-fit c = λ msdbs. record {
   shown = record {
     each = subst (AllByRecursion (IsShownSegment msdbs))
-        (sym (ap (λ (env : Env). env.shown) (c.in_ok-new.ensures.nothing []))) tt;
+        (sym (ap (λ (env : Env). env.shown) (c.new-2.ensures []))) tt;
   };
 }

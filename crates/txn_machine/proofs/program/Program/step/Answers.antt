@@ -11,7 +11,8 @@ use Rattle.txn_machine.proofs.EndLemmas.{stands_at}
 use Rattle.txn_machine.proofs.program.Program.step.Goals as goal
 
 -- the statement at the place, and its deed
-deed_here : (c : goal.After-act) → IsDeed c.args.defs.now c.args.statements.now (length c.args.statements.now)
+deed_here : (c : goal.After-act) → IsDeed c.args.defs.now c.args.statements.now c.args.message.now
+    (length c.args.statements.now)
     c.args.self.now c.in_ok-deed.deed
 deed_here c = record {
   ends = refl;
@@ -25,26 +26,30 @@ deed_here c = record {
 }
 
 pub returns-then-self-block-clause-alike : goal.returns-then-self-block-clause-alike
-returns-then-self-block-clause-alike c = c.act.ensures.alike c.args.defs.now c.args.statements.now (deed_here c)
+returns-then-self-block-clause-alike c = c.act.ensures.alike c.args.defs.now c.args.statements.now c.args.message.now
+    (deed_here c)
 
 pub returns-then-self-block-clause-asked : goal.returns-then-self-block-clause-asked
-returns-then-self-block-clause-asked c = c.act.ensures.asked c.args.defs.now c.args.statements.now (deed_here c)
+returns-then-self-block-clause-asked c = c.act.ensures.asked c.args.defs.now c.args.statements.now c.args.message.now
+    (deed_here c)
 
 pub returns-then-self-block-clause-call : goal.returns-then-self-block-clause-call
-returns-then-self-block-clause-call c = c.act.ensures.call c.args.defs.now c.args.statements.now (deed_here c)
+returns-then-self-block-clause-call c = c.act.ensures.call c.args.defs.now c.args.statements.now c.args.message.now
+    (deed_here c)
 
 pub returns-then-self-block-clause-less : goal.returns-then-self-block-clause-less
-returns-then-self-block-clause-less c = c.act.ensures.less c.args.defs.now c.args.statements.now (deed_here c)
+returns-then-self-block-clause-less c = c.act.ensures.less c.args.defs.now c.args.statements.now c.args.message.now
+    (deed_here c)
 
 pub returns-then-self-block-clause-fit_call : goal.returns-then-self-block-clause-fit_call
 unfolding deed_here
 returns-then-self-block-clause-fit_call c = λ well fit shown.
     let d = deed_here c in
     result_fits c.args.defs.now.msdbs c.in_ok-deed.deed c.act.result c.act.ensures.given (λ asked is.
-    statement_fit c.args.defs.now c.args.self.now.known asked well shown c.index-block-self.result
+    statement_fit c.args.defs.now c.args.message.now c.args.self.now.known asked well shown c.index-block-self.result
     (fit_at c.args.defs.now (block_at c.args.self.now.place.frames c.args.statements.now) c.args.self.now.place.at
     c.index-block-self.result (fit_block c.args.defs.now c.args.self.now.place.frames c.args.statements.now fit)
     d.here)
     (c.in_ok-deed.ensures.spelled (subst (λ (x : Deed). IsCall x) (sym is) tt))
-    (subst (λ (x : Deed). Does c.args.defs.now c.args.self.now.known c.index-block-self.result x) is
+    (subst (λ (x : Deed). Does c.args.defs.now c.args.message.now c.args.self.now.known c.index-block-self.result x) is
     c.in_ok-deed.ensures.does))

@@ -1,0 +1,5 @@
+pub mod Alone
+pub mod Turned
+pub mod Counted
+pub mod Seals
+pub mod Runs
