@@ -4,7 +4,8 @@
     scripts/restart_log.py FOLDER [GROUPS [COUNT]]
 
 FOLDER has the definitions and the scripts of crates/ims_fp/data. Each entry adds 1 to account A001, as the program
-would write it, so that a `run` over the log restarts from it. docs/FORMATS.md has the bytes.
+would write it, so that a `run` over the log restarts from it; that one reads a schedule and messages too, and both
+may be empty files. docs/FORMATS.md has the bytes.
 """
 import sys
 from pathlib import Path
