@@ -10,4 +10,6 @@ mod restarts;
 #[cfg(test)]
 mod runs;
 #[cfg(test)]
+mod schedules;
+#[cfg(test)]
 mod stopped_runs;
