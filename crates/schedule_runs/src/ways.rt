@@ -7,8 +7,8 @@ ghost use Rattle.fp_model.specs.Turns.{Environment};
 ghost use Rattle.schedule_runs.specs.Ways.{Goes};
 ghost use Rattle.std.specs.Prelude.{◌≡◌, List, map};
 
-/// Where turns lead over events and rounds of the drain, there is a list of steps by which they do, and the same befalls
-/// these. So what is so of every run is so of it.
+/// Where turns lead over events and rounds of the drain, there is a list of steps by which they do, and the same
+/// befalls these. So what is so of every run is so of it.
 pub fn a_way_is_a_run()
     ensures { (rules : Rules) (events : List Event) (m : Machine) (environments : List Environment)
         → (left : List Event) (here : Machine)

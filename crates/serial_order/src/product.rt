@@ -30,7 +30,8 @@ ghost use Rattle.serial_order.specs.Kept.{AreApart, HaveNoCycle, IsAtRest, Kept}
 /// A call that needs no further lock is answered alike on any two states that have the same at what is held. Only an
 /// unheld look needs the state that it shows.
 pub fn calls_look_at_what_is_held()
-    ensures { (defs : Defs) (db db2 visible visible2 : Db) (own : Workspace) (held : Resource → Option Mode) (asked : Call)
+    ensures { (defs : Defs) (db db2 visible visible2 : Db) (own : Workspace) (held : Resource → Option Mode)
+        (asked : Call)
         → need_of defs db own held asked ≡ None
         → IsSame (view_of defs) held db db2
         → (looks_unheld defs own asked ≡ true → visible2 ≡ visible)
