@@ -2,11 +2,7 @@
 #![tactic(auto)]
 
 #[cfg(test)]
-mod fault;
-#[cfg(test)]
 mod rows;
-#[cfg(test)]
-mod running;
 #[cfg(test)]
 mod sample;
 #[cfg(test)]

@@ -1,9 +1,9 @@
 //! Short runs, each worked out by hand from the table of turns: what each event does, what is sent, and what the log
 //! and the databases hold then.
-use crate::fault::Fault;
-use crate::running::{Found, Task, run_task};
-use crate::sample::Setting;
-use std::alloc::Global;
+use crate::sample::{SCRIPTS, Setting, definitions, exits};
+use crate::telling::dids_text;
+use core_runs::{Fault, Found, Task, find};
+use std::alloc::{AllocError, Global};
 use std::test::Fail;
 
 /// A run and what comes of it.
@@ -336,40 +336,42 @@ const ROWS: [Row; 16] = [
 
 // What is found of the run of a row.
 fn found_of(alloc: Global, row: &Row) -> Result<Found, Fault> {
+    let definitions = definitions(alloc, &row.setting)?;
     let task = Task {
-        setting: row.setting,
+        definitions: definitions.as_bytes(),
+        scripts: SCRIPTS.as_bytes(),
         schedule: row.schedule.as_bytes(),
         messages: row.messages,
     };
-    run_task(alloc, &task)
+    find(alloc, &task, &exits(alloc)?)
 }
 
 // The first part of what was found that isn't as wanted.
-fn first_difference(found: &Found, row: &Row) -> &'static str {
-    if found.dids.as_str() != row.dids {
-        return "dids";
+fn first_difference(alloc: Global, found: &Found, row: &Row) -> Result<&'static str, AllocError> {
+    let dids = dids_text(alloc, &found.dids)?;
+    let parts = [
+        (dids.as_bytes(), row.dids, "dids"),
+        (found.sent.as_slice(), row.sent, "sent"),
+        (found.groups.as_slice(), row.log, "log"),
+        (found.databases.as_slice(), row.databases, "databases"),
+    ];
+    for (part, wanted, name) in parts {
+        if part != wanted.as_bytes() {
+            return Ok(name);
+        }
     }
-    if found.sent.as_slice() != row.sent.as_bytes() {
-        return "sent";
-    }
-    if found.log.as_slice() != row.log.as_bytes() {
-        return "log";
-    }
-    if found.databases.as_slice() != row.databases.as_bytes() {
-        return "databases";
-    }
-    if found.quiet != row.quiet {
-        "quiet"
-    } else {
+    Ok(if found.quiet == row.quiet {
         "none"
-    }
+    } else {
+        "quiet"
+    })
 }
 
 #[test]
 fn each_run_comes_to_what_is_wanted(rt: HostRuntime) -> Result<(), Fail> {
     for row in ROWS {
         let found = found_of(rt.alloc(), &row)?;
-        assert_eq!(rt; first_difference(&found, &row), "none", "{row:?}");
+        assert_eq!(rt; first_difference(rt.alloc(), &found, &row)?, "none", "{row:?}");
     }
     Ok(())
 }

@@ -1,5 +1,5 @@
 //! Why a run isn't one that a test can judge.
-ghost use Rattle.core_tests.specs.declared.fault.Fault.TheVariants as faults;
+ghost use Rattle.core_runs.specs.declared.fault.Fault.TheVariants as faults;
 ghost use Rattle.std.specs.Prelude.{◌≡◌};
 
 use fp_core::Stop;
