@@ -371,7 +371,11 @@ fn first_difference(alloc: Global, found: &Found, row: &Row) -> Result<&'static 
 fn each_run_comes_to_what_is_wanted(rt: HostRuntime) -> Result<(), Fail> {
     for row in ROWS {
         let found = found_of(rt.alloc(), &row)?;
-        assert_eq!(rt; first_difference(rt.alloc(), &found, &row)?, "none", "{row:?}");
+        assert_eq!(rt;
+            first_difference(rt.alloc(), &found, &row)?,
+            "none",
+            "{row:?}"
+        );
     }
     Ok(())
 }
