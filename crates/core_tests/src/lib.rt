@@ -6,4 +6,6 @@ mod rows;
 #[cfg(test)]
 mod sample;
 #[cfg(test)]
+mod stops;
+#[cfg(test)]
 mod telling;

@@ -8,15 +8,15 @@ use std::test::Fail;
 
 /// A run and what comes of it.
 #[derive(Clone, Copy, Debug)]
-struct Row {
-    setting: Setting,
-    schedule: &'static str,
-    messages: &'static [u8],
+pub struct Row {
+    pub setting: Setting,
+    pub schedule: &'static str,
+    pub messages: &'static [u8],
     /// What each event of the schedule does.
     dids: &'static str,
     /// How many events there are up to the first that sends something.
     quiet: usize,
-    sent: &'static str,
+    pub sent: &'static str,
     log: &'static str,
     databases: &'static str,
 }
@@ -52,7 +52,7 @@ const TWO_GROUPS: Setting = Setting {
 // ---- withdrawals and deposits side by side
 
 /// Both withdrawals pass the test of their call, and the second fails as it is tested again.
-const OVERDRAWN: Row = Row {
+pub const OVERDRAWN: Row = Row {
     setting: SAMPLE,
     schedule: "IN IN R1 R2 R1 R2 R1 R1 R2 R2 LOG",
     messages: b"T1 WDRAW A001 60\nT2 WDRAW A001 60\n",
@@ -95,7 +95,7 @@ const BOTH_ADD: Row = Row {
 };
 
 /// The deposit waits until the segment isn't held any more.
-const WAITS_FOR_A_HOLD: Row = Row {
+pub const WAITS_FOR_A_HOLD: Row = Row {
     setting: SAMPLE,
     schedule: "IN IN R1 R1 R1 R2 R2 R2 R1 R1 R2 R2 LOG",
     messages: b"T1 SETBAL A001 500\nT2 DEPOSIT A001 10\n",
@@ -238,7 +238,7 @@ group 2 entries 1\n\
 // ---- locks
 
 /// Each holds what the other needs: the second is refused, and the first goes on.
-const CROSSWISE: Row = Row {
+pub const CROSSWISE: Row = Row {
     setting: SAMPLE,
     schedule: "IN IN R1 R1 R2 R2 R1 R2 R1 R2 R1 R1 R1 LOG",
     messages: b"T1 TWOACC A001 A002\nT2 TWOACC A002 A001\n",
