@@ -2,6 +2,5 @@ pub mod AnswerLemmas
 pub mod FitLemmas
 pub mod BeginLemmas
 pub mod KeyLemmas
-pub mod LetterLemmas
 pub mod StoreLemmas
 pub mod WorkLemmas

@@ -1,12 +1,11 @@
 //! The letters of a field call.
-ghost use Rattle.std.specs.Prelude.{◌≡◌, IfOk, length, map};
+ghost use Rattle.std.specs.Prelude.{◌≡◌, IfOk, length};
 ghost use Rattle.fp_model.specs.FitCalls.{IsFsaList};
 ghost use Rattle.fp_model.specs.Fsas.{all_blank, fsas_in, list_on};
 ghost use Rattle.fp_model.specs.WellFormed.{IsMsdbDef};
-ghost use Rattle.fld_calls.specs.Forms.{forms};
 
-use fld_calls::{Fsa, FsaFault, read_list, try_fsas};
-use fp_model::{Bytes, List, MsdbDef};
+use fld_calls::try_list;
+use fp_model::{Bytes, MsdbDef};
 use std::alloc::{AllocError, Global};
 
 // A letter for each field search argument, and whether all are blank.
@@ -16,27 +15,11 @@ pub(crate) struct Letters {
     pub(crate) letters: Bytes,
 }
 
-// The arguments that bytes are. It fails only for want of memory.
-fn arguments(alloc: Global, bytes: &[u8]) -> Result<List<Fsa>, AllocError>
-    requires { IsFsaList bytes.now }
-    ensures { IfOk result (λ list. forms list ≡ fsas_in bytes.now) }
+// Whether all letters are blanks.
+fn are_blank(letters: &[u8]) -> bool
+    ensures { result ≡ all_blank letters.now }
 {
-    match read_list(alloc, bytes) {
-        Ok(list) => Ok(list),
-        Err(FsaFault::Memory) => Err(AllocError),
-        Err(FsaFault::Short(_)) => unreachable!(),
-        Err(FsaFault::BadConnector(_)) => unreachable!(),
-    }
-}
-
-fn letters_of(alloc: Global, fsas: &List<Fsa>) -> Result<Bytes, AllocError>
-    ensures { IfOk result (λ letters. letters ≡ map (λ fsa. fsa.status) fsas.now) }
-{
-    let mut letters = Bytes::new(alloc);
-    for fsa in fsas.as_slice() {
-        letters.push(fsa.status)?;
-    }
-    Ok(letters)
+    letters.iter().all(|letter| *letter == b' ')
 }
 
 // Tries arguments on a copy of a segment. It fails only for want of memory.
@@ -53,9 +36,10 @@ pub(crate) fn letters_on(
     ensures good { IfOk result (λ tried. tried.good ≡ all_blank
         (list_on def.now (fsas_in fsas.now) segment.now).letters) }
 {
-    let mut list = arguments(alloc, fsas)?;
     let mut copy = Vec::from_slice(alloc, segment)?;
-    let good = try_fsas(def, &mut list, copy.as_mut_slice());
-    let letters = letters_of(alloc, &list)?;
-    Ok(Letters { good, letters })
+    let letters = try_list(alloc, def, fsas, copy.as_mut_slice())?;
+    Ok(Letters {
+        good: are_blank(letters.as_slice()),
+        letters,
+    })
 }

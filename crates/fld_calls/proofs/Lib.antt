@@ -1,6 +1,8 @@
 pub mod Comparing
 pub mod Digits
+mod Fronts
 pub mod Letters
+mod ListBytes
 pub mod ListLemmas
 pub mod NumberSizes
 pub mod ReadLemmas

@@ -3,11 +3,13 @@ use Rattle.std.proofs.Common.{◌≡◌, refl, sym, ap, ◌∙◌, arith, ℕ, z
 use Rattle.std.specs.Prelude.{Result, Ok, Err, ⊤, is_ok}
 use Rattle.std.proofs.lemmas.List.{append-nil}
 use Rattle.fp_model.specs.declared.definitions.MsdbDef.{MsdbDef}
-use Rattle.fp_model.specs.Fsas.{fsa_on, letter_of, list_on, all_blank}
+use Rattle.fp_model.specs.FitCalls.{IsFsaList}
+use Rattle.fp_model.specs.Fsas.{Fsa, fsa_on, fsas_in, letter_of, list_on, all_blank}
 use Rattle.fld_calls.specs.declared.arguments.Fsa.{Fsa as Argument}
 use Rattle.fld_calls.specs.declared.field.Refusal.{Refusal}
 use Rattle.fld_calls.specs.Forms.{form_of, forms, with_letters}
 use Rattle.fld_calls.specs.Refusals.{letter_in}
+use Rattle.fld_calls.proofs.Fronts.{LeftBehind, Reads, all_left}
 use Rattle.fld_calls.proofs.TryLemmas.{no_blank}
 
 -- the first of them have their letters, and the others, on the segment as it is, give the rest of the answer
@@ -61,6 +63,49 @@ trying-end def all start done segment good t = (
     and_all : (b : Bool) → (b && true) ≡ b
     and_all true = refl
     and_all false = refl
+
+-- ---- in place
+
+-- the letters so far, and those of the arguments that are left to be read
+pub record Tries (def : MsdbDef) (all : List Fsa) (start letters rest now : List ℕ) : Type 0 where
+  pub left : List Fsa
+  pub reads : Reads rest left
+  pub letters_are : letters ++ (list_on def left now).letters ≡ (list_on def all start).letters
+  pub segment_is : (list_on def left now).segment ≡ (list_on def all start).segment
+
+pub tries_all : (def : MsdbDef) (bytes start : List ℕ) → IsFsaList bytes
+    → Tries def (fsas_in bytes) start [] bytes start
+tries_all def bytes start is = record {
+  left = fsas_in bytes;
+  reads = all_left bytes is;
+  letters_are = refl;
+  segment_is = refl;
+}
+
+-- a letter more
+pub tries_on : (def : MsdbDef) (all : List Fsa) (start letters rest now : List ℕ) (fsa : Fsa) (next : List ℕ)
+    (t : Tries def all start letters rest now) → LeftBehind fsa next t.left → (letter : ℕ) (new : List ℕ)
+    → letter ≡ letter_of def fsa now → new ≡ (fsa_on def fsa now).segment
+    → Tries def all start (letters ++ letter ∷ []) next new
+unfolding list_on
+tries_on def all start letters rest now fsa next t l letter new is to =
+    rw (is, to) (record {
+      left = l.others;
+      reads = l.reads;
+      letters_are = append_assoc letters (letter_of def fsa now ∷ []) _
+          ∙ ap (λ fsas. letters ++ (list_on def fsas now).letters) (sym l.is) ∙ t.letters_are;
+      segment_is = ap (λ fsas. (list_on def fsas now).segment) (sym l.is) ∙ t.segment_is;
+    })
+
+-- where none is left, these are all letters
+pub tries_end : (def : MsdbDef) (all : List Fsa) (start letters rest now : List ℕ)
+    (t : Tries def all start letters rest now) → t.left ≡ []
+    → (letters ≡ (list_on def all start).letters) × (now ≡ (list_on def all start).segment)
+unfolding list_on
+tries_end def all start letters rest now t none = (
+  sym (append-nil letters) ∙ ap (λ fsas. letters ++ (list_on def fsas now).letters) (sym none) ∙ t.letters_are,
+  ap (λ fsas. (list_on def fsas now).segment) (sym none) ∙ t.segment_is,
+)
 
 -- ---- places in a list
 

@@ -38,7 +38,7 @@ pub at-start : (bytes : List ℕ) → StandsAt bytes [] 0 bytes
 at-start bytes = record { most = length bytes + 1; enough = omega arith; reads = refl }
 
 -- where the bytes end
-short_from : (most place : ℕ) (rest : List ℕ) → connector_in rest ≡ None → fsas_from most place rest ≡ Short place
+pub short_from : (most place : ℕ) (rest : List ℕ) → connector_in rest ≡ None → fsas_from most place rest ≡ Short place
 short_from zero place rest none = refl
 short_from (suc most) place rest none =
     let at = place + 12 + operand_length rest in
@@ -58,7 +58,7 @@ at-short bytes fsas place rest s none = s.reads ∙ ap (with_fsas fsas) (short_f
 -- an argument with its connector, and what is behind it
 module _ (rest : List ℕ) (fsa : Fsa) (connector n : ℕ) (next : List ℕ) (found : connector_in rest ≡ Some connector)
     (long : operand_length rest ≡ n) (left : behind rest ≡ next) (first : fsa_in rest ≡ fsa) where
-  one_from : (most place : ℕ) → fsas_from (suc most) place rest ≡ joined (place + 12 + n) connector next fsa
+  pub one_from : (most place : ℕ) → fsas_from (suc most) place rest ≡ joined (place + 12 + n) connector next fsa
       (fsas_from most (place + 13 + n) next)
   one_from most place =
       let at = place + 12 + operand_length rest in

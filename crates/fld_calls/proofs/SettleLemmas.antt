@@ -1,32 +1,27 @@
 -- A list of arguments up to the first bad one.
-use Rattle.std.proofs.Common.{◌≡◌, refl, sym, ap, ◌∙◌, arith, ℕ, zero, suc, ◌<◌, ◌≤◌, ◌+◌, ◌*◌, ◌^◌, All, length-append, slice_index_or, List, [], ◌∷◌, length, drop, Bool, true, false, ◌==◌, if◌then◌else◌, Some, None}
+use Rattle.std.proofs.Common.{◌≡◌, refl, sym, ap, ◌∙◌, subst, arith, ℕ, zero, suc, ◌<◌, ◌≤◌, ◌+◌, slice_index_or, List, [], ◌∷◌, length, drop, Bool, true, false, ◌==◌, if◌then◌else◌, Some, None}
 use Rattle.std.specs.Prelude.{Result, Ok, Err, ⊤, is_err}
 use Rattle.fp_model.specs.declared.definitions.FieldDef.{FieldDef}
 use Rattle.fp_model.specs.declared.definitions.MsdbDef.{MsdbDef}
-use Rattle.fp_model.specs.Fsas.{Fsa, IsFsa, ListReading, Whole, Short, BadConnector, fsa_text, list_text, fsas_of, fsas_in, fsa_on, letter_of, found_by, first_failure, list_on}
+use Rattle.fp_model.specs.Fsas.{Fsa, fsas_in, fsa_on, letter_of, found_by, first_failure, list_on}
 use Rattle.fp_model.specs.FitCalls.{IsFsaList}
-use Rattle.fp_model.specs.Spellings.{be16, long_text}
-use Rattle.fp_model.proofs.FsaLemmas.{fsas_of_list_text}
-use Rattle.std.specs.List.{AllByRecursion}
-use Rattle.std.proofs.lemmas.List.{length-map}
-use Rattle.fld_calls.specs.declared.arguments.Fsa.{Fsa as Argument}
 use Rattle.fld_calls.specs.declared.field.Refusal.{Refusal}
-use Rattle.fld_calls.specs.declared.arguments.FsaFault.{FsaFault}
-use Rattle.fld_calls.specs.declared.arguments.FsaFault.TheVariants as fault
-use Rattle.fld_calls.specs.Forms.{IsReadAs, form_of, forms, of_fields}
+use Rattle.fld_calls.specs.Forms.{of_fields}
 use Rattle.fld_calls.specs.Refusals.{letter_in}
+use Rattle.fld_calls.proofs.Fronts.{LeftBehind, Reads, all_left}
+use Rattle.fld_calls.proofs.ListBytes.{list_is}
 use Rattle.fld_calls.proofs.TryLemmas.{no_blank}
 
 -- what all come to is what the rest comes to, tried on the segment now
-pub record Left (def : MsdbDef) (all : List Argument) (old : List ℕ) (at : ℕ) (rest : List Argument) (now : List ℕ) :
+pub record Left (def : MsdbDef) (all : List Fsa) (old : List ℕ) (at : ℕ) (rest : List Fsa) (now : List ℕ) :
     Type 0 where
-  pub failure : first_failure def 0 (forms all) old ≡ first_failure def at (forms rest) now
-  pub segment : (list_on def (forms all) old).segment ≡ (list_on def (forms rest) now).segment
+  pub failure : first_failure def 0 all old ≡ first_failure def at rest now
+  pub segment : (list_on def all old).segment ≡ (list_on def rest now).segment
 
-abbrev pub IsSettling : List FieldDef → List Argument → List ℕ → ℕ → List Argument → List ℕ → Type 0
+abbrev pub IsSettling : List FieldDef → List Fsa → List ℕ → ℕ → List Fsa → List ℕ → Type 0
 IsSettling fields all old at rest now = (def : MsdbDef) → def.fields ≡ fields → Left def all old at rest now
 
-pub at_first : (fields : List FieldDef) (all : List Argument) (old : List ℕ) → IsSettling fields all old 0 all old
+pub at_first : (fields : List FieldDef) (all : List Fsa) (old : List ℕ) → IsSettling fields all old 0 all old
 at_first fields all old def is = record { failure = refl; segment = refl }
 
 -- what an argument comes to rests on the fields alone
@@ -70,32 +65,32 @@ unfolding list_on
 segment_left def segment = refl
 
 -- a good one more
-pub one_more : (fields : List FieldDef) (all : List Argument) (old : List ℕ) (at : ℕ) (x : Argument)
-    (rest : List Argument) (now new : List ℕ) → IsSettling fields all old at (x ∷ rest) now
-    → 32 ≡ letter_of (of_fields fields) (form_of x) now → new ≡ (fsa_on (of_fields fields) (form_of x) now).segment
+pub one_more : (fields : List FieldDef) (all : List Fsa) (old : List ℕ) (at : ℕ) (x : Fsa)
+    (rest : List Fsa) (now new : List ℕ) → IsSettling fields all old at (x ∷ rest) now
+    → 32 ≡ letter_of (of_fields fields) x now → new ≡ (fsa_on (of_fields fields) x now).segment
     → IsSettling fields all old (at + 1) rest new
 one_more fields all old at x rest now new left good is def same =
     let l = left def same in
-    let segment : new ≡ (fsa_on def (form_of x) now).segment =
-    is ∙ sym (same_segment def fields (form_of x) now same) in
+    let segment : new ≡ (fsa_on def x now).segment =
+    is ∙ sym (same_segment def fields x now same) in
     record {
-      failure = l.failure ∙ good_failure def at (form_of x) (forms rest) now
-          (same_letter def fields (form_of x) now same ∙ sym good) ∙ ap (first_failure def (at + 1) (forms rest))
+      failure = l.failure ∙ good_failure def at x rest now
+          (same_letter def fields x now same ∙ sym good) ∙ ap (first_failure def (at + 1) rest)
           (sym segment);
-      segment = l.segment ∙ next_segment def (form_of x) (forms rest) now ∙ ap
-          (λ s. (list_on def (forms rest) s).segment) (sym segment);
+      segment = l.segment ∙ next_segment def x rest now ∙ ap
+          (λ s. (list_on def rest s).segment) (sym segment);
     }
 
 -- a bad one
-pub bad_one : (fields : List FieldDef) (all : List Argument) (old : List ℕ) (at : ℕ) (x : Argument)
-    (rest : List Argument) (now found : List ℕ) → IsSettling fields all old at (x ∷ rest) now
-    → (letter_of (of_fields fields) (form_of x) now == 32) ≡ false → found ≡ found_by (of_fields fields) (form_of x) now
-    → (def : MsdbDef) → def.fields ≡ fields → first_failure def 0 (forms all) old ≡ Some
+pub bad_one : (fields : List FieldDef) (all : List Fsa) (old : List ℕ) (at : ℕ) (x : Fsa)
+    (rest : List Fsa) (now found : List ℕ) → IsSettling fields all old at (x ∷ rest) now
+    → (letter_of (of_fields fields) x now == 32) ≡ false → found ≡ found_by (of_fields fields) x now
+    → (def : MsdbDef) → def.fields ≡ fields → first_failure def 0 all old ≡ Some
     (record { place = at; found = found })
 bad_one fields all old at x rest now found left bad is def same =
-    (left def same).failure ∙ bad_failure def at (form_of x) (forms rest) now
-    (ap (λ (l : ℕ). l == 32) (same_letter def fields (form_of x) now same) ∙ bad)
-    ∙ ap (λ f. Some (record { place = at; found = f })) (same_found def fields (form_of x) now same ∙ sym is)
+    (left def same).failure ∙ bad_failure def at x rest now
+    (ap (λ (l : ℕ). l == 32) (same_letter def fields x now same) ∙ bad)
+    ∙ ap (λ f. Some (record { place = at; found = f })) (same_found def fields x now same ∙ sym is)
 
 -- the letters of answers
 pub good_letter : (r : Result ⊤ Refusal) → is_err r ≡ false → letter_in r ≡ 32
@@ -116,68 +111,62 @@ here (y ∷ ys) (suc i) x within e =
     here ys i x (omega (arith, within)) e ∙ ap (λ n. x ∷ drop n (y ∷ ys)) (sym next)
 
 -- none left
-pub all_good : (fields : List FieldDef) (all : List Argument) (old : List ℕ) (at : ℕ) (now : List ℕ)
+pub all_good : (fields : List FieldDef) (all : List Fsa) (old : List ℕ) (at : ℕ) (now : List ℕ)
     → IsSettling fields all old at [] now
-    → (def : MsdbDef) → def.fields ≡ fields → (first_failure def 0 (forms all) old ≡ None)
-    × (now ≡ (list_on def (forms all) old).segment)
+    → (def : MsdbDef) → def.fields ≡ fields → (first_failure def 0 all old ≡ None)
+    × (now ≡ (list_on def all old).segment)
 all_good fields all old at now left def same = (
   (left def same).failure ∙ none_left def at now,
   sym ((left def same).segment ∙ segment_left def now),
 )
 
--- ---- the bytes of a list
+-- ---- in place
 
-all_from : {X : Type 0} (P : X → Type 0) (xs : List X) → AllByRecursion P xs → All P xs
-all_from P [] all k d within = absurd (omega (arith, within))
-all_from P (x ∷ xs) all zero d within = all.0
-all_from P (x ∷ xs) all (suc k) d within = all_from P xs all.1 k d (omega (arith, within))
+-- what all come to is what those come to that are left to be read
+pub record Settles (fields : List FieldDef) (all : List Fsa) (old : List ℕ) (at : ℕ) (rest now : List ℕ) : Type 0 where
+  pub left : List Fsa
+  pub reads : Reads rest left
+  pub few : at + length left ≤ 255
+  pub is_settling : IsSettling fields all old at left now
 
-fsa_long : (fsa : Fsa) → IsFsa fsa → length (fsa_text fsa) < 65548
-unfolding be16
-fsa_long fsa is = omega (
-  arith,
-  length-append fsa.field (fsa.status ∷ fsa.op ∷ long_text fsa.operand),
-  is.name,
-  is.operand_fits,
-)
+pub settles_all : (fields : List FieldDef) (bytes old : List ℕ) → IsFsaList bytes
+    → Settles fields (fsas_in bytes) old 0 bytes old
+settles_all fields bytes old is = record {
+  left = fsas_in bytes;
+  reads = all_left bytes is;
+  few = omega (arith, ap length (list_is bytes is), is.count.1);
+  is_settling = at_first fields (fsas_in bytes) old;
+}
 
-list_long : (fsas : List Fsa) → AllByRecursion IsFsa fsas → length (list_text fsas) ≤ 65548 * length fsas
-list_long [] all = omega arith
-list_long (fsa ∷ []) all = omega (arith, length-append (fsa_text fsa) (32 ∷ []), fsa_long fsa all.0)
-list_long (fsa ∷ next ∷ fsas) all = omega (
-  arith,
-  length-append (fsa_text fsa) (42 ∷ list_text (next ∷ fsas)),
-  fsa_long fsa all.0,
-  list_long (next ∷ fsas) all.1,
-)
+-- the argument in front
+module _ (fields : List FieldDef) (all : List Fsa) (old : List ℕ) (at : ℕ) (rest now : List ℕ) (fsa : Fsa)
+    (next : List ℕ) (s : Settles fields all old at rest now) (l : LeftBehind fsa next s.left) where
+  in_front : IsSettling fields all old at (fsa ∷ l.others) now
+  in_front = subst (λ fsas. IsSettling fields all old at fsas now) l.is s.is_settling
 
--- the bytes of 1 to 255 arguments are few enough to be read
-pub text_short : (bytes : List ℕ) → IsFsaList bytes → length bytes < 2 ^ 32
-text_short bytes is = omega (arith, ap length is.text, list_long is.fsas is.each, is.count.1)
+  -- has a place
+  pub place_fits : at + 1 ≤ 255
+  place_fits = omega (arith, s.few, ap length l.is)
 
--- and are read as these
-pub text_whole : (bytes : List ℕ) (is : IsFsaList bytes) → fsas_of bytes ≡ Whole is.fsas
-text_whole bytes is = ap fsas_of is.text ∙ fsas_of_list_text is.fsas (all_from IsFsa is.fsas is.each)
-    (omega (arith, is.count.0))
+  -- where it is good, the others are left
+  pub settles_on : (new : List ℕ) → 32 ≡ letter_of (of_fields fields) fsa now
+      → new ≡ (fsa_on (of_fields fields) fsa now).segment → Settles fields all old (at + 1) next new
+  settles_on new good is = record {
+    left = l.others;
+    reads = l.reads;
+    few = omega (arith, s.few, ap length l.is);
+    is_settling = one_more fields all old at fsa l.others now new in_front good is;
+  }
 
-pub text_read : (bytes : List ℕ) (is : IsFsaList bytes) (fsas : List Argument) → fsas_of bytes ≡ Whole (forms fsas)
-    → (length fsas ≤ 65536) × (fsas_in bytes ≡ forms fsas)
-text_read bytes is fsas read =
-    let same : Whole (forms fsas) ≡ Whole is.fsas = sym read ∙ text_whole bytes is in
-    (omega (arith, length-map fsas form_of, ap length (whole_is _ _ same), is.count.1), ap in_list read)
-  where
-    whole_is : (xs ys : List Fsa) → Whole xs ≡ Whole ys → xs ≡ ys
-    whole_is xs ys e = cc
+  -- and where it is bad, it is the first that is
+  pub settles_not : (found : List ℕ) → (letter_of (of_fields fields) fsa now == 32) ≡ false
+      → found ≡ found_by (of_fields fields) fsa now → (def : MsdbDef) → def.fields ≡ fields
+      → first_failure def 0 all old ≡ Some (record { place = at; found = found })
+  settles_not found bad is = bad_one fields all old at fsa l.others now found in_front bad is
 
-    in_list : ListReading → List Fsa
-    in_list (Whole fsas) = fsas
-    in_list (Short place) = []
-    in_list (BadConnector place) = []
-
--- so that nothing but memory can be wanting
-pub only_memory : (bytes : List ℕ) → IsFsaList bytes → (why : FsaFault) → IsReadAs (Err why) (fsas_of bytes)
-    → why ≡ fault.Memory
-only_memory bytes is (fault.Short place) e = let both : Short place ≡ Whole is.fsas = sym e ∙ text_whole bytes is in cc
-only_memory bytes is (fault.BadConnector place) e =
-    let both : BadConnector place ≡ Whole is.fsas = sym e ∙ text_whole bytes is in cc
-only_memory bytes is fault.Memory e = refl
+-- where none is left, all are good
+pub settles_end : (fields : List FieldDef) (all : List Fsa) (old : List ℕ) (at : ℕ) (rest now : List ℕ)
+    (s : Settles fields all old at rest now) → s.left ≡ [] → (def : MsdbDef) → def.fields ≡ fields
+    → (first_failure def 0 all old ≡ None) × (now ≡ (list_on def all old).segment)
+settles_end fields all old at rest now s none = all_good fields all old at now
+    (subst (λ fsas. IsSettling fields all old at fsas now) none s.is_settling)

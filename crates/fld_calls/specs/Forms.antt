@@ -5,6 +5,7 @@ use Rattle.fp_model.specs.declared.definitions.MsdbDef.{MsdbDef}
 use Rattle.fp_model.specs.Fsas.{Fsa, ListReading, Whole, Short, BadConnector}
 use Rattle.fld_calls.specs.declared.arguments.Fsa.{Fsa as Argument}
 use Rattle.fld_calls.specs.declared.arguments.FsaFault.{FsaFault}
+use Rattle.fld_calls.specs.declared.arguments.LentFsa.{LentFsa}
 use Rattle.fld_calls.specs.declared.arguments.FsaFault.TheVariants as fault
 
 -- an argument as the definitions see it
@@ -15,6 +16,16 @@ form_of argument = record {
   op = argument.op;
   operand =
       argument.operand;
+}
+
+-- one whose operand is lent
+abbrev pub lent_form_of : LentFsa → Fsa
+lent_form_of argument = record {
+  field = argument.field.0;
+  status = argument.status;
+  op = argument.op;
+  operand =
+      argument.operand.now;
 }
 
 abbrev pub forms : List Argument → List Fsa

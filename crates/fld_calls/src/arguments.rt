@@ -1,10 +1,11 @@
 //! Field search arguments, and why bytes aren't a list of them.
-ghost use Rattle.std.specs.Prelude.{◌≡◌};
+ghost use Rattle.std.specs.Prelude.{◌≡◌, IfOk};
+ghost use Rattle.fld_calls.specs.Forms.{form_of, lent_form_of};
 ghost use Rattle.fld_calls.specs.declared.arguments.FsaFault.TheVariants as fault;
 ghost use Rattle.fld_calls.specs.declared.arguments.SettleFault.TheVariants as settle;
 
 use fp_model::{Bytes, Name};
-use std::alloc::AllocError;
+use std::alloc::{AllocError, Global};
 
 /// A field search argument: one test or change of a field.
 #[derive(Debug, PartialEq, Eq, Drop)]
@@ -16,6 +17,44 @@ pub struct Fsa {
     pub op: u8,
     /// A text: characters for a field of characters, else an optional `-` and 1 to 31 digits.
     pub operand: Bytes,
+}
+
+/// A field search argument whose operand is lent: as it stands in the bytes of a list, or is to be written there.
+#[derive(Clone, Copy, Debug)]
+pub struct LentFsa<'a> {
+    pub field: Name,
+    pub status: u8,
+    pub op: u8,
+    pub operand: &'a [u8],
+}
+
+impl Fsa {
+    /// The same with its operand lent.
+    pub(crate) fn lent(&self) -> LentFsa<'_>
+        ensures form { lent_form_of result ≡ form_of self.now }
+        ensures operand { result.operand.now ≡ self.now.operand }
+    {
+        LentFsa {
+            field: self.field,
+            status: self.status,
+            op: self.op,
+            operand: self.operand.as_slice(),
+        }
+    }
+}
+
+impl LentFsa<'_> {
+    /// The same with a copy of its operand. Fails only for want of memory.
+    pub(crate) fn to_fsa(&self, alloc: Global) -> Result<Fsa, AllocError>
+        ensures { IfOk result (λ fsa. form_of fsa ≡ lent_form_of self.now) }
+    {
+        Ok(Fsa {
+            field: self.field,
+            status: self.status,
+            op: self.op,
+            operand: Bytes::from_slice(alloc, self.operand)?,
+        })
+    }
 }
 
 /// Why bytes aren't read as a list of field search arguments.

@@ -2,33 +2,30 @@
 ghost use Rattle.std.specs.List.{AllByRecursion};
 ghost use Rattle.std.specs.Prelude.{◌≡◌, ◌+◌, ◌<◌, ◌^◌, ◌++◌, ◌∷◌, [], if◌then◌else◌, IfNone, IfOk, IfSome, None, OnOk, Some, length};
 ghost use Rattle.fp_model.specs.Fsas.{behind, connector_in, fsa_in, fsa_text, fsas_of, list_text, operand_length};
-ghost use Rattle.fld_calls.specs.Forms.{form_of, forms, is_last, IsReadAs, IsShort};
+ghost use Rattle.fld_calls.specs.Forms.{forms, is_last, lent_form_of, IsReadAs, IsShort};
 
-use crate::arguments::{Fsa, FsaFault};
+use crate::arguments::{Fsa, FsaFault, LentFsa};
 use fp_model::{Bytes, List, Name};
 use std::alloc::{AllocError, Global};
 
 // An argument at the front of bytes, its connector, and what stands behind that.
-#[derive(Drop)]
-struct Front<'a> {
-    field: Name,
-    status: u8,
-    op: u8,
-    operand: &'a [u8],
-    connector: u8,
-    rest: &'a [u8],
+#[derive(Clone, Copy)]
+pub(crate) struct Front<'a> {
+    pub(crate) fsa: LentFsa<'a>,
+    pub(crate) connector: u8,
+    pub(crate) rest: &'a [u8],
 }
 
 // What bytes begin with. None where they end in the argument or before its connector.
-fn front_of(bytes: &[u8]) -> Option<Front<'_>>
+pub(crate) fn front_of(bytes: &[u8]) -> Option<Front<'_>>
     ensures none { IfNone result (connector_in bytes.now ≡ None) }
     ensures connector { IfSome result (λ front. connector_in bytes.now ≡ Some front.connector) }
-    ensures fsa { IfSome result (λ front. fsa_in bytes.now
-        ≡ record { field = front.field.0; status = front.status; op = front.op; operand = front.operand.now }) }
-    ensures operand { IfSome result (λ front. operand_length bytes.now ≡ length front.operand.now) }
+    ensures fsa { IfSome result (λ front. fsa_in bytes.now ≡ lent_form_of front.fsa) }
+    ensures operand { IfSome result (λ front. operand_length bytes.now ≡ length front.fsa.operand.now) }
     ensures rest { IfSome result (λ front. behind bytes.now ≡ front.rest.now) }
-    ensures short { IfSome result (λ front. length front.operand.now < 65536) }
-    ensures all { IfSome result (λ front. length bytes.now ≡ 13 + length front.operand.now + length front.rest.now) }
+    ensures short { IfSome result (λ front. length front.fsa.operand.now < 65536) }
+    ensures all { IfSome result (λ front. length bytes.now ≡ 13 + length front.fsa.operand.now + length
+        front.rest.now) }
 {
     let [a, b, c, d, e, f, g, h, status, op, high, low, rest @ ..] = bytes else {
         return None;
@@ -38,34 +35,15 @@ fn front_of(bytes: &[u8]) -> Option<Front<'_>>
         return None;
     }
     Some(Front {
-        field: Name([*a, *b, *c, *d, *e, *f, *g, *h]),
-        status: *status,
-        op: *op,
-        operand: &rest[..length],
+        fsa: LentFsa {
+            field: Name([*a, *b, *c, *d, *e, *f, *g, *h]),
+            status: *status,
+            op: *op,
+            operand: &rest[..length],
+        },
         connector: rest[length],
         rest: &rest[length + 1..],
     })
-}
-
-impl Front<'_> {
-    // The argument, with a copy of its operand.
-    fn fsa(&self, alloc: Global) -> Result<Fsa, AllocError>
-        ensures { IfOk result (λ fsa. form_of fsa
-            ≡ record {
-              field = self.now.field.0;
-              status = self.now.status;
-              op = self.now.op;
-              operand =
-                  self.now.operand.now;
-            }) }
-    {
-        Ok(Fsa {
-            field: self.field,
-            status: self.status,
-            op: self.op,
-            operand: Bytes::from_slice(alloc, self.operand)?,
-        })
-    }
 }
 
 // Whether nothing is behind an argument.
@@ -98,12 +76,12 @@ pub fn read_list(alloc: Global, bytes: &[u8]) -> Result<List<Fsa>, FsaFault>
         let Some(front) = front_of(rest) else {
             return Err(FsaFault::Short(place));
         };
-        let end = place + 12 + front.operand.len() as u32;
+        let end = place + 12 + front.fsa.operand.len() as u32;
         let last = is_last(front.rest);
         if front.connector != connector(last) {
             return Err(FsaFault::BadConnector(end));
         }
-        fsas.push(front.fsa(alloc)?)?;
+        fsas.push(front.fsa.to_fsa(alloc)?)?;
         if last {
             return Ok(fsas);
         }
@@ -114,16 +92,28 @@ pub fn read_list(alloc: Global, bytes: &[u8]) -> Result<List<Fsa>, FsaFault>
 
 // One argument and its connector.
 #[tactic(auto, unfolding(fp_model::specs::Spellings::be16))]
-fn put_fsa(text: &mut Bytes, fsa: &Fsa, connector: u8) -> Result<(), AllocError>
-    requires { IsShort fsa.now }
-    ensures { OnOk result (text.new ≡ text.old ++ fsa_text (form_of fsa.now) ++ connector ∷ []) }
+fn put_fsa(text: &mut Bytes, fsa: &LentFsa, connector: u8) -> Result<(), AllocError>
+    requires { length fsa.now.operand.now < 65536 }
+    ensures { OnOk result (text.new ≡ text.old ++ fsa_text (lent_form_of fsa.now) ++ connector ∷ []) }
 {
     text.append(&fsa.field.0)?;
     text.push(fsa.status)?;
     text.push(fsa.op)?;
     text.append(&(fsa.operand.len() as u16).to_be_bytes())?;
-    text.append(fsa.operand.as_slice())?;
+    text.append(fsa.operand)?;
     text.push(connector)
+}
+
+/// Adds an argument to the bytes of a list: `*` behind one that another follows, and a blank behind the last. Fails
+/// only for want of memory.
+///
+/// Condition: its operand's length fits two bytes.
+pub fn append_fsa(text: &mut Bytes, fsa: &LentFsa, last: bool) -> Result<(), AllocError>
+    requires { length fsa.now.operand.now < 65536 }
+    ensures { OnOk result (text.new ≡ text.old ++ fsa_text (lent_form_of fsa.now) ++ (if last then 32 else 42) ∷ []) }
+{
+    text.reserve(13 + fsa.operand.len())?;
+    put_fsa(text, fsa, connector(last))
 }
 
 // How many bytes a list has.
@@ -147,7 +137,7 @@ pub fn write_list(alloc: Global, fsas: &List<Fsa>) -> Result<Bytes, AllocError>
     let mut left = fsas.len();
     for fsa in fsas.as_slice() {
         left -= 1;
-        put_fsa(&mut text, fsa, connector(left == 0))?;
+        append_fsa(&mut text, &fsa.lent(), left == 0)?;
     }
     Ok(text)
 }

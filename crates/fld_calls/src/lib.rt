@@ -33,7 +33,7 @@ mod operation;
 mod settling;
 mod trying;
 
-pub use arguments::{Fsa, FsaFault, SettleFault};
-pub use layout::{read_list, write_list};
+pub use arguments::{Fsa, FsaFault, LentFsa, SettleFault};
+pub use layout::{append_fsa, read_list, write_list};
 pub use settling::settle_list;
-pub use trying::try_fsas;
+pub use trying::{try_fsas, try_list};

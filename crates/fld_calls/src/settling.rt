@@ -1,16 +1,14 @@
 //! Field search arguments at settling: the first bad one ends the list.
-ghost use Rattle.std.specs.Prelude.{◌≡◌, ◌≤◌, IfOk, length};
+ghost use Rattle.std.specs.Prelude.{◌≡◌, IfOk, length};
 ghost use Rattle.fp_model.specs.FitCalls.{IsFsaList};
 ghost use Rattle.fp_model.specs.Fsas.{found_by, fsas_in};
 ghost use Rattle.fp_model.specs.WellFormed.{StandFrom};
 ghost use Rattle.fp_model.specs.declared.definitions.MsdbDef.{MsdbDef as DefOf};
-ghost use Rattle.fld_calls.specs.Forms.{form_of, forms, of_fields};
+ghost use Rattle.fld_calls.specs.Forms.{lent_form_of, of_fields};
 ghost use Rattle.fld_calls.specs.Settling.{IsSettled};
-ghost use Rattle.fld_calls.specs.declared.arguments.FsaFault.TheVariants as read;
-ghost use Rattle.fld_calls.specs.declared.arguments.SettleFault.TheVariants as settle;
 
-use crate::arguments::{Fsa, FsaFault, SettleFault};
-use crate::layout::read_list;
+use crate::arguments::{LentFsa, SettleFault};
+use crate::layout::front_of;
 use crate::trying::{find_field, try_fsa};
 use fp_model::{Bytes, FieldDef, List};
 use std::alloc::{AllocError, Global};
@@ -19,11 +17,11 @@ use std::alloc::{AllocError, Global};
 fn found(
     alloc: Global,
     fields: &List<FieldDef>,
-    fsa: &Fsa,
+    fsa: &LentFsa,
     segment: &[u8],
 ) -> Result<Bytes, AllocError>
     requires { StandFrom 0 fields.now (length segment.now) }
-    ensures { IfOk result (λ found. found ≡ found_by (of_fields fields.now) (form_of fsa.now) segment.now) }
+    ensures { IfOk result (λ found. found ≡ found_by (of_fields fields.now) (lent_form_of fsa.now) segment.now) }
 {
     let Some(field) = find_field(fields, &fsa.field) else {
         return Ok(Bytes::new(alloc));
@@ -33,40 +31,10 @@ fn found(
     Bytes::from_slice(alloc, &segment[at..end])
 }
 
-// Tries arguments on a segment in their order and makes their changes, up to the first bad one.
-fn settle_fsas(
-    alloc: Global,
-    fields: &List<FieldDef>,
-    fsas: &List<Fsa>,
-    segment: &mut [u8],
-) -> Result<(), SettleFault>
-    requires fields { StandFrom 0 fields.now (length segment.old) }
-    requires few { length fsas.now ≤ 65536 }
-    ensures { (def : DefOf) → def.fields ≡ fields.now → IsSettled def (forms fsas.now) segment.old result segment.new }
-{
-    for (at, fsa) in fsas.as_slice().iter().enumerate() {
-        if try_fsa(fields, fsa, segment).is_err() {
-            return Err(SettleFault::Bad {
-                place: at as u16,
-                found: found(alloc, fields, fsa, segment)?,
-            });
-        }
-    }
-    Ok(())
-}
-
-// A list is read unless there is no memory.
-fn no_memory(fault: FsaFault) -> SettleFault
-    requires { fault ≡ read.Memory }
-    ensures { result ≡ settle.Memory }
-{
-    let _ = fault;
-    SettleFault::Memory
-}
-
-/// Reads a list of 1 to 255 arguments, tries them on a segment in their order and makes their changes, up to the first
-/// bad one. `Bad` says which that is, and what its field holds behind the changes before it. After a fault the segment
-/// is to be thrown away. The fields stand one after another up to the segment's length.
+/// Tries a list of 1 to 255 arguments on a segment in their order and makes their changes, up to the first bad one.
+/// `Bad` says which that is, and what its field holds behind the changes before it. The bytes are read as they stand,
+/// and only what a bad one found takes memory. After a fault the segment is to be thrown away. The fields stand one
+/// after another up to the segment's length.
 pub fn settle_list(
     alloc: Global,
     fields: &List<FieldDef>,
@@ -78,8 +46,17 @@ pub fn settle_list(
     ensures { (def : DefOf) → def.fields ≡ fields.now
         → IsSettled def (fsas_in bytes.now) segment.old result segment.new }
 {
-    match read_list(alloc, bytes) {
-        Ok(fsas) => settle_fsas(alloc, fields, &fsas, segment),
-        Err(fault) => Err(no_memory(fault)),
+    let mut place: u16 = 0;
+    let mut rest = bytes;
+    while let Some(front) = front_of(rest) {
+        if try_fsa(fields, &front.fsa, segment).is_err() {
+            return Err(SettleFault::Bad {
+                place,
+                found: found(alloc, fields, &front.fsa, segment)?,
+            });
+        }
+        place += 1;
+        rest = front.rest;
     }
+    Ok(())
 }

@@ -1,15 +1,18 @@
-//! Field search arguments tried on a segment. Nothing here takes memory.
-ghost use Rattle.std.specs.Prelude.{◌≡◌, ◌+◌, ◌≤◌, OnErr, OnOk, length};
-ghost use Rattle.fp_model.specs.Fsas.{all_blank, field_bytes, field_of, fsa_on, letter_of, letter_on, list_on};
+//! Field search arguments tried on a segment. Only the letters of a list in bytes take memory.
+ghost use Rattle.std.specs.Prelude.{◌≡◌, ◌+◌, ◌≤◌, IfOk, OnErr, OnOk, length};
+ghost use Rattle.fp_model.specs.FitCalls.{IsFsaList};
+ghost use Rattle.fp_model.specs.Fsas.{all_blank, field_bytes, field_of, fsa_on, fsas_in, letter_of, letter_on, list_on};
 ghost use Rattle.fp_model.specs.WellFormed.{StandFrom};
-ghost use Rattle.fld_calls.specs.Forms.{form_of, forms, of_fields, with_letters};
+ghost use Rattle.fld_calls.specs.Forms.{forms, lent_form_of, of_fields, with_letters};
 ghost use Rattle.fld_calls.specs.Operations.{byte_of};
 ghost use Rattle.fld_calls.specs.Refusals.{letter_in, segment_behind};
 
-use crate::arguments::Fsa;
+use crate::arguments::{Fsa, LentFsa};
 use crate::field::{Refusal, try_field};
+use crate::layout::front_of;
 use crate::operation::Operation;
-use fp_model::{FieldDef, List, MsdbDef, Name};
+use fp_model::{Bytes, FieldDef, List, MsdbDef, Name};
+use std::alloc::{AllocError, Global};
 
 // The field of a name.
 pub(crate) fn find_field(fields: &List<FieldDef>, name: &Name) -> Option<FieldDef>
@@ -59,10 +62,14 @@ fn try_at(
 }
 
 // One argument. A good change is made, and a bad argument leaves the segment.
-pub(crate) fn try_fsa(fields: &List<FieldDef>, fsa: &Fsa, segment: &mut [u8]) -> Result<(), Refusal>
+pub(crate) fn try_fsa(
+    fields: &List<FieldDef>,
+    fsa: &LentFsa,
+    segment: &mut [u8],
+) -> Result<(), Refusal>
     requires { StandFrom 0 fields.now (length segment.old) }
-    ensures letter { letter_in result ≡ letter_of (of_fields fields.now) (form_of fsa.now) segment.old }
-    ensures segment { segment.new ≡ (fsa_on (of_fields fields.now) (form_of fsa.now) segment.old).segment }
+    ensures letter { letter_in result ≡ letter_of (of_fields fields.now) (lent_form_of fsa.now) segment.old }
+    ensures segment { segment.new ≡ (fsa_on (of_fields fields.now) (lent_form_of fsa.now) segment.old).segment }
     ensures err { OnErr result (segment.new ≡ segment.old) }
 {
     let Some(operation) = Operation::of(fsa.op) else {
@@ -71,7 +78,7 @@ pub(crate) fn try_fsa(fields: &List<FieldDef>, fsa: &Fsa, segment: &mut [u8]) ->
     let Some(field) = find_field(fields, &fsa.field) else {
         return Err(Refusal::NoField);
     };
-    try_at(&field, operation, fsa.operand.as_slice(), segment)
+    try_at(&field, operation, fsa.operand, segment)
 }
 
 /// Tries arguments on a segment in their order. Each is answered a letter in its status, by what those before it left.
@@ -87,9 +94,34 @@ pub fn try_fsas(def: &MsdbDef, fsas: &mut List<Fsa>, segment: &mut [u8]) -> bool
     let mut good = true;
     for at in 0..fsas.len() {
         let fsa = fsas.item_mut(at);
-        let outcome = try_fsa(&def.fields, fsa, segment);
+        let outcome = try_fsa(&def.fields, &fsa.lent(), segment);
         fsa.status = letter(outcome);
         good &= outcome.is_ok();
     }
     good
+}
+
+/// Tries the arguments that bytes are on a segment in their order, as `try_fsas` does, and gives their letters. The
+/// bytes are read as they stand, and only the letters take memory. After want of memory the segment is to be thrown
+/// away.
+pub fn try_list(
+    alloc: Global,
+    def: &MsdbDef,
+    bytes: &[u8],
+    segment: &mut [u8],
+) -> Result<Bytes, AllocError>
+    requires fields { StandFrom 0 def.now.fields def.now.length }
+    requires whole { length segment.old ≡ def.now.length }
+    requires list { IsFsaList bytes.now }
+    ensures letters { IfOk result (λ letters. letters ≡ (list_on def.now (fsas_in bytes.now) segment.old).letters) }
+    ensures segment { OnOk result (segment.new ≡ (list_on def.now (fsas_in bytes.now) segment.old).segment) }
+{
+    let mut letters = Bytes::new(alloc);
+    let mut rest = bytes;
+    while let Some(front) = front_of(rest) {
+        let outcome = try_fsa(&def.fields, &front.fsa, segment);
+        letters.push(letter(outcome))?;
+        rest = front.rest;
+    }
+    Ok(letters)
 }

@@ -5,6 +5,7 @@ use Rattle.std.specs.List.{AllByRecursion}
 use Rattle.std.proofs.lemmas.List.{append_assoc, map-append}
 use Rattle.drain_laws.specs.Rounds.{GoesRounds}
 use Rattle.drain_laws.proofs.Rounds.{rounds_drain, rounds_more}
+use Rattle.fp_model.specs.declared.definitions.Defs.{Defs}
 use Rattle.fp_model.specs.declared.events.Event.{Event}
 use Rattle.fp_model.specs.declared.events.Event.TheVariants as event
 use Rattle.fp_model.specs.Machine.{Machine}
@@ -22,7 +23,7 @@ use Rattle.fp_core.specs.declared.engine.Engine.{Engine}
 use Rattle.fp_core.specs.declared.stop.Stop.{Stop}
 use Rattle.fp_core.specs.declared.stop.Stop.TheVariants as stops
 use Rattle.fp_core.specs.Draining.{AreCalm, DrainStopped, Drained, IsInDrain, IsLeftByDrain, IsLeftByStep}
-use Rattle.fp_core.specs.Relation.{StandsFor, rules_in}
+use Rattle.fp_core.specs.Relation.{AreMade, StandsFor, rules_in}
 use Rattle.fp_core.specs.Rounding.{BeganBy, HasCome, TookTurns, WentBeside, turns_of}
 use Rattle.fp_core.specs.Standing.{IsLeft, IsWithin, Leaves, MayStop, Origin, StandsAt, StandsBeside, Stepped, SteppedAt, seals_of}
 use Rattle.fp_core.proofs.Rounds.{makes_round, part_calm, part_events, part_of, part_runs}
@@ -43,10 +44,10 @@ all_both P [] ys h k = k
 all_both P (x ∷ xs) ys h k = (h.0, all_both P xs ys h.1 k)
 
 -- one step of a drain behind the rounds of another
-in_behind : (rules : Rules) (rounds : List (List RunStep)) (m mid here : Machine) (e : Event)
+in_behind : (defs : Defs) (rules : Rules) (rounds : List (List RunStep)) (m mid here : Machine) (e : Event)
     → GoesRounds rules m rounds mid
-    → AllByRecursion AreCalm rounds → IsInDrain rules mid here e → IsInDrain rules m here e
-in_behind rules rounds m mid here e goes calm i = record {
+    → AllByRecursion AreCalm rounds → IsInDrain defs rules mid here e → IsInDrain defs rules m here e
+in_behind defs rules rounds m mid here e goes calm i = record {
   rounds = rounds ++ i.rounds;
   behind = i.behind;
   whole = goes_both rules rounds m mid i.rounds i.behind goes i.whole;
@@ -56,6 +57,8 @@ in_behind rules rounds m mid here e goes calm i = record {
   left = i.left;
   next = i.next;
   calm = (all_both AreCalm rounds i.rounds calm i.calm.0, i.calm.1);
+  made = i.made;
+  format = i.format;
 }
 
 module _ (origin : Origin) (rules : Rules) (m : Machine) (old : Disk) (old_lines : Lines) where
@@ -89,13 +92,13 @@ module _ (origin : Origin) (rules : Rules) (m : Machine) (old : Disk) (old_lines
     }
 
     -- a stop behind them
-    pub stopped_behind : (new : Disk) (stop : Stop)
-        → DrainStopped origin rules come.after mid_lines mid new stop
-        → DrainStopped origin rules m old_lines old new stop
-    stopped_behind new stop d = record {
+    pub stopped_behind : (defs : Defs) (new : Disk) (stop : Stop)
+        → DrainStopped origin defs rules come.after mid_lines mid new stop
+        → DrainStopped origin defs rules m old_lines old new stop
+    stopped_behind defs new stop d = record {
       here = d.here;
       event = d.event;
-      in_drain = in_behind rules come.rounds m come.after d.here d.event come.goes come.calm d.in_drain;
+      in_drain = in_behind defs rules come.rounds m come.after d.here d.event come.goes come.calm d.in_drain;
       may = d.may;
       first = λ number is. omega (arith, d.first number is, come.given);
       within = record {
@@ -104,23 +107,25 @@ module _ (origin : Origin) (rules : Rules) (m : Machine) (old : Disk) (old_lines
         groups = d.within.groups;
         others = λ set other. d.within.others set other ∙ come.others set other;
       };
+      rest = d.rest;
     }
 
     -- a crash behind them
-    left_behind : (law : IsLawful mid) (first : Through old mid (IsLeftByDrain origin rules m old)) (s : Snapshot)
-        → IsLeftByDrain origin rules come.after mid s → IsLeftByDrain origin rules m old s
-    left_behind law first s (inl left) =
+    left_behind : (defs : Defs) (law : IsLawful mid) (first : Through old mid (IsLeftByDrain origin defs rules m old))
+        (s : Snapshot)
+        → IsLeftByDrain origin defs rules come.after mid s → IsLeftByDrain origin defs rules m old s
+    left_behind defs law first s (inl left) =
         first.each s (law.earlier old.moment mid.moment s first.later (law.counts_now s left))
-    left_behind law first s (inr step) =
-        let in_drain = in_behind rules come.rounds m come.after step.here step.event come.goes come.calm
+    left_behind defs law first s (inr step) =
+        let in_drain = in_behind defs rules come.rounds m come.after step.here step.event come.goes come.calm
         step.in_drain in
         let is = step.is_left in
         inr (by in_drain is (first.each is.before
         (law.earlier old.moment mid.moment is.before first.later (law.counts_now is.before is.was_left))))
       where
-        by : {here : Machine} {e : Event} → IsInDrain rules m here e
+        by : {here : Machine} {e : Event} → IsInDrain defs rules m here e
             → (is : IsLeft origin rules here (seals_of e here) mid s)
-            → IsLeftByDrain origin rules m old is.before → IsLeftByStep origin rules m old s
+            → IsLeftByDrain origin defs rules m old is.before → IsLeftByStep origin defs rules m old s
         by {here} {e} in_drain is (inl left) = record {
           here = here;
           event = e;
@@ -148,25 +153,25 @@ module _ (origin : Origin) (rules : Rules) (m : Machine) (old : Disk) (old_lines
           };
         }
 
-    pub moments_both : (new : Disk) → IsLawful mid
-        → Through old mid (IsLeftByDrain origin rules m old)
-        → Through mid new (IsLeftByDrain origin rules come.after mid)
-        → Through old new (IsLeftByDrain origin rules m old)
-    moments_both new law first second =
-        joined (IsLeftByDrain origin rules m old) old mid new first
-        (weaker (IsLeftByDrain origin rules come.after mid) (IsLeftByDrain origin rules m old) mid new
-        (λ s left. left_behind law first s left) second)
+    pub moments_both : (defs : Defs) (new : Disk) → IsLawful mid
+        → Through old mid (IsLeftByDrain origin defs rules m old)
+        → Through mid new (IsLeftByDrain origin defs rules come.after mid)
+        → Through old new (IsLeftByDrain origin defs rules m old)
+    moments_both defs new law first second =
+        joined (IsLeftByDrain origin defs rules m old) old mid new first
+        (weaker (IsLeftByDrain origin defs rules come.after mid) (IsLeftByDrain origin defs rules m old) mid new
+        (λ s left. left_behind defs law first s left) second)
 
   -- where no call of the site was made
-  pub moments_none : IsLawful old → Through old old (IsLeftByDrain origin rules m old)
-  moments_none law = started (IsLeftByDrain origin rules m old) old law (λ s left. inl left)
+  pub moments_none : (defs : Defs) → IsLawful old → Through old old (IsLeftByDrain origin defs rules m old)
+  moments_none defs law = started (IsLeftByDrain origin defs rules m old) old law (λ s left. inl left)
 
 -- what a drain comes to
 pub drained_by : (origin : Origin) (rules : Rules) (m : Machine) (old new : Disk) (old_lines lines : Lines)
     (left : List ℕ)
     (engine : Engine) → rules_in engine ≡ rules
     → (come : HasCome origin rules m old new old_lines lines left engine) → IsDrained rules come.after
-    → Drained origin m new lines left engine
+    → Drained origin m old new lines left engine
 drained_by origin rules m old new old_lines lines left engine same come done =
     let drains = rounds_drain rules come.rounds m come.after come.goes done in
     record {
@@ -175,13 +180,15 @@ drained_by origin rules m old new old_lines lines left engine same come done =
       drains = subst (λ (r : Rules). Drains r m come.rounds come.after) (sym same) drains;
       calm = come.calm;
       beside = come.beside;
+      others = come.others;
     }
 
 -- ---- within one round
 
 -- before it
-pub in_first : (rules : Rules) (m : Machine) → IsInDrain rules m m event.In
-in_first rules m = record {
+pub in_first : (rules : Rules) (m : Machine) (engine : Engine) → StandsFor engine m
+    → IsInDrain engine.defs.now rules m m event.In
+in_first rules m engine stands = record {
   rounds = [];
   behind = m;
   whole = refl;
@@ -191,6 +198,8 @@ in_first rules m = record {
   left = map event.Region (numbers_up (length rules.regions) 1) ++ event.Log ∷ [];
   next = refl;
   calm = (tt, refl);
+  made = stands.made;
+  format = stands.format;
 }
 
 -- the numbers up to one, that one, and others
@@ -216,12 +225,12 @@ turns_split n k few =
           (let e : 1 + k ≡ k + 1 = omega arith in e),
     )
 
-module _ (rules : Rules) (m : Machine) (old_lines lines : Lines) (first second : Engine) (given : Did)
-    (same : rules_in first ≡ rules) (same2 : rules_in second ≡ rules)
+module _ (defs : Defs) (rules : Rules) (m : Machine) (old_lines lines : Lines) (first second : Engine) (given : Did)
+    (same : rules_in first ≡ rules) (same2 : rules_in second ≡ rules) (same_defs : second.defs.now ≡ defs)
     (stepped : Stepped event.In m old_lines lines first given) (left : ¬ IsDrained rules m) where
   in_part : (n : ℕ) (took : TookTurns (turns_of n) stepped.turned.after second) (e : Event) (rest : List Event)
       → round rules ≡ (event.In ∷ turns_of n) ++ e ∷ rest
-      → IsInDrain rules m took.after e
+      → IsInDrain defs rules m took.after e
   in_part n took e rest next = record {
     rounds = [];
     behind = m;
@@ -233,16 +242,18 @@ module _ (rules : Rules) (m : Machine) (old_lines lines : Lines) (first second :
     next = next ∙ ap (λ (es : List Event). es ++ e ∷ rest)
         (sym (part_events rules m old_lines lines first second given same same2 stepped n took));
     calm = (tt, part_calm rules m old_lines lines first second given same same2 stepped n took);
+    made = subst (λ (d : Defs). AreMade d took.after) same_defs took.stands.made;
+    format = took.stands.format;
   }
 
   -- before LOG
   pub in_log : (took : TookTurns (turns_of (length rules.regions)) stepped.turned.after second)
-      → IsInDrain rules m took.after event.Log
+      → IsInDrain defs rules m took.after event.Log
   in_log took = in_part (length rules.regions) took event.Log [] refl
 
   -- before the turn of a region
   pub in_region : (k : ℕ) → k < length rules.regions → (took : TookTurns (turns_of k) stepped.turned.after second)
-      → IsInDrain rules m took.after (event.Region (k + 1))
+      → IsInDrain defs rules m took.after (event.Region (k + 1))
   in_region k few took =
       let split = turns_split (length rules.regions) k few in
       in_part k took (event.Region (k + 1)) (split.0 ++ event.Log ∷ [])
@@ -314,28 +325,30 @@ module _ (origin : Origin) (rules : Rules) (m : Machine) (old_lines : Lines) (di
   -- in IN
   pub stopped_in : (engine : Engine) → StandsAt origin disk engine m → MayStop event.In engine.held stop
       → ((number : ℕ) → stop ≡ stops.LineFault number → number ≡ lines_given old_lines + 1)
-      → DrainStopped origin rules m old_lines disk disk stop
+      → DrainStopped origin engine.defs.now rules m old_lines disk disk stop
   stopped_in engine at may number = record {
     here = m;
     event = event.In;
-    in_drain = in_first rules m;
+    in_drain = in_first rules m engine at.parts;
     may = subst (λ h. MayStop event.In h stop) at.parts.held may;
     first = λ n is. omega (arith, number n is);
     within = (left_alone origin rules m 0 disk engine law at).within;
+    rest = λ calm. at.at_rest.durable;
   }
 
   -- in the turn of a region, for want of memory
-  pub stopped_region : (engine : Engine) (here : Machine) (region : ℕ) → stop ≡ stops.Memory
+  pub stopped_region : (defs : Defs) (engine : Engine) (here : Machine) (region : ℕ) → stop ≡ stops.Memory
       → StandsAt origin disk engine here
-      → IsInDrain rules m here (event.Region region)
-      → DrainStopped origin rules m old_lines disk disk stop
-  stopped_region engine here region is at i = record {
+      → IsInDrain defs rules m here (event.Region region)
+      → DrainStopped origin defs rules m old_lines disk disk stop
+  stopped_region defs engine here region is at i = record {
     here = here;
     event = event.Region region;
     in_drain = i;
     may = subst (λ (s : Stop). MayStop (event.Region region) here.held s) (sym is) tt;
     first = λ n e. absurd cc;
     within = (left_alone origin rules here 0 disk engine law at).within;
+    rest = λ calm. at.at_rest.durable;
   }
 
 -- in LOG
@@ -383,13 +396,14 @@ before_log origin m disk old_lines lines left old first second more same defs ga
 
 module _ (origin : Origin) (rules : Rules) (m : Machine) (old new : Disk) (old_lines lines : Lines) (left : List ℕ)
     (engine : Engine) (same : rules_in engine ≡ rules) (b : IsBeforeLog origin rules m old old_lines lines left engine)
+    (defs : Defs) (same_defs : engine.defs.now ≡ defs)
     (leaves : Leaves origin (rules_in engine) b.took.after 1 old new) where
-  at_log : IsInDrain rules m b.took.after event.Log
-  at_log = in_log rules m old_lines lines b.first engine b.given b.same same b.stepped b.undone b.took
+  at_log : IsInDrain defs rules m b.took.after event.Log
+  at_log = in_log defs rules m old_lines lines b.first engine b.given b.same same same_defs b.stepped b.undone b.took
 
   -- a stop in it
   pub stopped_log : (stop : Stop) → MayStop event.Log engine.held stop
-      → DrainStopped origin rules m old_lines old new stop
+      → DrainStopped origin defs rules m old_lines old new stop
   stopped_log stop may = record {
     here = b.took.after;
     event = event.Log;
@@ -397,12 +411,13 @@ module _ (origin : Origin) (rules : Rules) (m : Machine) (old new : Disk) (old_l
     may = subst (λ h. MayStop event.Log h stop) b.took.stands.held may;
     first = λ n is. absurd (no_line_in_log engine.held stop n may is);
     within = subst (λ (r : Rules). IsWithin origin r b.took.after 1 old new) same leaves.within;
+    rest = λ calm. absurd (calm tt);
   }
 
   -- what a crash leaves
-  pub moments_log : Through old new (IsLeftByDrain origin rules m old)
+  pub moments_log : Through old new (IsLeftByDrain origin defs rules m old)
   moments_log =
-      weaker (IsLeft origin (rules_in engine) b.took.after 1 old) (IsLeftByDrain origin rules m old) old new
+      weaker (IsLeft origin (rules_in engine) b.took.after 1 old) (IsLeftByDrain origin defs rules m old) old new
       (λ s left. inr (record {
         here = b.took.after;
         event = event.Log;

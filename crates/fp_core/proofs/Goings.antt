@@ -1,7 +1,7 @@
 -- An active region goes on.
 use Rattle.std.proofs.Common.{◌≡◌, refl, sym, ◌∙◌, ap, subst, arith, ℕ, zero, suc, ◌-◌, List, [], ◌∷◌, ◌++◌, Bool, true, false, length, Option, Some, slice_get, slice_set}
 use mathlib.Core.Path.{fun_ext}
-use Rattle.std.specs.Prelude.{Result, Ok, Err, OnErr, if◌then◌else◌}
+use Rattle.std.specs.Prelude.{Result, Ok, Err, IfSome, None, OnErr, if◌then◌else◌, option_map}
 use Rattle.std.specs.Option.{option_map_or}
 use Rattle.std.proofs.lemmas.List.{length-set}
 use Rattle.ci_locks.specs.Table.{standing}
@@ -9,12 +9,13 @@ use Rattle.drain_laws.specs.Measure.{one_if_active}
 use Rattle.fp_model.specs.declared.calls.Call.{Call}
 use Rattle.fp_model.specs.declared.calls.Message.{Message}
 use Rattle.fp_model.specs.declared.calls.Mode.{Mode}
+use Rattle.fp_model.specs.declared.calls.Mode.TheVariants.{Exclusive}
 use Rattle.fp_model.specs.declared.calls.Resource.{Resource}
 use Rattle.fp_model.specs.declared.database.Db.{Db}
 use Rattle.fp_model.specs.declared.definitions.Defs.{Defs}
 use Rattle.fp_model.specs.declared.scripts.Script.{Script}
 use Rattle.fp_model.specs.Answers.{Needed}
-use Rattle.fp_model.specs.Asking.{Ask, Replies, ask}
+use Rattle.fp_model.specs.Asking.{Ask, Asks, Replies, Rolls, ask}
 use Rattle.fp_model.specs.Calls.{need_of}
 use Rattle.fp_model.specs.Machine as machine
 use Rattle.fp_model.specs.Machine.{Transaction, Machine}
@@ -26,11 +27,12 @@ use Rattle.txn_machine.specs.declared.program.Program.{Program}
 use Rattle.fp_core.specs.declared.answering.Acted.{Acted}
 use Rattle.fp_core.specs.declared.answering.Acted.TheVariants as acts
 use Rattle.fp_core.specs.declared.engine.Active.{Active}
+use Rattle.fp_core.specs.declared.engine.Ahead.{Ahead}
 use Rattle.fp_core.specs.declared.engine.Engine.{Engine}
 use Rattle.fp_core.specs.declared.engine.Region.TheVariants as regions
 use Rattle.fp_core.specs.Acting.{HasActed, IsAtWork, MayEnd}
-use Rattle.fp_core.specs.Answering.{IsActed}
-use Rattle.fp_core.specs.Relation.{IsRegion, IsTransaction, StandsFor, room_of, rules_in}
+use Rattle.fp_core.specs.Answering.{IsActed, lock_for}
+use Rattle.fp_core.specs.Relation.{IsAhead, IsRegion, IsTransaction, StandsFor, room_of, rules_in}
 use Rattle.fp_core.proofs.Ends.{may_end}
 use Rattle.fp_core.proofs.Places.{none_some, put_both, put_left, sum_put}
 use Rattle.fp_core.proofs.Turns.{acted}
@@ -46,6 +48,10 @@ pub noted_is : (rules : Rules) (b : Bool) (notes : List ℕ) (n : ℕ)
     → (if b then notes ++ n ∷ [] else notes) ≡ noted rules b notes n
 noted_is rules true notes n = refl
 noted_is rules false notes n = refl
+
+-- where nothing is worked out there is nothing to show
+pub nothing : (P : Ahead → Type 0) (ahead : Option Ahead) → ahead ≡ None → IfSome ahead P
+nothing P ahead none = subst (λ (o : Option Ahead). IfSome o P) (sym none) tt
 
 module _ (defs : Defs) (scripts : List Script) (active : Active) (t : Transaction)
     (s : IsTransaction defs scripts active t) where
@@ -63,12 +69,12 @@ module _ (defs : Defs) (scripts : List Script) (active : Active) (t : Transactio
       ∙ ap (λ (message : Message). ask defs s.script.statements message t.point.answers) (sym s.message)
       ∙ e
 
-  -- the program moves on to its next call
-  pub moves : (program : Program) → program.number ≡ active.program.number
+  -- the program moves on to its next call, where nothing is worked out
+  pub moves : active.ahead ≡ None → (program : Program) → program.number ≡ active.program.number
       → IsAt defs s.script.statements active.message t.point.answers program
       → IsFit defs.msdbs program
       → IsTransaction defs scripts (record active { program = program }) t
-  moves program number at fit = record {
+  moves none program number at fit = record {
     from = s.from;
     message = s.message;
     short = s.short;
@@ -83,6 +89,28 @@ module _ (defs : Defs) (scripts : List Script) (active : Active) (t : Transactio
     numbered = rw number s.numbered;
     at = subst (λ (message : Message). IsAt defs s.script.statements message t.point.answers program) s.message at;
     fit = fit;
+    ahead = nothing (IsAhead defs scripts program t) active.ahead none;
+  }
+
+  -- this is what it does next, or it is to be worked out
+  pub keeps : (ahead : Option Ahead) → IfSome ahead (IsAhead defs scripts active.program t)
+      → IsTransaction defs scripts (record active { ahead = ahead }) t
+  keeps ahead is = record {
+    from = s.from;
+    message = s.message;
+    short = s.short;
+    tries = s.tries;
+    own = s.own;
+    notes = s.notes;
+    of = s.of;
+    changes = s.changes;
+    inserts = s.inserts;
+    script = s.script;
+    named = s.named;
+    numbered = s.numbered;
+    at = s.at;
+    fit = s.fit;
+    ahead = is;
   }
 
   -- the lock that the code's work needs is the one that the machine's does
@@ -92,6 +120,9 @@ module _ (defs : Defs) (scripts : List Script) (active : Active) (t : Transactio
   needs_are held now call needed e = ap (λ own. need_of defs now own held call) (sym s.own) ∙ sym e
 
 -- ---- its region
+
+abbrev pub as_exclusive : Resource → Needed
+as_exclusive resource = record { resource = resource; mode = Exclusive }
 
 -- with a transaction put at a region's place
 abbrev pub with_active : Engine → ℕ → Active → Engine
@@ -169,6 +200,16 @@ module _ (engine : Engine) (m : Machine) (place : ℕ) (t : Transaction) (new : 
   holds_are : holds (rules_in engine) m (suc place) ≡ (standing engine.locks).holds (suc place)
   holds_are = fun_ext (λ resource. s.locks.held (suc place) resource)
 
+  -- and so is the lock that it needs
+  wanted_is : (a : Ask) → wanted (rules_in engine) m (suc place) t a
+      ≡ lock_for (rules_in engine) ((standing engine.locks).holds (suc place)) m.history.now t a
+  wanted_is (Asks call) =
+      ap (λ (held : Resource → Option Mode). (rules_in engine).need m.history.now t.point.own held call) holds_are
+  wanted_is (Replies reply) =
+      ap (λ (held : Resource → Option Mode). option_map (λ resource. as_exclusive resource)
+      ((rules_in engine).lack t.point.own held)) holds_are
+  wanted_is (Rolls code) = refl
+
   -- what its transaction came to, its region came to
   acted_here : (count : ℕ) → count ≡ length m.history.entries → (a : Acted)
       → IsActed engine.defs.now engine.scripts.now.scripts ((standing engine.locks).holds (suc place)) m.history.now
@@ -193,13 +234,13 @@ module _ (engine : Engine) (m : Machine) (place : ℕ) (t : Transaction) (new : 
       })) counts w.is))
   acted_here count counts (acts.Needs resource mode) w = record {
     at_work = record { stands = stands_still w.is; active = there };
-    wants = ap (wanted (rules_in engine) m (suc place) t) w.asked
-        ∙ ap (λ (held : Resource → Option Mode). (rules_in engine).need m.history.now t.point.own held w.call) holds_are
-        ∙ w.needs;
+    wants = wanted_is (asks (rules_in engine) t) ∙ w.needs;
   }
   acted_here count counts (acts.Replies reply) w = record {
-    at_work = record { stands = stands_still w.is; active = there };
-    asked = w.asked;
+    at_end = record { at_work = record { stands = stands_still w.is; active = there }; asked = w.asked };
+    lacks_none = wanted_is (asks (rules_in engine) t)
+        ∙ ap (lock_for (rules_in engine) ((standing engine.locks).holds (suc place)) m.history.now t) w.asked
+        ∙ ap (λ (o : Option Resource). option_map (λ resource. as_exclusive resource) o) w.lacks_none;
   }
   acted_here count counts (acts.Rolls code) w = record {
     at_work = record { stands = stands_still w.is; active = there };

@@ -2,21 +2,13 @@
 use Rattle.std.proofs.Common.{◌≡◌, sym, ◌∙◌, ap, arith, ℕ, zero, suc, ◌+◌, ◌<◌, ◌≤◌, List, [], ◌∷◌, length, drop, get_or, Bool, true, false, not, if◌then◌else◌, Option, Some, None}
 use Rattle.std.proofs.lemmas.List.{drop_all}
 use Rattle.std.specs.Prelude.{find}
-use mathlib.Core.Path.{fun_ext}
-use Rattle.ci_locks.specs.Table.{standing}
 use Rattle.fp_model.specs.declared.calls.Mode.{Mode}
 use Rattle.fp_model.specs.declared.calls.Mode.TheVariants.{Exclusive}
 use Rattle.fp_model.specs.declared.calls.Resource.{Resource}
 use Rattle.fp_model.specs.Answers.{serves}
 use Rattle.fp_model.specs.Commit.{lacking}
-use Rattle.fp_model.specs.Machine.{Transaction, Machine}
+use Rattle.fp_model.specs.Machine.{Transaction}
 use Rattle.fp_model.specs.Settle.{resources}
-use Rattle.fp_model.specs.Waiting.{held_as}
-use Rattle.fp_model.specs.Workspace.{Workspace}
-use Rattle.fp_core.specs.declared.engine.Active.{Active}
-use Rattle.fp_core.specs.declared.engine.Engine.{Engine}
-use Rattle.fp_core.specs.Acting.{IsAtWork}
-use Rattle.fp_core.specs.Relation.{IsTransaction}
 
 -- of a list, the first that isn't held Exclusive
 abbrev pub first_unheld : (Resource → Option Mode) → List Resource → Option Resource
@@ -53,15 +45,8 @@ module _ (held : Resource → Option Mode) (xs : List Resource) (i : ℕ) where
   none_left past = ap (λ (rs : List Resource). first_unheld held rs) (drop_all i xs past)
 
 -- It is what the sync point lacks, where the list is of the segments that the transaction's queue names.
-pub is_first_lack : (engine : Engine) (m : Machine) (region : ℕ) (t : Transaction) (active : Active)
-    → (named : List Resource)
-    → IsAtWork engine m region t
-    → IsTransaction engine.defs.now engine.scripts.now.scripts active t
-    → named ≡ resources active.work.own.deferred
-    → first_unheld ((standing engine.locks).holds region) named ≡ lacking t.point.own (held_as m.locks region)
+pub is_first_lack : (held : Resource → Option Mode) (t : Transaction) (named : List Resource)
+    → named ≡ resources t.point.own.deferred
+    → first_unheld held named ≡ lacking t.point.own held
 unfolding lacking
-is_first_lack engine m region t active named w is names =
-    ap (λ (rs : List Resource). first_unheld ((standing engine.locks).holds region) rs)
-    (names ∙ ap (λ (own : Workspace). resources own.deferred) is.own)
-    ∙ ap (λ (held : Resource → Option Mode). first_unheld held (resources t.point.own.deferred))
-    (sym (fun_ext (w.stands.locks.held region)))
+is_first_lack held t named names = ap (λ (rs : List Resource). first_unheld held rs) names

@@ -1,6 +1,7 @@
 pub mod Places
 pub mod Ends
 pub mod Turns
+pub mod Exacts
 pub mod Steps
 pub mod Goings
 pub mod Takes
@@ -14,6 +15,7 @@ pub mod Readings
 pub mod Tells
 pub mod Seals
 pub mod Leavings
+pub mod Spared
 pub mod Logs
 pub mod Checkpoints
 pub mod Quiets

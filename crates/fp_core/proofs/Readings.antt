@@ -31,12 +31,24 @@ use Rattle.fp_core.specs.declared.engine.Engine.{Engine}
 use Rattle.fp_core.specs.declared.engine.Owed.{Owed}
 use Rattle.fp_core.specs.Relation.{IsShort, IsTakeable, StandsFor, first_place, owed_of, rules_in}
 use Rattle.fp_core.specs.Standing.{Stepped, SteppedBy}
-use Rattle.fp_core.specs.Turning.{Turned, did_with}
+use Rattle.fp_core.specs.Turning.{Turned, did_for, did_with}
 use Rattle.fp_core.proofs.Ends.{format_more, made_more, makes_nothing, map_more}
 use Rattle.fp_core.proofs.Places.{each_has}
 use Rattle.fp_core.proofs.Steps.{regions_long}
 use Rattle.fp_core.proofs.Takes.{all_put, at_work_few}
 use Rattle.fp_core.proofs.Turns.{is_device}
+
+-- ---- what is answered
+
+-- for a line it is never that there was nothing to do
+pub did_something : (rules : Rules) (m : Machine) (line : List ℕ) → ¬ (did_with rules m line ≡ did.Nothing)
+did_something rules m line =
+    by (list_any (is_among m.busy) (terminal_in (rules.terminal_of line))) (rules.request_of m.history line)
+  where
+    by : (waits : Bool) (request : Request) → ¬ ((if waits then did.Held else did_for request) ≡ did.Nothing)
+    by true request e = absurd cc
+    by false (Accepts message) e = absurd cc
+    by false (Refuses outcome) e = absurd cc
 
 -- ---- terminals
 

@@ -1,6 +1,6 @@
 -- An idle region takes a message.
 use Rattle.std.proofs.Common.{◌≤◌, ◌≡◌, refl, sym, ◌∙◌, ap, subst, arith, ℕ, zero, suc, ◌+◌, ◌-◌, ◌<◌, List, [], ◌∷◌, length, drop, map, Option, Some, None, slice_get, slice_set, unwrap_or}
-use Rattle.std.specs.Prelude.{fold, max, sum_by}
+use Rattle.std.specs.Prelude.{IfSome, fold, max, sum_by}
 use Rattle.std.specs.List.{AllByRecursion}
 use Rattle.std.specs.VecDeque.{deque_capacity}
 use Rattle.std.specs.declared.alloc.Global.{Global}
@@ -28,7 +28,7 @@ use Rattle.fp_core.specs.declared.engine.Engine.{Engine}
 use Rattle.fp_core.specs.declared.engine.Owed.{Owed}
 use Rattle.fp_core.specs.declared.engine.Region.{Region}
 use Rattle.fp_core.specs.declared.engine.Region.TheVariants as regions
-use Rattle.fp_core.specs.Relation.{IsRegion, IsTakeable, IsTransaction, StandsFor, owed_of, room_of, rules_in}
+use Rattle.fp_core.specs.Relation.{IsAhead, IsRegion, IsTakeable, IsTransaction, StandsFor, owed_of, room_of, rules_in}
 use Rattle.fp_core.specs.Turning.{IsDidOfRegion, Turned, did_take}
 use Rattle.fp_core.proofs.Places.{each_has, put_both, right_of, some_same, sum_put}
 use Rattle.fp_core.proofs.Turns.{is_device}
@@ -318,8 +318,8 @@ pub takes : (engine : Engine) (m : Machine) (place group region : ℕ) → suc p
       message = message;
       program = active.program;
       work = active.work;
-      tries =
-          active.tries;
+      tries = active.tries;
+      ahead = active.ahead;
     })
     (record { from = active.from; message = message; point = begun (rules_in engine); notes = []; tries = 0 })
     → Turned (event.Region region) m (record engine {
@@ -355,5 +355,8 @@ takes engine m place group region numbered s in_group idle message active backlo
       named = b.named;
       numbered = b.numbered;
       at = b.at;
+      ahead = subst (λ (n : ℕ). IfSome active.ahead (IsAhead engine.defs.now engine.scripts.now.scripts active.program
+          (record { from = n; message = message; point = begun (rules_in engine); notes = []; tries = 0 })))
+          (from ∙ s.count) b.ahead;
       fit = b.fit;
     }))

@@ -1,5 +1,5 @@
 -- A transaction begins again.
-use Rattle.std.proofs.Common.{◌≡◌, refl, sym, ◌∙◌, ap, subst, arith, ℕ, zero, suc, ◌-◌, ◌+◌, List, [], length, slice_set}
+use Rattle.std.proofs.Common.{◌≡◌, refl, sym, ◌∙◌, ap, subst, arith, ℕ, zero, suc, ◌-◌, ◌+◌, List, [], length, None, slice_set}
 use Rattle.ci_locks.specs.Standing.{Shows}
 use Rattle.ci_locks.specs.Table.{Row, standing}
 use Rattle.dli_calls.specs.Progress.{Progress}
@@ -28,7 +28,7 @@ module _ (defs : Defs) (scripts : List Script) (program : Program) (work : Progr
   -- the code's and the machine's at its beginning
   abbrev pub code_of : ℕ → Message → ℕ → Active
   code_of from message tries =
-      record { from = from; message = message; program = program; work = work; tries = tries }
+      record { from = from; message = message; program = program; work = work; tries = tries; ahead = None }
 
   abbrev pub begun_as : ℕ → Message → ℕ → Transaction
   begun_as from message tries =

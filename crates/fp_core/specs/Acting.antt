@@ -62,7 +62,7 @@ module _ (engine : Engine) (m : Machine) (region : ℕ) (t : Transaction) where
   abbrev pub HasActed : Acted → Type 0
   HasActed acted.Answered = Turned (event.Region region) m engine did.Answered
   HasActed (acted.Needs resource mode) = NeedsLock (record { resource = resource; mode = mode })
-  HasActed (acted.Replies reply) = IsAtEndOf (Replies reply)
+  HasActed (acted.Replies reply) = HoldsAll reply
   HasActed (acted.Rolls code) = IsAtEndOf (Rolls code)
 
   -- it asked for the lock that it needs

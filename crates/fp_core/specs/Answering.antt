@@ -1,7 +1,8 @@
 -- What one transaction comes to, as it goes on to its next call.
-use Rattle.std.specs.Prelude.{◌≡◌, ℕ, List, Option, Some, None}
+use Rattle.std.specs.Prelude.{◌≡◌, ℕ, List, Option, Some, None, option_map}
 use Rattle.fp_model.specs.declared.calls.Call.{Call}
 use Rattle.fp_model.specs.declared.calls.Mode.{Mode}
+use Rattle.fp_model.specs.declared.calls.Mode.TheVariants.{Exclusive}
 use Rattle.fp_model.specs.declared.calls.Resource.{Resource}
 use Rattle.fp_model.specs.declared.database.Db.{Db}
 use Rattle.fp_model.specs.declared.definitions.Defs.{Defs}
@@ -10,12 +11,20 @@ use Rattle.fp_model.specs.Answers.{Needed}
 use Rattle.fp_model.specs.Asking.{Ask, Asks, Replies, Rolls}
 use Rattle.fp_model.specs.Machine.{Transaction}
 use Rattle.fp_model.specs.Product.{rules_of}
+use Rattle.fp_model.specs.Rules.{Rules}
 use Rattle.fp_model.specs.Serial.{after_call}
 use Rattle.fp_model.specs.Turns.{asks, noted}
 use Rattle.fp_core.specs.declared.answering.Acted.{Acted}
 use Rattle.fp_core.specs.declared.answering.Acted.TheVariants as acted
 use Rattle.fp_core.specs.declared.engine.Active.{Active}
 use Rattle.fp_core.specs.Relation.{IsTransaction}
+
+-- the lock that is needed for what a transaction does next, where its region holds these resources
+abbrev pub lock_for : Rules → (Resource → Option Mode) → Db → Transaction → Ask → Option Needed
+lock_for rules held now t (Asks call) = rules.need now t.point.own held call
+lock_for rules held now t (Replies reply) =
+    option_map (λ resource. record { resource = resource; mode = Exclusive }) (rules.lack t.point.own held)
+lock_for rules held now t (Rolls code) = None
 
 -- A transaction, whose region holds these resources, where this is the state now, behind so many entries.
 module _ (defs : Defs) (scripts : List Script) (held : Resource → Option Mode) (now : Db) (count : ℕ) (t : Transaction)
@@ -30,20 +39,24 @@ module _ (defs : Defs) (scripts : List Script) (held : Resource → Option Mode)
       notes = noted (rules_of defs scripts) ((rules_of defs scripts).looks t.point.own call) t.notes count;
     })
 
-  -- or its call needs this lock, and it stays,
+  -- or it needs this lock, and stays,
   pub record LacksLock (needed : Needed) : Type 0 where
-    pub call : Call
-    pub asked : asks (rules_of defs scripts) t ≡ Asks call
-    pub needs : (rules_of defs scripts).need now t.point.own held call ≡ Some needed
+    pub needs : lock_for (rules_of defs scripts) held now t (asks (rules_of defs scripts) t) ≡ Some needed
     pub is : IsTransaction defs scripts active t
 
-  -- or its script is at this end, and it stays.
-  pub record HasCome (end : Ask) : Type 0 where
-    pub asked : asks (rules_of defs scripts) t ≡ end
+  -- or its script is at this reply, and it stays, and lacks no lock,
+  pub record HasReplied (reply : List ℕ) : Type 0 where
+    pub asked : asks (rules_of defs scripts) t ≡ Replies reply
+    pub lacks_none : (rules_of defs scripts).lack t.point.own held ≡ None
+    pub is : IsTransaction defs scripts active t
+
+  -- or at this rollback code, and it stays.
+  pub record HasRolled (code : ℕ) : Type 0 where
+    pub asked : asks (rules_of defs scripts) t ≡ Rolls code
     pub is : IsTransaction defs scripts active t
 
   abbrev pub IsActed : Acted → Type 0
   IsActed acted.Answered = WasAnswered
   IsActed (acted.Needs resource mode) = LacksLock (record { resource = resource; mode = mode })
-  IsActed (acted.Replies reply) = HasCome (Replies reply)
-  IsActed (acted.Rolls code) = HasCome (Rolls code)
+  IsActed (acted.Replies reply) = HasReplied reply
+  IsActed (acted.Rolls code) = HasRolled code

@@ -3,6 +3,7 @@ pub mod Turning
 pub mod Acting
 pub mod Ending
 pub mod Standing
+pub mod Sparing
 pub mod Draining
 pub mod Rounding
 pub mod Answering

@@ -7,13 +7,14 @@ use Rattle.ci_locks.specs.Standing.{Shows}
 use Rattle.ci_locks.specs.Table.{standing}
 use Rattle.dli_calls.specs.Progress.{IsWorkOf}
 use Rattle.drain_laws.specs.Measure.{active_in}
+use Rattle.fp_model.specs.declared.calls.Call.{Call}
 use Rattle.fp_model.specs.declared.calls.Message.{Message}
 use Rattle.fp_model.specs.declared.database.Db.{Db}
 use Rattle.fp_model.specs.declared.definitions.Defs.{Defs}
 use Rattle.fp_model.specs.declared.log.Entry.{Entry}
 use Rattle.fp_model.specs.declared.scripts.Script.{Script}
-use Rattle.fp_model.specs.Asking.{full_cost, script_of}
-use Rattle.fp_model.specs.FitCalls.{are_fit}
+use Rattle.fp_model.specs.Asking.{Asks, Replies, Rolls, full_cost, script_of}
+use Rattle.fp_model.specs.FitCalls.{IsMsdbCall, are_fit}
 use Rattle.fp_model.specs.Groups.{entries_of}
 use Rattle.fp_model.specs.History.{states_of, place_of}
 use Rattle.fp_model.specs.Items.{IsFit as IsFitItem, with_items}
@@ -22,11 +23,16 @@ use Rattle.fp_model.specs.Machine as machine
 use Rattle.fp_model.specs.Machine.{Transaction, Machine}
 use Rattle.fp_model.specs.Product.{rules_of, groups_defined}
 use Rattle.fp_model.specs.Rules.{Rules}
+use Rattle.fp_model.specs.Settle.{resources}
+use Rattle.fp_model.specs.Turns.{asks}
 use Rattle.fp_model.specs.WellFormed.{AreDefs}
 use Rattle.msdb_store.specs.Store.{IsOf}
 use Rattle.sync_point.specs.Refusals.{refusal_room}
-use Rattle.txn_machine.specs.Running.{IsAt, IsFit}
+use Rattle.txn_machine.specs.Running.{IsAt, IsFit, WaitsFor}
+use Rattle.txn_machine.specs.declared.program.Program.{Program}
 use Rattle.fp_core.specs.declared.engine.Active.{Active}
+use Rattle.fp_core.specs.declared.engine.Ahead.{Ahead}
+use Rattle.fp_core.specs.declared.engine.Ahead.TheVariants as ahead
 use Rattle.fp_core.specs.declared.engine.Engine.{Engine}
 use Rattle.fp_core.specs.declared.engine.Owed.{Owed}
 use Rattle.fp_core.specs.declared.engine.Region.{Region}
@@ -51,6 +57,20 @@ rules_in engine = rules_of engine.defs.now engine.scripts.now.scripts
 abbrev pub IsShort : List ℕ → Type 0
 IsShort line = length line ≤ 2100
 
+-- The call that it does next: the program waits for its answer.
+pub record IsCallAhead (defs : Defs) (scripts : List Script) (program : Program) (t : Transaction) (call : Call)
+    : Type 0 where
+  pub asked : asks (rules_of defs scripts) t ≡ Asks call
+  pub waits : WaitsFor call program
+  pub fits : IsMsdbCall defs.msdbs call
+
+-- what it does next is what its script asks
+abbrev pub IsAhead : Defs → List Script → Program → Transaction → Ahead → Type 0
+IsAhead defs scripts program t (ahead.Call call) = IsCallAhead defs scripts program t call
+IsAhead defs scripts program t (ahead.Reply text segments) =
+    (asks (rules_of defs scripts) t ≡ Replies text) × (segments ≡ resources t.point.own.deferred)
+IsAhead defs scripts program t (ahead.Roll code) = asks (rules_of defs scripts) t ≡ Rolls code
+
 -- The transaction of the code is that of the machine.
 pub record IsTransaction (defs : Defs) (scripts : List Script) (active : Active) (t : Transaction) : Type 0 where
   pub from : active.from ≡ t.from
@@ -69,6 +89,8 @@ pub record IsTransaction (defs : Defs) (scripts : List Script) (active : Active)
   pub numbered : slice_get scripts active.program.number ≡ Some script
   pub at : IsAt defs script.statements t.message t.point.answers active.program
   pub fit : IsFit defs.msdbs active.program
+  -- what was worked out is what it does next
+  pub ahead : IfSome active.ahead (IsAhead defs scripts active.program t)
 
 abbrev pub IsRegion : Defs → List Script → Region → machine.Region → Type 0
 IsRegion defs scripts region.Idle machine.Idle = ⊤

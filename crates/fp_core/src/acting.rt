@@ -1,8 +1,7 @@
 //! The turn of an active region: one thing done.
-ghost use Rattle.fp_core.specs.Acting.{IsAtEndOf, IsAtWork, MayEnd, NeedsLock};
+ghost use Rattle.fp_core.specs.Acting.{IsAtWork, MayEnd, NeedsLock};
 ghost use Rattle.fp_core.specs.Relation.{StandsFor, rules_in};
 ghost use Rattle.fp_core.specs.Turning.{Turned};
-ghost use Rattle.fp_model.specs.Asking.{Replies};
 ghost use Rattle.fp_model.specs.Machine.{Machine, Transaction};
 ghost use Rattle.fp_core.specs.declared.engine.Region.TheVariants as regions;
 ghost use Rattle.fp_model.specs.declared.events.Event.TheVariants as events;
@@ -12,7 +11,7 @@ use crate::answering::Acted;
 use crate::did::Did;
 use crate::engine::{Engine, Region};
 use crate::locking::Asked;
-use fp_model::{Bytes, Mode, Resource};
+use fp_model::{Mode, Resource};
 use std::alloc::AllocError;
 
 impl Engine<'_> {
@@ -43,29 +42,6 @@ impl Engine<'_> {
         }
     }
 
-    // Its script is at its end with a reply: the locks of the sync point one by one, and then the sync point.
-    fn finish(&mut self, region: u8, reply: Bytes) -> Result<Did, AllocError>
-        requires some { 1 ≤ region }
-        requires within { region ≤ length self.old.regions }
-        requires at_end { (m : Machine) × ((t : Transaction) × IsAtEndOf self.old m region t (Replies reply)) }
-        ensures turned { (m : Machine) (t : Transaction) → IsAtEndOf self.old m region t (Replies reply)
-            → IfOk result (Turned (events.Region region) m self.new) }
-        ensures err { (m : Machine) (t : Transaction) → IsAtEndOf self.old m region t (Replies reply)
-            → OnErr result (MayEnd self.new m region t) }
-
-        // What stays.
-        ensures rules { rules_in self.new ≡ rules_in self.old }
-        ensures defs { self.new.defs ≡ self.old.defs }
-        ensures scripts { self.new.scripts ≡ self.old.scripts }
-        ensures gate { self.new.log.gate ≡ self.old.log.gate }
-        ensures count { length self.new.regions ≡ length self.old.regions }
-    {
-        match self.first_lack(region)? {
-            Some(resource) => self.lock(region, &resource, Mode::Exclusive),
-            None => self.commit(region, reply),
-        }
-    }
-
     // It does one thing. Want of memory may have dropped its request.
     fn try_act(&mut self, region: u8) -> Result<Did, AllocError>
         requires some { 1 ≤ region }
@@ -86,7 +62,7 @@ impl Engine<'_> {
         match self.go_on(region)? {
             Acted::Answered => Ok(Did::Answered),
             Acted::Needs(resource, mode) => self.lock(region, &resource, mode),
-            Acted::Replies(reply) => self.finish(region, reply),
+            Acted::Replies(reply) => self.commit(region, reply),
             Acted::Rolls(code) => self.roll(region, code),
         }
     }

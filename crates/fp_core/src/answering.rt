@@ -2,18 +2,20 @@
 ghost use Rattle.ci_locks.specs.Table.{standing};
 ghost use Rattle.fp_core.specs.Acting.{HasActed, IsAtWork, MayEnd};
 ghost use Rattle.fp_core.specs.Answering.{IsActed};
-ghost use Rattle.fp_core.specs.Relation.{IsSetup, IsTransaction, rules_in};
+ghost use Rattle.fp_core.specs.Relation.{IsAhead, IsSetup, IsTransaction, rules_in};
 ghost use Rattle.fp_model.specs.Machine.{Machine, Transaction};
 ghost use Rattle.fp_model.specs.declared.database.Db.{Db};
 ghost use Rattle.msdb_store.specs.Store.{IsOf};
-ghost use Rattle.std.specs.Prelude.{◌≡◌, ◌≤◌, IfOk, OnErr, length};
+ghost use Rattle.std.specs.Prelude.{◌≡◌, ◌≤◌, IfOk, None, OnErr, length};
 
-use crate::engine::{Active, Engine, Region};
+use crate::engine::{Active, Ahead, Engine, Region};
+use crate::locking::{copy_of, first_unheld};
 use ci_locks::Locks;
 use dli_calls::{Ready, answer};
 use fp_model::{Bytes, Defs, Mode, Resource};
 use msdb_store::MsdbStore;
 use std::alloc::{AllocError, Global};
+use sync_point::resources;
 use txn_lang::Scripts;
 use txn_machine::Next;
 
@@ -22,15 +24,66 @@ use txn_machine::Next;
 pub(crate) enum Acted {
     /// Its call was answered.
     Answered,
-    /// Its call needs this lock first.
+    /// Its call, or its sync point, needs this lock first.
     Needs(Resource, Mode),
-    /// Its script is at its end, with this reply.
+    /// Its script is at its end with this reply, and the region holds what the sync point needs.
     Replies(Bytes),
     /// Its script is at its end, with this rollback code.
     Rolls(u16),
 }
 
-// Runs one transaction to its next call, and answers it where it needs no lock.
+// Runs a transaction to what it does next.
+fn work_out(
+    active: &mut Active,
+    alloc: Global,
+    defs: &Defs,
+    scripts: &Scripts,
+) -> Result<Ahead, AllocError>
+    requires setup { IsSetup defs.now scripts.now.scripts }
+    requires under { (t : Transaction) × IsTransaction defs.now scripts.now.scripts active.old t }
+    requires unknown { active.old.ahead ≡ None }
+    ensures is { (t : Transaction) → IsTransaction defs.now scripts.now.scripts active.old t
+        → IfOk result (IsAhead defs.now scripts.now.scripts active.new.program t) }
+
+    // It stays the machine's transaction.
+    ensures same { (t : Transaction) → IsTransaction defs.now scripts.now.scripts active.old t
+        → IsTransaction defs.now scripts.now.scripts active.new t }
+    ensures taken { active.new.ahead ≡ None }
+{
+    match active.program.next(scripts, defs, &active.message)? {
+        Next::Call(call) => Ok(Ahead::Call(call)),
+        Next::Reply(text) => {
+            let segments = resources(alloc, active.work.deferred())?;
+            Ok(Ahead::Reply { text, segments })
+        }
+        Next::Roll(code) => Ok(Ahead::Roll(code)),
+    }
+}
+
+// Takes what a transaction does next: it was worked out before, or is now.
+fn look_ahead(
+    active: &mut Active,
+    alloc: Global,
+    defs: &Defs,
+    scripts: &Scripts,
+) -> Result<Ahead, AllocError>
+    requires setup { IsSetup defs.now scripts.now.scripts }
+    requires under { (t : Transaction) × IsTransaction defs.now scripts.now.scripts active.old t }
+    ensures is { (t : Transaction) → IsTransaction defs.now scripts.now.scripts active.old t
+        → IfOk result (IsAhead defs.now scripts.now.scripts active.new.program t) }
+
+    // It stays the machine's transaction.
+    ensures same { (t : Transaction) → IsTransaction defs.now scripts.now.scripts active.old t
+        → IsTransaction defs.now scripts.now.scripts active.new t }
+    ensures taken { active.new.ahead ≡ None }
+{
+    match active.ahead.take() {
+        Some(ahead) => Ok(ahead),
+        Option::None => work_out(active, alloc, defs, scripts),
+    }
+}
+
+// Runs one transaction to its next call, and answers it where it needs no lock. What needs one is kept.
 fn go_on(
     active: &mut Active,
     alloc: Global,
@@ -53,8 +106,9 @@ fn go_on(
     ensures err { (t : Transaction) → IsTransaction defs.now scripts.now.scripts active.old t
         → OnErr result (IsTransaction defs.now scripts.now.scripts active.new t) }
 {
-    match active.program.next(scripts, defs, &active.message)? {
-        Next::Call(call) => {
+    let ahead = look_ahead(active, alloc, defs, scripts)?;
+    match ahead {
+        Ahead::Call(call) => {
             match answer(
                 alloc,
                 &mut active.work,
@@ -69,11 +123,23 @@ fn go_on(
                     active.program.give(given);
                     Ok(Acted::Answered)
                 }
-                Ready::Need(resource, mode) => Ok(Acted::Needs(resource, mode)),
+                Ready::Need(resource, mode) => {
+                    active.ahead = Some(Ahead::Call(call));
+                    Ok(Acted::Needs(resource, mode))
+                }
             }
         }
-        Next::Reply(reply) => Ok(Acted::Replies(reply)),
-        Next::Roll(code) => Ok(Acted::Rolls(code)),
+        Ahead::Reply { text, segments } => {
+            match first_unheld(locks, region, segments.as_slice()) {
+                Some(resource) => {
+                    let lack = copy_of(resource)?;
+                    active.ahead = Some(Ahead::Reply { text, segments });
+                    Ok(Acted::Needs(lack, Mode::Exclusive))
+                }
+                Option::None => Ok(Acted::Replies(text)),
+            }
+        }
+        Ahead::Roll(code) => Ok(Acted::Rolls(code)),
     }
 }
 

@@ -3,15 +3,16 @@ ghost use Rattle.drain_laws.specs.ProductGauge.{weight_of_line};
 ghost use Rattle.fp_core.specs.Draining.{DrainStopped, Drained, IsLeftByDrain, IsReachedBy};
 ghost use Rattle.fp_core.specs.Relation.{StandsFor, rules_in};
 ghost use Rattle.fp_core.specs.Rounding.{Began, BeganBy, IsQuiet, StoppedAmong, TookTurns, Went, WentBeside, is_at_rest, turns_of, work_ahead};
+ghost use Rattle.fp_core.specs.Sparing.{IsLogSet, Spares};
 ghost use Rattle.fp_core.specs.Standing.{IsCausedBySite, IsCausedBySource, IsContinued, MayStop, Origin, StandsBeside, number_of};
 ghost use Rattle.fp_model.specs.Machine.{Machine};
 ghost use Rattle.fp_model.specs.declared.events.Event.TheVariants as events;
 ghost use Rattle.fp_site.specs.Moments.{Through};
 ghost use Rattle.fp_site.specs.Site.{ReadsNothing};
-ghost use Rattle.fp_source.specs.Lines.{fault_ahead, lines_ahead, lines_given};
+ghost use Rattle.fp_source.specs.Lines.{fault_ahead, lines_ahead, lines_given, to_come};
 ghost use Rattle.fp_source.specs.Source.{ReadsOnly};
 ghost use Rattle.std.specs.List.{list_all};
-ghost use Rattle.std.specs.Prelude.{◌≡◌, ◌+◌, ◌<◌, ◌↔◌, ℕ, IfErr, IfOk, IsErrOf, IsTrue, List as ListOf, OnErr, OnOk, Some, length, option_map};
+ghost use Rattle.std.specs.Prelude.{◌≡◌, ◌+◌, ◌<◌, ◌↔◌, ℕ, IfErr, IfOk, IsErrOf, IsTrue, [], false, List as ListOf, OnErr, OnOk, Some, length, option_map};
 
 use crate::did::Did;
 use crate::engine::{Engine, Region};
@@ -90,6 +91,8 @@ impl<'a> Core<'a> {
             → m.lines ≡ lines_ahead self.old.lines (S.left source.old Part.Messages)
             → IfOk result (BeganBy m self.old.lines self.new.lines
             (S.left source.new Part.Messages) self.new.engine) }
+        ensures ended { S.told source.old → IfOk result (λ more. more ≡ false
+            → to_come self.new.lines (S.left source.new Part.Messages) ≡ []) }
         ensures fair { S.told source.old → OnOk result (fault_ahead self.new.lines (S.left source.new Part.Messages)
             ≡ fault_ahead self.old.lines (S.left source.old Part.Messages)) }
 
@@ -127,18 +130,20 @@ impl<'a> Core<'a> {
             → StandsBeside origin (T.disk site.old) self.old.lines (S.left source.old Part.Messages) self.old.engine m
             → IfOk result (WentBeside origin (rules_in self.old.engine) m (T.disk site.old) (T.disk site.new)
             self.old.lines self.new.lines (S.left source.new Part.Messages) self.new.engine) }
+        ensures ended { S.told source.old → IfOk result (λ more. more ≡ false
+            → to_come self.new.lines (S.left source.new Part.Messages) ≡ []) }
         ensures fair { S.told source.old → OnOk result (fault_ahead self.new.lines (S.left source.new Part.Messages)
             ≡ fault_ahead self.old.lines (S.left source.old Part.Messages)) }
 
         // When it stops, and what a crash leaves at every moment.
         ensures stopped { (origin : Origin) (m : Machine) → T.told site.old → S.told source.old
             → StandsBeside origin (T.disk site.old) self.old.lines (S.left source.old Part.Messages) self.old.engine m
-            → IfErr result (DrainStopped origin (rules_in self.old.engine) m self.old.lines
-            (T.disk site.old) (T.disk site.new)) }
+            → IfErr result (DrainStopped origin self.old.engine.defs.now (rules_in self.old.engine) m
+            self.old.lines (T.disk site.old) (T.disk site.new)) }
         ensures moments { (origin : Origin) (m : Machine) → T.told site.old → S.told source.old
             → StandsBeside origin (T.disk site.old) self.old.lines (S.left source.old Part.Messages) self.old.engine m
             → Through (T.disk site.old) (T.disk site.new)
-            (IsLeftByDrain origin (rules_in self.old.engine) m (T.disk site.old)) }
+            (IsLeftByDrain origin self.old.engine.defs.now (rules_in self.old.engine) m (T.disk site.old)) }
         ensures site_cause { IfErr result (IsCausedBySite (T.faults site.old) (T.faults site.new)) }
         ensures source_cause { IfErr result (IsCausedBySource (S.faults source.old) (S.faults source.new)) }
         ensures site_calm { OnOk result (T.faults site.new ≡ T.faults site.old) }
@@ -153,6 +158,7 @@ impl<'a> Core<'a> {
         ensures router { self.new.router ≡ self.old.router }
         ensures reads { ReadsNothing (T.tells_reads site.old) (T.tells_reads site.new)
             (T.bytes_read site.old) (T.bytes_read site.new) }
+        ensures spares { T.told site.old → Spares IsLogSet (T.disk site.old) (T.disk site.new) }
         ensures site { IsContinued T.told T.faults T.holds T.keeps site.old site.new }
         ensures source { ReadsOnly S.told S.left S.faults S.holds S.keeps Part.Messages source.old source.new }
     {
@@ -184,25 +190,28 @@ impl<'a> Core<'a> {
         requires reached { (m : Machine) × IsReachedBy self.old.engine m }
         requires routed { self.old.router.now.kind ≡ self.old.engine.defs.now.router }
 
-        // It ends, with a machine that is drained.
+        // It ends, with a machine that is drained. The messages were read to their end.
         ensures reached { OnOk result ((m : Machine) × IsReachedBy self.new.engine m) }
         ensures drained { (origin : Origin) (m : Machine) → T.told site.old → S.told source.old
             → StandsBeside origin (T.disk site.old) self.old.lines (S.left source.old Part.Messages) self.old.engine m
             → IsReachedBy self.old.engine m
-            → OnOk result (Drained origin m (T.disk site.new) self.new.lines
+            → OnOk result (Drained origin m (T.disk site.old) (T.disk site.new) self.new.lines
             (S.left source.new Part.Messages) self.new.engine) }
+
+        ensures read { S.told source.old → OnOk result
+            (to_come self.new.lines (S.left source.new Part.Messages) ≡ []) }
 
         // When it stops, and what a crash leaves at every moment.
         ensures stopped { (origin : Origin) (m : Machine) → T.told site.old → S.told source.old
             → StandsBeside origin (T.disk site.old) self.old.lines (S.left source.old Part.Messages) self.old.engine m
             → IsReachedBy self.old.engine m
-            → IfErr result (DrainStopped origin (rules_in self.old.engine) m self.old.lines
-            (T.disk site.old) (T.disk site.new)) }
+            → IfErr result (DrainStopped origin self.old.engine.defs.now (rules_in self.old.engine) m
+            self.old.lines (T.disk site.old) (T.disk site.new)) }
         ensures moments { (origin : Origin) (m : Machine) → T.told site.old → S.told source.old
             → StandsBeside origin (T.disk site.old) self.old.lines (S.left source.old Part.Messages) self.old.engine m
             → IsReachedBy self.old.engine m
             → Through (T.disk site.old) (T.disk site.new)
-            (IsLeftByDrain origin (rules_in self.old.engine) m (T.disk site.old)) }
+            (IsLeftByDrain origin self.old.engine.defs.now (rules_in self.old.engine) m (T.disk site.old)) }
         ensures fair { S.told source.old → OnOk result (fault_ahead self.new.lines (S.left source.new Part.Messages)
             ≡ fault_ahead self.old.lines (S.left source.old Part.Messages)) }
         ensures site_cause { IfErr result (IsCausedBySite (T.faults site.old) (T.faults site.new)) }
@@ -219,6 +228,7 @@ impl<'a> Core<'a> {
         ensures routed { self.new.router.now.kind ≡ self.new.engine.defs.now.router }
         ensures reads { ReadsNothing (T.tells_reads site.old) (T.tells_reads site.new)
             (T.bytes_read site.old) (T.bytes_read site.new) }
+        ensures spares { T.told site.old → Spares IsLogSet (T.disk site.old) (T.disk site.new) }
         ensures site { IsContinued T.told T.faults T.holds T.keeps site.old site.new }
         ensures source { ReadsOnly S.told S.left S.faults S.holds S.keeps Part.Messages source.old source.new }
     {

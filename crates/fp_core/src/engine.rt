@@ -13,13 +13,27 @@ use balancing::Queues;
 use ci_locks::Locks;
 use dli_calls::Work;
 use fp_defs::group_count;
-use fp_model::{Bytes, Defs, List, Message, Outcome};
+use fp_model::{Bytes, Call, Defs, List, Message, Outcome, Resource};
 use log_groups::Log;
 use msdb_store::MsdbStore;
 use std::alloc::{AllocError, Global};
 use std::collections::VecDeque;
 use txn_lang::Scripts;
 use txn_machine::Program;
+
+/// What a transaction does next.
+#[derive(Drop)]
+pub(crate) enum Ahead {
+    /// A call, which is to be answered.
+    Call(Call),
+    /// The end of its script, with this reply: the sync point needs these segments.
+    Reply {
+        text: Bytes,
+        segments: List<Resource>,
+    },
+    /// The end of its script, with this rollback code.
+    Roll(u16),
+}
 
 /// A transaction under way.
 #[derive(Drop)]
@@ -31,6 +45,8 @@ pub(crate) struct Active {
     pub(crate) work: Work,
     /// How often it was begun again.
     pub(crate) tries: u32,
+    /// What it does next, once that is worked out: it is kept while the region waits for a lock.
+    pub(crate) ahead: Option<Ahead>,
 }
 
 #[derive(Drop)]

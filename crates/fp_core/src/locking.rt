@@ -4,7 +4,6 @@ ghost use Rattle.fp_core.specs.Acting.{HasAsked, IsAtWork, MayEnd, NeedsLock};
 ghost use Rattle.fp_core.specs.Relation.{rules_in};
 ghost use Rattle.fp_model.specs.Answers.{serves};
 ghost use Rattle.fp_model.specs.Machine.{Machine, Transaction};
-ghost use Rattle.fp_model.specs.Turns.{holds};
 ghost use Rattle.fp_model.specs.declared.calls.Mode.TheVariants.{Exclusive};
 ghost use Rattle.std.specs.Option.{option_copied};
 ghost use Rattle.std.specs.Prelude.{◌≡◌, ◌≤◌, IfOk, OnErr, find, length, not};
@@ -13,7 +12,6 @@ use crate::engine::Engine;
 use ci_locks::{Grant, Locks};
 use fp_model::{Bytes, Mode, Resource};
 use std::alloc::AllocError;
-use sync_point::resources;
 
 /// What became of a request.
 #[derive(Drop)]
@@ -26,8 +24,8 @@ pub(crate) enum Asked {
     Closes(Bytes),
 }
 
-// A copy of a resource.
-fn copy_of(resource: &Resource) -> Result<Resource, AllocError>
+/// A copy of a resource.
+pub(crate) fn copy_of(resource: &Resource) -> Result<Resource, AllocError>
     ensures { IfOk result (λ copy. copy ≡ resource.now) }
 {
     match resource {
@@ -51,8 +49,12 @@ fn is_held(locks: &Locks, region: u8, resource: &Resource) -> bool
     locks.holds(region, resource) == Some(Mode::Exclusive)
 }
 
-// The first of these that a region doesn't hold Exclusive.
-fn first_unheld<'a>(locks: &Locks, region: u8, named: &'a [Resource]) -> Option<&'a Resource>
+/// The first of these that a region doesn't hold Exclusive.
+pub(crate) fn first_unheld<'a>(
+    locks: &Locks,
+    region: u8,
+    named: &'a [Resource],
+) -> Option<&'a Resource>
     requires some { 1 ≤ region }
     requires within { region ≤ length locks.now }
     ensures { option_copied result
@@ -95,24 +97,6 @@ impl Engine<'_> {
             Grant::Held => Ok(Asked::Gained),
             Grant::Wait(_) => Ok(Asked::Waits),
             Grant::Cycle(cycle) => Ok(Asked::Closes(cycle)),
-        }
-    }
-
-    /// The first segment that the sync point needs Exclusive and the region doesn't hold so.
-    pub(crate) fn first_lack(&self, region: u8) -> Result<Option<Resource>, AllocError>
-        requires some { 1 ≤ region }
-        requires within { region ≤ length self.now.regions }
-        requires under { (m : Machine) × ((t : Transaction) × IsAtWork self.now m region t) }
-        ensures { (m : Machine) (t : Transaction) → IsAtWork self.now m region t
-            → IfOk result (λ found. found ≡ (rules_in self.now).lack t.point.own (holds (rules_in self.now) m region)) }
-    {
-        let named = resources(self.alloc, self.active_in(region).work.deferred())?;
-        match first_unheld(&self.locks, region, named.as_slice()) {
-            Some(resource) => {
-                let lack = copy_of(resource)?;
-                Ok(Some(lack))
-            }
-            None => Ok(None),
         }
     }
 }

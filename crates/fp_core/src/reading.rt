@@ -12,10 +12,10 @@ ghost use Rattle.fp_model.specs.Messages.{terminal_of};
 ghost use Rattle.fp_model.specs.Product.{request_of};
 ghost use Rattle.fp_model.specs.declared.events.Event.TheVariants as events;
 ghost use Rattle.fp_model.specs.declared.log.Outcome.TheVariants as outcomes;
-ghost use Rattle.fp_source.specs.Lines.{fault_ahead, lines_ahead, lines_given};
+ghost use Rattle.fp_source.specs.Lines.{fault_ahead, lines_ahead, lines_given, to_come};
 ghost use Rattle.fp_source.specs.Source.{ReadsOnly};
 ghost use Rattle.std.specs.List.{list_any};
-ghost use Rattle.std.specs.Prelude.{◌≡◌, ◌+◌, ◌++◌, ℕ, IfErr, IfNone, IfOk, IfSome, IsErrOf, IsSome, List as ListOf, None, OnErr, OnOk, Some, false, length, option_map};
+ghost use Rattle.std.specs.Prelude.{◌≡◌, ◌+◌, ◌++◌, ℕ, [], IfErr, IfNone, IfOk, IfSome, IsErrOf, IsSome, List as ListOf, None, OnErr, OnOk, Some, false, length, option_map};
 
 use crate::did::Did;
 use crate::ending::append_owed;
@@ -184,6 +184,8 @@ impl<'a> Core<'a> {
             → m.lines ≡ lines_ahead self.old.lines (S.left source.old Part.Messages)
             → IfOk result (SteppedBy events.In m self.old.lines self.new.lines
             (S.left source.new Part.Messages) self.new.engine) }
+        ensures ended { S.told source.old → IfOk result (λ did. did ≡ Did.Nothing
+            → to_come self.new.lines (S.left source.new Part.Messages) ≡ []) }
         ensures fair { S.told source.old → OnOk result (fault_ahead self.new.lines (S.left source.new Part.Messages)
             ≡ fault_ahead self.old.lines (S.left source.old Part.Messages)) }
 
@@ -224,6 +226,8 @@ impl<'a> Core<'a> {
             → m.lines ≡ lines_ahead self.old.lines (S.left source.old Part.Messages)
             → IfOk result (SteppedBy events.In m self.old.lines self.new.lines
             (S.left source.new Part.Messages) self.new.engine) }
+        ensures ended { S.told source.old → IfOk result (λ did. did ≡ Did.Nothing
+            → to_come self.new.lines (S.left source.new Part.Messages) ≡ []) }
         ensures fair { S.told source.old → OnOk result (fault_ahead self.new.lines (S.left source.new Part.Messages)
             ≡ fault_ahead self.old.lines (S.left source.old Part.Messages)) }
 

@@ -9,7 +9,7 @@ ghost use Rattle.fp_model.specs.Machine.{Machine, Transaction, ended_with};
 ghost use Rattle.fp_model.specs.Turns.{refused_with, tried_again};
 ghost use Rattle.fp_model.specs.declared.events.Event.TheVariants as events;
 ghost use Rattle.fp_model.specs.declared.log.Outcome.TheVariants.{Deadlock};
-ghost use Rattle.std.specs.Prelude.{◌≡◌, ◌≤◌, ◌<◌, ◌+◌, ◌^◌, [], IfOk, OnErr, OnOk, length};
+ghost use Rattle.std.specs.Prelude.{◌≡◌, ◌≤◌, ◌<◌, ◌+◌, ◌^◌, [], IfOk, None, OnErr, OnOk, length};
 ghost use Rattle.sync_point.specs.Refusals.{IsBare, bare_entry};
 
 use crate::did::Did;
@@ -33,6 +33,7 @@ fn bare_entry(alloc: Global, active: Active, outcome: Outcome) -> Entry
         program: _,
         work: _,
         tries: _,
+        ahead: _,
     } = active;
     let Message {
         lterm: _,
@@ -111,12 +112,14 @@ fn begin_again(active: &mut Active, from: u64, program: Program, work: Work)
       program = program;
       work = work;
       tries = active.old.tries + 1;
+      ahead = None;
     } }
 {
     active.from = from;
     active.program = program;
     active.work = work;
     active.tries += 1;
+    active.ahead = Option::None;
 }
 
 impl Engine<'_> {

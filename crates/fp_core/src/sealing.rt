@@ -1,6 +1,7 @@
 //! LOG and CKPT: entries are sealed, their reply lines sent, and their terminals freed.
 ghost use Rattle.fp_core.specs.Relation.{StandsFor, rules_in};
 ghost use Rattle.fp_core.specs.Sealing.{AreFreed, IsOfLog, replies_of, reply_of, terminals_of};
+ghost use Rattle.fp_core.specs.Sparing.{IsLogSet, Spares};
 ghost use Rattle.fp_core.specs.Standing.{IsCausedBySite, IsContinued, Leaves, MayStop, Origin, StandsAt, SteppedAt, seals_of};
 ghost use Rattle.fp_core.specs.Turning.{Turned};
 ghost use Rattle.fp_model.specs.Machine.{Machine, sealed_all, terminal_in};
@@ -140,6 +141,7 @@ impl Engine<'_> {
         ensures count { length self.new.regions ≡ length self.old.regions }
         ensures reads { ReadsNothing (T.tells_reads site.old) (T.tells_reads site.new)
             (T.bytes_read site.old) (T.bytes_read site.new) }
+        ensures spares { T.told site.old → Spares IsLogSet (T.disk site.old) (T.disk site.new) }
         ensures site { IsContinued T.told T.faults T.holds T.keeps site.old site.new }
     {
         if self.owed.is_empty() {
@@ -177,6 +179,7 @@ impl Engine<'_> {
         ensures count { length self.new.regions ≡ length self.old.regions }
         ensures reads { ReadsNothing (T.tells_reads site.old) (T.tells_reads site.new)
             (T.bytes_read site.old) (T.bytes_read site.new) }
+        ensures spares { T.told site.old → Spares IsLogSet (T.disk site.old) (T.disk site.new) }
         ensures site { IsContinued T.told T.faults T.holds T.keeps site.old site.new }
     {
         while !self.owed.is_empty() {
@@ -211,6 +214,7 @@ impl Engine<'_> {
         ensures count { length self.new.regions ≡ length self.old.regions }
         ensures reads { ReadsNothing (T.tells_reads site.old) (T.tells_reads site.new)
             (T.bytes_read site.old) (T.bytes_read site.new) }
+        ensures spares { T.told site.old → Spares IsLogSet (T.disk site.old) (T.disk site.new) }
         ensures site { IsContinued T.told T.faults T.holds T.keeps site.old site.new }
     {
         let Ok(count) = u32::try_from(self.owed.len()) else {

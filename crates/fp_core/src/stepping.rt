@@ -1,5 +1,6 @@
 //! The core: one event of a schedule at a time.
 ghost use Rattle.fp_core.specs.Relation.{IsSetup, StandsFor, rules_in};
+ghost use Rattle.fp_core.specs.Sparing.{IsLogSet, IsSealing, Spares};
 ghost use Rattle.fp_core.specs.Standing.{IsCausedBySite, IsCausedBySource, IsContinued, IsEventOf, Leaves, MayStop, Origin, StandsAt, StandsBeside, Stepped, SteppedBeside, number_of, seals_of};
 ghost use Rattle.fp_core.specs.declared.engine.Region.TheVariants as regions;
 ghost use Rattle.fp_exits.specs.Kinds.{has_kind, kinds_of};
@@ -143,6 +144,8 @@ impl<'a> Core<'a> {
         ensures routed { self.new.router.now.kind ≡ self.new.engine.defs.now.router }
         ensures reads { ReadsNothing (T.tells_reads site.old) (T.tells_reads site.new)
             (T.bytes_read site.old) (T.bytes_read site.new) }
+        ensures spares { T.told site.old → Spares IsLogSet (T.disk site.old) (T.disk site.new) }
+        ensures untouched { ¬ IsSealing event.now → site.new ≡ site.old }
         ensures site { IsContinued T.told T.faults T.holds T.keeps site.old site.new }
         ensures source { ReadsOnly S.told S.left S.faults S.holds S.keeps Part.Messages source.old source.new }
     {

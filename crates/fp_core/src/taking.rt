@@ -8,7 +8,7 @@ ghost use Rattle.fp_model.specs.Product.{rules_of};
 ghost use Rattle.fp_model.specs.Serial.{begun};
 ghost use Rattle.fp_model.specs.declared.events.Event.TheVariants as events;
 ghost use Rattle.fp_model.specs.declared.scripts.Script.{Script};
-ghost use Rattle.std.specs.Prelude.{◌≡◌, ◌≤◌, ◌-◌, ◌+◌, ℕ, [], IfOk, OnErr, OnOk, Some, length, slice_get};
+ghost use Rattle.std.specs.Prelude.{◌≡◌, ◌≤◌, ◌-◌, ◌+◌, ℕ, [], IfOk, None, OnErr, OnOk, Some, length, slice_get};
 ghost use Rattle.std.specs.VecDeque.{deque_capacity};
 ghost use Rattle.sync_point.specs.Refusals.{refusal_room};
 
@@ -30,7 +30,7 @@ fn room_with(room: u64, line: &Bytes) -> Result<u64, AllocError>
 {
     match room.checked_add(refusal_room(line)) {
         Some(sum) => Ok(sum),
-        None => Err(AllocError),
+        Option::None => Err(AllocError),
     }
 }
 
@@ -45,7 +45,14 @@ pub(crate) fn start(
     requires named { (script : Script) × (script_of scripts.now.scripts message.now.tran ≡ Some script) }
     requires short { IsShort message.now.line }
     ensures { (from tries : ℕ) → IfOk result (λ made. IsTransaction defs.now scripts.now.scripts
-        (record { from = from; message = message.now; program = made.0; work = made.1; tries = tries })
+        (record {
+          from = from;
+          message = message.now;
+          program = made.0;
+          work = made.1;
+          tries = tries;
+          ahead = None;
+        })
         (record {
           from = from;
           message = message.now;
@@ -74,7 +81,14 @@ fn begin(
     requires named { (script : Script) × (script_of scripts.now.scripts message.now.tran ≡ Some script) }
     requires short { IsShort message.now.line }
     ensures is { (from : ℕ) → IfOk result (λ made. IsTransaction defs.now scripts.now.scripts
-        (record { from = from; message = message.now; program = made.0; work = made.1; tries = 0 })
+        (record {
+          from = from;
+          message = message.now;
+          program = made.0;
+          work = made.1;
+          tries = 0;
+          ahead = None;
+        })
         (record {
           from = from;
           message = message.now;
@@ -142,7 +156,7 @@ impl Engine<'_> {
         let group = self.group_of(region);
         let from = self.log.count();
         let (program, work, room) = match self.queues.oldest(group) {
-            None => return Ok(Did::Nothing),
+            Option::None => return Ok(Did::Nothing),
             Some(message) => begin(self.alloc, self.defs, self.scripts, message, self.room)?,
         };
         make_room(&mut self.log, &mut self.owed, room, self.regions.len())?;
@@ -156,6 +170,7 @@ impl Engine<'_> {
             program,
             work,
             tries: 0,
+            ahead: Option::None,
         });
         Ok(Did::Took)
     }

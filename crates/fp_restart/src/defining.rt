@@ -32,6 +32,9 @@ pub fn define<T: Site>(
     ensures later { T.faults site.old ≤ T.faults site.new }
     ensures never { (IsErrOf result faults.Foreign → ⊥) × ((set at : ℕ) → IsErrOf result (faults.Damaged set at) → ⊥) }
 
+    // Want of memory comes before the site is touched.
+    ensures untouched { IsErrOf result faults.Memory → site.new ≡ site.old }
+
     // No other data set changes, and nothing is sent.
     ensures only { T.told site.old → OnlyOn 0 (T.disk site.old) (T.disk site.new) }
     ensures told { T.told site.old → T.told site.new }

@@ -3,9 +3,9 @@ ghost use Rattle.ims_fp.specs.Calls.{OnlyReads, is_locked};
 ghost use Rattle.std.specs.Prelude.{◌≡◌, ◌≤◌, [], length, true};
 
 use crate::host;
+use crate::host::SetFile;
 use crate::record::Record;
 use std::alloc::Global;
-use std::fs::File;
 use std::io;
 
 // How many bytes are read at once.
@@ -39,7 +39,7 @@ impl Ahead {
     /// Fills `into` with the bytes from offset `at` on of a file of this length, which has them.
     pub(crate) fn read(
         &mut self,
-        file: &File,
+        file: &SetFile,
         calls: &mut Record,
         length: u64,
         at: u64,
@@ -85,7 +85,7 @@ impl Ahead {
     }
 
     // Reads a block of the file from offset `at` on, up to its end. None where there is no memory for it.
-    fn fill(&mut self, file: &File, calls: &mut Record, length: u64, at: u64) -> io::Result<()>
+    fn fill(&mut self, file: &SetFile, calls: &mut Record, length: u64, at: u64) -> io::Result<()>
         requires { is_locked calls.old.events ≡ true }
         ensures { OnlyReads calls.old.events calls.new.events }
     {

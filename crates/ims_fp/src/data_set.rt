@@ -7,19 +7,20 @@
 //! looked at stays as it is: what is read of it may be lost with the power.
 //!
 //! A sync or a rewrite that failed loses the data set: each later call on it fails.
-ghost use Rattle.std.specs.Prelude.{◌≡◌, ◌++◌, ◌∷◌, ◌≤◌, ◌+◌, ◌^◌, [], IfOk, IsErr, IsSome, OnErr, OnOk, codes, false, length, true};
+ghost use Rattle.std.specs.Prelude.{◌≡◌, ◌++◌, ◌∷◌, ◌≤◌, ◌+◌, ◌^◌, ◌≢◌, ℕ, [], IfOk, IsErr, IsNone, IsSome, None, OnErr, OnOk, Some, codes, false, length, true};
 ghost use Rattle.std.specs.Fmt.{decimal};
+ghost use Rattle.std.specs.Option.{ForSome};
 ghost use Rattle.std.specs.String.{string_bytes};
-ghost use Rattle.ims_fp.specs.Calls.{is_locked, is_named, is_settled, is_synced};
-ghost use Rattle.ims_fp.specs.Calls.HostCall.{Made, Rewrote, Synced};
+ghost use Rattle.ims_fp.specs.Calls.{is_alone, is_locked, is_named, is_settled, is_synced, known_length, newest};
+ghost use Rattle.ims_fp.specs.Calls.HostCall.{Made, Measured, Rewrote, Synced, Wrote};
 ghost use Rattle.ims_fp.specs.Files.{data_set_name};
 ghost use Rattle.ims_fp.specs.declared.folder.Access.{Access};
 
 use crate::ahead::Ahead;
 use crate::cause::{Call, Cause, Place};
-use crate::folder::{Access, Folder, metadata};
+use crate::folder::{Access, Folder};
 use crate::host;
-use crate::host::Lock;
+use crate::host::{Lock, SetFile};
 use crate::record::Record;
 use std::alloc::{AllocError, Global};
 use std::fs::File;
@@ -32,8 +33,9 @@ const MOST_BYTES: u64 = 1 << 62;
 /// A data set.
 #[derive(Drop)]
 pub(crate) struct DataSet {
+    set: u16,
     access: Access,
-    file: Option<File>,
+    file: Option<SetFile>,
     // The length of the file, where it is known. Nobody else changes it while the folder is locked.
     length: Option<u64>,
     // What was read of the file before it was asked for, and wasn't written since.
@@ -45,8 +47,15 @@ pub(crate) struct DataSet {
     is_lost: bool,
     // What was asked of the system.
     calls: Record,
+    // Its file was opened or made by its name.
+    ghost of_set: { ForSome file (λ opened. opened.set ≡ set) },
     // Each of them came behind the lock of the folder.
     ghost locked: { is_locked calls.events ≡ true },
+    // That lock keeps every other program out, where the data set may be changed.
+    ghost alone: { access ≡ Access.Change → is_alone calls.events ≡ true },
+    // The length that is known was asked for since the file was last written. Where there is no file it is 0.
+    ghost measured: { IsSome length → IsSome file → known_length calls.events ≡ length },
+    ghost absent: { IsSome length → IsNone file → length ≡ Some 0 },
     // Its file was made here, or rewritten and then synced, where it may be changed.
     ghost settled: { access ≡ Access.Change → IsSome file → is_settled calls.events ≡ true },
     // Where its name is durable, the folder was synced, and since then no file was made.
@@ -76,11 +85,13 @@ fn area_name(alloc: Global, set: u16) -> Result<String, AllocError>
 
 impl DataSet {
     /// One of a folder that is locked, whose file wasn't looked for.
-    pub(crate) fn new(alloc: Global, access: Access, lock: &Lock) -> DataSet
-        ensures { result.access ≡ access }
+    pub(crate) fn new(alloc: Global, set: u16, lock: &Lock) -> DataSet
+        ensures set { result.set ≡ set }
+        ensures access { result.access ≡ lock.now.access }
     {
         DataSet {
-            access,
+            set,
+            access: lock.access(),
             file: None,
             length: None,
             ahead: Ahead::new(alloc),
@@ -94,33 +105,34 @@ impl DataSet {
     pub(crate) fn size<R: Files<File = File>>(
         &mut self,
         folder: &Folder<'_, R>,
-        set: u16,
     ) -> Result<u64, Cause>
         ensures bound { IfOk result (λ n. n ≤ 2 ^ 62) }
+        ensures measured { IfOk result (λ n. self.new.length ≡ Some n) }
         ensures refused { self.old.is_lost ≡ true → IsErr result }
         ensures lost { self.old.is_lost ≡ true → self.new.is_lost ≡ true }
         ensures access { self.new.access ≡ self.old.access }
+        ensures set { self.new.set ≡ self.old.set }
     {
-        self.find(folder, set)?;
+        self.find(folder)?;
         let length = match (self.length, &self.file) {
             (Some(length), _) => length,
-            (None, Some(file)) => length_of(file, set)?,
+            (None, Some(file)) => length_of(file, &mut self.calls, self.set)?,
             (None, None) => 0,
         };
         if length > MOST_BYTES {
             let error = io::ErrorKind::FileTooLarge.into();
-            return Err(failed(set, Call::Length, error));
+            return Err(failed(self.set, Call::Length, error));
         }
         self.length = Some(length);
         Ok(length)
     }
 
     /// Whether it may be used. Files say only when they are written whether they can grow.
-    pub(crate) fn reach(&self, set: u16) -> Result<(), Cause>
+    pub(crate) fn reach(&self) -> Result<(), Cause>
         ensures { self.now.is_lost ≡ true → IsErr result }
     {
         if self.is_lost {
-            return Err(lost(set));
+            return Err(lost(self.set));
         }
         Ok(())
     }
@@ -129,21 +141,21 @@ impl DataSet {
     pub(crate) fn read_at<R: Files<File = File>>(
         &mut self,
         folder: &Folder<'_, R>,
-        set: u16,
         at: u64,
         into: &mut [u8],
     ) -> Result<(), Cause>
         ensures refused { self.old.is_lost ≡ true → IsErr result }
         ensures lost { self.old.is_lost ≡ true → self.new.is_lost ≡ true }
         ensures access { self.new.access ≡ self.old.access }
+        ensures set { self.new.set ≡ self.old.set }
     {
-        let length = self.size(folder, set)?;
+        let length = self.size(folder)?;
         let count = length.saturating_sub(at).min(into.len() as u64) as usize;
         if let Some(file) = &self.file {
             let answer = self
                 .ahead
                 .read(file, &mut self.calls, length, at, &mut into[..count]);
-            answer.map_err(|error| failed(set, Call::Read, error))?;
+            answer.map_err(|error| failed(self.set, Call::Read, error))?;
         }
         into[count..].fill(0);
         Ok(())
@@ -153,64 +165,67 @@ impl DataSet {
     pub(crate) fn write_at<R: Files<File = File>>(
         &mut self,
         folder: &Folder<'_, R>,
-        set: u16,
         at: u64,
         from: &[u8],
     ) -> Result<(), Cause>
         requires { at + length from.now ≤ 2 ^ 62 }
+        ensures wrote { OnOk result (from.now ≢ [] → newest self.new.calls.events ≡ Some (Wrote at from.now)) }
         ensures forgets { self.new.ahead.bytes.items ≡ [] }
+        ensures unmeasured { self.new.length ≡ None }
         ensures refused { self.old.is_lost ≡ true → IsErr result }
         ensures lost { self.old.is_lost ≡ true → self.new.is_lost ≡ true }
         ensures access { self.new.access ≡ self.old.access }
+        ensures set { self.new.set ≡ self.old.set }
     {
         self.ahead.clear();
-        self.find(folder, set)?;
+        self.length = None;
+        self.find(folder)?;
         if from.is_empty() {
             return Ok(());
+        }
+        if self.access != Access::Change {
+            let error = io::ErrorKind::PermissionDenied.into();
+            return Err(failed(self.set, Call::Write, error));
         }
         let answer = match &self.file {
             Some(file) => host::write(file, &mut self.calls, at, from),
             None => {
-                let file = self.made(folder, set)?;
+                let file = self.made(folder)?;
                 let file = self.file.insert(file);
                 host::write(file, &mut self.calls, at, from)
             }
         };
-        self.length = None;
-        answer.map_err(|error| failed(set, Call::Write, error))
+        answer.map_err(|error| failed(self.set, Call::Write, error))
     }
 
     /// Makes durable what the data set holds, and that its file is there or isn't.
     pub(crate) fn sync<R: Files<File = File>>(
         &mut self,
         folder: &Folder<'_, R>,
-        set: u16,
     ) -> Result<(), Cause>
         ensures synced { OnOk result (IsSome self.new.file → is_synced self.new.calls.events ≡ true) }
         ensures named { OnOk result (self.new.has_durable_name ≡ true) }
         ensures failed { OnErr result (self.new.is_lost ≡ true) }
         ensures refused { self.old.is_lost ≡ true → IsErr result }
         ensures access { self.new.access ≡ self.old.access }
+        ensures set { self.new.set ≡ self.old.set }
     {
-        let answer = self.try_sync(folder, set);
+        let answer = self.try_sync(folder);
         self.is_lost = answer.is_err();
         answer
     }
 
-    fn try_sync<R: Files<File = File>>(
-        &mut self,
-        folder: &Folder<'_, R>,
-        set: u16,
-    ) -> Result<(), Cause>
+    fn try_sync<R: Files<File = File>>(&mut self, folder: &Folder<'_, R>) -> Result<(), Cause>
         ensures synced { OnOk result (IsSome self.new.file → is_synced self.new.calls.events ≡ true) }
         ensures named { OnOk result (self.new.has_durable_name ≡ true) }
         ensures refused { self.old.is_lost ≡ true → IsErr result }
         ensures access { self.new.access ≡ self.old.access }
+        ensures set { self.new.set ≡ self.old.set }
     {
-        self.find(folder, set)?;
+        self.find(folder)?;
         if let Some(file) = &self.file {
             let answer = host::sync(file, &mut self.calls);
-            answer.map_err(|error| failed(set, Call::Sync, error))?;
+            answer.map_err(|error| failed(self.set, Call::Sync, error))?;
         }
         if !self.has_durable_name {
             let answer = host::sync_folder(folder, &mut self.calls);
@@ -221,65 +236,67 @@ impl DataSet {
     }
 
     // Opens its file and settles it, if there is one.
-    fn find<R: Files<File = File>>(&mut self, folder: &Folder<'_, R>, set: u16) -> Result<(), Cause>
+    fn find<R: Files<File = File>>(&mut self, folder: &Folder<'_, R>) -> Result<(), Cause>
         ensures refused { self.old.is_lost ≡ true → IsErr result }
         ensures lost { self.old.is_lost ≡ true → self.new.is_lost ≡ true }
         ensures ahead { self.new.ahead ≡ self.old.ahead }
+        ensures length { self.old.length ≡ None → self.new.length ≡ None }
         ensures access { self.new.access ≡ self.old.access }
+        ensures set { self.new.set ≡ self.old.set }
     {
         if self.is_lost {
-            return Err(lost(set));
+            return Err(lost(self.set));
         }
         if self.file.is_some() {
             return Ok(());
         }
-        if let Some(file) = found(folder, self.access, set)? {
-            self.settle(folder.alloc(), &file, set)?;
-            self.file = Some(file);
+        if let Some(file) = found(folder, self.access, self.set)? {
             self.length = None;
+            self.settle(folder.alloc(), &file)?;
+            self.file = Some(file);
             self.has_durable_name = false;
         }
         Ok(())
     }
 
     // Rewrites and syncs a file that may be changed. One that is only looked at stays as it is.
-    fn settle(&mut self, alloc: Global, file: &File, set: u16) -> Result<(), Cause>
+    fn settle(&mut self, alloc: Global, file: &SetFile) -> Result<(), Cause>
+        requires { self.old.length ≡ None }
         ensures settled { OnOk result (self.new.access ≡ Access.Change → is_settled self.new.calls.events ≡ true) }
         ensures failed { OnErr result (self.new.is_lost ≡ true) }
         ensures ahead { self.new.ahead ≡ self.old.ahead }
+        ensures length { self.new.length ≡ self.old.length }
         ensures access { self.new.access ≡ self.old.access }
+        ensures set { self.new.set ≡ self.old.set }
     {
         if self.access == Access::Look {
             return Ok(());
         }
         self.is_lost = true; // unless all is done
-        settle(alloc, file, &mut self.calls, set)?;
+        settle(alloc, file, &mut self.calls)?;
         self.is_lost = false;
         Ok(())
     }
 
-    // Its file, which is made. None is made to be looked at.
-    fn made<R: Files<File = File>>(
-        &mut self,
-        folder: &Folder<'_, R>,
-        set: u16,
-    ) -> Result<File, Cause>
+    // Its file, which is made.
+    fn made<R: Files<File = File>>(&mut self, folder: &Folder<'_, R>) -> Result<SetFile, Cause>
+        requires access { self.old.access ≡ Access.Change }
+        requires unmeasured { self.old.length ≡ None }
+        ensures of { IfOk result (λ file. file.set ≡ self.old.set) }
         ensures made { OnOk result (is_settled self.new.calls.events ≡ true) }
         ensures named { OnOk result (self.new.has_durable_name ≡ false) }
         ensures lost { self.new.is_lost ≡ self.old.is_lost }
         ensures ahead { self.new.ahead ≡ self.old.ahead }
+        ensures length { self.new.length ≡ self.old.length }
         ensures access { self.new.access ≡ self.old.access }
+        ensures set { self.new.set ≡ self.old.set }
     {
-        if self.access != Access::Change {
-            let error = io::ErrorKind::PermissionDenied.into();
-            return Err(failed(set, Call::Open, error));
-        }
-        match make(folder, &mut self.calls, set) {
+        match SetFile::make(folder, &mut self.calls, self.set) {
             Ok(file) => {
                 self.has_durable_name = false;
                 Ok(file)
             }
-            Err(error) => Err(failed(set, Call::Open, error)),
+            Err(error) => Err(failed(self.set, Call::Open, error)),
         }
     }
 }
@@ -312,14 +329,16 @@ fn lost(set: u16) -> Cause {
 }
 
 // Writes the bytes of a file back where they are, and makes them durable.
-fn settle(alloc: Global, file: &File, calls: &mut Record, set: u16) -> Result<(), Cause>
-    requires { is_locked calls.old.events ≡ true }
-    ensures ok { OnOk result (calls.new.events ≡ Synced ∷ Rewrote ∷ calls.old.events) }
+fn settle(alloc: Global, file: &SetFile, calls: &mut Record) -> Result<(), Cause>
+    requires { is_alone calls.old.events ≡ true }
+    ensures ok { OnOk result ((n : ℕ) × (calls.new.events ≡ Synced ∷ Rewrote n ∷ Measured n ∷ calls.old.events)) }
     ensures settled { is_settled calls.old.events ≡ true → is_settled calls.new.events ≡ true }
     ensures named { is_named calls.new.events ≡ is_named calls.old.events }
-    ensures locked { is_locked calls.new.events ≡ true }
+    ensures locked { is_locked calls.new.events ≡ is_locked calls.old.events }
+    ensures alone { is_alone calls.new.events ≡ is_alone calls.old.events }
 {
-    let length = length_of(file, set)?;
+    let set = file.set();
+    let length = length_of(file, calls, set)?;
     let answer = host::rewrite(alloc, file, calls, length);
     answer.map_err(|error| failed(set, Call::Rewrite, error))?;
     let answer = host::sync(file, calls);
@@ -327,9 +346,12 @@ fn settle(alloc: Global, file: &File, calls: &mut Record, set: u16) -> Result<()
 }
 
 // The length of a file.
-fn length_of(file: &File, set: u16) -> Result<u64, Cause> {
-    match metadata(file) {
-        Ok(found) => Ok(found.len()),
+fn length_of(file: &SetFile, calls: &mut Record, set: u16) -> Result<u64, Cause>
+    ensures ok { IfOk result (λ n. calls.new.events ≡ Measured n ∷ calls.old.events) }
+    ensures err { OnErr result (calls.new.events ≡ calls.old.events) }
+{
+    match host::length(file, calls) {
+        Ok(length) => Ok(length),
         Err(error) => Err(failed(set, Call::Length, error)),
     }
 }
@@ -339,32 +361,11 @@ fn found<R: Files<File = File>>(
     folder: &Folder<'_, R>,
     access: Access,
     set: u16,
-) -> Result<Option<File>, Cause> {
-    match find(folder, access, set) {
+) -> Result<Option<SetFile>, Cause>
+    ensures { IfOk result (λ file. ForSome file (λ opened. opened.set ≡ set)) }
+{
+    match SetFile::find(folder, access, set) {
         Ok(file) => Ok(file),
         Err(error) => Err(failed(set, Call::Open, error)),
     }
-}
-
-fn find<R: Files<File = File>>(
-    folder: &Folder<'_, R>,
-    access: Access,
-    set: u16,
-) -> io::Result<Option<File>> {
-    let name = name_of(folder.alloc(), set)?;
-    folder.find(access, &name)
-}
-
-// Makes the file of a data set.
-fn make<R: Files<File = File>>(
-    folder: &Folder<'_, R>,
-    calls: &mut Record,
-    set: u16,
-) -> io::Result<File>
-    requires { is_locked calls.old.events ≡ true }
-    ensures ok { OnOk result (calls.new.events ≡ Made ∷ calls.old.events) }
-    ensures err { OnErr result (calls.new.events ≡ calls.old.events) }
-{
-    let name = name_of(folder.alloc(), set)?;
-    host::make(folder, calls, &name)
 }

@@ -5,12 +5,14 @@
 //! answered Ok is left out before a later one.
 //!
 //! The first call on a data set locks the folder. The lock lasts as long as the site.
-ghost use Rattle.std.specs.Prelude.{◌≡◌, ◌<◌, ◌≤◌, ◌+◌, ◌^◌, [], IfOk, IsErr, IsSome, None, OnErr, OnOk, length, true, vec_len};
+ghost use Rattle.std.specs.Option.{ForSome};
+ghost use Rattle.std.specs.Prelude.{◌≡◌, ◌<◌, ◌≤◌, ◌+◌, ◌^◌, ◌≢◌, [], IfOk, IsErr, IsNone, IsSome, None, OnErr, OnOk, Some, length, true, vec_len};
 ghost use Rattle.fp_site.specs.Site.{Counts};
 ghost use Rattle.fp_source.specs.Source.{Rose};
 ghost use Rattle.ims_fp.specs.Calls.{is_written_out};
 ghost use Rattle.ims_fp.specs.Files.{untold};
 ghost use Rattle.ims_fp.specs.Output.{Gathers, WritesOut};
+ghost use Rattle.ims_fp.specs.Sets.{AreNumbered, HasLength, HasWritten, IsLost, IsSynced, StayLost};
 
 use crate::cause::{Call, Cause, Place};
 use crate::data_set::DataSet;
@@ -39,6 +41,8 @@ pub(crate) struct FileSite<'a, R, W: Write + Drop> {
     // What was asked of the output.
     calls: Record,
     faults: Faults,
+    ghost locked: { ForSome lock (λ taken. taken.access ≡ access) },
+    ghost numbered: { AreNumbered sets.items },
 }
 
 impl<'a, R: Files<File = File>, W: Write + Drop> FileSite<'a, R, W> {
@@ -68,6 +72,8 @@ impl<'a, R: Files<File = File>, W: Write + Drop> FileSite<'a, R, W> {
         ensures written { OnOk result (is_written_out self.new.calls.events ≡ true) }
         ensures output { WritesOut W.contents self.old.output self.new.output result }
         ensures cause { Counts self.old.faults.count self.new.faults.count result }
+        ensures lock { self.new.lock ≡ self.old.lock }
+        ensures sets { self.new.sets ≡ self.old.sets }
     {
         match self.write_out() {
             Ok(()) => Ok(()),
@@ -93,9 +99,12 @@ impl<'a, R: Files<File = File>, W: Write + Drop> FileSite<'a, R, W> {
     fn fail(&mut self, cause: Cause) -> Failed
         ensures rose { Rose self.old.faults.count self.new.faults.count }
         ensures later { self.old.faults.count ≤ self.new.faults.count }
-        ensures told { IsSome self.new.faults.first }
+        ensures first { IsNone self.old.faults.first → self.new.faults.first ≡ Some cause }
+        ensures kept { IsSome self.old.faults.first → self.new.faults.first ≡ self.old.faults.first }
         ensures output { self.new.output ≡ self.old.output }
         ensures calls { self.new.calls ≡ self.old.calls }
+        ensures lock { self.new.lock ≡ self.old.lock }
+        ensures sets { self.new.sets ≡ self.old.sets }
     {
         self.faults.rise(cause);
         Failed
@@ -106,6 +115,8 @@ impl<'a, R: Files<File = File>, W: Write + Drop> FileSite<'a, R, W> {
         ensures written { OnOk result (is_written_out self.new.calls.events ≡ true) }
         ensures output { WritesOut W.contents self.old.output self.new.output result }
         ensures faults { self.new.faults ≡ self.old.faults }
+        ensures lock { self.new.lock ≡ self.old.lock }
+        ensures sets { self.new.sets ≡ self.old.sets }
     {
         let answer = host::write_out(&mut self.output, &mut self.calls);
         answer.map_err(|error| failed(Place::Output, Call::Write, error))
@@ -116,6 +127,8 @@ impl<'a, R: Files<File = File>, W: Write + Drop> FileSite<'a, R, W> {
         ensures locked { OnOk result (IsSome self.new.lock) }
         ensures output { self.new.output ≡ self.old.output }
         ensures faults { self.new.faults ≡ self.old.faults }
+        ensures lock { IsSome self.old.lock → self.new.lock ≡ self.old.lock }
+        ensures sets { self.new.sets ≡ self.old.sets }
     {
         if self.lock.is_none() {
             let answer = Lock::take(&self.folder, self.access);
@@ -132,42 +145,54 @@ impl<'a, R: Files<File = File>, W: Write + Drop> FileSite<'a, R, W> {
         ensures locked { OnOk result (IsSome self.new.lock) }
         ensures output { WritesOut W.contents self.old.output self.new.output result }
         ensures faults { self.new.faults ≡ self.old.faults }
+        ensures lock { IsSome self.old.lock → self.new.lock ≡ self.old.lock }
+        ensures lost { StayLost self.old.sets.items self.new.sets.items }
     {
         self.write_out()?;
         self.hold()?;
         let Some(lock) = &self.lock else {
             return Err(failed(Place::Folder, Call::Lock, io::ErrorKind::Other.into()));
         };
-        let answer = reach_set(self.folder.alloc(), self.access, lock, &mut self.sets, set);
+        let answer = reach_set(self.folder.alloc(), lock, &mut self.sets, set);
         answer.map_err(|error| failed(Place::DataSet(set), Call::Open, error.into()))
     }
 
     fn try_size(&mut self, set: u16) -> Result<u64, Cause>
         ensures locked { OnOk result (IsSome self.new.lock) }
         ensures bound { IfOk result (λ n. n ≤ 2 ^ 62) }
+        ensures length { IfOk result (λ n. HasLength self.new.sets.items set n) }
         ensures output { WritesOut W.contents self.old.output self.new.output result }
         ensures faults { self.new.faults ≡ self.old.faults }
+        ensures refused { IsLost self.old.sets.items set → IsErr result }
+        ensures lock { IsSome self.old.lock → self.new.lock ≡ self.old.lock }
+        ensures lost { StayLost self.old.sets.items self.new.sets.items }
     {
         self.begin(set)?;
-        self.sets[usize::from(set)].size(&self.folder, set)
+        self.sets[usize::from(set)].size(&self.folder)
     }
 
     fn try_reach(&mut self, set: u16) -> Result<(), Cause>
         ensures locked { OnOk result (IsSome self.new.lock) }
         ensures output { WritesOut W.contents self.old.output self.new.output result }
         ensures faults { self.new.faults ≡ self.old.faults }
+        ensures refused { IsLost self.old.sets.items set → IsErr result }
+        ensures lock { IsSome self.old.lock → self.new.lock ≡ self.old.lock }
+        ensures lost { StayLost self.old.sets.items self.new.sets.items }
     {
         self.begin(set)?;
-        self.sets[usize::from(set)].reach(set)
+        self.sets[usize::from(set)].reach()
     }
 
     fn try_read(&mut self, set: u16, at: u64, into: &mut [u8]) -> Result<(), Cause>
         ensures locked { OnOk result (IsSome self.new.lock) }
         ensures output { WritesOut W.contents self.old.output self.new.output result }
         ensures faults { self.new.faults ≡ self.old.faults }
+        ensures refused { IsLost self.old.sets.items set → IsErr result }
+        ensures lock { IsSome self.old.lock → self.new.lock ≡ self.old.lock }
+        ensures lost { StayLost self.old.sets.items self.new.sets.items }
     {
         self.begin(set)?;
-        self.sets[usize::from(set)].read_at(&self.folder, set, at, into)
+        self.sets[usize::from(set)].read_at(&self.folder, at, into)
     }
 
     fn try_write(&mut self, set: u16, at: u64, from: &[u8]) -> Result<(), Cause>
@@ -175,18 +200,26 @@ impl<'a, R: Files<File = File>, W: Write + Drop> FileSite<'a, R, W> {
         ensures locked { OnOk result (IsSome self.new.lock) }
         ensures output { WritesOut W.contents self.old.output self.new.output result }
         ensures faults { self.new.faults ≡ self.old.faults }
+        ensures refused { IsLost self.old.sets.items set → IsErr result }
+        ensures wrote { OnOk result (from.now ≢ [] → HasWritten self.new.sets.items set at from.now) }
+        ensures lock { IsSome self.old.lock → self.new.lock ≡ self.old.lock }
+        ensures lost { StayLost self.old.sets.items self.new.sets.items }
     {
         self.begin(set)?;
-        self.sets[usize::from(set)].write_at(&self.folder, set, at, from)
+        self.sets[usize::from(set)].write_at(&self.folder, at, from)
     }
 
     fn try_sync(&mut self, set: u16) -> Result<(), Cause>
         ensures locked { OnOk result (IsSome self.new.lock) }
         ensures output { WritesOut W.contents self.old.output self.new.output result }
         ensures faults { self.new.faults ≡ self.old.faults }
+        ensures refused { IsLost self.old.sets.items set → IsErr result }
+        ensures synced { OnOk result (IsSynced self.new.sets.items set) }
+        ensures lock { IsSome self.old.lock → self.new.lock ≡ self.old.lock }
+        ensures lost { StayLost self.old.sets.items self.new.sets.items }
     {
         self.begin(set)?;
-        self.sets[usize::from(set)].sync(&self.folder, set)
+        self.sets[usize::from(set)].sync(&self.folder)
     }
 }
 
@@ -198,15 +231,18 @@ fn failed(place: Place, call: Call, error: io::Error) -> Cause {
 // Lengthens the list of data sets, so that it has this one.
 fn reach_set(
     alloc: Global,
-    access: Access,
     lock: &Lock,
     sets: &mut Vec<DataSet>,
     set: u16,
 ) -> Result<(), AllocError>
-    ensures { OnOk result (set < vec_len sets.new) }
+    requires { AreNumbered sets.old.items }
+    ensures place { OnOk result (set < vec_len sets.new) }
+    ensures lost { StayLost sets.old.items sets.new.items }
+    ensures numbered { AreNumbered sets.new.items }
 {
     while sets.len() <= usize::from(set) {
-        sets.push(DataSet::new(alloc, access, lock))?;
+        let next = sets.len() as u16;
+        sets.push(DataSet::new(alloc, next, lock))?;
     }
     Ok(())
 }
@@ -234,8 +270,12 @@ impl<R: Files<File = File>, W: Write + Drop> Site for FileSite<'_, R, W> {
 
     fn size(&mut self, set: u16) -> Result<u64, Failed>
         ensures bound { IfOk result (λ n. n ≤ 2 ^ 62) }
+        ensures length { IfOk result (λ n. HasLength self.new.sets.items set n) }
         ensures cause { Counts self.old.faults.count self.new.faults.count result }
         ensures output { WritesOut W.contents self.old.output self.new.output result }
+        ensures refused { IsLost self.old.sets.items set → IsErr result }
+        ensures lock { IsSome self.old.lock → self.new.lock ≡ self.old.lock }
+        ensures lost { StayLost self.old.sets.items self.new.sets.items }
     {
         match self.try_size(set) {
             Ok(length) => Ok(length),
@@ -247,6 +287,9 @@ impl<R: Files<File = File>, W: Write + Drop> Site for FileSite<'_, R, W> {
         requires { _end ≤ 2 ^ 62 }
         ensures cause { Counts self.old.faults.count self.new.faults.count result }
         ensures output { WritesOut W.contents self.old.output self.new.output result }
+        ensures refused { IsLost self.old.sets.items set → IsErr result }
+        ensures lock { IsSome self.old.lock → self.new.lock ≡ self.old.lock }
+        ensures lost { StayLost self.old.sets.items self.new.sets.items }
     {
         match self.try_reach(set) {
             Ok(()) => Ok(()),
@@ -257,6 +300,9 @@ impl<R: Files<File = File>, W: Write + Drop> Site for FileSite<'_, R, W> {
     fn read_at(&mut self, set: u16, at: u64, into: &mut [u8]) -> Result<(), Failed>
         ensures cause { Counts self.old.faults.count self.new.faults.count result }
         ensures output { WritesOut W.contents self.old.output self.new.output result }
+        ensures refused { IsLost self.old.sets.items set → IsErr result }
+        ensures lock { IsSome self.old.lock → self.new.lock ≡ self.old.lock }
+        ensures lost { StayLost self.old.sets.items self.new.sets.items }
     {
         match self.try_read(set, at, into) {
             Ok(()) => Ok(()),
@@ -268,6 +314,10 @@ impl<R: Files<File = File>, W: Write + Drop> Site for FileSite<'_, R, W> {
         requires { at + length from.now ≤ 2 ^ 62 }
         ensures cause { Counts self.old.faults.count self.new.faults.count result }
         ensures output { WritesOut W.contents self.old.output self.new.output result }
+        ensures refused { IsLost self.old.sets.items set → IsErr result }
+        ensures wrote { OnOk result (from.now ≢ [] → HasWritten self.new.sets.items set at from.now) }
+        ensures lock { IsSome self.old.lock → self.new.lock ≡ self.old.lock }
+        ensures lost { StayLost self.old.sets.items self.new.sets.items }
     {
         match self.try_write(set, at, from) {
             Ok(()) => Ok(()),
@@ -278,6 +328,10 @@ impl<R: Files<File = File>, W: Write + Drop> Site for FileSite<'_, R, W> {
     fn sync(&mut self, set: u16) -> Result<(), Failed>
         ensures cause { Counts self.old.faults.count self.new.faults.count result }
         ensures output { WritesOut W.contents self.old.output self.new.output result }
+        ensures refused { IsLost self.old.sets.items set → IsErr result }
+        ensures synced { OnOk result (IsSynced self.new.sets.items set) }
+        ensures lock { IsSome self.old.lock → self.new.lock ≡ self.old.lock }
+        ensures lost { StayLost self.old.sets.items self.new.sets.items }
     {
         match self.try_sync(set) {
             Ok(()) => Ok(()),
@@ -288,6 +342,8 @@ impl<R: Files<File = File>, W: Write + Drop> Site for FileSite<'_, R, W> {
     fn send(&mut self, text: &[u8]) -> Result<(), Failed>
         ensures cause { Counts self.old.faults.count self.new.faults.count result }
         ensures sent { Gathers W.contents self.old.output self.new.output result text.now }
+        ensures lock { self.new.lock ≡ self.old.lock }
+        ensures sets { self.new.sets ≡ self.old.sets }
     {
         match host::send(&mut self.output, &mut self.calls, text) {
             Ok(()) => Ok(()),

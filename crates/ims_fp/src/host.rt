@@ -2,11 +2,13 @@
 //! then notes it. That it makes the call that it notes has to be read: no clause can say so.
 //!
 //! A data set's file is read, written and made only behind the lock of its folder, which a list of calls tells.
-ghost use Rattle.ims_fp.specs.Calls.{is_locked, part_of};
-ghost use Rattle.ims_fp.specs.Calls.HostCall.{FolderSynced, Locked, Made, PartRead, Read, Rewrote, Sent, Synced, WroteOut, Wrote};
+ghost use Rattle.ims_fp.specs.Calls.{access_of, is_alone, is_locked, part_of};
+ghost use Rattle.ims_fp.specs.Calls.HostCall.{FolderSynced, Locked, Made, Measured, PartRead, Read, Rewrote, RewroteSome, Sent, Synced, WroteOut, Wrote};
 ghost use Rattle.ims_fp.specs.Output.{Gathers, WritesOut};
+ghost use Rattle.std.specs.Option.{ForSome};
 ghost use Rattle.std.specs.Prelude.{◌≡◌, ◌≤◌, ◌∷◌, [], IfOk, OnErr, OnOk, length, true};
 
+use crate::data_set;
 use crate::file_source::name_of;
 use crate::folder::{self, Access, Folder};
 use crate::record::Record;
@@ -39,54 +41,73 @@ const SENT: u64 = 8;
 
 const WROTE_OUT: u64 = 9;
 
+const REWROTE_SOME: u64 = 10;
+
+const MEASURED: u64 = 11;
+
 // How many bytes a rewrite reads and writes at once. Freeing a block as large as this also has the system's allocator
 // keep as much for later, so that a restart doesn't give back and take again the memory of each group.
 const BLOCK: u64 = 1 << 20;
 
 /// Writes all of `from` at offset `at`. It is noted also where it fails, since some bytes may be written.
-pub(crate) fn write(file: &File, calls: &mut Record, at: u64, from: &[u8]) -> io::Result<()>
-    requires { is_locked calls.old.events ≡ true }
-    ensures { calls.new.events ≡ Wrote ∷ calls.old.events }
+pub(crate) fn write(file: &SetFile, calls: &mut Record, at: u64, from: &[u8]) -> io::Result<()>
+    requires { is_alone calls.old.events ≡ true }
+    ensures { calls.new.events ≡ Wrote at from.now ∷ calls.old.events }
 {
-    let answer = file.write_all_at(from, at);
-    calls.note(&[WROTE], &[]);
+    let answer = file.file.write_all_at(from, at);
+    calls.note(&[WROTE, at], from);
     answer
 }
 
 /// Fills `into` with the bytes of a file from offset `at` on.
-pub(crate) fn read(file: &File, calls: &mut Record, at: u64, into: &mut [u8]) -> io::Result<()>
+pub(crate) fn read(file: &SetFile, calls: &mut Record, at: u64, into: &mut [u8]) -> io::Result<()>
     requires { is_locked calls.old.events ≡ true }
     ensures { calls.new.events ≡ Read ∷ calls.old.events }
 {
-    let answer = file.read_exact_at(into, at);
+    let answer = file.file.read_exact_at(into, at);
     calls.note(&[READ], &[]);
     answer
 }
 
+/// The length of a file.
+pub(crate) fn length(file: &SetFile, calls: &mut Record) -> io::Result<u64>
+    ensures ok { IfOk result (λ n. calls.new.events ≡ Measured n ∷ calls.old.events) }
+    ensures err { OnErr result (calls.new.events ≡ calls.old.events) }
+{
+    let length = folder::metadata(&file.file)?.len();
+    calls.note(&[MEASURED, length], &[]);
+    Ok(length)
+}
+
 /// Syncs a file.
-pub(crate) fn sync(file: &File, calls: &mut Record) -> io::Result<()>
+pub(crate) fn sync(file: &SetFile, calls: &mut Record) -> io::Result<()>
     ensures ok { OnOk result (calls.new.events ≡ Synced ∷ calls.old.events) }
     ensures err { OnErr result (calls.new.events ≡ calls.old.events) }
 {
-    file.sync_all()?;
+    file.file.sync_all()?;
     calls.note(&[SYNCED], &[]);
     Ok(())
 }
 
 /// Reads each byte of a file of this length, and writes it back where it was, so that the next sync has all of them to
 /// write. Where it fails, some may be written.
-pub(crate) fn rewrite(alloc: Global, file: &File, calls: &mut Record, length: u64) -> io::Result<()>
-    requires { is_locked calls.old.events ≡ true }
-    ensures ok { OnOk result (calls.new.events ≡ Rewrote ∷ calls.old.events) }
-    ensures err { OnErr result (calls.new.events ≡ Wrote ∷ calls.old.events) }
+pub(crate) fn rewrite(
+    alloc: Global,
+    file: &SetFile,
+    calls: &mut Record,
+    length: u64,
+) -> io::Result<()>
+    requires { is_alone calls.old.events ≡ true }
+    ensures ok { OnOk result (calls.new.events ≡ Rewrote length ∷ calls.old.events) }
+    ensures err { OnErr result (calls.new.events ≡ RewroteSome ∷ calls.old.events) }
 {
-    match write_back(alloc, file, length) {
+    match write_back(alloc, &file.file, length) {
         Ok(()) => {
-            calls.note(&[REWROTE], &[]);
+            calls.note(&[REWROTE, length], &[]);
             Ok(())
         }
         Err(error) => {
-            calls.note(&[WROTE], &[]);
+            calls.note(&[REWROTE_SOME], &[]);
             Err(error)
         }
     }
@@ -127,27 +148,61 @@ pub(crate) fn sync_folder<R: Files<File = File>>(
     Ok(())
 }
 
-/// Makes a file of this name.
-pub(crate) fn make<R: Files<File = File>>(
-    folder: &Folder<'_, R>,
-    calls: &mut Record,
-    name: &str,
-) -> io::Result<File>
-    requires { is_locked calls.old.events ≡ true }
-    ensures ok { OnOk result (calls.new.events ≡ Made ∷ calls.old.events) }
-    ensures err { OnErr result (calls.new.events ≡ calls.old.events) }
-{
-    let file = folder.make(name)?;
-    calls.note(&[MADE], &[]);
-    Ok(file)
+/// The file of a data set, which was opened or made by its name.
+#[derive(Drop)]
+pub(crate) struct SetFile {
+    set: u16,
+    file: File,
+}
+
+impl SetFile {
+    /// Opens the file of a data set, if there is one.
+    pub(crate) fn find<R: Files<File = File>>(
+        folder: &Folder<'_, R>,
+        access: Access,
+        set: u16,
+    ) -> io::Result<Option<SetFile>>
+        ensures { IfOk result (λ file. ForSome file (λ opened. opened.set ≡ set)) }
+    {
+        let name = data_set::name_of(folder.alloc(), set)?;
+        match folder.find(access, &name)? {
+            Some(file) => Ok(Some(SetFile { set, file })),
+            None => Ok(Option::None),
+        }
+    }
+
+    /// Makes the file of a data set.
+    pub(crate) fn make<R: Files<File = File>>(
+        folder: &Folder<'_, R>,
+        calls: &mut Record,
+        set: u16,
+    ) -> io::Result<SetFile>
+        requires { is_alone calls.old.events ≡ true }
+        ensures set { IfOk result (λ made. made.set ≡ set) }
+        ensures ok { OnOk result (calls.new.events ≡ Made ∷ calls.old.events) }
+        ensures err { OnErr result (calls.new.events ≡ calls.old.events) }
+    {
+        let name = data_set::name_of(folder.alloc(), set)?;
+        let file = folder.make(&name)?;
+        calls.note(&[MADE], &[]);
+        Ok(SetFile { set, file })
+    }
+
+    /// The data set.
+    pub(crate) fn set(&self) -> u16
+        ensures { result ≡ self.now.set }
+    {
+        self.set
+    }
 }
 
 /// The lock of a folder, which lasts as long as this.
 #[derive(Drop)]
 pub(crate) struct Lock {
     file: File,
+    access: Access,
     calls: Record,
-    ghost taken: { calls.events ≡ Locked ∷ [] },
+    ghost taken: { calls.events ≡ Locked access ∷ [] },
 }
 
 impl Lock {
@@ -155,11 +210,24 @@ impl Lock {
     pub(crate) fn take<R: Files<File = File>>(
         folder: &Folder<'_, R>,
         access: Access,
-    ) -> io::Result<Lock> {
+    ) -> io::Result<Lock>
+        ensures { IfOk result (λ lock. lock.access ≡ access) }
+    {
         let file = folder.lock(access)?;
         let mut calls = Record::new();
-        calls.note(&[LOCKED], &[]);
-        Ok(Lock { file, calls })
+        calls.note(&[LOCKED, access_number(access)], &[]);
+        Ok(Lock {
+            file,
+            access,
+            calls,
+        })
+    }
+
+    /// What it was taken for.
+    pub(crate) fn access(&self) -> Access
+        ensures { result ≡ self.now.access }
+    {
+        self.access
     }
 
     /// A list of calls that come behind this lock.
@@ -167,8 +235,18 @@ impl Lock {
         ensures { result.events ≡ self.now.calls.events }
     {
         let mut calls = Record::new();
-        calls.note(&[LOCKED], &[]);
+        calls.note(&[LOCKED, access_number(self.access)], &[]);
         calls
+    }
+}
+
+// The number of an access.
+fn access_number(access: Access) -> u64
+    ensures { access_of result ≡ access }
+{
+    match access {
+        Access::Change => 0,
+        Access::Look => 1,
     }
 }
 

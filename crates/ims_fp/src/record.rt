@@ -26,8 +26,8 @@ impl Record {
         }
     }
 
-    /// Notes the call of this number.
+    /// Notes the call of these numbers and bytes.
     pub(crate) fn note(&mut self, _numbers: &[u64], _bytes: &[u8])
-        ensures { self.new.events ≡ call_of _numbers.now ∷ self.old.events }
+        ensures { self.new.events ≡ call_of _numbers.now _bytes.now ∷ self.old.events }
     {}
 }

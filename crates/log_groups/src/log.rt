@@ -128,6 +128,9 @@ impl Log {
         ensures never { (IsErrOf result faults.Foreign → ⊥)
             × ((place : ℕ) → IsErrOf result (faults.Damaged place) → ⊥) }
 
+        // Want of memory comes before the site is touched.
+        ensures untouched { IsErrOf result faults.Memory → site.new ≡ site.old }
+
         // No other data set changes or is read, and nothing is sent.
         ensures only { T.told site.old → OnlyOn 0 (T.disk site.old) (T.disk site.new) }
         ensures reads { ReadsOnlyLog (T.tells_reads site.old) (T.tells_reads site.new) (T.bytes_read site.old)

@@ -74,6 +74,9 @@ pub(crate) fn make<S: Site>(alloc: Global, site: &mut S, front: &Front) -> Resul
     ensures later { S.faults site.old ≤ S.faults site.new }
     ensures never { (IsErrOf result faults.Foreign → ⊥) × ((place : ℕ) → IsErrOf result (faults.Damaged place) → ⊥) }
 
+    // Want of memory comes before the site is touched.
+    ensures untouched { IsErrOf result faults.Memory → site.new ≡ site.old }
+
     // No other data set changes, and nothing is sent.
     ensures only { S.told site.old → OnlyOn 0 (S.disk site.old) (S.disk site.new) }
     ensures reads { ReadsOnlyLog (S.tells_reads site.old) (S.tells_reads site.new) (S.bytes_read site.old)

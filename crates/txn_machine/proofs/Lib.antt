@@ -13,3 +13,4 @@ pub mod ActLemmas
 pub mod NextLemmas
 pub mod FitLemmas
 pub mod FitStatements
+mod GivenLemmas

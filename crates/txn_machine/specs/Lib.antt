@@ -4,6 +4,7 @@ pub mod Filling
 pub mod Fit
 pub mod Giving
 pub mod Knowing
+pub mod Lending
 pub mod Places
 pub mod Running
 pub mod Stepping

@@ -1,22 +1,22 @@
 //! Calls: what the statements that make them ask.
-ghost use Rattle.std.specs.Prelude.{◌≡◌, ◌≤◌, [], length, List, IfErr, IfOk, MatchOption, None, Some};
+ghost use Rattle.std.specs.Prelude.{◌≡◌, ◌<◌, ◌≤◌, [], List, IfErr, IfOk, MatchOption, None, OnOk, Some, length, option_map};
 ghost use Rattle.std.specs.List.{AllByRecursion};
 ghost use Rattle.fp_model.specs.declared.calls.Call.TheVariants as call;
 ghost use Rattle.fp_model.specs.declared.calls.Message.{Message as MessageOf};
 ghost use Rattle.fp_model.specs.declared.definitions.Defs.{Defs};
-ghost use Rattle.fp_model.specs.Fsas.{Fsa as Argument, IsFsa};
+ghost use Rattle.fp_model.specs.Fsas.{Fsa as Argument, IsFsa, list_text};
 ghost use Rattle.fp_model.specs.Operands.{filled, fsas_given, fld_call, get_call, isrt_call, new_type, repl_call, shown_on, ssa_of, ssas_of};
 ghost use Rattle.fp_model.specs.Values.{layout_of};
-ghost use Rattle.fld_calls.specs.Forms.{IsShort, form_of, forms};
-ghost use Rattle.txn_machine.specs.Filling.{fsa_given, with_value};
-ghost use Rattle.txn_machine.specs.Giving.{Gives, GivesAs, Stops};
+ghost use Rattle.fld_calls.specs.Forms.{lent_form_of};
+ghost use Rattle.txn_machine.specs.Filling.{fsa_given, with_fsa_text, with_value};
+ghost use Rattle.txn_machine.specs.Giving.{Gives, PutsIn, Stops};
 ghost use Rattle.txn_machine.specs.Knowing.{env_of, segment_on};
 
 use crate::fields::{Layout, empty_segment, field_of, fill_field, layout_of};
 use crate::known::Known;
 use crate::shown::Shown;
 use crate::stop::Stop;
-use fld_calls::{Fsa, write_list};
+use fld_calls::{LentFsa, append_fsa};
 use fp_model::{
     Bytes, Call, Defs, FieldDef, FieldText, FsaText, Get, List, Message, Name, Operand, Ssa,
     SsaText,
@@ -44,13 +44,13 @@ fn new_layout<'a>(defs: &'a Defs, db: u8, ssas: &[SsaText]) -> Result<Layout<'a>
 }
 
 // A field search argument that has no answer yet.
-fn unanswered(field: Name, op: u8, operand: Bytes) -> Fsa
-    requires { length operand ≤ 1024 }
-    ensures form { form_of result ≡ record { field = field.0; status = 32; op = op; operand = operand } }
-    ensures short { IsShort result }
-    ensures spelled { IsFsa (form_of result) }
+fn unanswered(field: Name, op: u8, operand: &[u8]) -> LentFsa<'_>
+    requires { length operand.now ≤ 1024 }
+    ensures form { lent_form_of result ≡ record { field = field.0; status = 32; op = op; operand = operand.now } }
+    ensures short { length result.operand.now < 65536 }
+    ensures spelled { IsFsa (lent_form_of result) }
 {
-    Fsa {
+    LentFsa {
         field,
         status: b' ',
         op,
@@ -90,27 +90,41 @@ impl Known {
         Ok(found)
     }
 
-    // A field search argument with its operand worked out.
-    fn fsa_of(&self, defs: &Defs, message: &Message, fsa: &FsaText) -> Result<Fsa, Stop>
-        ensures gives { GivesAs form_of result (fsa_given defs.now message.now (env_of self.now []) fsa.now) }
-        ensures short { IfOk result (λ fsa. IsShort fsa) }
-        ensures spelled { IfOk result (λ fsa. IsFsa (form_of fsa)) }
+    // Adds a field search argument, with its operand worked out, to the bytes of a list.
+    fn append_given(
+        &self,
+        defs: &Defs,
+        message: &Message,
+        fsa: &FsaText,
+        last: bool,
+        text: &mut Bytes,
+    ) -> Result<(), Stop>
+        ensures gives { PutsIn result text.new (option_map (with_fsa_text last text.old)
+            (fsa_given defs.now message.now (env_of self.now []) fsa.now)) }
+        ensures spelled { OnOk result ((given : Argument)
+            → fsa_given defs.now message.now (env_of self.now []) fsa.now ≡ Some given → IsFsa given) }
     {
         let operand = self.text_of(defs, message, &fsa.operand)?;
-        Ok(unanswered(fsa.field, fsa.op, operand))
+        let given = unanswered(fsa.field, fsa.op, operand.as_slice());
+        append_fsa(text, &given, last)?;
+        Ok(())
     }
 
-    // Field search arguments with their operands.
-    fn fsas_of(&self, defs: &Defs, message: &Message, fsas: &[FsaText]) -> Result<List<Fsa>, Stop>
-        ensures gives { GivesAs forms result (fsas_given defs.now message.now (env_of self.now []) fsas.now) }
-        ensures short { IfOk result (λ list. AllByRecursion IsShort list) }
-        ensures spelled { IfOk result (λ list. AllByRecursion IsFsa (forms list)) }
+    // The bytes of field search arguments with their operands.
+    fn fsa_texts(&self, defs: &Defs, message: &Message, fsas: &[FsaText]) -> Result<Bytes, Stop>
+        ensures gives { Gives result (option_map list_text
+            (fsas_given defs.now message.now (env_of self.now []) fsas.now)) }
+        ensures spelled { OnOk result ((list : List Argument)
+            → fsas_given defs.now message.now (env_of self.now []) fsas.now ≡ Some list
+            → AllByRecursion IsFsa list) }
     {
-        let mut given = List::new(self.alloc);
+        let mut text = Bytes::new(self.alloc);
+        let mut left = fsas.len();
         for fsa in fsas {
-            given.push(self.fsa_of(defs, message, fsa)?)?;
+            left -= 1;
+            self.append_given(defs, message, fsa, left == 0, &mut text)?;
         }
-        Ok(given)
+        Ok(text)
     }
 
     // A segment with one value put into its field.
@@ -186,8 +200,7 @@ impl Known {
             → AllByRecursion IsFsa list) }
     {
         let key = self.key_text(defs, message, db, 0, key)?;
-        let given = self.fsas_of(defs, message, fsas.as_slice())?;
-        let fsas = write_list(self.alloc, &given)?;
+        let fsas = self.fsa_texts(defs, message, fsas.as_slice())?;
         Ok(Call::Fld { db, key, fsas })
     }
 

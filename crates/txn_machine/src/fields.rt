@@ -6,8 +6,10 @@ ghost use Rattle.fp_model.specs.Numbers.{bytes_of, number};
 ghost use Rattle.fp_model.specs.Values.{empty_field, empty_segment, fitted, fitted_key, layout_of, value_bytes, value_text};
 ghost use Rattle.fp_model.specs.Texts.{padded};
 ghost use Rattle.txn_machine.specs.Filling.{field_filled};
-ghost use Rattle.txn_machine.specs.Giving.{Gives, PutsIn, Stops};
+ghost use Rattle.txn_machine.specs.Giving.{Gives, GivesAs, PutsIn, Stops};
+ghost use Rattle.txn_machine.specs.Lending.{bytes_in};
 
+use crate::lent::OperandText;
 use crate::stop::Stop;
 use crate::values::{decimal_text, number, without_blanks};
 use fp_model::{Bytes, Defs, FieldDef, FieldKind, Name, key_length};
@@ -235,14 +237,18 @@ fn empty_field(alloc: Global, field: &FieldDef) -> Result<Bytes, Stop>
 }
 
 /// The bytes of a field as a text. None where they are to be a number and aren't.
-pub(crate) fn value_text(alloc: Global, field: &FieldDef, bytes: &[u8]) -> Result<Bytes, Stop>
-    ensures { Gives result (value_text field.now bytes.now) }
+pub(crate) fn value_text<'a>(
+    alloc: Global,
+    field: &FieldDef,
+    bytes: &'a [u8],
+) -> Result<OperandText<'a>, Stop>
+    ensures { GivesAs bytes_in result (value_text field.now bytes.now) }
 {
     if is_text(field.kind) {
-        return Ok(Bytes::from_slice(alloc, without_blanks(bytes))?);
+        return Ok(OperandText::Lent(without_blanks(bytes)));
     }
     match read_number(field.kind, bytes) {
-        Some(n) => Ok(decimal_text(alloc, n)?),
+        Some(n) => Ok(OperandText::Made(decimal_text(alloc, n)?)),
         None => Err(Stop::NoValue),
     }
 }

@@ -5,6 +5,7 @@ mod calls;
 mod doing;
 mod fields;
 mod known;
+mod lent;
 mod operands;
 mod place;
 mod program;

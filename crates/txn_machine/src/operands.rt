@@ -1,15 +1,17 @@
 //! Operands, and what statements make of them.
 ghost use Rattle.std.specs.Prelude.{◌≡◌, ◌≤◌, [], IfOk, length, map};
 ghost use Rattle.std.specs.List.{list_all};
-ghost use Rattle.fp_model.specs.Operands.{chosen, joined_texts, key_text, reply_text, set_text, shown_field, shown_letter, text_of};
+ghost use Rattle.fp_model.specs.Operands.{chosen, joined_texts, key_text, reply_text, set_text, shown_field, shown_letter, text_named, text_of};
 ghost use Rattle.fp_model.specs.declared.calls.Message.{Message as MessageOf};
 ghost use Rattle.fp_model.specs.Values.{short_enough};
 ghost use Rattle.fp_model.specs.Texts.{is_printable};
-ghost use Rattle.txn_machine.specs.Giving.{Gives};
+ghost use Rattle.txn_machine.specs.Giving.{Gives, GivesAs};
 ghost use Rattle.txn_machine.specs.Knowing.{env_of, status_of};
+ghost use Rattle.txn_machine.specs.Lending.{bytes_in};
 
 use crate::fields::{field_bytes, field_of, layout_of, value_text};
 use crate::known::Known;
+use crate::lent::OperandText;
 use crate::stop::Stop;
 use crate::values::{compares, operated, without_blanks, word_of};
 use fp_model::{Bytes, Comparison, Defs, List, Message, Name, Operand, Operation};
@@ -21,23 +23,12 @@ const LONGEST_VALUE: usize = 1024;
 // How many bytes a reply has at most.
 const LONGEST_REPLY: usize = 1000;
 
-// A copy of a text, if it may be a value.
-fn copied(alloc: Global, text: &[u8]) -> Result<Bytes, Stop>
-    ensures gives { Gives result (short_enough text.now) }
-    ensures small { IfOk result (λ text. length text ≤ 1024) }
-{
-    if text.len() > LONGEST_VALUE {
-        return Err(Stop::NoValue);
-    }
-    Ok(Bytes::from_slice(alloc, text)?)
-}
-
 // A text itself, if it may be a value.
-fn short(text: Bytes) -> Result<Bytes, Stop>
-    ensures gives { Gives result (short_enough text) }
-    ensures small { IfOk result (λ text. length text ≤ 1024) }
+fn short(text: OperandText<'_>) -> Result<OperandText<'_>, Stop>
+    ensures gives { GivesAs bytes_in result (short_enough (bytes_in text.entry)) }
+    ensures small { IfOk result (λ text. length (bytes_in text) ≤ 1024) }
 {
-    if text.len() > LONGEST_VALUE {
+    if text.as_slice().len() > LONGEST_VALUE {
         return Err(Stop::NoValue);
     }
     Ok(text)
@@ -63,8 +54,9 @@ fn is_printable(text: &[u8]) -> bool
 
 impl Known {
     // A field of the segment that was shown last.
-    fn shown_field(&self, defs: &Defs, name: &Name) -> Result<Bytes, Stop>
-        ensures { (message : MessageOf) → Gives result (shown_field defs.now message name.now.0 (env_of self.now [])) }
+    fn shown_field(&self, defs: &Defs, name: &Name) -> Result<OperandText<'_>, Stop>
+        ensures { (message : MessageOf) → GivesAs bytes_in result
+            (shown_field defs.now message name.now.0 (env_of self.now [])) }
     {
         let Some(gets) = &self.gets else {
             return Err(Stop::NoValue);
@@ -85,25 +77,41 @@ impl Known {
         }
     }
 
-    /// The text of an operand.
-    pub(crate) fn text_of(
-        &self,
+    // The text that an operand names, however long it is.
+    fn text_named<'a>(
+        &'a self,
         defs: &Defs,
-        message: &Message,
-        operand: &Operand,
-    ) -> Result<Bytes, Stop>
-        ensures small { IfOk result (λ text. length text ≤ 1024) }
-        ensures gives { Gives result (text_of defs.now message.now (env_of self.now []) operand.now) }
+        message: &'a Message,
+        operand: &'a Operand,
+    ) -> Result<OperandText<'a>, Stop>
+        ensures { GivesAs bytes_in result (text_named defs.now message.now (env_of self.now []) operand.now) }
     {
-        let alloc = self.alloc;
         match operand {
-            Operand::Text(text) => copied(alloc, text.as_slice()),
-            Operand::Word(number) => copied(alloc, word_of(message.text.as_slice(), *number)),
-            Operand::Field(name) => short(self.shown_field(defs, name)?),
-            Operand::Status => copied(alloc, without_blanks(self.status())),
-            Operand::Fsas => short(shown_letters(alloc, self.letters.as_slice())?),
-            Operand::Variable(name) => copied(alloc, self.setting(name)),
+            Operand::Text(text) => Ok(OperandText::Lent(text.as_slice())),
+            Operand::Word(number) => {
+                Ok(OperandText::Lent(word_of(message.text.as_slice(), *number)))
+            }
+            Operand::Field(name) => self.shown_field(defs, name),
+            Operand::Status => Ok(OperandText::Lent(without_blanks(self.status()))),
+            Operand::Fsas => {
+                let letters = shown_letters(self.alloc, self.letters.as_slice())?;
+                Ok(OperandText::Made(letters))
+            }
+            Operand::Variable(name) => Ok(OperandText::Lent(self.setting(name))),
         }
+    }
+
+    /// The text of an operand. It copies nothing.
+    pub(crate) fn text_of<'a>(
+        &'a self,
+        defs: &Defs,
+        message: &'a Message,
+        operand: &'a Operand,
+    ) -> Result<OperandText<'a>, Stop>
+        ensures small { IfOk result (λ text. length (bytes_in text) ≤ 1024) }
+        ensures gives { GivesAs bytes_in result (text_of defs.now message.now (env_of self.now []) operand.now) }
+    {
+        short(self.text_named(defs, message, operand)?)
     }
 
     /// The text that SET gives.
@@ -122,7 +130,7 @@ impl Known {
                 let b = self.text_of(defs, message, second)?;
                 operated(self.alloc, *operation, a.as_slice(), b.as_slice())
             }
-            None => Ok(a),
+            None => Ok(a.into_bytes(self.alloc)?),
         }
     }
 

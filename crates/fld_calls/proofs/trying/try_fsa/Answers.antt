@@ -2,7 +2,7 @@ use Rattle.std.proofs.Common.{◌≡◌, ◌∙◌, sym, length}
 use Rattle.std.specs.Prelude.{OnOk}
 use Rattle.fp_model.specs.Fsas.{field_bytes, letter_on}
 use Rattle.fld_calls.specs.Refusals.{letter_in, segment_behind}
-use Rattle.fld_calls.specs.Forms.{form_of, of_fields}
+use Rattle.fld_calls.specs.Forms.{lent_form_of, of_fields}
 use Rattle.fld_calls.proofs.TryLemmas.{found_within, known, its-letter, answered}
 use Rattle.fld_calls.proofs.trying.try_fsa.Goals as goal
 
@@ -14,23 +14,23 @@ try_at-requires c =
 pub returns-clause-letter : goal.returns-clause-letter
 returns-clause-letter c =
     let field = c.in-Some-find_field.field in
-    let fsa = form_of c.args.fsa.now in
+    let fsa = lent_form_of c.args.fsa.now in
     let segment = c.args.segment.now in
     let its = c.in-Some.ensures.some in
     let letter : letter_in c.try_at.result ≡ letter_on field fsa.op fsa.operand (field_bytes field segment) =
-    rw (its, c.as_slice.ensures) at c.try_at.ensures.letter in
+    rw its at c.try_at.ensures.letter in
     letter ∙ sym (its-letter (of_fields c.args.fields.now) fsa segment field (rw its at (known c.in-Some.operation))
     c.in-Some-find_field.ensures)
 
 pub returns-clause-segment : goal.returns-clause-segment
 returns-clause-segment c =
     let field = c.in-Some-find_field.field in
-    let fsa = form_of c.args.fsa.now in
+    let fsa = lent_form_of c.args.fsa.now in
     let segment = c.args.segment.now in
     let its = c.in-Some.ensures.some in
     let letter : letter_in c.try_at.result ≡ letter_on field fsa.op fsa.operand (field_bytes field segment) =
-    rw (its, c.as_slice.ensures) at c.try_at.ensures.letter in
+    rw its at c.try_at.ensures.letter in
     let ok : OnOk c.try_at.result (c.try_at.new.segment ≡ segment_behind field fsa.op fsa.operand segment) =
-    rw (its, c.as_slice.ensures) at c.try_at.ensures.ok in
+    rw its at c.try_at.ensures.ok in
     answered (of_fields c.args.fields.now) fsa segment field (rw its at (known c.in-Some.operation))
     c.in-Some-find_field.ensures c.try_at.new.segment c.try_at.result letter ok c.try_at.ensures.err

@@ -1,7 +1,9 @@
-use Rattle.std.proofs.Common.{rules, ◌<◌, ◌+◌, ◌∙◌, length, arith, sym, subst, drop, take}
+use Rattle.std.proofs.Common.{rules, ◌≡◌, ◌<◌, ◌+◌, ◌∙◌, length, arith, sym, subst, drop, take}
 use Rattle.std.proofs.lemmas.List.{take_more_set, drop-set-lt, take_all, drop_all}
+use Rattle.fp_model.specs.Fsas.{Fsa, fsa_on, letter_of}
 use Rattle.fp_model.specs.WellFormed.{StandFrom}
 use Rattle.fld_calls.specs.declared.arguments.Fsa.{Fsa as Argument}
+use Rattle.fld_calls.specs.Refusals.{letter_in}
 use Rattle.fld_calls.proofs.ListLemmas.{trying-step, trying-end, drop_got}
 use Rattle.fld_calls.proofs.trying.try_fsas.Goals as goal
 
@@ -19,7 +21,10 @@ loop-at-preserved c =
     let here = drop_got fsas i x c.item_mut-fsa.ensures.value in
     let step = trying-step c.args.def.now c.args.fsas.now c.args.segment.now (take i fsas) x (drop (i + 1) fsas)
     c.loop-at.segment c.try_fsa-outcome.new.segment c.loop-at.good c.try_fsa-outcome.result (rw here at t)
-    c.try_fsa-outcome.ensures.letter c.try_fsa-outcome.ensures.segment in
+    (subst (λ (f : Fsa). letter_in c.try_fsa-outcome.result ≡ letter_of c.args.def.now f c.loop-at.segment)
+    c.lent.ensures.form c.try_fsa-outcome.ensures.letter)
+    (subst (λ (f : Fsa). c.try_fsa-outcome.new.segment ≡ (fsa_on c.args.def.now f c.loop-at.segment).segment)
+    c.lent.ensures.form c.try_fsa-outcome.ensures.segment) in
     record {
       all = search rules;
       whole = omega (arith, c.try_fsa-outcome.auto.segment, c.loop-at.invariant.whole);

@@ -17,4 +17,5 @@ returns c from tries = record {
   numbered = rw c.start-program.ensures.number (c.in-Some.ensures.script ∙ c.requires.named.1);
   at = c.start-program.ensures.at c.args.defs.now c.requires.named.0.statements c.args.message.now;
   fit = c.start-program.ensures.fit c.args.defs.now.msdbs;
+  ahead = tt;
 }

@@ -1,8 +1,11 @@
-use Rattle.std.proofs.Common.{◌≡◌, arith, ◌≤◌, ◌++◌, length}
+use Rattle.std.proofs.Common.{◌≡◌, arith, ◌≤◌, ◌++◌, length, take}
 use Rattle.std.proofs.lemmas.Grind.{common_steps}
 use Rattle.fp_core.specs.Relation.{rules_in}
+use Rattle.fp_core.specs.Sealing.{replies_of}
+use Rattle.fp_core.specs.Sparing.{IsLogSet}
 use Rattle.fp_core.proofs.Logs.{halts, rest_behind, sent_behind, tells}
 use Rattle.fp_core.proofs.Seals.{log_nothing, log_turned}
+use Rattle.fp_core.proofs.Spared.{spares_none, spares_only, spares_sealed}
 use Rattle.fp_core.proofs.Steps.{left_alone}
 use Rattle.fp_core.proofs.engine.Engine.seal.Goals as goal
 
@@ -101,3 +104,30 @@ returns-clause-leaves g c origin m told at =
     (g.T.Site.disk c.tell.new.site) (g.met.T.Site.lawful c.tell.new.site (c.tell.ensures.site.still_told told1))
     (c.tell.ensures.same told1) (c.tell.ensures.crash told1)
     (c.tell.ensures.part told1)
+
+-- ---- other data sets
+
+pub returns-then-is_empty-clause-spares : goal.returns-then-is_empty-clause-spares
+returns-then-is_empty-clause-spares g c told =
+    spares_none IsLogSet (g.T.Site.disk c.args.site.now) (g.met.T.Site.lawful c.args.site.now told)
+
+pub returns-in_err-count-clause-spares : goal.returns-in_err-count-clause-spares
+returns-in_err-count-clause-spares g c told =
+    spares_only (g.T.Site.disk c.args.site.now) (g.T.Site.disk c.seal.new.site)
+    (g.met.T.Site.lawful c.args.site.now told) (c.seal.ensures.only told)
+
+pub returns-in_err-tell-clause-spares : goal.returns-in_err-tell-clause-spares
+returns-in_err-tell-clause-spares g c told =
+    let told1 = c.seal.ensures.told told in
+    spares_sealed (g.T.Site.disk c.args.site.now) (g.T.Site.disk c.seal.new.site) (g.T.Site.disk c.tell.new.site)
+    (replies_of (take c.in_ok-count.count c.args.self.now.owed.items))
+    (g.met.T.Site.lawful c.args.site.now told) (g.met.T.Site.lawful c.seal.new.site told1) (c.seal.ensures.only told)
+    (c.tell.ensures.same told1) (c.tell.ensures.crash told1)
+
+pub returns-clause-spares : goal.returns-clause-spares
+returns-clause-spares g c told =
+    let told1 = c.seal.ensures.told told in
+    spares_sealed (g.T.Site.disk c.args.site.now) (g.T.Site.disk c.seal.new.site) (g.T.Site.disk c.tell.new.site)
+    (replies_of (take c.in_ok-count.count c.args.self.now.owed.items))
+    (g.met.T.Site.lawful c.args.site.now told) (g.met.T.Site.lawful c.seal.new.site told1) (c.seal.ensures.only told)
+    (c.tell.ensures.same told1) (c.tell.ensures.crash told1)

@@ -2,7 +2,9 @@ use Rattle.std.proofs.Common.{◌≡◌, arith, ◌-◌, ◌≤◌, length}
 use Rattle.std.proofs.lemmas.Grind.{common_steps}
 use Rattle.fp_model.specs.History.{place_of}
 use Rattle.fp_core.specs.Relation.{rules_in}
+use Rattle.fp_core.specs.Sparing.{IsLogSet}
 use Rattle.fp_core.proofs.Checkpoints.{ckpt_nothing, ckpt_turned}
+use Rattle.fp_core.proofs.Spared.{spares_none}
 use Rattle.fp_core.proofs.Steps.{left_alone}
 use Rattle.fp_core.proofs.engine.Engine.seal_all.Goals as goal
 
@@ -41,3 +43,11 @@ returns-clause-at g c origin m told at =
           behind.parts;
       at = behind;
     }
+
+pub returns-in_default-clause-spares : goal.returns-in_default-clause-spares
+returns-in_default-clause-spares g c told =
+    spares_none IsLogSet (g.T.Site.disk c.args.site.now) (g.met.T.Site.lawful c.args.site.now told)
+
+pub returns-then-count-eq0-clause-spares : goal.returns-then-count-eq0-clause-spares
+returns-then-count-eq0-clause-spares g c told =
+    spares_none IsLogSet (g.T.Site.disk c.args.site.now) (g.met.T.Site.lawful c.args.site.now told)

@@ -3,7 +3,9 @@ use Rattle.std.proofs.lemmas.Grind.{common_steps}
 use Rattle.fp_model.specs.History.{place_of}
 use Rattle.fp_model.specs.Machine.{sealed_times}
 use Rattle.fp_core.specs.Relation.{rules_in}
+use Rattle.fp_core.specs.Sparing.{IsLogSet}
 use Rattle.fp_core.proofs.Checkpoints.{all_at, all_sealed, at_step, fewer, leaves_step, sealed_step}
+use Rattle.fp_core.proofs.Spared.{spares_none, spares_on}
 use Rattle.fp_core.proofs.Steps.{left_alone}
 use Rattle.fp_core.proofs.engine.Engine.seal_rest.Goals as goal
 
@@ -23,6 +25,7 @@ loop-self-init g c =
       count = refl;
       reads = λ set h. (h, refl);
       calm = refl;
+      spares = λ told. spares_none IsLogSet disk (g.met.T.Site.lawful c.args.site.now told);
       site = record { later = omega arith; still_told = λ told. told; reference = refl; kept = λ x h. h };
     }
 
@@ -61,6 +64,10 @@ loop-self-preserved g c =
       reads = λ set h. let after = one.reads set h in let earlier = before.reads set after.0 in
           (earlier.0, after.1 ∙ earlier.1);
       calm = c.in_ok-seal.ensures.calm ∙ before.calm;
+      spares = λ told.
+          let told1 = before.site.still_told told in
+          spares_on IsLogSet d0 d1 d2 (g.met.T.Site.lawful c.loop-self.site told1) (before.spares told)
+          (one.spares told1);
       site = record {
         later = omega (arith, before.site.later, one.site.later);
         still_told = λ told. one.site.still_told (before.site.still_told told);
@@ -101,3 +108,9 @@ returns-clause-at g c origin m told at =
     let none : length c.loop-self.self.owed.items ≡ 0 = grind (arith, common_steps) in
     all_at origin (rules_in c.args.self.now) m (g.T.Site.disk c.loop-self.site) c.args.self.now c.loop-self.self
     at.parts (c.loop-self.invariant.at origin m told at) none
+
+pub returns-in_err-seal-clause-spares : goal.returns-in_err-seal-clause-spares
+returns-in_err-seal-clause-spares g c told =
+    let told1 = c.loop-self.invariant.site.still_told told in
+    spares_on IsLogSet (g.T.Site.disk c.args.site.now) (g.T.Site.disk c.loop-self.site) (g.T.Site.disk c.seal.new.site)
+    (g.met.T.Site.lawful c.loop-self.site told1) (c.loop-self.invariant.spares told) (c.seal.ensures.spares told1)

@@ -3,6 +3,7 @@ use Rattle.fp_model.specs.History.{place_of}
 use Rattle.fp_model.specs.Machine.{Machine}
 use Rattle.fp_site.specs.Site.{ReadsNothing}
 use Rattle.fp_core.specs.Relation.{StandsFor, rules_in}
+use Rattle.fp_core.specs.Sparing.{IsLogSet, Spares}
 use Rattle.fp_core.specs.Standing.{IsContinued, Leaves, Origin, StandsAt}
 use Rattle.fp_core.proofs.Checkpoints.{IsSealed, IsSealedAt}
 use Rattle.fp_core.proofs.engine.Engine.seal_rest.Given as goal
@@ -26,6 +27,7 @@ invariant-loop-self g l = record {
   count : length l.self.regions ≡ length l.initial.self.regions;
   reads : ReadsNothing (g.T.Site.tells_reads l.initial.site) (g.T.Site.tells_reads l.site)
       (g.T.Site.bytes_read l.initial.site) (g.T.Site.bytes_read l.site);
+  spares : g.T.Site.told l.initial.site → Spares IsLogSet (g.T.Site.disk l.initial.site) (g.T.Site.disk l.site);
   calm : g.T.Site.faults l.site ≡ g.T.Site.faults l.initial.site;
   site : IsContinued g.T.Site.told g.T.Site.faults g.T.Site.holds g.T.Site.keeps l.initial.site l.site;
 }

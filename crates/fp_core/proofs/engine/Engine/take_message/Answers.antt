@@ -1,4 +1,4 @@
-use Rattle.std.proofs.Common.{◌≡◌, ◌∙◌, sym, arith, ℕ, suc, ◌-◌}
+use Rattle.std.proofs.Common.{◌≡◌, ◌∙◌, sym, arith, ℕ, suc, ◌-◌, None}
 use Rattle.fp_core.proofs.Goings.{on_err}
 use Rattle.fp_core.proofs.Places.{some_same}
 use Rattle.fp_core.proofs.Steps.{regions_long}
@@ -70,6 +70,7 @@ returns-clause-turned c m s =
           c.in_ok-program-in-Some.program;
       work = c.in_ok-program-in-Some.work;
       tries = 0;
+      ahead = None;
     })
     c.take.new.self c.make_room.new.log c.make_room.new.owed c.in_ok-program-in-Some.room
     (sym c.in-Some.ensures) c.take.ensures.rest c.take.ensures.busy c.make_room.ensures.log c.make_room.ensures.owed

@@ -14,8 +14,8 @@ lock-requires-clause-needs c =
       ),
     )
 
-pub finish-requires-clause-at_end : goal.finish-requires-clause-at_end
-finish-requires-clause-at_end c =
+pub commit-requires-clause-holds : goal.commit-requires-clause-holds
+commit-requires-clause-holds c =
     let u = c.requires.under in (
       u.0,
       (

@@ -1,14 +1,17 @@
 use Rattle.std.proofs.Common.{◌∙◌, ap, subst, arith, ◌+◌, ◌-◌, Bool}
+use Rattle.fp_model.specs.declared.definitions.Defs.{Defs}
 use Rattle.fp_model.specs.Machine.{Machine}
 use Rattle.fp_model.specs.Rules.{Rules}
 use Rattle.fp_site.specs.Moments.{Through}
 use Rattle.fp_source.specs.declared.part.Part.TheVariants as part
 use Rattle.fp_core.specs.Draining.{DrainStopped, IsLeftByDrain}
 use Rattle.fp_core.specs.Relation.{rules_in}
+use Rattle.fp_core.specs.Sparing.{IsLogSet}
 use Rattle.fp_core.specs.Rounding.{Went, WentBeside}
 use Rattle.fp_core.proofs.Bounds.{needs_fewer, with_lines_reached}
 use Rattle.fp_core.proofs.Comings.{come_both, drained_by, moments_both, stopped_behind}
 use Rattle.fp_core.proofs.Onwards.{continued_both, reads_nothing_both, reads_only_both}
+use Rattle.fp_core.proofs.Spared.{spares_on}
 use Rattle.fp_core.proofs.Rounds.{if_err_from}
 use Rattle.fp_core.proofs.stepping.Core.drain.Goals as goal
 
@@ -28,11 +31,12 @@ returns-in_err-round-clause-stopped g c origin m told tells beside reached =
     let tells1 = i.source.stays_told tells in
     let come = i.come origin m told tells beside in
     let stop = c.in_err-round.field-0.0 in
-    if_err_from (DrainStopped origin rules m core.lines disk disk2) c.from_residual.result stop
+    if_err_from (DrainStopped origin core.engine.defs.now rules m core.lines disk disk2) c.from_residual.result stop
     c.from_residual.ensures.1
-    (stopped_behind origin rules m disk core.lines disk1 mid.lines left1 mid.engine come disk2 stop
-    (subst (λ (r : Rules). DrainStopped origin r come.after mid.lines disk1 disk2 stop) i.rules
-    (c.in_err-round.ensures.stopped origin come.after told1 tells1 come.beside)))
+    (stopped_behind origin rules m disk core.lines disk1 mid.lines left1 mid.engine come core.engine.defs.now disk2 stop
+    (subst (λ (d : Defs). DrainStopped origin d rules come.after mid.lines disk1 disk2 stop) (ap (λ d. d.now) i.defs)
+    (subst (λ (r : Rules). DrainStopped origin mid.engine.defs.now r come.after mid.lines disk1 disk2 stop) i.rules
+    (c.in_err-round.ensures.stopped origin come.after told1 tells1 come.beside))))
 
 pub returns-in_err-round-clause-moments : goal.returns-in_err-round-clause-moments
 returns-in_err-round-clause-moments g c origin m told tells beside reached =
@@ -47,11 +51,12 @@ returns-in_err-round-clause-moments g c origin m told tells beside reached =
     let told1 = i.site.still_told told in
     let tells1 = i.source.stays_told tells in
     let come = i.come origin m told tells beside in
-    moments_both origin rules m disk core.lines disk1 mid.lines left1 mid.engine come disk2
+    moments_both origin rules m disk core.lines disk1 mid.lines left1 mid.engine come core.engine.defs.now disk2
     (g.met.T.Site.lawful c.loop-done.site told1)
     (i.moments origin m told tells beside)
-    (subst (λ (r : Rules). Through disk1 disk2 (IsLeftByDrain origin r come.after disk1)) i.rules
-    (c.round.ensures.moments origin come.after told1 tells1 come.beside))
+    (subst (λ (d : Defs). Through disk1 disk2 (IsLeftByDrain origin d rules come.after disk1)) (ap (λ d. d.now) i.defs)
+    (subst (λ (r : Rules). Through disk1 disk2 (IsLeftByDrain origin mid.engine.defs.now r come.after disk1)) i.rules
+    (c.round.ensures.moments origin come.after told1 tells1 come.beside)))
 
 -- ---- the end
 
@@ -82,11 +87,12 @@ returns-then-not-branch-clause-moments g c origin m told tells beside reached =
     let told1 = i.site.still_told told in
     let tells1 = i.source.stays_told tells in
     let come = i.come origin m told tells beside in
-    moments_both origin rules m disk core.lines disk1 mid.lines left1 mid.engine come disk2
+    moments_both origin rules m disk core.lines disk1 mid.lines left1 mid.engine come core.engine.defs.now disk2
     (g.met.T.Site.lawful c.loop-done.site told1)
     (i.moments origin m told tells beside)
-    (subst (λ (r : Rules). Through disk1 disk2 (IsLeftByDrain origin r come.after disk1)) i.rules
-    (c.round.ensures.moments origin come.after told1 tells1 come.beside))
+    (subst (λ (d : Defs). Through disk1 disk2 (IsLeftByDrain origin d rules come.after disk1)) (ap (λ d. d.now) i.defs)
+    (subst (λ (r : Rules). Through disk1 disk2 (IsLeftByDrain origin mid.engine.defs.now r come.after disk1)) i.rules
+    (c.round.ensures.moments origin come.after told1 tells1 come.beside)))
 
 pub returns-then-not-branch-clause-drained : goal.returns-then-not-branch-clause-drained
 returns-then-not-branch-clause-drained g c origin m told tells beside reached =
@@ -154,11 +160,19 @@ loop-done-preserved g c =
           let told1 = i.site.still_told told in
           let tells1 = i.source.stays_told tells in
           let come = i.come origin m told tells beside in
-          moments_both origin rules m disk core.lines disk1 mid.lines left1 mid.engine come disk2
+          moments_both origin rules m disk core.lines disk1 mid.lines left1 mid.engine come core.engine.defs.now disk2
           (g.met.T.Site.lawful c.loop-done.site told1)
           (i.moments origin m told tells beside)
-          (subst (λ (r : Rules). Through disk1 disk2 (IsLeftByDrain origin r come.after disk1)) i.rules
-          (c.round.ensures.moments origin come.after told1 tells1 come.beside));
+          (subst (λ (d : Defs). Through disk1 disk2 (IsLeftByDrain origin d rules come.after disk1))
+          (ap (λ d. d.now) i.defs)
+          (subst (λ (r : Rules). Through disk1 disk2 (IsLeftByDrain origin mid.engine.defs.now r come.after disk1))
+          i.rules
+          (c.round.ensures.moments origin come.after told1 tells1 come.beside)));
+      spares = λ told.
+          let told1 = i.site.still_told told in
+          spares_on IsLogSet (g.T.Site.disk c.args.site.now) (g.T.Site.disk c.loop-done.site)
+          (g.T.Site.disk c.round.new.site) (g.met.T.Site.lawful c.loop-done.site told1) (i.spares told)
+          (c.round.ensures.spares told1);
       fair = λ tells. c.in_ok-round.ensures.fair (i.source.stays_told tells) ∙ i.fair tells;
       rules = c.round.ensures.rules ∙ i.rules;
       defs = c.round.ensures.defs ∙ i.defs;
@@ -177,3 +191,17 @@ loop-done-preserved g c =
           part.Messages
           c.args.source.now c.loop-done.source c.round.new.source i.source c.round.ensures.source;
     }
+
+-- ---- other data sets
+
+pub returns-in_err-round-clause-spares : goal.returns-in_err-round-clause-spares
+returns-in_err-round-clause-spares g c told =
+    let told1 = c.loop-done.invariant.site.still_told told in
+    spares_on IsLogSet (g.T.Site.disk c.args.site.now) (g.T.Site.disk c.loop-done.site) (g.T.Site.disk c.round.new.site)
+    (g.met.T.Site.lawful c.loop-done.site told1) (c.loop-done.invariant.spares told) (c.round.ensures.spares told1)
+
+pub returns-then-not-branch-clause-spares : goal.returns-then-not-branch-clause-spares
+returns-then-not-branch-clause-spares g c told =
+    let told1 = c.loop-done.invariant.site.still_told told in
+    spares_on IsLogSet (g.T.Site.disk c.args.site.now) (g.T.Site.disk c.loop-done.site) (g.T.Site.disk c.round.new.site)
+    (g.met.T.Site.lawful c.loop-done.site told1) (c.loop-done.invariant.spares told) (c.round.ensures.spares told1)

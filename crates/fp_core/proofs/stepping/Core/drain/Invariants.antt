@@ -8,6 +8,7 @@ use Rattle.fp_source.specs.declared.part.Part.TheVariants as part
 use Rattle.fp_core.specs.Draining.{IsLeftByDrain}
 use Rattle.fp_core.specs.Relation.{rules_in}
 use Rattle.fp_core.specs.Rounding.{HasCome, NeedsFewer}
+use Rattle.fp_core.specs.Sparing.{IsLogSet, Spares}
 use Rattle.fp_core.specs.Standing.{IsContinued, Origin, StandsBeside}
 use Rattle.fp_core.proofs.stepping.Core.drain.Given as goal
 
@@ -24,7 +25,9 @@ invariant-loop-done g l = record {
       → StandsBeside origin (g.T.Site.disk l.initial.site) l.initial.self.lines
       (g.S.Source.left l.initial.source part.Messages) l.initial.self.engine m
       → Through (g.T.Site.disk l.initial.site) (g.T.Site.disk l.site)
-      (IsLeftByDrain origin (rules_in l.initial.self.engine) m (g.T.Site.disk l.initial.site));
+      (IsLeftByDrain origin l.initial.self.engine.defs.now (rules_in l.initial.self.engine) m
+      (g.T.Site.disk l.initial.site));
+  spares : g.T.Site.told l.initial.site → Spares IsLogSet (g.T.Site.disk l.initial.site) (g.T.Site.disk l.site);
   fair : g.S.Source.told l.initial.source → fault_ahead l.self.lines (g.S.Source.left l.source part.Messages)
       ≡ fault_ahead l.initial.self.lines (g.S.Source.left l.initial.source part.Messages);
   rules : rules_in l.self.engine ≡ rules_in l.initial.self.engine;

@@ -2,7 +2,8 @@ use Rattle.std.proofs.Common.{◌∙◌, ap, sym, refl, [], ◌∷◌}
 use Rattle.fp_model.specs.Messages.{lines_of}
 use Rattle.fp_source.specs.Lines.{lines_ahead}
 use Rattle.fp_source.specs.declared.part.Part.TheVariants as parts
-use Rattle.fp_core.proofs.Readings.{last_stepped, last_stepped_by, next_stepped, next_stepped_by, stands_before}
+use Rattle.fp_core.specs.Relation.{rules_in}
+use Rattle.fp_core.proofs.Readings.{did_something, last_stepped, last_stepped_by, next_stepped, next_stepped_by, stands_before}
 use Rattle.fp_core.proofs.stepping.Core.read_next.Goals as goal
 
 pub returns-in_ok-take_line-in-Some-clause-turned : goal.returns-in_ok-take_line-in-Some-clause-turned
@@ -45,3 +46,11 @@ returns-in-None-clause-read g c m told s ahead =
     let ended = rw c.in-None.is at (c.in_ok-line.ensures.ended told) in
     last_stepped_by c.args.self.now.engine m s (sym s.held ∙ c.requires.none) c.args.self.now.lines c.next.new.self
     (g.S.Source.left c.next.new.source parts.Messages) still (ahead ∙ ap lines_of none) (ap lines_of (sym ended))
+
+pub returns-in_ok-take_line-in-Some-clause-ended : goal.returns-in_ok-take_line-in-Some-clause-ended
+returns-in_ok-take_line-in-Some-clause-ended g c told nothing =
+    absurd (did_something (rules_in c.args.self.now.engine) c.requires.stands.0 c.in-Some.line
+    (sym (c.in_ok-take_line-in-Some.ensures.did c.requires.stands.0 c.requires.stands.1) ∙ nothing))
+
+pub returns-in-None-clause-ended : goal.returns-in-None-clause-ended
+returns-in-None-clause-ended g c told nothing = rw c.in-None.is at (c.in_ok-line.ensures.ended told)

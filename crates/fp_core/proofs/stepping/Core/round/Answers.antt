@@ -7,8 +7,10 @@ use Rattle.fp_core.specs.declared.stop.Stop.{Stop}
 use Rattle.fp_core.specs.declared.stop.Stop.TheVariants as stops
 use Rattle.fp_core.specs.Draining.{DrainStopped}
 use Rattle.fp_core.specs.Relation.{rules_in}
+use Rattle.fp_core.specs.Sparing.{IsLogSet}
 use Rattle.fp_core.specs.Rounding.{TookTurns, WentBeside, turns_of}
 use Rattle.fp_core.proofs.Comings.{before_log, came_off, in_region, in_stands, moments_log, stopped_in, stopped_log, stopped_region, turns_stand, went_on}
+use Rattle.fp_core.proofs.Spared.{spares_none}
 use Rattle.fp_core.proofs.Rounds.{if_err_from, makes_round}
 use Rattle.fp_core.proofs.stepping.Core.round.Goals as goal
 
@@ -19,7 +21,8 @@ returns-in_err-begin_round-clause-stopped g c origin m told tells beside =
     let core = c.args.self.now in
     let disk = g.T.Site.disk c.args.site.now in
     let stop = c.in_err-begin_round.field-0.0 in
-    if_err_from (DrainStopped origin (rules_in core.engine) m core.lines disk disk) c.from_residual.result stop
+    if_err_from (DrainStopped origin core.engine.defs.now (rules_in core.engine) m core.lines disk disk)
+    c.from_residual.result stop
     c.from_residual.ensures.1
     (stopped_in origin (rules_in core.engine) m core.lines disk stop (g.met.T.Site.lawful c.args.site.now told)
     core.engine beside.at
@@ -62,14 +65,18 @@ returns-in_err-turn_each-clause-stopped g c origin m told tells beside =
     let many : length second.defs.now.regions ≡ length rules.regions = ap (λ d. length d.now.regions)
     (c.turn_each.ensures.defs ∙ c.begin_round.ensures.defs) in
     let few : among.count < length rules.regions = omega (arith, among.few, many) in
-    if_err_from (DrainStopped origin rules m core.lines disk disk) c.from_residual-in_err-turn_each.result
+    if_err_from (DrainStopped origin core.engine.defs.now rules m core.lines disk disk)
+    c.from_residual-in_err-turn_each.result
     stops.Memory c.from_residual-in_err-turn_each.ensures.1
-    (stopped_region origin rules m core.lines disk stops.Memory (g.met.T.Site.lawful c.args.site.now told) second
+    (stopped_region origin rules m core.lines disk stops.Memory (g.met.T.Site.lawful c.args.site.now told)
+    core.engine.defs.now second
     among.took.after (among.count + 1) refl
     (turns_stand origin disk left after first.lines first.engine second (turns_of among.count)
     c.turn_each.ensures.gate at among.took).at
-    (in_region rules m core.lines first.lines first.engine second by.began.did c.begin_round.ensures.rules same2
-    by.began.stepped undone among.count few among.took))
+    (in_region core.engine.defs.now rules m core.lines first.lines first.engine second by.began.did
+    c.begin_round.ensures.rules same2
+    (ap (λ d. d.now) (c.turn_each.ensures.defs ∙ c.begin_round.ensures.defs)) by.began.stepped undone among.count few
+    among.took))
 
 -- ---- LOG
 
@@ -89,9 +96,11 @@ returns-in_err-seal-clause-stopped g c origin m told tells beside =
     c.if-not-branch.false (λ mid s. c.in_ok-turn_each.ensures.turned mid s) in
     let leaves = c.seal.ensures.leaves origin before.took.after told before.beside.at in
     let stop = c.in_err-seal.field-0.0 in
-    if_err_from (DrainStopped origin rules m core.lines disk disk2) c.from_residual-in_err-seal.result stop
+    if_err_from (DrainStopped origin core.engine.defs.now rules m core.lines disk disk2)
+    c.from_residual-in_err-seal.result stop
     c.from_residual-in_err-seal.ensures.1
-    (stopped_log origin rules m disk disk2 core.lines first.lines left second same before leaves stop
+    (stopped_log origin rules m disk disk2 core.lines first.lines left second same before
+    core.engine.defs.now (ap (λ d. d.now) (c.turn_each.ensures.defs ∙ c.begin_round.ensures.defs)) leaves stop
     c.in_err-seal.ensures.stops)
 
 pub returns-in_err-seal-clause-moments : goal.returns-in_err-seal-clause-moments
@@ -109,7 +118,8 @@ returns-in_err-seal-clause-moments g c origin m told tells beside =
     c.turn_each.ensures.gate beside.at (c.in_ok-begin_round.ensures.read m tells beside.at.parts beside.lines_are)
     c.if-not-branch.false (λ mid s. c.in_ok-turn_each.ensures.turned mid s) in
     let leaves = c.seal.ensures.leaves origin before.took.after told before.beside.at in
-    moments_log origin rules m disk disk2 core.lines first.lines left second same before leaves
+    moments_log origin rules m disk disk2 core.lines first.lines left second same before
+    core.engine.defs.now (ap (λ d. d.now) (c.turn_each.ensures.defs ∙ c.begin_round.ensures.defs)) leaves
 
 -- ---- a whole round
 
@@ -128,7 +138,8 @@ returns-clause-moments g c origin m told tells beside =
     c.turn_each.ensures.gate beside.at (c.in_ok-begin_round.ensures.read m tells beside.at.parts beside.lines_are)
     c.if-not-branch.false (λ mid s. c.in_ok-turn_each.ensures.turned mid s) in
     let leaves = c.seal.ensures.leaves origin before.took.after told before.beside.at in
-    moments_log origin rules m disk disk2 core.lines first.lines left second same before leaves
+    moments_log origin rules m disk disk2 core.lines first.lines left second same before
+    core.engine.defs.now (ap (λ d. d.now) (c.turn_each.ensures.defs ∙ c.begin_round.ensures.defs)) leaves
 
 pub returns-clause-beside : goal.returns-clause-beside
 returns-clause-beside g c origin m told tells beside =
@@ -145,7 +156,8 @@ returns-clause-beside g c origin m told tells beside =
     c.turn_each.ensures.gate beside.at (c.in_ok-begin_round.ensures.read m tells beside.at.parts beside.lines_are)
     c.if-not-branch.false (λ mid s. c.in_ok-turn_each.ensures.turned mid s) in
     let leaves = c.seal.ensures.leaves origin before.took.after told before.beside.at in
-    went_on origin rules m disk disk2 core.lines first.lines left second same before leaves
+    went_on origin rules m disk disk2 core.lines first.lines left second same before
+    core.engine.defs.now (ap (λ d. d.now) (c.turn_each.ensures.defs ∙ c.begin_round.ensures.defs)) leaves
     c.seal.new.self c.in_ok-seal.field-0 (c.seal.ensures.rules ∙ same)
     (c.in_ok-seal.ensures.at origin before.took.after told before.beside.at)
 
@@ -171,3 +183,17 @@ returns-clause-went g c m s =
           c.in_ok-seal.field-0 (c.seal.ensures.rules ∙ same2) undone took
           (c.in_ok-seal.ensures.turned took.after took.stands),
     )
+
+-- ---- other data sets
+
+pub returns-in_err-begin_round-clause-spares : goal.returns-in_err-begin_round-clause-spares
+returns-in_err-begin_round-clause-spares g c told =
+    spares_none IsLogSet (g.T.Site.disk c.args.site.now) (g.met.T.Site.lawful c.args.site.now told)
+
+pub returns-then-not-branch-clause-spares : goal.returns-then-not-branch-clause-spares
+returns-then-not-branch-clause-spares g c told =
+    spares_none IsLogSet (g.T.Site.disk c.args.site.now) (g.met.T.Site.lawful c.args.site.now told)
+
+pub returns-in_err-turn_each-clause-spares : goal.returns-in_err-turn_each-clause-spares
+returns-in_err-turn_each-clause-spares g c told =
+    spares_none IsLogSet (g.T.Site.disk c.args.site.now) (g.met.T.Site.lawful c.args.site.now told)

@@ -5,9 +5,11 @@ use Rattle.fp_model.specs.declared.events.Event.TheVariants as event
 use Rattle.fp_source.specs.declared.part.Part.TheVariants as part
 use Rattle.fp_core.specs.declared.did.Did.TheVariants as did
 use Rattle.fp_core.specs.Relation.{rules_in}
+use Rattle.fp_core.specs.Sparing.{IsLogSet}
 use Rattle.fp_core.specs.Standing.{IsEventOf, Stepped, SteppedAt, SteppedBeside, SteppedBy, seals_of}
 use Rattle.fp_core.specs.Turning.{Turned}
 use Rattle.fp_core.proofs.Places.{if_ok_by}
+use Rattle.fp_core.proofs.Spared.{spares_none}
 use Rattle.fp_core.proofs.Steps.{ckpt_beside, ckpt_stepped, in_beside, left_alone, log_beside, log_stepped, out_beside, out_turned, region_beside, region_stepped, regions_long, stepped_with}
 use Rattle.fp_core.proofs.stepping.Core.step.Goals as goal
 
@@ -132,3 +134,19 @@ returns-in-Out-clause-beside g c origin m told tells beside =
     subst (λ (e : Event). SteppedBeside origin e m disk core.lines core.lines left core.engine did.Nothing)
     (sym c.in-Out.is)
     (out_beside origin disk left m core.lines core.engine beside)
+
+pub returns-in_err-turn-in-Region-clause-spares : goal.returns-in_err-turn-in-Region-clause-spares
+returns-in_err-turn-in-Region-clause-spares g c told =
+    spares_none IsLogSet (g.T.Site.disk c.args.site.now) (g.met.T.Site.lawful c.args.site.now told)
+
+pub returns-in_ok-turn-in-Region-clause-spares : goal.returns-in_ok-turn-in-Region-clause-spares
+returns-in_ok-turn-in-Region-clause-spares g c told =
+    spares_none IsLogSet (g.T.Site.disk c.args.site.now) (g.met.T.Site.lawful c.args.site.now told)
+
+pub returns-in-In-clause-spares : goal.returns-in-In-clause-spares
+returns-in-In-clause-spares g c told =
+    spares_none IsLogSet (g.T.Site.disk c.args.site.now) (g.met.T.Site.lawful c.args.site.now told)
+
+pub returns-in-Out-clause-spares : goal.returns-in-Out-clause-spares
+returns-in-Out-clause-spares g c told =
+    spares_none IsLogSet (g.T.Site.disk c.args.site.now) (g.met.T.Site.lawful c.args.site.now told)

@@ -1,0 +1,4 @@
+pub mod Alone
+pub mod Turned
+pub mod Counted
+pub mod Runs

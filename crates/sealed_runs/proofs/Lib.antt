@@ -1,0 +1,5 @@
+pub mod Parts
+pub mod Sealing
+pub mod Making
+pub mod SoundLogs
+pub mod Disks

@@ -1,0 +1,97 @@
+-- Parts of lists and of histories.
+use Rattle.std.proofs.Common.{◌≡◌, refl, sym, ◌∙◌, ap, arith, ℕ, zero, suc, ◌+◌, List, [], ◌∷◌, ◌++◌, length, take, drop, append_assoc}
+use Rattle.std.specs.Prelude.{Some, slice_get}
+use Rattle.std.proofs.Math.Seq.{take-add}
+use Rattle.std.proofs.lemmas.List.{append-nil}
+use Rattle.std.proofs.lemmas.List.Concat.{flat_map-append, flat_map-cons}
+use Rattle.std.proofs.lemmas.List.Sums.{fold-append}
+use Rattle.fp_model.specs.declared.database.Db.{Db}
+use Rattle.fp_model.specs.declared.log.Entry.{Entry}
+use Rattle.fp_model.specs.declared.log.Outcome.{Outcome}
+use Rattle.fp_model.specs.declared.log.Outcome.TheVariants as outcome
+use Rattle.fp_model.specs.Groups.{entries_of}
+use Rattle.fp_model.specs.History.{History, states_of, with_entry}
+use Rattle.fp_model.specs.Items.{items_of}
+use Rattle.fp_model.specs.Lasts.{format_at, format_behind}
+use Rattle.fp_model.specs.Rules.{Rules}
+use Rattle.fp_model.specs.SerialHistory.{LeadsOn}
+
+-- ---- lists
+
+-- the element behind a first part
+pub get_behind : {X : Type 0} (xs : List X) (x : X) (ys : List X) (n : ℕ) → n ≡ length xs
+    → slice_get (xs ++ x ∷ ys) n ≡ Some x
+get_behind [] x ys n e = ap (slice_get (x ∷ ys)) e
+get_behind (a ∷ xs) x ys zero e = absurd (omega (arith, e))
+get_behind (a ∷ xs) x ys (suc n) e = get_behind xs x ys n (omega (arith, e))
+
+take_nil : {X : Type 0} (k : ℕ) → take {A = X} k [] ≡ []
+take_nil zero = refl
+take_nil (suc k) = refl
+
+-- a first part by its own length
+take_own : {X : Type 0} (k : ℕ) (xs : List X) → take (length (take k xs)) xs ≡ take k xs
+take_own zero xs = refl
+take_own (suc k) [] = refl
+take_own (suc k) (x ∷ xs) = ap (λ ys. x ∷ ys) (take_own k xs)
+
+-- a first part, and so many more
+pub take_more : {X : Type 0} (n k : ℕ) (xs : List X)
+    → take n xs ++ take k (drop n xs) ≡ take (n + length (take k (drop n xs))) xs
+take_more n k xs =
+    ap (λ ys. take n xs ++ ys) (sym (take_own k (drop n xs)))
+    ∙ sym (take-add n (length (take k (drop n xs))) xs)
+
+-- ---- entries and items
+
+-- the entries of groups and one more
+pub entries_one : (gs : List (List Entry)) (es : List Entry) → entries_of (gs ++ es ∷ []) ≡ entries_of gs ++ es
+entries_one gs es =
+    flat_map-append (λ (x : List Entry). x) gs (es ∷ [])
+    ∙ ap (λ l. entries_of gs ++ l) (flat_map-cons (λ (x : List Entry). x) es [] ∙ append-nil es)
+
+pub entries_both : (gs hs : List (List Entry)) → entries_of (gs ++ hs) ≡ entries_of gs ++ entries_of hs
+entries_both gs hs = flat_map-append (λ (x : List Entry). x) gs hs
+
+pub items_both : (es fs : List Entry) → items_of (es ++ fs) ≡ items_of es ++ items_of fs
+items_both es fs = flat_map-append (λ (x : Entry). x.items) es fs
+
+pub items_first : (e : Entry) (es : List Entry) → items_of (e ∷ es) ≡ e.items ++ items_of es
+items_first e es = flat_map-cons (λ (x : Entry). x.items) e es
+
+-- ---- formats
+
+-- a format behind which is 1 was 1
+one_before : (format : ℕ) (o : Outcome) → format_behind format o ≡ 1 → format ≡ 1
+one_before format outcome.Done is = is
+one_before format (outcome.Verify call fsa found) is = is
+one_before format (outcome.Roll code) is = is
+one_before format (outcome.SeqFull set begin end n) is = is
+one_before format (outcome.Deadlock cycle) is = is
+one_before format outcome.Device is = is
+one_before format outcome.Memory is = is
+one_before format outcome.Unknown is = is
+one_before format (outcome.Old last) is = is
+one_before format (outcome.Repeat line) is = is
+one_before format (outcome.Purge set n) is = is
+one_before format outcome.Format is = absurd (omega (arith, is))
+
+pub one_first : (format : ℕ) (es : List Entry) → format_at format es ≡ 1 → format ≡ 1
+one_first format [] is = is
+one_first format (e ∷ es) is = one_before format e.outcome (one_first (format_behind format e.outcome) es is)
+
+-- so it is behind a first part
+pub one_within : (format : ℕ) (es fs : List Entry) → format_at format (es ++ fs) ≡ 1 → format_at format es ≡ 1
+one_within format es fs is =
+    one_first (format_at format es) fs
+    (sym (fold-append (λ (before : ℕ) (e : Entry). format_behind before e.outcome) format es fs) ∙ is)
+
+-- ---- histories
+
+-- a history that goes on has the states from before, and more
+pub states_more : (rules : Rules) (h : History) (es : List Entry) (h2 : History) → LeadsOn rules h es h2
+    → (more : List Db) × (states_of h2 ≡ states_of h ++ more)
+states_more rules h [] h2 l = ([], ap states_of l ∙ sym (append-nil (states_of h)))
+states_more rules h (e ∷ es) h2 l =
+    let rest = states_more rules (with_entry e l.0 h) es h2 l.2 in
+    (l.0 ∷ rest.0, rest.1 ∙ append_assoc (states_of h) (l.0 ∷ []) rest.0)
