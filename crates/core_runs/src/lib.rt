@@ -9,5 +9,5 @@ mod telling;
 
 pub use fault::Fault;
 pub use running::{Found, find, run};
-pub use setup::{Task, front};
+pub use setup::{Task, definitions};
 pub use telling::{databases_text, log_text};

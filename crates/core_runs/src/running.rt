@@ -210,7 +210,8 @@ pub fn find(alloc: Global, task: &Task<'_>, exits: &Exits) -> Result<Found, Faul
     let sent = Bytes::from_slice(alloc, site.sent())?;
     let log = Bytes::from_slice(alloc, site.contents(0))?;
     let groups = log_text(alloc, &mut site)?;
-    let databases = databases_text(alloc, task.definitions, exits, &mut site)?;
+    let defs = definitions(alloc, task.definitions, exits)?;
+    let databases = databases_text(alloc, &defs, &mut site)?;
     Ok(Found {
         dids,
         quiet,

@@ -24,8 +24,8 @@ pub struct Task<'a> {
     pub messages: &'a [u8],
 }
 
-/// The definitions, which have no data entry database.
-pub(crate) fn definitions(alloc: Global, text: &[u8], exits: &Exits) -> Result<Defs, Fault>
+/// The definitions that a text is read as, which have no data entry database.
+pub fn definitions(alloc: Global, text: &[u8], exits: &Exits) -> Result<Defs, Fault>
     ensures defs { IfOk result AreDefs }
     ensures no_dedbs { IfOk result (λ defs. defs.dedbs ≡ []) }
     ensures router { IfOk result (λ defs. has_kind (kinds_of exits.now).routers defs.router ≡ true) }
@@ -54,7 +54,7 @@ pub(crate) fn scripts(alloc: Global, text: &[u8], defs: &Defs) -> Result<Scripts
 }
 
 /// The front of each log: what it says isn't looked at.
-pub fn front(alloc: Global) -> Result<Front, AllocError>
+pub(crate) fn front(alloc: Global) -> Result<Front, AllocError>
     ensures { IfOk result (λ front. FitsFront (as_front front)) }
 {
     let defs = Bytes::from_slice(alloc, b"D")?;

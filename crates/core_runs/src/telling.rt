@@ -1,8 +1,10 @@
 //! What is told of a site behind a run: its log, and the databases that a restart finds.
+ghost use Rattle.fp_model.specs.WellFormed.{IsMsdbDef};
+ghost use Rattle.std.specs.List.{AllByRecursion};
+
 use crate::fault::Fault;
-use crate::setup::{definitions, front};
-use fp_exits::Exits;
-use fp_model::Bytes;
+use crate::setup::front;
+use fp_model::{Bytes, Defs};
 use fp_restart::{restart, whole_db};
 use fp_show::{show_db, show_group};
 use fp_site::MemorySite;
@@ -51,19 +53,15 @@ pub fn log_text(alloc: Global, site: &mut MemorySite) -> Result<Bytes, Fault> {
 }
 
 /// The text of the databases that a restart of the site gives.
-pub fn databases_text(
-    alloc: Global,
-    text: &[u8],
-    exits: &Exits,
-    site: &mut MemorySite,
-) -> Result<Bytes, Fault> {
-    let defs = definitions(alloc, text, exits)?;
+pub fn databases_text(alloc: Global, defs: &Defs, site: &mut MemorySite) -> Result<Bytes, Fault>
+    requires { AllByRecursion IsMsdbDef defs.now.msdbs }
+{
     let front = front(alloc)?;
-    let Ok(mut parts) = restart(alloc, &defs, &front, site) else {
+    let Ok(mut parts) = restart(alloc, defs, &front, site) else {
         return Err(Fault::NoLog);
     };
-    match whole_db(alloc, &mut parts, &defs, site) {
-        Ok(db) => Ok(show_db(alloc, &db, &defs)?),
+    match whole_db(alloc, &mut parts, defs, site) {
+        Ok(db) => Ok(show_db(alloc, &db, defs)?),
         Err(_) => Err(Fault::NoLog),
     }
 }

@@ -1,10 +1,13 @@
 //! Runs on a site whose calls fail, one alone or all from one on, and a restart from what a crash may leave then: it has
 //! each transaction that was answered, be it in part.
+ghost use Rattle.fp_model.specs.WellFormed.{IsMsdbDef};
+ghost use Rattle.std.specs.List.{AllByRecursion};
+
 use crate::rows::{CROSSWISE, OVERDRAWN, Row, WAITS_FOR_A_HOLD};
 use crate::sample::{SCRIPTS, Setting, definitions, exits};
 use core_runs::{Fault, Task, databases_text, find, log_text, run};
 use fp_exits::Exits;
-use fp_model::Bytes;
+use fp_model::{Bytes, Defs};
 use fp_site::{MemorySite, Snapshot};
 use std::alloc::{AllocError, Global};
 use std::test::Fail;
@@ -110,7 +113,9 @@ impl Stand {
 
     // Whether a restart from a snapshot has each transaction that was answered, be it in part, and what was answered
     // is a first part of all replies. A log that wasn't made need not be there.
-    fn is_kept(&self, made: bool, snapshot: Snapshot) -> Result<bool, Fault> {
+    fn is_kept(&self, defs: &Defs, made: bool, snapshot: Snapshot) -> Result<bool, Fault>
+        requires { AllByRecursion IsMsdbDef defs.now.msdbs }
+    {
         let row = &self.stopped.row;
         let is_first = row.sent.as_bytes().starts_with(snapshot.sent.as_slice());
         let answered = snapshot
@@ -125,12 +130,7 @@ impl Stand {
             log => log?,
         };
         let entries = entries_in(log.as_slice());
-        let found = databases_text(
-            self.alloc,
-            self.definitions.as_bytes(),
-            &self.exits,
-            &mut site,
-        )?;
+        let found = databases_text(self.alloc, defs, &mut site)?;
         Ok(
             is_first
                 && answered <= entries
@@ -164,7 +164,9 @@ fn task_of<'a>(definitions: &'a String, row: &Row) -> Task<'a> {
 
 // How many entries a text of a log has.
 fn entries_in(text: &[u8]) -> usize {
-    text.windows(4).filter(|four| *four == b" => ").count()
+    text.windows(4)
+        .filter(|four| *four == b" => ".as_slice())
+        .count()
 }
 
 // Whether what was sent ends in half of a reply line: a send failed.
@@ -179,10 +181,15 @@ fn is_torn(sent: &[u8], replies: &[u8]) -> bool {
 fn a_restart_has_what_was_answered(rt: HostRuntime) -> Result<(), Fail> {
     for stopped in STOPPED {
         let stand = Stand::new(rt.alloc(), stopped)?;
+        let defs = core_runs::definitions(rt.alloc(), stand.definitions.as_bytes(), &stand.exits)?;
         for number in 0..2 * MOST_CALLS {
             let Left { site, made, .. } = stand.fail(number / 2, number % 2 == 0)?;
+            // Behind the last call nothing fails.
+            if site.faults() == 0 {
+                break;
+            }
             for choice in 0..8 {
-                let kept = stand.is_kept(made, site.snapshot_as(choice)?)?;
+                let kept = stand.is_kept(&defs, made, site.snapshot_as(choice)?)?;
                 assert!(rt; kept, "call {}, image {choice}, {stopped:?}", number / 2);
             }
         }
@@ -196,8 +203,9 @@ fn each_reply_line_is_one_send(rt: HostRuntime) -> Result<(), Fail> {
         let stand = Stand::new(rt.alloc(), stopped)?;
         let mut torn = 0u64;
         for call in 0..MOST_CALLS {
-            let left = stand.fail(call, false)?;
-            if is_torn(left.site.sent(), stopped.row.sent.as_bytes()) {
+            let Left { site, done, .. } = stand.fail(call, false)?;
+            assert_eq!(rt; done, site.faults() == 0, "call {call}, {stopped:?}");
+            if is_torn(site.sent(), stopped.row.sent.as_bytes()) {
                 torn = torn.saturating_add(1);
             }
         }
