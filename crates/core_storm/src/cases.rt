@@ -45,7 +45,7 @@ impl<'a> Texts<'a> {
 #[derive(Debug, Drop)]
 pub(crate) struct Case<'a> {
     definitions: String,
-    scripts: &'a str,
+    scripts: String,
     lines: String,
     events: &'a str,
     dids: &'a str,
@@ -58,29 +58,30 @@ impl<'a> Case<'a> {
     /// The case of a block; `None` where it hasn't the form of one.
     pub(crate) fn of(
         alloc: Global,
-        texts: &Texts<'a>,
+        texts: &Texts<'_>,
         names: &str,
         body: &'a str,
     ) -> Result<Option<Case<'a>>, AllocError> {
         let Some((databases, scripts)) = names.split_once(' ') else {
             return Ok(None);
         };
-        let mut parts = body.split("\n--- ");
-        let top = parts.next().unwrap_or("");
         let databases = texts.of("databases ", databases);
-        let mut part = || match parts.next() {
-            Some(part) => part.split_once('\n').unwrap_or((part, "")).1,
-            None => "",
-        };
+        let (top, rest) = body.split_once("\n--- ").unwrap_or((body, ""));
+        let (lines, rest) = first_part(rest);
+        let (events, rest) = first_part(rest);
+        let (dids, rest) = first_part(rest);
+        let (log, rest) = first_part(rest);
+        let (sent, rest) = first_part(rest);
+        let (databases_found, _) = first_part(rest);
         Ok(Some(Case {
             definitions: format!(in alloc; "{top}\n{databases}\n")?,
-            scripts: texts.of("scripts ", scripts),
-            lines: format!(in alloc; "{}\n", part())?,
-            events: part(),
-            dids: part(),
-            log: part(),
-            sent: part(),
-            databases: part(),
+            scripts: String::from_str(alloc, texts.of("scripts ", scripts))?,
+            lines: format!(in alloc; "{lines}\n")?,
+            events,
+            dids,
+            log,
+            sent,
+            databases: databases_found,
         }))
     }
 
@@ -102,29 +103,36 @@ impl<'a> Case<'a> {
             messages: self.lines.as_bytes(),
         };
         match find(alloc, &task, exits) {
-            Ok(found) => self.first_part(alloc, &found),
+            Ok(found) => self.first_other(alloc, &found),
             Err(Fault::Memory) => Err(AllocError),
             Err(fault) => Ok(Some(format!(in alloc; "{fault:?}")?)),
         }
     }
 
     // The first part that isn't as found.
-    fn first_part(&self, alloc: Global, found: &Found) -> Result<Option<String>, AllocError> {
+    fn first_other(&self, alloc: Global, found: &Found) -> Result<Option<String>, AllocError> {
         let dids = dids_text(alloc, &found.dids)?;
         let log = hexadecimal(alloc, found.log.as_slice())?;
-        let parts = [
-            ("dids", self.dids, dids.as_bytes()),
-            ("log", self.log, log.as_bytes()),
-            ("sent", self.sent, found.sent.as_slice()),
-            ("databases", self.databases, found.databases.as_slice()),
-        ];
-        for (name, wanted, found) in parts {
-            if !is_text(found, wanted) {
-                return Ok(Some(String::from_str(alloc, name)?));
-            }
-        }
-        Ok(None)
+        let name = if !is_text(dids.as_bytes(), self.dids) {
+            "dids"
+        } else if !is_text(log.as_bytes(), self.log) {
+            "log"
+        } else if !is_text(found.sent.as_slice(), self.sent) {
+            "sent"
+        } else if !is_text(found.databases.as_slice(), self.databases) {
+            "databases"
+        } else {
+            return Ok(None);
+        };
+        Ok(Some(String::from_str(alloc, name)?))
     }
+}
+
+// The text of the first part without its name, and the parts behind it.
+fn first_part(parts: &str) -> (&str, &str) {
+    let (part, rest) = parts.split_once("\n--- ").unwrap_or((parts, ""));
+    let (_, text) = part.split_once('\n').unwrap_or((part, ""));
+    (text, rest)
 }
 
 // Whether bytes are a text and a newline.

@@ -349,22 +349,22 @@ fn found_of(alloc: Global, row: &Row) -> Result<Found, Fault> {
 // The first part of what was found that isn't as wanted.
 fn first_difference(alloc: Global, found: &Found, row: &Row) -> Result<&'static str, AllocError> {
     let dids = dids_text(alloc, &found.dids)?;
-    let parts = [
-        (dids.as_bytes(), row.dids, "dids"),
-        (found.sent.as_slice(), row.sent, "sent"),
-        (found.groups.as_slice(), row.log, "log"),
-        (found.databases.as_slice(), row.databases, "databases"),
-    ];
-    for (part, wanted, name) in parts {
-        if part != wanted.as_bytes() {
-            return Ok(name);
-        }
+    if dids.as_str() != row.dids {
+        return Ok("dids");
     }
-    Ok(if found.quiet == row.quiet {
-        "none"
-    } else {
-        "quiet"
-    })
+    if found.sent.as_slice() != row.sent.as_bytes() {
+        return Ok("sent");
+    }
+    if found.groups.as_slice() != row.log.as_bytes() {
+        return Ok("log");
+    }
+    if found.databases.as_slice() != row.databases.as_bytes() {
+        return Ok("databases");
+    }
+    if found.quiet != row.quiet {
+        return Ok("quiet");
+    }
+    Ok("none")
 }
 
 #[test]
