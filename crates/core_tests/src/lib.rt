@@ -2,12 +2,10 @@
 #![tactic(auto)]
 
 #[cfg(test)]
-mod fault;
-#[cfg(test)]
 mod rows;
 #[cfg(test)]
-mod running;
-#[cfg(test)]
 mod sample;
+#[cfg(test)]
+mod stops;
 #[cfg(test)]
 mod telling;

@@ -1,22 +1,22 @@
 //! Short runs, each worked out by hand from the table of turns: what each event does, what is sent, and what the log
 //! and the databases hold then.
-use crate::fault::Fault;
-use crate::running::{Found, Task, run_task};
-use crate::sample::Setting;
-use std::alloc::Global;
+use crate::sample::{SCRIPTS, Setting, definitions, exits};
+use crate::telling::dids_text;
+use core_runs::{Fault, Found, Task, find};
+use std::alloc::{AllocError, Global};
 use std::test::Fail;
 
 /// A run and what comes of it.
 #[derive(Clone, Copy, Debug)]
-struct Row {
-    setting: Setting,
-    schedule: &'static str,
-    messages: &'static [u8],
+pub struct Row {
+    pub setting: Setting,
+    pub schedule: &'static str,
+    pub messages: &'static [u8],
     /// What each event of the schedule does.
     dids: &'static str,
     /// How many events there are up to the first that sends something.
     quiet: usize,
-    sent: &'static str,
+    pub sent: &'static str,
     log: &'static str,
     databases: &'static str,
 }
@@ -52,7 +52,7 @@ const TWO_GROUPS: Setting = Setting {
 // ---- withdrawals and deposits side by side
 
 /// Both withdrawals pass the test of their call, and the second fails as it is tested again.
-const OVERDRAWN: Row = Row {
+pub const OVERDRAWN: Row = Row {
     setting: SAMPLE,
     schedule: "IN IN R1 R2 R1 R2 R1 R1 R2 R2 LOG",
     messages: b"T1 WDRAW A001 60\nT2 WDRAW A001 60\n",
@@ -95,7 +95,7 @@ const BOTH_ADD: Row = Row {
 };
 
 /// The deposit waits until the segment isn't held any more.
-const WAITS_FOR_A_HOLD: Row = Row {
+pub const WAITS_FOR_A_HOLD: Row = Row {
     setting: SAMPLE,
     schedule: "IN IN R1 R1 R1 R2 R2 R2 R1 R1 R2 R2 LOG",
     messages: b"T1 SETBAL A001 500\nT2 DEPOSIT A001 10\n",
@@ -238,7 +238,7 @@ group 2 entries 1\n\
 // ---- locks
 
 /// Each holds what the other needs: the second is refused, and the first goes on.
-const CROSSWISE: Row = Row {
+pub const CROSSWISE: Row = Row {
     setting: SAMPLE,
     schedule: "IN IN R1 R1 R2 R2 R1 R2 R1 R2 R1 R1 R1 LOG",
     messages: b"T1 TWOACC A001 A002\nT2 TWOACC A002 A001\n",
@@ -336,40 +336,46 @@ const ROWS: [Row; 16] = [
 
 // What is found of the run of a row.
 fn found_of(alloc: Global, row: &Row) -> Result<Found, Fault> {
+    let definitions = definitions(alloc, &row.setting)?;
     let task = Task {
-        setting: row.setting,
+        definitions: definitions.as_bytes(),
+        scripts: SCRIPTS.as_bytes(),
         schedule: row.schedule.as_bytes(),
         messages: row.messages,
     };
-    run_task(alloc, &task)
+    find(alloc, &task, &exits(alloc)?)
 }
 
 // The first part of what was found that isn't as wanted.
-fn first_difference(found: &Found, row: &Row) -> &'static str {
-    if found.dids.as_str() != row.dids {
-        return "dids";
+fn first_difference(alloc: Global, found: &Found, row: &Row) -> Result<&'static str, AllocError> {
+    let dids = dids_text(alloc, &found.dids)?;
+    if dids.as_str() != row.dids {
+        return Ok("dids");
     }
     if found.sent.as_slice() != row.sent.as_bytes() {
-        return "sent";
+        return Ok("sent");
     }
-    if found.log.as_slice() != row.log.as_bytes() {
-        return "log";
+    if found.groups.as_slice() != row.log.as_bytes() {
+        return Ok("log");
     }
     if found.databases.as_slice() != row.databases.as_bytes() {
-        return "databases";
+        return Ok("databases");
     }
     if found.quiet != row.quiet {
-        "quiet"
-    } else {
-        "none"
+        return Ok("quiet");
     }
+    Ok("none")
 }
 
 #[test]
 fn each_run_comes_to_what_is_wanted(rt: HostRuntime) -> Result<(), Fail> {
     for row in ROWS {
         let found = found_of(rt.alloc(), &row)?;
-        assert_eq!(rt; first_difference(&found, &row), "none", "{row:?}");
+        assert_eq!(rt;
+            first_difference(rt.alloc(), &found, &row)?,
+            "none",
+            "{row:?}"
+        );
     }
     Ok(())
 }

@@ -1,20 +1,11 @@
 //! The sample: its main storage databases, the scripts on them, and its exits.
-ghost use Rattle.fp_core.specs.Relation.{IsSetup};
-ghost use Rattle.fp_exits.specs.Kinds.{has_kind, kinds_of};
 ghost use Rattle.fp_exits.specs.Ranges.{IsRoutable};
 ghost use Rattle.fp_model.specs.Exits.{route};
-ghost use Rattle.fp_model.specs.LogText.{FitsFront};
-ghost use Rattle.fp_model.specs.WellFormed.{AreDefs};
-ghost use Rattle.log_groups.specs.Images.{as_front};
-ghost use Rattle.std.specs.Prelude.{◌≡◌, [], IfOk, true};
+ghost use Rattle.std.specs.Prelude.{◌≡◌};
 
-use crate::fault::Fault;
-use fp_defs::read_defs;
 use fp_exits::{Exits, Router, Routing, fold_group};
-use fp_model::{Bytes, Defs, Kind, Name};
-use log_groups::Front;
+use fp_model::{Kind, Name};
 use std::alloc::{AllocError, Global};
-use txn_lang::{Scripts, definitions_have_byte_numbers, parse, what_was_read_fits};
 
 /// What the definitions of a run say besides its databases.
 #[derive(Clone, Copy, Debug)]
@@ -36,7 +27,7 @@ fields = [[\"TNO\", \"C\", 4], [\"CASH\", \"F\", 4]]
 load = [[\"T001\", \"0\"]]
 ";
 
-const SCRIPTS: &str = "TRAN DEPOSIT
+pub const SCRIPTS: &str = "TRAN DEPOSIT
 FLD ACCTS KEY(#1) BAL + #2
 IF STATUS NE ''
 ROLB 1
@@ -70,7 +61,7 @@ REPLY 'BOTH'
 ";
 
 /// The exits: one router, FOLD.
-pub(crate) fn exits(alloc: Global) -> Result<Exits, AllocError> {
+pub fn exits(alloc: Global) -> Result<Exits, AllocError> {
     let fold: Routing = Box::new(
         alloc,
         |tran: &Name, n: u64| -> u64
@@ -83,51 +74,14 @@ pub(crate) fn exits(alloc: Global) -> Result<Exits, AllocError> {
     Ok(Exits::new(Vec::new(alloc), routers))
 }
 
-/// The definitions, which have no data entry database.
-pub(crate) fn definitions(alloc: Global, setting: &Setting, exits: &Exits) -> Result<Defs, Fault>
-    ensures defs { IfOk result AreDefs }
-    ensures no_dedbs { IfOk result (λ defs. defs.dedbs ≡ []) }
-    ensures router { IfOk result (λ defs. has_kind (kinds_of exits.now).routers defs.router ≡ true) }
-{
+/// The text of the definitions.
+pub fn definitions(alloc: Global, setting: &Setting) -> Result<String, AllocError> {
     let Setting {
         regions,
         log_group,
         tries,
     } = setting;
-    let text = format!(in alloc;
+    format!(in alloc;
         "regions = [{regions}]\nrouter = \"FOLD\"\nlog_group = {log_group}\ntries = {tries}\n{DATABASES}"
-    )?;
-    let Ok(defs) = read_defs(alloc, text.as_bytes(), exits) else {
-        return Err(Fault::NotRead);
-    };
-    if !defs.dedbs.is_empty() {
-        return Err(Fault::NotRead);
-    }
-    Ok(defs)
-}
-
-/// The scripts.
-pub(crate) fn scripts(alloc: Global, defs: &Defs) -> Result<Scripts, Fault>
-    requires defs { AreDefs defs.now }
-    requires no_dedbs { defs.now.dedbs ≡ [] }
-    ensures setup { IfOk result (λ scripts. IsSetup defs.now scripts.scripts) }
-{
-    definitions_have_byte_numbers();
-    what_was_read_fits();
-    match parse(alloc, SCRIPTS.as_bytes(), defs) {
-        Ok(scripts) => Ok(scripts),
-        Err(_) => Err(Fault::NotRead),
-    }
-}
-
-/// The front of each log: what it says isn't looked at.
-pub(crate) fn front(alloc: Global) -> Result<Front, AllocError>
-    ensures { IfOk result (λ front. FitsFront (as_front front)) }
-{
-    let defs = Bytes::from_slice(alloc, b"D")?;
-    Ok(Front {
-        format: 1,
-        defs,
-        scripts: Bytes::new(alloc),
-    })
+    )
 }

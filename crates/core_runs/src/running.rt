@@ -12,8 +12,8 @@ ghost use Rattle.std.specs.List.{AllByRecursion};
 ghost use Rattle.std.specs.Prelude.{◌≡◌, ◌≤◌, [], IfOk, IsTrue, OnOk, length, true};
 
 use crate::fault::Fault;
-use crate::sample::{Setting, definitions, exits, front, scripts};
-use crate::telling::{databases_text, log_text, tell_did};
+use crate::setup::{Task, definitions, front, scripts};
+use crate::telling::{databases_text, log_text};
 use fp_core::{Core, Did, Started, Stop};
 use fp_exits::Exits;
 use fp_model::{Bytes, Defs, Event};
@@ -25,25 +25,19 @@ use msdb_store::MsdbStore;
 use std::alloc::{AllocError, Global};
 use txn_lang::Scripts;
 
-/// What a run is given.
-#[derive(Clone, Copy, Debug)]
-pub struct Task<'a> {
-    pub setting: Setting,
-    pub schedule: &'a [u8],
-    pub messages: &'a [u8],
-}
-
 /// What is found of a run.
 #[derive(Debug, Drop)]
 pub struct Found {
-    /// A word for what each event of the schedule did.
-    pub dids: String,
+    /// What each event of the schedule did.
+    pub dids: Vec<Did>,
     /// How many events came up to the first that sent something.
     pub quiet: usize,
     /// The bytes sent, behind the drain.
     pub sent: Bytes,
-    /// The text of the log.
+    /// The bytes of the log.
     pub log: Bytes,
+    /// The text of the log.
+    pub groups: Bytes,
     /// The text of the databases that a restart gives.
     pub databases: Bytes,
 }
@@ -127,11 +121,11 @@ fn step(
     core.step(event, site, source)
 }
 
-// What the events of a schedule did.
+/// What the events of a schedule did.
 #[derive(Debug, Drop)]
-struct Story {
-    dids: String,
-    quiet: usize,
+pub struct Story {
+    pub dids: Vec<Did>,
+    pub quiet: usize,
 }
 
 // One event after another.
@@ -149,7 +143,7 @@ fn step_all(
     ensures reached { OnOk result ((m : Machine) × IsReachedBy core.new.engine m) }
     ensures routed { core.new.router.now.kind ≡ core.new.engine.defs.now.router }
 {
-    let mut dids = String::new(alloc);
+    let mut dids = Vec::new(alloc);
     let mut quiet = 0;
     for event in events {
         if !is_event(event, regions) {
@@ -159,7 +153,7 @@ fn step_all(
             quiet += 1;
         }
         let did = step(core, event, site, source)?;
-        tell_did(alloc, &mut dids, did)?;
+        dids.push(did)?;
     }
     Ok(Story { dids, quiet })
 }
@@ -183,42 +177,47 @@ fn take(
     Ok(story)
 }
 
-// What is found of a site behind a run.
-fn gather(alloc: Global, defs: &Defs, story: Story, site: &mut MemorySite) -> Result<Found, Fault>
-    requires { AllByRecursion IsMsdbDef defs.now.msdbs }
-{
-    let Story { dids, quiet } = story;
+/// Runs a schedule over messages on a site that has no log yet, and then the drain. What stands on the site behind a
+/// stop is the caller's to look at.
+pub fn run(
+    alloc: Global,
+    task: &Task<'_>,
+    exits: &Exits,
+    site: &mut MemorySite,
+) -> Result<Story, Fault> {
+    let defs = definitions(alloc, task.definitions, exits)?;
+    let scripts = scripts(alloc, task.scripts, &defs)?;
+    let Ok(events) = read_events(alloc, task.schedule, &defs) else {
+        return Err(Fault::NotRead);
+    };
+    let mut source = source_of(alloc, task.messages)?;
+    let started = begun(alloc, &defs, site)?;
+    let mut core = core_of(alloc, &defs, &scripts, exits, started)?;
+    take(
+        alloc,
+        &mut core,
+        &defs,
+        events.as_slice(),
+        site,
+        &mut source,
+    )
+}
+
+/// Runs a schedule over messages on a new site, and then the drain.
+pub fn find(alloc: Global, task: &Task<'_>, exits: &Exits) -> Result<Found, Fault> {
+    let mut site = MemorySite::new(alloc, &[])?;
+    let Story { dids, quiet } = run(alloc, task, exits, &mut site)?;
     let sent = Bytes::from_slice(alloc, site.sent())?;
-    let log = log_text(alloc, site)?;
-    let databases = databases_text(alloc, defs, site)?;
+    let log = Bytes::from_slice(alloc, site.contents(0))?;
+    let groups = log_text(alloc, &mut site)?;
+    let defs = definitions(alloc, task.definitions, exits)?;
+    let databases = databases_text(alloc, &defs, &mut site)?;
     Ok(Found {
         dids,
         quiet,
         sent,
         log,
+        groups,
         databases,
     })
-}
-
-/// Runs a schedule over messages on a new site, and then the drain.
-pub fn run_task(alloc: Global, task: &Task<'_>) -> Result<Found, Fault> {
-    let exits = exits(alloc)?;
-    let defs = definitions(alloc, &task.setting, &exits)?;
-    let scripts = scripts(alloc, &defs)?;
-    let Ok(events) = read_events(alloc, task.schedule, &defs) else {
-        return Err(Fault::NotRead);
-    };
-    let mut site = MemorySite::new(alloc, &[])?;
-    let mut source = source_of(alloc, task.messages)?;
-    let started = begun(alloc, &defs, &mut site)?;
-    let mut core = core_of(alloc, &defs, &scripts, &exits, started)?;
-    let story = take(
-        alloc,
-        &mut core,
-        &defs,
-        events.as_slice(),
-        &mut site,
-        &mut source,
-    )?;
-    gather(alloc, &defs, story, &mut site)
 }

@@ -1,7 +1,7 @@
 use Rattle.std.proofs.Common.{◌≡◌, ◌≤◌, length}
 use Rattle.fp_core.specs.Draining.{IsReachedBy}
 use Rattle.fp_model.specs.Machine.{Machine}
-use Rattle.core_tests.proofs.running.step_all.Given as goal
+use Rattle.core_runs.proofs.running.step_all.Given as goal
 
 abbrev pub invariant-loop-event : goal.invariant-loop-event
 invariant-loop-event g l = record {

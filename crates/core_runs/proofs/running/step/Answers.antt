@@ -1,7 +1,7 @@
 -- A step is a turn, and each turn keeps what the end of a drain rests on.
 use Rattle.std.proofs.Common.{◌≡◌}
-use Rattle.core_tests.proofs.Reached.{on_ok_by, reached_behind}
-use Rattle.core_tests.proofs.running.step.Goals as goal
+use Rattle.core_runs.proofs.Reached.{on_ok_by, reached_behind}
+use Rattle.core_runs.proofs.running.step.Goals as goal
 
 pub returns-clause-reached : goal.returns-clause-reached
 returns-clause-reached g c =

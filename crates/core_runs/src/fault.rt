@@ -1,9 +1,9 @@
 //! Why a run isn't one that a test can judge.
-ghost use Rattle.core_tests.specs.declared.fault.Fault.TheVariants as faults;
+ghost use Rattle.core_runs.specs.declared.fault.Fault.TheVariants as faults;
 ghost use Rattle.std.specs.Prelude.{◌≡◌};
 
 use fp_core::Stop;
-use std::alloc::AllocError;
+use std::alloc::{AllocError, AllocFailed};
 
 /// Why a run isn't one that a test can judge.
 #[derive(Debug, PartialEq, Eq, Drop)]
@@ -24,6 +24,14 @@ impl From<AllocError> for Fault {
     ghost from_gives = { λ _ e. e ≡ faults.Memory };
 
     fn from(_e: AllocError) -> Fault {
+        Fault::Memory
+    }
+}
+
+impl<T: Drop> From<AllocFailed<T>> for Fault {
+    ghost from_gives = { λ _ e. e ≡ faults.Memory };
+
+    fn from(_e: AllocFailed<T>) -> Fault {
         Fault::Memory
     }
 }

@@ -1,0 +1,216 @@
+//! Runs on a site whose calls fail, one alone or all from one on, and a restart from what a crash may leave then: it has
+//! each transaction that was answered, be it in part.
+ghost use Rattle.fp_model.specs.WellFormed.{IsMsdbDef};
+ghost use Rattle.std.specs.List.{AllByRecursion};
+
+use crate::rows::{CROSSWISE, OVERDRAWN, Row, WAITS_FOR_A_HOLD};
+use crate::sample::{SCRIPTS, Setting, definitions, exits};
+use core_runs::{Fault, Task, databases_text, find, log_text, run};
+use fp_exits::Exits;
+use fp_model::{Bytes, Defs};
+use fp_site::{MemorySite, Snapshot};
+use std::alloc::{AllocError, Global};
+use std::test::Fail;
+
+/// A run of two transactions that is stopped.
+#[derive(Clone, Copy, Debug)]
+struct Stopped {
+    row: Row,
+    log_group: u32,
+    /// The balance of the first account behind no entry, one and two.
+    balances: [u32; 3],
+}
+
+const STOPPED: [Stopped; 6] = [
+    Stopped {
+        row: OVERDRAWN,
+        log_group: 100,
+        balances: [100, 40, 40],
+    },
+    Stopped {
+        row: OVERDRAWN,
+        log_group: 1,
+        balances: [100, 40, 40],
+    },
+    Stopped {
+        row: WAITS_FOR_A_HOLD,
+        log_group: 100,
+        balances: [100, 500, 510],
+    },
+    Stopped {
+        row: WAITS_FOR_A_HOLD,
+        log_group: 1,
+        balances: [100, 500, 510],
+    },
+    Stopped {
+        row: CROSSWISE,
+        log_group: 100,
+        balances: [100, 100, 100],
+    },
+    Stopped {
+        row: CROSSWISE,
+        log_group: 1,
+        balances: [100, 100, 100],
+    },
+];
+
+// No run of these makes so many calls.
+const MOST_CALLS: u64 = 40;
+
+// A run of its own definitions, to be stopped again and again.
+#[derive(Drop)]
+struct Stand {
+    alloc: Global,
+    exits: Exits,
+    definitions: String,
+    stopped: Stopped,
+    // The log where nothing fails.
+    groups: Bytes,
+}
+
+// What a run that fails comes to.
+#[derive(Debug, Drop)]
+struct Left {
+    site: MemorySite,
+    made: bool,
+    done: bool,
+}
+
+impl Stand {
+    fn new(alloc: Global, stopped: Stopped) -> Result<Stand, Fault> {
+        let exits = exits(alloc)?;
+        let setting = Setting {
+            log_group: stopped.log_group,
+            ..stopped.row.setting
+        };
+        let definitions = definitions(alloc, &setting)?;
+        let groups = find(alloc, &task_of(&definitions, &stopped.row), &exits)?.groups;
+        Ok(Stand {
+            alloc,
+            exits,
+            definitions,
+            stopped,
+            groups,
+        })
+    }
+
+    // The run on a site whose call of this number fails, and with it all behind it, or it alone.
+    fn fail(&self, call: u64, alone: bool) -> Result<Left, Fault> {
+        let mut site = if alone {
+            MemorySite::new(self.alloc, &[call])?
+        } else {
+            MemorySite::stopping(self.alloc, call)?
+        };
+        let task = task_of(&self.definitions, &self.stopped.row);
+        let (made, done) = match run(self.alloc, &task, &self.exits, &mut site) {
+            Ok(_) => (true, true),
+            Err(Fault::Stopped(_)) => (true, false),
+            Err(Fault::NoLog) => (false, false),
+            Err(fault) => return Err(fault),
+        };
+        Ok(Left { site, made, done })
+    }
+
+    // Whether a restart from a snapshot has each transaction that was answered, be it in part, and what was answered
+    // is a first part of all replies. A log that wasn't made need not be there.
+    fn is_kept(&self, defs: &Defs, made: bool, snapshot: Snapshot) -> Result<bool, Fault>
+        requires { AllByRecursion IsMsdbDef defs.now.msdbs }
+    {
+        let row = &self.stopped.row;
+        let is_first = row.sent.as_bytes().starts_with(snapshot.sent.as_slice());
+        let answered = snapshot
+            .sent
+            .as_slice()
+            .split(|byte| *byte == b'\n')
+            .filter(|line| !line.is_empty())
+            .count();
+        let mut site = MemorySite::from_snapshot(self.alloc, snapshot, &[])?;
+        let log = match log_text(self.alloc, &mut site) {
+            Err(Fault::NoLog) => return Ok(!made && answered == 0),
+            log => log?,
+        };
+        let entries = entries_in(log.as_slice());
+        let found = databases_text(self.alloc, defs, &mut site)?;
+        Ok(
+            is_first
+                && answered <= entries
+                && self.groups.as_slice().starts_with(log.as_slice())
+                && found.as_slice() == self.databases(entries)?.as_bytes(),
+        )
+    }
+
+    // The text of the databases behind so many entries.
+    fn databases(&self, entries: usize) -> Result<String, AllocError> {
+        let balance = match entries {
+            0 => self.stopped.balances[0],
+            1 => self.stopped.balances[1],
+            _ => self.stopped.balances[2],
+        };
+        format!(in self.alloc;
+            "msdb ACCTS 2\n\x20 ACCT=A001 BAL={balance}\n\x20 ACCT=A002 BAL=50\nmsdb TELLERS 1\n\x20 TNO=T001 CASH=0\n"
+        )
+    }
+}
+
+// What a run of a row is given.
+fn task_of<'a>(definitions: &'a String, row: &Row) -> Task<'a> {
+    Task {
+        definitions: definitions.as_bytes(),
+        scripts: SCRIPTS.as_bytes(),
+        schedule: row.schedule.as_bytes(),
+        messages: row.messages,
+    }
+}
+
+// How many entries a text of a log has.
+fn entries_in(text: &[u8]) -> usize {
+    text.windows(4)
+        .filter(|four| *four == b" => ".as_slice())
+        .count()
+}
+
+// Whether what was sent ends in half of a reply line: a send failed.
+fn is_torn(sent: &[u8], replies: &[u8]) -> bool {
+    let whole = sent.split(|byte| *byte == b'\n').last().unwrap_or(&[]);
+    !whole.is_empty()
+        && replies.split(|byte| *byte == b'\n').any(|line| whole
+            == &line[..line.len().div_ceil(2).min(line.len())])
+}
+
+#[test]
+fn a_restart_has_what_was_answered(rt: HostRuntime) -> Result<(), Fail> {
+    for stopped in STOPPED {
+        let stand = Stand::new(rt.alloc(), stopped)?;
+        let defs = core_runs::definitions(rt.alloc(), stand.definitions.as_bytes(), &stand.exits)?;
+        for number in 0..2 * MOST_CALLS {
+            let Left { site, made, .. } = stand.fail(number / 2, number % 2 == 0)?;
+            // Behind the last call nothing fails.
+            if site.faults() == 0 {
+                break;
+            }
+            for choice in 0..8 {
+                let kept = stand.is_kept(&defs, made, site.snapshot_as(choice)?)?;
+                assert!(rt; kept, "call {}, image {choice}, {stopped:?}", number / 2);
+            }
+        }
+    }
+    Ok(())
+}
+
+#[test]
+fn each_reply_line_is_one_send(rt: HostRuntime) -> Result<(), Fail> {
+    for stopped in STOPPED {
+        let stand = Stand::new(rt.alloc(), stopped)?;
+        let mut torn = 0u64;
+        for call in 0..MOST_CALLS {
+            let Left { site, done, .. } = stand.fail(call, false)?;
+            assert_eq!(rt; done, site.faults() == 0, "call {call}, {stopped:?}");
+            if is_torn(site.sent(), stopped.row.sent.as_bytes()) {
+                torn = torn.saturating_add(1);
+            }
+        }
+        assert_eq!(rt; torn, 2, "{stopped:?}");
+        assert!(rt; stand.fail(MOST_CALLS, false)?.done, "{stopped:?}");
+    }
+    Ok(())
+}
