@@ -2,6 +2,7 @@ pub mod Runs
 pub mod Images
 pub mod Torns
 pub mod Frames
+pub mod Sendings
 mod Crashes
 mod Choices
 mod Histories

@@ -154,6 +154,14 @@ impl MsdbStore {
         self.tables[msdb as usize].at(place)
     }
 
+    /// How many segments the database of this number has. Takes no memory.
+    pub fn count(&self, msdb: u8) -> usize
+        requires { msdb < length self.now.msdbs }
+        ensures { (its : MsdbOf) → slice_get self.now.msdbs msdb ≡ Some its → result ≡ length its.segments }
+    {
+        self.tables[msdb as usize].count()
+    }
+
     /// A copy of all databases. It fails only for want of memory.
     pub fn databases(&self, alloc: Global) -> Result<List<Msdb>, AllocError>
         ensures { IfOk result (λ msdbs. msdbs ≡ self.now.msdbs) }

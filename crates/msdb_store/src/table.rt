@@ -79,6 +79,13 @@ impl Table {
         self.segments.get(at)
     }
 
+    // How many segments there are.
+    pub(crate) fn count(&self) -> usize
+        ensures { result ≡ length self.now.segments.items }
+    {
+        self.segments.len()
+    }
+
     // The first segment with a greater key.
     pub(crate) fn above(&self, key: &[u8]) -> Option<&[u8]>
         ensures { ascend (map (key_of self.now.fields) self.now.segments.items) ≡ true

@@ -1,0 +1,19 @@
+use Rattle.std.proofs.Common.{◌≡◌, ◌-◌, ◌^◌, ◌≤◌}
+use Rattle.site_texts.specs.Groups.{AreSent}
+use Rattle.site_texts.proofs.groups.send_groups.Given as goal
+
+-- all groups up to this place are sent
+abbrev pub invariant-loop-next : goal.invariant-loop-next
+invariant-loop-next g l = record {
+  within : l.place.at ≤ 2 ^ 62;
+  groups : l.place.groups ≤ l.place.at;
+  entries : l.place.entries ≤ l.place.at;
+  sent : g.T.Site.told l.initial.site → AreSent l.fn.first l.place (g.T.Site.disk l.initial.site) (g.T.Site.disk l.site);
+  later : g.T.Site.faults l.initial.site ≤ g.T.Site.faults l.site;
+  told : g.T.Site.told l.initial.site → g.T.Site.told l.site;
+  holds : g.T.Site.holds l.site ≡ g.T.Site.holds l.initial.site;
+  keeps : (first : g.row.T) → g.T.Site.keeps first l.initial.site → g.T.Site.keeps first l.site;
+}
+
+abbrev pub decreases-loop-next : goal.decreases-loop-next
+decreases-loop-next g l = 2 ^ 62 - l.place.at
