@@ -70,6 +70,16 @@ module _ (d0 d1 d2 : Disk) (a b : List ℕ) (law0 : IsLawful d0) (law1 : IsLawfu
         crash = sent_after d0 d1 a b law0 law1 first.sent first.crash d2 second.crash;
       }
 
+-- calls that change nothing behind a text, and before one
+pub sent_then_stays : (d0 d1 d2 : Disk) (a : List ℕ) → IsLawful d0 → IsLawful d1 → HasSent d0 d1 a → Stays d1 d2
+    → HasSent d0 d2 a
+sent_then_stays d0 d1 d2 a law0 law1 first stays =
+    subst (HasSent d0 d2) (append-nil a) (sent_on d0 d1 d2 a [] law0 law1 first (sent_stays d1 d2 stays))
+
+pub stays_then_part : (d0 d1 d2 : Disk) (a : List ℕ) → IsLawful d0 → IsLawful d1 → Stays d0 d1 → HasSentPart d1 d2 a
+    → HasSentPart d0 d2 a
+stays_then_part d0 d1 d2 a law0 law1 stays second = part_on d0 d1 d2 [] a law0 law1 (sent_stays d0 d1 stays) second
+
 -- ---- what is held back
 
 -- nothing more was added

@@ -12,7 +12,7 @@ ghost use Rattle.fp_restart.specs.declared.fault.RestartFault.TheVariants as fau
 ghost use Rattle.fp_show.specs.DbText.{each_text, msdb_text};
 ghost use Rattle.log_groups.specs.Images.{as_front};
 ghost use Rattle.log_groups.specs.Kept.{IsSound};
-ghost use Rattle.site_texts.specs.Sent.{HasSent, HasSentPart, HasTold};
+ghost use Rattle.site_texts.specs.Sent.{GoesOn, HasSent, HasSentPart, HasTold};
 ghost use Rattle.site_texts.specs.Texts.{IsDbSent, SendsDb, msdbs_text};
 ghost use Rattle.fp_site.specs.Site.{ReadsNothing};
 ghost use Rattle.std.specs.List.{AllByRecursion};
@@ -62,10 +62,8 @@ pub fn show<T: Site>(
         × IsFirstBadAt defs.now ((T.disk site.old).contents 0) (first_gate (as_front front.now)) at }
     ensures cause { IsErrOf result faults.SiteFault → (T.faults site.old < T.faults site.new)
         ⊎ (T.faults site.new ≡ 2 ^ 64 - 1) }
-    ensures later { T.faults site.old ≤ T.faults site.new }
-    ensures told { T.told site.old → T.told site.new }
-    ensures holds { T.holds site.new ≡ T.holds site.old }
-    ensures keeps { (first : T) → T.keeps first site.old → T.keeps first site.new }
+    ensures stayed { (IsErrOf result faults.SiteFault → ⊥) → T.faults site.new ≡ T.faults site.old }
+    ensures site { GoesOn T.told T.faults T.holds T.keeps site.old site.new }
 {
     let (store, _log) = restart(alloc, defs, front, site)?;
     send_databases(alloc, defs, &store, site)
@@ -82,17 +80,15 @@ fn send_databases<T: Site>(
     requires of { length store.now.msdbs ≡ length defs.now.msdbs }
     ensures sent { T.told site.old → OnOk result
         (HasSent (T.disk site.old) (T.disk site.new) (msdbs_text defs.now store.now.msdbs)) }
-    ensures part { T.told site.old → OnErr result
-        (HasSentPart (T.disk site.old) (T.disk site.new) (msdbs_text defs.now store.now.msdbs)) }
+    ensures part { T.told site.old
+        → HasSentPart (T.disk site.old) (T.disk site.new) (msdbs_text defs.now store.now.msdbs) }
     ensures never { (IsErrOf result faults.Foreign → ⊥) × ((set at : ℕ) → IsErrOf result (faults.Damaged set at) → ⊥) }
     ensures cause { IsErrOf result faults.SiteFault → (T.faults site.old < T.faults site.new)
         ⊎ (T.faults site.new ≡ 2 ^ 64 - 1) }
-    ensures later { T.faults site.old ≤ T.faults site.new }
+    ensures stayed { (IsErrOf result faults.SiteFault → ⊥) → T.faults site.new ≡ T.faults site.old }
     ensures reads { ReadsNothing (T.tells_reads site.old) (T.tells_reads site.new) (T.bytes_read site.old)
         (T.bytes_read site.new) }
-    ensures told { T.told site.old → T.told site.new }
-    ensures holds { T.holds site.new ≡ T.holds site.old }
-    ensures keeps { (first : T) → T.keeps first site.old → T.keeps first site.new }
+    ensures site { GoesOn T.told T.faults T.holds T.keeps site.old site.new }
 {
     let mut held = Bytes::new(alloc);
     for (number, def) in defs.msdbs.as_slice().iter().enumerate() {
@@ -114,17 +110,15 @@ fn tell_database<T: Site>(
     requires { number < length store.now.msdbs }
     ensures all { (its : MsdbOf) → slice_get store.now.msdbs number ≡ Some its → T.told site.old → OnOk result
         (HasTold (T.disk site.old) (T.disk site.new) held.old (msdb_text def.now its) held.new) }
-    ensures part { (its : MsdbOf) → slice_get store.now.msdbs number ≡ Some its → T.told site.old → OnErr result
-        (HasSentPart (T.disk site.old) (T.disk site.new) (held.old ++ msdb_text def.now its)) }
+    ensures part { (its : MsdbOf) → slice_get store.now.msdbs number ≡ Some its → T.told site.old
+        → HasSentPart (T.disk site.old) (T.disk site.new) (held.old ++ msdb_text def.now its) }
     ensures never { (IsErrOf result faults.Foreign → ⊥) × ((set at : ℕ) → IsErrOf result (faults.Damaged set at) → ⊥) }
     ensures cause { IsErrOf result faults.SiteFault → (T.faults site.old < T.faults site.new)
         ⊎ (T.faults site.new ≡ 2 ^ 64 - 1) }
-    ensures later { T.faults site.old ≤ T.faults site.new }
+    ensures stayed { (IsErrOf result faults.SiteFault → ⊥) → T.faults site.new ≡ T.faults site.old }
     ensures reads { ReadsNothing (T.tells_reads site.old) (T.tells_reads site.new) (T.bytes_read site.old)
         (T.bytes_read site.new) }
-    ensures told { T.told site.old → T.told site.new }
-    ensures holds { T.holds site.new ≡ T.holds site.old }
-    ensures keeps { (first : T) → T.keeps first site.old → T.keeps first site.new }
+    ensures site { GoesOn T.told T.faults T.holds T.keeps site.old site.new }
 {
     let count = store.count(number);
     put_msdb_head(alloc, held, def, count as u64)?;

@@ -5,9 +5,10 @@ ghost use Rattle.log_groups.specs.Images.{as_front};
 ghost use Rattle.log_groups.specs.Reads.{HasGroup};
 ghost use Rattle.fp_model.specs.Groups.{IsDamaged};
 ghost use Rattle.site_texts.specs.Groups.{AreAllSent, AreSentToDamage, IsOneSent, SendsFrom, SendsOne};
+ghost use Rattle.site_texts.specs.Sent.{GoesOn};
 ghost use Rattle.site_texts.specs.Texts.{IsLogSent, IsSentToDamage, SendsGroups};
 ghost use Rattle.fp_site.specs.Disk.{Stays};
-ghost use Rattle.std.specs.Prelude.{◌≡◌, ◌≢◌, ◌⊎◌, ◌+◌, ◌-◌, ◌<◌, ◌≤◌, ◌^◌, ℕ, false, length, slice_index, true, IfNone, IfOk, IfSome, IsErrOf, OnErr, OnOk};
+ghost use Rattle.std.specs.Prelude.{◌≡◌, ◌≢◌, ◌⊎◌, ◌+◌, ◌-◌, ◌<◌, ◌≤◌, ◌^◌, ℕ, false, length, slice_index, true, IfNone, IfOk, IfSome, IsErrOf, OnOk};
 
 use fp_restart::RestartFault;
 use fp_show::show_group;
@@ -40,10 +41,8 @@ pub fn log<T: Site>(alloc: Global, front: &Front, site: &mut T) -> Result<(), Re
         → (set ≡ 0) × IsSentToDamage (as_front front.now) at (T.disk site.old) (T.disk site.new) }
     ensures cause { IsErrOf result faults.SiteFault → (T.faults site.old < T.faults site.new)
         ⊎ (T.faults site.new ≡ 2 ^ 64 - 1) }
-    ensures later { T.faults site.old ≤ T.faults site.new }
-    ensures told { T.told site.old → T.told site.new }
-    ensures holds { T.holds site.new ≡ T.holds site.old }
-    ensures keeps { (first : T) → T.keeps first site.old → T.keeps first site.new }
+    ensures stayed { (IsErrOf result faults.SiteFault → ⊥) → T.faults site.new ≡ T.faults site.old }
+    ensures site { GoesOn T.told T.faults T.holds T.keeps site.old site.new }
 {
     let mut log = Log::open(alloc, site, front)?;
     let first = log.gate();
@@ -73,10 +72,8 @@ fn send_groups<T: Site>(
     ensures never { IsErrOf result faults.Foreign → ⊥ }
     ensures cause { IsErrOf result faults.SiteFault → (T.faults site.old < T.faults site.new)
         ⊎ (T.faults site.new ≡ 2 ^ 64 - 1) }
-    ensures later { T.faults site.old ≤ T.faults site.new }
-    ensures told { T.told site.old → T.told site.new }
-    ensures holds { T.holds site.new ≡ T.holds site.old }
-    ensures keeps { (first : T) → T.keeps first site.old → T.keeps first site.new }
+    ensures stayed { (IsErrOf result faults.SiteFault → ⊥) → T.faults site.new ≡ T.faults site.old }
+    ensures site { GoesOn T.told T.faults T.holds T.keeps site.old site.new }
 {
     let mut place = Place {
         at: first,
@@ -107,17 +104,15 @@ fn send_group<T: Site>(
         (λ n. IsOneSent place n (T.disk site.old) (T.disk site.new))) }
     ensures none { T.told site.old → IfOk result (λ next. IfNone next
         ((slice_index ((T.disk site.old).contents 0) place.at ≢ 1) × Stays (T.disk site.old) (T.disk site.new))) }
-    ensures part { T.told site.old → OnErr result (SendsOne place (T.disk site.old) (T.disk site.new)) }
+    ensures part { T.told site.old → SendsOne place (T.disk site.old) (T.disk site.new) }
     ensures damaged { (set at : ℕ) → T.told site.old → IsErrOf result (faults.Damaged set at)
         → (set ≡ 0) × (at ≡ place.at) × IsDamaged ((T.disk site.old).contents 0) at
         × Stays (T.disk site.old) (T.disk site.new) }
     ensures never { IsErrOf result faults.Foreign → ⊥ }
     ensures cause { IsErrOf result faults.SiteFault → (T.faults site.old < T.faults site.new)
         ⊎ (T.faults site.new ≡ 2 ^ 64 - 1) }
-    ensures later { T.faults site.old ≤ T.faults site.new }
-    ensures told { T.told site.old → T.told site.new }
-    ensures holds { T.holds site.new ≡ T.holds site.old }
-    ensures keeps { (first : T) → T.keeps first site.old → T.keeps first site.new }
+    ensures stayed { (IsErrOf result faults.SiteFault → ⊥) → T.faults site.new ≡ T.faults site.old }
+    ensures site { GoesOn T.told T.faults T.holds T.keeps site.old site.new }
 {
     let Some(group) = log.group_at(site, place.at)? else {
         return Ok(None);

@@ -1,8 +1,8 @@
 //! A text that is sent in large parts, however small the pieces are that it is made of.
 ghost use Rattle.fp_site.specs.Disk.{Disk};
 ghost use Rattle.fp_site.specs.Site.{Counts, ReadsNothing};
-ghost use Rattle.site_texts.specs.Sent.{HasSent, HasSentPart, HasTold};
-ghost use Rattle.std.specs.Prelude.{◌≡◌, ◌≤◌, ◌++◌, ℕ, [], OnErr, OnOk};
+ghost use Rattle.site_texts.specs.Sent.{GoesOn, HasSent, HasSentPart, HasTold};
+ghost use Rattle.std.specs.Prelude.{◌≡◌, ◌≤◌, ◌++◌, ℕ, [], OnOk};
 
 use fp_model::Bytes;
 use fp_site::{Failed, Site};
@@ -18,14 +18,12 @@ pub(crate) fn send_held<T: Site>(
     held: &mut Bytes,
 ) -> Result<(), Failed>
     ensures sent { T.told site.old → OnOk result (HasSent (T.disk site.old) (T.disk site.new) held.old) }
-    ensures part { T.told site.old → OnErr result (HasSentPart (T.disk site.old) (T.disk site.new) held.old) }
+    ensures part { T.told site.old → HasSentPart (T.disk site.old) (T.disk site.new) held.old }
     ensures held { OnOk result (held.new ≡ []) }
     ensures cause { Counts (T.faults site.old) (T.faults site.new) result }
     ensures reads { ReadsNothing (T.tells_reads site.old) (T.tells_reads site.new) (T.bytes_read site.old)
         (T.bytes_read site.new) }
-    ensures told { T.told site.old → T.told site.new }
-    ensures holds { T.holds site.new ≡ T.holds site.old }
-    ensures keeps { (first : T) → T.keeps first site.old → T.keeps first site.new }
+    ensures site { GoesOn T.told T.faults T.holds T.keeps site.old site.new }
 {
     site.send(held.as_slice())?;
     *held = Bytes::new(alloc);
@@ -40,13 +38,11 @@ pub(crate) fn send_large<T: Site>(
 ) -> Result<(), Failed>
     ensures told_all { T.told site.old
         → OnOk result (HasTold (T.disk site.old) (T.disk site.new) held.old [] held.new) }
-    ensures part { T.told site.old → OnErr result (HasSentPart (T.disk site.old) (T.disk site.new) held.old) }
+    ensures part { T.told site.old → HasSentPart (T.disk site.old) (T.disk site.new) held.old }
     ensures cause { Counts (T.faults site.old) (T.faults site.new) result }
     ensures reads { ReadsNothing (T.tells_reads site.old) (T.tells_reads site.new) (T.bytes_read site.old)
         (T.bytes_read site.new) }
-    ensures told { T.told site.old → T.told site.new }
-    ensures holds { T.holds site.new ≡ T.holds site.old }
-    ensures keeps { (first : T) → T.keeps first site.old → T.keeps first site.new }
+    ensures site { GoesOn T.told T.faults T.holds T.keeps site.old site.new }
 {
     if held.len() < PART {
         return Ok(());

@@ -1,9 +1,9 @@
-use Rattle.std.proofs.Common.{◌≡◌, ap, refl, subst, inr, ◌+◌, List, [], ◌++◌}
+use Rattle.std.proofs.Common.{◌≡◌, ◌∙◌, ap, refl, subst, inr, ◌+◌, List, [], ◌++◌}
 use Rattle.log_groups.specs.Reads.{HasGroup}
 use Rattle.fp_restart.proofs.Groups.{stands_further}
 use Rattle.fp_show.specs.GroupText.{group_text}
 use Rattle.site_texts.specs.Sent.{HasSent, HasSentPart}
-use Rattle.site_texts.proofs.Told.{part_on, sent_on, sent_stays}
+use Rattle.site_texts.proofs.Told.{part_on, part_whole, sent_on, sent_stays}
 use Rattle.site_texts.proofs.groups.send_group.Given as given
 use Rattle.site_texts.proofs.groups.send_group.Goals as goal
 
@@ -27,7 +27,7 @@ returns-in_err-send-clause-part g c t =
     let text = group_text c.args.place.groups c.args.place.entries its.entries in
     let has : HasGroup (d0.contents 0) c.args.place.at its.entries its.next = rw c.in-Some.is at
     (c.in_ok-group.ensures.some t) in
-    let same : c.as_slice.result.now ≡ text = search in
+    let same : c.as_slice.result.now ≡ text = c.as_slice.ensures ∙ c.in_ok-text.ensures in
     let part = c.in_err-send.ensures.part t1 in
     inr (record {
       entries = its.entries;
@@ -49,7 +49,7 @@ returns-clause-some g c t =
     let text = group_text c.args.place.groups c.args.place.entries its.entries in
     let has : HasGroup (d0.contents 0) c.args.place.at its.entries its.next = rw c.in-Some.is at
     (c.in_ok-group.ensures.some t) in
-    let same : c.as_slice.result.now ≡ text = search in
+    let same : c.as_slice.result.now ≡ text = c.as_slice.ensures ∙ c.in_ok-text.ensures in
     record {
       entries = its.entries;
       group = has;
@@ -61,3 +61,15 @@ returns-clause-some g c t =
           (record { sent = c.in_ok-send.ensures.sent t1; contents = c.send.ensures.same t1;
           crash = c.send.ensures.crash t1 }));
     }
+
+pub returns-clause-part : goal.returns-clause-part
+returns-clause-part g c t =
+    let d0 = g.T.Site.disk c.args.site.now in
+    let d2 = g.T.Site.disk c.send.new.self in
+    let one = returns-clause-some g c t in
+    inr (record {
+      entries = one.entries;
+      next = c.in-Some.group.next;
+      group = one.group;
+      sent = part_whole d0 d2 (group_text c.args.place.groups c.args.place.entries one.entries) one.sent;
+    })

@@ -1,5 +1,6 @@
 use Rattle.std.proofs.Common.{◌≡◌, ◌-◌, ◌^◌, ◌≤◌}
 use Rattle.site_texts.specs.Groups.{AreSent}
+use Rattle.site_texts.specs.Sent.{GoesOn}
 use Rattle.site_texts.proofs.groups.send_groups.Given as goal
 
 -- all groups up to this place are sent
@@ -9,10 +10,8 @@ invariant-loop-next g l = record {
   groups : l.place.groups ≤ l.place.at;
   entries : l.place.entries ≤ l.place.at;
   sent : g.T.Site.told l.initial.site → AreSent l.fn.first l.place (g.T.Site.disk l.initial.site) (g.T.Site.disk l.site);
-  later : g.T.Site.faults l.initial.site ≤ g.T.Site.faults l.site;
-  told : g.T.Site.told l.initial.site → g.T.Site.told l.site;
-  holds : g.T.Site.holds l.site ≡ g.T.Site.holds l.initial.site;
-  keeps : (first : g.row.T) → g.T.Site.keeps first l.initial.site → g.T.Site.keeps first l.site;
+  calm : g.T.Site.faults l.site ≡ g.T.Site.faults l.initial.site;
+  site : GoesOn g.T.Site.told g.T.Site.faults g.T.Site.holds g.T.Site.keeps l.initial.site l.site;
 }
 
 abbrev pub decreases-loop-next : goal.decreases-loop-next

@@ -1,0 +1,55 @@
+use Rattle.std.proofs.Common.{◌≡◌, ◌∙◌, ap, sym, arith, rules, ◌≤◌, subst}
+use Rattle.site_texts.specs.Groups.{IsOneSent}
+use Rattle.site_texts.proofs.Shown.{all_sent, are_sent_more, are_sent_none, sends_more, sent_to_damage}
+use Rattle.site_texts.proofs.groups.send_groups.Given as given
+use Rattle.site_texts.proofs.groups.send_groups.Goals as goal
+
+pub returns-in_err-next-clause-sends : goal.returns-in_err-next-clause-sends
+returns-in_err-next-clause-sends g c t =
+    let it = c.loop-next.invariant in
+    let t1 = it.site.still_told t in
+    sends_more c.args.first c.loop-next.place (g.T.Site.disk c.args.site.now) (g.T.Site.disk c.loop-next.site)
+    (g.T.Site.disk c.send_group.new.site) (g.met.T.Site.lawful c.args.site.now t)
+    (g.met.T.Site.lawful c.loop-next.site t1) (it.sent t) (c.send_group.ensures.part t1)
+
+pub returns-in_err-next-clause-damaged : goal.returns-in_err-next-clause-damaged
+returns-in_err-next-clause-damaged g c set at t is =
+    let it = c.loop-next.invariant in
+    let t1 = it.site.still_told t in
+    let bad = c.send_group.ensures.damaged set at t1 (search rules) in (
+      bad.0,
+      sent_to_damage c.args.first at c.loop-next.place (g.T.Site.disk c.args.site.now) (g.T.Site.disk c.loop-next.site)
+          (g.T.Site.disk c.send_group.new.site) (it.sent t) bad.1 bad.2 bad.3,
+    )
+
+pub returns-in_default-clause-sends : goal.returns-in_default-clause-sends
+returns-in_default-clause-sends g c t =
+    let it = c.loop-next.invariant in
+    let t1 = it.site.still_told t in
+    sends_more c.args.first c.loop-next.place (g.T.Site.disk c.args.site.now) (g.T.Site.disk c.loop-next.site)
+    (g.T.Site.disk c.send_group.new.site) (g.met.T.Site.lawful c.args.site.now t)
+    (g.met.T.Site.lawful c.loop-next.site t1) (it.sent t) (c.send_group.ensures.part t1)
+
+pub loop-next-preserved : goal.loop-next-preserved
+loop-next-preserved g c =
+    let it = c.loop-next.invariant in
+    let call = c.send_group.ensures in
+    record {
+      within = search rules;
+      groups = search rules;
+      entries = search rules;
+      sent = λ t.
+          let t1 = it.site.still_told t in
+          let one : IsOneSent c.loop-next.place c.in-Some.next (g.T.Site.disk c.loop-next.site)
+          (g.T.Site.disk c.send_group.new.site) = rw c.in-Some.is at (c.in_ok-next.ensures.some t1) in
+          are_sent_more c.args.first c.loop-next.place c.in-Some.next (g.T.Site.disk c.args.site.now)
+          (g.T.Site.disk c.loop-next.site) (g.T.Site.disk c.send_group.new.site)
+          (g.met.T.Site.lawful c.args.site.now t) (g.met.T.Site.lawful c.loop-next.site t1) (it.sent t) one;
+      calm = search rules ∙ it.calm;
+      site = record {
+        later = omega (arith, it.site.later, call.site.later);
+        still_told = λ t. call.site.still_told (it.site.still_told t);
+        reference = call.site.reference ∙ it.site.reference;
+        kept = λ x h. call.site.kept x (it.site.kept x h);
+      };
+    }
