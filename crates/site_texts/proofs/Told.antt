@@ -4,7 +4,7 @@ use Rattle.std.proofs.lemmas.List.{append-nil, append_assoc}
 use Rattle.fp_site.specs.Disk.{Disk, Elapses, IsLawful, Sends, Snapshot, Stays}
 use Rattle.fp_site.proofs.Runs.{elapses_none, elapses_on, elapses_weaker, stays_now}
 use Rattle.fp_site.proofs.Sendings.{all_after, part_after, part_wider, sent_after, sent_wider, take_whole}
-use Rattle.site_texts.specs.Sent.{HasSent, HasSentPart, HasTold}
+use Rattle.site_texts.specs.Sent.{HasSent, HasSentPart, IsTold}
 
 -- what was left before the first byte is sent
 sends_nothing : (d : Disk) (text : List ℕ) (s : Snapshot) → d.may_leave s → Sends d text s
@@ -82,39 +82,56 @@ stays_then_part d0 d1 d2 a law0 law1 stays second = part_on d0 d1 d2 [] a law0 l
 
 -- ---- what is held back
 
--- nothing more was added
-pub told_none : (d : Disk) (held : List ℕ) → HasTold d d held [] held
-told_none d held = record { done = []; all = append-nil held; sent = sent_none d }
+-- nothing is sent yet
+pub told_none : (d : Disk) (held rest : List ℕ) → IsTold d d (held ++ rest) held rest
+told_none d held rest = record { done = []; all = refl; sent = sent_none d }
 
--- a text is only added to what is held back
-pub told_held : (d : Disk) (held text : List ℕ) → HasTold d d held text (held ++ text)
-told_held d held text = record { done = []; all = refl; sent = sent_none d }
+-- a first part of a text was sent, whatever is held back
+pub told_part : (d0 d1 : Disk) (text held rest : List ℕ) → IsTold d0 d1 text held rest → HasSentPart d0 d1 text
+told_part d0 d1 text held rest so_far = subst (HasSentPart d0 d1) (sym so_far.all)
+    (part_of_more d0 d1 so_far.done (held ++ rest) (part_whole d0 d1 so_far.done so_far.sent))
 
-module _ (d0 d1 d2 : Disk) (held mid rest a b : List ℕ) (law0 : IsLawful d0) (law1 : IsLawful d1)
-    (first : HasTold d0 d1 held a mid) where
-  -- the two texts, seen from what was sent of the first
-  joined : held ++ (a ++ b) ≡ first.done ++ (mid ++ b)
-  joined = sym (append_assoc held a b) ∙ ap (λ (t : List ℕ). t ++ b) first.all ∙ append_assoc first.done mid b
+-- what is still to come, as another text
+pub told_as : (d0 d1 : Disk) (text held a b : List ℕ) → a ≡ b → IsTold d0 d1 text held a → IsTold d0 d1 text held b
+told_as d0 d1 text held a b same = subst (IsTold d0 d1 text held) same
 
-  -- one text is added after another
-  pub told_on : HasTold d1 d2 mid b rest → HasTold d0 d2 held (a ++ b) rest
-  told_on second = record {
-    done = first.done ++ second.done;
+module _ (d0 d1 d2 : Disk) (text held piece rest : List ℕ) (law0 : IsLawful d0) (law1 : IsLawful d1)
+    (so_far : IsTold d0 d1 text held (piece ++ rest)) where
+  -- the text, seen from the next piece
+  from_piece : text ≡ so_far.done ++ ((held ++ piece) ++ rest)
+  from_piece = so_far.all ∙ ap (λ (t : List ℕ). so_far.done ++ t) (sym (append_assoc held piece rest))
+
+  -- one piece more is told
+  pub told_next : (held2 : List ℕ) → IsTold d1 d2 (held ++ piece) held2 [] → IsTold d0 d2 text held2 rest
+  told_next held2 next = record {
+    done = so_far.done ++ next.done;
     all =
-        joined ∙ ap (λ (t : List ℕ). first.done ++ t) second.all ∙ sym (append_assoc first.done second.done rest);
-    sent = sent_on d0 d1 d2 first.done second.done law0 law1 first.sent second.sent;
+        from_piece
+        ∙ ap (λ (t : List ℕ). so_far.done ++ (t ++ rest))
+        (next.all ∙ ap (λ (t : List ℕ). next.done ++ t) (append-nil held2))
+        ∙ ap (λ (t : List ℕ). so_far.done ++ t) (append_assoc next.done held2 rest)
+        ∙ sym (append_assoc so_far.done next.done (held2 ++ rest));
+    sent = sent_on d0 d1 d2 so_far.done next.done law0 law1 so_far.sent next.sent;
   }
 
-  -- and of the second a first part is sent
-  pub told_part : HasSentPart d1 d2 (mid ++ b) → HasSentPart d0 d2 (held ++ (a ++ b))
-  told_part second = subst (HasSentPart d0 d2) (sym joined)
-      (part_on d0 d1 d2 first.done (mid ++ b) law0 law1 first.sent second)
+  -- or a first part of it is sent
+  pub told_next_part : HasSentPart d1 d2 (held ++ piece) → HasSentPart d0 d2 text
+  told_next_part part =
+      let all : text ≡ (so_far.done ++ (held ++ piece)) ++ rest =
+      from_piece ∙ sym (append_assoc so_far.done (held ++ piece) rest) in
+      subst (HasSentPart d0 d2) (sym all)
+      (part_of_more d0 d2 (so_far.done ++ (held ++ piece)) rest
+      (part_on d0 d1 d2 so_far.done (held ++ piece) law0 law1 so_far.sent part))
 
--- where memory was short before anything more was added, a first part was sent
-pub told_short : (d0 d1 : Disk) (held rest a b : List ℕ) → HasTold d0 d1 held a rest
-    → HasSentPart d0 d1 (held ++ (a ++ b))
-told_short d0 d1 held rest a b so_far =
-    let all : held ++ (a ++ b) ≡ so_far.done ++ (rest ++ b) =
-    sym (append_assoc held a b) ∙ ap (λ (t : List ℕ). t ++ b) so_far.all ∙ append_assoc so_far.done rest b in
-    subst (HasSentPart d0 d1) (sym all)
-    (part_of_more d0 d1 so_far.done (rest ++ b) (part_whole d0 d1 so_far.done so_far.sent))
+-- all that is held back is sent, and nothing is to come
+module _ (d0 d1 d2 : Disk) (text held : List ℕ) (law0 : IsLawful d0) (law1 : IsLawful d1)
+    (so_far : IsTold d0 d1 text held []) where
+  pub told_all : HasSent d1 d2 held → HasSent d0 d2 text
+  told_all last = subst (HasSent d0 d2)
+      (sym (so_far.all ∙ ap (λ (t : List ℕ). so_far.done ++ t) (append-nil held)))
+      (sent_on d0 d1 d2 so_far.done held law0 law1 so_far.sent last)
+
+  pub told_last_part : HasSentPart d1 d2 held → HasSentPart d0 d2 text
+  told_last_part last = subst (HasSentPart d0 d2)
+      (sym (so_far.all ∙ ap (λ (t : List ℕ). so_far.done ++ t) (append-nil held)))
+      (part_on d0 d1 d2 so_far.done held law0 law1 so_far.sent last)

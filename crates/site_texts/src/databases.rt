@@ -12,7 +12,7 @@ ghost use Rattle.fp_restart.specs.declared.fault.RestartFault.TheVariants as fau
 ghost use Rattle.fp_show.specs.DbText.{each_text, msdb_text};
 ghost use Rattle.log_groups.specs.Images.{as_front};
 ghost use Rattle.log_groups.specs.Kept.{IsSound};
-ghost use Rattle.site_texts.specs.Sent.{GoesOn, HasSent, HasSentPart, HasTold};
+ghost use Rattle.site_texts.specs.Sent.{GoesOn, HasSent, HasSentPart, IsTold};
 ghost use Rattle.site_texts.specs.Texts.{IsDbSent, SendsDb, msdbs_text};
 ghost use Rattle.fp_site.specs.Site.{ReadsNothing};
 ghost use Rattle.std.specs.List.{AllByRecursion};
@@ -109,7 +109,7 @@ fn tell_database<T: Site>(
 ) -> Result<(), RestartFault>
     requires { number < length store.now.msdbs }
     ensures all { (its : MsdbOf) → slice_get store.now.msdbs number ≡ Some its → T.told site.old → OnOk result
-        (HasTold (T.disk site.old) (T.disk site.new) held.old (msdb_text def.now its) held.new) }
+        (IsTold (T.disk site.old) (T.disk site.new) (held.old ++ msdb_text def.now its) held.new []) }
     ensures part { (its : MsdbOf) → slice_get store.now.msdbs number ≡ Some its → T.told site.old
         → HasSentPart (T.disk site.old) (T.disk site.new) (held.old ++ msdb_text def.now its) }
     ensures never { (IsErrOf result faults.Foreign → ⊥) × ((set at : ℕ) → IsErrOf result (faults.Damaged set at) → ⊥) }

@@ -1,7 +1,7 @@
 //! A text that is sent in large parts, however small the pieces are that it is made of.
 ghost use Rattle.fp_site.specs.Disk.{Disk};
 ghost use Rattle.fp_site.specs.Site.{Counts, ReadsNothing};
-ghost use Rattle.site_texts.specs.Sent.{GoesOn, HasSent, HasSentPart, HasTold};
+ghost use Rattle.site_texts.specs.Sent.{GoesOn, HasSent, HasSentPart, IsTold};
 ghost use Rattle.std.specs.Prelude.{◌≡◌, ◌≤◌, ◌++◌, ℕ, [], OnOk};
 
 use fp_model::Bytes;
@@ -37,7 +37,7 @@ pub(crate) fn send_large<T: Site>(
     held: &mut Bytes,
 ) -> Result<(), Failed>
     ensures told_all { T.told site.old
-        → OnOk result (HasTold (T.disk site.old) (T.disk site.new) held.old [] held.new) }
+        → OnOk result (IsTold (T.disk site.old) (T.disk site.new) held.old held.new []) }
     ensures part { T.told site.old → HasSentPart (T.disk site.old) (T.disk site.new) held.old }
     ensures cause { Counts (T.faults site.old) (T.faults site.new) result }
     ensures reads { ReadsNothing (T.tells_reads site.old) (T.tells_reads site.new) (T.bytes_read site.old)

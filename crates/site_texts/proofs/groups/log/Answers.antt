@@ -7,10 +7,6 @@ use Rattle.site_texts.proofs.Whole.{none_sent, whole_sent, part_sent, damage_sen
 use Rattle.site_texts.proofs.groups.log.Given as given
 use Rattle.site_texts.proofs.groups.log.Goals as goal
 
--- the first gate is where the log was opened
-first_is : (g : given.Over) (c : goal.After-send_groups g) → c.gate-first.result ≡ first_gate (as_front c.args.front.now)
-first_is g c = search rules
-
 pub returns-in_err-log-clause-sends : goal.returns-in_err-log-clause-sends
 returns-in_err-log-clause-sends g c t =
     none_sent (as_front c.args.front.now) (g.T.Site.disk c.args.site.now) (g.T.Site.disk c.open.new.site)
@@ -23,3 +19,18 @@ returns-clause-sends g c t =
     (g.T.Site.disk c.open.new.site)
     (g.T.Site.disk c.send_groups.new.site) (g.met.T.Site.lawful c.args.site.now t)
     (g.met.T.Site.lawful c.open.new.site t1) (search rules) (c.open.ensures.stays t) (c.send_groups.ensures.sends t1)
+
+pub returns-clause-shown : goal.returns-clause-shown
+returns-clause-shown g c t = ?
+
+pub returns-clause-damaged : goal.returns-clause-damaged
+returns-clause-damaged g c set at t is =
+    let t1 = c.open.ensures.told t in
+    let bad = c.send_groups.ensures.damaged set at t1 is in (
+      bad.0,
+      damage_sent (as_front c.args.front.now) c.gate-first.result (g.T.Site.disk c.args.site.now)
+          (g.T.Site.disk c.open.new.site) (g.T.Site.disk c.send_groups.new.site)
+          (g.met.T.Site.lawful c.args.site.now t)
+          (g.met.T.Site.lawful c.open.new.site t1) (search rules) (c.open.ensures.stays t) at
+          (c.in_ok-log.ensures.front t) bad.1,
+    )
