@@ -1,3 +1,5 @@
 mod Told
 mod Shown
 mod Whole
+mod Restarted
+mod Lines

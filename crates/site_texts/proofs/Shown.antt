@@ -82,7 +82,14 @@ are_sent_more first place next d0 d1 d2 law0 law1 so_far one =
       number =
           let more = length-append so_far.groups (one.entries ∷ []) in
           omega (arith, so_far.number, one.groups, more);
-      count = omega (arith, so_far.count, one.count, ap length all, length-append (entries_of so_far.groups) one.entries);
+      count = omega (
+        arith,
+        so_far.count,
+        one.count,
+        ap length all,
+        length-append (entries_of so_far.groups)
+            one.entries,
+      );
       sent = subst (HasSent d0 d2) (sym text)
           (sent_on d0 d1 d2 (log_shown so_far.groups) (group_text place.groups place.entries one.entries) law0 law1
           so_far.sent one.sent);
@@ -95,7 +102,8 @@ sends_more first place d0 d1 d2 law0 law1 so_far (inl stays) = record {
   groups = so_far.groups;
   gate = place.at;
   holds = so_far.holds;
-  sent = part_whole d0 d2 (log_shown so_far.groups) (sent_then_stays d0 d1 d2 (log_shown so_far.groups) law0 law1 so_far.sent stays);
+  sent = part_whole d0 d2 (log_shown so_far.groups)
+      (sent_then_stays d0 d1 d2 (log_shown so_far.groups) law0 law1 so_far.sent stays);
 }
 sends_more first place d0 d1 d2 law0 law1 so_far (inr part) =
     let same = ap (λ (f : ℕ → List ℕ). f 0) so_far.sent.contents in
@@ -116,7 +124,8 @@ all_sent first place d0 d1 d2 so_far closed stays = record {
   groups = so_far.groups;
   gate = place.at;
   holds = so_far.holds;
-  closed = subst (λ (l : List ℕ). slice_index l place.at ≢ 1) (ap (λ (f : ℕ → List ℕ). f 0) so_far.sent.contents) closed;
+  closed = subst (λ (l : List ℕ). slice_index l place.at ≢ 1) (ap (λ (f : ℕ → List ℕ). f 0) so_far.sent.contents)
+      closed;
   sent = stays.sent ∙ so_far.sent.sent;
 }
 

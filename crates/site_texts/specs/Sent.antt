@@ -32,7 +32,8 @@ pub record SyncsAndSends (old : Disk) (text : List ℕ) (s : Snapshot) : Type 0 
   pub sent : old.tells_sent → s.sent ≡ before.sent ++ take count text
 
 -- By what is told and by the numbers: calls were made of a site, and it is the same one.
-pub record GoesOn {X : Type 0} (told : X → Type 0) (faults holds : X → ℕ) (keeps : X → X → Type 0) (old new : X) : Type 0
+pub record GoesOn {X : Type 0} (told : X → Type 0) (faults holds : X → ℕ) (keeps : X → X → Type 0) (old new : X) : Type
+    0
   where
     pub later : faults old ≤ faults new
     pub still_told : told old → told new

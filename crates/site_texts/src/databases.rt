@@ -16,7 +16,24 @@ ghost use Rattle.site_texts.specs.Sent.{GoesOn, HasSent, HasSentPart, IsTold};
 ghost use Rattle.site_texts.specs.Texts.{IsDbSent, SendsDb, msdbs_text};
 ghost use Rattle.fp_site.specs.Site.{ReadsNothing};
 ghost use Rattle.std.specs.List.{AllByRecursion};
-ghost use Rattle.std.specs.Prelude.{◌≡◌, ◌⊎◌, ◌++◌, ◌+◌, ◌-◌, ◌<◌, ◌≤◌, ◌^◌, ℕ, Some, IsErrOf, List as ListOf, OnErr, OnOk, length, slice_get};
+ghost use Rattle.std.specs.Prelude.{
+  ◌≡◌,
+  ◌⊎◌,
+  ◌++◌,
+  ◌+◌,
+  ◌-◌,
+  ◌<◌,
+  ◌≤◌,
+  ◌^◌,
+  ℕ,
+  [],
+  Some,
+  IsErrOf,
+  List as ListOf,
+  OnOk,
+  length,
+  slice_get,
+};
 
 use crate::telling::{send_held, send_large};
 use fp_model::{Bytes, Defs, MsdbDef};

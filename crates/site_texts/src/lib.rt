@@ -5,8 +5,8 @@
 //! first part.
 #![tactic(auto)]
 
-mod groups;
 mod databases;
+mod groups;
 mod telling;
 
 pub use databases::show;

@@ -10,7 +10,7 @@ abbrev pub invariant-loop-number : goal.invariant-loop-number
 invariant-loop-number g l = record {
   told : g.T.Site.told l.fn.site → IsTold (g.T.Site.disk l.fn.site) (g.T.Site.disk l.site)
       (msdbs_text l.fn.defs l.fn.store.msdbs) l.held
-      (each_text msdb_text (drop l.number-index l.fn.defs.msdbs) (drop l.number-index l.fn.store.msdbs));
+      (each_text msdb_text (drop l.number l.fn.defs.msdbs) (drop l.number l.fn.store.msdbs));
   calm : g.T.Site.faults l.site ≡ g.T.Site.faults l.fn.site;
   reads : ReadsNothing (g.T.Site.tells_reads l.fn.site) (g.T.Site.tells_reads l.site) (g.T.Site.bytes_read l.fn.site)
       (g.T.Site.bytes_read l.site);

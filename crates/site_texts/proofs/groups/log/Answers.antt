@@ -1,4 +1,5 @@
 use Rattle.std.proofs.Common.{◌≡◌, ◌∙◌, ap, sym, arith, rules, subst, refl, ℕ, List, []}
+use Rattle.std.proofs.lemmas.Result.{on_ok_weaker}
 use Rattle.fp_model.specs.LogText.{first_gate}
 use Rattle.log_groups.specs.Images.{as_front}
 use Rattle.site_texts.specs.Groups.{AreAllSent, SendsFrom}
@@ -21,7 +22,13 @@ returns-clause-sends g c t =
     (g.met.T.Site.lawful c.open.new.site t1) (search rules) (c.open.ensures.stays t) (c.send_groups.ensures.sends t1)
 
 pub returns-clause-shown : goal.returns-clause-shown
-returns-clause-shown g c t = ?
+returns-clause-shown g c t =
+    let t1 = c.open.ensures.told t in
+    on_ok_weaker c.send_groups.result
+    (whole_sent (as_front c.args.front.now) c.gate-first.result (g.T.Site.disk c.args.site.now)
+    (g.T.Site.disk c.open.new.site) (g.T.Site.disk c.send_groups.new.site) (g.met.T.Site.lawful c.args.site.now t)
+    (g.met.T.Site.lawful c.open.new.site t1) (search rules) (c.open.ensures.stays t) (c.in_ok-log.ensures.front t))
+    (c.send_groups.ensures.shown t1)
 
 pub returns-clause-damaged : goal.returns-clause-damaged
 returns-clause-damaged g c set at t is =

@@ -33,10 +33,16 @@ returns-in_err-send-clause-part g c t =
       entries = its.entries;
       next = its.next;
       group = has;
-      sent = part_on d0 d1 d2 [] text (g.met.T.Site.lawful c.args.site.now t) (g.met.T.Site.lawful c.group_at.new.site t1)
+      sent = part_on d0 d1 d2 [] text (g.met.T.Site.lawful c.args.site.now t)
+          (g.met.T.Site.lawful c.group_at.new.site t1)
           (sent_stays d0 d1 (c.group_at.ensures.stays t))
           (subst (HasSentPart d1 d2) same
-          (record { count = part.0; sent = part.1; contents = c.send.ensures.same t1; crash = c.send.ensures.crash t1 }));
+          (record {
+            count = part.0;
+            sent = part.1;
+            contents = c.send.ensures.same t1;
+            crash = c.send.ensures.crash t1;
+          }));
     })
 
 pub returns-clause-some : goal.returns-clause-some
@@ -55,11 +61,15 @@ returns-clause-some g c t =
       group = has;
       groups = refl;
       count = ap (λ n. c.args.place.entries + n) c.len.ensures;
-      sent = sent_on d0 d1 d2 [] text (g.met.T.Site.lawful c.args.site.now t) (g.met.T.Site.lawful c.group_at.new.site t1)
+      sent = sent_on d0 d1 d2 [] text (g.met.T.Site.lawful c.args.site.now t)
+          (g.met.T.Site.lawful c.group_at.new.site t1)
           (sent_stays d0 d1 (c.group_at.ensures.stays t))
           (subst (HasSent d1 d2) same
-          (record { sent = c.in_ok-send.ensures.sent t1; contents = c.send.ensures.same t1;
-          crash = c.send.ensures.crash t1 }));
+          (record {
+            sent = c.in_ok-send.ensures.sent t1;
+            contents = c.send.ensures.same t1;
+            crash = c.send.ensures.crash t1;
+          }));
     }
 
 pub returns-clause-part : goal.returns-clause-part

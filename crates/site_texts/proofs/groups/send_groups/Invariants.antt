@@ -9,7 +9,8 @@ invariant-loop-next g l = record {
   within : l.place.at ≤ 2 ^ 62;
   groups : l.place.groups ≤ l.place.at;
   entries : l.place.entries ≤ l.place.at;
-  sent : g.T.Site.told l.initial.site → AreSent l.fn.first l.place (g.T.Site.disk l.initial.site) (g.T.Site.disk l.site);
+  sent : g.T.Site.told l.initial.site
+      → AreSent l.fn.first l.place (g.T.Site.disk l.initial.site) (g.T.Site.disk l.site);
   calm : g.T.Site.faults l.site ≡ g.T.Site.faults l.initial.site;
   site : GoesOn g.T.Site.told g.T.Site.faults g.T.Site.holds g.T.Site.keeps l.initial.site l.site;
 }

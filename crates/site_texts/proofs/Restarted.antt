@@ -1,0 +1,76 @@
+-- The text of the databases, seen from before the restart.
+use Rattle.std.proofs.Common.{◌≡◌, ◌≢◌, ◌∙◌, ◌++◌, inl, inr, ap, sym, subst, refl, ℕ, List, [], take}
+use Rattle.std.specs.Prelude.{slice_index}
+use Rattle.std.proofs.lemmas.List.{append-nil}
+use Rattle.fp_model.specs.declared.database.Msdb.{Msdb}
+use Rattle.fp_model.specs.declared.definitions.Defs.{Defs}
+use Rattle.fp_model.specs.Groups.{entries_of}
+use Rattle.fp_model.specs.LogText.{Front, StartsWithFront, first_gate}
+use Rattle.fp_restart.specs.Replayed.{HoldsFit, ReadsBack}
+use Rattle.fp_site.specs.Disk.{Disk, IsLawful, Sends, Settles, Snapshot, Syncs}
+use Rattle.fp_site.specs.Moments.{Through}
+use Rattle.fp_site.proofs.Runs.{goes_on, weaker}
+use Rattle.log_groups.specs.Log.{LogState}
+use Rattle.msdb_store.specs.Store.{Stored}
+use Rattle.site_texts.specs.Sent.{HasSentPart, SyncsAndSends}
+use Rattle.site_texts.specs.Texts.{IsTextOf, SendsDb, msdbs_text}
+
+-- before the first byte is sent
+synced_only : (old : Disk) (text : List ℕ) (s : Snapshot) → Syncs old 0 s → SyncsAndSends old text s
+synced_only old text s d = record {
+  before = d.before;
+  left = d.left;
+  log = inr d.this;
+  others = d.others;
+  count = 0;
+  sent = λ told. d.sent told ∙ sym (append-nil d.before.sent);
+}
+
+module _ (old mid : Disk) (law : IsLawful mid) (restarted : Through old mid (Syncs old 0)) where
+  -- and behind it
+  sent_behind : (text : List ℕ) (s : Snapshot) → Sends mid text s → SyncsAndSends old text s
+  sent_behind text s d =
+      let base : Syncs old 0 d.before =
+      restarted.each d.before (law.earlier old.moment mid.moment d.before restarted.later
+      (law.counts_now d.before d.left)) in
+      let at : (set : ℕ) → s.images set ≡ d.before.images set = λ set. ap (λ (f : ℕ → List ℕ). f set) d.images in
+      record {
+        before = base.before;
+        left = base.left;
+        log = inr (subst (Settles old 0) (sym (at 0)) base.this);
+        others = λ set other. at set ∙ base.others set other;
+        count = d.count;
+        sent = λ told. d.sent (restarted.tells_sent told)
+            ∙ ap (λ (t : List ℕ). t ++ take d.count text) (base.sent told);
+      }
+
+  pub show_moments : (text : List ℕ) (new : Disk) → HasSentPart mid new text → Through old new (SyncsAndSends old text)
+  show_moments text new part = goes_on (SyncsAndSends old text) old mid new (Sends mid text)
+      (weaker (Syncs old 0) (SyncsAndSends old text) old mid (synced_only old text) restarted) part.crash
+      (sent_behind text)
+
+-- a restart that gave nothing sends nothing
+pub nothing_shown : (defs : Defs) (front : Front) (old mid : Disk) → ((set : ℕ) → mid.contents set ≡ old.contents set)
+    → mid.sent ≡ old.sent → Through old mid (Syncs old 0) → SendsDb defs front old mid
+nothing_shown defs front old mid contents sent run = record {
+  text = [];
+  is = inl refl;
+  count = 0;
+  sent = sent ∙ sym (append-nil old.sent);
+  contents = contents;
+  crash = weaker (Syncs old 0) (SyncsAndSends old []) old mid (synced_only old []) run;
+}
+
+-- what a restart read back is the log's text
+pub text_read : (defs : Defs) (front : Front) (old mid : Disk) (store : Stored) (log : LogState)
+    → mid.contents 0 ≡ old.contents 0 → ReadsBack defs front mid store log
+    → IsTextOf defs front (old.contents 0) (msdbs_text defs store.msdbs)
+text_read defs front old mid store log same read = record {
+  groups = read.replayed.groups;
+  gate = log.gate;
+  begins = subst (λ (l : List ℕ). StartsWithFront l front) same read.begins;
+  holds =
+      subst (λ (l : List ℕ). HoldsFit defs l (first_gate front) log.gate read.replayed.groups) same read.replayed.holds;
+  closed = subst (λ (l : List ℕ). slice_index l log.gate ≢ 1) same read.closed;
+  is_text = ap (λ (ms : List Msdb). msdbs_text defs ms) read.replayed.msdbs;
+}
