@@ -1,11 +1,12 @@
 -- How a run ended: from what the run of the schedule says, where it was done, where a step ended it, and where nothing
 -- was done.
-use Rattle.std.proofs.Common.{◌≡◌, inl, refl, sym, ◌∙◌, ap, subst, arith, ℕ, ◌+◌, ◌-◌, ◌≤◌, List, [], ◌++◌, length, drop, Some}
+use Rattle.std.proofs.Common.{◌≡◌, inl, inr, refl, sym, ◌∙◌, ap, subst, arith, ℕ, ◌+◌, ◌-◌, ◌≤◌, List, [], ◌++◌, length, drop, Some}
 use Rattle.std.specs.Prelude.{slice_get}
 use Rattle.std.proofs.lemmas.List.{append-nil, length-drop}
 use Rattle.std.proofs.lemmas.Option.{slice_get_within}
 use Rattle.fp_core.specs.Standing.{HasGroups, IsLeft, IsWithin, MayStop, Origin, seals_of}
 use Rattle.fp_core.specs.Relation.{AreMade}
+use Rattle.fp_core.specs.Sparing.{IsSealing}
 use Rattle.fp_core.specs.declared.engine.Engine.{Engine}
 use Rattle.fp_core.specs.declared.stop.Stop.{Stop}
 use Rattle.fp_core.specs.declared.stop.Stop.TheVariants as stop
@@ -26,7 +27,7 @@ use Rattle.schedule_runs.specs.Standing.{IsDone, IsLeftOnWay, IsStopped}
 use Rattle.schedule_runs.specs.Ways as way
 use Rattle.schedule_runs.specs.Ways.{Comes, next_event}
 use Rattle.fp_system.specs.Answers.{status_of_stop}
-use Rattle.fp_system.specs.Courses.{EndsAt, Input, IsAtLine, IsBegun, RanFrom}
+use Rattle.fp_system.specs.Courses.{EndsAt, Input, IsAtLine, IsBegun, MayWant, RanFrom}
 use Rattle.fp_system.specs.Parts.{Job, rules_for}
 use Rattle.fp_system.specs.declared.status.Status.{Status}
 use Rattle.fp_system.specs.declared.status.Status.TheVariants.{Done, NoMemory}
@@ -92,6 +93,24 @@ line_at_line number left here event.Out is may = absurd may
 line_at_line number left here event.Ckpt is may = absurd may
 line_at_line number left here (event.Purge set n) is may = absurd may
 
+-- the log ends only a step that makes calls on the site
+log_at_seal : (here : Machine) (e : Event) → MayStop e here.held stop.LogFault → IsSealing e
+log_at_seal here event.In may = absurd may
+log_at_seal here (event.Region region) may = absurd may
+log_at_seal here event.Log may = tt
+log_at_seal here event.Out may = absurd may
+log_at_seal here event.Ckpt may = tt
+log_at_seal here (event.Purge set n) may = absurd may
+
+-- and memory one that may want some
+memory_wanted : (here : Machine) (e : Event) → MayStop e here.held stop.Memory → MayWant e here
+memory_wanted here event.In may = tt
+memory_wanted here (event.Region region) may = tt
+memory_wanted here event.Log may = tt
+memory_wanted here event.Out may = absurd may
+memory_wanted here event.Ckpt may = tt
+memory_wanted here (event.Purge set n) may = absurd may
+
 module _ (job : Job) (given : Input) (origin : Origin) (h : History) where
   abbrev begun : Machine
   begun = at_rest (rules_for job) given.lines h
@@ -116,13 +135,13 @@ module _ (job : Job) (given : Input) (origin : Origin) (h : History) where
       → MayStop (next_event left) here.held why
       → ((number : ℕ) → why ≡ stop.LineFault number → number + length here.lines ≡ 1 + length given.lines)
       → EndsAt job given (status_of_stop why) begun left here
-  stop_ends left here stop.LogFault comes may first = tt
+  stop_ends left here stop.LogFault comes may first = inl (log_at_seal here (next_event left) may)
   stop_ends left here stop.ReadFault comes may first = inl (read_at_line left here (next_event left) refl may)
   stop_ends left here (stop.LineFault number) comes may first = (
     line_at_line number left here (next_event left) refl may,
     lines_from left here number comes (first number refl),
   )
-  stop_ends left here stop.Memory comes may first = tt
+  stop_ends left here stop.Memory comes may first = inl (memory_wanted here (next_event left) may)
 
   abbrev Moments : Disk → Disk → Type 0
   Moments old new = Through old new (IsLeftOnWay origin job.defs (rules_for job) given.events begun old)
@@ -186,7 +205,7 @@ module _ (job : Job) (given : Input) (origin : Origin) (h : History) where
       left = given.events;
       here = begun;
       comes = not_begun;
-      ends = tt;
+      ends = inr (record { all_left = refl; at_start = refl });
       within =
           within_at job origin begun (seals_of (next_event given.events) begun) disk log.gate its_rest disk its_sent
           (λ set other. refl);

@@ -33,27 +33,18 @@ use Rattle.fp_system.specs.declared.words.Command.TheVariants.{Define, Run}
 use Rattle.std.specs.Prelude.{Option, Some, None}
 use Rattle.fp_system.proofs.Begins.{any_format, any_history, any_place, any_states, front_kept}
 use Rattle.fp_system.proofs.FrameLemmas.{spares_none}
-use Rattle.fp_system.proofs.StopLemmas.{a_stop_follows, durable_safe}
 use Rattle.fp_system.proofs.Went.{unchanged_same, went_not}
 
 -- ---- the whole
 
 module _ (job : Job) (given : Input) (answer : Status) where
-  pub ran : (old new : Disk) → IsLawful old → (IsSpared job (old.contents 0) → IsUnchanged old new)
+  pub ran : (old new : Disk) → (IsSpared job (old.contents 0) → IsUnchanged old new)
       → Spares IsLog old new
       → ((groups : List (List Entry)) (gate : ℕ) → HasLog (front_for job) (old.contents 0) groups gate
       → Through old new (KeepsFront gate old))
       → ((earlier : List Entry) → IsSafeFor job old earlier → Went job given earlier answer old new)
       → Ran job given answer old new
-  ran old new law spared others kept on = record {
-    spares = spared;
-    others = others;
-    keeps = kept;
-    goes = on;
-    stops = λ earlier durable tells sound snapshot left.
-        let moments = (on earlier (durable_safe job old earlier durable sound)).moments in
-        a_stop_follows job earlier given old new law durable tells sound moments snapshot left;
-  }
+  ran old new spared others kept on = record { spares = spared; others = others; keeps = kept; goes = on }
 
   -- a restart alone keeps each log
   pub kept_synced : (old new : Disk) → Through old new (Syncs old 0) → (gate : ℕ)
@@ -65,9 +56,9 @@ module _ (job : Job) (given : Input) (answer : Status) where
 pub stands_in_ends : (job : Job) (given : Input) (answer : Status) (h : History)
     → MayStandIn answer → EndsAt job given answer (at_rest (rules_for job) given.lines h) given.events
     (at_rest (rules_for job) given.lines h)
-stands_in_ends job given ReadFault h stands = inr refl
-stands_in_ends job given SiteFault h stands = tt
-stands_in_ends job given NoMemory h stands = tt
+stands_in_ends job given ReadFault h stands = inr (record { all_left = refl; at_start = refl })
+stands_in_ends job given SiteFault h stands = inr (record { all_left = refl; at_start = refl })
+stands_in_ends job given NoMemory h stands = inr (record { all_left = refl; at_start = refl })
 stands_in_ends job given Done h stands = absurd stands
 stands_in_ends job given Usage h stands = absurd stands
 stands_in_ends job given (Definitions f) h stands = absurd stands
@@ -120,28 +111,29 @@ went_in_place job given answer earlier h h1 law law1 safe contents sent run stan
 pub ran_not : (job : Job) (given : Input) (answer : Status) (h : Disk) → IsLawful h → MayStandIn answer
     → Ran job given answer h h
 ran_not job given answer h law stands =
-    ran job given answer h h law (λ why. unchanged_same h law) (spares_none IsLog h law)
+    ran job given answer h h (λ why. unchanged_same h law) (spares_none IsLog h law)
     (λ groups gate log. kept_synced job given answer h h (started (Syncs h 0) h law (same_synced h)) gate)
     (λ earlier safe.
     went_in_place job given answer earlier h h law law safe (λ set. refl) refl
     (started (Syncs h 0) h law (same_synced h)) stands)
 
 pub before_site : {P : Type 0} (found : Option Command) (answer : Status) → (IsEarly answer → P)
-    → (found ≡ Some Define → answer ≡ ReadFault → P) → IsBeforeSite found answer → P
-before_site (Some Define) ReadFault e f h = f refl refl
-before_site (Some Define) Done e f h = e h
-before_site (Some Define) Usage e f h = e h
-before_site (Some Define) (Definitions fault) e f h = e h
-before_site (Some Define) (Scripts fault) e f h = e h
-before_site (Some Define) (Schedule fault) e f h = e h
-before_site (Some Define) SiteFault e f h = e h
-before_site (Some Define) Foreign e f h = e h
-before_site (Some Define) (Damaged set at) e f h = e h
-before_site (Some Define) (Line number) e f h = e h
-before_site (Some Define) NoMemory e f h = e h
-before_site (Some Define) (NotBuilt p) e f h = e h
-before_site (Some Run) answer e f h = e h
-before_site None answer e f h = e h
+    → (found ≡ Some Define → answer ≡ ReadFault → P) → (found ≡ Some Define → answer ≡ NoMemory → P)
+    → IsBeforeSite found answer → P
+before_site (Some Define) ReadFault e f m h = f refl refl
+before_site (Some Define) Done e f m h = e h
+before_site (Some Define) Usage e f m h = e h
+before_site (Some Define) (Definitions fault) e f m h = e h
+before_site (Some Define) (Scripts fault) e f m h = e h
+before_site (Some Define) (Schedule fault) e f m h = e h
+before_site (Some Define) SiteFault e f m h = e h
+before_site (Some Define) Foreign e f m h = e h
+before_site (Some Define) (Damaged set at) e f m h = e h
+before_site (Some Define) (Line number) e f m h = e h
+before_site (Some Define) NoMemory e f m h = m refl refl
+before_site (Some Define) (NotBuilt p) e f m h = e h
+before_site (Some Run) answer e f m h = e h
+before_site None answer e f m h = e h
 
 -- ---- behind a restart
 

@@ -4,7 +4,7 @@ use Rattle.std.proofs.lemmas.List.{append-nil}
 use Rattle.std.proofs.lemmas.Option.{slice_get_within}
 use Rattle.fp_core.specs.Relation.{AreMade}
 use Rattle.fp_core.specs.Sparing.{IsSealing}
-use Rattle.fp_core.specs.Standing.{Origin, seals_of}
+use Rattle.fp_core.specs.Standing.{HasGroups, Origin, seals_of}
 use Rattle.fp_model.specs.declared.events.Event.{Event}
 use Rattle.fp_model.specs.declared.log.Entry.{Entry}
 use Rattle.fp_model.specs.Groups.{entries_of}
@@ -29,9 +29,8 @@ use Rattle.msdb_store.specs.Store.{Stored}
 use Rattle.schedule_runs.specs.Standing.{IsLeftOnWay}
 use Rattle.schedule_runs.specs.Ways as way
 use Rattle.schedule_runs.specs.Ways.{Comes, next_event}
-use Rattle.sealed_runs.proofs.Disks.{safe_within}
 use Rattle.sealed_runs.proofs.SoundLogs.{groups_sound}
-use Rattle.fp_system.specs.Courses.{Course, EndsAt, GoesOnBy, Input, IsBegun, IsHistoryOf, IsKeptBy, RanFrom}
+use Rattle.fp_system.specs.Courses.{Course, EndsAt, GoesOnTo, Input, IsBegun, IsHistoryOf, IsKeptBy, IsSoundFor, RanFrom}
 use Rattle.fp_system.specs.Gives.{IsSafeFor, RestsBehind, Went}
 use Rattle.fp_system.specs.Ims.{IsUnchanged}
 use Rattle.fp_system.specs.Parts.{Job, front_for, rules_for}
@@ -106,8 +105,17 @@ rests_behind job given (NotBuilt p) first left here ends done = absurd done
 
 -- ---- a run from a safe site
 
+-- a snapshot from before, but for a sync of the log
+synced : (job : Job) (given : Input) (earlier : List Entry) (before : List (List Entry)) (h : Disk) → IsLawful h
+    → (s : Snapshot) → Syncs h 0 s → IsKeptBy job given earlier before h s
+synced job given earlier before h law s is = record {
+  text = [];
+  sent = λ tells. is.sent tells ∙ law.sent_now tells is.before is.left ∙ sym (append-nil h.sent);
+  log = inl (record { settles = is.this; unsent = refl });
+}
+
 module _ (job : Job) (given : Input) (earlier : List Entry) (are : AreDefs job.defs) (none : job.defs.dedbs ≡ [])
-    (h h1 h2 : Disk) (law1 : IsLawful h1) (law2 : IsLawful h2) (safe : IsSafeFor job h earlier)
+    (h h1 h2 : Disk) (law : IsLawful h) (law2 : IsLawful h2) (safe : IsSafeFor job h earlier)
     (contents : (set : ℕ) → h1.contents set ≡ h.contents set) (sent : h1.sent ≡ h.sent) (run : Through h h1 (Syncs h 0))
   where
     abbrev before : History
@@ -115,9 +123,6 @@ module _ (job : Job) (given : Input) (earlier : List Entry) (are : AreDefs job.d
 
     its_history : IsHistoryOf job earlier before
     its_history = is_history job (h.contents 0) earlier safe.now
-
-    synced : (s : Snapshot) → h1.may_leave s → Syncs h 0 s
-    synced s left = run.each s (law1.earlier h.moment h1.moment s run.later (law1.counts_now s left))
 
     module _ (groups : List (List Entry)) (gate : ℕ) (all : earlier ≡ entries_of groups)
         (rest : IsAtRest h1 (front_for job) groups gate) (answer : Status) where
@@ -128,64 +133,66 @@ module _ (job : Job) (given : Input) (earlier : List Entry) (are : AreDefs job.d
         abbrev begun : Machine
         begun = at_rest (rules_for job) given.lines before
 
-        course_of : (left : List Event) (here : Machine) → Comes job.defs (rules_for job) given.events begun left here
-            → Course job given earlier left here
-        course_of left here comes = record { behind = before; history = its_history; comes = comes }
+        -- an image that a step from some machine leaves
+        goes_to : (left : List Event) (here : Machine) (text image : List ℕ)
+            → Comes job.defs (rules_for job) given.events begun left here
+            → HasGroups origin (rules_for job) here (seals_of (next_event left) here) text image
+            → GoesOnTo job earlier groups left here text image
+        goes_to left here text image comes has = record {
+          groups = (sealed_times has.times (rules_for job) here).groups;
+          sealed = record { times = has.times; few = has.few; groups_are = refl; told = has.lines };
+          gate = has.gate;
+          log = has.log;
+          sound =
+              groups_sound job.defs job.scripts origin (h.contents 0) earlier here (seals_of (next_event left) here)
+              text image are none refl safe.now
+              (comes_behind job earlier before given.lines given.events left here its_history comes) all has;
+        }
 
         -- a snapshot that a step on the way left
-        goes_on : (s : Snapshot)
-            → IsLeftOnWay origin job.defs (rules_for job) given.events begun h1 s → GoesOnBy job given earlier h s
-        goes_on s on =
+        on_way : (s : Snapshot) → IsLeftOnWay origin job.defs (rules_for job) given.events begun h1 s
+            → IsKeptBy job given earlier groups h s
+        on_way s on =
             let is = on.is_left in
-            let times = is.groups.times in
             record {
-              left = on.left;
-              here = on.here;
-              course = course_of on.left on.here on.comes;
-              groups = (sealed_times times (rules_for job) on.here).groups;
               text = is.text;
-              sealed = record { times = times; few = is.groups.few; groups_are = refl; told = is.groups.lines };
-              sound =
-                  groups_sound job.defs job.scripts origin (h.contents 0) earlier on.here
-                  (seals_of (next_event on.left) on.here) is.text (s.images 0) are none refl safe.now
-                  (comes_behind job earlier before given.lines given.events on.left on.here its_history on.comes) all
-                  is.groups;
               sent = λ tells. is.sent (run.tells_sent tells) ∙ ap (λ (t : List ℕ). t ++ is.text) sent;
+              log =
+                  inr (record {
+                    left = on.left;
+                    here = on.here;
+                    course = record { behind = before; history = its_history; comes = on.comes };
+                    goes = goes_to on.left on.here is.text (s.images 0) on.comes is.groups;
+                  });
             }
 
-        moments_of : Through h h2 (IsKeptBy job given earlier h)
+        moments_of : Through h h2 (IsKeptBy job given earlier groups h)
         moments_of =
-            joined (IsKeptBy job given earlier h) h h1 h2
-            (weaker (Syncs h 0) (IsKeptBy job given earlier h) h h1 (λ s d. inl d) run)
+            joined (IsKeptBy job given earlier groups h) h h1 h2
+            (weaker (Syncs h 0) (IsKeptBy job given earlier groups h) h h1 (synced job given earlier groups h law) run)
             (weaker (IsLeftOnWay origin job.defs (rules_for job) given.events begun h1)
-            (IsKeptBy job given earlier h) h1 h2 (λ s left. inr (goes_on s left)) it.moments)
+            (IsKeptBy job given earlier groups h) h1 h2 on_way it.moments)
 
         pub went : Went job given earlier answer h h2
-        went =
-            let has = it.within.groups (h2.contents 0) (settles_contents h2 0 law2) in
-            record {
-              left = it.left;
-              here = it.here;
-              course = record { behind = before; history = its_history; comes = it.comes };
-              ends = it.ends;
-              before = groups;
-              stood = sym all;
-              old_gate = gate;
-              held = subst (λ (l : List ℕ). Holds (front_for job) l groups gate) (contents 0) rest.log.holds;
-              groups = (sealed_times has.times (rules_for job) it.here).groups;
-              text = it.within.text;
-              sealed = record { times = has.times; few = has.few; groups_are = refl; told = has.lines };
-              gate = has.gate;
-              holds = has.log;
-              sent = it.within.sent ∙ ap (λ (t : List ℕ). t ++ it.within.text) sent;
-              safe =
-                  safe_within job.defs job.scripts origin (h.contents 0) earlier it.here
-                  (seals_of (next_event it.left) it.here) are none refl safe.now
-                  (comes_behind job earlier before given.lines given.events it.left it.here its_history it.comes) all h1
-                  h2 law2 it.within;
-              rest = λ done. it.rest (rests_behind job given answer begun it.left it.here it.ends done);
-              moments = moments_of;
-            }
+        went = record {
+          left = it.left;
+          here = it.here;
+          course = record { behind = before; history = its_history; comes = it.comes };
+          ends = it.ends;
+          before = groups;
+          stood = sym all;
+          old_gate = gate;
+          held = subst (λ (l : List ℕ). Holds (front_for job) l groups gate) (contents 0) rest.log.holds;
+          text = it.within.text;
+          sent = it.within.sent ∙ ap (λ (t : List ℕ). t ++ it.within.text) sent;
+          now =
+              goes_to it.left it.here it.within.text (h2.contents 0) it.comes
+              (it.within.groups (h2.contents 0) (settles_contents h2 0 law2));
+          images = λ image settles.
+              inr (goes_to it.left it.here it.within.text image it.comes (it.within.groups image settles));
+          rest = λ done. it.rest (rests_behind job given answer begun it.left it.here it.ends done);
+          moments = moments_of;
+        }
 
 -- ---- where a run ended before it began: in the restart, or before the site
 
@@ -237,28 +244,30 @@ module _ (job : Job) (given : Input) (earlier : List Entry) (h h1 : Disk) (law :
     stood = sym safe.now.all;
     old_gate = safe.now.gate;
     held = safe.now.holds;
-    groups = [];
     text = [];
-    sealed = record {
-      times = 0;
-      few = omega arith;
-      groups_are = refl;
-      told = record { more = []; rest = []; from = refl; to = refl };
-    };
-    gate = safe.now.gate;
-    holds =
-        subst (λ (gs : List (List Entry)). IsLog (front_for job) (h1.contents 0) gs safe.now.gate)
-        (sym (append-nil safe.now.groups))
-        (subst (λ (l : List ℕ). IsLog (front_for job) l safe.now.groups safe.now.gate) (sym (contents 0))
-        (record { holds = safe.now.holds; stands = safe.now.stands }));
     sent = sent ∙ sym (append-nil h.sent);
-    safe =
-        subst (IsSafeFor job h1) (sym (append-nil earlier)) (record {
-          now =
-              subst (λ (l : List ℕ). IsSound job.defs job.scripts (front_for job) l earlier) (sym (contents 0))
-              safe.now;
-          crash = λ image settles. safe.crash image (settles_again h h1 0 image settled settles);
-        });
+    now = record {
+      groups = [];
+      sealed = record {
+        times = 0;
+        few = omega arith;
+        groups_are = refl;
+        told = record { more = []; rest = []; from = refl; to = refl };
+      };
+      gate = safe.now.gate;
+      log =
+          subst (λ (gs : List (List Entry)). IsLog (front_for job) (h1.contents 0) gs safe.now.gate)
+          (sym (append-nil safe.now.groups))
+          (subst (λ (l : List ℕ). IsLog (front_for job) l safe.now.groups safe.now.gate) (sym (contents 0))
+          (record { holds = safe.now.holds; stands = safe.now.stands }));
+      sound =
+          subst (IsSoundFor job (h1.contents 0)) (sym (append-nil earlier))
+          (subst (λ (l : List ℕ). IsSoundFor job l earlier) (sym (contents 0)) safe.now);
+    };
+    images = λ image settles.
+        inl (record { settles = settles_again h h1 0 image settled settles; unsent = refl });
     rest = λ done. absurd (early done);
-    moments = weaker (Syncs h 0) (IsKeptBy job given earlier h) h h1 (λ s d. inl d) run;
+    moments =
+        weaker (Syncs h 0) (IsKeptBy job given earlier safe.now.groups h) h h1
+        (synced job given earlier safe.now.groups h law) run;
   }

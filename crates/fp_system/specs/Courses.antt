@@ -11,15 +11,15 @@ use Rattle.fp_model.specs.Lasts.{format_at}
 use Rattle.fp_model.specs.Machine.{Machine, at_rest, sealed_times}
 use Rattle.fp_model.specs.Runs.{IsDrained}
 use Rattle.fp_model.specs.SerialHistory.{IsSerial}
-use Rattle.fp_site.specs.Disk.{Disk, IsDurable, Snapshot, Syncs}
+use Rattle.fp_site.specs.Disk.{Disk, IsDurable, Settles, Snapshot}
 use Rattle.fp_site.specs.Moments.{Through}
-use Rattle.log_groups.specs.Images.{IsAtRest}
+use Rattle.log_groups.specs.Images.{IsAtRest, IsLog as HasLog}
+use Rattle.log_groups.specs.Kept.{IsSound}
 use Rattle.log_groups.specs.Log.{LogState}
 use Rattle.msdb_store.specs.Store.{Stored}
 use Rattle.schedule_runs.specs.Standing.{IsLeftOnWay}
 use Rattle.schedule_runs.specs.Ways.{Comes, next_event}
-use Rattle.fp_system.specs.Parts.{Job, rules_for}
-use Rattle.fp_system.specs.Stops.{IsSoundFor}
+use Rattle.fp_system.specs.Parts.{Job, front_for, rules_for}
 use Rattle.fp_system.specs.declared.status.Status.{Status}
 use Rattle.fp_system.specs.declared.status.Status.TheVariants.{Done, ReadFault, SiteFault, Line, NoMemory}
 
@@ -30,6 +30,10 @@ pub record Input : Type 0 where
 
 abbrev pub input : List Event → List (List ℕ) → Input
 input events lines = record { events = events; lines = lines }
+
+-- the log is a serial history of these entries under the job
+abbrev pub IsSoundFor : Job → List ℕ → List Entry → Type 0
+IsSoundFor job log entries = IsSound job.defs job.scripts (front_for job) log entries
 
 -- a serial history of these entries, behind a front of format 1
 pub record IsHistoryOf (job : Job) (earlier : List Entry) (h : History) : Type 0 where
@@ -53,21 +57,35 @@ pub record HasSealed (job : Job) (left : List Event) (here : Machine) (groups : 
   pub groups_are : groups ≡ (sealed_times times (rules_for job) here).groups
   pub told : IsBetween here.sent text (sealed_times times (rules_for job) here).sent
 
--- A crash left a log that goes on from the earlier entries by what a run sealed, and what was sent by then.
-pub record GoesOnBy (job : Job) (given : Input) (earlier : List Entry) (before : Disk) (s : Snapshot) : Type 0 where
+-- an image of the log goes on from the earlier entries, which stand in the groups before: by the groups of what a run
+-- that had come so far sealed, when this text was sent
+pub record GoesOnTo (job : Job) (earlier : List Entry) (before : List (List Entry)) (left : List Event)
+    (here : Machine) (text image : List ℕ) : Type 0 where
+  pub groups : List (List Entry)
+  pub sealed : HasSealed job left here groups text
+  pub gate : ℕ
+  pub log : HasLog (front_for job) image (before ++ groups) gate
+  pub sound : IsSoundFor job image (earlier ++ entries_of groups)
+
+-- the same, wherever the run had come by then
+pub record GoesOnBy (job : Job) (given : Input) (earlier : List Entry) (before : List (List Entry))
+    (text image : List ℕ) : Type 0 where
   pub left : List Event
   pub here : Machine
   pub course : Course job given earlier left here
-  pub groups : List (List Entry)
-  pub text : List ℕ
-  pub sealed : HasSealed job left here groups text
-  pub sound : IsSoundFor job (s.images 0) (earlier ++ entries_of groups)
-  pub sent : before.tells_sent → s.sent ≡ before.sent ++ text
+  pub goes : GoesOnTo job earlier before left here text image
 
--- A snapshot keeps what stood: it is one that a crash might have left then, but for a sync of the log, or it goes on
--- from it.
-abbrev pub IsKeptBy : Job → Input → List Entry → Disk → Snapshot → Type 0
-IsKeptBy job given earlier before s = Syncs before 0 s ⊎ GoesOnBy job given earlier before s
+-- an image that a sync might have left as the call began, when nothing was sent since
+pub record IsAsBefore (old : Disk) (text image : List ℕ) : Type 0 where
+  pub settles : Settles old 0 image
+  pub unsent : text ≡ []
+
+-- A snapshot keeps what stood: its log is as it was, or goes on, by what was sent then.
+pub record IsKeptBy (job : Job) (given : Input) (earlier : List Entry) (before : List (List Entry)) (old : Disk)
+    (s : Snapshot) : Type 0 where
+  pub text : List ℕ
+  pub sent : old.tells_sent → s.sent ≡ old.sent ++ text
+  pub log : IsAsBefore old text (s.images 0) ⊎ GoesOnBy job given earlier before text (s.images 0)
 
 -- ---- where a run ends
 
@@ -76,14 +94,27 @@ pub record IsAtLine (left : List Event) (here : Machine) : Type 0 where
   pub takes : next_event left ≡ event.In
   pub none_held : here.held ≡ None
 
+-- nothing was done
+pub record IsNotBegun (given : Input) (start : Machine) (left : List Event) (here : Machine) : Type 0 where
+  pub all_left : left ≡ given.events
+  pub at_start : here ≡ start
+
+-- a step that may find no memory: none that does nothing; of a region only where that is idle, since an active one gets
+-- an entry that says so
+abbrev pub MayWant : Event → Machine → Type 0
+MayWant event.Out here = ⊥
+MayWant (event.Purge set n) here = ⊥
+MayWant _ here = ⊤
+
 -- Where a run ends with this answer. With Done all events were taken, and the drain. A line that isn't taken is the
--- next one that would be read. Where a read failed the next step reads a line, or nothing was done.
+-- next one that would be read. Where a read failed the next step reads a line; where the site failed it is a LOG or
+-- CKPT; where memory lacked it is one that may want some. Or nothing was done.
 abbrev pub EndsAt : Job → Input → Status → Machine → List Event → Machine → Type 0
 EndsAt job given Done start left here = (left ≡ []) × IsDrained (rules_for job) here
 EndsAt job given (Line number) start left here = IsAtLine left here × (here.lines ≡ drop (number - 1) given.lines)
-EndsAt job given ReadFault start left here = IsAtLine left here ⊎ (here ≡ start)
-EndsAt job given SiteFault start left here = ⊤
-EndsAt job given NoMemory start left here = ⊤
+EndsAt job given ReadFault start left here = IsAtLine left here ⊎ IsNotBegun given start left here
+EndsAt job given SiteFault start left here = IsSealing (next_event left) ⊎ IsNotBegun given start left here
+EndsAt job given NoMemory start left here = MayWant (next_event left) here ⊎ IsNotBegun given start left here
 EndsAt job given _ start left here = ⊥
 
 -- ---- from where a run begins

@@ -15,6 +15,9 @@ use Rattle.fp_system.specs.declared.status.Status.{Status}
 use Rattle.fp_system.specs.Parts.{rules_for}
 use Rattle.fp_system.specs.Setups.{job_of}
 use Rattle.fp_system.proofs.Begins.{any_format, any_history, any_place, any_states, reached_at_rest, stands_beside}
+use Rattle.fp_core.proofs.Onwards.{reads_nothing_none}
+use Rattle.fp_system.specs.Causes.{IsCaused}
+use Rattle.fp_system.proofs.CauseLemmas.{stop_by_site, stop_by_source}
 use Rattle.fp_system.proofs.Ended.{ended_before, ended_done, ended_early}
 use Rattle.fp_system.proofs.FrameLemmas.{spares_none}
 use Rattle.fp_system.proofs.acting.run_started.Goals as goal
@@ -101,3 +104,30 @@ returns-clause-ran g c origin h s t is =
     (λ number e. omega (arith, stopped.first number e, none))
     (as_given (λ d r es. Through old new (IsLeftOnWay origin d r es m old)) c.in-Ok.ensures.defs c.in-Ok.ensures.rules
     c.as_slice.ensures (c.run_schedule.ensures.moments origin m t s beside reached)))
+
+-- ---- faults, and what is read
+
+pub returns-in-Err-clause-cause : goal.returns-in-Err-clause-cause
+returns-in-Err-clause-cause g c = record { source = refl; site = refl }
+
+pub returns-in-Err-clause-reads : goal.returns-in-Err-clause-reads
+returns-in-Err-clause-reads g c =
+    reads_nothing_none (g.T.Site.tells_reads c.args.site.now) (g.T.Site.bytes_read c.args.site.now)
+
+pub returns-in-Ok-run_schedule-clause-cause : goal.returns-in-Ok-run_schedule-clause-cause
+returns-in-Ok-run_schedule-clause-cause g c = record {
+  source = c.in-Ok-run_schedule.ensures.source_calm;
+  site = c.in-Ok-run_schedule.ensures.site_calm;
+}
+
+pub returns-clause-cause : goal.returns-clause-cause
+returns-clause-cause g c =
+    let why = c.in-Err-run_schedule.stop in
+    let read = g.S.Source.faults c.args.source.now in
+    let read2 = g.S.Source.faults c.run_schedule.new.source in
+    let site = g.T.Site.faults c.args.site.now in
+    let site2 = g.T.Site.faults c.run_schedule.new.site in
+    subst (IsCaused read read2 site site2) (sym c.from.ensures) (record {
+      source = stop_by_source read read2 why c.in-Err-run_schedule.ensures.source_cause;
+      site = stop_by_site site site2 why c.in-Err-run_schedule.ensures.site_cause;
+    })

@@ -1,0 +1,95 @@
+-- A run that is done is a run from rest that drained, and it sealed and sent all.
+use Rattle.std.proofs.Common.{◌≡◌, refl, sym, ap, subst, ◌∙◌, arith, ℕ, ◌+◌, ◌≤◌, List, [], ◌++◌, length, Bool, true, false}
+use Rattle.std.specs.Prelude.{if◌then◌else◌, Result, Ok, Err, filter, Option}
+use Rattle.std.proofs.lemmas.List.{append-nil, length-append}
+use Rattle.drain_laws.specs.Live.{IsFromRest}
+use Rattle.fp_core.specs.Standing.{IsBetween, seals_of}
+use Rattle.fp_defs.proofs.WholeKeeps.{are_defs}
+use Rattle.fp_defs.specs.Exits.{defs_for, with_exits}
+use Rattle.fp_defs.specs.Readings.{◌>>=◌}
+use Rattle.fp_defs.specs.Whole.{defs_of}
+use Rattle.fp_defs.specs.declared.fault.DefsFault.{DefsFault}
+use Rattle.fp_exits.specs.Kinds.{Kinds}
+use Rattle.fp_model.specs.declared.definitions.Defs.{Defs}
+use Rattle.fp_model.specs.declared.events.Event.{Event}
+use Rattle.fp_model.specs.declared.log.Entry.{Entry}
+use Rattle.fp_model.specs.declared.name.Name.{Name}
+use Rattle.fp_model.specs.Groups.{entries_of}
+use Rattle.fp_model.specs.Machine.{Machine, at_rest, sealed_times}
+use Rattle.fp_model.specs.SerialHistory.{IsSerial}
+use Rattle.fp_model.specs.WellFormed.{AreDefs}
+use Rattle.fp_site.specs.Disk.{Disk}
+use Rattle.fp_source.specs.declared.part.Part.{Part}
+use Rattle.fp_source.specs.declared.part.Part.TheVariants as part
+use Rattle.line_laws.specs.Answered.{AreAnswered}
+use Rattle.log_groups.specs.Kept.{lines_of_entries}
+use Rattle.run_laws.specs.Starts.{IsFromSerial}
+use Rattle.schedule_runs.specs.Ways.{next_event}
+use Rattle.fp_system.specs.Answered.{AnswersEachLine}
+use Rattle.fp_system.specs.Courses.{Course, Input, IsSoundFor}
+use Rattle.fp_system.specs.Gives.{Went}
+use Rattle.fp_system.specs.Parts.{IsJob, Job, are_built, definitions_in, only_built, rules_for}
+use Rattle.fp_system.specs.declared.status.Status.{Status}
+use Rattle.fp_system.specs.declared.status.Status.TheVariants.{Done}
+use Rattle.fp_system.proofs.Jobs.{read_for}
+use Rattle.fp_system.proofs.Ways.{goes_runs}
+
+-- the definitions of a job are well formed
+pub defs_are : (kinds : Kinds) (left : Part → List ℕ) (job : Job) → IsJob kinds left job → AreDefs job.defs
+defs_are kinds left job is =
+    are_defs (left part.Definitions) job.defs (read_for kinds (left part.Definitions) job.defs is.definitions)
+
+-- the course of a run is one from rest behind a serial history
+pub run_of : (job : Job) (given : Input) (earlier : List Entry) (left : List Event) (here : Machine)
+    → Course job given earlier left here → IsFromSerial (rules_for job) here
+run_of job given earlier left here course =
+    let comes = course.comes in
+    let steps = goes_runs (rules_for job) given.events left (at_rest (rules_for job) given.lines course.behind) here
+    comes.environments comes.goes in
+    record {
+      from = record { lines = given.lines; start = course.behind; steps = steps.0; runs = steps.1 };
+      is_serial = course.history.is_serial;
+    }
+
+-- a text between another and itself is that one
+same_text : (first text : List ℕ) → IsBetween first text first → text ≡ first
+same_text first text it =
+    let more_none : length it.more ≡ 0 =
+    omega (arith, ap length it.from ∙ length-append first it.more, ap length it.to ∙ length-append text it.rest) in
+    it.from ∙ ap (λ (t : List ℕ). first ++ t) (none it.more more_none) ∙ append-nil first
+  where
+    none : (xs : List ℕ) → length xs ≡ 0 → xs ≡ []
+    none [] e = refl
+    none (x ∷ xs) e = absurd cc
+
+module _ (job : Job) (given : Input) (earlier : List Entry) (old new : Disk)
+    (went : Went job given earlier Done old new) where
+  -- no group is sealed beyond those of the machine
+  no_more : went.now.sealed.times ≡ 0
+  no_more =
+      let few = subst (λ (l : List Event). went.now.sealed.times ≤ seals_of (next_event l) went.here) went.ends.0
+      went.now.sealed.few in
+      omega (arith, few)
+
+  its_groups : went.now.groups ≡ went.here.groups
+  its_groups =
+      went.now.sealed.groups_are
+      ∙ ap (λ (n : ℕ). (sealed_times n (rules_for job) went.here).groups) no_more
+
+  its_text : went.text ≡ went.here.sent
+  its_text =
+      same_text went.here.sent went.text
+      (subst (λ (n : ℕ). IsBetween went.here.sent went.text (sealed_times n (rules_for job) went.here).sent) no_more
+      went.now.sealed.told)
+
+  pub answers_each : AreAnswered (rules_for job) given.lines went.course.behind.entries went.here
+      → AnswersEachLine job given.lines earlier old new
+  answers_each all = record {
+    later = all.later;
+    in_order = all.in_order;
+    sound =
+        subst (λ (es : List Entry). IsSoundFor job (new.contents 0) (earlier ++ es))
+        (ap entries_of its_groups ∙ all.sealed) went.now.sound;
+    durable = went.rest tt;
+    sent = went.sent ∙ ap (λ (t : List ℕ). old.sent ++ t) (its_text ∙ all.sent);
+  }
