@@ -14,7 +14,22 @@ ghost use Rattle.log_groups.specs.Kept.{IsSafeFrom, IsSound};
 ghost use Rattle.log_groups.specs.Reads.{ReadsOnlyLog};
 ghost use Rattle.msdb_store.specs.Store.{IsOf};
 ghost use Rattle.std.specs.List.{AllByRecursion};
-ghost use Rattle.std.specs.Prelude.{◌≡◌, ◌⊎◌, ◌+◌, ◌-◌, ◌<◌, ◌≤◌, ◌^◌, ℕ, [], IfOk, IsErrOf, List as ListOf, OnOk, length};
+ghost use Rattle.std.specs.Prelude.{
+  ◌≡◌,
+  ◌⊎◌,
+  ◌+◌,
+  ◌-◌,
+  ◌<◌,
+  ◌≤◌,
+  ◌^◌,
+  ℕ,
+  [],
+  IfOk,
+  IsErrOf,
+  List as ListOf,
+  OnOk,
+  length,
+};
 
 use crate::RestartFault;
 use crate::reading::read_parts;
@@ -86,7 +101,8 @@ pub fn restart<T: Site>(
     ensures crash { T.told site.old → Through (T.disk site.old) (T.disk site.new) (Syncs (T.disk site.old) 0) }
 
     // Whatever the answer is, each image that a further sync may make of what a crash may leave now is one that a sync
-    // might have made before. So where all of those begin with these entries, as behind a call that failed, they do now.
+    // might have made before. So where all of those begin with these entries, as behind a call that failed, they do
+    // now.
     ensures settles { (image : ListOf ℕ) → T.told site.old → Settles (T.disk site.new) 0 image
         → Settles (T.disk site.old) 0 image }
     ensures begins { (scripts : ListOf Script) (earlier : ListOf Entry) → T.told site.old

@@ -1,4 +1,5 @@
--- What stands in front of a gate while a group is written behind it, also where that gate is absent; and the exact bytes
+-- What stands in front of a gate while a group is written behind it, also where that gate is absent; and the exact
+-- bytes
 -- that gated writes leave.
 use Rattle.std.proofs.Common.{◌≡◌, inl, inr, ℕ, ◌+◌, ◌-◌, ◌<◌, ◌≤◌, false, List, [], ◌∷◌, ◌++◌, length, get_or, take, drop, replicate, refl, sym, ◌∙◌, ap, subst, arith, append_assoc}
 use Rattle.std.proofs.lemmas.Bool.{cases_lt}

@@ -58,7 +58,8 @@ module _ (old : List ℕ) (gate : ℕ) (ready : List ℕ) (stands : gate < lengt
       ∙ take-take gate (gate + 1) old (omega arith)
 
   pub staged_behind_gate : drop (gate + 1) staged ≡ ready ++ junk
-  staged_behind_gate = ap (drop (gate + 1)) staged_is ∙ drop_at (take (gate + 1) old) (ready ++ junk) (gate + 1) front_length
+  staged_behind_gate = ap (drop (gate + 1)) staged_is
+      ∙ drop_at (take (gate + 1) old) (ready ++ junk) (gate + 1) front_length
 
   -- and of the second
   pub at_gate : (c : List ℕ) → Torn gate 1 staged c → IsStaged old gate ready c

@@ -49,7 +49,8 @@ module _ (defs : Defs) (scripts : List Script) (front : Front) where
     pub later : List Entry
     pub sound : IsSound log (earlier ++ later)
 
-  -- So is the log that a read gives, and each that a sync may make of those that a crash now may leave. A log need not be
+  -- So is the log that a read gives, and each that a sync may make of those that a crash now may leave. A log need not
+  -- be
   -- for good: where a call failed, those may differ, and all of them begin so.
   pub record IsSafeFrom (disk : Disk) (earlier : List Entry) : Type 0 where
     pub now : BeginsWith (disk.contents 0) earlier

@@ -6,7 +6,30 @@ ghost use Rattle.fp_site.specs.Disk.{Disk, Stays};
 ghost use Rattle.fp_site.specs.Site.{Counts};
 ghost use Rattle.log_groups.specs.Reads.{HasBody, HasGroup, HasLength, ReadsOnlyLog};
 ghost use Rattle.log_groups.specs.declared.fault.LogFault.TheVariants as faults;
-ghost use Rattle.std.specs.Prelude.{◌≡◌, ◌≢◌, ◌⊎◌, ◌+◌, ◌-◌, ◌<◌, ◌≤◌, ◌^◌, ℕ, IfNone, IfOk, IfSome, IsErrOf, List as ListOf, drop, length, max, slice_index, take, true, false};
+ghost use Rattle.std.specs.Prelude.{
+  ◌≡◌,
+  ◌≢◌,
+  ◌⊎◌,
+  ◌+◌,
+  ◌-◌,
+  ◌<◌,
+  ◌≤◌,
+  ◌^◌,
+  ℕ,
+  IfNone,
+  IfOk,
+  IfSome,
+  IsErrOf,
+  List as
+      ListOf,
+  drop,
+  length,
+  max,
+  slice_index,
+  take,
+  true,
+  false,
+};
 
 use crate::LogFault;
 use fp_model::{Entry, List};

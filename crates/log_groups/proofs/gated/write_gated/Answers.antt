@@ -229,7 +229,8 @@ returns-in_err-sync-clause-front g c t durable le =
     let law1 = g.met.S.Site.lawful c.write_at.new.self t1 in
     let t2 = c.sync.ensures.told t1 in
     let law2 = g.met.S.Site.lawful c.sync.new.self t2 in
-    kept.synced1 c.args.gate c.args.bytes.now _ _ law law1 durable le (c.write_at.ensures.crash t) _ law2 (c.sync.ensures.crash t1)
+    kept.synced1 c.args.gate c.args.bytes.now _ _ law law1 durable le (c.write_at.ensures.crash t) _ law2
+    (c.sync.ensures.crash t1)
 
 pub returns-in_err-sync-clause-front_settles : goal.returns-in_err-sync-clause-front_settles
 returns-in_err-sync-clause-front_settles g c image t durable le settles =
@@ -238,7 +239,8 @@ returns-in_err-sync-clause-front_settles g c image t durable le settles =
     let law1 = g.met.S.Site.lawful c.write_at.new.self t1 in
     let t2 = c.sync.ensures.told t1 in
     let law2 = g.met.S.Site.lawful c.sync.new.self t2 in
-    kept.settled2 c.args.gate c.args.bytes.now _ _ law law1 durable le (c.write_at.ensures.crash t) _ law2 (c.sync.ensures.crash t1) image settles
+    kept.settled2 c.args.gate c.args.bytes.now _ _ law law1 durable le (c.write_at.ensures.crash t) _ law2
+    (c.sync.ensures.crash t1) image settles
 
 pub returns-in_err-write_at-2-clause-front : goal.returns-in_err-write_at-2-clause-front
 returns-in_err-write_at-2-clause-front g c t durable le =
@@ -250,7 +252,8 @@ returns-in_err-write_at-2-clause-front g c t durable le =
     let is = c.sync.ensures.same t1 ∙ c.in_ok-write_at.ensures.wrote t in
     let t3 = c.write_at-2.ensures.told t2 in
     let law3 = g.met.S.Site.lawful c.write_at-2.new.self t3 in
-    kept.wrote2 c.args.gate c.args.bytes.now _ _ law law1 durable le (c.write_at.ensures.crash t) _ law2 (c.sync.ensures.crash t1) _ law3 (c.in_ok-sync.ensures.durable t1) is (c.write_at-2.ensures.crash t2)
+    kept.wrote2 c.args.gate c.args.bytes.now _ _ law law1 durable le (c.write_at.ensures.crash t) _ law2
+    (c.sync.ensures.crash t1) _ law3 (c.in_ok-sync.ensures.durable t1) is (c.write_at-2.ensures.crash t2)
 
 pub returns-in_err-write_at-2-clause-front_settles : goal.returns-in_err-write_at-2-clause-front_settles
 returns-in_err-write_at-2-clause-front_settles g c image t durable le settles =
@@ -262,7 +265,9 @@ returns-in_err-write_at-2-clause-front_settles g c image t durable le settles =
     let is = c.sync.ensures.same t1 ∙ c.in_ok-write_at.ensures.wrote t in
     let t3 = c.write_at-2.ensures.told t2 in
     let law3 = g.met.S.Site.lawful c.write_at-2.new.self t3 in
-    kept.settled3 c.args.gate c.args.bytes.now _ _ law law1 durable le (c.write_at.ensures.crash t) _ law2 (c.sync.ensures.crash t1) _ law3 (c.in_ok-sync.ensures.durable t1) is (c.write_at-2.ensures.crash t2) image settles
+    kept.settled3 c.args.gate c.args.bytes.now _ _ law law1 durable le (c.write_at.ensures.crash t) _ law2
+    (c.sync.ensures.crash t1) _ law3 (c.in_ok-sync.ensures.durable t1) is (c.write_at-2.ensures.crash t2) image
+    settles
 
 pub returns-in_err-sync-2-clause-front : goal.returns-in_err-sync-2-clause-front
 returns-in_err-sync-2-clause-front g c t durable le =
@@ -275,7 +280,9 @@ returns-in_err-sync-2-clause-front g c t durable le =
     let t3 = c.write_at-2.ensures.told t2 in
     let law3 = g.met.S.Site.lawful c.write_at-2.new.self t3 in
     let law4 = g.met.S.Site.lawful c.sync-2.new.self (c.sync-2.ensures.told t3) in
-    kept.synced2 c.args.gate c.args.bytes.now _ _ law law1 durable le (c.write_at.ensures.crash t) _ law2 (c.sync.ensures.crash t1) _ law3 (c.in_ok-sync.ensures.durable t1) is (c.write_at-2.ensures.crash t2) _ law4 (c.sync-2.ensures.crash t3)
+    kept.synced2 c.args.gate c.args.bytes.now _ _ law law1 durable le (c.write_at.ensures.crash t) _ law2
+    (c.sync.ensures.crash t1) _ law3 (c.in_ok-sync.ensures.durable t1) is (c.write_at-2.ensures.crash t2) _ law4
+    (c.sync-2.ensures.crash t3)
 
 pub returns-in_err-sync-2-clause-front_settles : goal.returns-in_err-sync-2-clause-front_settles
 returns-in_err-sync-2-clause-front_settles g c image t durable le settles =
@@ -288,7 +295,9 @@ returns-in_err-sync-2-clause-front_settles g c image t durable le settles =
     let t3 = c.write_at-2.ensures.told t2 in
     let law3 = g.met.S.Site.lawful c.write_at-2.new.self t3 in
     let law4 = g.met.S.Site.lawful c.sync-2.new.self (c.sync-2.ensures.told t3) in
-    kept.settled4 c.args.gate c.args.bytes.now _ _ law law1 durable le (c.write_at.ensures.crash t) _ law2 (c.sync.ensures.crash t1) _ law3 (c.in_ok-sync.ensures.durable t1) is (c.write_at-2.ensures.crash t2) _ law4 (c.sync-2.ensures.crash t3) image settles
+    kept.settled4 c.args.gate c.args.bytes.now _ _ law law1 durable le (c.write_at.ensures.crash t) _ law2
+    (c.sync.ensures.crash t1) _ law3 (c.in_ok-sync.ensures.durable t1) is (c.write_at-2.ensures.crash t2) _ law4
+    (c.sync-2.ensures.crash t3) image settles
 
 pub returns-clause-front : goal.returns-clause-front
 returns-clause-front g c t durable le =
@@ -301,7 +310,9 @@ returns-clause-front g c t durable le =
     let t3 = c.write_at-2.ensures.told t2 in
     let law3 = g.met.S.Site.lawful c.write_at-2.new.self t3 in
     let law4 = g.met.S.Site.lawful c.sync-2.new.self (c.sync-2.ensures.told t3) in
-    kept.synced2 c.args.gate c.args.bytes.now _ _ law law1 durable le (c.write_at.ensures.crash t) _ law2 (c.sync.ensures.crash t1) _ law3 (c.in_ok-sync.ensures.durable t1) is (c.write_at-2.ensures.crash t2) _ law4 (c.sync-2.ensures.crash t3)
+    kept.synced2 c.args.gate c.args.bytes.now _ _ law law1 durable le (c.write_at.ensures.crash t) _ law2
+    (c.sync.ensures.crash t1) _ law3 (c.in_ok-sync.ensures.durable t1) is (c.write_at-2.ensures.crash t2) _ law4
+    (c.sync-2.ensures.crash t3)
 
 pub returns-clause-front_settles : goal.returns-clause-front_settles
 returns-clause-front_settles g c image t durable le settles =
@@ -314,4 +325,6 @@ returns-clause-front_settles g c image t durable le settles =
     let t3 = c.write_at-2.ensures.told t2 in
     let law3 = g.met.S.Site.lawful c.write_at-2.new.self t3 in
     let law4 = g.met.S.Site.lawful c.sync-2.new.self (c.sync-2.ensures.told t3) in
-    kept.settled4 c.args.gate c.args.bytes.now _ _ law law1 durable le (c.write_at.ensures.crash t) _ law2 (c.sync.ensures.crash t1) _ law3 (c.in_ok-sync.ensures.durable t1) is (c.write_at-2.ensures.crash t2) _ law4 (c.sync-2.ensures.crash t3) image settles
+    kept.settled4 c.args.gate c.args.bytes.now _ _ law law1 durable le (c.write_at.ensures.crash t) _ law2
+    (c.sync.ensures.crash t1) _ law3 (c.in_ok-sync.ensures.durable t1) is (c.write_at-2.ensures.crash t2) _ law4
+    (c.sync-2.ensures.crash t3) image settles
