@@ -1,5 +1,5 @@
 -- A run that is done is a run from rest that drained, and it sealed and sent all.
-use Rattle.std.proofs.Common.{◌≡◌, refl, sym, ap, subst, ◌∙◌, arith, ℕ, ◌+◌, ◌≤◌, List, [], ◌++◌, length, Bool, true, false}
+use Rattle.std.proofs.Common.{◌≡◌, refl, sym, ap, subst, ◌∙◌, arith, ℕ, ◌+◌, ◌≤◌, List, [], ◌∷◌, ◌++◌, length, Bool, true, false}
 use Rattle.std.specs.Prelude.{if◌then◌else◌, Result, Ok, Err, filter, Option}
 use Rattle.std.proofs.lemmas.List.{append-nil, length-append}
 use Rattle.drain_laws.specs.Live.{IsFromRest}
@@ -40,7 +40,7 @@ defs_are kinds left job is =
     are_defs (left part.Definitions) job.defs (read_for kinds (left part.Definitions) job.defs is.definitions)
 
 -- the course of a run is one from rest behind a serial history
-pub run_of : (job : Job) (given : Input) (earlier : List Entry) (left : List Event) (here : Machine)
+abbrev pub run_of : (job : Job) (given : Input) (earlier : List Entry) (left : List Event) (here : Machine)
     → Course job given earlier left here → IsFromSerial (rules_for job) here
 run_of job given earlier left here course =
     let comes = course.comes in

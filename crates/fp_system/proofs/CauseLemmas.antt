@@ -91,8 +91,8 @@ memory_fault (fault.Damaged set at) e = absurd cc
 memory_fault fault.Memory e = refl
 
 -- an error is one
-pub one_err : {A E : Type 0} {a b : E} → Err {T = A} a ≡ Err b → a ≡ b
-one_err e = cc
+pub one_err : {A E : Type 0} {a b : E} (r : Result A E) → r ≡ Err a → r ≡ Err b → a ≡ b
+one_err r e f = cc
 
 -- no fault of storage is a read fault
 pub fault_by_source : (before : ℕ) (why : RestartFault) → IsCausedBySource before before (status_of_fault why)

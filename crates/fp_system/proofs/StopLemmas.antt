@@ -29,7 +29,8 @@ use Rattle.fp_system.specs.declared.status.Status.{Status}
 
 module _ (job : Job) (start : Standing) where
   -- a run's own entries come behind those that an image had, and what it sent behind what had been sent
-  further : (given : Input) (before : List (List Entry)) (left : List Event) (here : Machine) (sent text log image : List
+  further : (given : Input) (before : List (List Entry)) (left : List Event) (here : Machine)
+      (sent text log image : List
       ℕ)
       → (has : HoldsSince job start sent log)
       → Course job given (start.entries ++ has.later) left here
@@ -142,20 +143,20 @@ module _ (job : Job) (start : Standing) where
 
   module _ {X : Type 0} (told : X → Type 0) (disk : X → Disk) (laws : (x : X) → told x → IsLawful (disk x)) (first : X)
     where
-    lives_told : (x : X) → Lives told disk job first x → told x
-    lives_told x (stops.begun is) = is
-    lives_told x (stops.called new lives is call) = is
-    lives_told x (stops.stopped new next lives tells call is again) = is
+      lives_told : (x : X) → Lives told disk job first x → told x
+      lives_told x (stops.begun is) = is
+      lives_told x (stops.called new lives is call) = is
+      lives_told x (stops.stopped new next lives tells call is again) = is
 
-    pub lives_hold : (x : X) → HoldsOn job start (disk first) → Lives told disk job first x → HoldsOn job start (disk x)
-    lives_hold x holds (stops.begun is) = holds
-    lives_hold x holds (stops.called {old = old} new lives is call) =
-        call_holds (disk old) (disk new) (laws old (lives_told old lives)) (laws new is) (lives_hold old holds lives)
-        call
-    lives_hold x holds (stops.stopped {old = old} new next lives tells call is again) =
-        begun_holds ((disk old).moment) (disk new) (disk next)
-        (call_held (disk old) (disk new) (laws old (lives_told old lives)) (lives_hold old holds lives) tells call)
-        again
+      pub lives_hold : (x : X) → HoldsOn job start (disk first) → Lives told disk job first x → HoldsOn job start (disk x)
+      lives_hold x holds (stops.begun is) = holds
+      lives_hold x holds (stops.called {old = old} new lives is call) =
+          call_holds (disk old) (disk new) (laws old (lives_told old lives)) (laws new is) (lives_hold old holds lives)
+          call
+      lives_hold x holds (stops.stopped {old = old} new next lives tells call is again) =
+          begun_holds ((disk old).moment) (disk new) (disk next)
+          (call_held (disk old) (disk new) (laws old (lives_told old lives)) (lives_hold old holds lives) tells call)
+          again
 
 -- ---- where it begins
 

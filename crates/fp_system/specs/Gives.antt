@@ -56,7 +56,8 @@ RestsBehind _ = ⊥
 
 -- How a run from a safe site ended: turns of the table led from the machine at rest behind the earlier entries, which
 -- stand in these groups, to where it ended. The log goes on by the groups that the machine sealed, and just its bytes
--- were sent; where a step ended the run early, the turns before it are such a run. So does each log that a sync may make
+-- were sent; where a step ended the run early, the turns before it are such a run. So does each log that a sync may
+-- make
 -- of it, or nothing was done, and it is one that a sync might have made before. At each moment since the call's start a
 -- crash leaves what stood, or a log that goes on from it.
 pub record Went (job : Job) (given : Input) (earlier : List Entry) (answer : Status) (old new : Disk) : Type 0 where

@@ -48,7 +48,8 @@ pub fn a_call_keeps_what_was_answered<T: Site>()
         HeldThrough job start ((T.disk old).moment) (T.disk new) }
 {}
 
-/// Over any number of calls, whatever they answer, and of stops within them, the log goes on holding what stood and each
+/// Over any number of calls, whatever they answer, and of stops within them, the log goes on holding what stood and
+/// each
 /// entry of which a line was sent since.
 pub fn what_was_answered_is_held<T: Site>()
     ensures { (job : Job) (start : Standing) (first last : T) → HoldsOn job start (T.disk first)

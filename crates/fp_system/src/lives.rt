@@ -7,6 +7,7 @@ ghost use Rattle.fp_system.specs.Table.{Asks, given};
 ghost use Rattle.fp_system.specs.declared.words.Command.TheVariants as command;
 ghost use Rattle.std.specs.Prelude.{◌≡◌, [], true, IfOk, IfSome};
 
+use crate::laws::a_call_keeps_what_was_answered;
 use crate::{Status, ims};
 use fp_exits::Exits;
 use fp_site::MemorySite;
@@ -26,6 +27,7 @@ pub fn run_once<S: Source>(
         → HoldsOn job start (memory_disk site.old) → HoldsOn job start (memory_disk site.new) }
 {
     let _ = ims(alloc, words, source, site, exits);
+    a_call_keeps_what_was_answered::<MemorySite>()
 }
 
 /// Runs, stops, and begins again as what the stop left: so does that site.
@@ -42,6 +44,7 @@ pub fn run_and_stop<S: Source>(
         → HoldsOn job start (memory_disk site.old) → IfOk result (λ next. HoldsOn job start (memory_disk next)) }
 {
     let _ = ims(alloc, words, source, site, exits);
+    a_call_keeps_what_was_answered::<MemorySite>();
     let snapshot = site.snapshot_as(choice)?;
     MemorySite::from_snapshot(alloc, snapshot, &[])
 }

@@ -1,4 +1,4 @@
-use Rattle.std.proofs.Common.{◌≡◌, ◌∙◌, ◌++◌, [], drop, ap, sym, subst}
+use Rattle.std.proofs.Common.{◌≡◌, ◌∙◌, ◌++◌, [], drop, ap, refl, sym, subst}
 use Rattle.std.specs.Prelude.{◌+◌, Err}
 use Rattle.fp_model.specs.LogText.{Front, first_gate, log_text}
 use Rattle.log_groups.specs.Images.{IsAtRest}
@@ -21,14 +21,14 @@ returns-in-Ok-clause-text g c t done =
 pub returns-in-Ok-clause-cause : goal.returns-in-Ok-clause-cause
 returns-in-Ok-clause-cause g c = c.in-Ok.ensures.stayed (λ e. absurd cc)
 
-pub returns-clause-cause : goal.returns-clause-cause
-returns-clause-cause g c =
+pub returns-in-Err-clause-cause : goal.returns-in-Err-clause-cause
+returns-in-Err-clause-cause g c =
     let before = g.T.Site.faults c.args.site.now in
     let now = g.T.Site.faults c.define.new.site in
     subst (IsCausedBySite before now) (sym c.fault_status.ensures)
     (fault_by_site before now c.in-Err.fault (λ e. c.in-Err.ensures.cause (ap (λ f. Err f) e))
-    (λ other. c.in-Err.ensures.stayed (λ e. other (one_err e))))
+    (λ other. c.in-Err.ensures.stayed (λ e. other (one_err _ refl e))))
 
-pub returns-clause-untouched : goal.returns-clause-untouched
-returns-clause-untouched g c none =
+pub returns-in-Err-clause-untouched : goal.returns-in-Err-clause-untouched
+returns-in-Err-clause-untouched g c none =
     c.in-Err.ensures.untouched (ap (λ f. Err f) (memory_fault c.in-Err.fault (sym c.fault_status.ensures ∙ none)))

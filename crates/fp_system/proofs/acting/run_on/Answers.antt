@@ -1,4 +1,4 @@
-use Rattle.std.proofs.Common.{◌≡◌, ◌⊎◌, ◌∙◌, sym, ap, subst, arith}
+use Rattle.std.proofs.Common.{◌≡◌, ◌⊎◌, ◌∙◌, refl, sym, ap, subst, arith}
 use Rattle.std.specs.Prelude.{Err}
 use Rattle.fp_core.specs.Standing.{Origin}
 use Rattle.fp_model.specs.LogText.{Front}
@@ -125,7 +125,7 @@ returns-in-Err-clause-cause g c =
       source = fault_by_source source why;
       site =
           fault_by_site before now why (λ e. c.in-Err.ensures.cause (ap (λ f. Err f) e))
-          (λ other. c.in-Err.ensures.stayed (λ e. other (one_err e)));
+          (λ other. c.in-Err.ensures.stayed (λ e. other (one_err _ refl e)));
     })
 
 pub returns-clause-cause : goal.returns-clause-cause
