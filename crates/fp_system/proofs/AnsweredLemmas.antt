@@ -1,35 +1,25 @@
 -- A run that is done is a run from rest that drained, and it sealed and sent all.
-use Rattle.std.proofs.Common.{◌≡◌, refl, sym, ap, subst, ◌∙◌, arith, ℕ, ◌+◌, ◌≤◌, List, [], ◌∷◌, ◌++◌, length, Bool, true, false}
-use Rattle.std.specs.Prelude.{if◌then◌else◌, Result, Ok, Err, filter, Option}
+use Rattle.std.proofs.Common.{◌≡◌, ⊎_elim, refl, sym, ap, subst, ◌∙◌, arith, ℕ, ◌≤◌, List, [], ◌∷◌, ◌++◌, length}
 use Rattle.std.proofs.lemmas.List.{append-nil, length-append}
-use Rattle.drain_laws.specs.Live.{IsFromRest}
 use Rattle.fp_core.specs.Standing.{IsBetween, seals_of}
 use Rattle.fp_defs.proofs.WholeKeeps.{are_defs}
-use Rattle.fp_defs.specs.Exits.{defs_for, with_exits}
-use Rattle.fp_defs.specs.Readings.{◌>>=◌}
-use Rattle.fp_defs.specs.Whole.{defs_of}
-use Rattle.fp_defs.specs.declared.fault.DefsFault.{DefsFault}
 use Rattle.fp_exits.specs.Kinds.{Kinds}
-use Rattle.fp_model.specs.declared.definitions.Defs.{Defs}
 use Rattle.fp_model.specs.declared.events.Event.{Event}
 use Rattle.fp_model.specs.declared.log.Entry.{Entry}
-use Rattle.fp_model.specs.declared.name.Name.{Name}
 use Rattle.fp_model.specs.Groups.{entries_of}
 use Rattle.fp_model.specs.Machine.{Machine, at_rest, sealed_times}
-use Rattle.fp_model.specs.SerialHistory.{IsSerial}
 use Rattle.fp_model.specs.WellFormed.{AreDefs}
 use Rattle.fp_site.specs.Disk.{Disk}
 use Rattle.fp_source.specs.declared.part.Part.{Part}
 use Rattle.fp_source.specs.declared.part.Part.TheVariants as part
 use Rattle.line_laws.specs.Answered.{AreAnswered}
-use Rattle.log_groups.specs.Kept.{lines_of_entries}
 use Rattle.run_laws.specs.Starts.{IsFromSerial}
 use Rattle.schedule_runs.specs.Ways.{next_event}
 use Rattle.fp_system.specs.Answered.{AnswersEachLine}
-use Rattle.fp_system.specs.Courses.{Course, Input, IsSoundFor}
+use Rattle.fp_core.specs.Sparing.{IsSealing}
+use Rattle.fp_system.specs.Courses.{Course, Input, IsEnded, IsSoundFor}
 use Rattle.fp_system.specs.Gives.{Went}
-use Rattle.fp_system.specs.Parts.{IsJob, Job, are_built, definitions_in, only_built, rules_for}
-use Rattle.fp_system.specs.declared.status.Status.{Status}
+use Rattle.fp_system.specs.Parts.{IsJob, Job, rules_for}
 use Rattle.fp_system.specs.declared.status.Status.TheVariants.{Done}
 use Rattle.fp_system.proofs.Jobs.{read_for}
 use Rattle.fp_system.proofs.Ways.{goes_runs}
@@ -64,10 +54,14 @@ same_text first text it =
 
 module _ (job : Job) (given : Input) (earlier : List Entry) (old new : Disk)
     (went : Went job given earlier Done old new) where
+  -- a run that is done was begun
+  pub end : IsEnded job given Done earlier went.before went.left went.here went.text new
+  end = ⊎_elim (λ none. absurd none.in_place) (λ is. is) went.ended
+
   -- no group is sealed beyond those of the machine
   no_more : went.now.sealed.times ≡ 0
   no_more =
-      let few = subst (λ (l : List Event). went.now.sealed.times ≤ seals_of (next_event l) went.here) went.ends.0
+      let few = subst (λ (l : List Event). went.now.sealed.times ≤ seals_of (next_event l) went.here) end.ends.0
       went.now.sealed.few in
       omega (arith, few)
 
@@ -90,6 +84,6 @@ module _ (job : Job) (given : Input) (earlier : List Entry) (old new : Disk)
     sound =
         subst (λ (es : List Entry). IsSoundFor job (new.contents 0) (earlier ++ es))
         (ap entries_of its_groups ∙ all.sealed) went.now.sound;
-    durable = went.rest tt;
+    durable = end.rest (subst (λ (l : List Event). ¬ IsSealing (next_event l)) (sym end.ends.0) (λ s. s));
     sent = went.sent ∙ ap (λ (t : List ℕ). old.sent ++ t) (its_text ∙ all.sent);
   }

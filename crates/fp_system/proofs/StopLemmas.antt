@@ -1,16 +1,15 @@
 -- A run keeps what was answered, and so does a site that a stop begins again.
-use Rattle.std.proofs.Common.{◌≡◌, ◌⊎◌, inl, inr, ⊎_elim, refl, sym, ap, subst, ◌∙◌, ℕ, List, [], ◌∷◌, ◌++◌, length, take, append_assoc}
+use Rattle.std.proofs.Common.{◌≡◌, inl, ⊎_elim, sym, ap, subst, ◌∙◌, ℕ, List, [], ◌∷◌, ◌++◌, length, take, append_assoc}
 use Rattle.std.proofs.lemmas.List.{append-nil}
 use Rattle.fp_model.specs.declared.events.Event.{Event}
 use Rattle.fp_model.specs.declared.log.Entry.{Entry}
 use Rattle.fp_model.specs.LogText.{first_gate}
 use Rattle.fp_model.specs.Groups.{entries_of}
 use Rattle.fp_model.specs.Machine.{Machine}
-use Rattle.fp_site.specs.Disk.{Disk, Snapshot, IsDurable, IsLawful, Settles, Syncs}
+use Rattle.fp_site.specs.Disk.{Disk, Snapshot, IsDurable, IsLawful}
 use Rattle.fp_site.specs.History.{History, LeftSince, MayLeave}
 use Rattle.fp_site.specs.Memory.{BeginsAs, memory_disk}
 use Rattle.fp_site.specs.declared.memory.MemorySite.{MemorySite}
-use Rattle.fp_site.specs.Moments.{OnlyOn, Through}
 use Rattle.fp_site.proofs.Images.{durable_settles, settles_again, settles_contents}
 use Rattle.log_groups.specs.Images.{IsAtRest}
 use Rattle.log_groups.specs.Kept.{lines_of_entries}
@@ -20,7 +19,7 @@ use Rattle.fp_system.proofs.Ways.{comes_behind}
 use Rattle.fp_system.specs.Gives.{IsSafeFor, Ran, Went}
 use Rattle.fp_system.specs.Ims.{IsUnchanged}
 use Rattle.fp_system.specs.Parts.{Job, front_for}
-use Rattle.fp_system.specs.Courses.{Course, GoesOnBy, GoesOnTo, Input, IsAsBefore, IsKeptBy, IsSoundFor}
+use Rattle.fp_system.specs.Courses.{Course, GoesOnBy, GoesOnTo, Input, IsAsBefore, IsSoundFor}
 use Rattle.fp_system.specs.Stops.{Calls, HeldThrough, HoldsOn, HoldsSince, IsBegunAgain, IsTold, Lives, Standing, standing}
 use Rattle.fp_system.specs.Stops as stops
 use Rattle.fp_system.specs.declared.status.Status.{Status}
@@ -89,9 +88,11 @@ module _ (job : Job) (start : Standing) where
     pub ran_holds : HoldsOn job start new
     ran_holds image settles =
         subst (λ (sent : List ℕ). HoldsSince job start sent image) (sym went.sent)
-        (⊎_elim (λ was. as_before old went.text image holds was)
-        (λ goes. further given went.before went.left went.here old.sent went.text (old.contents 0) image stood
-        went.course goes) (went.images image settles))
+        (⊎_elim
+        (λ none. as_before old went.text image holds
+        (record { settles = none.images image settles; unsent = none.unsent }))
+        (λ end. further given went.before went.left went.here old.sent went.text (old.contents 0) image stood
+        went.course (end.images image settles)) went.ended)
 
     pub ran_held : old.tells_sent → HeldThrough job start old.moment new
     ran_held tells s left =
@@ -148,7 +149,8 @@ module _ (job : Job) (start : Standing) where
       lives_told x (stops.called new lives is call) = is
       lives_told x (stops.stopped new next lives tells call is again) = is
 
-      pub lives_hold : (x : X) → HoldsOn job start (disk first) → Lives told disk job first x → HoldsOn job start (disk x)
+      pub lives_hold : (x : X) → HoldsOn job start (disk first) → Lives told disk job first x
+        → HoldsOn job start (disk x)
       lives_hold x holds (stops.begun is) = holds
       lives_hold x holds (stops.called {old = old} new lives is call) =
           call_holds (disk old) (disk new) (laws old (lives_told old lives)) (laws new is) (lives_hold old holds lives)

@@ -3,7 +3,6 @@ use Rattle.std.proofs.Common.{◌≡◌, inl, inr, refl, sym, ◌∙◌, ap, sub
 use Rattle.std.proofs.lemmas.List.{append-nil}
 use Rattle.std.proofs.lemmas.Option.{slice_get_within}
 use Rattle.fp_core.specs.Relation.{AreMade}
-use Rattle.fp_core.specs.Sparing.{IsSealing}
 use Rattle.fp_core.specs.Standing.{HasGroups, Origin, seals_of}
 use Rattle.fp_model.specs.declared.events.Event.{Event}
 use Rattle.fp_model.specs.declared.log.Entry.{Entry}
@@ -30,13 +29,12 @@ use Rattle.schedule_runs.specs.Standing.{IsLeftOnWay}
 use Rattle.schedule_runs.specs.Ways as way
 use Rattle.schedule_runs.specs.Ways.{Comes, next_event}
 use Rattle.sealed_runs.proofs.SoundLogs.{groups_sound}
-use Rattle.fp_system.specs.Courses.{Course, EndsAt, GoesOnTo, Input, IsBegun, IsHistoryOf, IsKeptBy, IsSoundFor, RanFrom}
-use Rattle.fp_system.specs.Gives.{IsSafeFor, RestsBehind, Went}
+use Rattle.fp_system.specs.Courses.{Course, GoesOnTo, Input, IsBegun, IsHistoryOf, IsKeptBy, IsSoundFor, RanFrom}
+use Rattle.fp_system.specs.Answers.{MayStandIn}
+use Rattle.fp_system.specs.Gives.{IsSafeFor, Went}
 use Rattle.fp_system.specs.Ims.{IsUnchanged}
 use Rattle.fp_system.specs.Parts.{Job, front_for, rules_for}
 use Rattle.fp_system.specs.declared.status.Status.{Status}
-use Rattle.fp_system.specs.declared.status.Status.TheVariants.{Done, Usage, Definitions, Scripts, Schedule, ReadFault}
-use Rattle.fp_system.specs.declared.status.Status.TheVariants.{SiteFault, Foreign, Damaged, Line, NoMemory, NotBuilt}
 use Rattle.fp_system.proofs.Ways.{comes_behind}
 
 -- ---- the history of a sound log
@@ -82,26 +80,6 @@ module _ (job : Job) (log : List ℕ) (earlier : List Entry)
     at_rest = found.at_rest;
     sent = refl;
   }
-
--- ---- where the log is at rest
-
--- the next step seals nothing there
-rests_behind : (job : Job) (given : Input) (answer : Status) (first : Machine) (left : List Event) (here : Machine)
-    → EndsAt job given answer first left here → RestsBehind answer → ¬ IsSealing (next_event left)
-rests_behind job given Done first left here ends done =
-    subst (λ (l : List Event). ¬ IsSealing (next_event l)) (sym ends.0) (λ s. s)
-rests_behind job given (Line number) first left here ends done =
-    subst (λ (e : Event). ¬ IsSealing e) (sym ends.0.takes) (λ s. s)
-rests_behind job given Usage first left here ends done = absurd done
-rests_behind job given (Definitions f) first left here ends done = absurd done
-rests_behind job given (Scripts f) first left here ends done = absurd done
-rests_behind job given (Schedule f) first left here ends done = absurd done
-rests_behind job given ReadFault first left here ends done = absurd done
-rests_behind job given SiteFault first left here ends done = absurd done
-rests_behind job given Foreign first left here ends done = absurd done
-rests_behind job given (Damaged set at) first left here ends done = absurd done
-rests_behind job given NoMemory first left here ends done = absurd done
-rests_behind job given (NotBuilt p) first left here ends done = absurd done
 
 -- ---- a run from a safe site
 
@@ -178,7 +156,6 @@ module _ (job : Job) (given : Input) (earlier : List Entry) (are : AreDefs job.d
           left = it.left;
           here = it.here;
           course = record { behind = before; history = its_history; comes = it.comes };
-          ends = it.ends;
           before = groups;
           stood = sym all;
           old_gate = gate;
@@ -188,9 +165,13 @@ module _ (job : Job) (given : Input) (earlier : List Entry) (are : AreDefs job.d
           now =
               goes_to it.left it.here it.within.text (h2.contents 0) it.comes
               (it.within.groups (h2.contents 0) (settles_contents h2 0 law2));
-          images = λ image settles.
-              inr (goes_to it.left it.here it.within.text image it.comes (it.within.groups image settles));
-          rest = λ done. it.rest (rests_behind job given answer begun it.left it.here it.ends done);
+          ended =
+              inr (record {
+                ends = it.ends;
+                images = λ image settles.
+                    goes_to it.left it.here it.within.text image it.comes (it.within.groups image settles);
+                rest = it.rest;
+              });
           moments = moments_of;
         }
 
@@ -233,13 +214,11 @@ module _ (job : Job) (given : Input) (earlier : List Entry) (h h1 : Disk) (law :
     };
   }
 
-  pub went_not : (answer : Status) → EndsAt job given answer at_first given.events at_first
-      → (RestsBehind answer → ⊥) → Went job given earlier answer h h1
-  went_not answer ends early = record {
+  pub went_not : (answer : Status) → MayStandIn answer → Went job given earlier answer h h1
+  went_not answer in_place = record {
     left = given.events;
     here = at_first;
     course = its_course;
-    ends = ends;
     before = safe.now.groups;
     stood = sym safe.now.all;
     old_gate = safe.now.gate;
@@ -264,9 +243,14 @@ module _ (job : Job) (given : Input) (earlier : List Entry) (h h1 : Disk) (law :
           subst (IsSoundFor job (h1.contents 0)) (sym (append-nil earlier))
           (subst (λ (l : List ℕ). IsSoundFor job l earlier) (sym (contents 0)) safe.now);
     };
-    images = λ image settles.
-        inl (record { settles = settles_again h h1 0 image settled settles; unsent = refl });
-    rest = λ done. absurd (early done);
+    ended =
+        inl (record {
+          in_place = in_place;
+          all_left = refl;
+          at_start = refl;
+          unsent = refl;
+          images = λ image settles. settles_again h h1 0 image settled settles;
+        });
     moments =
         weaker (Syncs h 0) (IsKeptBy job given earlier safe.now.groups h) h h1
         (synced job given earlier safe.now.groups h law) run;

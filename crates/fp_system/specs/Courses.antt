@@ -19,6 +19,7 @@ use Rattle.log_groups.specs.Log.{LogState}
 use Rattle.msdb_store.specs.Store.{Stored}
 use Rattle.schedule_runs.specs.Standing.{IsLeftOnWay}
 use Rattle.schedule_runs.specs.Ways.{Comes, next_event}
+use Rattle.fp_system.specs.Answers.{MayStandIn}
 use Rattle.fp_system.specs.Parts.{Job, front_for, rules_for}
 use Rattle.fp_system.specs.declared.status.Status.{Status}
 use Rattle.fp_system.specs.declared.status.Status.TheVariants.{Done, ReadFault, SiteFault, Line, NoMemory}
@@ -94,28 +95,39 @@ pub record IsAtLine (left : List Event) (here : Machine) : Type 0 where
   pub takes : next_event left ≡ event.In
   pub none_held : here.held ≡ None
 
--- nothing was done
-pub record IsNotBegun (given : Input) (start : Machine) (left : List Event) (here : Machine) : Type 0 where
-  pub all_left : left ≡ given.events
-  pub at_start : here ≡ start
-
--- a step that may find no memory: none that does nothing; of a region only where that is idle, since an active one gets
--- an entry that says so
-abbrev pub MayWant : Event → Machine → Type 0
-MayWant event.Out here = ⊥
-MayWant (event.Purge set n) here = ⊥
-MayWant _ here = ⊤
+-- a step that may find no memory: an OUT does nothing, and there is no area to purge
+abbrev pub MayWant : Event → Type 0
+MayWant event.Out = ⊥
+MayWant (event.Purge set n) = ⊥
+MayWant _ = ⊤
 
 -- Where a run ends with this answer. With Done all events were taken, and the drain. A line that isn't taken is the
 -- next one that would be read. Where a read failed the next step reads a line; where the site failed it is a LOG or
--- CKPT; where memory lacked it is one that may want some. Or nothing was done.
-abbrev pub EndsAt : Job → Input → Status → Machine → List Event → Machine → Type 0
-EndsAt job given Done start left here = (left ≡ []) × IsDrained (rules_for job) here
-EndsAt job given (Line number) start left here = IsAtLine left here × (here.lines ≡ drop (number - 1) given.lines)
-EndsAt job given ReadFault start left here = IsAtLine left here ⊎ IsNotBegun given start left here
-EndsAt job given SiteFault start left here = IsSealing (next_event left) ⊎ IsNotBegun given start left here
-EndsAt job given NoMemory start left here = MayWant (next_event left) here ⊎ IsNotBegun given start left here
-EndsAt job given _ start left here = ⊥
+-- CKPT; and where memory lacked it is one that may want some.
+abbrev pub EndsAt : Job → Input → Status → List Event → Machine → Type 0
+EndsAt job given Done left here = (left ≡ []) × IsDrained (rules_for job) here
+EndsAt job given (Line number) left here = IsAtLine left here × (here.lines ≡ drop (number - 1) given.lines)
+EndsAt job given ReadFault left here = IsAtLine left here
+EndsAt job given SiteFault left here = IsSealing (next_event left)
+EndsAt job given NoMemory left here = MayWant (next_event left)
+EndsAt job given _ left here = ⊥
+
+-- A run that came to here ended there. Each log that a sync may make of its own goes on by what it sealed and sent; and
+-- it is for good, where the next step seals nothing.
+pub record IsEnded (job : Job) (given : Input) (answer : Status) (earlier : List Entry) (before : List (List Entry))
+    (left : List Event) (here : Machine) (text : List ℕ) (new : Disk) : Type 0 where
+  pub ends : EndsAt job given answer left here
+  pub images : (image : List ℕ) → Settles new 0 image → GoesOnTo job earlier before left here text image
+  pub rest : ¬ IsSealing (next_event left) → IsDurable new 0
+
+-- No step was done: a fault or want of memory came first. The log is one that a sync might have left before.
+pub record IsNotBegun (given : Input) (answer : Status) (start : Machine) (left : List Event) (here : Machine)
+    (text : List ℕ) (old new : Disk) : Type 0 where
+  pub in_place : MayStandIn answer
+  pub all_left : left ≡ given.events
+  pub at_start : here ≡ start
+  pub unsent : text ≡ []
+  pub images : (image : List ℕ) → Settles new 0 image → Settles old 0 image
 
 -- ---- from where a run begins
 
@@ -136,7 +148,7 @@ pub record RanFrom (job : Job) (given : Input) (origin : Origin) (h : History) (
   pub left : List Event
   pub here : Machine
   pub comes : Comes job.defs (rules_for job) given.events (at_rest (rules_for job) given.lines h) left here
-  pub ends : EndsAt job given answer (at_rest (rules_for job) given.lines h) left here
+  pub ends : EndsAt job given answer left here
   pub within : IsWithin origin (rules_for job) here (seals_of (next_event left) here) old new
   pub rest : ¬ IsSealing (next_event left) → IsDurable new 0
   pub moments : Through old new (IsLeftOnWay origin job.defs (rules_for job) given.events

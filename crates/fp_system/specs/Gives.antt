@@ -6,7 +6,7 @@ use Rattle.fp_model.specs.Groups.{entries_of}
 use Rattle.fp_model.specs.LogText.{first_gate, log_text}
 use Rattle.fp_model.specs.Machine.{Machine, at_rest}
 use Rattle.fp_model.specs.Recovery.{Holds}
-use Rattle.fp_site.specs.Disk.{Disk, Snapshot, IsDurable, Settles, Syncs}
+use Rattle.fp_site.specs.Disk.{Disk, Snapshot, Syncs}
 use Rattle.fp_site.specs.Moments.{OnlyOn, Through}
 use Rattle.log_groups.specs.Images.{IsAtRest, IsBeforeOrMade, IsLog as HasLog}
 use Rattle.log_groups.specs.Kept.{IsSafe}
@@ -16,10 +16,10 @@ use Rattle.fp_system.specs.Answers.{IsEarly}
 use Rattle.fp_core.specs.Sparing.{IsLogSet as IsLog, Spares}
 use Rattle.fp_system.specs.Ims.{IsUnchanged}
 use Rattle.fp_system.specs.Parts.{Job, IsJob, front_for, rules_for}
-use Rattle.fp_system.specs.Courses.{Course, EndsAt, GoesOnTo, Input, IsAsBefore, IsKeptBy}
+use Rattle.fp_system.specs.Courses.{Course, GoesOnTo, Input, IsEnded, IsKeptBy, IsNotBegun}
 use Rattle.fp_system.specs.Table.{Given, IsSpared}
 use Rattle.fp_system.specs.declared.status.Status.{Status}
-use Rattle.fp_system.specs.declared.status.Status.TheVariants.{Done, ReadFault, Line, NoMemory}
+use Rattle.fp_system.specs.declared.status.Status.TheVariants.{Done, ReadFault, NoMemory}
 use Rattle.fp_system.specs.declared.words.Command.{Command}
 use Rattle.fp_system.specs.declared.words.Command.TheVariants.{Define, Run}
 
@@ -48,23 +48,14 @@ pub record Defined (g : Given) (answer : Status) (old new : Disk) : Type 0 where
 abbrev pub KeepsFront : ℕ → Disk → Snapshot → Type 0
 KeepsFront gate old s = Syncs old 0 s ⊎ (take gate (s.images 0) ≡ take gate (old.contents 0))
 
--- an answer behind which the log is at rest
-abbrev pub RestsBehind : Status → Type 0
-RestsBehind Done = ⊤
-RestsBehind (Line number) = ⊤
-RestsBehind _ = ⊥
-
 -- How a run from a safe site ended: turns of the table led from the machine at rest behind the earlier entries, which
 -- stand in these groups, to where it ended. The log goes on by the groups that the machine sealed, and just its bytes
--- were sent; where a step ended the run early, the turns before it are such a run. So does each log that a sync may
--- make
--- of it, or nothing was done, and it is one that a sync might have made before. At each moment since the call's start a
--- crash leaves what stood, or a log that goes on from it.
+-- were sent; where a step ended the run early, the turns before it are such a run. Or no step was done. At each moment
+-- since the call's start a crash leaves what stood, or a log that goes on from it.
 pub record Went (job : Job) (given : Input) (earlier : List Entry) (answer : Status) (old new : Disk) : Type 0 where
   pub left : List Event
   pub here : Machine
   pub course : Course job given earlier left here
-  pub ends : EndsAt job given answer (at_rest (rules_for job) given.lines course.behind) left here
   pub before : List (List Entry)
   pub stood : entries_of before ≡ earlier
   pub old_gate : ℕ
@@ -72,9 +63,8 @@ pub record Went (job : Job) (given : Input) (earlier : List Entry) (answer : Sta
   pub text : List ℕ
   pub sent : new.sent ≡ old.sent ++ text
   pub now : GoesOnTo job earlier before left here text (new.contents 0)
-  pub images : (image : List ℕ) → Settles new 0 image
-      → IsAsBefore old text image ⊎ GoesOnTo job earlier before left here text image
-  pub rest : RestsBehind answer → IsDurable new 0
+  pub ended : IsNotBegun given answer (at_rest (rules_for job) given.lines course.behind) left here text old new
+      ⊎ IsEnded job given answer earlier before left here text new
   pub moments : Through old new (IsKeptBy job given earlier before old)
 
 -- Whatever the answer is: another's log stays, and a bad one, and all other data sets. A log that can be read stays up

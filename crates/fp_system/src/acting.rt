@@ -90,11 +90,12 @@ fn run_started<S: Source, T: Site>(
     requires store { IsOf task.now.setup.defs.msdbs started.msdbs }
     requires unsealed { started.log.unsealed ≡ [] }
 
-    // Behind any entries that come to these databases, where their log is at rest.
+    // Behind any entries that come to these databases, where their log is at rest; or there was no memory to begin.
     ensures ran { (origin : Origin) (h : History) → S.told source.old → T.told site.old
         → IsBegun origin h started.msdbs started.log (T.disk site.old) →
         RanFrom (job_of task.now.setup) (input task.now.events (lines_of (S.left source.old part.Messages))) origin h
-        result (T.disk site.old) (T.disk site.new) }
+        result (T.disk site.old) (T.disk site.new)
+        ⊎ ((result ≡ status.NoMemory) × (site.new ≡ site.old)) }
     ensures outcome { result ≡ status.Done ⊎ IsStop result }
     ensures all { S.told source.old → result ≡ status.Done → faulty_line (S.left source.old part.Messages) ≡ None }
     ensures line { (number : ℕ) → S.told source.old → result ≡ status.Line number

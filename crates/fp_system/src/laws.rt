@@ -1,17 +1,18 @@
 //! Laws of the top call: the table of its answers, what a run answers, and any number of runs and stops.
 ghost use Rattle.fp_model.specs.declared.log.Entry.{Entry};
+ghost use Rattle.fp_site.specs.Disk.{IsDurable};
 ghost use Rattle.fp_source.specs.declared.part.Part.TheVariants as part;
 ghost use Rattle.fp_system.specs.Answered.{AnswersEachLine};
 ghost use Rattle.fp_system.specs.Answers.{faulty_line};
 ghost use Rattle.fp_system.specs.Courses.{Input, IsSoundFor};
-ghost use Rattle.fp_system.specs.Gives.{IsSafeFor, Ran};
+ghost use Rattle.fp_system.specs.Gives.{Defined, IsSafeFor, Ran};
 ghost use Rattle.fp_system.specs.Parts.{Job};
-ghost use Rattle.fp_system.specs.Stops.{Calls, HeldThrough, HoldsOn, Lives, Standing};
+ghost use Rattle.fp_system.specs.Stops.{Calls, HeldThrough, HoldsOn, Lives, Standing, standing};
 ghost use Rattle.fp_system.specs.Table.{Asks, Given, IsDue, end_of_lines};
 ghost use Rattle.fp_system.specs.declared.status.Status.{Status as StatusOf};
 ghost use Rattle.fp_system.specs.declared.status.Status.TheVariants as status;
 ghost use Rattle.fp_system.specs.declared.words.Command.TheVariants as command;
-ghost use Rattle.std.specs.Prelude.{◌≡◌, List as ListOf};
+ghost use Rattle.std.specs.Prelude.{◌≡◌, [], List as ListOf};
 
 use fp_site::Site;
 use line_laws::every_line_is_answered;
@@ -37,6 +38,17 @@ pub fn a_run_that_is_done_answers_each_line<T: Site>()
 {
     every_line_is_answered()
 }
+
+/// What stands in a log for good is held; and a log that was made new holds each entry of which a line was sent since,
+/// as none was.
+pub fn a_log_at_rest_holds_its_entries<T: Site>()
+    ensures rests { (job : Job) (entries : ListOf Entry) (site : T) → IsDurable (T.disk site) 0
+        → IsSoundFor job ((T.disk site).contents 0) entries →
+        HoldsOn job (standing entries (T.disk site).sent) (T.disk site) }
+    ensures made { (g : Given) (job : Job) (old new : T) → Asks g command.Define job
+        → Defined g status.Done (T.disk old) (T.disk new) →
+        HoldsOn job (standing [] (T.disk old).sent) (T.disk new) }
+{}
 
 /// A call, whatever it answers, keeps what stood and each entry of which a line was sent since: so does what it leaves,
 /// and so does each snapshot since it began.

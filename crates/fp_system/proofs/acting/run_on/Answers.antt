@@ -1,4 +1,4 @@
-use Rattle.std.proofs.Common.{◌≡◌, ◌⊎◌, ◌∙◌, refl, sym, ap, subst, arith}
+use Rattle.std.proofs.Common.{◌⊎◌, ⊎_elim, inl, inr, ◌∙◌, refl, sym, ap, subst, arith}
 use Rattle.std.specs.Prelude.{Err}
 use Rattle.fp_core.specs.Standing.{Origin}
 use Rattle.fp_model.specs.LogText.{Front}
@@ -9,7 +9,10 @@ use Rattle.fp_restart.specs.Restarts.{StandsFor}
 use Rattle.fp_source.specs.declared.part.Part.TheVariants as part
 use Rattle.log_groups.specs.Kept.{IsSound}
 use Rattle.fp_system.specs.Answers.{MayStandIn}
+use Rattle.fp_site.specs.Moments.{Through}
+use Rattle.fp_site.proofs.Runs.{started}
 use Rattle.fp_system.specs.Causes.{IsCaused}
+use Rattle.fp_system.specs.Gives.{Went}
 use Rattle.fp_system.specs.Courses.{input}
 use Rattle.fp_core.specs.Sparing.{IsLogSet as IsLog}
 use Rattle.fp_system.specs.Parts.{front_for}
@@ -94,7 +97,11 @@ returns-clause-ran g c s t =
     (spares_on IsLog h h1 h2 law1 (spares_syncs h h1 contents crash) (c.run_started.ensures.others t1))
     (λ groups gate log.
     kept_front job given answer h h1 h2 law1 contents crash store state back
-    (λ origin history begun. c.run_started.ensures.ran origin history s t1 begun) groups gate log)
+    (λ origin history begun.
+    ⊎_elim (λ on. inl on)
+    (λ none. inr (subst (λ (x : _). Through h1 (g.T.Site.disk x) h1.may_leave) (sym none.1)
+    (started h1.may_leave h1 law1 (λ snapshot left. left))))
+    (c.run_started.ensures.ran origin history s t1 begun)) groups gate log)
     (λ earlier safe.
     let sound = subst (λ (f : Front). IsSound setup.defs setup.scripts.scripts f (h.contents 0) earlier) (sym is.front)
     safe.now in
@@ -103,8 +110,12 @@ returns-clause-ran g c s t =
     (c.in-Ok.ensures.sound setup.scripts.scripts earlier t sound) in
     let origin : Origin = record { front = front_for job; groups = found.groups; sent = h1.sent } in
     let history = stood job (h.contents 0) earlier safe.now in
-    went job given earlier is.are is.no_dedbs h h1 h2 law law2 safe contents sent crash found.groups state.gate
-    found.all found.at_rest answer
+    ⊎_elim
+    (λ on. went job given earlier is.are is.no_dedbs h h1 h2 law law2 safe contents sent crash found.groups state.gate
+    found.all found.at_rest answer on)
+    (λ none. subst (λ (x : _). Went job given earlier answer h (g.T.Site.disk x)) (sym none.1)
+    (went_in_place job given answer earlier h h1 law law1 safe contents sent crash
+    (subst MayStandIn (sym none.0) tt)))
     (c.run_started.ensures.ran origin history s t1 (begins job (h.contents 0) earlier safe.now h h1 store state found)))
 
 pub returns-clause-early : goal.returns-clause-early

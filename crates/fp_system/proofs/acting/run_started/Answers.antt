@@ -1,4 +1,4 @@
-use Rattle.std.proofs.Common.{◌≡◌, refl, sym, subst, arith, List, []}
+use Rattle.std.proofs.Common.{◌≡◌, inl, inr, refl, sym, subst, arith, List, []}
 use Rattle.fp_core.specs.Sparing.{IsLogSet as IsLog}
 use Rattle.fp_model.specs.Machine.{at_rest}
 use Rattle.fp_model.specs.Messages.{lines_of}
@@ -18,15 +18,12 @@ use Rattle.fp_system.proofs.Begins.{any_format, any_history, any_place, any_stat
 use Rattle.fp_core.proofs.Onwards.{reads_nothing_none}
 use Rattle.fp_system.specs.Causes.{IsCaused}
 use Rattle.fp_system.proofs.CauseLemmas.{stop_by_site, stop_by_source}
-use Rattle.fp_system.proofs.Ended.{ended_before, ended_done, ended_early}
+use Rattle.fp_system.proofs.Ended.{ended_done, ended_early}
 use Rattle.fp_system.proofs.FrameLemmas.{spares_none}
 use Rattle.fp_system.proofs.acting.run_started.Goals as goal
 
 pub returns-in-Err-clause-ran : goal.returns-in-Err-clause-ran
-returns-in-Err-clause-ran g c origin h s t is =
-    let given = input c.args.task.now.events (lines_of (g.S.Source.left c.args.source.now part.Messages)) in
-    ended_before (job_of c.args.task.now.setup) given origin h c.args.started.msdbs c.args.started.log
-    (g.T.Site.disk c.args.site.now) (g.met.T.Site.lawful c.args.site.now t) is
+returns-in-Err-clause-ran g c origin h s t is = inr (refl, refl)
 
 pub returns-in-Err-clause-others : goal.returns-in-Err-clause-others
 returns-in-Err-clause-others g c t =
@@ -74,11 +71,11 @@ returns-in-Ok-run_schedule-clause-ran g c origin h s t is =
     let beside = stands_beside origin h c.args.started.msdbs c.args.started.log old core.engine rules core.lines left is
     stands c.in-Ok.ensures.gate (c.in-Ok.ensures.lines left) in
     let reached = reached_at_rest core.engine rules (lines_of left) h c.in-Ok.ensures.rules stands in
-    ended_done job given origin h old new next.lines bytes next.engine
+    inl (ended_done job given origin h old new next.lines bytes next.engine
     (as_given (λ d r es. IsDone origin d r es m old new next.lines bytes next.engine) c.in-Ok.ensures.defs
     c.in-Ok.ensures.rules c.as_slice.ensures (c.in-Ok-run_schedule.ensures.done origin m t s beside reached))
     (as_given (λ d r es. Through old new (IsLeftOnWay origin d r es m old)) c.in-Ok.ensures.defs c.in-Ok.ensures.rules
-    c.as_slice.ensures (c.run_schedule.ensures.moments origin m t s beside reached))
+    c.as_slice.ensures (c.run_schedule.ensures.moments origin m t s beside reached)))
 
 pub returns-clause-ran : goal.returns-clause-ran
 returns-clause-ran g c origin h s t is =
@@ -99,11 +96,11 @@ returns-clause-ran g c origin h s t is =
     let stopped = as_given (λ d r es. IsStopped origin d r es m old core.lines new why) c.in-Ok.ensures.defs
     c.in-Ok.ensures.rules c.as_slice.ensures (c.in-Err-run_schedule.ensures.stopped origin m t s beside reached) in
     let none = c.in-Ok.ensures.given in
-    subst (λ (answer : Status). RanFrom job given origin h answer old new) (sym c.from.ensures)
+    inl (subst (λ (answer : Status). RanFrom job given origin h answer old new) (sym c.from.ensures)
     (ended_early job given origin h old new core.lines why stopped
     (λ number e. omega (arith, stopped.first number e, none))
     (as_given (λ d r es. Through old new (IsLeftOnWay origin d r es m old)) c.in-Ok.ensures.defs c.in-Ok.ensures.rules
-    c.as_slice.ensures (c.run_schedule.ensures.moments origin m t s beside reached)))
+    c.as_slice.ensures (c.run_schedule.ensures.moments origin m t s beside reached))))
 
 -- ---- faults, and what is read
 
