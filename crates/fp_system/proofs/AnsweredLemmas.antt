@@ -7,7 +7,7 @@ use Rattle.fp_exits.specs.Kinds.{Kinds}
 use Rattle.fp_model.specs.declared.events.Event.{Event}
 use Rattle.fp_model.specs.declared.log.Entry.{Entry}
 use Rattle.fp_model.specs.Groups.{entries_of}
-use Rattle.fp_model.specs.Machine.{Machine, at_rest, sealed_times}
+use Rattle.fp_model.specs.Machine.{Machine, at_rest}
 use Rattle.fp_model.specs.WellFormed.{AreDefs}
 use Rattle.fp_site.specs.Disk.{Disk}
 use Rattle.fp_source.specs.declared.part.Part.{Part}
@@ -15,9 +15,10 @@ use Rattle.fp_source.specs.declared.part.Part.TheVariants as part
 use Rattle.line_laws.specs.Answered.{AreAnswered}
 use Rattle.run_laws.specs.Starts.{IsFromSerial}
 use Rattle.schedule_runs.specs.Ways.{next_event}
+use Rattle.sealed_runs.proofs.Parts.{entries_both}
 use Rattle.fp_system.specs.Answered.{AnswersEachLine}
 use Rattle.fp_core.specs.Sparing.{IsSealing}
-use Rattle.fp_system.specs.Courses.{Course, Input, IsEnded, IsSoundFor}
+use Rattle.fp_system.specs.Courses.{Course, Input, IsEnded, IsSoundFor, with_seals}
 use Rattle.fp_system.specs.Gives.{Went}
 use Rattle.fp_system.specs.Parts.{IsJob, Job, rules_for}
 use Rattle.fp_system.specs.declared.status.Status.TheVariants.{Done}
@@ -55,35 +56,35 @@ same_text first text it =
 module _ (job : Job) (given : Input) (earlier : List Entry) (old new : Disk)
     (went : Went job given earlier Done old new) where
   -- a run that is done was begun
-  pub end : IsEnded job given Done earlier went.before went.left went.here went.text new
+  pub end : IsEnded job given Done went.before went.point new
   end = ⊎_elim (λ none. absurd none.in_place) (λ is. is) went.ended
 
   -- no group is sealed beyond those of the machine
-  no_more : went.now.sealed.times ≡ 0
+  no_more : went.log.times ≡ 0
   no_more =
-      let few = subst (λ (l : List Event). went.now.sealed.times ≤ seals_of (next_event l) went.here) end.ends.0
-      went.now.sealed.few in
+      let few = subst (λ (l : List Event). went.log.times ≤ seals_of (next_event l) went.point.here) end.ends.0
+      went.log.few in
       omega (arith, few)
 
-  its_groups : went.now.groups ≡ went.here.groups
-  its_groups =
-      went.now.sealed.groups_are
-      ∙ ap (λ (n : ℕ). (sealed_times n (rules_for job) went.here).groups) no_more
-
-  its_text : went.text ≡ went.here.sent
+  its_text : went.point.text ≡ went.point.here.sent
   its_text =
-      same_text went.here.sent went.text
-      (subst (λ (n : ℕ). IsBetween went.here.sent went.text (sealed_times n (rules_for job) went.here).sent) no_more
-      went.now.sealed.told)
+      same_text went.point.here.sent went.point.text
+      (subst (λ (n : ℕ). IsBetween went.point.here.sent went.point.text (with_seals job went.point n).sent) no_more
+      went.log.told)
 
-  pub answers_each : AreAnswered (rules_for job) given.lines went.course.behind.entries went.here
+  pub answers_each : AreAnswered (rules_for job) given.lines went.course.behind.entries went.point.here
       → AnswersEachLine job given.lines earlier old new
-  answers_each all = record {
-    later = all.later;
-    in_order = all.in_order;
-    sound =
-        subst (λ (es : List Entry). IsSoundFor job (new.contents 0) (earlier ++ es))
-        (ap entries_of its_groups ∙ all.sealed) went.now.sound;
-    durable = end.rest (subst (λ (l : List Event). ¬ IsSealing (next_event l)) (sym end.ends.0) (λ s. s));
-    sent = went.sent ∙ ap (λ (t : List ℕ). old.sent ++ t) (its_text ∙ all.sent);
-  }
+  answers_each all =
+      let groups = (with_seals job went.point went.log.times).groups in
+      let sealed : entries_of groups ≡ all.later =
+      ap (λ (n : ℕ). entries_of (with_seals job went.point n).groups) no_more ∙ all.sealed in
+      record {
+        later = all.later;
+        in_order = all.in_order;
+        sound =
+            subst (IsSoundFor job (new.contents 0))
+            (entries_both went.before groups ∙ ap (λ (es : List Entry). es ++ entries_of groups) went.stood
+            ∙ ap (λ (es : List Entry). earlier ++ es) sealed) went.log.sound;
+        durable = end.rest (subst (λ (l : List Event). ¬ IsSealing (next_event l)) (sym end.ends.0) (λ s. s));
+        sent = went.sent ∙ ap (λ (t : List ℕ). old.sent ++ t) (its_text ∙ all.sent);
+      }

@@ -1,12 +1,10 @@
 -- A run keeps what was answered, and so does a site that a stop begins again.
 use Rattle.std.proofs.Common.{◌≡◌, inl, ⊎_elim, sym, ap, subst, ◌∙◌, ℕ, List, [], ◌∷◌, ◌++◌, length, take, append_assoc}
 use Rattle.std.proofs.lemmas.List.{append-nil}
-use Rattle.fp_model.specs.declared.events.Event.{Event}
 use Rattle.fp_model.specs.declared.log.Entry.{Entry}
 use Rattle.fp_model.specs.LogText.{first_gate}
 use Rattle.fp_model.specs.Groups.{entries_of}
-use Rattle.fp_model.specs.Machine.{Machine}
-use Rattle.fp_site.specs.Disk.{Disk, Snapshot, IsDurable, IsLawful}
+use Rattle.fp_site.specs.Disk.{Disk, Snapshot, IsDurable, IsLawful, Syncs}
 use Rattle.fp_site.specs.History.{History, LeftSince, MayLeave}
 use Rattle.fp_site.specs.Memory.{BeginsAs, memory_disk}
 use Rattle.fp_site.specs.declared.memory.MemorySite.{MemorySite}
@@ -14,53 +12,47 @@ use Rattle.fp_site.proofs.Images.{durable_settles, settles_again, settles_conten
 use Rattle.log_groups.specs.Images.{IsAtRest}
 use Rattle.log_groups.specs.Kept.{lines_of_entries}
 use Rattle.fp_restart.proofs.Replays.{new_safe}
+use Rattle.sealed_runs.proofs.Parts.{entries_both}
 use Rattle.sealed_runs.proofs.SoundLogs.{text_told}
 use Rattle.fp_system.proofs.Ways.{comes_behind}
 use Rattle.fp_system.specs.Gives.{IsSafeFor, Ran, Went}
 use Rattle.fp_system.specs.Ims.{IsUnchanged}
 use Rattle.fp_system.specs.Parts.{Job, front_for}
-use Rattle.fp_system.specs.Courses.{Course, GoesOnBy, GoesOnTo, Input, IsAsBefore, IsSoundFor}
+use Rattle.fp_system.specs.Courses.{Course, GoesOnTo, Input, IsSoundFor, Point, with_seals}
 use Rattle.fp_system.specs.Stops.{Calls, HeldThrough, HoldsOn, HoldsSince, IsBegunAgain, IsTold, Lives, Standing, standing}
 use Rattle.fp_system.specs.Stops as stops
 use Rattle.fp_system.specs.declared.status.Status.{Status}
 
--- ---- one image
+-- ---- one log
 
 module _ (job : Job) (start : Standing) where
-  -- a run's own entries come behind those that an image had, and what it sent behind what had been sent
-  further : (given : Input) (before : List (List Entry)) (left : List Event) (here : Machine)
-      (sent text log image : List
-      ℕ)
-      → (has : HoldsSince job start sent log)
-      → Course job given (start.entries ++ has.later) left here
-      → GoesOnTo job (start.entries ++ has.later) before left here text image
-      → HoldsSince job start (sent ++ text) image
-  further given before left here sent text log image has course goes =
-      let more = entries_of goes.groups in
-      let earlier = start.entries ++ has.later in
+  -- a run's own entries come behind those that a log had, and what it sent behind what had been sent
+  further : (given : Input) (before : List (List Entry)) (point : Point) (sent old log : List ℕ)
+      → (has : HoldsSince job start sent old)
+      → entries_of before ≡ start.entries ++ has.later
+      → Course job given (start.entries ++ has.later) point.left point.here
+      → GoesOnTo job before point log
+      → HoldsSince job start (sent ++ point.text) log
+  further given before point sent old log has stood course goes =
+      let groups = (with_seals job point goes.times).groups in
+      let more = entries_of groups in
+      let text = point.text in
       let is : text ≡ take (length text) (lines_of_entries more) =
-      subst (λ (gs : List (List Entry)). text ≡ take (length text) (lines_of_entries (entries_of gs)))
-      (sym goes.sealed.groups_are)
-      (text_told job.defs job.scripts earlier here goes.sealed.times text
-      (comes_behind job earlier course.behind given.lines given.events left here course.history course.comes)
-      goes.sealed.told) in
+      text_told job.defs job.scripts (start.entries ++ has.later) point.here goes.times text
+      (comes_behind job (start.entries ++ has.later) course.behind given.lines given.events point.left point.here
+      course.history course.comes) goes.told in
       record {
         later = has.later ++ more;
-        sound = subst (IsSoundFor job image) (append_assoc start.entries has.later more) goes.sound;
+        sound =
+            subst (IsSoundFor job log)
+            (entries_both before groups ∙ ap (λ (es : List Entry). es ++ more) stood
+            ∙ append_assoc start.entries has.later more) goes.sound;
         text = has.text ++ text;
         since = ap (λ (t : List ℕ). t ++ text) has.since ∙ append_assoc start.sent has.text text;
         told =
             subst (λ (t : List ℕ). IsTold (has.later ++ more) (has.text ++ t)) (sym is)
             (stops.run more (length text) has.told);
       }
-
-  -- an image from before, when nothing was sent since
-  as_before : (old : Disk) (text image : List ℕ) → HoldsOn job start old → IsAsBefore old text image
-      → HoldsSince job start (old.sent ++ text) image
-  as_before old text image holds is =
-      subst (λ (sent : List ℕ). HoldsSince job start sent image)
-      (sym (ap (λ (t : List ℕ). old.sent ++ t) is.unsent ∙ append-nil old.sent))
-      (holds image is.settles)
 
   -- ---- one run
 
@@ -72,6 +64,14 @@ module _ (job : Job) (start : Standing) where
     crash = λ image settles. (start.entries ++ (holds image settles).later, (holds image settles).sound);
   }
 
+  -- what a crash might have left before, but for a sync of the log
+  synced_held : (old : Disk) → IsLawful old → HoldsOn job start old → old.tells_sent → (s : Snapshot) → Syncs old 0 s
+      → HoldsSince job start s.sent (s.images 0)
+  synced_held old law holds tells s from =
+      subst (λ (sent : List ℕ). HoldsSince job start sent (s.images 0))
+      (sym (from.sent tells ∙ law.sent_now tells from.before from.left))
+      (holds (s.images 0) from.this)
+
   module _ (given : Input) (answer : Status) (old new : Disk) (law : IsLawful old) (holds : HoldsOn job start old)
       (run : Ran job given answer old new) where
     abbrev stood : HoldsSince job start old.sent (old.contents 0)
@@ -80,26 +80,22 @@ module _ (job : Job) (start : Standing) where
     abbrev went : Went job given (start.entries ++ stood.later) answer old new
     went = run.goes (start.entries ++ stood.later) (holds_safe old law holds)
 
-    behind : (text image : List ℕ) → GoesOnBy job given (start.entries ++ stood.later) went.before text image
-        → HoldsSince job start (old.sent ++ text) image
-    behind text image by =
-        further given went.before by.left by.here old.sent text (old.contents 0) image stood by.course by.goes
-
     pub ran_holds : HoldsOn job start new
-    ran_holds image settles =
-        subst (λ (sent : List ℕ). HoldsSince job start sent image) (sym went.sent)
+    ran_holds log settles =
+        subst (λ (sent : List ℕ). HoldsSince job start sent log) (sym went.sent)
         (⊎_elim
-        (λ none. as_before old went.text image holds
-        (record { settles = none.images image settles; unsent = none.unsent }))
-        (λ end. further given went.before went.left went.here old.sent went.text (old.contents 0) image stood
-        went.course (end.images image settles)) went.ended)
+        (λ none. subst (λ (sent : List ℕ). HoldsSince job start sent log)
+        (sym (ap (λ (t : List ℕ). old.sent ++ t) none.unsent ∙ append-nil old.sent))
+        (holds log (none.images log settles)))
+        (λ end. further given went.before went.point old.sent (old.contents 0) log stood went.stood went.course
+        (end.images log settles)) went.ended)
 
     pub ran_held : old.tells_sent → HeldThrough job start old.moment new
     ran_held tells s left =
-        let kept = went.moments.each s left in
-        subst (λ (sent : List ℕ). HoldsSince job start sent (s.images 0)) (sym (kept.sent tells))
-        (⊎_elim (λ was. as_before old kept.text (s.images 0) holds was) (λ by. behind kept.text (s.images 0) by)
-        kept.log)
+        ⊎_elim (λ was. synced_held old law holds tells s was)
+        (λ by. subst (λ (sent : List ℕ). HoldsSince job start sent (s.images 0)) (sym (by.sent tells))
+        (further given went.before by.point old.sent (old.contents 0) (s.images 0) stood went.stood by.course by.log))
+        (went.moments.each s left)
 
   -- ---- one call
 
@@ -117,17 +113,10 @@ module _ (job : Job) (start : Standing) where
     call_holds (stops.spared same) = same_holds same
 
   module _ (old new : Disk) (law : IsLawful old) (holds : HoldsOn job start old) where
-    same_held : old.tells_sent → IsUnchanged old new → HeldThrough job start old.moment new
-    same_held tells same s left =
-        let from = same.crash.each s left in
-        subst (λ (sent : List ℕ). HoldsSince job start sent (s.images 0))
-        (sym (from.sent tells ∙ law.sent_now tells from.before from.left))
-        (holds (s.images 0) from.this)
-
     pub call_held : old.tells_sent → Calls job old new → HeldThrough job start old.moment new
-    call_held tells (stops.ran {given = given} {answer = answer} run) =
-        ran_held given answer old new law holds run tells
-    call_held tells (stops.spared same) = same_held tells same
+    call_held tells (stops.ran {given = given} {answer = answer} run) s left =
+        ran_held given answer old new law holds run tells s left
+    call_held tells (stops.spared same) s left = synced_held old law holds tells s (same.crash.each s left)
 
   -- ---- a stop
 
@@ -150,7 +139,7 @@ module _ (job : Job) (start : Standing) where
       lives_told x (stops.stopped new next lives tells call is again) = is
 
       pub lives_hold : (x : X) → HoldsOn job start (disk first) → Lives told disk job first x
-        → HoldsOn job start (disk x)
+          → HoldsOn job start (disk x)
       lives_hold x holds (stops.begun is) = holds
       lives_hold x holds (stops.called {old = old} new lives is call) =
           call_holds (disk old) (disk new) (laws old (lives_told old lives)) (laws new is) (lives_hold old holds lives)

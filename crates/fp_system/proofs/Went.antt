@@ -4,12 +4,11 @@ use Rattle.std.proofs.lemmas.List.{append-nil}
 use Rattle.std.proofs.lemmas.Option.{slice_get_within}
 use Rattle.fp_core.specs.Relation.{AreMade}
 use Rattle.fp_core.specs.Standing.{HasGroups, Origin, seals_of}
-use Rattle.fp_model.specs.declared.events.Event.{Event}
 use Rattle.fp_model.specs.declared.log.Entry.{Entry}
 use Rattle.fp_model.specs.Groups.{entries_of}
 use Rattle.fp_model.specs.History.{History, beginning}
 use Rattle.fp_model.specs.Lasts.{format_at}
-use Rattle.fp_model.specs.Machine.{Machine, at_rest, sealed_times}
+use Rattle.fp_model.specs.Machine.{Machine, at_rest}
 use Rattle.fp_model.specs.Recovery.{Holds}
 use Rattle.fp_model.specs.SerialHistory.{LeadsOn}
 use Rattle.fp_model.specs.State.{start}
@@ -28,8 +27,9 @@ use Rattle.msdb_store.specs.Store.{Stored}
 use Rattle.schedule_runs.specs.Standing.{IsLeftOnWay}
 use Rattle.schedule_runs.specs.Ways as way
 use Rattle.schedule_runs.specs.Ways.{Comes, next_event}
+use Rattle.sealed_runs.proofs.Parts.{entries_both}
 use Rattle.sealed_runs.proofs.SoundLogs.{groups_sound}
-use Rattle.fp_system.specs.Courses.{Course, GoesOnTo, Input, IsBegun, IsHistoryOf, IsKeptBy, IsSoundFor, RanFrom}
+use Rattle.fp_system.specs.Courses.{Course, GoesOnTo, Input, IsBegun, IsHistoryOf, IsKeptBy, IsSoundFor, Point, RanFrom, with_seals}
 use Rattle.fp_system.specs.Answers.{MayStandIn}
 use Rattle.fp_system.specs.Gives.{IsSafeFor, Went}
 use Rattle.fp_system.specs.Ims.{IsUnchanged}
@@ -83,17 +83,8 @@ module _ (job : Job) (log : List ℕ) (earlier : List Entry)
 
 -- ---- a run from a safe site
 
--- a snapshot from before, but for a sync of the log
-synced : (job : Job) (given : Input) (earlier : List Entry) (before : List (List Entry)) (h : Disk) → IsLawful h
-    → (s : Snapshot) → Syncs h 0 s → IsKeptBy job given earlier before h s
-synced job given earlier before h law s is = record {
-  text = [];
-  sent = λ tells. is.sent tells ∙ law.sent_now tells is.before is.left ∙ sym (append-nil h.sent);
-  log = inl (record { settles = is.this; unsent = refl });
-}
-
 module _ (job : Job) (given : Input) (earlier : List Entry) (are : AreDefs job.defs) (none : job.defs.dedbs ≡ [])
-    (h h1 h2 : Disk) (law : IsLawful h) (law2 : IsLawful h2) (safe : IsSafeFor job h earlier)
+    (h h1 h2 : Disk) (law2 : IsLawful h2) (safe : IsSafeFor job h earlier)
     (contents : (set : ℕ) → h1.contents set ≡ h.contents set) (sent : h1.sent ≡ h.sent) (run : Through h h1 (Syncs h 0))
   where
     abbrev before : History
@@ -111,69 +102,70 @@ module _ (job : Job) (given : Input) (earlier : List Entry) (are : AreDefs job.d
         abbrev begun : Machine
         begun = at_rest (rules_for job) given.lines before
 
-        -- an image that a step from some machine leaves
-        goes_to : (left : List Event) (here : Machine) (text image : List ℕ)
-            → Comes job.defs (rules_for job) given.events begun left here
-            → HasGroups origin (rules_for job) here (seals_of (next_event left) here) text image
-            → GoesOnTo job earlier groups left here text image
-        goes_to left here text image comes has = record {
-          groups = (sealed_times has.times (rules_for job) here).groups;
-          sealed = record { times = has.times; few = has.few; groups_are = refl; told = has.lines };
-          gate = has.gate;
-          log = has.log;
-          sound =
-              groups_sound job.defs job.scripts origin (h.contents 0) earlier here (seals_of (next_event left) here)
-              text image are none refl safe.now
-              (comes_behind job earlier before given.lines given.events left here its_history comes) all has;
-        }
+        -- a log that a step from some machine leaves
+        goes_to : (point : Point) (log : List ℕ)
+            → Comes job.defs (rules_for job) given.events begun point.left point.here
+            → HasGroups origin (rules_for job) point.here (seals_of (next_event point.left) point.here) point.text log
+            → GoesOnTo job groups point log
+        goes_to point log comes has =
+            let more = (with_seals job point has.times).groups in
+            record {
+              times = has.times;
+              few = has.few;
+              gate = has.gate;
+              groups = has.log;
+              sound =
+                  subst (IsSoundFor job log)
+                  (ap (λ (es : List Entry). es ++ entries_of more) all ∙ sym (entries_both groups more))
+                  (groups_sound job.defs job.scripts origin (h.contents 0) earlier point.here
+                  (seals_of (next_event point.left) point.here) point.text log are none refl safe.now
+                  (comes_behind job earlier before given.lines given.events point.left point.here its_history comes)
+                  all has);
+              told = has.lines;
+            }
 
         -- a snapshot that a step on the way left
         on_way : (s : Snapshot) → IsLeftOnWay origin job.defs (rules_for job) given.events begun h1 s
             → IsKeptBy job given earlier groups h s
         on_way s on =
             let is = on.is_left in
-            record {
-              text = is.text;
+            let point : Point = record { left = on.left; here = on.here; text = is.text } in
+            inr (record {
+              point = point;
+              course = record { behind = before; history = its_history; comes = on.comes };
+              log = goes_to point (s.images 0) on.comes is.groups;
               sent = λ tells. is.sent (run.tells_sent tells) ∙ ap (λ (t : List ℕ). t ++ is.text) sent;
-              log =
-                  inr (record {
-                    left = on.left;
-                    here = on.here;
-                    course = record { behind = before; history = its_history; comes = on.comes };
-                    goes = goes_to on.left on.here is.text (s.images 0) on.comes is.groups;
-                  });
-            }
+            })
 
         moments_of : Through h h2 (IsKeptBy job given earlier groups h)
         moments_of =
             joined (IsKeptBy job given earlier groups h) h h1 h2
-            (weaker (Syncs h 0) (IsKeptBy job given earlier groups h) h h1 (synced job given earlier groups h law) run)
+            (weaker (Syncs h 0) (IsKeptBy job given earlier groups h) h h1 (λ s is. inl is) run)
             (weaker (IsLeftOnWay origin job.defs (rules_for job) given.events begun h1)
             (IsKeptBy job given earlier groups h) h1 h2 on_way it.moments)
 
         pub went : Went job given earlier answer h h2
-        went = record {
-          left = it.left;
-          here = it.here;
-          course = record { behind = before; history = its_history; comes = it.comes };
-          before = groups;
-          stood = sym all;
-          old_gate = gate;
-          held = subst (λ (l : List ℕ). Holds (front_for job) l groups gate) (contents 0) rest.log.holds;
-          text = it.within.text;
-          sent = it.within.sent ∙ ap (λ (t : List ℕ). t ++ it.within.text) sent;
-          now =
-              goes_to it.left it.here it.within.text (h2.contents 0) it.comes
-              (it.within.groups (h2.contents 0) (settles_contents h2 0 law2));
-          ended =
-              inr (record {
-                ends = it.ends;
-                images = λ image settles.
-                    goes_to it.left it.here it.within.text image it.comes (it.within.groups image settles);
-                rest = it.rest;
-              });
-          moments = moments_of;
-        }
+        went =
+            let point : Point = record { left = it.left; here = it.here; text = it.within.text } in
+            record {
+              before = groups;
+              stood = sym all;
+              old_gate = gate;
+              held = subst (λ (l : List ℕ). Holds (front_for job) l groups gate) (contents 0) rest.log.holds;
+              point = point;
+              course = record { behind = before; history = its_history; comes = it.comes };
+              log =
+                  goes_to point (h2.contents 0) it.comes
+                  (it.within.groups (h2.contents 0) (settles_contents h2 0 law2));
+              sent = it.within.sent ∙ ap (λ (t : List ℕ). t ++ it.within.text) sent;
+              ended =
+                  inr (record {
+                    ends = it.ends;
+                    images = λ log settles. goes_to point log it.comes (it.within.groups log settles);
+                    rest = it.rest;
+                  });
+              moments = moments_of;
+            }
 
 -- ---- where a run ended before it began: in the restart, or before the site
 
@@ -215,43 +207,39 @@ module _ (job : Job) (given : Input) (earlier : List Entry) (h h1 : Disk) (law :
   }
 
   pub went_not : (answer : Status) → MayStandIn answer → Went job given earlier answer h h1
-  went_not answer in_place = record {
-    left = given.events;
-    here = at_first;
-    course = its_course;
-    before = safe.now.groups;
-    stood = sym safe.now.all;
-    old_gate = safe.now.gate;
-    held = safe.now.holds;
-    text = [];
-    sent = sent ∙ sym (append-nil h.sent);
-    now = record {
-      groups = [];
-      sealed = record {
-        times = 0;
-        few = omega arith;
-        groups_are = refl;
-        told = record { more = []; rest = []; from = refl; to = refl };
-      };
-      gate = safe.now.gate;
-      log =
-          subst (λ (gs : List (List Entry)). IsLog (front_for job) (h1.contents 0) gs safe.now.gate)
-          (sym (append-nil safe.now.groups))
-          (subst (λ (l : List ℕ). IsLog (front_for job) l safe.now.groups safe.now.gate) (sym (contents 0))
-          (record { holds = safe.now.holds; stands = safe.now.stands }));
-      sound =
-          subst (IsSoundFor job (h1.contents 0)) (sym (append-nil earlier))
-          (subst (λ (l : List ℕ). IsSoundFor job l earlier) (sym (contents 0)) safe.now);
-    };
-    ended =
-        inl (record {
-          in_place = in_place;
-          all_left = refl;
-          at_start = refl;
-          unsent = refl;
-          images = λ image settles. settles_again h h1 0 image settled settles;
-        });
-    moments =
-        weaker (Syncs h 0) (IsKeptBy job given earlier safe.now.groups h) h h1
-        (synced job given earlier safe.now.groups h law) run;
-  }
+  went_not answer in_place =
+      let groups = safe.now.groups in
+      record {
+        before = groups;
+        stood = sym safe.now.all;
+        old_gate = safe.now.gate;
+        held = safe.now.holds;
+        point = record { left = given.events; here = at_first; text = [] };
+        course = its_course;
+        log = record {
+          times = 0;
+          few = omega arith;
+          gate = safe.now.gate;
+          groups =
+              subst (λ (gs : List (List Entry)). IsLog (front_for job) (h1.contents 0) gs safe.now.gate)
+              (sym (append-nil groups))
+              (subst (λ (l : List ℕ). IsLog (front_for job) l groups safe.now.gate) (sym (contents 0))
+              (record { holds = safe.now.holds; stands = safe.now.stands }));
+          sound =
+              subst (λ (gs : List (List Entry)). IsSoundFor job (h1.contents 0) (entries_of gs))
+              (sym (append-nil groups))
+              (subst (IsSoundFor job (h1.contents 0)) safe.now.all
+              (subst (λ (l : List ℕ). IsSoundFor job l earlier) (sym (contents 0)) safe.now));
+          told = record { more = []; rest = []; from = refl; to = refl };
+        };
+        sent = sent ∙ sym (append-nil h.sent);
+        ended =
+            inl (record {
+              in_place = in_place;
+              all_left = refl;
+              at_start = refl;
+              unsent = refl;
+              images = λ log settles. settles_again h h1 0 log settled settles;
+            });
+        moments = weaker (Syncs h 0) (IsKeptBy job given earlier groups h) h h1 (λ s is. inl is) run;
+      }

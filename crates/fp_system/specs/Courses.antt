@@ -11,7 +11,7 @@ use Rattle.fp_model.specs.Lasts.{format_at}
 use Rattle.fp_model.specs.Machine.{Machine, at_rest, sealed_times}
 use Rattle.fp_model.specs.Runs.{IsDrained}
 use Rattle.fp_model.specs.SerialHistory.{IsSerial}
-use Rattle.fp_site.specs.Disk.{Disk, IsDurable, Settles, Snapshot}
+use Rattle.fp_site.specs.Disk.{Disk, IsDurable, Settles, Snapshot, Syncs}
 use Rattle.fp_site.specs.Moments.{Through}
 use Rattle.log_groups.specs.Images.{IsAtRest, IsLog as HasLog}
 use Rattle.log_groups.specs.Kept.{IsSound}
@@ -49,44 +49,41 @@ pub record Course (job : Job) (given : Input) (earlier : List Entry) (left : Lis
   pub history : IsHistoryOf job earlier behind
   pub comes : Comes job.defs (rules_for job) given.events (at_rest (rules_for job) given.lines behind) left here
 
--- What was sealed and sent where a run had come so far: just what the machine sealed and sent. Where the next step is
--- LOG or CKPT, that may have sealed so many groups more, and sent a first part of the lines of their entries.
-pub record HasSealed (job : Job) (left : List Event) (here : Machine) (groups : List (List Entry)) (text : List ℕ)
-    : Type 0 where
-  pub times : ℕ
-  pub few : times ≤ seals_of (next_event left) here
-  pub groups_are : groups ≡ (sealed_times times (rules_for job) here).groups
-  pub told : IsBetween here.sent text (sealed_times times (rules_for job) here).sent
-
--- an image of the log goes on from the earlier entries, which stand in the groups before: by the groups of what a run
--- that had come so far sealed, when this text was sent
-pub record GoesOnTo (job : Job) (earlier : List Entry) (before : List (List Entry)) (left : List Event)
-    (here : Machine) (text image : List ℕ) : Type 0 where
-  pub groups : List (List Entry)
-  pub sealed : HasSealed job left here groups text
-  pub gate : ℕ
-  pub log : HasLog (front_for job) image (before ++ groups) gate
-  pub sound : IsSoundFor job image (earlier ++ entries_of groups)
-
--- the same, wherever the run had come by then
-pub record GoesOnBy (job : Job) (given : Input) (earlier : List Entry) (before : List (List Entry))
-    (text image : List ℕ) : Type 0 where
+-- How far a run had come: the events that were left, the machine that turns had led to, and the text that was sent
+-- since
+-- its start.
+pub record Point : Type 0 where
   pub left : List Event
   pub here : Machine
-  pub course : Course job given earlier left here
-  pub goes : GoesOnTo job earlier before left here text image
-
--- an image that a sync might have left as the call began, when nothing was sent since
-pub record IsAsBefore (old : Disk) (text image : List ℕ) : Type 0 where
-  pub settles : Settles old 0 image
-  pub unsent : text ≡ []
-
--- A snapshot keeps what stood: its log is as it was, or goes on, by what was sent then.
-pub record IsKeptBy (job : Job) (given : Input) (earlier : List Entry) (before : List (List Entry)) (old : Disk)
-    (s : Snapshot) : Type 0 where
   pub text : List ℕ
-  pub sent : old.tells_sent → s.sent ≡ old.sent ++ text
-  pub log : IsAsBefore old text (s.images 0) ⊎ GoesOnBy job given earlier before text (s.images 0)
+
+-- the machine there, behind so many groups more
+abbrev pub with_seals : Job → Point → ℕ → Machine
+with_seals job point times = sealed_times times (rules_for job) point.here
+
+-- A log goes on from the groups before by just those that the machine sealed, and just its bytes were sent. Where the
+-- next step is LOG or CKPT, that may have sealed so many groups more, and sent a first part of the lines of their
+-- entries. It is sound.
+pub record GoesOnTo (job : Job) (before : List (List Entry)) (point : Point) (log : List ℕ) : Type 0 where
+  pub times : ℕ
+  pub few : times ≤ seals_of (next_event point.left) point.here
+  pub gate : ℕ
+  pub groups : HasLog (front_for job) log (before ++ (with_seals job point times).groups) gate
+  pub sound : IsSoundFor job log (entries_of (before ++ (with_seals job point times).groups))
+  pub told : IsBetween point.here.sent point.text (with_seals job point times).sent
+
+-- A crash left a log that goes on so, from wherever the run had come by then.
+pub record GoesOnBy (job : Job) (given : Input) (earlier : List Entry) (before : List (List Entry)) (old : Disk)
+    (s : Snapshot) : Type 0 where
+  pub point : Point
+  pub course : Course job given earlier point.left point.here
+  pub log : GoesOnTo job before point (s.images 0)
+  pub sent : old.tells_sent → s.sent ≡ old.sent ++ point.text
+
+-- A snapshot keeps what stood: it is one that a crash might have left as the call began, but for a sync of the log, or
+-- its log goes on from it.
+abbrev pub IsKeptBy : Job → Input → List Entry → List (List Entry) → Disk → Snapshot → Type 0
+IsKeptBy job given earlier before old s = Syncs old 0 s ⊎ GoesOnBy job given earlier before old s
 
 -- ---- where a run ends
 
@@ -112,22 +109,24 @@ EndsAt job given SiteFault left here = IsSealing (next_event left)
 EndsAt job given NoMemory left here = MayWant (next_event left)
 EndsAt job given _ left here = ⊥
 
--- A run that came to here ended there. Each log that a sync may make of its own goes on by what it sealed and sent; and
--- it is for good, where the next step seals nothing.
-pub record IsEnded (job : Job) (given : Input) (answer : Status) (earlier : List Entry) (before : List (List Entry))
-    (left : List Event) (here : Machine) (text : List ℕ) (new : Disk) : Type 0 where
-  pub ends : EndsAt job given answer left here
-  pub images : (image : List ℕ) → Settles new 0 image → GoesOnTo job earlier before left here text image
-  pub rest : ¬ IsSealing (next_event left) → IsDurable new 0
+-- A run ended there with this answer. Each log that a sync may make of its own goes on so; and it is for good, where
+-- the
+-- next step seals nothing.
+pub record IsEnded (job : Job) (given : Input) (answer : Status) (before : List (List Entry)) (point : Point)
+    (new : Disk) : Type 0 where
+  pub ends : EndsAt job given answer point.left point.here
+  pub images : (log : List ℕ) → Settles new 0 log → GoesOnTo job before point log
+  pub rest : ¬ IsSealing (next_event point.left) → IsDurable new 0
 
--- No step was done: a fault or want of memory came first. The log is one that a sync might have left before.
-pub record IsNotBegun (given : Input) (answer : Status) (start : Machine) (left : List Event) (here : Machine)
-    (text : List ℕ) (old new : Disk) : Type 0 where
-  pub in_place : MayStandIn answer
-  pub all_left : left ≡ given.events
-  pub at_start : here ≡ start
-  pub unsent : text ≡ []
-  pub images : (image : List ℕ) → Settles new 0 image → Settles old 0 image
+-- No step was done: a fault or want of memory came first. Each log that a sync may make is one that it might have made
+-- before.
+pub record IsNotBegun (given : Input) (answer : Status) (start : Machine) (point : Point) (old new : Disk) : Type 0
+  where
+    pub in_place : MayStandIn answer
+    pub all_left : point.left ≡ given.events
+    pub at_start : point.here ≡ start
+    pub unsent : point.text ≡ []
+    pub images : (log : List ℕ) → Settles new 0 log → Settles old 0 log
 
 -- ---- from where a run begins
 

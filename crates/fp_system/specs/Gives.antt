@@ -1,10 +1,9 @@
 -- What the commands give, whatever the answer is.
 use Rattle.std.specs.Prelude.{◌≡◌, ◌⊎◌, ⊤, ℕ, ◌+◌, ◌≤◌, List, [], ◌++◌, drop, length, take, Option, Some}
-use Rattle.fp_model.specs.declared.events.Event.{Event}
 use Rattle.fp_model.specs.declared.log.Entry.{Entry}
 use Rattle.fp_model.specs.Groups.{entries_of}
 use Rattle.fp_model.specs.LogText.{first_gate, log_text}
-use Rattle.fp_model.specs.Machine.{Machine, at_rest}
+use Rattle.fp_model.specs.Machine.{at_rest}
 use Rattle.fp_model.specs.Recovery.{Holds}
 use Rattle.fp_site.specs.Disk.{Disk, Snapshot, Syncs}
 use Rattle.fp_site.specs.Moments.{OnlyOn, Through}
@@ -16,7 +15,7 @@ use Rattle.fp_system.specs.Answers.{IsEarly}
 use Rattle.fp_core.specs.Sparing.{IsLogSet as IsLog, Spares}
 use Rattle.fp_system.specs.Ims.{IsUnchanged}
 use Rattle.fp_system.specs.Parts.{Job, IsJob, front_for, rules_for}
-use Rattle.fp_system.specs.Courses.{Course, GoesOnTo, Input, IsEnded, IsKeptBy, IsNotBegun}
+use Rattle.fp_system.specs.Courses.{Course, GoesOnTo, Input, IsEnded, IsKeptBy, IsNotBegun, Point}
 use Rattle.fp_system.specs.Table.{Given, IsSpared}
 use Rattle.fp_system.specs.declared.status.Status.{Status}
 use Rattle.fp_system.specs.declared.status.Status.TheVariants.{Done, ReadFault, NoMemory}
@@ -53,18 +52,16 @@ KeepsFront gate old s = Syncs old 0 s ⊎ (take gate (s.images 0) ≡ take gate 
 -- were sent; where a step ended the run early, the turns before it are such a run. Or no step was done. At each moment
 -- since the call's start a crash leaves what stood, or a log that goes on from it.
 pub record Went (job : Job) (given : Input) (earlier : List Entry) (answer : Status) (old new : Disk) : Type 0 where
-  pub left : List Event
-  pub here : Machine
-  pub course : Course job given earlier left here
   pub before : List (List Entry)
   pub stood : entries_of before ≡ earlier
   pub old_gate : ℕ
   pub held : Holds (front_for job) (old.contents 0) before old_gate
-  pub text : List ℕ
-  pub sent : new.sent ≡ old.sent ++ text
-  pub now : GoesOnTo job earlier before left here text (new.contents 0)
-  pub ended : IsNotBegun given answer (at_rest (rules_for job) given.lines course.behind) left here text old new
-      ⊎ IsEnded job given answer earlier before left here text new
+  pub point : Point
+  pub course : Course job given earlier point.left point.here
+  pub log : GoesOnTo job before point (new.contents 0)
+  pub sent : new.sent ≡ old.sent ++ point.text
+  pub ended : IsNotBegun given answer (at_rest (rules_for job) given.lines course.behind) point old new
+      ⊎ IsEnded job given answer before point new
   pub moments : Through old new (IsKeptBy job given earlier before old)
 
 -- Whatever the answer is: another's log stays, and a bad one, and all other data sets. A log that can be read stays up
