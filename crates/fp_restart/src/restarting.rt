@@ -116,6 +116,9 @@ pub fn restart<T: Site>(
         → T.bytes_read site.new 0 ≤ T.bytes_read site.old 0 + gate + 1 }
     ensures exact { T.tells_reads site.new 0 → IfOk result
         (λ parts. T.bytes_read site.new 0 ≡ T.bytes_read site.old 0 + parts.1.gate + 1) }
+    ensures no_front { T.told site.old → (StartsWithFront ((T.disk site.old).contents 0) (as_front front.now) → ⊥)
+        → T.tells_reads site.new 0
+        → T.bytes_read site.new 0 ≤ T.bytes_read site.old 0 + first_gate (as_front front.now) }
     ensures once { T.told site.old → T.tells_reads site.new 0
         → T.bytes_read site.new 0 ≤ T.bytes_read site.old 0 + length ((T.disk site.old).contents 0) + 1 }
     ensures only_log { ReadsOnlyLog (T.tells_reads site.old) (T.tells_reads site.new) (T.bytes_read site.old)
