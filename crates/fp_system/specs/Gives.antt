@@ -16,7 +16,7 @@ use Rattle.fp_core.specs.Sparing.{IsLogSet as IsLog, Spares}
 use Rattle.fp_system.specs.Ims.{IsUnchanged}
 use Rattle.fp_system.specs.Parts.{Job, IsJob, front_for, rules_for}
 use Rattle.fp_system.specs.Courses.{Course, GoesOnTo, Input, IsEnded, IsKeptBy, IsNotBegun, Point}
-use Rattle.fp_system.specs.Table.{Given, IsSpared}
+use Rattle.fp_system.specs.Table.{Given, IsForeign, IsSpared}
 use Rattle.fp_system.specs.declared.status.Status.{Status}
 use Rattle.fp_system.specs.declared.status.Status.TheVariants.{Done, ReadFault, NoMemory}
 use Rattle.fp_system.specs.declared.words.Command.{Command}
@@ -74,11 +74,12 @@ pub record Ran (job : Job) (given : Input) (answer : Status) (old new : Disk) : 
   pub goes : (earlier : List Entry) → IsSafeFor job old earlier → Went job given earlier answer old new
 
 -- A run reads each byte of the log once, up to the byte behind its end; of one that can be read, up to the first gate
--- that isn't open.
+-- that isn't open; of another's, no more than the front has.
 pub record ReadsOnce (job : Job) (log : List ℕ) (before now : ℕ) : Type 0 where
   pub all : now ≤ before + length log + 1
   pub up_to : (groups : List (List Entry)) (gate : ℕ) → Holds (front_for job) log groups gate
       → now ≤ before + gate + 1
+  pub of_others : IsForeign job log → now ≤ before + first_gate (front_for job)
 
 -- ---- what stays
 

@@ -19,6 +19,7 @@ ghost use Rattle.fp_system.specs.Setups.{IsSetup, job_of};
 ghost use Rattle.fp_system.specs.Table.{ByLog, IsEnd};
 ghost use Rattle.fp_system.specs.declared.status.Status.TheVariants as status;
 ghost use Rattle.log_groups.specs.Images.{IsAtRest, IsBeforeOrMade};
+ghost use Rattle.log_groups.specs.Reads.{ReadsOnlyLog};
 ghost use Rattle.msdb_store.specs.Store.{IsOf};
 ghost use Rattle.std.specs.List.{AllByRecursion};
 ghost use Rattle.std.specs.Prelude.{◌≡◌, ◌⊎◌, ◌≤◌, ℕ, [], None, Some, true};
@@ -62,8 +63,10 @@ pub(crate) fn define_on<T: Site>(alloc: Global, site: &mut T, setup: &Setup) -> 
     // Want of memory comes before the site is touched.
     ensures untouched { result ≡ status.NoMemory → site.new ≡ site.old }
 
-    // No other data set changes, and nothing is sent. A crash at any moment leaves the log as a sync might have left it
-    // before, or with no open front, or made.
+    // No other data set changes or is read, and nothing is sent. A crash at any moment leaves the log as a sync might
+    // have left it before, or with no open front, or made.
+    ensures reads { ReadsOnlyLog (T.tells_reads site.old) (T.tells_reads site.new)
+        (T.bytes_read site.old) (T.bytes_read site.new) }
     ensures only { T.told site.old → OnlyOn 0 (T.disk site.old) (T.disk site.new) }
     ensures crash { T.told site.old →
         Through (T.disk site.old) (T.disk site.new) (IsBeforeOrMade (T.disk site.old) (front_for (job_of setup.now))) }
@@ -148,6 +151,8 @@ pub(crate) fn run_on<S: Source, T: Site>(
     ensures once { T.told site.old → T.tells_reads site.new 0 →
         ReadsOnce (job_of task.now.setup) ((T.disk site.old).contents 0)
         (T.bytes_read site.old 0) (T.bytes_read site.new 0) }
+    ensures reads { ReadsOnlyLog (T.tells_reads site.old) (T.tells_reads site.new)
+        (T.bytes_read site.old) (T.bytes_read site.new) }
     ensures source { IsContinued S.told S.faults S.holds S.keeps source.old source.new }
     ensures site { IsContinued T.told T.faults T.holds T.keeps site.old site.new }
 {

@@ -12,6 +12,7 @@ ghost use Rattle.fp_system.specs.Words.{command_of};
 ghost use Rattle.fp_system.specs.declared.status.Status.TheVariants as status;
 ghost use Rattle.fp_system.specs.declared.words.Command.{Command as CommandOf};
 ghost use Rattle.fp_system.specs.declared.words.Command.TheVariants as command;
+ghost use Rattle.log_groups.specs.Reads.{ReadsOnlyLog};
 ghost use Rattle.std.specs.Prelude.{◌≡◌, ◌↔◌, None, Some, List as ListOf, map, string_bytes};
 
 use crate::Status;
@@ -48,7 +49,7 @@ pub fn ims<S: Source, T: Site>(
     ensures cause { IsCaused (S.faults source.old) (S.faults source.new)
         (T.faults site.old) (T.faults site.new) result }
 
-    // What the commands give.
+    // What the commands give, and what they read.
     ensures defined { S.told source.old → T.told site.old
         → command_of (map string_bytes words.now) ≡ Some command.Define →
         Defined (given exits.now words.now (S.left source.old) (T.disk site.old)) result
@@ -59,10 +60,13 @@ pub fn ims<S: Source, T: Site>(
         Ran job (input events (lines_of (S.left source.old part.Messages))) result (T.disk site.old)
         (T.disk site.new) }
 
-    ensures read { (job : Job) → S.told source.old → T.told site.old
+    ensures once { (job : Job) → S.told source.old → T.told site.old
         → Asks (given exits.now words.now (S.left source.old) (T.disk site.old)) command.Run job
         → T.tells_reads site.new 0 →
         ReadsOnce job ((T.disk site.old).contents 0) (T.bytes_read site.old 0) (T.bytes_read site.new 0) }
+
+    ensures reads { ReadsOnlyLog (T.tells_reads site.old) (T.tells_reads site.new)
+        (T.bytes_read site.old) (T.bytes_read site.new) }
 
     // What stays.
     ensures untouched { IsBeforeSite (command_of (map string_bytes words.now)) result → site.new ≡ site.old }

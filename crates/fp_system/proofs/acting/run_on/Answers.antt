@@ -1,7 +1,8 @@
+use Rattle.std.specs.Prelude.{◌+◌, ◌≤◌}
 use Rattle.std.proofs.Common.{◌⊎◌, ⊎_elim, inl, inr, ◌∙◌, refl, sym, ap, subst, arith}
 use Rattle.std.specs.Prelude.{Err}
 use Rattle.fp_core.specs.Standing.{Origin}
-use Rattle.fp_model.specs.LogText.{Front}
+use Rattle.fp_model.specs.LogText.{Front, StartsWithFront, first_gate}
 use Rattle.fp_model.specs.Messages.{lines_of}
 use Rattle.fp_model.specs.Recovery.{Holds}
 use Rattle.fp_restart.specs.Replayed.{ReadsBack}
@@ -158,6 +159,10 @@ returns-in-Err-clause-once g c t tells =
       up_to = λ groups gate holds.
           c.restart.ensures.read groups gate t
           (subst (λ (f : Front). Holds f log groups gate) (sym c.requires.setup.front) holds) tells;
+      of_others =
+          subst (λ (f : Front). ¬ (StartsWithFront log f) → g.T.Site.bytes_read c.restart.new.site 0
+          ≤ g.T.Site.bytes_read c.args.site.now 0 + first_gate f) c.requires.setup.front
+          (λ away. c.restart.ensures.no_front t away tells);
     }
 
 pub returns-clause-once : goal.returns-clause-once
@@ -170,4 +175,12 @@ returns-clause-once g c t tells =
           let at_most = c.restart.ensures.read groups gate t
           (subst (λ (f : Front). Holds f log groups gate) (sym c.requires.setup.front) holds) on.0 in
           omega (arith, on.1, at_most);
+      of_others = λ away.
+          absurd (away (subst (λ (f : Front). StartsWithFront log f) c.requires.setup.front (c.in-Ok.ensures.front t)));
     }
+
+pub returns-clause-reads : goal.returns-clause-reads
+returns-clause-reads g c set tells =
+    let on = c.run_started.ensures.reads set tells in
+    let first = c.restart.ensures.only_log set on.0 in
+    (first.0, λ other. on.1 ∙ first.1 other)

@@ -153,8 +153,8 @@ returns-clause-ran g c job events s t asks has =
 
 -- ---- what is read
 
-pub returns-in-Ok-clause-read : goal.returns-in-Ok-clause-read
-returns-in-Ok-clause-read g c job s t asks tells =
+pub returns-in-Ok-clause-once : goal.returns-in-Ok-clause-once
+returns-in-Ok-clause-once g c job s t asks tells =
     let mine = job_of c.in-Ok.task.setup in
     let same = one_job (kinds_of c.args.exits.now) (g.S.Source.left c.args.source.now) mine job
     (c.in-Ok.ensures.job s) asks.job_is in
@@ -162,8 +162,18 @@ returns-in-Ok-clause-read g c job s t asks tells =
     (g.T.Site.bytes_read c.args.site.now 0) (g.T.Site.bytes_read c.run_on.new.site 0)) same
     (c.run_on.ensures.once t tells)
 
-pub returns-clause-read : goal.returns-clause-read
-returns-clause-read g c job s t asks tells = record { all = omega arith; up_to = λ groups gate holds. omega arith }
+pub returns-clause-once : goal.returns-clause-once
+returns-clause-once g c job s t asks tells = record {
+  all = omega arith;
+  up_to = λ groups gate holds. omega arith;
+  of_others = λ away. omega arith;
+}
+
+pub returns-clause-reads : goal.returns-clause-reads
+returns-clause-reads g c set tells = (tells, λ other. refl)
+
+pub returns-in_default-clause-reads : goal.returns-in_default-clause-reads
+returns-in_default-clause-reads g c set tells = (tells, λ other. refl)
 
 -- ---- what stays
 
