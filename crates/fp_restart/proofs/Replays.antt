@@ -24,7 +24,7 @@ use Rattle.fp_site.specs.Disk.{Disk, IsDurable}
 use Rattle.fp_site.proofs.Images.{durable_settles}
 use Rattle.log_format.proofs.GroupLaws.{one_group}
 use Rattle.log_groups.proofs.LogImages.{groups_more}
-use Rattle.log_groups.specs.Images.{IsAtRest, IsLog}
+use Rattle.log_groups.specs.Images.{IsAtRest, IsKept, IsLog}
 use Rattle.log_groups.specs.Kept.{IsSafe, IsSound}
 use Rattle.log_groups.specs.Log.{LogState}
 use Rattle.msdb_store.specs.Store.{IsFitSegment, IsOf, Stored}
@@ -246,6 +246,14 @@ read_at_rest defs front disk store l it stands = record {
     holds = record { begins = it.begins; reads = (it.replayed.holds.holds, it.closed) };
     stands = stands;
   };
+}
+
+-- and also where it is absent the log is kept
+pub read_kept : (defs : Defs) (front : Front) (disk : Disk) (store : Stored) (l : LogState)
+    → (it : ReadsBack defs front disk store l) → IsKept disk front it.replayed.groups l.gate
+read_kept defs front disk store l it = record {
+  durable = it.durable;
+  holds = record { begins = it.begins; reads = (it.replayed.holds.holds, it.closed) };
 }
 
 -- ---- of a new log

@@ -57,10 +57,11 @@ pub fn define<T: Site>(
     // Want of memory comes before the site is touched.
     ensures untouched { IsErrOf result faults.Memory → site.new ≡ site.old }
 
-    // No other data set changes or is read, and nothing is sent.
+    // No other data set changes or is read, and nothing is sent. Of the log one byte is read at most.
     ensures only { T.told site.old → OnlyOn 0 (T.disk site.old) (T.disk site.new) }
     ensures only_log { ReadsOnlyLog (T.tells_reads site.old) (T.tells_reads site.new) (T.bytes_read site.old)
         (T.bytes_read site.new) }
+    ensures few { T.tells_reads site.new 0 → T.bytes_read site.new 0 ≤ T.bytes_read site.old 0 + 1 }
     ensures told { T.told site.old → T.told site.new }
     ensures holds { T.holds site.new ≡ T.holds site.old }
     ensures keeps { (first : T) → T.keeps first site.old → T.keeps first site.new }

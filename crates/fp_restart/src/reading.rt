@@ -100,6 +100,11 @@ pub(crate) fn read_parts<T: Site>(
     ensures read { (groups : ListOf (ListOf EntryOf)) (gate : ℕ) → T.told site.old
         → Holds (as_front front.now) ((T.disk site.old).contents 0) groups gate → T.tells_reads site.new 0
         → T.bytes_read site.new 0 ≤ T.bytes_read site.old 0 + gate + 1 }
+    ensures exact { T.tells_reads site.new 0 → IfOk result
+        (λ parts. T.bytes_read site.new 0 ≡ T.bytes_read site.old 0 + parts.1.gate + 1) }
+    ensures no_front { T.told site.old → (StartsWithFront ((T.disk site.old).contents 0) (as_front front.now) → ⊥)
+        → T.tells_reads site.new 0
+        → T.bytes_read site.new 0 ≤ T.bytes_read site.old 0 + first_gate (as_front front.now) }
     ensures once { T.told site.old → T.tells_reads site.new 0
         → T.bytes_read site.new 0 ≤ T.bytes_read site.old 0 + length ((T.disk site.old).contents 0) + 1 }
     ensures only_log { ReadsOnlyLog (T.tells_reads site.old) (T.tells_reads site.new) (T.bytes_read site.old)
@@ -143,6 +148,8 @@ fn replay<T: Site>(
     ensures read { (groups : ListOf (ListOf EntryOf)) (gate : ℕ) → T.told site.old
         → Reads ((T.disk site.old).contents 0) log.old.gate (Groups groups gate) → T.tells_reads site.new 0
         → T.bytes_read site.new 0 + log.old.gate ≤ T.bytes_read site.old 0 + gate + 1 }
+    ensures exact { T.tells_reads site.new 0 → OnOk result
+        (T.bytes_read site.new 0 + log.old.gate ≡ T.bytes_read site.old 0 + log.new.gate + 1) }
     ensures once { T.told site.old → T.tells_reads site.new 0 → T.bytes_read site.new 0 + log.old.gate
         ≤ T.bytes_read site.old 0 + max log.old.gate (length ((T.disk site.old).contents 0)) + 1 }
     ensures only_log { ReadsOnlyLog (T.tells_reads site.old) (T.tells_reads site.new) (T.bytes_read site.old)
@@ -201,6 +208,8 @@ fn take_group<T: Site>(
     // more, and nothing behind the log's end.
     ensures count { T.tells_reads site.new 0 → IfOk result (λ found. IfSome found
         (λ taken. T.bytes_read site.new 0 + at ≡ T.bytes_read site.old 0 + taken.next)) }
+    ensures looked { T.tells_reads site.new 0 → IfOk result (λ found. IfNone found
+        (T.bytes_read site.new 0 ≡ T.bytes_read site.old 0 + 1)) }
     ensures most { (entries : ListOf EntryOf) (next : ℕ) → T.told site.old
         → HasGroup ((T.disk site.old).contents 0) at entries next → T.tells_reads site.new 0
         → T.bytes_read site.new 0 + at ≤ T.bytes_read site.old 0 + next }

@@ -110,10 +110,15 @@ pub fn restart<T: Site>(
         → IsSafeFrom defs.now scripts (as_front front.now) (T.disk site.new) earlier }
 
     // No other data set is read. Of a log with groups up to a closed gate the front, these and that gate are read at
-    // most, each byte once; of any log no more than each of its bytes, and one past its end.
+    // most, each byte once, and at Ok just these; of any log no more than each of its bytes, and one past its end.
     ensures read { (groups : ListOf (ListOf Entry)) (gate : ℕ) → T.told site.old
         → Holds (as_front front.now) ((T.disk site.old).contents 0) groups gate → T.tells_reads site.new 0
         → T.bytes_read site.new 0 ≤ T.bytes_read site.old 0 + gate + 1 }
+    ensures exact { T.tells_reads site.new 0 → IfOk result
+        (λ parts. T.bytes_read site.new 0 ≡ T.bytes_read site.old 0 + parts.1.gate + 1) }
+    ensures no_front { T.told site.old → (StartsWithFront ((T.disk site.old).contents 0) (as_front front.now) → ⊥)
+        → T.tells_reads site.new 0
+        → T.bytes_read site.new 0 ≤ T.bytes_read site.old 0 + first_gate (as_front front.now) }
     ensures once { T.told site.old → T.tells_reads site.new 0
         → T.bytes_read site.new 0 ≤ T.bytes_read site.old 0 + length ((T.disk site.old).contents 0) + 1 }
     ensures only_log { ReadsOnlyLog (T.tells_reads site.old) (T.tells_reads site.new) (T.bytes_read site.old)

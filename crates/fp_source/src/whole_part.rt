@@ -55,6 +55,7 @@ pub fn whole<S: Source>(
     // When a fault comes.
     ensures too_long { S.told source.old → IsErrOf result WholeFault.TooLong → limit < length (S.left source.old part) }
     ensures cause { IsErrOf result WholeFault.Failed → Rose (S.faults source.old) (S.faults source.new) }
+    ensures stayed { ¬ (IsErrOf result WholeFault.Failed) → S.faults source.new ≡ S.faults source.old }
 
     // Of the source only this part was read.
     ensures source { ReadsOnly S.told S.left S.faults S.holds S.keeps part source.old source.new }

@@ -1,9 +1,10 @@
 //! What restarts give: of a log with two groups, of every stop of a making, and of logs that are damaged.
 ghost use Rattle.fp_model.specs.LogText.{FitsEntry, FitsFront, FitsItem, KeepsRules};
 ghost use Rattle.fp_model.specs.WellFormed.{IsMsdbDef};
+ghost use Rattle.fp_site.specs.Memory.{memory_reads};
 ghost use Rattle.log_groups.specs.Images.{as_front};
 ghost use Rattle.std.specs.List.{AllByRecursion};
-ghost use Rattle.std.specs.Prelude.{◌≡◌, ◌<◌, ◌^◌, IfOk, length};
+ghost use Rattle.std.specs.Prelude.{◌≡◌, ◌+◌, ◌-◌, ◌<◌, ◌^◌, IfOk, length};
 
 use fp_model::{
     AreaDef, AreaEnds, Bytes, Db, DedbDef, Defs, Entry, FieldDef, FieldKind, Item, Kind, List,
@@ -234,6 +235,34 @@ fn read(
     let mut parts = restart(alloc, defs, &front, site)?;
     let db = whole_db(alloc, &mut parts, defs, site)?;
     Ok((parts.1.sealed(), segments_of(alloc, &db)?))
+}
+
+// Restarts, and gives the last gate's place. The front, the groups and that gate were read, each byte once.
+fn read_once(
+    alloc: Global,
+    defs: &Defs,
+    scripts: u8,
+    site: &mut MemorySite,
+) -> Result<u64, RestartFault>
+    requires msdbs { AllByRecursion IsMsdbDef defs.now.msdbs }
+    requires text { length defs.now.text < 2 ^ 32 }
+    ensures { memory_reads site.new 0 < 2 ^ 64 - 1 →
+        IfOk result (λ gate. memory_reads site.new 0 ≡ memory_reads site.old 0 + gate + 1) }
+{
+    let front = front(alloc, defs, scripts)?;
+    let parts = restart(alloc, defs, &front, site)?;
+    Ok(parts.1.gate())
+}
+
+// Behind a gate and a length stands an entry of 29 bytes with an item of 17.
+#[test]
+fn a_restart_reads_each_byte_once(rt: HostRuntime) -> Result<(), Fail> {
+    let alloc = rt.alloc();
+    let defs = defs(alloc, List::new(alloc))?;
+    let mut site = two_written(alloc, &defs)?;
+    let gate = FIRST + 2 * (1 + 8 + 29 + 17);
+    assert_eq!(rt; read_once(alloc, &defs, b'S', &mut site), Ok(gate));
+    Ok(())
 }
 
 fn found(alloc: Global, count: u64, segments: &[u8]) -> Result<(u64, Bytes), AllocError> {

@@ -1,35 +1,27 @@
--- How a run ended: from what the run of the schedule says, where it was done, where a step ended it, and where nothing
--- was done.
-use Rattle.std.proofs.Common.{◌≡◌, inl, refl, sym, ◌∙◌, ap, subst, arith, ℕ, ◌+◌, ◌-◌, ◌≤◌, List, [], ◌++◌, length, drop, Some}
-use Rattle.std.specs.Prelude.{slice_get}
+-- How a run ended: from what the run of the schedule says, where it was done, and where a step ended it.
+use Rattle.std.proofs.Common.{◌≡◌, refl, sym, ◌∙◌, ap, subst, arith, ℕ, ◌+◌, ◌-◌, ◌≤◌, List, [], ◌++◌, length, drop}
 use Rattle.std.proofs.lemmas.List.{append-nil, length-drop}
-use Rattle.std.proofs.lemmas.Option.{slice_get_within}
-use Rattle.fp_core.specs.Standing.{HasGroups, IsLeft, IsWithin, MayStop, Origin, seals_of}
-use Rattle.fp_core.specs.Relation.{AreMade}
+use Rattle.fp_core.specs.Standing.{HasGroups, IsWithin, MayStop, Origin}
+use Rattle.fp_core.specs.Sparing.{IsSealing}
 use Rattle.fp_core.specs.declared.engine.Engine.{Engine}
 use Rattle.fp_core.specs.declared.stop.Stop.{Stop}
 use Rattle.fp_core.specs.declared.stop.Stop.TheVariants as stop
 use Rattle.fp_model.specs.declared.events.Event.{Event}
 use Rattle.fp_model.specs.declared.events.Event.TheVariants as event
-use Rattle.fp_model.specs.declared.log.Entry.{Entry}
 use Rattle.fp_model.specs.History.{History}
 use Rattle.fp_model.specs.Machine.{Machine, at_rest}
-use Rattle.fp_site.specs.Disk.{Disk, IsLawful, Snapshot}
+use Rattle.fp_site.specs.Disk.{Disk}
 use Rattle.fp_site.specs.Moments.{Through}
 use Rattle.fp_site.proofs.Images.{durable_settles}
-use Rattle.fp_site.proofs.Runs.{started}
 use Rattle.fp_source.specs.declared.lines.Lines.{Lines}
 use Rattle.log_groups.specs.Images.{IsAtRest, IsLog}
-use Rattle.log_groups.specs.Log.{LogState}
-use Rattle.msdb_store.specs.Store.{Stored}
 use Rattle.schedule_runs.specs.Standing.{IsDone, IsLeftOnWay, IsStopped}
-use Rattle.schedule_runs.specs.Ways as way
 use Rattle.schedule_runs.specs.Ways.{Comes, next_event}
 use Rattle.fp_system.specs.Answers.{status_of_stop}
-use Rattle.fp_system.specs.Courses.{EndsAt, Input, IsAtLine, IsBegun, RanFrom}
+use Rattle.fp_system.specs.Courses.{EndsAt, Input, IsAtLine, MayWant, RanFrom}
 use Rattle.fp_system.specs.Parts.{Job, rules_for}
 use Rattle.fp_system.specs.declared.status.Status.{Status}
-use Rattle.fp_system.specs.declared.status.Status.TheVariants.{Done, NoMemory}
+use Rattle.fp_system.specs.declared.status.Status.TheVariants.{Done}
 use Rattle.fp_system.proofs.Ways.{drop_least, goes_rest}
 
 -- ---- a disk that is at rest
@@ -47,7 +39,7 @@ module _ (job : Job) (origin : Origin) (here : Machine) (most : ℕ) (disk : Dis
     lines = record { more = []; rest = []; from = sym (append-nil here.sent); to = sym (append-nil here.sent) };
   }
 
-  -- so it is one that a step from there may end with,
+  -- so it is one that a step from there may end with
   pub within_at : (old : Disk) → disk.sent ≡ origin.sent ++ here.sent
       → ((set : ℕ) → ¬ (set ≡ 0) → disk.contents set ≡ old.contents set)
       → IsWithin origin (rules_for job) here most old disk
@@ -56,18 +48,6 @@ module _ (job : Job) (origin : Origin) (here : Machine) (most : ℕ) (disk : Dis
     sent = sent;
     groups = λ image settles. groups_at image (durable_settles disk 0 image rest.durable settles);
     others = others;
-  }
-
-  -- and each snapshot of it is one that a crash within such a step leaves
-  left_at : IsLawful disk → disk.sent ≡ origin.sent ++ here.sent → (s : Snapshot) → disk.may_leave s
-      → IsLeft origin (rules_for job) here most disk s
-  left_at law sent s left = record {
-    text = here.sent;
-    sent = λ tells. law.sent_now tells s left ∙ sent;
-    groups = groups_at (s.images 0) (rest.durable s left);
-    before = s;
-    was_left = left;
-    others = λ set other. refl;
   }
 
 -- ---- where a step ended it
@@ -92,6 +72,24 @@ line_at_line number left here event.Out is may = absurd may
 line_at_line number left here event.Ckpt is may = absurd may
 line_at_line number left here (event.Purge set n) is may = absurd may
 
+-- the log ends only a step that makes calls on the site
+log_at_seal : (here : Machine) (e : Event) → MayStop e here.held stop.LogFault → IsSealing e
+log_at_seal here event.In may = absurd may
+log_at_seal here (event.Region region) may = absurd may
+log_at_seal here event.Log may = tt
+log_at_seal here event.Out may = absurd may
+log_at_seal here event.Ckpt may = tt
+log_at_seal here (event.Purge set n) may = absurd may
+
+-- and memory one that may want some
+memory_wanted : (here : Machine) (e : Event) → MayStop e here.held stop.Memory → MayWant e
+memory_wanted here event.In may = tt
+memory_wanted here (event.Region region) may = tt
+memory_wanted here event.Log may = tt
+memory_wanted here event.Out may = absurd may
+memory_wanted here event.Ckpt may = tt
+memory_wanted here (event.Purge set n) may = absurd may
+
 module _ (job : Job) (given : Input) (origin : Origin) (h : History) where
   abbrev begun : Machine
   begun = at_rest (rules_for job) given.lines h
@@ -115,14 +113,14 @@ module _ (job : Job) (given : Input) (origin : Origin) (h : History) where
       → Comes job.defs (rules_for job) given.events begun left here
       → MayStop (next_event left) here.held why
       → ((number : ℕ) → why ≡ stop.LineFault number → number + length here.lines ≡ 1 + length given.lines)
-      → EndsAt job given (status_of_stop why) begun left here
-  stop_ends left here stop.LogFault comes may first = tt
-  stop_ends left here stop.ReadFault comes may first = inl (read_at_line left here (next_event left) refl may)
+      → EndsAt job given (status_of_stop why) left here
+  stop_ends left here stop.LogFault comes may first = log_at_seal here (next_event left) may
+  stop_ends left here stop.ReadFault comes may first = read_at_line left here (next_event left) refl may
   stop_ends left here (stop.LineFault number) comes may first = (
     line_at_line number left here (next_event left) refl may,
     lines_from left here number comes (first number refl),
   )
-  stop_ends left here stop.Memory comes may first = tt
+  stop_ends left here stop.Memory comes may first = memory_wanted here (next_event left) may
 
   abbrev Moments : Disk → Disk → Type 0
   Moments old new = Through old new (IsLeftOnWay origin job.defs (rules_for job) given.events begun old)
@@ -157,47 +155,3 @@ module _ (job : Job) (given : Input) (origin : Origin) (h : History) where
         rest = λ quiet. at.at_rest.durable;
         moments = moments;
       }
-
-  -- ---- where nothing was done
-
-  module _ (store : Stored) (log : LogState) (disk : Disk) (law : IsLawful disk)
-      (is : IsBegun origin h store log disk) where
-    no_entry : {Any : Type 0} (place : ℕ) (e : Entry) → length h.entries ≤ place
-        → slice_get h.entries place ≡ Some e → Any
-    no_entry place e past there = absurd (omega (arith, past, slice_get_within h.entries place e there))
-
-    -- of a run that hasn't begun no entry is to be made
-    none_made : AreMade job.defs begun
-    none_made place before after e past b there a = no_entry place e (omega (arith, past)) there
-
-    not_begun : Comes job.defs (rules_for job) given.events begun given.events begun
-    not_begun = record { environments = []; goes = way.here; calm = refl; made = none_made; format = is.format }
-
-    its_rest : IsAtRest disk origin.front (origin.groups ++ begun.groups) log.gate
-    its_rest =
-        subst (λ (gs : List (List Entry)). IsAtRest disk origin.front gs log.gate) (sym (append-nil origin.groups))
-        is.at_rest
-
-    its_sent : disk.sent ≡ origin.sent ++ begun.sent
-    its_sent = is.sent ∙ sym (append-nil origin.sent)
-
-    pub ended_before : Ran NoMemory disk disk
-    ended_before = record {
-      left = given.events;
-      here = begun;
-      comes = not_begun;
-      ends = tt;
-      within =
-          within_at job origin begun (seals_of (next_event given.events) begun) disk log.gate its_rest disk its_sent
-          (λ set other. refl);
-      rest = λ quiet. is.at_rest.durable;
-      moments =
-          started (IsLeftOnWay origin job.defs (rules_for job) given.events begun disk) disk law
-          (λ s left. record {
-            left = given.events;
-            here = begun;
-            comes = not_begun;
-            is_left = left_at job origin begun (seals_of (next_event given.events) begun) disk log.gate its_rest law
-                its_sent s left;
-          });
-    }

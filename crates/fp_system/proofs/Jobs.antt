@@ -2,7 +2,7 @@
 use Rattle.std.proofs.Common.{◌≡◌, inl, inr, refl, sym, ap, subst, ◌∙◌, arith, ℕ, ◌<◌, List, length, Bool, true, false, if◌then◌else◌, Option, Some, None}
 use Rattle.std.specs.Prelude.{◌≢◌, ◌⊎◌, filter_map, map, nat_lt, Result, Ok, Err}
 use Rattle.std.specs.Option.{option_map_or}
-use Rattle.fp_defs.specs.Exits.{first_lacking, with_exits}
+use Rattle.fp_defs.specs.Exits.{first_lacking, lacking, with_exits}
 use Rattle.fp_defs.specs.Readings.{◌>>=◌}
 use Rattle.fp_exits.specs.Kinds.{has_kind}
 use Rattle.fp_model.specs.declared.definitions.DedbDef.{DedbDef}
@@ -182,6 +182,32 @@ has_router kinds text defs e = by (defs_of text) refl
         absurd (err_not_ok (sym (ap (λ (x : Result Defs DefsFault). x >>= with_exits kinds) is) ∙ e))
       where
         err_not_ok : Err fault ≡ Ok defs → ⊥
+        err_not_ok e = cc
+
+-- definitions that are taken were read
+pub read_for : (kinds : Kinds) (text : List ℕ) (defs : Defs) → definitions_in kinds text ≡ Ok defs
+    → defs_of text ≡ Ok defs
+unfolding definitions_in
+read_for kinds text defs e = by (defs_of text) refl
+  where
+    there : (d : Defs) (o : Option Kind)
+        → only_built (option_map_or (λ (kind : Kind). Err (bad.NoExit kind)) o (Ok d)) ≡ Ok defs → d ≡ defs
+    there d (Some kind) all = absurd cc
+    there d None all = built (are_built d) all
+      where
+        built : (b : Bool) → (if b then Ok d else Err (status.NotBuilt part.Definitions)) ≡ Ok defs → d ≡ defs
+        built true all = cc
+        built false all = absurd cc
+
+    by : (r : Result Defs DefsFault) → defs_of text ≡ r → defs_of text ≡ Ok defs
+    by (Ok d) is =
+        let same : d ≡ defs = there d (lacking kinds d)
+        (sym (ap (λ (x : Result Defs DefsFault). only_built (x >>= with_exits kinds)) is) ∙ e) in
+        is ∙ ap (λ (x : Defs). Ok x) same
+    by (Err fault) is =
+        absurd (err_not_ok (sym (ap (λ (x : Result Defs DefsFault). only_built (x >>= with_exits kinds)) is) ∙ e))
+      where
+        err_not_ok : Err (status.Definitions fault) ≡ Ok defs → ⊥
         err_not_ok e = cc
 
 -- ---- answers of the parts in turn

@@ -1,5 +1,5 @@
 -- The whole of what a run gives, by how it ended.
-use Rattle.std.proofs.Common.{◌≡◌, inl, inr, refl, sym, subst, arith, ℕ, ◌<◌, List, length, take}
+use Rattle.std.proofs.Common.{◌≡◌, ◌⊎◌, ⊎_elim, inl, inr, refl, sym, subst, arith, ℕ, ◌<◌, List, length, take}
 use Rattle.fp_core.specs.Standing.{Origin}
 use Rattle.fp_model.specs.declared.log.Entry.{Entry}
 use Rattle.fp_model.specs.History.{History}
@@ -19,9 +19,9 @@ use Rattle.log_groups.specs.Log.{LogState}
 use Rattle.msdb_store.specs.Store.{Stored}
 use Rattle.schedule_runs.specs.Standing.{IsLeftOnWay}
 use Rattle.fp_system.specs.Answers.{IsEarly, MayStandIn}
-use Rattle.fp_system.specs.Courses.{EndsAt, Input, IsBegun, RanFrom}
+use Rattle.fp_system.specs.Courses.{Input, IsBegun, RanFrom}
 use Rattle.fp_core.specs.Sparing.{IsLogSet as IsLog, Spares}
-use Rattle.fp_system.specs.Gives.{IsBeforeSite, IsSafeFor, KeepsFront, Ran, RestsBehind, Went}
+use Rattle.fp_system.specs.Gives.{IsBeforeSite, IsSafeFor, KeepsFront, Ran, Went}
 use Rattle.fp_system.specs.Ims.{IsUnchanged}
 use Rattle.fp_system.specs.Parts.{Job, front_for, rules_for}
 use Rattle.fp_system.specs.Table.{IsSpared}
@@ -33,50 +33,23 @@ use Rattle.fp_system.specs.declared.words.Command.TheVariants.{Define, Run}
 use Rattle.std.specs.Prelude.{Option, Some, None}
 use Rattle.fp_system.proofs.Begins.{any_format, any_history, any_place, any_states, front_kept}
 use Rattle.fp_system.proofs.FrameLemmas.{spares_none}
-use Rattle.fp_system.proofs.StopLemmas.{a_stop_follows, durable_safe}
 use Rattle.fp_system.proofs.Went.{unchanged_same, went_not}
 
 -- ---- the whole
 
 module _ (job : Job) (given : Input) (answer : Status) where
-  pub ran : (old new : Disk) → IsLawful old → (IsSpared job (old.contents 0) → IsUnchanged old new)
+  pub ran : (old new : Disk) → (IsSpared job (old.contents 0) → IsUnchanged old new)
       → Spares IsLog old new
       → ((groups : List (List Entry)) (gate : ℕ) → HasLog (front_for job) (old.contents 0) groups gate
       → Through old new (KeepsFront gate old))
       → ((earlier : List Entry) → IsSafeFor job old earlier → Went job given earlier answer old new)
       → Ran job given answer old new
-  ran old new law spared others kept on = record {
-    spares = spared;
-    others = others;
-    keeps = kept;
-    goes = on;
-    stops = λ earlier durable tells sound snapshot left.
-        let moments = (on earlier (durable_safe job old earlier durable sound)).moments in
-        a_stop_follows job earlier given old new law durable tells sound moments snapshot left;
-  }
+  ran old new spared others kept on = record { spares = spared; others = others; keeps = kept; goes = on }
 
   -- a restart alone keeps each log
   pub kept_synced : (old new : Disk) → Through old new (Syncs old 0) → (gate : ℕ)
       → Through old new (KeepsFront gate old)
   kept_synced old new run gate = weaker (Syncs old 0) (KeepsFront gate old) old new (λ s d. inl d) run
-
--- ---- answers that stand in the place of what is due
-
-pub stands_in_ends : (job : Job) (given : Input) (answer : Status) (h : History)
-    → MayStandIn answer → EndsAt job given answer (at_rest (rules_for job) given.lines h) given.events
-    (at_rest (rules_for job) given.lines h)
-stands_in_ends job given ReadFault h stands = inr refl
-stands_in_ends job given SiteFault h stands = tt
-stands_in_ends job given NoMemory h stands = tt
-stands_in_ends job given Done h stands = absurd stands
-stands_in_ends job given Usage h stands = absurd stands
-stands_in_ends job given (Definitions f) h stands = absurd stands
-stands_in_ends job given (Scripts f) h stands = absurd stands
-stands_in_ends job given (Schedule f) h stands = absurd stands
-stands_in_ends job given Foreign h stands = absurd stands
-stands_in_ends job given (Damaged set at) h stands = absurd stands
-stands_in_ends job given (Line number) h stands = absurd stands
-stands_in_ends job given (NotBuilt p) h stands = absurd stands
 
 -- ---- before the site
 
@@ -94,54 +67,40 @@ only_same h = record {
 pub unmade : (front : Front) (h : Disk) → IsLawful h → Through h h (IsBeforeOrMade h front)
 unmade front h law = started (IsBeforeOrMade h front) h law (λ s left. inl (inl (settles_left h 0 s left)))
 
-not_at_rest : (a : Status) → MayStandIn a → RestsBehind a → ⊥
-not_at_rest ReadFault s r = r
-not_at_rest SiteFault s r = r
-not_at_rest NoMemory s r = r
-not_at_rest Done s r = s
-not_at_rest (Line number) s r = s
-not_at_rest Usage s r = r
-not_at_rest (Definitions f) s r = r
-not_at_rest (Scripts f) s r = r
-not_at_rest (Schedule f) s r = r
-not_at_rest Foreign s r = r
-not_at_rest (Damaged set at) s r = r
-not_at_rest (NotBuilt p) s r = r
-
 -- a run from a safe site that ended before its core began
 pub went_in_place : (job : Job) (given : Input) (answer : Status) (earlier : List Entry) (h h1 : Disk) → IsLawful h
     → IsLawful h1 → IsSafeFor job h earlier → ((set : ℕ) → h1.contents set ≡ h.contents set) → h1.sent ≡ h.sent
     → Through h h1 (Syncs h 0) → MayStandIn answer → Went job given earlier answer h h1
 went_in_place job given answer earlier h h1 law law1 safe contents sent run stands =
-    went_not job given earlier h h1 law law1 safe contents sent run answer
-    (stands_in_ends job given answer safe.now.history.history stands) (λ done. not_at_rest answer stands done)
+    went_not job given earlier h h1 law law1 safe contents sent run answer stands
 
 -- where nothing was done
 pub ran_not : (job : Job) (given : Input) (answer : Status) (h : Disk) → IsLawful h → MayStandIn answer
     → Ran job given answer h h
 ran_not job given answer h law stands =
-    ran job given answer h h law (λ why. unchanged_same h law) (spares_none IsLog h law)
+    ran job given answer h h (λ why. unchanged_same h law) (spares_none IsLog h law)
     (λ groups gate log. kept_synced job given answer h h (started (Syncs h 0) h law (same_synced h)) gate)
     (λ earlier safe.
     went_in_place job given answer earlier h h law law safe (λ set. refl) refl
     (started (Syncs h 0) h law (same_synced h)) stands)
 
 pub before_site : {P : Type 0} (found : Option Command) (answer : Status) → (IsEarly answer → P)
-    → (found ≡ Some Define → answer ≡ ReadFault → P) → IsBeforeSite found answer → P
-before_site (Some Define) ReadFault e f h = f refl refl
-before_site (Some Define) Done e f h = e h
-before_site (Some Define) Usage e f h = e h
-before_site (Some Define) (Definitions fault) e f h = e h
-before_site (Some Define) (Scripts fault) e f h = e h
-before_site (Some Define) (Schedule fault) e f h = e h
-before_site (Some Define) SiteFault e f h = e h
-before_site (Some Define) Foreign e f h = e h
-before_site (Some Define) (Damaged set at) e f h = e h
-before_site (Some Define) (Line number) e f h = e h
-before_site (Some Define) NoMemory e f h = e h
-before_site (Some Define) (NotBuilt p) e f h = e h
-before_site (Some Run) answer e f h = e h
-before_site None answer e f h = e h
+    → (found ≡ Some Define → answer ≡ ReadFault → P) → (found ≡ Some Define → answer ≡ NoMemory → P)
+    → IsBeforeSite found answer → P
+before_site (Some Define) ReadFault e f m h = f refl refl
+before_site (Some Define) Done e f m h = e h
+before_site (Some Define) Usage e f m h = e h
+before_site (Some Define) (Definitions fault) e f m h = e h
+before_site (Some Define) (Scripts fault) e f m h = e h
+before_site (Some Define) (Schedule fault) e f m h = e h
+before_site (Some Define) SiteFault e f m h = e h
+before_site (Some Define) Foreign e f m h = e h
+before_site (Some Define) (Damaged set at) e f m h = e h
+before_site (Some Define) (Line number) e f m h = e h
+before_site (Some Define) NoMemory e f m h = m refl refl
+before_site (Some Define) (NotBuilt p) e f m h = e h
+before_site (Some Run) answer e f m h = e h
+before_site None answer e f m h = e h
 
 -- ---- behind a restart
 
@@ -150,7 +109,7 @@ module _ (job : Job) (given : Input) (answer : Status) (h h1 h2 : Disk) (law1 : 
     (store : Stored) (state : LogState) (back : ReadsBack job.defs (front_for job) h1 store state) where
   -- a log that can be read stays before its gate, whatever its entries are
   pub kept_front : ((origin : Origin) (history : History) → IsBegun origin history store state h1
-      → RanFrom job given origin history answer h1 h2)
+      → RanFrom job given origin history answer h1 h2 ⊎ Through h1 h2 h1.may_leave)
       → (groups : List (List Entry)) (gate : ℕ) → HasLog (front_for job) (h.contents 0) groups gate
       → Through h h2 (KeepsFront gate h)
   kept_front from groups gate log =
@@ -171,11 +130,11 @@ module _ (job : Job) (given : Input) (answer : Status) (h h1 h2 : Disk) (law1 : 
         at_rest = rest;
         sent = refl;
       } in
-      let ran = from origin history begun in
-      joined (KeepsFront gate h) h h1 h2
-      (weaker (Syncs h 0) (KeepsFront gate h) h h1 (λ s d. inl d) run)
-      (weaker (IsLeftOnWay origin job.defs (rules_for job) given.events (at_rest (rules_for job) given.lines history)
-      h1)
+      let first = weaker (Syncs h 0) (KeepsFront gate h) h h1 (λ s d. inl d) run in
+      joined (KeepsFront gate h) h h1 h2 first
+      (⊎_elim
+      (λ ran. weaker (IsLeftOnWay origin job.defs (rules_for job) given.events
+      (at_rest (rules_for job) given.lines history) h1)
       (KeepsFront gate h) h1 h2
       (λ s on.
       inr (subst (λ (l : List ℕ). take gate (s.images 0) ≡ take gate l) (contents 0)
@@ -183,3 +142,6 @@ module _ (job : Job) (given : Input) (answer : Status) (h h1 h2 : Disk) (law1 : 
       (front_kept (front_for job) (h1.contents 0) (s.images 0) back.replayed.groups _ state.gate on.is_left.groups.gate
       rest.log on.is_left.groups.log))))
       ran.moments)
+      (λ none. weaker h1.may_leave (KeepsFront gate h) h1 h2
+      (λ s left. inl (run.each s (law1.earlier h.moment h1.moment s run.later (law1.counts_now s left)))) none)
+      (from origin history begun))

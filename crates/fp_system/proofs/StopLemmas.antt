@@ -1,113 +1,176 @@
--- A stop begins a safe site, and what was answered is held.
-use Rattle.std.proofs.Common.{inl, ◌≡◌, ⊎_elim, refl, sym, ap, subst, ◌∙◌, ℕ, List, [], ◌∷◌, ◌++◌, length, take, append_assoc}
+-- A run keeps what was answered, and so does a site that a stop begins again.
+use Rattle.std.proofs.Common.{◌≡◌, inl, ⊎_elim, sym, ap, subst, ◌∙◌, ℕ, List, [], ◌∷◌, ◌++◌, length, take, append_assoc}
 use Rattle.std.proofs.lemmas.List.{append-nil}
-use Rattle.fp_model.specs.LogText.{first_gate}
 use Rattle.fp_model.specs.declared.log.Entry.{Entry}
+use Rattle.fp_model.specs.LogText.{first_gate}
+use Rattle.fp_model.specs.Groups.{entries_of}
 use Rattle.fp_site.specs.Disk.{Disk, Snapshot, IsDurable, IsLawful, Syncs}
 use Rattle.fp_site.specs.History.{History, LeftSince, MayLeave}
 use Rattle.fp_site.specs.Memory.{BeginsAs, memory_disk}
 use Rattle.fp_site.specs.declared.memory.MemorySite.{MemorySite}
-use Rattle.fp_site.specs.Moments.{OnlyOn, Through}
-use Rattle.fp_site.proofs.Images.{durable_settles}
+use Rattle.fp_site.proofs.Images.{durable_settles, settles_again, settles_contents}
 use Rattle.log_groups.specs.Images.{IsAtRest}
 use Rattle.log_groups.specs.Kept.{lines_of_entries}
-use Rattle.fp_model.specs.Groups.{entries_of}
 use Rattle.fp_restart.proofs.Replays.{new_safe}
+use Rattle.sealed_runs.proofs.Parts.{entries_both}
 use Rattle.sealed_runs.proofs.SoundLogs.{text_told}
 use Rattle.fp_system.proofs.Ways.{comes_behind}
-use Rattle.fp_system.specs.Gives.{IsSafeFor}
+use Rattle.fp_system.specs.Gives.{IsSafeFor, Ran, Went}
+use Rattle.fp_system.specs.Ims.{IsUnchanged}
 use Rattle.fp_system.specs.Parts.{Job, front_for}
-use Rattle.fp_system.specs.Courses.{GoesOnBy, Input, IsKeptBy}
-use Rattle.fp_system.specs.Stops.{Follows, GoesOnFrom, HoldsSince, IsNew, IsSoundFor, IsTold, KeepsAnswered, Lives}
-use Rattle.fp_system.specs.Stops.{Standing, last_of, nothing, run, standing}
+use Rattle.fp_system.specs.Courses.{Course, GoesOnTo, Input, IsSoundFor, Point, with_seals}
+use Rattle.fp_system.specs.Stops.{Calls, HeldThrough, HoldsOn, HoldsSince, IsBegunAgain, IsTold, Lives, Standing, standing}
+use Rattle.fp_system.specs.Stops as stops
+use Rattle.fp_system.specs.declared.status.Status.{Status}
 
--- a sound log that every crash leaves as it is makes a safe site
-pub durable_safe : (job : Job) (disk : Disk) (entries : List Entry) → IsDurable disk 0
-    → IsSoundFor job (disk.contents 0) entries → IsSafeFor job disk entries
-durable_safe job disk entries durable sound = record {
-  now = sound;
-  crash = λ image settles.
-      let same = durable_settles disk 0 image durable settles in
-      (entries, subst (λ (l : List ℕ). IsSoundFor job l entries) (sym same) sound);
-}
+-- ---- one log
 
-module _ (job : Job) (earlier : List Entry) (given : Input) (old new : Disk) (law : IsLawful old)
-    (durable : IsDurable old 0) (tells : old.tells_sent) (sound : IsSoundFor job (old.contents 0) earlier) where
-  abbrev stood : Standing
-  stood = standing (old.contents 0) earlier old.sent
+module _ (job : Job) (start : Standing) where
+  -- a run's own entries come behind those that a log had, and what it sent behind what had been sent
+  further : (given : Input) (before : List (List Entry)) (point : Point) (sent old log : List ℕ)
+      → (has : HoldsSince job start sent old)
+      → entries_of before ≡ start.entries ++ has.later
+      → Course job given (start.entries ++ has.later) point.left point.here
+      → GoesOnTo job before point log
+      → HoldsSince job start (sent ++ point.text) log
+  further given before point sent old log has stood course goes =
+      let groups = (with_seals job point goes.times).groups in
+      let more = entries_of groups in
+      let text = point.text in
+      let is : text ≡ take (length text) (lines_of_entries more) =
+      text_told job.defs job.scripts (start.entries ++ has.later) point.here goes.times text
+      (comes_behind job (start.entries ++ has.later) course.behind given.lines given.events point.left point.here
+      course.history course.comes) goes.told in
+      record {
+        later = has.later ++ more;
+        sound =
+            subst (IsSoundFor job log)
+            (entries_both before groups ∙ ap (λ (es : List Entry). es ++ more) stood
+            ∙ append_assoc start.entries has.later more) goes.sound;
+        text = has.text ++ text;
+        since = ap (λ (t : List ℕ). t ++ text) has.since ∙ append_assoc start.sent has.text text;
+        told =
+            subst (λ (t : List ℕ). IsTold (has.later ++ more) (has.text ++ t)) (sym is)
+            (stops.run more (length text) has.told);
+      }
 
-  -- a snapshot from before the call, but for a sync
-  as_before : (s : Snapshot) → Syncs old 0 s → GoesOnFrom job stood (s.images 0) s.sent
-  as_before s synced = record {
-    entries = earlier;
-    follows = record {
-      sound =
-          subst (λ (l : List ℕ). IsSoundFor job l earlier)
-          (sym (durable_settles old 0 (s.images 0) durable synced.this)) sound;
-      later = [];
-      entries = sym (append-nil earlier);
-      count = 0;
-      sent = synced.sent tells ∙ law.sent_now tells synced.before synced.left ∙ sym (append-nil old.sent);
-    };
+  -- ---- one run
+
+  -- a disk that holds what was answered makes a safe site
+  pub holds_safe : (disk : Disk) (law : IsLawful disk) → (holds : HoldsOn job start disk)
+      → IsSafeFor job disk (start.entries ++ (holds (disk.contents 0) (settles_contents disk 0 law)).later)
+  holds_safe disk law holds = record {
+    now = (holds (disk.contents 0) (settles_contents disk 0 law)).sound;
+    crash = λ image settles. (start.entries ++ (holds image settles).later, (holds image settles).sound);
   }
 
-  -- one with entries more
-  further : (s : Snapshot) → GoesOnBy job given earlier old s → GoesOnFrom job stood (s.images 0) s.sent
-  further s by = record {
-    entries = earlier ++ entries_of by.groups;
-    follows = record {
-      sound = by.sound;
-      later = entries_of by.groups;
-      entries = refl;
-      count = length by.text;
-      sent =
-          by.sent tells ∙ ap (λ (t : List ℕ). old.sent ++ t)
-          (subst (λ (gs : List (List Entry)). by.text ≡ take (length by.text) (lines_of_entries (entries_of gs)))
-          (sym by.sealed.groups_are)
-          (text_told job.defs job.scripts earlier by.here by.sealed.times by.text
-          (comes_behind job earlier by.course.behind given.lines given.events by.left by.here by.course.history
-          by.course.comes) by.sealed.told));
-    };
-  }
+  -- what a crash might have left before, but for a sync of the log
+  synced_held : (old : Disk) → IsLawful old → HoldsOn job start old → old.tells_sent → (s : Snapshot) → Syncs old 0 s
+      → HoldsSince job start s.sent (s.images 0)
+  synced_held old law holds tells s from =
+      subst (λ (sent : List ℕ). HoldsSince job start sent (s.images 0))
+      (sym (from.sent tells ∙ law.sent_now tells from.before from.left))
+      (holds (s.images 0) from.this)
 
-  pub a_stop_follows : Through old new (IsKeptBy job given earlier old) → (s : Snapshot) → new.left_since old.moment s
-      → GoesOnFrom job stood (s.images 0) s.sent
-  a_stop_follows moments s left = ⊎_elim (λ synced. as_before s synced) (λ by. further s by) (moments.each s left)
+  module _ (given : Input) (answer : Status) (old new : Disk) (law : IsLawful old) (holds : HoldsOn job start old)
+      (run : Ran job given answer old new) where
+    abbrev stood : HoldsSince job start old.sent (old.contents 0)
+    stood = holds (old.contents 0) (settles_contents old 0 law)
 
--- ---- again and again
+    abbrev went : Went job given (start.entries ++ stood.later) answer old new
+    went = run.goes (start.entries ++ stood.later) (holds_safe old law holds)
 
-held_still : (start : Standing) → KeepsAnswered start start
-held_still start = record {
+    pub ran_holds : HoldsOn job start new
+    ran_holds log settles =
+        subst (λ (sent : List ℕ). HoldsSince job start sent log) (sym went.sent)
+        (⊎_elim
+        (λ none. subst (λ (sent : List ℕ). HoldsSince job start sent log)
+        (sym (ap (λ (t : List ℕ). old.sent ++ t) none.unsent ∙ append-nil old.sent))
+        (holds log (none.images log settles)))
+        (λ end. further given went.before went.point old.sent (old.contents 0) log stood went.stood went.course
+        (end.images log settles)) went.ended)
+
+    pub ran_held : old.tells_sent → HeldThrough job start old.moment new
+    ran_held tells s left =
+        ⊎_elim (λ was. synced_held old law holds tells s was)
+        (λ by. subst (λ (sent : List ℕ). HoldsSince job start sent (s.images 0)) (sym (by.sent tells))
+        (further given went.before by.point old.sent (old.contents 0) (s.images 0) stood went.stood by.course by.log))
+        (went.moments.each s left)
+
+  -- ---- one call
+
+  module _ (old new : Disk) (law : IsLawful old) (law2 : IsLawful new) (holds : HoldsOn job start old) where
+    same_holds : IsUnchanged old new → HoldsOn job start new
+    same_holds same image settles =
+        subst (λ (sent : List ℕ). HoldsSince job start sent image) (sym same.sent)
+        (holds image (settles_again old new 0 image
+        (λ s left. (same.crash.each s (law2.earlier old.moment new.moment s same.crash.later
+        (law2.counts_now s left))).this)
+        settles))
+
+    pub call_holds : Calls job old new → HoldsOn job start new
+    call_holds (stops.ran {given = given} {answer = answer} run) = ran_holds given answer old new law holds run
+    call_holds (stops.spared same) = same_holds same
+
+  module _ (old new : Disk) (law : IsLawful old) (holds : HoldsOn job start old) where
+    pub call_held : old.tells_sent → Calls job old new → HeldThrough job start old.moment new
+    call_held tells (stops.ran {given = given} {answer = answer} run) s left =
+        ran_held given answer old new law holds run tells s left
+    call_held tells (stops.spared same) s left = synced_held old law holds tells s (same.crash.each s left)
+
+  -- ---- a stop
+
+  -- a site that begins as what a crash left
+  pub begun_holds : (moment : ℕ) (old next : Disk) → HeldThrough job start moment old → IsBegunAgain moment old next
+      → HoldsOn job start next
+  begun_holds moment old next held is image settles =
+      subst (λ (log : List ℕ). HoldsSince job start next.sent log)
+      (sym (durable_settles next 0 image is.durable settles ∙ is.log))
+      (subst (λ (sent : List ℕ). HoldsSince job start sent (is.snapshot.images 0)) (sym is.sent)
+      (held is.snapshot is.left))
+
+  -- ---- again and again
+
+  module _ {X : Type 0} (told : X → Type 0) (disk : X → Disk) (laws : (x : X) → told x → IsLawful (disk x)) (first : X)
+    where
+      lives_told : (x : X) → Lives told disk job first x → told x
+      lives_told x (stops.begun is) = is
+      lives_told x (stops.called new lives is call) = is
+      lives_told x (stops.stopped new next lives tells call is again) = is
+
+      pub lives_hold : (x : X) → HoldsOn job start (disk first) → Lives told disk job first x
+          → HoldsOn job start (disk x)
+      lives_hold x holds (stops.begun is) = holds
+      lives_hold x holds (stops.called {old = old} new lives is call) =
+          call_holds (disk old) (disk new) (laws old (lives_told old lives)) (laws new is) (lives_hold old holds lives)
+          call
+      lives_hold x holds (stops.stopped {old = old} new next lives tells call is again) =
+          begun_holds ((disk old).moment) (disk new) (disk next)
+          (call_held (disk old) (disk new) (laws old (lives_told old lives)) (lives_hold old holds lives) tells call)
+          again
+
+-- ---- where it begins
+
+-- a sound log that every crash leaves as it is
+pub rest_holds : (job : Job) (entries : List Entry) (disk : Disk) → IsDurable disk 0
+    → IsSoundFor job (disk.contents 0) entries → HoldsOn job (standing entries disk.sent) disk
+rest_holds job entries disk durable sound image settles = record {
   later = [];
-  entries = sym (append-nil start.entries);
+  sound =
+      subst (λ (log : List ℕ). IsSoundFor job log (entries ++ []))
+      (sym (durable_settles disk 0 image durable settles))
+      (subst (IsSoundFor job (disk.contents 0)) (sym (append-nil entries)) sound);
   text = [];
-  sent = sym (append-nil start.sent);
-  told = nothing;
+  since = sym (append-nil disk.sent);
+  told = stops.nothing;
 }
 
-held_more : (job : Job) (start mid next : Standing) → KeepsAnswered start mid → Follows job mid next
-    → KeepsAnswered start next
-held_more job start mid next held more = record {
-  later = held.later ++ more.later;
-  entries =
-      more.entries ∙ ap (λ (l : List Entry). l ++ more.later) held.entries
-      ∙ append_assoc start.entries held.later more.later;
-  text = held.text ++ take more.count (lines_of_entries more.later);
-  sent =
-      let part = take more.count (lines_of_entries more.later) in
-      more.sent ∙ ap (λ (l : List ℕ). l ++ part) held.sent ∙ append_assoc start.sent held.text part;
-  told = run more.later more.count held.told;
-}
-
-held_on : (job : Job) (start mid : Standing) (ns : List Standing) → KeepsAnswered start mid → Lives job mid ns
-    → KeepsAnswered start (last_of mid ns)
-held_on job start mid [] held lives = held
-held_on job start mid (next ∷ ns) held lives = held_on job start next ns (held_more job start mid next held lives.0)
-    lives.1
-
-pub all_held : (job : Job) (start : Standing) (ns : List Standing) → Lives job start ns
-    → KeepsAnswered start (last_of start ns)
-all_held job start ns lives = held_on job start start ns (held_still start) lives
+-- a log that `define` made
+pub made_holds : (job : Job) (sent : List ℕ) (disk : Disk) → disk.sent ≡ sent
+    → IsAtRest disk (front_for job) [] (first_gate (front_for job)) → HoldsOn job (standing [] sent) disk
+made_holds job sent disk same rest =
+    subst (λ (s : List ℕ). HoldsOn job (standing [] s) disk) same
+    (rest_holds job [] disk rest.durable (new_safe job.defs job.scripts (front_for job) disk rest).now)
 
 -- ---- a site in memory
 
@@ -116,39 +179,13 @@ pub left_once : (h : History) (t : ℕ) (s : Snapshot) → MayLeave h s → Left
 left_once [] t s now = now
 left_once (e ∷ before) t s now = inl now
 
--- what follows on an image follows on a site that begins as it
-pub begun_follows : (job : Job) (before : Standing) (s : Snapshot) (m : MemorySite) → BeginsAs s m
-    → GoesOnFrom job before (s.images 0) s.sent → GoesOnFrom job before ((memory_disk m).contents 0)
-    (memory_disk m).sent
-begun_follows job before s m begins on =
-    let same : s.images 0 ≡ (memory_disk m).contents 0 = ap (λ (images : ℕ → List ℕ). images 0) (sym begins.contents) in
-    subst (λ (log : List ℕ). GoesOnFrom job before log (memory_disk m).sent) same
-    (subst (GoesOnFrom job before (s.images 0)) (sym begins.sent) on)
-
--- ---- from `define` on
-
--- what it made is a new log
-pub made_new : (job : Job) (old new : Disk) → OnlyOn 0 old new
-    → IsAtRest new (front_for job) [] (first_gate (front_for job)) → IsNew job old.sent new
-made_new job old new only rest = record {
-  durable = rest.durable;
-  sound = (new_safe job.defs job.scripts (front_for job) new rest).now;
-  same = only.now.sent;
+-- one that begins as a snapshot
+pub begun_again : (moment : ℕ) (stopped : Disk) (s : Snapshot) (m : MemorySite) → stopped.left_since moment s
+    → BeginsAs s m → IsBegunAgain moment stopped (memory_disk m)
+begun_again moment stopped s m left begins = record {
+  snapshot = s;
+  left = left;
+  durable = begins.durable 0;
+  log = ap (λ (images : ℕ → List ℕ). images 0) begins.contents;
+  sent = begins.sent;
 }
-
--- from a new log on, two runs
-pub twice_held : (job : Job) (sent : List ℕ) (disk : Disk) (log text log2 text2 : List ℕ) → IsNew job sent disk
-    → (first : GoesOnFrom job (standing (disk.contents 0) [] disk.sent) log text)
-    → GoesOnFrom job (standing log first.entries text) log2 text2 → HoldsSince job sent log2 text2
-twice_held job sent disk log text log2 text2 new first second =
-    let start = standing (disk.contents 0) [] disk.sent in
-    let mid = standing log first.entries text in
-    let last = standing log2 second.entries text2 in
-    let held = all_held job start (mid ∷ last ∷ []) (first.follows, (second.follows, tt)) in
-    record {
-      entries = second.entries;
-      sound = second.follows.sound;
-      text = held.text;
-      since = held.sent ∙ ap (λ (t : List ℕ). t ++ held.text) new.same;
-      told = subst (λ (l : List Entry). IsTold l held.text) (sym held.entries) held.told;
-    }

@@ -13,7 +13,7 @@ use Rattle.fp_system.specs.declared.status.Status.TheVariants.{Damaged}
 use Rattle.fp_system.specs.declared.words.Command.{Command}
 use Rattle.fp_system.specs.declared.words.Command.TheVariants.{Define, Run}
 use Rattle.fp_system.proofs.Jobs.{one_job, one_answer, no_job_refused}
-use Rattle.fp_system.specs.Stops.{IsSoundFor}
+use Rattle.fp_system.specs.Courses.{IsSoundFor}
 use Rattle.fp_system.specs.Table.{Given, Asks, ByLog, IsDue, IsDueTo, IsEnd, IsGood, end_of_lines}
 use Rattle.fp_system.specs.Table.{asked, damaged, foreign, good, no_command, refused}
 

@@ -3,14 +3,12 @@ use Rattle.std.proofs.Common.{◌≡◌, inl, inr, refl, sym, ◌∙◌, ap, sub
 use Rattle.std.proofs.lemmas.List.{append-nil}
 use Rattle.std.proofs.lemmas.Option.{slice_get_within}
 use Rattle.fp_core.specs.Relation.{AreMade}
-use Rattle.fp_core.specs.Sparing.{IsSealing}
-use Rattle.fp_core.specs.Standing.{Origin, seals_of}
-use Rattle.fp_model.specs.declared.events.Event.{Event}
+use Rattle.fp_core.specs.Standing.{HasGroups, Origin, seals_of}
 use Rattle.fp_model.specs.declared.log.Entry.{Entry}
 use Rattle.fp_model.specs.Groups.{entries_of}
 use Rattle.fp_model.specs.History.{History, beginning}
 use Rattle.fp_model.specs.Lasts.{format_at}
-use Rattle.fp_model.specs.Machine.{Machine, at_rest, sealed_times}
+use Rattle.fp_model.specs.Machine.{Machine, at_rest}
 use Rattle.fp_model.specs.Recovery.{Holds}
 use Rattle.fp_model.specs.SerialHistory.{LeadsOn}
 use Rattle.fp_model.specs.State.{start}
@@ -29,15 +27,14 @@ use Rattle.msdb_store.specs.Store.{Stored}
 use Rattle.schedule_runs.specs.Standing.{IsLeftOnWay}
 use Rattle.schedule_runs.specs.Ways as way
 use Rattle.schedule_runs.specs.Ways.{Comes, next_event}
-use Rattle.sealed_runs.proofs.Disks.{safe_within}
+use Rattle.sealed_runs.proofs.Parts.{entries_both}
 use Rattle.sealed_runs.proofs.SoundLogs.{groups_sound}
-use Rattle.fp_system.specs.Courses.{Course, EndsAt, GoesOnBy, Input, IsBegun, IsHistoryOf, IsKeptBy, RanFrom}
-use Rattle.fp_system.specs.Gives.{IsSafeFor, RestsBehind, Went}
+use Rattle.fp_system.specs.Courses.{Course, GoesOnTo, Input, IsBegun, IsHistoryOf, IsKeptBy, IsSoundFor, Point, RanFrom, with_seals}
+use Rattle.fp_system.specs.Answers.{MayStandIn}
+use Rattle.fp_system.specs.Gives.{IsSafeFor, Went}
 use Rattle.fp_system.specs.Ims.{IsUnchanged}
 use Rattle.fp_system.specs.Parts.{Job, front_for, rules_for}
 use Rattle.fp_system.specs.declared.status.Status.{Status}
-use Rattle.fp_system.specs.declared.status.Status.TheVariants.{Done, Usage, Definitions, Scripts, Schedule, ReadFault}
-use Rattle.fp_system.specs.declared.status.Status.TheVariants.{SiteFault, Foreign, Damaged, Line, NoMemory, NotBuilt}
 use Rattle.fp_system.proofs.Ways.{comes_behind}
 
 -- ---- the history of a sound log
@@ -84,30 +81,10 @@ module _ (job : Job) (log : List ℕ) (earlier : List Entry)
     sent = refl;
   }
 
--- ---- where the log is at rest
-
--- the next step seals nothing there
-rests_behind : (job : Job) (given : Input) (answer : Status) (first : Machine) (left : List Event) (here : Machine)
-    → EndsAt job given answer first left here → RestsBehind answer → ¬ IsSealing (next_event left)
-rests_behind job given Done first left here ends done =
-    subst (λ (l : List Event). ¬ IsSealing (next_event l)) (sym ends.0) (λ s. s)
-rests_behind job given (Line number) first left here ends done =
-    subst (λ (e : Event). ¬ IsSealing e) (sym ends.0.takes) (λ s. s)
-rests_behind job given Usage first left here ends done = absurd done
-rests_behind job given (Definitions f) first left here ends done = absurd done
-rests_behind job given (Scripts f) first left here ends done = absurd done
-rests_behind job given (Schedule f) first left here ends done = absurd done
-rests_behind job given ReadFault first left here ends done = absurd done
-rests_behind job given SiteFault first left here ends done = absurd done
-rests_behind job given Foreign first left here ends done = absurd done
-rests_behind job given (Damaged set at) first left here ends done = absurd done
-rests_behind job given NoMemory first left here ends done = absurd done
-rests_behind job given (NotBuilt p) first left here ends done = absurd done
-
 -- ---- a run from a safe site
 
 module _ (job : Job) (given : Input) (earlier : List Entry) (are : AreDefs job.defs) (none : job.defs.dedbs ≡ [])
-    (h h1 h2 : Disk) (law1 : IsLawful h1) (law2 : IsLawful h2) (safe : IsSafeFor job h earlier)
+    (h h1 h2 : Disk) (law2 : IsLawful h2) (safe : IsSafeFor job h earlier)
     (contents : (set : ℕ) → h1.contents set ≡ h.contents set) (sent : h1.sent ≡ h.sent) (run : Through h h1 (Syncs h 0))
   where
     abbrev before : History
@@ -115,9 +92,6 @@ module _ (job : Job) (given : Input) (earlier : List Entry) (are : AreDefs job.d
 
     its_history : IsHistoryOf job earlier before
     its_history = is_history job (h.contents 0) earlier safe.now
-
-    synced : (s : Snapshot) → h1.may_leave s → Syncs h 0 s
-    synced s left = run.each s (law1.earlier h.moment h1.moment s run.later (law1.counts_now s left))
 
     module _ (groups : List (List Entry)) (gate : ℕ) (all : earlier ≡ entries_of groups)
         (rest : IsAtRest h1 (front_for job) groups gate) (answer : Status) where
@@ -128,62 +102,68 @@ module _ (job : Job) (given : Input) (earlier : List Entry) (are : AreDefs job.d
         abbrev begun : Machine
         begun = at_rest (rules_for job) given.lines before
 
-        course_of : (left : List Event) (here : Machine) → Comes job.defs (rules_for job) given.events begun left here
-            → Course job given earlier left here
-        course_of left here comes = record { behind = before; history = its_history; comes = comes }
-
-        -- a snapshot that a step on the way left
-        goes_on : (s : Snapshot)
-            → IsLeftOnWay origin job.defs (rules_for job) given.events begun h1 s → GoesOnBy job given earlier h s
-        goes_on s on =
-            let is = on.is_left in
-            let times = is.groups.times in
+        -- a log that a step from some machine leaves
+        goes_to : (point : Point) (log : List ℕ)
+            → Comes job.defs (rules_for job) given.events begun point.left point.here
+            → HasGroups origin (rules_for job) point.here (seals_of (next_event point.left) point.here) point.text log
+            → GoesOnTo job groups point log
+        goes_to point log comes has =
+            let more = (with_seals job point has.times).groups in
             record {
-              left = on.left;
-              here = on.here;
-              course = course_of on.left on.here on.comes;
-              groups = (sealed_times times (rules_for job) on.here).groups;
-              text = is.text;
-              sealed = record { times = times; few = is.groups.few; groups_are = refl; told = is.groups.lines };
+              times = has.times;
+              few = has.few;
+              gate = has.gate;
+              groups = has.log;
               sound =
-                  groups_sound job.defs job.scripts origin (h.contents 0) earlier on.here
-                  (seals_of (next_event on.left) on.here) is.text (s.images 0) are none refl safe.now
-                  (comes_behind job earlier before given.lines given.events on.left on.here its_history on.comes) all
-                  is.groups;
-              sent = λ tells. is.sent (run.tells_sent tells) ∙ ap (λ (t : List ℕ). t ++ is.text) sent;
+                  subst (IsSoundFor job log)
+                  (ap (λ (es : List Entry). es ++ entries_of more) all ∙ sym (entries_both groups more))
+                  (groups_sound job.defs job.scripts origin (h.contents 0) earlier point.here
+                  (seals_of (next_event point.left) point.here) point.text log are none refl safe.now
+                  (comes_behind job earlier before given.lines given.events point.left point.here its_history comes)
+                  all has);
+              told = has.lines;
             }
 
-        moments_of : Through h h2 (IsKeptBy job given earlier h)
+        -- a snapshot that a step on the way left
+        on_way : (s : Snapshot) → IsLeftOnWay origin job.defs (rules_for job) given.events begun h1 s
+            → IsKeptBy job given earlier groups h s
+        on_way s on =
+            let is = on.is_left in
+            let point : Point = record { left = on.left; here = on.here; text = is.text } in
+            inr (record {
+              point = point;
+              course = record { behind = before; history = its_history; comes = on.comes };
+              log = goes_to point (s.images 0) on.comes is.groups;
+              sent = λ tells. is.sent (run.tells_sent tells) ∙ ap (λ (t : List ℕ). t ++ is.text) sent;
+            })
+
+        moments_of : Through h h2 (IsKeptBy job given earlier groups h)
         moments_of =
-            joined (IsKeptBy job given earlier h) h h1 h2
-            (weaker (Syncs h 0) (IsKeptBy job given earlier h) h h1 (λ s d. inl d) run)
+            joined (IsKeptBy job given earlier groups h) h h1 h2
+            (weaker (Syncs h 0) (IsKeptBy job given earlier groups h) h h1 (λ s is. inl is) run)
             (weaker (IsLeftOnWay origin job.defs (rules_for job) given.events begun h1)
-            (IsKeptBy job given earlier h) h1 h2 (λ s left. inr (goes_on s left)) it.moments)
+            (IsKeptBy job given earlier groups h) h1 h2 on_way it.moments)
 
         pub went : Went job given earlier answer h h2
         went =
-            let has = it.within.groups (h2.contents 0) (settles_contents h2 0 law2) in
+            let point : Point = record { left = it.left; here = it.here; text = it.within.text } in
             record {
-              left = it.left;
-              here = it.here;
-              course = record { behind = before; history = its_history; comes = it.comes };
-              ends = it.ends;
               before = groups;
               stood = sym all;
               old_gate = gate;
               held = subst (λ (l : List ℕ). Holds (front_for job) l groups gate) (contents 0) rest.log.holds;
-              groups = (sealed_times has.times (rules_for job) it.here).groups;
-              text = it.within.text;
-              sealed = record { times = has.times; few = has.few; groups_are = refl; told = has.lines };
-              gate = has.gate;
-              holds = has.log;
+              point = point;
+              course = record { behind = before; history = its_history; comes = it.comes };
+              log =
+                  goes_to point (h2.contents 0) it.comes
+                  (it.within.groups (h2.contents 0) (settles_contents h2 0 law2));
               sent = it.within.sent ∙ ap (λ (t : List ℕ). t ++ it.within.text) sent;
-              safe =
-                  safe_within job.defs job.scripts origin (h.contents 0) earlier it.here
-                  (seals_of (next_event it.left) it.here) are none refl safe.now
-                  (comes_behind job earlier before given.lines given.events it.left it.here its_history it.comes) all h1
-                  h2 law2 it.within;
-              rest = λ done. it.rest (rests_behind job given answer begun it.left it.here it.ends done);
+              ended =
+                  inr (record {
+                    ends = it.ends;
+                    images = λ log settles. goes_to point log it.comes (it.within.groups log settles);
+                    rest = it.rest;
+                  });
               moments = moments_of;
             }
 
@@ -226,39 +206,40 @@ module _ (job : Job) (given : Input) (earlier : List Entry) (h h1 : Disk) (law :
     };
   }
 
-  pub went_not : (answer : Status) → EndsAt job given answer at_first given.events at_first
-      → (RestsBehind answer → ⊥) → Went job given earlier answer h h1
-  went_not answer ends early = record {
-    left = given.events;
-    here = at_first;
-    course = its_course;
-    ends = ends;
-    before = safe.now.groups;
-    stood = sym safe.now.all;
-    old_gate = safe.now.gate;
-    held = safe.now.holds;
-    groups = [];
-    text = [];
-    sealed = record {
-      times = 0;
-      few = omega arith;
-      groups_are = refl;
-      told = record { more = []; rest = []; from = refl; to = refl };
-    };
-    gate = safe.now.gate;
-    holds =
-        subst (λ (gs : List (List Entry)). IsLog (front_for job) (h1.contents 0) gs safe.now.gate)
-        (sym (append-nil safe.now.groups))
-        (subst (λ (l : List ℕ). IsLog (front_for job) l safe.now.groups safe.now.gate) (sym (contents 0))
-        (record { holds = safe.now.holds; stands = safe.now.stands }));
-    sent = sent ∙ sym (append-nil h.sent);
-    safe =
-        subst (IsSafeFor job h1) (sym (append-nil earlier)) (record {
-          now =
-              subst (λ (l : List ℕ). IsSound job.defs job.scripts (front_for job) l earlier) (sym (contents 0))
-              safe.now;
-          crash = λ image settles. safe.crash image (settles_again h h1 0 image settled settles);
-        });
-    rest = λ done. absurd (early done);
-    moments = weaker (Syncs h 0) (IsKeptBy job given earlier h) h h1 (λ s d. inl d) run;
-  }
+  pub went_not : (answer : Status) → MayStandIn answer → Went job given earlier answer h h1
+  went_not answer in_place =
+      let groups = safe.now.groups in
+      record {
+        before = groups;
+        stood = sym safe.now.all;
+        old_gate = safe.now.gate;
+        held = safe.now.holds;
+        point = record { left = given.events; here = at_first; text = [] };
+        course = its_course;
+        log = record {
+          times = 0;
+          few = omega arith;
+          gate = safe.now.gate;
+          groups =
+              subst (λ (gs : List (List Entry)). IsLog (front_for job) (h1.contents 0) gs safe.now.gate)
+              (sym (append-nil groups))
+              (subst (λ (l : List ℕ). IsLog (front_for job) l groups safe.now.gate) (sym (contents 0))
+              (record { holds = safe.now.holds; stands = safe.now.stands }));
+          sound =
+              subst (λ (gs : List (List Entry)). IsSoundFor job (h1.contents 0) (entries_of gs))
+              (sym (append-nil groups))
+              (subst (IsSoundFor job (h1.contents 0)) safe.now.all
+              (subst (λ (l : List ℕ). IsSoundFor job l earlier) (sym (contents 0)) safe.now));
+          told = record { more = []; rest = []; from = refl; to = refl };
+        };
+        sent = sent ∙ sym (append-nil h.sent);
+        ended =
+            inl (record {
+              in_place = in_place;
+              all_left = refl;
+              at_start = refl;
+              unsent = refl;
+              images = λ log settles. settles_again h h1 0 log settled settles;
+            });
+        moments = weaker (Syncs h 0) (IsKeptBy job given earlier groups h) h h1 (λ s is. inl is) run;
+      }

@@ -11,15 +11,16 @@ use Rattle.fp_model.specs.Lasts.{format_at}
 use Rattle.fp_model.specs.Machine.{Machine, at_rest, sealed_times}
 use Rattle.fp_model.specs.Runs.{IsDrained}
 use Rattle.fp_model.specs.SerialHistory.{IsSerial}
-use Rattle.fp_site.specs.Disk.{Disk, IsDurable, Snapshot, Syncs}
+use Rattle.fp_site.specs.Disk.{Disk, IsDurable, Settles, Snapshot, Syncs}
 use Rattle.fp_site.specs.Moments.{Through}
-use Rattle.log_groups.specs.Images.{IsAtRest}
+use Rattle.log_groups.specs.Images.{IsAtRest, IsLog as HasLog}
+use Rattle.log_groups.specs.Kept.{IsSound}
 use Rattle.log_groups.specs.Log.{LogState}
 use Rattle.msdb_store.specs.Store.{Stored}
 use Rattle.schedule_runs.specs.Standing.{IsLeftOnWay}
 use Rattle.schedule_runs.specs.Ways.{Comes, next_event}
-use Rattle.fp_system.specs.Parts.{Job, rules_for}
-use Rattle.fp_system.specs.Stops.{IsSoundFor}
+use Rattle.fp_system.specs.Answers.{MayStandIn}
+use Rattle.fp_system.specs.Parts.{Job, front_for, rules_for}
 use Rattle.fp_system.specs.declared.status.Status.{Status}
 use Rattle.fp_system.specs.declared.status.Status.TheVariants.{Done, ReadFault, SiteFault, Line, NoMemory}
 
@@ -30,6 +31,10 @@ pub record Input : Type 0 where
 
 abbrev pub input : List Event → List (List ℕ) → Input
 input events lines = record { events = events; lines = lines }
+
+-- the log is a serial history of these entries under the job
+abbrev pub IsSoundFor : Job → List ℕ → List Entry → Type 0
+IsSoundFor job log entries = IsSound job.defs job.scripts (front_for job) log entries
 
 -- a serial history of these entries, behind a front of format 1
 pub record IsHistoryOf (job : Job) (earlier : List Entry) (h : History) : Type 0 where
@@ -44,30 +49,41 @@ pub record Course (job : Job) (given : Input) (earlier : List Entry) (left : Lis
   pub history : IsHistoryOf job earlier behind
   pub comes : Comes job.defs (rules_for job) given.events (at_rest (rules_for job) given.lines behind) left here
 
--- What was sealed and sent where a run had come so far: just what the machine sealed and sent. Where the next step is
--- LOG or CKPT, that may have sealed so many groups more, and sent a first part of the lines of their entries.
-pub record HasSealed (job : Job) (left : List Event) (here : Machine) (groups : List (List Entry)) (text : List ℕ)
-    : Type 0 where
-  pub times : ℕ
-  pub few : times ≤ seals_of (next_event left) here
-  pub groups_are : groups ≡ (sealed_times times (rules_for job) here).groups
-  pub told : IsBetween here.sent text (sealed_times times (rules_for job) here).sent
-
--- A crash left a log that goes on from the earlier entries by what a run sealed, and what was sent by then.
-pub record GoesOnBy (job : Job) (given : Input) (earlier : List Entry) (before : Disk) (s : Snapshot) : Type 0 where
+-- How far a run had come: the events that were left, the machine that turns had led to, and the text that was sent
+-- since
+-- its start.
+pub record Point : Type 0 where
   pub left : List Event
   pub here : Machine
-  pub course : Course job given earlier left here
-  pub groups : List (List Entry)
   pub text : List ℕ
-  pub sealed : HasSealed job left here groups text
-  pub sound : IsSoundFor job (s.images 0) (earlier ++ entries_of groups)
-  pub sent : before.tells_sent → s.sent ≡ before.sent ++ text
 
--- A snapshot keeps what stood: it is one that a crash might have left then, but for a sync of the log, or it goes on
--- from it.
-abbrev pub IsKeptBy : Job → Input → List Entry → Disk → Snapshot → Type 0
-IsKeptBy job given earlier before s = Syncs before 0 s ⊎ GoesOnBy job given earlier before s
+-- the machine there, behind so many groups more
+abbrev pub with_seals : Job → Point → ℕ → Machine
+with_seals job point times = sealed_times times (rules_for job) point.here
+
+-- A log goes on from the groups before by just those that the machine sealed, and just its bytes were sent. Where the
+-- next step is LOG or CKPT, that may have sealed so many groups more, and sent a first part of the lines of their
+-- entries. It is sound.
+pub record GoesOnTo (job : Job) (before : List (List Entry)) (point : Point) (log : List ℕ) : Type 0 where
+  pub times : ℕ
+  pub few : times ≤ seals_of (next_event point.left) point.here
+  pub gate : ℕ
+  pub groups : HasLog (front_for job) log (before ++ (with_seals job point times).groups) gate
+  pub sound : IsSoundFor job log (entries_of (before ++ (with_seals job point times).groups))
+  pub told : IsBetween point.here.sent point.text (with_seals job point times).sent
+
+-- A crash left a log that goes on so, from wherever the run had come by then.
+pub record GoesOnBy (job : Job) (given : Input) (earlier : List Entry) (before : List (List Entry)) (old : Disk)
+    (s : Snapshot) : Type 0 where
+  pub point : Point
+  pub course : Course job given earlier point.left point.here
+  pub log : GoesOnTo job before point (s.images 0)
+  pub sent : old.tells_sent → s.sent ≡ old.sent ++ point.text
+
+-- A snapshot keeps what stood: it is one that a crash might have left as the call began, but for a sync of the log, or
+-- its log goes on from it.
+abbrev pub IsKeptBy : Job → Input → List Entry → List (List Entry) → Disk → Snapshot → Type 0
+IsKeptBy job given earlier before old s = Syncs old 0 s ⊎ GoesOnBy job given earlier before old s
 
 -- ---- where a run ends
 
@@ -76,15 +92,41 @@ pub record IsAtLine (left : List Event) (here : Machine) : Type 0 where
   pub takes : next_event left ≡ event.In
   pub none_held : here.held ≡ None
 
+-- a step that may find no memory: an OUT does nothing, and there is no area to purge
+abbrev pub MayWant : Event → Type 0
+MayWant event.Out = ⊥
+MayWant (event.Purge set n) = ⊥
+MayWant _ = ⊤
+
 -- Where a run ends with this answer. With Done all events were taken, and the drain. A line that isn't taken is the
--- next one that would be read. Where a read failed the next step reads a line, or nothing was done.
-abbrev pub EndsAt : Job → Input → Status → Machine → List Event → Machine → Type 0
-EndsAt job given Done start left here = (left ≡ []) × IsDrained (rules_for job) here
-EndsAt job given (Line number) start left here = IsAtLine left here × (here.lines ≡ drop (number - 1) given.lines)
-EndsAt job given ReadFault start left here = IsAtLine left here ⊎ (here ≡ start)
-EndsAt job given SiteFault start left here = ⊤
-EndsAt job given NoMemory start left here = ⊤
-EndsAt job given _ start left here = ⊥
+-- next one that would be read. Where a read failed the next step reads a line; where the site failed it is a LOG or
+-- CKPT; and where memory lacked it is one that may want some.
+abbrev pub EndsAt : Job → Input → Status → List Event → Machine → Type 0
+EndsAt job given Done left here = (left ≡ []) × IsDrained (rules_for job) here
+EndsAt job given (Line number) left here = IsAtLine left here × (here.lines ≡ drop (number - 1) given.lines)
+EndsAt job given ReadFault left here = IsAtLine left here
+EndsAt job given SiteFault left here = IsSealing (next_event left)
+EndsAt job given NoMemory left here = MayWant (next_event left)
+EndsAt job given _ left here = ⊥
+
+-- A run ended there with this answer. Each log that a sync may make of its own goes on so; and it is for good, where
+-- the
+-- next step seals nothing.
+pub record IsEnded (job : Job) (given : Input) (answer : Status) (before : List (List Entry)) (point : Point)
+    (new : Disk) : Type 0 where
+  pub ends : EndsAt job given answer point.left point.here
+  pub images : (log : List ℕ) → Settles new 0 log → GoesOnTo job before point log
+  pub rest : ¬ IsSealing (next_event point.left) → IsDurable new 0
+
+-- No step was done: a fault or want of memory came first. Each log that a sync may make is one that it might have made
+-- before.
+pub record IsNotBegun (given : Input) (answer : Status) (start : Machine) (point : Point) (old new : Disk) : Type 0
+  where
+    pub in_place : MayStandIn answer
+    pub all_left : point.left ≡ given.events
+    pub at_start : point.here ≡ start
+    pub unsent : point.text ≡ []
+    pub images : (log : List ℕ) → Settles new 0 log → Settles old 0 log
 
 -- ---- from where a run begins
 
@@ -105,7 +147,7 @@ pub record RanFrom (job : Job) (given : Input) (origin : Origin) (h : History) (
   pub left : List Event
   pub here : Machine
   pub comes : Comes job.defs (rules_for job) given.events (at_rest (rules_for job) given.lines h) left here
-  pub ends : EndsAt job given answer (at_rest (rules_for job) given.lines h) left here
+  pub ends : EndsAt job given answer left here
   pub within : IsWithin origin (rules_for job) here (seals_of (next_event left) here) old new
   pub rest : ¬ IsSealing (next_event left) → IsDurable new 0
   pub moments : Through old new (IsLeftOnWay origin job.defs (rules_for job) given.events

@@ -1,24 +1,24 @@
 -- What the commands give, whatever the answer is.
-use Rattle.std.specs.Prelude.{◌≡◌, ◌⊎◌, ⊤, ℕ, List, [], ◌++◌, take, Option, Some}
-use Rattle.fp_model.specs.declared.events.Event.{Event}
+use Rattle.std.specs.Prelude.{◌≡◌, ◌⊎◌, ⊤, ℕ, ◌+◌, ◌≤◌, List, [], ◌++◌, drop, length, take, Option, Some}
 use Rattle.fp_model.specs.declared.log.Entry.{Entry}
 use Rattle.fp_model.specs.Groups.{entries_of}
-use Rattle.fp_model.specs.LogText.{first_gate}
-use Rattle.fp_model.specs.Machine.{Machine, at_rest}
+use Rattle.fp_model.specs.LogText.{first_gate, log_text}
+use Rattle.fp_model.specs.Machine.{at_rest}
 use Rattle.fp_model.specs.Recovery.{Holds}
-use Rattle.fp_site.specs.Disk.{Disk, Snapshot, IsDurable, Syncs}
+use Rattle.fp_site.specs.Disk.{Disk, Snapshot, Syncs}
 use Rattle.fp_site.specs.Moments.{OnlyOn, Through}
 use Rattle.log_groups.specs.Images.{IsAtRest, IsBeforeOrMade, IsLog as HasLog}
 use Rattle.log_groups.specs.Kept.{IsSafe}
+use Rattle.fp_source.specs.declared.part.Part.{Part}
+use Rattle.fp_source.specs.declared.part.Part.TheVariants as part
 use Rattle.fp_system.specs.Answers.{IsEarly}
 use Rattle.fp_core.specs.Sparing.{IsLogSet as IsLog, Spares}
 use Rattle.fp_system.specs.Ims.{IsUnchanged}
 use Rattle.fp_system.specs.Parts.{Job, IsJob, front_for, rules_for}
-use Rattle.fp_system.specs.Courses.{Course, EndsAt, HasSealed, Input, IsKeptBy}
-use Rattle.fp_system.specs.Stops.{GoesOnFrom, IsSoundFor, standing}
-use Rattle.fp_system.specs.Table.{Given, IsSpared}
+use Rattle.fp_system.specs.Courses.{Course, GoesOnTo, Input, IsEnded, IsKeptBy, IsNotBegun, Point}
+use Rattle.fp_system.specs.Table.{Given, IsForeign, IsSpared}
 use Rattle.fp_system.specs.declared.status.Status.{Status}
-use Rattle.fp_system.specs.declared.status.Status.TheVariants.{Done, ReadFault, Line}
+use Rattle.fp_system.specs.declared.status.Status.TheVariants.{Done, ReadFault, NoMemory}
 use Rattle.fp_system.specs.declared.words.Command.{Command}
 use Rattle.fp_system.specs.declared.words.Command.TheVariants.{Define, Run}
 
@@ -28,12 +28,17 @@ IsSafeFor job disk entries = IsSafe job.defs job.scripts (front_for job) disk en
 
 -- ---- define
 
+-- A new log is its front and a closed gate. No call shortens a data set, so what stood behind that place stays there.
+abbrev pub HasNewText : Job → List ℕ → List ℕ → Type 0
+HasNewText job old new = new ≡ log_text (front_for job) [] ++ drop (first_gate (front_for job) + 1) old
+
 -- The log alone changes, and nothing is sent. Of a job, Done leaves it new, at rest and for good, and a crash at any
 -- moment leaves it as a sync might have left it before, or with no open front, or new.
 pub record Defined (g : Given) (answer : Status) (old new : Disk) : Type 0 where
   pub only : OnlyOn 0 old new
   pub made : (job : Job) → IsJob g.kinds g.left job → answer ≡ Done
       → IsAtRest new (front_for job) [] (first_gate (front_for job))
+  pub text : (job : Job) → IsJob g.kinds g.left job → answer ≡ Done → HasNewText job (old.contents 0) (new.contents 0)
   pub crash : (job : Job) → IsJob g.kinds g.left job → Through old new (IsBeforeOrMade old (front_for job))
 
 -- ---- run
@@ -42,56 +47,50 @@ pub record Defined (g : Given) (answer : Status) (old new : Disk) : Type 0 where
 abbrev pub KeepsFront : ℕ → Disk → Snapshot → Type 0
 KeepsFront gate old s = Syncs old 0 s ⊎ (take gate (s.images 0) ≡ take gate (old.contents 0))
 
--- an answer behind which the log is at rest
-abbrev pub RestsBehind : Status → Type 0
-RestsBehind Done = ⊤
-RestsBehind (Line number) = ⊤
-RestsBehind _ = ⊥
-
 -- How a run from a safe site ended: turns of the table led from the machine at rest behind the earlier entries, which
--- stand in these groups, to where it ended. The groups that were added to the log are those that the machine sealed,
--- and just its bytes were sent; where a step ended the run early, the turns before it are such a run. The site is safe.
--- At each moment since the call's start a crash leaves what stood, or a log that goes on from it.
+-- stand in these groups, to where it ended. The log goes on by the groups that the machine sealed, and just its bytes
+-- were sent; where a step ended the run early, the turns before it are such a run. Or no step was done. At each moment
+-- since the call's start a crash leaves what stood, or a log that goes on from it.
 pub record Went (job : Job) (given : Input) (earlier : List Entry) (answer : Status) (old new : Disk) : Type 0 where
-  pub left : List Event
-  pub here : Machine
-  pub course : Course job given earlier left here
-  pub ends : EndsAt job given answer (at_rest (rules_for job) given.lines course.behind) left here
   pub before : List (List Entry)
   pub stood : entries_of before ≡ earlier
   pub old_gate : ℕ
   pub held : Holds (front_for job) (old.contents 0) before old_gate
-  pub groups : List (List Entry)
-  pub text : List ℕ
-  pub sealed : HasSealed job left here groups text
-  pub gate : ℕ
-  pub holds : HasLog (front_for job) (new.contents 0) (before ++ groups) gate
-  pub sent : new.sent ≡ old.sent ++ text
-  pub safe : IsSafeFor job new (earlier ++ entries_of groups)
-  pub rest : RestsBehind answer → IsDurable new 0
-  pub moments : Through old new (IsKeptBy job given earlier old)
+  pub point : Point
+  pub course : Course job given earlier point.left point.here
+  pub log : GoesOnTo job before point (new.contents 0)
+  pub sent : new.sent ≡ old.sent ++ point.text
+  pub ended : IsNotBegun given answer (at_rest (rules_for job) given.lines course.behind) point old new
+      ⊎ IsEnded job given answer before point new
+  pub moments : Through old new (IsKeptBy job given earlier before old)
 
 -- Whatever the answer is: another's log stays, and a bad one, and all other data sets. A log that can be read stays up
 -- to its first gate that isn't open, where that is there, also if its entries are no history. A safe site goes on.
--- Where every crash left the log as it was, each snapshot since then goes on from it.
 pub record Ran (job : Job) (given : Input) (answer : Status) (old new : Disk) : Type 0 where
   pub spares : IsSpared job (old.contents 0) → IsUnchanged old new
   pub others : Spares IsLog old new
   pub keeps : (groups : List (List Entry)) (gate : ℕ) → HasLog (front_for job) (old.contents 0) groups gate
       → Through old new (KeepsFront gate old)
   pub goes : (earlier : List Entry) → IsSafeFor job old earlier → Went job given earlier answer old new
-  pub stops : (earlier : List Entry) → IsDurable old 0 → old.tells_sent → IsSoundFor job (old.contents 0) earlier
-      → (s : Snapshot) → new.left_since old.moment s
-      → GoesOnFrom job (standing (old.contents 0) earlier old.sent) (s.images 0) s.sent
+
+-- A run reads each byte of the log once, up to the byte behind its end; of one that can be read, up to the first gate
+-- that isn't open; of another's, no more than the front has.
+pub record ReadsOnce (job : Job) (log : List ℕ) (before now : ℕ) : Type 0 where
+  pub all : now ≤ before + length log + 1
+  pub up_to : (groups : List (List Entry)) (gate : ℕ) → Holds (front_for job) log groups gate
+      → now ≤ before + gate + 1
+  pub of_others : IsForeign job log → now ≤ before + first_gate (front_for job)
 
 -- ---- what stays
 
--- an answer that comes before the site is touched: of `define` a read fault too
+-- an answer that comes before the site is touched: of `define` a read fault and want of memory too
 abbrev pub IsBeforeSite : Option Command → Status → Type 0
 IsBeforeSite (Some Define) ReadFault = ⊤
+IsBeforeSite (Some Define) NoMemory = ⊤
 IsBeforeSite command answer = IsEarly answer
 
--- `define` takes no messages, and a run that is done leaves none
-pub record Took (found : Option Command) (answer : Status) (old new : List ℕ) : Type 0 where
-  pub unread : found ≡ Some Define → new ≡ old
-  pub all : found ≡ Some Run → answer ≡ Done → new ≡ []
+-- `define` reads neither schedule nor messages, and a run that is done leaves no message
+pub record Took (found : Option Command) (answer : Status) (old new : Part → List ℕ) : Type 0 where
+  pub no_schedule : found ≡ Some Define → new part.Schedule ≡ old part.Schedule
+  pub no_messages : found ≡ Some Define → new part.Messages ≡ old part.Messages
+  pub all : found ≡ Some Run → answer ≡ Done → new part.Messages ≡ []

@@ -9,3 +9,4 @@ pub mod Table
 pub mod Stops
 pub mod Causes
 pub mod Gives
+pub mod Answered

@@ -1,51 +1,23 @@
 -- Runs and stops, again and again.
-use Rattle.std.specs.Prelude.{◌≡◌, ⊤, ℕ, List, [], ◌∷◌, ◌++◌, take}
+use Rattle.std.specs.Prelude.{◌≡◌, ℕ, List, [], ◌++◌, take}
 use Rattle.fp_model.specs.declared.log.Entry.{Entry}
-use Rattle.fp_site.specs.Disk.{Disk, IsDurable}
-use Rattle.log_groups.specs.Kept.{IsSound, lines_of_entries}
-use Rattle.fp_system.specs.Parts.{Job, front_for}
+use Rattle.fp_site.specs.Disk.{Disk, IsDurable, Settles, Snapshot}
+use Rattle.log_groups.specs.Kept.{lines_of_entries}
+use Rattle.fp_system.specs.Courses.{Input, IsSoundFor}
+use Rattle.fp_system.specs.Gives.{Ran}
+use Rattle.fp_system.specs.Ims.{IsUnchanged}
+use Rattle.fp_system.specs.Parts.{Job}
+use Rattle.fp_system.specs.declared.status.Status.{Status}
 
--- What stands where a run begins, ends or is stopped: the bytes of the log, its entries, and the bytes sent by then.
+-- What stood at some time: the entries of the log, and the bytes sent by then.
 pub record Standing : Type 0 where
-  pub log : List ℕ
   pub entries : List Entry
   pub sent : List ℕ
 
-abbrev pub standing : List ℕ → List Entry → List ℕ → Standing
-standing log entries sent = record { log = log; entries = entries; sent = sent }
+abbrev pub standing : List Entry → List ℕ → Standing
+standing entries sent = record { entries = entries; sent = sent }
 
--- the log is a serial history of these entries under the job
-abbrev pub IsSoundFor : Job → List ℕ → List Entry → Type 0
-IsSoundFor job log entries = IsSound job.defs job.scripts (front_for job) log entries
-
--- One run, to its end or to a stop: behind the entries that stood are more, and of their reply lines a first part was
--- sent.
-pub record Follows (job : Job) (before after : Standing) : Type 0 where
-  pub sound : IsSoundFor job after.log after.entries
-  pub later : List Entry
-  pub entries : after.entries ≡ before.entries ++ later
-  pub count : ℕ
-  pub sent : after.sent ≡ before.sent ++ take count (lines_of_entries later)
-
--- a log and what was sent follow on what stood
-pub record GoesOnFrom (job : Job) (before : Standing) (log sent : List ℕ) : Type 0 where
-  pub entries : List Entry
-  pub follows : Follows job before (standing log entries sent)
-
--- a new log, sound and for good, without entries; and this was sent
-pub record IsNew (job : Job) (sent : List ℕ) (disk : Disk) : Type 0 where
-  pub durable : IsDurable disk 0
-  pub sound : IsSoundFor job (disk.contents 0) []
-  pub same : disk.sent ≡ sent
-
--- any number of runs, each from where the one before it ended or was stopped
-abbrev pub Lives : Job → Standing → List Standing → Type 0
-Lives job start [] = ⊤
-Lives job start (next ∷ more) = Follows job start next × Lives job next more
-
-abbrev pub last_of : Standing → List Standing → Standing
-last_of start [] = start
-last_of start (next ∷ more) = last_of next more
+-- ---- what was answered
 
 -- texts that were sent of entries, each a first part of the reply lines of one run's
 pub data IsTold : List Entry → List ℕ → Type 0 where
@@ -53,19 +25,46 @@ pub data IsTold : List Entry → List ℕ → Type 0 where
   run : {entries : List Entry} {text : List ℕ} (later : List Entry) (count : ℕ) → IsTold entries text
       → IsTold (entries ++ later) (text ++ take count (lines_of_entries later))
 
--- The last log holds all entries from before, and each entry of which a line was sent.
-pub record KeepsAnswered (start last : Standing) : Type 0 where
+-- A log holds what stood, when these bytes have been sent: it is sound, and has all entries from then, and the entry of
+-- each line that was sent since.
+pub record HoldsSince (job : Job) (start : Standing) (sent log : List ℕ) : Type 0 where
   pub later : List Entry
-  pub entries : last.entries ≡ start.entries ++ later
+  pub sound : IsSoundFor job log (start.entries ++ later)
   pub text : List ℕ
-  pub sent : last.sent ≡ start.sent ++ text
+  pub since : sent ≡ start.sent ++ text
   pub told : IsTold later text
 
--- A log that was begun new when these bytes had been sent: it is sound, and has the entry of each line that was sent
--- since.
-pub record HoldsSince (job : Job) (sent log now : List ℕ) : Type 0 where
-  pub entries : List Entry
-  pub sound : IsSoundFor job log entries
-  pub text : List ℕ
-  pub since : now ≡ sent ++ text
-  pub told : IsTold entries text
+-- So does a disk: each log that a crash now may leave, or a sync make of that, and so the one that a read gives.
+abbrev pub HoldsOn : Job → Standing → Disk → Type 0
+HoldsOn job start disk = (log : List ℕ) → Settles disk 0 log → HoldsSince job start disk.sent log
+
+-- So does each snapshot of a crash since a moment of this disk.
+abbrev pub HeldThrough : Job → Standing → ℕ → Disk → Type 0
+HeldThrough job start moment new = (s : Snapshot) → new.left_since moment s → HoldsSince job start s.sent (s.images 0)
+
+-- ---- again and again
+
+-- One call: a run of the job, whatever it was given and whatever it answers; or a call that leaves the disk, as a run
+-- of
+-- another job does.
+pub data Calls (job : Job) (old new : Disk) : Type 0 where
+  ran : {given : Input} {answer : Status} → Ran job given answer old new → Calls job old new
+  spared : IsUnchanged old new → Calls job old new
+
+-- a site begins as what a crash left at some moment since an earlier one
+pub record IsBegunAgain (moment : ℕ) (stopped next : Disk) : Type 0 where
+  pub snapshot : Snapshot
+  pub left : stopped.left_since moment snapshot
+  pub durable : IsDurable next 0
+  pub log : next.contents 0 ≡ snapshot.images 0
+  pub sent : next.sent ≡ snapshot.sent
+
+-- Any number of calls, each on what the one before it left, or on what a stop within that one left: the states that a
+-- site comes to, all of which are told.
+module _ {X : Type 0} (told : X → Type 0) (disk : X → Disk) (job : Job) (first : X) where
+  pub data Lives : X → Type 0 where
+    begun : told first → Lives first
+    called : {old : X} (new : X) → Lives old → told new → Calls job (disk old) (disk new) → Lives new
+    stopped : {old : X} (new next : X) → Lives old → (disk old).tells_sent → Calls job (disk old) (disk new)
+        → told next
+        → IsBegunAgain ((disk old).moment) (disk new) (disk next) → Lives next

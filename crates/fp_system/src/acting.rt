@@ -6,18 +6,20 @@ ghost use Rattle.fp_model.specs.LogText.{first_gate};
 ghost use Rattle.fp_model.specs.Messages.{lines_of};
 ghost use Rattle.fp_site.specs.Disk.{Disk};
 ghost use Rattle.fp_site.specs.Moments.{OnlyOn, Through};
-ghost use Rattle.fp_source.specs.Source.{Rose};
+ghost use Rattle.fp_site.specs.Site.{ReadsNothing};
 ghost use Rattle.fp_source.specs.declared.part.Part.TheVariants as part;
 ghost use Rattle.fp_system.specs.Answers.{IsEarly, IsOr, IsStop, MayStandIn, faulty_line, status_of_fault};
+ghost use Rattle.fp_system.specs.Causes.{IsCaused, IsCausedBySite};
 ghost use Rattle.fp_system.specs.Courses.{IsBegun, RanFrom, input};
 ghost use Rattle.fp_core.specs.Sparing.{IsLogSet as IsLog, Spares};
-ghost use Rattle.fp_system.specs.Gives.{Ran};
+ghost use Rattle.fp_system.specs.Gives.{HasNewText, Ran, ReadsOnce};
 ghost use Rattle.fp_system.specs.Ims.{IsContinued};
 ghost use Rattle.fp_system.specs.Parts.{front_for};
 ghost use Rattle.fp_system.specs.Setups.{IsSetup, job_of};
 ghost use Rattle.fp_system.specs.Table.{ByLog, IsEnd};
 ghost use Rattle.fp_system.specs.declared.status.Status.TheVariants as status;
 ghost use Rattle.log_groups.specs.Images.{IsAtRest, IsBeforeOrMade};
+ghost use Rattle.log_groups.specs.Reads.{ReadsOnlyLog};
 ghost use Rattle.msdb_store.specs.Store.{IsOf};
 ghost use Rattle.std.specs.List.{AllByRecursion};
 ghost use Rattle.std.specs.Prelude.{◌≡◌, ◌⊎◌, ◌≤◌, ℕ, [], None, Some, true};
@@ -52,10 +54,19 @@ pub(crate) fn define_on<T: Site>(alloc: Global, site: &mut T, setup: &Setup) -> 
         IsAtRest (T.disk site.new) (front_for (job_of setup.now)) [] (first_gate (front_for (job_of setup.now))) }
     ensures early { IsEarly result → ⊥ }
     ensures never { result ≡ status.ReadFault → ⊥ }
-    ensures cause { result ≡ status.SiteFault → Rose (T.faults site.old) (T.faults site.new) }
+    ensures cause { IsCausedBySite (T.faults site.old) (T.faults site.new) result }
 
-    // No other data set changes, and nothing is sent. A crash at any moment leaves the log as a sync might have left it
-    // before, or with no open front, or made.
+    // The new log is its front and a closed gate; behind that stands what stood there.
+    ensures text { T.told site.old → result ≡ status.Done →
+        HasNewText (job_of setup.now) ((T.disk site.old).contents 0) ((T.disk site.new).contents 0) }
+
+    // Want of memory comes before the site is touched.
+    ensures untouched { result ≡ status.NoMemory → site.new ≡ site.old }
+
+    // No other data set changes or is read, and nothing is sent. A crash at any moment leaves the log as a sync might
+    // have left it before, or with no open front, or made.
+    ensures reads { ReadsOnlyLog (T.tells_reads site.old) (T.tells_reads site.new)
+        (T.bytes_read site.old) (T.bytes_read site.new) }
     ensures only { T.told site.old → OnlyOn 0 (T.disk site.old) (T.disk site.new) }
     ensures crash { T.told site.old →
         Through (T.disk site.old) (T.disk site.new) (IsBeforeOrMade (T.disk site.old) (front_for (job_of setup.now))) }
@@ -82,20 +93,23 @@ fn run_started<S: Source, T: Site>(
     requires store { IsOf task.now.setup.defs.msdbs started.msdbs }
     requires unsealed { started.log.unsealed ≡ [] }
 
-    // Behind any entries that come to these databases, where their log is at rest.
+    // Behind any entries that come to these databases, where their log is at rest; or there was no memory to begin.
     ensures ran { (origin : Origin) (h : History) → S.told source.old → T.told site.old
         → IsBegun origin h started.msdbs started.log (T.disk site.old) →
         RanFrom (job_of task.now.setup) (input task.now.events (lines_of (S.left source.old part.Messages))) origin h
-        result (T.disk site.old) (T.disk site.new) }
+        result (T.disk site.old) (T.disk site.new)
+        ⊎ ((result ≡ status.NoMemory) × (site.new ≡ site.old)) }
     ensures outcome { result ≡ status.Done ⊎ IsStop result }
     ensures all { S.told source.old → result ≡ status.Done → faulty_line (S.left source.old part.Messages) ≡ None }
     ensures line { (number : ℕ) → S.told source.old → result ≡ status.Line number
         → faulty_line (S.left source.old part.Messages) ≡ Some number }
-    ensures source_cause { result ≡ status.ReadFault → Rose (S.faults source.old) (S.faults source.new) }
-    ensures site_cause { result ≡ status.SiteFault → Rose (T.faults site.old) (T.faults site.new) }
+    ensures cause { IsCaused (S.faults source.old) (S.faults source.new)
+        (T.faults site.old) (T.faults site.new) result }
 
-    // At the end no message is left.
+    // At the end no message is left. Of the site nothing is read.
     ensures read { S.told source.old → result ≡ status.Done → S.left source.new part.Messages ≡ [] }
+    ensures reads { ReadsNothing (T.tells_reads site.old) (T.tells_reads site.new)
+        (T.bytes_read site.old) (T.bytes_read site.new) }
     ensures others { T.told site.old → Spares IsLog (T.disk site.old) (T.disk site.new) }
     ensures source { IsContinued S.told S.faults S.holds S.keeps source.old source.new }
     ensures site { IsContinued T.told T.faults T.holds T.keeps site.old site.new }
@@ -129,11 +143,16 @@ pub(crate) fn run_on<S: Source, T: Site>(
         Ran (job_of task.now.setup) (input task.now.events (lines_of (S.left source.old part.Messages))) result
         (T.disk site.old) (T.disk site.new) }
     ensures early { IsEarly result → ⊥ }
-    ensures source_cause { result ≡ status.ReadFault → Rose (S.faults source.old) (S.faults source.new) }
-    ensures site_cause { result ≡ status.SiteFault → Rose (T.faults site.old) (T.faults site.new) }
+    ensures cause { IsCaused (S.faults source.old) (S.faults source.new)
+        (T.faults site.old) (T.faults site.new) result }
 
-    // At the end no message is left.
+    // At the end no message is left. Each byte of the log is read once.
     ensures read { S.told source.old → result ≡ status.Done → S.left source.new part.Messages ≡ [] }
+    ensures once { T.told site.old → T.tells_reads site.new 0 →
+        ReadsOnce (job_of task.now.setup) ((T.disk site.old).contents 0)
+        (T.bytes_read site.old 0) (T.bytes_read site.new 0) }
+    ensures reads { ReadsOnlyLog (T.tells_reads site.old) (T.tells_reads site.new)
+        (T.bytes_read site.old) (T.bytes_read site.new) }
     ensures source { IsContinued S.told S.faults S.holds S.keeps source.old source.new }
     ensures site { IsContinued T.told T.faults T.holds T.keeps site.old site.new }
 {

@@ -1,13 +1,21 @@
-//! Laws of the top call: the table of its answers, and any number of runs and stops.
+//! Laws of the top call: the table of its answers, what a run answers, and any number of runs and stops.
 ghost use Rattle.fp_model.specs.declared.log.Entry.{Entry};
+ghost use Rattle.fp_site.specs.Disk.{IsDurable};
 ghost use Rattle.fp_source.specs.declared.part.Part.TheVariants as part;
+ghost use Rattle.fp_system.specs.Answered.{AnswersEachLine};
 ghost use Rattle.fp_system.specs.Answers.{faulty_line};
+ghost use Rattle.fp_system.specs.Courses.{Input, IsSoundFor};
+ghost use Rattle.fp_system.specs.Gives.{Defined, IsSafeFor, Ran};
 ghost use Rattle.fp_system.specs.Parts.{Job};
-ghost use Rattle.fp_system.specs.Stops.{IsSoundFor, KeepsAnswered, Lives, Standing, last_of};
+ghost use Rattle.fp_system.specs.Stops.{Calls, HeldThrough, HoldsOn, Lives, Standing, standing};
 ghost use Rattle.fp_system.specs.Table.{Asks, Given, IsDue, end_of_lines};
 ghost use Rattle.fp_system.specs.declared.status.Status.{Status as StatusOf};
+ghost use Rattle.fp_system.specs.declared.status.Status.TheVariants as status;
 ghost use Rattle.fp_system.specs.declared.words.Command.TheVariants as command;
-ghost use Rattle.std.specs.Prelude.{◌≡◌, List as ListOf};
+ghost use Rattle.std.specs.Prelude.{◌≡◌, [], List as ListOf};
+
+use fp_site::Site;
+use line_laws::every_line_is_answered;
 
 /// Of any call at most one answer is due.
 pub fn at_most_one_answer_is_due()
@@ -20,8 +28,42 @@ pub fn a_sound_log_is_due_its_lines()
         → IsSoundFor job (g.contents 0) entries → IsDue g (end_of_lines (faulty_line (g.left part.Messages))) }
 {}
 
-/// Over any number of runs and stops the log goes on holding each entry of which a line was sent.
-pub fn what_was_answered_is_held()
-    ensures { (job : Job) (start : Standing) (stops : ListOf Standing) → Lives job start stops →
-        KeepsAnswered start (last_of start stops) }
+/// A run that is done answers each line of its messages: it has just one entry, and one reply line that was sent; those
+/// of one terminal come in the order of its lines.
+pub fn a_run_that_is_done_answers_each_line<T: Site>()
+    ensures { (g : Given) (job : Job) (given : Input) (earlier : ListOf Entry) (old new : T)
+        → Asks g command.Run job → IsSafeFor job (T.disk old) earlier
+        → Ran job given status.Done (T.disk old) (T.disk new) →
+        AnswersEachLine job given.lines earlier (T.disk old) (T.disk new) }
+{
+    every_line_is_answered()
+}
+
+/// What stands in a log for good is held; and a log that was made new holds each entry of which a line was sent since,
+/// as none was.
+pub fn a_log_at_rest_holds_its_entries<T: Site>()
+    ensures rests { (job : Job) (entries : ListOf Entry) (site : T) → IsDurable (T.disk site) 0
+        → IsSoundFor job ((T.disk site).contents 0) entries →
+        HoldsOn job (standing entries (T.disk site).sent) (T.disk site) }
+    ensures made { (g : Given) (job : Job) (old new : T) → Asks g command.Define job
+        → Defined g status.Done (T.disk old) (T.disk new) →
+        HoldsOn job (standing [] (T.disk old).sent) (T.disk new) }
+{}
+
+/// A call, whatever it answers, keeps what stood and each entry of which a line was sent since: so does what it leaves,
+/// and so does each snapshot since it began.
+pub fn a_call_keeps_what_was_answered<T: Site>()
+    ensures stands { (job : Job) (start : Standing) (old new : T) → T.told old → T.told new
+        → Calls job (T.disk old) (T.disk new) → HoldsOn job start (T.disk old) → HoldsOn job start (T.disk new) }
+    ensures moments { (job : Job) (start : Standing) (old new : T) → T.told old → (T.disk old).tells_sent
+        → Calls job (T.disk old) (T.disk new) → HoldsOn job start (T.disk old) →
+        HeldThrough job start ((T.disk old).moment) (T.disk new) }
+{}
+
+/// Over any number of calls, whatever they answer, and of stops within them, the log goes on holding what stood and
+/// each
+/// entry of which a line was sent since.
+pub fn what_was_answered_is_held<T: Site>()
+    ensures { (job : Job) (start : Standing) (first last : T) → HoldsOn job start (T.disk first)
+        → Lives T.told T.disk job first last → HoldsOn job start (T.disk last) }
 {}

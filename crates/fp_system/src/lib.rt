@@ -11,9 +11,11 @@ mod top;
 mod words;
 
 pub use laws::{
-    a_sound_log_is_due_its_lines, at_most_one_answer_is_due, what_was_answered_is_held,
+    a_call_keeps_what_was_answered, a_log_at_rest_holds_its_entries,
+    a_run_that_is_done_answers_each_line, a_sound_log_is_due_its_lines, at_most_one_answer_is_due,
+    what_was_answered_is_held,
 };
-pub use lives::{define_and_run_twice, run_and_stop};
+pub use lives::{define_and_run, run_and_stop, run_once};
 pub use status::{Status, fault_text};
 pub use top::ims;
 pub use words::Command;

@@ -1,20 +1,36 @@
-//! A site in memory that is made, run, stopped, and begun again from what the stop left: what clauses say of it.
-ghost use Rattle.fp_model.specs.declared.log.Entry.{Entry};
-ghost use Rattle.fp_site.specs.Disk.{IsDurable};
+//! A site in memory that is made, run, run again, stopped, and begun again from what the stop left: what clauses say of
+//! it.
 ghost use Rattle.fp_site.specs.Memory.{memory_disk};
 ghost use Rattle.fp_system.specs.Parts.{Job};
-ghost use Rattle.fp_system.specs.Stops.{GoesOnFrom, HoldsSince, IsNew, IsSoundFor, standing};
+ghost use Rattle.fp_system.specs.Stops.{HoldsOn, Standing, standing};
 ghost use Rattle.fp_system.specs.Table.{Asks, given};
 ghost use Rattle.fp_system.specs.declared.words.Command.TheVariants as command;
-ghost use Rattle.std.specs.Prelude.{◌≡◌, true, IfOk, IfSome, List as ListOf};
+ghost use Rattle.std.specs.Prelude.{◌≡◌, [], true, IfOk, IfSome};
 
+use crate::laws::a_call_keeps_what_was_answered;
 use crate::{Status, ims};
 use fp_exits::Exits;
 use fp_site::MemorySite;
 use fp_source::Source;
 use std::alloc::{AllocError, Global};
 
-/// Runs, stops, and begins again: behind the entries that stood, the log has one for each reply line that was sent.
+/// Runs, whatever that answers: the site goes on holding what stood and each entry of which a line was sent.
+pub fn run_once<S: Source>(
+    alloc: Global,
+    words: &[String],
+    source: &mut S,
+    site: &mut MemorySite,
+    exits: &Exits,
+)
+    ensures { (job : Job) (start : Standing) → S.told source.old
+        → Asks (given exits.now words.now (S.left source.old) (memory_disk site.old)) command.Run job
+        → HoldsOn job start (memory_disk site.old) → HoldsOn job start (memory_disk site.new) }
+{
+    let _ = ims(alloc, words, source, site, exits);
+    a_call_keeps_what_was_answered::<MemorySite>()
+}
+
+/// Runs, stops, and begins again as what the stop left: so does that site.
 pub fn run_and_stop<S: Source>(
     alloc: Global,
     words: &[String],
@@ -23,20 +39,17 @@ pub fn run_and_stop<S: Source>(
     exits: &Exits,
     choice: u64,
 ) -> Result<MemorySite, AllocError>
-    ensures follows { (job : Job) (earlier : ListOf Entry) → S.told source.old
+    ensures { (job : Job) (start : Standing) → S.told source.old
         → Asks (given exits.now words.now (S.left source.old) (memory_disk site.old)) command.Run job
-        → IsDurable (memory_disk site.old) 0 → IsSoundFor job ((memory_disk site.old).contents 0) earlier →
-        IfOk result (λ next.
-        GoesOnFrom job (standing ((memory_disk site.old).contents 0) earlier (memory_disk site.old).sent)
-        ((memory_disk next).contents 0) (memory_disk next).sent) }
-    ensures durable { IfOk result (λ next. IsDurable (memory_disk next) 0) }
+        → HoldsOn job start (memory_disk site.old) → IfOk result (λ next. HoldsOn job start (memory_disk next)) }
 {
     let _ = ims(alloc, words, source, site, exits);
+    a_call_keeps_what_was_answered::<MemorySite>();
     let snapshot = site.snapshot_as(choice)?;
     MemorySite::from_snapshot(alloc, snapshot, &[])
 }
 
-// Makes a site, and answers whether that was done: then its log is sound and for good, without entries, and nothing was
+// Makes a site, and answers whether that was done: then its log has no entries, and so holds each of which a line was
 // sent.
 fn is_made<S: Source>(
     alloc: Global,
@@ -47,7 +60,7 @@ fn is_made<S: Source>(
 ) -> bool
     ensures { (job : Job) → S.told source.old
         → Asks (given exits.now words.now (S.left source.old) (memory_disk site.old)) command.Define job
-        → result ≡ true → IsNew job (memory_disk site.old).sent (memory_disk site.new) }
+        → result ≡ true → HoldsOn job (standing [] (memory_disk site.old).sent) (memory_disk site.new) }
 {
     match ims(alloc, words, source, site, exits) {
         Status::Done => true,
@@ -55,12 +68,13 @@ fn is_made<S: Source>(
     }
 }
 
-/// Makes a site, runs it, stops it, runs it again from what the stop left, and stops it again. The log that stands then
-/// has the entry of each reply line that was sent in either run.
-pub fn define_and_run_twice<S: Source>(
+/// Makes a site, runs it, runs it again whatever the first run answered, stops it, and runs it from what the stop left.
+/// The log that stands then has the entry of each reply line that was sent in any of the runs.
+pub fn define_and_run<S: Source>(
     alloc: Global,
     define: &[String],
     run: &[String],
+    parts: &mut S,
     first: &mut S,
     second: &mut S,
     third: &mut S,
@@ -68,17 +82,19 @@ pub fn define_and_run_twice<S: Source>(
     exits: &Exits,
     choice: u64,
 ) -> Result<Option<MemorySite>, AllocError>
-    ensures { (job : Job) → S.told first.old → S.told second.old → S.told third.old
-        → Asks (given exits.now define.now (S.left first.old) (memory_disk site.old)) command.Define job
+    ensures { (job : Job) → S.told parts.old → S.told first.old → S.told second.old → S.told third.old
+        → Asks (given exits.now define.now (S.left parts.old) (memory_disk site.old)) command.Define job
+        → Asks (given exits.now run.now (S.left first.old) (memory_disk site.old)) command.Run job
         → Asks (given exits.now run.now (S.left second.old) (memory_disk site.old)) command.Run job
         → Asks (given exits.now run.now (S.left third.old) (memory_disk site.old)) command.Run job →
         IfOk result (λ made. IfSome made (λ last.
-        HoldsSince job (memory_disk site.old).sent ((memory_disk last).contents 0) (memory_disk last).sent)) }
+        HoldsOn job (standing [] (memory_disk site.old).sent) (memory_disk last))) }
 {
-    if !is_made(alloc, define, first, site, exits) {
+    if !is_made(alloc, define, parts, site, exits) {
         return Ok(None);
     }
+    run_once(alloc, run, first, site, exits);
     let mut next = run_and_stop(alloc, run, second, site, exits, choice)?;
-    let last = run_and_stop(alloc, run, third, &mut next, exits, choice)?;
-    Ok(Some(last))
+    run_once(alloc, run, third, &mut next, exits);
+    Ok(Some(next))
 }

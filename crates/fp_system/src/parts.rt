@@ -2,18 +2,26 @@
 ghost use Rattle.fp_core.specs.Standing.{IsEventOf};
 ghost use Rattle.fp_exits.specs.Kinds.{has_kind, kinds_of};
 ghost use Rattle.fp_model.specs.WellFormed.{AreDefs};
-ghost use Rattle.fp_source.specs.Source.{ReadsOnly, Rose};
+ghost use Rattle.fp_source.specs.Source.{ReadsOnly};
 ghost use Rattle.fp_source.specs.declared.part.Part.TheVariants as part;
 ghost use Rattle.fp_schedule.specs.Schedule.{events_of};
 ghost use Rattle.fp_schedule.specs.declared.fault.ScheduleFault.{ScheduleFault as ScheduleFaultOf};
-ghost use Rattle.fp_system.specs.Answers.{MayStandIn, IsOfParts, status_of_definitions, status_of_schedule, status_of_scripts};
+ghost use Rattle.fp_system.specs.Answers.{
+  MayStandIn,
+  IsOfParts,
+  status_of_definitions,
+  status_of_schedule,
+  status_of_scripts,
+};
+ghost use Rattle.fp_system.specs.Causes.{IsCausedBySource};
 ghost use Rattle.fp_system.specs.Parts.{HasSchedule, IsJob, Refuses, are_built, definitions_in};
 ghost use Rattle.fp_system.specs.Setups.{HasEventsFor, IsRefusedSchedule, IsSetup, job_of};
 ghost use Rattle.fp_system.specs.declared.words.Command.{Command as CommandOf};
+ghost use Rattle.fp_system.specs.declared.words.Command.TheVariants as commands;
 ghost use Rattle.fp_source.specs.declared.part.Part.{Part as PartOf};
 ghost use Rattle.std.specs.List.{AllByRecursion};
 ghost use Rattle.fp_system.specs.declared.status.Status.TheVariants as status;
-ghost use Rattle.std.specs.Prelude.{◌≡◌, ◌⊎◌, ◌≤◌, [], Err, IfErr, IfOk, IsErrOf, Ok, true};
+ghost use Rattle.std.specs.Prelude.{◌≡◌, ◌⊎◌, ◌≤◌, [], Err, IfErr, IfOk, IsErrOf, Ok, OnOk, true};
 ghost use Rattle.txn_lang.specs.Grammar.{AreScriptsOf, HasFault};
 ghost use Rattle.txn_lang.specs.declared.fault.ScriptFault.{ScriptFault as ScriptFaultOf};
 
@@ -123,7 +131,8 @@ fn read_definitions<S: Source>(alloc: Global, source: &mut S, exits: &Exits) -> 
         IfErr result (λ answer. MayStandIn answer ⊎
         (definitions_in (kinds_of exits.now) (S.left source.old part.Definitions) ≡ Err answer)) }
     ensures early { IfErr result IsOfParts }
-    ensures cause { IsErrOf result status.ReadFault → Rose (S.faults source.old) (S.faults source.new) }
+    ensures cause { IfErr result (IsCausedBySource (S.faults source.old) (S.faults source.new)) }
+    ensures stayed { OnOk result (S.faults source.new ≡ S.faults source.old) }
     ensures source { ReadsOnly S.told S.left S.faults S.holds S.keeps part.Definitions source.old source.new }
 {
     match whole(alloc, source, Part::Definitions, MOST_BYTES) {
@@ -159,7 +168,8 @@ fn read_scripts<S: Source>(alloc: Global, source: &mut S, defs: &Defs) -> Result
         ⊎ ((fault : ScriptFaultOf) × (answer ≡ status.Scripts fault)
         × HasFault defs.now (S.left source.old part.Scripts) fault)) }
     ensures early { IfErr result IsOfParts }
-    ensures cause { IsErrOf result status.ReadFault → Rose (S.faults source.old) (S.faults source.new) }
+    ensures cause { IfErr result (IsCausedBySource (S.faults source.old) (S.faults source.new)) }
+    ensures stayed { OnOk result (S.faults source.new ≡ S.faults source.old) }
     ensures source { ReadsOnly S.told S.left S.faults S.holds S.keeps part.Scripts source.old source.new }
 {
     match whole(alloc, source, Part::Scripts, MOST_BYTES) {
@@ -202,7 +212,8 @@ fn read_setup<S: Source>(alloc: Global, source: &mut S, exits: &Exits) -> Result
     ensures refused { (command : CommandOf) → S.told source.old → IfErr result
         (λ answer. MayStandIn answer ⊎ Refuses (kinds_of exits.now) (S.left source.old) command answer) }
     ensures early { IfErr result IsOfParts }
-    ensures cause { IsErrOf result status.ReadFault → Rose (S.faults source.old) (S.faults source.new) }
+    ensures cause { IfErr result (IsCausedBySource (S.faults source.old) (S.faults source.new)) }
+    ensures stayed { OnOk result (S.faults source.new ≡ S.faults source.old) }
 
     // Schedule and messages aren't read.
     ensures others { S.told source.old → (p : PartOf) → ¬ (p ≡ part.Definitions) → ¬ (p ≡ part.Scripts)
@@ -247,7 +258,8 @@ fn read_schedule<S: Source>(
         ⊎ ((fault : ScheduleFaultOf) × (answer ≡ status.Schedule fault)
         × (events_of defs.now (S.left source.old part.Schedule) ≡ Err fault))) }
     ensures early { IfErr result IsOfParts }
-    ensures cause { IsErrOf result status.ReadFault → Rose (S.faults source.old) (S.faults source.new) }
+    ensures cause { IfErr result (IsCausedBySource (S.faults source.old) (S.faults source.new)) }
+    ensures stayed { OnOk result (S.faults source.new ≡ S.faults source.old) }
     ensures source { ReadsOnly S.told S.left S.faults S.holds S.keeps part.Schedule source.old source.new }
 {
     match whole(alloc, source, Part::Schedule, MOST_SCHEDULE) {
@@ -272,8 +284,10 @@ fn read_rest<S: Source>(
     ensures refused { S.told source.old → IfErr result (λ answer. MayStandIn answer
         ⊎ IsRefusedSchedule command (job_of setup.now) (S.left source.old) answer) }
     ensures early { IfErr result IsOfParts }
-    ensures cause { IsErrOf result status.ReadFault → Rose (S.faults source.old) (S.faults source.new) }
+    ensures cause { IfErr result (IsCausedBySource (S.faults source.old) (S.faults source.new)) }
+    ensures stayed { OnOk result (S.faults source.new ≡ S.faults source.old) }
     ensures source { ReadsOnly S.told S.left S.faults S.holds S.keeps part.Schedule source.old source.new }
+    ensures unread { command ≡ commands.Define → source.new ≡ source.old }
 {
     match command {
         Command::Define => Ok(List::new(alloc)),
@@ -300,10 +314,13 @@ pub(crate) fn read_task<S: Source>(
     ensures refused { S.told source.old → IfErr result
         (λ answer. MayStandIn answer ⊎ Refuses (kinds_of exits.now) (S.left source.old) command answer) }
     ensures early { IfErr result IsOfParts }
-    ensures cause { IsErrOf result status.ReadFault → Rose (S.faults source.old) (S.faults source.new) }
+    ensures cause { IfErr result (IsCausedBySource (S.faults source.old) (S.faults source.new)) }
+    ensures stayed { OnOk result (S.faults source.new ≡ S.faults source.old) }
 
-    // The messages aren't read.
+    // The messages aren't read, nor is the schedule where none is asked for.
     ensures messages { S.told source.old → S.left source.new part.Messages ≡ S.left source.old part.Messages }
+    ensures schedule_unread { S.told source.old → command ≡ commands.Define
+        → S.left source.new part.Schedule ≡ S.left source.old part.Schedule }
     ensures later { S.faults source.old ≤ S.faults source.new }
     ensures told { S.told source.old → S.told source.new }
     ensures holds { S.holds source.new ≡ S.holds source.old }

@@ -4,7 +4,7 @@ ghost use Rattle.fp_model.specs.declared.events.Event.{Event};
 ghost use Rattle.fp_source.specs.declared.part.Part.TheVariants as part;
 ghost use Rattle.fp_system.specs.Causes.{IsCaused};
 ghost use Rattle.fp_system.specs.Courses.{input};
-ghost use Rattle.fp_system.specs.Gives.{Defined, IsBeforeSite, Ran, Took};
+ghost use Rattle.fp_system.specs.Gives.{Defined, IsBeforeSite, Ran, ReadsOnce, Took};
 ghost use Rattle.fp_system.specs.Ims.{IsContinued};
 ghost use Rattle.fp_system.specs.Parts.{HasEvents, Job};
 ghost use Rattle.fp_system.specs.Table.{Asks, IsAnswerTo, given};
@@ -12,6 +12,7 @@ ghost use Rattle.fp_system.specs.Words.{command_of};
 ghost use Rattle.fp_system.specs.declared.status.Status.TheVariants as status;
 ghost use Rattle.fp_system.specs.declared.words.Command.{Command as CommandOf};
 ghost use Rattle.fp_system.specs.declared.words.Command.TheVariants as command;
+ghost use Rattle.log_groups.specs.Reads.{ReadsOnlyLog};
 ghost use Rattle.std.specs.Prelude.{◌≡◌, ◌↔◌, None, Some, List as ListOf, map, string_bytes};
 
 use crate::Status;
@@ -31,7 +32,8 @@ use std::alloc::Global;
 /// # What contracts say
 ///
 /// `given` is what the call is given, as it is told. What is due of it is answered, or a fault stands in its place:
-/// want of memory (`NoMemory`) may come at any place, a fault of the source or the site only where its count rose.
+/// want of memory (`NoMemory`) may come at any place, a fault of the source or the site only where its count rose, and
+/// the count rises with no other answer.
 /// `Asks` says that the words are a command, that the parts are a job, and of a run that its schedule is one.
 pub fn ims<S: Source, T: Site>(
     alloc: Global,
@@ -47,7 +49,7 @@ pub fn ims<S: Source, T: Site>(
     ensures cause { IsCaused (S.faults source.old) (S.faults source.new)
         (T.faults site.old) (T.faults site.new) result }
 
-    // What the commands give.
+    // What the commands give, and what they read.
     ensures defined { S.told source.old → T.told site.old
         → command_of (map string_bytes words.now) ≡ Some command.Define →
         Defined (given exits.now words.now (S.left source.old) (T.disk site.old)) result
@@ -58,12 +60,20 @@ pub fn ims<S: Source, T: Site>(
         Ran job (input events (lines_of (S.left source.old part.Messages))) result (T.disk site.old)
         (T.disk site.new) }
 
+    ensures once { (job : Job) → S.told source.old → T.told site.old
+        → Asks (given exits.now words.now (S.left source.old) (T.disk site.old)) command.Run job
+        → T.tells_reads site.new 0 →
+        ReadsOnce job ((T.disk site.old).contents 0) (T.bytes_read site.old 0) (T.bytes_read site.new 0) }
+
+    ensures reads { ReadsOnlyLog (T.tells_reads site.old) (T.tells_reads site.new)
+        (T.bytes_read site.old) (T.bytes_read site.new) }
+
     // What stays.
     ensures untouched { IsBeforeSite (command_of (map string_bytes words.now)) result → site.new ≡ site.old }
     ensures no_job { S.told source.old → ¬ ((which : CommandOf) × ((job : Job)
         × Asks (given exits.now words.now (S.left source.old) (T.disk site.old)) which job)) → site.new ≡ site.old }
     ensures parts { S.told source.old → Took (command_of (map string_bytes words.now)) result
-        (S.left source.old part.Messages) (S.left source.new part.Messages) }
+        (S.left source.old) (S.left source.new) }
     ensures source { IsContinued S.told S.faults S.holds S.keeps source.old source.new }
     ensures site { IsContinued T.told T.faults T.holds T.keeps site.old site.new }
 {

@@ -85,23 +85,24 @@ opened_from old gate ready le new durable is =
       durable = durable;
       front = ap (take gate) all ∙ take_at (take gate old) (1 ∷ (ready ++ junk)) gate long;
       rest = junk;
+      stood = refl;
       behind = ap (drop gate) all ∙ drop_at (take gate old) (1 ∷ (ready ++ junk)) gate long;
     }
 
 -- what making a log leaves: the front, its first gate, and behind that what stood there before its gate was closed
-pub new_text : (front : Front) (before shut new : List ℕ) → drop 1 shut ≡ drop 1 before
-    → new ≡ written (written shut 1 (front_rest front ++ 0 ∷ [])) 0 (1 ∷ [])
-    → new ≡ log_text front [] ++ drop (first_gate front + 1) before
-new_text front before shut new same is =
+pub new_text : (front : Front) (before shut : List ℕ) (new : Disk) → drop 1 shut ≡ drop 1 before
+    → IsOpened shut 0 (front_rest front ++ 0 ∷ []) new
+    → new.contents 0 ≡ log_text front [] ++ drop (first_gate front + 1) before
+new_text front before shut new same opened =
     let rest = front_rest front in
     let ready = rest ++ 0 ∷ [] in
-    let places : 1 + length ready ≡ 1 + first_gate front = omega (arith, length-append rest (0 ∷ [])) in
+    let places : 0 + 1 + length ready ≡ 1 + first_gate front = omega (arith, length-append rest (0 ∷ [])) in
     let turned : 1 + first_gate front ≡ first_gate front + 1 = omega arith in
-    let back : drop (1 + length ready) shut ≡ drop (first_gate front + 1) before =
-    ap (λ n. drop n shut) places ∙ sym (drop-drop (first_gate front) 1 shut) ∙ ap (drop (first_gate front)) same
-    ∙ drop-drop (first_gate front) 1 before ∙ ap (λ n. drop n before) turned in
+    let back : opened.rest ≡ drop (first_gate front + 1) before =
+    opened.stood ∙ ap (λ n. drop n shut) places ∙ sym (drop-drop (first_gate front) 1 shut)
+    ∙ ap (drop (first_gate front)) same ∙ drop-drop (first_gate front) 1 before ∙ ap (λ n. drop n before) turned in
     let text : log_text front [] ≡ 1 ∷ ready = ap (λ l. l ++ 0 ∷ []) (append-nil (front_text 1 front)) in
-    is ∙ gated_is shut 0 ready (omega arith) ∙ ap (λ l. 1 ∷ (ready ++ l)) back
+    opened.behind ∙ ap (λ l. 1 ∷ (ready ++ l)) back
     ∙ ap (λ l. l ++ drop (first_gate front + 1) before) (sym text)
 
 -- ---- the four calls of a gated write: the disks before, and after each

@@ -19,7 +19,7 @@ use Rattle.log_format.specs.EntryReading.{entry_at}
 use Rattle.log_format.proofs.Fields.{length-be64}
 use Rattle.log_format.proofs.Lists.{many_again}
 use Rattle.log_format.proofs.EntryLaws.{entry_law}
-use Rattle.log_groups.specs.Images.{IsLog, IsAtRest, IsWithOrWithout, IsBeforeOrAfter, IsGated, IsGatedImage, IsOpened, SpellsGroup, gate_behind, with_group}
+use Rattle.log_groups.specs.Images.{IsLog, IsAtRest, IsWithOrWithout, IsBeforeOrAfter, IsGated, IsGatedImage, IsOpened, SpellsGroup, gate_behind, with_group, with_group_at}
 use Rattle.log_groups.specs.Log.{IsBuffered, values_of, entries_in, part_text}
 use Rattle.log_groups.proofs.LogImages.{all-append, head_is, closed_front, open_front}
 use Rattle.log_groups.proofs.BufferParts.{all-drop, all-take, length-entry}
@@ -68,6 +68,23 @@ sealed_log front groups gate bytes entries h a holds spells opened = record {
       spells.group
       (opened.behind ∙ group_behind bytes opened.rest entries spells) (λ one. omega (arith, one));
 }
+
+-- and just these bytes
+pub sealed_text : (gate : ℕ) (old bytes : List ℕ) (entries : List Entry) (new : Disk) → SpellsGroup bytes entries
+    → IsOpened old gate bytes new → new.contents 0 ≡ with_group_at old gate entries
+sealed_text gate old bytes entries new spells opened =
+    let body = body_text entries in
+    let size = be64 (length body) in
+    let places : gate + 1 + length bytes ≡ gate_behind gate entries + 1 = omega (
+      arith,
+      ap length spells.text,
+      length-append size (body ++ 0 ∷ []),
+      length-append body (0 ∷ []),
+      length-append size body,
+    ) in
+    sym (take-append-drop gate (new.contents 0)) ∙ ap (λ l. l ++ drop gate (new.contents 0)) opened.front
+    ∙ ap (λ l. take gate old ++ l) (opened.behind ∙ group_behind bytes opened.rest entries spells)
+    ∙ ap (λ l. take gate old ++ (group_text entries ++ (0 ∷ l))) (opened.stood ∙ ap (λ n. drop n old) places)
 
 -- where there are entries they are one more group
 pub with_some : (groups : List (List Entry)) (entries : List Entry) → 1 ≤ length entries

@@ -45,6 +45,11 @@ pub record IsAtRest (disk : Disk) (front : Front) (groups : List (List Entry)) (
 abbrev pub gate_behind : ℕ → List Entry → ℕ
 gate_behind gate entries = gate + length (group_text entries)
 
+-- Bytes with one group more: behind the gate the group, the next gate, closed, and what stood behind that before.
+abbrev pub with_group_at : List ℕ → ℕ → List Entry → List ℕ
+with_group_at old gate entries =
+    take gate old ++ (group_text entries ++ (0 ∷ drop (gate_behind gate entries + 1) old))
+
 -- groups and one more of these entries, where there are any
 abbrev pub with_group : List (List Entry) → List Entry → List (List Entry)
 with_group groups [] = groups
@@ -92,6 +97,8 @@ pub record IsOpened (old : List ℕ) (gate : ℕ) (bytes : List ℕ) (new : Disk
   pub front : take gate (new.contents 0) ≡ take gate old
   pub rest : List ℕ
   pub behind : drop gate (new.contents 0) ≡ 1 ∷ (bytes ++ rest)
+  -- behind the bytes is what stood there before
+  pub stood : rest ≡ drop (gate + 1 + length bytes) old
 
 -- the front's gate is there, and isn't open
 pub record IsShutGate (bytes : List ℕ) : Type 0 where

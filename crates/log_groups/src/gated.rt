@@ -1,9 +1,9 @@
 //! A write that counts whole or not at all: its bytes go behind a gate, and the gate is opened last.
-ghost use Rattle.fp_site.specs.Disk.{Disk, IsDurable, Settles, written};
+ghost use Rattle.fp_site.specs.Disk.{Disk, IsDurable, Settles};
 ghost use Rattle.fp_site.specs.Moments.{OnlyOn, Through};
 ghost use Rattle.fp_site.specs.Site.{Counts, ReadsNothing};
 ghost use Rattle.log_groups.specs.Images.{HasFrontOf, IsFrontOf, IsGated, IsGatedImage, IsOpened};
-ghost use Rattle.std.specs.Prelude.{◌≡◌, ◌⊎◌, ◌+◌, ◌-◌, ◌<◌, ◌≤◌, ◌^◌, ◌∷◌, ◌++◌, ℕ, [], List as ListOf, OnOk, length};
+ghost use Rattle.std.specs.Prelude.{◌≡◌, ◌⊎◌, ◌+◌, ◌-◌, ◌<◌, ◌≤◌, ◌^◌, ◌∷◌, ◌++◌, ℕ, List as ListOf, OnOk, length};
 
 use fp_site::{Failed, Site};
 
@@ -14,8 +14,6 @@ pub(crate) fn write_gated<S: Site>(site: &mut S, gate: u64, bytes: &[u8]) -> Res
     // At `Ok` the gate is open, and every crash leaves it so.
     ensures opened { S.told site.old → gate ≤ length ((S.disk site.old).contents 0) →
         OnOk result (IsOpened ((S.disk site.old).contents 0) gate bytes.now (S.disk site.new)) }
-    ensures wrote { S.told site.old → OnOk result ((S.disk site.new).contents 0 ≡ written
-        (written ((S.disk site.old).contents 0) (gate + 1) bytes.now) gate (1 ∷ [])) }
     ensures cause { Counts (S.faults site.old) (S.faults site.new) result }
 
     // No other data set changes, nothing is sent or read.

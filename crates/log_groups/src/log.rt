@@ -31,6 +31,7 @@ ghost use Rattle.log_groups.specs.Images.{
   IsWithOrWithout,
   as_front,
   with_group,
+  with_group_at,
 };
 ghost use Rattle.log_groups.specs.Reads.{HasGroup, ReadsOnlyLog};
 ghost use Rattle.log_groups.specs.declared.fault.LogFault.TheVariants as faults;
@@ -148,10 +149,11 @@ impl Log {
             ((T.disk site.old).contents 0)) }
         ensures cause { Counts (T.faults site.old) (T.faults site.new) result }
 
-        // No other data set changes or is read, and nothing is sent.
+        // No other data set changes or is read, and nothing is sent. Of the log one byte is read at most.
         ensures only { T.told site.old → OnlyOn 0 (T.disk site.old) (T.disk site.new) }
         ensures reads { ReadsOnlyLog (T.tells_reads site.old) (T.tells_reads site.new) (T.bytes_read site.old)
             (T.bytes_read site.new) }
+        ensures few { T.tells_reads site.new 0 → T.bytes_read site.new 0 ≤ T.bytes_read site.old 0 + 1 }
         ensures told { T.told site.old → T.told site.new }
         ensures holds { T.holds site.new ≡ T.holds site.old }
         ensures keeps { (first : T) → T.keeps first site.old → T.keeps first site.new }
@@ -192,10 +194,11 @@ impl Log {
         // Want of memory comes before the site is touched.
         ensures untouched { IsErrOf result faults.Memory → site.new ≡ site.old }
 
-        // No other data set changes or is read, and nothing is sent.
+        // No other data set changes or is read, and nothing is sent. Of the log one byte is read at most.
         ensures only { T.told site.old → OnlyOn 0 (T.disk site.old) (T.disk site.new) }
         ensures reads { ReadsOnlyLog (T.tells_reads site.old) (T.tells_reads site.new) (T.bytes_read site.old)
             (T.bytes_read site.new) }
+        ensures few { T.tells_reads site.new 0 → T.bytes_read site.new 0 ≤ T.bytes_read site.old 0 + 1 }
         ensures told { T.told site.old → T.told site.new }
         ensures holds { T.holds site.new ≡ T.holds site.old }
         ensures keeps { (first : T) → T.keeps first site.old → T.keeps first site.new }
@@ -233,7 +236,9 @@ impl Log {
         ensures stayed { (IsErrOf result faults.Failed → ⊥) → T.faults site.new ≡ T.faults site.old }
         ensures never { (place : ℕ) → IsErrOf result (faults.Damaged place) → ⊥ }
 
-        // Nothing changes, and no more than the front is read.
+        // Nothing changes, and no more than the front is read; at `Ok` it is, each byte once.
+        ensures exact { T.tells_reads site.new 0 → OnOk result
+            (T.bytes_read site.new 0 ≡ T.bytes_read site.old 0 + first_gate (as_front front.now)) }
         ensures count { T.tells_reads site.new 0
             → T.bytes_read site.new 0 ≤ T.bytes_read site.old 0 + first_gate (as_front front.now) }
         ensures inside { T.told site.old → T.tells_reads site.new 0
@@ -400,8 +405,15 @@ impl Log {
         ensures durable { (front : FrontOf) (groups : ListOf (ListOf EntryOf))
             → T.told site.old → IsAtRest (T.disk site.old) front groups self.old.gate → OnOk result
             (IsAtRest (T.disk site.new) front (with_group groups (take most self.old.unsealed)) self.new.gate) }
+        ensures text { T.told site.old → 1 ≤ length self.old.unsealed
+            → self.old.gate ≤ length ((T.disk site.old).contents 0) → OnOk result ((T.disk site.new).contents 0 ≡
+            with_group_at ((T.disk site.old).contents 0) self.old.gate (take most self.old.unsealed)) }
         ensures spare { self.old.spare ≤ self.new.spare }
         ensures bounded { self.new.spare < 2 ^ 64 }
+
+        // Where no entry is unsealed nothing changes.
+        ensures idle { self.old.unsealed ≡ [] → site.new ≡ site.old }
+        ensures idle_log { self.old.unsealed ≡ [] → self.new ≡ self.old }
 
         // It fails only with the site.
         ensures cause { Counts (T.faults site.old) (T.faults site.new) result }

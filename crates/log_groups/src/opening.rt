@@ -44,6 +44,8 @@ pub(crate) fn begins_with<S: Site>(
 
     // Nothing changes, and no more than so many bytes are read.
     ensures count { S.tells_reads site.new 0 → S.bytes_read site.new 0 ≤ S.bytes_read site.old 0 + length text.now }
+    ensures exact { S.tells_reads site.new 0 → IfOk result (λ begins. begins ≡ true
+        → S.bytes_read site.new 0 ≡ S.bytes_read site.old 0 + length text.now) }
     ensures inside { S.told site.old → S.tells_reads site.new 0
         → S.bytes_read site.new 0 ≤ S.bytes_read site.old 0 + length ((S.disk site.old).contents 0) }
     ensures stays { S.told site.old → Stays (S.disk site.old) (S.disk site.new) }

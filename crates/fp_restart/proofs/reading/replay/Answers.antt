@@ -222,3 +222,10 @@ returns-in_default-clause-once g c t told =
     (g.T.Site.bytes_read c.loop-begun.site 0) (g.T.Site.bytes_read c.take_group.new.site 0) so_far.holds.holds
     (it.read (call.only_log 0 told).0)
     (let few = call.inside (it.site.told_still t) told in omega (arith, few, ap length same))
+
+pub returns-in_default-clause-exact : goal.returns-in_default-clause-exact
+returns-in_default-clause-exact g c told =
+    let so_far = c.loop-begun.invariant.read (c.take_group.ensures.only_log 0 told).0 in
+    let one : g.T.Site.bytes_read c.take_group.new.site 0 ≡ g.T.Site.bytes_read c.loop-begun.site 0 + 1 =
+    search rules in
+    omega (arith, so_far, one, c.end_at.ensures.gate)

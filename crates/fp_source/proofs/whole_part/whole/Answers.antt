@@ -1,4 +1,4 @@
-use Rattle.std.proofs.Common.{◌≡◌, ◌++◌, [], take, refl, sym, arith}
+use Rattle.std.proofs.Common.{◌≡◌, ◌∙◌, ◌++◌, [], take, refl, sym, arith}
 use Rattle.std.proofs.lemmas.List.{append-nil}
 use Rattle.fp_source.proofs.Pieces.{rose_since}
 use Rattle.fp_source.proofs.Calls.{reads_none, reads_on, piece_more, more_than, front_kept, some_kept, within}
@@ -11,6 +11,7 @@ loop-bytes-init g c = record {
   bytes = λ t. rw c.new-bytes.ensures refl;
   limit = rw c.new-bytes.ensures (omega arith);
   block = let l = c.in_ok-block.ensures.len in omega arith;
+  calm = refl;
 }
 
 pub returns-in_err-count-clause-cause : goal.returns-in_err-count-clause-cause
@@ -85,6 +86,7 @@ loop-bytes-preserved g c =
       block = some_kept c.read.new.into _ c.loop-bytes.block.len
           (omega (arith, it.block, c.deref_mut.ensures.len, c.deref_mut.ensures.value))
           (omega (arith, it.block, c.deref_mut.ensures.len, c.read.auto.into));
+      calm = c.in_ok-count.ensures.cause.stayed ∙ it.calm;
     }
 
 pub returns-in_err-append-clause-source : goal.returns-in_err-append-clause-source

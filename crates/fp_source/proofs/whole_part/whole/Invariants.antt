@@ -10,6 +10,7 @@ invariant-loop-bytes g l = record {
       l.source l.part;
   limit : length l.bytes ≤ l.limit;
   block : 0 < length l.block.items;
+  calm : g.S.Source.faults l.source ≡ g.S.Source.faults l.initial.source;
 }
 
 abbrev pub decreases-loop-bytes : goal.decreases-loop-bytes

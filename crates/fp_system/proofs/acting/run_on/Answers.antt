@@ -1,19 +1,26 @@
-use Rattle.std.proofs.Common.{◌⊎◌, ◌∙◌, sym, ap, subst}
+use Rattle.std.specs.Prelude.{◌+◌, ◌≤◌}
+use Rattle.std.proofs.Common.{◌⊎◌, ⊎_elim, inl, inr, ◌∙◌, refl, sym, ap, subst, arith}
 use Rattle.std.specs.Prelude.{Err}
 use Rattle.fp_core.specs.Standing.{Origin}
-use Rattle.fp_model.specs.LogText.{Front}
+use Rattle.fp_model.specs.LogText.{Front, StartsWithFront, first_gate}
 use Rattle.fp_model.specs.Messages.{lines_of}
+use Rattle.fp_model.specs.Recovery.{Holds}
 use Rattle.fp_restart.specs.Replayed.{ReadsBack}
 use Rattle.fp_restart.specs.Restarts.{StandsFor}
 use Rattle.fp_source.specs.declared.part.Part.TheVariants as part
 use Rattle.log_groups.specs.Kept.{IsSound}
 use Rattle.fp_system.specs.Answers.{MayStandIn}
+use Rattle.fp_site.specs.Moments.{Through}
+use Rattle.fp_site.proofs.Runs.{started}
+use Rattle.fp_system.specs.Causes.{IsCaused}
+use Rattle.fp_system.specs.Gives.{Went}
 use Rattle.fp_system.specs.Courses.{input}
 use Rattle.fp_core.specs.Sparing.{IsLogSet as IsLog}
 use Rattle.fp_system.specs.Parts.{front_for}
 use Rattle.fp_system.specs.Setups.{job_of}
 use Rattle.fp_system.specs.Table.{ByLog, IsEnd}
 use Rattle.fp_system.specs.declared.status.Status.{Status}
+use Rattle.fp_system.proofs.CauseLemmas.{fault_by_site, fault_by_source, one_err, site_since}
 use Rattle.fp_system.proofs.Due.{ended_due, fault_due, fault_not_done, fault_stands, late, not_spared}
 use Rattle.fp_system.proofs.FrameLemmas.{spares_syncs, spares_on}
 use Rattle.fp_system.proofs.Runs.{kept_front, kept_synced, ran, went_in_place}
@@ -53,7 +60,7 @@ returns-in-Err-clause-ran g c s t =
     let sent = c.restart.ensures.sent t in
     let crash = c.restart.ensures.crash t in
     let answer = c.fault_status.result in
-    ran job given answer h h1 law
+    ran job given answer h h1
     (λ why. record { contents = contents; sent = sent; crash = crash })
     (spares_syncs h h1 contents crash)
     (λ groups gate log. kept_synced job given answer h h1 crash gate)
@@ -86,12 +93,16 @@ returns-clause-ran g c s t =
     let state = c.in-Ok.parts.1 in
     let back : ReadsBack job.defs (front_for job) h1 store state =
     subst (λ (f : Front). ReadsBack setup.defs f h1 store state) is.front (c.in-Ok.ensures.reads t) in
-    ran job given answer h h2 law
+    ran job given answer h h2
     (λ why. absurd (not_spared setup is (h.contents 0) (c.in-Ok.ensures.front t) (c.in-Ok.ensures.readable t) why))
     (spares_on IsLog h h1 h2 law1 (spares_syncs h h1 contents crash) (c.run_started.ensures.others t1))
     (λ groups gate log.
     kept_front job given answer h h1 h2 law1 contents crash store state back
-    (λ origin history begun. c.run_started.ensures.ran origin history s t1 begun) groups gate log)
+    (λ origin history begun.
+    ⊎_elim (λ on. inl on)
+    (λ none. inr (subst (λ (x : _). Through h1 (g.T.Site.disk x) h1.may_leave) (sym none.1)
+    (started h1.may_leave h1 law1 (λ snapshot left. left))))
+    (c.run_started.ensures.ran origin history s t1 begun)) groups gate log)
     (λ earlier safe.
     let sound = subst (λ (f : Front). IsSound setup.defs setup.scripts.scripts f (h.contents 0) earlier) (sym is.front)
     safe.now in
@@ -100,8 +111,12 @@ returns-clause-ran g c s t =
     (c.in-Ok.ensures.sound setup.scripts.scripts earlier t sound) in
     let origin : Origin = record { front = front_for job; groups = found.groups; sent = h1.sent } in
     let history = stood job (h.contents 0) earlier safe.now in
-    went job given earlier is.are is.no_dedbs h h1 h2 law1 law2 safe contents sent crash found.groups state.gate
-    found.all found.at_rest answer
+    ⊎_elim
+    (λ on. went job given earlier is.are is.no_dedbs h h1 h2 law2 safe contents sent crash found.groups state.gate
+    found.all found.at_rest answer on)
+    (λ none. subst (λ (x : _). Went job given earlier answer h (g.T.Site.disk x)) (sym none.1)
+    (went_in_place job given answer earlier h h1 law law1 safe contents sent crash
+    (subst MayStandIn (sym none.0) tt)))
     (c.run_started.ensures.ran origin history s t1 (begins job (h.contents 0) earlier safe.now h h1 store state found)))
 
 pub returns-clause-early : goal.returns-clause-early
@@ -109,3 +124,63 @@ returns-clause-early g c early = late c.run_started.result c.run_started.ensures
 
 pub returns-in-Err-clause-read : goal.returns-in-Err-clause-read
 returns-in-Err-clause-read g c s e = fault_not_done c.in-Err.fault (sym c.fault_status.ensures ∙ e)
+
+-- ---- faults
+
+pub returns-in-Err-clause-cause : goal.returns-in-Err-clause-cause
+returns-in-Err-clause-cause g c =
+    let source = g.S.Source.faults c.args.source.now in
+    let before = g.T.Site.faults c.args.site.now in
+    let now = g.T.Site.faults c.restart.new.site in
+    let why = c.in-Err.fault in
+    subst (IsCaused source source before now) (sym c.fault_status.ensures) (record {
+      source = fault_by_source source why;
+      site =
+          fault_by_site before now why (λ e. c.in-Err.ensures.cause (ap (λ f. Err f) e))
+          (λ other. c.in-Err.ensures.stayed (λ e. other (one_err _ refl e)));
+    })
+
+pub returns-clause-cause : goal.returns-clause-cause
+returns-clause-cause g c = record {
+  source = c.run_started.ensures.cause.source;
+  site =
+      site_since (g.T.Site.faults c.args.site.now) (g.T.Site.faults c.restart.new.site)
+      (g.T.Site.faults c.run_started.new.site) c.run_started.result (c.in-Ok.ensures.stayed (λ e. absurd cc))
+      c.run_started.ensures.cause.site;
+}
+
+-- ---- what is read
+
+pub returns-in-Err-clause-once : goal.returns-in-Err-clause-once
+returns-in-Err-clause-once g c t tells =
+    let log = (g.T.Site.disk c.args.site.now).contents 0 in
+    record {
+      all = c.restart.ensures.once t tells;
+      up_to = λ groups gate holds.
+          c.restart.ensures.read groups gate t
+          (subst (λ (f : Front). Holds f log groups gate) (sym c.requires.setup.front) holds) tells;
+      of_others =
+          subst (λ (f : Front). ¬ (StartsWithFront log f) → g.T.Site.bytes_read c.restart.new.site 0
+          ≤ g.T.Site.bytes_read c.args.site.now 0 + first_gate f) c.requires.setup.front
+          (λ away. c.restart.ensures.no_front t away tells);
+    }
+
+pub returns-clause-once : goal.returns-clause-once
+returns-clause-once g c t tells =
+    let log = (g.T.Site.disk c.args.site.now).contents 0 in
+    let on = c.run_started.ensures.reads 0 tells in
+    record {
+      all = let at_most = c.restart.ensures.once t on.0 in omega (arith, on.1, at_most);
+      up_to = λ groups gate holds.
+          let at_most = c.restart.ensures.read groups gate t
+          (subst (λ (f : Front). Holds f log groups gate) (sym c.requires.setup.front) holds) on.0 in
+          omega (arith, on.1, at_most);
+      of_others = λ away.
+          absurd (away (subst (λ (f : Front). StartsWithFront log f) c.requires.setup.front (c.in-Ok.ensures.front t)));
+    }
+
+pub returns-clause-reads : goal.returns-clause-reads
+returns-clause-reads g c set tells =
+    let on = c.run_started.ensures.reads set tells in
+    let first = c.restart.ensures.only_log set on.0 in
+    (first.0, λ other. on.1 ∙ first.1 other)

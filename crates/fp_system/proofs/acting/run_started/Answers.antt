@@ -1,4 +1,4 @@
-use Rattle.std.proofs.Common.{◌≡◌, refl, sym, subst, arith, List, []}
+use Rattle.std.proofs.Common.{◌≡◌, inl, inr, refl, sym, subst, arith, List, []}
 use Rattle.fp_core.specs.Sparing.{IsLogSet as IsLog}
 use Rattle.fp_model.specs.Machine.{at_rest}
 use Rattle.fp_model.specs.Messages.{lines_of}
@@ -15,15 +15,15 @@ use Rattle.fp_system.specs.declared.status.Status.{Status}
 use Rattle.fp_system.specs.Parts.{rules_for}
 use Rattle.fp_system.specs.Setups.{job_of}
 use Rattle.fp_system.proofs.Begins.{any_format, any_history, any_place, any_states, reached_at_rest, stands_beside}
-use Rattle.fp_system.proofs.Ended.{ended_before, ended_done, ended_early}
+use Rattle.fp_core.proofs.Onwards.{reads_nothing_none}
+use Rattle.fp_system.specs.Causes.{IsCaused}
+use Rattle.fp_system.proofs.CauseLemmas.{stop_by_site, stop_by_source}
+use Rattle.fp_system.proofs.Ended.{ended_done, ended_early}
 use Rattle.fp_system.proofs.FrameLemmas.{spares_none}
 use Rattle.fp_system.proofs.acting.run_started.Goals as goal
 
 pub returns-in-Err-clause-ran : goal.returns-in-Err-clause-ran
-returns-in-Err-clause-ran g c origin h s t is =
-    let given = input c.args.task.now.events (lines_of (g.S.Source.left c.args.source.now part.Messages)) in
-    ended_before (job_of c.args.task.now.setup) given origin h c.args.started.msdbs c.args.started.log
-    (g.T.Site.disk c.args.site.now) (g.met.T.Site.lawful c.args.site.now t) is
+returns-in-Err-clause-ran g c origin h s t is = inr (refl, refl)
 
 pub returns-in-Err-clause-others : goal.returns-in-Err-clause-others
 returns-in-Err-clause-others g c t =
@@ -71,11 +71,11 @@ returns-in-Ok-run_schedule-clause-ran g c origin h s t is =
     let beside = stands_beside origin h c.args.started.msdbs c.args.started.log old core.engine rules core.lines left is
     stands c.in-Ok.ensures.gate (c.in-Ok.ensures.lines left) in
     let reached = reached_at_rest core.engine rules (lines_of left) h c.in-Ok.ensures.rules stands in
-    ended_done job given origin h old new next.lines bytes next.engine
+    inl (ended_done job given origin h old new next.lines bytes next.engine
     (as_given (λ d r es. IsDone origin d r es m old new next.lines bytes next.engine) c.in-Ok.ensures.defs
     c.in-Ok.ensures.rules c.as_slice.ensures (c.in-Ok-run_schedule.ensures.done origin m t s beside reached))
     (as_given (λ d r es. Through old new (IsLeftOnWay origin d r es m old)) c.in-Ok.ensures.defs c.in-Ok.ensures.rules
-    c.as_slice.ensures (c.run_schedule.ensures.moments origin m t s beside reached))
+    c.as_slice.ensures (c.run_schedule.ensures.moments origin m t s beside reached)))
 
 pub returns-clause-ran : goal.returns-clause-ran
 returns-clause-ran g c origin h s t is =
@@ -96,8 +96,35 @@ returns-clause-ran g c origin h s t is =
     let stopped = as_given (λ d r es. IsStopped origin d r es m old core.lines new why) c.in-Ok.ensures.defs
     c.in-Ok.ensures.rules c.as_slice.ensures (c.in-Err-run_schedule.ensures.stopped origin m t s beside reached) in
     let none = c.in-Ok.ensures.given in
-    subst (λ (answer : Status). RanFrom job given origin h answer old new) (sym c.from.ensures)
+    inl (subst (λ (answer : Status). RanFrom job given origin h answer old new) (sym c.from.ensures)
     (ended_early job given origin h old new core.lines why stopped
     (λ number e. omega (arith, stopped.first number e, none))
     (as_given (λ d r es. Through old new (IsLeftOnWay origin d r es m old)) c.in-Ok.ensures.defs c.in-Ok.ensures.rules
-    c.as_slice.ensures (c.run_schedule.ensures.moments origin m t s beside reached)))
+    c.as_slice.ensures (c.run_schedule.ensures.moments origin m t s beside reached))))
+
+-- ---- faults, and what is read
+
+pub returns-in-Err-clause-cause : goal.returns-in-Err-clause-cause
+returns-in-Err-clause-cause g c = record { source = refl; site = refl }
+
+pub returns-in-Err-clause-reads : goal.returns-in-Err-clause-reads
+returns-in-Err-clause-reads g c =
+    reads_nothing_none (g.T.Site.tells_reads c.args.site.now) (g.T.Site.bytes_read c.args.site.now)
+
+pub returns-in-Ok-run_schedule-clause-cause : goal.returns-in-Ok-run_schedule-clause-cause
+returns-in-Ok-run_schedule-clause-cause g c = record {
+  source = c.in-Ok-run_schedule.ensures.source_calm;
+  site = c.in-Ok-run_schedule.ensures.site_calm;
+}
+
+pub returns-clause-cause : goal.returns-clause-cause
+returns-clause-cause g c =
+    let why = c.in-Err-run_schedule.stop in
+    let read = g.S.Source.faults c.args.source.now in
+    let read2 = g.S.Source.faults c.run_schedule.new.source in
+    let site = g.T.Site.faults c.args.site.now in
+    let site2 = g.T.Site.faults c.run_schedule.new.site in
+    subst (IsCaused read read2 site site2) (sym c.from.ensures) (record {
+      source = stop_by_source read read2 why c.in-Err-run_schedule.ensures.source_cause;
+      site = stop_by_site site site2 why c.in-Err-run_schedule.ensures.site_cause;
+    })

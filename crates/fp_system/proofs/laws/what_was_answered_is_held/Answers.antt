@@ -1,5 +1,6 @@
-use Rattle.fp_system.proofs.StopLemmas.{all_held}
+use Rattle.fp_system.proofs.StopLemmas.{lives_hold}
 use Rattle.fp_system.proofs.laws.what_was_answered_is_held.Goals as goal
 
 pub returns : goal.returns
-returns c = λ job start stops lives. all_held job start stops lives
+returns g c = λ job start first last holds lives.
+    lives_hold job start g.T.Site.told g.T.Site.disk g.met.T.Site.lawful first last holds lives

@@ -1,7 +1,7 @@
 use Rattle.std.proofs.Common.{◌≡◌}
 use Rattle.fp_site.specs.Memory.{memory_disk}
 use Rattle.fp_system.specs.declared.status.Status.TheVariants as status
-use Rattle.fp_system.proofs.StopLemmas.{made_new}
+use Rattle.fp_system.proofs.StopLemmas.{made_holds}
 use Rattle.fp_system.proofs.lives.is_made.Goals.{in-Done, in_default}
 use Rattle.fp_system.proofs.lives.is_made.Goals as goal
 
@@ -11,6 +11,6 @@ returns g c job s asks is = elim c.match-ims.branch [
       let done : c.ims.result ≡ status.Done = cc in
       let defined = c.ims.ensures.defined s tt asks.command_is in
       let rest = defined.made job asks.job_is done in
-      made_new job (memory_disk c.args.site.now) (memory_disk c.ims.new.site) defined.only rest
+      made_holds job (memory_disk c.args.site.now).sent (memory_disk c.ims.new.site) defined.only.now.sent rest
   | in_default w ↦ absurd cc
 ]

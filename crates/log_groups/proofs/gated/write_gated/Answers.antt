@@ -187,15 +187,6 @@ returns-clause-settles g c image t durable stands settles =
     (c.write_at-2.ensures.leaves t2) (c.write_at-2.ensures.crash t2) _ (c.sync-2.ensures.leaves t3)
     (c.sync-2.ensures.crash t3) law4 durable stands image settles
 
--- the bytes of the data set at Ok
-pub returns-clause-wrote : goal.returns-clause-wrote
-returns-clause-wrote g c t =
-    let t1 = c.write_at.ensures.told t in
-    let t2 = c.sync.ensures.told t1 in
-    let t3 = c.write_at-2.ensures.told t2 in
-    let is = c.sync.ensures.same t1 ∙ c.in_ok-write_at.ensures.wrote t in
-    c.sync-2.ensures.same t3 ∙ c.in_ok-write_at-2.ensures.wrote t2 ∙ ap (λ l. written l c.args.gate (1 ∷ [])) is
-
 pub returns-clause-opened : goal.returns-clause-opened
 returns-clause-opened g c t le =
     let t1 = c.write_at.ensures.told t in

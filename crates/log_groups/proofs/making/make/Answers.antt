@@ -1,7 +1,6 @@
 use Rattle.std.proofs.Common.{◌≡◌, [], ◌∷◌, ◌++◌, length, subst, ◌∙◌, ap, arith}
 use Rattle.std.proofs.lemmas.List.{length-append}
 use Rattle.fp_model.specs.LogText.{front_rest}
-use Rattle.fp_site.specs.Disk.{written}
 use Rattle.fp_site.specs.Moments.{Through}
 use Rattle.fp_site.proofs.Frames.{only_joined}
 use Rattle.log_groups.specs.Images.{IsGated, IsGatedImage, IsOpened, as_front}
@@ -111,5 +110,5 @@ returns-clause-text g c t =
     let b = g.S.Site.disk c.write_gated.new.site in
     let is : c.as_slice.result.now ≡ front_rest front ++ 0 ∷ [] =
     c.as_slice.ensures ∙ c.in_ok-push.ensures.ok ∙ ap (λ l. l ++ 0 ∷ []) c.in_ok-bytes.ensures in
-    new_text front (h.contents 0) (a.contents 0) (b.contents 0) (c.in_ok-shut.ensures.rest t)
-    (c.in_ok-write_gated.ensures.wrote t1 ∙ ap (λ l. written (written (a.contents 0) 1 l) 0 (1 ∷ [])) is)
+    new_text front (h.contents 0) (a.contents 0) b (c.in_ok-shut.ensures.rest t)
+    (subst (λ l. IsOpened (a.contents 0) 0 l b) is (c.in_ok-write_gated.ensures.opened t1 (omega arith)))

@@ -3,10 +3,10 @@ use Rattle.fp_model.specs.LogText.{body_text}
 use Rattle.fp_model.specs.Recovery.{Holds}
 use Rattle.fp_site.specs.Moments.{Through}
 use Rattle.fp_site.proofs.Images.{durable_settles}
-use Rattle.log_groups.specs.Images.{HasFrontOf, IsFrontOf, IsLog, IsAtRest, IsWithOrWithout, IsBeforeOrAfter, IsGated, IsGatedImage, IsOpened, with_group}
+use Rattle.log_groups.specs.Images.{HasFrontOf, IsFrontOf, IsLog, IsAtRest, IsWithOrWithout, IsBeforeOrAfter, IsGated, IsGatedImage, IsOpened, with_group, with_group_at}
 use Rattle.log_groups.specs.Log.{entries_in, part_text}
 use Rattle.log_groups.proofs.LogImages.{held_reaches}
-use Rattle.log_groups.proofs.Sealing.{gated_log, sealed_through, sealed_log, with_some, take_fewer, span, total, many, spells, gate_is, now_unsealed, now_buffered}
+use Rattle.log_groups.proofs.Sealing.{gated_log, sealed_through, sealed_log, sealed_text, with_some, take_fewer, span, total, many, spells, gate_is, now_unsealed, now_buffered}
 use Rattle.log_groups.proofs.log.Log.seal.Goals as goal
 
 -- the group ends within the data set
@@ -308,3 +308,59 @@ returns-clause-front_settles g c image t durable le settles =
     let gate : c.self.inside.gate ≡ c.args.self.now.gate = ap (λ s. s.gate) c.self.view_is in
     subst (λ n. IsFrontOf ((g.T.Site.disk c.args.site.now).contents 0) n image) gate
     (c.seal_part.ensures.front_settles image t durable (omega (arith, gate, le)) settles)
+
+-- ---- the bytes at Ok
+
+pub returns-clause-text : goal.returns-clause-text
+returns-clause-text g c t waits le =
+    let f = c.self.inside in
+    let i = c.self.invariant in
+    let entries = entries_in f.waiting (drop f.start f.buffer.items) in
+    let end = c.end_of-end.result in
+    let k = c.min-count.result in
+    let few : k ≤ length entries = omega (arith, c.min-count.ensures, i.count) in
+    let some : 1 ≤ k = omega (arith, c.min-count.ensures, c.requires, c.if-self-eq0.false) in
+    let value = c.deref.ensures.value in
+    let inside : end < length f.buffer.items = omega (arith, c.end_of-end.ensures.inside, ap length value) in
+    let rest : drop end f.buffer.items ≡ body_text (drop k entries) ++ 0 ∷ [] =
+    ap (drop end) (sym value) ∙ c.end_of-end.ensures.rest entries i.each few (ap (drop f.start) value ∙ i.text) in
+    let all = total f.buffer.items f.start end k entries i.each i.text c.end_of-end.ensures.start inside few rest in
+    let spelled = spells f.buffer.items f.start end k entries i.each i.text c.end_of-end.ensures.start inside few rest
+    some (omega (arith, all, i.limit)) in
+    let taken : take k entries ≡ take c.args.most c.args.self.now.unsealed =
+    ap (λ n. take n entries) (c.min-count.ensures ∙ ap (min c.args.most) (sym i.count)) ∙ sym
+    (take_fewer entries c.args.most) ∙ ap (λ s. take c.args.most s.unsealed) c.self.view_is in
+    let gate : f.gate ≡ c.args.self.now.gate = ap (λ s. s.gate) c.self.view_is in
+    let bytes = (g.T.Site.disk c.args.site.now).contents 0 in
+    let opened : IsOpened ((g.T.Site.disk c.args.site.now).contents 0) f.gate (part_text f.buffer.items f.start end)
+    (g.T.Site.disk c.seal_part.new.site) =
+    subst (λ l. IsOpened ((g.T.Site.disk c.args.site.now).contents 0) f.gate (part_text l f.start end)
+    (g.T.Site.disk c.seal_part.new.site)) c.deref_mut.ensures.value
+    (c.in_ok-seal_part.ensures.opened t (omega (arith, le, gate))) in
+    subst (λ es. (g.T.Site.disk c.seal_part.new.site).contents 0 ≡ with_group_at bytes c.args.self.now.gate es) taken
+    (subst (λ n. (g.T.Site.disk c.seal_part.new.site).contents 0 ≡ with_group_at bytes n (take k entries)) gate
+    (sealed_text f.gate bytes (part_text f.buffer.items f.start end) (take k entries)
+    (g.T.Site.disk c.seal_part.new.site) spelled opened))
+
+-- ---- nothing to seal
+
+-- where an entry waits, some are unsealed
+pub returns-in_err-seal_part-clause-idle : goal.returns-in_err-seal_part-clause-idle
+returns-in_err-seal_part-clause-idle g c none =
+    let count = c.self.invariant.count in
+    absurd (omega (arith, count, ap (λ s. length s.unsealed) c.self.view_is, ap length none, c.if-self-eq0.false))
+
+pub returns-in_err-seal_part-clause-idle_log : goal.returns-in_err-seal_part-clause-idle_log
+returns-in_err-seal_part-clause-idle_log g c none =
+    let count = c.self.invariant.count in
+    absurd (omega (arith, count, ap (λ s. length s.unsealed) c.self.view_is, ap length none, c.if-self-eq0.false))
+
+pub returns-clause-idle : goal.returns-clause-idle
+returns-clause-idle g c none =
+    let count = c.self.invariant.count in
+    absurd (omega (arith, count, ap (λ s. length s.unsealed) c.self.view_is, ap length none, c.if-self-eq0.false))
+
+pub returns-clause-idle_log : goal.returns-clause-idle_log
+returns-clause-idle_log g c none =
+    let count = c.self.invariant.count in
+    absurd (omega (arith, count, ap (λ s. length s.unsealed) c.self.view_is, ap length none, c.if-self-eq0.false))
