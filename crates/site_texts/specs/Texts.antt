@@ -1,5 +1,5 @@
 -- The texts of a log: of the databases that its entries make, and of its groups; and which of them was sent.
-use Rattle.std.specs.Prelude.{◌≡◌, ◌≢◌, ◌⊎◌, ℕ, ◌+◌, List, [], ◌∷◌, ◌++◌, length, slice_index, take}
+use Rattle.std.specs.Prelude.{◌≡◌, ◌≢◌, ◌⊎◌, ℕ, ◌+◌, ◌≤◌, List, [], ◌∷◌, ◌++◌, length, slice_index, take}
 use Rattle.fp_model.specs.declared.database.Msdb.{Msdb}
 use Rattle.fp_model.specs.declared.definitions.Defs.{Defs}
 use Rattle.fp_model.specs.declared.log.Entry.{Entry}
@@ -83,3 +83,10 @@ pub record SendsDb (defs : Defs) (front : Front) (old new : Disk) : Type 0 where
   pub sent : new.sent ≡ old.sent ++ take count text
   pub contents : (set : ℕ) → new.contents set ≡ old.contents set
   pub crash : Through old new (SyncsAndSends old text)
+
+-- Each byte of the log is read once: up to the byte behind its end, of a log that can be read up to its first gate that
+-- isn't open, and of one with another front no more than the front has.
+pub record ReadsOnce (front : Front) (log : List ℕ) (before now : ℕ) : Type 0 where
+  pub all : now ≤ before + length log + 1
+  pub up_to : (groups : List (List Entry)) (gate : ℕ) → Holds front log groups gate → now ≤ before + gate + 1
+  pub of_others : ¬ (StartsWithFront log front) → now ≤ before + first_gate front

@@ -12,8 +12,9 @@ ghost use Rattle.fp_restart.specs.declared.fault.RestartFault.TheVariants as fau
 ghost use Rattle.fp_show.specs.DbText.{each_text, msdb_text};
 ghost use Rattle.log_groups.specs.Images.{as_front};
 ghost use Rattle.log_groups.specs.Kept.{IsSound};
+ghost use Rattle.log_groups.specs.Reads.{ReadsOnlyLog};
 ghost use Rattle.site_texts.specs.Sent.{GoesOn, HasSent, HasSentPart, IsTold};
-ghost use Rattle.site_texts.specs.Texts.{IsDbSent, SendsDb, msdbs_text};
+ghost use Rattle.site_texts.specs.Texts.{IsDbSent, ReadsOnce, SendsDb, msdbs_text};
 ghost use Rattle.fp_site.specs.Site.{ReadsNothing};
 ghost use Rattle.std.specs.List.{AllByRecursion};
 ghost use Rattle.std.specs.Prelude.{
@@ -80,6 +81,12 @@ pub fn show<T: Site>(
     ensures cause { IsErrOf result faults.SiteFault → (T.faults site.old < T.faults site.new)
         ⊎ (T.faults site.new ≡ 2 ^ 64 - 1) }
     ensures stayed { (IsErrOf result faults.SiteFault → ⊥) → T.faults site.new ≡ T.faults site.old }
+
+    // Each byte of the log is read once, and no other data set.
+    ensures once { T.told site.old → T.tells_reads site.new 0 → ReadsOnce (as_front front.now)
+        ((T.disk site.old).contents 0) (T.bytes_read site.old 0) (T.bytes_read site.new 0) }
+    ensures only_log { ReadsOnlyLog (T.tells_reads site.old) (T.tells_reads site.new) (T.bytes_read site.old)
+        (T.bytes_read site.new) }
     ensures site { GoesOn T.told T.faults T.holds T.keeps site.old site.new }
 {
     let (store, _log) = restart(alloc, defs, front, site)?;

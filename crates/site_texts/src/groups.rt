@@ -2,7 +2,7 @@
 ghost use Rattle.fp_model.specs.LogText.{FitsFront, StartsWithFront};
 ghost use Rattle.fp_restart.specs.declared.fault.RestartFault.TheVariants as faults;
 ghost use Rattle.log_groups.specs.Images.{as_front};
-ghost use Rattle.log_groups.specs.Reads.{HasGroup};
+ghost use Rattle.log_groups.specs.Reads.{HasGroup, ReadsOnlyLog};
 ghost use Rattle.fp_model.specs.Groups.{IsDamaged};
 ghost use Rattle.site_texts.specs.Groups.{AreAllSent, AreSentToDamage, IsOneSent, SendsFrom, SendsOne};
 ghost use Rattle.site_texts.specs.Sent.{GoesOn};
@@ -61,6 +61,8 @@ pub fn log<T: Site>(alloc: Global, front: &Front, site: &mut T) -> Result<(), Re
     ensures cause { IsErrOf result faults.SiteFault → (T.faults site.old < T.faults site.new)
         ⊎ (T.faults site.new ≡ 2 ^ 64 - 1) }
     ensures stayed { (IsErrOf result faults.SiteFault → ⊥) → T.faults site.new ≡ T.faults site.old }
+    ensures only_log { ReadsOnlyLog (T.tells_reads site.old) (T.tells_reads site.new) (T.bytes_read site.old)
+        (T.bytes_read site.new) }
     ensures site { GoesOn T.told T.faults T.holds T.keeps site.old site.new }
 {
     let mut log = Log::open(alloc, site, front)?;
@@ -92,6 +94,8 @@ fn send_groups<T: Site>(
     ensures cause { IsErrOf result faults.SiteFault → (T.faults site.old < T.faults site.new)
         ⊎ (T.faults site.new ≡ 2 ^ 64 - 1) }
     ensures stayed { (IsErrOf result faults.SiteFault → ⊥) → T.faults site.new ≡ T.faults site.old }
+    ensures only_log { ReadsOnlyLog (T.tells_reads site.old) (T.tells_reads site.new) (T.bytes_read site.old)
+        (T.bytes_read site.new) }
     ensures site { GoesOn T.told T.faults T.holds T.keeps site.old site.new }
 {
     let mut place = Place {
@@ -131,6 +135,8 @@ fn send_group<T: Site>(
     ensures cause { IsErrOf result faults.SiteFault → (T.faults site.old < T.faults site.new)
         ⊎ (T.faults site.new ≡ 2 ^ 64 - 1) }
     ensures stayed { (IsErrOf result faults.SiteFault → ⊥) → T.faults site.new ≡ T.faults site.old }
+    ensures only_log { ReadsOnlyLog (T.tells_reads site.old) (T.tells_reads site.new) (T.bytes_read site.old)
+        (T.bytes_read site.new) }
     ensures site { GoesOn T.told T.faults T.holds T.keeps site.old site.new }
 {
     let Some(group) = log.group_at(site, place.at)? else {

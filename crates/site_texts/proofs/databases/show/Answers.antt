@@ -75,3 +75,28 @@ returns-clause-means g c scripts entries last t sound history =
     ∙ ap (λ (ms : List Msdb). (g.T.Site.disk c.args.site.now).sent ++ msdbs_text c.args.defs.now ms)
     (stands.segments last history))
     (c.send_databases.ensures.sent t1)
+
+pub returns-in_err-store-clause-once : goal.returns-in_err-store-clause-once
+returns-in_err-store-clause-once g c t tells =
+    let call = c.restart.ensures in
+    record {
+      all = call.once t tells;
+      up_to = λ groups gate holds. call.read groups gate t holds tells;
+      of_others = λ away. call.no_front t away tells;
+    }
+
+pub returns-clause-once : goal.returns-clause-once
+returns-clause-once g c t tells =
+    let call = c.restart.ensures in
+    let on = c.send_databases.ensures.reads 0 tells in
+    record {
+      all = let at_most = call.once t on.0 in omega (arith, on.1, at_most);
+      up_to = λ groups gate holds. let at_most = call.read groups gate t holds on.0 in omega (arith, on.1, at_most);
+      of_others = λ away. let at_most = call.no_front t away on.0 in omega (arith, on.1, at_most);
+    }
+
+pub returns-clause-only_log : goal.returns-clause-only_log
+returns-clause-only_log g c set tells =
+    let on = c.send_databases.ensures.reads set tells in
+    let first = c.restart.ensures.only_log set on.0 in
+    (first.0, λ other. on.1 ∙ first.1 other)

@@ -46,6 +46,8 @@ loop-next-preserved g c =
           (g.T.Site.disk c.loop-next.site) (g.T.Site.disk c.send_group.new.site)
           (g.met.T.Site.lawful c.args.site.now t) (g.met.T.Site.lawful c.loop-next.site t1) (it.sent t) one;
       calm = search rules ∙ it.calm;
+      only_log = λ set h. let after = call.only_log set h in let earlier = it.only_log set after.0 in
+          (earlier.0, λ other. after.1 other ∙ earlier.1 other);
       site = record {
         later = omega (arith, it.site.later, call.site.later);
         still_told = λ t. call.site.still_told (it.site.still_told t);

@@ -1,4 +1,5 @@
 use Rattle.std.proofs.Common.{◌≡◌, ◌-◌, ◌^◌, ◌≤◌}
+use Rattle.log_groups.specs.Reads.{ReadsOnlyLog}
 use Rattle.site_texts.specs.Groups.{AreSent}
 use Rattle.site_texts.specs.Sent.{GoesOn}
 use Rattle.site_texts.proofs.groups.send_groups.Given as goal
@@ -12,6 +13,8 @@ invariant-loop-next g l = record {
   sent : g.T.Site.told l.initial.site
       → AreSent l.fn.first l.place (g.T.Site.disk l.initial.site) (g.T.Site.disk l.site);
   calm : g.T.Site.faults l.site ≡ g.T.Site.faults l.initial.site;
+  only_log : ReadsOnlyLog (g.T.Site.tells_reads l.initial.site) (g.T.Site.tells_reads l.site)
+      (g.T.Site.bytes_read l.initial.site) (g.T.Site.bytes_read l.site);
   site : GoesOn g.T.Site.told g.T.Site.faults g.T.Site.holds g.T.Site.keeps l.initial.site l.site;
 }
 
