@@ -12,8 +12,8 @@ use Rattle.fp_schedule.specs.Schedule.{event_of, events_of, first_fault, tokens_
 use Rattle.fp_schedule.specs.declared.fault.ScheduleFault.{ScheduleFault}
 use Rattle.fp_schedule.specs.declared.fault.ScheduleFault.TheVariants as unfit
 use Rattle.fp_system.specs.Setups.{HasEventsFor, IsRefusedSchedule}
-use Rattle.fp_system.specs.declared.words.Command.{Command}
-use Rattle.fp_system.specs.declared.words.Command.TheVariants.{Define, Run}
+use Rattle.command_words.specs.declared.words.Command.{Command}
+use Rattle.command_words.specs.declared.words.Command.TheVariants.{Define, Run}
 use Rattle.std.proofs.lemmas.Bool.Decides.{nat_tests}
 use Rattle.fp_defs.specs.Exits.{defs_for}
 use Rattle.fp_defs.specs.Whole.{defs_of}

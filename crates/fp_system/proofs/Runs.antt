@@ -28,8 +28,8 @@ use Rattle.fp_system.specs.Table.{IsSpared}
 use Rattle.fp_system.specs.declared.status.Status.{Status}
 use Rattle.fp_system.specs.declared.status.Status.TheVariants.{Done, Usage, Definitions, Scripts, Schedule, ReadFault}
 use Rattle.fp_system.specs.declared.status.Status.TheVariants.{SiteFault, Foreign, Damaged, Line, NoMemory, NotBuilt}
-use Rattle.fp_system.specs.declared.words.Command.{Command}
-use Rattle.fp_system.specs.declared.words.Command.TheVariants.{Define, Run}
+use Rattle.command_words.specs.declared.words.Command.{Command}
+use Rattle.command_words.specs.declared.words.Command.TheVariants.{Define, Run}
 use Rattle.std.specs.Prelude.{Option, Some, None}
 use Rattle.fp_system.proofs.Begins.{any_format, any_history, any_place, any_states, front_kept}
 use Rattle.fp_system.proofs.FrameLemmas.{spares_none}

@@ -7,11 +7,11 @@ use Rattle.fp_restart.proofs.Replays.{one_first_bad, readable_not_bad, sound_beg
 use Rattle.fp_system.specs.Answers.{faulty_line}
 use Rattle.fp_system.specs.Parts.{Job, Refuses, front_for}
 use Rattle.fp_source.specs.declared.part.Part.TheVariants as part
-use Rattle.fp_system.specs.Words.{command_of}
+use Rattle.command_words.specs.Words.{command_of}
 use Rattle.fp_system.specs.declared.status.Status.{Status}
 use Rattle.fp_system.specs.declared.status.Status.TheVariants.{Damaged}
-use Rattle.fp_system.specs.declared.words.Command.{Command}
-use Rattle.fp_system.specs.declared.words.Command.TheVariants.{Define, Run}
+use Rattle.command_words.specs.declared.words.Command.{Command}
+use Rattle.command_words.specs.declared.words.Command.TheVariants.{Define, Run}
 use Rattle.fp_system.proofs.Jobs.{one_job, one_answer, no_job_refused}
 use Rattle.fp_system.specs.Courses.{IsSoundFor}
 use Rattle.fp_system.specs.Table.{Given, Asks, ByLog, IsDue, IsDueTo, IsEnd, IsGood, end_of_lines}

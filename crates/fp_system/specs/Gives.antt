@@ -19,8 +19,8 @@ use Rattle.fp_system.specs.Courses.{Course, GoesOnTo, Input, IsEnded, IsKeptBy, 
 use Rattle.fp_system.specs.Table.{Given, IsForeign, IsSpared}
 use Rattle.fp_system.specs.declared.status.Status.{Status}
 use Rattle.fp_system.specs.declared.status.Status.TheVariants.{Done, ReadFault, NoMemory}
-use Rattle.fp_system.specs.declared.words.Command.{Command}
-use Rattle.fp_system.specs.declared.words.Command.TheVariants.{Define, Run}
+use Rattle.command_words.specs.declared.words.Command.{Command}
+use Rattle.command_words.specs.declared.words.Command.TheVariants.{Define, Run}
 
 -- the site safely holds these entries under the job
 abbrev pub IsSafeFor : Job → Disk → List Entry → Type 0

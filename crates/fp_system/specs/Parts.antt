@@ -16,8 +16,8 @@ use Rattle.fp_source.specs.declared.part.Part.{Part}
 use Rattle.fp_source.specs.declared.part.Part.TheVariants as part
 use Rattle.fp_system.specs.declared.status.Status.{Status}
 use Rattle.fp_system.specs.declared.status.Status.TheVariants as status
-use Rattle.fp_system.specs.declared.words.Command.{Command}
-use Rattle.fp_system.specs.declared.words.Command.TheVariants.{Define, Run}
+use Rattle.command_words.specs.declared.words.Command.{Command}
+use Rattle.command_words.specs.declared.words.Command.TheVariants.{Run}
 use Rattle.txn_lang.specs.Grammar.{AreScriptsOf, HasFault}
 use Rattle.txn_lang.specs.declared.fault.ScriptFault.{ScriptFault}
 
@@ -60,8 +60,8 @@ HasEvents job left events = events_of job.defs (left part.Schedule) ≡ Ok event
 
 -- what a command reads of a job's schedule: a run its events
 abbrev pub HasSchedule : Command → Job → (Part → List ℕ) → Type 0
-HasSchedule Define job left = ⊤
 HasSchedule Run job left = (events : List Event) × HasEvents job left events
+HasSchedule _ job left = ⊤
 
 -- The parts aren't what a command asks for, and this is the answer: that of the definitions, or behind good ones the
 -- first fault of the scripts, or of a run's schedule behind both.

@@ -11,8 +11,8 @@ use Rattle.fp_source.specs.declared.part.Part.TheVariants as part
 use Rattle.fp_system.specs.Parts.{Job, HasEvents, front_for}
 use Rattle.fp_system.specs.declared.status.Status.{Status}
 use Rattle.fp_system.specs.declared.status.Status.TheVariants as status
-use Rattle.fp_system.specs.declared.words.Command.{Command}
-use Rattle.fp_system.specs.declared.words.Command.TheVariants.{Define, Run}
+use Rattle.command_words.specs.declared.words.Command.{Command}
+use Rattle.command_words.specs.declared.words.Command.TheVariants.{Run}
 use Rattle.fp_system.specs.declared.parts.Setup.{Setup}
 use Rattle.log_groups.specs.Images.{as_front}
 use Rattle.txn_lang.specs.Grammar.{AreScriptsOf}
@@ -32,8 +32,8 @@ pub record IsSetup (setup : Setup) : Type 0 where
 
 -- the events that a command takes: of a run those of the schedule
 abbrev pub HasEventsFor : Command → Job → (Part → List ℕ) → List Event → Type 0
-HasEventsFor Define job left events = ⊤
 HasEventsFor Run job left events = HasEvents job left events
+HasEventsFor _ job left events = ⊤
 
 -- a run's schedule is refused with this answer
 abbrev pub IsRefusedSchedule : Command → Job → (Part → List ℕ) → Status → Type 0

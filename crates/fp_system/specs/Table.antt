@@ -13,11 +13,11 @@ use Rattle.fp_source.specs.declared.part.Part.{Part}
 use Rattle.fp_source.specs.declared.part.Part.TheVariants as part
 use Rattle.fp_system.specs.Answers.{MayStandIn, faulty_line}
 use Rattle.fp_system.specs.Parts.{Job, HasSchedule, IsJob, Refuses, front_for}
-use Rattle.fp_system.specs.Words.{command_of}
+use Rattle.command_words.specs.Words.{command_of}
 use Rattle.fp_system.specs.declared.status.Status.{Status}
 use Rattle.fp_system.specs.declared.status.Status.TheVariants.{Done, Usage, Foreign, Damaged, Line}
-use Rattle.fp_system.specs.declared.words.Command.{Command}
-use Rattle.fp_system.specs.declared.words.Command.TheVariants.{Define, Run}
+use Rattle.command_words.specs.declared.words.Command.{Command}
+use Rattle.command_words.specs.declared.words.Command.TheVariants.{Define, Run}
 
 -- What a call is given, as it is told: the kinds of exit that there are, the words behind the program's name, what is
 -- left of each part, and what each data set holds.

@@ -11,7 +11,7 @@ ghost use Rattle.fp_system.specs.Stops.{Calls, HeldThrough, HoldsOn, Lives, Stan
 ghost use Rattle.fp_system.specs.Table.{Asks, Given, IsDue, end_of_lines};
 ghost use Rattle.fp_system.specs.declared.status.Status.{Status as StatusOf};
 ghost use Rattle.fp_system.specs.declared.status.Status.TheVariants as status;
-ghost use Rattle.fp_system.specs.declared.words.Command.TheVariants as command;
+ghost use Rattle.command_words.specs.declared.words.Command.TheVariants as command;
 ghost use Rattle.std.specs.Prelude.{◌≡◌, [], List as ListOf};
 
 use fp_site::Site;

@@ -8,7 +8,6 @@ mod parts;
 mod status;
 mod texts;
 mod top;
-mod words;
 
 pub use laws::{
     a_call_keeps_what_was_answered, a_log_at_rest_holds_its_entries,
@@ -18,4 +17,3 @@ pub use laws::{
 pub use lives::{define_and_run, run_and_stop, run_once};
 pub use status::{Status, fault_text};
 pub use top::ims;
-pub use words::Command;

@@ -4,7 +4,7 @@ ghost use Rattle.fp_site.specs.Memory.{memory_disk};
 ghost use Rattle.fp_system.specs.Parts.{Job};
 ghost use Rattle.fp_system.specs.Stops.{HoldsOn, Standing, standing};
 ghost use Rattle.fp_system.specs.Table.{Asks, given};
-ghost use Rattle.fp_system.specs.declared.words.Command.TheVariants as command;
+ghost use Rattle.command_words.specs.declared.words.Command.TheVariants as command;
 ghost use Rattle.std.specs.Prelude.{◌≡◌, [], true, IfOk, IfSome};
 
 use crate::laws::a_call_keeps_what_was_answered;

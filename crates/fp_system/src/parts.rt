@@ -16,8 +16,8 @@ ghost use Rattle.fp_system.specs.Answers.{
 ghost use Rattle.fp_system.specs.Causes.{IsCausedBySource};
 ghost use Rattle.fp_system.specs.Parts.{HasSchedule, IsJob, Refuses, are_built, definitions_in};
 ghost use Rattle.fp_system.specs.Setups.{HasEventsFor, IsRefusedSchedule, IsSetup, job_of};
-ghost use Rattle.fp_system.specs.declared.words.Command.{Command as CommandOf};
-ghost use Rattle.fp_system.specs.declared.words.Command.TheVariants as commands;
+ghost use Rattle.command_words.specs.declared.words.Command.{Command as CommandOf};
+ghost use Rattle.command_words.specs.declared.words.Command.TheVariants as commands;
 ghost use Rattle.fp_source.specs.declared.part.Part.{Part as PartOf};
 ghost use Rattle.std.specs.List.{AllByRecursion};
 ghost use Rattle.fp_system.specs.declared.status.Status.TheVariants as status;
@@ -26,7 +26,7 @@ ghost use Rattle.txn_lang.specs.Grammar.{AreScriptsOf, HasFault};
 ghost use Rattle.txn_lang.specs.declared.fault.ScriptFault.{ScriptFault as ScriptFaultOf};
 
 use crate::Status;
-use crate::words::Command;
+use command_words::Command;
 use fp_defs::{DefsFault, read_defs};
 use fp_exits::Exits;
 use fp_model::{Bytes, Defs, Event, List};
@@ -287,11 +287,11 @@ fn read_rest<S: Source>(
     ensures cause { IfErr result (IsCausedBySource (S.faults source.old) (S.faults source.new)) }
     ensures stayed { OnOk result (S.faults source.new ≡ S.faults source.old) }
     ensures source { ReadsOnly S.told S.left S.faults S.holds S.keeps part.Schedule source.old source.new }
-    ensures unread { command ≡ commands.Define → source.new ≡ source.old }
+    ensures unread { (command ≡ commands.Run → ⊥) → source.new ≡ source.old }
 {
     match command {
-        Command::Define => Ok(List::new(alloc)),
         Command::Run => read_schedule(alloc, source, &setup.defs),
+        Command::Define | Command::Show | Command::Log => Ok(List::new(alloc)),
     }
 }
 
@@ -319,7 +319,7 @@ pub(crate) fn read_task<S: Source>(
 
     // The messages aren't read, nor is the schedule where none is asked for.
     ensures messages { S.told source.old → S.left source.new part.Messages ≡ S.left source.old part.Messages }
-    ensures schedule_unread { S.told source.old → command ≡ commands.Define
+    ensures schedule_unread { S.told source.old → (command ≡ commands.Run → ⊥)
         → S.left source.new part.Schedule ≡ S.left source.old part.Schedule }
     ensures later { S.faults source.old ≤ S.faults source.new }
     ensures told { S.told source.old → S.told source.new }

@@ -8,10 +8,10 @@ ghost use Rattle.fp_system.specs.Gives.{Defined, IsBeforeSite, Ran, ReadsOnce, T
 ghost use Rattle.fp_system.specs.Ims.{IsContinued};
 ghost use Rattle.fp_system.specs.Parts.{HasEvents, Job};
 ghost use Rattle.fp_system.specs.Table.{Asks, IsAnswerTo, given};
-ghost use Rattle.fp_system.specs.Words.{command_of};
+ghost use Rattle.command_words.specs.Words.{command_of};
 ghost use Rattle.fp_system.specs.declared.status.Status.TheVariants as status;
-ghost use Rattle.fp_system.specs.declared.words.Command.{Command as CommandOf};
-ghost use Rattle.fp_system.specs.declared.words.Command.TheVariants as command;
+ghost use Rattle.command_words.specs.declared.words.Command.{Command as CommandOf};
+ghost use Rattle.command_words.specs.declared.words.Command.TheVariants as command;
 ghost use Rattle.log_groups.specs.Reads.{ReadsOnlyLog};
 ghost use Rattle.std.specs.Prelude.{◌≡◌, ◌↔◌, None, Some, List as ListOf, map, string_bytes};
 

@@ -2,7 +2,7 @@ use Rattle.std.proofs.Common.{◌≡◌, [], true}
 use Rattle.fp_site.specs.Memory.{memory_disk}
 use Rattle.fp_system.specs.Stops.{standing}
 use Rattle.fp_system.specs.Table.{Asks, given}
-use Rattle.fp_system.specs.declared.words.Command.TheVariants as command
+use Rattle.command_words.specs.declared.words.Command.TheVariants as command
 use Rattle.fp_system.proofs.lives.define_and_run.Goals as goal
 
 pub returns : goal.returns

@@ -13,9 +13,9 @@ use Rattle.fp_system.specs.Parts.{HasEvents, Job, Refuses, front_for}
 use Rattle.fp_system.specs.Setups.{HasEventsFor, job_of}
 use Rattle.fp_system.specs.Table as table
 use Rattle.fp_system.specs.Table.{ByLog, IsEnd}
-use Rattle.fp_system.specs.Words.{command_of}
-use Rattle.fp_system.specs.declared.words.Command.{Command}
-use Rattle.fp_system.specs.declared.words.Command.TheVariants as command
+use Rattle.command_words.specs.Words.{command_of}
+use Rattle.command_words.specs.declared.words.Command.{Command}
+use Rattle.command_words.specs.declared.words.Command.TheVariants as command
 use Rattle.fp_system.proofs.CauseLemmas.{by_site, by_source, source_since}
 use Rattle.fp_system.proofs.Due.{parts_not_done}
 use Rattle.fp_system.proofs.Runs.{before_site, only_same, ran_not, unmade}
