@@ -46,7 +46,7 @@ lines_more g1 g2 n1 n2 few few2 e = omega (arith, few, few2, e)
 pub needs_fewer : (old new : Engine) (old_lines lines : Lines) (rounds left : ℕ)
     → rules_in new ≡ rules_in old → new.defs.now ≡ old.defs.now → rounds ≡ left + 1
     → (s : NeedsFewer old old_lines rounds) (ahead : List (List ℕ))
-    → HasRound (rules_in old) (record s.m { lines = ahead }) old_lines lines new
+    → HasRound old.defs.now (rules_in old) (record s.m { lines = ahead }) old_lines lines new
     → NeedsFewer new lines left
 needs_fewer old new old_lines lines rounds left same defs e s ahead r =
     let m : Machine = record s.m { lines = ahead } in

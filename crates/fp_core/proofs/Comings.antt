@@ -1,5 +1,5 @@
 -- Rounds of the drain beside a site and a source, and what a stop or a crash in them leaves.
-use Rattle.std.proofs.Common.{◌≡◌, refl, sym, ◌∙◌, ap, subst, arith, ℕ, zero, suc, ◌+◌, ◌<◌, List, [], ◌∷◌, ◌++◌, length, inl, inr}
+use Rattle.std.proofs.Common.{◌≡◌, refl, sym, ◌∙◌, ap, subst, arith, ℕ, zero, suc, ◌+◌, ◌<◌, List, [], ◌∷◌, ◌++◌, length, inl, inr, Some}
 use Rattle.std.specs.Prelude.{map, Bool, true, false, Option}
 use Rattle.std.specs.List.{AllByRecursion}
 use Rattle.std.proofs.lemmas.List.{append_assoc, map-append}
@@ -8,7 +8,7 @@ use Rattle.drain_laws.proofs.Rounds.{rounds_drain, rounds_more}
 use Rattle.fp_model.specs.declared.definitions.Defs.{Defs}
 use Rattle.fp_model.specs.declared.events.Event.{Event}
 use Rattle.fp_model.specs.declared.events.Event.TheVariants as event
-use Rattle.fp_model.specs.Machine.{Machine}
+use Rattle.fp_model.specs.Machine.{Idle, Machine, region_at}
 use Rattle.fp_model.specs.Rules.{Rules}
 use Rattle.fp_model.specs.Runs.{Drains, IsDrained, RunStep, machine_after, round}
 use Rattle.fp_model.specs.State.{numbers_up}
@@ -25,8 +25,9 @@ use Rattle.fp_core.specs.declared.stop.Stop.TheVariants as stops
 use Rattle.fp_core.specs.Draining.{AreCalm, DrainStopped, Drained, IsInDrain, IsLeftByDrain, IsLeftByStep}
 use Rattle.fp_core.specs.Relation.{AreMade, StandsFor, rules_in}
 use Rattle.fp_core.specs.Rounding.{BeganBy, HasCome, TookTurns, WentBeside, turns_of}
-use Rattle.fp_core.specs.Standing.{IsLeft, IsWithin, Leaves, MayStop, Origin, StandsAt, StandsBeside, Stepped, SteppedAt, seals_of}
-use Rattle.fp_core.proofs.Rounds.{makes_round, part_calm, part_events, part_of, part_runs}
+use Rattle.fp_core.specs.Standing.{IsLeft, IsStill, IsWithin, Leaves, MayStop, Origin, StandsAt, StandsBeside, Stepped, SteppedAt, seals_of}
+use Rattle.fp_core.specs.Turning.{RoundsAreExact}
+use Rattle.fp_core.proofs.Rounds.{makes_round, part_calm, part_events, part_exact, part_of, part_runs}
 use Rattle.fp_core.proofs.Steps.{left_alone, still_at}
 
 -- ---- rounds behind rounds
@@ -43,11 +44,21 @@ pub all_both : {A : Type 0} (P : A → Type 0) (xs ys : List A) → AllByRecursi
 all_both P [] ys h k = k
 all_both P (x ∷ xs) ys h k = (h.0, all_both P xs ys h.1 k)
 
+pub exact_both : (defs : Defs) (rules : Rules) (rounds : List (List RunStep)) (m mid : Machine)
+    (rounds2 : List (List RunStep)) → GoesRounds rules m rounds mid
+    → RoundsAreExact defs rules m rounds → RoundsAreExact defs rules mid rounds2
+    → RoundsAreExact defs rules m (rounds ++ rounds2)
+exact_both defs rules [] m mid rounds2 goes exact more =
+    subst (λ (x : Machine). RoundsAreExact defs rules x rounds2) goes more
+exact_both defs rules (steps ∷ rounds) m mid rounds2 goes exact more =
+    (exact.0, exact_both defs rules rounds (machine_after m steps) mid rounds2 goes.1 exact.1 more)
+
 -- one step of a drain behind the rounds of another
 in_behind : (defs : Defs) (rules : Rules) (rounds : List (List RunStep)) (m mid here : Machine) (e : Event)
     → GoesRounds rules m rounds mid
-    → AllByRecursion AreCalm rounds → IsInDrain defs rules mid here e → IsInDrain defs rules m here e
-in_behind defs rules rounds m mid here e goes calm i = record {
+    → AllByRecursion AreCalm rounds → RoundsAreExact defs rules m rounds
+    → IsInDrain defs rules mid here e → IsInDrain defs rules m here e
+in_behind defs rules rounds m mid here e goes calm exact i = record {
   rounds = rounds ++ i.rounds;
   behind = i.behind;
   whole = goes_both rules rounds m mid i.rounds i.behind goes i.whole;
@@ -57,50 +68,54 @@ in_behind defs rules rounds m mid here e goes calm i = record {
   left = i.left;
   next = i.next;
   calm = (all_both AreCalm rounds i.rounds calm i.calm.0, i.calm.1);
+  exact = (exact_both defs rules rounds m mid i.rounds goes exact i.exact.0, i.exact.1);
   made = i.made;
   format = i.format;
 }
 
-module _ (origin : Origin) (rules : Rules) (m : Machine) (old : Disk) (old_lines : Lines) where
+module _ (origin : Origin) (defs : Defs) (rules : Rules) (m : Machine) (old : Disk) (old_lines : Lines) where
   -- nothing yet
   abbrev pub none_come : (left : List ℕ) (engine : Engine) → StandsBeside origin old old_lines left engine m
-      → HasCome origin rules m old old old_lines old_lines left engine
+      → HasCome origin defs rules m old old old_lines old_lines left engine
   none_come left engine beside = record {
     rounds = [];
     after = m;
     goes = refl;
     calm = tt;
+    exact = tt;
     beside = beside;
     given = refl;
     others = λ set other. refl;
   }
 
   module _ (mid : Disk) (mid_lines : Lines) (mid_left : List ℕ) (engine : Engine)
-      (come : HasCome origin rules m old mid old_lines mid_lines mid_left engine) where
+      (come : HasCome origin defs rules m old mid old_lines mid_lines mid_left engine) where
     -- rounds behind rounds
     abbrev pub come_both : (new : Disk) (lines : Lines) (left : List ℕ) (next : Engine)
-        → HasCome origin rules come.after mid new mid_lines lines left next
-        → HasCome origin rules m old new old_lines lines left next
+        → HasCome origin defs rules come.after mid new mid_lines lines left next
+        → HasCome origin defs rules m old new old_lines lines left next
     come_both new lines left next more = record {
       rounds = come.rounds ++ more.rounds;
       after = more.after;
       goes = goes_both rules come.rounds m come.after more.rounds more.after come.goes more.goes;
       calm = all_both AreCalm come.rounds more.rounds come.calm more.calm;
+      exact = exact_both defs rules come.rounds m come.after more.rounds come.goes come.exact more.exact;
       beside = more.beside;
       given = more.given ∙ come.given;
       others = λ set other. more.others set other ∙ come.others set other;
     }
 
     -- a stop behind them
-    pub stopped_behind : (defs : Defs) (new : Disk) (stop : Stop)
+    pub stopped_behind : (new : Disk) (stop : Stop)
         → DrainStopped origin defs rules come.after mid_lines mid new stop
         → DrainStopped origin defs rules m old_lines old new stop
-    stopped_behind defs new stop d = record {
+    stopped_behind new stop d = record {
       here = d.here;
       event = d.event;
-      in_drain = in_behind defs rules come.rounds m come.after d.here d.event come.goes come.calm d.in_drain;
+      in_drain = in_behind defs rules come.rounds m come.after d.here d.event come.goes come.calm come.exact d.in_drain;
       may = d.may;
       first = λ number is. omega (arith, d.first number is, come.given);
+      idle = d.idle;
       within = record {
         text = d.within.text;
         sent = d.within.sent;
@@ -108,17 +123,18 @@ module _ (origin : Origin) (rules : Rules) (m : Machine) (old : Disk) (old_lines
         others = λ set other. d.within.others set other ∙ come.others set other;
       };
       rest = d.rest;
+      still = d.still;
     }
 
     -- a crash behind them
-    left_behind : (defs : Defs) (law : IsLawful mid) (first : Through old mid (IsLeftByDrain origin defs rules m old))
+    left_behind : (law : IsLawful mid) (first : Through old mid (IsLeftByDrain origin defs rules m old))
         (s : Snapshot)
         → IsLeftByDrain origin defs rules come.after mid s → IsLeftByDrain origin defs rules m old s
-    left_behind defs law first s (inl left) =
+    left_behind law first s (inl left) =
         first.each s (law.earlier old.moment mid.moment s first.later (law.counts_now s left))
-    left_behind defs law first s (inr step) =
+    left_behind law first s (inr step) =
         let in_drain = in_behind defs rules come.rounds m come.after step.here step.event come.goes come.calm
-        step.in_drain in
+        come.exact step.in_drain in
         let is = step.is_left in
         inr (by in_drain is (first.each is.before
         (law.earlier old.moment mid.moment is.before first.later (law.counts_now is.before is.was_left))))
@@ -153,32 +169,33 @@ module _ (origin : Origin) (rules : Rules) (m : Machine) (old : Disk) (old_lines
           };
         }
 
-    pub moments_both : (defs : Defs) (new : Disk) → IsLawful mid
+    pub moments_both : (new : Disk) → IsLawful mid
         → Through old mid (IsLeftByDrain origin defs rules m old)
         → Through mid new (IsLeftByDrain origin defs rules come.after mid)
         → Through old new (IsLeftByDrain origin defs rules m old)
-    moments_both defs new law first second =
+    moments_both new law first second =
         joined (IsLeftByDrain origin defs rules m old) old mid new first
         (weaker (IsLeftByDrain origin defs rules come.after mid) (IsLeftByDrain origin defs rules m old) mid new
-        (λ s left. left_behind defs law first s left) second)
+        (λ s left. left_behind law first s left) second)
 
   -- where no call of the site was made
-  pub moments_none : (defs : Defs) → IsLawful old → Through old old (IsLeftByDrain origin defs rules m old)
-  moments_none defs law = started (IsLeftByDrain origin defs rules m old) old law (λ s left. inl left)
+  pub moments_none : IsLawful old → Through old old (IsLeftByDrain origin defs rules m old)
+  moments_none law = started (IsLeftByDrain origin defs rules m old) old law (λ s left. inl left)
 
 -- what a drain comes to
-pub drained_by : (origin : Origin) (rules : Rules) (m : Machine) (old new : Disk) (old_lines lines : Lines)
-    (left : List ℕ)
-    (engine : Engine) → rules_in engine ≡ rules
-    → (come : HasCome origin rules m old new old_lines lines left engine) → IsDrained rules come.after
+pub drained_by : (origin : Origin) (defs : Defs) (rules : Rules) (m : Machine) (old new : Disk)
+    (old_lines lines : Lines) (left : List ℕ) (engine : Engine) → engine.defs.now ≡ defs → rules_in engine ≡ rules
+    → (come : HasCome origin defs rules m old new old_lines lines left engine) → IsDrained rules come.after
     → Drained origin m old new lines left engine
-drained_by origin rules m old new old_lines lines left engine same come done =
+drained_by origin defs rules m old new old_lines lines left engine same_defs same come done =
     let drains = rounds_drain rules come.rounds m come.after come.goes done in
     record {
       rounds = come.rounds;
       after = come.after;
       drains = subst (λ (r : Rules). Drains r m come.rounds come.after) (sym same) drains;
       calm = come.calm;
+      exact = subst (λ (d : Defs). RoundsAreExact d (rules_in engine) m come.rounds) (sym same_defs)
+          (subst (λ (r : Rules). RoundsAreExact defs r m come.rounds) (sym same) come.exact);
       beside = come.beside;
       others = come.others;
     }
@@ -198,6 +215,7 @@ in_first rules m engine stands = record {
   left = map event.Region (numbers_up (length rules.regions) 1) ++ event.Log ∷ [];
   next = refl;
   calm = (tt, refl);
+  exact = (tt, tt);
   made = stands.made;
   format = stands.format;
 }
@@ -242,6 +260,7 @@ module _ (defs : Defs) (rules : Rules) (m : Machine) (old_lines lines : Lines) (
     next = next ∙ ap (λ (es : List Event). es ++ e ∷ rest)
         (sym (part_events rules m old_lines lines first second given same same2 stepped n took));
     calm = (tt, part_calm rules m old_lines lines first second given same same2 stepped n took);
+    exact = (tt, part_exact rules m old_lines lines first second given same same2 stepped defs same_defs n took);
     made = subst (λ (d : Defs). AreMade d took.after) same_defs took.stands.made;
     format = took.stands.format;
   }
@@ -297,12 +316,13 @@ module _ (origin : Origin) (disk : Disk) (left : List ℕ) (m : Machine) (lines 
 -- ---- a round beside them
 
 -- none, where the machine is drained
-pub came_off : (origin : Origin) (rules : Rules) (m : Machine) (disk : Disk) (old_lines lines : Lines) (left : List ℕ)
+pub came_off : (origin : Origin) (defs : Defs) (rules : Rules) (m : Machine) (disk : Disk) (old_lines lines : Lines)
+    (left : List ℕ)
     (engine : Engine) (more : Bool) → rules_in engine ≡ rules → more ≡ false
     → (by : BeganBy m old_lines lines left engine more)
     → StandsBeside origin disk lines left engine by.began.stepped.turned.after
-    → WentBeside origin rules m disk disk old_lines lines left engine more
-came_off origin rules m disk old_lines lines left engine more same off by beside =
+    → WentBeside origin defs rules m disk disk old_lines lines left engine more
+came_off origin defs rules m disk old_lines lines left engine more same off by beside =
     let done = by.began.done off in
     record {
       come = record {
@@ -310,6 +330,7 @@ came_off origin rules m disk old_lines lines left engine more same off by beside
         after = m;
         goes = refl;
         calm = tt;
+        exact = tt;
         beside = subst (λ (x : Machine). StandsBeside origin disk lines left engine x) done.1 beside;
         given = subst (λ (x : Machine). lines_given lines + length x.lines ≡ lines_given old_lines + length m.lines)
             done.1 by.began.stepped.given;
@@ -322,6 +343,10 @@ came_off origin rules m disk old_lines lines left engine more same off by beside
 
 module _ (origin : Origin) (rules : Rules) (m : Machine) (old_lines : Lines) (disk : Disk) (stop : Stop)
     (law : IsLawful disk) where
+  -- the site stands as it did before the step
+  still_there : (engine : Engine) (here : Machine) → StandsAt origin disk engine here → IsStill origin disk here
+  still_there engine here at = record { gate = engine.log.gate; at_rest = at.at_rest; sent = at.sent }
+
   -- in IN
   pub stopped_in : (engine : Engine) → StandsAt origin disk engine m → MayStop event.In engine.held stop
       → ((number : ℕ) → stop ≡ stops.LineFault number → number ≡ lines_given old_lines + 1)
@@ -332,23 +357,29 @@ module _ (origin : Origin) (rules : Rules) (m : Machine) (old_lines : Lines) (di
     in_drain = in_first rules m engine at.parts;
     may = subst (λ h. MayStop event.In h stop) at.parts.held may;
     first = λ n is. omega (arith, number n is);
+    idle = λ region is. absurd cc;
     within = (left_alone origin rules m 0 disk engine law at).within;
     rest = λ calm. at.at_rest.durable;
+    still = λ calm. still_there engine m at;
   }
 
   -- in the turn of a region, for want of memory
   pub stopped_region : (defs : Defs) (engine : Engine) (here : Machine) (region : ℕ) → stop ≡ stops.Memory
       → StandsAt origin disk engine here
       → IsInDrain defs rules m here (event.Region region)
+      → region_at here region ≡ Some Idle
       → DrainStopped origin defs rules m old_lines disk disk stop
-  stopped_region defs engine here region is at i = record {
+  stopped_region defs engine here region is at i idle = record {
     here = here;
     event = event.Region region;
     in_drain = i;
     may = subst (λ (s : Stop). MayStop (event.Region region) here.held s) (sym is) tt;
     first = λ n e. absurd cc;
+    idle = λ other e.
+        subst (λ (n : ℕ). region_at here n ≡ Some Idle) (let same : region ≡ other = cc in same) idle;
     within = (left_alone origin rules here 0 disk engine law at).within;
     rest = λ calm. at.at_rest.durable;
+    still = λ calm. still_there engine here at;
   }
 
 -- in LOG
@@ -410,8 +441,10 @@ module _ (origin : Origin) (rules : Rules) (m : Machine) (old new : Disk) (old_l
     in_drain = at_log;
     may = subst (λ h. MayStop event.Log h stop) b.took.stands.held may;
     first = λ n is. absurd (no_line_in_log engine.held stop n may is);
+    idle = λ region is. absurd cc;
     within = subst (λ (r : Rules). IsWithin origin r b.took.after 1 old new) same leaves.within;
     rest = λ calm. absurd (calm tt);
+    still = λ calm. absurd (calm tt);
   }
 
   -- what a crash leaves
@@ -428,10 +461,10 @@ module _ (origin : Origin) (rules : Rules) (m : Machine) (old new : Disk) (old_l
   -- a whole round
   pub went_on : (next : Engine) (given : Did) → rules_in next ≡ rules
       → SteppedAt origin event.Log b.took.after new next given
-      → WentBeside origin rules m old new old_lines lines left next true
+      → WentBeside origin defs rules m old new old_lines lines left next true
   went_on next given same2 sealed =
-      let round = makes_round rules m old_lines lines b.first engine b.given b.same same b.stepped next given same2
-      b.undone b.took sealed.turned in
+      let round = makes_round rules m old_lines lines b.first engine b.given b.same same b.stepped defs same_defs next
+      given same2 b.undone b.took sealed.turned in
       let beside = log_stands origin new left b.took.after lines next given b.beside.lines_are sealed in
       record {
         come = record {
@@ -439,6 +472,7 @@ module _ (origin : Origin) (rules : Rules) (m : Machine) (old new : Disk) (old_l
           after = round.after;
           goes = rounds_more rules [] m m round.steps round.after refl round.goes;
           calm = (round.calm, tt);
+          exact = (round.exact, tt);
           beside = beside;
           given = round.given;
           others = leaves.within.others;

@@ -1,5 +1,5 @@
--- What a turn ties beyond the table, said of the machines that it leads between.
-use Rattle.std.proofs.Common.{◌≡◌, sym, ◌∙◌, ap, subst, ℕ, zero, suc, List, [], ◌∷◌, ◌++◌, length, Option, Some, None}
+-- What an exact turn is: what is answered tells it, the cycle that it names is the first, and what it adds to entries.
+use Rattle.std.proofs.Common.{◌≡◌, ◌⊎◌, inl, inr, refl, sym, ◌∙◌, ap, subst, ℕ, zero, suc, List, [], ◌∷◌, ◌++◌, length, Option, Some, None}
 use Rattle.ci_locks.specs.Cycles.{first_cycle}
 use Rattle.fp_model.specs.declared.database.Db.{Db}
 use Rattle.fp_model.specs.declared.definitions.Defs.{Defs}
@@ -10,14 +10,14 @@ use Rattle.fp_model.specs.declared.log.Item.{Item}
 use Rattle.fp_model.specs.declared.log.Outcome.{Outcome}
 use Rattle.fp_model.specs.declared.log.Outcome.TheVariants as outcome
 use Rattle.fp_model.specs.Answers.{Needed}
-use Rattle.fp_model.specs.Machine.{Transaction, Region, Active, Machine, region_at, ended_with, entry_of}
+use Rattle.fp_model.specs.Commit.{Settlement, Commits, FailsVerify, FillsPart}
+use Rattle.fp_model.specs.Asking.{Ask, Asks, Replies, Rolls}
+use Rattle.fp_model.specs.Machine.{Transaction, Region, Idle, Active, Machine, region_at, ended_with, entry_of}
 use Rattle.fp_model.specs.Rules.{Rules}
-use Rattle.fp_model.specs.Serial.{Ending, refused_as}
-use Rattle.fp_model.specs.Turns.{Environment, NoFault, DeviceFault, OutOfMemory, Act, Answers, Gains, Waits, Deadlocks, Retries_at_cycle, Finishes, Retries_at_verify, Does, RegionTurn, Turn, asks, refused_with, requests_with, wanted}
+use Rattle.fp_model.specs.Serial.{Ending, refused_as, settled_as}
+use Rattle.fp_model.specs.Turns.{Environment, NoFault, DeviceFault, OutOfMemory, Act, Answers, Gains, Waits, Deadlocks, Retries_at_cycle, Finishes, Retries_at_verify, Does, RegionTurn, Turn, AreItemsFor, asks, ending_of, refused_with, requests_with, wanted}
 use Rattle.fp_core.specs.declared.did.Did.{Did}
-use Rattle.fp_core.specs.declared.engine.Engine.{Engine}
-use Rattle.fp_core.specs.Relation.{rules_in}
-use Rattle.fp_core.specs.Turning.{AreItemsOf, HasItsItems, IsDid, IsDidOfRegion, IsExact, Turned}
+use Rattle.fp_core.specs.Turning.{HasItsItems, IsDid, IsDidOfRegion, IsExact, IsExactOfRegion, IsExactTurn}
 use Rattle.fp_core.proofs.Places.{none_some, some_same}
 
 -- ---- entries, and one more
@@ -39,7 +39,7 @@ same_cycle a b e = cc
 -- ---- an act
 
 module _ (defs : Defs) (rules : Rules) (m : Machine) (place : ℕ) (t : Transaction) where
-  -- the entry of a deadlock names the first cycle,
+  -- the entry of a deadlock names the first cycle
   names_found : (act : Act) (after : Machine) (needed : Needed) (cycle : List ℕ)
       → Does rules m (suc place) t act after
       → IsExact defs rules m (suc place) t act
@@ -70,43 +70,99 @@ module _ (defs : Defs) (rules : Rules) (m : Machine) (place : ℕ) (t : Transact
   names_found (Retries_at_verify ending) after needed cycle does exact wants is =
       absurd (none_some needed (sym does.0.lacks_none ∙ wants))
 
-  -- and one that is done has its items
-  items_found : (act : Act) (after : Machine) (ending : Ending) (items : List Item)
-      → Does rules m (suc place) t act after
-      → IsExact defs rules m (suc place) t act
-      → ending.outcome ≡ outcome.Done
-      → after ≡ ended_with (suc place) (entry_of t ending t.notes items) ending.next m
-      → AreItemsOf defs t.point.own.deferred m.history.now.msdbs ending.next.msdbs items
-  items_found (Answers call) after ending items does exact done is =
-      absurd (not_longer m.history.entries (entry_of t ending t.notes items) (ap entries_in (sym does.2 ∙ is)))
-  items_found (Gains n) after ending items does exact done is =
-      absurd (not_longer m.history.entries (entry_of t ending t.notes items) (ap entries_in (sym does.2 ∙ is)))
-  items_found (Waits n) after ending items does exact done is =
-      absurd (not_longer m.history.entries (entry_of t ending t.notes items) (ap entries_in (sym does.3 ∙ is)))
-  items_found (Deadlocks n c) after ending items does exact done is =
-      let last = last_same m.history.entries
-      (entry_of t (refused_as (outcome.Deadlock (suc place ∷ c)) m.history.now) [] [])
-      (entry_of t ending t.notes items) (ap entries_in (sym does.2 ∙ is)) in
-      absurd (not_done (suc place ∷ c) (ap (λ (e : Entry). e.outcome) last ∙ done))
-    where
-      not_done : (xs : List ℕ) → outcome.Deadlock xs ≡ outcome.Done → ⊥
-      not_done xs e = cc
-  items_found (Retries_at_cycle n c) after ending items does exact done is =
-      absurd (not_longer m.history.entries (entry_of t ending t.notes items) (ap entries_in (sym does.2 ∙ is)))
-  items_found (Finishes e its) after ending items does exact done is =
-      let last = last_same m.history.entries (entry_of t e t.notes its) (entry_of t ending t.notes items)
-      (ap entries_in (sym does.3 ∙ is)) in
-      let over : e.outcome ≡ outcome.Done = ap (λ (x : Entry). x.outcome) last ∙ done in
-      let next : e.next ≡ ending.next = ap (λ (x : Machine). x.history.now) (sym does.3 ∙ is) in
-      let own : AreItemsOf defs t.point.own.deferred m.history.now.msdbs e.next.msdbs its =
-      subst (λ (o : Outcome). HasItsItems defs rules m t o e.next its) over exact in
-      subst (λ (d : Db). AreItemsOf defs t.point.own.deferred m.history.now.msdbs d.msdbs items) next
-      (subst (λ (xs : List Item). AreItemsOf defs t.point.own.deferred m.history.now.msdbs e.next.msdbs xs)
-      (ap (λ (x : Entry). x.items) last) own)
-  items_found (Retries_at_verify e) after ending items does exact done is =
-      absurd (not_longer m.history.entries (entry_of t ending t.notes items) (ap entries_in (sym does.3 ∙ is)))
+-- ---- what an act adds
+
+-- An exact act adds no entry, or one with its own items. Only one that is done has another state behind it.
+pub data Adds (defs : Defs) (rules : Rules) (m : Machine) (t : Transaction) (m2 : Machine) : Type 0 where
+  AddsNone : m2.history ≡ m.history → Adds defs rules m t m2
+  AddsOne :
+      (e : Entry)
+      → m2.history.entries ≡ m.history.entries ++ e ∷ []
+      → AreItemsFor e.outcome e.items
+      → HasItsItems defs rules m t e.outcome m2.history.now e.items
+      → (¬ (e.outcome ≡ outcome.Done) → m2.history.now ≡ m.history.now)
+      → Adds defs rules m t m2
+
+pub done_or_not : (o : Outcome) → (o ≡ outcome.Done) ⊎ ¬ (o ≡ outcome.Done)
+done_or_not outcome.Done = inl refl
+done_or_not (outcome.Verify call fsa found) = inr (λ e. cc)
+done_or_not (outcome.Roll code) = inr (λ e. cc)
+done_or_not (outcome.SeqFull set begin end n) = inr (λ e. cc)
+done_or_not (outcome.Deadlock cycle) = inr (λ e. cc)
+done_or_not outcome.Device = inr (λ e. cc)
+done_or_not outcome.Memory = inr (λ e. cc)
+done_or_not outcome.Unknown = inr (λ e. cc)
+done_or_not (outcome.Old last) = inr (λ e. cc)
+done_or_not (outcome.Repeat line) = inr (λ e. cc)
+done_or_not (outcome.Purge set n) = inr (λ e. cc)
+done_or_not outcome.Format = inr (λ e. cc)
+
+-- a transaction that isn't done leaves the state
+state_stays : (now : Db) (reply : List ℕ) (s : Settlement) → ¬ ((settled_as now reply s).outcome ≡ outcome.Done)
+    → (settled_as now reply s).next ≡ now
+state_stays now reply (Commits next) other = absurd (other refl)
+state_stays now reply (FailsVerify call fsa found) other = refl
+state_stays now reply (FillsPart set begin end n) other = refl
+
+module _ (defs : Defs) (rules : Rules) (m : Machine) (place : ℕ) (t : Transaction) where
+  end_stays : (ask : Ask) (ending : Ending) → ending_of rules m.history.now t ask ≡ Some ending
+      → ¬ (ending.outcome ≡ outcome.Done) → ending.next ≡ m.history.now
+  end_stays (Asks call) ending is other = absurd (none_some ending is)
+  end_stays (Replies reply) ending is other =
+      let s = rules.settle m.history.now t.point.own in
+      let same : settled_as m.history.now reply s ≡ ending = some_same (settled_as m.history.now reply s) ending is in
+      sym (ap (λ (x : Ending). x.next) same)
+      ∙ state_stays m.history.now reply s (λ done. other (sym (ap (λ (x : Ending). x.outcome) same) ∙ done))
+  end_stays (Rolls code) ending is other =
+      let made : Ending = refused_as (outcome.Roll code) m.history.now in
+      sym (ap (λ (x : Ending). x.next) (some_same made ending is))
+
+  act_adds : (act : Act) (m2 : Machine) → Does rules m (suc place) t act m2 → IsExact defs rules m (suc place) t act
+      → Adds defs rules m t m2
+  act_adds (Answers call) m2 does exact = AddsNone (ap (λ (x : Machine). x.history) does.2)
+  act_adds (Gains n) m2 does exact = AddsNone (ap (λ (x : Machine). x.history) does.2)
+  act_adds (Waits n) m2 does exact = AddsNone (ap (λ (x : Machine). x.history) does.3)
+  act_adds (Deadlocks n c) m2 does exact =
+      AddsOne (entry_of t (refused_as (outcome.Deadlock (suc place ∷ c)) m.history.now) [] [])
+      (ap entries_in does.2) refl tt (λ other. ap (λ (x : Machine). x.history.now) does.2)
+  act_adds (Retries_at_cycle n c) m2 does exact = AddsNone (ap (λ (x : Machine). x.history) does.2)
+  act_adds (Finishes ending items) m2 does exact =
+      let next : m2.history.now ≡ ending.next = ap (λ (x : Machine). x.history.now) does.3 in
+      AddsOne (entry_of t ending t.notes items) (ap entries_in does.3) does.2
+      (subst (λ (d : Db). HasItsItems defs rules m t ending.outcome d items) (sym next) exact)
+      (λ other. next ∙ end_stays (asks rules t) ending does.0.ends other)
+  act_adds (Retries_at_verify ending) m2 does exact = AddsNone (ap (λ (x : Machine). x.history) does.3)
+
+  -- whatever befalls it
+  pub turn_adds : (v : Environment) (m2 : Machine) → RegionTurn rules m (suc place) (Some (Active t)) v m2
+      → IsExactOfRegion defs rules m (suc place) (Some (Active t)) v m2 → Adds defs rules m t m2
+  turn_adds NoFault m2 turn exact = act_adds exact.0 m2 exact.1 exact.2
+  turn_adds DeviceFault m2 turn exact =
+      AddsOne (entry_of t (refused_as outcome.Device m.history.now) [] []) (ap entries_in turn) refl tt
+      (λ other. ap (λ (x : Machine). x.history.now) turn)
+  turn_adds OutOfMemory m2 turn exact =
+      AddsOne (entry_of t (refused_as outcome.Memory m.history.now) [] []) (ap entries_in turn) refl tt
+      (λ other. ap (λ (x : Machine). x.history.now) turn)
 
 -- ---- a turn
+
+-- What is answered for a turn says that it is exact.
+pub exact_of : (defs : Defs) (rules : Rules) (m : Machine) (e : Event) (v : Environment) (m2 : Machine) (given : Did)
+    → IsDid defs rules m e v m2 given → IsExactTurn defs rules m e v m2
+exact_of defs rules m event.In v m2 given did = tt
+exact_of defs rules m (event.Region region) v m2 given did = by (region_at m region) v did
+  where
+    by : (o : Option Region) (v : Environment) → IsDidOfRegion defs rules m region o v m2 given
+        → IsExactOfRegion defs rules m region o v m2
+    by None v did = tt
+    by (Some Idle) v did = tt
+    by (Some (Active t)) NoFault did = (did.0, did.1, did.2)
+    by (Some (Active t)) DeviceFault did = tt
+    by (Some (Active t)) OutOfMemory did = tt
+exact_of defs rules m event.Log v m2 given did = tt
+exact_of defs rules m event.Out v m2 given did = tt
+exact_of defs rules m event.Ckpt v m2 given did = tt
+exact_of defs rules m (event.Purge set n) v m2 given did = absurd did
 
 not_deadlock : (o : Outcome) (cycle : List ℕ) → ¬ (o ≡ outcome.Deadlock cycle) → (m : Machine) (place : ℕ)
     → (t : Transaction) (rules : Rules)
@@ -116,35 +172,26 @@ not_deadlock o cycle apart m place t rules is =
     apart (ap (λ (e : Entry). e.outcome)
     (last_same m.history.entries (made o) (made (outcome.Deadlock cycle)) (ap entries_in is)))
 
-module _ (engine : Engine) (m : Machine) (given : Did) where
-  -- The cycle that an entry of a turn names is the first.
-  pub names_first : (e : Event) (turned : Turned e m engine given) (region : ℕ) (t : Transaction) (needed : Needed)
-      → (cycle : List ℕ)
+module _ (defs : Defs) (rules : Rules) (m : Machine) (v : Environment) (after : Machine) where
+  -- The cycle that an entry of an exact turn names is the first.
+  pub names_first : (e : Event) → Turn rules m e v after → IsExactTurn defs rules m e v after
+      → (region : ℕ) (t : Transaction) (needed : Needed) (cycle : List ℕ)
       → e ≡ event.Region region
       → region_at m region ≡ Some (Active t)
-      → wanted (rules_in engine) m region t (asks (rules_in engine) t) ≡ Some needed
-      → turned.after ≡ refused_with (rules_in engine) m region t (outcome.Deadlock cycle)
-      → cycle ≡ first_cycle (length (rules_in engine).regions) (requests_with (rules_in engine) m region needed) m.locks
-      region
-  names_first e turned zero t needed cycle here there wants is = absurd (none_some (Active t) there)
-  names_first e turned (suc place) t needed cycle here there wants is =
-      by turned.environment
-      (subst (λ (o : Option Region). RegionTurn (rules_in engine) m (suc place) o turned.environment turned.after) there
-      (subst (λ (x : Event). Turn (rules_in engine) m x turned.environment turned.after) here turned.turn))
-      (subst (λ (o : Option Region). IsDidOfRegion engine.defs.now (rules_in engine) m (suc place) o turned.environment
-      turned.after given) there
-      (subst (λ (x : Event). IsDid engine.defs.now (rules_in engine) m x turned.environment turned.after given) here
-      turned.is_did))
+      → wanted rules m region t (asks rules t) ≡ Some needed
+      → after ≡ refused_with rules m region t (outcome.Deadlock cycle)
+      → cycle ≡ first_cycle (length rules.regions) (requests_with rules m region needed) m.locks region
+  names_first e turn exact zero t needed cycle here there wants is = absurd (none_some (Active t) there)
+  names_first e turn exact (suc place) t needed cycle here there wants is =
+      by v
+      (subst (λ (o : Option Region). RegionTurn rules m (suc place) o v after) there
+      (subst (λ (x : Event). Turn rules m x v after) here turn))
+      (subst (λ (o : Option Region). IsExactOfRegion defs rules m (suc place) o v after) there
+      (subst (λ (x : Event). IsExactTurn defs rules m x v after) here exact))
     where
-      by : (v : Environment)
-          → RegionTurn (rules_in engine) m (suc place) (Some (Active t)) v turned.after
-          → IsDidOfRegion engine.defs.now (rules_in engine) m (suc place) (Some (Active t)) v turned.after given
-          → cycle ≡ first_cycle (length (rules_in engine).regions)
-          (requests_with (rules_in engine) m (suc place) needed)
-          m.locks (suc place)
-      by NoFault turn did =
-          names_found engine.defs.now (rules_in engine) m place t did.0 turned.after needed cycle did.1 did.2 wants is
-      by DeviceFault turn did = absurd (not_deadlock outcome.Device cycle (λ e. cc) m place t (rules_in engine)
-          (sym turn ∙ is))
-      by OutOfMemory turn did = absurd (not_deadlock outcome.Memory cycle (λ e. cc) m place t (rules_in engine)
-          (sym turn ∙ is))
+      by : (w : Environment) → RegionTurn rules m (suc place) (Some (Active t)) w after
+          → IsExactOfRegion defs rules m (suc place) (Some (Active t)) w after
+          → cycle ≡ first_cycle (length rules.regions) (requests_with rules m (suc place) needed) m.locks (suc place)
+      by NoFault turn act = names_found defs rules m place t act.0 after needed cycle act.1 act.2 wants is
+      by DeviceFault turn act = absurd (not_deadlock outcome.Device cycle (λ e. cc) m place t rules (sym turn ∙ is))
+      by OutOfMemory turn act = absurd (not_deadlock outcome.Memory cycle (λ e. cc) m place t rules (sym turn ∙ is))

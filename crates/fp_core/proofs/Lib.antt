@@ -15,7 +15,8 @@ pub mod Readings
 pub mod Tells
 pub mod Seals
 pub mod Leavings
-pub mod Spared
+pub mod SparingLemmas
+pub mod StopLemmas
 pub mod Logs
 pub mod Checkpoints
 pub mod Quiets

@@ -15,7 +15,7 @@ use Rattle.fp_model.specs.declared.events.Event.TheVariants as event
 use Rattle.fp_model.specs.declared.log.Entry.{Entry}
 use Rattle.fp_model.specs.declared.scripts.Script.{Script}
 use Rattle.fp_model.specs.Machine as machine
-use Rattle.fp_model.specs.Machine.{Transaction, Machine}
+use Rattle.fp_model.specs.Machine.{Transaction, Machine, region_at}
 use Rattle.fp_model.specs.Rules.{Rules}
 use Rattle.fp_model.specs.Serial.{begun}
 use Rattle.fp_model.specs.Turns.{NoFault, RegionTurn, begins_in, begun_in, messages_for, queue_of_region}
@@ -103,6 +103,14 @@ is_idle engine m place s idle =
         → slice_get m.regions place ≡ Some machine.Idle
     by machine.Idle there is = there
     by (machine.Active t) there is = absurd is
+
+-- the same by its number
+pub idle_at : (engine : Engine) (m : Machine) (region : ℕ) → 1 ≤ region → StandsFor engine m
+    → slice_get engine.regions (region - 1) ≡ Some regions.Idle → region_at m region ≡ Some machine.Idle
+idle_at engine m zero some s idle = absurd (omega (arith, some))
+idle_at engine m (suc place) some s idle =
+    let same : suc place - 1 ≡ place = omega arith in
+    is_idle engine m place s (subst (λ (n : ℕ). slice_get engine.regions n ≡ Some regions.Idle) same idle)
 
 -- what it takes, it takes in a turn
 idle_turned : (engine new : Engine) (m : Machine) (place : ℕ) (messages : List Message)

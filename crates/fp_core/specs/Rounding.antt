@@ -1,12 +1,13 @@
 -- A round of the drain, step by step, and how rounds go on.
-use Rattle.std.specs.Prelude.{◌≡◌, ℕ, ◌+◌, ◌-◌, ◌<◌, List, map, length, sum_by, Bool, true, false}
+use Rattle.std.specs.Prelude.{◌≡◌, ℕ, suc, ◌+◌, ◌-◌, ◌<◌, List, map, length, sum_by, Bool, true, false, Some}
 use Rattle.std.specs.List.{AllByRecursion, list_all}
 use Rattle.drain_laws.specs.Measure.{work_with}
 use Rattle.drain_laws.specs.ProductGauge.{gauge_of}
 use Rattle.drain_laws.specs.Rounds.{GoesRound, GoesRounds}
+use Rattle.fp_model.specs.declared.definitions.Defs.{Defs}
 use Rattle.fp_model.specs.declared.events.Event.{Event}
 use Rattle.fp_model.specs.declared.events.Event.TheVariants as event
-use Rattle.fp_model.specs.Machine.{Machine}
+use Rattle.fp_model.specs.Machine.{Idle, Machine, region_at}
 use Rattle.fp_model.specs.Rules.{Rules}
 use Rattle.fp_model.specs.Runs.{RunStep, Runs, IsDrained, step_events}
 use Rattle.fp_model.specs.State.{numbers_up}
@@ -20,6 +21,7 @@ use Rattle.fp_core.specs.declared.engine.Region.TheVariants as region
 use Rattle.fp_core.specs.Draining.{AreCalm, IsReachedBy}
 use Rattle.fp_core.specs.Relation.{StandsFor, rules_in}
 use Rattle.fp_core.specs.Standing.{Origin, StandsBeside, Stepped}
+use Rattle.fp_core.specs.Turning.{AreExact, RoundsAreExact}
 
 -- ---- nothing is left
 
@@ -52,56 +54,62 @@ pub record BeganBy (m : Machine) (old_lines new_lines : Lines) (left : List ℕ)
 abbrev pub turns_of : ℕ → List Event
 turns_of count = map event.Region (numbers_up count 1)
 
--- Turns of these events lead from the machine to one that the engine stands for. No line is read in them, and nothing
--- is sealed or sent.
+-- Turns of these events, each exact, lead from the machine to one that the engine stands for. No line is read in them,
+-- and nothing is sealed or sent.
 pub record TookTurns (events : List Event) (m : Machine) (engine : Engine) : Type 0 where
   pub steps : List RunStep
   pub after : Machine
   pub are : step_events steps ≡ events
   pub runs : Runs (rules_in engine) m steps after
   pub calm : AreCalm steps
+  pub exact : AreExact engine.defs.now (rules_in engine) m steps
   pub stands : StandsFor engine after
   pub lines : after.lines ≡ m.lines
   pub groups : after.groups ≡ m.groups
   pub sent : after.sent ≡ m.sent
 
--- One more region found no memory, behind the turns of those before it.
+-- One more region found no memory, behind the turns of those before it. It was idle.
 pub record StoppedAmong (m : Machine) (engine : Engine) : Type 0 where
   pub count : ℕ
   pub few : count < length engine.defs.now.regions
   pub took : TookTurns (turns_of count) m engine
+  pub idle : region_at took.after (suc count) ≡ Some Idle
 
 -- ---- a round
 
--- A round, by which no device failed, leads to a machine that the engine stands for.
-pub record HasRound (rules : Rules) (m : Machine) (old_lines new_lines : Lines) (engine : Engine) : Type 0 where
-  pub steps : List RunStep
-  pub after : Machine
-  pub goes : GoesRound rules m steps after
-  pub calm : AreCalm steps
-  pub stands : StandsFor engine after
-  pub given : lines_given new_lines + length after.lines ≡ lines_given old_lines + length m.lines
+-- A round, by which no device failed and each turn of which is exact, leads to a machine that the engine stands for.
+pub record HasRound (defs : Defs) (rules : Rules) (m : Machine) (old_lines new_lines : Lines) (engine : Engine) : Type 0
+  where
+    pub steps : List RunStep
+    pub after : Machine
+    pub goes : GoesRound rules m steps after
+    pub calm : AreCalm steps
+    pub exact : AreExact defs rules m steps
+    pub stands : StandsFor engine after
+    pub given : lines_given new_lines + length after.lines ≡ lines_given old_lines + length m.lines
 
 -- a round, or the machine is drained
-abbrev pub Went : Rules → Machine → Lines → Lines → Engine → Bool → Type 0
-Went rules m old_lines new_lines engine true = HasRound rules m old_lines new_lines engine
-Went rules m old_lines new_lines engine false = IsDrained rules m × StandsFor engine m
+abbrev pub Went : Defs → Rules → Machine → Lines → Lines → Engine → Bool → Type 0
+Went defs rules m old_lines new_lines engine true = HasRound defs rules m old_lines new_lines engine
+Went defs rules m old_lines new_lines engine false = IsDrained rules m × StandsFor engine m
 
--- Rounds lead from the machine to one that engine, site and source stand for. No data set but the log changed.
-pub record HasCome (origin : Origin) (rules : Rules) (m : Machine) (old new : Disk) (old_lines lines : Lines)
-    (left : List ℕ) (engine : Engine) : Type 0 where
+-- Rounds, each turn of which is exact, lead from the machine to one that engine, site and source stand for. No data set
+-- but the log changed.
+pub record HasCome (origin : Origin) (defs : Defs) (rules : Rules) (m : Machine) (old new : Disk)
+    (old_lines lines : Lines) (left : List ℕ) (engine : Engine) : Type 0 where
   pub rounds : List (List RunStep)
   pub after : Machine
   pub goes : GoesRounds rules m rounds after
   pub calm : AllByRecursion AreCalm rounds
+  pub exact : RoundsAreExact defs rules m rounds
   pub beside : StandsBeside origin new lines left engine after
   pub given : lines_given lines + length after.lines ≡ lines_given old_lines + length m.lines
   pub others : (set : ℕ) → ¬ (set ≡ 0) → new.contents set ≡ old.contents set
 
 -- and where no more rounds come, it is drained
-pub record WentBeside (origin : Origin) (rules : Rules) (m : Machine) (old new : Disk) (old_lines lines : Lines)
-    (left : List ℕ) (engine : Engine) (more : Bool) : Type 0 where
-  pub come : HasCome origin rules m old new old_lines lines left engine
+pub record WentBeside (origin : Origin) (defs : Defs) (rules : Rules) (m : Machine) (old new : Disk)
+    (old_lines lines : Lines) (left : List ℕ) (engine : Engine) (more : Bool) : Type 0 where
+  pub come : HasCome origin defs rules m old new old_lines lines left engine
   pub drained : more ≡ false → IsDrained rules come.after
 
 -- ---- how many rounds there may be

@@ -1,12 +1,12 @@
 -- The engine beside a site and a source: what the log holds and what was sent, at each moment of a step.
-use Rattle.std.specs.Prelude.{◌≡◌, ⊤, ℕ, ◌+◌, ◌-◌, ◌≤◌, List, ◌++◌, length, Option, None}
+use Rattle.std.specs.Prelude.{◌≡◌, ⊤, ℕ, ◌+◌, ◌-◌, ◌≤◌, List, ◌++◌, length, Option, None, Some}
 use Rattle.fp_model.specs.declared.definitions.Defs.{Defs}
 use Rattle.fp_model.specs.declared.events.Event.{Event}
 use Rattle.fp_model.specs.declared.events.Event.TheVariants as event
 use Rattle.fp_model.specs.declared.log.Entry.{Entry}
 use Rattle.fp_model.specs.History.{place_of}
 use Rattle.fp_model.specs.LogText.{Front}
-use Rattle.fp_model.specs.Machine.{Machine, sealed_times}
+use Rattle.fp_model.specs.Machine.{Idle, Machine, region_at, sealed_times}
 use Rattle.fp_model.specs.Messages.{LineFault, LineTooLong, TooManyLines}
 use Rattle.fp_model.specs.Rules.{Rules}
 use Rattle.fp_site.specs.Disk.{Disk, Snapshot, Settles}
@@ -42,6 +42,13 @@ pub record StandsBeside (origin : Origin) (disk : Disk) (lines : Lines) (left : 
     (m : Machine) : Type 0 where
   pub at : StandsAt origin disk engine m
   pub lines_are : m.lines ≡ lines_ahead lines left
+
+-- just this stands on the site, whatever stands in memory: the log is at rest with the groups of the machine, and just
+-- its bytes were sent
+pub record IsStill (origin : Origin) (disk : Disk) (m : Machine) : Type 0 where
+  pub gate : ℕ
+  pub at_rest : IsAtRest disk origin.front (origin.groups ++ m.groups) gate
+  pub sent : disk.sent ≡ origin.sent ++ m.sent
 
 -- ---- within a step
 
@@ -147,6 +154,11 @@ MayStop event.Ckpt held (stop.LineFault number) = ⊥
 MayStop event.Out held given = ⊥
 MayStop (event.Purge set n) held given = ⊥
 MayStop event held stop.Memory = ⊤
+
+-- A region whose turn stopped is idle: nothing was begun, and the engine stands as it did.
+pub record IsUnbegun (engine : Engine) (m : Machine) (region : ℕ) : Type 0 where
+  pub idle : region_at m region ≡ Some Idle
+  pub stands : StandsFor engine m
 
 -- Why a step stopped, by a count of faults before and behind it. That of the site rose where the log failed, and else
 -- it stayed;

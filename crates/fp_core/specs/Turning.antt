@@ -18,6 +18,7 @@ use Rattle.fp_model.specs.Items.{IsFit as IsFitItem, with_items}
 use Rattle.fp_model.specs.ItemTargets.{is_ascending}
 use Rattle.fp_model.specs.Machine.{Transaction, Region, Idle, Active, Machine, region_at, is_among, terminal_in, next_line, next_group}
 use Rattle.fp_model.specs.Rules.{Rules}
+use Rattle.fp_model.specs.Runs.{RunStep, machine_after}
 use Rattle.fp_model.specs.Turns.{Environment, NoFault, DeviceFault, OutOfMemory, Act, Answers, Gains, Waits, Deadlocks, Retries_at_cycle, Finishes, Retries_at_verify, Does, Turn, messages_for, requests_with}
 use Rattle.msdb_store.specs.Settling.{HasItem, IsNamed, IsSegmentItem}
 use Rattle.fp_core.specs.declared.did.Did.{Did}
@@ -90,6 +91,31 @@ module _ (defs : Defs) (rules : Rules) where
       region ∷ cycle ≡ first_cycle (length rules.regions) (requests_with rules m region needed) m.locks region
   IsExact m region t (Finishes ending items) = HasItsItems m t ending.outcome ending.next items
   IsExact m region t _ = ⊤
+
+  -- so is the act of a region at work that nothing befalls
+  abbrev pub IsExactOfRegion : Machine → ℕ → Option Region → Environment → Machine → Type 0
+  IsExactOfRegion m region None environment m2 = ⊤
+  IsExactOfRegion m region (Some Idle) environment m2 = ⊤
+  IsExactOfRegion m region (Some (Active t)) NoFault m2 =
+      (act : Act) × Does rules m region t act m2 × IsExact m region t act
+  IsExactOfRegion m region (Some (Active t)) DeviceFault m2 = ⊤
+  IsExactOfRegion m region (Some (Active t)) OutOfMemory m2 = ⊤
+
+  -- A turn is exact: nothing of it is left open. A schedule without areas has no PURGE.
+  abbrev pub IsExactTurn : Machine → Event → Environment → Machine → Type 0
+  IsExactTurn m (event.Region region) environment m2 = IsExactOfRegion m region (region_at m region) environment m2
+  IsExactTurn m (event.Purge set n) environment m2 = ⊥
+  IsExactTurn m _ environment m2 = ⊤
+
+  -- so is each step of a run,
+  abbrev pub AreExact : Machine → List RunStep → Type 0
+  AreExact m [] = ⊤
+  AreExact m (step ∷ steps) = IsExactTurn m step.event step.environment step.after × AreExact step.after steps
+
+  -- and of each round of a drain
+  abbrev pub RoundsAreExact : Machine → List (List RunStep) → Type 0
+  RoundsAreExact m [] = ⊤
+  RoundsAreExact m (steps ∷ rounds) = AreExact m steps × RoundsAreExact (machine_after m steps) rounds
 
   abbrev pub IsDidOfRegion : Machine → ℕ → Option Region → Environment → Machine → Did → Type 0
   IsDidOfRegion m region None environment m2 given = ⊥

@@ -1,8 +1,7 @@
 //! The core: one event of a schedule at a time.
 ghost use Rattle.fp_core.specs.Relation.{IsSetup, StandsFor, rules_in};
 ghost use Rattle.fp_core.specs.Sparing.{IsLogSet, IsSealing, Spares};
-ghost use Rattle.fp_core.specs.Standing.{IsCausedBySite, IsCausedBySource, IsContinued, IsEventOf, Leaves, MayStop, Origin, StandsAt, StandsBeside, Stepped, SteppedBeside, number_of, seals_of};
-ghost use Rattle.fp_core.specs.declared.engine.Region.TheVariants as regions;
+ghost use Rattle.fp_core.specs.Standing.{IsCausedBySite, IsCausedBySource, IsContinued, IsEventOf, IsUnbegun, Leaves, MayStop, Origin, StandsAt, StandsBeside, Stepped, SteppedBeside, number_of, seals_of};
 ghost use Rattle.fp_exits.specs.Kinds.{has_kind, kinds_of};
 ghost use Rattle.fp_model.specs.History.{History, place_of};
 ghost use Rattle.fp_model.specs.Lasts.{format_at};
@@ -14,7 +13,7 @@ ghost use Rattle.fp_site.specs.Site.{ReadsNothing};
 ghost use Rattle.fp_source.specs.Lines.{fault_ahead, lines_ahead, lines_given};
 ghost use Rattle.fp_source.specs.Source.{ReadsOnly};
 ghost use Rattle.msdb_store.specs.Store.{IsOf};
-ghost use Rattle.std.specs.Prelude.{◌≡◌, ◌+◌, ◌-◌, ℕ, [], IfErr, IfOk, IsErrOf, List as ListOf, IsOk, OnErr, OnOk, Some, length, option_map, slice_get, true};
+ghost use Rattle.std.specs.Prelude.{◌≡◌, ◌+◌, ℕ, [], IfErr, IfOk, IsErrOf, List as ListOf, IsOk, OnErr, OnOk, Some, length, option_map, true};
 
 use crate::did::Did;
 use crate::engine::Engine;
@@ -134,8 +133,8 @@ impl<'a> Core<'a> {
             → option_map number_of (fault_ahead self.old.lines (S.left source.old Part.Messages)) ≡ Some n }
         ensures number { (n : ℕ) → IsErrOf result (Stop.LineFault n) → n ≡ lines_given self.old.lines + 1 }
 
-        ensures idle { (region : ℕ) → event.now ≡ events.Region region
-            → OnErr result (slice_get self.old.engine.regions (region - 1) ≡ Some regions.Idle) }
+        ensures unbegun { (m : Machine) (region : ℕ) → event.now ≡ events.Region region → StandsFor self.old.engine m
+            → OnErr result (IsUnbegun self.new.engine m region) }
 
         // What stays.
         ensures rules { rules_in self.new.engine ≡ rules_in self.old.engine }

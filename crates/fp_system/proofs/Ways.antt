@@ -4,6 +4,7 @@ use Rattle.std.specs.Prelude.{if◌then◌else◌}
 use Rattle.std.specs.List.{list_any}
 use Rattle.std.specs.Option.{option_map_or}
 use Rattle.std.proofs.lemmas.List.{length-drop}
+use Rattle.fp_model.specs.declared.definitions.Defs.{Defs}
 use Rattle.fp_model.specs.declared.events.Event.{Event}
 use Rattle.fp_model.specs.declared.events.Event.TheVariants as event
 use Rattle.fp_model.specs.declared.log.Entry.{Entry}
@@ -20,11 +21,12 @@ use Rattle.fp_system.specs.Parts.{Job, rules_for}
 
 -- ---- the run
 
-module _ (rules : Rules) where
-  pub goes_runs : (events left : List Event) (m m2 : Machine) (vs : List Environment) → Goes rules events m vs left m2
+module _ (defs : Defs) (rules : Rules) where
+  pub goes_runs : (events left : List Event) (m m2 : Machine) (vs : List Environment)
+      → Goes defs rules events m vs left m2
       → (steps : List RunStep) × Runs rules m steps m2
   goes_runs events left m m2 vs here = ([], refl)
-  goes_runs events left m m2 vs (turn {e = e} {events = more} {v = v} {vs = ws} {mid = mid} first rest) =
+  goes_runs events left m m2 vs (turn {e = e} {events = more} {v = v} {vs = ws} {mid = mid} first exact rest) =
       let behind = goes_runs more left mid m2 ws rest in
       (record { event = e; environment = v; after = mid } ∷ behind.0, (first, behind.1))
   goes_runs events left m m2 vs (again left_to_do rest) = goes_runs _ left m m2 vs rest
@@ -35,7 +37,7 @@ pub comes_behind : (job : Job) (earlier : List Entry) (h : History) (lines : Lis
     → Comes job.defs (rules_for job) events (at_rest (rules_for job) lines h) left m
     → IsBehind job.defs job.scripts earlier m
 comes_behind job earlier h lines events left m is comes =
-    let steps = goes_runs (rules_for job) events left (at_rest (rules_for job) lines h) m comes.environments comes.goes
+    let steps = goes_runs job.defs (rules_for job) events left (at_rest (rules_for job) lines h) m comes.environments comes.goes
     in
     record {
       start = h;
@@ -113,11 +115,11 @@ module _ (rules : Rules) where
   turn_rest m (event.Purge set n) v m2 t = (0, (turn_keeps rules m (event.Purge set n) v m2 t).0.lines)
 
   -- lines are only taken off in front
-  pub goes_rest : (events left : List Event) (m m2 : Machine) (vs : List Environment) → Goes rules events m vs left m2
-      → IsRest m m2
-  goes_rest events left m m2 vs here = (0, refl)
-  goes_rest events left m m2 vs (turn {e = e} {events = more} {v = v} {vs = ws} {mid = mid} first rest) =
+  pub goes_rest : (defs : Defs) (events left : List Event) (m m2 : Machine) (vs : List Environment)
+      → Goes defs rules events m vs left m2 → IsRest m m2
+  goes_rest defs events left m m2 vs here = (0, refl)
+  goes_rest defs events left m m2 vs (turn {e = e} {events = more} {v = v} {vs = ws} {mid = mid} first exact rest) =
       let one = turn_rest m e v mid first in
-      let behind = goes_rest more left mid m2 ws rest in
+      let behind = goes_rest defs more left mid m2 ws rest in
       (one.0 + behind.0, behind.1 ∙ ap (drop behind.0) one.1 ∙ drop_more one.0 behind.0 m.lines)
-  goes_rest events left m m2 vs (again left_to_do rest) = goes_rest _ left m m2 vs rest
+  goes_rest defs events left m m2 vs (again left_to_do rest) = goes_rest defs _ left m m2 vs rest

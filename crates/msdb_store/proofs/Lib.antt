@@ -1,6 +1,7 @@
 mod Ascending
 mod Calls
 mod Databases
+pub mod ItemLemmas
 mod Kept
 mod Loads
 mod Lookups

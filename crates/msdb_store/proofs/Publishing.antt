@@ -21,10 +21,10 @@ use Rattle.msdb_store.proofs.Stagings.{behind_item, first_true, is_number, numbe
 
 -- ---- the order of items
 
-abbrev Before : ℕ → List ℕ → ℕ → List ℕ → Type 0
+abbrev pub Before : ℕ → List ℕ → ℕ → List ℕ → Type 0
 Before n k m j = (n < m) ⊎ ((n ≡ m) × (is_below k j ≡ true))
 
-split : (n : ℕ) (k : List ℕ) (m : ℕ) (j : List ℕ) → precedes (Segment n k []) (Segment m j []) ≡ true → Before n k m j
+pub split : (n : ℕ) (k : List ℕ) (m : ℕ) (j : List ℕ) → precedes (Segment n k []) (Segment m j []) ≡ true → Before n k m j
 split n k m j e = by (nat_lt n m) refl
   where
     by : (b : Bool) → nat_lt n m ≡ b → Before n k m j
@@ -43,7 +43,7 @@ both n k m j (inr same) =
     by true = refl
     by false = refl
 
-before_trans : (n : ℕ) (k : List ℕ) (m : ℕ) (j : List ℕ) (o : ℕ) (l : List ℕ) → Before n k m j → Before m j o l
+pub before_trans : (n : ℕ) (k : List ℕ) (m : ℕ) (j : List ℕ) (o : ℕ) (l : List ℕ) → Before n k m j → Before m j o l
     → Before n k o l
 before_trans n k m j o l (inl a) (inl b) = inl (omega (arith, a, b))
 before_trans n k m j o l (inl a) (inr b) = inl (omega (arith, a, b.0))
@@ -83,7 +83,7 @@ all_behind n k bytes (Segment m j b ∷ rest) all order =
 all_behind n k bytes (Image set ci b ∷ rest) all order = absurd all.0
 all_behind n k bytes (Range set ci at b ∷ rest) all order = absurd all.0
 
-order_behind : (item : Item) (rest : List Item) → is_ascending (item ∷ rest) ≡ true → is_ascending rest ≡ true
+pub order_behind : (item : Item) (rest : List Item) → is_ascending (item ∷ rest) ≡ true → is_ascending rest ≡ true
 order_behind item [] order = refl
 order_behind item (next ∷ rest) order = second_true (precedes item next) (is_ascending (next ∷ rest)) order
 

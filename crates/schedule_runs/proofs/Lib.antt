@@ -1,2 +1,4 @@
 pub mod WayLemmas
+pub mod Determined
+pub mod OneWay
 pub mod StandingLemmas

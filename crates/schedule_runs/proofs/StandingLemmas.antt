@@ -1,5 +1,5 @@
 -- A run beside a site and a source: one step more, a stop in one, a crash in one; and the drain behind all events.
-use Rattle.std.proofs.Common.{◌≡◌, refl, sym, ◌∙◌, subst, arith, ℕ, ◌+◌, List, [], ◌∷◌, ◌++◌, inl, inr}
+use Rattle.std.proofs.Common.{◌≡◌, refl, sym, ◌∙◌, subst, arith, ℕ, ◌+◌, List, [], ◌∷◌, ◌++◌, inl, inr, Some}
 use Rattle.std.specs.Prelude.{Result, Ok, Err, OnOk}
 use Rattle.drain_laws.specs.Live.{IsReached}
 use Rattle.drain_laws.specs.ProductGauge.{gauge_of}
@@ -7,7 +7,8 @@ use Rattle.drain_laws.proofs.OfSystem.{turn_of}
 use Rattle.drain_laws.proofs.Rounds.{relined}
 use Rattle.fp_model.specs.declared.definitions.Defs.{Defs}
 use Rattle.fp_model.specs.declared.events.Event.{Event}
-use Rattle.fp_model.specs.Machine.{Machine}
+use Rattle.fp_model.specs.declared.events.Event.TheVariants as event
+use Rattle.fp_model.specs.Machine.{Idle, Machine, region_at}
 use Rattle.fp_model.specs.Rules.{Rules}
 use Rattle.fp_model.specs.Runs.{IsDrained}
 use Rattle.fp_site.specs.Disk.{Disk, IsDurable, IsLawful, Snapshot}
@@ -22,7 +23,7 @@ use Rattle.fp_core.specs.declared.stop.Stop.TheVariants as stops
 use Rattle.fp_core.specs.Draining.{DrainStopped, Drained, IsLeftByDrain, IsReachedBy}
 use Rattle.fp_core.specs.Relation.{rules_in}
 use Rattle.fp_core.specs.Sparing.{IsSealing}
-use Rattle.fp_core.specs.Standing.{IsLeft, IsWithin, Leaves, MayStop, Origin, StandsBeside, SteppedBeside, seals_of}
+use Rattle.fp_core.specs.Standing.{IsLeft, IsStill, IsWithin, Leaves, MayStop, Origin, StandsBeside, SteppedBeside, seals_of}
 use Rattle.fp_core.specs.Turning.{Turned}
 use Rattle.fp_core.proofs.Steps.{left_alone}
 use Rattle.schedule_runs.specs.Standing.{IsDone, IsLeftOnWay, IsStopped, StandsOnWay}
@@ -158,16 +159,20 @@ module _ (origin : Origin) (events : List Event) (m : Machine) (old : Disk) (old
         -- a stop in it
         pub stopped_step : (stop : Stop) → MayStop (next_event part) engine.held stop
             → ((number : ℕ) → stop ≡ stops.LineFault number → number ≡ lines_given mid_lines + 1)
-            → (¬ IsSealing (next_event part) → IsDurable new 0)
+            → ((region : ℕ) → next_event part ≡ event.Region region → region_at on.here region ≡ Some Idle)
+            → (¬ IsSealing (next_event part) → new ≡ mid)
             → IsStopped origin defs rules events m old old_lines new stop
-        stopped_step stop may number rest = record {
+        stopped_step stop may number idle same_disk = record {
           left = part;
           here = on.here;
           comes = on.comes;
           may = subst (λ (h : _). MayStop (next_event part) h stop) on.reached.stands.held may;
           first = λ n is. omega (arith, number n is, on.given);
           within = within_behind new on.here (seals_of (next_event part) on.here) leaves_so.within;
-          rest = rest;
+          idle = idle;
+          rest = λ calm. subst (λ (x : Disk). IsDurable x 0) (sym (same_disk calm)) on.beside.at.at_rest.durable;
+          still = λ calm. subst (λ (x : Disk). IsStill origin x on.here) (sym (same_disk calm))
+              (record { gate = engine.log.gate; at_rest = on.beside.at.at_rest; sent = on.beside.at.sent });
         }
 
     -- its end
@@ -240,7 +245,9 @@ module _ (origin : Origin) (events : List Event) (m : Machine) (old : Disk) (old
             first = λ n is. omega (arith, d.first n is, on.given);
             within = within_behind new d.here (seals_of (next_event b.left) d.here)
                 (subst (λ (e : Event). IsWithin origin rules d.here (seals_of e d.here) mid new) (sym b.next) d.within);
+            idle = λ region is. d.idle region (sym b.next ∙ is);
             rest = λ calm. d.rest (subst (λ (e : Event). ¬ IsSealing e) b.next calm);
+            still = λ calm. d.still (subst (λ (e : Event). ¬ IsSealing e) b.next calm);
           }
 
       -- its end
@@ -257,7 +264,7 @@ module _ (origin : Origin) (events : List Event) (m : Machine) (old : Disk) (old
             here = d.after;
             comes = comes_behind defs rules events m [] on.here [] d.after on_drain more;
             drained = subst (λ (r : Rules). IsDrained r d.after) (same2 ∙ same)
-                (drain_rounds (rules_in next) d.rounds on.here d.after d.drains).1;
+                (drain_rounds next.defs.now (rules_in next) d.rounds on.here d.after d.drains d.exact).1;
             beside = d.beside;
             others = λ set other. d.others set other ∙ on.others set other;
           }

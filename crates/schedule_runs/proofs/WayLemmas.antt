@@ -18,17 +18,18 @@ use Rattle.fp_core.specs.declared.engine.Engine.{Engine}
 use Rattle.fp_core.specs.Draining.{AreCalm, Drained, IsInDrain}
 use Rattle.fp_core.specs.Relation.{StandsFor, rules_in}
 use Rattle.fp_core.specs.Standing.{Origin}
-use Rattle.fp_core.specs.Turning.{Turned}
+use Rattle.fp_core.specs.Turning.{AreExact, RoundsAreExact, Turned}
+use Rattle.fp_core.proofs.Exacts.{exact_of}
 use Rattle.schedule_runs.specs.Ways as ways
 use Rattle.schedule_runs.specs.Ways.{Comes, Goes, faults_in, next_event}
 
 -- ---- one way behind another
 
-pub goes_behind : {rules : Rules} {events mid : List Event} {m here : Machine} {vs : List Environment}
-    → Goes rules events m vs mid here → (ws : List Environment) (left : List Event) (m2 : Machine)
-    → Goes rules mid here ws left m2 → Goes rules events m (vs ++ ws) left m2
+pub goes_behind : {defs : Defs} {rules : Rules} {events mid : List Event} {m here : Machine} {vs : List Environment}
+    → Goes defs rules events m vs mid here → (ws : List Environment) (left : List Event) (m2 : Machine)
+    → Goes defs rules mid here ws left m2 → Goes defs rules events m (vs ++ ws) left m2
 goes_behind ways.here ws left m2 more = more
-goes_behind (ways.turn t rest) ws left m2 more = ways.turn t (goes_behind rest ws left m2 more)
+goes_behind (ways.turn t exact rest) ws left m2 more = ways.turn t exact (goes_behind rest ws left m2 more)
 goes_behind (ways.again undone rest) ws left m2 more = ways.again undone (goes_behind rest ws left m2 more)
 
 pub faults_both : (vs ws : List Environment) → faults_in vs ≡ 0 → faults_in ws ≡ 0 → faults_in (vs ++ ws) ≡ 0
@@ -67,35 +68,40 @@ calm_steps (s ∷ steps) =
     by DeviceFault vs rest e = omega (arith, e)
     by OutOfMemory vs rest e = e
 
-pub goes_steps : (rules : Rules) (steps : List RunStep) (m m2 : Machine) (left : List Event)
-    → Runs rules m steps m2 → Goes rules (step_events steps ++ left) m (environments_of steps) left m2
-goes_steps rules [] m m2 left runs = subst (λ (x : Machine). Goes rules left m [] left x) (sym runs) ways.here
-goes_steps rules (s ∷ steps) m m2 left runs = ways.turn runs.0 (goes_steps rules steps s.after m2 left runs.1)
+pub goes_steps : (defs : Defs) (rules : Rules) (steps : List RunStep) (m m2 : Machine) (left : List Event)
+    → Runs rules m steps m2 → AreExact defs rules m steps
+    → Goes defs rules (step_events steps ++ left) m (environments_of steps) left m2
+goes_steps defs rules [] m m2 left runs exact =
+    subst (λ (x : Machine). Goes defs rules left m [] left x) (sym runs) ways.here
+goes_steps defs rules (s ∷ steps) m m2 left runs exact =
+    ways.turn runs.0 exact.0 (goes_steps defs rules steps s.after m2 left runs.1 exact.1)
 
 -- and back
-pub steps_of : {rules : Rules} {events left : List Event} {m here : Machine} {vs : List Environment}
-    → Goes rules events m vs left here
-    → (steps : List RunStep) × (Runs rules m steps here × (environments_of steps ≡ vs))
-steps_of ways.here = ([], (refl, refl))
-steps_of (ways.turn {e = e} {v = v} {mid = mid} t rest) =
+pub steps_of : {defs : Defs} {rules : Rules} {events left : List Event} {m here : Machine} {vs : List Environment}
+    → Goes defs rules events m vs left here
+    → (steps : List RunStep) × (Runs rules m steps here × (AreExact defs rules m steps × (environments_of steps ≡ vs)))
+steps_of ways.here = ([], (refl, (tt, refl)))
+steps_of (ways.turn {e = e} {v = v} {mid = mid} t exact rest) =
     let more = steps_of rest in (
       record { event = e; environment = v; after = mid } ∷ more.0,
-      ((t, more.1.0), ap (λ (xs : List Environment). v ∷ xs) more.1.1),
+      ((t, more.1.0), ((exact, more.1.1.0), ap (λ (xs : List Environment). v ∷ xs) more.1.1.1)),
     )
 steps_of (ways.again undone rest) = steps_of rest
 
 -- ---- rounds
 
-pub goes_rounds : (rules : Rules) (rounds : List (List RunStep)) (m m2 : Machine)
-    → GoesRounds rules m rounds m2 → Goes rules [] m (environments_in rounds) [] m2
-goes_rounds rules [] m m2 goes = subst (λ (x : Machine). Goes rules [] m [] [] x) (sym goes) ways.here
-goes_rounds rules (steps ∷ rounds) m m2 goes =
+pub goes_rounds : (defs : Defs) (rules : Rules) (rounds : List (List RunStep)) (m m2 : Machine)
+    → GoesRounds rules m rounds m2 → RoundsAreExact defs rules m rounds
+    → Goes defs rules [] m (environments_in rounds) [] m2
+goes_rounds defs rules [] m m2 goes exact =
+    subst (λ (x : Machine). Goes defs rules [] m [] [] x) (sym goes) ways.here
+goes_rounds defs rules (steps ∷ rounds) m m2 goes exact =
     let mid = machine_after m steps in
     goes_behind (ways.again goes.0.left
-    (subst (λ (es : List Event). Goes rules es m (environments_of steps) [] mid)
+    (subst (λ (es : List Event). Goes defs rules es m (environments_of steps) [] mid)
     (append-nil (step_events steps) ∙ goes.0.events)
-    (goes_steps rules steps m mid [] goes.0.runs)))
-    (environments_in rounds) [] m2 (goes_rounds rules rounds mid m2 goes.1)
+    (goes_steps defs rules steps m mid [] goes.0.runs exact.0)))
+    (environments_in rounds) [] m2 (goes_rounds defs rules rounds mid m2 goes.1 exact.1)
 
 pub calm_rounds : (rounds : List (List RunStep)) → AllByRecursion AreCalm rounds
     → faults_in (environments_in rounds) ≡ 0
@@ -105,19 +111,20 @@ calm_rounds (steps ∷ rounds) calm =
     (calm_rounds rounds calm.1)
 
 -- a drain is rounds, to a machine that is drained
-pub drain_rounds : (rules : Rules) (rounds : List (List RunStep)) (m m2 : Machine) → Drains rules m rounds m2
-    → Goes rules [] m (environments_in rounds) [] m2 × IsDrained rules m2
-drain_rounds rules [] m m2 drains = (
-  subst (λ (x : Machine). Goes rules [] m [] [] x) (sym drains.1) ways.here,
+pub drain_rounds : (defs : Defs) (rules : Rules) (rounds : List (List RunStep)) (m m2 : Machine)
+    → Drains rules m rounds m2 → RoundsAreExact defs rules m rounds
+    → Goes defs rules [] m (environments_in rounds) [] m2 × IsDrained rules m2
+drain_rounds defs rules [] m m2 drains exact = (
+  subst (λ (x : Machine). Goes defs rules [] m [] [] x) (sym drains.1) ways.here,
   subst (λ (x : Machine). IsDrained rules x) (sym drains.1) drains.0,
 )
-drain_rounds rules (steps ∷ rounds) m m2 drains =
+drain_rounds defs rules (steps ∷ rounds) m m2 drains exact =
     let mid = machine_after m steps in
-    let rest = drain_rounds rules rounds mid m2 drains.3 in (
+    let rest = drain_rounds defs rules rounds mid m2 drains.3 exact.1 in (
       goes_behind (ways.again drains.0
-          (subst (λ (es : List Event). Goes rules es m (environments_of steps) [] mid)
+          (subst (λ (es : List Event). Goes defs rules es m (environments_of steps) [] mid)
           (append-nil (step_events steps) ∙ drains.1)
-          (goes_steps rules steps m mid [] drains.2)))
+          (goes_steps defs rules steps m mid [] drains.2 exact.0)))
           (environments_in rounds) [] m2 rest.0,
       rest.1,
     )
@@ -125,34 +132,36 @@ drain_rounds rules (steps ∷ rounds) m m2 drains =
 -- ---- within a drain
 
 -- A way to here, before this event.
-pub record IsBefore (rules : Rules) (m here : Machine) (e : Event) : Type 0 where
+pub record IsBefore (defs : Defs) (rules : Rules) (m here : Machine) (e : Event) : Type 0 where
   pub left : List Event
   pub environments : List Environment
-  pub goes : Goes rules [] m environments left here
+  pub goes : Goes defs rules [] m environments left here
   pub calm : faults_in environments ≡ 0
   pub next : next_event left ≡ e
 
 pub is_before : (defs : Defs) (rules : Rules) (m here : Machine) (e : Event) → IsInDrain defs rules m here e
-    → IsBefore rules m here e
-is_before defs rules m here e i = by i.part i.runs i.begun i.next i.calm.1
+    → IsBefore defs rules m here e
+is_before defs rules m here e i = by i.part i.runs i.begun i.next i.calm.1 i.exact.1
   where
     by : (part : List RunStep) → Runs rules i.behind part here → (¬ (part ≡ []) → ¬ IsDrained rules i.behind)
-        → TakesOf (round rules) part (e ∷ i.left) → AreCalm part → IsBefore rules m here e
-    by [] runs begun next calm = record {
+        → TakesOf (round rules) part (e ∷ i.left) → AreCalm part → AreExact defs rules i.behind part
+        → IsBefore defs rules m here e
+    by [] runs begun next calm exact = record {
       left = [];
       environments = environments_in i.rounds;
-      goes = subst (λ (x : Machine). Goes rules [] m (environments_in i.rounds) [] x) (sym runs)
-          (goes_rounds rules i.rounds m i.behind i.whole);
+      goes = subst (λ (x : Machine). Goes defs rules [] m (environments_in i.rounds) [] x) (sym runs)
+          (goes_rounds defs rules i.rounds m i.behind i.whole i.exact.0);
       calm = calm_rounds i.rounds i.calm.0;
       next = ap next_event next;
     }
-    by (s ∷ part) runs begun next calm = record {
+    by (s ∷ part) runs begun next calm exact = record {
       left = e ∷ i.left;
       environments = environments_in i.rounds ++ environments_of (s ∷ part);
-      goes = goes_behind (goes_rounds rules i.rounds m i.behind i.whole) (environments_of (s ∷ part)) (e ∷ i.left) here
+      goes = goes_behind (goes_rounds defs rules i.rounds m i.behind i.whole i.exact.0) (environments_of (s ∷ part))
+          (e ∷ i.left) here
           (ways.again (begun (λ none. absurd cc))
-          (subst (λ (es : List Event). Goes rules es i.behind (environments_of (s ∷ part)) (e ∷ i.left) here)
-          (sym next) (goes_steps rules (s ∷ part) i.behind here (e ∷ i.left) runs)));
+          (subst (λ (es : List Event). Goes defs rules es i.behind (environments_of (s ∷ part)) (e ∷ i.left) here)
+          (sym next) (goes_steps defs rules (s ∷ part) i.behind here (e ∷ i.left) runs exact)));
       calm = faults_both (environments_in i.rounds) (environments_of (s ∷ part)) (calm_rounds i.rounds i.calm.0)
           (calm_steps (s ∷ part) ∙ calm);
       next = refl;
@@ -188,7 +197,8 @@ pub comes_turn : (e : Event) (left : List Event) (m : Machine) (engine : Engine)
     → (t : Turned e m engine given) → Comes engine.defs.now (rules_in engine) (e ∷ left) m left t.after
 comes_turn e left m engine given t = record {
   environments = t.environment ∷ [];
-  goes = ways.turn t.turn ways.here;
+  goes = ways.turn t.turn
+      (exact_of engine.defs.now (rules_in engine) m e t.environment t.after given t.is_did) ways.here;
   calm = calm_turn t.environment t.no_device;
   made = t.stands.made;
   format = t.stands.format;
@@ -200,7 +210,7 @@ pub comes_drained : (origin : Origin) (m : Machine) (old new : Disk) (lines : Li
     → Comes engine.defs.now (rules_in engine) [] m [] d.after
 comes_drained origin m old new lines left engine d = record {
   environments = environments_in d.rounds;
-  goes = (drain_rounds (rules_in engine) d.rounds m d.after d.drains).0;
+  goes = (drain_rounds engine.defs.now (rules_in engine) d.rounds m d.after d.drains d.exact).0;
   calm = calm_rounds d.rounds d.calm;
   made = d.beside.at.parts.made;
   format = d.beside.at.parts.format;
@@ -208,7 +218,7 @@ comes_drained origin m old new lines left engine d = record {
 
 -- a part of one
 pub comes_within : (defs : Defs) (rules : Rules) (m here : Machine) (e : Event) (i : IsInDrain defs rules m here e)
-    (b : IsBefore rules m here e) → Comes defs rules [] m b.left here
+    (b : IsBefore defs rules m here e) → Comes defs rules [] m b.left here
 comes_within defs rules m here e i b = record {
   environments = b.environments;
   goes = b.goes;

@@ -4,7 +4,7 @@ use Rattle.fp_source.specs.declared.part.Part.TheVariants as part
 use Rattle.fp_core.specs.Relation.{rules_in}
 use Rattle.fp_core.specs.Sparing.{IsLogSet, Spares}
 use Rattle.fp_core.proofs.Rounds.{if_err_from}
-use Rattle.fp_core.proofs.Spared.{spares_on}
+use Rattle.fp_core.proofs.SparingLemmas.{spares_on}
 use Rattle.schedule_runs.specs.Standing.{IsDone, IsLeftOnWay, IsStopped}
 use Rattle.schedule_runs.proofs.StandingLemmas.{drained_on_way, moments_drain, nothing_behind, on_ok_sure, stopped_drain}
 use Rattle.schedule_runs.proofs.runs.run_schedule.Goals as goal

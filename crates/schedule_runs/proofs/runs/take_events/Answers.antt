@@ -2,7 +2,6 @@ use Rattle.std.proofs.Common.{refl, sym, ◌∙◌, ap, subst, arith, ◌+◌, �
 use Rattle.std.proofs.lemmas.List.{at_drop_all, drop_more}
 use Rattle.fp_model.specs.declared.events.Event.{Event}
 use Rattle.fp_model.specs.declared.events.Event.TheVariants as event
-use Rattle.fp_site.specs.Disk.{IsDurable}
 use Rattle.fp_source.specs.declared.part.Part.TheVariants as part
 use Rattle.fp_core.specs.declared.stop.Stop.{Stop}
 use Rattle.fp_core.specs.Relation.{rules_in}
@@ -10,7 +9,7 @@ use Rattle.fp_core.specs.Sparing.{IsLogSet, IsSealing}
 use Rattle.fp_core.specs.Standing.{Leaves, MayStop, seals_of}
 use Rattle.fp_core.proofs.Onwards.{continued_both, continued_none, reads_nothing_both, reads_nothing_none, reads_only_both, reads_only_none}
 use Rattle.fp_core.proofs.Rounds.{if_err_from}
-use Rattle.fp_core.proofs.Spared.{spares_none, spares_on}
+use Rattle.fp_core.proofs.SparingLemmas.{spares_none, spares_on}
 use Rattle.schedule_runs.specs.Standing.{IsStopped, StandsOnWay}
 use Rattle.schedule_runs.specs.Ways.{next_event}
 use Rattle.schedule_runs.proofs.StandingLemmas.{moments_step, none_left, none_on_way, one_on_way, reached_step, stopped_step}
@@ -128,9 +127,8 @@ returns-in_err-step-clause-stopped g c origin m told tells beside reached =
     stop
     (subst (λ (x : Event). MayStop x mid.engine.held stop) (sym next) c.in_err-step.ensures.stops)
     (λ number is. c.in_err-step.ensures.number number (ap (λ (x : Stop). Err x) is))
-    (λ calm. subst (λ s. IsDurable (g.T.Site.disk s) 0)
-    (sym (c.step.ensures.untouched (subst (λ (x : Event). ¬ IsSealing x) next calm)))
-    on.beside.at.at_rest.durable))
+    (λ region is. (c.in_err-step.ensures.unbegun on.here region (sym next ∙ is) on.beside.at.parts).idle)
+    (λ calm. ap (λ s. g.T.Site.disk s) (c.step.ensures.untouched (subst (λ (x : Event). ¬ IsSealing x) next calm))))
 
 pub returns-in_err-step-clause-moments : goal.returns-in_err-step-clause-moments
 returns-in_err-step-clause-moments g c origin m told tells beside reached =

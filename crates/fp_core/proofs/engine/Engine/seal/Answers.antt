@@ -5,7 +5,7 @@ use Rattle.fp_core.specs.Sealing.{replies_of}
 use Rattle.fp_core.specs.Sparing.{IsLogSet}
 use Rattle.fp_core.proofs.Logs.{halts, rest_behind, sent_behind, tells}
 use Rattle.fp_core.proofs.Seals.{log_nothing, log_turned}
-use Rattle.fp_core.proofs.Spared.{spares_none, spares_only, spares_sealed}
+use Rattle.fp_core.proofs.SparingLemmas.{spares_none, spares_only, spares_sealed}
 use Rattle.fp_core.proofs.Steps.{left_alone}
 use Rattle.fp_core.proofs.engine.Engine.seal.Goals as goal
 

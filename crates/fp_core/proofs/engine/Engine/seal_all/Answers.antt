@@ -4,7 +4,7 @@ use Rattle.fp_model.specs.History.{place_of}
 use Rattle.fp_core.specs.Relation.{rules_in}
 use Rattle.fp_core.specs.Sparing.{IsLogSet}
 use Rattle.fp_core.proofs.Checkpoints.{ckpt_nothing, ckpt_turned}
-use Rattle.fp_core.proofs.Spared.{spares_none}
+use Rattle.fp_core.proofs.SparingLemmas.{spares_none}
 use Rattle.fp_core.proofs.Steps.{left_alone}
 use Rattle.fp_core.proofs.engine.Engine.seal_all.Goals as goal
 

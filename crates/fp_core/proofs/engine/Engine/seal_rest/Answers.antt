@@ -5,7 +5,7 @@ use Rattle.fp_model.specs.Machine.{sealed_times}
 use Rattle.fp_core.specs.Relation.{rules_in}
 use Rattle.fp_core.specs.Sparing.{IsLogSet}
 use Rattle.fp_core.proofs.Checkpoints.{all_at, all_sealed, at_step, fewer, leaves_step, sealed_step}
-use Rattle.fp_core.proofs.Spared.{spares_none, spares_on}
+use Rattle.fp_core.proofs.SparingLemmas.{spares_none, spares_on}
 use Rattle.fp_core.proofs.Steps.{left_alone}
 use Rattle.fp_core.proofs.engine.Engine.seal_rest.Goals as goal
 

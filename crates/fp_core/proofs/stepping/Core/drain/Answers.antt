@@ -1,4 +1,4 @@
-use Rattle.std.proofs.Common.{◌∙◌, ap, subst, arith, ◌+◌, ◌-◌, Bool}
+use Rattle.std.proofs.Common.{refl, ◌∙◌, ap, subst, arith, ◌+◌, ◌-◌, Bool}
 use Rattle.fp_model.specs.declared.definitions.Defs.{Defs}
 use Rattle.fp_model.specs.Machine.{Machine}
 use Rattle.fp_model.specs.Rules.{Rules}
@@ -9,11 +9,41 @@ use Rattle.fp_core.specs.Relation.{rules_in}
 use Rattle.fp_core.specs.Sparing.{IsLogSet}
 use Rattle.fp_core.specs.Rounding.{Went, WentBeside}
 use Rattle.fp_core.proofs.Bounds.{needs_fewer, with_lines_reached}
-use Rattle.fp_core.proofs.Comings.{come_both, drained_by, moments_both, stopped_behind}
-use Rattle.fp_core.proofs.Onwards.{continued_both, reads_nothing_both, reads_only_both}
-use Rattle.fp_core.proofs.Spared.{spares_on}
+use Rattle.fp_core.proofs.Comings.{come_both, drained_by, moments_both, moments_none, none_come, stopped_behind}
+use Rattle.fp_core.proofs.Onwards.{continued_both, continued_none, reads_nothing_both, reads_nothing_none, reads_only_both, reads_only_none}
+use Rattle.fp_core.proofs.SparingLemmas.{spares_none, spares_on}
 use Rattle.fp_core.proofs.Rounds.{if_err_from}
 use Rattle.fp_core.proofs.stepping.Core.drain.Goals as goal
+
+-- ---- no round yet
+
+pub loop-done-init : goal.loop-done-init
+loop-done-init g c =
+    let core = c.args.self.now in
+    let disk = g.T.Site.disk c.args.site.now in
+    let left = g.S.Source.left c.args.source.now part.Messages in
+    let reached = c.requires.reached in
+    let few = c.most_rounds-most.ensures reached.0 reached.1 in
+    record {
+      needs = record { m = reached.0; reached = reached.1; few = omega (arith, few) };
+      come = λ origin m told tells beside.
+          none_come origin core.engine.defs.now (rules_in core.engine) m disk core.lines left core.engine beside;
+      moments = λ origin m told tells beside.
+          moments_none origin core.engine.defs.now (rules_in core.engine) m disk core.lines
+          (g.met.T.Site.lawful c.args.site.now told);
+      spares = λ told. spares_none IsLogSet disk (g.met.T.Site.lawful c.args.site.now told);
+      fair = λ tells. refl;
+      rules = refl;
+      defs = refl;
+      scripts = refl;
+      router = refl;
+      reads = reads_nothing_none (g.T.Site.tells_reads c.args.site.now) (g.T.Site.bytes_read c.args.site.now);
+      site_calm = refl;
+      source_calm = refl;
+      site = continued_none g.T.Site.told g.T.Site.faults g.T.Site.holds g.T.Site.keeps c.args.site.now;
+      source = reads_only_none g.S.Source.told g.S.Source.left g.S.Source.faults g.S.Source.holds g.S.Source.keeps
+          part.Messages c.args.source.now;
+    }
 
 -- ---- a stop
 
@@ -33,7 +63,7 @@ returns-in_err-round-clause-stopped g c origin m told tells beside reached =
     let stop = c.in_err-round.field-0.0 in
     if_err_from (DrainStopped origin core.engine.defs.now rules m core.lines disk disk2) c.from_residual.result stop
     c.from_residual.ensures.1
-    (stopped_behind origin rules m disk core.lines disk1 mid.lines left1 mid.engine come core.engine.defs.now disk2 stop
+    (stopped_behind origin core.engine.defs.now rules m disk core.lines disk1 mid.lines left1 mid.engine come disk2 stop
     (subst (λ (d : Defs). DrainStopped origin d rules come.after mid.lines disk1 disk2 stop) (ap (λ d. d.now) i.defs)
     (subst (λ (r : Rules). DrainStopped origin mid.engine.defs.now r come.after mid.lines disk1 disk2 stop) i.rules
     (c.in_err-round.ensures.stopped origin come.after told1 tells1 come.beside))))
@@ -51,7 +81,7 @@ returns-in_err-round-clause-moments g c origin m told tells beside reached =
     let told1 = i.site.still_told told in
     let tells1 = i.source.stays_told tells in
     let come = i.come origin m told tells beside in
-    moments_both origin rules m disk core.lines disk1 mid.lines left1 mid.engine come core.engine.defs.now disk2
+    moments_both origin core.engine.defs.now rules m disk core.lines disk1 mid.lines left1 mid.engine come disk2
     (g.met.T.Site.lawful c.loop-done.site told1)
     (i.moments origin m told tells beside)
     (subst (λ (d : Defs). Through disk1 disk2 (IsLeftByDrain origin d rules come.after disk1)) (ap (λ d. d.now) i.defs)
@@ -67,7 +97,7 @@ returns-then-not-branch-clause-reached g c =
     let needs = c.loop-done.invariant.needs in
     let went = c.in_ok-round.ensures.went needs.m needs.reached.stands in
     let m : Machine = record needs.m { lines = went.0 } in
-    let done = subst (λ (b : Bool). Went (rules_in mid.engine) m mid.lines new.lines new.engine b)
+    let done = subst (λ (b : Bool). Went mid.engine.defs.now (rules_in mid.engine) m mid.lines new.lines new.engine b)
     c.if-not-branch.true went.1 in (
       m,
       with_lines_reached mid.engine new.engine needs.m went.0 c.round.ensures.rules
@@ -87,7 +117,7 @@ returns-then-not-branch-clause-moments g c origin m told tells beside reached =
     let told1 = i.site.still_told told in
     let tells1 = i.source.stays_told tells in
     let come = i.come origin m told tells beside in
-    moments_both origin rules m disk core.lines disk1 mid.lines left1 mid.engine come core.engine.defs.now disk2
+    moments_both origin core.engine.defs.now rules m disk core.lines disk1 mid.lines left1 mid.engine come disk2
     (g.met.T.Site.lawful c.loop-done.site told1)
     (i.moments origin m told tells beside)
     (subst (λ (d : Defs). Through disk1 disk2 (IsLeftByDrain origin d rules come.after disk1)) (ap (λ d. d.now) i.defs)
@@ -109,11 +139,16 @@ returns-then-not-branch-clause-drained g c origin m told tells beside reached =
     let come = i.come origin m told tells beside in
     let new = c.round.new.self in
     let left2 = g.S.Source.left c.round.new.source part.Messages in
-    let went = subst (λ (r : Rules). WentBeside origin r come.after disk1 disk2 mid.lines new.lines left2 new.engine
-    c.in_ok-round.field-0) i.rules
-    (c.in_ok-round.ensures.beside origin come.after told1 tells1 come.beside) in
-    drained_by origin rules m disk disk2 core.lines new.lines left2 new.engine (c.round.ensures.rules ∙ i.rules)
-    (come_both origin rules m disk core.lines disk1 mid.lines left1 mid.engine come disk2 new.lines left2 new.engine
+    let went = subst (λ (d : Defs). WentBeside origin d rules come.after disk1 disk2 mid.lines new.lines left2
+    new.engine
+    c.in_ok-round.field-0) (ap (λ d. d.now) i.defs)
+    (subst (λ (r : Rules). WentBeside origin mid.engine.defs.now r come.after disk1 disk2 mid.lines new.lines left2
+    new.engine c.in_ok-round.field-0) i.rules
+    (c.in_ok-round.ensures.beside origin come.after told1 tells1 come.beside)) in
+    drained_by origin core.engine.defs.now rules m disk disk2 core.lines new.lines left2 new.engine
+    (ap (λ d. d.now) (c.round.ensures.defs ∙ i.defs)) (c.round.ensures.rules ∙ i.rules)
+    (come_both origin core.engine.defs.now rules m disk core.lines disk1 mid.lines left1 mid.engine come disk2 new.lines
+    left2 new.engine
     went.come)
     (went.drained c.if-not-branch.true)
 
@@ -132,7 +167,7 @@ loop-done-preserved g c =
           (c.most_rounds-most.result - (c.loop-done._done + 1)) c.round.ensures.rules
           (ap (λ d. d.now) c.round.ensures.defs)
           (omega arith) i.needs went.0
-          (subst (λ (b : Bool). Went (rules_in mid.engine) ahead mid.lines new.lines new.engine b)
+          (subst (λ (b : Bool). Went mid.engine.defs.now (rules_in mid.engine) ahead mid.lines new.lines new.engine b)
           c.if-not-branch.false went.1);
       come = λ origin m told tells beside.
           let rules = rules_in core.engine in
@@ -142,11 +177,15 @@ loop-done-preserved g c =
           let left1 = g.S.Source.left c.loop-done.source part.Messages in
           let left2 = g.S.Source.left c.round.new.source part.Messages in
           let come = i.come origin m told tells beside in
-          let more = subst (λ (r : Rules). WentBeside origin r come.after disk1 disk2 mid.lines new.lines left2
+          let more = subst (λ (d : Defs). WentBeside origin d rules come.after disk1 disk2 mid.lines new.lines left2
+          new.engine c.in_ok-round.field-0) (ap (λ d. d.now) i.defs)
+          (subst (λ (r : Rules). WentBeside origin mid.engine.defs.now r come.after disk1 disk2 mid.lines new.lines
+          left2
           new.engine c.in_ok-round.field-0) i.rules
           (c.in_ok-round.ensures.beside origin come.after (i.site.still_told told) (i.source.stays_told tells)
-          come.beside) in
-          come_both origin rules m disk core.lines disk1 mid.lines left1 mid.engine come disk2 new.lines left2
+          come.beside)) in
+          come_both origin core.engine.defs.now rules m disk core.lines disk1 mid.lines left1 mid.engine come disk2
+          new.lines left2
           new.engine more.come;
       moments = λ origin m told tells beside.
           let core = c.args.self.now in
@@ -160,7 +199,7 @@ loop-done-preserved g c =
           let told1 = i.site.still_told told in
           let tells1 = i.source.stays_told tells in
           let come = i.come origin m told tells beside in
-          moments_both origin rules m disk core.lines disk1 mid.lines left1 mid.engine come core.engine.defs.now disk2
+          moments_both origin core.engine.defs.now rules m disk core.lines disk1 mid.lines left1 mid.engine come disk2
           (g.met.T.Site.lawful c.loop-done.site told1)
           (i.moments origin m told tells beside)
           (subst (λ (d : Defs). Through disk1 disk2 (IsLeftByDrain origin d rules come.after disk1))

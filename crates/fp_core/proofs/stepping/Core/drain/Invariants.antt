@@ -19,7 +19,8 @@ invariant-loop-done g l = record {
   come : (origin : Origin) (m : Machine) → g.T.Site.told l.initial.site → g.S.Source.told l.initial.source
       → StandsBeside origin (g.T.Site.disk l.initial.site) l.initial.self.lines
       (g.S.Source.left l.initial.source part.Messages) l.initial.self.engine m
-      → HasCome origin (rules_in l.initial.self.engine) m (g.T.Site.disk l.initial.site) (g.T.Site.disk l.site)
+      → HasCome origin l.initial.self.engine.defs.now (rules_in l.initial.self.engine) m (g.T.Site.disk l.initial.site)
+      (g.T.Site.disk l.site)
       l.initial.self.lines l.self.lines (g.S.Source.left l.source part.Messages) l.self.engine;
   moments : (origin : Origin) (m : Machine) → g.T.Site.told l.initial.site → g.S.Source.told l.initial.source
       → StandsBeside origin (g.T.Site.disk l.initial.site) l.initial.self.lines

@@ -1,5 +1,5 @@
-use Rattle.std.proofs.Common.{◌≡◌, ◌∙◌, ap, refl, subst, arith, ℕ, ◌+◌, ◌<◌, length, Bool, Err}
-use Rattle.fp_model.specs.Machine.{Machine}
+use Rattle.std.proofs.Common.{◌≡◌, ◌∙◌, ap, refl, subst, arith, ℕ, suc, ◌+◌, ◌<◌, length, Bool, Err, Some}
+use Rattle.fp_model.specs.Machine.{Idle, Machine, region_at}
 use Rattle.fp_model.specs.Rules.{Rules}
 use Rattle.fp_model.specs.Runs.{IsDrained}
 use Rattle.fp_source.specs.declared.part.Part.TheVariants as part
@@ -10,7 +10,7 @@ use Rattle.fp_core.specs.Relation.{rules_in}
 use Rattle.fp_core.specs.Sparing.{IsLogSet}
 use Rattle.fp_core.specs.Rounding.{TookTurns, WentBeside, turns_of}
 use Rattle.fp_core.proofs.Comings.{before_log, came_off, in_region, in_stands, moments_log, stopped_in, stopped_log, stopped_region, turns_stand, went_on}
-use Rattle.fp_core.proofs.Spared.{spares_none}
+use Rattle.fp_core.proofs.SparingLemmas.{spares_none}
 use Rattle.fp_core.proofs.Rounds.{if_err_from, makes_round}
 use Rattle.fp_core.proofs.stepping.Core.round.Goals as goal
 
@@ -36,9 +36,9 @@ returns-then-not-branch-clause-beside g c origin m told tells beside =
     let left = g.S.Source.left c.begin_round.new.source part.Messages in
     let more = c.in_ok-begin_round.field-0 in
     let by = c.in_ok-begin_round.ensures.read m tells beside.at.parts beside.lines_are in
-    subst (λ (b : Bool). WentBeside origin (rules_in core.engine) m disk disk core.lines first.lines left
-    first.engine b) c.if-not-branch.true
-    (came_off origin (rules_in core.engine) m disk core.lines first.lines left first.engine more
+    subst (λ (b : Bool). WentBeside origin core.engine.defs.now (rules_in core.engine) m disk disk core.lines
+    first.lines left first.engine b) c.if-not-branch.true
+    (came_off origin core.engine.defs.now (rules_in core.engine) m disk core.lines first.lines left first.engine more
     c.begin_round.ensures.rules c.if-not-branch.true by
     (in_stands origin disk left m first.lines core.engine first.engine core.lines more c.begin_round.ensures.gate
     beside.at by))
@@ -65,6 +65,7 @@ returns-in_err-turn_each-clause-stopped g c origin m told tells beside =
     let many : length second.defs.now.regions ≡ length rules.regions = ap (λ d. length d.now.regions)
     (c.turn_each.ensures.defs ∙ c.begin_round.ensures.defs) in
     let few : among.count < length rules.regions = omega (arith, among.few, many) in
+    let next : suc among.count ≡ among.count + 1 = omega arith in
     if_err_from (DrainStopped origin core.engine.defs.now rules m core.lines disk disk)
     c.from_residual-in_err-turn_each.result
     stops.Memory c.from_residual-in_err-turn_each.ensures.1
@@ -76,7 +77,8 @@ returns-in_err-turn_each-clause-stopped g c origin m told tells beside =
     (in_region core.engine.defs.now rules m core.lines first.lines first.engine second by.began.did
     c.begin_round.ensures.rules same2
     (ap (λ d. d.now) (c.turn_each.ensures.defs ∙ c.begin_round.ensures.defs)) by.began.stepped undone among.count few
-    among.took))
+    among.took)
+    (subst (λ (n : ℕ). region_at among.took.after n ≡ Some Idle) next among.idle))
 
 -- ---- LOG
 
@@ -179,7 +181,8 @@ returns-clause-went g c m s =
     (c.in_ok-turn_each.ensures.turned stepped.turned.after stepped.turned.stands) in (
       some.0,
       makes_round rules m2 core.lines first.lines first.engine second some.1.did c.begin_round.ensures.rules same2
-          stepped c.seal.new.self
+          stepped core.engine.defs.now
+          (ap (λ d. d.now) (c.turn_each.ensures.defs ∙ c.begin_round.ensures.defs)) c.seal.new.self
           c.in_ok-seal.field-0 (c.seal.ensures.rules ∙ same2) undone took
           (c.in_ok-seal.ensures.turned took.after took.stands),
     )

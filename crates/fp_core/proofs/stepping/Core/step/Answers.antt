@@ -1,23 +1,40 @@
-use Rattle.std.proofs.Common.{refl, sym, subst, arith, ℕ, List}
+use Rattle.std.proofs.Common.{◌≡◌, refl, sym, ◌∙◌, subst, arith, ℕ, ◌-◌, List, Some, slice_get}
 use Rattle.std.specs.Prelude.{IfOk}
 use Rattle.fp_model.specs.declared.events.Event.{Event}
 use Rattle.fp_model.specs.declared.events.Event.TheVariants as event
 use Rattle.fp_source.specs.declared.part.Part.TheVariants as part
 use Rattle.fp_core.specs.declared.did.Did.TheVariants as did
+use Rattle.fp_core.specs.declared.engine.Region.TheVariants as regions
 use Rattle.fp_core.specs.Relation.{rules_in}
 use Rattle.fp_core.specs.Sparing.{IsLogSet}
-use Rattle.fp_core.specs.Standing.{IsEventOf, Stepped, SteppedAt, SteppedBeside, SteppedBy, seals_of}
+use Rattle.fp_core.specs.Standing.{IsEventOf, IsUnbegun, Stepped, SteppedAt, SteppedBeside, SteppedBy, seals_of}
 use Rattle.fp_core.specs.Turning.{Turned}
 use Rattle.fp_core.proofs.Places.{if_ok_by}
-use Rattle.fp_core.proofs.Spared.{spares_none}
+use Rattle.fp_core.proofs.Rounds.{on_err_sure}
+use Rattle.fp_core.proofs.Takes.{idle_at}
+use Rattle.fp_core.proofs.SparingLemmas.{spares_none}
 use Rattle.fp_core.proofs.Steps.{ckpt_beside, ckpt_stepped, in_beside, left_alone, log_beside, log_stepped, out_beside, out_turned, region_beside, region_stepped, regions_long, stepped_with}
 use Rattle.fp_core.proofs.stepping.Core.step.Goals as goal
+
+same_region : (a b : ℕ) → event.Region a ≡ event.Region b → a ≡ b
+same_region a b e = cc
 
 pub turn-requires-clause-within : goal.turn-requires-clause-within
 turn-requires-clause-within g c =
     let of : IsEventOf c.args.self.now.engine.defs.now (event.Region c.in-Region.region) =
     subst (IsEventOf c.args.self.now.engine.defs.now) c.in-Region.is c.requires.event in
     omega (arith, of.1, regions_long c.args.self.now.engine c.requires.stands.0 c.requires.stands.1)
+
+pub returns-in_err-turn-in-Region-clause-unbegun : goal.returns-in_err-turn-in-Region-clause-unbegun
+returns-in_err-turn-in-Region-clause-unbegun g c m region is s =
+    let core = c.args.self.now in
+    let of : IsEventOf core.engine.defs.now (event.Region region) = subst (IsEventOf core.engine.defs.now) is
+    c.requires.event in
+    let same : region ≡ c.in-Region.region = same_region region c.in-Region.region (sym is ∙ c.in-Region.is) in
+    let idle = subst (λ (n : ℕ). slice_get core.engine.regions (n - 1) ≡ Some regions.Idle) (sym same)
+    c.in_err-turn-in-Region.ensures.idle in
+    on_err_sure (IsUnbegun c.turn.new.self m region) c.from_residual.result
+    (record { idle = idle_at core.engine m region of.0 s idle; stands = c.in_err-turn-in-Region.ensures.err m s })
 
 pub returns-in_err-turn-in-Region-clause-leaves : goal.returns-in_err-turn-in-Region-clause-leaves
 returns-in_err-turn-in-Region-clause-leaves g c origin m told at =
