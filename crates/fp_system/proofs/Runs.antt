@@ -85,22 +85,20 @@ ran_not job given answer h law stands =
     (started (Syncs h 0) h law (same_synced h)) stands)
 
 pub before_site : {P : Type 0} (found : Option Command) (answer : Status) → (IsEarly answer → P)
-    → (found ≡ Some Define → answer ≡ ReadFault → P) → (found ≡ Some Define → answer ≡ NoMemory → P)
+    → (answer ≡ ReadFault → ¬ (found ≡ Some Run) → P) → (answer ≡ NoMemory → found ≡ Some Define → P)
     → IsBeforeSite found answer → P
-before_site (Some Define) ReadFault e f m h = f refl refl
-before_site (Some Define) Done e f m h = e h
-before_site (Some Define) Usage e f m h = e h
-before_site (Some Define) (Definitions fault) e f m h = e h
-before_site (Some Define) (Scripts fault) e f m h = e h
-before_site (Some Define) (Schedule fault) e f m h = e h
-before_site (Some Define) SiteFault e f m h = e h
-before_site (Some Define) Foreign e f m h = e h
-before_site (Some Define) (Damaged set at) e f m h = e h
-before_site (Some Define) (Line number) e f m h = e h
-before_site (Some Define) NoMemory e f m h = m refl refl
-before_site (Some Define) (NotBuilt p) e f m h = e h
-before_site (Some Run) answer e f m h = e h
-before_site None answer e f m h = e h
+before_site found ReadFault e f m h = f refl h
+before_site found NoMemory e f m h = m refl h
+before_site found Done e f m h = e h
+before_site found Usage e f m h = e h
+before_site found (Definitions fault) e f m h = e h
+before_site found (Scripts fault) e f m h = e h
+before_site found (Schedule fault) e f m h = e h
+before_site found SiteFault e f m h = e h
+before_site found Foreign e f m h = e h
+before_site found (Damaged set at) e f m h = e h
+before_site found (Line number) e f m h = e h
+before_site found (NotBuilt p) e f m h = e h
 
 -- ---- behind a restart
 

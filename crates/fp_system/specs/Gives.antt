@@ -7,6 +7,10 @@ use Rattle.fp_model.specs.Machine.{at_rest}
 use Rattle.fp_model.specs.Recovery.{Holds}
 use Rattle.fp_site.specs.Disk.{Disk, Snapshot, Syncs}
 use Rattle.fp_site.specs.Moments.{OnlyOn, Through}
+use Rattle.fp_model.specs.declared.database.Db.{Db}
+use Rattle.fp_model.specs.SerialHistory.{IsSerialHistory}
+use Rattle.fp_show.specs.DbText.{db_text}
+use Rattle.site_texts.specs.Texts.{IsDbSent, IsLogSent, IsSentToDamage, SendsDb, SendsGroups}
 use Rattle.log_groups.specs.Images.{IsAtRest, IsBeforeOrMade, IsLog as HasLog}
 use Rattle.log_groups.specs.Kept.{IsSafe}
 use Rattle.fp_source.specs.declared.part.Part.{Part}
@@ -15,12 +19,12 @@ use Rattle.fp_system.specs.Answers.{IsEarly}
 use Rattle.fp_core.specs.Sparing.{IsLogSet as IsLog, Spares}
 use Rattle.fp_system.specs.Ims.{IsUnchanged}
 use Rattle.fp_system.specs.Parts.{Job, IsJob, front_for, rules_for}
-use Rattle.fp_system.specs.Courses.{Course, GoesOnTo, Input, IsEnded, IsKeptBy, IsNotBegun, Point}
+use Rattle.fp_system.specs.Courses.{Course, GoesOnTo, Input, IsSoundFor, IsEnded, IsKeptBy, IsNotBegun, Point}
 use Rattle.fp_system.specs.Table.{Given, IsForeign, IsSpared}
 use Rattle.fp_system.specs.declared.status.Status.{Status}
-use Rattle.fp_system.specs.declared.status.Status.TheVariants.{Done, ReadFault, NoMemory}
+use Rattle.fp_system.specs.declared.status.Status.TheVariants.{Damaged, Done, ReadFault, NoMemory}
 use Rattle.command_words.specs.declared.words.Command.{Command}
-use Rattle.command_words.specs.declared.words.Command.TheVariants.{Define, Run}
+use Rattle.command_words.specs.declared.words.Command.TheVariants.{Define, Run, Show}
 
 -- the site safely holds these entries under the job
 abbrev pub IsSafeFor : Job → Disk → List Entry → Type 0
@@ -73,24 +77,43 @@ pub record Ran (job : Job) (given : Input) (answer : Status) (old new : Disk) : 
       → Through old new (KeepsFront gate old)
   pub goes : (earlier : List Entry) → IsSafeFor job old earlier → Went job given earlier answer old new
 
--- A run reads each byte of the log once, up to the byte behind its end; of one that can be read, up to the first gate
--- that isn't open; of another's, no more than the front has.
-pub record ReadsOnce (job : Job) (log : List ℕ) (before now : ℕ) : Type 0 where
-  pub all : now ≤ before + length log + 1
-  pub up_to : (groups : List (List Entry)) (gate : ℕ) → Holds (front_for job) log groups gate
-      → now ≤ before + gate + 1
-  pub of_others : IsForeign job log → now ≤ before + first_gate (front_for job)
+-- a run and `show` restart
+abbrev pub Restarts : Command → Type 0
+Restarts Run = ⊤
+Restarts Show = ⊤
+Restarts _ = ⊥
+
+-- ---- show and log
+
+-- With Done the text of the databases that the log's entries make was sent. Whatever the answer is, it was a first part
+-- of that text; no contents change, and a crash at any moment leaves what it might have left, but for a sync of the log,
+-- and a first part sent. Of a sound log the text is that of its last state.
+pub record Shown (job : Job) (answer : Status) (old new : Disk) : Type 0 where
+  pub whole : answer ≡ Done → IsDbSent job.defs (front_for job) old new
+  pub sends : SendsDb job.defs (front_for job) old new
+  pub means : (entries : List Entry) (last : Db) → IsSoundFor job (old.contents 0) entries
+      → IsSerialHistory (rules_for job) 1 entries last → answer ≡ Done
+      → new.sent ≡ old.sent ++ db_text job.defs last
+
+-- With Done the text of all groups up to the first gate that isn't open was sent, with Damaged that of the groups before
+-- that place. Whatever the answer is, it was a first part of the text of groups that the log holds, and nothing else
+-- changes, at no moment.
+pub record Logged (job : Job) (answer : Status) (old new : Disk) : Type 0 where
+  pub whole : answer ≡ Done → IsLogSent (front_for job) old new
+  pub damaged : (at : ℕ) → answer ≡ Damaged 0 at → IsSentToDamage (front_for job) at old new
+  pub sends : SendsGroups (front_for job) old new
 
 -- ---- what stays
 
--- an answer that comes before the site is touched: of `define` a read fault and want of memory too
+-- An answer that comes before the site is touched. Only a run reads its source behind that, and `define` takes its
+-- memory before.
 abbrev pub IsBeforeSite : Option Command → Status → Type 0
-IsBeforeSite (Some Define) ReadFault = ⊤
-IsBeforeSite (Some Define) NoMemory = ⊤
-IsBeforeSite command answer = IsEarly answer
+IsBeforeSite found ReadFault = ¬ (found ≡ Some Run)
+IsBeforeSite found NoMemory = found ≡ Some Define
+IsBeforeSite found answer = IsEarly answer
 
--- `define` reads neither schedule nor messages, and a run that is done leaves no message
+-- only a run reads schedule and messages, and one that is done leaves no message
 pub record Took (found : Option Command) (answer : Status) (old new : Part → List ℕ) : Type 0 where
-  pub no_schedule : found ≡ Some Define → new part.Schedule ≡ old part.Schedule
-  pub no_messages : found ≡ Some Define → new part.Messages ≡ old part.Messages
+  pub no_schedule : ¬ (found ≡ Some Run) → new part.Schedule ≡ old part.Schedule
+  pub no_messages : ¬ (found ≡ Some Run) → new part.Messages ≡ old part.Messages
   pub all : found ≡ Some Run → answer ≡ Done → new part.Messages ≡ []

@@ -37,6 +37,6 @@ HasEventsFor _ job left events = ⊤
 
 -- a run's schedule is refused with this answer
 abbrev pub IsRefusedSchedule : Command → Job → (Part → List ℕ) → Status → Type 0
-IsRefusedSchedule Define job left answer = ⊥
 IsRefusedSchedule Run job left answer =
     (fault : ScheduleFault) × (answer ≡ status.Schedule fault) × (events_of job.defs (left part.Schedule) ≡ Err fault)
+IsRefusedSchedule _ job left answer = ⊥

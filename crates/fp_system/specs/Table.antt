@@ -6,7 +6,10 @@ use Rattle.std.specs.Borrow.{Bor}
 use Rattle.fp_exits.specs.Kinds.{Kinds, kinds_of}
 use Rattle.fp_exits.specs.declared.exits.Exits.{Exits}
 use Rattle.fp_model.specs.declared.name.Name.{Name}
+use Rattle.fp_model.specs.declared.log.Entry.{Entry}
+use Rattle.fp_model.specs.Groups.{HoldsGroups, IsDamaged}
 use Rattle.fp_model.specs.LogText.{StartsWithFront, first_gate}
+use Rattle.fp_model.specs.Recovery.{Holds}
 use Rattle.fp_restart.specs.Replayed.{IsFirstBadAt, IsReadable}
 use Rattle.fp_site.specs.Disk.{Disk}
 use Rattle.fp_source.specs.declared.part.Part.{Part}
@@ -17,7 +20,7 @@ use Rattle.command_words.specs.Words.{command_of}
 use Rattle.fp_system.specs.declared.status.Status.{Status}
 use Rattle.fp_system.specs.declared.status.Status.TheVariants.{Done, Usage, Foreign, Damaged, Line}
 use Rattle.command_words.specs.declared.words.Command.{Command}
-use Rattle.command_words.specs.declared.words.Command.TheVariants.{Define, Run}
+use Rattle.command_words.specs.declared.words.Command.TheVariants.{Define, Run, Show, Log}
 
 -- What a call is given, as it is told: the kinds of exit that there are, the words behind the program's name, what is
 -- left of each part, and what each data set holds.
@@ -66,6 +69,14 @@ pub data ByLog (job : Job) (log : List ℕ) (behind : Status → Type 0) : Statu
   damaged : {at : ℕ} → IsBadFirst job log at → ByLog job log behind (Damaged 0 at)
   good : {answer : Status} → IsGood job log → behind answer → ByLog job log behind answer
 
+-- So is it by its groups alone, whose items aren't applied: the first gate with bytes behind it that are no group, or
+-- the end.
+pub data ByGroups (job : Job) (log : List ℕ) : Status → Type 0 where
+  of_others : IsForeign job log → ByGroups job log Foreign
+  broken : (groups : List (List Entry)) {at : ℕ} → StartsWithFront log (front_for job)
+      → HoldsGroups log (first_gate (front_for job)) groups at → IsDamaged log at → ByGroups job log (Damaged 0 at)
+  whole : (groups : List (List Entry)) (gate : ℕ) → Holds (front_for job) log groups gate → ByGroups job log Done
+
 -- ---- the lines
 
 -- the first line that isn't taken, or the end
@@ -82,6 +93,8 @@ IsEnd messages answer = answer ≡ end_of_lines (faulty_line messages)
 abbrev pub IsDueTo : Command → Job → Given → Status → Type 0
 IsDueTo Define job g answer = answer ≡ Done
 IsDueTo Run job g answer = ByLog job (g.contents 0) (IsEnd (g.left part.Messages)) answer
+IsDueTo Show job g answer = ByLog job (g.contents 0) (λ behind. behind ≡ Done) answer
+IsDueTo Log job g answer = ByGroups job (g.contents 0) answer
 
 -- the answer that a call is due
 pub data IsDue (g : Given) : Status → Type 0 where

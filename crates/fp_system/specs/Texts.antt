@@ -56,7 +56,7 @@ schedule_text unfit.Memory = codes "no memory"
 -- what is said of a status, without a newline; nothing of Done
 abbrev pub fault_text : Status → List ℕ
 fault_text Done = []
-fault_text Usage = codes "usage: ims_fp define DIR | run DIR"
+fault_text Usage = codes "usage: ims_fp define DIR | run DIR | show DIR | log DIR"
 fault_text (Definitions fault) = codes "definitions: " ++ definitions_text fault
 fault_text (Scripts fault) = codes "scripts: " ++ scripts_text fault
 fault_text (Schedule fault) = codes "schedule: " ++ schedule_text fault

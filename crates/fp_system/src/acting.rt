@@ -12,15 +12,16 @@ ghost use Rattle.fp_system.specs.Answers.{IsEarly, IsOr, IsStop, MayStandIn, fau
 ghost use Rattle.fp_system.specs.Causes.{IsCaused, IsCausedBySite};
 ghost use Rattle.fp_system.specs.Courses.{IsBegun, RanFrom, input};
 ghost use Rattle.fp_core.specs.Sparing.{IsLogSet as IsLog, Spares};
-ghost use Rattle.fp_system.specs.Gives.{HasNewText, Ran, ReadsOnce};
+ghost use Rattle.fp_system.specs.Gives.{HasNewText, Logged, Ran, Shown};
 ghost use Rattle.fp_system.specs.Ims.{IsContinued};
 ghost use Rattle.fp_system.specs.Parts.{front_for};
 ghost use Rattle.fp_system.specs.Setups.{IsSetup, job_of};
-ghost use Rattle.fp_system.specs.Table.{ByLog, IsEnd};
+ghost use Rattle.fp_system.specs.Table.{ByGroups, ByLog, IsEnd};
 ghost use Rattle.fp_system.specs.declared.status.Status.TheVariants as status;
 ghost use Rattle.log_groups.specs.Images.{IsAtRest, IsBeforeOrMade};
 ghost use Rattle.log_groups.specs.Reads.{ReadsOnlyLog};
 ghost use Rattle.msdb_store.specs.Store.{IsOf};
+ghost use Rattle.site_texts.specs.Texts.{ReadsOnce};
 ghost use Rattle.std.specs.List.{AllByRecursion};
 ghost use Rattle.std.specs.Prelude.{◌≡◌, ◌⊎◌, ◌≤◌, ℕ, [], None, Some, true};
 
@@ -32,6 +33,7 @@ use fp_restart::{RestartFault, define, restart};
 use fp_site::Site;
 use fp_source::Source;
 use schedule_runs::run_schedule;
+use site_texts::{log, show};
 use std::alloc::Global;
 
 // The status of a fault of storage.
@@ -73,6 +75,52 @@ pub(crate) fn define_on<T: Site>(alloc: Global, site: &mut T, setup: &Setup) -> 
     ensures site { IsContinued T.told T.faults T.holds T.keeps site.old site.new }
 {
     match define(alloc, &setup.defs, &setup.front, site) {
+        Ok(()) => Status::Done,
+        Err(fault) => fault_status(fault),
+    }
+}
+
+/// Restarts, and sends the text of the databases.
+pub(crate) fn show_on<T: Site>(alloc: Global, site: &mut T, setup: &Setup) -> Status
+    requires { IsSetup setup.now }
+    ensures due { T.told site.old →
+        ByLog (job_of setup.now) ((T.disk site.old).contents 0) (λ behind. behind ≡ status.Done) result
+        ⊎ MayStandIn result }
+    ensures shown { T.told site.old → Shown (job_of setup.now) result (T.disk site.old) (T.disk site.new) }
+    ensures early { IsEarly result → ⊥ }
+    ensures never { result ≡ status.ReadFault → ⊥ }
+    ensures cause { IsCausedBySite (T.faults site.old) (T.faults site.new) result }
+
+    // Each byte of the log is read once, and no other data set.
+    ensures once { T.told site.old → T.tells_reads site.new 0 →
+        ReadsOnce (front_for (job_of setup.now)) ((T.disk site.old).contents 0)
+        (T.bytes_read site.old 0) (T.bytes_read site.new 0) }
+    ensures reads { ReadsOnlyLog (T.tells_reads site.old) (T.tells_reads site.new)
+        (T.bytes_read site.old) (T.bytes_read site.new) }
+    ensures site { IsContinued T.told T.faults T.holds T.keeps site.old site.new }
+{
+    match show(alloc, &setup.defs, &setup.front, site) {
+        Ok(()) => Status::Done,
+        Err(fault) => fault_status(fault),
+    }
+}
+
+/// Sends the text of the log's groups.
+pub(crate) fn log_on<T: Site>(alloc: Global, site: &mut T, setup: &Setup) -> Status
+    requires { IsSetup setup.now }
+    ensures due { T.told site.old → ByGroups (job_of setup.now) ((T.disk site.old).contents 0) result
+        ⊎ MayStandIn result }
+    ensures logged { T.told site.old → Logged (job_of setup.now) result (T.disk site.old) (T.disk site.new) }
+    ensures early { IsEarly result → ⊥ }
+    ensures never { result ≡ status.ReadFault → ⊥ }
+    ensures cause { IsCausedBySite (T.faults site.old) (T.faults site.new) result }
+
+    // No other data set is read.
+    ensures reads { ReadsOnlyLog (T.tells_reads site.old) (T.tells_reads site.new)
+        (T.bytes_read site.old) (T.bytes_read site.new) }
+    ensures site { IsContinued T.told T.faults T.holds T.keeps site.old site.new }
+{
+    match log(alloc, &setup.front, site) {
         Ok(()) => Status::Done,
         Err(fault) => fault_status(fault),
     }
@@ -149,7 +197,7 @@ pub(crate) fn run_on<S: Source, T: Site>(
     // At the end no message is left. Each byte of the log is read once.
     ensures read { S.told source.old → result ≡ status.Done → S.left source.new part.Messages ≡ [] }
     ensures once { T.told site.old → T.tells_reads site.new 0 →
-        ReadsOnce (job_of task.now.setup) ((T.disk site.old).contents 0)
+        ReadsOnce (front_for (job_of task.now.setup)) ((T.disk site.old).contents 0)
         (T.bytes_read site.old 0) (T.bytes_read site.new 0) }
     ensures reads { ReadsOnlyLog (T.tells_reads site.old) (T.tells_reads site.new)
         (T.bytes_read site.old) (T.bytes_read site.new) }

@@ -103,7 +103,9 @@ pub fn fault_text(alloc: Global, status: &Status) -> Result<Bytes, AllocError>
 {
     match status {
         Status::Done => Ok(Bytes::new(alloc)),
-        Status::Usage => Bytes::from_slice(alloc, b"usage: ims_fp define DIR | run DIR"),
+        Status::Usage => {
+            Bytes::from_slice(alloc, b"usage: ims_fp define DIR | run DIR | show DIR | log DIR")
+        },
         Status::Definitions(fault) => definitions_text(alloc, fault),
         Status::Scripts(fault) => scripts_text(alloc, *fault),
         Status::Schedule(fault) => schedule_text(alloc, *fault),

@@ -2,23 +2,25 @@
 ghost use Rattle.fp_model.specs.Messages.{lines_of};
 ghost use Rattle.fp_model.specs.declared.events.Event.{Event};
 ghost use Rattle.fp_source.specs.declared.part.Part.TheVariants as part;
+ghost use Rattle.fp_system.specs.Answers.{IsOr};
 ghost use Rattle.fp_system.specs.Causes.{IsCaused};
 ghost use Rattle.fp_system.specs.Courses.{input};
-ghost use Rattle.fp_system.specs.Gives.{Defined, IsBeforeSite, Ran, ReadsOnce, Took};
+ghost use Rattle.fp_system.specs.Gives.{Defined, IsBeforeSite, Logged, Ran, Restarts, Shown, Took};
 ghost use Rattle.fp_system.specs.Ims.{IsContinued};
-ghost use Rattle.fp_system.specs.Parts.{HasEvents, Job};
+ghost use Rattle.fp_system.specs.Parts.{HasEvents, Job, front_for};
+ghost use Rattle.site_texts.specs.Texts.{ReadsOnce};
 ghost use Rattle.fp_system.specs.Table.{Asks, IsAnswerTo, given};
 ghost use Rattle.command_words.specs.Words.{command_of};
 ghost use Rattle.fp_system.specs.declared.status.Status.TheVariants as status;
 ghost use Rattle.command_words.specs.declared.words.Command.{Command as CommandOf};
 ghost use Rattle.command_words.specs.declared.words.Command.TheVariants as command;
 ghost use Rattle.log_groups.specs.Reads.{ReadsOnlyLog};
-ghost use Rattle.std.specs.Prelude.{◌≡◌, ◌↔◌, None, Some, List as ListOf, map, string_bytes};
+ghost use Rattle.std.specs.Prelude.{◌≡◌, None, Some, List as ListOf, map, string_bytes};
 
 use crate::Status;
-use crate::acting::{define_on, run_on};
+use crate::acting::{define_on, log_on, run_on, show_on};
 use crate::parts::read_task;
-use crate::words::{Command, command_of};
+use command_words::{Command, command_of};
 use fp_exits::Exits;
 use fp_site::Site;
 use fp_source::Source;
@@ -26,7 +28,8 @@ use std::alloc::Global;
 
 /// All that the program does. `words` are those behind its name: `define DIR` makes the site anew from the parts
 /// Definitions and Scripts; `run DIR` restarts, takes the events of the part Schedule one after another, behind what
-/// the log has, and drains: so each line of the part Messages is answered. Words are judged first, then the
+/// the log has, and drains: so each line of the part Messages is answered; `show DIR` sends the text of the databases, and
+/// `log DIR` that of the log's groups. Words are judged first, then the
 /// definitions, the scripts, of a run the schedule, then the site; the message lines are read one by one.
 ///
 /// # What contracts say
@@ -43,7 +46,8 @@ pub fn ims<S: Source, T: Site>(
     exits: &Exits,
 ) -> Status
     // When each answer comes.
-    ensures usage { (result ≡ status.Usage) ↔ (command_of (map string_bytes words.now) ≡ None) }
+    ensures usage { result ≡ status.Usage → command_of (map string_bytes words.now) ≡ None }
+    ensures no_command { command_of (map string_bytes words.now) ≡ None → IsOr status.Usage result }
     ensures due { S.told source.old → T.told site.old →
         IsAnswerTo (given exits.now words.now (S.left source.old) (T.disk site.old)) result }
     ensures cause { IsCaused (S.faults source.old) (S.faults source.new)
@@ -60,10 +64,16 @@ pub fn ims<S: Source, T: Site>(
         Ran job (input events (lines_of (S.left source.old part.Messages))) result (T.disk site.old)
         (T.disk site.new) }
 
-    ensures once { (job : Job) → S.told source.old → T.told site.old
-        → Asks (given exits.now words.now (S.left source.old) (T.disk site.old)) command.Run job
-        → T.tells_reads site.new 0 →
-        ReadsOnce job ((T.disk site.old).contents 0) (T.bytes_read site.old 0) (T.bytes_read site.new 0) }
+    ensures shown { (job : Job) → S.told source.old → T.told site.old
+        → Asks (given exits.now words.now (S.left source.old) (T.disk site.old)) command.Show job →
+        Shown job result (T.disk site.old) (T.disk site.new) }
+    ensures logged { (job : Job) → S.told source.old → T.told site.old
+        → Asks (given exits.now words.now (S.left source.old) (T.disk site.old)) command.Log job →
+        Logged job result (T.disk site.old) (T.disk site.new) }
+    ensures once { (which : CommandOf) (job : Job) → S.told source.old → T.told site.old
+        → Asks (given exits.now words.now (S.left source.old) (T.disk site.old)) which job
+        → Restarts which → T.tells_reads site.new 0 →
+        ReadsOnce (front_for job) ((T.disk site.old).contents 0) (T.bytes_read site.old 0) (T.bytes_read site.new 0) }
 
     ensures reads { ReadsOnlyLog (T.tells_reads site.old) (T.tells_reads site.new)
         (T.bytes_read site.old) (T.bytes_read site.new) }
@@ -77,13 +87,17 @@ pub fn ims<S: Source, T: Site>(
     ensures source { IsContinued S.told S.faults S.holds S.keeps source.old source.new }
     ensures site { IsContinued T.told T.faults T.holds T.keeps site.old site.new }
 {
-    let Some(command) = command_of(words) else {
-        return Status::Usage;
+    let command = match command_of(alloc, words) {
+        Ok(Some(command)) => command,
+        Ok(None) => return Status::Usage,
+        Err(_) => return Status::NoMemory,
     };
     match read_task(alloc, source, exits, command) {
         Ok(task) => match command {
             Command::Define => define_on(alloc, site, &task.setup),
             Command::Run => run_on(alloc, source, site, exits, &task),
+            Command::Show => show_on(alloc, site, &task.setup),
+            Command::Log => log_on(alloc, site, &task.setup),
         },
         Err(answer) => answer,
     }

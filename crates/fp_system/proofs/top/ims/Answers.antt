@@ -7,8 +7,9 @@ use Rattle.fp_site.specs.Moments.{Through}
 use Rattle.fp_source.specs.declared.part.Part.TheVariants as part
 use Rattle.log_groups.specs.Images.{IsAtRest, IsBeforeOrMade}
 use Rattle.fp_system.specs.Answers.{IsOfParts, MayStandIn}
-use Rattle.fp_system.specs.Gives.{HasNewText, Ran, ReadsOnce}
+use Rattle.fp_system.specs.Gives.{HasNewText, Ran}
 use Rattle.fp_system.specs.Courses.{input}
+use Rattle.site_texts.specs.Texts.{ReadsOnce}
 use Rattle.fp_system.specs.Parts.{HasEvents, Job, Refuses, front_for}
 use Rattle.fp_system.specs.Setups.{HasEventsFor, job_of}
 use Rattle.fp_system.specs.Table as table
@@ -158,7 +159,7 @@ returns-in-Ok-clause-once g c job s t asks tells =
     let mine = job_of c.in-Ok.task.setup in
     let same = one_job (kinds_of c.args.exits.now) (g.S.Source.left c.args.source.now) mine job
     (c.in-Ok.ensures.job s) asks.job_is in
-    subst (λ (j : Job). ReadsOnce j ((g.T.Site.disk c.args.site.now).contents 0)
+    subst (λ (j : Job). ReadsOnce (front_for j) ((g.T.Site.disk c.args.site.now).contents 0)
     (g.T.Site.bytes_read c.args.site.now 0) (g.T.Site.bytes_read c.run_on.new.site 0)) same
     (c.run_on.ensures.once t tells)
 
