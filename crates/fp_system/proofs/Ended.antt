@@ -2,7 +2,6 @@
 use Rattle.std.proofs.Common.{◌≡◌, refl, sym, ◌∙◌, ap, subst, arith, ℕ, ◌+◌, ◌-◌, ◌≤◌, List, [], ◌++◌, length, drop, Some}
 use Rattle.std.proofs.lemmas.List.{append-nil, length-drop}
 use Rattle.fp_core.specs.Standing.{HasGroups, IsWithin, MayStop, Origin}
-use Rattle.fp_core.specs.Sparing.{IsSealing}
 use Rattle.fp_core.specs.declared.engine.Engine.{Engine}
 use Rattle.fp_core.specs.declared.stop.Stop.{Stop}
 use Rattle.fp_core.specs.declared.stop.Stop.TheVariants as stop
@@ -19,7 +18,7 @@ use Rattle.log_groups.specs.Images.{IsAtRest, IsLog}
 use Rattle.schedule_runs.specs.Standing.{IsDone, IsLeftOnWay, IsStopped}
 use Rattle.schedule_runs.specs.Ways.{Comes, next_event}
 use Rattle.fp_system.specs.Answers.{status_of_stop}
-use Rattle.fp_system.specs.Courses.{EndsAt, Input, IsAtLine, MayWant, RanFrom}
+use Rattle.fp_system.specs.Courses.{EndsAt, Input, MayWant, RanFrom}
 use Rattle.fp_system.specs.Parts.{Job, rules_for}
 use Rattle.fp_system.specs.declared.status.Status.{Status}
 use Rattle.fp_system.specs.declared.status.Status.TheVariants.{Done}
