@@ -35,7 +35,8 @@ abbrev pub run_of : (job : Job) (given : Input) (earlier : List Entry) (left : L
     → Course job given earlier left here → IsFromSerial (rules_for job) here
 run_of job given earlier left here course =
     let comes = course.comes in
-    let steps = goes_runs (rules_for job) given.events left (at_rest (rules_for job) given.lines course.behind) here
+    let steps = goes_runs job.defs (rules_for job) given.events left (at_rest (rules_for job) given.lines course.behind)
+    here
     comes.environments comes.goes in
     record {
       from = record { lines = given.lines; start = course.behind; steps = steps.0; runs = steps.1 };

@@ -1,15 +1,15 @@
 -- How a run ended: from what the run of the schedule says, where it was done, and where a step ended it.
-use Rattle.std.proofs.Common.{◌≡◌, refl, sym, ◌∙◌, ap, subst, arith, ℕ, ◌+◌, ◌-◌, ◌≤◌, List, [], ◌++◌, length, drop}
+use Rattle.std.proofs.Common.{◌≡◌, refl, sym, ◌∙◌, ap, subst, arith, ℕ, ◌+◌, ◌-◌, ◌≤◌, List, [], ◌++◌, length, drop, Some}
 use Rattle.std.proofs.lemmas.List.{append-nil, length-drop}
 use Rattle.fp_core.specs.Standing.{HasGroups, IsWithin, MayStop, Origin}
-use Rattle.fp_core.specs.Sparing.{IsSealing}
 use Rattle.fp_core.specs.declared.engine.Engine.{Engine}
 use Rattle.fp_core.specs.declared.stop.Stop.{Stop}
 use Rattle.fp_core.specs.declared.stop.Stop.TheVariants as stop
+use Rattle.fp_core.proofs.StopLemmas.{line_fault_reads, log_fault_seals, read_fault_reads}
 use Rattle.fp_model.specs.declared.events.Event.{Event}
 use Rattle.fp_model.specs.declared.events.Event.TheVariants as event
 use Rattle.fp_model.specs.History.{History}
-use Rattle.fp_model.specs.Machine.{Machine, at_rest}
+use Rattle.fp_model.specs.Machine.{Idle, Machine, at_rest, region_at}
 use Rattle.fp_site.specs.Disk.{Disk}
 use Rattle.fp_site.specs.Moments.{Through}
 use Rattle.fp_site.proofs.Images.{durable_settles}
@@ -18,7 +18,7 @@ use Rattle.log_groups.specs.Images.{IsAtRest, IsLog}
 use Rattle.schedule_runs.specs.Standing.{IsDone, IsLeftOnWay, IsStopped}
 use Rattle.schedule_runs.specs.Ways.{Comes, next_event}
 use Rattle.fp_system.specs.Answers.{status_of_stop}
-use Rattle.fp_system.specs.Courses.{EndsAt, Input, IsAtLine, MayWant, RanFrom}
+use Rattle.fp_system.specs.Courses.{EndsAt, Input, MayWant, RanFrom}
 use Rattle.fp_system.specs.Parts.{Job, rules_for}
 use Rattle.fp_system.specs.declared.status.Status.{Status}
 use Rattle.fp_system.specs.declared.status.Status.TheVariants.{Done}
@@ -52,43 +52,15 @@ module _ (job : Job) (origin : Origin) (here : Machine) (most : ℕ) (disk : Dis
 
 -- ---- where a step ended it
 
--- a read ends only an IN without a held line
-read_at_line : (left : List Event) (here : Machine) (e : Event) → next_event left ≡ e
-    → MayStop e here.held stop.ReadFault → IsAtLine left here
-read_at_line left here event.In is may = record { takes = is; none_held = may }
-read_at_line left here (event.Region region) is may = absurd may
-read_at_line left here event.Log is may = absurd may
-read_at_line left here event.Out is may = absurd may
-read_at_line left here event.Ckpt is may = absurd may
-read_at_line left here (event.Purge set n) is may = absurd may
-
--- and so does a line
-line_at_line : (number : ℕ) (left : List Event) (here : Machine) (e : Event) → next_event left ≡ e
-    → MayStop e here.held (stop.LineFault number) → IsAtLine left here
-line_at_line number left here event.In is may = record { takes = is; none_held = may }
-line_at_line number left here (event.Region region) is may = absurd may
-line_at_line number left here event.Log is may = absurd may
-line_at_line number left here event.Out is may = absurd may
-line_at_line number left here event.Ckpt is may = absurd may
-line_at_line number left here (event.Purge set n) is may = absurd may
-
--- the log ends only a step that makes calls on the site
-log_at_seal : (here : Machine) (e : Event) → MayStop e here.held stop.LogFault → IsSealing e
-log_at_seal here event.In may = absurd may
-log_at_seal here (event.Region region) may = absurd may
-log_at_seal here event.Log may = tt
-log_at_seal here event.Out may = absurd may
-log_at_seal here event.Ckpt may = tt
-log_at_seal here (event.Purge set n) may = absurd may
-
--- and memory one that may want some
-memory_wanted : (here : Machine) (e : Event) → MayStop e here.held stop.Memory → MayWant e
-memory_wanted here event.In may = tt
-memory_wanted here (event.Region region) may = tt
-memory_wanted here event.Log may = tt
-memory_wanted here event.Out may = absurd may
-memory_wanted here event.Ckpt may = tt
-memory_wanted here (event.Purge set n) may = absurd may
+-- want of memory ends only a step that may want some
+memory_wanted : (here : Machine) (e : Event) → ((region : ℕ) → e ≡ event.Region region → region_at here region ≡ Some
+    Idle) → MayStop e here.held stop.Memory → MayWant e here
+memory_wanted here event.In idle may = tt
+memory_wanted here (event.Region region) idle may = idle region refl
+memory_wanted here event.Log idle may = tt
+memory_wanted here event.Out idle may = absurd may
+memory_wanted here event.Ckpt idle may = tt
+memory_wanted here (event.Purge set n) idle may = absurd may
 
 module _ (job : Job) (given : Input) (origin : Origin) (h : History) where
   abbrev begun : Machine
@@ -106,21 +78,24 @@ module _ (job : Job) (given : Input) (origin : Origin) (h : History) where
       rest.1 ∙ drop_least rest.0 (number - 1) given.lines (omega (arith, count, ap length rest.1, some_line))
     where
       some_line : length here.lines ≤ length given.lines
-      some_line = let rest = goes_rest (rules_for job) job.defs given.events left begun here comes.environments comes.goes in
+      some_line = let rest = goes_rest (rules_for job) job.defs given.events left begun here comes.environments
+          comes.goes in
           omega (arith, ap length rest.1, length-drop rest.0 given.lines)
 
   stop_ends : (left : List Event) (here : Machine) (why : Stop)
       → Comes job.defs (rules_for job) given.events begun left here
       → MayStop (next_event left) here.held why
+      → ((region : ℕ) → next_event left ≡ event.Region region → region_at here region ≡ Some Idle)
       → ((number : ℕ) → why ≡ stop.LineFault number → number + length here.lines ≡ 1 + length given.lines)
       → EndsAt job given (status_of_stop why) left here
-  stop_ends left here stop.LogFault comes may first = log_at_seal here (next_event left) may
-  stop_ends left here stop.ReadFault comes may first = read_at_line left here (next_event left) refl may
-  stop_ends left here (stop.LineFault number) comes may first = (
-    line_at_line number left here (next_event left) refl may,
-    lines_from left here number comes (first number refl),
-  )
-  stop_ends left here stop.Memory comes may first = memory_wanted here (next_event left) may
+  stop_ends left here stop.LogFault comes may idle first = log_fault_seals (next_event left) here.held may
+  stop_ends left here stop.ReadFault comes may idle first =
+      let reads = read_fault_reads (next_event left) here.held may in
+      record { takes = reads.0; none_held = reads.1 }
+  stop_ends left here (stop.LineFault number) comes may idle first =
+      let reads = line_fault_reads (next_event left) here.held number may in
+      (record { takes = reads.0; none_held = reads.1 }, lines_from left here number comes (first number refl))
+  stop_ends left here stop.Memory comes may idle first = memory_wanted here (next_event left) idle may
 
   abbrev Moments : Disk → Disk → Type 0
   Moments old new = Through old new (IsLeftOnWay origin job.defs (rules_for job) given.events begun old)
@@ -133,7 +108,7 @@ module _ (job : Job) (given : Input) (origin : Origin) (h : History) where
     left = it.left;
     here = it.here;
     comes = it.comes;
-    ends = stop_ends it.left it.here why it.comes it.may first;
+    ends = stop_ends it.left it.here why it.comes it.may it.idle first;
     within = it.within;
     rest = it.rest;
     moments = moments;

@@ -6,7 +6,6 @@ pub mod Ended
 pub mod Went
 pub mod Begins
 pub mod Due
-pub mod FrameLemmas
 pub mod TableLemmas
 pub mod StopLemmas
 pub mod Runs

@@ -32,7 +32,7 @@ use Rattle.command_words.specs.declared.words.Command.{Command}
 use Rattle.command_words.specs.declared.words.Command.TheVariants.{Define, Run}
 use Rattle.std.specs.Prelude.{Option, Some, None}
 use Rattle.fp_system.proofs.Begins.{any_format, any_history, any_place, any_states, front_kept}
-use Rattle.fp_system.proofs.FrameLemmas.{spares_none}
+use Rattle.fp_core.proofs.SparingLemmas.{spares_none}
 use Rattle.fp_system.proofs.Went.{unchanged_same, went_not}
 
 -- ---- the whole

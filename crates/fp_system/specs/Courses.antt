@@ -1,5 +1,5 @@
 -- Courses of a run: how far turns of the table come behind what a log has, and what was sealed and sent by then.
-use Rattle.std.specs.Prelude.{◌≡◌, ◌⊎◌, ⊤, ℕ, ◌-◌, ◌≤◌, List, [], ◌++◌, drop, length, None}
+use Rattle.std.specs.Prelude.{◌≡◌, ◌⊎◌, ⊤, ℕ, ◌-◌, ◌≤◌, List, [], ◌++◌, drop, length, None, Some}
 use Rattle.fp_core.specs.Sparing.{IsSealing}
 use Rattle.fp_core.specs.Standing.{IsBetween, IsWithin, Origin, seals_of}
 use Rattle.fp_model.specs.declared.events.Event.{Event}
@@ -8,7 +8,7 @@ use Rattle.fp_model.specs.declared.log.Entry.{Entry}
 use Rattle.fp_model.specs.Groups.{entries_of}
 use Rattle.fp_model.specs.History.{History, place_of}
 use Rattle.fp_model.specs.Lasts.{format_at}
-use Rattle.fp_model.specs.Machine.{Machine, at_rest, sealed_times}
+use Rattle.fp_model.specs.Machine.{Idle, Machine, at_rest, region_at, sealed_times}
 use Rattle.fp_model.specs.Runs.{IsDrained}
 use Rattle.fp_model.specs.SerialHistory.{IsSerial}
 use Rattle.fp_site.specs.Disk.{Disk, IsDurable, Settles, Snapshot, Syncs}
@@ -92,11 +92,14 @@ pub record IsAtLine (left : List Event) (here : Machine) : Type 0 where
   pub takes : next_event left ≡ event.In
   pub none_held : here.held ≡ None
 
--- a step that may find no memory: an OUT does nothing, and there is no area to purge
-abbrev pub MayWant : Event → Type 0
-MayWant event.Out = ⊥
-MayWant (event.Purge set n) = ⊥
-MayWant _ = ⊤
+-- A step that may end a run for want of memory. An OUT does nothing, and there is no area to purge. The turn of a
+-- region
+-- does only where that is idle: a transaction that is under way gets an entry that says so.
+abbrev pub MayWant : Event → Machine → Type 0
+MayWant event.Out here = ⊥
+MayWant (event.Purge set n) here = ⊥
+MayWant (event.Region region) here = region_at here region ≡ Some Idle
+MayWant _ here = ⊤
 
 -- Where a run ends with this answer. With Done all events were taken, and the drain. A line that isn't taken is the
 -- next one that would be read. Where a read failed the next step reads a line; where the site failed it is a LOG or
@@ -106,7 +109,7 @@ EndsAt job given Done left here = (left ≡ []) × IsDrained (rules_for job) her
 EndsAt job given (Line number) left here = IsAtLine left here × (here.lines ≡ drop (number - 1) given.lines)
 EndsAt job given ReadFault left here = IsAtLine left here
 EndsAt job given SiteFault left here = IsSealing (next_event left)
-EndsAt job given NoMemory left here = MayWant (next_event left)
+EndsAt job given NoMemory left here = MayWant (next_event left) here
 EndsAt job given _ left here = ⊥
 
 -- A run ended there with this answer. Each log that a sync may make of its own goes on so; and it is for good, where

@@ -1,6 +1,6 @@
 -- Exact turns are determined: from one machine an event, with the same befalling it, leads to one machine.
 use Rattle.std.proofs.Common.{◌≡◌, ◌⊎◌, inl, inr, refl, sym, ◌∙◌, ap, subst, arith, ℕ, zero, suc, List, [], ◌∷◌, ◌++◌, length, map, Option, Some, None}
-use Rattle.std.specs.Prelude.{IsTrue, Bool, true, false, drop, if◌then◌else◌, slice_get}
+use Rattle.std.specs.Prelude.{Bool, true, false, drop, if◌then◌else◌, slice_get}
 use Rattle.std.specs.List.{AllByRecursion, AllZip, list_any}
 use Rattle.std.specs.Option.{option_map_or}
 use Rattle.std.proofs.lemmas.List.{length-append, length-map, map-append}
@@ -20,15 +20,14 @@ use Rattle.fp_model.specs.declared.scripts.Script.{Script}
 use Rattle.fp_model.specs.CheckpointText.{IsMsdbOf}
 use Rattle.fp_model.specs.History.{History, Request, Accepts, Refuses}
 use Rattle.fp_model.specs.Items.{IsFit as IsFitItem}
-use Rattle.fp_model.specs.ItemTargets.{is_ascending}
-use Rattle.fp_model.specs.Machine.{Transaction, Region, Idle, Active, Machine, is_among, next_line, region_at, taken_in, terminal_in, with_line, with_request_of, without_line}
+use Rattle.fp_model.specs.Machine.{Transaction, Region, Idle, Active, Machine, is_among, next_line, taken_in, terminal_in, with_line, with_request_of, without_line}
 use Rattle.fp_model.specs.Product.{rules_of}
 use Rattle.fp_model.specs.Rules.{Rules}
 use Rattle.fp_model.specs.Runs.{RunStep}
 use Rattle.fp_model.specs.Turns.{Environment, NoFault, DeviceFault, OutOfMemory, RegionTurn, Turn, AreItemsFor, begins_in, messages_for}
 use Rattle.fp_model.specs.Waiting.{Lock}
 use Rattle.fp_model.proofs.FrameLemmas.{turn_keeps}
-use Rattle.msdb_store.specs.Settling.{HasItem, IsSegmentItem}
+use Rattle.msdb_store.specs.Settling.{IsSegmentItem}
 use Rattle.msdb_store.specs.Store.{IsFitSegment}
 use Rattle.msdb_store.proofs.ItemLemmas.{items_are_one, still_of}
 use Rattle.run_laws.specs.Determined.{plain, plain_entry, whole}
@@ -45,18 +44,14 @@ fits defs (Segment n k b ∷ items) segments fit = (fit.0, fits defs items segme
 fits defs (Image set ci b ∷ items) segments fit = absurd segments.0
 fits defs (Range set ci at b ∷ items) segments fit = absurd segments.0
 
-true_of : (b : Bool) → IsTrue b → b ≡ true
-true_of true is = refl
-true_of false is = absurd is
-
 -- the items of what is done are one list
 own_items : (defs : Defs) (rules : Rules) (m : Machine) (t : Transaction) (next : Db) (xs ys : List Item)
     → AllZip IsMsdbOf defs.msdbs m.history.now.msdbs
     → HasItsItems defs rules m t outcome.Done next xs → HasItsItems defs rules m t outcome.Done next ys → xs ≡ ys
 own_items defs rules m t next xs ys of x y =
     items_are_one defs.msdbs m.history.now.msdbs next.msdbs xs ys of
-    x.kinds (fits defs xs x.kinds x.fit) (true_of (is_ascending xs) x.in_order) x.made
-    y.kinds (fits defs ys y.kinds y.fit) (true_of (is_ascending ys) y.in_order) y.made
+    x.kinds (fits defs xs x.kinds x.fit) x.in_order x.made
+    y.kinds (fits defs ys y.kinds y.fit) y.in_order y.made
     (λ n k it. (y.keys n k).1 ((x.keys n k).0 it))
     (λ n k it. (x.keys n k).1 ((y.keys n k).0 it))
 
@@ -204,7 +199,7 @@ in_now rules m = by (next_line m)
     by (Some line) = line_now rules line (without_line m) ∙ off_now m
 
 -- databases of the definitions stay so
-of_turn : (defs : Defs) (rules : Rules) (m : Machine) (e : Event) (v : Environment) (m2 : Machine)
+pub of_turn : (defs : Defs) (rules : Rules) (m : Machine) (e : Event) (v : Environment) (m2 : Machine)
     → AllZip IsMsdbOf defs.msdbs m.history.now.msdbs → Turn rules m e v m2 → IsExactTurn defs rules m e v m2
     → AllZip IsMsdbOf defs.msdbs m2.history.now.msdbs
 of_turn defs rules m e v m2 of turn exact = by e v turn exact

@@ -11,10 +11,10 @@ use Rattle.fp_model.specs.declared.log.Entry.{Entry}
 use Rattle.fp_model.specs.declared.log.Outcome.TheVariants as outcome
 use Rattle.fp_model.specs.declared.scripts.Script.{Script}
 use Rattle.fp_model.specs.CheckpointText.{IsMsdbOf}
-use Rattle.fp_model.specs.Machine.{Transaction, Region, Idle, Active, Machine, entry_of, region_at}
+use Rattle.fp_model.specs.Machine.{Transaction, Region, Idle, Active, Machine, entry_of}
 use Rattle.fp_model.specs.Product.{rules_of}
 use Rattle.fp_model.specs.Rules.{Rules}
-use Rattle.fp_model.specs.Runs.{IsDrained, round}
+use Rattle.fp_model.specs.Runs.{IsDrained}
 use Rattle.fp_model.specs.Serial.{refused_as}
 use Rattle.fp_model.specs.Turns.{Environment, NoFault, DeviceFault, OutOfMemory, RegionTurn, Turn}
 use Rattle.fp_model.proofs.FrameLemmas.{turn_adds}

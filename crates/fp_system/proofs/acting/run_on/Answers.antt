@@ -22,7 +22,7 @@ use Rattle.fp_system.specs.Table.{ByLog, IsEnd}
 use Rattle.fp_system.specs.declared.status.Status.{Status}
 use Rattle.fp_system.proofs.CauseLemmas.{fault_by_site, fault_by_source, one_err, site_since}
 use Rattle.fp_system.proofs.Due.{ended_due, fault_due, fault_not_done, fault_stands, late, not_spared}
-use Rattle.fp_system.proofs.FrameLemmas.{spares_syncs, spares_on}
+use Rattle.fp_core.proofs.SparingLemmas.{spares_syncs, spares_on}
 use Rattle.fp_system.proofs.Runs.{kept_front, kept_synced, ran, went_in_place}
 use Rattle.fp_system.proofs.Went.{begins, stood, went}
 use Rattle.fp_system.proofs.acting.run_on.Goals as goal

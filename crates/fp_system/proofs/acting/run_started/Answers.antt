@@ -19,7 +19,7 @@ use Rattle.fp_core.proofs.Onwards.{reads_nothing_none}
 use Rattle.fp_system.specs.Causes.{IsCaused}
 use Rattle.fp_system.proofs.CauseLemmas.{stop_by_site, stop_by_source}
 use Rattle.fp_system.proofs.Ended.{ended_done, ended_early}
-use Rattle.fp_system.proofs.FrameLemmas.{spares_none}
+use Rattle.fp_core.proofs.SparingLemmas.{spares_none}
 use Rattle.fp_system.proofs.acting.run_started.Goals as goal
 
 pub returns-in-Err-clause-ran : goal.returns-in-Err-clause-ran
