@@ -71,7 +71,10 @@ fn refused(
 // Answers of a run, with what is said of each and its number.
 const ANSWERS: [(Status, &str); 12] = [
     (Status::Done, "|0"),
-    (Status::Usage, "usage: ims_fp define DIR | run DIR|1"),
+    (
+        Status::Usage,
+        "usage: ims_fp define DIR | run DIR | show DIR | log DIR|1",
+    ),
     (
         Status::Schedule(ScheduleFault::BadToken(3)),
         "schedule: bad token 3|4",
@@ -178,6 +181,9 @@ const NO_FORMS: [&[&str]; 7] = [
     &["-h"],
     &["Run", "D"],
     &["run", "D", "E"],
+    &["show"],
+    &["log", "-d"],
+    &["log", "", "D"],
 ];
 
 #[test]
@@ -186,7 +192,7 @@ fn words_in_no_form_are_usage(rt: HostRuntime) -> Result<(), Fail> {
         let (said, same) = refused(rt.alloc(), form, GOOD, "", "")?;
         assert_eq!(rt;
             said.as_str(),
-            "usage: ims_fp define DIR | run DIR|1",
+            "usage: ims_fp define DIR | run DIR | show DIR | log DIR|1",
             "at {form:?}"
         );
         assert!(rt; same);

@@ -13,3 +13,5 @@ mod runs;
 mod schedules;
 #[cfg(test)]
 mod stopped_runs;
+#[cfg(test)]
+mod texts;

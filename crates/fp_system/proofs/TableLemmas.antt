@@ -3,19 +3,21 @@ use Rattle.std.proofs.Common.{◌≡◌, refl, sym, ap, subst, ◌∙◌, ℕ, L
 use Rattle.fp_model.specs.LogText.{first_gate}
 use Rattle.fp_model.specs.Items.{AreFit, items_of}
 use Rattle.fp_model.specs.declared.log.Entry.{Entry}
+use Rattle.fp_model.specs.Groups.{Damage, Groups, LogReading, Reads}
+use Rattle.log_format.proofs.GroupLaws.{one_reading}
 use Rattle.fp_restart.proofs.Replays.{one_first_bad, readable_not_bad, sound_begins}
 use Rattle.fp_system.specs.Answers.{faulty_line}
 use Rattle.fp_system.specs.Parts.{Job, Refuses, front_for}
 use Rattle.fp_source.specs.declared.part.Part.TheVariants as part
 use Rattle.command_words.specs.Words.{command_of}
 use Rattle.fp_system.specs.declared.status.Status.{Status}
-use Rattle.fp_system.specs.declared.status.Status.TheVariants.{Damaged}
+use Rattle.fp_system.specs.declared.status.Status.TheVariants.{Damaged, Done}
 use Rattle.command_words.specs.declared.words.Command.{Command}
-use Rattle.command_words.specs.declared.words.Command.TheVariants.{Define, Run}
+use Rattle.command_words.specs.declared.words.Command.TheVariants.{Define, Run, Show, Log}
 use Rattle.fp_system.proofs.Jobs.{one_job, one_answer, no_job_refused}
 use Rattle.fp_system.specs.Courses.{IsSoundFor}
-use Rattle.fp_system.specs.Table.{Given, Asks, ByLog, IsDue, IsDueTo, IsEnd, IsGood, end_of_lines}
-use Rattle.fp_system.specs.Table.{asked, damaged, foreign, good, no_command, refused}
+use Rattle.fp_system.specs.Table.{Given, Asks, ByGroups, ByLog, IsDue, IsDueTo, IsEnd, IsGood, end_of_lines}
+use Rattle.fp_system.specs.Table.{asked, broken, damaged, foreign, good, no_command, of_others, refused, whole}
 
 -- ---- the log
 
@@ -36,6 +38,35 @@ one_by_log job log behind one a b (good is p) (damaged {at = at} bad) =
     absurd (readable_not_bad job.defs log (first_gate (front_for job)) at is.readable bad.bad)
 one_by_log job log behind one a b (good is p) (good is2 q) = one a b p q
 
+-- and of its groups
+places_are_one : (job : Job) (log : List ℕ) (r s : LogReading) → Reads log (first_gate (front_for job)) r
+    → Reads log (first_gate (front_for job)) s → r ≡ s
+places_are_one job log r s p q = one_reading log (first_gate (front_for job)) r s p q
+
+pub one_by_groups : (job : Job) (log : List ℕ) (a b : Status) → ByGroups job log a → ByGroups job log b → a ≡ b
+one_by_groups job log a b (of_others away) (of_others away2) = refl
+one_by_groups job log a b (of_others away) (broken groups begins holds bad) = absurd (away begins)
+one_by_groups job log a b (of_others away) (whole groups gate holds) = absurd (away holds.begins)
+one_by_groups job log a b (broken groups begins holds bad) (of_others away) = absurd (away begins)
+one_by_groups job log a b (broken gs {at = at} begins holds bad) (broken hs {at = at2} begins2 holds2 bad2) =
+    ap (λ (place : ℕ). Damaged 0 place)
+    (same_damage (places_are_one job log (Damage at) (Damage at2) (gs, holds, bad) (hs, holds2, bad2)))
+  where
+    same_damage : Damage at ≡ Damage at2 → at ≡ at2
+    same_damage e = cc
+one_by_groups job log a b (broken gs {at = at} begins holds bad) (whole hs gate is) =
+    not_both (places_are_one job log (Damage at) (Groups hs gate) (gs, holds, bad) is.reads)
+  where
+    not_both : Damage at ≡ Groups hs gate → a ≡ b
+    not_both e = absurd cc
+one_by_groups job log a b (whole hs gate is) (of_others away) = absurd (away is.begins)
+one_by_groups job log a b (whole hs gate is) (broken gs {at = at} begins holds bad) =
+    not_both (places_are_one job log (Damage at) (Groups hs gate) (gs, holds, bad) is.reads)
+  where
+    not_both : Damage at ≡ Groups hs gate → a ≡ b
+    not_both e = absurd cc
+one_by_groups job log a b (whole gs gate is) (whole hs gate2 is2) = refl
+
 -- ---- the commands
 
 one_due_to : (command : Command) (job : Job) (g : Given) (a b : Status) → IsDueTo command job g a
@@ -43,6 +74,9 @@ one_due_to : (command : Command) (job : Job) (g : Given) (a b : Status) → IsDu
 one_due_to Define job g a b p q = p ∙ sym q
 one_due_to Run job g a b p q =
     one_by_log job (g.contents 0) (IsEnd (g.left part.Messages)) (λ x y h k. h ∙ sym k) a b p q
+one_due_to Show job g a b p q =
+    one_by_log job (g.contents 0) (λ behind. behind ≡ Done) (λ x y h k. h ∙ sym k) a b p q
+one_due_to Log job g a b p q = one_by_groups job (g.contents 0) a b p q
 
 same_command : (found : Option Command) (c d : Command) → found ≡ Some c → found ≡ Some d → c ≡ d
 same_command found c d p q = cc

@@ -86,7 +86,8 @@ Restarts _ = ⊥
 -- ---- show and log
 
 -- With Done the text of the databases that the log's entries make was sent. Whatever the answer is, it was a first part
--- of that text; no contents change, and a crash at any moment leaves what it might have left, but for a sync of the log,
+-- of that text; no contents change, and a crash at any moment leaves what it might have left, but for a sync of the
+-- log,
 -- and a first part sent. Of a sound log the text is that of its last state.
 pub record Shown (job : Job) (answer : Status) (old new : Disk) : Type 0 where
   pub whole : answer ≡ Done → IsDbSent job.defs (front_for job) old new
@@ -95,7 +96,8 @@ pub record Shown (job : Job) (answer : Status) (old new : Disk) : Type 0 where
       → IsSerialHistory (rules_for job) 1 entries last → answer ≡ Done
       → new.sent ≡ old.sent ++ db_text job.defs last
 
--- With Done the text of all groups up to the first gate that isn't open was sent, with Damaged that of the groups before
+-- With Done the text of all groups up to the first gate that isn't open was sent, with Damaged that of the groups
+-- before
 -- that place. Whatever the answer is, it was a first part of the text of groups that the log holds, and nothing else
 -- changes, at no moment.
 pub record Logged (job : Job) (answer : Status) (old new : Disk) : Type 0 where

@@ -101,7 +101,7 @@ pub(crate) fn show_on<T: Site>(alloc: Global, site: &mut T, setup: &Setup) -> St
 {
     match show(alloc, &setup.defs, &setup.front, site) {
         Ok(()) => Status::Done,
-        Err(fault) => fault_status(fault),
+        Err(why) => fault_status(why),
     }
 }
 
@@ -122,7 +122,7 @@ pub(crate) fn log_on<T: Site>(alloc: Global, site: &mut T, setup: &Setup) -> Sta
 {
     match log(alloc, &setup.front, site) {
         Ok(()) => Status::Done,
-        Err(fault) => fault_status(fault),
+        Err(why) => fault_status(why),
     }
 }
 

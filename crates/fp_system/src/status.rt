@@ -104,7 +104,10 @@ pub fn fault_text(alloc: Global, status: &Status) -> Result<Bytes, AllocError>
     match status {
         Status::Done => Ok(Bytes::new(alloc)),
         Status::Usage => {
-            Bytes::from_slice(alloc, b"usage: ims_fp define DIR | run DIR | show DIR | log DIR")
+            Bytes::from_slice(
+                alloc,
+                b"usage: ims_fp define DIR | run DIR | show DIR | log DIR",
+            )
         },
         Status::Definitions(fault) => definitions_text(alloc, fault),
         Status::Scripts(fault) => scripts_text(alloc, *fault),

@@ -28,7 +28,8 @@ use std::alloc::Global;
 
 /// All that the program does. `words` are those behind its name: `define DIR` makes the site anew from the parts
 /// Definitions and Scripts; `run DIR` restarts, takes the events of the part Schedule one after another, behind what
-/// the log has, and drains: so each line of the part Messages is answered; `show DIR` sends the text of the databases, and
+/// the log has, and drains: so each line of the part Messages is answered; `show DIR` sends the text of the databases,
+/// and
 /// `log DIR` that of the log's groups. Words are judged first, then the
 /// definitions, the scripts, of a run the schedule, then the site; the message lines are read one by one.
 ///

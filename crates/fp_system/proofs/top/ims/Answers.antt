@@ -1,4 +1,4 @@
-use Rattle.std.proofs.Common.{◌≡◌, arith, ℕ, List, [], Option, Some, None, ◌⊎◌, ⊎_elim, inl, inr, refl, subst, map, string_bytes}
+use Rattle.std.proofs.Common.{◌≡◌, ◌∙◌, ap, sym, rules, arith, ℕ, List, [], Option, Some, None, ◌⊎◌, ⊎_elim, inl, inr, refl, subst, map, string_bytes}
 use Rattle.fp_model.specs.declared.events.Event.{Event}
 use Rattle.fp_model.specs.Messages.{lines_of}
 use Rattle.fp_exits.specs.Kinds.{kinds_of}
@@ -7,7 +7,7 @@ use Rattle.fp_site.specs.Moments.{Through}
 use Rattle.fp_source.specs.declared.part.Part.TheVariants as part
 use Rattle.log_groups.specs.Images.{IsAtRest, IsBeforeOrMade}
 use Rattle.fp_system.specs.Answers.{IsOfParts, MayStandIn}
-use Rattle.fp_system.specs.Gives.{HasNewText, Ran}
+use Rattle.fp_system.specs.Gives.{HasNewText, Logged, Ran, Restarts, Shown}
 use Rattle.fp_system.specs.Courses.{input}
 use Rattle.site_texts.specs.Texts.{ReadsOnce}
 use Rattle.fp_system.specs.Parts.{HasEvents, Job, Refuses, front_for}
@@ -19,6 +19,8 @@ use Rattle.command_words.specs.declared.words.Command.{Command}
 use Rattle.command_words.specs.declared.words.Command.TheVariants as command
 use Rattle.fp_system.proofs.CauseLemmas.{by_site, by_source, source_since}
 use Rattle.fp_system.proofs.Due.{parts_not_done}
+use Rattle.fp_system.specs.declared.status.Status.TheVariants as status
+use Rattle.fp_system.proofs.SentTexts.{logged_not, read_none, shown_not}
 use Rattle.fp_system.proofs.Runs.{before_site, only_same, ran_not, unmade}
 use Rattle.fp_system.proofs.Jobs.{no_job_refused, one_job, same_events, schedule_had}
 use Rattle.fp_system.proofs.top.ims.Goals as goal
@@ -27,26 +29,32 @@ use Rattle.fp_system.proofs.top.ims.Goals as goal
 the_same : {o : Option Command} {a b : Command} → o ≡ Some a → o ≡ Some b → a ≡ b
 the_same e f = cc
 
+other_command : {P : Type 0} {o : Option Command} {a b : Command} → o ≡ Some a → o ≡ Some b → (a ≡ b → ⊥) → P
+other_command e f apart = absurd (apart (the_same e f))
+
+no_run : {a b c : Command} → a ≡ b → a ≡ c → (b ≡ c → ⊥) → ⊥
+no_run e f apart = apart (sym e ∙ f)
+
 -- ---- the answer
 
 pub returns-in-Define-clause-due : goal.returns-in-Define-clause-due
 returns-in-Define-clause-due g c s t =
-    let named : command_of (map string_bytes c.args.words.now) ≡ Some command.Define = cc in
+    let named : command_of (map string_bytes c.args.words.now) ≡ Some command.Define = search rules in
     ⊎_elim (λ done. inl (table.asked
     (record { command_is = named; job_is = c.in-Ok.ensures.job s; schedule_is = tt }) done))
     (λ fault. inr fault) c.define_on.ensures.outcome
 
-pub returns-in-Ok-clause-due : goal.returns-in-Ok-clause-due
-returns-in-Ok-clause-due g c s t =
+pub returns-in-Run-clause-due : goal.returns-in-Run-clause-due
+returns-in-Run-clause-due g c s t =
     let mine = job_of c.in-Ok.task.setup in
     let log = (g.T.Site.disk c.args.site.now).contents 0 in
-    let named : command_of (map string_bytes c.args.words.now) ≡ Some command.Run = cc in
+    let named : command_of (map string_bytes c.args.words.now) ≡ Some command.Run = search rules in
     let said =
     subst (λ (text : List ℕ). ByLog mine log (IsEnd text) c.run_on.result ⊎ MayStandIn c.run_on.result)
     (c.read_task.ensures.messages s) (c.run_on.ensures.due (c.read_task.ensures.told s) t) in
     let left = g.S.Source.left c.args.source.now in
     let events = c.in-Ok.task.events in
-    let run_is : c.in-Some.command ≡ command.Run = cc in
+    let run_is : c.in-Ok-Some.command ≡ command.Run = search rules in
     let has : HasEvents mine left events =
     subst (λ (x : Command). HasEventsFor x mine left events) run_is (c.in-Ok.ensures.schedule s) in
     ⊎_elim (λ due. inl (table.asked
@@ -55,12 +63,12 @@ returns-in-Ok-clause-due g c s t =
 
 pub returns-clause-due : goal.returns-clause-due
 returns-clause-due g c s t =
-    let named : command_of (map string_bytes c.args.words.now) ≡ Some c.in-Some.command = cc in
-    ⊎_elim (λ fault. inr fault) (λ why. inl (table.refused named why)) (c.in-Err.ensures.refused s)
+    let named : command_of (map string_bytes c.args.words.now) ≡ Some c.in-Ok-Some.command = search rules in
+    ⊎_elim (λ fault. inr fault) (λ why. inl (table.refused named why)) (c.in-Err-read_task.ensures.refused s)
 
-pub returns-in_default-clause-due : goal.returns-in_default-clause-due
-returns-in_default-clause-due g c s t =
-    let none : command_of (map string_bytes c.args.words.now) ≡ None = cc in
+pub returns-in-Ok-None-clause-due : goal.returns-in-Ok-None-clause-due
+returns-in-Ok-None-clause-due g c s t =
+    let none : command_of (map string_bytes c.args.words.now) ≡ None = search rules in
     inl (table.no_command none)
 
 pub returns-in-Define-clause-cause : goal.returns-in-Define-clause-cause
@@ -71,8 +79,8 @@ returns-in-Define-clause-cause g c = record {
   site = c.define_on.ensures.cause;
 }
 
-pub returns-in-Ok-clause-cause : goal.returns-in-Ok-clause-cause
-returns-in-Ok-clause-cause g c = record {
+pub returns-in-Run-clause-cause : goal.returns-in-Run-clause-cause
+returns-in-Run-clause-cause g c = record {
   source =
       source_since (g.S.Source.faults c.args.source.now) (g.S.Source.faults c.read_task.new.source)
       (g.S.Source.faults c.run_on.new.source) c.run_on.result c.in-Ok.ensures.stayed c.run_on.ensures.cause.source;
@@ -83,9 +91,39 @@ pub returns-clause-cause : goal.returns-clause-cause
 returns-clause-cause g c =
     let site = g.T.Site.faults c.args.site.now in
     record {
-      source = c.in-Err.ensures.cause;
-      site = by_site site site c.in-Err.answer (λ e. absurd (subst IsOfParts e c.in-Err.ensures.early)) (λ other. refl);
+      source = c.in-Err-read_task.ensures.cause;
+      site = by_site site site c.in-Err-read_task.answer (λ e. absurd (subst IsOfParts e c.in-Err-read_task.ensures.early)) (λ other. refl);
     }
+
+pub returns-in-Show-clause-due : goal.returns-in-Show-clause-due
+returns-in-Show-clause-due g c s t =
+    let named : command_of (map string_bytes c.args.words.now) ≡ Some command.Show = search rules in
+    ⊎_elim (λ due. inl (table.asked
+    (record { command_is = named; job_is = c.in-Ok.ensures.job s; schedule_is = tt }) due))
+    (λ fault. inr fault) (c.show_on.ensures.due t)
+
+pub returns-in-Ok-clause-due : goal.returns-in-Ok-clause-due
+returns-in-Ok-clause-due g c s t =
+    let named : command_of (map string_bytes c.args.words.now) ≡ Some command.Log = search rules in
+    ⊎_elim (λ due. inl (table.asked
+    (record { command_is = named; job_is = c.in-Ok.ensures.job s; schedule_is = tt }) due))
+    (λ fault. inr fault) (c.log_on.ensures.due t)
+
+pub returns-in-Show-clause-cause : goal.returns-in-Show-clause-cause
+returns-in-Show-clause-cause g c = record {
+  source =
+      by_source (g.S.Source.faults c.args.source.now) (g.S.Source.faults c.read_task.new.source) c.show_on.result
+      (λ e. absurd (c.show_on.ensures.never e)) (λ other. c.in-Ok.ensures.stayed);
+  site = c.show_on.ensures.cause;
+}
+
+pub returns-in-Ok-clause-cause : goal.returns-in-Ok-clause-cause
+returns-in-Ok-clause-cause g c = record {
+  source =
+      by_source (g.S.Source.faults c.args.source.now) (g.S.Source.faults c.read_task.new.source) c.log_on.result
+      (λ e. absurd (c.log_on.ensures.never e)) (λ other. c.in-Ok.ensures.stayed);
+  site = c.log_on.ensures.cause;
+}
 
 -- ---- what the commands give
 
@@ -115,19 +153,19 @@ returns-clause-defined g c s t named =
     let old = g.T.Site.disk c.args.site.now in
     record {
       only = only_same old;
-      made = λ job other done. parts_not_done c.in-Err.answer c.in-Err.ensures.early done;
-      text = λ job other done. parts_not_done c.in-Err.answer c.in-Err.ensures.early done;
+      made = λ job other done. parts_not_done c.in-Err-read_task.answer c.in-Err-read_task.ensures.early done;
+      text = λ job other done. parts_not_done c.in-Err-read_task.answer c.in-Err-read_task.ensures.early done;
       crash = λ job other. unmade (front_for job) old (g.met.T.Site.lawful c.args.site.now t);
     }
 
-pub returns-in-Ok-clause-ran : goal.returns-in-Ok-clause-ran
-returns-in-Ok-clause-ran g c job events s t asks has =
+pub returns-in-Run-clause-ran : goal.returns-in-Run-clause-ran
+returns-in-Run-clause-ran g c job events s t asks has =
     let mine = job_of c.in-Ok.task.setup in
     let left = g.S.Source.left c.args.source.now in
     let old = g.T.Site.disk c.args.site.now in
     let new = g.T.Site.disk c.run_on.new.site in
     let same = one_job (kinds_of c.args.exits.now) left mine job (c.in-Ok.ensures.job s) asks.job_is in
-    let run_is : c.in-Some.command ≡ command.Run = cc in
+    let run_is : c.in-Ok-Some.command ≡ command.Run = search rules in
     let read : HasEvents mine left c.in-Ok.task.events =
     subst (λ (x : Command). HasEventsFor x mine left c.in-Ok.task.events) run_is (c.in-Ok.ensures.schedule s) in
     let read_of : HasEvents job left c.in-Ok.task.events =
@@ -144,18 +182,60 @@ pub returns-clause-ran : goal.returns-clause-ran
 returns-clause-ran g c job events s t asks has =
     let left = g.S.Source.left c.args.source.now in
     let kinds = kinds_of c.args.exits.now in
-    let named : command_of (map string_bytes c.args.words.now) ≡ Some c.in-Some.command = cc in
-    let run_is : c.in-Some.command ≡ command.Run = the_same named asks.command_is in
+    let named : command_of (map string_bytes c.args.words.now) ≡ Some c.in-Ok-Some.command = search rules in
+    let run_is : c.in-Ok-Some.command ≡ command.Run = the_same named asks.command_is in
     ⊎_elim
-    (λ stands. ran_not job (input events (lines_of (left part.Messages))) c.in-Err.answer
+    (λ stands. ran_not job (input events (lines_of (left part.Messages))) c.in-Err-read_task.answer
     (g.T.Site.disk c.args.site.now) (g.met.T.Site.lawful c.args.site.now t) stands)
-    (λ why. no_job_refused kinds left job command.Run c.in-Err.answer asks.job_is asks.schedule_is
-    (subst (λ (x : Command). Refuses kinds left x c.in-Err.answer) run_is why)) (c.in-Err.ensures.refused s)
+    (λ why. no_job_refused kinds left job command.Run c.in-Err-read_task.answer asks.job_is asks.schedule_is
+    (subst (λ (x : Command). Refuses kinds left x c.in-Err-read_task.answer) run_is why)) (c.in-Err-read_task.ensures.refused s)
+
+pub returns-in-Err-clause-ran : goal.returns-in-Err-clause-ran
+returns-in-Err-clause-ran g c job events s t asks has =
+    ran_not job (input events (lines_of (g.S.Source.left c.args.source.now part.Messages))) status.NoMemory
+    (g.T.Site.disk c.args.site.now) (g.met.T.Site.lawful c.args.site.now t) tt
+
+pub returns-in-Err-clause-shown : goal.returns-in-Err-clause-shown
+returns-in-Err-clause-shown g c job s t asks =
+    shown_not job status.NoMemory (g.T.Site.disk c.args.site.now) (g.met.T.Site.lawful c.args.site.now t) (λ e. cc)
+
+pub returns-in-Err-clause-logged : goal.returns-in-Err-clause-logged
+returns-in-Err-clause-logged g c job s t asks =
+    logged_not job status.NoMemory (g.T.Site.disk c.args.site.now) (λ e. cc) (λ at e. cc)
+
+pub returns-in-Show-clause-shown : goal.returns-in-Show-clause-shown
+returns-in-Show-clause-shown g c job s t asks =
+    let mine = job_of c.in-Ok.task.setup in
+    let old = g.T.Site.disk c.args.site.now in
+    let new = g.T.Site.disk c.show_on.new.site in
+    subst (λ (j : Job). Shown j c.show_on.result old new)
+    (one_job (kinds_of c.args.exits.now) (g.S.Source.left c.args.source.now) mine job (c.in-Ok.ensures.job s)
+    asks.job_is) (c.show_on.ensures.shown t)
+
+pub returns-in-Ok-clause-logged : goal.returns-in-Ok-clause-logged
+returns-in-Ok-clause-logged g c job s t asks =
+    let mine = job_of c.in-Ok.task.setup in
+    let old = g.T.Site.disk c.args.site.now in
+    let new = g.T.Site.disk c.log_on.new.site in
+    subst (λ (j : Job). Logged j c.log_on.result old new)
+    (one_job (kinds_of c.args.exits.now) (g.S.Source.left c.args.source.now) mine job (c.in-Ok.ensures.job s)
+    asks.job_is) (c.log_on.ensures.logged t)
+
+pub returns-clause-shown : goal.returns-clause-shown
+returns-clause-shown g c job s t asks =
+    shown_not job c.in-Err-read_task.answer (g.T.Site.disk c.args.site.now) (g.met.T.Site.lawful c.args.site.now t)
+    (λ done. parts_not_done c.in-Err-read_task.answer c.in-Err-read_task.ensures.early done)
+
+pub returns-clause-logged : goal.returns-clause-logged
+returns-clause-logged g c job s t asks =
+    logged_not job c.in-Err-read_task.answer (g.T.Site.disk c.args.site.now)
+    (λ done. parts_not_done c.in-Err-read_task.answer c.in-Err-read_task.ensures.early done)
+    (λ at e. absurd (subst IsOfParts e c.in-Err-read_task.ensures.early))
 
 -- ---- what is read
 
-pub returns-in-Ok-clause-once : goal.returns-in-Ok-clause-once
-returns-in-Ok-clause-once g c job s t asks tells =
+pub returns-in-Run-clause-once : goal.returns-in-Run-clause-once
+returns-in-Run-clause-once g c which job s t asks restarts tells =
     let mine = job_of c.in-Ok.task.setup in
     let same = one_job (kinds_of c.args.exits.now) (g.S.Source.left c.args.source.now) mine job
     (c.in-Ok.ensures.job s) asks.job_is in
@@ -163,35 +243,73 @@ returns-in-Ok-clause-once g c job s t asks tells =
     (g.T.Site.bytes_read c.args.site.now 0) (g.T.Site.bytes_read c.run_on.new.site 0)) same
     (c.run_on.ensures.once t tells)
 
+pub returns-in-Show-clause-once : goal.returns-in-Show-clause-once
+returns-in-Show-clause-once g c which job s t asks restarts tells =
+    let mine = job_of c.in-Ok.task.setup in
+    let same = one_job (kinds_of c.args.exits.now) (g.S.Source.left c.args.source.now) mine job
+    (c.in-Ok.ensures.job s) asks.job_is in
+    subst (λ (j : Job). ReadsOnce (front_for j) ((g.T.Site.disk c.args.site.now).contents 0)
+    (g.T.Site.bytes_read c.args.site.now 0) (g.T.Site.bytes_read c.show_on.new.site 0)) same
+    (c.show_on.ensures.once t tells)
+
+pub returns-in-Define-clause-once : goal.returns-in-Define-clause-once
+returns-in-Define-clause-once g c which job s t asks restarts tells =
+    let named : command_of (map string_bytes c.args.words.now) ≡ Some command.Define = search rules in
+    absurd (subst Restarts (the_same asks.command_is named) restarts)
+
+pub returns-in-Ok-clause-once : goal.returns-in-Ok-clause-once
+returns-in-Ok-clause-once g c which job s t asks restarts tells =
+    let named : command_of (map string_bytes c.args.words.now) ≡ Some command.Log = search rules in
+    absurd (subst Restarts (the_same asks.command_is named) restarts)
+
 pub returns-clause-once : goal.returns-clause-once
-returns-clause-once g c job s t asks tells = record {
-  all = omega arith;
-  up_to = λ groups gate holds. omega arith;
-  of_others = λ away. omega arith;
-}
+returns-clause-once g c which job s t asks restarts tells = read_none job _ (g.T.Site.bytes_read c.args.site.now 0)
+
+pub returns-in-Err-clause-once : goal.returns-in-Err-clause-once
+returns-in-Err-clause-once g c which job s t asks restarts tells = read_none job _ (g.T.Site.bytes_read c.args.site.now 0)
+
+pub returns-in-Ok-None-clause-once : goal.returns-in-Ok-None-clause-once
+returns-in-Ok-None-clause-once g c which job s t asks restarts tells =
+    read_none job _ (g.T.Site.bytes_read c.args.site.now 0)
 
 pub returns-clause-reads : goal.returns-clause-reads
 returns-clause-reads g c set tells = (tells, λ other. refl)
 
-pub returns-in_default-clause-reads : goal.returns-in_default-clause-reads
-returns-in_default-clause-reads g c set tells = (tells, λ other. refl)
+pub returns-in-Ok-None-clause-reads : goal.returns-in-Ok-None-clause-reads
+returns-in-Ok-None-clause-reads g c set tells = (tells, λ other. refl)
 
 -- ---- what stays
 
 pub returns-in-Define-clause-untouched : goal.returns-in-Define-clause-untouched
 returns-in-Define-clause-untouched g c before =
     before_site (command_of (map string_bytes c.args.words.now)) c.define_on.result
-    (λ early. absurd (c.define_on.ensures.early early)) (λ named fault. absurd (c.define_on.ensures.never fault))
-    (λ named none. c.define_on.ensures.untouched none) before
+    (λ early. absurd (c.define_on.ensures.early early)) (λ fault other. absurd (c.define_on.ensures.never fault))
+    (λ none named. c.define_on.ensures.untouched none) before
+
+pub returns-in-Run-clause-untouched : goal.returns-in-Run-clause-untouched
+returns-in-Run-clause-untouched g c before =
+    let mine : command_of (map string_bytes c.args.words.now) ≡ Some command.Run = search rules in
+    before_site (command_of (map string_bytes c.args.words.now)) c.run_on.result
+    (λ early. absurd (c.run_on.ensures.early early)) (λ fault other. absurd (other mine))
+    (λ none named. other_command mine named (λ e. cc)) before
+
+pub returns-in-Show-clause-untouched : goal.returns-in-Show-clause-untouched
+returns-in-Show-clause-untouched g c before =
+    let mine : command_of (map string_bytes c.args.words.now) ≡ Some command.Show = search rules in
+    before_site (command_of (map string_bytes c.args.words.now)) c.show_on.result
+    (λ early. absurd (c.show_on.ensures.early early)) (λ fault other. absurd (c.show_on.ensures.never fault))
+    (λ none named. other_command mine named (λ e. cc)) before
 
 pub returns-in-Ok-clause-untouched : goal.returns-in-Ok-clause-untouched
 returns-in-Ok-clause-untouched g c before =
-    before_site (command_of (map string_bytes c.args.words.now)) c.run_on.result
-    (λ early. absurd (c.run_on.ensures.early early)) (λ named fault. absurd cc) (λ named none. absurd cc) before
+    let mine : command_of (map string_bytes c.args.words.now) ≡ Some command.Log = search rules in
+    before_site (command_of (map string_bytes c.args.words.now)) c.log_on.result
+    (λ early. absurd (c.log_on.ensures.early early)) (λ fault other. absurd (c.log_on.ensures.never fault))
+    (λ none named. other_command mine named (λ e. cc)) before
 
 pub returns-in-Define-clause-no_job : goal.returns-in-Define-clause-no_job
 returns-in-Define-clause-no_job g c s none =
-    let named : command_of (map string_bytes c.args.words.now) ≡ Some command.Define = cc in
+    let named : command_of (map string_bytes c.args.words.now) ≡ Some command.Define = search rules in
     absurd (none (
       command.Define,
       (
@@ -201,52 +319,105 @@ returns-in-Define-clause-no_job g c s none =
       ),
     ))
 
-pub returns-in-Ok-clause-no_job : goal.returns-in-Ok-clause-no_job
-returns-in-Ok-clause-no_job g c s none =
-    let named : command_of (map string_bytes c.args.words.now) ≡ Some c.in-Some.command = cc in
+pub returns-in-Run-clause-no_job : goal.returns-in-Run-clause-no_job
+returns-in-Run-clause-no_job g c s none =
+    let named : command_of (map string_bytes c.args.words.now) ≡ Some c.in-Ok-Some.command = search rules in
     let mine = job_of c.in-Ok.task.setup in
     absurd (none (
-      c.in-Some.command,
+      c.in-Ok-Some.command,
       (
         mine,
         record {
           command_is = named;
           job_is = c.in-Ok.ensures.job s;
           schedule_is =
-              schedule_had c.in-Some.command mine (g.S.Source.left c.args.source.now) c.in-Ok.task.events
+              schedule_had c.in-Ok-Some.command mine (g.S.Source.left c.args.source.now) c.in-Ok.task.events
               (c.in-Ok.ensures.schedule s);
         },
       ),
     ))
 
+pub returns-in-Show-clause-no_job : goal.returns-in-Show-clause-no_job
+returns-in-Show-clause-no_job g c s none =
+    let named : command_of (map string_bytes c.args.words.now) ≡ Some command.Show = search rules in
+    absurd (none (
+      command.Show,
+      (
+        job_of c.in-Ok.task.setup,
+        record { command_is = named; job_is = c.in-Ok.ensures.job s; schedule_is = tt },
+      ),
+    ))
+
+pub returns-in-Ok-clause-no_job : goal.returns-in-Ok-clause-no_job
+returns-in-Ok-clause-no_job g c s none =
+    let named : command_of (map string_bytes c.args.words.now) ≡ Some command.Log = search rules in
+    absurd (none (
+      command.Log,
+      (
+        job_of c.in-Ok.task.setup,
+        record { command_is = named; job_is = c.in-Ok.ensures.job s; schedule_is = tt },
+      ),
+    ))
+
 pub returns-in-Define-clause-parts : goal.returns-in-Define-clause-parts
 returns-in-Define-clause-parts g c s =
-    let define_is : c.in-Some.command ≡ command.Define = cc in
+    let mine : c.in-Ok-Some.command ≡ command.Define = search rules in
+    let named : command_of (map string_bytes c.args.words.now) ≡ Some command.Define = search rules in
     record {
-      no_schedule = λ named. c.read_task.ensures.schedule_unread s define_is;
-      no_messages = λ named. c.read_task.ensures.messages s;
-      all = λ named done. absurd cc;
+      no_schedule = λ other. c.read_task.ensures.schedule_unread s (λ e. no_run mine e (λ d. cc));
+      no_messages = λ other. c.read_task.ensures.messages s;
+      all = λ run done. other_command named run (λ e. cc);
+    }
+
+pub returns-in-Show-clause-parts : goal.returns-in-Show-clause-parts
+returns-in-Show-clause-parts g c s =
+    let mine : c.in-Ok-Some.command ≡ command.Show = search rules in
+    let named : command_of (map string_bytes c.args.words.now) ≡ Some command.Show = search rules in
+    record {
+      no_schedule = λ other. c.read_task.ensures.schedule_unread s (λ e. no_run mine e (λ d. cc));
+      no_messages = λ other. c.read_task.ensures.messages s;
+      all = λ run done. other_command named run (λ e. cc);
     }
 
 pub returns-in-Ok-clause-parts : goal.returns-in-Ok-clause-parts
-returns-in-Ok-clause-parts g c s = record {
-  no_schedule = λ named. absurd cc;
-  no_messages = λ named. absurd cc;
-  all = λ named done. c.run_on.ensures.read (c.read_task.ensures.told s) done;
-}
+returns-in-Ok-clause-parts g c s =
+    let mine : c.in-Ok-Some.command ≡ command.Log = search rules in
+    let named : command_of (map string_bytes c.args.words.now) ≡ Some command.Log = search rules in
+    record {
+      no_schedule = λ other. c.read_task.ensures.schedule_unread s (λ e. no_run mine e (λ d. cc));
+      no_messages = λ other. c.read_task.ensures.messages s;
+      all = λ run done. other_command named run (λ e. cc);
+    }
+
+pub returns-in-Run-clause-parts : goal.returns-in-Run-clause-parts
+returns-in-Run-clause-parts g c s =
+    let named : command_of (map string_bytes c.args.words.now) ≡ Some command.Run = search rules in
+    record {
+      no_schedule = λ other. absurd (other named);
+      no_messages = λ other. absurd (other named);
+      all = λ run done. c.run_on.ensures.read (c.read_task.ensures.told s) done;
+    }
 
 pub returns-clause-parts : goal.returns-clause-parts
-returns-clause-parts g c s = record {
-  no_schedule = λ named.
-      let found : command_of (map string_bytes c.args.words.now) ≡ Some c.in-Some.command = cc in
-      c.read_task.ensures.schedule_unread s (the_same found named);
-  no_messages = λ named. c.read_task.ensures.messages s;
-  all = λ named done. parts_not_done c.in-Err.answer c.in-Err.ensures.early done;
+returns-clause-parts g c s =
+    let named : command_of (map string_bytes c.args.words.now) ≡ Some c.in-Ok-Some.command = search rules in
+    record {
+      no_schedule = λ other.
+          c.read_task.ensures.schedule_unread s (λ e. other (named ∙ ap (λ (d : Command). Some d) e));
+      no_messages = λ other. c.read_task.ensures.messages s;
+      all = λ run done. parts_not_done c.in-Err-read_task.answer c.in-Err-read_task.ensures.early done;
+    }
+
+pub returns-in-Ok-None-clause-parts : goal.returns-in-Ok-None-clause-parts
+returns-in-Ok-None-clause-parts g c s = record {
+  no_schedule = λ other. refl;
+  no_messages = λ other. refl;
+  all = λ run done. absurd cc;
 }
 
-pub returns-in_default-clause-parts : goal.returns-in_default-clause-parts
-returns-in_default-clause-parts g c s = record {
-  no_schedule = λ named. refl;
-  no_messages = λ named. refl;
-  all = λ named done. absurd cc;
+pub returns-in-Err-clause-parts : goal.returns-in-Err-clause-parts
+returns-in-Err-clause-parts g c s = record {
+  no_schedule = λ other. refl;
+  no_messages = λ other. refl;
+  all = λ run done. absurd cc;
 }

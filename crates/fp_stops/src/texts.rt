@@ -1,0 +1,170 @@
+//! What `show` and `log` send of a site in memory.
+use crate::commands::answer;
+use crate::runs::SCRIPTS;
+use fp_model::Bytes;
+use fp_site::{MemorySite, Site};
+use fp_source::MemorySource;
+use fp_system::Status;
+use std::alloc::{AllocError, Global};
+use std::test::Fail;
+
+const DEFINITIONS: &str = "regions = [1, 1]
+router = \"FOLD\"
+[[msdb]]
+name = \"ACCTS\"
+fields = [[\"ACCT\", \"C\", 4], [\"BAL\", \"P\", 4]]
+load = [[\"A001\", \"100\"], [\"A002\", \"50\"]]
+[[msdb]]
+name = \"TELLERS\"
+dynamic = true
+fields = [[\"TNO\", \"C\", 4], [\"CASH\", \"F\", 4]]
+load = [[\"T001\", \"0\"]]
+";
+
+// What a command answers over these scripts, a schedule, messages, and a site, and what it sends.
+fn sent_by(
+    alloc: Global,
+    command: &str,
+    scripts: &str,
+    schedule: &str,
+    messages: &str,
+    site: &mut MemorySite,
+) -> Result<(Status, Bytes), AllocError> {
+    let parts = [
+        Bytes::from_slice(alloc, DEFINITIONS.as_bytes())?,
+        Bytes::from_slice(alloc, scripts.as_bytes())?,
+        Bytes::from_slice(alloc, schedule.as_bytes())?,
+        Bytes::from_slice(alloc, messages.as_bytes())?,
+    ];
+    let mut source = MemorySource::new(alloc, parts, &[])?;
+    let before = site.sent().len();
+    let status = answer(alloc, &[command, "D"], &mut source, site)?;
+    Ok((status, Bytes::from_slice(alloc, &site.sent()[before..])?))
+}
+
+// A new site behind a run that is done.
+fn run_on_new(alloc: Global, schedule: &str, messages: &str) -> Result<MemorySite, AllocError> {
+    let mut site = MemorySite::new(alloc, &[])?;
+    let _ = sent_by(alloc, "define", SCRIPTS, "", "", &mut site)?;
+    let _ = sent_by(alloc, "run", SCRIPTS, schedule, messages, &mut site)?;
+    Ok(site)
+}
+
+// A schedule, messages, and what `show` and `log` send behind them.
+const TEXTS: [(&str, &str, &str, &str); 6] = [
+    (
+        "",
+        "",
+        "msdb ACCTS 2\n  ACCT=A001 BAL=100\n  ACCT=A002 BAL=50\nmsdb TELLERS 1\n  TNO=T001 CASH=0\n",
+        "",
+    ),
+    (
+        "IN R1 R1 R1 R1 IN R2 R2 IN R1 R1 R1 R1 R2 LOG",
+        "T1 DEPOSIT A001 10\nT2 ASK A001\nT3 DEPOSIT A001 20\n",
+        "msdb ACCTS 2\n  ACCT=A001 BAL=130\n  ACCT=A002 BAL=50\nmsdb TELLERS 1\n  TNO=T001 CASH=0\n",
+        "group 0 entries 3
+0 from 0 notes 0 DONE T1 DEPOSIT A001 10 => NEW
+1 from 1 notes 1 DONE T3 DEPOSIT A001 20 => NEW
+2 from 1 notes 1 DONE T2 ASK A001 => 110
+",
+    ),
+    (
+        "IN R1 R1 R1 R1 IN R1 R1 R1 R1 IN R1 R1 R1 R1 IN R1 R1 R1 R1 LOG",
+        "T1 DEPOSIT A001 1\nT2 DEPOSIT A001 2\nT3 DEPOSIT A001 3\nT4 DEPOSIT A002 -60\n",
+        "msdb ACCTS 2\n  ACCT=A001 BAL=106\n  ACCT=A002 BAL=-10\nmsdb TELLERS 1\n  TNO=T001 CASH=0\n",
+        "group 0 entries 4
+0 from 0 notes 0 DONE T1 DEPOSIT A001 1 => NEW
+1 from 1 notes 1 DONE T2 DEPOSIT A001 2 => NEW
+2 from 2 notes 2 DONE T3 DEPOSIT A001 3 => NEW
+3 from 3 notes 3 DONE T4 DEPOSIT A002 -60 => NEW
+",
+    ),
+    (
+        "IN R1 R1 R1 LOG IN LOG",
+        "T1 WDRAW A002 60\nT2 NOSUCH\n",
+        "msdb ACCTS 2\n  ACCT=A001 BAL=100\n  ACCT=A002 BAL=50\nmsdb TELLERS 1\n  TNO=T001 CASH=0\n",
+        "group 0 entries 1
+0 from 0 notes 0 ROLB 7 T1 WDRAW A002 60 => -
+group 1 entries 1
+1 from 1 notes - UNKNOWN T2 NOSUCH => -
+",
+    ),
+    (
+        "IN IN R1 R2 R1 R2 R1 R2 R1 R2 R2 LOG",
+        "T1 WDRAW A001 60\nT2 WDRAW A001 60\n",
+        "msdb ACCTS 2\n  ACCT=A001 BAL=40\n  ACCT=A002 BAL=50\nmsdb TELLERS 1\n  TNO=T001 CASH=0\n",
+        "group 0 entries 2
+0 from 0 notes 0 DONE T1 WDRAW A001 60 => PAID 60
+1 from 0 notes 0 VERIFY 0.0 0000040c T2 WDRAW A001 60 => -
+",
+    ),
+    (
+        "IN R1 R1 R1 R1 R1 R1 LOG IN LOG",
+        "T1 HIRE T009\n\n",
+        "msdb ACCTS 2\n  ACCT=A001 BAL=100\n  ACCT=A002 BAL=50\nmsdb TELLERS 2\n  TNO=T001 CASH=0\n  TNO=T009 CASH=0\n",
+        "group 0 entries 1
+0 from 0 notes - DONE T1 HIRE T009 =>   / XP
+group 1 entries 1
+1 from 1 notes - UNKNOWN - => -
+",
+    ),
+];
+
+#[test]
+fn databases_and_log_are_these_texts(rt: HostRuntime) -> Result<(), Fail> {
+    for (schedule, messages, shown, logged) in TEXTS {
+        let mut site = run_on_new(rt.alloc(), schedule, messages)?;
+        for (command, wanted) in [("show", shown), ("log", logged)] {
+            let (status, text) = sent_by(rt.alloc(), command, SCRIPTS, "BOGUS", "", &mut site)?;
+            assert_eq!(rt; status, Status::Done, "at {command} {schedule:?}");
+            assert_eq!(rt;
+                text.as_slice(),
+                wanted.as_bytes(),
+                "at {command} {schedule:?}"
+            );
+        }
+    }
+    Ok(())
+}
+
+#[test]
+fn another_log_is_foreign(rt: HostRuntime) -> Result<(), Fail> {
+    let mut site = run_on_new(rt.alloc(), "", "T1 DEPOSIT A001 10\n")?;
+    for command in ["show", "log"] {
+        let (status, text) = sent_by(
+            rt.alloc(),
+            command,
+            "TRAN A\nREPLY 'A'\n",
+            "",
+            "",
+            &mut site,
+        )?;
+        assert_eq!(rt; status, Status::Foreign, "at {command}");
+        assert!(rt; text.is_empty(), "at {command}");
+    }
+    Ok(())
+}
+
+// The commands over a log whose last gate is open and has nothing behind it, and what each sends.
+const DAMAGED: [(&str, &str); 2] = [
+    ("show", ""),
+    (
+        "log",
+        "group 0 entries 1\n0 from 0 notes 0 DONE T1 DEPOSIT A001 10 => NEW\n",
+    ),
+];
+
+#[test]
+fn groups_before_damage_are_sent_by_log_alone(rt: HostRuntime) -> Result<(), Fail> {
+    let mut site = run_on_new(rt.alloc(), "", "T1 DEPOSIT A001 10\n")?;
+    let at = site.contents(0).len() as u64 - 1;
+    if site.write_at(0, at, &[1]).is_err() {
+        return Err(Fail);
+    }
+    for (command, wanted) in DAMAGED {
+        let (status, text) = sent_by(rt.alloc(), command, SCRIPTS, "", "", &mut site)?;
+        assert_eq!(rt; status, Status::Damaged { set: 0, at }, "at {command}");
+        assert_eq!(rt; text.as_slice(), wanted.as_bytes(), "at {command}");
+    }
+    Ok(())
+}
