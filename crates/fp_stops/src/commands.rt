@@ -173,7 +173,7 @@ fn faults_of_definitions_have_their_texts(rt: HostRuntime) -> Result<(), Fail> {
     Ok(())
 }
 
-const NO_FORMS: [&[&str]; 7] = [
+const NO_FORMS: [&[&str]; 10] = [
     &[],
     &["run"],
     &["run", ""],

@@ -103,7 +103,7 @@ group 1 entries 1
         "T1 HIRE T009\n\n",
         "msdb ACCTS 2\n  ACCT=A001 BAL=100\n  ACCT=A002 BAL=50\nmsdb TELLERS 2\n  TNO=T001 CASH=0\n  TNO=T009 CASH=0\n",
         "group 0 entries 1
-0 from 0 notes - DONE T1 HIRE T009 =>   / XP
+0 from 0 notes - DONE T1 HIRE T009 => / XP
 group 1 entries 1
 1 from 1 notes - UNKNOWN - => -
 ",
@@ -158,9 +158,8 @@ const DAMAGED: [(&str, &str); 2] = [
 fn groups_before_damage_are_sent_by_log_alone(rt: HostRuntime) -> Result<(), Fail> {
     let mut site = run_on_new(rt.alloc(), "", "T1 DEPOSIT A001 10\n")?;
     let at = site.contents(0).len() as u64 - 1;
-    if site.write_at(0, at, &[1]).is_err() {
-        return Err(Fail);
-    }
+    assert!(rt; at < 1 << 20);
+    assert!(rt; site.write_at(0, at, &[1]).is_ok());
     for (command, wanted) in DAMAGED {
         let (status, text) = sent_by(rt.alloc(), command, SCRIPTS, "", "", &mut site)?;
         assert_eq!(rt; status, Status::Damaged { set: 0, at }, "at {command}");

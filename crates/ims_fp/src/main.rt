@@ -166,7 +166,7 @@ fn served(rt: &HostRuntime, words: &[String], exits: &Exits) -> Ending {
     let alloc = rt.alloc();
     let dir = words.last().map_or("", |word| word.as_str());
     let folder = Folder::new(rt, alloc, dir);
-    let Ok(mut site) = FileSite::new(alloc, folder, Access::Change, io::writer(rt)) else {
+    let Ok(mut site) = FileSite::new(alloc, folder, access_for(words), io::writer(rt)) else {
         return Ending::early(Status::NoMemory);
     };
     let mut source = FileSource::new(Folder::new(rt, alloc, dir));
@@ -177,6 +177,14 @@ fn served(rt: &HostRuntime, words: &[String], exits: &Exits) -> Ending {
         cause: cause.and_then(|cause| cause.line(alloc, dir).ok()),
         status,
         calls: site.into_calls(),
+    }
+}
+
+// What is done with the folder: `show` and `log` only look at it, so one that may only be read serves them.
+fn access_for(words: &[String]) -> Access {
+    match words.first().map(|word| word.as_str()) {
+        Option::Some("show" | "log") => Access::Look,
+        _ => Access::Change,
     }
 }
 
