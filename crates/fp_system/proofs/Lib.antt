@@ -11,3 +11,4 @@ pub mod StopLemmas
 pub mod Runs
 pub mod CauseLemmas
 pub mod AnsweredLemmas
+pub mod OneRun
