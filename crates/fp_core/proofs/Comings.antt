@@ -191,11 +191,13 @@ module _ {origin : Origin} {defs : Defs} {rules : Rules} {m : Machine} {old : Di
       → WentBeside origin engine.defs.now (rules_in engine) come.after mid new mid_lines lines left next more
       → WentBeside origin defs rules m old new old_lines lines left next more
   came_on {lines} {left} {next} {more} went =
-      let w = subst (λ (d : Defs). WentBeside origin d rules come.after mid new mid_lines lines left next more) same_defs
+      let w = subst (λ (d : Defs). WentBeside origin d rules come.after mid new mid_lines lines left next more)
+      same_defs
       (subst (λ (r : Rules). WentBeside origin engine.defs.now r come.after mid new mid_lines lines left next more) same
       went) in
       record {
-        come = come_both origin defs rules m old old_lines mid mid_lines mid_left engine come new lines left next w.come;
+        come = come_both origin defs rules m old old_lines mid mid_lines mid_left engine come new lines left next
+            w.come;
         drained = w.drained;
       }
 

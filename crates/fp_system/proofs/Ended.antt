@@ -108,7 +108,8 @@ module _ (job : Job) (given : Input) (origin : Origin) (h : History) where
       rest.1 ∙ drop_least rest.0 (number - 1) given.lines (omega (arith, count, ap length rest.1, some_line))
     where
       some_line : length here.lines ≤ length given.lines
-      some_line = let rest = goes_rest (rules_for job) job.defs given.events left begun here comes.environments comes.goes in
+      some_line = let rest = goes_rest (rules_for job) job.defs given.events left begun here comes.environments
+          comes.goes in
           omega (arith, ap length rest.1, length-drop rest.0 given.lines)
 
   stop_ends : (left : List Event) (here : Machine) (why : Stop)

@@ -37,7 +37,8 @@ pub comes_behind : (job : Job) (earlier : List Entry) (h : History) (lines : Lis
     → Comes job.defs (rules_for job) events (at_rest (rules_for job) lines h) left m
     → IsBehind job.defs job.scripts earlier m
 comes_behind job earlier h lines events left m is comes =
-    let steps = goes_runs job.defs (rules_for job) events left (at_rest (rules_for job) lines h) m comes.environments comes.goes
+    let steps = goes_runs job.defs (rules_for job) events left (at_rest (rules_for job) lines h) m comes.environments
+    comes.goes
     in
     record {
       start = h;
