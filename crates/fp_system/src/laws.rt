@@ -43,8 +43,7 @@ pub fn a_run_that_is_done_answers_each_line<T: Site>()
 }
 
 /// Two runs that are done, of the same schedule and lines behind the same entries, come to one point: so they add the
-/// same
-/// groups to the log, and send the same bytes. Only where a transaction lacked memory they may differ.
+/// same groups to the log, and send the same bytes. Only where a transaction lacked memory they may differ.
 pub fn runs_that_are_done_are_one<T: Site>()
     ensures { (g : Given) (job : Job) (given : Input) (earlier : ListOf Entry) (old old2 new new2 : T)
         → Asks g command.Run job → IsSafeFor job (T.disk old) earlier
@@ -80,8 +79,7 @@ pub fn a_call_keeps_what_was_answered<T: Site>()
 {}
 
 /// Over any number of calls, whatever they answer, and of stops within them, the log goes on holding what stood and
-/// each
-/// entry of which a line was sent since.
+/// each entry of which a line was sent since.
 pub fn what_was_answered_is_held<T: Site>()
     ensures { (job : Job) (start : Standing) (first last : T) → HoldsOn job start (T.disk first)
         → Lives T.told T.disk job first last → HoldsOn job start (T.disk last) }
