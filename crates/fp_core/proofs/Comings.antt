@@ -182,6 +182,41 @@ module _ (origin : Origin) (defs : Defs) (rules : Rules) (m : Machine) (old : Di
   pub moments_none : IsLawful old → Through old old (IsLeftByDrain origin defs rules m old)
   moments_none law = started (IsLeftByDrain origin defs rules m old) old law (λ s left. inl left)
 
+-- the same from an engine that runs by the same rules and definitions
+module _ {origin : Origin} {defs : Defs} {rules : Rules} {m : Machine} {old : Disk} {old_lines : Lines} {mid : Disk}
+    {mid_lines : Lines} {mid_left : List ℕ} {engine : Engine}
+    (come : HasCome origin defs rules m old mid old_lines mid_lines mid_left engine)
+    (same : rules_in engine ≡ rules) (same_defs : engine.defs.now ≡ defs) (new : Disk) where
+  pub came_on : {lines : Lines} {left : List ℕ} {next : Engine} {more : Bool}
+      → WentBeside origin engine.defs.now (rules_in engine) come.after mid new mid_lines lines left next more
+      → WentBeside origin defs rules m old new old_lines lines left next more
+  came_on {lines} {left} {next} {more} went =
+      let w = subst (λ (d : Defs). WentBeside origin d rules come.after mid new mid_lines lines left next more)
+      same_defs
+      (subst (λ (r : Rules). WentBeside origin engine.defs.now r come.after mid new mid_lines lines left next more) same
+      went) in
+      record {
+        come = come_both origin defs rules m old old_lines mid mid_lines mid_left engine come new lines left next
+            w.come;
+        drained = w.drained;
+      }
+
+  pub stopped_on : (stop : Stop)
+      → DrainStopped origin engine.defs.now (rules_in engine) come.after mid_lines mid new stop
+      → DrainStopped origin defs rules m old_lines old new stop
+  stopped_on stop d =
+      stopped_behind origin defs rules m old old_lines mid mid_lines mid_left engine come new stop
+      (subst (λ (x : Defs). DrainStopped origin x rules come.after mid_lines mid new stop) same_defs
+      (subst (λ (r : Rules). DrainStopped origin engine.defs.now r come.after mid_lines mid new stop) same d))
+
+  pub moments_on : IsLawful mid → Through old mid (IsLeftByDrain origin defs rules m old)
+      → Through mid new (IsLeftByDrain origin engine.defs.now (rules_in engine) come.after mid)
+      → Through old new (IsLeftByDrain origin defs rules m old)
+  moments_on law first second =
+      moments_both origin defs rules m old old_lines mid mid_lines mid_left engine come new law first
+      (subst (λ (d : Defs). Through mid new (IsLeftByDrain origin d rules come.after mid)) same_defs
+      (subst (λ (r : Rules). Through mid new (IsLeftByDrain origin engine.defs.now r come.after mid)) same second))
+
 -- what a drain comes to
 pub drained_by : (origin : Origin) (defs : Defs) (rules : Rules) (m : Machine) (old new : Disk)
     (old_lines lines : Lines) (left : List ℕ) (engine : Engine) → engine.defs.now ≡ defs → rules_in engine ≡ rules
@@ -401,15 +436,16 @@ pub record IsBeforeLog (origin : Origin) (rules : Rules) (m : Machine) (disk : D
   pub took : TookTurns (turns_of (length rules.regions)) stepped.turned.after engine
   pub beside : StandsBeside origin disk lines left engine took.after
 
-pub before_log : (origin : Origin) (m : Machine) (disk : Disk) (old_lines lines : Lines) (left : List ℕ)
-    (old first second : Engine) (more : Bool)
+pub before_log : {origin : Origin} {m : Machine} {disk : Disk} {old_lines lines : Lines} {left : List ℕ}
+    {old first second : Engine} {more : Bool}
     → rules_in first ≡ rules_in old → first.defs ≡ old.defs
     → first.log.gate ≡ old.log.gate → second.log.gate ≡ first.log.gate
     → StandsAt origin disk old m
     → BeganBy m old_lines lines left first more → more ≡ true
     → ((mid : Machine) → StandsFor first mid → TookTurns (turns_of (length first.defs.now.regions)) mid second)
     → IsBeforeLog origin (rules_in old) m disk old_lines lines left second
-before_log origin m disk old_lines lines left old first second more same defs gate gate2 at by on turned =
+before_log {origin} {m} {disk} {old_lines} {lines} {left} {old} {first} {second} {more} same defs gate gate2 at by on
+    turned =
     let after = by.began.stepped.turned.after in
     let count : length first.defs.now.regions ≡ length old.defs.now.regions = ap (λ d. length d.now.regions) defs in
     let took = subst (λ (n : ℕ). TookTurns (turns_of n) after second) count
@@ -425,9 +461,9 @@ before_log origin m disk old_lines lines left old first second more same defs ga
           (in_stands origin disk left m lines old first old_lines more gate at by) took;
     }
 
-module _ (origin : Origin) (rules : Rules) (m : Machine) (old new : Disk) (old_lines lines : Lines) (left : List ℕ)
-    (engine : Engine) (same : rules_in engine ≡ rules) (b : IsBeforeLog origin rules m old old_lines lines left engine)
-    (defs : Defs) (same_defs : engine.defs.now ≡ defs)
+module _ {origin : Origin} {rules : Rules} {m : Machine} {old new : Disk} {old_lines lines : Lines} {left : List ℕ}
+    {engine : Engine} (same : rules_in engine ≡ rules) (b : IsBeforeLog origin rules m old old_lines lines left engine)
+    {defs : Defs} (same_defs : engine.defs.now ≡ defs)
     (leaves : Leaves origin (rules_in engine) b.took.after 1 old new) where
   at_log : IsInDrain defs rules m b.took.after event.Log
   at_log = in_log defs rules m old_lines lines b.first engine b.given b.same same same_defs b.stepped b.undone b.took

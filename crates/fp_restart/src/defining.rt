@@ -7,22 +7,7 @@ ghost use Rattle.log_groups.specs.Images.{IsAtRest, IsBeforeOrMade, IsOldOrMade,
 ghost use Rattle.log_groups.specs.Kept.{IsSafe};
 ghost use Rattle.log_groups.specs.Reads.{ReadsOnlyLog};
 ghost use Rattle.fp_model.specs.declared.scripts.Script.{Script};
-ghost use Rattle.std.specs.Prelude.{
-  ◌≡◌,
-  ◌⊎◌,
-  ◌+◌,
-  ◌++◌,
-  ◌-◌,
-  ◌<◌,
-  ◌≤◌,
-  ◌^◌,
-  ℕ,
-  [],
-  IsErrOf,
-  List as ListOf,
-  OnOk,
-  drop,
-};
+ghost use Rattle.std.specs.Prelude.{◌≡◌, ◌⊎◌, ◌+◌, ◌++◌, ◌-◌, ◌<◌, ◌≤◌, ◌^◌, ℕ, [], IsErrOf, List as ListOf, OnOk, drop, length, max};
 
 use crate::RestartFault;
 use fp_model::Defs;
@@ -46,6 +31,8 @@ pub fn define<T: Site>(
     ensures text { T.told site.old
         → OnOk result ((T.disk site.new).contents 0 ≡ log_text (as_front front.now) [] ++ drop
         (first_gate (as_front front.now) + 1) ((T.disk site.old).contents 0)) }
+    ensures long { T.told site.old → OnOk result (length ((T.disk site.new).contents 0) ≡ max
+        (first_gate (as_front front.now) + 1) (length ((T.disk site.old).contents 0))) }
     ensures safe { T.told site.old → (scripts : ListOf Script)
         → OnOk result (IsSafe defs.now scripts (as_front front.now) (T.disk site.new) []) }
     ensures cause { IsErrOf result faults.SiteFault → (T.faults site.old < T.faults site.new)

@@ -16,29 +16,7 @@ ghost use Rattle.log_groups.specs.Reads.{HasGroup, ReadsOnlyLog};
 ghost use Rattle.fp_model.specs.declared.definitions.MsdbDef.{MsdbDef as DefOf};
 ghost use Rattle.msdb_store.specs.Store.{IsFitSegment, IsOf};
 ghost use Rattle.std.specs.List.{AllByRecursion};
-ghost use Rattle.std.specs.Prelude.{
-  ◌≡◌,
-  ◌≢◌,
-  ◌⊎◌,
-  ◌+◌,
-  ◌-◌,
-  ◌<◌,
-  ◌≤◌,
-  ◌^◌,
-  ℕ,
-  [],
-  List as ListOf,
-  IfNone,
-  IfOk,
-  IfSome,
-  IsErrOf,
-  OnOk,
-  false,
-  length,
-  max,
-  slice_index,
-  true,
-};
+ghost use Rattle.std.specs.Prelude.{◌≡◌, ◌≢◌, ◌⊎◌, ◌+◌, ◌-◌, ◌<◌, ◌≤◌, ◌^◌, ℕ, [], List as ListOf, IfNone, IfOk, IfSome, IsErrOf, OnOk, false, length, max, slice_index, true};
 
 use crate::RestartFault;
 use crate::begun::Begun;

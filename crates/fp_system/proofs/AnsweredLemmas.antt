@@ -67,7 +67,7 @@ module _ (job : Job) (given : Input) (earlier : List Entry) (old new : Disk)
       went.log.few in
       omega (arith, few)
 
-  its_text : went.point.text ≡ went.point.here.sent
+  pub its_text : went.point.text ≡ went.point.here.sent
   its_text =
       same_text went.point.here.sent went.point.text
       (subst (λ (n : ℕ). IsBetween went.point.here.sent went.point.text (with_seals job went.point n).sent) no_more

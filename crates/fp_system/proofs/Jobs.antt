@@ -1,6 +1,6 @@
 -- Parts have one meaning: one job, or one answer.
-use Rattle.std.proofs.Common.{◌≡◌, inl, inr, refl, sym, ap, subst, ◌∙◌, arith, ℕ, ◌<◌, List, length, Bool, true, false, if◌then◌else◌, Option, Some, None}
-use Rattle.std.specs.Prelude.{◌≢◌, ◌⊎◌, filter_map, map, nat_lt, Result, Ok, Err}
+use Rattle.std.proofs.Common.{◌≡◌, eqb-true, inl, inr, refl, sym, ap, subst, ◌∙◌, arith, ℕ, ◌<◌, List, [], ◌∷◌, length, Bool, true, false, if◌then◌else◌, Option, Some, None}
+use Rattle.std.specs.Prelude.{◌==◌, ◌≢◌, ◌⊎◌, filter_map, map, nat_lt, Result, Ok, Err}
 use Rattle.std.specs.Option.{option_map_or}
 use Rattle.fp_defs.specs.Exits.{first_lacking, lacking, with_exits}
 use Rattle.fp_defs.specs.Readings.{◌>>=◌}
@@ -209,6 +209,25 @@ read_for kinds text defs e = by (defs_of text) refl
       where
         err_not_ok : Err (status.Definitions fault) ≡ Ok defs → ⊥
         err_not_ok e = cc
+
+-- and have no data entry database
+pub none_for : (kinds : Kinds) (text : List ℕ) (defs : Defs) → definitions_in kinds text ≡ Ok defs → defs.dedbs ≡ []
+unfolding definitions_in
+none_for kinds text defs e = by (defs_for kinds text) e
+  where
+    no_length : (ds : List DedbDef) → (length ds == 0) ≡ true → ds ≡ []
+    no_length [] is = refl
+    no_length (d ∷ ds) is = let zero : length (d ∷ ds) ≡ 0 = eqb-true _ _ is in absurd (omega (arith, zero))
+
+    by : (r : Result Defs DefsFault) → only_built r ≡ Ok defs → defs.dedbs ≡ []
+    by (Err fault) all = absurd cc
+    by (Ok d) all = built (are_built d) refl all
+      where
+        built : (b : Bool) → are_built d ≡ b
+            → (if b then Ok d else Err (status.NotBuilt part.Definitions)) ≡ Ok defs → defs.dedbs ≡ []
+        built false is all = absurd cc
+        built true is all = let same : d ≡ defs = cc in
+            no_length defs.dedbs (subst (λ (x : Defs). are_built x ≡ true) same is)
 
 -- ---- answers of the parts in turn
 

@@ -12,3 +12,4 @@ pub mod Runs
 pub mod CauseLemmas
 pub mod AnsweredLemmas
 mod SentTexts
+pub mod OneRun

@@ -50,8 +50,7 @@ pub record Course (job : Job) (given : Input) (earlier : List Entry) (left : Lis
   pub comes : Comes job.defs (rules_for job) given.events (at_rest (rules_for job) given.lines behind) left here
 
 -- How far a run had come: the events that were left, the machine that turns had led to, and the text that was sent
--- since
--- its start.
+-- since its start.
 pub record Point : Type 0 where
   pub left : List Event
   pub here : Machine
@@ -93,8 +92,7 @@ pub record IsAtLine (left : List Event) (here : Machine) : Type 0 where
   pub none_held : here.held ≡ None
 
 -- A step that may end a run for want of memory. An OUT does nothing, and there is no area to purge. The turn of a
--- region
--- does only where that is idle: a transaction that is under way gets an entry that says so.
+-- region does only where that is idle: a transaction that is under way gets an entry that says so.
 abbrev pub MayWant : Event → Machine → Type 0
 MayWant event.Out here = ⊥
 MayWant (event.Purge set n) here = ⊥
@@ -113,8 +111,7 @@ EndsAt job given NoMemory left here = MayWant (next_event left) here
 EndsAt job given _ left here = ⊥
 
 -- A run ended there with this answer. Each log that a sync may make of its own goes on so; and it is for good, where
--- the
--- next step seals nothing.
+-- the next step seals nothing.
 pub record IsEnded (job : Job) (given : Input) (answer : Status) (before : List (List Entry)) (point : Point)
     (new : Disk) : Type 0 where
   pub ends : EndsAt job given answer point.left point.here

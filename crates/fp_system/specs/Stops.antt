@@ -44,8 +44,7 @@ HeldThrough job start moment new = (s : Snapshot) → new.left_since moment s �
 
 -- ---- again and again
 
--- One call: a run of the job, whatever it was given and whatever it answers; or a call that leaves the disk, as a run
--- of
+-- One call: a run of the job, whatever it was given and whatever it answers; or a call that leaves the disk, as that of
 -- another job does.
 pub data Calls (job : Job) (old new : Disk) : Type 0 where
   ran : {given : Input} {answer : Status} → Ran job given answer old new → Calls job old new

@@ -5,17 +5,20 @@ ghost use Rattle.fp_source.specs.declared.part.Part.TheVariants as part;
 ghost use Rattle.fp_system.specs.Answered.{AnswersEachLine};
 ghost use Rattle.fp_system.specs.Answers.{faulty_line};
 ghost use Rattle.fp_system.specs.Courses.{Input, IsSoundFor};
-ghost use Rattle.fp_system.specs.Gives.{Defined, IsSafeFor, Ran};
+ghost use Rattle.fp_system.specs.Gives.{Defined, IsSafeFor, Ran, Went};
 ghost use Rattle.fp_system.specs.Parts.{Job};
 ghost use Rattle.fp_system.specs.Stops.{Calls, HeldThrough, HoldsOn, Lives, Standing, standing};
 ghost use Rattle.fp_system.specs.Table.{Asks, Given, IsDue, end_of_lines};
 ghost use Rattle.fp_system.specs.declared.status.Status.{Status as StatusOf};
 ghost use Rattle.fp_system.specs.declared.status.Status.TheVariants as status;
 ghost use Rattle.command_words.specs.declared.words.Command.TheVariants as command;
-ghost use Rattle.std.specs.Prelude.{◌≡◌, [], List as ListOf};
+ghost use Rattle.schedule_runs.specs.Ways.{NoneStarved};
+ghost use Rattle.std.specs.Prelude.{◌≡◌, [], List as ListOf, length};
 
 use fp_site::Site;
 use line_laws::every_line_is_answered;
+use schedule_runs::a_way_is_determined;
+use state_laws::the_start_has_its_shape;
 
 /// Of any call at most one answer is due.
 pub fn at_most_one_answer_is_due()
@@ -37,6 +40,21 @@ pub fn a_run_that_is_done_answers_each_line<T: Site>()
         AnswersEachLine job given.lines earlier (T.disk old) (T.disk new) }
 {
     every_line_is_answered()
+}
+
+/// Two runs that are done, of the same schedule and lines behind the same entries, come to one point: so they add the
+/// same groups to the log, and send the same bytes. Only where a transaction lacked memory they may differ.
+pub fn runs_that_are_done_are_one<T: Site>()
+    ensures { (g : Given) (job : Job) (given : Input) (earlier : ListOf Entry) (old old2 new new2 : T)
+        → Asks g command.Run job → IsSafeFor job (T.disk old) earlier
+        → (went : Went job given earlier status.Done (T.disk old) (T.disk new))
+        → (went2 : Went job given earlier status.Done (T.disk old2) (T.disk new2))
+        → NoneStarved (length earlier) went.point.here.history
+        → NoneStarved (length earlier) went2.point.here.history
+        → went.point ≡ went2.point }
+{
+    the_start_has_its_shape();
+    a_way_is_determined()
 }
 
 /// What stands in a log for good is held; and a log that was made new holds each entry of which a line was sent since,
@@ -61,8 +79,7 @@ pub fn a_call_keeps_what_was_answered<T: Site>()
 {}
 
 /// Over any number of calls, whatever they answer, and of stops within them, the log goes on holding what stood and
-/// each
-/// entry of which a line was sent since.
+/// each entry of which a line was sent since.
 pub fn what_was_answered_is_held<T: Site>()
     ensures { (job : Job) (start : Standing) (first last : T) → HoldsOn job start (T.disk first)
         → Lives T.told T.disk job first last → HoldsOn job start (T.disk last) }

@@ -64,7 +64,6 @@ pub fn ims<S: Source, T: Site>(
         → HasEvents job (S.left source.old) events →
         Ran job (input events (lines_of (S.left source.old part.Messages))) result (T.disk site.old)
         (T.disk site.new) }
-
     ensures shown { (job : Job) → S.told source.old → T.told site.old
         → Asks (given exits.now words.now (S.left source.old) (T.disk site.old)) command.Show job →
         Shown job result (T.disk site.old) (T.disk site.new) }
@@ -75,7 +74,6 @@ pub fn ims<S: Source, T: Site>(
         → Asks (given exits.now words.now (S.left source.old) (T.disk site.old)) which job
         → Restarts which → T.tells_reads site.new 0 →
         ReadsOnce (front_for job) ((T.disk site.old).contents 0) (T.bytes_read site.old 0) (T.bytes_read site.new 0) }
-
     ensures reads { ReadsOnlyLog (T.tells_reads site.old) (T.tells_reads site.new)
         (T.bytes_read site.old) (T.bytes_read site.new) }
 

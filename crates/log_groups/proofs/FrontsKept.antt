@@ -1,10 +1,10 @@
 -- What stands in front of a gate while a group is written behind it, also where that gate is absent; and the exact
 -- bytes
 -- that gated writes leave.
-use Rattle.std.proofs.Common.{◌≡◌, inl, inr, ℕ, ◌+◌, ◌-◌, ◌<◌, ◌≤◌, false, List, [], ◌∷◌, ◌++◌, length, get_or, take, drop, replicate, refl, sym, ◌∙◌, ap, subst, arith, append_assoc}
+use Rattle.std.proofs.Common.{◌≡◌, inl, inr, ℕ, ◌+◌, ◌-◌, ◌<◌, ◌≤◌, max, false, List, [], ◌∷◌, ◌++◌, length, get_or, take, drop, replicate, refl, sym, ◌∙◌, ap, subst, arith, append_assoc}
 use Rattle.std.proofs.lemmas.Bool.{cases_lt}
 use Rattle.std.proofs.lemmas.Bool.Decides.{nat_tests}
-use Rattle.std.proofs.lemmas.List.{ext_get_or, get_or-take, length-append, length-take, length-replicate, take_at, drop_at, drop-drop, append-nil}
+use Rattle.std.proofs.lemmas.List.{ext_get_or, get_or-take, length-append, length-drop, length-take, length-replicate, take_at, drop_at, drop-drop, append-nil}
 use Rattle.fp_site.specs.Disk.{Disk, Torn, IsDurable, Settles, Tears, Syncs, Elapses, IsLawful, written, covers}
 use Rattle.fp_site.specs.Moments.{Through}
 use Rattle.fp_site.specs.Written.{length-written, written_other}
@@ -104,6 +104,22 @@ new_text front before shut new same opened =
     let text : log_text front [] ≡ 1 ∷ ready = ap (λ l. l ++ 0 ∷ []) (append-nil (front_text 1 front)) in
     opened.behind ∙ ap (λ l. 1 ∷ (ready ++ l)) back
     ∙ ap (λ l. l ++ drop (first_gate front + 1) before) (sym text)
+
+-- and so how long it is
+pub new_length : (front : Front) (before new : List ℕ) → new ≡ log_text front [] ++ drop (first_gate front + 1) before
+    → length new ≡ max (first_gate front + 1) (length before)
+new_length front before new is =
+    let text : log_text front [] ≡ front_text 1 front ++ 0 ∷ [] =
+    ap (λ l. l ++ 0 ∷ []) (append-nil (front_text 1 front)) in
+    let long = length-append (log_text front []) (drop (first_gate front + 1) before) in
+    omega (
+      arith,
+      ap length is,
+      long,
+      ap length text,
+      length-append (front_text 1 front) (0 ∷ []),
+      length-drop (first_gate front + 1) before,
+    )
 
 -- ---- the four calls of a gated write: the disks before, and after each
 

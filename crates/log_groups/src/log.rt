@@ -1,69 +1,14 @@
 //! A log that is open: what is sealed of it, and the entries that are not.
 ghost use Rattle.fp_model.specs.Groups.{IsDamaged};
-ghost use Rattle.fp_model.specs.LogText.{
-  FitsEntry,
-  FitsFront,
-  Front as FrontOf,
-  KeepsRules,
-  StartsWithFront,
-  body_text,
-  entry_text,
-  first_gate,
-  log_text,
-};
+ghost use Rattle.fp_model.specs.LogText.{FitsEntry, FitsFront, Front as FrontOf, KeepsRules, StartsWithFront, body_text, entry_text, first_gate, log_text};
 ghost use Rattle.fp_model.specs.declared.log.Entry.{Entry as EntryOf};
 ghost use Rattle.fp_site.specs.Disk.{Differs, Disk, IsDurable, Settles, Stays};
 ghost use Rattle.fp_site.specs.Moments.{OnlyOn, Through};
 ghost use Rattle.fp_site.specs.Site.{Counts, ReadsNothing};
-ghost use Rattle.log_groups.specs.Images.{
-  HasFrontOf,
-  IsAtRest,
-  IsBeforeOrAfter,
-  IsBeforeOrMade,
-  IsBeforeOrShut,
-  IsFrontOf,
-  IsKept,
-  IsOldOrMade,
-  IsOldOrShut,
-  IsSameOrMade,
-  IsSameOrShut,
-  IsShut,
-  IsWithOrWithout,
-  as_front,
-  with_group,
-  with_group_at,
-};
+ghost use Rattle.log_groups.specs.Images.{HasFrontOf, IsAtRest, IsBeforeOrAfter, IsBeforeOrMade, IsBeforeOrShut, IsFrontOf, IsKept, IsOldOrMade, IsOldOrShut, IsSameOrMade, IsSameOrShut, IsShut, IsWithOrWithout, as_front, with_group, with_group_at};
 ghost use Rattle.log_groups.specs.Reads.{HasGroup, ReadsOnlyLog};
 ghost use Rattle.log_groups.specs.declared.fault.LogFault.TheVariants as faults;
-ghost use Rattle.std.specs.Prelude.{
-  ◌≡◌,
-  ◌≢◌,
-  ◌⊎◌,
-  ◌+◌,
-  ◌-◌,
-  ◌*◌,
-  ◌<◌,
-  ◌≤◌,
-  ◌^◌,
-  ◌∷◌,
-  ◌++◌,
-  ℕ,
-  [],
-  IfNone,
-  IfOk,
-  IfSome,
-  IsErrOf,
-  IsOk,
-  List as ListOf,
-  OnErr,
-  OnOk,
-  drop,
-  length,
-  max,
-  min,
-  slice_index,
-  take,
-};
+ghost use Rattle.std.specs.Prelude.{◌≡◌, ◌≢◌, ◌⊎◌, ◌+◌, ◌-◌, ◌*◌, ◌<◌, ◌≤◌, ◌^◌, ◌∷◌, ◌++◌, ℕ, [], IfNone, IfOk, IfSome, IsErrOf, IsOk, List as ListOf, OnErr, OnOk, drop, length, max, min, slice_index, take};
 
 use crate::buffer::{add_entry, end_of, move_down, seal_part};
 use crate::group::read_group;
@@ -184,6 +129,8 @@ impl Log {
         // It is the front and a closed gate; where the old log was longer, its bytes behind that gate stay there.
         ensures text { T.told site.old → OnOk result ((T.disk site.new).contents 0 ≡ log_text (as_front front.now) []
             ++ drop (first_gate (as_front front.now) + 1) ((T.disk site.old).contents 0)) }
+        ensures long { T.told site.old → OnOk result (length ((T.disk site.new).contents 0) ≡ max
+            (first_gate (as_front front.now) + 1) (length ((T.disk site.old).contents 0))) }
         ensures cause { IsErrOf result faults.Failed → (T.faults site.old < T.faults site.new)
             ⊎ (T.faults site.new ≡ 2 ^ 64 - 1) }
         ensures later { T.faults site.old ≤ T.faults site.new }

@@ -3,38 +3,10 @@ ghost use Rattle.fp_model.specs.LogText.{FitsFront, first_gate, log_text};
 ghost use Rattle.fp_site.specs.Disk.{Disk, Settles, Stays};
 ghost use Rattle.fp_site.specs.Moments.{OnlyOn, Through};
 ghost use Rattle.fp_site.specs.Site.{Counts};
-ghost use Rattle.log_groups.specs.Images.{
-  IsAtRest,
-  IsBeforeOrMade,
-  IsBeforeOrShut,
-  IsOldOrMade,
-  IsOldOrShut,
-  IsOpenGate,
-  IsShut,
-  IsShutGate,
-  as_front,
-};
+ghost use Rattle.log_groups.specs.Images.{IsAtRest, IsBeforeOrMade, IsBeforeOrShut, IsOldOrMade, IsOldOrShut, IsOpenGate, IsShut, IsShutGate, as_front};
 ghost use Rattle.log_groups.specs.Reads.{ReadsOnlyLog};
 ghost use Rattle.log_groups.specs.declared.fault.LogFault.TheVariants as faults;
-ghost use Rattle.std.specs.Prelude.{
-  ◌≡◌,
-  ◌⊎◌,
-  ◌+◌,
-  ◌-◌,
-  ◌<◌,
-  ◌≤◌,
-  ◌^◌,
-  ◌++◌,
-  ℕ,
-  [],
-  IfOk,
-  IsErrOf,
-  List as ListOf,
-  OnOk,
-  drop,
-  true,
-  false,
-};
+ghost use Rattle.std.specs.Prelude.{◌≡◌, ◌⊎◌, ◌+◌, ◌-◌, ◌<◌, ◌≤◌, ◌^◌, ◌++◌, ℕ, [], IfOk, IsErrOf, List as ListOf, OnOk, drop, length, max, true, false};
 
 use crate::gated::write_gated;
 use crate::{Front, LogFault};
@@ -106,6 +78,8 @@ pub(crate) fn make<S: Site>(alloc: Global, site: &mut S, front: &Front) -> Resul
     ensures text { S.told site.old
         → OnOk result ((S.disk site.new).contents 0 ≡ log_text (as_front front.now) [] ++ drop
         (first_gate (as_front front.now) + 1) ((S.disk site.old).contents 0)) }
+    ensures long { S.told site.old → OnOk result (length ((S.disk site.new).contents 0) ≡ max
+        (first_gate (as_front front.now) + 1) (length ((S.disk site.old).contents 0))) }
     ensures cause { IsErrOf result faults.Failed → (S.faults site.old < S.faults site.new)
         ⊎ (S.faults site.new ≡ 2 ^ 64 - 1) }
     ensures later { S.faults site.old ≤ S.faults site.new }

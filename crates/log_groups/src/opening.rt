@@ -2,24 +2,7 @@
 ghost use Rattle.fp_site.specs.Disk.{Disk, Stays};
 ghost use Rattle.log_groups.specs.Reads.{ReadsOnlyLog};
 ghost use Rattle.log_groups.specs.declared.fault.LogFault.TheVariants as faults;
-ghost use Rattle.std.specs.Prelude.{
-  ◌≡◌,
-  ◌≢◌,
-  ◌⊎◌,
-  ◌+◌,
-  ◌-◌,
-  ◌<◌,
-  ◌≤◌,
-  ◌^◌,
-  ℕ,
-  IfOk,
-  IsErrOf,
-  OnOk,
-  length,
-  take,
-  true,
-  false,
-};
+ghost use Rattle.std.specs.Prelude.{◌≡◌, ◌≢◌, ◌⊎◌, ◌+◌, ◌-◌, ◌<◌, ◌≤◌, ◌^◌, ℕ, IfOk, IsErrOf, OnOk, length, take, true, false};
 
 use crate::LogFault;
 use crate::group::bytes_at;

@@ -24,7 +24,8 @@ use Rattle.msdb_store.proofs.Stagings.{behind_item, first_true, is_number, numbe
 abbrev pub Before : ℕ → List ℕ → ℕ → List ℕ → Type 0
 Before n k m j = (n < m) ⊎ ((n ≡ m) × (is_below k j ≡ true))
 
-pub split : (n : ℕ) (k : List ℕ) (m : ℕ) (j : List ℕ) → precedes (Segment n k []) (Segment m j []) ≡ true → Before n k m j
+pub split : (n : ℕ) (k : List ℕ) (m : ℕ) (j : List ℕ) → precedes (Segment n k []) (Segment m j []) ≡ true
+    → Before n k m j
 split n k m j e = by (nat_lt n m) refl
   where
     by : (b : Bool) → nat_lt n m ≡ b → Before n k m j

@@ -131,7 +131,8 @@ module _ (defs : Defs) (rules : Rules) (m : Machine) (t : Transaction)
       ∙ ap (map seen) is2 ∙ map-append seen m.history.entries (e2 ∷ [])) in
       let next : m2.history.now ≡ m3.history.now = ap (λ (x : Machine). x.history.now) same in
       let kind : e.outcome ≡ e2.outcome = ap (λ (x : Entry). x.outcome) alike in
-      is ∙ ap (λ (x : Entry). m.history.entries ++ x ∷ []) (entry_back e e2 alike (by next kind (done_or_not e.outcome)))
+      is ∙ ap (λ (x : Entry). m.history.entries ++ x ∷ [])
+      (entry_back e e2 alike (by next kind (done_or_not e.outcome)))
       ∙ sym is2
     where
       by : m2.history.now ≡ m3.history.now → e.outcome ≡ e2.outcome

@@ -15,7 +15,8 @@ use Rattle.fp_core.specs.Relation.{AreMade}
 use Rattle.fp_core.specs.Turning.{IsExactTurn}
 
 -- From these events and this machine turns, each exact, lead to that machine, and those events are left.
-pub data Goes (defs : Defs) (rules : Rules) : List Event → Machine → List Environment → List Event → Machine → Type 0 where
+pub data Goes (defs : Defs) (rules : Rules) : List Event → Machine → List Environment → List Event → Machine
+    → Type 0 where
   -- no turn yet
   here : {events : List Event} {m : Machine} → Goes defs rules events m [] events m
   -- the turn of the next event, and then others

@@ -2,4 +2,3 @@ pub mod Parts
 pub mod Sealing
 pub mod Making
 pub mod SoundLogs
-pub mod Disks

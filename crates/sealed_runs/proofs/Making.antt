@@ -24,7 +24,7 @@ use Rattle.sealed_runs.proofs.Parts.{get_behind, items_first, states_more}
 -- ---- items are fit
 
 module _ (defs : Defs) (none : defs.dedbs ≡ []) where
-  no_area : (set ci size : ℕ) → IsAreaInterval defs set ci size → ⊥
+  pub no_area : (set ci size : ℕ) → IsAreaInterval defs set ci size → ⊥
   no_area set ci size it = some_is_none (sym (nothing (set - first_area_set)) ∙ it.has_size)
     where
       nothing : (n : ℕ) → slice_get (area_sizes defs) n ≡ None

@@ -5,7 +5,7 @@ use Rattle.fp_site.specs.Moments.{Through}
 use Rattle.fp_site.proofs.Frames.{only_joined}
 use Rattle.log_groups.specs.Images.{IsGated, IsGatedImage, IsOpened, as_front}
 use Rattle.log_groups.proofs.Shutting.{length-front, once_made, made_image, made_log}
-use Rattle.log_groups.proofs.FrontsKept.{new_text}
+use Rattle.log_groups.proofs.FrontsKept.{new_length, new_text}
 use Rattle.log_groups.proofs.making.make.Goals as goal
 
 -- the front fits in a data set
@@ -112,3 +112,7 @@ returns-clause-text g c t =
     c.as_slice.ensures ∙ c.in_ok-push.ensures.ok ∙ ap (λ l. l ++ 0 ∷ []) c.in_ok-bytes.ensures in
     new_text front (h.contents 0) (a.contents 0) b (c.in_ok-shut.ensures.rest t)
     (subst (λ l. IsOpened (a.contents 0) 0 l b) is (c.in_ok-write_gated.ensures.opened t1 (omega arith)))
+
+pub returns-clause-long : goal.returns-clause-long
+returns-clause-long g c t = new_length (as_front c.args.front.now) ((g.S.Site.disk c.args.site.now).contents 0)
+    ((g.S.Site.disk c.write_gated.new.site).contents 0) (returns-clause-text g c t)

@@ -8,5 +8,6 @@ returns-clause-way c defs scripts events m environments left left2 here here2 of
 
 pub returns-clause-done : goal.returns-clause-done
 returns-clause-done c defs scripts events m here here2 of comes drained none comes2 drained2 none2 =
-    one_run defs scripts (length m.history.entries) comes.goes comes2.goes refl refl refl refl drained drained2 comes.calm
+    one_run defs scripts (length m.history.entries) comes.goes comes2.goes refl refl refl refl drained drained2
+    comes.calm
     comes2.calm (omega arith) none none2 of

@@ -36,7 +36,8 @@ loop-done-preserved c = record {
   took = λ m s.
       let t = c.loop-done.invariant.took m s in
       one_turned m c.loop-done.self c.turn.new.self c.loop-done.done (c.loop-done.done + 1) (c.loop-done.done + 1)
-      c.in_ok-turn.field-0 refl refl c.turn.ensures.rules (ap (λ d. d.now) c.turn.ensures.defs) t (c.in_ok-turn.ensures.turned t.after t.stands);
+      c.in_ok-turn.field-0 refl refl c.turn.ensures.rules (ap (λ d. d.now) c.turn.ensures.defs) t
+      (c.in_ok-turn.ensures.turned t.after t.stands);
 }
 
 pub returns-clause-turned : goal.returns-clause-turned

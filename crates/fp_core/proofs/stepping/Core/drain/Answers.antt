@@ -1,15 +1,12 @@
 use Rattle.std.proofs.Common.{refl, ◌∙◌, ap, subst, arith, ◌+◌, ◌-◌, Bool}
-use Rattle.fp_model.specs.declared.definitions.Defs.{Defs}
 use Rattle.fp_model.specs.Machine.{Machine}
-use Rattle.fp_model.specs.Rules.{Rules}
-use Rattle.fp_site.specs.Moments.{Through}
 use Rattle.fp_source.specs.declared.part.Part.TheVariants as part
-use Rattle.fp_core.specs.Draining.{DrainStopped, IsLeftByDrain}
+use Rattle.fp_core.specs.Draining.{DrainStopped}
 use Rattle.fp_core.specs.Relation.{rules_in}
 use Rattle.fp_core.specs.Sparing.{IsLogSet}
-use Rattle.fp_core.specs.Rounding.{Went, WentBeside}
+use Rattle.fp_core.specs.Rounding.{Went}
 use Rattle.fp_core.proofs.Bounds.{needs_fewer, with_lines_reached}
-use Rattle.fp_core.proofs.Comings.{come_both, drained_by, moments_both, moments_none, none_come, stopped_behind}
+use Rattle.fp_core.proofs.Comings.{came_on, drained_by, moments_none, moments_on, none_come, stopped_on}
 use Rattle.fp_core.proofs.Onwards.{continued_both, continued_none, reads_nothing_both, reads_nothing_none, reads_only_both, reads_only_none}
 use Rattle.fp_core.proofs.SparingLemmas.{spares_none, spares_on}
 use Rattle.fp_core.proofs.Rounds.{if_err_from}
@@ -50,43 +47,24 @@ loop-done-init g c =
 pub returns-in_err-round-clause-stopped : goal.returns-in_err-round-clause-stopped
 returns-in_err-round-clause-stopped g c origin m told tells beside reached =
     let core = c.args.self.now in
-    let mid = c.loop-done.self in
-    let i = c.loop-done.invariant in
-    let rules = rules_in core.engine in
-    let disk = g.T.Site.disk c.args.site.now in
-    let disk1 = g.T.Site.disk c.loop-done.site in
-    let disk2 = g.T.Site.disk c.round.new.site in
-    let left1 = g.S.Source.left c.loop-done.source part.Messages in
-    let told1 = i.site.still_told told in
-    let tells1 = i.source.stays_told tells in
-    let come = i.come origin m told tells beside in
     let stop = c.in_err-round.field-0.0 in
-    if_err_from (DrainStopped origin core.engine.defs.now rules m core.lines disk disk2) c.from_residual.result stop
+    let i = c.loop-done.invariant in
+    let told1 = i.site.still_told told in
+    let come = i.come origin m told tells beside in
+    if_err_from (DrainStopped origin core.engine.defs.now (rules_in core.engine) m core.lines
+    (g.T.Site.disk c.args.site.now) (g.T.Site.disk c.round.new.site)) c.from_residual.result stop
     c.from_residual.ensures.1
-    (stopped_behind origin core.engine.defs.now rules m disk core.lines disk1 mid.lines left1 mid.engine come disk2 stop
-    (subst (λ (d : Defs). DrainStopped origin d rules come.after mid.lines disk1 disk2 stop) (ap (λ d. d.now) i.defs)
-    (subst (λ (r : Rules). DrainStopped origin mid.engine.defs.now r come.after mid.lines disk1 disk2 stop) i.rules
-    (c.in_err-round.ensures.stopped origin come.after told1 tells1 come.beside))))
+    (stopped_on come i.rules (ap (λ d. d.now) i.defs) (g.T.Site.disk c.round.new.site) stop
+    (c.in_err-round.ensures.stopped origin come.after told1 (i.source.stays_told tells) come.beside))
 
 pub returns-in_err-round-clause-moments : goal.returns-in_err-round-clause-moments
 returns-in_err-round-clause-moments g c origin m told tells beside reached =
-    let core = c.args.self.now in
-    let mid = c.loop-done.self in
     let i = c.loop-done.invariant in
-    let rules = rules_in core.engine in
-    let disk = g.T.Site.disk c.args.site.now in
-    let disk1 = g.T.Site.disk c.loop-done.site in
-    let disk2 = g.T.Site.disk c.round.new.site in
-    let left1 = g.S.Source.left c.loop-done.source part.Messages in
     let told1 = i.site.still_told told in
-    let tells1 = i.source.stays_told tells in
     let come = i.come origin m told tells beside in
-    moments_both origin core.engine.defs.now rules m disk core.lines disk1 mid.lines left1 mid.engine come disk2
-    (g.met.T.Site.lawful c.loop-done.site told1)
-    (i.moments origin m told tells beside)
-    (subst (λ (d : Defs). Through disk1 disk2 (IsLeftByDrain origin d rules come.after disk1)) (ap (λ d. d.now) i.defs)
-    (subst (λ (r : Rules). Through disk1 disk2 (IsLeftByDrain origin mid.engine.defs.now r come.after disk1)) i.rules
-    (c.round.ensures.moments origin come.after told1 tells1 come.beside)))
+    moments_on come i.rules (ap (λ d. d.now) i.defs) (g.T.Site.disk c.round.new.site)
+    (g.met.T.Site.lawful c.loop-done.site told1) (i.moments origin m told tells beside)
+    (c.round.ensures.moments origin come.after told1 (i.source.stays_told tells) come.beside)
 
 -- ---- the end
 
@@ -106,51 +84,28 @@ returns-then-not-branch-clause-reached g c =
 
 pub returns-then-not-branch-clause-moments : goal.returns-then-not-branch-clause-moments
 returns-then-not-branch-clause-moments g c origin m told tells beside reached =
-    let core = c.args.self.now in
-    let mid = c.loop-done.self in
     let i = c.loop-done.invariant in
-    let rules = rules_in core.engine in
-    let disk = g.T.Site.disk c.args.site.now in
-    let disk1 = g.T.Site.disk c.loop-done.site in
-    let disk2 = g.T.Site.disk c.round.new.site in
-    let left1 = g.S.Source.left c.loop-done.source part.Messages in
     let told1 = i.site.still_told told in
-    let tells1 = i.source.stays_told tells in
     let come = i.come origin m told tells beside in
-    moments_both origin core.engine.defs.now rules m disk core.lines disk1 mid.lines left1 mid.engine come disk2
-    (g.met.T.Site.lawful c.loop-done.site told1)
-    (i.moments origin m told tells beside)
-    (subst (λ (d : Defs). Through disk1 disk2 (IsLeftByDrain origin d rules come.after disk1)) (ap (λ d. d.now) i.defs)
-    (subst (λ (r : Rules). Through disk1 disk2 (IsLeftByDrain origin mid.engine.defs.now r come.after disk1)) i.rules
-    (c.round.ensures.moments origin come.after told1 tells1 come.beside)))
+    moments_on come i.rules (ap (λ d. d.now) i.defs) (g.T.Site.disk c.round.new.site)
+    (g.met.T.Site.lawful c.loop-done.site told1) (i.moments origin m told tells beside)
+    (c.round.ensures.moments origin come.after told1 (i.source.stays_told tells) come.beside)
 
 pub returns-then-not-branch-clause-drained : goal.returns-then-not-branch-clause-drained
 returns-then-not-branch-clause-drained g c origin m told tells beside reached =
     let core = c.args.self.now in
-    let mid = c.loop-done.self in
-    let i = c.loop-done.invariant in
-    let rules = rules_in core.engine in
-    let disk = g.T.Site.disk c.args.site.now in
-    let disk1 = g.T.Site.disk c.loop-done.site in
-    let disk2 = g.T.Site.disk c.round.new.site in
-    let left1 = g.S.Source.left c.loop-done.source part.Messages in
-    let told1 = i.site.still_told told in
-    let tells1 = i.source.stays_told tells in
-    let come = i.come origin m told tells beside in
     let new = c.round.new.self in
+    let disk = g.T.Site.disk c.args.site.now in
+    let disk2 = g.T.Site.disk c.round.new.site in
     let left2 = g.S.Source.left c.round.new.source part.Messages in
-    let went = subst (λ (d : Defs). WentBeside origin d rules come.after disk1 disk2 mid.lines new.lines left2
-    new.engine
-    c.in_ok-round.field-0) (ap (λ d. d.now) i.defs)
-    (subst (λ (r : Rules). WentBeside origin mid.engine.defs.now r come.after disk1 disk2 mid.lines new.lines left2
-    new.engine c.in_ok-round.field-0) i.rules
-    (c.in_ok-round.ensures.beside origin come.after told1 tells1 come.beside)) in
-    drained_by origin core.engine.defs.now rules m disk disk2 core.lines new.lines left2 new.engine
-    (ap (λ d. d.now) (c.round.ensures.defs ∙ i.defs)) (c.round.ensures.rules ∙ i.rules)
-    (come_both origin core.engine.defs.now rules m disk core.lines disk1 mid.lines left1 mid.engine come disk2 new.lines
-    left2 new.engine
-    went.come)
-    (went.drained c.if-not-branch.true)
+    let i = c.loop-done.invariant in
+    let told1 = i.site.still_told told in
+    let come = i.come origin m told tells beside in
+    let came = came_on come i.rules (ap (λ d. d.now) i.defs) disk2
+    (c.in_ok-round.ensures.beside origin come.after told1 (i.source.stays_told tells) come.beside) in
+    drained_by origin core.engine.defs.now (rules_in core.engine) m disk disk2 core.lines new.lines left2 new.engine
+    (ap (λ d. d.now) (c.round.ensures.defs ∙ i.defs)) (c.round.ensures.rules ∙ i.rules) came.come
+    (came.drained c.if-not-branch.true)
 
 -- ---- a round more
 
@@ -170,43 +125,16 @@ loop-done-preserved g c =
           (subst (λ (b : Bool). Went mid.engine.defs.now (rules_in mid.engine) ahead mid.lines new.lines new.engine b)
           c.if-not-branch.false went.1);
       come = λ origin m told tells beside.
-          let rules = rules_in core.engine in
-          let disk = g.T.Site.disk c.args.site.now in
-          let disk1 = g.T.Site.disk c.loop-done.site in
-          let disk2 = g.T.Site.disk c.round.new.site in
-          let left1 = g.S.Source.left c.loop-done.source part.Messages in
-          let left2 = g.S.Source.left c.round.new.source part.Messages in
           let come = i.come origin m told tells beside in
-          let more = subst (λ (d : Defs). WentBeside origin d rules come.after disk1 disk2 mid.lines new.lines left2
-          new.engine c.in_ok-round.field-0) (ap (λ d. d.now) i.defs)
-          (subst (λ (r : Rules). WentBeside origin mid.engine.defs.now r come.after disk1 disk2 mid.lines new.lines
-          left2
-          new.engine c.in_ok-round.field-0) i.rules
+          (came_on come i.rules (ap (λ d. d.now) i.defs) (g.T.Site.disk c.round.new.site)
           (c.in_ok-round.ensures.beside origin come.after (i.site.still_told told) (i.source.stays_told tells)
-          come.beside)) in
-          come_both origin core.engine.defs.now rules m disk core.lines disk1 mid.lines left1 mid.engine come disk2
-          new.lines left2
-          new.engine more.come;
+          come.beside)).come;
       moments = λ origin m told tells beside.
-          let core = c.args.self.now in
-          let mid = c.loop-done.self in
-          let i = c.loop-done.invariant in
-          let rules = rules_in core.engine in
-          let disk = g.T.Site.disk c.args.site.now in
-          let disk1 = g.T.Site.disk c.loop-done.site in
-          let disk2 = g.T.Site.disk c.round.new.site in
-          let left1 = g.S.Source.left c.loop-done.source part.Messages in
           let told1 = i.site.still_told told in
-          let tells1 = i.source.stays_told tells in
           let come = i.come origin m told tells beside in
-          moments_both origin core.engine.defs.now rules m disk core.lines disk1 mid.lines left1 mid.engine come disk2
-          (g.met.T.Site.lawful c.loop-done.site told1)
-          (i.moments origin m told tells beside)
-          (subst (λ (d : Defs). Through disk1 disk2 (IsLeftByDrain origin d rules come.after disk1))
-          (ap (λ d. d.now) i.defs)
-          (subst (λ (r : Rules). Through disk1 disk2 (IsLeftByDrain origin mid.engine.defs.now r come.after disk1))
-          i.rules
-          (c.round.ensures.moments origin come.after told1 tells1 come.beside)));
+          moments_on come i.rules (ap (λ d. d.now) i.defs) (g.T.Site.disk c.round.new.site)
+          (g.met.T.Site.lawful c.loop-done.site told1) (i.moments origin m told tells beside)
+          (c.round.ensures.moments origin come.after told1 (i.source.stays_told tells) come.beside);
       spares = λ told.
           let told1 = i.site.still_told told in
           spares_on IsLogSet (g.T.Site.disk c.args.site.now) (g.T.Site.disk c.loop-done.site)

@@ -84,83 +84,52 @@ returns-in_err-turn_each-clause-stopped g c origin m told tells beside =
 
 pub returns-in_err-seal-clause-stopped : goal.returns-in_err-seal-clause-stopped
 returns-in_err-seal-clause-stopped g c origin m told tells beside =
-    let core = c.args.self.now in
-    let first = c.begin_round.new.self in
-    let second = c.turn_each.new.self in
-    let rules = rules_in core.engine in
-    let disk = g.T.Site.disk c.args.site.now in
-    let disk2 = g.T.Site.disk c.seal.new.site in
-    let left = g.S.Source.left c.begin_round.new.source part.Messages in
-    let same = c.turn_each.ensures.rules ∙ c.begin_round.ensures.rules in
-    let before = before_log origin m disk core.lines first.lines left core.engine first.engine second
-    c.in_ok-begin_round.field-0 c.begin_round.ensures.rules c.begin_round.ensures.defs c.begin_round.ensures.gate
-    c.turn_each.ensures.gate beside.at (c.in_ok-begin_round.ensures.read m tells beside.at.parts beside.lines_are)
+    let first = c.begin_round.ensures in
+    let second = c.turn_each.ensures in
+    let before = before_log first.rules first.defs first.gate second.gate beside.at
+    (c.in_ok-begin_round.ensures.read m tells beside.at.parts beside.lines_are)
     c.if-not-branch.false (λ mid s. c.in_ok-turn_each.ensures.turned mid s) in
-    let leaves = c.seal.ensures.leaves origin before.took.after told before.beside.at in
+    let core = c.args.self.now in
     let stop = c.in_err-seal.field-0.0 in
-    if_err_from (DrainStopped origin core.engine.defs.now rules m core.lines disk disk2)
-    c.from_residual-in_err-seal.result stop
+    if_err_from (DrainStopped origin core.engine.defs.now (rules_in core.engine) m core.lines
+    (g.T.Site.disk c.args.site.now) (g.T.Site.disk c.seal.new.site)) c.from_residual-in_err-seal.result stop
     c.from_residual-in_err-seal.ensures.1
-    (stopped_log origin rules m disk disk2 core.lines first.lines left second same before
-    core.engine.defs.now (ap (λ d. d.now) (c.turn_each.ensures.defs ∙ c.begin_round.ensures.defs)) leaves stop
-    c.in_err-seal.ensures.stops)
+    (stopped_log (second.rules ∙ first.rules) before (ap (λ d. d.now) (second.defs ∙ first.defs))
+    (c.seal.ensures.leaves origin before.took.after told before.beside.at)
+    stop c.in_err-seal.ensures.stops)
 
 pub returns-in_err-seal-clause-moments : goal.returns-in_err-seal-clause-moments
 returns-in_err-seal-clause-moments g c origin m told tells beside =
-    let core = c.args.self.now in
-    let first = c.begin_round.new.self in
-    let second = c.turn_each.new.self in
-    let rules = rules_in core.engine in
-    let disk = g.T.Site.disk c.args.site.now in
-    let disk2 = g.T.Site.disk c.seal.new.site in
-    let left = g.S.Source.left c.begin_round.new.source part.Messages in
-    let same = c.turn_each.ensures.rules ∙ c.begin_round.ensures.rules in
-    let before = before_log origin m disk core.lines first.lines left core.engine first.engine second
-    c.in_ok-begin_round.field-0 c.begin_round.ensures.rules c.begin_round.ensures.defs c.begin_round.ensures.gate
-    c.turn_each.ensures.gate beside.at (c.in_ok-begin_round.ensures.read m tells beside.at.parts beside.lines_are)
+    let first = c.begin_round.ensures in
+    let second = c.turn_each.ensures in
+    let before = before_log first.rules first.defs first.gate second.gate beside.at
+    (c.in_ok-begin_round.ensures.read m tells beside.at.parts beside.lines_are)
     c.if-not-branch.false (λ mid s. c.in_ok-turn_each.ensures.turned mid s) in
-    let leaves = c.seal.ensures.leaves origin before.took.after told before.beside.at in
-    moments_log origin rules m disk disk2 core.lines first.lines left second same before
-    core.engine.defs.now (ap (λ d. d.now) (c.turn_each.ensures.defs ∙ c.begin_round.ensures.defs)) leaves
+    moments_log (second.rules ∙ first.rules) before (ap (λ d. d.now) (second.defs ∙ first.defs))
+    (c.seal.ensures.leaves origin before.took.after told before.beside.at)
 
 -- ---- a whole round
 
 pub returns-clause-moments : goal.returns-clause-moments
 returns-clause-moments g c origin m told tells beside =
-    let core = c.args.self.now in
-    let first = c.begin_round.new.self in
-    let second = c.turn_each.new.self in
-    let rules = rules_in core.engine in
-    let disk = g.T.Site.disk c.args.site.now in
-    let disk2 = g.T.Site.disk c.seal.new.site in
-    let left = g.S.Source.left c.begin_round.new.source part.Messages in
-    let same = c.turn_each.ensures.rules ∙ c.begin_round.ensures.rules in
-    let before = before_log origin m disk core.lines first.lines left core.engine first.engine second
-    c.in_ok-begin_round.field-0 c.begin_round.ensures.rules c.begin_round.ensures.defs c.begin_round.ensures.gate
-    c.turn_each.ensures.gate beside.at (c.in_ok-begin_round.ensures.read m tells beside.at.parts beside.lines_are)
+    let first = c.begin_round.ensures in
+    let second = c.turn_each.ensures in
+    let before = before_log first.rules first.defs first.gate second.gate beside.at
+    (c.in_ok-begin_round.ensures.read m tells beside.at.parts beside.lines_are)
     c.if-not-branch.false (λ mid s. c.in_ok-turn_each.ensures.turned mid s) in
-    let leaves = c.seal.ensures.leaves origin before.took.after told before.beside.at in
-    moments_log origin rules m disk disk2 core.lines first.lines left second same before
-    core.engine.defs.now (ap (λ d. d.now) (c.turn_each.ensures.defs ∙ c.begin_round.ensures.defs)) leaves
+    moments_log (second.rules ∙ first.rules) before (ap (λ d. d.now) (second.defs ∙ first.defs))
+    (c.seal.ensures.leaves origin before.took.after told before.beside.at)
 
 pub returns-clause-beside : goal.returns-clause-beside
 returns-clause-beside g c origin m told tells beside =
-    let core = c.args.self.now in
-    let first = c.begin_round.new.self in
-    let second = c.turn_each.new.self in
-    let rules = rules_in core.engine in
-    let disk = g.T.Site.disk c.args.site.now in
-    let disk2 = g.T.Site.disk c.seal.new.site in
-    let left = g.S.Source.left c.begin_round.new.source part.Messages in
-    let same = c.turn_each.ensures.rules ∙ c.begin_round.ensures.rules in
-    let before = before_log origin m disk core.lines first.lines left core.engine first.engine second
-    c.in_ok-begin_round.field-0 c.begin_round.ensures.rules c.begin_round.ensures.defs c.begin_round.ensures.gate
-    c.turn_each.ensures.gate beside.at (c.in_ok-begin_round.ensures.read m tells beside.at.parts beside.lines_are)
+    let first = c.begin_round.ensures in
+    let second = c.turn_each.ensures in
+    let before = before_log first.rules first.defs first.gate second.gate beside.at
+    (c.in_ok-begin_round.ensures.read m tells beside.at.parts beside.lines_are)
     c.if-not-branch.false (λ mid s. c.in_ok-turn_each.ensures.turned mid s) in
-    let leaves = c.seal.ensures.leaves origin before.took.after told before.beside.at in
-    went_on origin rules m disk disk2 core.lines first.lines left second same before
-    core.engine.defs.now (ap (λ d. d.now) (c.turn_each.ensures.defs ∙ c.begin_round.ensures.defs)) leaves
-    c.seal.new.self c.in_ok-seal.field-0 (c.seal.ensures.rules ∙ same)
+    went_on (second.rules ∙ first.rules) before (ap (λ d. d.now) (second.defs ∙ first.defs))
+    (c.seal.ensures.leaves origin before.took.after told before.beside.at)
+    c.seal.new.self c.in_ok-seal.field-0 (c.seal.ensures.rules ∙ second.rules ∙ first.rules)
     (c.in_ok-seal.ensures.at origin before.took.after told before.beside.at)
 
 pub returns-clause-went : goal.returns-clause-went
