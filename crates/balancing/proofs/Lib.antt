@@ -1,2 +1,4 @@
 pub mod NameLemmas
 pub mod QueueLemmas
+mod Ascending
+mod LastLemmas
