@@ -1,9 +1,13 @@
 -- Several facts of one answer.
-use Rattle.std.proofs.Common.{◌≡◌, refl}
+use Rattle.std.proofs.Common.{◌≡◌, refl, sym, subst}
 use Rattle.std.specs.Prelude.{ℕ, IfOk, IsErrOf, List, OnOk, Result, Ok, Err}
 use Rattle.fp_model.specs.declared.definitions.Defs.{Defs}
+use Rattle.fp_model.specs.LogText.{Front}
+use Rattle.fp_model.specs.declared.log.Entry.{Entry}
+use Rattle.fp_model.specs.declared.scripts.Script.{Script}
 use Rattle.fp_site.proofs.Images.{settles_left}
-use Rattle.fp_site.specs.Disk.{Disk, Snapshot, Syncs}
+use Rattle.fp_site.specs.Disk.{Disk, Settles, Snapshot, Syncs}
+use Rattle.log_groups.specs.Kept.{BeginsWith, IsSafeFrom}
 use Rattle.fp_restart.proofs.Replays.{one_first_bad, readable_not_bad}
 use Rattle.fp_restart.specs.Replayed.{IsFirstBadAt, IsReadable}
 use Rattle.fp_restart.specs.Restarts.{IsDamageOr}
@@ -42,4 +46,13 @@ same_synced h s left = record {
   others =
       λ k other. refl;
   sent = λ told. refl;
+}
+
+-- where each image that a sync may make might have been made before, and the log is the same, it goes on to begin so
+pub narrower : (defs : Defs) (scripts : List Script) (front : Front) (old new : Disk) (earlier : List Entry)
+    → new.contents 0 ≡ old.contents 0 → ((image : List ℕ) → Settles new 0 image → Settles old 0 image)
+    → IsSafeFrom defs scripts front old earlier → IsSafeFrom defs scripts front new earlier
+narrower defs scripts front old new earlier same settles safe = record {
+  now = subst (λ log. BeginsWith defs scripts front log earlier) (sym same) safe.now;
+  crash = λ image now. safe.crash image (settles image now);
 }

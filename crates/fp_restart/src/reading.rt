@@ -1,5 +1,7 @@
 //! Reading the groups of a log, and putting their segments.
+ghost use Rattle.fp_model.specs.Groups.{Groups, Reads};
 ghost use Rattle.fp_model.specs.Items.{AreFit, with_items, items_of};
+ghost use Rattle.fp_model.specs.Recovery.{Holds};
 ghost use Rattle.fp_model.specs.State.{start};
 ghost use Rattle.fp_model.specs.LogText.{FitsFront, StartsWithFront, first_gate};
 ghost use Rattle.fp_model.specs.WellFormed.{IsMsdbDef};
@@ -10,11 +12,33 @@ ghost use Rattle.fp_restart.specs.Restarts.{IsBadAt};
 ghost use Rattle.fp_restart.specs.declared.fault.RestartFault.TheVariants as faults;
 ghost use Rattle.fp_site.specs.Disk.{Stays};
 ghost use Rattle.log_groups.specs.Images.{as_front};
-ghost use Rattle.log_groups.specs.Reads.{HasGroup};
+ghost use Rattle.log_groups.specs.Reads.{HasGroup, ReadsOnlyLog};
 ghost use Rattle.fp_model.specs.declared.definitions.MsdbDef.{MsdbDef as DefOf};
 ghost use Rattle.msdb_store.specs.Store.{IsFitSegment, IsOf};
 ghost use Rattle.std.specs.List.{AllByRecursion};
-ghost use Rattle.std.specs.Prelude.{◌≡◌, ◌≢◌, ◌⊎◌, ◌+◌, ◌-◌, ◌<◌, ◌≤◌, ◌^◌, ℕ, [], List as ListOf, IfNone, IfOk, IfSome, IsErrOf, OnOk, false, length, slice_index, true};
+ghost use Rattle.std.specs.Prelude.{
+  ◌≡◌,
+  ◌≢◌,
+  ◌⊎◌,
+  ◌+◌,
+  ◌-◌,
+  ◌<◌,
+  ◌≤◌,
+  ◌^◌,
+  ℕ,
+  [],
+  List as ListOf,
+  IfNone,
+  IfOk,
+  IfSome,
+  IsErrOf,
+  OnOk,
+  false,
+  length,
+  max,
+  slice_index,
+  true,
+};
 
 use crate::RestartFault;
 use crate::begun::Begun;
@@ -69,7 +93,17 @@ pub(crate) fn read_parts<T: Site>(
     ensures cause { IsErrOf result faults.SiteFault → (T.faults site.old < T.faults site.new)
         ⊎ (T.faults site.new ≡ 2 ^ 64 - 1) }
     ensures later { T.faults site.old ≤ T.faults site.new }
+    ensures stayed { (IsErrOf result faults.SiteFault → ⊥) → T.faults site.new ≡ T.faults site.old }
 
+    // Nothing changes. Of a log with groups up to a closed gate the front, these and that gate are read at most, each
+    // byte once; of any log no more than each of its bytes, and one past its end.
+    ensures read { (groups : ListOf (ListOf EntryOf)) (gate : ℕ) → T.told site.old
+        → Holds (as_front front.now) ((T.disk site.old).contents 0) groups gate → T.tells_reads site.new 0
+        → T.bytes_read site.new 0 ≤ T.bytes_read site.old 0 + gate + 1 }
+    ensures once { T.told site.old → T.tells_reads site.new 0
+        → T.bytes_read site.new 0 ≤ T.bytes_read site.old 0 + length ((T.disk site.old).contents 0) + 1 }
+    ensures only_log { ReadsOnlyLog (T.tells_reads site.old) (T.tells_reads site.new) (T.bytes_read site.old)
+        (T.bytes_read site.new) }
     ensures stays { T.told site.old → Stays (T.disk site.old) (T.disk site.new) }
     ensures told { T.told site.old → T.told site.new }
     ensures holds { T.holds site.new ≡ T.holds site.old }
@@ -102,7 +136,17 @@ fn replay<T: Site>(
     ensures cause { IsErrOf result faults.SiteFault → (T.faults site.old < T.faults site.new)
         ⊎ (T.faults site.new ≡ 2 ^ 64 - 1) }
     ensures later { T.faults site.old ≤ T.faults site.new }
+    ensures stayed { (IsErrOf result faults.SiteFault → ⊥) → T.faults site.new ≡ T.faults site.old }
     ensures never { IsErrOf result faults.Foreign → ⊥ }
+
+    // Nothing changes. The groups up to a closed gate, and that gate, are read at most, each byte once.
+    ensures read { (groups : ListOf (ListOf EntryOf)) (gate : ℕ) → T.told site.old
+        → Reads ((T.disk site.old).contents 0) log.old.gate (Groups groups gate) → T.tells_reads site.new 0
+        → T.bytes_read site.new 0 + log.old.gate ≤ T.bytes_read site.old 0 + gate + 1 }
+    ensures once { T.told site.old → T.tells_reads site.new 0 → T.bytes_read site.new 0 + log.old.gate
+        ≤ T.bytes_read site.old 0 + max log.old.gate (length ((T.disk site.old).contents 0)) + 1 }
+    ensures only_log { ReadsOnlyLog (T.tells_reads site.old) (T.tells_reads site.new) (T.bytes_read site.old)
+        (T.bytes_read site.new) }
     ensures stays { T.told site.old → Stays (T.disk site.old) (T.disk site.new) }
     ensures told { T.told site.old → T.told site.new }
     ensures holds { T.holds site.new ≡ T.holds site.old }
@@ -149,8 +193,23 @@ fn take_group<T: Site>(
     ensures cause { IsErrOf result faults.SiteFault → (T.faults site.old < T.faults site.new)
         ⊎ (T.faults site.new ≡ 2 ^ 64 - 1) }
     ensures later { T.faults site.old ≤ T.faults site.new }
+    ensures stayed { (IsErrOf result faults.SiteFault → ⊥) → T.faults site.new ≡ T.faults site.old }
     ensures never { IsErrOf result faults.Foreign → ⊥ }
     ensures log { log.new ≡ log.old }
+
+    // Nothing changes. The group's bytes are read once, or one byte where there is none; and whatever the answer is no
+    // more, and nothing behind the log's end.
+    ensures count { T.tells_reads site.new 0 → IfOk result (λ found. IfSome found
+        (λ taken. T.bytes_read site.new 0 + at ≡ T.bytes_read site.old 0 + taken.next)) }
+    ensures most { (entries : ListOf EntryOf) (next : ℕ) → T.told site.old
+        → HasGroup ((T.disk site.old).contents 0) at entries next → T.tells_reads site.new 0
+        → T.bytes_read site.new 0 + at ≤ T.bytes_read site.old 0 + next }
+    ensures one { T.told site.old → slice_index ((T.disk site.old).contents 0) at ≢ 1 → T.tells_reads site.new 0
+        → T.bytes_read site.new 0 ≤ T.bytes_read site.old 0 + 1 }
+    ensures inside { T.told site.old → T.tells_reads site.new 0 → T.bytes_read site.new 0 + at
+        ≤ T.bytes_read site.old 0 + max (at + 1) (length ((T.disk site.old).contents 0)) }
+    ensures only_log { ReadsOnlyLog (T.tells_reads site.old) (T.tells_reads site.new) (T.bytes_read site.old)
+        (T.bytes_read site.new) }
     ensures stays { T.told site.old → Stays (T.disk site.old) (T.disk site.new) }
     ensures told { T.told site.old → T.told site.new }
     ensures holds { T.holds site.new ≡ T.holds site.old }

@@ -1,18 +1,35 @@
 //! Restarting.
 ghost use Rattle.fp_model.specs.LogText.{FitsFront, StartsWithFront, first_gate};
+ghost use Rattle.fp_model.specs.Recovery.{Holds};
 ghost use Rattle.fp_model.specs.WellFormed.{IsMsdbDef};
 ghost use Rattle.fp_model.specs.declared.log.Entry.{Entry};
 ghost use Rattle.fp_model.specs.declared.scripts.Script.{Script};
 ghost use Rattle.fp_restart.specs.Replayed.{IsFirstBadAt, IsReadable, ReadsBack};
 ghost use Rattle.fp_restart.specs.Restarts.{IsDamageOr, StandsFor};
 ghost use Rattle.fp_restart.specs.declared.fault.RestartFault.TheVariants as faults;
-ghost use Rattle.fp_site.specs.Disk.{Syncs};
+ghost use Rattle.fp_site.specs.Disk.{Settles, Syncs};
 ghost use Rattle.fp_site.specs.Moments.{Through};
 ghost use Rattle.log_groups.specs.Images.{as_front};
-ghost use Rattle.log_groups.specs.Kept.{IsSound};
+ghost use Rattle.log_groups.specs.Kept.{IsSafeFrom, IsSound};
+ghost use Rattle.log_groups.specs.Reads.{ReadsOnlyLog};
 ghost use Rattle.msdb_store.specs.Store.{IsOf};
 ghost use Rattle.std.specs.List.{AllByRecursion};
-ghost use Rattle.std.specs.Prelude.{◌≡◌, ◌⊎◌, ◌-◌, ◌<◌, ◌≤◌, ◌^◌, ℕ, [], IfOk, IsErrOf, List as ListOf, OnOk};
+ghost use Rattle.std.specs.Prelude.{
+  ◌≡◌,
+  ◌⊎◌,
+  ◌+◌,
+  ◌-◌,
+  ◌<◌,
+  ◌≤◌,
+  ◌^◌,
+  ℕ,
+  [],
+  IfOk,
+  IsErrOf,
+  List as ListOf,
+  OnOk,
+  length,
+};
 
 use crate::RestartFault;
 use crate::reading::read_parts;
@@ -75,12 +92,32 @@ pub fn restart<T: Site>(
     ensures cause { IsErrOf result faults.SiteFault → (T.faults site.old < T.faults site.new)
         ⊎ (T.faults site.new ≡ 2 ^ 64 - 1) }
     ensures later { T.faults site.old ≤ T.faults site.new }
+    ensures stayed { (IsErrOf result faults.SiteFault → ⊥) → T.faults site.new ≡ T.faults site.old }
 
     // No contents change, nothing is sent, and a crash at any moment leaves what it might have left before, the log as
     // a sync might have left it.
     ensures contents { T.told site.old → (set : ℕ) → (T.disk site.new).contents set ≡ (T.disk site.old).contents set }
     ensures sent { T.told site.old → (T.disk site.new).sent ≡ (T.disk site.old).sent }
     ensures crash { T.told site.old → Through (T.disk site.old) (T.disk site.new) (Syncs (T.disk site.old) 0) }
+
+    // Whatever the answer is, each image that a further sync may make of what a crash may leave now is one that a sync
+    // might have made before. So where all of those begin with these entries, as behind a call that failed, they do
+    // now.
+    ensures settles { (image : ListOf ℕ) → T.told site.old → Settles (T.disk site.new) 0 image
+        → Settles (T.disk site.old) 0 image }
+    ensures begins { (scripts : ListOf Script) (earlier : ListOf Entry) → T.told site.old
+        → IsSafeFrom defs.now scripts (as_front front.now) (T.disk site.old) earlier
+        → IsSafeFrom defs.now scripts (as_front front.now) (T.disk site.new) earlier }
+
+    // No other data set is read. Of a log with groups up to a closed gate the front, these and that gate are read at
+    // most, each byte once; of any log no more than each of its bytes, and one past its end.
+    ensures read { (groups : ListOf (ListOf Entry)) (gate : ℕ) → T.told site.old
+        → Holds (as_front front.now) ((T.disk site.old).contents 0) groups gate → T.tells_reads site.new 0
+        → T.bytes_read site.new 0 ≤ T.bytes_read site.old 0 + gate + 1 }
+    ensures once { T.told site.old → T.tells_reads site.new 0
+        → T.bytes_read site.new 0 ≤ T.bytes_read site.old 0 + length ((T.disk site.old).contents 0) + 1 }
+    ensures only_log { ReadsOnlyLog (T.tells_reads site.old) (T.tells_reads site.new) (T.bytes_read site.old)
+        (T.bytes_read site.new) }
     ensures told { T.told site.old → T.told site.new }
     ensures holds { T.holds site.new ≡ T.holds site.old }
     ensures keeps { (first : T) → T.keeps first site.old → T.keeps first site.new }

@@ -12,7 +12,7 @@ use Rattle.fp_site.specs.Written.{get_or-append_zeros}
 use Rattle.log_format.specs.Faults.{Spells, IsFirstBad}
 use Rattle.log_format.proofs.Fields.{length-be64}
 use Rattle.log_format.proofs.Bodies.{not_bad}
-use Rattle.log_format.proofs.GroupLaws.{no_body, past_end, no_length, no_bytes}
+use Rattle.log_format.proofs.GroupLaws.{no_body, past_end, no_length, no_bytes, one_number}
 use Rattle.log_groups.specs.declared.fault.LogFault.TheVariants.{Damaged}
 use Rattle.log_groups.specs.Reads.{HasLength, HasBody, HasGroup}
 
@@ -125,3 +125,24 @@ group_is_whole bytes at entries next has damage = damage.no_group entries (drop 
 -- the place in an answer
 pub damaged_place : (at place : ℕ) → Damaged at ≡ Damaged place → place ≡ at
 damaged_place at place same = cc
+
+-- ---- how far a group goes
+
+-- a group has its gate, its length and a body behind it,
+pub group_long : (bytes : List ℕ) (at : ℕ) (entries : List Entry) (next : ℕ) → HasGroup bytes at entries next
+    → next ≡ at + 9 + length (body_text entries)
+group_long bytes at entries next has =
+    let size = length (body_text entries) in
+    has.next_is ∙ omega (arith, length-append (be64 size) (body_text entries), length-be64 size)
+
+-- which is as long as the length says that was read
+pub group_ends : (bytes : List ℕ) (at size : ℕ) (entries : List Entry) (next : ℕ) → HasLength bytes at size
+    → HasGroup bytes at entries next → next ≡ at + 9 + size
+group_ends bytes at size entries next has group =
+    let body = body_text entries in
+    let behind : drop (at + 1) bytes ≡ be64 (length body) ++ (body ++ drop next bytes) =
+    ap (λ n. drop n bytes) (omega arith) ∙ sym (drop-drop 1 at bytes) ∙ ap (drop 1) group.text
+    ∙ append_assoc (be64 (length body)) body (drop next bytes) in
+    let same = one_number size (length body) (drop (at + 9) bytes) (body ++ drop next bytes) has.small group.group.fits
+    (sym has.text ∙ behind) in
+    group_long bytes at entries next group ∙ ap (λ n. at + 9 + n) (sym same.0)

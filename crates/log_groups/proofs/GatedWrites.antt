@@ -57,8 +57,9 @@ module _ (old : List ℕ) (gate : ℕ) (ready : List ℕ) (stands : gate < lengt
       ap (take gate) staged_is ∙ take-append-le gate (take (gate + 1) old) (ready ++ junk) (omega (arith, front_length))
       ∙ take-take gate (gate + 1) old (omega arith)
 
-  staged_back : drop (gate + 1) staged ≡ ready ++ junk
-  staged_back = ap (drop (gate + 1)) staged_is ∙ drop_at (take (gate + 1) old) (ready ++ junk) (gate + 1) front_length
+  pub staged_behind_gate : drop (gate + 1) staged ≡ ready ++ junk
+  staged_behind_gate = ap (drop (gate + 1)) staged_is
+      ∙ drop_at (take (gate + 1) old) (ready ++ junk) (gate + 1) front_length
 
   -- and of the second
   pub at_gate : (c : List ℕ) → Torn gate 1 staged c → IsStaged old gate ready c
@@ -70,25 +71,16 @@ module _ (old : List ℕ) (gate : ℕ) (ready : List ℕ) (stands : gate < lengt
         first = get_or c gate 0;
         rest = junk;
         behind = drop_more c gate 0 long ∙ ap (λ t. get_or c gate 0 ∷ t)
-            (torn_back gate 1 staged c (omega (arith, staged_length)) torn ∙ staged_back);
+            (torn_back gate 1 staged c (omega (arith, staged_length)) torn ∙ staged_behind_gate);
       }
 
   final_is : final ≡ take gate old ++ (1 ∷ (ready ++ junk))
   final_is =
       written_is staged gate (1 ∷ []) (omega (arith, staged_length)) ∙ ap (λ l. l ++ (1 ∷ drop (gate + 1) staged))
-      staged_front ∙ ap (λ l. take gate old ++ (1 ∷ l)) staged_back
+      staged_front ∙ ap (λ l. take gate old ++ (1 ∷ l)) staged_behind_gate
 
   gate_length : length (take gate old) ≡ gate
   gate_length = omega (arith, length-take gate old)
-
-  -- after the last sync
-  pub opened : (new : Disk) → IsDurable new 0 → new.contents 0 ≡ final → IsOpened old gate ready new
-  opened new durable is = record {
-    durable = durable;
-    front = ap (take gate) (is ∙ final_is) ∙ take_at (take gate old) (1 ∷ (ready ++ junk)) gate gate_length;
-    rest = junk;
-    behind = ap (drop gate) (is ∙ final_is) ∙ drop_at (take gate old) (1 ∷ (ready ++ junk)) gate gate_length;
-  }
 
 -- the disks: h before, h1 to h4 after each call
 module _ (gate : ℕ) (ready : List ℕ) (h h1 : Disk) (law : IsLawful h) (law1 : IsLawful h1) (leaves1 : Leaves 0 h h1)

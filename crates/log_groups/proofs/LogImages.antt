@@ -1,6 +1,6 @@
 -- The images of a log: where its bytes change behind the closed gate, where that gate stays closed, and where it opens
 -- before a whole group.
-use Rattle.std.proofs.Common.{◌≡◌, ◌≢◌, ℕ, suc, ◌+◌, ◌<◌, List, [], ◌∷◌, ◌++◌, length, take, drop, get_or, refl, sym, ◌∙◌, ap, arith, append_assoc}
+use Rattle.std.proofs.Common.{◌≡◌, ◌≢◌, ℕ, suc, ◌+◌, ◌<◌, ◌≤◌, List, [], ◌∷◌, ◌++◌, length, take, drop, get_or, refl, sym, ◌∙◌, ap, arith, append_assoc}
 use Rattle.std.specs.Prelude.{slice_index}
 use Rattle.std.specs.List.{AllByRecursion}
 use Rattle.std.proofs.lemmas.List.{length-append, take_at, drop_at, take-append-drop, append-nil, get_or-drop}
@@ -8,6 +8,7 @@ use Rattle.std.proofs.lemmas.List.Concat.{flat_map-cons, flat_map-append}
 use Rattle.fp_model.specs.declared.log.Entry.{Entry}
 use Rattle.fp_model.specs.LogText.{Front, front_text, group_text, groups_text}
 use Rattle.fp_model.specs.Groups.{IsGroup, HoldsGroups}
+use Rattle.fp_model.specs.Recovery.{Holds}
 use Rattle.log_groups.specs.Images.{IsLog, before_gate, gate_behind}
 use Rattle.log_groups.specs.Reads.{HasGroup}
 
@@ -38,13 +39,13 @@ pub record HasShape (front : Front) (groups : List (List Entry)) (gate : ℕ) (b
   pub place : gate ≡ length (before_gate front groups)
   pub text : bytes ≡ before_gate front groups ++ drop gate bytes
 
--- that it has this shape,
-pub shape_of : (front : Front) (groups : List (List Entry)) (gate : ℕ) (bytes : List ℕ) → IsLog front bytes groups gate
-    → HasShape front groups gate bytes
-shape_of front groups gate bytes log =
+-- that it has this shape, also where its gate is absent,
+pub shape_of_held : (front : Front) (groups : List (List Entry)) (gate : ℕ) (bytes : List ℕ)
+    → Holds front bytes groups gate → HasShape front groups gate bytes
+shape_of_held front groups gate bytes holds =
     let head = front_text 1 front in
-    let begins = log.holds.begins in
-    let reads = log.holds.reads.0 in
+    let begins = holds.begins in
+    let reads = holds.reads.0 in
     let rest : begins.0 ≡ groups_text groups ++ drop gate bytes =
     sym (drop_at head begins.0 (length head) refl) ∙ ap (drop (length head)) (sym begins.1) ∙ reads.text in
     record {
@@ -52,6 +53,18 @@ shape_of front groups gate bytes log =
       place = reads.next ∙ sym (length-append head (groups_text groups));
       text = begins.1 ∙ ap (λ t. head ++ t) rest ∙ sym (append_assoc head (groups_text groups) (drop gate bytes));
     }
+
+pub shape_of : (front : Front) (groups : List (List Entry)) (gate : ℕ) (bytes : List ℕ) → IsLog front bytes groups gate
+    → HasShape front groups gate bytes
+shape_of front groups gate bytes log = shape_of_held front groups gate bytes log.holds
+
+-- its gate is no further than its end
+pub held_reaches : (front : Front) (groups : List (List Entry)) (gate : ℕ) (bytes : List ℕ)
+    → Holds front bytes groups gate → gate ≤ length bytes
+held_reaches front groups gate bytes holds =
+    let shape = shape_of_held front groups gate bytes holds in
+    let before = before_gate front groups in
+    omega (arith, shape.place, ap length shape.text, length-append before (drop gate bytes))
 
 -- and that what has it, and a gate that isn't open, is a log
 pub log_of : (front : Front) (groups : List (List Entry)) (gate : ℕ) (bytes : List ℕ) → HasShape front groups gate bytes
@@ -100,11 +113,11 @@ closed_front front groups gate old new log long same shut =
 
 -- and one that has a whole group and a closed gate behind that place has one group more
 pub open_front : (front : Front) (groups : List (List Entry)) (gate : ℕ) (old new : List ℕ) (entries : List Entry)
-    (next : ℕ) (junk : List ℕ) → IsLog front old groups gate → take gate new ≡ take gate old → IsGroup entries
+    (next : ℕ) (junk : List ℕ) → Holds front old groups gate → take gate new ≡ take gate old → IsGroup entries
     → drop gate new ≡ group_text entries ++ (next ∷ junk) → next ≢ 1
     → IsLog front new (groups ++ entries ∷ []) (gate_behind gate entries)
-open_front front groups gate old new entries next junk log same group behind shut =
-    let shape = shape_alike front groups gate old new (shape_of front groups gate old log) same in
+open_front front groups gate old new entries next junk holds same group behind shut =
+    let shape = shape_alike front groups gate old new (shape_of_held front groups gate old holds) same in
     let before = before_gate front groups in
     let more = before_gate front (groups ++ entries ∷ []) in
     let more_is : more ≡ before ++ group_text entries =

@@ -13,6 +13,7 @@ use Rattle.fp_site.proofs.Runs.{weaker}
 use Rattle.fp_model.specs.declared.log.Entry.{Entry}
 use Rattle.fp_model.specs.Spellings.{be64}
 use Rattle.fp_model.specs.LogText.{Front, HasSpelling, entry_text, body_text, group_text}
+use Rattle.fp_model.specs.Recovery.{Holds}
 use Rattle.log_format.specs.Reading.{many_at}
 use Rattle.log_format.specs.EntryReading.{entry_at}
 use Rattle.log_format.proofs.Fields.{length-be64}
@@ -41,7 +42,7 @@ pub gated_log : (front : Front) (groups : List (List Entry)) (gate : ℕ) (old b
 gated_log front groups gate old bytes entries log spells image (inl un) =
     inl (closed_front front groups gate old image log un.stands un.front (λ one. log.holds.reads.1 (sym un.byte ∙ one)))
 gated_log front groups gate old bytes entries log spells image (inr staged) = elim (cases_eq staged.first 1) [
-  | inl one ↦ inr (open_front front groups gate old image entries 0 staged.rest log staged.front spells.group
+  | inl one ↦ inr (open_front front groups gate old image entries 0 staged.rest log.holds staged.front spells.group
       (staged.behind ∙ ap (λ b. b ∷ (bytes ++ staged.rest)) one ∙ group_behind bytes staged.rest entries spells)
       (λ one. omega (arith, one)))
   | inr ne ↦ inl (closed_front front groups gate old image log
@@ -59,11 +60,11 @@ sealed_through front groups gate bytes entries h a rest spells run =
 
 -- and at Ok
 pub sealed_log : (front : Front) (groups : List (List Entry)) (gate : ℕ) (bytes : List ℕ) (entries : List Entry)
-    (h a : Disk) → IsAtRest h front groups gate → SpellsGroup bytes entries
+    (h a : Disk) → Holds front (h.contents 0) groups gate → SpellsGroup bytes entries
     → IsOpened (h.contents 0) gate bytes a → IsAtRest a front (groups ++ entries ∷ []) (gate_behind gate entries)
-sealed_log front groups gate bytes entries h a rest spells opened = record {
+sealed_log front groups gate bytes entries h a holds spells opened = record {
   durable = opened.durable;
-  log = open_front front groups gate (h.contents 0) (a.contents 0) entries 0 opened.rest rest.log opened.front
+  log = open_front front groups gate (h.contents 0) (a.contents 0) entries 0 opened.rest holds opened.front
       spells.group
       (opened.behind ∙ group_behind bytes opened.rest entries spells) (λ one. omega (arith, one));
 }

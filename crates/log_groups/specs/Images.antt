@@ -17,6 +17,21 @@ pub record IsLog (front : Front) (bytes : List ℕ) (groups : List (List Entry))
   pub holds : Holds front bytes groups gate
   pub stands : gate < length bytes
 
+-- A disk whose log every crash leaves, and holds these groups up to a gate that isn't open. That gate may be absent:
+-- then
+-- the log ends with its last group.
+pub record IsKept (disk : Disk) (front : Front) (groups : List (List Entry)) (gate : ℕ) : Type 0 where
+  pub durable : IsDurable disk 0
+  pub holds : Holds front (disk.contents 0) groups gate
+
+-- all bytes in front of a gate are as they were
+abbrev pub IsFrontOf : List ℕ → ℕ → List ℕ → Type 0
+IsFrontOf old gate image = take gate image ≡ take gate old
+
+-- the log that a crash left has them
+abbrev pub HasFrontOf : List ℕ → ℕ → Snapshot → Type 0
+HasFrontOf old gate s = IsFrontOf old gate (s.images 0)
+
 -- the bytes in front of a log's closed gate
 abbrev pub before_gate : Front → List (List Entry) → List ℕ
 before_gate front groups = front_text 1 front ++ groups_text groups

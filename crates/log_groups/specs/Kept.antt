@@ -44,6 +44,18 @@ module _ (defs : Defs) (scripts : List Script) (front : Front) where
     pub now : IsSound (disk.contents 0) entries
     pub crash : (image : List ℕ) → Settles disk 0 image → (left : List Entry) × IsSound image left
 
+  -- the log is sound, and begins with these entries
+  pub record BeginsWith (log : List ℕ) (earlier : List Entry) : Type 0 where
+    pub later : List Entry
+    pub sound : IsSound log (earlier ++ later)
+
+  -- So is the log that a read gives, and each that a sync may make of those that a crash now may leave. A log need not
+  -- be
+  -- for good: where a call failed, those may differ, and all of them begin so.
+  pub record IsSafeFrom (disk : Disk) (earlier : List Entry) : Type 0 where
+    pub now : BeginsWith (disk.contents 0) earlier
+    pub crash : (image : List ℕ) → Settles disk 0 image → BeginsWith image earlier
+
   -- behind what stood before, the log goes on by more entries, and of their reply lines a first part is sent
   pub record GoesOn (before : Disk) (earlier : List Entry) (s : Snapshot) : Type 0 where
     pub later : List Entry

@@ -3,12 +3,33 @@ ghost use Rattle.fp_model.specs.Spellings.{be64};
 ghost use Rattle.fp_site.specs.Disk.{Disk, IsDurable, Settles};
 ghost use Rattle.fp_site.specs.Moments.{OnlyOn, Through};
 ghost use Rattle.fp_site.specs.Site.{Counts, ReadsNothing};
-ghost use Rattle.log_groups.specs.Images.{IsGated, IsGatedImage, IsOpened};
+ghost use Rattle.log_groups.specs.Images.{HasFrontOf, IsFrontOf, IsGated, IsGatedImage, IsOpened};
 ghost use Rattle.fp_model.specs.LogText.{FitsEntry, HasSpelling, KeepsRules, body_text, entry_text};
 ghost use Rattle.fp_model.specs.declared.log.Entry.{Entry as EntryOf};
 ghost use Rattle.log_groups.specs.Log.{HasEntries, part_text};
 ghost use Rattle.std.specs.List.{AllByRecursion};
-ghost use Rattle.std.specs.Prelude.{◌≡◌, ◌⊎◌, ◌+◌, ◌-◌, ◌<◌, ◌≤◌, ◌^◌, ◌∷◌, ◌++◌, ℕ, [], List as ListOf, OnOk, drop, length, slice_index, slice_set, take, vec_capacity, vec_len};
+ghost use Rattle.std.specs.Prelude.{
+  ◌≡◌,
+  ◌⊎◌,
+  ◌+◌,
+  ◌-◌,
+  ◌<◌,
+  ◌≤◌,
+  ◌^◌,
+  ◌∷◌,
+  ◌++◌,
+  ℕ,
+  [],
+  List as ListOf,
+  OnOk,
+  drop,
+  length,
+  slice_index,
+  slice_set,
+  take,
+  vec_capacity,
+  vec_len,
+};
 
 use crate::gated::write_gated;
 use byteorder::{BigEndian, ByteOrder};
@@ -59,7 +80,7 @@ pub(crate) fn seal_part<S: Site>(
     requires room { gate + 10 + (end - start) ≤ 2 ^ 62 }
 
     // At `Ok` the group is in the log, and every crash leaves it there.
-    ensures opened { S.told site.old → IsDurable (S.disk site.old) 0 → gate < length ((S.disk site.old).contents 0) →
+    ensures opened { S.told site.old → gate ≤ length ((S.disk site.old).contents 0) →
         OnOk result (IsOpened ((S.disk site.old).contents 0) gate (part_text buffer.old start end) (S.disk site.new)) }
     ensures cause { Counts (S.faults site.old) (S.faults site.new) result }
 
@@ -85,6 +106,13 @@ pub(crate) fn seal_part<S: Site>(
         → gate < length ((S.disk site.old).contents 0) →
         Settles (S.disk site.new) 0 image → IsGatedImage ((S.disk site.old).contents 0) gate
         (part_text buffer.old start end) image }
+
+    // In each of them, also where the gate was absent, all bytes in front of it are as they were.
+    ensures front { S.told site.old → IsDurable (S.disk site.old) 0 → gate ≤ length ((S.disk site.old).contents 0) →
+        Through (S.disk site.old) (S.disk site.new) (HasFrontOf ((S.disk site.old).contents 0) gate) }
+    ensures front_settles { (image : ListOf ℕ) → S.told site.old → IsDurable (S.disk site.old) 0
+        → gate ≤ length ((S.disk site.old).contents 0) →
+        Settles (S.disk site.new) 0 image → IsFrontOf ((S.disk site.old).contents 0) gate image }
 {
     let next = buffer[end];
     make_ready(buffer, start, end);

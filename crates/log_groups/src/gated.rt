@@ -1,9 +1,9 @@
 //! A write that counts whole or not at all: its bytes go behind a gate, and the gate is opened last.
-ghost use Rattle.fp_site.specs.Disk.{Disk, IsDurable, Settles};
+ghost use Rattle.fp_site.specs.Disk.{Disk, IsDurable, Settles, written};
 ghost use Rattle.fp_site.specs.Moments.{OnlyOn, Through};
 ghost use Rattle.fp_site.specs.Site.{Counts, ReadsNothing};
-ghost use Rattle.log_groups.specs.Images.{IsGated, IsGatedImage, IsOpened};
-ghost use Rattle.std.specs.Prelude.{◌≡◌, ◌⊎◌, ◌+◌, ◌-◌, ◌<◌, ◌≤◌, ◌^◌, ◌∷◌, ◌++◌, ℕ, List as ListOf, OnOk, length};
+ghost use Rattle.log_groups.specs.Images.{HasFrontOf, IsFrontOf, IsGated, IsGatedImage, IsOpened};
+ghost use Rattle.std.specs.Prelude.{◌≡◌, ◌⊎◌, ◌+◌, ◌-◌, ◌<◌, ◌≤◌, ◌^◌, ◌∷◌, ◌++◌, ℕ, [], List as ListOf, OnOk, length};
 
 use fp_site::{Failed, Site};
 
@@ -12,8 +12,10 @@ pub(crate) fn write_gated<S: Site>(site: &mut S, gate: u64, bytes: &[u8]) -> Res
     requires room { gate + 1 + length bytes.now ≤ 2 ^ 62 }
 
     // At `Ok` the gate is open, and every crash leaves it so.
-    ensures opened { S.told site.old → IsDurable (S.disk site.old) 0 → gate < length ((S.disk site.old).contents 0) →
+    ensures opened { S.told site.old → gate ≤ length ((S.disk site.old).contents 0) →
         OnOk result (IsOpened ((S.disk site.old).contents 0) gate bytes.now (S.disk site.new)) }
+    ensures wrote { S.told site.old → OnOk result ((S.disk site.new).contents 0 ≡ written
+        (written ((S.disk site.old).contents 0) (gate + 1) bytes.now) gate (1 ∷ [])) }
     ensures cause { Counts (S.faults site.old) (S.faults site.new) result }
 
     // No other data set changes, nothing is sent or read.
@@ -32,6 +34,13 @@ pub(crate) fn write_gated<S: Site>(site: &mut S, gate: u64, bytes: &[u8]) -> Res
     ensures settles { (image : ListOf ℕ) → S.told site.old → IsDurable (S.disk site.old) 0
         → gate < length ((S.disk site.old).contents 0) →
         Settles (S.disk site.new) 0 image → IsGatedImage ((S.disk site.old).contents 0) gate bytes.now image }
+
+    // In each of them, also where the gate was absent, all bytes in front of it are as they were.
+    ensures front { S.told site.old → IsDurable (S.disk site.old) 0 → gate ≤ length ((S.disk site.old).contents 0) →
+        Through (S.disk site.old) (S.disk site.new) (HasFrontOf ((S.disk site.old).contents 0) gate) }
+    ensures front_settles { (image : ListOf ℕ) → S.told site.old → IsDurable (S.disk site.old) 0
+        → gate ≤ length ((S.disk site.old).contents 0) →
+        Settles (S.disk site.new) 0 image → IsFrontOf ((S.disk site.old).contents 0) gate image }
 {
     site.write_at(0, gate + 1, bytes)?;
     site.sync(0)?; // the bytes are on the disk behind the gate as it was

@@ -1,11 +1,35 @@
 //! Reading one group behind its gate.
 ghost use Rattle.fp_model.specs.Groups.{IsDamaged};
 ghost use Rattle.fp_model.specs.Spellings.{be64};
+ghost use Rattle.fp_model.specs.declared.log.Entry.{Entry as EntryOf};
 ghost use Rattle.fp_site.specs.Disk.{Disk, Stays};
 ghost use Rattle.fp_site.specs.Site.{Counts};
 ghost use Rattle.log_groups.specs.Reads.{HasBody, HasGroup, HasLength, ReadsOnlyLog};
 ghost use Rattle.log_groups.specs.declared.fault.LogFault.TheVariants as faults;
-ghost use Rattle.std.specs.Prelude.{◌≡◌, ◌≢◌, ◌⊎◌, ◌+◌, ◌-◌, ◌<◌, ◌≤◌, ◌^◌, ℕ, IfNone, IfOk, IfSome, IsErrOf, drop, length, slice_index, take, true, false};
+ghost use Rattle.std.specs.Prelude.{
+  ◌≡◌,
+  ◌≢◌,
+  ◌⊎◌,
+  ◌+◌,
+  ◌-◌,
+  ◌<◌,
+  ◌≤◌,
+  ◌^◌,
+  ℕ,
+  IfNone,
+  IfOk,
+  IfSome,
+  IsErrOf,
+  List as
+      ListOf,
+  drop,
+  length,
+  max,
+  slice_index,
+  take,
+  true,
+  false,
+};
 
 use crate::LogFault;
 use fp_model::{Entry, List};
@@ -32,6 +56,7 @@ fn is_open<S: Site>(site: &mut S, at: u64) -> Result<bool, Failed>
     // Nothing changes, and one byte is read.
     ensures count { S.tells_reads site.new 0 → IfOk result
         (λ _. S.bytes_read site.new 0 ≡ S.bytes_read site.old 0 + 1) }
+    ensures most { S.tells_reads site.new 0 → S.bytes_read site.new 0 ≤ S.bytes_read site.old 0 + 1 }
     ensures stays { S.told site.old → Stays (S.disk site.old) (S.disk site.new) }
     ensures reads { ReadsOnlyLog (S.tells_reads site.old) (S.tells_reads site.new) (S.bytes_read site.old)
         (S.bytes_read site.new) }
@@ -56,6 +81,9 @@ fn length_at<S: Site>(site: &mut S, at: u64) -> Result<Option<u64>, Failed>
     // Nothing changes, and the eight bytes of the length are read.
     ensures count { S.tells_reads site.new 0 →
         IfOk result (λ found. IfSome found (λ _. S.bytes_read site.new 0 ≡ S.bytes_read site.old 0 + 8)) }
+    ensures most { S.tells_reads site.new 0 → S.bytes_read site.new 0 ≤ S.bytes_read site.old 0 + 8 }
+    ensures inside { S.told site.old → S.tells_reads site.new 0 → S.bytes_read site.new 0 ≢ S.bytes_read site.old 0
+        → at + 9 ≤ length ((S.disk site.old).contents 0) }
     ensures stays { S.told site.old → Stays (S.disk site.old) (S.disk site.new) }
     ensures reads { ReadsOnlyLog (S.tells_reads site.old) (S.tells_reads site.new) (S.bytes_read site.old)
         (S.bytes_read site.new) }
@@ -89,11 +117,13 @@ pub(crate) fn bytes_at<S: Site>(
     ensures cause { IsErrOf result faults.Failed → (S.faults site.old < S.faults site.new)
         ⊎ (S.faults site.new ≡ 2 ^ 64 - 1) }
     ensures later { S.faults site.old ≤ S.faults site.new }
+    ensures stayed { (IsErrOf result faults.Failed → ⊥) → S.faults site.new ≡ S.faults site.old }
     ensures never { (IsErrOf result faults.Foreign → ⊥) × ((place : ℕ) → IsErrOf result (faults.Damaged place) → ⊥) }
 
     // Nothing changes, and these bytes are read.
     ensures count { S.tells_reads site.new 0 → IfOk result
         (λ _. S.bytes_read site.new 0 ≡ S.bytes_read site.old 0 + len) }
+    ensures most { S.tells_reads site.new 0 → S.bytes_read site.new 0 ≤ S.bytes_read site.old 0 + len }
     ensures stays { S.told site.old → Stays (S.disk site.old) (S.disk site.new) }
     ensures reads { ReadsOnlyLog (S.tells_reads site.old) (S.tells_reads site.new) (S.bytes_read site.old)
         (S.bytes_read site.new) }
@@ -116,12 +146,18 @@ fn body_at<S: Site>(alloc: Global, site: &mut S, at: u64) -> Result<Option<Vec<u
     ensures cause { IsErrOf result faults.Failed → (S.faults site.old < S.faults site.new)
         ⊎ (S.faults site.new ≡ 2 ^ 64 - 1) }
     ensures later { S.faults site.old ≤ S.faults site.new }
+    ensures stayed { (IsErrOf result faults.Failed → ⊥) → S.faults site.new ≡ S.faults site.old }
     ensures never { (IsErrOf result faults.Foreign → ⊥) × ((place : ℕ) → IsErrOf result (faults.Damaged place) → ⊥) }
 
     // Nothing changes, and the length and the body are read once.
     ensures count { S.tells_reads site.new 0 →
         IfOk result (λ found. IfSome found (λ body. S.bytes_read site.new 0 ≡ S.bytes_read site.old 0 + 8 + length
         body.items)) }
+    ensures most { (entries : ListOf EntryOf) (next : ℕ) → S.told site.old
+        → HasGroup ((S.disk site.old).contents 0) at entries next → S.tells_reads site.new 0
+        → S.bytes_read site.new 0 + at + 1 ≤ S.bytes_read site.old 0 + next }
+    ensures inside { S.told site.old → S.tells_reads site.new 0 → S.bytes_read site.new 0 + at + 1
+        ≤ S.bytes_read site.old 0 + max (at + 1) (length ((S.disk site.old).contents 0)) }
     ensures stays { S.told site.old → Stays (S.disk site.old) (S.disk site.new) }
     ensures reads { ReadsOnlyLog (S.tells_reads site.old) (S.tells_reads site.new) (S.bytes_read site.old)
         (S.bytes_read site.new) }
@@ -153,6 +189,7 @@ pub(crate) fn read_group<S: Site>(
     ensures cause { IsErrOf result faults.Failed → (S.faults site.old < S.faults site.new)
         ⊎ (S.faults site.new ≡ 2 ^ 64 - 1) }
     ensures later { S.faults site.old ≤ S.faults site.new }
+    ensures stayed { (IsErrOf result faults.Failed → ⊥) → S.faults site.new ≡ S.faults site.old }
     ensures never { IsErrOf result faults.Foreign → ⊥ }
 
     // Nothing changes. The group's bytes are read once, or one byte where there is none.
@@ -161,6 +198,16 @@ pub(crate) fn read_group<S: Site>(
         group.next)) }
     ensures looked { S.tells_reads site.new 0 →
         IfOk result (λ found. IfNone found (S.bytes_read site.new 0 ≡ S.bytes_read site.old 0 + 1)) }
+
+    // Whatever the answer is, no more is read than the group that stands there, or the gate that isn't open; and no
+    // more than what stands there up to the log's end.
+    ensures most { (entries : ListOf EntryOf) (next : ℕ) → S.told site.old
+        → HasGroup ((S.disk site.old).contents 0) at entries next → S.tells_reads site.new 0
+        → S.bytes_read site.new 0 + at ≤ S.bytes_read site.old 0 + next }
+    ensures one { S.told site.old → slice_index ((S.disk site.old).contents 0) at ≢ 1 → S.tells_reads site.new 0
+        → S.bytes_read site.new 0 ≤ S.bytes_read site.old 0 + 1 }
+    ensures inside { S.told site.old → S.tells_reads site.new 0 → S.bytes_read site.new 0 + at
+        ≤ S.bytes_read site.old 0 + max (at + 1) (length ((S.disk site.old).contents 0)) }
     ensures stays { S.told site.old → Stays (S.disk site.old) (S.disk site.new) }
     ensures reads { ReadsOnlyLog (S.tells_reads site.old) (S.tells_reads site.new) (S.bytes_read site.old)
         (S.bytes_read site.new) }

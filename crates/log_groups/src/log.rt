@@ -1,14 +1,68 @@
 //! A log that is open: what is sealed of it, and the entries that are not.
 ghost use Rattle.fp_model.specs.Groups.{IsDamaged};
-ghost use Rattle.fp_model.specs.LogText.{FitsEntry, FitsFront, Front as FrontOf, KeepsRules, StartsWithFront, body_text, entry_text, first_gate};
+ghost use Rattle.fp_model.specs.LogText.{
+  FitsEntry,
+  FitsFront,
+  Front as FrontOf,
+  KeepsRules,
+  StartsWithFront,
+  body_text,
+  entry_text,
+  first_gate,
+  log_text,
+};
 ghost use Rattle.fp_model.specs.declared.log.Entry.{Entry as EntryOf};
 ghost use Rattle.fp_site.specs.Disk.{Differs, Disk, IsDurable, Settles, Stays};
 ghost use Rattle.fp_site.specs.Moments.{OnlyOn, Through};
 ghost use Rattle.fp_site.specs.Site.{Counts, ReadsNothing};
-ghost use Rattle.log_groups.specs.Images.{IsAtRest, IsBeforeOrAfter, IsBeforeOrMade, IsBeforeOrShut, IsOldOrMade, IsOldOrShut, IsSameOrMade, IsSameOrShut, IsShut, IsWithOrWithout, as_front, with_group};
+ghost use Rattle.log_groups.specs.Images.{
+  HasFrontOf,
+  IsAtRest,
+  IsBeforeOrAfter,
+  IsBeforeOrMade,
+  IsBeforeOrShut,
+  IsFrontOf,
+  IsKept,
+  IsOldOrMade,
+  IsOldOrShut,
+  IsSameOrMade,
+  IsSameOrShut,
+  IsShut,
+  IsWithOrWithout,
+  as_front,
+  with_group,
+};
 ghost use Rattle.log_groups.specs.Reads.{HasGroup, ReadsOnlyLog};
 ghost use Rattle.log_groups.specs.declared.fault.LogFault.TheVariants as faults;
-ghost use Rattle.std.specs.Prelude.{◌≡◌, ◌≢◌, ◌⊎◌, ◌+◌, ◌-◌, ◌*◌, ◌<◌, ◌≤◌, ◌^◌, ◌∷◌, ◌++◌, ℕ, [], IfNone, IfOk, IfSome, IsErrOf, IsOk, List as ListOf, OnErr, OnOk, drop, length, min, slice_index, take};
+ghost use Rattle.std.specs.Prelude.{
+  ◌≡◌,
+  ◌≢◌,
+  ◌⊎◌,
+  ◌+◌,
+  ◌-◌,
+  ◌*◌,
+  ◌<◌,
+  ◌≤◌,
+  ◌^◌,
+  ◌∷◌,
+  ◌++◌,
+  ℕ,
+  [],
+  IfNone,
+  IfOk,
+  IfSome,
+  IsErrOf,
+  IsOk,
+  List as ListOf,
+  OnErr,
+  OnOk,
+  drop,
+  length,
+  max,
+  min,
+  slice_index,
+  take,
+};
 
 use crate::buffer::{add_entry, end_of, move_down, seal_part};
 use crate::group::read_group;
@@ -90,6 +144,8 @@ impl Log {
     /// with the site. Takes no memory.
     pub fn shut<T: Site>(site: &mut T) -> Result<(), Failed>
         ensures shut { T.told site.old → OnOk result (IsShut (T.disk site.new)) }
+        ensures rest { T.told site.old → OnOk result (drop 1 ((T.disk site.new).contents 0) ≡ drop 1
+            ((T.disk site.old).contents 0)) }
         ensures cause { Counts (T.faults site.old) (T.faults site.new) result }
 
         // No other data set changes or is read, and nothing is sent.
@@ -122,9 +178,14 @@ impl Log {
         requires fits { FitsFront (as_front front.now) }
         ensures made { T.told site.old → OnOk result
             (IsAtRest (T.disk site.new) (as_front front.now) [] (first_gate (as_front front.now))) }
+
+        // It is the front and a closed gate; where the old log was longer, its bytes behind that gate stay there.
+        ensures text { T.told site.old → OnOk result ((T.disk site.new).contents 0 ≡ log_text (as_front front.now) []
+            ++ drop (first_gate (as_front front.now) + 1) ((T.disk site.old).contents 0)) }
         ensures cause { IsErrOf result faults.Failed → (T.faults site.old < T.faults site.new)
             ⊎ (T.faults site.new ≡ 2 ^ 64 - 1) }
         ensures later { T.faults site.old ≤ T.faults site.new }
+        ensures stayed { (IsErrOf result faults.Failed → ⊥) → T.faults site.new ≡ T.faults site.old }
         ensures never { (IsErrOf result faults.Foreign → ⊥)
             × ((place : ℕ) → IsErrOf result (faults.Damaged place) → ⊥) }
 
@@ -169,11 +230,14 @@ impl Log {
         ensures cause { IsErrOf result faults.Failed → (T.faults site.old < T.faults site.new)
             ⊎ (T.faults site.new ≡ 2 ^ 64 - 1) }
         ensures later { T.faults site.old ≤ T.faults site.new }
+        ensures stayed { (IsErrOf result faults.Failed → ⊥) → T.faults site.new ≡ T.faults site.old }
         ensures never { (place : ℕ) → IsErrOf result (faults.Damaged place) → ⊥ }
 
         // Nothing changes, and no more than the front is read.
-        ensures count { T.tells_reads site.new 0 → OnOk result
-            (T.bytes_read site.new 0 ≤ T.bytes_read site.old 0 + first_gate (as_front front.now)) }
+        ensures count { T.tells_reads site.new 0
+            → T.bytes_read site.new 0 ≤ T.bytes_read site.old 0 + first_gate (as_front front.now) }
+        ensures inside { T.told site.old → T.tells_reads site.new 0
+            → T.bytes_read site.new 0 ≤ T.bytes_read site.old 0 + length ((T.disk site.old).contents 0) }
         ensures stays { T.told site.old → Stays (T.disk site.old) (T.disk site.new) }
         ensures reads { ReadsOnlyLog (T.tells_reads site.old) (T.tells_reads site.new) (T.bytes_read site.old)
             (T.bytes_read site.new) }
@@ -209,6 +273,7 @@ impl Log {
         ensures cause { IsErrOf result faults.Failed → (T.faults site.old < T.faults site.new)
             ⊎ (T.faults site.new ≡ 2 ^ 64 - 1) }
         ensures later { T.faults site.old ≤ T.faults site.new }
+        ensures stayed { (IsErrOf result faults.Failed → ⊥) → T.faults site.new ≡ T.faults site.old }
         ensures never { IsErrOf result faults.Foreign → ⊥ }
 
         // Nothing changes. The group's bytes are read once, or one byte where there is none.
@@ -218,6 +283,16 @@ impl Log {
             group.next)) }
         ensures looked { T.tells_reads site.new 0 →
             IfOk result (λ found. IfNone found (T.bytes_read site.new 0 ≡ T.bytes_read site.old 0 + 1)) }
+
+        // Whatever the answer is, no more is read than the group that stands there, or the gate that isn't open; and
+        // no more than what stands there up to the log's end.
+        ensures most { (entries : ListOf EntryOf) (next : ℕ) → T.told site.old
+            → HasGroup ((T.disk site.old).contents 0) at entries next → T.tells_reads site.new 0
+            → T.bytes_read site.new 0 + at ≤ T.bytes_read site.old 0 + next }
+        ensures one { T.told site.old → slice_index ((T.disk site.old).contents 0) at ≢ 1 → T.tells_reads site.new 0
+            → T.bytes_read site.new 0 ≤ T.bytes_read site.old 0 + 1 }
+        ensures inside { T.told site.old → T.tells_reads site.new 0 → T.bytes_read site.new 0 + at
+            ≤ T.bytes_read site.old 0 + max (at + 1) (length ((T.disk site.old).contents 0)) }
         ensures stays { T.told site.old → Stays (T.disk site.old) (T.disk site.new) }
         ensures reads { ReadsOnlyLog (T.tells_reads site.old) (T.tells_reads site.new) (T.bytes_read site.old)
             (T.bytes_read site.new) }
@@ -350,6 +425,18 @@ impl Log {
             → T.told site.old → IsAtRest (T.disk site.old) front groups self.old.gate
             → Settles (T.disk site.new) 0 image
             → IsWithOrWithout front groups self.old.gate (take most self.old.unsealed) image }
+
+        // A log that ends with its last group has no gate. At every moment the bytes up to there are as they were, and
+        // so are those of each image that a further sync may make; at `Ok` its groups are there, and the new one.
+        ensures front { T.told site.old → IsDurable (T.disk site.old) 0
+            → self.old.gate ≤ length ((T.disk site.old).contents 0) → Through (T.disk site.old) (T.disk site.new)
+            (HasFrontOf ((T.disk site.old).contents 0) self.old.gate) }
+        ensures front_settles { (image : ListOf ℕ) → T.told site.old → IsDurable (T.disk site.old) 0
+            → self.old.gate ≤ length ((T.disk site.old).contents 0) → Settles (T.disk site.new) 0 image
+            → IsFrontOf ((T.disk site.old).contents 0) self.old.gate image }
+        ensures kept { (front : FrontOf) (groups : ListOf (ListOf EntryOf)) → T.told site.old
+            → IsKept (T.disk site.old) front groups self.old.gate → OnOk result
+            (IsKept (T.disk site.new) front (with_group groups (take most self.old.unsealed)) self.new.gate) }
     {
         if self.waiting == 0 {
             return Ok(0);

@@ -1,12 +1,40 @@
 //! Making a log: its gate is closed first, and opened last.
-ghost use Rattle.fp_model.specs.LogText.{FitsFront, first_gate};
+ghost use Rattle.fp_model.specs.LogText.{FitsFront, first_gate, log_text};
 ghost use Rattle.fp_site.specs.Disk.{Disk, Settles, Stays};
 ghost use Rattle.fp_site.specs.Moments.{OnlyOn, Through};
 ghost use Rattle.fp_site.specs.Site.{Counts};
-ghost use Rattle.log_groups.specs.Images.{IsAtRest, IsBeforeOrMade, IsBeforeOrShut, IsOldOrMade, IsOldOrShut, IsOpenGate, IsShut, IsShutGate, as_front};
+ghost use Rattle.log_groups.specs.Images.{
+  IsAtRest,
+  IsBeforeOrMade,
+  IsBeforeOrShut,
+  IsOldOrMade,
+  IsOldOrShut,
+  IsOpenGate,
+  IsShut,
+  IsShutGate,
+  as_front,
+};
 ghost use Rattle.log_groups.specs.Reads.{ReadsOnlyLog};
 ghost use Rattle.log_groups.specs.declared.fault.LogFault.TheVariants as faults;
-ghost use Rattle.std.specs.Prelude.{◌≡◌, ◌⊎◌, ◌+◌, ◌-◌, ◌<◌, ◌≤◌, ◌^◌, ℕ, [], IfOk, IsErrOf, List as ListOf, OnOk, true, false};
+ghost use Rattle.std.specs.Prelude.{
+  ◌≡◌,
+  ◌⊎◌,
+  ◌+◌,
+  ◌-◌,
+  ◌<◌,
+  ◌≤◌,
+  ◌^◌,
+  ◌++◌,
+  ℕ,
+  [],
+  IfOk,
+  IsErrOf,
+  List as ListOf,
+  OnOk,
+  drop,
+  true,
+  false,
+};
 
 use crate::gated::write_gated;
 use crate::{Front, LogFault};
@@ -38,6 +66,8 @@ fn is_shut<S: Site>(site: &mut S) -> Result<bool, Failed>
 // Closes the front's gate. A gate that is there and isn't open is not written again.
 pub(crate) fn shut<S: Site>(site: &mut S) -> Result<(), Failed>
     ensures shut { S.told site.old → OnOk result (IsShut (S.disk site.new)) }
+    ensures rest { S.told site.old → OnOk result (drop 1 ((S.disk site.new).contents 0) ≡ drop 1
+        ((S.disk site.old).contents 0)) }
     ensures cause { Counts (S.faults site.old) (S.faults site.new) result }
 
     // No other data set changes, and nothing is sent.
@@ -69,9 +99,15 @@ pub(crate) fn make<S: Site>(alloc: Global, site: &mut S, front: &Front) -> Resul
     requires { FitsFront (as_front front.now) }
     ensures made { S.told site.old → OnOk result (IsAtRest (S.disk site.new) (as_front front.now) []
         (first_gate (as_front front.now))) }
+
+    // The front and the gate, and behind them what stood there before.
+    ensures text { S.told site.old
+        → OnOk result ((S.disk site.new).contents 0 ≡ log_text (as_front front.now) [] ++ drop
+        (first_gate (as_front front.now) + 1) ((S.disk site.old).contents 0)) }
     ensures cause { IsErrOf result faults.Failed → (S.faults site.old < S.faults site.new)
         ⊎ (S.faults site.new ≡ 2 ^ 64 - 1) }
     ensures later { S.faults site.old ≤ S.faults site.new }
+    ensures stayed { (IsErrOf result faults.Failed → ⊥) → S.faults site.new ≡ S.faults site.old }
     ensures never { (IsErrOf result faults.Foreign → ⊥) × ((place : ℕ) → IsErrOf result (faults.Damaged place) → ⊥) }
 
     // Want of memory comes before the site is touched.

@@ -2,7 +2,24 @@
 ghost use Rattle.fp_site.specs.Disk.{Disk, Stays};
 ghost use Rattle.log_groups.specs.Reads.{ReadsOnlyLog};
 ghost use Rattle.log_groups.specs.declared.fault.LogFault.TheVariants as faults;
-ghost use Rattle.std.specs.Prelude.{◌≡◌, ◌≢◌, ◌⊎◌, ◌+◌, ◌-◌, ◌<◌, ◌≤◌, ◌^◌, ℕ, IfOk, IsErrOf, OnOk, length, take, true, false};
+ghost use Rattle.std.specs.Prelude.{
+  ◌≡◌,
+  ◌≢◌,
+  ◌⊎◌,
+  ◌+◌,
+  ◌-◌,
+  ◌<◌,
+  ◌≤◌,
+  ◌^◌,
+  ℕ,
+  IfOk,
+  IsErrOf,
+  OnOk,
+  length,
+  take,
+  true,
+  false,
+};
 
 use crate::LogFault;
 use crate::group::bytes_at;
@@ -22,11 +39,13 @@ pub(crate) fn begins_with<S: Site>(
     ensures cause { IsErrOf result faults.Failed → (S.faults site.old < S.faults site.new)
         ⊎ (S.faults site.new ≡ 2 ^ 64 - 1) }
     ensures later { S.faults site.old ≤ S.faults site.new }
+    ensures stayed { (IsErrOf result faults.Failed → ⊥) → S.faults site.new ≡ S.faults site.old }
     ensures never { (IsErrOf result faults.Foreign → ⊥) × ((place : ℕ) → IsErrOf result (faults.Damaged place) → ⊥) }
 
     // Nothing changes, and no more than so many bytes are read.
-    ensures count { S.tells_reads site.new 0 → OnOk result
-        (S.bytes_read site.new 0 ≤ S.bytes_read site.old 0 + length text.now) }
+    ensures count { S.tells_reads site.new 0 → S.bytes_read site.new 0 ≤ S.bytes_read site.old 0 + length text.now }
+    ensures inside { S.told site.old → S.tells_reads site.new 0
+        → S.bytes_read site.new 0 ≤ S.bytes_read site.old 0 + length ((S.disk site.old).contents 0) }
     ensures stays { S.told site.old → Stays (S.disk site.old) (S.disk site.new) }
     ensures reads { ReadsOnlyLog (S.tells_reads site.old) (S.tells_reads site.new) (S.bytes_read site.old)
         (S.bytes_read site.new) }

@@ -1,8 +1,10 @@
-use Rattle.std.proofs.Common.{◌≡◌, ◌≢◌, ◌∙◌, refl, sym, ap, subst, arith, rules}
+use Rattle.std.proofs.Common.{◌≡◌, ◌≢◌, ◌+◌, length, ◌∙◌, refl, sym, ap, subst, arith, rules}
 use Rattle.std.specs.Prelude.{slice_index}
 use Rattle.fp_model.specs.Groups.{entries_of}
 use Rattle.fp_restart.specs.Replayed.{IsFirstBadAt, IsFollowed, IsReplayed, IsTaken}
 use Rattle.fp_restart.specs.Restarts.{IsBadAt}
+use Rattle.log_groups.specs.Reads.{HasGroup}
+use Rattle.fp_restart.proofs.Groups.{read_at_most, read_inside}
 use Rattle.fp_restart.proofs.Looking.{Looks, looks_none, looks_on}
 use Rattle.fp_restart.proofs.Replays.{followed_more, followed_none}
 use Rattle.fp_restart.proofs.reading.replay.Given as given
@@ -24,6 +26,9 @@ loop-begun-init g c =
           (λ at. IsFollowed defs bytes (record { first = c.args.log.now.gate; at = at; count = 0 }) c.new-begun.result
           store store)
           (sym gate) (followed_none defs bytes c.args.log.now.gate c.new-begun.result store c.new-begun.ensures);
+      counted = refl;
+      only_log = λ set told. (told, λ other. refl);
+      read = λ told. omega (arith, gate);
       site = looks_none g.T.Site.told g.T.Site.disk g.T.Site.faults g.T.Site.holds g.T.Site.keeps c.args.site.now;
     }
 
@@ -129,6 +134,91 @@ loop-begun-preserved g c =
           c.loop-begun.store.msdbs c.take_group.new.store.msdbs so_far
           (subst (λ l. IsTaken defs l earlier c.loop-begun.at c.in-Some.taken.next c.in-Some.taken.count
           c.take_group.new.begun c.loop-begun.store.msdbs c.take_group.new.store.msdbs) same taken);
+      counted = c.in_ok-taken.ensures.stayed (λ is. cc) ∙ it.counted;
+      only_log = λ set told.
+          let here = call.only_log set told in
+          let before = it.only_log set here.0 in
+          (before.0, λ other. here.1 other ∙ before.1 other);
+      read = λ told.
+          let so_far = it.read (call.only_log 0 told).0 in
+          let here : g.T.Site.bytes_read c.take_group.new.site 0 + c.loop-begun.at ≡ g.T.Site.bytes_read
+          c.loop-begun.site 0 + c.in-Some.taken.next = rw c.in-Some.is at (c.in_ok-taken.ensures.count told) in
+          omega (arith, so_far, here);
       site = looks_on g.T.Site.told g.T.Site.disk g.T.Site.faults g.T.Site.holds g.T.Site.keeps g.met.T.Site.lawful _ _
           _ it.site call.later call.stays call.told call.holds call.keeps;
     }
+
+-- ---- faults, and what is read
+
+pub returns-in_err-taken-clause-stayed : goal.returns-in_err-taken-clause-stayed
+returns-in_err-taken-clause-stayed g c other = c.take_group.ensures.stayed (λ is. other (search rules)) ∙
+    c.loop-begun.invariant.counted
+
+pub returns-in_default-clause-stayed : goal.returns-in_default-clause-stayed
+returns-in_default-clause-stayed g c other = c.in_ok-taken.ensures.stayed (λ is. cc) ∙ c.loop-begun.invariant.counted
+
+pub returns-in_err-taken-clause-only_log : goal.returns-in_err-taken-clause-only_log
+returns-in_err-taken-clause-only_log g c set told =
+    let here = c.take_group.ensures.only_log set told in
+    let before = c.loop-begun.invariant.only_log set here.0 in
+    (before.0, λ other. here.1 other ∙ before.1 other)
+
+pub returns-in_default-clause-only_log : goal.returns-in_default-clause-only_log
+returns-in_default-clause-only_log g c set told =
+    let here = c.take_group.ensures.only_log set told in
+    let before = c.loop-begun.invariant.only_log set here.0 in
+    (before.0, λ other. here.1 other ∙ before.1 other)
+
+pub returns-in_err-taken-clause-read : goal.returns-in_err-taken-clause-read
+returns-in_err-taken-clause-read g c groups gate t whole told =
+    let it = c.loop-begun.invariant in
+    let call = c.take_group.ensures in
+    let t1 = it.site.told_still t in
+    let bytes = (g.T.Site.disk c.args.site.now).contents 0 in
+    let same = ap (λ f. f 0) (it.site.stays t).contents in
+    let so_far = (it.followed t).replayed in
+    read_at_most bytes c.args.log.now.gate c.loop-begun.at so_far.groups (g.T.Site.bytes_read c.args.site.now 0)
+    (g.T.Site.bytes_read c.loop-begun.site 0) (g.T.Site.bytes_read c.take_group.new.site 0) so_far.holds.holds
+    (it.read (call.only_log 0 told).0) gate groups whole
+    (λ entries next has. call.most entries next t1
+    (subst (λ l. HasGroup l c.loop-begun.at entries next) (sym same) has) told)
+    (λ closed. call.one t1 (λ is. closed (ap (λ l. slice_index l c.loop-begun.at) (sym same) ∙ is)) told)
+
+pub returns-in_err-taken-clause-once : goal.returns-in_err-taken-clause-once
+returns-in_err-taken-clause-once g c t told =
+    let it = c.loop-begun.invariant in
+    let call = c.take_group.ensures in
+    let bytes = (g.T.Site.disk c.args.site.now).contents 0 in
+    let same = ap (λ f. f 0) (it.site.stays t).contents in
+    let so_far = (it.followed t).replayed in
+    read_inside bytes c.args.log.now.gate c.loop-begun.at so_far.groups (g.T.Site.bytes_read c.args.site.now 0)
+    (g.T.Site.bytes_read c.loop-begun.site 0) (g.T.Site.bytes_read c.take_group.new.site 0) so_far.holds.holds
+    (it.read (call.only_log 0 told).0)
+    (let few = call.inside (it.site.told_still t) told in omega (arith, few, ap length same))
+
+pub returns-in_default-clause-read : goal.returns-in_default-clause-read
+returns-in_default-clause-read g c groups gate t whole told =
+    let it = c.loop-begun.invariant in
+    let call = c.take_group.ensures in
+    let t1 = it.site.told_still t in
+    let bytes = (g.T.Site.disk c.args.site.now).contents 0 in
+    let same = ap (λ f. f 0) (it.site.stays t).contents in
+    let so_far = (it.followed t).replayed in
+    read_at_most bytes c.args.log.now.gate c.loop-begun.at so_far.groups (g.T.Site.bytes_read c.args.site.now 0)
+    (g.T.Site.bytes_read c.loop-begun.site 0) (g.T.Site.bytes_read c.take_group.new.site 0) so_far.holds.holds
+    (it.read (call.only_log 0 told).0) gate groups whole
+    (λ entries next has. call.most entries next t1
+    (subst (λ l. HasGroup l c.loop-begun.at entries next) (sym same) has) told)
+    (λ closed. call.one t1 (λ is. closed (ap (λ l. slice_index l c.loop-begun.at) (sym same) ∙ is)) told)
+
+pub returns-in_default-clause-once : goal.returns-in_default-clause-once
+returns-in_default-clause-once g c t told =
+    let it = c.loop-begun.invariant in
+    let call = c.take_group.ensures in
+    let bytes = (g.T.Site.disk c.args.site.now).contents 0 in
+    let same = ap (λ f. f 0) (it.site.stays t).contents in
+    let so_far = (it.followed t).replayed in
+    read_inside bytes c.args.log.now.gate c.loop-begun.at so_far.groups (g.T.Site.bytes_read c.args.site.now 0)
+    (g.T.Site.bytes_read c.loop-begun.site 0) (g.T.Site.bytes_read c.take_group.new.site 0) so_far.holds.holds
+    (it.read (call.only_log 0 told).0)
+    (let few = call.inside (it.site.told_still t) told in omega (arith, few, ap length same))

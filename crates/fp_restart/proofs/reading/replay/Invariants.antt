@@ -1,4 +1,5 @@
-use Rattle.std.proofs.Common.{◌≡◌, ◌-◌, ◌^◌, ◌≤◌}
+use Rattle.std.proofs.Common.{◌≡◌, ◌+◌, ◌-◌, ◌^◌, ◌≤◌}
+use Rattle.log_groups.specs.Reads.{ReadsOnlyLog}
 use Rattle.msdb_store.specs.Store.{IsOf}
 use Rattle.fp_restart.specs.Replayed.{IsFollowed}
 use Rattle.fp_restart.proofs.Looking.{Looks}
@@ -13,6 +14,11 @@ invariant-loop-begun g l = record {
   log : l.log ≡ l.initial.log;
   followed : g.T.Site.told l.initial.site → IsFollowed l.fn.defs ((g.T.Site.disk l.initial.site).contents 0)
       (record { first = l.initial.log.gate; at = l.at; count = l.count }) l.begun l.initial.store.msdbs l.store.msdbs;
+  counted : g.T.Site.faults l.site ≡ g.T.Site.faults l.initial.site;
+  only_log : ReadsOnlyLog (g.T.Site.tells_reads l.initial.site) (g.T.Site.tells_reads l.site)
+      (g.T.Site.bytes_read l.initial.site) (g.T.Site.bytes_read l.site);
+  read : g.T.Site.tells_reads l.site 0 → g.T.Site.bytes_read l.site 0 + l.initial.log.gate ≡ g.T.Site.bytes_read
+      l.initial.site 0 + l.at;
   site : Looks g.T.Site.told g.T.Site.disk g.T.Site.faults g.T.Site.holds g.T.Site.keeps l.initial.site l.site;
 }
 

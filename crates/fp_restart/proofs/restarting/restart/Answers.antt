@@ -1,8 +1,8 @@
-use Rattle.std.proofs.Common.{◌≡◌, ◌≢◌, [], sym, ap, subst}
+use Rattle.std.proofs.Common.{◌≡◌, ◌≢◌, ◌∙◌, [], sym, ap, subst}
 use Rattle.std.specs.Prelude.{slice_index}
 use Rattle.fp_model.specs.LogText.{StartsWithFront, first_gate}
 use Rattle.fp_model.specs.State.{start}
-use Rattle.fp_site.proofs.Images.{durable_stays}
+use Rattle.fp_site.proofs.Images.{durable_stays, settles_stays, settles_synced}
 use Rattle.fp_site.proofs.Runs.{now_one, of_call, stays_on}
 use Rattle.fp_site.specs.Disk.{Syncs}
 use Rattle.fp_restart.specs.Replayed.{IsFirstBadAt, IsReplayed, ReadsBack}
@@ -11,7 +11,7 @@ use Rattle.log_groups.specs.Kept.{IsSound}
 use Rattle.log_groups.specs.Images.{as_front}
 use Rattle.msdb_store.specs.Store.{IsOf}
 use Rattle.fp_restart.proofs.Replays.{reads_back, sound_begins, sound_not_bad, sound_stands}
-use Rattle.fp_restart.proofs.Results.{as_each, damage_or, of_four, same_synced}
+use Rattle.fp_restart.proofs.Results.{as_each, damage_or, narrower, of_four, same_synced}
 use Rattle.fp_restart.proofs.restarting.restart.Goals as goal
 
 pub returns-clause-sound : goal.returns-clause-sound
@@ -114,3 +114,29 @@ returns-clause-reads g c t =
     (ap (λ f. f 0) stays.contents) begins unsealed replayed closed)
     (c.read_parts.ensures.replayed t1) (c.read_parts.ensures.closed t1) c.read_parts.ensures.unsealed
     (as_each c.read_parts.result (StartsWithFront bytes front) (c.read_parts.ensures.front t1))
+
+-- ---- what a further sync may make
+
+pub returns-in_err-sync-clause-settles : goal.returns-in_err-sync-clause-settles
+returns-in_err-sync-clause-settles g c image t settles =
+    settles_synced _ _ 0 image (g.met.T.Site.lawful c.args.site.now t)
+    (g.met.T.Site.lawful c.sync.new.self (c.sync.ensures.told t)) (c.sync.ensures.crash t) settles
+
+pub returns-in_err-sync-clause-begins : goal.returns-in_err-sync-clause-begins
+returns-in_err-sync-clause-begins g c scripts earlier t safe =
+    narrower c.args.defs.now scripts (as_front c.args.front.now) _ _ earlier (c.sync.ensures.same t)
+    (λ image settles. returns-in_err-sync-clause-settles g c image t settles) safe
+
+pub returns-clause-settles : goal.returns-clause-settles
+returns-clause-settles g c image t settles =
+    let t1 = c.sync.ensures.told t in
+    let law1 = g.met.T.Site.lawful c.sync.new.self t1 in
+    let law2 = g.met.T.Site.lawful c.read_parts.new.site (c.read_parts.ensures.told t1) in
+    settles_synced _ _ 0 image (g.met.T.Site.lawful c.args.site.now t) law1 (c.sync.ensures.crash t)
+    (settles_stays _ _ 0 image law1 law2 (c.read_parts.ensures.stays t1) settles)
+
+pub returns-clause-begins : goal.returns-clause-begins
+returns-clause-begins g c scripts earlier t safe =
+    narrower c.args.defs.now scripts (as_front c.args.front.now) _ _ earlier
+    (ap (λ f. f 0) (c.read_parts.ensures.stays (c.sync.ensures.told t)).contents ∙ c.sync.ensures.same t)
+    (λ image settles. returns-clause-settles g c image t settles) safe

@@ -1,10 +1,12 @@
 use Rattle.std.proofs.Common.{◌≡◌, [], ◌∷◌, ◌++◌, length, subst, ◌∙◌, ap, arith}
 use Rattle.std.proofs.lemmas.List.{length-append}
 use Rattle.fp_model.specs.LogText.{front_rest}
+use Rattle.fp_site.specs.Disk.{written}
 use Rattle.fp_site.specs.Moments.{Through}
 use Rattle.fp_site.proofs.Frames.{only_joined}
 use Rattle.log_groups.specs.Images.{IsGated, IsGatedImage, IsOpened, as_front}
 use Rattle.log_groups.proofs.Shutting.{length-front, once_made, made_image, made_log}
+use Rattle.log_groups.proofs.FrontsKept.{new_text}
 use Rattle.log_groups.proofs.making.make.Goals as goal
 
 -- the front fits in a data set
@@ -98,4 +100,16 @@ returns-clause-made g c t =
     let is : c.as_slice.result.now ≡ front_rest front ++ 0 ∷ [] =
     c.as_slice.ensures ∙ c.in_ok-push.ensures.ok ∙ ap (λ l. l ++ 0 ∷ []) c.in_ok-bytes.ensures in
     made_log front (a.contents 0) b (subst (λ l. IsOpened (a.contents 0) 0 l b) is
-    (c.in_ok-write_gated.ensures.opened t1 shut.durable shut.gate.some))
+    (c.in_ok-write_gated.ensures.opened t1 (omega arith)))
+
+pub returns-clause-text : goal.returns-clause-text
+returns-clause-text g c t =
+    let t1 = c.shut.ensures.told t in
+    let front = as_front c.args.front.now in
+    let h = g.S.Site.disk c.args.site.now in
+    let a = g.S.Site.disk c.shut.new.site in
+    let b = g.S.Site.disk c.write_gated.new.site in
+    let is : c.as_slice.result.now ≡ front_rest front ++ 0 ∷ [] =
+    c.as_slice.ensures ∙ c.in_ok-push.ensures.ok ∙ ap (λ l. l ++ 0 ∷ []) c.in_ok-bytes.ensures in
+    new_text front (h.contents 0) (a.contents 0) (b.contents 0) (c.in_ok-shut.ensures.rest t)
+    (c.in_ok-write_gated.ensures.wrote t1 ∙ ap (λ l. written (written (a.contents 0) 1 l) 0 (1 ∷ [])) is)
