@@ -1,4 +1,4 @@
 pub mod NameLemmas
 pub mod QueueLemmas
-mod Ascending
+pub mod Ascending
 mod LastLemmas

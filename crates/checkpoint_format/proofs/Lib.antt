@@ -1,0 +1,4 @@
+pub mod Behind
+pub mod Databases
+pub mod Numbers
+pub mod Order

@@ -1,0 +1,43 @@
+-- A checkpoint that is written in steps, and what its data set is at every moment of it.
+use Rattle.std.specs.Prelude.{◌≡◌, ◌⊎◌, ⊤, ℕ, ◌+◌, ◌-◌, ◌<◌, ◌≤◌, List, [], ◌∷◌, ◌++◌, length, take, Option, Some, None}
+use Rattle.fp_site.specs.Disk.{Disk, IsDurable, Settles}
+use Rattle.gated_write.specs.Gates.{IsClosed, IsReady, IsWriting}
+use Rattle.msdb_checkpoint.specs.declared.stages.Stage.{Stage}
+use Rattle.msdb_checkpoint.specs.declared.stages.Stage.TheVariants.{Begun, Written, Synced}
+use Rattle.msdb_checkpoint.specs.declared.stages.UnderWay.{UnderWay}
+
+-- The data set of the newest sure checkpoint, 2 where there is none; its number, 0 where there is none; and the one
+-- that is under way, if one is.
+pub record Turn : Type 0 where
+  pub set : ℕ
+  pub number : ℕ
+  pub under_way : Option UnderWay
+
+-- the other one of data sets 1 and 2
+abbrev pub other_set : ℕ → ℕ
+other_set set = 3 - set
+
+-- A data set stands at a stage of a checkpoint with these bytes: over some contents whose gate was closed, so many of
+-- them are written, or all are and every crash leaves them.
+abbrev pub IsAt : List ℕ → ℕ → Disk → Stage → Type 0
+IsAt body set disk Begun = ⊤
+IsAt body set disk (Written count) =
+    (old : List ℕ) × IsClosed 0 old × (count ≤ length body) × IsWriting old 0 (take count body) set disk
+IsAt body set disk Synced = (old : List ℕ) × IsClosed 0 old × IsReady old 0 body set disk
+
+-- a data set with an open checkpoint of these bytes, and every crash leaves it so
+pub record IsSure (body : List ℕ) (set : ℕ) (disk : Disk) : Type 0 where
+  pub durable : IsDurable disk set
+  pub rest : List ℕ
+  pub is : disk.contents set ≡ 1 ∷ (body ++ rest)
+
+-- what the next step finds: a further stage, or a checkpoint that is sure
+abbrev pub IsNext : List ℕ → ℕ → Disk → Option Stage → Type 0
+IsNext body set disk None = IsSure body set disk
+IsNext body set disk (Some stage) = IsAt body set disk stage
+
+-- An image of the data set that is written: as a sync might have left it before, or with its gate closed, or with the
+-- checkpoint open and whole.
+abbrev pub IsOldClosedOrWhole : Disk → ℕ → List ℕ → List ℕ → Type 0
+IsOldClosedOrWhole start set body image =
+    Settles start set image ⊎ (IsClosed 0 image ⊎ ((rest : List ℕ) × (image ≡ 1 ∷ (body ++ rest))))
