@@ -1,12 +1,15 @@
 -- What a gated write leaves, as a checkpoint that is old, closed or whole.
-use Rattle.std.proofs.Common.{◌≡◌, ◌⊎◌, inl, inr, ℕ, ◌+◌, ◌-◌, ◌<◌, ◌≤◌, List, [], ◌∷◌, ◌++◌, length, take, drop, refl, sym, ◌∙◌, ap, subst, arith}
+use Rattle.std.proofs.Common.{◌≡◌, ◌⊎◌, inl, inr, ℕ, ◌+◌, ◌-◌, ◌<◌, ◌≤◌, List, [], ◌∷◌, ◌++◌, length, take, drop, Option, Some, None, refl, sym, ◌∙◌, ap, subst, arith}
 use Rattle.std.specs.Prelude.{slice_index}
 use Rattle.std.proofs.lemmas.Bool.{cases_eq}
 use Rattle.std.proofs.lemmas.List.{drop-take, take-append-drop, take-take, take_all}
 use Rattle.fp_site.specs.Disk.{Disk}
 use Rattle.gated_write.specs.Gates.{IsClosed, IsOpened, IsShut, IsStaged, IsUnopened, IsWriting}
 use Rattle.gated_write.proofs.Bodies.{begins}
-use Rattle.msdb_checkpoint.specs.Steps.{IsAt, IsOldClosedOrWhole, IsSure}
+use Rattle.fp_site.specs.Moments.{Through}
+use Rattle.msdb_checkpoint.specs.Steps.{IsAt, IsOldClosedOrWhole, IsSure, IsUnderWay, StandsOn, Turn, other_set}
+use Rattle.msdb_checkpoint.specs.declared.stages.UnderWay.{UnderWay}
+use Rattle.log_format.proofs.Fields.{some_is}
 use Rattle.msdb_checkpoint.specs.declared.stages.Stage.TheVariants.{Written}
 
 -- where the gate was closed it stays so until it is opened
@@ -57,3 +60,40 @@ whole_body old body set disk count le writing = subst (λ b. IsWriting old 0 b s
 
 pub sure_now : (old body : List ℕ) (set : ℕ) (disk : Disk) → IsOpened old 0 body set disk → IsSure body set disk
 sure_now old body set disk opened = record { durable = opened.durable; rest = opened.rest; is = opened.behind }
+
+-- ---- in turn
+
+-- what is under way stands at its stage
+pub stands_at : (set number : ℕ) (o : Option UnderWay) (turn : Turn) (disk : Disk) (w : UnderWay)
+    → record { set = set; number = number; under_way = o } ≡ turn → o ≡ Some w → StandsOn turn disk
+    → IsAt w.body (other_set set) disk w.stage
+stands_at set number o turn disk w view is stands = subst (λ p. IsUnderWay (other_set set) disk p) is
+    (subst (λ t. StandsOn t disk) (sym view) stands)
+
+-- and is the same by the view and by the fields
+pub same_body : (set number : ℕ) (o : Option UnderWay) (turn : Turn) (u w : UnderWay)
+    → record { set = set; number = number; under_way = o } ≡ turn → o ≡ Some w → turn.under_way ≡ Some u
+    → w.body ≡ u.body
+same_body set number o turn u w view is was =
+    ap (λ (v : UnderWay). v.body) (some_is w u (sym is ∙ ap (λ (t : Turn). t.under_way) view ∙ was))
+
+pub some_is_not_none : {A : Type 0} (x : A) → None ≡ Some x → ⊥
+some_is_not_none x e = cc
+
+pub moved : (d new : Disk) (set turned : ℕ) (body given : List ℕ) → set ≡ turned → body ≡ given
+    → Through d new (λ s. IsOldClosedOrWhole d (other_set set) body (s.images (other_set set)))
+    → Through d new (λ s. IsOldClosedOrWhole d (other_set turned) given (s.images (other_set turned)))
+moved d new set turned body given of_set of_body run =
+    subst (λ k. Through d new (λ s. IsOldClosedOrWhole d (other_set k) given (s.images (other_set k)))) of_set
+    (subst (λ b. Through d new (λ s. IsOldClosedOrWhole d (other_set set) b (s.images (other_set set)))) of_body run)
+
+pub moved_image : (d : Disk) (set turned : ℕ) (body given image : List ℕ) → set ≡ turned → body ≡ given
+    → IsOldClosedOrWhole d (other_set set) body image → IsOldClosedOrWhole d (other_set turned) given image
+moved_image d set turned body given image of_set of_body is =
+    subst (λ k. IsOldClosedOrWhole d (other_set k) given image) of_set
+    (subst (λ b. IsOldClosedOrWhole d (other_set set) b image) of_body is)
+
+-- the same, of the body as a slice
+pub at_slice : (w : UnderWay) (body : List ℕ) (set : ℕ) (disk : Disk) → body ≡ w.body → IsAt w.body set disk w.stage
+    → IsAt body set disk w.stage
+at_slice w body set disk is at = subst (λ b. IsAt b set disk w.stage) (sym is) at

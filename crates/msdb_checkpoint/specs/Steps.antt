@@ -1,5 +1,5 @@
 -- A checkpoint that is written in steps, and what its data set is at every moment of it.
-use Rattle.std.specs.Prelude.{◌≡◌, ◌⊎◌, ⊤, ℕ, ◌+◌, ◌-◌, ◌<◌, ◌≤◌, List, [], ◌∷◌, ◌++◌, length, take, Option, Some, None}
+use Rattle.std.specs.Prelude.{◌≡◌, ◌⊎◌, ⊤, ℕ, ◌+◌, ◌-◌, ◌^◌, ◌<◌, ◌≤◌, List, [], ◌∷◌, ◌++◌, length, take, Option, Some, None}
 use Rattle.fp_site.specs.Disk.{Disk, IsDurable, Settles}
 use Rattle.gated_write.specs.Gates.{IsClosed, IsReady, IsWriting}
 use Rattle.msdb_checkpoint.specs.declared.stages.Stage.{Stage}
@@ -41,3 +41,29 @@ IsNext body set disk (Some stage) = IsAt body set disk stage
 abbrev pub IsOldClosedOrWhole : Disk → ℕ → List ℕ → List ℕ → Type 0
 IsOldClosedOrWhole start set body image =
     Settles start set image ⊎ (IsClosed 0 image ⊎ ((rest : List ℕ) × (image ≡ 1 ∷ (body ++ rest))))
+
+-- ---- the two data sets in turn
+
+-- what is under way stands in the data set that hasn't the newest sure one
+abbrev pub IsUnderWay : ℕ → Disk → Option UnderWay → Type 0
+IsUnderWay set disk None = ⊤
+IsUnderWay set disk (Some u) = IsAt u.body set disk u.stage
+
+abbrev pub StandsOn : Turn → Disk → Type 0
+StandsOn turn disk = IsUnderWay (other_set turn.set) disk turn.under_way
+
+-- what is under way, but for its stage
+abbrev pub IsSame : UnderWay → UnderWay → Type 0
+IsSame u v = (u.number ≡ v.number) × (u.body ≡ v.body)
+
+-- the checkpoint that was under way is the newest sure one now
+pub record IsSureNow (old new : Turn) (disk : Disk) : Type 0 where
+  pub u : UnderWay
+  pub was : old.under_way ≡ Some u
+  pub sure : IsSure u.body (other_set old.set) disk
+  pub turn : new ≡ record { set = other_set old.set; number = u.number; under_way = None }
+
+-- bytes that fit a data set, behind their gate
+abbrev pub FitsUnderWay : Option UnderWay → Type 0
+FitsUnderWay None = ⊤
+FitsUnderWay (Some u) = length u.body + 1 ≤ 2 ^ 62

@@ -13,6 +13,11 @@
 //! A step that fails gives the checkpoint up, as `forget` does; the next one goes to the same data set.
 #![tactic(auto)]
 
+mod checkpoints;
+mod fault;
 mod stages;
 
+pub use checkpoint_format::Loaded;
+pub use checkpoints::Checkpoints;
+pub use fault::CkptFault;
 pub use stages::{Stage, UnderWay};

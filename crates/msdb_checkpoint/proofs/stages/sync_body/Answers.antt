@@ -16,7 +16,7 @@ returns-clause-next g c t at = (
   at.0,
   at.1,
   c.in_ok-finish.ensures.ready at.0 0 c.args.body.now t
-      (whole_body at.0 c.args.body.now c.args.set _ c.args.count c.requires at.3),
+      (whole_body at.0 c.args.body.now c.args.set _ c.args.count c.requires.all at.3),
 )
 
 pub returns-clause-crash : goal.returns-clause-crash

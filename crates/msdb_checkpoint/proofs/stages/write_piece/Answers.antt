@@ -19,7 +19,7 @@ returns-clause-next g c t at = (
   at.0,
   at.1,
   omega (arith, c.min-end.ensures),
-  subst (λ b. IsWriting at.0 0 b c.args.set _)
+  subst (λ b. IsWriting at.0 0 b c.args.set (g.S.Site.disk c.put.new.site))
       (sym (up_to c.args.body.now c.args.count c.min-end.result (omega (arith, c.min-end.ensures, c.requires.more))))
       (c.in_ok-put.ensures.wrote at.0 0 (take c.args.count c.args.body.now) t at.3
       (omega (arith, length-take c.args.count c.args.body.now, c.requires.more))),
