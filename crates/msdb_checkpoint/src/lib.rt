@@ -15,6 +15,7 @@
 
 mod checkpoints;
 mod fault;
+mod newest;
 mod stages;
 
 pub use checkpoint_format::Loaded;
