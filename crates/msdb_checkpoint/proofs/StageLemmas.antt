@@ -2,15 +2,16 @@
 use Rattle.std.proofs.Common.{◌≡◌, ◌⊎◌, inl, inr, ℕ, ◌+◌, ◌-◌, ◌<◌, ◌≤◌, List, [], ◌∷◌, ◌++◌, length, take, drop, Option, Some, None, refl, sym, ◌∙◌, ap, subst, arith}
 use Rattle.std.specs.Prelude.{slice_index}
 use Rattle.std.proofs.lemmas.Bool.{cases_eq}
-use Rattle.std.proofs.lemmas.List.{drop-take, take-append-drop, take-take, take_all}
-use Rattle.fp_site.specs.Disk.{Disk}
+use Rattle.std.proofs.lemmas.List.{drop-take, take-append-drop, take-take, take_all, length-append, length-take}
+use Rattle.fp_site.specs.Disk.{Disk, Settles}
 use Rattle.gated_write.specs.Gates.{IsClosed, IsOpened, IsShut, IsStaged, IsUnopened, IsWriting}
 use Rattle.gated_write.proofs.Bodies.{begins}
 use Rattle.fp_site.specs.Moments.{Through}
 use Rattle.msdb_checkpoint.specs.Steps.{IsAt, IsOldClosedOrWhole, IsSure, IsUnderWay, StandsOn, Turn, other_set}
 use Rattle.msdb_checkpoint.specs.declared.stages.UnderWay.{UnderWay}
 use Rattle.log_format.proofs.Fields.{some_is}
-use Rattle.msdb_checkpoint.specs.declared.stages.Stage.TheVariants.{Written}
+use Rattle.msdb_checkpoint.specs.declared.stages.Stage.{Stage}
+use Rattle.msdb_checkpoint.specs.declared.stages.Stage.TheVariants.{Begun, Written, Synced}
 
 -- where the gate was closed it stays so until it is opened
 pub closed_unopened : (old image : List ℕ) → IsClosed 0 old → IsUnopened old 0 image → IsClosed 0 image
@@ -97,3 +98,21 @@ moved_image d set turned body given image of_set of_body is =
 pub at_slice : (w : UnderWay) (body : List ℕ) (set : ℕ) (disk : Disk) → body ≡ w.body → IsAt w.body set disk w.stage
     → IsAt body set disk w.stage
 at_slice w body set disk is at = subst (λ b. IsAt b set disk w.stage) (sym is) at
+
+-- at each stage the data set has a byte
+behind_some : (old body rest c : List ℕ) → 0 < length old → c ≡ take 1 old ++ (body ++ rest) → 0 < length c
+behind_some old body rest c some is =
+    omega (arith, some, ap length is, length-append (take 1 old) (body ++ rest), length-take 1 old)
+
+pub at_some : (body : List ℕ) (set : ℕ) (disk : Disk) (stage : Stage) → IsAt body set disk stage
+    → 0 < length (disk.contents set)
+at_some body set disk Begun at = at
+at_some body set disk (Written count) at = behind_some at.0 (take count body) at.3.rest _ at.3.stands at.3.is
+at_some body set disk Synced at = behind_some at.0 body at.2.rest _ at.2.stands at.2.is
+
+-- one step and then others
+pub and_then : (d mid : Disk) (set : ℕ) (body image : List ℕ)
+    → ((i : List ℕ) → Settles mid set i → IsOldClosedOrWhole d set body i) → IsOldClosedOrWhole mid set body image
+    → IsOldClosedOrWhole d set body image
+and_then d mid set body image before (inl settles) = before image settles
+and_then d mid set body image before (inr other) = inr other

@@ -1,5 +1,5 @@
 -- A checkpoint that is written in steps, and what its data set is at every moment of it.
-use Rattle.std.specs.Prelude.{◌≡◌, ◌⊎◌, ⊤, ℕ, ◌+◌, ◌-◌, ◌^◌, ◌<◌, ◌≤◌, List, [], ◌∷◌, ◌++◌, length, take, Option, Some, None}
+use Rattle.std.specs.Prelude.{◌≡◌, ◌⊎◌, ⊤, ℕ, ◌+◌, ◌-◌, ◌/◌, ◌^◌, ◌<◌, ◌≤◌, List, [], ◌∷◌, ◌++◌, length, take, Option, Some, None}
 use Rattle.fp_site.specs.Disk.{Disk, IsDurable, Settles}
 use Rattle.gated_write.specs.Gates.{IsClosed, IsReady, IsWriting}
 use Rattle.msdb_checkpoint.specs.declared.stages.Stage.{Stage}
@@ -17,13 +17,28 @@ pub record Turn : Type 0 where
 abbrev pub other_set : ℕ → ℕ
 other_set set = 3 - set
 
--- A data set stands at a stage of a checkpoint with these bytes: over some contents whose gate was closed, so many of
--- them are written, or all are and every crash leaves them.
+-- A data set stands at a stage of a checkpoint with these bytes: it has a byte; or over some contents whose gate was
+-- closed, so many of them are written; or all are, and every crash leaves them.
 abbrev pub IsAt : List ℕ → ℕ → Disk → Stage → Type 0
-IsAt body set disk Begun = ⊤
+IsAt body set disk Begun = 0 < length (disk.contents set)
 IsAt body set disk (Written count) =
     (old : List ℕ) × IsClosed 0 old × (count ≤ length body) × IsWriting old 0 (take count body) set disk
 IsAt body set disk Synced = (old : List ℕ) × IsClosed 0 old × IsReady old 0 body set disk
+
+-- how many pieces so many bytes have
+abbrev pub pieces : ℕ → ℕ
+pieces count = (count + 65535) / 65536
+
+-- the steps that are left at a stage: closing the gate, the pieces, a sync, opening the gate
+abbrev pub steps_left : List ℕ → Stage → ℕ
+steps_left body Begun = pieces (length body) + 3
+steps_left body (Written count) = pieces (length body - count) + 2
+steps_left body Synced = 1
+
+-- none where it is sure
+abbrev pub left_behind : List ℕ → Option Stage → ℕ
+left_behind body None = 0
+left_behind body (Some stage) = steps_left body stage
 
 -- a data set with an open checkpoint of these bytes, and every crash leaves it so
 pub record IsSure (body : List ℕ) (set : ℕ) (disk : Disk) : Type 0 where
@@ -52,9 +67,10 @@ IsUnderWay set disk (Some u) = IsAt u.body set disk u.stage
 abbrev pub StandsOn : Turn → Disk → Type 0
 StandsOn turn disk = IsUnderWay (other_set turn.set) disk turn.under_way
 
--- what is under way, but for its stage
-abbrev pub IsSame : UnderWay → UnderWay → Type 0
-IsSame u v = (u.number ≡ v.number) × (u.body ≡ v.body)
+-- the steps that are left of what is under way
+abbrev pub turns_left : Option UnderWay → ℕ
+turns_left None = 0
+turns_left (Some u) = steps_left u.body u.stage
 
 -- the checkpoint that was under way is the newest sure one now
 pub record IsSureNow (old new : Turn) (disk : Disk) : Type 0 where

@@ -6,16 +6,16 @@ ghost use Rattle.fp_site.specs.Disk.{Disk, IsDurable, Settles};
 ghost use Rattle.fp_site.specs.Moments.{OnlyOn, Through};
 ghost use Rattle.fp_site.specs.Site.{Counts};
 ghost use Rattle.gated_write.specs.Gates.{ReadsOnly};
-ghost use Rattle.msdb_checkpoint.specs.Steps.{IsOldClosedOrWhole, IsSureNow, StandsOn, Turn, other_set};
+ghost use Rattle.msdb_checkpoint.specs.Steps.{IsOldClosedOrWhole, IsSureNow, StandsOn, Turn, other_set, turns_left};
 ghost use Rattle.msdb_checkpoint.specs.declared.fault.CkptFault.TheVariants as faults;
 ghost use Rattle.msdb_checkpoint.specs.declared.stages.Stage.TheVariants as stages;
 ghost use Rattle.msdb_checkpoint.specs.declared.stages.UnderWay.{UnderWay as UnderWayOf};
 ghost use Rattle.msdb_store.specs.Store.{IsOf};
 ghost use Rattle.std.specs.List.{AllByRecursion};
 ghost use Rattle.std.specs.Option.{option_copied, option_map_or};
-ghost use Rattle.std.specs.Prelude.{◌≡◌, ◌⊎◌, ◌+◌, ◌<◌, ◌≤◌, ◌^◌, ℕ, None, Some, IfOk, IsErrOf, List as ListOf, OnErr, OnOk, false, length, true};
+ghost use Rattle.std.specs.Prelude.{◌≡◌, ◌⊎◌, ◌+◌, ◌-◌, ◌<◌, ◌≤◌, ◌^◌, ℕ, None, Some, IfOk, IsErrOf, List as ListOf, OnErr, OnOk, false, length, true};
 
-use crate::stages::{Stage, UnderWay, advance};
+use crate::stages::{Stage, UnderWay, advance, run};
 use crate::CkptFault;
 use balancing::Lasts;
 use checkpoint_format::{Loaded, Place, body};
@@ -146,6 +146,8 @@ impl Checkpoints {
             → IfOk result (λ sure. sure ≡ true → IsSureNow self.old self.new (S.disk site.new)) }
         ensures set { IfOk result (λ sure. sure ≡ false → (self.new.set ≡ self.old.set)
             × (self.new.number ≡ self.old.number)) }
+        // The steps that are left are fewer by one.
+        ensures fewer { IfOk result (λ _. turns_left self.new.under_way ≡ turns_left self.old.under_way - 1) }
         ensures failed { OnErr result (self.new
             ≡ record { set = self.old.set; number = self.old.number; under_way = None }) }
         ensures cause { Counts (S.faults site.old) (S.faults site.new) result }
@@ -166,15 +168,13 @@ impl Checkpoints {
 
         // and the other data set is as a sync might have left it, or closed, or has the new one whole.
         ensures crash { (u : UnderWayOf) → S.told site.old → self.old.under_way ≡ Some u
-            → StandsOn self.old (S.disk site.old)
-            → 0 < length ((S.disk site.old).contents (other_set self.old.set)) →
+            → StandsOn self.old (S.disk site.old) →
             Through (S.disk site.old) (S.disk site.new) (λ s. IsOldClosedOrWhole (S.disk site.old)
             (other_set self.old.set) u.body (s.images (other_set self.old.set))) }
 
         // So does each image that a further sync may make of what a crash may leave now.
         ensures settles { (u : UnderWayOf) (image : ListOf ℕ) → S.told site.old → self.old.under_way ≡ Some u
             → StandsOn self.old (S.disk site.old)
-            → 0 < length ((S.disk site.old).contents (other_set self.old.set))
             → Settles (S.disk site.new) (other_set self.old.set) image
             → IsOldClosedOrWhole (S.disk site.old) (other_set self.old.set) u.body image }
     {
@@ -194,5 +194,81 @@ impl Checkpoints {
                 Ok(true)
             }
         }
+    }
+
+    /// Does all steps that are left of what is under way, which is the newest sure checkpoint then. Where none is under
+    /// way it does nothing. After a fault none is. It takes no memory, and gives only `Failed`.
+    pub fn finish<S: Site>(&mut self, site: &mut S) -> Result<(), CkptFault>
+        ensures sure { (u : UnderWayOf) → S.told site.old → StandsOn self.old (S.disk site.old)
+            → self.old.under_way ≡ Some u → OnOk result (IsSureNow self.old self.new (S.disk site.new)) }
+        ensures failed { OnErr result (self.new
+            ≡ record { set = self.old.set; number = self.old.number; under_way = None }) }
+        ensures cause { Counts (S.faults site.old) (S.faults site.new) result }
+        ensures never { (IsErrOf result faults.Memory → ⊥) × ((set : ℕ) → IsErrOf result (faults.Damaged set) → ⊥) }
+
+        // No other data set changes, nothing is sent, and no other is read.
+        ensures only { S.told site.old → OnlyOn (other_set self.old.set) (S.disk site.old) (S.disk site.new) }
+        ensures reads { ReadsOnly (other_set self.old.set) (S.tells_reads site.old) (S.tells_reads site.new)
+            (S.bytes_read site.old) (S.bytes_read site.new) }
+        ensures told { S.told site.old → S.told site.new }
+        ensures holds { S.holds site.new ≡ S.holds site.old }
+        ensures keeps { (first : S) → S.keeps first site.old → S.keeps first site.new }
+
+        // At every moment the newest sure one is as it was,
+        ensures newest { S.told site.old → IsDurable (S.disk site.old) self.old.set →
+            Through (S.disk site.old) (S.disk site.new)
+            (λ s. s.images self.old.set ≡ (S.disk site.old).contents self.old.set) }
+
+        // and the other data set is as a sync might have left it, or closed, or has the new one whole.
+        ensures crash { (u : UnderWayOf) → S.told site.old → self.old.under_way ≡ Some u
+            → StandsOn self.old (S.disk site.old) →
+            Through (S.disk site.old) (S.disk site.new) (λ s. IsOldClosedOrWhole (S.disk site.old)
+            (other_set self.old.set) u.body (s.images (other_set self.old.set))) }
+        ensures settles { (u : UnderWayOf) (image : ListOf ℕ) → S.told site.old → self.old.under_way ≡ Some u
+            → StandsOn self.old (S.disk site.old) → Settles (S.disk site.new) (other_set self.old.set) image
+            → IsOldClosedOrWhole (S.disk site.old) (other_set self.old.set) u.body image }
+    {
+        let Some(under_way) = self.under_way.take() else {
+            return Ok(());
+        };
+        let other = 3 - self.set;
+        run(site, other, under_way.body.as_slice(), under_way.stage)?;
+        self.set = other;
+        self.number = under_way.number;
+        Ok(())
+    }
+
+    /// Writes a checkpoint of these databases to its end, as `begin` and all its steps do. After `Failed` the newest
+    /// sure one stays, and nothing is under way.
+    pub fn write<S: Site>(
+        &mut self,
+        alloc: Global,
+        site: &mut S,
+        defs: &Defs,
+        at: u64,
+        count: u64,
+        msdbs: &MsdbStore,
+        lasts: Option<&Lasts>,
+    ) -> Result<(), CkptFault>
+        requires place { at ≤ 2 ^ 62 }
+        requires entries { count ≤ at }
+        requires of { IsOf defs.now.msdbs msdbs.now }
+        requires few { length defs.now.msdbs < 2 ^ 8 }
+        requires segments { AllByRecursion (λ msdb. length msdb.segments < 2 ^ 32) msdbs.now.msdbs }
+        requires terminals { AreLasts (terminals_of (option_copied lasts)) }
+        ensures never { (set : ℕ) → IsErrOf result (faults.Damaged set) → ⊥ }
+        ensures untouched { IsErrOf result faults.Memory → site.new ≡ site.old }
+        ensures only { S.told site.old → OnlyOn (other_set self.old.set) (S.disk site.old) (S.disk site.new) }
+        ensures told { S.told site.old → S.told site.new }
+        ensures holds { S.holds site.new ≡ S.holds site.old }
+        ensures keeps { (first : S) → S.keeps first site.old → S.keeps first site.new }
+
+        // At every moment the newest sure one is as it was.
+        ensures newest { S.told site.old → IsDurable (S.disk site.old) self.old.set →
+            Through (S.disk site.old) (S.disk site.new)
+            (λ s. s.images self.old.set ≡ (S.disk site.old).contents self.old.set) }
+    {
+        self.begin(alloc, defs, at, count, msdbs, lasts)?;
+        self.finish(site)
     }
 }

@@ -3,9 +3,9 @@ ghost use Rattle.fp_site.specs.Disk.{Disk, Settles};
 ghost use Rattle.fp_site.specs.Moments.{OnlyOn, Through};
 ghost use Rattle.fp_site.specs.Site.{Counts};
 ghost use Rattle.gated_write.specs.Gates.{ReadsOnly};
-ghost use Rattle.msdb_checkpoint.specs.Steps.{IsAt, IsNext, IsOldClosedOrWhole};
+ghost use Rattle.msdb_checkpoint.specs.Steps.{IsAt, IsNext, IsOldClosedOrWhole, IsSure, left_behind, steps_left};
 ghost use Rattle.msdb_checkpoint.specs.declared.stages.Stage.TheVariants.{Begun, Synced, Written};
-ghost use Rattle.std.specs.Prelude.{◌≡◌, ◌+◌, ◌<◌, ◌≤◌, ◌^◌, ℕ, IfOk, List as ListOf, Some, length};
+ghost use Rattle.std.specs.Prelude.{◌≡◌, ◌+◌, ◌<◌, ◌≤◌, ◌^◌, ℕ, IfOk, List as ListOf, OnOk, Some, length};
 
 use fp_model::Bytes;
 use fp_site::{Failed, Site};
@@ -38,6 +38,7 @@ const PIECE: usize = 65_536;
 // Closes the gate.
 fn close<S: Site>(site: &mut S, set: u16, body: &[u8]) -> Result<Option<Stage>, Failed>
     ensures next { S.told site.old → IfOk result (IsNext body.now set (S.disk site.new)) }
+    ensures fewer { IfOk result (λ next. left_behind body.now next + 1 ≡ steps_left body.now Begun) }
     ensures cause { Counts (S.faults site.old) (S.faults site.new) result }
     ensures only { S.told site.old → OnlyOn set (S.disk site.old) (S.disk site.new) }
     ensures reads { ReadsOnly set (S.tells_reads site.old) (S.tells_reads site.new) (S.bytes_read site.old)
@@ -61,6 +62,7 @@ fn write_piece<S: Site>(site: &mut S, set: u16, body: &[u8], count: usize) -> Re
     requires more { count < length body.now }
     ensures next { S.told site.old → IsAt body.now set (S.disk site.old) (Written count)
         → IfOk result (IsNext body.now set (S.disk site.new)) }
+    ensures fewer { IfOk result (λ next. left_behind body.now next + 1 ≡ steps_left body.now (Written count)) }
     ensures cause { Counts (S.faults site.old) (S.faults site.new) result }
     ensures only { S.told site.old → OnlyOn set (S.disk site.old) (S.disk site.new) }
     ensures reads { ReadsOnly set (S.tells_reads site.old) (S.tells_reads site.new) (S.bytes_read site.old)
@@ -84,6 +86,7 @@ fn sync_body<S: Site>(site: &mut S, set: u16, body: &[u8], count: usize) -> Resu
     requires all { length body.now ≤ count }
     ensures next { S.told site.old → IsAt body.now set (S.disk site.old) (Written count)
         → IfOk result (IsNext body.now set (S.disk site.new)) }
+    ensures fewer { IfOk result (λ next. left_behind body.now next + 1 ≡ steps_left body.now (Written count)) }
     ensures cause { Counts (S.faults site.old) (S.faults site.new) result }
     ensures only { S.told site.old → OnlyOn set (S.disk site.old) (S.disk site.new) }
     ensures reads { ReadsOnly set (S.tells_reads site.old) (S.tells_reads site.new) (S.bytes_read site.old)
@@ -105,6 +108,7 @@ fn sync_body<S: Site>(site: &mut S, set: u16, body: &[u8], count: usize) -> Resu
 fn open_body<S: Site>(site: &mut S, set: u16, body: &[u8]) -> Result<Option<Stage>, Failed>
     ensures next { S.told site.old → IsAt body.now set (S.disk site.old) Synced
         → IfOk result (IsNext body.now set (S.disk site.new)) }
+    ensures fewer { IfOk result (λ next. left_behind body.now next + 1 ≡ steps_left body.now Synced) }
     ensures cause { Counts (S.faults site.old) (S.faults site.new) result }
     ensures only { S.told site.old → OnlyOn set (S.disk site.old) (S.disk site.new) }
     ensures reads { ReadsOnly set (S.tells_reads site.old) (S.tells_reads site.new) (S.bytes_read site.old)
@@ -132,6 +136,7 @@ pub(crate) fn advance<S: Site>(
     requires room { length body.now + 1 ≤ 2 ^ 62 }
     ensures next { S.told site.old → IsAt body.now set (S.disk site.old) stage
         → IfOk result (IsNext body.now set (S.disk site.new)) }
+    ensures fewer { IfOk result (λ next. left_behind body.now next + 1 ≡ steps_left body.now stage) }
     ensures cause { Counts (S.faults site.old) (S.faults site.new) result }
 
     // No other data set changes, nothing is sent, and no other is read.
@@ -143,13 +148,13 @@ pub(crate) fn advance<S: Site>(
     ensures keeps { (first : S) → S.keeps first site.old → S.keeps first site.new }
 
     // A crash at any moment leaves the data set as a sync might have left it before, or closed, or whole.
-    ensures crash { S.told site.old → IsAt body.now set (S.disk site.old) stage
-        → 0 < length ((S.disk site.old).contents set) → Through (S.disk site.old) (S.disk site.new)
+    ensures crash { S.told site.old → IsAt body.now set (S.disk site.old) stage →
+        Through (S.disk site.old) (S.disk site.new)
         (λ s. IsOldClosedOrWhole (S.disk site.old) set body.now (s.images set)) }
 
     // So does each image that a further sync may make of what a crash may leave now.
     ensures settles { (image : ListOf ℕ) → S.told site.old → IsAt body.now set (S.disk site.old) stage
-        → 0 < length ((S.disk site.old).contents set) → Settles (S.disk site.new) set image
+        → Settles (S.disk site.new) set image
         → IsOldClosedOrWhole (S.disk site.old) set body.now image }
 {
     match stage {
@@ -157,5 +162,29 @@ pub(crate) fn advance<S: Site>(
         Stage::Written(count) if count < body.len() => write_piece(site, set, body, count),
         Stage::Written(count) => sync_body(site, set, body, count),
         Stage::Synced => open_body(site, set, body),
+    }
+}
+
+// Does all that is left from a stage on.
+pub(crate) fn run<S: Site>(site: &mut S, set: u16, body: &[u8], stage: Stage) -> Result<(), Failed>
+    requires room { length body.now + 1 ≤ 2 ^ 62 }
+    ensures sure { S.told site.old → IsAt body.now set (S.disk site.old) stage
+        → OnOk result (IsSure body.now set (S.disk site.new)) }
+    ensures cause { Counts (S.faults site.old) (S.faults site.new) result }
+    ensures only { S.told site.old → OnlyOn set (S.disk site.old) (S.disk site.new) }
+    ensures reads { ReadsOnly set (S.tells_reads site.old) (S.tells_reads site.new) (S.bytes_read site.old)
+        (S.bytes_read site.new) }
+    ensures told { S.told site.old → S.told site.new }
+    ensures holds { S.holds site.new ≡ S.holds site.old }
+    ensures keeps { (first : S) → S.keeps first site.old → S.keeps first site.new }
+    ensures crash { S.told site.old → IsAt body.now set (S.disk site.old) stage →
+        Through (S.disk site.old) (S.disk site.new)
+        (λ s. IsOldClosedOrWhole (S.disk site.old) set body.now (s.images set)) }
+    ensures settles { (image : ListOf ℕ) → S.told site.old → IsAt body.now set (S.disk site.old) stage
+        → Settles (S.disk site.new) set image → IsOldClosedOrWhole (S.disk site.old) set body.now image }
+{
+    match advance(site, set, body, stage)? {
+        Some(next) => run(site, set, body, next),
+        None => Ok(()),
     }
 }
