@@ -30,9 +30,9 @@ pub staged_is : (start : Disk) (set : ℕ) (body old image : List ℕ) → IsSta
 staged_is start set body old image staged = elim (cases_eq staged.first 1) [
   | inl one ↦ inr (inr (staged.rest, staged.behind ∙ ap (λ b. b ∷ (body ++ staged.rest)) one))
   | inr ne ↦ inr (inl (record {
-      stands = omega (arith, ap length staged.behind);
-      byte = λ one. ne (sym (ap (λ l. slice_index l 0) staged.behind) ∙ one);
-    }))
+    stands = omega (arith, ap length staged.behind);
+    byte = λ one. ne (sym (ap (λ l. slice_index l 0) staged.behind) ∙ one);
+  }))
 ]
 
 -- the gate was closed, and nothing is written

@@ -1,12 +1,13 @@
 //! The two data sets of checkpoints in turn.
 ghost use Rattle.balancing.specs.Numbered.{Numbered};
-ghost use Rattle.checkpoint_format.specs.Given.{format_with, terminals_of};
-ghost use Rattle.fp_model.specs.CheckpointText.{AreLasts, checkpoint_rest};
+ghost use Rattle.checkpoint_format.specs.Given.{terminals_of};
+ghost use Rattle.fp_model.specs.CheckpointText.{AreLasts};
 ghost use Rattle.fp_site.specs.Disk.{Disk, IsDurable, Settles};
 ghost use Rattle.fp_site.specs.Moments.{OnlyOn, Through};
 ghost use Rattle.fp_site.specs.Site.{Counts};
 ghost use Rattle.gated_write.specs.Gates.{ReadsOnly};
-ghost use Rattle.msdb_checkpoint.specs.Steps.{IsOldClosedOrWhole, IsSureNow, StandsOn, Turn, other_set, turns_left};
+ghost use Rattle.msdb_checkpoint.specs.Given.{body_with};
+ghost use Rattle.msdb_checkpoint.specs.Steps.{IsOldClosedOrWhole, IsSure, IsSureNow, StandsOn, Turn, other_set, turns_left};
 ghost use Rattle.msdb_checkpoint.specs.declared.fault.CkptFault.TheVariants as faults;
 ghost use Rattle.msdb_checkpoint.specs.declared.stages.Stage.TheVariants as stages;
 ghost use Rattle.msdb_checkpoint.specs.declared.stages.UnderWay.{UnderWay as UnderWayOf};
@@ -15,8 +16,8 @@ ghost use Rattle.std.specs.List.{AllByRecursion};
 ghost use Rattle.std.specs.Option.{option_copied, option_map_or};
 ghost use Rattle.std.specs.Prelude.{◌≡◌, ◌⊎◌, ◌+◌, ◌-◌, ◌<◌, ◌≤◌, ◌^◌, ℕ, None, Some, IfOk, IsErrOf, List as ListOf, OnErr, OnOk, false, length, true};
 
-use crate::stages::{Stage, UnderWay, advance, run};
 use crate::CkptFault;
+use crate::stages::{Stage, UnderWay, advance, run};
 use balancing::Lasts;
 use checkpoint_format::{Loaded, Place, body};
 use fp_model::Defs;
@@ -93,15 +94,10 @@ impl Checkpoints {
 
         // Its bytes are those of a checkpoint of just these.
         ensures begun { OnOk result (self.new.under_way ≡ Some (record {
-            number = self.old.number + 1;
-            body = checkpoint_rest (format_with (option_copied lasts.entry)) defs.now.msdbs (record {
-                number = self.old.number + 1;
-                at = at;
-                count = count;
-                msdbs = msdbs.now.msdbs;
-                lasts = terminals_of (option_copied lasts.entry);
-            });
-            stage = stages.Begun;
+          number = self.old.number + 1;
+          body = body_with defs.now.msdbs (self.old.number + 1) at count msdbs.now.msdbs
+              (option_copied lasts.entry);
+          stage = stages.Begun;
         })) }
 
         // The newest sure one stays.
@@ -201,6 +197,8 @@ impl Checkpoints {
     pub fn finish<S: Site>(&mut self, site: &mut S) -> Result<(), CkptFault>
         ensures sure { (u : UnderWayOf) → S.told site.old → StandsOn self.old (S.disk site.old)
             → self.old.under_way ≡ Some u → OnOk result (IsSureNow self.old self.new (S.disk site.new)) }
+        ensures turn { (u : UnderWayOf) → self.old.under_way ≡ Some u → OnOk result (self.new
+            ≡ record { set = other_set self.old.set; number = u.number; under_way = None }) }
         ensures failed { OnErr result (self.new
             ≡ record { set = self.old.set; number = self.old.number; under_way = None }) }
         ensures cause { Counts (S.faults site.old) (S.faults site.new) result }
@@ -256,17 +254,35 @@ impl Checkpoints {
         requires few { length defs.now.msdbs < 2 ^ 8 }
         requires segments { AllByRecursion (λ msdb. length msdb.segments < 2 ^ 32) msdbs.now.msdbs }
         requires terminals { AreLasts (terminals_of (option_copied lasts)) }
+
+        // At Ok it is the newest sure one.
+        ensures sure { S.told site.old → 0 < length ((S.disk site.old).contents (other_set self.old.set)) →
+            OnOk result (IsSure (body_with defs.now.msdbs (self.old.number + 1) at count msdbs.now.msdbs
+            (option_copied lasts.entry)) (other_set self.old.set) (S.disk site.new)) }
+        ensures turn { OnOk result (self.new
+            ≡ record { set = other_set self.old.set; number = self.old.number + 1; under_way = None }) }
+        ensures cause { IsErrOf result faults.Failed → (S.faults site.old < S.faults site.new)
+            ⊎ (S.faults site.new ≡ 2 ^ 64 - 1) }
+        ensures later { S.faults site.old ≤ S.faults site.new }
         ensures never { (set : ℕ) → IsErrOf result (faults.Damaged set) → ⊥ }
+
+        // Want of memory comes before the site is touched.
         ensures untouched { IsErrOf result faults.Memory → site.new ≡ site.old }
         ensures only { S.told site.old → OnlyOn (other_set self.old.set) (S.disk site.old) (S.disk site.new) }
         ensures told { S.told site.old → S.told site.new }
         ensures holds { S.holds site.new ≡ S.holds site.old }
         ensures keeps { (first : S) → S.keeps first site.old → S.keeps first site.new }
 
-        // At every moment the newest sure one is as it was.
+        // At every moment the newest sure one is as it was,
         ensures newest { S.told site.old → IsDurable (S.disk site.old) self.old.set →
             Through (S.disk site.old) (S.disk site.new)
             (λ s. s.images self.old.set ≡ (S.disk site.old).contents self.old.set) }
+
+        // and the other data set is as a sync might have left it, or closed, or has the new one whole.
+        ensures crash { S.told site.old → 0 < length ((S.disk site.old).contents (other_set self.old.set)) →
+            Through (S.disk site.old) (S.disk site.new) (λ s. IsOldClosedOrWhole (S.disk site.old)
+            (other_set self.old.set) (body_with defs.now.msdbs (self.old.number + 1) at count msdbs.now.msdbs
+            (option_copied lasts.entry)) (s.images (other_set self.old.set))) }
     {
         self.begin(alloc, defs, at, count, msdbs, lasts)?;
         self.finish(site)

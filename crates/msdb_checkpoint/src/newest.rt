@@ -132,7 +132,12 @@ fn behind_gate<S: Site>(alloc: Global, site: &mut S, set: u16) -> Result<Vec<u8>
 }
 
 // The checkpoint of these databases in a data set.
-fn load<S: Site>(alloc: Global, site: &mut S, defs: &[MsdbDef], set: u16) -> Result<Loaded, CkptFault>
+fn load<S: Site>(
+    alloc: Global,
+    site: &mut S,
+    defs: &[MsdbDef],
+    set: u16,
+) -> Result<Loaded, CkptFault>
     ensures ok { S.told site.old → IfOk result (HasCheckpoint defs.now ((S.disk site.old).contents set)) }
     ensures damaged { (place : ℕ) → S.told site.old → IsErrOf result (faults.Damaged place)
         → (place ≡ set) × HasNoCheckpoint defs.now ((S.disk site.old).contents set) }
@@ -159,7 +164,11 @@ impl Checkpoints {
     /// The newest open checkpoint of these databases; `None` exactly where neither data set is open. Of the other open
     /// one the gate, the letters and the number are looked at. `Damaged` comes exactly where the newest is outside its
     /// format, or one of them in its letters or number.
-    pub fn newest<S: Site>(alloc: Global, site: &mut S, defs: &Defs) -> Result<Option<Loaded>, CkptFault>
+    pub fn newest<S: Site>(
+        alloc: Global,
+        site: &mut S,
+        defs: &Defs,
+    ) -> Result<Option<Loaded>, CkptFault>
         ensures none { S.told site.old → IfOk result (λ found. IfNone found
             (IsNotOpen ((S.disk site.old).contents 1) × IsNotOpen ((S.disk site.old).contents 2))) }
         ensures some { S.told site.old → IfOk result (λ found. IfSome found

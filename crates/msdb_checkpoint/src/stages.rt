@@ -57,7 +57,12 @@ fn close<S: Site>(site: &mut S, set: u16, body: &[u8]) -> Result<Option<Stage>, 
 }
 
 // Writes the next piece.
-fn write_piece<S: Site>(site: &mut S, set: u16, body: &[u8], count: usize) -> Result<Option<Stage>, Failed>
+fn write_piece<S: Site>(
+    site: &mut S,
+    set: u16,
+    body: &[u8],
+    count: usize,
+) -> Result<Option<Stage>, Failed>
     requires room { length body.now + 1 ≤ 2 ^ 62 }
     requires more { count < length body.now }
     ensures next { S.told site.old → IsAt body.now set (S.disk site.old) (Written count)
@@ -82,7 +87,12 @@ fn write_piece<S: Site>(site: &mut S, set: u16, body: &[u8], count: usize) -> Re
 }
 
 // Syncs the bytes, which are all written.
-fn sync_body<S: Site>(site: &mut S, set: u16, body: &[u8], count: usize) -> Result<Option<Stage>, Failed>
+fn sync_body<S: Site>(
+    site: &mut S,
+    set: u16,
+    body: &[u8],
+    count: usize,
+) -> Result<Option<Stage>, Failed>
     requires all { length body.now ≤ count }
     ensures next { S.told site.old → IsAt body.now set (S.disk site.old) (Written count)
         → IfOk result (IsNext body.now set (S.disk site.new)) }
