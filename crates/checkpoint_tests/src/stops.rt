@@ -8,7 +8,7 @@ use crate::samples::{FIRST, SECOND, defs_of};
 use balancing::Lasts;
 use fp_model::Defs;
 use fp_site::{MemorySite, Site};
-use msdb_checkpoint::{Checkpoints, Loaded};
+use msdb_checkpoint::{Checkpoints, CkptFault, Loaded};
 use msdb_store::MsdbStore;
 use std::alloc::{AllocError, Global};
 use std::test::Fail;
@@ -163,6 +163,14 @@ fn without_a_fault_both_are_sure(rt: HostRuntime) -> Result<(), Fail> {
     Ok(())
 }
 
+/// Whether a checkpoint of format 2 was read, whole and without terminals.
+fn is_in_format_two(loaded: &Result<Option<Loaded>, CkptFault>) -> bool {
+    match loaded {
+        Ok(Some(one)) => one.format == 2 && is_whole(one) && one.lasts.is_empty(),
+        _ => false,
+    }
+}
+
 #[test]
 fn format_two_is_read_back(rt: HostRuntime) -> Result<(), Fail> {
     let defs = defs_of(rt.alloc(), FIRST)?;
@@ -174,8 +182,6 @@ fn format_two_is_read_back(rt: HostRuntime) -> Result<(), Fail> {
     let written = checkpoints.write(rt.alloc(), &mut site, &defs, 100, 1, &store, Some(&lasts));
     assert!(rt; written.is_ok());
     let loaded = Checkpoints::newest(rt.alloc(), &mut site, &defs);
-    assert!(rt;
-        matches!(loaded, Ok(Some(one)) if one.format == 2 && is_whole(&one) && one.lasts.is_empty())
-    );
+    assert!(rt; is_in_format_two(&loaded));
     Ok(())
 }
