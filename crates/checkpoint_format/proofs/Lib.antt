@@ -2,5 +2,6 @@ pub mod Behind
 pub mod DatabaseLaws
 pub mod Databases
 pub mod HeadLaws
+pub mod LastLaws
 pub mod Numbers
 pub mod Order
