@@ -1,4 +1,5 @@
 pub mod Behind
+pub mod CheckpointLaws
 pub mod DatabaseLaws
 pub mod Databases
 pub mod HeadLaws
