@@ -17,10 +17,12 @@
 #![tactic(auto)]
 
 mod checkpoint;
+mod laws;
 mod reading;
 mod terminals;
 mod writing;
 
 pub use checkpoint::{Loaded, Place};
+pub use laws::checkpoints_are_lawful;
 pub use reading::{head, read};
 pub use writing::body;
