@@ -1,2 +1,4 @@
 pub mod NameLemmas
 pub mod QueueLemmas
+pub mod Ascending
+mod LastLemmas

@@ -1,4 +1,4 @@
-//! Tests of the low crates: lists, numbers, exits, queues, sites, sources, lines, locks, field search arguments,
+//! Tests of the low crates: lists, numbers, exits, queues, last numbers, sites, sources, lines, locks, field search arguments,
 //! entries.
 //!
 //! They stand here and not in the crates that they test, since a crate with tests is proved twice. Each file tests one
@@ -10,6 +10,8 @@
 mod arguments;
 #[cfg(test)]
 mod exits;
+#[cfg(test)]
+mod last_numbers;
 #[cfg(test)]
 mod lines;
 #[cfg(test)]

@@ -1,0 +1,187 @@
+//! Two checkpoints in steps, with a write of the log before each step: failed or stopped at each call.
+ghost use Rattle.fp_model.specs.WellFormed.{AreDefs};
+ghost use Rattle.msdb_store.specs.Store.{IsOf};
+ghost use Rattle.std.specs.List.{AllByRecursion};
+ghost use Rattle.std.specs.Prelude.{◌≡◌, ◌<◌, ◌≤◌, ◌^◌, IfOk, length};
+
+use crate::samples::{FIRST, SECOND, defs_of};
+use balancing::Lasts;
+use fp_model::Defs;
+use fp_site::{MemorySite, Site};
+use msdb_checkpoint::{Checkpoints, CkptFault, Loaded};
+use msdb_store::MsdbStore;
+use std::alloc::{AllocError, Global};
+use std::test::Fail;
+
+/// Gives data sets 1 and 2 a byte, as a site has them that was made.
+fn prepare(site: &mut MemorySite) -> bool {
+    for set in 1..3 {
+        if site.write_at(set, 0, &[0]).is_err() || site.sync(set).is_err() {
+            return false;
+        }
+    }
+    true
+}
+
+/// Writes a checkpoint of this number in steps, with a write of the log before each. Whether it is sure.
+fn write_in_steps(
+    alloc: Global,
+    site: &mut MemorySite,
+    checkpoints: &mut Checkpoints,
+    number: u64,
+    defs: &Defs,
+) -> Result<bool, AllocError>
+    requires number { number ≤ 2 }
+    requires defs { AreDefs defs.now }
+{
+    let store = MsdbStore::start(alloc, defs)?;
+    checkpoints.begin(alloc, defs, number * 100, number, &store, None)?;
+    for _ in 0..8 {
+        if site.write_at(0, number, &[7]).is_err() || site.sync(0).is_err() {
+            return Ok(false);
+        }
+        match checkpoints.step(site) {
+            Ok(true) => return Ok(true),
+            Ok(false) => {}
+            Err(_) => return Ok(false),
+        }
+    }
+    Ok(false)
+}
+
+/// Writes two checkpoints, until a call fails. How many are sure.
+fn write_two(
+    alloc: Global,
+    site: &mut MemorySite,
+    first: &Defs,
+    second: &Defs,
+) -> Result<u64, AllocError>
+    requires first { AreDefs first.now }
+    requires second { AreDefs second.now }
+{
+    if !prepare(site) {
+        return Ok(0);
+    }
+    let mut checkpoints = Checkpoints::open(None, 2);
+    if !write_in_steps(alloc, site, &mut checkpoints, 1, first)? {
+        return Ok(0);
+    }
+    if !write_in_steps(alloc, site, &mut checkpoints, 2, second)? {
+        return Ok(1);
+    }
+    Ok(2)
+}
+
+/// Whether a checkpoint is the first or the second one, whole.
+fn is_whole(loaded: &Loaded) -> bool {
+    let note: &[u8] = if loaded.number == 1 {
+        b"A001one "
+    } else {
+        b"A001two "
+    };
+    if loaded.msdbs.len() != 1 {
+        return false;
+    }
+    let segments = &loaded.msdbs.as_slice()[0].segments;
+    loaded.at == loaded.number.saturating_mul(100)
+        && loaded.count == loaded.number
+        && segments.len() == 2
+        && segments.as_slice()[0].as_slice() == note
+}
+
+/// The number of the newest checkpoint, 0 where there is none; none where it isn't whole or can't be read.
+fn newest_number(alloc: Global, site: &mut MemorySite, defs: &Defs) -> Option<u64> {
+    match Checkpoints::newest(alloc, site, defs) {
+        Ok(None) => Some(0),
+        Ok(Some(loaded)) if is_whole(&loaded) => Some(loaded.number),
+        _ => None,
+    }
+}
+
+/// Whether the site has at least so many checkpoints, whole, and its data set of the newest is theirs.
+fn keeps(alloc: Global, site: &mut MemorySite, defs: &Defs, sure: u64) -> bool {
+    let Some(number) = newest_number(alloc, site, defs) else {
+        return false;
+    };
+    let slot = if number == 1 { 1 } else { 2 };
+    sure <= number && number <= 2 && matches!(Checkpoints::slot_of(site), Ok(set) if set == slot)
+}
+
+/// A stop at this call: whether each of eight images that a crash may leave keeps what was sure.
+fn keeps_at_stop(alloc: Global, stop: u64, first: &Defs, second: &Defs) -> Result<bool, AllocError>
+    requires first { AreDefs first.now }
+    requires second { AreDefs second.now }
+{
+    let mut site = MemorySite::stopping(alloc, stop)?;
+    let sure = write_two(alloc, &mut site, first, second)?;
+    for choice in 0..8 {
+        let mut left = MemorySite::from_snapshot(alloc, site.snapshot_as(choice)?, &[])?;
+        if !keeps(alloc, &mut left, first, sure) {
+            return Ok(false);
+        }
+    }
+    Ok(true)
+}
+
+/// The two checkpoints make 34 calls.
+const CALLS: u64 = 36;
+
+#[test]
+fn every_stop_keeps_the_newest(rt: HostRuntime) -> Result<(), Fail> {
+    let first = defs_of(rt.alloc(), FIRST)?;
+    let second = defs_of(rt.alloc(), SECOND)?;
+    for stop in 0..CALLS {
+        assert!(rt;
+            keeps_at_stop(rt.alloc(), stop, &first, &second)?,
+            "stop {stop}"
+        );
+    }
+    Ok(())
+}
+
+#[test]
+fn every_failed_call_keeps_the_newest(rt: HostRuntime) -> Result<(), Fail> {
+    let first = defs_of(rt.alloc(), FIRST)?;
+    let second = defs_of(rt.alloc(), SECOND)?;
+    for call in 0..CALLS {
+        let mut site = MemorySite::new(rt.alloc(), &[call])?;
+        let sure = write_two(rt.alloc(), &mut site, &first, &second)?;
+        // What is read of it, by a site whose calls don't fail.
+        let mut left = MemorySite::from_snapshot(rt.alloc(), site.snapshot_as(1)?, &[])?;
+        assert!(rt; keeps(rt.alloc(), &mut left, &first, sure), "call {call}");
+    }
+    Ok(())
+}
+
+#[test]
+fn without_a_fault_both_are_sure(rt: HostRuntime) -> Result<(), Fail> {
+    let first = defs_of(rt.alloc(), FIRST)?;
+    let second = defs_of(rt.alloc(), SECOND)?;
+    let mut site = MemorySite::new(rt.alloc(), &[])?;
+    assert_eq!(rt; write_two(rt.alloc(), &mut site, &first, &second)?, 2);
+    assert_eq!(rt; newest_number(rt.alloc(), &mut site, &second), Some(2));
+    Ok(())
+}
+
+/// Whether a checkpoint of format 2 was read, whole and without terminals.
+fn is_in_format_two(loaded: &Result<Option<Loaded>, CkptFault>) -> bool {
+    match loaded {
+        Ok(Some(one)) => one.format == 2 && is_whole(one) && one.lasts.is_empty(),
+        _ => false,
+    }
+}
+
+#[test]
+fn format_two_is_read_back(rt: HostRuntime) -> Result<(), Fail> {
+    let defs = defs_of(rt.alloc(), FIRST)?;
+    let store = MsdbStore::start(rt.alloc(), &defs)?;
+    let lasts = Lasts::new(rt.alloc())?;
+    let mut site = MemorySite::new(rt.alloc(), &[])?;
+    assert!(rt; prepare(&mut site));
+    let mut checkpoints = Checkpoints::open(None, 2);
+    let written = checkpoints.write(rt.alloc(), &mut site, &defs, 100, 1, &store, Some(&lasts));
+    assert!(rt; written.is_ok());
+    let loaded = Checkpoints::newest(rt.alloc(), &mut site, &defs);
+    assert!(rt; is_in_format_two(&loaded));
+    Ok(())
+}

@@ -1,0 +1,121 @@
+-- The gate at the head of a data set is closed: what a crash leaves of each call.
+use Rattle.std.proofs.Common.{◌≡◌, ◌⊎◌, inl, inr, ⊎_elim, ℕ, zero, suc, ◌+◌, ◌<◌, ◌≤◌, false, List, [], ◌∷◌, length, get_or, drop, refl, sym, ◌∙◌, ap, subst, arith}
+use Rattle.std.specs.Prelude.{slice_index}
+use Rattle.std.proofs.lemmas.Bool.Decides.{nat_tests}
+use Rattle.std.proofs.lemmas.Bool.{cases_eq}
+use Rattle.std.proofs.lemmas.List.{ext_get_or}
+use Rattle.fp_site.specs.Disk.{Disk, Snapshot, Torn, IsDurable, Settles, Tears, Syncs, Elapses, Leaves, Stays, IsLawful, written, covers}
+use Rattle.fp_site.specs.Moments.{Through, OnlyOn}
+use Rattle.fp_site.proofs.Images.{torn_from, durable_stays, settles_left, settles_contents, settles_synced, settles_stays, settles_torn}
+use Rattle.fp_site.proofs.Runs.{started, goes_on, stays_on}
+use Rattle.fp_site.proofs.Frames.{only_none, only_more, only_stays}
+use Rattle.gated_write.specs.Gates.{IsClosed, IsShut, IsOldOrShut}
+use Rattle.gated_write.proofs.Bodies.{written_is}
+
+-- the gate is absent, or open
+abbrev pub IsOpenGate : List ℕ → Type 0
+IsOpenGate bytes = (length bytes ≡ 0) ⊎ (slice_index bytes 0 ≡ 1)
+
+-- what a crash leaves of a write of the gate
+torn_gate : (old c : List ℕ) → IsOpenGate old → Torn 0 1 old c
+    → (c ≡ old) ⊎ (IsClosed 0 c ⊎ ((length old ≡ 0) × (length c ≤ 1)))
+torn_gate old c (inl none) torn = let short = torn.no_longer in inr (inr (none, omega (arith, none)))
+torn_gate [] c (inr is_open) torn = let short = torn.no_longer in inr (inr (refl, omega arith))
+torn_gate (x ∷ xs) c (inr is_open) torn = elim (cases_eq (get_or c 0 0) 1) [
+  | inl is ↦ let no_shorter = torn.no_shorter in let no_longer = torn.no_longer in
+      inl (ext_get_or 0 c (x ∷ xs) (omega arith) (λ i lt. same i lt is))
+  | inr ne ↦ let no_shorter = torn.no_shorter in inr (inl (record { stands = omega arith; byte = ne }))
+]
+  where
+    same : (i : ℕ) → i < length c → get_or c 0 0 ≡ 1 → get_or c i 0 ≡ get_or (x ∷ xs) i 0
+    same zero lt is = is ∙ sym is_open
+    same (suc i) lt is = let no_longer = torn.no_longer in
+        let out : covers 0 1 (suc i) ≡ false = grind (arith, nat_tests) in torn.others (suc i) (omega arith) out
+
+-- the disks: h before, h1 after the sync, h2 after a look at the gate
+module _ (set : ℕ) (h h1 : Disk) (law : IsLawful h) (law1 : IsLawful h1) (leaves1 : Leaves set h h1)
+    (first : Elapses h h1 (Syncs h set)) where
+  abbrev pub Q : Snapshot → Type 0
+  Q s = IsOldOrShut h set (s.images set)
+
+  pub only1 : OnlyOn set h h1
+  only1 = only_more set h h h1 (λ _ image. Settles h set image) law law (only_none set h) leaves1 first
+
+  pub synced1 : Through h h1 (Q)
+  synced1 = goes_on (Q) h h h1 (Syncs h set)
+      (started (Q) h law (λ s left. inl (settles_left h set s left))) first (λ s d. inl d.this)
+
+  -- what settles after it
+  pub settled1 : (image : List ℕ) → Settles h1 set image → IsOldOrShut h set image
+  settled1 image settles = inl (settles_synced h h1 set image law law1 first settles)
+
+  module _ (h2 : Disk) (law2 : IsLawful h2) (stays : Stays h1 h2) where
+    pub only2 : OnlyOn set h h2
+    only2 = only_stays set h h1 h2 law law1 only1 stays
+
+    pub settled2 : (image : List ℕ) → Settles h2 set image → IsOldOrShut h set image
+    settled2 image settles = settled1 image (settles_stays h1 h2 set image law1 law2 stays settles)
+
+    module _ (durable1 : IsDurable h1 set) (same1 : h1.contents set ≡ h.contents set) where
+      pub looked : Through h h2 (Q)
+      looked = stays_on (Q) h h1 h2 law1 synced1 stays
+          (λ s left. inl (subst (Settles h set) (sym (durable1 s left ∙ same1)) (settles_contents h set law)))
+
+      pub durable2 : IsDurable h2 set
+      durable2 = durable_stays h1 h2 set law1 law2 stays durable1
+
+      same2 : h2.contents set ≡ h.contents set
+      same2 = ap (λ f. f set) stays.contents ∙ same1
+
+      pub shut_already : IsClosed 0 (h1.contents set) → IsShut set 0 h2
+      shut_already gate = record {
+        durable = durable2;
+        closed =
+            subst (IsClosed 0) (sym (ap (λ f. f set) stays.contents)) gate;
+      }
+
+      -- an image with a torn gate
+      torn_image : (c : List ℕ) → IsOpenGate (h1.contents set) → Torn 0 1 (h2.contents set) c → IsOldOrShut h set c
+      torn_image c gate torn = ⊎_elim (λ same. inl (subst (Settles h set) (sym (same ∙ same2))
+          (settles_contents h set law)))
+          (λ no. inr (⊎_elim (λ closed. inl closed) (λ none. inr (ap length (sym same2) ∙ none.0, none.1)) no))
+          (torn_gate (h2.contents set) c (subst IsOpenGate (sym (ap (λ f. f set) stays.contents)) gate) torn)
+
+      module _ (h3 : Disk) (law3 : IsLawful h3) (gate : IsOpenGate (h1.contents set)) (leaves3 : Leaves set h2 h3)
+          (third : Elapses h2 h3 (Tears h2 set 0 1)) where
+        pub only3 : OnlyOn set h h3
+        only3 = only_more set h h2 h3 (Torn 0 1) law law2 only2 leaves3 third
+
+        pub wrote : Through h h3 (Q)
+        wrote = goes_on (Q) h h2 h3 (Tears h2 set 0 1) looked third
+            (λ s d. torn_image (s.images set) gate (torn_from h2 set 0 1 s durable2 d))
+
+        pub settled3 : (image : List ℕ) → Settles h3 set image → IsOldOrShut h set image
+        settled3 image settles = torn_image image gate
+            (settles_torn h2 h3 set 0 1 image law2 law3 durable2 third settles)
+
+        module _ (h4 : Disk) (leaves4 : Leaves set h3 h4) (fourth : Elapses h3 h4 (Syncs h3 set)) where
+          pub only4 : OnlyOn set h h4
+          only4 = only_more set h h3 h4 (λ _ image. Settles h3 set image) law law3 only3 leaves4 fourth
+
+          pub synced2 : Through h h4 (Q)
+          synced2 = goes_on (Q) h h3 h4 (Syncs h3 set) wrote fourth (λ s d. settled3 (s.images set) d.this)
+
+          pub settled4 : IsLawful h4 → (image : List ℕ) → Settles h4 set image → IsOldOrShut h set image
+          settled4 law4 image settles = settled3 image (settles_synced h3 h4 set image law3 law4 fourth settles)
+
+-- after the write
+pub shut_now : (set : ℕ) (old : List ℕ) (new : Disk) → IsDurable new set → new.contents set ≡ written old 0 (0 ∷ [])
+    → IsShut set 0 new
+shut_now set old new durable is =
+    let all : new.contents set ≡ 0 ∷ drop 1 old = is ∙ written_is old 0 (0 ∷ []) (omega arith) in
+    let byte : slice_index (new.contents set) 0 ≡ 0 = ap (λ l. get_or l 0 0) all in
+    record {
+      durable = durable;
+      closed = record { stands = omega (arith, ap length all); byte = λ one. omega (arith, byte, one) };
+    }
+
+-- the rest stays
+pub rest_now : (set : ℕ) (old : List ℕ) (new : Disk) → new.contents set ≡ written old 0 (0 ∷ [])
+    → drop 1 (new.contents set) ≡ drop 1 old
+rest_now set old new is = ap (drop 1) (is ∙ written_is old 0 (0 ∷ []) (omega arith))

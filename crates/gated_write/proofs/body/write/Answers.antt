@@ -1,0 +1,120 @@
+use Rattle.std.proofs.Common.{◌≡◌, ◌⊎◌, inl, inr, ℕ, ◌+◌, ◌<◌, List, [], arith}
+use Rattle.fp_site.specs.Disk.{Snapshot}
+use Rattle.fp_site.proofs.Frames.{only_joined}
+use Rattle.fp_site.proofs.Runs.{joined, weaker}
+use Rattle.gated_write.proofs.Bodies.{begins}
+use Rattle.gated_write.proofs.body.write.Goals as goal
+
+pub returns-in_err-put-clause-crash : goal.returns-in_err-put-clause-crash
+returns-in_err-put-clause-crash g c t durable stands =
+    let t1 = c.put.ensures.told t in
+    let law = g.met.S.Site.lawful c.args.site.now t in
+    let law1 = g.met.S.Site.lawful c.put.new.site t1 in
+    let b = begins c.args.set c.args.gate (g.S.Site.disk c.args.site.now) durable stands in
+    let lt : c.args.gate < c.args.gate + 1 = omega arith in
+    let run1 = c.put.ensures.crash _ c.args.gate t b.each stands lt in
+    let each1 = c.put.ensures.settles _ c.args.gate t b.each stands lt in
+    weaker _ _ _ _ (λ s un. inl un) run1
+
+pub returns-in_err-put-clause-settles : goal.returns-in_err-put-clause-settles
+returns-in_err-put-clause-settles g c image t durable stands settles =
+    let t1 = c.put.ensures.told t in
+    let law = g.met.S.Site.lawful c.args.site.now t in
+    let law1 = g.met.S.Site.lawful c.put.new.site t1 in
+    let b = begins c.args.set c.args.gate (g.S.Site.disk c.args.site.now) durable stands in
+    let lt : c.args.gate < c.args.gate + 1 = omega arith in
+    let run1 = c.put.ensures.crash _ c.args.gate t b.each stands lt in
+    let each1 = c.put.ensures.settles _ c.args.gate t b.each stands lt in
+    inl (each1 image settles)
+
+pub returns-in_err-finish-clause-only : goal.returns-in_err-finish-clause-only
+returns-in_err-finish-clause-only g c t =
+    let t1 = c.put.ensures.told t in
+    only_joined c.args.set _ _ _ (g.met.S.Site.lawful c.args.site.now t) (g.met.S.Site.lawful c.put.new.site t1)
+    (c.put.ensures.only t) (c.finish.ensures.only t1)
+
+pub returns-in_err-finish-clause-crash : goal.returns-in_err-finish-clause-crash
+returns-in_err-finish-clause-crash g c t durable stands =
+    let t1 = c.put.ensures.told t in
+    let law = g.met.S.Site.lawful c.args.site.now t in
+    let law1 = g.met.S.Site.lawful c.put.new.site t1 in
+    let b = begins c.args.set c.args.gate (g.S.Site.disk c.args.site.now) durable stands in
+    let lt : c.args.gate < c.args.gate + 1 = omega arith in
+    let run1 = c.put.ensures.crash _ c.args.gate t b.each stands lt in
+    let each1 = c.put.ensures.settles _ c.args.gate t b.each stands lt in
+    let t2 = c.finish.ensures.told t1 in
+    let run2 = joined _ _ _ _ run1 (c.finish.ensures.crash _ c.args.gate t1 each1) in
+    let each2 = c.finish.ensures.settles _ c.args.gate t1 each1 in
+    weaker _ _ _ _ (λ s un. inl un) run2
+
+pub returns-in_err-finish-clause-settles : goal.returns-in_err-finish-clause-settles
+returns-in_err-finish-clause-settles g c image t durable stands settles =
+    let t1 = c.put.ensures.told t in
+    let law = g.met.S.Site.lawful c.args.site.now t in
+    let law1 = g.met.S.Site.lawful c.put.new.site t1 in
+    let b = begins c.args.set c.args.gate (g.S.Site.disk c.args.site.now) durable stands in
+    let lt : c.args.gate < c.args.gate + 1 = omega arith in
+    let run1 = c.put.ensures.crash _ c.args.gate t b.each stands lt in
+    let each1 = c.put.ensures.settles _ c.args.gate t b.each stands lt in
+    let t2 = c.finish.ensures.told t1 in
+    let run2 = joined _ _ _ _ run1 (c.finish.ensures.crash _ c.args.gate t1 each1) in
+    let each2 = c.finish.ensures.settles _ c.args.gate t1 each1 in
+    inl (each2 image settles)
+
+pub returns-clause-opened : goal.returns-clause-opened
+returns-clause-opened g c t durable stands =
+    let t1 = c.put.ensures.told t in
+    let law = g.met.S.Site.lawful c.args.site.now t in
+    let law1 = g.met.S.Site.lawful c.put.new.site t1 in
+    let b = begins c.args.set c.args.gate (g.S.Site.disk c.args.site.now) durable stands in
+    let lt : c.args.gate < c.args.gate + 1 = omega arith in
+    let run1 = c.put.ensures.crash _ c.args.gate t b.each stands lt in
+    let each1 = c.put.ensures.settles _ c.args.gate t b.each stands lt in
+    let t2 = c.finish.ensures.told t1 in
+    let run2 = joined _ _ _ _ run1 (c.finish.ensures.crash _ c.args.gate t1 each1) in
+    let each2 = c.finish.ensures.settles _ c.args.gate t1 each1 in
+    let writing = c.in_ok-put.ensures.wrote _ c.args.gate [] t b (omega arith) in
+    let ready = c.in_ok-finish.ensures.ready _ c.args.gate c.args.body.now t1 writing in
+    c.open.ensures.opened _ c.args.body.now t2 ready
+
+pub returns-clause-only : goal.returns-clause-only
+returns-clause-only g c t =
+    let t1 = c.put.ensures.told t in
+    let t2 = c.finish.ensures.told t1 in
+    let law = g.met.S.Site.lawful c.args.site.now t in
+    only_joined c.args.set _ _ _ law (g.met.S.Site.lawful c.finish.new.site t2)
+    (only_joined c.args.set _ _ _ law (g.met.S.Site.lawful c.put.new.site t1) (c.put.ensures.only t)
+    (c.finish.ensures.only t1)) (c.open.ensures.only t2)
+
+pub returns-clause-crash : goal.returns-clause-crash
+returns-clause-crash g c t durable stands =
+    let t1 = c.put.ensures.told t in
+    let law = g.met.S.Site.lawful c.args.site.now t in
+    let law1 = g.met.S.Site.lawful c.put.new.site t1 in
+    let b = begins c.args.set c.args.gate (g.S.Site.disk c.args.site.now) durable stands in
+    let lt : c.args.gate < c.args.gate + 1 = omega arith in
+    let run1 = c.put.ensures.crash _ c.args.gate t b.each stands lt in
+    let each1 = c.put.ensures.settles _ c.args.gate t b.each stands lt in
+    let t2 = c.finish.ensures.told t1 in
+    let run2 = joined _ _ _ _ run1 (c.finish.ensures.crash _ c.args.gate t1 each1) in
+    let each2 = c.finish.ensures.settles _ c.args.gate t1 each1 in
+    let writing = c.in_ok-put.ensures.wrote _ c.args.gate [] t b (omega arith) in
+    let ready = c.in_ok-finish.ensures.ready _ c.args.gate c.args.body.now t1 writing in
+    joined _ _ _ _ (weaker _ _ _ _ (λ s un. inl un) run2)
+    (weaker _ _ _ _ (λ s staged. inr staged) (c.open.ensures.crash _ c.args.body.now t2 ready))
+
+pub returns-clause-settles : goal.returns-clause-settles
+returns-clause-settles g c image t durable stands settles =
+    let t1 = c.put.ensures.told t in
+    let law = g.met.S.Site.lawful c.args.site.now t in
+    let law1 = g.met.S.Site.lawful c.put.new.site t1 in
+    let b = begins c.args.set c.args.gate (g.S.Site.disk c.args.site.now) durable stands in
+    let lt : c.args.gate < c.args.gate + 1 = omega arith in
+    let run1 = c.put.ensures.crash _ c.args.gate t b.each stands lt in
+    let each1 = c.put.ensures.settles _ c.args.gate t b.each stands lt in
+    let t2 = c.finish.ensures.told t1 in
+    let run2 = joined _ _ _ _ run1 (c.finish.ensures.crash _ c.args.gate t1 each1) in
+    let each2 = c.finish.ensures.settles _ c.args.gate t1 each1 in
+    let writing = c.in_ok-put.ensures.wrote _ c.args.gate [] t b (omega arith) in
+    let ready = c.in_ok-finish.ensures.ready _ c.args.gate c.args.body.now t1 writing in
+    inr (c.open.ensures.settles _ c.args.body.now image t2 ready settles)

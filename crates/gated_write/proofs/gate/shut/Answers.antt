@@ -1,0 +1,261 @@
+use Rattle.std.proofs.Common.{[], ◌∷◌, ◌≡◌, ◌∙◌, ap}
+use Rattle.std.specs.Prelude.{drop}
+use Rattle.fp_site.specs.Disk.{written}
+use Rattle.gated_write.proofs.Shutting.{only1, synced1, settled1, only2, looked, settled2, only3, wrote, settled3, only4, synced2, settled4, shut_already, shut_now, rest_now}
+use Rattle.gated_write.proofs.gate.shut.Given.{Over}
+use Rattle.gated_write.proofs.gate.shut.Goals as goal
+
+pub returns-in_err-sync-clause-only : goal.returns-in_err-sync-clause-only
+returns-in_err-sync-clause-only g c t =
+    let t1 = c.sync.ensures.told t in
+    let law = g.met.S.Site.lawful c.args.site.now t in
+    let law1 = g.met.S.Site.lawful c.sync.new.self t1 in
+    only1 c.args.set _ _ law law1 (c.sync.ensures.leaves t) (c.sync.ensures.crash t)
+
+pub returns-in_err-sync-clause-crash : goal.returns-in_err-sync-clause-crash
+returns-in_err-sync-clause-crash g c t =
+    let t1 = c.sync.ensures.told t in
+    let law = g.met.S.Site.lawful c.args.site.now t in
+    let law1 = g.met.S.Site.lawful c.sync.new.self t1 in
+    synced1 c.args.set _ _ law law1 (c.sync.ensures.leaves t) (c.sync.ensures.crash t)
+
+pub returns-in_err-sync-clause-settles : goal.returns-in_err-sync-clause-settles
+returns-in_err-sync-clause-settles g c image t settles =
+    let t1 = c.sync.ensures.told t in
+    let law = g.met.S.Site.lawful c.args.site.now t in
+    let law1 = g.met.S.Site.lawful c.sync.new.self t1 in
+    settled1 c.args.set _ _ law law1 (c.sync.ensures.leaves t) (c.sync.ensures.crash t) image settles
+
+pub returns-in_err-is_shut-clause-only : goal.returns-in_err-is_shut-clause-only
+returns-in_err-is_shut-clause-only g c t =
+    let t1 = c.sync.ensures.told t in
+    let law = g.met.S.Site.lawful c.args.site.now t in
+    let law1 = g.met.S.Site.lawful c.sync.new.self t1 in
+    let t2 = c.is_shut.ensures.told t1 in
+    let law2 = g.met.S.Site.lawful c.is_shut.new.site t2 in
+    only2 c.args.set _ _ law law1 (c.sync.ensures.leaves t) (c.sync.ensures.crash t) _ law2 (c.is_shut.ensures.stays t1)
+
+pub returns-in_err-is_shut-clause-crash : goal.returns-in_err-is_shut-clause-crash
+returns-in_err-is_shut-clause-crash g c t =
+    let t1 = c.sync.ensures.told t in
+    let law = g.met.S.Site.lawful c.args.site.now t in
+    let law1 = g.met.S.Site.lawful c.sync.new.self t1 in
+    let t2 = c.is_shut.ensures.told t1 in
+    let law2 = g.met.S.Site.lawful c.is_shut.new.site t2 in
+    looked c.args.set _ _ law law1 (c.sync.ensures.leaves t) (c.sync.ensures.crash t) _ law2
+    (c.is_shut.ensures.stays t1)
+    (c.in_ok-sync.ensures.durable t) (c.sync.ensures.same t)
+
+pub returns-in_err-is_shut-clause-settles : goal.returns-in_err-is_shut-clause-settles
+returns-in_err-is_shut-clause-settles g c image t settles =
+    let t1 = c.sync.ensures.told t in
+    let law = g.met.S.Site.lawful c.args.site.now t in
+    let law1 = g.met.S.Site.lawful c.sync.new.self t1 in
+    let t2 = c.is_shut.ensures.told t1 in
+    let law2 = g.met.S.Site.lawful c.is_shut.new.site t2 in
+    settled2 c.args.set _ _ law law1 (c.sync.ensures.leaves t) (c.sync.ensures.crash t) _ law2
+    (c.is_shut.ensures.stays t1) image
+    settles
+
+pub returns-then-branch-clause-only : goal.returns-then-branch-clause-only
+returns-then-branch-clause-only g c t =
+    let t1 = c.sync.ensures.told t in
+    let law = g.met.S.Site.lawful c.args.site.now t in
+    let law1 = g.met.S.Site.lawful c.sync.new.self t1 in
+    let t2 = c.is_shut.ensures.told t1 in
+    let law2 = g.met.S.Site.lawful c.is_shut.new.site t2 in
+    only2 c.args.set _ _ law law1 (c.sync.ensures.leaves t) (c.sync.ensures.crash t) _ law2 (c.is_shut.ensures.stays t1)
+
+pub returns-then-branch-clause-crash : goal.returns-then-branch-clause-crash
+returns-then-branch-clause-crash g c t =
+    let t1 = c.sync.ensures.told t in
+    let law = g.met.S.Site.lawful c.args.site.now t in
+    let law1 = g.met.S.Site.lawful c.sync.new.self t1 in
+    let t2 = c.is_shut.ensures.told t1 in
+    let law2 = g.met.S.Site.lawful c.is_shut.new.site t2 in
+    looked c.args.set _ _ law law1 (c.sync.ensures.leaves t) (c.sync.ensures.crash t) _ law2
+    (c.is_shut.ensures.stays t1)
+    (c.in_ok-sync.ensures.durable t) (c.sync.ensures.same t)
+
+pub returns-then-branch-clause-settles : goal.returns-then-branch-clause-settles
+returns-then-branch-clause-settles g c image t settles =
+    let t1 = c.sync.ensures.told t in
+    let law = g.met.S.Site.lawful c.args.site.now t in
+    let law1 = g.met.S.Site.lawful c.sync.new.self t1 in
+    let t2 = c.is_shut.ensures.told t1 in
+    let law2 = g.met.S.Site.lawful c.is_shut.new.site t2 in
+    settled2 c.args.set _ _ law law1 (c.sync.ensures.leaves t) (c.sync.ensures.crash t) _ law2
+    (c.is_shut.ensures.stays t1) image
+    settles
+
+pub returns-in_err-write_at-clause-only : goal.returns-in_err-write_at-clause-only
+returns-in_err-write_at-clause-only g c t =
+    let t1 = c.sync.ensures.told t in
+    let law = g.met.S.Site.lawful c.args.site.now t in
+    let law1 = g.met.S.Site.lawful c.sync.new.self t1 in
+    let t2 = c.is_shut.ensures.told t1 in
+    let law2 = g.met.S.Site.lawful c.is_shut.new.site t2 in
+    let t3 = c.write_at.ensures.told t2 in
+    let law3 = g.met.S.Site.lawful c.write_at.new.self t3 in
+    let gate = c.in_ok-is_shut.ensures.open t1 c.if-branch.false in
+    only3 c.args.set _ _ law law1 (c.sync.ensures.leaves t) (c.sync.ensures.crash t) _ law2 (c.is_shut.ensures.stays t1)
+    (c.in_ok-sync.ensures.durable t) (c.sync.ensures.same t) _ law3 gate (c.write_at.ensures.leaves t2)
+    (c.write_at.ensures.crash t2)
+
+pub returns-in_err-write_at-clause-crash : goal.returns-in_err-write_at-clause-crash
+returns-in_err-write_at-clause-crash g c t =
+    let t1 = c.sync.ensures.told t in
+    let law = g.met.S.Site.lawful c.args.site.now t in
+    let law1 = g.met.S.Site.lawful c.sync.new.self t1 in
+    let t2 = c.is_shut.ensures.told t1 in
+    let law2 = g.met.S.Site.lawful c.is_shut.new.site t2 in
+    let t3 = c.write_at.ensures.told t2 in
+    let law3 = g.met.S.Site.lawful c.write_at.new.self t3 in
+    let gate = c.in_ok-is_shut.ensures.open t1 c.if-branch.false in
+    wrote c.args.set _ _ law law1 (c.sync.ensures.leaves t) (c.sync.ensures.crash t) _ law2 (c.is_shut.ensures.stays t1)
+    (c.in_ok-sync.ensures.durable t) (c.sync.ensures.same t) _ law3 gate (c.write_at.ensures.leaves t2)
+    (c.write_at.ensures.crash t2)
+
+pub returns-in_err-write_at-clause-settles : goal.returns-in_err-write_at-clause-settles
+returns-in_err-write_at-clause-settles g c image t settles =
+    let t1 = c.sync.ensures.told t in
+    let law = g.met.S.Site.lawful c.args.site.now t in
+    let law1 = g.met.S.Site.lawful c.sync.new.self t1 in
+    let t2 = c.is_shut.ensures.told t1 in
+    let law2 = g.met.S.Site.lawful c.is_shut.new.site t2 in
+    let t3 = c.write_at.ensures.told t2 in
+    let law3 = g.met.S.Site.lawful c.write_at.new.self t3 in
+    let gate = c.in_ok-is_shut.ensures.open t1 c.if-branch.false in
+    settled3 c.args.set _ _ law law1 (c.sync.ensures.leaves t) (c.sync.ensures.crash t) _ law2
+    (c.is_shut.ensures.stays t1)
+    (c.in_ok-sync.ensures.durable t) (c.sync.ensures.same t) _ law3 gate (c.write_at.ensures.leaves t2)
+    (c.write_at.ensures.crash t2) image settles
+
+pub returns-in_err-sync-2-clause-only : goal.returns-in_err-sync-2-clause-only
+returns-in_err-sync-2-clause-only g c t =
+    let t1 = c.sync.ensures.told t in
+    let law = g.met.S.Site.lawful c.args.site.now t in
+    let law1 = g.met.S.Site.lawful c.sync.new.self t1 in
+    let t2 = c.is_shut.ensures.told t1 in
+    let law2 = g.met.S.Site.lawful c.is_shut.new.site t2 in
+    let t3 = c.write_at.ensures.told t2 in
+    let law3 = g.met.S.Site.lawful c.write_at.new.self t3 in
+    let gate = c.in_ok-is_shut.ensures.open t1 c.if-branch.false in
+    only4 c.args.set _ _ law law1 (c.sync.ensures.leaves t) (c.sync.ensures.crash t) _ law2 (c.is_shut.ensures.stays t1)
+    (c.in_ok-sync.ensures.durable t) (c.sync.ensures.same t) _ law3 gate (c.write_at.ensures.leaves t2)
+    (c.write_at.ensures.crash t2) _ (c.sync-2.ensures.leaves t3) (c.sync-2.ensures.crash t3)
+
+pub returns-in_err-sync-2-clause-crash : goal.returns-in_err-sync-2-clause-crash
+returns-in_err-sync-2-clause-crash g c t =
+    let t1 = c.sync.ensures.told t in
+    let law = g.met.S.Site.lawful c.args.site.now t in
+    let law1 = g.met.S.Site.lawful c.sync.new.self t1 in
+    let t2 = c.is_shut.ensures.told t1 in
+    let law2 = g.met.S.Site.lawful c.is_shut.new.site t2 in
+    let t3 = c.write_at.ensures.told t2 in
+    let law3 = g.met.S.Site.lawful c.write_at.new.self t3 in
+    let gate = c.in_ok-is_shut.ensures.open t1 c.if-branch.false in
+    synced2 c.args.set _ _ law law1 (c.sync.ensures.leaves t) (c.sync.ensures.crash t) _ law2
+    (c.is_shut.ensures.stays t1)
+    (c.in_ok-sync.ensures.durable t) (c.sync.ensures.same t) _ law3 gate (c.write_at.ensures.leaves t2)
+    (c.write_at.ensures.crash t2) _ (c.sync-2.ensures.leaves t3) (c.sync-2.ensures.crash t3)
+
+pub returns-in_err-sync-2-clause-settles : goal.returns-in_err-sync-2-clause-settles
+returns-in_err-sync-2-clause-settles g c image t settles =
+    let t1 = c.sync.ensures.told t in
+    let law = g.met.S.Site.lawful c.args.site.now t in
+    let law1 = g.met.S.Site.lawful c.sync.new.self t1 in
+    let t2 = c.is_shut.ensures.told t1 in
+    let law2 = g.met.S.Site.lawful c.is_shut.new.site t2 in
+    let t3 = c.write_at.ensures.told t2 in
+    let law3 = g.met.S.Site.lawful c.write_at.new.self t3 in
+    let gate = c.in_ok-is_shut.ensures.open t1 c.if-branch.false in
+    let law4 = g.met.S.Site.lawful c.sync-2.new.self (c.sync-2.ensures.told t3) in
+    settled4 c.args.set _ _ law law1 (c.sync.ensures.leaves t) (c.sync.ensures.crash t) _ law2
+    (c.is_shut.ensures.stays t1)
+    (c.in_ok-sync.ensures.durable t) (c.sync.ensures.same t) _ law3 gate (c.write_at.ensures.leaves t2)
+    (c.write_at.ensures.crash t2) _ (c.sync-2.ensures.leaves t3) (c.sync-2.ensures.crash t3) law4 image settles
+
+pub returns-clause-only : goal.returns-clause-only
+returns-clause-only g c t =
+    let t1 = c.sync.ensures.told t in
+    let law = g.met.S.Site.lawful c.args.site.now t in
+    let law1 = g.met.S.Site.lawful c.sync.new.self t1 in
+    let t2 = c.is_shut.ensures.told t1 in
+    let law2 = g.met.S.Site.lawful c.is_shut.new.site t2 in
+    let t3 = c.write_at.ensures.told t2 in
+    let law3 = g.met.S.Site.lawful c.write_at.new.self t3 in
+    let gate = c.in_ok-is_shut.ensures.open t1 c.if-branch.false in
+    only4 c.args.set _ _ law law1 (c.sync.ensures.leaves t) (c.sync.ensures.crash t) _ law2 (c.is_shut.ensures.stays t1)
+    (c.in_ok-sync.ensures.durable t) (c.sync.ensures.same t) _ law3 gate (c.write_at.ensures.leaves t2)
+    (c.write_at.ensures.crash t2) _ (c.sync-2.ensures.leaves t3) (c.sync-2.ensures.crash t3)
+
+pub returns-clause-crash : goal.returns-clause-crash
+returns-clause-crash g c t =
+    let t1 = c.sync.ensures.told t in
+    let law = g.met.S.Site.lawful c.args.site.now t in
+    let law1 = g.met.S.Site.lawful c.sync.new.self t1 in
+    let t2 = c.is_shut.ensures.told t1 in
+    let law2 = g.met.S.Site.lawful c.is_shut.new.site t2 in
+    let t3 = c.write_at.ensures.told t2 in
+    let law3 = g.met.S.Site.lawful c.write_at.new.self t3 in
+    let gate = c.in_ok-is_shut.ensures.open t1 c.if-branch.false in
+    synced2 c.args.set _ _ law law1 (c.sync.ensures.leaves t) (c.sync.ensures.crash t) _ law2
+    (c.is_shut.ensures.stays t1)
+    (c.in_ok-sync.ensures.durable t) (c.sync.ensures.same t) _ law3 gate (c.write_at.ensures.leaves t2)
+    (c.write_at.ensures.crash t2) _ (c.sync-2.ensures.leaves t3) (c.sync-2.ensures.crash t3)
+
+pub returns-clause-settles : goal.returns-clause-settles
+returns-clause-settles g c image t settles =
+    let t1 = c.sync.ensures.told t in
+    let law = g.met.S.Site.lawful c.args.site.now t in
+    let law1 = g.met.S.Site.lawful c.sync.new.self t1 in
+    let t2 = c.is_shut.ensures.told t1 in
+    let law2 = g.met.S.Site.lawful c.is_shut.new.site t2 in
+    let t3 = c.write_at.ensures.told t2 in
+    let law3 = g.met.S.Site.lawful c.write_at.new.self t3 in
+    let gate = c.in_ok-is_shut.ensures.open t1 c.if-branch.false in
+    let law4 = g.met.S.Site.lawful c.sync-2.new.self (c.sync-2.ensures.told t3) in
+    settled4 c.args.set _ _ law law1 (c.sync.ensures.leaves t) (c.sync.ensures.crash t) _ law2
+    (c.is_shut.ensures.stays t1)
+    (c.in_ok-sync.ensures.durable t) (c.sync.ensures.same t) _ law3 gate (c.write_at.ensures.leaves t2)
+    (c.write_at.ensures.crash t2) _ (c.sync-2.ensures.leaves t3) (c.sync-2.ensures.crash t3) law4 image settles
+
+pub returns-then-branch-clause-shut : goal.returns-then-branch-clause-shut
+returns-then-branch-clause-shut g c t =
+    let t1 = c.sync.ensures.told t in
+    let law = g.met.S.Site.lawful c.args.site.now t in
+    let law1 = g.met.S.Site.lawful c.sync.new.self t1 in
+    let t2 = c.is_shut.ensures.told t1 in
+    let law2 = g.met.S.Site.lawful c.is_shut.new.site t2 in
+    shut_already c.args.set _ _ law law1 (c.sync.ensures.leaves t) (c.sync.ensures.crash t) _ law2
+    (c.is_shut.ensures.stays t1) (c.in_ok-sync.ensures.durable t) (c.sync.ensures.same t)
+    (c.in_ok-is_shut.ensures.shut t1 c.if-branch.true)
+
+pub returns-then-branch-clause-rest : goal.returns-then-branch-clause-rest
+returns-then-branch-clause-rest g c t =
+    let t1 = c.sync.ensures.told t in
+    ap (λ f. drop 1 (f c.args.set)) (c.is_shut.ensures.stays t1).contents ∙ ap (drop 1) (c.sync.ensures.same t)
+
+-- the gate was written over what the first sync left
+wrote_is : (g : Over) (c : goal.In_ok-sync-2 g) (t : g.S.Site.told c.args.site.now)
+    → (g.S.Site.disk c.sync-2.new.self).contents c.args.set
+    ≡ written ((g.S.Site.disk c.args.site.now).contents c.args.set) 0 (0 ∷ [])
+wrote_is g c t =
+    let t1 = c.sync.ensures.told t in
+    let t2 = c.is_shut.ensures.told t1 in
+    let t3 = c.write_at.ensures.told t2 in
+    c.sync-2.ensures.same t3 ∙ c.in_ok-write_at.ensures.wrote t2
+    ∙ ap (λ f. written (f c.args.set) 0 (0 ∷ [])) (c.is_shut.ensures.stays t1).contents
+    ∙ ap (λ l. written l 0 (0 ∷ [])) (c.sync.ensures.same t)
+
+pub returns-clause-shut : goal.returns-clause-shut
+returns-clause-shut g c t =
+    let t1 = c.sync.ensures.told t in
+    let t2 = c.is_shut.ensures.told t1 in
+    let t3 = c.write_at.ensures.told t2 in
+    shut_now c.args.set _ _ (c.in_ok-sync-2.ensures.durable t3) (wrote_is g c t)
+
+pub returns-clause-rest : goal.returns-clause-rest
+returns-clause-rest g c t = rest_now c.args.set ((g.S.Site.disk c.args.site.now).contents c.args.set)
+    (g.S.Site.disk c.sync-2.new.self) (wrote_is g c t)

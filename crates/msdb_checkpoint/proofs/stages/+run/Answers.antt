@@ -1,0 +1,31 @@
+use Rattle.std.proofs.Common.{◌≡◌, List, ℕ, subst}
+use Rattle.fp_site.proofs.Frames.{only_joined}
+use Rattle.fp_site.proofs.Runs.{joined, weaker}
+use Rattle.msdb_checkpoint.specs.Steps.{IsAt, IsNext}
+use Rattle.msdb_checkpoint.proofs.StageLemmas.{and_then}
+use Rattle.msdb_checkpoint.proofs.stages.+run.Goals as goal
+
+pub returns-in-Some-clause-only : goal.returns-in-Some-clause-only
+returns-in-Some-clause-only g n c t =
+    let t1 = c.advance.ensures.told t in
+    only_joined c.args.set _ _ _ (g.met.S.Site.lawful c.args.site.now t) (g.met.S.Site.lawful c.advance.new.site t1)
+    (c.advance.ensures.only t) (c.run.ensures.only t1)
+
+pub returns-in-Some-clause-crash : goal.returns-in-Some-clause-crash
+returns-in-Some-clause-crash g n c t at =
+    let t1 = c.advance.ensures.told t in
+    let next = c.in_ok-next.ensures.next t at in
+    let at1 : IsAt c.args.body.now c.args.set (g.S.Site.disk c.advance.new.site) c.in-Some.next =
+    subst (IsNext c.args.body.now c.args.set (g.S.Site.disk c.advance.new.site)) c.in-Some.is next in
+    joined _ _ _ _ (c.advance.ensures.crash t at)
+    (weaker _ _ _ _ (λ s p. and_then _ (g.S.Site.disk c.advance.new.site) c.args.set c.args.body.now
+    (s.images c.args.set) (λ i settles. c.advance.ensures.settles i t at settles) p) (c.run.ensures.crash t1 at1))
+
+pub returns-in-Some-clause-settles : goal.returns-in-Some-clause-settles
+returns-in-Some-clause-settles g n c image t at settles =
+    let t1 = c.advance.ensures.told t in
+    let next = c.in_ok-next.ensures.next t at in
+    let at1 : IsAt c.args.body.now c.args.set (g.S.Site.disk c.advance.new.site) c.in-Some.next =
+    subst (IsNext c.args.body.now c.args.set (g.S.Site.disk c.advance.new.site)) c.in-Some.is next in
+    and_then _ (g.S.Site.disk c.advance.new.site) c.args.set c.args.body.now image
+    (λ i s. c.advance.ensures.settles i t at s) (c.run.ensures.settles image t1 at1 settles)
