@@ -1,5 +1,6 @@
 #!/bin/sh
-# Makes the small sample's databases in a folder of its own, runs its messages, and prints the replies.
+# Makes the small sample's databases in a folder of its own, runs its messages, and prints the replies, the databases
+# and the log.
 # The first time it proves the program and builds it. sample/try.sh runs the same
 # messages in about a minute, with no proof.
 set -e
@@ -61,3 +62,7 @@ say "making the databases"
 rt run -- define "$room"
 say "running the messages"
 rt run -- run "$room"
+say "the databases"
+rt run -- show "$room"
+say "the log"
+rt run -- log "$room"
