@@ -69,7 +69,8 @@ module _ (def : MsdbDef) (short : def.length < 2 ^ 16) where
       let regrouped : msdb_text def msdb ++ rest ≡ be16 def.length
       ++ (be32 (length segs) ++ (flat_map (λ s. s) segs ++ rest)) = simp append_assoc in
       let ok : ((def.length == def.length) && ascend (map (key_of def.fields) segs)) ≡ true =
-      both (def.length == def.length) (ascend (map (key_of def.fields) segs)) (eq-eqb def.length def.length refl) fits.0.in_order in
+      both (def.length == def.length) (ascend (map (key_of def.fields) segs)) (eq-eqb def.length def.length refl)
+      fits.0.in_order in
       ap (msdb_at def) regrouped ∙ rw (
         law16.again def.length (be32 (length segs) ++ (flat_map (λ s. s) segs ++ rest)) short,
         law32.again (length segs) (flat_map (λ s. s) segs ++ rest) fits.1,

@@ -45,8 +45,10 @@ head_again format number rest is fits = rw (
 ) refl
 
 pub placed_is : (at count : ℕ) → at ≤ 2 ^ 62 → count ≤ at → placed at count ≡ true
-placed_is at count low fewer = both (nat_le at (2 ^ 62)) (nat_le count at) (grind (arith, nat_tests)) (grind (arith,
-    nat_tests))
+placed_is at count low fewer = both (nat_le at (2 ^ 62)) (nat_le count at) (grind (arith, nat_tests)) (grind (
+  arith,
+  nat_tests,
+))
 
 pub place_again : (at count : ℕ) (rest : List ℕ) → at ≤ 2 ^ 62 → count ≤ at
     → place_at (be64 at ++ (be64 count ++ rest)) ≡ Some ((at, count), rest)
