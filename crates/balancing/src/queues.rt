@@ -1,30 +1,6 @@
 //! The queues, one for each balancing group, and the busy terminals.
 ghost use Rattle.std.specs.Option.{option_copied};
-ghost use Rattle.std.specs.Prelude.{
-  ◌≡◌,
-  ◌≤◌,
-  ◌-◌,
-  ◌*◌,
-  ◌^◌,
-  ◌++◌,
-  ◌∷◌,
-  [],
-  true,
-  false,
-  length,
-  drop,
-  replicate,
-  slice_get,
-  slice_set,
-  sum_by,
-  Ok,
-  IfOk,
-  OnOk,
-  OnErr,
-  IsNone,
-  IsTrue,
-  ◌↔◌,
-};
+ghost use Rattle.std.specs.Prelude.{◌≡◌, ◌≤◌, ◌-◌, ◌*◌, ◌^◌, ◌++◌, ◌∷◌, [], true, false, length, drop, replicate, slice_get, slice_set, sum_by, Ok, IfOk, OnOk, OnErr, IsNone, IsTrue, ◌↔◌};
 ghost use Rattle.fp_model.specs.Machine.{is_among, queued_at};
 ghost use Rattle.balancing.specs.Backlog.{AreSame, group_for, queue_of, without};
 
