@@ -1,4 +1,4 @@
-use Rattle.std.proofs.Common.{◌≡◌, Option, Some, ℕ, arith}
+use Rattle.std.proofs.Common.{◌≡◌, Option, Some, arith}
 use Rattle.std.specs.Prelude.{IfOk, Result, Ok, Err}
 use Rattle.log_format.specs.Reading.{Gives}
 use Rattle.log_format.specs.declared.fault.ReadError.{ReadError}

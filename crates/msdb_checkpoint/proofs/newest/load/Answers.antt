@@ -1,4 +1,4 @@
-use Rattle.std.proofs.Common.{◌≡◌, ◌∙◌, ap, sym}
+use Rattle.std.proofs.Common.{◌∙◌, ap, sym}
 use Rattle.checkpoint_format.specs.Reading.{rest_at}
 use Rattle.msdb_checkpoint.proofs.newest.load.Goals as goal
 

@@ -1,4 +1,4 @@
-use Rattle.std.proofs.Common.{◌≡◌, ◌∙◌, ◌<◌, ap, sym, subst, length}
+use Rattle.std.proofs.Common.{◌∙◌, ap, sym, subst}
 use Rattle.fp_site.specs.Disk.{Settles}
 use Rattle.msdb_checkpoint.specs.Steps.{IsAt, IsNext, Turn, other_set}
 use Rattle.msdb_checkpoint.proofs.StageLemmas.{at_slice, moved, moved_image, same_body, stands_at}
