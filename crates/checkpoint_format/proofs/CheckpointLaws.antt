@@ -1,5 +1,5 @@
 -- A checkpoint's bytes behind its gate: the spelling and the reader undo each other.
-use Rattle.std.proofs.Common.{◌≡◌, ◌⊎◌, inl, inr, ℕ, zero, suc, ◌^◌, ◌<◌, ◌≤◌, Bool, true, false, List, [], ◌∷◌, ◌++◌, length, Option, Some, None, refl, sym, ap, subst, ◌∙◌, append_assoc, arith}
+use Rattle.std.proofs.Common.{◌≡◌, ◌⊎◌, inl, inr, ℕ, zero, suc, ◌^◌, ◌<◌, Bool, true, false, List, [], ◌∷◌, ◌++◌, length, Option, Some, None, refl, sym, ap, subst, ◌∙◌, append_assoc, arith}
 use Rattle.std.specs.Prelude.{if◌then◌else◌, ◌==◌}
 use Rattle.std.specs.List.{AllByRecursion, AllZip}
 use Rattle.std.proofs.lemmas.Bool.{eqb-true, eq-eqb}
@@ -11,7 +11,6 @@ use Rattle.fp_model.specs.Spellings.{be64}
 use Rattle.fp_model.specs.declared.database.Msdb.{Msdb}
 use Rattle.fp_model.specs.declared.definitions.MsdbDef.{MsdbDef}
 use Rattle.log_format.specs.Laws.{Takes}
-use Rattle.log_format.specs.Reading.{◌>>=◌, byte_at}
 use Rattle.log_format.proofs.Fields.{bound, law8, next, some_is, then as joins}
 use Rattle.checkpoint_format.specs.Reading.{all_msdbs_at, head_at, lasts_at, msdbs_at, place_at, rest_at}
 use Rattle.checkpoint_format.proofs.DatabaseLaws.{AreShort, FitsMsdb, msdbs_again, msdbs_takes, msdbs_text}

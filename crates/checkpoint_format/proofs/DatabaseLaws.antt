@@ -1,6 +1,6 @@
 -- A database's spelling and its reader undo each other.
-use Rattle.std.proofs.Common.{◌≡◌, ℕ, zero, suc, ◌^◌, ◌<◌, ◌≤◌, Bool, true, false, ◌&&◌, eqb, List, [], ◌∷◌, ◌++◌, length, map, Option, Some, None, refl, sym, ap, subst, ◌∙◌, append_assoc, arith}
-use Rattle.std.specs.Prelude.{if◌then◌else◌, ◌==◌, IsTrue}
+use Rattle.std.proofs.Common.{◌≡◌, ℕ, ◌^◌, ◌<◌, Bool, true, false, ◌&&◌, List, [], ◌∷◌, ◌++◌, length, map, Some, None, refl, sym, ap, subst, ◌∙◌, append_assoc, arith}
+use Rattle.std.specs.Prelude.{if◌then◌else◌, ◌==◌}
 use Rattle.std.specs.List.{AllByRecursion, AllZip, flat_map, zip}
 use Rattle.std.proofs.lemmas.Bool.{eqb-true, eq-eqb}
 use Rattle.std.proofs.lemmas.List.Concat.{flat_map-cons}
@@ -11,11 +11,11 @@ use Rattle.fp_model.specs.State.{ascend, key_of}
 use Rattle.fp_model.specs.declared.database.Msdb.{Msdb}
 use Rattle.fp_model.specs.declared.definitions.MsdbDef.{MsdbDef}
 use Rattle.log_format.specs.Laws.{Lawful, Takes}
-use Rattle.log_format.specs.Reading.{◌>>=◌, byte_at, many_at, part_at}
-use Rattle.log_format.proofs.Fields.{bound, law8, law16, law32, next, part_again, part_takes, some_is, then as joins}
+use Rattle.log_format.specs.Reading.{many_at, part_at}
+use Rattle.log_format.proofs.Fields.{bound, law16, law32, next, part_again, part_takes, some_is, then as joins}
 use Rattle.log_format.proofs.Lists.{many_again, many_takes}
 use Rattle.log_format.proofs.Rules.{both_true}
-use Rattle.checkpoint_format.specs.Reading.{all_msdbs_at, msdb_at, msdb_in, msdbs_at}
+use Rattle.checkpoint_format.specs.Reading.{msdb_at, msdbs_at}
 
 -- a test that passed
 pub passed : {A : Type 0} (b : Bool) (x y : A) → (if b then Some x else None) ≡ Some y → (b ≡ true) × (x ≡ y)
@@ -69,7 +69,8 @@ module _ (def : MsdbDef) (short : def.length < 2 ^ 16) where
       let regrouped : msdb_text def msdb ++ rest ≡ be16 def.length
       ++ (be32 (length segs) ++ (flat_map (λ s. s) segs ++ rest)) = simp append_assoc in
       let ok : ((def.length == def.length) && ascend (map (key_of def.fields) segs)) ≡ true =
-      both (def.length == def.length) (ascend (map (key_of def.fields) segs)) (eq-eqb def.length def.length refl) fits.0.in_order in
+      both (def.length == def.length) (ascend (map (key_of def.fields) segs)) (eq-eqb def.length def.length refl)
+      fits.0.in_order in
       ap (msdb_at def) regrouped ∙ rw (
         law16.again def.length (be32 (length segs) ++ (flat_map (λ s. s) segs ++ rest)) short,
         law32.again (length segs) (flat_map (λ s. s) segs ++ rest) fits.1,

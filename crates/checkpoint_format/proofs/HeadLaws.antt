@@ -1,17 +1,17 @@
 -- The letters and numbers at the head of a checkpoint, both ways.
-use Rattle.std.proofs.Common.{◌≡◌, ◌⊎◌, inl, inr, ℕ, zero, suc, ◌+◌, ◌-◌, ◌^◌, ◌<◌, ◌≤◌, Bool, true, false, ◌&&◌, ◌||◌, List, [], ◌∷◌, ◌++◌, length, Option, Some, None, refl, sym, ap, subst, ◌∙◌, append_assoc, arith}
-use Rattle.std.specs.Prelude.{if◌then◌else◌, ◌==◌, codes, nat_le}
+use Rattle.std.proofs.Common.{◌≡◌, ◌⊎◌, inl, inr, ℕ, ◌+◌, ◌-◌, ◌^◌, ◌<◌, ◌≤◌, Bool, true, false, ◌&&◌, ◌||◌, List, [], ◌∷◌, ◌++◌, Some, refl, sym, ap, subst, ◌∙◌, append_assoc, arith}
+use Rattle.std.specs.Prelude.{◌==◌, codes, nat_le}
 use Rattle.std.proofs.lemmas.Bool.{eqb-true}
 use Rattle.std.proofs.lemmas.Bool.Decides.{nat_tests}
 use Rattle.std.proofs.lemmas.Slice.Eq.{bytes_eq-Decides}
-use Rattle.fp_model.specs.LogText.{IsBytes, IsFormat, of_format}
+use Rattle.fp_model.specs.LogText.{IsBytes, of_format}
 use Rattle.fp_model.specs.Spellings.{be64}
 use Rattle.fp_model.specs.Texts.{same_text}
 use Rattle.log_format.specs.Laws.{Takes}
-use Rattle.log_format.specs.Reading.{◌>>=◌, byte_at, part_at}
+use Rattle.log_format.specs.Reading.{part_at}
 use Rattle.log_format.proofs.Fields.{bound, law8, law64, next, part_again, part_takes, some_is, then as joins}
 use Rattle.log_format.proofs.Rules.{both_true}
-use Rattle.checkpoint_format.specs.Reading.{format_in, head_at, letters_at, place_at, placed}
+use Rattle.checkpoint_format.specs.Reading.{head_at, letters_at, place_at, placed}
 use Rattle.checkpoint_format.proofs.DatabaseLaws.{both, passed}
 
 abbrev pub letters : List ℕ
@@ -45,8 +45,10 @@ head_again format number rest is fits = rw (
 ) refl
 
 pub placed_is : (at count : ℕ) → at ≤ 2 ^ 62 → count ≤ at → placed at count ≡ true
-placed_is at count low fewer = both (nat_le at (2 ^ 62)) (nat_le count at) (grind (arith, nat_tests)) (grind (arith,
-    nat_tests))
+placed_is at count low fewer = both (nat_le at (2 ^ 62)) (nat_le count at) (grind (arith, nat_tests)) (grind (
+  arith,
+  nat_tests,
+))
 
 pub place_again : (at count : ℕ) (rest : List ℕ) → at ≤ 2 ^ 62 → count ≤ at
     → place_at (be64 at ++ (be64 count ++ rest)) ≡ Some ((at, count), rest)

@@ -1,5 +1,5 @@
 -- The last number of a terminal, both ways.
-use Rattle.std.proofs.Common.{◌≡◌, ℕ, zero, suc, ◌+◌, ◌-◌, ◌^◌, ◌<◌, ◌≤◌, Bool, true, false, ◌&&◌, ◌||◌, List, [], ◌∷◌, ◌++◌, length, get_or, map, take, replicate, Option, Some, None, refl, sym, ap, subst, ◌∙◌, append_assoc, arith}
+use Rattle.std.proofs.Common.{◌≡◌, ℕ, zero, suc, ◌-◌, ◌^◌, ◌<◌, ◌≤◌, Bool, true, false, ◌&&◌, ◌||◌, List, [], ◌∷◌, ◌++◌, length, get_or, map, take, replicate, Some, None, refl, sym, ap, subst, ◌∙◌, append_assoc, arith}
 use Rattle.std.specs.Prelude.{if◌then◌else◌, nat_le, slice_index}
 use Rattle.std.specs.List.{AllByRecursion, flat_map, list_all, list_any}
 use Rattle.std.proofs.lemmas.Bool.Decides.{nat_tests}
@@ -15,11 +15,11 @@ use Rattle.fp_model.specs.State.{ascend}
 use Rattle.fp_model.specs.Texts.{padded, same_text}
 use Rattle.fp_model.specs.declared.name.Name.{Name}
 use Rattle.log_format.specs.Laws.{Lawful, Takes}
-use Rattle.log_format.specs.Reading.{◌>>=◌, long_at, many_at, part_at}
-use Rattle.log_format.proofs.Fields.{bound, law16, law64, long_law, next, part_again, part_takes, some_is, then as joins}
+use Rattle.log_format.specs.Reading.{long_at, many_at, part_at}
+use Rattle.log_format.proofs.Fields.{bound, law16, law64, long_law, next, part_again, part_takes, then as joins}
 use Rattle.log_format.proofs.Lists.{many_again, many_takes}
 use Rattle.log_format.proofs.Rules.{both_true}
-use Rattle.checkpoint_format.specs.Reading.{is_name_of, is_stored_name, last_at, last_in, lasts_in, numbered_at}
+use Rattle.checkpoint_format.specs.Reading.{is_name_of, is_stored_name, last_at, numbered_at}
 use Rattle.checkpoint_format.proofs.DatabaseLaws.{both, passed}
 use Rattle.checkpoint_format.proofs.Numbers.{last_is}
 

@@ -1,11 +1,10 @@
 -- Terminals one by one: as they are written, and as they are put by their names.
-use Rattle.std.proofs.Common.{◌≡◌, ℕ, zero, suc, ◌+◌, ◌<◌, ◌≤◌, ◌^◌, drop, List, [], ◌∷◌, ◌++◌, length, take, map, Option, Some, None, refl, sym, ◌∙◌, ap, subst, true, slice_get, append_assoc, arith}
+use Rattle.std.proofs.Common.{◌≡◌, ℕ, zero, suc, ◌+◌, ◌<◌, ◌≤◌, drop, List, [], ◌∷◌, ◌++◌, length, take, Option, Some, None, refl, sym, ◌∙◌, ap, subst, true, slice_get, append_assoc, arith}
 use Rattle.std.specs.Prelude.{if◌then◌else◌, Bool, false}
 use Rattle.std.specs.Int.{w64}
 use Rattle.std.specs.List.{AllByRecursion, flat_map}
 use Rattle.std.proofs.lemmas.Bool.{le-ltb}
 use Rattle.log_format.specs.Reading.{long_at, number_at, part_at}
-use Rattle.fp_model.specs.Lasts.{Last}
 use Rattle.fp_model.specs.declared.name.Name.{Name}
 use Rattle.checkpoint_format.specs.Reading.{is_stored_name, last_at, last_in}
 use Rattle.std.proofs.lemmas.List.{append-nil}

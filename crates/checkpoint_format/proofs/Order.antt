@@ -1,5 +1,5 @@
 -- Ascending keys, one step at a time.
-use Rattle.std.proofs.Common.{◌≡◌, ℕ, List, [], ◌∷◌, ◌++◌, Bool, true, ◌&&◌, map, ap, refl}
+use Rattle.std.proofs.Common.{◌≡◌, ℕ, List, [], ◌∷◌, ◌++◌, ◌&&◌, map, ap, refl}
 use Rattle.fp_model.specs.State.{ascend}
 use Rattle.checkpoint_format.specs.Order.{is_before}
 

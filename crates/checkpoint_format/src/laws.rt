@@ -15,5 +15,4 @@ pub fn checkpoints_are_lawful()
     ensures again { (defs : ListOf DefOf) → (format : ℕ) → (c : Checkpoint) → (rest : ListOf ℕ)
         → AllByRecursion (λ (def : DefOf). def.length < 2 ^ 16) defs → IsCheckpoint format defs c
         → rest_at defs (checkpoint_rest format defs c ++ rest) ≡ Some ((format, c), rest) }
-{
-}
+{}

@@ -10,9 +10,11 @@ ghost use Rattle.checkpoint_format.specs.Reading.{
   place_at,
   rest_at,
 };
+ghost use Rattle.fp_model.specs.CheckpointText.{IsCheckpoint, checkpoint_rest};
 ghost use Rattle.fp_model.specs.State.{ascend, key_of};
+ghost use Rattle.std.specs.List.{AllByRecursion};
 ghost use Rattle.log_format.specs.Reading.{Gives, many_at, part_at};
-ghost use Rattle.std.specs.Prelude.{◌≡◌, ◌+◌, ◌<◌, ◌≤◌, ◌^◌, length, map};
+ghost use Rattle.std.specs.Prelude.{◌≡◌, ◌+◌, ◌<◌, ◌≤◌, ◌^◌, ◌++◌, IfOk, length, map};
 
 use crate::Loaded;
 use crate::terminals::lasts_of;
@@ -162,9 +164,9 @@ fn all_msdbs_of<'a>(
     msdbs_of(alloc, defs, rest)
 }
 
-/// A checkpoint of these databases, by its bytes behind the gate, and what stands behind it.
+// A checkpoint of these databases, by its bytes behind the gate.
 #[tactic(auto, unfolding(crate::specs::Reading::rest_at))]
-pub fn read<'a>(
+fn rest_of<'a>(
     alloc: Global,
     defs: &[MsdbDef],
     bytes: &'a [u8],
@@ -184,4 +186,21 @@ pub fn read<'a>(
         lasts,
     };
     Ok((loaded, rest))
+}
+
+/// A checkpoint of these databases, by its bytes behind the gate, and what stands behind it. Bytes that begin with none
+/// are `Bad`.
+pub fn read<'a>(
+    alloc: Global,
+    defs: &[MsdbDef],
+    bytes: &'a [u8],
+) -> Result<(Loaded, &'a [u8]), ReadError>
+    ensures given { Gives (λ x. ((x.0.format, loaded_as x.0), x.1.now)) result (rest_at defs.now bytes.now) }
+
+    // It is a checkpoint that keeps the rules, and the bytes begin with its spelling.
+    ensures whole { AllByRecursion (λ def. def.length < 2 ^ 16) defs.now → IfOk result (λ x. (bytes.now
+        ≡ checkpoint_rest x.0.format defs.now (loaded_as x.0) ++ x.1.now)
+        × IsCheckpoint x.0.format defs.now (loaded_as x.0)) }
+{
+    rest_of(alloc, defs, bytes)
 }

@@ -163,6 +163,24 @@ fn without_a_fault_both_are_sure(rt: HostRuntime) -> Result<(), Fail> {
     Ok(())
 }
 
+/// The bytes of the first checkpoint at place 100 with 1 entry before it, in format 1: its gate, the letters, three
+/// numbers, the number of databases, and of the one database the length of a segment, their number, and the segments.
+const BYTES: &[u8] = b"\x01IMSFPCK1\
+\x00\x00\x00\x00\x00\x00\x00\x01\x00\x00\x00\x00\x00\x00\x00\x64\x00\x00\x00\x00\x00\x00\x00\x01\
+\x01\x00\x08\x00\x00\x00\x02A001one A002old ";
+
+#[test]
+fn bytes_are_those_of_the_format(rt: HostRuntime) -> Result<(), Fail> {
+    let first = defs_of(rt.alloc(), FIRST)?;
+    let mut site = MemorySite::new(rt.alloc(), &[])?;
+    assert!(rt; prepare(&mut site));
+    let mut checkpoints = Checkpoints::open(None, 2);
+    assert!(rt; write_in_steps(rt.alloc(), &mut site, &mut checkpoints, 1, &first)?);
+    assert!(rt; site.contents(1) == BYTES);
+    assert!(rt; site.contents(2) == [0].as_slice());
+    Ok(())
+}
+
 /// Whether a checkpoint of format 2 was read, whole and without terminals.
 fn is_in_format_two(loaded: &Result<Option<Loaded>, CkptFault>) -> bool {
     match loaded {

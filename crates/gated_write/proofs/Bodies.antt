@@ -1,16 +1,16 @@
 -- Pieces of a body behind a gate: what a crash leaves of each write, and of the sync behind them.
-use Rattle.std.proofs.Common.{◌≡◌, inl, inr, ⊎_elim, ℕ, suc, ◌+◌, ◌-◌, ◌<◌, ◌≤◌, false, List, [], ◌∷◌, ◌++◌, length, get_or, take, drop, refl, sym, ◌∙◌, ap, subst, arith, append_assoc}
+use Rattle.std.proofs.Common.{◌≡◌, ⊎_elim, ℕ, suc, ◌+◌, ◌-◌, ◌<◌, ◌≤◌, false, List, [], ◌∷◌, ◌++◌, length, get_or, take, drop, refl, sym, ◌∙◌, ap, subst, arith, append_assoc}
 use Rattle.std.specs.Prelude.{slice_index, Result, Ok, Err, OnOk}
 use Rattle.std.proofs.lemmas.Bool.{cases_lt}
 use Rattle.std.proofs.lemmas.Bool.Decides.{nat_tests}
-use Rattle.std.proofs.lemmas.List.{ext_get_or, get_or-take, length-append, length-take, take_at, drop_at, take-append-drop, take-append-le}
+use Rattle.std.proofs.lemmas.List.{ext_get_or, get_or-take, length-append, length-take, take_at, take-append-drop}
 use Rattle.fp_site.specs.Disk.{Disk, Snapshot, Torn, IsDurable, Differs, Settles, Tears, Syncs, Elapses, Leaves, IsLawful, written, covers}
 use Rattle.fp_site.specs.Moments.{Through, OnlyOn}
 use Rattle.fp_site.proofs.Torns.{torn_none}
 use Rattle.fp_site.proofs.Images.{same_step, settles_left, settles_synced, durable_settles}
 use Rattle.fp_site.proofs.Runs.{now_one, started, goes_on}
 use Rattle.fp_site.proofs.Frames.{only_none, only_more}
-use Rattle.gated_write.specs.Gates.{IsUnopened, AreUnopened, IsWriting, IsReady}
+use Rattle.gated_write.specs.Gates.{IsUnopened, AreUnopened, IsWriting}
 
 -- what an Ok leads to
 pub on_ok : {T E P Q : Type 0} (r : Result T E) → OnOk r P → (P → Q) → OnOk r Q

@@ -1,5 +1,5 @@
 -- The gate is opened: what a crash leaves of its write and of the sync behind it.
-use Rattle.std.proofs.Common.{◌≡◌, ℕ, suc, ◌+◌, ◌<◌, ◌≤◌, List, [], ◌∷◌, ◌++◌, length, get_or, take, drop, refl, sym, ◌∙◌, ap, subst, arith}
+use Rattle.std.proofs.Common.{◌≡◌, ℕ, ◌+◌, ◌<◌, ◌≤◌, List, [], ◌∷◌, ◌++◌, length, get_or, take, drop, sym, ◌∙◌, ap, subst, arith}
 use Rattle.std.proofs.lemmas.List.{length-append, length-take, take-take, take_at, drop_at, drop_more, take-append-le}
 use Rattle.fp_site.specs.Disk.{Disk, Snapshot, Torn, IsDurable, Settles, Tears, Syncs, Elapses, Leaves, IsLawful, written}
 use Rattle.fp_site.specs.Moments.{Through, OnlyOn}

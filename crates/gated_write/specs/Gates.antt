@@ -1,7 +1,7 @@
 -- A gated write: bytes behind a gate of a data set, which is opened once they are all there. What an image of the data
 -- set is at each moment of it, by the contents from before it.
-use Rattle.std.specs.Prelude.{◌≡◌, ◌≢◌, ◌⊎◌, ℕ, ◌+◌, ◌<◌, ◌≤◌, List, [], ◌∷◌, ◌++◌, length, take, drop, slice_index}
-use Rattle.fp_site.specs.Disk.{Disk, Snapshot, IsDurable, Settles}
+use Rattle.std.specs.Prelude.{◌≡◌, ◌≢◌, ◌⊎◌, ℕ, ◌+◌, ◌<◌, ◌≤◌, List, ◌∷◌, ◌++◌, length, take, drop, slice_index}
+use Rattle.fp_site.specs.Disk.{Disk, IsDurable, Settles}
 
 -- the gate's byte is there, and isn't 1
 pub record IsClosed (gate : ℕ) (bytes : List ℕ) : Type 0 where

@@ -1,9 +1,9 @@
 -- Which data set has the newest open checkpoint, and what is wrong with one.
-use Rattle.std.specs.Prelude.{◌≡◌, ◌≢◌, ◌⊎◌, ℕ, ◌<◌, ◌≤◌, List, length, drop, Option, Some, None, slice_index}
+use Rattle.std.specs.Prelude.{◌≡◌, ◌≢◌, ◌⊎◌, ℕ, ◌<◌, ◌≤◌, ◌++◌, List, length, drop, Option, Some, None, slice_index}
 use Rattle.checkpoint_format.specs.Given.{loaded_as}
 use Rattle.checkpoint_format.specs.Reading.{head_at, rest_at}
 use Rattle.checkpoint_format.specs.declared.checkpoint.Loaded.{Loaded}
-use Rattle.fp_model.specs.CheckpointText.{IsOpen}
+use Rattle.fp_model.specs.CheckpointText.{IsCheckpoint, IsOpen, checkpoint_rest}
 use Rattle.fp_model.specs.declared.definitions.MsdbDef.{MsdbDef}
 use Rattle.fp_site.specs.Disk.{read_range}
 use Rattle.msdb_checkpoint.specs.Steps.{other_set}
@@ -46,6 +46,12 @@ IsNewer (Some first) (Some second) found =
 abbrev pub HasCheckpoint : List MsdbDef → List ℕ → Loaded → Type 0
 HasCheckpoint defs bytes loaded = (rest : List ℕ)
     × (rest_at defs (drop 1 bytes) ≡ Some ((loaded.format, loaded_as loaded), rest))
+
+-- the data set begins with this checkpoint, open, and it keeps the rules
+abbrev pub IsWhole : List MsdbDef → List ℕ → Loaded → Type 0
+IsWhole defs bytes loaded =
+    ((rest : List ℕ) × (drop 1 bytes ≡ checkpoint_rest loaded.format defs (loaded_as loaded) ++ rest))
+    × IsCheckpoint loaded.format defs (loaded_as loaded)
 
 -- or none
 abbrev pub HasNoCheckpoint : List MsdbDef → List ℕ → Type 0

@@ -1,5 +1,5 @@
 -- A checkpoint that is written in steps, and what its data set is at every moment of it.
-use Rattle.std.specs.Prelude.{◌≡◌, ◌⊎◌, ⊤, ℕ, ◌+◌, ◌-◌, ◌/◌, ◌^◌, ◌<◌, ◌≤◌, List, [], ◌∷◌, ◌++◌, length, take, Option, Some, None}
+use Rattle.std.specs.Prelude.{◌≡◌, ◌⊎◌, ⊤, ℕ, ◌+◌, ◌-◌, ◌/◌, ◌^◌, ◌<◌, ◌≤◌, List, ◌∷◌, ◌++◌, length, take, Option, Some, None}
 use Rattle.fp_site.specs.Disk.{Disk, IsDurable, Settles}
 use Rattle.gated_write.specs.Gates.{IsClosed, IsReady, IsWriting}
 use Rattle.msdb_checkpoint.specs.declared.stages.Stage.{Stage}

@@ -3,9 +3,38 @@ ghost use Rattle.fp_model.specs.CheckpointText.{IsOpen};
 ghost use Rattle.fp_site.specs.Disk.{Disk, Stays, read_range};
 ghost use Rattle.fp_site.specs.Site.{Counts};
 ghost use Rattle.gated_write.specs.Gates.{ReadsOnly};
-ghost use Rattle.msdb_checkpoint.specs.Newest.{HasBadHead, HasCheckpoint, HasNoCheckpoint, HasNumber, IsDamagedSet, IsNewer, IsNewest, IsNotOpen, ReadsCheckpoints};
+ghost use Rattle.msdb_checkpoint.specs.Newest.{
+  HasBadHead,
+  HasCheckpoint,
+  HasNoCheckpoint,
+  HasNumber,
+  IsDamagedSet,
+  IsNewer,
+  IsNewest,
+  IsNotOpen,
+  IsWhole,
+  ReadsCheckpoints,
+};
 ghost use Rattle.msdb_checkpoint.specs.declared.fault.CkptFault.TheVariants as faults;
-ghost use Rattle.std.specs.Prelude.{◌≡◌, ◌⊎◌, ◌-◌, ◌<◌, ◌≤◌, ◌^◌, ℕ, IfNone, IfOk, IfSome, IsErrOf, drop, false, length, take, true};
+ghost use Rattle.std.specs.List.{AllByRecursion};
+ghost use Rattle.std.specs.Prelude.{
+  ◌≡◌,
+  ◌⊎◌,
+  ◌-◌,
+  ◌<◌,
+  ◌≤◌,
+  ◌^◌,
+  ℕ,
+  IfNone,
+  IfOk,
+  IfSome,
+  IsErrOf,
+  drop,
+  false,
+  length,
+  take,
+  true,
+};
 
 use crate::{Checkpoints, CkptFault};
 use checkpoint_format::{Loaded, head, read};
@@ -16,7 +45,8 @@ use std::alloc::Global;
 
 // The gate of a data set and the 16 bytes behind it, and whether it has them.
 fn front_of<S: Site>(site: &mut S, set: u16) -> Result<([u8; 17], bool), Failed>
-    ensures bytes { S.told site.old → IfOk result (λ front. front.0 ≡ read_range ((S.disk site.old).contents set) 0 17) }
+    ensures bytes { S.told site.old
+        → IfOk result (λ front. front.0 ≡ read_range ((S.disk site.old).contents set) 0 17) }
     ensures whole { S.told site.old → IfOk result
         (λ front. front.1 ≡ true → 17 ≤ length ((S.disk site.old).contents set)) }
     ensures cut { S.told site.old → IfOk result
@@ -139,6 +169,8 @@ fn load<S: Site>(
     set: u16,
 ) -> Result<Loaded, CkptFault>
     ensures ok { S.told site.old → IfOk result (HasCheckpoint defs.now ((S.disk site.old).contents set)) }
+    ensures whole { S.told site.old → AllByRecursion (λ def. def.length < 2 ^ 16) defs.now
+        → IfOk result (IsWhole defs.now ((S.disk site.old).contents set)) }
     ensures damaged { (place : ℕ) → S.told site.old → IsErrOf result (faults.Damaged place)
         → (place ≡ set) × HasNoCheckpoint defs.now ((S.disk site.old).contents set) }
     ensures cause { IsErrOf result faults.Failed → (S.faults site.old < S.faults site.new)
@@ -174,6 +206,11 @@ impl Checkpoints {
         ensures some { S.told site.old → IfOk result (λ found. IfSome found
             (λ loaded. (set : ℕ) × IsNewest (S.disk site.old).contents set
             × HasCheckpoint defs.now.msdbs ((S.disk site.old).contents set) loaded)) }
+
+        // It is whole: the data set begins with it, and it keeps the rules.
+        ensures whole { S.told site.old → AllByRecursion (λ def. def.length < 2 ^ 16) defs.now.msdbs
+            → IfOk result (λ found. IfSome found (λ loaded. (set : ℕ) × IsNewest (S.disk site.old).contents set
+            × IsWhole defs.now.msdbs ((S.disk site.old).contents set) loaded)) }
         ensures damaged { (set : ℕ) → S.told site.old → IsErrOf result (faults.Damaged set)
             → IsDamagedSet defs.now.msdbs (S.disk site.old).contents set }
         ensures cause { IsErrOf result faults.Failed → (S.faults site.old < S.faults site.new)

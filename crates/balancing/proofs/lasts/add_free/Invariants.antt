@@ -1,4 +1,4 @@
-use Rattle.std.proofs.Common.{ℕ, ◌-◌, ◌≤◌, max, length}
+use Rattle.std.proofs.Common.{◌-◌, ◌≤◌, max, length}
 use Rattle.balancing.proofs.lasts.add_free.Given as goal
 
 -- no handle is lost, and there are no more than were asked for

@@ -1,4 +1,4 @@
-use Rattle.std.proofs.Common.{◌≡◌, ◌≤◌, ◌∙◌, ap, sym, subst, length, Some, arith}
+use Rattle.std.proofs.Common.{◌∙◌, ap, sym, Some, arith}
 use Rattle.fp_model.specs.Lasts.{Last}
 use Rattle.balancing.specs.Numbered.{if_same, as_last, lasts_in}
 use Rattle.balancing.proofs.Ascending.{lacks_there}

@@ -1,4 +1,4 @@
-use Rattle.std.proofs.Common.{◌≡◌, ◌++◌, ◌∷◌, [], ◌∙◌, ap, sym, map, subst, true}
+use Rattle.std.proofs.Common.{◌≡◌, ◌++◌, ◌∷◌, ◌∙◌, ap, sym, map, subst, true}
 use Rattle.fp_model.specs.Lasts.{Last, with_last}
 use Rattle.fp_model.specs.State.{ascend}
 use Rattle.checkpoint_format.specs.Terminals.{as_last}

@@ -1,4 +1,4 @@
-use Rattle.std.proofs.Common.{◌≡◌, ◌∙◌, ap, sym, arith}
+use Rattle.std.proofs.Common.{◌∙◌, sym, arith}
 use Rattle.checkpoint_format.proofs.Numbers.{last_is, last_isnt, part_is}
 use Rattle.checkpoint_format.proofs.terminals.last_of.Goals as goal
 

@@ -1,4 +1,4 @@
-use Rattle.std.proofs.Common.{◌≡◌, ◌∙◌, ap, sym, map, true, false}
+use Rattle.std.proofs.Common.{◌∙◌, ap, sym, map}
 use Rattle.fp_model.specs.Lasts.{Last}
 use Rattle.fp_model.specs.State.{ascend}
 use Rattle.checkpoint_format.specs.Terminals.{as_last}

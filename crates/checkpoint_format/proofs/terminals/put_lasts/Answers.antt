@@ -1,4 +1,4 @@
-use Rattle.std.proofs.Common.{◌≡◌, ◌++◌, ◌∙◌, ap, sym, length, arith, take, get_or}
+use Rattle.std.proofs.Common.{◌++◌, ◌∙◌, ap, sym, length, arith, take}
 use Rattle.std.specs.List.{flat_map}
 use Rattle.fp_model.specs.CheckpointText.{last_text}
 use Rattle.fp_model.specs.Spellings.{be64}

@@ -1,5 +1,4 @@
-use Rattle.std.proofs.Common.{◌≡◌, ◌⊎◌, inl, inr, ℕ, ◌+◌, ◌<◌, List, [], arith}
-use Rattle.fp_site.specs.Disk.{Snapshot}
+use Rattle.std.proofs.Common.{inl, inr, ◌+◌, ◌<◌, [], arith}
 use Rattle.fp_site.proofs.Frames.{only_joined}
 use Rattle.fp_site.proofs.Runs.{joined, weaker}
 use Rattle.gated_write.proofs.Bodies.{begins}

@@ -1,4 +1,4 @@
-use Rattle.std.proofs.Common.{◌≡◌, ◌∙◌, inl, inr, ap, sym, subst, get_or, take, drop, Some, None, List, ℕ}
+use Rattle.std.proofs.Common.{◌≡◌, ◌∙◌, inr, ap, sym, get_or, take, drop, None, List, ℕ}
 use Rattle.checkpoint_format.specs.Reading.{head_at}
 use Rattle.msdb_checkpoint.proofs.Heads.{behind_gate, gate_is}
 use Rattle.msdb_checkpoint.proofs.newest.number_in.Goals as goal

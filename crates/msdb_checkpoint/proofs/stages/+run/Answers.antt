@@ -1,4 +1,4 @@
-use Rattle.std.proofs.Common.{◌≡◌, List, ℕ, subst}
+use Rattle.std.proofs.Common.{subst}
 use Rattle.fp_site.proofs.Frames.{only_joined}
 use Rattle.fp_site.proofs.Runs.{joined, weaker}
 use Rattle.msdb_checkpoint.specs.Steps.{IsAt, IsNext}

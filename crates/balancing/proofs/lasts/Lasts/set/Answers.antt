@@ -1,5 +1,5 @@
 use Rattle.std.proofs.Common.{◌≡◌, ◌∙◌, ap, sym, subst, arith, length}
-use Rattle.fp_model.specs.Lasts.{Last, with_last}
+use Rattle.fp_model.specs.Lasts.{with_last}
 use Rattle.balancing.specs.Numbered.{IsPlaced, lasts_in}
 use Rattle.balancing.specs.declared.lasts.Place.TheVariants.{Stands, Lacks}
 use Rattle.balancing.proofs.Ascending.{IsAscending, put_over, put_in, with_one_ascends}

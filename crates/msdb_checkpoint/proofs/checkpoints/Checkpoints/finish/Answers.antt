@@ -1,4 +1,4 @@
-use Rattle.std.proofs.Common.{◌≡◌, ◌∙◌, Option, None, Some, ℕ, ap, sym, subst}
+use Rattle.std.proofs.Common.{◌≡◌, ◌∙◌, Option, None, ℕ, ap, sym, subst}
 use Rattle.fp_site.specs.Disk.{Settles}
 use Rattle.msdb_checkpoint.specs.Steps.{IsSure, Turn, other_set}
 use Rattle.msdb_checkpoint.specs.declared.stages.UnderWay.{UnderWay}
@@ -84,7 +84,8 @@ returns-clause-sure g c u t stands was =
       was = ap (λ (t : Turn). t.under_way) (sym view) ∙ is;
       sure = subst (λ n. IsSure c.in-Some.under_way.body (other_set n) (g.S.Site.disk c.run.new.site)) of_set
           (subst (λ b. IsSure b (other_set c.self.inside.set) (g.S.Site.disk c.run.new.site)) c.as_slice.ensures sure);
-      turn = ap (λ n. record { set = other_set n; number = c.in-Some.under_way.number; under_way = c.take.new.self }) of_set
+      turn = ap (λ n. record { set = other_set n; number = c.in-Some.under_way.number; under_way = c.take.new.self })
+          of_set
           ∙ ap (λ o. record { set = other_set c.args.self.now.set; number = c.in-Some.under_way.number; under_way = o })
           c.take.ensures.after;
     }

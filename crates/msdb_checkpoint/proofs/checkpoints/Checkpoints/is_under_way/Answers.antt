@@ -1,4 +1,4 @@
-use Rattle.std.proofs.Common.{◌≡◌, ◌∙◌, Option, Some, None, Bool, true, false, ap, refl, sym}
+use Rattle.std.proofs.Common.{◌≡◌, ◌∙◌, Option, Some, None, true, ap, refl, sym}
 use Rattle.std.specs.Option.{is_some}
 use Rattle.msdb_checkpoint.specs.Steps.{Turn}
 use Rattle.msdb_checkpoint.proofs.checkpoints.Checkpoints.is_under_way.Goals as goal

@@ -1,4 +1,4 @@
-use Rattle.std.proofs.Common.{◌≡◌, ◌∙◌, ◌<◌, ap, sym, subst, length}
+use Rattle.std.proofs.Common.{◌∙◌, ap, sym, subst}
 use Rattle.fp_site.specs.Disk.{Settles}
 use Rattle.msdb_checkpoint.specs.Steps.{IsAt, IsNext, Turn, other_set}
 use Rattle.msdb_checkpoint.proofs.StageLemmas.{at_slice, moved, moved_image, same_body, stands_at}
@@ -11,7 +11,10 @@ returns-in_err-stage-clause-crash g c u t was stands =
     let at = stands_at _ _ _ _ (g.S.Site.disk c.args.site.now) c.in-Some.under_way view is stands in
     let same = c.as_slice.ensures ∙ same_body _ _ _ _ u c.in-Some.under_way view is was in
     let of_set = ap (λ (t : Turn). t.set) view in
-    moved _ _ _ _ _ _ of_set same (c.advance.ensures.crash t (at_slice c.in-Some.under_way _ (other_set c.self.inside.set) (g.S.Site.disk c.args.site.now) c.as_slice.ensures at))
+    moved _ _ _ _ _ _ of_set same
+    (c.advance.ensures.crash t
+    (at_slice c.in-Some.under_way _ (other_set c.self.inside.set) (g.S.Site.disk c.args.site.now) c.as_slice.ensures
+    at))
 
 pub returns-in_err-stage-clause-settles : goal.returns-in_err-stage-clause-settles
 returns-in_err-stage-clause-settles g c u image t was stands settles =
@@ -31,7 +34,10 @@ returns-in-Some-2-clause-crash g c u t was stands =
     let at = stands_at _ _ _ _ (g.S.Site.disk c.args.site.now) c.in-Some.under_way view is stands in
     let same = c.as_slice.ensures ∙ same_body _ _ _ _ u c.in-Some.under_way view is was in
     let of_set = ap (λ (t : Turn). t.set) view in
-    moved _ _ _ _ _ _ of_set same (c.advance.ensures.crash t (at_slice c.in-Some.under_way _ (other_set c.self.inside.set) (g.S.Site.disk c.args.site.now) c.as_slice.ensures at))
+    moved _ _ _ _ _ _ of_set same
+    (c.advance.ensures.crash t
+    (at_slice c.in-Some.under_way _ (other_set c.self.inside.set) (g.S.Site.disk c.args.site.now) c.as_slice.ensures
+    at))
 
 pub returns-in-Some-2-clause-settles : goal.returns-in-Some-2-clause-settles
 returns-in-Some-2-clause-settles g c u image t was stands settles =
@@ -51,7 +57,10 @@ returns-in-None-clause-crash g c u t was stands =
     let at = stands_at _ _ _ _ (g.S.Site.disk c.args.site.now) c.in-Some.under_way view is stands in
     let same = c.as_slice.ensures ∙ same_body _ _ _ _ u c.in-Some.under_way view is was in
     let of_set = ap (λ (t : Turn). t.set) view in
-    moved _ _ _ _ _ _ of_set same (c.advance.ensures.crash t (at_slice c.in-Some.under_way _ (other_set c.self.inside.set) (g.S.Site.disk c.args.site.now) c.as_slice.ensures at))
+    moved _ _ _ _ _ _ of_set same
+    (c.advance.ensures.crash t
+    (at_slice c.in-Some.under_way _ (other_set c.self.inside.set) (g.S.Site.disk c.args.site.now) c.as_slice.ensures
+    at))
 
 pub returns-in-None-clause-settles : goal.returns-in-None-clause-settles
 returns-in-None-clause-settles g c u image t was stands settles =
@@ -69,8 +78,11 @@ returns-in-Some-2-clause-goes g c t stands still =
     let view = c.self.view_is in
     let is = sym c.take.ensures.value ∙ c.in-Some.is in
     let at = stands_at _ _ _ _ (g.S.Site.disk c.args.site.now) c.in-Some.under_way view is stands in
-    let next = c.in_ok-stage.ensures.next t (at_slice c.in-Some.under_way _ (other_set c.self.inside.set) (g.S.Site.disk c.args.site.now) c.as_slice.ensures at) in
+    let next = c.in_ok-stage.ensures.next t
+    (at_slice c.in-Some.under_way _ (other_set c.self.inside.set) (g.S.Site.disk c.args.site.now) c.as_slice.ensures
+    at) in
     subst (λ b. IsAt b (other_set c.self.inside.set) (g.S.Site.disk c.advance.new.site) c.in-Some-2.stage)
     c.as_slice.ensures
-    (subst (IsNext c.as_slice.result.now (other_set c.self.inside.set) (g.S.Site.disk c.advance.new.site)) c.in-Some-2.is
+    (subst (IsNext c.as_slice.result.now (other_set c.self.inside.set) (g.S.Site.disk c.advance.new.site))
+    c.in-Some-2.is
     next)

@@ -1,4 +1,4 @@
-use Rattle.std.proofs.Common.{◌≡◌, ◌+◌, ◌∙◌, None, ℕ, ap}
+use Rattle.std.proofs.Common.{◌+◌, ◌∙◌, None, ℕ, ap}
 use Rattle.gated_write.proofs.Bodies.{on_ok}
 use Rattle.msdb_checkpoint.specs.Steps.{Turn, other_set}
 use Rattle.msdb_checkpoint.proofs.checkpoints.Checkpoints.write.Goals as goal
