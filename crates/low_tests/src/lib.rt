@@ -17,6 +17,8 @@ mod lines;
 #[cfg(test)]
 mod lists;
 #[cfg(test)]
+mod loads;
+#[cfg(test)]
 mod locks;
 #[cfg(test)]
 mod log_bytes;
