@@ -163,7 +163,7 @@ module _ (s : State) (rows : List Row) (sound : IsSound s) (e : rows_of s ≡ ro
       × IsSome ((standing rows).holds region (Anchor dedb anchor))
   one_held (anchor, from, to, some) =
       let holders = some_value (code.holders_in s.holdings (Anchor dedb anchor)) some in
-      let region = sound.held dedb anchor holders.0 holders.1 in
+      let region = sound.held (Anchor dedb anchor) holders.0 holders.1 in
       let P : Option Mode → Type 0 = IsSome in (
         region.0,
         anchor,

@@ -3,7 +3,6 @@ use Rattle.std.proofs.Common.{refl, ◌≡◌, ℕ, Bool, true, false, ◌&&◌,
 use Rattle.std.specs.Prelude.{IsSome, if◌then◌else◌, option_and_then}
 use Rattle.fp_model.specs.declared.calls.Mode.{Mode}
 use Rattle.fp_model.specs.declared.calls.Resource.{Resource}
-use Rattle.fp_model.specs.declared.calls.Resource.TheVariants.{Anchor}
 use Rattle.fp_model.specs.Waiting.{same_resource}
 use Rattle.ci_locks.specs.Holdings.{AreHeld, held_by, holders_in, mode_of}
 use Rattle.ci_locks.specs.Standing.{raised}
@@ -48,23 +47,23 @@ module _ (old new : Holdings) (resource : Resource) (region : ℕ) where
             (held_by old other one)
 
     pub gain_held : AreHeld old → AreHeld new
-    gain_held were dedb anchor found is = by (same_resource resource (Anchor dedb anchor)) refl
+    gain_held were one found is = by (same_resource resource one) refl
       where
         here : mode_of h region ≡ Some (raised (held_by old region resource) mode)
         here = has_it region ∙ ap (λ b. if b then Some (raised (held_by old region resource) mode) else held_by old
             region resource) (is_number region)
 
-        by : (b : Bool) → same_resource resource (Anchor dedb anchor) ≡ b → (number : ℕ) × IsSome (mode_of found number)
+        by : (b : Bool) → same_resource resource one ≡ b → (number : ℕ) × IsSome (mode_of found number)
         by true e =
-            let same : Some h ≡ Some found = ap (λ b. if b then Some h else holders_in old (Anchor dedb anchor)) (sym e)
-            ∙ sym (put (Anchor dedb anchor)) ∙ is in
+            let same : Some h ≡ Some found = ap (λ b. if b then Some h else holders_in old one) (sym e)
+            ∙ sym (put one) ∙ is in
             let it : h ≡ found = cc in (
               region,
               is_there (mode_of found region) (raised (held_by old region resource) mode)
                   (ap (λ holders. mode_of holders region) (sym it) ∙ here),
             )
-        by false e = were dedb anchor found (ap (λ b. if b then Some h else holders_in old (Anchor dedb anchor)) (sym e)
-            ∙ sym (put (Anchor dedb anchor)) ∙ is)
+        by false e = were one found (ap (λ b. if b then Some h else holders_in old one) (sym e)
+            ∙ sym (put one) ∙ is)
 
   -- a region goes
   module _ (now : Option Holders) (put : Puts now)
@@ -84,13 +83,13 @@ module _ (old new : Holdings) (resource : Resource) (region : ℕ) where
 
     pub leave_held : ((found : Holders) → now ≡ Some found → (number : ℕ) × IsSome (mode_of found number)) → AreHeld old
         → AreHeld new
-    leave_held some were dedb anchor found is = by (same_resource resource (Anchor dedb anchor)) refl
+    leave_held some were one found is = by (same_resource resource one) refl
       where
-        by : (b : Bool) → same_resource resource (Anchor dedb anchor) ≡ b → (number : ℕ) × IsSome (mode_of found number)
-        by true e = some found (ap (λ b. if b then now else holders_in old (Anchor dedb anchor)) (sym e) ∙ sym
-            (put (Anchor dedb anchor)) ∙ is)
-        by false e = were dedb anchor found (ap (λ b. if b then now else holders_in old (Anchor dedb anchor)) (sym e) ∙
-            sym (put (Anchor dedb anchor)) ∙ is)
+        by : (b : Bool) → same_resource resource one ≡ b → (number : ℕ) × IsSome (mode_of found number)
+        by true e = some found (ap (λ b. if b then now else holders_in old one) (sym e) ∙ sym
+            (put one) ∙ is)
+        by false e = were one found (ap (λ b. if b then now else holders_in old one) (sym e) ∙
+            sym (put one) ∙ is)
 
   -- what is left of its holders
   pub left_of : (h l : Holders) → holders_in old resource ≡ Some h

@@ -6,7 +6,6 @@ use Rattle.std.proofs.lemmas.Bool.{cases_eq}
 use Rattle.std.proofs.lemmas.Bool.Decides.{nat_tests}
 use Rattle.fp_model.specs.declared.calls.Mode.{Mode}
 use Rattle.fp_model.specs.declared.calls.Resource.{Resource}
-use Rattle.fp_model.specs.declared.calls.Resource.TheVariants.{Anchor}
 use Rattle.fp_model.specs.Waiting.{Lock, same_resource}
 use Rattle.ci_locks.specs.Holdings.{AreHeld, held_by, holders_in, mode_of}
 use Rattle.ci_locks.specs.Regions.{AreTold, Hears, IsRight, IsSound, ahead_of, asked_mode, heard, is_ahead, region_at, region_request, standing_of}
@@ -454,7 +453,7 @@ idle_sound s few idle none = record {
       it.1 other ∙ ap (λ q. is_ahead s.holdings k q other) (sym it.0);
   listed = λ k region is one m has_it. absurd (nobody_holds m (sym (no_mode k one) ∙ has_it));
   within = λ k one m has_it. absurd (nobody_holds m (sym (no_mode k one) ∙ has_it));
-  held = λ dedb anchor holders is. absurd (let wrong : None ≡ Some holders = sym (none (Anchor dedb anchor)) ∙ is in
+  held = λ one holders is. absurd (let wrong : None ≡ Some holders = sym (none one) ∙ is in
       cc);
 }
   where

@@ -48,7 +48,7 @@ holders_in holdings resource = resource_holders (λ key. key.items) holdings.anc
 abbrev pub held_by : Holdings → ℕ → Resource → Option Mode
 held_by holdings region resource = option_and_then (λ holders. mode_of holders region) (holders_in holdings resource)
 
--- each anchor that has an entry is held
+-- each resource that has an entry is held: no entry outlives its last holder
 abbrev pub AreHeld : Holdings → Type 0
-AreHeld holdings = (dedb anchor : ℕ) (holders : Holders) → holders_in holdings (Anchor dedb anchor) ≡ Some holders
+AreHeld holdings = (resource : Resource) (holders : Holders) → holders_in holdings resource ≡ Some holders
     → (region : ℕ) × IsSome (mode_of holders region)

@@ -98,6 +98,7 @@ impl Work {
     pub fn new(alloc: Global, defs: &Defs) -> Result<Work, AllocError>
         ensures of { IfOk result (IsWorkOf defs.now) }
         ensures own { defs.now.dedbs ≡ [] → IfOk result (λ work. work.own ≡ fresh defs.now) }
+        ensures begins { IfOk result (λ work. work.own ≡ record (fresh defs.now) { dedbs = [] }) }
         ensures notes { IfOk result (λ work. work.notes ≡ []) }
     {
         let mut positions = Vec::new(alloc);

@@ -195,16 +195,21 @@ impl Segments {
         self.used -= 1;
     }
 
-    // Makes room for so many segments more, unless there would be 2^32 of them.
+    // Makes room for so many segments more, unless there would be 2^32 of them. Where there is room nothing changes.
     pub(crate) fn reserve(&mut self, n: usize) -> Result<(), AllocError>
         ensures ok { OnOk result (n ≤ room self.new.capacity (length self.new.items)) }
         ensures few { OnOk result (length self.new.items < 2 ^ 32) }
+        ensures stays { n ≤ room self.old.capacity (length self.old.items) → self.new ≡ self.old }
         ensures items { self.new.items ≡ self.old.items }
         ensures capacity { self.old.capacity ≤ self.new.capacity }
     {
         let most = u32::MAX as usize;
         if self.used > most || n > most - self.used {
             return Err(AllocError);
+        }
+        let capacity = self.slots.capacity().min(self.order.capacity());
+        if n <= capacity.saturating_sub(self.used) {
+            return Ok(());
         }
         self.slots
             .reserve(n.saturating_sub(self.slots.len() - self.used))?;

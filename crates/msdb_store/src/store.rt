@@ -71,6 +71,7 @@ fn make_room(tables: &mut [Table], n: usize) -> Result<(), AllocError>
     requires { n < 2 ^ 32 }
     ensures ok { OnOk result (n ≤ least (map room_of tables.new)) }
     ensures more { least (map room_of tables.old) ≤ least (map room_of tables.new) }
+    ensures stays { n ≤ least (map room_of tables.old) → tables.new ≡ tables.old }
     ensures layouts { map (λ t. t.fields) tables.new ≡ map (λ t. t.fields) tables.old }
     ensures msdbs { map msdb_of tables.new ≡ map msdb_of tables.old }
     ensures few { OnOk result (AreFew (map msdb_of tables.new)) }
@@ -242,10 +243,12 @@ impl MsdbStore {
     ghost use Rattle.std.specs.Prelude.{◌+◌, List as ListOf};
 
     /// Makes room, so that each database takes so many segments more without memory. It fails for want of memory, and
-    /// where a database would have 2^32 segments. The databases stay as they are.
+    /// where a database would have 2^32 segments. The databases stay as they are, and where there is room already, that
+    /// stays too.
     pub fn reserve(&mut self, n: u32) -> Result<(), AllocError>
         ensures spare { OnOk result (n ≤ self.new.spare) }
         ensures more { self.old.spare ≤ self.new.spare }
+        ensures stays { n ≤ self.old.spare → self.new ≡ self.old }
         ensures layouts { self.new.layouts ≡ self.old.layouts }
         ensures msdbs { self.new.msdbs ≡ self.old.msdbs }
         ensures few { OnOk result (AllByRecursion (λ msdb. length msdb.segments < 2 ^ 32) self.new.msdbs) }

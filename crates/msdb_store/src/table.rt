@@ -146,10 +146,11 @@ impl Table {
         }
     }
 
-    // Makes room for so many segments more, unless there would be 2^32 of them.
+    // Makes room for so many segments more, unless there would be 2^32 of them. Where there is room nothing changes.
     pub(crate) fn reserve(&mut self, n: usize) -> Result<(), AllocError>
         ensures ok { OnOk result (n ≤ room self.new.segments.capacity (length self.new.segments.items)) }
         ensures few { OnOk result (length self.new.segments.items < 2 ^ 32) }
+        ensures stays { n ≤ room self.old.segments.capacity (length self.old.segments.items) → self.new ≡ self.old }
         ensures segments { self.new.segments.items ≡ self.old.segments.items }
         ensures capacity { self.old.segments.capacity ≤ self.new.segments.capacity }
         ensures fields { self.new.fields ≡ self.old.fields }

@@ -4,7 +4,7 @@ use Rattle.msdb_store.specs.Rooms.{msdb_of, room_of}
 use Rattle.msdb_store.specs.Store.{least}
 use Rattle.msdb_store.proofs.store.make_room.Given as goal
 
--- the tables so far have the room, and none lost any
+-- the tables so far have the room, and none lost any; where all had it none changed
 abbrev pub invariant-loop-table : goal.invariant-loop-table
 invariant-loop-table l =
     (length l.tables ≡ length l.initial.tables)
@@ -13,3 +13,4 @@ invariant-loop-table l =
     × (map (λ t. t.fields) l.tables ≡ map (λ t. t.fields) l.initial.tables)
     × (map msdb_of l.tables ≡ map msdb_of l.initial.tables)
     × AreFew (map msdb_of (take l.table-index l.tables))
+    × (l.n ≤ least (map room_of l.initial.tables) → l.tables ≡ l.initial.tables)

@@ -2,7 +2,6 @@ use Rattle.std.proofs.Common.{◌≡◌, ◌==◌, ◌∙◌, Some, ap, sym, ℕ
 use Rattle.std.specs.Prelude.{if◌then◌else◌}
 use Rattle.ci_locks.specs.Holdings.{held_by, mode_of}
 use Rattle.ci_locks.specs.Standing.{raised}
-use Rattle.fp_model.specs.declared.calls.Resource.TheVariants.{Anchor}
 use Rattle.ci_locks.proofs.Modes.{gain_held, gain_modes}
 use Rattle.ci_locks.proofs.holding.Holdings.gain.Goals as goal
 use Rattle.ci_locks.proofs.holding.Holdings.gain.Goals.{In_ok-put}
@@ -21,8 +20,8 @@ with_it c other =
     c.args.mode) else m) (c.holders.ensures other)
 
 pub returns-in_err-put-clause-held : goal.returns-in_err-put-clause-held
-returns-in_err-put-clause-held c dedb anchor holders is =
-    c.requires.held dedb anchor holders (sym (c.in_err-put.ensures.err (Anchor dedb anchor)) ∙ is)
+returns-in_err-put-clause-held c one holders is =
+    c.requires.held one holders (sym (c.in_err-put.ensures.err one) ∙ is)
 
 pub returns-clause-modes : goal.returns-clause-modes
 returns-clause-modes c = gain_modes c.args.self.now c.put.new.self c.args.resource.now c.args.region c.args.mode

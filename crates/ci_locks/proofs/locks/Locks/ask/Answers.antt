@@ -1,4 +1,4 @@
-use Rattle.std.proofs.Common.{arith, ◌≡◌, ◌∙◌, ◌≤◌, ℕ, List, ◌∷◌, length, sym, subst}
+use Rattle.std.proofs.Common.{arith, ◌≡◌, ◌∙◌, ◌≤◌, ℕ, List, length, sym, subst}
 use Rattle.std.specs.Prelude.{Contains, Err, IfOk, Ok, OnErr, Result}
 use Rattle.fp_model.specs.Waiting.{Lock, waits, with_request}
 use Rattle.ci_locks.specs.Cycles.{IsFirstCycle, first_cycle}

@@ -21,9 +21,8 @@ returns-clause-of c = record {
       ∙ sym (ap (λ queue. list_any (puts_or_drops def msdb key) queue) c.new-3.ensures);
 }
 
-pub returns-clause-own : goal.returns-clause-own
-returns-clause-own c =
-    λ none.
+pub returns-clause-begins : goal.returns-clause-begins
+returns-clause-begins c =
     ap (λ positions.
     let w : Workspace = record {
       msdbs = positions;
@@ -42,6 +41,11 @@ returns-clause-own c =
       deferred = queue;
       inserts = [];
     } in w) c.new-3.ensures
+
+pub returns-clause-own : goal.returns-clause-own
+returns-clause-own c =
+    λ none.
+    returns-clause-begins c
     ∙ ap (λ dedbs.
     let w : Workspace = record {
       msdbs = map (λ def. no_msdb_position) c.args.defs.now.msdbs;
