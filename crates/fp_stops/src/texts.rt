@@ -2,13 +2,27 @@
 use crate::commands::answer;
 use crate::runs::SCRIPTS;
 use fp_model::Bytes;
-use fp_site::{MemorySite, Site};
+use fp_site::{MemorySite, Site, Snapshot};
 use fp_source::MemorySource;
 use fp_system::Status;
 use std::alloc::{AllocError, Global};
 use std::test::Fail;
 
 const DEFINITIONS: &str = "regions = [1, 1]
+router = \"FOLD\"
+[[msdb]]
+name = \"ACCTS\"
+fields = [[\"ACCT\", \"C\", 4], [\"BAL\", \"P\", 4]]
+load = [[\"A001\", \"100\"], [\"A002\", \"50\"]]
+[[msdb]]
+name = \"TELLERS\"
+dynamic = true
+fields = [[\"TNO\", \"C\", 4], [\"CASH\", \"F\", 4]]
+load = [[\"T001\", \"0\"]]
+";
+
+// The same with four regions, two in each of two balancing groups.
+const FOUR_REGIONS: &str = "regions = [1, 1, 2, 2]
 router = \"FOLD\"
 [[msdb]]
 name = \"ACCTS\"
@@ -30,8 +44,29 @@ fn sent_by(
     messages: &str,
     site: &mut MemorySite,
 ) -> Result<(Status, Bytes), AllocError> {
+    sent_over(
+        alloc,
+        command,
+        DEFINITIONS,
+        scripts,
+        schedule,
+        messages,
+        site,
+    )
+}
+
+// The same over these definitions.
+fn sent_over(
+    alloc: Global,
+    command: &str,
+    definitions: &str,
+    scripts: &str,
+    schedule: &str,
+    messages: &str,
+    site: &mut MemorySite,
+) -> Result<(Status, Bytes), AllocError> {
     let parts = [
-        Bytes::from_slice(alloc, DEFINITIONS.as_bytes())?,
+        Bytes::from_slice(alloc, definitions.as_bytes())?,
         Bytes::from_slice(alloc, scripts.as_bytes())?,
         Bytes::from_slice(alloc, schedule.as_bytes())?,
         Bytes::from_slice(alloc, messages.as_bytes())?,
@@ -167,3 +202,98 @@ fn groups_before_damage_are_sent_by_log_alone(rt: HostRuntime) -> Result<(), Fai
     }
     Ok(())
 }
+
+// Whether what `show` sends of a snapshot has a deposit of 10, or none where its reply didn't come out. A site that
+// wasn't made may be foreign.
+fn is_shown(alloc: Global, snapshot: Snapshot, made: bool) -> Result<bool, AllocError> {
+    let answered = !snapshot.sent.is_empty();
+    let mut site = MemorySite::from_snapshot(alloc, snapshot, &[])?;
+    let (status, text) = sent_by(alloc, "show", SCRIPTS, "", "", &mut site)?;
+    let text = text.as_slice();
+    if status == Status::Foreign {
+        return Ok(!made && !answered && text.is_empty());
+    }
+    let has_it = text.starts_with(b"msdb ACCTS 2\n  ACCT=A001 BAL=110\n");
+    let lacks_it = text.starts_with(b"msdb ACCTS 2\n  ACCT=A001 BAL=100\n");
+    Ok(status == Status::Done && (has_it || (lacks_it && !answered)))
+}
+
+#[test]
+fn what_was_answered_is_shown_behind_each_stop(rt: HostRuntime) -> Result<(), Fail> {
+    let alloc = rt.alloc();
+    for after in 0..24 {
+        let mut site = MemorySite::stopping(alloc, after)?;
+        let (made, _) = sent_by(alloc, "define", SCRIPTS, "", "", &mut site)?;
+        let _ = sent_by(alloc, "run", SCRIPTS, "", "T1 DEPOSIT A001 10\n", &mut site)?;
+        for choice in 0..8 {
+            let shown = is_shown(alloc, site.snapshot_as(choice)?, made == Status::Done)?;
+            assert!(rt; shown, "stopped at {after}, image {choice}");
+        }
+    }
+    Ok(())
+}
+
+// Deposits, withdrawals and questions of ten terminals.
+fn mixed_messages(alloc: Global) -> Result<String, AllocError> {
+    let mut text = String::new(alloc);
+    for i in 1..41u32 {
+        let terminal = 1 + (i - 1) % 10;
+        let line = match i % 4 {
+            1 => format!(in alloc; "T{terminal} DEPOSIT A001 {i}\n")?,
+            2 => format!(in alloc; "T{terminal} WDRAW A002 1\n")?,
+            0 => format!(in alloc; "T{terminal} ASK A001\n")?,
+            _ => String::new(alloc),
+        };
+        text.push_str(&line)?;
+    }
+    Ok(text)
+}
+
+// What is sent to a text so often.
+fn repeated(alloc: Global, text: &str, times: u32) -> Result<String, AllocError> {
+    let mut all = String::new(alloc);
+    for _ in 0..times {
+        all.push_str(text)?;
+    }
+    Ok(all)
+}
+
+// Schedules of four regions: a text, and how often it comes.
+const MIXED: [(&str, u32); 3] = [("", 0), ("IN ", 40), ("IN R1 R2 R3 R4 ", 10)];
+
+// How many of the lines have this word.
+fn lines_with(text: &[u8], word: &[u8]) -> usize {
+    text.split(|byte| *byte == b'\n')
+        .filter(|line| line.windows(word.len()).any(|part| part == word))
+        .count()
+}
+
+#[test]
+fn a_mix_comes_to_one_text_by_each_schedule(rt: HostRuntime) -> Result<(), Fail> {
+    let alloc = rt.alloc();
+    let messages = mixed_messages(alloc)?;
+    for (text, times) in MIXED {
+        let schedule = repeated(alloc, text, times)?;
+        let mut site = MemorySite::new(alloc, &[])?;
+        let mut sent = Bytes::new(alloc);
+        for command in ["define", "run", "show"] {
+            let (status, more) = sent_over(
+                alloc,
+                command,
+                FOUR_REGIONS,
+                SCRIPTS,
+                &schedule,
+                &messages,
+                &mut site,
+            )?;
+            assert_eq!(rt; status, Status::Done, "{command} by {text:?}");
+            sent.append(more.as_slice())?;
+        }
+        assert_eq!(rt; lines_with(sent.as_slice(), b" OK "), 30, "by {text:?}");
+        assert!(rt; sent.as_slice().ends_with(MIXED_SHOWN), "by {text:?}");
+    }
+    Ok(())
+}
+
+const MIXED_SHOWN: &[u8] =
+    b"msdb ACCTS 2\n  ACCT=A001 BAL=290\n  ACCT=A002 BAL=40\nmsdb TELLERS 1\n  TNO=T001 CASH=0\n";
