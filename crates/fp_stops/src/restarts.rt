@@ -386,8 +386,7 @@ fn with_bytes(
 }
 
 // Bytes at the first gate, how many of them are written, and whether they are damage: behind an open gate stand
-// nothing,
-// a length of 0, one that passes the end, and a body that is no entry.
+// nothing, a length of 0, one that passes the end, and a body that is no entry.
 const GATES: [([u8; 12], usize, bool); 6] = [
     ([0, 0, 0, 0, 0, 0, 0, 0, 0, 0, 0, 0], 12, false),
     ([7, 0, 0, 0, 0, 0, 0, 0, 3, 0, 0, 0], 12, false),

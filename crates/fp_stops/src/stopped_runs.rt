@@ -37,8 +37,7 @@ fn asked(alloc: Global, snapshot: Snapshot) -> Result<(Status, Bytes), AllocErro
 }
 
 // Whether a restart from a snapshot has each deposit whose reply came out, be it in part. A site that wasn't made may
-// be
-// foreign.
+// be foreign.
 fn is_kept(alloc: Global, snapshot: Snapshot, made: bool) -> Result<bool, AllocError> {
     let answered = snapshot.sent.len().div_ceil(10);
     let (status, text) = asked(alloc, snapshot)?;

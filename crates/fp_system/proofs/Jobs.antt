@@ -1,5 +1,5 @@
 -- Parts have one meaning: one job, or one answer.
-use Rattle.std.proofs.Common.{◌≡◌, eqb-true, inl, inr, refl, sym, ap, subst, ◌∙◌, arith, ℕ, ◌<◌, List, [], ◌∷◌, length, Bool, true, false, if◌then◌else◌, Option, Some, None}
+use Rattle.std.proofs.Common.{◌≡◌, ⊎_elim, eqb-true, inl, inr, refl, sym, ap, subst, ◌∙◌, arith, ℕ, ◌<◌, List, [], ◌∷◌, length, Bool, true, false, if◌then◌else◌, Option, Some, None}
 use Rattle.std.specs.Prelude.{◌==◌, ◌≢◌, ◌⊎◌, filter_map, map, nat_lt, Result, Ok, Err}
 use Rattle.std.specs.Option.{option_map_or}
 use Rattle.fp_defs.specs.Exits.{first_lacking, lacking, with_exits}
@@ -25,6 +25,7 @@ use Rattle.fp_model.specs.declared.scripts.Script.{Script}
 use Rattle.fp_source.specs.declared.part.Part.{Part}
 use Rattle.fp_source.specs.declared.part.Part.TheVariants as part
 use Rattle.fp_system.specs.Answers.{MayStandIn, status_of_definitions, status_of_schedule}
+use Rattle.fp_system.specs.Gives.{InOrder}
 use Rattle.fp_system.specs.Parts.{Job, HasEvents, HasSchedule, IsJob, Refuses, by_definitions, by_schedule, by_scripts, are_built, only_built, definitions_in}
 use Rattle.fp_system.specs.declared.status.Status.{Status}
 use Rattle.fp_system.specs.declared.status.Status.TheVariants as status
@@ -290,3 +291,19 @@ same_events job left a b p q = one_good (events_of job.defs (left part.Schedule)
   where
     one_good : (r : Result (List Event) ScheduleFault) → r ≡ Ok a → r ≡ Ok b → a ≡ b
     one_good r e f = cc
+
+-- ---- the order in which parts are read
+
+pub no_word : {A : Type 0} {found : Option Command} {command : Command} → found ≡ Some command → found ≡ None → A
+no_word e f = cc
+
+-- of a job no part is refused
+pub in_order : (kinds : Kinds) (found : Option Command) (old new : Part → List ℕ) (command : Command) (job : Job)
+    → found ≡ Some command → IsJob kinds old job
+    → (new part.Messages ≡ old part.Messages) ⊎ HasSchedule Run job old → InOrder kinds found old new
+in_order kinds found old new command job named is lines = record {
+  words = λ none p. no_word named none;
+  scripts = λ answer bad. not_both (definitions_in kinds (old part.Definitions)) job.defs answer is.definitions bad;
+  schedule = λ none. absurd (none (job, is));
+  messages = λ none. ⊎_elim (λ same. same) (λ has. absurd (none (job, is, has))) lines;
+}

@@ -1,12 +1,12 @@
 -- What the texts that were sent say of a job.
-use Rattle.std.proofs.Common.{◌≡◌, ◌∙◌, ◌++◌, arith, ap, sym, subst, refl, inl, inr, ℕ, List, []}
-use Rattle.std.specs.Prelude.{◌⊎◌}
+use Rattle.std.proofs.Common.{◌≡◌, ◌∙◌, ◌++◌, arith, ap, sym, subst, refl, inl, inr, ℕ, List, [], ◌∷◌}
+use Rattle.std.specs.Prelude.{◌⊎◌, ◌+◌, ◌≤◌, length}
 use Rattle.std.proofs.lemmas.List.{append-nil}
 use Rattle.fp_model.specs.declared.database.Db.{Db}
 use Rattle.fp_model.specs.declared.database.Dedb.{Dedb}
 use Rattle.fp_model.specs.declared.definitions.DedbDef.{DedbDef}
 use Rattle.fp_model.specs.declared.definitions.Defs.{Defs}
-use Rattle.fp_model.specs.LogText.{Front, StartsWithFront, first_gate}
+use Rattle.fp_model.specs.LogText.{Front, StartsWithFront, first_gate, front_rest}
 use Rattle.fp_restart.specs.Replayed.{IsFirstBadAt}
 use Rattle.fp_restart.specs.declared.fault.RestartFault.{RestartFault}
 use Rattle.fp_restart.specs.declared.fault.RestartFault.TheVariants as fault
@@ -93,6 +93,7 @@ pub shown_not : (job : Job) (answer : Status) (disk : Disk) → IsLawful disk �
     → Shown job answer disk disk
 shown_not job answer disk law undone = record {
   whole = λ done. absurd (undone done);
+  rests = λ done. absurd (undone done);
   sends = record {
     text = [];
     is = inl refl;
@@ -112,6 +113,7 @@ logged_not job answer disk undone unharmed = record {
   sends = record {
     groups = [];
     gate = first_gate (front_for job);
+    begins = inl refl;
     holds = record { each = tt; next = omega arith; text = refl };
     sent = record {
       count = 0;
@@ -128,3 +130,17 @@ read_none job log read = record {
   up_to = λ groups gate holds. omega arith;
   of_others = λ away. omega arith;
 }
+
+some_byte : (b : ℕ) (bytes : List ℕ) → 1 ≤ length (b ∷ bytes)
+some_byte b bytes = omega arith
+
+-- one byte may be read of each log
+pub read_one : (job : Job) (log : List ℕ) (before now : ℕ) → now ≤ before + 1
+    → ReadsOnce (front_for job) log before now
+read_one job log before now few =
+    let some : 1 ≤ first_gate (front_for job) = some_byte 1 (front_rest (front_for job)) in
+    record {
+      all = omega (arith, few);
+      up_to = λ groups gate holds. omega (arith, few);
+      of_others = λ away. omega (arith, few, some);
+    }

@@ -1,11 +1,11 @@
 -- What the commands give, whatever the answer is.
-use Rattle.std.specs.Prelude.{◌≡◌, ◌⊎◌, ⊤, ℕ, ◌+◌, ◌≤◌, List, [], ◌++◌, drop, length, take, Option, Some}
+use Rattle.std.specs.Prelude.{◌≡◌, ◌⊎◌, ⊤, ℕ, ◌+◌, ◌≤◌, List, [], ◌++◌, drop, length, take, Err, Option, None, Some}
 use Rattle.fp_model.specs.declared.log.Entry.{Entry}
 use Rattle.fp_model.specs.Groups.{entries_of}
 use Rattle.fp_model.specs.LogText.{first_gate, log_text}
 use Rattle.fp_model.specs.Machine.{at_rest}
 use Rattle.fp_model.specs.Recovery.{Holds}
-use Rattle.fp_site.specs.Disk.{Disk, Snapshot, Syncs}
+use Rattle.fp_site.specs.Disk.{Disk, IsDurable, Snapshot, Syncs}
 use Rattle.fp_site.specs.Moments.{OnlyOn, Through}
 use Rattle.fp_model.specs.declared.database.Db.{Db}
 use Rattle.fp_model.specs.SerialHistory.{IsSerialHistory}
@@ -18,13 +18,14 @@ use Rattle.fp_source.specs.declared.part.Part.TheVariants as part
 use Rattle.fp_system.specs.Answers.{IsEarly}
 use Rattle.fp_core.specs.Sparing.{IsLogSet as IsLog, Spares}
 use Rattle.fp_system.specs.Ims.{IsUnchanged}
-use Rattle.fp_system.specs.Parts.{Job, IsJob, front_for, rules_for}
+use Rattle.fp_exits.specs.Kinds.{Kinds}
+use Rattle.fp_system.specs.Parts.{Job, HasSchedule, IsJob, definitions_in, front_for, rules_for}
 use Rattle.fp_system.specs.Courses.{Course, GoesOnTo, Input, IsSoundFor, IsEnded, IsKeptBy, IsNotBegun, Point}
 use Rattle.fp_system.specs.Table.{Given, IsForeign, IsSpared}
 use Rattle.fp_system.specs.declared.status.Status.{Status}
 use Rattle.fp_system.specs.declared.status.Status.TheVariants.{Damaged, Done, ReadFault, NoMemory}
 use Rattle.command_words.specs.declared.words.Command.{Command}
-use Rattle.command_words.specs.declared.words.Command.TheVariants.{Define, Run, Show}
+use Rattle.command_words.specs.declared.words.Command.TheVariants.{Define, Run}
 
 -- the site safely holds these entries under the job
 abbrev pub IsSafeFor : Job → Disk → List Entry → Type 0
@@ -77,29 +78,22 @@ pub record Ran (job : Job) (given : Input) (answer : Status) (old new : Disk) : 
       → Through old new (KeepsFront gate old)
   pub goes : (earlier : List Entry) → IsSafeFor job old earlier → Went job given earlier answer old new
 
--- a run and `show` restart
-abbrev pub Restarts : Command → Type 0
-Restarts Run = ⊤
-Restarts Show = ⊤
-Restarts _ = ⊥
-
 -- ---- show and log
 
--- With Done the text of the databases that the log's entries make was sent. Whatever the answer is, it was a first part
--- of that text; no contents change, and a crash at any moment leaves what it might have left, but for a sync of the
--- log,
--- and a first part sent. Of a sound log the text is that of its last state.
+-- With Done the text of the databases that the log's entries make was sent, and the log is for good. Whatever the
+-- answer is, it was a first part of that text; no contents change, and a crash at any moment leaves what it might have
+-- left, but for a sync of the log, and a first part sent. Of a sound log the text is that of its last state.
 pub record Shown (job : Job) (answer : Status) (old new : Disk) : Type 0 where
   pub whole : answer ≡ Done → IsDbSent job.defs (front_for job) old new
+  pub rests : answer ≡ Done → IsDurable new 0
   pub sends : SendsDb job.defs (front_for job) old new
   pub means : (entries : List Entry) (last : Db) → IsSoundFor job (old.contents 0) entries
       → IsSerialHistory (rules_for job) 1 entries last → answer ≡ Done
       → new.sent ≡ old.sent ++ db_text job.defs last
 
 -- With Done the text of all groups up to the first gate that isn't open was sent, with Damaged that of the groups
--- before
--- that place. Whatever the answer is, it was a first part of the text of groups that the log holds, and nothing else
--- changes, at no moment.
+-- before that place. Whatever the answer is, it was a first part of the text of groups that the log holds, none of
+-- another's log, and nothing else changes, at no moment.
 pub record Logged (job : Job) (answer : Status) (old new : Disk) : Type 0 where
   pub whole : answer ≡ Done → IsLogSent (front_for job) old new
   pub damaged : (at : ℕ) → answer ≡ Damaged 0 at → IsSentToDamage (front_for job) at old new
@@ -119,3 +113,14 @@ pub record Took (found : Option Command) (answer : Status) (old new : Part → L
   pub no_schedule : ¬ (found ≡ Some Run) → new part.Schedule ≡ old part.Schedule
   pub no_messages : ¬ (found ≡ Some Run) → new part.Messages ≡ old part.Messages
   pub all : found ≡ Some Run → answer ≡ Done → new part.Messages ≡ []
+
+-- The parts are read in their order, none for words that are no command, and none behind one that is refused: the
+-- scripts where the definitions are good, the schedule where both are a job, and message lines where that has its
+-- schedule.
+pub record InOrder (kinds : Kinds) (found : Option Command) (old new : Part → List ℕ) : Type 0 where
+  pub words : found ≡ None → (p : Part) → new p ≡ old p
+  pub scripts : (answer : Status) → definitions_in kinds (old part.Definitions) ≡ Err answer
+      → new part.Scripts ≡ old part.Scripts
+  pub schedule : ¬ ((job : Job) × IsJob kinds old job) → new part.Schedule ≡ old part.Schedule
+  pub messages : ¬ ((job : Job) × IsJob kinds old job × HasSchedule Run job old)
+      → new part.Messages ≡ old part.Messages

@@ -65,6 +65,11 @@ pub(crate) fn define_on<T: Site>(alloc: Global, site: &mut T, setup: &Setup) -> 
     // Want of memory comes before the site is touched.
     ensures untouched { result ≡ status.NoMemory → site.new ≡ site.old }
 
+    // Of the log no more is read than there is.
+    ensures once { T.told site.old → T.tells_reads site.new 0 →
+        ReadsOnce (front_for (job_of setup.now)) ((T.disk site.old).contents 0)
+        (T.bytes_read site.old 0) (T.bytes_read site.new 0) }
+
     // No other data set changes or is read, and nothing is sent. A crash at any moment leaves the log as a sync might
     // have left it before, or with no open front, or made.
     ensures reads { ReadsOnlyLog (T.tells_reads site.old) (T.tells_reads site.new)
@@ -115,7 +120,10 @@ pub(crate) fn log_on<T: Site>(alloc: Global, site: &mut T, setup: &Setup) -> Sta
     ensures never { result ≡ status.ReadFault → ⊥ }
     ensures cause { IsCausedBySite (T.faults site.old) (T.faults site.new) result }
 
-    // No other data set is read.
+    // Each byte of the log is read once, and no other data set.
+    ensures once { T.told site.old → T.tells_reads site.new 0 →
+        ReadsOnce (front_for (job_of setup.now)) ((T.disk site.old).contents 0)
+        (T.bytes_read site.old 0) (T.bytes_read site.new 0) }
     ensures reads { ReadsOnlyLog (T.tells_reads site.old) (T.tells_reads site.new)
         (T.bytes_read site.old) (T.bytes_read site.new) }
     ensures site { IsContinued T.told T.faults T.holds T.keeps site.old site.new }

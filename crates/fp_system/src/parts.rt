@@ -14,12 +14,13 @@ ghost use Rattle.fp_system.specs.Answers.{
   status_of_scripts,
 };
 ghost use Rattle.fp_system.specs.Causes.{IsCausedBySource};
-ghost use Rattle.fp_system.specs.Parts.{HasSchedule, IsJob, Refuses, are_built, definitions_in};
+ghost use Rattle.fp_system.specs.Parts.{HasSchedule, IsJob, Job as JobOf, Refuses, are_built, definitions_in};
 ghost use Rattle.fp_system.specs.Setups.{HasEventsFor, IsRefusedSchedule, IsSetup, job_of};
 ghost use Rattle.command_words.specs.declared.words.Command.{Command as CommandOf};
 ghost use Rattle.command_words.specs.declared.words.Command.TheVariants as commands;
 ghost use Rattle.fp_source.specs.declared.part.Part.{Part as PartOf};
 ghost use Rattle.std.specs.List.{AllByRecursion};
+ghost use Rattle.fp_system.specs.declared.status.Status.{Status as StatusOf};
 ghost use Rattle.fp_system.specs.declared.status.Status.TheVariants as status;
 ghost use Rattle.std.specs.Prelude.{◌≡◌, ◌⊎◌, ◌≤◌, [], Err, IfErr, IfOk, IsErrOf, Ok, OnOk, true};
 ghost use Rattle.txn_lang.specs.Grammar.{AreScriptsOf, HasFault};
@@ -215,7 +216,10 @@ fn read_setup<S: Source>(alloc: Global, source: &mut S, exits: &Exits) -> Result
     ensures cause { IfErr result (IsCausedBySource (S.faults source.old) (S.faults source.new)) }
     ensures stayed { OnOk result (S.faults source.new ≡ S.faults source.old) }
 
-    // Schedule and messages aren't read.
+    // Schedule and messages aren't read, nor are the scripts behind definitions that are refused.
+    ensures scripts_unread { (answer : StatusOf) → S.told source.old
+        → definitions_in (kinds_of exits.now) (S.left source.old part.Definitions) ≡ Err answer
+        → S.left source.new part.Scripts ≡ S.left source.old part.Scripts }
     ensures others { S.told source.old → (p : PartOf) → ¬ (p ≡ part.Definitions) → ¬ (p ≡ part.Scripts)
         → S.left source.new p ≡ S.left source.old p }
     ensures later { S.faults source.old ≤ S.faults source.new }
@@ -317,7 +321,13 @@ pub(crate) fn read_task<S: Source>(
     ensures cause { IfErr result (IsCausedBySource (S.faults source.old) (S.faults source.new)) }
     ensures stayed { OnOk result (S.faults source.new ≡ S.faults source.old) }
 
-    // The messages aren't read, nor is the schedule where none is asked for.
+    // The messages aren't read, nor is the schedule where none is asked for, or where the other parts are no job; nor
+    // are the scripts behind definitions that are refused.
+    ensures scripts_unread { (answer : StatusOf) → S.told source.old
+        → definitions_in (kinds_of exits.now) (S.left source.old part.Definitions) ≡ Err answer
+        → S.left source.new part.Scripts ≡ S.left source.old part.Scripts }
+    ensures no_job { S.told source.old → ¬ ((job : JobOf) × IsJob (kinds_of exits.now) (S.left source.old) job)
+        → S.left source.new part.Schedule ≡ S.left source.old part.Schedule }
     ensures messages { S.told source.old → S.left source.new part.Messages ≡ S.left source.old part.Messages }
     ensures schedule_unread { S.told source.old → (command ≡ commands.Run → ⊥)
         → S.left source.new part.Schedule ≡ S.left source.old part.Schedule }

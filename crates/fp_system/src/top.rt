@@ -1,11 +1,12 @@
 //! The top call.
+ghost use Rattle.fp_exits.specs.Kinds.{kinds_of};
 ghost use Rattle.fp_model.specs.Messages.{lines_of};
 ghost use Rattle.fp_model.specs.declared.events.Event.{Event};
 ghost use Rattle.fp_source.specs.declared.part.Part.TheVariants as part;
 ghost use Rattle.fp_system.specs.Answers.{IsOr};
 ghost use Rattle.fp_system.specs.Causes.{IsCaused};
 ghost use Rattle.fp_system.specs.Courses.{input};
-ghost use Rattle.fp_system.specs.Gives.{Defined, IsBeforeSite, Logged, Ran, Restarts, Shown, Took};
+ghost use Rattle.fp_system.specs.Gives.{Defined, InOrder, IsBeforeSite, Logged, Ran, Shown, Took};
 ghost use Rattle.fp_system.specs.Ims.{IsContinued};
 ghost use Rattle.fp_system.specs.Parts.{HasEvents, Job, front_for};
 ghost use Rattle.site_texts.specs.Texts.{ReadsOnce};
@@ -29,9 +30,8 @@ use std::alloc::Global;
 /// All that the program does. `words` are those behind its name: `define DIR` makes the site anew from the parts
 /// Definitions and Scripts; `run DIR` restarts, takes the events of the part Schedule one after another, behind what
 /// the log has, and drains: so each line of the part Messages is answered; `show DIR` sends the text of the databases,
-/// and
-/// `log DIR` that of the log's groups. Words are judged first, then the
-/// definitions, the scripts, of a run the schedule, then the site; the message lines are read one by one.
+/// and `log DIR` that of the log's groups. Words are judged first, then the definitions, the scripts, of a run the
+/// schedule, then the site; the message lines are read one by one. No part is read behind one that is refused.
 ///
 /// # What contracts say
 ///
@@ -72,7 +72,7 @@ pub fn ims<S: Source, T: Site>(
         Logged job result (T.disk site.old) (T.disk site.new) }
     ensures once { (which : CommandOf) (job : Job) → S.told source.old → T.told site.old
         → Asks (given exits.now words.now (S.left source.old) (T.disk site.old)) which job
-        → Restarts which → T.tells_reads site.new 0 →
+        → T.tells_reads site.new 0 →
         ReadsOnce (front_for job) ((T.disk site.old).contents 0) (T.bytes_read site.old 0) (T.bytes_read site.new 0) }
     ensures reads { ReadsOnlyLog (T.tells_reads site.old) (T.tells_reads site.new)
         (T.bytes_read site.old) (T.bytes_read site.new) }
@@ -82,6 +82,8 @@ pub fn ims<S: Source, T: Site>(
     ensures no_job { S.told source.old → ¬ ((which : CommandOf) × ((job : Job)
         × Asks (given exits.now words.now (S.left source.old) (T.disk site.old)) which job)) → site.new ≡ site.old }
     ensures parts { S.told source.old → Took (command_of (map string_bytes words.now)) result
+        (S.left source.old) (S.left source.new) }
+    ensures order { S.told source.old → InOrder (kinds_of exits.now) (command_of (map string_bytes words.now))
         (S.left source.old) (S.left source.new) }
     ensures source { IsContinued S.told S.faults S.holds S.keeps source.old source.new }
     ensures site { IsContinued T.told T.faults T.holds T.keeps site.old site.new }

@@ -1,18 +1,18 @@
 -- The text of the databases, seen from before the restart.
-use Rattle.std.proofs.Common.{◌≡◌, ◌≢◌, ◌∙◌, ◌++◌, inl, inr, ap, sym, subst, refl, ℕ, List, [], take}
-use Rattle.std.specs.Prelude.{slice_index}
+use Rattle.std.proofs.Common.{◌≡◌, ◌≢◌, ◌∙◌, ◌++◌, inl, inr, ap, arith, sym, subst, refl, ℕ, List, [], take}
+use Rattle.std.specs.Prelude.{◌⊎◌, slice_index}
 use Rattle.std.proofs.lemmas.List.{append-nil}
 use Rattle.fp_model.specs.declared.database.Msdb.{Msdb}
 use Rattle.fp_model.specs.declared.definitions.Defs.{Defs}
 use Rattle.fp_model.specs.Groups.{entries_of}
 use Rattle.fp_model.specs.LogText.{Front, StartsWithFront, first_gate}
 use Rattle.fp_restart.specs.Replayed.{HoldsFit, ReadsBack}
-use Rattle.fp_site.specs.Disk.{Disk, IsLawful, Sends, Settles, Snapshot, Syncs}
+use Rattle.fp_site.specs.Disk.{Disk, IsDurable, IsLawful, Sends, Settles, Snapshot, Syncs}
 use Rattle.fp_site.specs.Moments.{Through}
 use Rattle.fp_site.proofs.Runs.{goes_on, weaker}
 use Rattle.log_groups.specs.Log.{LogState}
 use Rattle.msdb_store.specs.Store.{Stored}
-use Rattle.site_texts.specs.Sent.{HasSentPart, SyncsAndSends}
+use Rattle.site_texts.specs.Sent.{HasSent, HasSentPart, SyncsAndSends}
 use Rattle.site_texts.specs.Texts.{IsTextOf, SendsDb, msdbs_text}
 
 -- before the first byte is sent
@@ -74,3 +74,17 @@ text_read defs front old mid store log same read = record {
   closed = subst (λ (l : List ℕ). slice_index l log.gate ≢ 1) same read.closed;
   is_text = ap (λ (ms : List Msdb). msdbs_text defs ms) read.replayed.msdbs;
 }
+
+-- behind a text that was sent, or a first part of it, a crash leaves a log that was for good
+left_alike : (mid : Disk) (text : List ℕ) (s : Snapshot) → IsLawful mid → IsDurable mid 0
+    → mid.left_since mid.moment s ⊎ Sends mid text s → s.images 0 ≡ mid.contents 0
+left_alike mid text s law durable (inl before) = durable s (law.only_now s before)
+left_alike mid text s law durable (inr sent) =
+    ap (λ (f : ℕ → List ℕ). f 0) sent.images ∙ durable sent.before sent.left
+
+pub rests_behind : (mid new : Disk) (text : List ℕ) → IsLawful mid → IsLawful new → IsDurable mid 0
+    → HasSent mid new text → IsDurable new 0
+rests_behind mid new text law law2 durable all s now =
+    let since = law2.earlier mid.moment new.moment s all.crash.later (law2.counts_now s now) in
+    left_alike mid text s law durable (all.crash.nothing_else mid.moment s (omega arith) since)
+    ∙ sym (ap (λ (f : ℕ → List ℕ). f 0) all.contents)

@@ -1,5 +1,5 @@
 -- The text of a log, seen from before it was opened.
-use Rattle.std.proofs.Common.{◌≡◌, ◌≢◌, ◌∙◌, ◌++◌, ap, sym, arith, subst, refl, ℕ, List, []}
+use Rattle.std.proofs.Common.{◌≡◌, ◌≢◌, ◌∙◌, ◌++◌, ap, inl, inr, sym, arith, subst, refl, ℕ, List, []}
 use Rattle.std.specs.Prelude.{slice_index}
 use Rattle.fp_model.specs.LogText.{Front, StartsWithFront, first_gate}
 use Rattle.fp_model.specs.Groups.{HoldsGroups, IsDamaged}
@@ -13,6 +13,7 @@ pub none_sent : (front : Front) (d0 d1 : Disk) → Stays d0 d1 → SendsGroups f
 none_sent front d0 d1 stays = record {
   groups = [];
   gate = first_gate front;
+  begins = inl refl;
   holds = record { each = tt; next = omega arith; text = refl };
   sent = part_whole d0 d1 [] (sent_stays d0 d1 stays);
 }
@@ -22,10 +23,11 @@ module _ (front : Front) (first : ℕ) (d0 d1 d2 : Disk) (law0 : IsLawful d0) (l
   same : d1.contents 0 ≡ d0.contents 0
   same = ap (λ (f : ℕ → List ℕ). f 0) stays.contents
 
-  pub part_sent : SendsFrom first d1 d2 → SendsGroups front d0 d2
-  part_sent sends = record {
+  pub part_sent : StartsWithFront (d0.contents 0) front → SendsFrom first d1 d2 → SendsGroups front d0 d2
+  part_sent begins sends = record {
     groups = sends.groups;
     gate = sends.gate;
+    begins = inr begins;
     holds =
         subst (λ (l : List ℕ). HoldsGroups l (first_gate front) sends.groups sends.gate) same
         (subst (λ (n : ℕ). HoldsGroups (d1.contents 0) n sends.groups sends.gate) is sends.holds);

@@ -24,8 +24,7 @@ abbrev pub msdbs_behind : Defs → List Entry → List Msdb
 msdbs_behind defs entries = with_items defs.msdbs (start defs).msdbs (items_of entries)
 
 -- The text of the databases of a log: it begins with the front, and holds these groups, whose items may be applied, up
--- to
--- a gate that isn't open.
+-- to a gate that isn't open.
 pub record IsTextOf (defs : Defs) (front : Front) (log text : List ℕ) : Type 0 where
   pub groups : List (List Entry)
   pub gate : ℕ
@@ -59,12 +58,12 @@ pub record IsSentToDamage (front : Front) (at : ℕ) (old new : Disk) : Type 0 w
   pub damaged : IsDamaged (old.contents 0) at
   pub sent : new.sent ≡ old.sent ++ log_shown groups
 
--- Whatever the answer is, a first part of the text of groups that the log holds was sent, and nothing else changed, at
--- no
--- moment.
+-- Whatever the answer is, a first part of the text of groups that the log holds was sent, none of a log with another
+-- front, and nothing else changed, at no moment.
 pub record SendsGroups (front : Front) (old new : Disk) : Type 0 where
   pub groups : List (List Entry)
   pub gate : ℕ
+  pub begins : (groups ≡ []) ⊎ StartsWithFront (old.contents 0) front
   pub holds : HoldsGroups (old.contents 0) (first_gate front) groups gate
   pub sent : HasSentPart old new (log_shown groups)
 

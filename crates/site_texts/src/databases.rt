@@ -15,6 +15,7 @@ ghost use Rattle.log_groups.specs.Kept.{IsSound};
 ghost use Rattle.log_groups.specs.Reads.{ReadsOnlyLog};
 ghost use Rattle.site_texts.specs.Sent.{GoesOn, HasSent, HasSentPart, IsTold};
 ghost use Rattle.site_texts.specs.Texts.{IsDbSent, ReadsOnce, SendsDb, msdbs_text};
+ghost use Rattle.fp_site.specs.Disk.{IsDurable};
 ghost use Rattle.fp_site.specs.Site.{ReadsNothing};
 ghost use Rattle.std.specs.List.{AllByRecursion};
 ghost use Rattle.std.specs.Prelude.{
@@ -63,6 +64,9 @@ pub fn show<T: Site>(
     ensures shown { T.told site.old
         → OnOk result (IsDbSent defs.now (as_front front.now) (T.disk site.old) (T.disk site.new)) }
     ensures sends { T.told site.old → SendsDb defs.now (as_front front.now) (T.disk site.old) (T.disk site.new) }
+
+    // What was shown is for good: each crash leaves the log that it was read from.
+    ensures rests { T.told site.old → OnOk result (IsDurable (T.disk site.new) 0) }
 
     // Of a sound log it is that of the last state of its history.
     ensures means { (scripts : ListOf Script) (entries : ListOf Entry) (last : DbOf) → T.told site.old

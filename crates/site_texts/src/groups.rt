@@ -3,10 +3,11 @@ ghost use Rattle.fp_model.specs.LogText.{FitsFront, StartsWithFront};
 ghost use Rattle.fp_restart.specs.declared.fault.RestartFault.TheVariants as faults;
 ghost use Rattle.log_groups.specs.Images.{as_front};
 ghost use Rattle.log_groups.specs.Reads.{HasGroup, ReadsOnlyLog};
-ghost use Rattle.fp_model.specs.Groups.{IsDamaged};
+ghost use Rattle.fp_model.specs.Groups.{Groups, IsDamaged, Reads};
+ghost use Rattle.fp_model.specs.declared.log.Entry.{Entry as EntryOf};
 ghost use Rattle.site_texts.specs.Groups.{AreAllSent, AreSentToDamage, IsOneSent, SendsFrom, SendsOne};
 ghost use Rattle.site_texts.specs.Sent.{GoesOn};
-ghost use Rattle.site_texts.specs.Texts.{IsLogSent, IsSentToDamage, SendsGroups};
+ghost use Rattle.site_texts.specs.Texts.{IsLogSent, IsSentToDamage, ReadsOnce, SendsGroups};
 ghost use Rattle.fp_site.specs.Disk.{Stays};
 ghost use Rattle.std.specs.Prelude.{
   ◌≡◌,
@@ -26,7 +27,9 @@ ghost use Rattle.std.specs.Prelude.{
   IfOk,
   IfSome,
   IsErrOf,
+  List as ListOf,
   OnOk,
+  max,
 };
 
 use fp_restart::RestartFault;
@@ -61,6 +64,10 @@ pub fn log<T: Site>(alloc: Global, front: &Front, site: &mut T) -> Result<(), Re
     ensures cause { IsErrOf result faults.SiteFault → (T.faults site.old < T.faults site.new)
         ⊎ (T.faults site.new ≡ 2 ^ 64 - 1) }
     ensures stayed { (IsErrOf result faults.SiteFault → ⊥) → T.faults site.new ≡ T.faults site.old }
+
+    // Each byte of the log is read once, and no other data set.
+    ensures once { T.told site.old → T.tells_reads site.new 0 → ReadsOnce (as_front front.now)
+        ((T.disk site.old).contents 0) (T.bytes_read site.old 0) (T.bytes_read site.new 0) }
     ensures only_log { ReadsOnlyLog (T.tells_reads site.old) (T.tells_reads site.new) (T.bytes_read site.old)
         (T.bytes_read site.new) }
     ensures site { GoesOn T.told T.faults T.holds T.keeps site.old site.new }
@@ -94,6 +101,13 @@ fn send_groups<T: Site>(
     ensures cause { IsErrOf result faults.SiteFault → (T.faults site.old < T.faults site.new)
         ⊎ (T.faults site.new ≡ 2 ^ 64 - 1) }
     ensures stayed { (IsErrOf result faults.SiteFault → ⊥) → T.faults site.new ≡ T.faults site.old }
+
+    // The groups up to a closed gate, and that gate, are read at most, each byte once.
+    ensures read { (groups : ListOf (ListOf EntryOf)) (gate : ℕ) → T.told site.old
+        → Reads ((T.disk site.old).contents 0) first (Groups groups gate) → T.tells_reads site.new 0
+        → T.bytes_read site.new 0 + first ≤ T.bytes_read site.old 0 + gate + 1 }
+    ensures once { T.told site.old → T.tells_reads site.new 0 → T.bytes_read site.new 0 + first
+        ≤ T.bytes_read site.old 0 + max first (length ((T.disk site.old).contents 0)) + 1 }
     ensures only_log { ReadsOnlyLog (T.tells_reads site.old) (T.tells_reads site.new) (T.bytes_read site.old)
         (T.bytes_read site.new) }
     ensures site { GoesOn T.told T.faults T.holds T.keeps site.old site.new }
@@ -135,6 +149,18 @@ fn send_group<T: Site>(
     ensures cause { IsErrOf result faults.SiteFault → (T.faults site.old < T.faults site.new)
         ⊎ (T.faults site.new ≡ 2 ^ 64 - 1) }
     ensures stayed { (IsErrOf result faults.SiteFault → ⊥) → T.faults site.new ≡ T.faults site.old }
+
+    // The group's bytes are read once, or one byte where there is none; and whatever the answer is no more, and nothing
+    // behind the log's end.
+    ensures count { T.tells_reads site.new 0 → IfOk result (λ next. IfSome next
+        (λ n. T.bytes_read site.new 0 + place.at ≡ T.bytes_read site.old 0 + n.at)) }
+    ensures most { (entries : ListOf EntryOf) (end : ℕ) → T.told site.old
+        → HasGroup ((T.disk site.old).contents 0) place.at entries end → T.tells_reads site.new 0
+        → T.bytes_read site.new 0 + place.at ≤ T.bytes_read site.old 0 + end }
+    ensures one { T.told site.old → slice_index ((T.disk site.old).contents 0) place.at ≢ 1
+        → T.tells_reads site.new 0 → T.bytes_read site.new 0 ≤ T.bytes_read site.old 0 + 1 }
+    ensures inside { T.told site.old → T.tells_reads site.new 0 → T.bytes_read site.new 0 + place.at
+        ≤ T.bytes_read site.old 0 + max (place.at + 1) (length ((T.disk site.old).contents 0)) }
     ensures only_log { ReadsOnlyLog (T.tells_reads site.old) (T.tells_reads site.new) (T.bytes_read site.old)
         (T.bytes_read site.new) }
     ensures site { GoesOn T.told T.faults T.holds T.keeps site.old site.new }

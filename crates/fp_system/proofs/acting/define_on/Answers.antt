@@ -1,4 +1,6 @@
 use Rattle.std.proofs.Common.{◌≡◌, ◌∙◌, ◌++◌, [], drop, ap, refl, sym, subst}
+use Rattle.fp_system.specs.Setups.{job_of}
+use Rattle.fp_system.proofs.SentTexts.{read_one}
 use Rattle.std.specs.Prelude.{◌+◌, Err}
 use Rattle.fp_model.specs.LogText.{Front, first_gate, log_text}
 use Rattle.log_groups.specs.Images.{IsAtRest}
@@ -32,3 +34,13 @@ returns-in-Err-clause-cause g c =
 pub returns-in-Err-clause-untouched : goal.returns-in-Err-clause-untouched
 returns-in-Err-clause-untouched g c none =
     c.in-Err.ensures.untouched (ap (λ f. Err f) (memory_fault c.in-Err.fault (sym c.fault_status.ensures ∙ none)))
+
+pub returns-in-Ok-clause-once : goal.returns-in-Ok-clause-once
+returns-in-Ok-clause-once g c t tells =
+    read_one (job_of c.args.setup.now) ((g.T.Site.disk c.args.site.now).contents 0)
+    (g.T.Site.bytes_read c.args.site.now 0) (g.T.Site.bytes_read c.define.new.site 0) (c.define.ensures.few tells)
+
+pub returns-in-Err-clause-once : goal.returns-in-Err-clause-once
+returns-in-Err-clause-once g c t tells =
+    read_one (job_of c.args.setup.now) ((g.T.Site.disk c.args.site.now).contents 0)
+    (g.T.Site.bytes_read c.args.site.now 0) (g.T.Site.bytes_read c.define.new.site 0) (c.define.ensures.few tells)

@@ -1,7 +1,7 @@
 use Rattle.std.proofs.Common.{◌≡◌, ◌∙◌, ap, inl, refl, sym, subst, ℕ}
 use Rattle.std.specs.Prelude.{◌⊎◌, Err}
 use Rattle.fp_model.specs.LogText.{Front, StartsWithFront}
-use Rattle.site_texts.specs.Texts.{IsLogSent, IsSentToDamage, SendsGroups}
+use Rattle.site_texts.specs.Texts.{IsLogSent, IsSentToDamage, ReadsOnce, SendsGroups}
 use Rattle.fp_system.specs.Answers.{MayStandIn}
 use Rattle.fp_system.specs.Causes.{IsCausedBySite}
 use Rattle.fp_system.specs.Setups.{job_of}
@@ -64,3 +64,15 @@ returns-in-Err-clause-cause g c =
     subst (IsCausedBySite before now) (sym c.fault_status.ensures)
     (fault_by_site before now c.in-Err.why (λ e. c.in-Err.ensures.cause (ap (λ f. Err f) e))
     (λ other. c.in-Err.ensures.stayed (λ e. other (one_err _ refl e))))
+
+pub returns-in-Ok-clause-once : goal.returns-in-Ok-clause-once
+returns-in-Ok-clause-once g c t tells =
+    subst (λ (f : Front). ReadsOnce f ((g.T.Site.disk c.args.site.now).contents 0)
+    (g.T.Site.bytes_read c.args.site.now 0) (g.T.Site.bytes_read c.log.new.site 0)) c.requires.front
+    (c.log.ensures.once t tells)
+
+pub returns-in-Err-clause-once : goal.returns-in-Err-clause-once
+returns-in-Err-clause-once g c t tells =
+    subst (λ (f : Front). ReadsOnce f ((g.T.Site.disk c.args.site.now).contents 0)
+    (g.T.Site.bytes_read c.args.site.now 0) (g.T.Site.bytes_read c.log.new.site 0)) c.requires.front
+    (c.log.ensures.once t tells)

@@ -34,6 +34,7 @@ returns-in-Ok-clause-shown g c t =
     let new = g.T.Site.disk c.show.new.site in
     record {
       whole = λ done. subst (λ (f : Front). IsDbSent job.defs f old new) c.requires.front (c.in-Ok.ensures.shown t);
+      rests = λ done. c.in-Ok.ensures.rests t;
       sends = subst (λ (f : Front). SendsDb job.defs f old new) c.requires.front (c.show.ensures.sends t);
       means = λ entries last sound history done.
           let format : setup.front.format ≡ 1 = ap (λ (f : Front). f.format) c.requires.front in
@@ -66,6 +67,7 @@ returns-in-Err-clause-shown g c t =
     let new = g.T.Site.disk c.show.new.site in
     record {
       whole = λ done. fault_not_done c.in-Err.why (sym c.fault_status.ensures ∙ done);
+      rests = λ done. fault_not_done c.in-Err.why (sym c.fault_status.ensures ∙ done);
       sends = subst (λ (f : Front). SendsDb job.defs f old new) c.requires.front (c.show.ensures.sends t);
       means = λ entries last sound history done. fault_not_done c.in-Err.why (sym c.fault_status.ensures ∙ done);
     }

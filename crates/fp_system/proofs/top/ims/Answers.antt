@@ -7,7 +7,7 @@ use Rattle.fp_site.specs.Moments.{Through}
 use Rattle.fp_source.specs.declared.part.Part.TheVariants as part
 use Rattle.log_groups.specs.Images.{IsAtRest, IsBeforeOrMade}
 use Rattle.fp_system.specs.Answers.{IsOfParts, MayStandIn}
-use Rattle.fp_system.specs.Gives.{HasNewText, Logged, Ran, Restarts, Shown}
+use Rattle.fp_system.specs.Gives.{HasNewText, Logged, Ran, Shown}
 use Rattle.fp_system.specs.Courses.{input}
 use Rattle.site_texts.specs.Texts.{ReadsOnce}
 use Rattle.fp_system.specs.Parts.{HasEvents, Job, Refuses, front_for}
@@ -22,7 +22,7 @@ use Rattle.fp_system.proofs.Due.{parts_not_done}
 use Rattle.fp_system.specs.declared.status.Status.TheVariants as status
 use Rattle.fp_system.proofs.SentTexts.{logged_not, read_none, shown_not}
 use Rattle.fp_system.proofs.Runs.{before_site, only_same, ran_not, unmade}
-use Rattle.fp_system.proofs.Jobs.{no_job_refused, one_job, same_events, schedule_had}
+use Rattle.fp_system.proofs.Jobs.{in_order, no_job_refused, no_word, one_job, same_events, schedule_had}
 use Rattle.fp_system.proofs.top.ims.Goals as goal
 
 -- an option has one value
@@ -235,7 +235,7 @@ returns-clause-logged g c job s t asks =
 -- ---- what is read
 
 pub returns-in-Run-clause-once : goal.returns-in-Run-clause-once
-returns-in-Run-clause-once g c which job s t asks restarts tells =
+returns-in-Run-clause-once g c which job s t asks tells =
     let mine = job_of c.in-Ok.task.setup in
     let same = one_job (kinds_of c.args.exits.now) (g.S.Source.left c.args.source.now) mine job
     (c.in-Ok.ensures.job s) asks.job_is in
@@ -244,7 +244,7 @@ returns-in-Run-clause-once g c which job s t asks restarts tells =
     (c.run_on.ensures.once t tells)
 
 pub returns-in-Show-clause-once : goal.returns-in-Show-clause-once
-returns-in-Show-clause-once g c which job s t asks restarts tells =
+returns-in-Show-clause-once g c which job s t asks tells =
     let mine = job_of c.in-Ok.task.setup in
     let same = one_job (kinds_of c.args.exits.now) (g.S.Source.left c.args.source.now) mine job
     (c.in-Ok.ensures.job s) asks.job_is in
@@ -253,23 +253,31 @@ returns-in-Show-clause-once g c which job s t asks restarts tells =
     (c.show_on.ensures.once t tells)
 
 pub returns-in-Define-clause-once : goal.returns-in-Define-clause-once
-returns-in-Define-clause-once g c which job s t asks restarts tells =
-    let named : command_of (map string_bytes c.args.words.now) ≡ Some command.Define = search rules in
-    absurd (subst Restarts (the_same asks.command_is named) restarts)
+returns-in-Define-clause-once g c which job s t asks tells =
+    let mine = job_of c.in-Ok.task.setup in
+    let same = one_job (kinds_of c.args.exits.now) (g.S.Source.left c.args.source.now) mine job
+    (c.in-Ok.ensures.job s) asks.job_is in
+    subst (λ (j : Job). ReadsOnce (front_for j) ((g.T.Site.disk c.args.site.now).contents 0)
+    (g.T.Site.bytes_read c.args.site.now 0) (g.T.Site.bytes_read c.define_on.new.site 0)) same
+    (c.define_on.ensures.once t tells)
 
 pub returns-in-Ok-clause-once : goal.returns-in-Ok-clause-once
-returns-in-Ok-clause-once g c which job s t asks restarts tells =
-    let named : command_of (map string_bytes c.args.words.now) ≡ Some command.Log = search rules in
-    absurd (subst Restarts (the_same asks.command_is named) restarts)
+returns-in-Ok-clause-once g c which job s t asks tells =
+    let mine = job_of c.in-Ok.task.setup in
+    let same = one_job (kinds_of c.args.exits.now) (g.S.Source.left c.args.source.now) mine job
+    (c.in-Ok.ensures.job s) asks.job_is in
+    subst (λ (j : Job). ReadsOnce (front_for j) ((g.T.Site.disk c.args.site.now).contents 0)
+    (g.T.Site.bytes_read c.args.site.now 0) (g.T.Site.bytes_read c.log_on.new.site 0)) same
+    (c.log_on.ensures.once t tells)
 
 pub returns-clause-once : goal.returns-clause-once
-returns-clause-once g c which job s t asks restarts tells = read_none job _ (g.T.Site.bytes_read c.args.site.now 0)
+returns-clause-once g c which job s t asks tells = read_none job _ (g.T.Site.bytes_read c.args.site.now 0)
 
 pub returns-in-Err-clause-once : goal.returns-in-Err-clause-once
-returns-in-Err-clause-once g c which job s t asks restarts tells = read_none job _ (g.T.Site.bytes_read c.args.site.now 0)
+returns-in-Err-clause-once g c which job s t asks tells = read_none job _ (g.T.Site.bytes_read c.args.site.now 0)
 
 pub returns-in-Ok-None-clause-once : goal.returns-in-Ok-None-clause-once
-returns-in-Ok-None-clause-once g c which job s t asks restarts tells =
+returns-in-Ok-None-clause-once g c which job s t asks tells =
     read_none job _ (g.T.Site.bytes_read c.args.site.now 0)
 
 pub returns-clause-reads : goal.returns-clause-reads
@@ -420,4 +428,66 @@ returns-in-Err-clause-parts g c s = record {
   no_schedule = λ other. refl;
   no_messages = λ other. refl;
   all = λ run done. absurd cc;
+}
+
+-- ---- the order of the parts
+
+pub returns-in-Define-clause-order : goal.returns-in-Define-clause-order
+returns-in-Define-clause-order g c s =
+    let named : command_of (map string_bytes c.args.words.now) ≡ Some command.Define = search rules in
+    in_order (kinds_of c.args.exits.now) (command_of (map string_bytes c.args.words.now))
+    (g.S.Source.left c.args.source.now) (g.S.Source.left c.read_task.new.source) command.Define
+    (job_of c.in-Ok.task.setup) named (c.in-Ok.ensures.job s) (inl (c.read_task.ensures.messages s))
+
+pub returns-in-Show-clause-order : goal.returns-in-Show-clause-order
+returns-in-Show-clause-order g c s =
+    let named : command_of (map string_bytes c.args.words.now) ≡ Some command.Show = search rules in
+    in_order (kinds_of c.args.exits.now) (command_of (map string_bytes c.args.words.now))
+    (g.S.Source.left c.args.source.now) (g.S.Source.left c.read_task.new.source) command.Show
+    (job_of c.in-Ok.task.setup) named (c.in-Ok.ensures.job s) (inl (c.read_task.ensures.messages s))
+
+pub returns-in-Ok-clause-order : goal.returns-in-Ok-clause-order
+returns-in-Ok-clause-order g c s =
+    let named : command_of (map string_bytes c.args.words.now) ≡ Some command.Log = search rules in
+    in_order (kinds_of c.args.exits.now) (command_of (map string_bytes c.args.words.now))
+    (g.S.Source.left c.args.source.now) (g.S.Source.left c.read_task.new.source) command.Log
+    (job_of c.in-Ok.task.setup) named (c.in-Ok.ensures.job s) (inl (c.read_task.ensures.messages s))
+
+pub returns-in-Run-clause-order : goal.returns-in-Run-clause-order
+returns-in-Run-clause-order g c s =
+    let mine = job_of c.in-Ok.task.setup in
+    let left = g.S.Source.left c.args.source.now in
+    let events = c.in-Ok.task.events in
+    let named : command_of (map string_bytes c.args.words.now) ≡ Some command.Run = search rules in
+    let run_is : c.in-Ok-Some.command ≡ command.Run = search rules in
+    let has : HasEvents mine left events =
+    subst (λ (x : Command). HasEventsFor x mine left events) run_is (c.in-Ok.ensures.schedule s) in
+    in_order (kinds_of c.args.exits.now) (command_of (map string_bytes c.args.words.now)) left
+    (g.S.Source.left c.run_on.new.source) command.Run mine named (c.in-Ok.ensures.job s) (inr (events, has))
+
+pub returns-clause-order : goal.returns-clause-order
+returns-clause-order g c s =
+    let named : command_of (map string_bytes c.args.words.now) ≡ Some c.in-Ok-Some.command = search rules in
+    let call = c.read_task.ensures in
+    record {
+      words = λ none p. no_word named none;
+      scripts = λ answer bad. call.scripts_unread answer s bad;
+      schedule = λ none. call.no_job s none;
+      messages = λ none. call.messages s;
+    }
+
+pub returns-in-Ok-None-clause-order : goal.returns-in-Ok-None-clause-order
+returns-in-Ok-None-clause-order g c s = record {
+  words = λ none p. refl;
+  scripts = λ answer bad. refl;
+  schedule = λ none. refl;
+  messages = λ none. refl;
+}
+
+pub returns-in-Err-clause-order : goal.returns-in-Err-clause-order
+returns-in-Err-clause-order g c s = record {
+  words = λ none p. refl;
+  scripts = λ answer bad. refl;
+  schedule = λ none. refl;
+  messages = λ none. refl;
 }

@@ -4,7 +4,7 @@ use Rattle.log_groups.specs.Images.{as_front}
 use Rattle.fp_model.specs.declared.database.Msdb.{Msdb}
 use Rattle.site_texts.specs.Sent.{HasSent}
 use Rattle.site_texts.specs.Texts.{IsDbSent, msdbs_text}
-use Rattle.site_texts.proofs.Restarted.{nothing_shown, show_moments, text_read}
+use Rattle.site_texts.proofs.Restarted.{nothing_shown, rests_behind, show_moments, text_read}
 use Rattle.site_texts.proofs.databases.show.Given as given
 use Rattle.site_texts.proofs.databases.show.Goals as goal
 
@@ -60,6 +60,18 @@ returns-clause-sends g c t =
       contents = λ set. ap (λ (f : ℕ → List ℕ). f set) part.contents ∙ call.contents t set;
       crash = show_moments d0 d1 (g.met.T.Site.lawful c.restart.new.site t1) (call.crash t) text d2 part;
     }
+
+pub returns-clause-rests : goal.returns-clause-rests
+returns-clause-rests g c t =
+    let t1 = c.restart.ensures.told t in
+    let d1 = g.T.Site.disk c.restart.new.site in
+    let d2 = g.T.Site.disk c.send_databases.new.site in
+    let text = msdbs_text c.args.defs.now c.in_ok-store.store.msdbs in
+    on_ok_weaker c.send_databases.result
+    (rests_behind d1 d2 text (g.met.T.Site.lawful c.restart.new.site t1)
+    (g.met.T.Site.lawful c.send_databases.new.site (c.send_databases.ensures.site.still_told t1))
+    (c.in_ok-store.ensures.reads t).durable)
+    (c.send_databases.ensures.sent t1)
 
 pub returns-clause-means : goal.returns-clause-means
 returns-clause-means g c scripts entries last t sound history =

@@ -1,6 +1,9 @@
 use Rattle.std.proofs.Common.{◌≡◌, ◌∙◌, ap, sym, arith, rules, subst, refl, ℕ, List, []}
 use Rattle.std.proofs.lemmas.Result.{on_ok_weaker}
-use Rattle.fp_model.specs.LogText.{first_gate}
+use Rattle.std.specs.Prelude.{◌+◌, length}
+use Rattle.std.proofs.lemmas.List.{length-append}
+use Rattle.fp_model.specs.Groups.{Groups, Reads}
+use Rattle.fp_model.specs.LogText.{first_gate, front_text}
 use Rattle.log_groups.specs.Images.{as_front}
 use Rattle.site_texts.specs.Groups.{AreAllSent, SendsFrom}
 use Rattle.site_texts.specs.Texts.{IsLogSent, IsSentToDamage, SendsGroups}
@@ -19,7 +22,8 @@ returns-clause-sends g c t =
     part_sent (as_front c.args.front.now) c.gate-first.result (g.T.Site.disk c.args.site.now)
     (g.T.Site.disk c.open.new.site)
     (g.T.Site.disk c.send_groups.new.site) (g.met.T.Site.lawful c.args.site.now t)
-    (g.met.T.Site.lawful c.open.new.site t1) (search rules) (c.open.ensures.stays t) (c.send_groups.ensures.sends t1)
+    (g.met.T.Site.lawful c.open.new.site t1) (search rules) (c.open.ensures.stays t) (c.in_ok-log.ensures.front t)
+    (c.send_groups.ensures.sends t1)
 
 pub returns-clause-shown : goal.returns-clause-shown
 returns-clause-shown g c t =
@@ -41,3 +45,36 @@ returns-clause-damaged g c set at t is =
           (g.met.T.Site.lawful c.open.new.site t1) (search rules) (c.open.ensures.stays t) at
           (c.in_ok-log.ensures.front t) bad.1,
     )
+
+pub returns-in_err-log-clause-once : goal.returns-in_err-log-clause-once
+returns-in_err-log-clause-once g c t told =
+    let few = c.open.ensures.count told in
+    let inside = c.open.ensures.inside t told in
+    record {
+      all = omega (arith, inside);
+      up_to = λ groups gate holds. omega (arith, few, holds.reads.0.next);
+      of_others = λ away. few;
+    }
+
+pub returns-clause-once : goal.returns-clause-once
+returns-clause-once g c t told =
+    let front = as_front c.args.front.now in
+    let t1 = c.open.ensures.told t in
+    let old = (g.T.Site.disk c.args.site.now).contents 0 in
+    let same = ap (λ f. f 0) (c.open.ensures.stays t).contents in
+    let first : c.gate-first.result ≡ first_gate front = search rules in
+    let told1 = (c.send_groups.ensures.only_log 0 told).0 in
+    let exact = c.in_ok-log.ensures.exact told1 in
+    let begins = c.in_ok-log.ensures.front t in
+    record {
+      all =
+          let few = c.send_groups.ensures.once t1 told in
+          let long : length old ≡ first_gate front + length begins.0 =
+          ap length begins.1 ∙ length-append (front_text 1 front) begins.0 in
+          omega (arith, few, exact, first, long, ap length same);
+      up_to = λ groups gate holds.
+          let whole = subst (λ n. Reads ((g.T.Site.disk c.open.new.site).contents 0) n (Groups groups gate)) (sym first)
+          (subst (λ l. Reads l (first_gate front) (Groups groups gate)) (sym same) holds.reads) in
+          let few = c.send_groups.ensures.read groups gate t1 whole told in omega (arith, few, exact, first);
+      of_others = λ away. absurd (away begins);
+    }

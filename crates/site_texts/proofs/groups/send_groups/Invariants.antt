@@ -1,4 +1,4 @@
-use Rattle.std.proofs.Common.{◌≡◌, ◌-◌, ◌^◌, ◌≤◌}
+use Rattle.std.proofs.Common.{◌≡◌, ◌+◌, ◌-◌, ◌^◌, ◌≤◌}
 use Rattle.log_groups.specs.Reads.{ReadsOnlyLog}
 use Rattle.site_texts.specs.Groups.{AreSent}
 use Rattle.site_texts.specs.Sent.{GoesOn}
@@ -15,6 +15,8 @@ invariant-loop-next g l = record {
   calm : g.T.Site.faults l.site ≡ g.T.Site.faults l.initial.site;
   only_log : ReadsOnlyLog (g.T.Site.tells_reads l.initial.site) (g.T.Site.tells_reads l.site)
       (g.T.Site.bytes_read l.initial.site) (g.T.Site.bytes_read l.site);
+  read : g.T.Site.tells_reads l.site 0 → g.T.Site.bytes_read l.site 0 + l.fn.first
+      ≡ g.T.Site.bytes_read l.initial.site 0 + l.place.at;
   site : GoesOn g.T.Site.told g.T.Site.faults g.T.Site.holds g.T.Site.keeps l.initial.site l.site;
 }
 
