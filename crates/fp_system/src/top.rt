@@ -3,7 +3,6 @@ ghost use Rattle.fp_exits.specs.Kinds.{kinds_of};
 ghost use Rattle.fp_model.specs.Messages.{lines_of};
 ghost use Rattle.fp_model.specs.declared.events.Event.{Event};
 ghost use Rattle.fp_source.specs.declared.part.Part.TheVariants as part;
-ghost use Rattle.fp_system.specs.Answers.{IsOr};
 ghost use Rattle.fp_system.specs.Causes.{IsCaused};
 ghost use Rattle.fp_system.specs.Courses.{input};
 ghost use Rattle.fp_system.specs.Gives.{Defined, InOrder, IsBeforeSite, Logged, Ran, Shown, Took};
@@ -16,7 +15,7 @@ ghost use Rattle.fp_system.specs.declared.status.Status.TheVariants as status;
 ghost use Rattle.command_words.specs.declared.words.Command.{Command as CommandOf};
 ghost use Rattle.command_words.specs.declared.words.Command.TheVariants as command;
 ghost use Rattle.log_groups.specs.Reads.{ReadsOnlyLog};
-ghost use Rattle.std.specs.Prelude.{◌≡◌, None, Some, List as ListOf, map, string_bytes};
+ghost use Rattle.std.specs.Prelude.{◌≡◌, ◌⊎◌, None, Some, List as ListOf, map, string_bytes};
 
 use crate::Status;
 use crate::acting::{define_on, log_on, run_on, show_on};
@@ -48,7 +47,8 @@ pub fn ims<S: Source, T: Site>(
 ) -> Status
     // When each answer comes.
     ensures usage { result ≡ status.Usage → command_of (map string_bytes words.now) ≡ None }
-    ensures no_command { command_of (map string_bytes words.now) ≡ None → IsOr status.Usage result }
+    ensures no_command { command_of (map string_bytes words.now) ≡ None
+        → (result ≡ status.Usage ⊎ result ≡ status.NoMemory) × (source.new ≡ source.old) × (site.new ≡ site.old) }
     ensures due { S.told source.old → T.told site.old →
         IsAnswerTo (given exits.now words.now (S.left source.old) (T.disk site.old)) result }
     ensures cause { IsCaused (S.faults source.old) (S.faults source.new)
