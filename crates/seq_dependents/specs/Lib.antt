@@ -1,0 +1,4 @@
+pub mod Slots
+pub mod Control
+pub mod Faults
+pub mod Puts
