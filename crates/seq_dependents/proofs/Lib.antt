@@ -1,4 +1,4 @@
 pub mod Placing
 pub mod Controls
 pub mod FaultLemmas
-pub mod Spelling
+pub mod Writes
