@@ -6,12 +6,16 @@ use Rattle.seq_dependents.specs.declared.part.Part.{Part}
 use Rattle.seq_dependents.specs.declared.fault.SeqFault.{SeqFault}
 use Rattle.seq_dependents.specs.declared.fault.SeqFault.TheVariants.{Damaged}
 use Rattle.seq_dependents.specs.Control.{IsKept, begin_of, end_of}
-use Rattle.seq_dependents.specs.Faults.{IsAtFault, in_control, misplaced, other_serial}
+use Rattle.seq_dependents.specs.Faults.{IsMisplaced, IsAtFault, in_control, misplaced, other_serial}
 use Rattle.seq_dependents.specs.Slots.{IsSequential, HasSerial, interval_of, slot_in, slot_of}
+
+pub misplaced_here : (part : Part) (area : List (List ℕ)) (ci n : ℕ) → n ≡ ci → first_sequential part.shape ≤ ci
+    → ci < first_independent part.shape → ¬ IsSequential part area ci → IsMisplaced part area n
+misplaced_here part area ci n e a b f = rw e (record { behind = a; before = b; missing = f })
 
 pub misplaced_fault : (part : Part) (area : List (List ℕ)) (ci n : ℕ) → n ≡ ci → first_sequential part.shape ≤ ci
     → ci < first_independent part.shape → ¬ IsSequential part area ci → IsAtFault part area n
-misplaced_fault part area ci n e a b f = rw e (misplaced a b f)
+misplaced_fault part area ci n e a b f = misplaced (misplaced_here part area ci n e a b f)
 
 pub serial_fault : (part : Part) (area : List (List ℕ)) (serial ci n : ℕ) → n ≡ ci → ci ≡ interval_of part serial
     → IsKept area serial → ¬ HasSerial (slot_of part area serial) serial → IsAtFault part area n

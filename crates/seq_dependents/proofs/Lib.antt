@@ -2,3 +2,5 @@ pub mod Placing
 pub mod Controls
 pub mod FaultLemmas
 pub mod Writes
+pub mod Fillings
+pub mod Appends

@@ -10,6 +10,7 @@
 //! After a fault but `Full` the object that holds the area is thrown away.
 #![tactic(auto)]
 
+mod appending;
 mod control;
 mod fault;
 mod part;
@@ -18,6 +19,7 @@ mod reading;
 mod slot;
 mod writing;
 
+pub use appending::append;
 pub use fault::SeqFault;
 pub use purging::purge;
 pub use reading::read;
