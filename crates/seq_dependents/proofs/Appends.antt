@@ -1,13 +1,14 @@
 -- Segments that are put behind the serials that are kept.
 use Rattle.std.proofs.Common.{◌≡◌, ◌≢◌, ℕ, ◌+◌, ◌-◌, ◌*◌, ◌%◌, ◌/◌, ◌<◌, ◌≤◌, inl, inr, List, length, refl, sym, ap, ◌∙◌, arith}
+use Rattle.ci_space.specs.declared.intervals.Shape.{Shape}
 use Rattle.ci_space.specs.Interval.{kind_of}
 use Rattle.ci_overflow.specs.Lists.{bytes_at}
 use Rattle.ci_overflow.specs.Places.{first_sequential, first_independent}
 use Rattle.ci_overflow.proofs.Finds.{same_or}
 use Rattle.seq_dependents.specs.declared.part.Part.{Part}
 use Rattle.seq_dependents.specs.Control.{begin_of, end_of, IsKept, ChangesEnds, PutsEnds}
-use Rattle.seq_dependents.specs.Slots.{HoldsCapacity, Holds, IsSequential, slots_each, slot_size, interval_of, slot_in, slot_of}
-use Rattle.seq_dependents.specs.Puts.{Fills, Appends, linked_to}
+use Rattle.seq_dependents.specs.Slots.{HoldsCapacity, Holds, IsSequential, slots_each, slot_size, interval_of, slot_in, slot_of, part_of}
+use Rattle.seq_dependents.specs.Puts.{Fills, Appends, linked_to, segment_size}
 use Rattle.seq_dependents.proofs.Placing.{numbers_apart, slot_ends}
 use Rattle.seq_dependents.proofs.Fillings.{interval_behind, each_some}
 
@@ -19,6 +20,10 @@ part_fits part h =
     let ends = slot_ends part.shape.ci (16 + part.segment) ((part.shape.ci - 32) / (16 + part.segment)) 0 refl
     (omega (arith, some)) (omega arith) in
     omega (arith, ends)
+
+pub segment_fits : (shape : Shape) (capacity : ℕ) (items : List (List ℕ))
+    → HoldsCapacity (part_of shape capacity (segment_size items)) → 48 + segment_size items ≤ shape.ci
+segment_fits shape capacity items h = part_fits (part_of shape capacity (segment_size items)) h
 
 pub no_control : (part : Part) (serial : ℕ) → interval_of part serial ≢ 0
 no_control part serial e = let b = interval_behind part serial in omega (arith, b, e)

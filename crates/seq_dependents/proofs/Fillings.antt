@@ -14,7 +14,7 @@ pub interval_behind : (part : Part) (serial : ℕ) → first_sequential part.sha
 unfolding interval_of
 interval_behind part serial = omega arith
 
-each_some : (c s each : ℕ) → 1 ≤ c → c ≤ s * each → 0 < each
+pub each_some : (c s each : ℕ) → 1 ≤ c → c ≤ s * each → 0 < each
 each_some c s each l m = elim (cases_lt 0 each) as (λ _. 0 < each) [
   | inl h ↦ h
   | inr h ↦ let z : each ≡ 0 = omega (arith, h) in let n : c ≤ s * 0 = rw (← z) m in omega (arith, n, l)

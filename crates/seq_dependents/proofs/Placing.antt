@@ -55,7 +55,7 @@ near_apart a b c l m e =
     let k : a / c < b / c = elim (cases_lt (a / c) (b / c)) as (λ _. a / c < b / c) [
       | inl h ↦ h
       | inr h ↦ absurd (let t : b / c * c ≤ a / c * c = mul-le (b / c) c (a / c) c h (omega arith) in
-      omega (arith, t, x, y, e, l))
+          omega (arith, t, x, y, e, l))
     ] in
     let t : a / c * c + c ≤ b / c * c = row_fits (a / c) c (b / c) c k (omega arith) in
     omega (arith, t, x, y, e, m)

@@ -26,17 +26,26 @@ fn is_full(ends: Ends, capacity: u32, n: u64) -> bool
     u64::from(capacity) - (ends.end - ends.begin) < n || LAST - ends.end < n
 }
 
+/// The bytes of each of these segments, which fit into an interval of `ci` bytes.
+fn segment_in(ci: u16, items: &[Bytes]) -> u16
+    requires some { 0 < length items.now }
+    requires fits { 48 + segment_size items.now ≤ ci }
+    ensures { result ≡ segment_size items.now }
+{
+    items[0].len() as u16
+}
+
 /// The part for these segments.
+#[tactic(auto, using(crate::proofs::Appends::segment_fits))]
 fn part_for(shape: &Shape, capacity: u32, items: &[Bytes]) -> Part
     requires some { 0 < length items.now }
     requires holds { HoldsCapacity (part_of shape.now capacity (segment_size items.now)) }
     ensures { result ≡ part_of shape.now capacity (segment_size items.now) }
 {
-    let shape = *shape;
     Part {
-        shape,
+        shape: *shape,
         capacity,
-        segment: items[0].len() as u16,
+        segment: segment_in(shape.ci, items),
     }
 }
 

@@ -15,12 +15,7 @@ use fp_model::Bytes;
 use std::alloc::{AllocError, Global};
 
 /// The bytes of a slot.
-fn spelled(
-    alloc: Global,
-    serial: u64,
-    previous: u64,
-    segment: &[u8],
-) -> Result<Bytes, AllocError>
+fn spelled(alloc: Global, serial: u64, previous: u64, segment: &[u8]) -> Result<Bytes, AllocError>
     ensures slot { IfOk result (λ slot. Holds slot serial previous segment.now) }
     ensures size { IfOk result (λ slot. length slot ≡ 16 + length segment.now) }
 {
