@@ -4,3 +4,4 @@ pub mod FaultLemmas
 pub mod Writes
 pub mod Fillings
 pub mod Appends
+pub mod Downs

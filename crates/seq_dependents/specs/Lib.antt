@@ -2,3 +2,4 @@ pub mod Slots
 pub mod Control
 pub mod Faults
 pub mod Puts
+pub mod Down

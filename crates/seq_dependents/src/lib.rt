@@ -12,6 +12,7 @@
 
 mod appending;
 mod control;
+mod descending;
 mod fault;
 mod part;
 mod purging;
@@ -20,6 +21,7 @@ mod slot;
 mod writing;
 
 pub use appending::append;
+pub use descending::read_down;
 pub use fault::SeqFault;
 pub use purging::purge;
 pub use reading::read;

@@ -115,6 +115,7 @@ pub fn read_slot<I: Intervals>(
     requires { HoldsCapacity part.now }
     ensures held { I.told i.old → IfOk result (λ held. IsHeld part.now (I.intervals i.old) serial held.previous
         held.bytes) }
+    ensures earlier { IfOk result (λ held. held.previous < serial) }
     ensures failed { IsErrOf result SeqFault.Failed → Rose (I.faults i.old) (I.faults i.new) }
     ensures damaged { I.told i.old → IsKept (I.intervals i.old) serial → (n : ℕ) → result ≡ Err (SeqFault.Damaged n)
         → IsAtFault part.now (I.intervals i.old) n }
