@@ -1,14 +1,12 @@
 -- Segments that are put behind the serials that are kept.
-use Rattle.std.proofs.Common.{◌≡◌, ◌≢◌, ℕ, ◌+◌, ◌-◌, ◌*◌, ◌%◌, ◌/◌, ◌<◌, ◌≤◌, inl, inr, List, length, refl, sym, ap, ◌∙◌, arith}
+use Rattle.std.proofs.Common.{◌≡◌, ◌≢◌, ℕ, ◌+◌, ◌-◌, ◌/◌, ◌<◌, ◌≤◌, inl, List, length, refl, sym, ap, ◌∙◌, arith}
 use Rattle.ci_space.specs.declared.intervals.Shape.{Shape}
 use Rattle.ci_space.specs.Interval.{kind_of}
 use Rattle.ci_overflow.specs.Lists.{bytes_at}
-use Rattle.ci_overflow.specs.Places.{first_sequential, first_independent}
-use Rattle.ci_overflow.proofs.Finds.{same_or}
 use Rattle.seq_dependents.specs.declared.part.Part.{Part}
-use Rattle.seq_dependents.specs.Control.{begin_of, end_of, IsKept, ChangesEnds, PutsEnds}
-use Rattle.seq_dependents.specs.Slots.{HoldsCapacity, Holds, IsSequential, slots_each, slot_size, interval_of, slot_in, slot_of, part_of}
-use Rattle.seq_dependents.specs.Puts.{Fills, Appends, linked_to, segment_size}
+use Rattle.seq_dependents.specs.Control.{begin_of, end_of, PutsEnds}
+use Rattle.seq_dependents.specs.Slots.{HoldsCapacity, IsSequential, slots_each, interval_of, slot_in, slot_of, part_of}
+use Rattle.seq_dependents.specs.Puts.{Fills, Appends, segment_size}
 use Rattle.seq_dependents.proofs.Placing.{numbers_apart, slot_ends}
 use Rattle.seq_dependents.proofs.Fillings.{interval_behind, each_some}
 

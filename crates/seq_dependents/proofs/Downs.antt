@@ -1,5 +1,5 @@
 -- Items that are read from the newest down.
-use Rattle.std.proofs.Common.{◌≡◌, ℕ, ◌<◌, ◌≤◌, List, [], ◌∷◌, ◌++◌, refl, sym, ap, ◌∙◌, subst, arith, append_assoc, append-nil}
+use Rattle.std.proofs.Common.{◌≡◌, ℕ, ◌<◌, ◌≤◌, List, [], ◌∷◌, ◌++◌, sym, ap, ◌∙◌, subst, append_assoc, append-nil}
 use Rattle.fp_model.specs.declared.database.SeqItem.{SeqItem}
 use Rattle.seq_dependents.specs.declared.part.Part.{Part}
 use Rattle.seq_dependents.specs.Control.{IsKept, begin_of, end_of}

@@ -1,12 +1,12 @@
 -- Intervals at fault, as the calls see them.
-use Rattle.std.proofs.Common.{◌≡◌, ℕ, ◌<◌, ◌≤◌, List, Result, Err, Option, None, IsSome, is_some, false, true, ap, ◌∙◌, sym, refl}
+use Rattle.std.proofs.Common.{◌≡◌, ℕ, ◌<◌, ◌≤◌, List, Result, Err, Option, None, IsSome, is_some, false, true, ap, ◌∙◌, sym}
 use Rattle.ci_overflow.specs.Lists.{bytes_at}
 use Rattle.ci_overflow.specs.Places.{first_sequential, first_independent}
 use Rattle.seq_dependents.specs.declared.part.Part.{Part}
 use Rattle.seq_dependents.specs.declared.fault.SeqFault.{SeqFault}
 use Rattle.seq_dependents.specs.declared.fault.SeqFault.TheVariants.{Damaged}
 use Rattle.seq_dependents.specs.Control.{IsKept, begin_of, end_of}
-use Rattle.seq_dependents.specs.Faults.{IsMisplaced, IsAtFault, in_control, misplaced, other_serial}
+use Rattle.seq_dependents.specs.Faults.{IsMisplaced, IsAtFault, misplaced, other_serial}
 use Rattle.seq_dependents.specs.Slots.{IsSequential, HasSerial, interval_of, slot_in, slot_of}
 
 pub misplaced_here : (part : Part) (area : List (List ℕ)) (ci n : ℕ) → n ≡ ci → first_sequential part.shape ≤ ci

@@ -1,5 +1,5 @@
 -- Slots that are written one after the other.
-use Rattle.std.proofs.Common.{◌≡◌, ◌≢◌, ℕ, zero, suc, ◌+◌, ◌-◌, ◌*◌, ◌/◌, ◌%◌, ◌<◌, ◌≤◌, ◌⊎◌, inl, inr, List, [], ◌∷◌, length, get_or, refl, sym, ap, ◌∙◌, subst, arith}
+use Rattle.std.proofs.Common.{◌≡◌, ◌≢◌, ℕ, ◌+◌, ◌*◌, ◌/◌, ◌%◌, ◌<◌, ◌≤◌, ◌⊎◌, inl, inr, List, [], get_or, refl, ◌∙◌, arith}
 use Rattle.std.proofs.lemmas.Bool.{cases_lt}
 use Rattle.std.proofs.lemmas.Nat.{div_below, mod_below}
 use Rattle.ci_overflow.specs.Lists.{bytes_at}
@@ -69,7 +69,8 @@ outside part ci serial h d e =
 last_or : (k n : ℕ) → k < n + 1 → (k < n) ⊎ (k ≡ n)
 last_or k n l = elim (cases_lt k n) as (λ _. (k < n) ⊎ (k ≡ n)) [ inl h ↦ inl h | inr h ↦ inr (omega (arith, h, l)) ]
 
-pub fills_on : (part : Part) (old mid new : List (List ℕ)) (first previous : ℕ) (segments : List (List ℕ)) (n linked : ℕ)
+pub fills_on : (part : Part) (old mid new : List (List ℕ)) (first previous : ℕ) (segments : List (List ℕ))
+    (n linked : ℕ)
     (segment : List ℕ) → HoldsCapacity part → n < part.capacity → linked ≡ linked_to first previous n
     → segment ≡ get_or segments n [] → Fills part old mid first previous segments n
     → PutsSlot part mid new (first + n) linked segment → Fills part old new first previous segments (n + 1)
@@ -78,7 +79,8 @@ fills_on part old mid new first previous segments n linked segment h few el es f
       (λ _. Holds (slot_of part new (first + k)) (first + k) (linked_to first previous k) (get_or segments k [])) [
         | inl b ↦
             let e : slot_of part new (first + k) ≡ slot_of part mid (first + k) =
-            p.others (first + k) (numbers_apart part (first + k) (first + n) (omega (arith, b)) (omega (arith, b, few))) in
+            p.others (first + k) (numbers_apart part (first + k) (first + n) (omega (arith, b)) (omega (arith, b, few)))
+            in
             rw e (f.holds k b)
         | inr e ↦ rw (e, ← el, ← es) p.holds
       ];

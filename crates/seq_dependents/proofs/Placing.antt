@@ -1,5 +1,5 @@
 -- Slots stand within their intervals, and different ones apart.
-use Rattle.std.proofs.Common.{◌≡◌, ◌≢◌, ℕ, ◌+◌, ◌-◌, ◌*◌, ◌/◌, ◌%◌, ◌<◌, ◌≤◌, ◌⊎◌, inl, inr, refl, sym, ap, ◌∙◌, arith}
+use Rattle.std.proofs.Common.{◌≡◌, ◌≢◌, ℕ, ◌+◌, ◌-◌, ◌*◌, ◌/◌, ◌%◌, ◌<◌, ◌≤◌, ◌⊎◌, inl, inr, ap, arith}
 use Rattle.std.proofs.lemmas.Nat.{div-add-mod', mod_below, mul-le, row_fits}
 use Rattle.std.proofs.lemmas.Bool.{cases_lt}
 use Rattle.seq_dependents.specs.declared.part.Part.{Part}
@@ -41,7 +41,8 @@ slots_apart part a b n e =
     let d : slot_number part a / slots_each part ≡ slot_number part b / slots_each part = omega (arith, e) in
     elim (rows_apart (slot_number part a) (slot_number part b) (slots_each part) (slot_size part) n d) as
     (λ _. (32 + slot_number part a % slots_each part * slot_size part + slot_size part ≤
-    32 + slot_number part b % slots_each part * slot_size part) ⊎ (32 + slot_number part b % slots_each part * slot_size part
+    32 + slot_number part b % slots_each part * slot_size part)
+    ⊎ (32 + slot_number part b % slots_each part * slot_size part
     + slot_size part ≤ 32 + slot_number part a % slots_each part * slot_size part)) [
       | inl l ↦ inl (omega (arith, l))
       | inr l ↦ inr (omega (arith, l))

@@ -1,8 +1,8 @@
 -- A slot that is written.
-use Rattle.std.proofs.Common.{◌≡◌, ◌≢◌, ℕ, ◌+◌, ◌-◌, ◌<◌, ◌≤◌, ◌⊎◌, inl, inr, List, [], ◌++◌, length, drop, take, slice_range, slice_index, false, true, refl, sym, ap, ◌∙◌, arith}
+use Rattle.std.proofs.Common.{◌≡◌, ◌≢◌, ℕ, ◌+◌, ◌-◌, ◌≤◌, ◌⊎◌, inl, inr, List, [], ◌++◌, length, drop, slice_range, slice_index, false, true, refl, sym, ap, ◌∙◌, arith}
 use Rattle.std.proofs.Common.{append-nil}
-use Rattle.std.proofs.lemmas.List.{drop_all, length-take, length-drop}
-use Rattle.ci_space.specs.Interval.{kind_of, IsInterval, Keeps, written, has_elements}
+use Rattle.std.proofs.lemmas.List.{drop_all, length-take}
+use Rattle.ci_space.specs.Interval.{kind_of, IsInterval, Keeps, written}
 use Rattle.ci_space.proofs.Chains.{range-keeps}
 use Rattle.ci_space.proofs.Contents.{written-below, written-above, length-written, range-written}
 use Rattle.ci_space.proofs.Tilings.{kind-keeps, head-keeps}

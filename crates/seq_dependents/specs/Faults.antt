@@ -1,5 +1,5 @@
 -- When an interval of a sequential part is at fault.
-use Rattle.std.specs.Prelude.{◌≡◌, ℕ, ◌+◌, ◌<◌, ◌≤◌, ◌⊎◌, List}
+use Rattle.std.specs.Prelude.{◌≡◌, ℕ, ◌<◌, ◌≤◌, List}
 use Rattle.ci_overflow.specs.Places.{first_sequential, first_independent}
 use Rattle.seq_dependents.specs.declared.part.Part.{Part}
 use Rattle.seq_dependents.specs.Slots.{IsSequential, HasSerial, interval_of, slot_of}

@@ -24,7 +24,8 @@ linked_to first previous zero = previous
 linked_to first previous (suc k) = first + k
 
 -- the first `n` segments are put into the slots of the serials from `first` on, linked to `previous`
-pub record Fills (part : Part) (old new : List (List ℕ)) (first previous : ℕ) (segments : List (List ℕ)) (n : ℕ) : Type 0
+pub record Fills (part : Part) (old new : List (List ℕ)) (first previous : ℕ) (segments : List (List ℕ)) (n : ℕ) : Type
+    0
   where
     -- each slot holds its serial, the serial that it is linked to, and its segment
     pub holds : (k : ℕ) → k < n

@@ -1,6 +1,23 @@
 //! New sequential dependents are put behind those that are there.
 
-ghost use Rattle.std.specs.Prelude.{◌≡◌, ◌≢◌, ◌↔◌, ◌+◌, ◌-◌, ◌<◌, ◌≤◌, ℕ, length, All, Err, IfOk, OnOk, IsErrOf, IsTrue, ◌^◌};
+ghost use Rattle.std.specs.Prelude.{
+  ◌≡◌,
+  ◌≢◌,
+  ◌↔◌,
+  ◌+◌,
+  ◌-◌,
+  ◌<◌,
+  ◌≤◌,
+  ℕ,
+  length,
+  All,
+  Err,
+  IfOk,
+  OnOk,
+  IsErrOf,
+  IsTrue,
+  ◌^◌,
+};
 ghost use Rattle.ci_space.specs.Calls.{Rose, GoesOn};
 ghost use Rattle.ci_space.specs.Interval.{IsInterval, kind_of};
 ghost use Rattle.ci_overflow.specs.Lists.{bytes_at};

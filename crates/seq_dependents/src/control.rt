@@ -1,11 +1,38 @@
 //! Control of an area, and the ends of its sequential part.
 
-ghost use Rattle.std.specs.Prelude.{◌≡◌, ◌≢◌, ◌<◌, ◌≤◌, ◌-◌, ◌⊎◌, ◌↔◌, ℕ, List, length, Err, IfOk, OnOk, OnErr, IsErrOf, IfSome, IsSome};
+ghost use Rattle.std.specs.Prelude.{
+  ◌≡◌,
+  ◌≢◌,
+  ◌<◌,
+  ◌≤◌,
+  ◌-◌,
+  ◌⊎◌,
+  ◌↔◌,
+  ℕ,
+  List,
+  length,
+  Err,
+  IfOk,
+  OnOk,
+  OnErr,
+  IsErrOf,
+  IfSome,
+  IsSome,
+};
 ghost use Rattle.ci_space.specs.Calls.{Rose, GoesOn};
 ghost use Rattle.ci_space.specs.Interval.{IsInterval, kind_of};
 ghost use Rattle.ci_overflow.specs.Lists.{bytes_at};
 ghost use Rattle.ci_overflow.specs.Rooms.{IsPut};
-ghost use Rattle.seq_dependents.specs.Control.{IsControl, IsControlOf, AreEnds, PutsEnds, begin_of, end_of, begin_in, end_in};
+ghost use Rattle.seq_dependents.specs.Control.{
+  IsControl,
+  IsControlOf,
+  AreEnds,
+  PutsEnds,
+  begin_of,
+  end_of,
+  begin_in,
+  end_in,
+};
 ghost use Rattle.seq_dependents.specs.declared.fault.SeqFault.{SeqFault};
 
 use crate::SeqFault;

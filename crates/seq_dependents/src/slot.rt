@@ -1,13 +1,40 @@
 //! One slot of a sequential part: it is read in its interval, or written.
 
-ghost use Rattle.std.specs.Prelude.{◌≡◌, ◌≢◌, ◌<◌, ◌≤◌, ◌⊎◌, ◌↔◌, ℕ, List, length, drop, Err, IfOk, OnOk, IsErrOf, IfSome, IsSome};
+ghost use Rattle.std.specs.Prelude.{
+  ◌≡◌,
+  ◌≢◌,
+  ◌<◌,
+  ◌≤◌,
+  ◌⊎◌,
+  ◌↔◌,
+  ℕ,
+  List,
+  length,
+  drop,
+  Err,
+  IfOk,
+  OnOk,
+  IsErrOf,
+  IfSome,
+  IsSome,
+};
 ghost use Rattle.byteorder.specs.Endian.{big_number};
 ghost use Rattle.ci_space.specs.Calls.{Rose, GoesOn};
 ghost use Rattle.ci_space.specs.Interval.{IsInterval, kind_of};
 ghost use Rattle.ci_overflow.specs.Lists.{bytes_at};
 ghost use Rattle.seq_dependents.specs.Control.{IsKept};
 ghost use Rattle.seq_dependents.specs.Faults.{IsAtFault};
-ghost use Rattle.seq_dependents.specs.Slots.{HoldsCapacity, Holds, HasSerial, IsSequential, IsHeld, slot_in, slot_of, slot_size, interval_of};
+ghost use Rattle.seq_dependents.specs.Slots.{
+  HoldsCapacity,
+  Holds,
+  HasSerial,
+  IsSequential,
+  IsHeld,
+  slot_in,
+  slot_of,
+  slot_size,
+  interval_of,
+};
 
 use crate::SeqFault;
 use crate::control::get;

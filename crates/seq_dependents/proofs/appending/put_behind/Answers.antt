@@ -1,4 +1,4 @@
-use Rattle.std.proofs.Common.{◌≡◌, ◌<◌, ◌∙◌, inl, sym, refl, arith}
+use Rattle.std.proofs.Common.{◌≡◌, ◌∙◌, inl, sym, refl, arith}
 use Rattle.std.proofs.lemmas.Result.{err_from_is_err_and}
 use Rattle.ci_overflow.specs.Lists.{bytes_at}
 use Rattle.ci_overflow.proofs.Going.{same_fault}

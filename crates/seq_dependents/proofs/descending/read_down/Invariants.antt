@@ -1,4 +1,4 @@
-use Rattle.std.proofs.Common.{◌≡◌, ◌<◌, ◌++◌, List}
+use Rattle.std.proofs.Common.{◌≡◌, ◌++◌, List}
 use Rattle.ci_space.specs.Calls.{GoesOn}
 use Rattle.fp_model.specs.declared.database.SeqItem.{SeqItem}
 use Rattle.seq_dependents.specs.Down.{IsDown}

@@ -1,4 +1,3 @@
-use Rattle.std.proofs.Common.{◌≡◌, ◌∙◌, sym}
 use Rattle.seq_dependents.proofs.FaultLemmas.{serial_missing, none_some}
 use Rattle.seq_dependents.proofs.slot.read_slot.Goals as goal
 

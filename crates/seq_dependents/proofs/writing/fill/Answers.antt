@@ -1,4 +1,4 @@
-use Rattle.std.proofs.Common.{◌≡◌, ◌<◌, ◌∙◌, [], get_or, rules, arith}
+use Rattle.std.proofs.Common.{◌≡◌, ◌∙◌, [], get_or, arith}
 use Rattle.std.proofs.lemmas.List.{get_or_default}
 use Rattle.ci_overflow.proofs.Going.{goes_on_joined}
 use Rattle.seq_dependents.proofs.Fillings.{fills_on}
@@ -7,8 +7,10 @@ use Rattle.seq_dependents.proofs.writing.fill.Goals as goal
 pub loop-at-preserved : goal.loop-at-preserved
 loop-at-preserved g c =
     let it = c.loop-at.invariant in
-    let segment : c.as_slice.result.now ≡ get_or c.args.segments.now c.loop-at.at [] = c.as_slice.ensures ∙ c.index-segments-at.is
-    ∙ get_or_default c.args.segments.now c.loop-at.at c.index-segments-at.result [] (omega (arith, c.loop-at-test.true)) in
+    let segment : c.as_slice.result.now ≡ get_or c.args.segments.now c.loop-at.at [] = c.as_slice.ensures
+    ∙ c.index-segments-at.is
+    ∙ get_or_default c.args.segments.now c.loop-at.at c.index-segments-at.result [] (omega (arith, c.loop-at-test.true))
+    in
     record {
       goes_on = goes_on_joined _ _ _ _ _ _ _ it.goes_on c.put_slot.ensures.goes_on;
       number = c.put_slot.ensures.number ∙ it.number;

@@ -1,5 +1,4 @@
-use Rattle.std.proofs.Common.{◌≡◌, ◌≤◌, ◌+◌, length, ap, ◌∙◌, arith}
-use Rattle.ci_space.specs.Interval.{written}
+use Rattle.std.proofs.Common.{◌+◌, length, ap, ◌∙◌}
 use Rattle.seq_dependents.proofs.Controls.{on_ok_map}
 use Rattle.seq_dependents.proofs.Writes.{slot_put}
 use Rattle.seq_dependents.proofs.writing.put_slot.Goals as goal
