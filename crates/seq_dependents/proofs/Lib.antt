@@ -5,3 +5,4 @@ pub mod Writes
 pub mod Fillings
 pub mod Appends
 pub mod Downs
+pub mod LawLemmas

@@ -14,6 +14,7 @@ mod appending;
 mod control;
 mod descending;
 mod fault;
+mod laws;
 mod part;
 mod purging;
 mod reading;
@@ -23,5 +24,9 @@ mod writing;
 pub use appending::append;
 pub use descending::read_down;
 pub use fault::SeqFault;
+pub use laws::{
+    a_serial_has_one_segment, near_serials_have_different_slots, what_is_appended_is_held,
+    what_is_kept_stays_held,
+};
 pub use purging::purge;
 pub use reading::read;
