@@ -1,19 +1,62 @@
 //! A root's sequential dependents, from the newest down.
 
-ghost use Rattle.std.specs.Prelude.{◌≡◌, ◌≢◌, ◌++◌, ◌∷◌, [], ℕ, Err, IfOk, OnOk, IsErrOf};
+ghost use Rattle.std.specs.Prelude.{◌≡◌, ◌≢◌, ◌++◌, ◌∷◌, [], ℕ, length, Err, IfOk, IfSome, OnOk, IsErrOf};
 ghost use Rattle.ci_space.specs.Calls.{Rose, GoesOn};
-ghost use Rattle.seq_dependents.specs.Down.{IsDown};
+ghost use Rattle.ci_space.specs.Interval.{kind_of};
+ghost use Rattle.seq_dependents.specs.Down.{IsDown, IsRead};
 ghost use Rattle.seq_dependents.specs.Faults.{IsAtFault};
 ghost use Rattle.seq_dependents.specs.declared.fault.SeqFault.{SeqFault};
-ghost use Rattle.seq_dependents.specs.Slots.{HoldsCapacity, part_of};
+ghost use Rattle.seq_dependents.specs.Slots.{HoldsCapacity, interval_of, part_of};
 
 use crate::SeqFault;
 use crate::control::get_control_of;
-use crate::part::Part;
-use crate::slot::read_slot;
-use ci_space::{Intervals, Shape};
+use crate::part::{Part, interval_of};
+use crate::slot::{read_slot, sequential};
+use ci_space::{Interval, Intervals, Shape};
 use fp_model::{List, SeqItem};
 use std::alloc::Global;
+
+/// The sequential interval that was read last.
+#[derive(Drop)]
+struct Last {
+    ci: u64,
+    interval: Interval,
+}
+
+/// The interval of a serial's slot: the one that was read last, where it is that.
+#[tactic(auto, using(crate::proofs::FaultLemmas::misplaced_fault))]
+fn next<I: Intervals>(
+    i: &mut I,
+    part: &Part,
+    last: Option<Last>,
+    serial: u64,
+) -> Result<Last, SeqFault>
+    requires holds { HoldsCapacity part.now }
+    requires kind { IfSome last (λ last. kind_of last.interval ≡ 4) }
+    requires size { IfSome last (λ last. length last.interval ≡ part.now.shape.ci) }
+    ensures kind { IfOk result (λ next. kind_of next.interval ≡ 4) }
+    ensures size { IfOk result (λ next. length next.interval ≡ part.now.shape.ci) }
+    ensures place { IfOk result (λ next. next.ci ≡ interval_of part.now serial) }
+    ensures read { I.told i.old
+        → IfSome last (λ last. IsRead part.now (I.intervals i.old) last.ci last.interval)
+        → IfOk result (λ next. IsRead part.now (I.intervals i.old) next.ci next.interval) }
+    ensures failed { IsErrOf result SeqFault.Failed → Rose (I.faults i.old) (I.faults i.new) }
+    ensures damaged { I.told i.old → (n : ℕ) → result ≡ Err (SeqFault.Damaged n)
+        → IsAtFault part.now (I.intervals i.old) n }
+    ensures never_full { (begin end n : ℕ) → result ≢ Err (SeqFault.Full begin end n) }
+    ensures same { I.told i.old → I.intervals i.new ≡ I.intervals i.old }
+    ensures number { I.number i.new ≡ I.number i.old }
+    ensures goes_on { GoesOn I.told I.size I.faults I.keeps i.old i.new }
+{
+    let ci = interval_of(part, serial);
+    if let Some(last) = last {
+        if last.ci == ci {
+            return Ok(last);
+        }
+    }
+    let interval = sequential(i, part, ci)?;
+    Ok(Last { ci, interval })
+}
 
 /// Puts an item behind the others.
 fn keep(items: &mut List<SeqItem>, item: SeqItem) -> Result<(), SeqFault>
