@@ -1,0 +1,5 @@
+pub mod Slots
+pub mod Control
+pub mod Faults
+pub mod Puts
+pub mod Down
