@@ -194,7 +194,7 @@ const DAMAGED: [(&str, &str); 2] = [
 #[test]
 fn groups_before_damage_are_sent_by_log_alone(rt: HostRuntime) -> Result<(), Fail> {
     let mut site = run_on_new(rt.alloc(), "", "T1 DEPOSIT A001 10\n")?;
-    let at = site.contents(0).len() as u64 - 1;
+    let at = site.contents(0).len().saturating_sub(1) as u64;
     assert!(rt; at < 1 << 20);
     assert!(rt; site.write_at(0, at, &[1]).is_ok());
     for (command, wanted) in DAMAGED {
