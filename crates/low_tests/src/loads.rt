@@ -3,8 +3,8 @@ use generated_load::{Load, generate};
 use std::alloc::{AllocError, Global};
 use std::test::Fail;
 
-// A number, how its messages begin and end, how many bytes they have, and the same of its schedule. A second program drew
-// them.
+// A number, how its messages begin and end, how many bytes they have, and the same of its schedule, as
+// `scripts/load_of.py` draws them.
 struct Drawn {
     number: u32,
     messages: (&'static str, &'static str, usize),
