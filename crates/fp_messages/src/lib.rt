@@ -20,5 +20,5 @@ mod message;
 mod reply;
 mod words;
 
-pub use message::{MessageFault, read_message, terminal_of};
+pub use message::{MessageFault, message_number_of, read_message, terminal_of};
 pub use reply::{reply_line, reply_line_of, reply_text};

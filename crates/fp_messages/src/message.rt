@@ -1,6 +1,7 @@
 //! Reads a message line.
-ghost use Rattle.std.specs.Prelude.{◌≡◌, ◌↔◌, Ok, Err, IfOk, IsOk, IsErrOf};
+ghost use Rattle.std.specs.Prelude.{◌≡◌, ◌↔◌, ℕ, List as ListOf, Ok, Err, IfOk, IsOk, IsErrOf, option_map};
 ghost use Rattle.std.specs.List.{list_all};
+ghost use Rattle.fp_model.specs.Lasts.{last_in};
 ghost use Rattle.fp_model.specs.Texts.{is_printable};
 ghost use Rattle.fp_model.specs.Messages as messages;
 ghost use Rattle.fp_model.specs.Messages.{behind_number, message_of, number_in_line, terminal_of};
@@ -75,6 +76,23 @@ pub fn read_message(alloc: Global, format: u8, line: &[u8]) -> Result<Message, M
         line: Bytes::from_slice(alloc, line)?,
         number,
     })
+}
+
+/// The terminal and the number of a line that is a numbered message in a log of this format; `None` of any other line.
+/// Takes no memory.
+pub fn message_number_of(format: u8, line: &[u8]) -> Option<(Name, u64)>
+    ensures { (kept : ListOf ℕ) → last_in kept (message_of format line.now)
+        ≡ option_map (λ of. record { lterm = of.0; number = of.1; line = kept }) result }
+{
+    let lterm = terminal_of(line)?;
+    let (number, asked) = split_number(format, line);
+    let number = number?;
+    let (word, text) = split_word(asked);
+    let _ = name_in(word)?;
+    if text.len() > LONGEST_TEXT || !is_printable(text) {
+        return None;
+    }
+    Some((lterm, number))
 }
 
 // The number of a line, where it has one, and what stands behind it or else behind the terminal.

@@ -66,12 +66,23 @@ fn addressee(line: &[u8]) -> &[u8]
     if is_name(word) { word } else { b"?" }
 }
 
+// The terminal's name and a blank, with room for so many bytes behind them and for a newline.
+fn begun(alloc: Global, line: &[u8], room: usize) -> Result<Bytes, AllocError>
+    ensures { IfOk result (λ out. out ≡ addressee (terminal_of line.now) ++ 32 ∷ []) }
+{
+    let name = addressee(line);
+    let room = room.saturating_add(name.len()).saturating_add(2);
+    let mut out = Bytes::with_capacity(alloc, room)?;
+    out.append(name)?;
+    out.push(b' ')?;
+    Ok(out)
+}
+
 // Words behind the terminal's name and a blank.
 fn words(alloc: Global, line: &[u8], words: &[u8]) -> Result<Option<Bytes>, AllocError>
     ensures { IfOk result (λ text. text ≡ line_for (addressee (terminal_of line.now)) (Words words.now)) }
 {
-    let mut out = Bytes::from_slice(alloc, addressee(line))?;
-    out.push(b' ')?;
+    let mut out = begun(alloc, line, words.len())?;
     out.append(words)?;
     Ok(Some(out))
 }
@@ -81,12 +92,13 @@ fn success(alloc: Global, line: &[u8], reply: &[u8]) -> Result<Option<Bytes>, Al
     ensures { IfOk result (λ text. text
         ≡ line_for (addressee (terminal_of line.now)) (Words (codes "OK" ++ behind_blank reply.now))) }
 {
-    let mut out = Bytes::from_slice(alloc, b"OK")?;
+    let mut out = begun(alloc, line, reply.len().saturating_add(3))?;
+    out.append(b"OK")?;
     if !reply.is_empty() {
         out.push(b' ')?;
         out.append(reply)?;
     }
-    words(alloc, line, out.as_slice())
+    Ok(Some(out))
 }
 
 // Words with a number behind them, in decimal without leading zeros.
