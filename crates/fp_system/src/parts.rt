@@ -37,8 +37,8 @@ use log_groups::Front;
 use std::alloc::{AllocError, Global};
 use txn_lang::{ScriptFault, Scripts, parse};
 
-// The format of a log that is made: in this one no message has a number.
-const FORMAT: u8 = 1;
+/// The format of a log that is made: in this one no message has a number.
+pub(crate) const FORMAT: u8 = 1;
 
 // How many bytes definitions and scripts have at most.
 const MOST_BYTES: u64 = 1_000_000;
