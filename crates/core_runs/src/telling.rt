@@ -32,7 +32,7 @@ const MOST_GROUPS: u64 = 100_000;
 
 /// The text of the groups of the log.
 pub fn log_text(alloc: Global, site: &mut MemorySite) -> Result<Bytes, Fault> {
-    let front = front(alloc)?;
+    let front = front(alloc, false)?; // a log of the other format is read too
     let Ok(mut log) = Log::open(alloc, site, &front) else {
         return Err(Fault::NoLog);
     };
@@ -56,7 +56,7 @@ pub fn log_text(alloc: Global, site: &mut MemorySite) -> Result<Bytes, Fault> {
 pub fn databases_text(alloc: Global, defs: &Defs, site: &mut MemorySite) -> Result<Bytes, Fault>
     requires { AllByRecursion IsMsdbDef defs.now.msdbs }
 {
-    let front = front(alloc)?;
+    let front = front(alloc, false)?; // a log of the other format is read too
     let Ok(mut parts) = restart(alloc, defs, &front, site) else {
         return Err(Fault::NoLog);
     };

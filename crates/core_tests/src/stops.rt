@@ -159,6 +159,7 @@ fn task_of<'a>(definitions: &'a String, row: &Row) -> Task<'a> {
         scripts: SCRIPTS.as_bytes(),
         schedule: row.schedule.as_bytes(),
         messages: row.messages,
+        numbered: row.setting.numbered,
     }
 }
 
