@@ -223,9 +223,9 @@ pub fn find(alloc: Global, task: &Task<'_>, exits: &Exits) -> Result<Found, Faul
     let Story { dids, quiet } = run(alloc, task, exits, &mut site)?;
     let sent = Bytes::from_slice(alloc, site.sent())?;
     let log = Bytes::from_slice(alloc, site.contents(0))?;
-    let groups = log_text(alloc, &mut site)?;
+    let groups = log_text(alloc, task.numbered, &mut site)?;
     let defs = definitions(alloc, task.definitions, exits)?;
-    let databases = databases_text(alloc, &defs, &mut site)?;
+    let databases = databases_text(alloc, &defs, task.numbered, &mut site)?;
     Ok(Found {
         dids,
         quiet,

@@ -323,7 +323,8 @@ ended_at engine m (suc place) t e next rows store log owed room lasts w frees sa
       owed = owed;
       room = room;
       lasts = lasts;
-    }) (ended_with (suc place) e next m1) = ended_stands engine m1 place w.stands t e next rows store log owed room lasts
+    }) (ended_with (suc place) e next m1) = ended_stands engine m1 place w.stands t e next rows store log owed room
+    lasts
     w.active (frees m.locks w.requests w.stands.locks)
     same_rows sealed unsealed is_owed slots less spare of msdbs format used numbers made in
     let m2 : List Lock → Machine = λ requests. record (ended_with (suc place) e next m) { requests = requests } in

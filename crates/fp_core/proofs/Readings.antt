@@ -205,7 +205,8 @@ module _ (engine : Engine) (m : Machine) (s : StandsFor engine m) where
             ∙ ap (λ n. queued_at (group_of engine.defs.now.router n message.tran - 1) message engine.queues.queues) long
             ∙ ap (queued_at place message) s.queues;
         groups = queued_long place message m.queues ∙ s.groups;
-        takeable = all_queued (IsTakeable engine.format engine.scripts.now.scripts) place message m.queues s.takeable takeable;
+        takeable = all_queued (IsTakeable engine.format engine.scripts.now.scripts) place message m.queues s.takeable
+            takeable;
         busy = same_then backlog.busy (engine.queues.busy ++ message.lterm ∷ []) (m.busy ++ message.lterm ∷ [])
             marked (same_more engine.queues.busy m.busy (message.lterm ∷ []) s.busy);
         regions = s.regions;
@@ -252,7 +253,8 @@ module _ (engine : Engine) (m : Machine) (s : StandsFor engine m) where
       → length engine.regions ≤ lasts.spare
       → StandsFor (record engine { queues = backlog; log = log; owed = owed; lasts = lasts })
       (with_refusal (rules_in engine) o line m)
-  refused_stands o line e backlog log owed lasts allowed is queues marked sealed unsealed is_owed slots spare used numbers =
+  refused_stands o line e backlog log owed lasts allowed is queues marked sealed unsealed is_owed slots spare used
+      numbers =
       let here : Entry = entry_here m o line [] in
       let same : e ≡ here = is ∙ ap (λ (from : ℕ). record here { from = from }) s.count in
       let entries : log.unsealed ≡ engine.log.unsealed ++ here ∷ [] =

@@ -75,43 +75,44 @@ pub rests : (engine : Engine) (lines : List (List ℕ)) (h : History)
     → engine.owed.items ≡ []
     → engine.room ≡ 0
     → StandsFor engine (at_rest (rules_in engine) lines h)
-rests engine lines h setup held queues busy idle locks rows of msdbs sealed past format lasts unsealed owed room = record {
-  setup = setup;
-  held = held;
-  held_short = tt;
-  queues = queues;
-  groups = length-replicate (groups_defined engine.defs.now) [];
-  takeable = all_empty _ (groups_defined engine.defs.now);
-  busy = subst (λ (names : List Name). AreSame names []) (sym busy) (λ name. refl);
-  regions = subst (λ rs. AllZip (IsRegion engine.defs.now engine.scripts.now.scripts) rs
-      (map (λ group. machine.Idle) engine.defs.now.regions)) (sym idle)
-      (all_idle engine.defs.now engine.scripts.now.scripts engine.defs.now.regions);
-  numbers = length-map engine.defs.now.regions (λ group. machine.Idle);
-  locks = locks;
-  rows = rows ∙ sym (ap length idle ∙ length-replicate (length engine.defs.now.regions) regions.Idle);
-  of = of;
-  msdbs = msdbs;
-  past = past;
-  format = format;
-  read = all_resting engine.format engine.defs.now.regions;
-  lasts = lasts;
-  places =
-      let idle_all : active_in (map (λ group. machine.Idle) engine.defs.now.regions) ≡ 0 =
-      sum_idle one_if_active refl engine.defs.now.regions in
-      omega (arith, idle_all);
-  count =
-      let none : length engine.log.unsealed ≡ 0 = ap length unsealed in
-      omega (arith, none, sealed);
-  sealed = sym sealed;
-  unsealed = unsealed ∙ sym (drop-length h.entries);
-  owed = owed ∙ ap (map owed_of) (sym unsealed);
-  made = λ place before after e first was is then.
-      absurd (omega (arith, first, is_within h.entries place e is));
-  room = room ∙ sym (sum_idle room_of refl engine.defs.now.regions);
-  spare = omega (arith, room);
-  slots =
-      let none : length engine.owed.items ≡ 0 = ap length owed in
-      let idle_all : active_in (map (λ group. machine.Idle) engine.defs.now.regions) ≡ 0 =
-      sum_idle one_if_active refl engine.defs.now.regions in
-      omega (arith, none, idle_all);
-}
+rests engine lines h setup held queues busy idle locks rows of msdbs sealed past format lasts unsealed owed room =
+    record {
+      setup = setup;
+      held = held;
+      held_short = tt;
+      queues = queues;
+      groups = length-replicate (groups_defined engine.defs.now) [];
+      takeable = all_empty _ (groups_defined engine.defs.now);
+      busy = subst (λ (names : List Name). AreSame names []) (sym busy) (λ name. refl);
+      regions = subst (λ rs. AllZip (IsRegion engine.defs.now engine.scripts.now.scripts) rs
+          (map (λ group. machine.Idle) engine.defs.now.regions)) (sym idle)
+          (all_idle engine.defs.now engine.scripts.now.scripts engine.defs.now.regions);
+      numbers = length-map engine.defs.now.regions (λ group. machine.Idle);
+      locks = locks;
+      rows = rows ∙ sym (ap length idle ∙ length-replicate (length engine.defs.now.regions) regions.Idle);
+      of = of;
+      msdbs = msdbs;
+      past = past;
+      format = format;
+      read = all_resting engine.format engine.defs.now.regions;
+      lasts = lasts;
+      places =
+          let idle_all : active_in (map (λ group. machine.Idle) engine.defs.now.regions) ≡ 0 =
+          sum_idle one_if_active refl engine.defs.now.regions in
+          omega (arith, idle_all);
+      count =
+          let none : length engine.log.unsealed ≡ 0 = ap length unsealed in
+          omega (arith, none, sealed);
+      sealed = sym sealed;
+      unsealed = unsealed ∙ sym (drop-length h.entries);
+      owed = owed ∙ ap (map owed_of) (sym unsealed);
+      made = λ place before after e first was is then.
+          absurd (omega (arith, first, is_within h.entries place e is));
+      room = room ∙ sym (sum_idle room_of refl engine.defs.now.regions);
+      spare = omega (arith, room);
+      slots =
+          let none : length engine.owed.items ≡ 0 = ap length owed in
+          let idle_all : active_in (map (λ group. machine.Idle) engine.defs.now.regions) ≡ 0 =
+          sum_idle one_if_active refl engine.defs.now.regions in
+          omega (arith, none, idle_all);
+    }

@@ -149,9 +149,11 @@ group_within engine m place group s in_group =
 
 -- each message of a queue can be taken
 pub first_takeable : (engine : Engine) (m : Machine) (group : ℕ) (message : Message) → StandsFor engine m
-    → slice_get (queue_of group engine.queues) 0 ≡ Some message → IsTakeable engine.format engine.scripts.now.scripts message
+    → slice_get (queue_of group engine.queues) 0 ≡ Some message → IsTakeable engine.format engine.scripts.now.scripts
+    message
 first_takeable engine m group message s first =
-    let all = subst (AllByRecursion (AllByRecursion (IsTakeable engine.format engine.scripts.now.scripts))) (sym s.queues) s.takeable
+    let all = subst (AllByRecursion (AllByRecursion (IsTakeable engine.format engine.scripts.now.scripts))) (sym
+    s.queues) s.takeable
     in
     each_has (IsTakeable engine.format engine.scripts.now.scripts) (queue_of group engine.queues) 0 message
     (all_at (IsTakeable engine.format engine.scripts.now.scripts) engine.queues.queues (group - 1) all) first
@@ -251,8 +253,10 @@ module _ (engine : Engine) (m : Machine) (place group : ℕ) (s : StandsFor engi
         let here : slice_get m.regions place ≡ Some machine.Idle = is_idle engine m place s idle in
         let t : Transaction = begun_in (rules_in engine) m message 0 in
         let others : List Message = drop 1 (queue_of group engine.queues) in
-        let all : AllByRecursion (AllByRecursion (IsTakeable engine.format engine.scripts.now.scripts)) engine.queues.queues =
-        subst (AllByRecursion (AllByRecursion (IsTakeable engine.format engine.scripts.now.scripts))) (sym s.queues) s.takeable in
+        let all : AllByRecursion (AllByRecursion (IsTakeable engine.format engine.scripts.now.scripts))
+        engine.queues.queues =
+        subst (AllByRecursion (AllByRecursion (IsTakeable engine.format engine.scripts.now.scripts))) (sym s.queues)
+        s.takeable in
         idle_turned engine with_taken m place (message ∷ others) refl here
         (messages_are ∙ with_first (queue_of group engine.queues) message oldest)
         (record {

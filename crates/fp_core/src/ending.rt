@@ -86,8 +86,8 @@ impl Engine<'_> {
         }
     }
 
-    /// The active region's transaction ends with this entry: the region is idle, its locks, its request and its room are
-    /// gone, and its number is used. Want of memory changes nothing but what the log has room for.
+    /// The active region's transaction ends with this entry: the region is idle, its locks, its request and its room
+    /// are gone, and its number is used. Want of memory changes nothing but what the log has room for.
     pub(crate) fn end(&mut self, region: u8, entry: Entry) -> Result<(), AllocError>
         requires some { 1 ≤ region }
         requires within { region ≤ length self.old.regions }

@@ -45,7 +45,14 @@ pub(crate) fn keep(lasts: &mut Lasts, kept: Option<Kept>)
     ensures terminals { lasts.new.terminals ≡ with_used (option_map last_kept kept) lasts.old.terminals }
     ensures spare { lasts.old.spare ≤ lasts.new.spare + 1 }
 {
-    if let Some(Kept { lterm, number, line }) = kept {
+    if let Some(
+        Kept {
+            lterm,
+            number,
+            line,
+        },
+    ) = kept
+    {
         lasts.set(&lterm, number, line);
     }
 }

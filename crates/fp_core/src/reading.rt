@@ -70,8 +70,8 @@ impl Engine<'_> {
         Ok(())
     }
 
-    // A line that asks for nothing is refused, its terminal is busy, where it can be read, and its number is kept, where
-    // it uses one.
+    // A line that asks for nothing is refused, its terminal is busy, where it can be read, and its number is kept,
+    // where it uses one.
     fn refuse_line(
         &mut self,
         line: Bytes,
@@ -132,13 +132,7 @@ impl Engine<'_> {
             self.held = Some(line);
             return Ok(Did::Held);
         }
-        match demand_in(
-            self.alloc,
-            self.format,
-            self.scripts,
-            &self.lasts,
-            &line,
-        )? {
+        match demand_in(self.alloc, self.format, self.scripts, &self.lasts, &line)? {
             Demand::Message(message) => {
                 self.queue(router, message)?;
                 Ok(Did::Queued)

@@ -144,11 +144,13 @@ impl Engine<'_> {
         ensures count { length self.new.regions ≡ length self.old.regions }
     {
         let room = self.room - refusal_room(&self.active_in(region).message.line);
-        let (entry, kept) =
-            match replace(self.regions.item_mut(usize::from(region) - 1), Region::Idle) {
-                Region::Active(active) => bare_parts(self.alloc, active),
-                Region::Idle => unreachable!(),
-            };
+        let (entry, kept) = match replace(
+            self.regions.item_mut(usize::from(region) - 1),
+            Region::Idle,
+        ) {
+            Region::Active(active) => bare_parts(self.alloc, active),
+            Region::Idle => unreachable!(),
+        };
         let _ = append_owed(&mut self.log, &mut self.owed, entry, room); // there is room for it
         keep(&mut self.lasts, kept);
         self.locks.release_all(region);

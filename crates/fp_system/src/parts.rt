@@ -6,13 +6,7 @@ ghost use Rattle.fp_source.specs.Source.{ReadsOnly};
 ghost use Rattle.fp_source.specs.declared.part.Part.TheVariants as part;
 ghost use Rattle.fp_schedule.specs.Schedule.{events_of};
 ghost use Rattle.fp_schedule.specs.declared.fault.ScheduleFault.{ScheduleFault as ScheduleFaultOf};
-ghost use Rattle.fp_system.specs.Answers.{
-  MayStandIn,
-  IsOfParts,
-  status_of_definitions,
-  status_of_schedule,
-  status_of_scripts,
-};
+ghost use Rattle.fp_system.specs.Answers.{MayStandIn, IsOfParts, status_of_definitions, status_of_schedule, status_of_scripts};
 ghost use Rattle.fp_system.specs.Causes.{IsCausedBySource};
 ghost use Rattle.fp_system.specs.Parts.{HasSchedule, IsJob, Job as JobOf, Refuses, are_built, definitions_in};
 ghost use Rattle.fp_system.specs.Setups.{HasEventsFor, IsRefusedSchedule, IsSetup, job_of};

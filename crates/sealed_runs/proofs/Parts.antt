@@ -81,13 +81,13 @@ either_at : (format : ℕ) (es : List Entry) → (format_at format es ≡ format
 either_at format [] = inl refl
 either_at format (e ∷ es) = elim (either_behind format e.outcome) [
   | inl same ↦ elim (either_at format es) [
-        | inl stays ↦ inl (ap (λ (f : ℕ). format_at f es) same ∙ stays)
-        | inr two ↦ inr (ap (λ (f : ℕ). format_at f es) same ∙ two)
-      ]
+    | inl stays ↦ inl (ap (λ (f : ℕ). format_at f es) same ∙ stays)
+    | inr two ↦ inr (ap (λ (f : ℕ). format_at f es) same ∙ two)
+  ]
   | inr two ↦ elim (either_at 2 es) [
-        | inl stays ↦ inr (ap (λ (f : ℕ). format_at f es) two ∙ stays)
-        | inr still ↦ inr (ap (λ (f : ℕ). format_at f es) two ∙ still)
-      ]
+    | inl stays ↦ inr (ap (λ (f : ℕ). format_at f es) two ∙ stays)
+    | inr still ↦ inr (ap (λ (f : ℕ). format_at f es) two ∙ still)
+  ]
 ]
 
 two_at : (es : List Entry) → format_at 2 es ≡ 2

@@ -17,14 +17,14 @@ use Rattle.fp_core.specs.Relation.{AreMade}
 -- Each entry of the run has items that make its next state.
 pub record IsBehind (defs : Defs) (scripts : List Script) (format : ℕ) (earlier : List Entry) (m : Machine) : Type 0
   where
-  pub start : History
-  pub front : start.format ≡ format
-  pub is_serial : IsSerial (rules_of defs scripts) start
-  pub entries : start.entries ≡ earlier
-  pub lines : List (List ℕ)
-  pub steps : List RunStep
-  pub runs : Runs (rules_of defs scripts) (at_rest (rules_of defs scripts) lines start) steps m
-  pub made : AreMade defs m
+    pub start : History
+    pub front : start.format ≡ format
+    pub is_serial : IsSerial (rules_of defs scripts) start
+    pub entries : start.entries ≡ earlier
+    pub lines : List (List ℕ)
+    pub steps : List RunStep
+    pub runs : Runs (rules_of defs scripts) (at_rest (rules_of defs scripts) lines start) steps m
+    pub made : AreMade defs m
 
 -- Lines are read in the same format behind both machines, and the log has the same front.
 pub record KeepsFormat (m m2 : Machine) : Type 0 where

@@ -25,9 +25,10 @@ returns-clause-ended c m t u =
     let entry = c.args.entry in
     let slots : deque_capacity engine.owed ≤ deque_capacity new.owed = omega (arith, e.slots) in
     subst (λ (x : Engine). StandsFor x (ended_with c.args.region entry m.history.now m)) (sym e.ok)
-    (ended_at engine m c.args.region t entry m.history.now new.locks engine.store new.log new.owed new.room new.lasts u e.locks
+    (ended_at engine m c.args.region t entry m.history.now new.locks engine.store new.log new.owed new.room new.lasts u
+    e.locks
     e.rows e.sealed e.unsealed e.owed
-    slots (e.room m t u) e.spare u.stands.of u.stands.msdbs 
+    slots (e.room m t u) e.spare u.stands.of u.stands.msdbs
     (refusal_format engine.format entry.outcome c.requires.refusal)
     (uses_last engine m c.args.region t u entry engine.lasts.terminals new.lasts.terminals (c.requires.line m t u)
     (refusal_uses entry.outcome c.requires.refusal) (e.used m t u)) e.places

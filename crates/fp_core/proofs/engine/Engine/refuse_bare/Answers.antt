@@ -29,7 +29,8 @@ returns-clause-refused c m t u =
     let seen = region_is engine m c.args.region t (regions.Active c.active_in.result.now) u c.active_in.ensures.there in
     let seen_line : length c.active_in.result.now.message.line ≡ length t.message.line =
     ap (λ message. length message.line) seen.message in
-    let entry = c.bare_parts-entry.ensures.entry ∙ bare_is engine.defs.now engine.scripts.now.scripts c.in-Active.active t
+    let entry = c.bare_parts-entry.ensures.entry ∙ bare_is engine.defs.now engine.scripts.now.scripts c.in-Active.active
+    t
     outcome.Memory m.history.now is in
     let long : length (entry_text c.bare_parts-entry.result.0) ≡ c.refusal_room.result =
     ap (λ (x : Entry). length (entry_text x)) entry
