@@ -39,10 +39,23 @@ way_to first log lasts = record {
   lasts = lasts.terminals;
 }
 
+-- The numbers of an open log are those of some entries, as many as are sealed: so they are whatever a site tells.
+pub record AreOfSome (log : LogState) (numbers : Numbered) : Type 0 where
+  pub entries : List Entry
+  pub count : log.sealed ≡ length entries
+  pub format : log.format ≡ format_at log.front_format entries
+  pub lasts : numbers.terminals ≡ lasts_of log.front_format entries
+
 -- behind these entries the format and the numbers are those from before with theirs
 pub record HasNumbersOf (entries : List Entry) (old new : Numbers) : Type 0 where
   pub format : new.format ≡ format_at old.format entries
   pub lasts : new.lasts.terminals ≡ lasts_behind old.format entries old.lasts.terminals
+
+-- so they are behind some entries, of this number
+pub record HasNumbersOfSome (count : ℕ) (old new : Numbers) : Type 0 where
+  pub entries : List Entry
+  pub count_is : count ≡ length entries
+  pub numbers : HasNumbersOf entries old new
 
 module _ (defs : Defs) (log : List ℕ) where
   -- from the first gate on the log holds whole groups up to that place; their items may be applied

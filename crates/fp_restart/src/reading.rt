@@ -6,7 +6,7 @@ ghost use Rattle.fp_model.specs.LogText.{FitsFront, IsFormat, StartsWithFront, f
 ghost use Rattle.fp_model.specs.WellFormed.{IsMsdbDef};
 ghost use Rattle.fp_model.specs.declared.log.Entry.{Entry as EntryOf};
 ghost use Rattle.fp_restart.specs.Begun.{IsBegunBy};
-ghost use Rattle.fp_restart.specs.Replayed.{IsFirstBadAt, IsReadable, IsReplayed, IsTaken, way_to};
+ghost use Rattle.fp_restart.specs.Replayed.{AreOfSome, HasNumbersOfSome, IsFirstBadAt, IsReadable, IsReplayed, IsTaken, way_to};
 ghost use Rattle.fp_restart.specs.Restarts.{IsBadAt};
 ghost use Rattle.fp_restart.specs.declared.fault.RestartFault.TheVariants as faults;
 ghost use Rattle.fp_site.specs.Disk.{Stays};
@@ -57,6 +57,7 @@ pub(crate) fn read_parts<T: Site>(
     ensures readable { T.told site.old → OnOk result
         (IsReadable defs.now ((T.disk site.old).contents 0) (first_gate (as_front front.now))) }
     ensures unsealed { IfOk result (λ parts. parts.1.unsealed ≡ []) }
+    ensures some { IfOk result (λ parts. AreOfSome parts.1 parts.2) }
     ensures of { IfOk result (λ parts. IsOf defs.now.msdbs parts.0) }
 
     // When each refusal comes.
@@ -114,6 +115,7 @@ fn replay<T: Site>(
     ensures replayed { T.told site.old → IfOk result (λ lasts. IsReplayed defs.now ((T.disk site.old).contents 0)
         (way_to log.old.gate log.new lasts) store.old.msdbs store.new.msdbs) }
     ensures front_format { OnOk result (log.new.front_format ≡ log.old.front_format) }
+    ensures some { IfOk result (λ lasts. AreOfSome log.new lasts) }
     ensures closed { T.told site.old → OnOk result (slice_index ((T.disk site.old).contents 0) log.new.gate ≢ 1) }
     ensures unsealed { OnOk result (log.new.unsealed ≡ []) }
     ensures of { OnOk result (IsOf defs.now.msdbs store.new) }
@@ -177,6 +179,8 @@ fn take_group<T: Site>(
     ensures closed { T.told site.old → IfOk result (λ found. IfNone found
         (slice_index ((T.disk site.old).contents 0) at ≢ 1)) }
     ensures none { IfOk result (λ found. IfNone found (store.new ≡ store.old)) }
+    ensures some { IfOk result (λ found. IfSome found
+        (λ taken. HasNumbersOfSome taken.count numbers.old numbers.new)) }
     ensures no_more { IfOk result (λ found. IfNone found (numbers.new ≡ numbers.old)) }
     ensures of { OnOk result (IsOf defs.now.msdbs store.new) }
     ensures damaged { (earlier : ListOf EntryOf) → IsBegunBy begun.old (items_of earlier)

@@ -4,7 +4,7 @@ ghost use Rattle.fp_model.specs.LogText.{FitsFront, IsFormat, StartsWithFront, f
 ghost use Rattle.fp_model.specs.WellFormed.{IsMsdbDef};
 ghost use Rattle.fp_model.specs.declared.log.Entry.{Entry};
 ghost use Rattle.fp_model.specs.declared.scripts.Script.{Script};
-ghost use Rattle.fp_restart.specs.Replayed.{IsFirstBadAt, IsReadable, ReadsBack};
+ghost use Rattle.fp_restart.specs.Replayed.{AreOfSome, IsFirstBadAt, IsReadable, ReadsBack};
 ghost use Rattle.fp_restart.specs.Restarts.{IsDamageOr, StandsFor};
 ghost use Rattle.fp_restart.specs.declared.fault.RestartFault.TheVariants as faults;
 ghost use Rattle.fp_site.specs.Disk.{Settles, Syncs};
@@ -52,10 +52,12 @@ pub fn restart<T: Site>(
         → IsSound defs.now scripts (in_format format (as_front front.now)) ((T.disk site.old).contents 0) entries
         → (IsErrOf result faults.Foreign → ⊥) × ((set at : ℕ) → IsErrOf result (faults.Damaged set at) → ⊥) }
 
-    // In any case the store is one of these definitions, and no entry waits to be sealed. What was read of the log
+    // In any case the store is one of these definitions, no entry waits to be sealed, and the numbers are those of some
+    // entries. What was read of the log
     // stands there, whether or not its entries are a history, and every crash leaves it.
     ensures of { IfOk result (λ parts. IsOf defs.now.msdbs parts.0) }
     ensures unsealed { IfOk result (λ parts. parts.1.unsealed ≡ []) }
+    ensures some { IfOk result (λ parts. AreOfSome parts.1 parts.2) }
     ensures reads { T.told site.old → IfOk result (λ parts. ReadsBack defs.now
         (in_format parts.1.front_format (as_front front.now)) (T.disk site.new) parts.0 parts.1 parts.2) }
 

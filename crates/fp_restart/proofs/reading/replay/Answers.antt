@@ -6,6 +6,8 @@ use Rattle.fp_restart.specs.Restarts.{IsBadAt}
 use Rattle.log_groups.specs.Reads.{HasGroup}
 use Rattle.fp_restart.proofs.Groups.{read_at_most, read_inside}
 use Rattle.fp_restart.proofs.Looking.{Looks, looks_none, looks_on}
+use Rattle.fp_restart.proofs.NumbersBehind.{some_more, some_none, some_of}
+use Rattle.fp_restart.specs.Replayed.{HasNumbersOfSome}
 use Rattle.fp_restart.proofs.Replays.{ended_at, followed_more, followed_none, way_of}
 use Rattle.fp_restart.proofs.reading.replay.Given as given
 use Rattle.fp_restart.proofs.reading.replay.Goals as goal
@@ -32,6 +34,9 @@ loop-numbers-init g c =
           c.new-begun.result store store) format
           (followed_none defs bytes c.args.log.now.gate c.new-begun.result numbers store c.new-begun.ensures
           (search rules)));
+      first_format = search rules;
+      no_number = search rules;
+      some = some_none c.in_ok-numbers.numbers;
       counted = refl;
       only_log = λ set told. (told, λ other. refl);
       read = λ told. omega (arith, gate);
@@ -133,6 +138,10 @@ loop-numbers-preserved g c =
           (subst (λ l. IsTaken defs l earlier c.loop-numbers.at c.in-Some.taken.next c.in-Some.taken.count
           c.take_group.new.begun c.loop-numbers.numbers c.take_group.new.numbers c.loop-numbers.store.msdbs
           c.take_group.new.store.msdbs) same taken);
+      first_format = it.first_format;
+      no_number = it.no_number;
+      some = some_more c.loop-numbers.count c.in-Some.taken.count _ c.loop-numbers.numbers c.take_group.new.numbers it.some
+          (rw c.in-Some.is at c.in_ok-taken.ensures.some);
       counted = c.in_ok-taken.ensures.stayed (λ is. cc) ∙ it.counted;
       only_log = λ set told.
           let here = call.only_log set told in
@@ -228,3 +237,13 @@ returns-in_default-clause-exact g c told =
     let one : g.T.Site.bytes_read c.take_group.new.site 0 ≡ g.T.Site.bytes_read c.loop-numbers.site 0 + 1 =
     search rules in
     omega (arith, so_far, one, c.end_at.ensures.gate)
+
+pub returns-in_default-clause-some : goal.returns-in_default-clause-some
+returns-in_default-clause-some g c =
+    let it = c.loop-numbers.invariant in
+    let none : c.take_group.new.numbers ≡ c.loop-numbers.numbers = search rules in
+    let front_format : c.end_at.new.self.front_format ≡ c.args.log.now.front_format =
+    c.end_at.ensures.front_format ∙ ap (λ l. l.front_format) (c.take_group.ensures.log ∙ it.log) in
+    some_of c.loop-numbers.count _ c.take_group.new.numbers c.end_at.new.self
+    (subst (HasNumbersOfSome c.loop-numbers.count _) (sym none) it.some) it.no_number
+    (front_format ∙ sym it.first_format) c.end_at.ensures.sealed c.end_at.ensures.format

@@ -1,7 +1,7 @@
-use Rattle.std.proofs.Common.{◌≡◌, ◌+◌, ◌-◌, ◌^◌, ◌≤◌}
+use Rattle.std.proofs.Common.{◌≡◌, [], ◌+◌, ◌-◌, ◌^◌, ◌≤◌}
 use Rattle.log_groups.specs.Reads.{ReadsOnlyLog}
 use Rattle.msdb_store.specs.Store.{IsOf}
-use Rattle.fp_restart.specs.Replayed.{IsFollowed}
+use Rattle.fp_restart.specs.Replayed.{HasNumbersOfSome, IsFollowed}
 use Rattle.fp_restart.proofs.Looking.{Looks}
 use Rattle.fp_restart.proofs.Replays.{way_of}
 use Rattle.fp_restart.proofs.reading.replay.Given as goal
@@ -16,6 +16,9 @@ invariant-loop-numbers g l = record {
   followed : g.T.Site.told l.initial.site → IsFollowed l.fn.defs ((g.T.Site.disk l.initial.site).contents 0)
       (way_of l.initial.log.gate l.initial.log.front_format l.at l.count l.numbers) l.begun l.initial.store.msdbs
       l.store.msdbs;
+  first_format : l.initial.numbers.format ≡ l.initial.log.front_format;
+  no_number : l.initial.numbers.lasts.terminals ≡ [];
+  some : HasNumbersOfSome l.count l.initial.numbers l.numbers;
   counted : g.T.Site.faults l.site ≡ g.T.Site.faults l.initial.site;
   only_log : ReadsOnlyLog (g.T.Site.tells_reads l.initial.site) (g.T.Site.tells_reads l.site)
       (g.T.Site.bytes_read l.initial.site) (g.T.Site.bytes_read l.site);

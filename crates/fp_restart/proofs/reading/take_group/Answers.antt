@@ -56,3 +56,10 @@ returns-clause-taken g c earlier by_these front t =
 
 pub returns-clause-of : goal.returns-clause-of
 returns-clause-of g c = c.put_entries.ensures.of c.args.defs.now.msdbs c.requires (fit_here g c)
+
+pub returns-clause-some : goal.returns-clause-some
+returns-clause-some g c = record {
+  entries = c.in-Some.group.entries;
+  count_is = c.len.ensures;
+  numbers = subst (λ l. HasNumbersOf l c.args.numbers.now c.add.new.self) c.as_slice-3.ensures c.in_ok-add.ensures;
+}
