@@ -38,7 +38,7 @@ module _ (job : Job) (start : Standing) where
       let more = entries_of groups in
       let text = point.text in
       let is : text ≡ take (length text) (lines_of_entries more) =
-      text_told job.defs job.scripts (start.entries ++ has.later) point.here goes.times text
+      text_told job.defs job.scripts 1 (start.entries ++ has.later) point.here goes.times text
       (comes_behind job (start.entries ++ has.later) course.behind given.lines given.events point.left point.here
       course.history course.comes) goes.told in
       record {

@@ -35,19 +35,19 @@ module _ (defs : Defs) (rules : Rules) where
 pub comes_behind : (job : Job) (earlier : List Entry) (h : History) (lines : List (List ℕ)) (events left : List Event)
     (m : Machine) → IsHistoryOf job earlier h
     → Comes job.defs (rules_for job) events (at_rest (rules_for job) lines h) left m
-    → IsBehind job.defs job.scripts earlier m
+    → IsBehind job.defs job.scripts 1 earlier m
 comes_behind job earlier h lines events left m is comes =
     let steps = goes_runs job.defs (rules_for job) events left (at_rest (rules_for job) lines h) m comes.environments
     comes.goes
     in
     record {
       start = h;
+      front = is.format;
       is_serial = is.is_serial;
       entries = is.entries;
       lines = lines;
       steps = steps.0;
       runs = steps.1;
-      format = comes.format;
       made = comes.made;
     }
 

@@ -118,7 +118,7 @@ module _ (job : Job) (given : Input) (earlier : List Entry) (are : AreDefs job.d
                   subst (IsSoundFor job log)
                   (ap (λ (es : List Entry). es ++ entries_of more) all ∙ sym (entries_both groups more))
                   (groups_sound job.defs job.scripts origin (h.contents 0) earlier point.here
-                  (seals_of (next_event point.left) point.here) point.text log are none refl safe.now
+                  (seals_of (next_event point.left) point.here) point.text log are none safe.now
                   (comes_behind job earlier before given.lines given.events point.left point.here its_history comes)
                   all has);
               told = has.lines;
@@ -197,12 +197,6 @@ module _ (job : Job) (given : Input) (earlier : List Entry) (h h1 : Disk) (law :
       goes = way.here;
       calm = refl;
       made = none_made;
-      format =
-          ap (λ (format : ℕ). format_at format its.entries)
-          (format_stays (rules_for job) (beginning 1 (start job.defs)) earlier its safe.now.history.leads)
-          ∙ ap (format_at 1)
-          (entries_put (rules_for job) (beginning 1 (start job.defs)) earlier its safe.now.history.leads)
-          ∙ safe.now.still;
     };
   }
 

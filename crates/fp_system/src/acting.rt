@@ -1,12 +1,17 @@
 //! What the commands do on the site, once the parts are read.
 ghost use Rattle.fp_core.specs.Standing.{IsEventOf, Origin};
+ghost use Rattle.fp_core.specs.Relation.{StandsFor, rules_in};
 ghost use Rattle.fp_exits.specs.Kinds.{has_kind, kinds_of};
-ghost use Rattle.fp_model.specs.History.{History};
+ghost use Rattle.fp_model.specs.History.{History, place_of};
+ghost use Rattle.fp_model.specs.Lasts.{format_at};
 ghost use Rattle.fp_model.specs.LogText.{first_gate};
-ghost use Rattle.fp_model.specs.Messages.{lines_of};
+ghost use Rattle.fp_model.specs.Machine.{at_rest};
+ghost use Rattle.fp_model.specs.Messages.{line_fault, lines_of};
+ghost use Rattle.fp_model.specs.Product.{rules_of};
 ghost use Rattle.fp_site.specs.Disk.{Disk};
 ghost use Rattle.fp_site.specs.Moments.{OnlyOn, Through};
 ghost use Rattle.fp_site.specs.Site.{ReadsNothing};
+ghost use Rattle.fp_source.specs.Lines.{fault_ahead, lines_ahead, lines_given};
 ghost use Rattle.fp_source.specs.declared.part.Part.TheVariants as part;
 ghost use Rattle.fp_system.specs.Answers.{IsEarly, IsOr, IsStop, MayStandIn, faulty_line, status_of_fault};
 ghost use Rattle.fp_system.specs.Causes.{IsCaused, IsCausedBySite};
@@ -23,18 +28,21 @@ ghost use Rattle.log_groups.specs.Reads.{ReadsOnlyLog};
 ghost use Rattle.msdb_store.specs.Store.{IsOf};
 ghost use Rattle.site_texts.specs.Texts.{ReadsOnce};
 ghost use Rattle.std.specs.List.{AllByRecursion};
-ghost use Rattle.std.specs.Prelude.{◌≡◌, ◌⊎◌, ◌≤◌, ℕ, [], None, Some, true};
+ghost use Rattle.std.specs.Prelude.{◌≡◌, ◌⊎◌, ◌≤◌, ℕ, [], IfOk, List, None, Some, length, true};
 
 use crate::Status;
-use crate::parts::{Setup, Task};
+use crate::parts::{FORMAT, Setup, Task};
+use balancing::Lasts;
 use fp_core::{Core, Started};
 use fp_exits::Exits;
 use fp_restart::{RestartFault, define, restart};
 use fp_site::Site;
 use fp_source::Source;
+use log_groups::Log;
+use msdb_store::MsdbStore;
 use schedule_runs::run_schedule;
 use site_texts::{log, show};
-use std::alloc::Global;
+use std::alloc::{AllocError, Global};
 
 // The status of a fault of storage.
 fn fault_status(fault: RestartFault) -> Status
@@ -134,6 +142,44 @@ pub(crate) fn log_on<T: Site>(alloc: Global, site: &mut T, setup: &Setup) -> Sta
     }
 }
 
+// A core at rest behind what a restart gave of a log of format 1, in which no message has a number.
+fn begin_core<'a>(
+    alloc: Global,
+    setup: &'a Setup,
+    exits: &'a Exits,
+    msdbs: MsdbStore,
+    log: Log,
+) -> Result<Core<'a>, AllocError>
+    requires setup { IsSetup setup.now }
+    requires router { has_kind (kinds_of exits.now).routers setup.now.defs.router ≡ true }
+    requires store { IsOf setup.now.defs.msdbs msdbs }
+    requires unsealed { log.unsealed ≡ [] }
+
+    // Behind any entries of that format that come to these databases.
+    ensures stands { (lines : List (List ℕ)) (h : History) → h.now.msdbs ≡ msdbs.msdbs → place_of h ≡ log.sealed
+        → length h.past ≡ place_of h → format_at h.format h.entries ≡ 1
+        → IfOk result (λ core. StandsFor core.engine
+        (at_rest (rules_of setup.now.defs setup.now.scripts.scripts) lines h)) }
+    ensures rules { IfOk result (λ core. rules_in core.engine ≡ rules_of setup.now.defs setup.now.scripts.scripts) }
+    ensures defs { IfOk result (λ core. core.engine.defs.now ≡ setup.now.defs) }
+    ensures scripts { IfOk result (λ core. core.engine.scripts.now ≡ setup.now.scripts) }
+    ensures gate { IfOk result (λ core. core.engine.log.gate ≡ log.gate) }
+    ensures routed { IfOk result (λ core. core.router.now.kind ≡ core.engine.defs.now.router) }
+
+    // All lines are to come.
+    ensures lines { IfOk result (λ core. (left : List ℕ) → lines_ahead core.lines left ≡ lines_of left) }
+    ensures fault { IfOk result (λ core. (left : List ℕ) → fault_ahead core.lines left ≡ line_fault left) }
+    ensures given { IfOk result (λ core. lines_given core.lines ≡ 0) }
+{
+    let started = Started {
+        msdbs,
+        log,
+        format: FORMAT,
+        lasts: Lasts::new(alloc)?,
+    };
+    Core::new(alloc, &setup.defs, &setup.scripts, exits, started)
+}
+
 // Runs the schedule and the drain, behind what a restart gave.
 fn run_started<S: Source, T: Site>(
     alloc: Global,
@@ -141,17 +187,18 @@ fn run_started<S: Source, T: Site>(
     site: &mut T,
     exits: &Exits,
     task: &Task,
-    started: Started,
+    msdbs: MsdbStore,
+    log: Log,
 ) -> Status
     requires setup { IsSetup task.now.setup }
     requires router { has_kind (kinds_of exits.now).routers task.now.setup.defs.router ≡ true }
     requires events { AllByRecursion (IsEventOf task.now.setup.defs) task.now.events }
-    requires store { IsOf task.now.setup.defs.msdbs started.msdbs }
-    requires unsealed { started.log.unsealed ≡ [] }
+    requires store { IsOf task.now.setup.defs.msdbs msdbs }
+    requires unsealed { log.unsealed ≡ [] }
 
     // Behind any entries that come to these databases, where their log is at rest; or there was no memory to begin.
     ensures ran { (origin : Origin) (h : History) → S.told source.old → T.told site.old
-        → IsBegun origin h started.msdbs started.log (T.disk site.old) →
+        → IsBegun origin h msdbs log (T.disk site.old) →
         RanFrom (job_of task.now.setup) (input task.now.events (lines_of (S.left source.old part.Messages))) origin h
         result (T.disk site.old) (T.disk site.new)
         ⊎ ((result ≡ status.NoMemory) × (site.new ≡ site.old)) }
@@ -171,7 +218,7 @@ fn run_started<S: Source, T: Site>(
     ensures site { IsContinued T.told T.faults T.holds T.keeps site.old site.new }
 {
     let setup = &task.setup;
-    let mut core = match Core::new(alloc, &setup.defs, &setup.scripts, exits, started) {
+    let mut core = match begin_core(alloc, setup, exits, msdbs, log) {
         Ok(core) => core,
         Err(_) => return Status::NoMemory,
     };
@@ -217,5 +264,5 @@ pub(crate) fn run_on<S: Source, T: Site>(
         Ok(parts) => parts,
         Err(fault) => return fault_status(fault),
     };
-    run_started(alloc, source, site, exits, task, Started { msdbs, log })
+    run_started(alloc, source, site, exits, task, msdbs, log)
 }

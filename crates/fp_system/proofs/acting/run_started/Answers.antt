@@ -33,8 +33,8 @@ pub run_schedule-requires : goal.run_schedule-requires
 run_schedule-requires g c =
     let core = c.in-Ok.core in
     let setup = c.args.task.now.setup in
-    let n = c.args.started.log.sealed in
-    let msdbs = c.args.started.msdbs.msdbs in
+    let n = c.args.log.sealed in
+    let msdbs = c.args.msdbs.msdbs in
     let rules = rules_for (job_of setup) in
     let h = any_history n msdbs in
     let stands = c.in-Ok.ensures.stands [] h refl (any_place n msdbs) (any_states n msdbs) (any_format n msdbs) in
@@ -68,7 +68,7 @@ returns-in-Ok-run_schedule-clause-ran g c origin h s t is =
     let old = g.T.Site.disk c.args.site.now in
     let new = g.T.Site.disk c.run_schedule.new.site in
     let stands = c.in-Ok.ensures.stands (lines_of left) h is.msdbs is.place is.states is.format in
-    let beside = stands_beside origin h c.args.started.msdbs c.args.started.log old core.engine rules core.lines left is
+    let beside = stands_beside origin h c.args.msdbs c.args.log old core.engine rules core.lines left is
     stands c.in-Ok.ensures.gate (c.in-Ok.ensures.lines left) in
     let reached = reached_at_rest core.engine rules (lines_of left) h c.in-Ok.ensures.rules stands in
     inl (ended_done job given origin h old new next.lines bytes next.engine
@@ -90,7 +90,7 @@ returns-clause-ran g c origin h s t is =
     let old = g.T.Site.disk c.args.site.now in
     let new = g.T.Site.disk c.run_schedule.new.site in
     let stands = c.in-Ok.ensures.stands (lines_of left) h is.msdbs is.place is.states is.format in
-    let beside = stands_beside origin h c.args.started.msdbs c.args.started.log old core.engine rules core.lines left is
+    let beside = stands_beside origin h c.args.msdbs c.args.log old core.engine rules core.lines left is
     stands c.in-Ok.ensures.gate (c.in-Ok.ensures.lines left) in
     let reached = reached_at_rest core.engine rules (lines_of left) h c.in-Ok.ensures.rules stands in
     let stopped = as_given (λ d r es. IsStopped origin d r es m old core.lines new why) c.in-Ok.ensures.defs

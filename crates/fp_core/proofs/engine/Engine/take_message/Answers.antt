@@ -51,8 +51,9 @@ returns-in-None-clause-turned c m s =
 pub returns-in_err-make_room-clause-err : goal.returns-in_err-make_room-clause-err
 returns-in_err-make_room-clause-err c m s =
     on_err c.from_residual-in_err-make_room.result
-    (roomier c.args.self.now m c.make_room.new.log c.make_room.new.owed s c.make_room.ensures.log
-    c.make_room.ensures.spare c.make_room.ensures.owed c.make_room.ensures.capacity)
+    (roomier c.args.self.now m c.make_room.new.log c.make_room.new.owed c.make_room.new.lasts s
+    c.make_room.ensures.log c.make_room.ensures.spare c.make_room.ensures.owed c.make_room.ensures.capacity
+    c.make_room.ensures.lasts c.make_room.ensures.numbers)
 
 pub returns-clause-turned : goal.returns-clause-turned
 returns-clause-turned c m s =
