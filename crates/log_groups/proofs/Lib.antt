@@ -1,6 +1,7 @@
 pub mod LogImages
 pub mod FrontsKept
 pub mod Shutting
+pub mod Fronts
 pub mod BodyReads
 pub mod BufferParts
 pub mod Sealing
