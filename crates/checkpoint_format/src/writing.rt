@@ -46,7 +46,12 @@ fn put_head(into: &mut Bytes, format: u8, place: &Place) -> Result<(), AllocErro
 }
 
 // One database, its segments as the store lends them.
-fn put_msdb(into: &mut Bytes, def: &MsdbDef, msdbs: &MsdbStore, number: u8) -> Result<(), AllocError>
+fn put_msdb(
+    into: &mut Bytes,
+    def: &MsdbDef,
+    msdbs: &MsdbStore,
+    number: u8,
+) -> Result<(), AllocError>
     requires within { number < length msdbs.now.msdbs }
     requires few { (its : MsdbOf) → slice_get msdbs.now.msdbs number ≡ Some its → length its.segments < 2 ^ 32 }
     ensures { (its : MsdbOf) → slice_get msdbs.now.msdbs number ≡ Some its
@@ -91,7 +96,7 @@ fn format_with(lasts: Option<&Lasts>) -> u8
 }
 
 /// The bytes of a checkpoint behind its gate: of these databases as they are at a place in the log, and in format 2
-/// where the last numbers of terminals are given, else in format 1. The segments are lent by the store, and copied once.
+/// where the last numbers of terminals are given, else in format 1. The store lends its segments; each is copied once.
 pub fn body(
     alloc: Global,
     defs: &Defs,

@@ -61,7 +61,12 @@ fn call_of(alloc: Global, def: &MsdbDef, key: u8, fill: u8) -> Result<Deferred, 
 }
 
 /// Commits one call.
-fn commit(alloc: Global, defs: &Defs, store: &mut MsdbStore, call: Deferred) -> Result<(), VerifyFault>
+fn commit(
+    alloc: Global,
+    defs: &Defs,
+    store: &mut MsdbStore,
+    call: Deferred,
+) -> Result<(), VerifyFault>
     requires rules { AreDefs defs.now }
     requires fit { IsFitDeferred defs.now.msdbs call }
     requires of { IsOf defs.now.msdbs store.old }
@@ -134,7 +139,9 @@ fn is_as_noted(loaded: &Loaded, format: u8, number: u64, plain: &Plain) -> bool 
     let mut place = 0usize;
     for (key, fill) in plain.0.iter().enumerate() {
         if *fill != 0 {
-            if place >= segments.len() || !is_segment(segments.as_slice()[place].as_slice(), key as u8, *fill) {
+            if place >= segments.len()
+                || !is_segment(segments.as_slice()[place].as_slice(), key as u8, *fill)
+            {
                 return false;
             }
             place += 1;
@@ -146,7 +153,10 @@ fn is_as_noted(loaded: &Loaded, format: u8, number: u64, plain: &Plain) -> bool 
 /// Whether a segment has this key and is filled with this byte.
 fn is_segment(segment: &[u8], key: u8, fill: u8) -> bool {
     let digits = [b'0' + key / 100, b'0' + key / 10 % 10, b'0' + key % 10];
-    segment.len() == 1000 && segment[..3] == digits && segment[3] == fill && segment[999] == fill
+    segment.len() == 1000
+        && &segment[..3] == digits.as_slice()
+        && segment[3] == fill
+        && segment[999] == fill
 }
 
 /// Does the steps of what is begun, with commits before each. Whether it is sure then.
@@ -176,7 +186,14 @@ fn step_between(
 }
 
 /// Whether the newest checkpoint has this format and number, and just the segments that were noted.
-fn is_newest(alloc: Global, site: &mut MemorySite, defs: &Defs, format: u8, number: u64, plain: &Plain) -> bool {
+fn is_newest(
+    alloc: Global,
+    site: &mut MemorySite,
+    defs: &Defs,
+    format: u8,
+    number: u64,
+    plain: &Plain,
+) -> bool {
     match Checkpoints::newest(alloc, site, defs) {
         Ok(Some(loaded)) => is_as_noted(&loaded, format, number, plain),
         _ => false,
@@ -203,8 +220,14 @@ fn each_has_its_own(alloc: Global, defs: &Defs, lasts: Option<&Lasts>) -> Result
     for number in 1..4u64 {
         let noted = plain;
         checkpoints.begin(alloc, defs, number, number, &store, lasts)?;
-        if !step_between(alloc, &mut site, &mut checkpoints, defs, &mut store, &mut plain)?
-            || !is_newest(alloc, &mut site, defs, format, number, &noted)
+        if !step_between(
+            alloc,
+            &mut site,
+            &mut checkpoints,
+            defs,
+            &mut store,
+            &mut plain,
+        )? || !is_newest(alloc, &mut site, defs, format, number, &noted)
         {
             return Ok(false);
         }

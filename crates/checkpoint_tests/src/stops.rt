@@ -184,7 +184,13 @@ fn is_in_format(loaded: &Result<Option<Loaded>, CkptFault>, format: u8) -> bool 
 }
 
 /// Whether a first checkpoint is written as these bytes, and read back in this format.
-fn comes_back(alloc: Global, defs: &Defs, lasts: Option<&Lasts>, format: u8, bytes: &[u8]) -> Result<bool, AllocError>
+fn comes_back(
+    alloc: Global,
+    defs: &Defs,
+    lasts: Option<&Lasts>,
+    format: u8,
+    bytes: &[u8],
+) -> Result<bool, AllocError>
     requires defs { AreDefs defs.now }
     requires terminals { AreLasts (terminals_of (option_copied lasts)) }
 {
@@ -195,7 +201,9 @@ fn comes_back(alloc: Global, defs: &Defs, lasts: Option<&Lasts>, format: u8, byt
         return Ok(false);
     }
     let written = checkpoints.write(alloc, &mut site, defs, 100, 1, &store, lasts);
-    let is_written = written.is_ok() && site.contents(1) == bytes && site.contents(2) == [0].as_slice();
+    let is_written = written.is_ok()
+        && site.contents(1) == bytes
+        && site.contents(2) == [0].as_slice();
     Ok(is_written && is_in_format(&Checkpoints::newest(alloc, &mut site, defs), format))
 }
 
@@ -203,10 +211,7 @@ fn comes_back(alloc: Global, defs: &Defs, lasts: Option<&Lasts>, format: u8, byt
 fn bytes_are_those_of_the_format(rt: HostRuntime) -> Result<(), Fail> {
     let defs = defs_of(rt.alloc(), FIRST)?;
     let none = Lasts::new(rt.alloc())?;
-    for (lasts, format, bytes) in [
-        (None, 1, IN_FORMAT_ONE),
-        (Some(&none), 2, IN_FORMAT_TWO),
-    ] {
+    for (lasts, format, bytes) in [(None, 1, IN_FORMAT_ONE), (Some(&none), 2, IN_FORMAT_TWO)] {
         assert!(rt; comes_back(rt.alloc(), &defs, lasts, format, bytes)?);
     }
     Ok(())

@@ -4,7 +4,8 @@ use crate::cases::Case;
 use crate::fault::CaseFault;
 use crate::scripts::Named;
 use crate::{
-    arguments, checkpoints, definitions, entries, groups, intervals, messages, numbers, scripts, texts,
+    arguments, checkpoints, definitions, entries, groups, intervals, messages, numbers, scripts,
+    texts,
 };
 use std::alloc::Global;
 

@@ -1,13 +1,7 @@
 -- The exact bytes that gated writes leave of a log.
-use Rattle.std.proofs.Common.{◌≡◌, inl, inr, ℕ, ◌+◌, ◌-◌, ◌<◌, ◌≤◌, max, false, List, [], ◌∷◌, ◌++◌, length, get_or, take, drop, replicate, refl, sym, ◌∙◌, ap, subst, arith, append_assoc}
-use Rattle.std.proofs.lemmas.Bool.{cases_lt}
-use Rattle.std.proofs.lemmas.Bool.Decides.{nat_tests}
-use Rattle.std.proofs.lemmas.List.{ext_get_or, get_or-take, length-append, length-drop, length-take, length-replicate, take_at, drop_at, drop-drop, append-nil}
-use Rattle.fp_site.specs.Disk.{Disk, Torn, IsDurable, Settles, Tears, Syncs, Elapses, IsLawful, written, covers}
-use Rattle.fp_site.specs.Moments.{Through}
-use Rattle.fp_site.specs.Written.{length-written, written_other}
-use Rattle.fp_site.proofs.Images.{torn_from, settles_synced, settles_torn}
-use Rattle.fp_site.proofs.Runs.{started, goes_on}
+use Rattle.std.proofs.Common.{◌≡◌, ℕ, ◌+◌, ◌≤◌, max, List, [], ◌∷◌, ◌++◌, length, take, drop, refl, sym, ◌∙◌, ap, arith}
+use Rattle.std.proofs.lemmas.List.{length-append, length-drop, length-take, take_at, drop_at, drop-drop, append-nil}
+use Rattle.fp_site.specs.Disk.{Disk, IsDurable}
 use Rattle.fp_model.specs.LogText.{Front, front_rest, front_text, first_gate, log_text}
 use Rattle.gated_write.specs.Gates.{with_body}
 use Rattle.log_groups.specs.Images.{IsOpened}

@@ -1,16 +1,15 @@
 -- Closing the front's gate: what a crash leaves of each call.
-use Rattle.std.proofs.Common.{◌≡◌, ◌⊎◌, inl, inr, ⊎_elim, ℕ, zero, suc, ◌+◌, ◌<◌, false, List, [], ◌∷◌, ◌++◌, length, get_or, drop, refl, sym, ◌∙◌, ap, subst, arith, append_assoc}
+use Rattle.std.proofs.Common.{◌≡◌, ◌⊎◌, inl, inr, ⊎_elim, ℕ, ◌+◌, ◌<◌, List, [], ◌∷◌, ◌++◌, length, get_or, drop, refl, sym, ◌∙◌, ap, arith, append_assoc}
 use Rattle.std.specs.Prelude.{slice_index, codes}
-use Rattle.std.proofs.lemmas.Bool.Decides.{nat_tests}
 use Rattle.std.proofs.lemmas.Bool.{cases_eq}
-use Rattle.std.proofs.lemmas.List.{length-append, ext_get_or, drop_at, append-nil}
+use Rattle.std.proofs.lemmas.List.{length-append, drop_at, append-nil}
 use Rattle.fp_model.specs.Spellings.{be32, part_text}
 use Rattle.fp_model.specs.LogText.{Front, StartsWithFront, front_text, front_rest, of_format, first_gate}
-use Rattle.fp_site.specs.Disk.{Disk, Torn, IsDurable, Differs, Settles, Tears, Syncs, Elapses, Leaves, Stays, IsLawful, written, covers}
+use Rattle.fp_site.specs.Disk.{Disk, IsDurable, Differs, Settles, IsLawful}
 use Rattle.fp_site.specs.Moments.{Through, OnlyOn}
-use Rattle.fp_site.proofs.Images.{torn_from, durable_settles, durable_stays, settles_left, settles_contents, settles_synced, settles_stays, settles_torn}
-use Rattle.fp_site.proofs.Runs.{started, goes_on, stays_on, joined, weaker}
-use Rattle.fp_site.proofs.Frames.{only_none, only_more, only_stays, only_with}
+use Rattle.fp_site.proofs.Images.{durable_settles, settles_left}
+use Rattle.fp_site.proofs.Runs.{started, joined, weaker}
+use Rattle.fp_site.proofs.Frames.{only_with}
 use Rattle.log_format.proofs.Fields.{length-be32}
 use Rattle.log_groups.specs.Images.{IsLog, IsAtRest, IsShut, IsShutGate, HasNoFront, IsOldOrShut, IsOldOrMade, IsBeforeOrShut, IsBeforeOrMade, IsSameOrShut, IsSameOrMade, IsGated, IsOpened}
 use Rattle.log_groups.proofs.LogImages.{head_is, log_of}

@@ -1,6 +1,6 @@
 //! Making a log: its gate is closed first, and opened last.
 ghost use Rattle.fp_model.specs.LogText.{FitsFront, first_gate, log_text};
-ghost use Rattle.fp_site.specs.Disk.{Disk, Settles, Stays};
+ghost use Rattle.fp_site.specs.Disk.{Disk, Settles};
 ghost use Rattle.fp_site.specs.Moments.{OnlyOn, Through};
 ghost use Rattle.fp_site.specs.Site.{Counts};
 ghost use Rattle.log_groups.specs.Images.{
@@ -25,15 +25,12 @@ ghost use Rattle.std.specs.Prelude.{
   ◌++◌,
   ℕ,
   [],
-  IfOk,
   IsErrOf,
   List as ListOf,
   OnOk,
   drop,
   length,
   max,
-  true,
-  false,
 };
 
 use crate::gated::write_gated;

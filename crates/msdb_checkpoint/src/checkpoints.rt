@@ -175,7 +175,8 @@ impl Checkpoints {
             ≡ record { set = self.old.set; number = self.old.number; under_way = None }) }
         ensures cause { Counts (S.faults site.old) (S.faults site.new) result }
         ensures never { (IsErrOf result faults.Memory → ⊥) × ((set : ℕ) → IsErrOf result (faults.Damaged set) → ⊥) }
-        ensures idle { self.old.under_way ≡ None → (site.new ≡ site.old) × IfOk result (λ sure. sure ≡ false) × IsOk result }
+        ensures idle { self.old.under_way ≡ None → (site.new ≡ site.old) × IfOk result (λ sure. sure ≡ false)
+            × IsOk result }
 
         // No other data set changes, nothing is sent, and no other is read.
         ensures only { S.told site.old → OnlyOn (other_set self.old.set) (S.disk site.old) (S.disk site.new) }

@@ -1,4 +1,3 @@
-use Rattle.std.proofs.Common.{◌≡◌, List, ℕ}
 use Rattle.std.specs.Prelude.{Result, Ok, Err, OnOk}
 use Rattle.log_groups.proofs.FrontsKept.{opened_from}
 use Rattle.log_groups.proofs.gated.write_gated.Goals as goal

@@ -19,8 +19,9 @@ returns-clause-settles g c image t there settles =
     let set_is = c.in_ok-begin.ensures.set in
     let begun = c.in_ok-begin.ensures.begun in
     let stands = subst (IsUnderWay (other_set c.begin.new.self.set) d) (sym begun)
-        (subst (λ n. 0 < length (d.contents (other_set n))) (sym set_is) there) in
+    (subst (λ n. 0 < length (d.contents (other_set n))) (sym set_is) there) in
     let body = body_with c.args.defs.now.msdbs (c.args.self.now.number + 1) c.args.at c.args.count
-        c.args.msdbs.now.msdbs (option_copied c.args.lasts) in
+    c.args.msdbs.now.msdbs (option_copied c.args.lasts) in
     let at = subst (λ n. Settles (g.S.Site.disk c.finish.new.site) (other_set n) image) (sym set_is) settles in
-    subst (λ n. IsOldClosedOrWhole d (other_set n) body image) set_is (c.finish.ensures.settles _ image t begun stands at)
+    subst (λ n. IsOldClosedOrWhole d (other_set n) body image) set_is
+    (c.finish.ensures.settles _ image t begun stands at)
