@@ -13,7 +13,7 @@ from pathlib import Path
 sys.dont_write_bytecode = True
 sys.path.insert(0, str(Path(__file__).resolve().parent))
 
-from vectors_of import arguments, definition_cases, entries, intervals, messages, numbers, script_cases
+from vectors_of import arguments, checkpoints, definition_cases, entries, intervals, messages, numbers, script_cases
 
 CRATE = Path(__file__).resolve().parent.parent / "crates" / "fp_vectors"
 
@@ -28,6 +28,7 @@ FILES = {
     "entries.txt": entries.lines,
     "groups.txt": entries.log_lines,
     "intervals.txt": intervals.lines,
+    "checkpoints.txt": checkpoints.lines,
 }
 
 

@@ -4,5 +4,6 @@ pub mod DatabaseLaws
 pub mod Databases
 pub mod HeadLaws
 pub mod LastLaws
+pub mod Lending
 pub mod Numbers
 pub mod Order

@@ -1,17 +1,34 @@
 //! Writing a checkpoint.
 ghost use Rattle.checkpoint_format.specs.Given.{checkpoint_of, format_with, terminals_of};
-ghost use Rattle.fp_model.specs.CheckpointText.{AreLasts, IsMsdbOf, checkpoint_rest, last_text, lasts_text, msdb_text};
+ghost use Rattle.fp_model.specs.CheckpointText.{AreLasts, checkpoint_rest, last_text, lasts_text, msdb_text};
 ghost use Rattle.fp_model.specs.LogText.{of_format};
 ghost use Rattle.fp_model.specs.Spellings.{be64};
-ghost use Rattle.std.specs.List.{AllByRecursion, AllZip, flat_map, zip};
+ghost use Rattle.fp_model.specs.declared.database.Msdb.{Msdb as MsdbOf};
+ghost use Rattle.msdb_store.specs.Store.{IsOf};
+ghost use Rattle.std.specs.List.{AllByRecursion, flat_map, zip};
 ghost use Rattle.std.specs.Option.{option_copied};
-ghost use Rattle.std.specs.Prelude.{◌≡◌, ◌+◌, ◌<◌, ◌≤◌, ◌^◌, ◌∷◌, ◌++◌, IfOk, OnOk, codes, length};
+ghost use Rattle.std.specs.Prelude.{
+  ◌≡◌,
+  ◌+◌,
+  ◌<◌,
+  ◌≤◌,
+  ◌^◌,
+  ◌∷◌,
+  ◌++◌,
+  IfOk,
+  OnOk,
+  Some,
+  codes,
+  length,
+  slice_get,
+};
 
 use crate::Place;
 use crate::terminals::put_lasts;
 use balancing::Lasts;
-use fp_model::{Bytes, Defs, List, Msdb, MsdbDef};
+use fp_model::{Bytes, Defs, MsdbDef};
 use log_format::{put_u16, put_u32, put_u64};
+use msdb_store::MsdbStore;
 use std::alloc::{AllocError, Global};
 
 // The letters and the three numbers.
@@ -28,30 +45,42 @@ fn put_head(into: &mut Bytes, format: u8, place: &Place) -> Result<(), AllocErro
     put_u64(into, place.count)
 }
 
-// One database.
-fn put_msdb(into: &mut Bytes, def: &MsdbDef, msdb: &Msdb) -> Result<(), AllocError>
-    requires { length msdb.now.segments < 2 ^ 32 }
-    ensures { OnOk result (into.new ≡ into.old ++ msdb_text def.now msdb.now) }
+// One database, its segments as the store lends them.
+fn put_msdb(
+    into: &mut Bytes,
+    def: &MsdbDef,
+    msdbs: &MsdbStore,
+    number: u8,
+) -> Result<(), AllocError>
+    requires within { number < length msdbs.now.msdbs }
+    requires few { (its : MsdbOf) → slice_get msdbs.now.msdbs number ≡ Some its → length its.segments < 2 ^ 32 }
+    ensures { (its : MsdbOf) → slice_get msdbs.now.msdbs number ≡ Some its
+        → OnOk result (into.new ≡ into.old ++ msdb_text def.now its) }
 {
+    let count = msdbs.count(number);
     put_u16(into, def.length)?;
-    put_u32(into, msdb.segments.len() as u32)?;
-    for segment in msdb.segments.as_slice() {
-        into.append(segment.as_slice())?;
+    put_u32(into, count as u32)?;
+    into.reserve(count.saturating_mul(usize::from(def.length)))?; // so that they are put in one piece of memory
+    for place in 0..count {
+        let Some(segment) = msdbs.segment_at(number, place) else {
+            unreachable!()
+        };
+        into.append(segment)?;
     }
     Ok(())
 }
 
 // All databases behind their number.
-fn put_msdbs(into: &mut Bytes, defs: &[MsdbDef], msdbs: &[Msdb]) -> Result<(), AllocError>
-    requires same { length defs.now ≡ length msdbs.now }
-    requires few { length msdbs.now < 2 ^ 8 }
-    requires each { AllByRecursion (λ msdb. length msdb.segments < 2 ^ 32) msdbs.now }
-    ensures { OnOk result (into.new
-        ≡ into.old ++ (length msdbs.now ∷ flat_map (λ each. msdb_text each.0 each.1) (zip defs.now msdbs.now))) }
+fn put_msdbs(into: &mut Bytes, defs: &[MsdbDef], msdbs: &MsdbStore) -> Result<(), AllocError>
+    requires of { IsOf defs.now msdbs.now }
+    requires few { length defs.now < 2 ^ 8 }
+    requires each { AllByRecursion (λ msdb. length msdb.segments < 2 ^ 32) msdbs.now.msdbs }
+    ensures { OnOk result (into.new ≡ into.old ++ (length msdbs.now.msdbs
+        ∷ flat_map (λ each. msdb_text each.0 each.1) (zip defs.now msdbs.now.msdbs))) }
 {
-    into.push(msdbs.len() as u8)?;
-    for (def, msdb) in defs.iter().zip(msdbs) {
-        put_msdb(into, def, msdb)?;
+    into.push(defs.len() as u8)?;
+    for (number, def) in defs.iter().enumerate() {
+        put_msdb(into, def, msdbs, number as u8)?;
     }
     Ok(())
 }
@@ -67,25 +96,25 @@ fn format_with(lasts: Option<&Lasts>) -> u8
 }
 
 /// The bytes of a checkpoint behind its gate: of these databases as they are at a place in the log, and in format 2
-/// where the last numbers of terminals are given, else in format 1.
+/// where the last numbers of terminals are given, else in format 1. The store lends its segments; each is copied once.
 pub fn body(
     alloc: Global,
     defs: &Defs,
     place: &Place,
-    msdbs: &List<Msdb>,
+    msdbs: &MsdbStore,
     lasts: Option<&Lasts>,
 ) -> Result<Bytes, AllocError>
-    requires databases { AllZip IsMsdbOf defs.now.msdbs msdbs.now }
+    requires databases { IsOf defs.now.msdbs msdbs.now }
     requires few { length defs.now.msdbs < 2 ^ 8 }
-    requires segments { AllByRecursion (λ msdb. length msdb.segments < 2 ^ 32) msdbs.now }
+    requires segments { AllByRecursion (λ msdb. length msdb.segments < 2 ^ 32) msdbs.now.msdbs }
     requires terminals { AreLasts (terminals_of (option_copied lasts)) }
     ensures { IfOk result (λ bytes. bytes
         ≡ checkpoint_rest (format_with (option_copied lasts.entry)) defs.now.msdbs
-        (checkpoint_of place.now msdbs.now (option_copied lasts.entry))) }
+        (checkpoint_of place.now msdbs.now.msdbs (option_copied lasts.entry))) }
 {
     let mut bytes = Bytes::new(alloc);
     put_head(&mut bytes, format_with(lasts), place)?;
-    put_msdbs(&mut bytes, defs.msdbs.as_slice(), msdbs.as_slice())?;
+    put_msdbs(&mut bytes, defs.msdbs.as_slice(), msdbs)?;
     if let Some(lasts) = lasts {
         put_lasts(&mut bytes, lasts)?;
     }

@@ -1,4 +1,4 @@
-//! Definitions of one database of two segments, and the last number of a terminal.
+//! Definitions of one database.
 ghost use Rattle.fp_exits.specs.Ranges.{IsRoutable};
 ghost use Rattle.fp_model.specs.Exits.{route};
 ghost use Rattle.fp_model.specs.WellFormed.{AreDefs};
@@ -25,6 +25,14 @@ router = \"FOLD\"
 name = \"ACCTS\"
 fields = [[\"ACCT\", \"C\", 4], [\"NOTE\", \"C\", 4]]
 load = [[\"A002\", \"old\"], [\"A001\", \"two\"]]
+";
+
+/// A database with segments of 1,000 bytes, without segments at the start.
+pub(crate) const LARGE: &str = "regions = [1]
+router = \"FOLD\"
+[[msdb]]
+name = \"LARGE\"
+fields = [[\"KEY\", \"C\", 3], [\"A\", \"C\", 249], [\"B\", \"C\", 250], [\"C\", \"C\", 250], [\"D\", \"C\", 248]]
 ";
 
 fn exits(alloc: Global) -> Result<Exits, AllocError> {

@@ -1,8 +1,9 @@
 //! Two checkpoints in steps, with a write of the log before each step: failed or stopped at each call.
+ghost use Rattle.checkpoint_format.specs.Given.{terminals_of};
+ghost use Rattle.fp_model.specs.CheckpointText.{AreLasts};
 ghost use Rattle.fp_model.specs.WellFormed.{AreDefs};
-ghost use Rattle.msdb_store.specs.Store.{IsOf};
-ghost use Rattle.std.specs.List.{AllByRecursion};
-ghost use Rattle.std.specs.Prelude.{◌≡◌, ◌<◌, ◌≤◌, ◌^◌, IfOk, length};
+ghost use Rattle.std.specs.Option.{option_copied};
+ghost use Rattle.std.specs.Prelude.{◌≤◌};
 
 use crate::samples::{FIRST, SECOND, defs_of};
 use balancing::Lasts;
@@ -14,7 +15,7 @@ use std::alloc::{AllocError, Global};
 use std::test::Fail;
 
 /// Gives data sets 1 and 2 a byte, as a site has them that was made.
-fn prepare(site: &mut MemorySite) -> bool {
+pub(crate) fn prepare(site: &mut MemorySite) -> bool {
     for set in 1..3 {
         if site.write_at(set, 0, &[0]).is_err() || site.sync(set).is_err() {
             return false;
@@ -163,43 +164,55 @@ fn without_a_fault_both_are_sure(rt: HostRuntime) -> Result<(), Fail> {
     Ok(())
 }
 
-/// The bytes of the first checkpoint at place 100 with 1 entry before it, in format 1: its gate, the letters, three
-/// numbers, the number of databases, and of the one database the length of a segment, their number, and the segments.
-const BYTES: &[u8] = b"\x01IMSFPCK1\
+/// The bytes of the first checkpoint at place 100 with 1 entry before it: its gate, the letters, three numbers, the
+/// number of databases, and of the one database the length of a segment, their number, and the segments.
+const IN_FORMAT_ONE: &[u8] = b"\x01IMSFPCK1\
 \x00\x00\x00\x00\x00\x00\x00\x01\x00\x00\x00\x00\x00\x00\x00\x64\x00\x00\x00\x00\x00\x00\x00\x01\
 \x01\x00\x08\x00\x00\x00\x02A001one A002old ";
 
-#[test]
-fn bytes_are_those_of_the_format(rt: HostRuntime) -> Result<(), Fail> {
-    let first = defs_of(rt.alloc(), FIRST)?;
-    let mut site = MemorySite::new(rt.alloc(), &[])?;
-    assert!(rt; prepare(&mut site));
-    let mut checkpoints = Checkpoints::open(None, 2);
-    assert!(rt; write_in_steps(rt.alloc(), &mut site, &mut checkpoints, 1, &first)?);
-    assert!(rt; site.contents(1) == BYTES);
-    assert!(rt; site.contents(2) == [0].as_slice());
-    Ok(())
-}
+/// In format 2 the number of terminals, none, stands behind that.
+const IN_FORMAT_TWO: &[u8] = b"\x01IMSFPCK2\
+\x00\x00\x00\x00\x00\x00\x00\x01\x00\x00\x00\x00\x00\x00\x00\x64\x00\x00\x00\x00\x00\x00\x00\x01\
+\x01\x00\x08\x00\x00\x00\x02A001one A002old \x00\x00\x00\x00\x00\x00\x00\x00";
 
-/// Whether a checkpoint of format 2 was read, whole and without terminals.
-fn is_in_format_two(loaded: &Result<Option<Loaded>, CkptFault>) -> bool {
+/// Whether a checkpoint of this format was read, whole and without terminals.
+fn is_in_format(loaded: &Result<Option<Loaded>, CkptFault>, format: u8) -> bool {
     match loaded {
-        Ok(Some(one)) => one.format == 2 && is_whole(one) && one.lasts.is_empty(),
+        Ok(Some(one)) => one.format == format && is_whole(one) && one.lasts.is_empty(),
         _ => false,
     }
 }
 
-#[test]
-fn format_two_is_read_back(rt: HostRuntime) -> Result<(), Fail> {
-    let defs = defs_of(rt.alloc(), FIRST)?;
-    let store = MsdbStore::start(rt.alloc(), &defs)?;
-    let lasts = Lasts::new(rt.alloc())?;
-    let mut site = MemorySite::new(rt.alloc(), &[])?;
-    assert!(rt; prepare(&mut site));
+/// Whether a first checkpoint is written as these bytes, and read back in this format.
+fn comes_back(
+    alloc: Global,
+    defs: &Defs,
+    lasts: Option<&Lasts>,
+    format: u8,
+    bytes: &[u8],
+) -> Result<bool, AllocError>
+    requires defs { AreDefs defs.now }
+    requires terminals { AreLasts (terminals_of (option_copied lasts)) }
+{
+    let store = MsdbStore::start(alloc, defs)?;
+    let mut site = MemorySite::new(alloc, &[])?;
     let mut checkpoints = Checkpoints::open(None, 2);
-    let written = checkpoints.write(rt.alloc(), &mut site, &defs, 100, 1, &store, Some(&lasts));
-    assert!(rt; written.is_ok());
-    let loaded = Checkpoints::newest(rt.alloc(), &mut site, &defs);
-    assert!(rt; is_in_format_two(&loaded));
+    if !prepare(&mut site) {
+        return Ok(false);
+    }
+    let written = checkpoints.write(alloc, &mut site, defs, 100, 1, &store, lasts);
+    let is_written = written.is_ok()
+        && site.contents(1) == bytes
+        && site.contents(2) == [0].as_slice();
+    Ok(is_written && is_in_format(&Checkpoints::newest(alloc, &mut site, defs), format))
+}
+
+#[test]
+fn bytes_are_those_of_the_format(rt: HostRuntime) -> Result<(), Fail> {
+    let defs = defs_of(rt.alloc(), FIRST)?;
+    let none = Lasts::new(rt.alloc())?;
+    for (lasts, format, bytes) in [(None, 1, IN_FORMAT_ONE), (Some(&none), 2, IN_FORMAT_TWO)] {
+        assert!(rt; comes_back(rt.alloc(), &defs, lasts, format, bytes)?);
+    }
     Ok(())
 }

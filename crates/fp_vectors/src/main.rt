@@ -6,6 +6,7 @@
 
 mod arguments;
 mod cases;
+mod checkpoints;
 mod definitions;
 mod entries;
 mod fault;

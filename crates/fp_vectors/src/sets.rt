@@ -4,7 +4,8 @@ use crate::cases::Case;
 use crate::fault::CaseFault;
 use crate::scripts::Named;
 use crate::{
-    arguments, definitions, entries, groups, intervals, messages, numbers, scripts, texts,
+    arguments, checkpoints, definitions, entries, groups, intervals, messages, numbers, scripts,
+    texts,
 };
 use std::alloc::Global;
 
@@ -29,11 +30,13 @@ pub(crate) enum Set {
     Groups,
     /// Intervals of an area.
     Intervals,
+    /// The two data sets of checkpoints.
+    Checkpoints,
 }
 
 impl Set {
     /// All sets, in the order in which they are judged.
-    pub(crate) const ALL: [Set; 9] = [
+    pub(crate) const ALL: [Set; 10] = [
         Set::Numbers,
         Set::Arguments,
         Set::Messages,
@@ -43,6 +46,7 @@ impl Set {
         Set::Entries,
         Set::Groups,
         Set::Intervals,
+        Set::Checkpoints,
     ];
 
     /// The name of its file.
@@ -57,6 +61,7 @@ impl Set {
             Set::Entries => "entries.txt",
             Set::Groups => "groups.txt",
             Set::Intervals => "intervals.txt",
+            Set::Checkpoints => "checkpoints.txt",
         }
     }
 
@@ -97,6 +102,7 @@ impl Judge {
             Set::Entries => entries::answer(alloc, case.input),
             Set::Groups => groups::answer(alloc, case.input),
             Set::Intervals => intervals::answer(alloc, case.input),
+            Set::Checkpoints => checkpoints::answer(alloc, case.input),
         }
     }
 }

@@ -1,4 +1,5 @@
 pub mod Aside
 pub mod Bodies
+pub mod Fronts
 pub mod Openings
 pub mod Shutting

@@ -67,6 +67,22 @@ pub record IsOpened (old : List ℕ) (gate : ℕ) (body : List ℕ) (set : ℕ) 
   pub rest : List ℕ
   pub behind : drop gate (disk.contents set) ≡ 1 ∷ (body ++ rest)
 
+-- ---- what stands in front of a gate, which may be absent
+
+-- all bytes in front of a gate are as they were
+abbrev pub IsFrontOf : List ℕ → ℕ → List ℕ → Type 0
+IsFrontOf old gate image = take gate image ≡ take gate old
+
+-- so that every image which a sync may make of what a crash may leave now has them
+abbrev pub AreFronts : List ℕ → ℕ → ℕ → Disk → Type 0
+AreFronts old gate set disk = (image : List ℕ) → Settles disk set image → IsFrontOf old gate image
+
+-- the bytes behind a gated write: up to the gate the old ones, the open gate, the body, and what stood behind that
+abbrev pub with_body : List ℕ → ℕ → List ℕ → List ℕ
+with_body old gate body = take gate old ++ (1 ∷ (body ++ drop (gate + 1 + length body) old))
+
+-- ---- reading
+
 -- By what is told, and by the numbers: no data set but this one was read.
 abbrev pub ReadsOnly : ℕ → (ℕ → Type 0) → (ℕ → Type 0) → (ℕ → ℕ) → (ℕ → ℕ) → Type 0
 ReadsOnly this told_before told_now before now = (set : ℕ) → told_now set → told_before set

@@ -1,8 +1,18 @@
 //! The gate: it is closed before the body is written, and opened behind it.
-ghost use Rattle.fp_site.specs.Disk.{Disk, Settles, Stays};
+ghost use Rattle.fp_site.specs.Disk.{Disk, IsDurable, Settles, Stays, written};
 ghost use Rattle.fp_site.specs.Moments.{OnlyOn, Through};
 ghost use Rattle.fp_site.specs.Site.{Counts, ReadsNothing};
-ghost use Rattle.gated_write.specs.Gates.{IsClosed, IsOldOrShut, IsOpened, IsReady, IsShut, IsStaged, ReadsOnly};
+ghost use Rattle.gated_write.specs.Gates.{
+  AreFronts,
+  IsClosed,
+  IsFrontOf,
+  IsOldOrShut,
+  IsOpened,
+  IsReady,
+  IsShut,
+  IsStaged,
+  ReadsOnly,
+};
 ghost use Rattle.std.specs.Prelude.{
   ◌≡◌,
   ◌⊎◌,
@@ -11,6 +21,8 @@ ghost use Rattle.std.specs.Prelude.{
   ◌<◌,
   ◌≤◌,
   ◌^◌,
+  ◌∷◌,
+  [],
   ℕ,
   IfOk,
   List as ListOf,
@@ -36,6 +48,7 @@ fn is_shut<S: Site>(site: &mut S, set: u16) -> Result<bool, Failed>
     ensures stays { S.told site.old → Stays (S.disk site.old) (S.disk site.new) }
     ensures reads { ReadsOnly set (S.tells_reads site.old) (S.tells_reads site.new) (S.bytes_read site.old)
         (S.bytes_read site.new) }
+    ensures few { S.tells_reads site.new set → S.bytes_read site.new set ≤ S.bytes_read site.old set + 1 }
     ensures told { S.told site.old → S.told site.new }
     ensures holds { S.holds site.new ≡ S.holds site.old }
     ensures keeps { (first : S) → S.keeps first site.old → S.keeps first site.new }
@@ -59,6 +72,7 @@ pub fn shut<S: Site>(site: &mut S, set: u16) -> Result<(), Failed>
     ensures only { S.told site.old → OnlyOn set (S.disk site.old) (S.disk site.new) }
     ensures reads { ReadsOnly set (S.tells_reads site.old) (S.tells_reads site.new) (S.bytes_read site.old)
         (S.bytes_read site.new) }
+    ensures few { S.tells_reads site.new set → S.bytes_read site.new set ≤ S.bytes_read site.old set + 1 }
     ensures told { S.told site.old → S.told site.new }
     ensures holds { S.holds site.new ≡ S.holds site.old }
     ensures keeps { (first : S) → S.keeps first site.old → S.keeps first site.new }
@@ -85,6 +99,9 @@ pub fn open<S: Site>(site: &mut S, set: u16, gate: u64) -> Result<(), Failed>
     requires room { gate + 1 ≤ 2 ^ 62 }
 
     // At `Ok` it is open, and every crash leaves it so.
+    ensures text { S.told site.old → OnOk result ((S.disk site.new).contents set
+        ≡ written ((S.disk site.old).contents set) gate (1 ∷ [])) }
+    ensures durable { S.told site.old → OnOk result (IsDurable (S.disk site.new) set) }
     ensures opened { (old body : ListOf ℕ) → S.told site.old → IsReady old gate body set (S.disk site.old) →
         OnOk result (IsOpened old gate body set (S.disk site.new)) }
     ensures cause { Counts (S.faults site.old) (S.faults site.new) result }
@@ -102,7 +119,14 @@ pub fn open<S: Site>(site: &mut S, set: u16, gate: u64) -> Result<(), Failed>
         Through (S.disk site.old) (S.disk site.new) (λ s. IsStaged old gate body (s.images set)) }
     ensures settles { (old body image : ListOf ℕ) → S.told site.old → IsReady old gate body set (S.disk site.old)
         → Settles (S.disk site.new) set image → IsStaged old gate body image }
+
+    // The bytes in front of it stay.
+    ensures front { (old : ListOf ℕ) → S.told site.old → AreFronts old gate set (S.disk site.old)
+        → gate ≤ length old →
+        Through (S.disk site.old) (S.disk site.new) (λ s. IsFrontOf old gate (s.images set)) }
+    ensures front_settles { (old : ListOf ℕ) → S.told site.old → AreFronts old gate set (S.disk site.old)
+        → gate ≤ length old → AreFronts old gate set (S.disk site.new) }
 {
     site.write_at(set, gate, &[1])?;
-    site.sync(set)
+    site.sync(set) // and now every crash leaves it open
 }

@@ -1,5 +1,4 @@
 pub mod LogImages
-pub mod GatedWrites
 pub mod FrontsKept
 pub mod Shutting
 pub mod Fronts

@@ -15,6 +15,7 @@ use Rattle.fp_model.specs.LogText.{
 }
 use Rattle.fp_model.specs.Groups.{Groups, IsGroup, Reads}
 use Rattle.fp_model.specs.Recovery.{Holds}
+use Rattle.gated_write.specs.Gates.{IsGatedImage}
 use Rattle.log_groups.specs.declared.front.Front.{Front as Kept}
 
 -- the front that a program's values are
@@ -93,24 +94,6 @@ pub record SpellsGroup (bytes : List ℕ) (entries : List Entry) : Type 0 where
   pub group : IsGroup entries
   pub text : bytes ≡ be64 (length (body_text entries)) ++ (body_text entries ++ 0 ∷ [])
 
--- A gated write of some bytes behind a gate, seen on the image from before it. Before the gate is written, all bytes up
--- to it are as they were,
-pub record IsUnopened (old : List ℕ) (gate : ℕ) (image : List ℕ) : Type 0 where
-  pub front : take gate image ≡ take gate old
-  pub byte : slice_index image gate ≡ slice_index old gate
-  pub stands : gate < length image
-
--- and from then on the bytes stand behind it, whatever the gate is
-pub record IsStaged (old : List ℕ) (gate : ℕ) (bytes : List ℕ) (image : List ℕ) : Type 0 where
-  pub front : take gate image ≡ take gate old
-  pub first : ℕ
-  pub rest : List ℕ
-  pub behind : drop gate image ≡ first ∷ (bytes ++ rest)
-
--- an image within a gated write
-abbrev pub IsGatedImage : List ℕ → ℕ → List ℕ → List ℕ → Type 0
-IsGatedImage old gate bytes image = IsUnopened old gate image ⊎ IsStaged old gate bytes image
-
 -- the log that a crash leaves within a gated write
 abbrev pub IsGated : List ℕ → ℕ → List ℕ → Snapshot → Type 0
 IsGated old gate bytes s = IsGatedImage old gate bytes (s.images 0)
@@ -128,10 +111,6 @@ pub record IsOpened (old : List ℕ) (gate : ℕ) (bytes : List ℕ) (new : Disk
 pub record IsShutGate (bytes : List ℕ) : Type 0 where
   pub some : 0 < length bytes
   pub gate : slice_index bytes 0 ≢ 1
-
--- the front's gate is absent, or open
-abbrev pub IsOpenGate : List ℕ → Type 0
-IsOpenGate bytes = (length bytes ≡ 0) ⊎ (slice_index bytes 0 ≡ 1)
 
 -- a disk whose log is shut, and every crash leaves it so
 pub record IsShut (disk : Disk) : Type 0 where

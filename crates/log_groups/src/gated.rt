@@ -1,11 +1,13 @@
-//! A write that counts whole or not at all: its bytes go behind a gate, and the gate is opened last.
+//! A gated write of the log: its bytes count whole or not at all.
 ghost use Rattle.fp_site.specs.Disk.{Disk, IsDurable, Settles};
 ghost use Rattle.fp_site.specs.Moments.{OnlyOn, Through};
 ghost use Rattle.fp_site.specs.Site.{Counts, ReadsNothing};
-ghost use Rattle.log_groups.specs.Images.{HasFrontOf, IsFrontOf, IsGated, IsGatedImage, IsOpened};
+ghost use Rattle.gated_write.specs.Gates.{IsGatedImage};
+ghost use Rattle.log_groups.specs.Images.{HasFrontOf, IsFrontOf, IsGated, IsOpened};
 ghost use Rattle.std.specs.Prelude.{◌≡◌, ◌⊎◌, ◌+◌, ◌-◌, ◌<◌, ◌≤◌, ◌^◌, ◌∷◌, ◌++◌, ℕ, List as ListOf, OnOk, length};
 
 use fp_site::{Failed, Site};
+use gated_write::write;
 
 /// Writes these bytes behind a gate of the log, syncs, opens the gate, syncs.
 pub(crate) fn write_gated<S: Site>(site: &mut S, gate: u64, bytes: &[u8]) -> Result<(), Failed>
@@ -40,9 +42,5 @@ pub(crate) fn write_gated<S: Site>(site: &mut S, gate: u64, bytes: &[u8]) -> Res
         → gate ≤ length ((S.disk site.old).contents 0) →
         Settles (S.disk site.new) 0 image → IsFrontOf ((S.disk site.old).contents 0) gate image }
 {
-    site.write_at(0, gate + 1, bytes)?;
-    site.sync(0)?; // the bytes are on the disk behind the gate as it was
-    site.write_at(0, gate, &[1])?;
-    site.sync(0)?; // and now it is open
-    Ok(())
+    write(site, 0, gate, bytes)
 }

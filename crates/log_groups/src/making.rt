@@ -1,6 +1,6 @@
 //! Making a log: its gate is closed first, and opened last.
 ghost use Rattle.fp_model.specs.LogText.{FitsFront, first_gate, log_text};
-ghost use Rattle.fp_site.specs.Disk.{Disk, Settles, Stays};
+ghost use Rattle.fp_site.specs.Disk.{Disk, Settles};
 ghost use Rattle.fp_site.specs.Moments.{OnlyOn, Through};
 ghost use Rattle.fp_site.specs.Site.{Counts};
 ghost use Rattle.log_groups.specs.Images.{
@@ -9,9 +9,7 @@ ghost use Rattle.log_groups.specs.Images.{
   IsBeforeOrShut,
   IsOldOrMade,
   IsOldOrShut,
-  IsOpenGate,
   IsShut,
-  IsShutGate,
   as_front,
 };
 ghost use Rattle.log_groups.specs.Reads.{ReadsOnlyLog};
@@ -27,44 +25,18 @@ ghost use Rattle.std.specs.Prelude.{
   ◌++◌,
   ℕ,
   [],
-  IfOk,
   IsErrOf,
   List as ListOf,
   OnOk,
   drop,
   length,
   max,
-  true,
-  false,
 };
 
 use crate::gated::write_gated;
 use crate::{Front, LogFault};
 use fp_site::{Failed, Site};
 use std::alloc::Global;
-
-// Whether the front's gate is there and isn't open.
-fn is_shut<S: Site>(site: &mut S) -> Result<bool, Failed>
-    ensures shut { S.told site.old → IfOk result (λ shut. shut ≡ true → IsShutGate ((S.disk site.old).contents 0)) }
-    ensures open { S.told site.old → IfOk result (λ shut. shut ≡ false → IsOpenGate ((S.disk site.old).contents 0)) }
-    ensures cause { Counts (S.faults site.old) (S.faults site.new) result }
-
-    // Nothing changes.
-    ensures stays { S.told site.old → Stays (S.disk site.old) (S.disk site.new) }
-    ensures reads { ReadsOnlyLog (S.tells_reads site.old) (S.tells_reads site.new) (S.bytes_read site.old)
-        (S.bytes_read site.new) }
-    ensures few { S.tells_reads site.new 0 → S.bytes_read site.new 0 ≤ S.bytes_read site.old 0 + 1 }
-    ensures told { S.told site.old → S.told site.new }
-    ensures holds { S.holds site.new ≡ S.holds site.old }
-    ensures keeps { (first : S) → S.keeps first site.old → S.keeps first site.new }
-{
-    if site.size(0)? == 0 {
-        return Ok(false);
-    }
-    let mut gate = [0u8];
-    site.read_at(0, 0, &mut gate)?;
-    Ok(gate[0] != 1)
-}
 
 // Closes the front's gate. A gate that is there and isn't open is not written again.
 pub(crate) fn shut<S: Site>(site: &mut S) -> Result<(), Failed>
@@ -89,13 +61,7 @@ pub(crate) fn shut<S: Site>(site: &mut S) -> Result<(), Failed>
     ensures settles { (image : ListOf ℕ) → S.told site.old → Settles (S.disk site.new) 0 image
         → IsOldOrShut (S.disk site.old) image }
 {
-    site.sync(0)?; // what is looked at is what a crash leaves
-    if is_shut(site)? {
-        return Ok(());
-    }
-    site.write_at(0, 0, &[0])?;
-    site.sync(0)?; // and now every crash leaves it shut
-    Ok(())
+    gated_write::shut(site, 0)
 }
 
 // Writes a new log with this front and no groups: the front's gate is closed first, and opened last.

@@ -57,9 +57,14 @@ IsWhole defs bytes loaded =
 abbrev pub HasNoCheckpoint : List MsdbDef → List ℕ → Type 0
 HasNoCheckpoint defs bytes = rest_at defs (drop 1 bytes) ≡ None
 
+-- data set 1 or 2 has an open checkpoint with bad letters or no number
+pub record IsBadSet (contents : ℕ → List ℕ) (set : ℕ) : Type 0 where
+  pub is_set : (set ≡ 1) ⊎ (set ≡ 2)
+  pub bad : HasBadHead (contents set)
+
 -- what is damaged: an open data set's letters or number, or the whole of the newest one
 abbrev pub IsDamagedSet : List MsdbDef → (ℕ → List ℕ) → ℕ → Type 0
-IsDamagedSet defs contents set = HasBadHead (contents set)
+IsDamagedSet defs contents set = IsBadSet contents set
     ⊎ (IsNewest contents set × HasNoCheckpoint defs (contents set))
 
 -- By what is told, and by the numbers: no data sets but 1 and 2 were read.

@@ -35,6 +35,7 @@ ghost use Rattle.std.specs.Prelude.{
   Some,
   IfOk,
   IsErrOf,
+  IsOk,
   List as ListOf,
   OnErr,
   OnOk,
@@ -140,8 +141,7 @@ impl Checkpoints {
             at,
             count,
         };
-        let databases = msdbs.databases(alloc)?;
-        let body = body(alloc, defs, &place, &databases, lasts)?;
+        let body = body(alloc, defs, &place, msdbs, lasts)?;
         if body.len() as u64 >= 1 << 62 {
             return Err(AllocError);
         }
@@ -175,6 +175,8 @@ impl Checkpoints {
             ≡ record { set = self.old.set; number = self.old.number; under_way = None }) }
         ensures cause { Counts (S.faults site.old) (S.faults site.new) result }
         ensures never { (IsErrOf result faults.Memory → ⊥) × ((set : ℕ) → IsErrOf result (faults.Damaged set) → ⊥) }
+        ensures idle { self.old.under_way ≡ None → (site.new ≡ site.old) × IfOk result (λ sure. sure ≡ false)
+            × IsOk result }
 
         // No other data set changes, nothing is sent, and no other is read.
         ensures only { S.told site.old → OnlyOn (other_set self.old.set) (S.disk site.old) (S.disk site.new) }
@@ -230,6 +232,7 @@ impl Checkpoints {
             ≡ record { set = self.old.set; number = self.old.number; under_way = None }) }
         ensures cause { Counts (S.faults site.old) (S.faults site.new) result }
         ensures never { (IsErrOf result faults.Memory → ⊥) × ((set : ℕ) → IsErrOf result (faults.Damaged set) → ⊥) }
+        ensures idle { self.old.under_way ≡ None → (site.new ≡ site.old) × IsOk result }
 
         // No other data set changes, nothing is sent, and no other is read.
         ensures only { S.told site.old → OnlyOn (other_set self.old.set) (S.disk site.old) (S.disk site.new) }
@@ -296,6 +299,8 @@ impl Checkpoints {
         // Want of memory comes before the site is touched.
         ensures untouched { IsErrOf result faults.Memory → site.new ≡ site.old }
         ensures only { S.told site.old → OnlyOn (other_set self.old.set) (S.disk site.old) (S.disk site.new) }
+        ensures reads { ReadsOnly (other_set self.old.set) (S.tells_reads site.old) (S.tells_reads site.new)
+            (S.bytes_read site.old) (S.bytes_read site.new) }
         ensures told { S.told site.old → S.told site.new }
         ensures holds { S.holds site.new ≡ S.holds site.old }
         ensures keeps { (first : S) → S.keeps first site.old → S.keeps first site.new }
@@ -310,6 +315,11 @@ impl Checkpoints {
             Through (S.disk site.old) (S.disk site.new) (λ s. IsOldClosedOrWhole (S.disk site.old)
             (other_set self.old.set) (body_with defs.now.msdbs (self.old.number + 1) at count msdbs.now.msdbs
             (option_copied lasts.entry)) (s.images (other_set self.old.set))) }
+        ensures settles { (image : ListOf ℕ) → S.told site.old
+            → 0 < length ((S.disk site.old).contents (other_set self.old.set))
+            → Settles (S.disk site.new) (other_set self.old.set) image
+            → IsOldClosedOrWhole (S.disk site.old) (other_set self.old.set) (body_with defs.now.msdbs
+            (self.old.number + 1) at count msdbs.now.msdbs (option_copied lasts.entry)) image }
     {
         self.begin(alloc, defs, at, count, msdbs, lasts)?;
         self.finish(site)

@@ -8,6 +8,7 @@ ghost use Rattle.msdb_checkpoint.specs.Newest.{
   HasCheckpoint,
   HasNoCheckpoint,
   HasNumber,
+  IsBadSet,
   IsDamagedSet,
   IsNewer,
   IsNewest,
@@ -20,6 +21,7 @@ ghost use Rattle.std.specs.List.{AllByRecursion};
 ghost use Rattle.std.specs.Prelude.{
   ◌≡◌,
   ◌⊎◌,
+  ◌+◌,
   ◌-◌,
   ◌<◌,
   ◌≤◌,
@@ -55,6 +57,7 @@ fn front_of<S: Site>(site: &mut S, set: u16) -> Result<([u8; 17], bool), Failed>
     ensures stays { S.told site.old → Stays (S.disk site.old) (S.disk site.new) }
     ensures reads { ReadsOnly set (S.tells_reads site.old) (S.tells_reads site.new) (S.bytes_read site.old)
         (S.bytes_read site.new) }
+    ensures few { S.tells_reads site.new set → S.bytes_read site.new set ≤ S.bytes_read site.old set + 17 }
     ensures told { S.told site.old → S.told site.new }
     ensures holds { S.holds site.new ≡ S.holds site.old }
     ensures keeps { (first : S) → S.keeps first site.old → S.keeps first site.new }
@@ -80,6 +83,7 @@ fn number_in<S: Site>(site: &mut S, set: u16) -> Result<Option<u64>, CkptFault>
     ensures stays { S.told site.old → Stays (S.disk site.old) (S.disk site.new) }
     ensures reads { ReadsOnly set (S.tells_reads site.old) (S.tells_reads site.new) (S.bytes_read site.old)
         (S.bytes_read site.new) }
+    ensures few { S.tells_reads site.new set → S.bytes_read site.new set ≤ S.bytes_read site.old set + 17 }
     ensures told { S.told site.old → S.told site.new }
     ensures holds { S.holds site.new ≡ S.holds site.old }
     ensures keeps { (first : S) → S.keeps first site.old → S.keeps first site.new }
@@ -122,7 +126,9 @@ fn newest_set<S: Site>(site: &mut S) -> Result<Option<u16>, CkptFault>
         (λ found. IfSome found (IsNewest (S.disk site.old).contents)) }
     ensures set { IfOk result (λ found. IfSome found (λ set. (set ≡ 1) ⊎ (set ≡ 2))) }
     ensures damaged { (place : ℕ) → S.told site.old → IsErrOf result (faults.Damaged place)
-        → ((place ≡ 1) ⊎ (place ≡ 2)) × HasBadHead ((S.disk site.old).contents place) }
+        → IsBadSet (S.disk site.old).contents place }
+    ensures good { S.told site.old → IfOk result
+        (λ _. (set : ℕ) → IsBadSet (S.disk site.old).contents set → ⊥) }
     ensures cause { IsErrOf result faults.Failed → (S.faults site.old < S.faults site.new)
         ⊎ (S.faults site.new ≡ 2 ^ 64 - 1) }
     ensures later { S.faults site.old ≤ S.faults site.new }
@@ -130,6 +136,8 @@ fn newest_set<S: Site>(site: &mut S) -> Result<Option<u16>, CkptFault>
     ensures stays { S.told site.old → Stays (S.disk site.old) (S.disk site.new) }
     ensures reads { ReadsCheckpoints (S.tells_reads site.old) (S.tells_reads site.new) (S.bytes_read site.old)
         (S.bytes_read site.new) }
+    ensures few { (set : ℕ) → S.tells_reads site.new set → S.bytes_read site.new set
+        ≤ S.bytes_read site.old set + 17 }
     ensures told { S.told site.old → S.told site.new }
     ensures holds { S.holds site.new ≡ S.holds site.old }
     ensures keeps { (first : S) → S.keeps first site.old → S.keeps first site.new }
@@ -151,6 +159,8 @@ fn behind_gate<S: Site>(alloc: Global, site: &mut S, set: u16) -> Result<Vec<u8>
     ensures stays { S.told site.old → Stays (S.disk site.old) (S.disk site.new) }
     ensures reads { ReadsOnly set (S.tells_reads site.old) (S.tells_reads site.new) (S.bytes_read site.old)
         (S.bytes_read site.new) }
+    ensures most { S.told site.old → S.tells_reads site.new set → S.bytes_read site.new set
+        ≤ S.bytes_read site.old set + length ((S.disk site.old).contents set) }
     ensures told { S.told site.old → S.told site.new }
     ensures holds { S.holds site.new ≡ S.holds site.old }
     ensures keeps { (first : S) → S.keeps first site.old → S.keeps first site.new }
@@ -180,6 +190,8 @@ fn load<S: Site>(
     ensures stays { S.told site.old → Stays (S.disk site.old) (S.disk site.new) }
     ensures reads { ReadsOnly set (S.tells_reads site.old) (S.tells_reads site.new) (S.bytes_read site.old)
         (S.bytes_read site.new) }
+    ensures most { S.told site.old → S.tells_reads site.new set → S.bytes_read site.new set
+        ≤ S.bytes_read site.old set + length ((S.disk site.old).contents set) }
     ensures told { S.told site.old → S.told site.new }
     ensures holds { S.holds site.new ≡ S.holds site.old }
     ensures keeps { (first : S) → S.keeps first site.old → S.keeps first site.new }
@@ -194,8 +206,8 @@ fn load<S: Site>(
 
 impl Checkpoints {
     /// The newest open checkpoint of these databases; `None` exactly where neither data set is open. Of the other open
-    /// one the gate, the letters and the number are looked at. `Damaged` comes exactly where the newest is outside its
-    /// format, or one of them in its letters or number.
+    /// one the gate, the letters and the number are looked at, and no body is read. `Damaged` comes exactly where the
+    /// newest is outside its format, or one of them in its letters or number, and says which.
     pub fn newest<S: Site>(
         alloc: Global,
         site: &mut S,
@@ -211,17 +223,27 @@ impl Checkpoints {
         ensures whole { S.told site.old → AllByRecursion (λ def. def.length < 2 ^ 16) defs.now.msdbs
             → IfOk result (λ found. IfSome found (λ loaded. (set : ℕ) × IsNewest (S.disk site.old).contents set
             × IsWhole defs.now.msdbs ((S.disk site.old).contents set) loaded)) }
+
+        // An open one that is outside its format is told, and no other.
         ensures damaged { (set : ℕ) → S.told site.old → IsErrOf result (faults.Damaged set)
             → IsDamagedSet defs.now.msdbs (S.disk site.old).contents set }
+        ensures good { S.told site.old → IfOk result
+            (λ _. (set : ℕ) → IsDamagedSet defs.now.msdbs (S.disk site.old).contents set → ⊥) }
+
+        // It fails only with the site.
         ensures cause { IsErrOf result faults.Failed → (S.faults site.old < S.faults site.new)
             ⊎ (S.faults site.new ≡ 2 ^ 64 - 1) }
         ensures later { S.faults site.old ≤ S.faults site.new }
         ensures stayed { (IsErrOf result faults.Failed → ⊥) → S.faults site.new ≡ S.faults site.old }
 
-        // Nothing changes, and only the two data sets are read.
+        // Nothing changes, and only the two data sets are read: 17 bytes of each at the most, and the newest once more.
         ensures stays { S.told site.old → Stays (S.disk site.old) (S.disk site.new) }
         ensures reads { ReadsCheckpoints (S.tells_reads site.old) (S.tells_reads site.new) (S.bytes_read site.old)
             (S.bytes_read site.new) }
+        ensures few { (set : ℕ) → S.told site.old → (IsNewest (S.disk site.old).contents set → ⊥)
+            → S.tells_reads site.new set → S.bytes_read site.new set ≤ S.bytes_read site.old set + 17 }
+        ensures most { (set : ℕ) → S.told site.old → S.tells_reads site.new set → S.bytes_read site.new set
+            ≤ S.bytes_read site.old set + 17 + length ((S.disk site.old).contents set) }
         ensures told { S.told site.old → S.told site.new }
         ensures holds { S.holds site.new ≡ S.holds site.old }
         ensures keeps { (first : S) → S.keeps first site.old → S.keeps first site.new }
@@ -237,15 +259,25 @@ impl Checkpoints {
         ensures slot { S.told site.old → IfOk result (λ set. IsNewest (S.disk site.old).contents set
             ⊎ ((set ≡ 2) × IsNotOpen ((S.disk site.old).contents 1) × IsNotOpen ((S.disk site.old).contents 2))) }
         ensures set { IfOk result (λ set. (set ≡ 1) ⊎ (set ≡ 2)) }
+
+        // One that has bad letters or no number is told, and no other.
         ensures damaged { (set : ℕ) → S.told site.old → IsErrOf result (faults.Damaged set)
-            → HasBadHead ((S.disk site.old).contents set) }
+            → IsBadSet (S.disk site.old).contents set }
+        ensures good { S.told site.old → IfOk result
+            (λ _. (set : ℕ) → IsBadSet (S.disk site.old).contents set → ⊥) }
+
+        // It fails only with the site.
         ensures cause { IsErrOf result faults.Failed → (S.faults site.old < S.faults site.new)
             ⊎ (S.faults site.new ≡ 2 ^ 64 - 1) }
         ensures later { S.faults site.old ≤ S.faults site.new }
         ensures stayed { (IsErrOf result faults.Failed → ⊥) → S.faults site.new ≡ S.faults site.old }
+
+        // Nothing changes, and only the two data sets are read, 17 bytes of each at the most.
         ensures stays { S.told site.old → Stays (S.disk site.old) (S.disk site.new) }
         ensures reads { ReadsCheckpoints (S.tells_reads site.old) (S.tells_reads site.new) (S.bytes_read site.old)
             (S.bytes_read site.new) }
+        ensures few { (set : ℕ) → S.tells_reads site.new set → S.bytes_read site.new set
+            ≤ S.bytes_read site.old set + 17 }
         ensures told { S.told site.old → S.told site.new }
         ensures holds { S.holds site.new ≡ S.holds site.old }
         ensures keeps { (first : S) → S.keeps first site.old → S.keeps first site.new }

@@ -1,13 +1,8 @@
-use Rattle.std.proofs.Common.{◌≡◌, ◌<◌, ◌^◌, ◌∷◌, ◌++◌, length}
-use Rattle.std.specs.List.{AllByRecursion, flat_map, zip}
-use Rattle.fp_model.specs.CheckpointText.{msdb_text}
+use Rattle.std.proofs.Common.{◌≡◌, ◌∷◌, ◌++◌, length, drop}
+use Rattle.checkpoint_format.proofs.Lending.{texts}
 use Rattle.checkpoint_format.proofs.writing.put_msdbs.Given as goal
 
--- what is written, and what is left, are all
-abbrev pub invariant-loop-def : goal.invariant-loop-def
-invariant-loop-def l = record {
-  all : l.into ++ flat_map (λ each. msdb_text each.0 each.1) (zip l.def-iterator.a.rest.now l.def-iterator.b.rest.now)
-      ≡ l.fn.into ++ (length l.msdbs ∷ flat_map (λ each. msdb_text each.0 each.1) (zip l.defs l.msdbs));
-  same : length l.def-iterator.a.rest.now ≡ length l.def-iterator.b.rest.now;
-  few : AllByRecursion (λ msdb. length msdb.segments < 2 ^ 32) l.def-iterator.b.rest.now;
-}
+-- the databases from this one on are to come
+abbrev pub invariant-loop-number : goal.invariant-loop-number
+invariant-loop-number l = l.into ++ texts (drop l.number l.fn.defs) (drop l.number l.fn.msdbs.msdbs)
+    ≡ l.fn.into ++ (length l.fn.msdbs.msdbs ∷ texts l.fn.defs l.fn.msdbs.msdbs)

@@ -1,5 +1,6 @@
 use Rattle.std.proofs.Common.{◌∙◌}
 use Rattle.gated_write.proofs.Bodies.{finish_settles, finish_through, on_ok, only_one}
+use Rattle.gated_write.proofs.Fronts.{sync_keeps, sync_settles}
 use Rattle.gated_write.proofs.body.finish.Goals as goal
 
 pub returns-clause-only : goal.returns-clause-only
@@ -21,4 +22,12 @@ returns-clause-crash g c old gate t each = finish_through c.args.set _ _ (g.met.
 
 pub returns-clause-settles : goal.returns-clause-settles
 returns-clause-settles g c old gate t each = finish_settles c.args.set _ _ (g.met.S.Site.lawful c.args.site.now t)
+    (g.met.S.Site.lawful c.sync.new.self (c.sync.ensures.told t)) (c.sync.ensures.crash t) old gate each
+
+pub returns-clause-front : goal.returns-clause-front
+returns-clause-front g c old gate t each = sync_keeps c.args.set _ _ (g.met.S.Site.lawful c.args.site.now t)
+    (g.met.S.Site.lawful c.sync.new.self (c.sync.ensures.told t)) (c.sync.ensures.crash t) old gate each
+
+pub returns-clause-front_settles : goal.returns-clause-front_settles
+returns-clause-front_settles g c old gate t each = sync_settles c.args.set _ _ (g.met.S.Site.lawful c.args.site.now t)
     (g.met.S.Site.lawful c.sync.new.self (c.sync.ensures.told t)) (c.sync.ensures.crash t) old gate each

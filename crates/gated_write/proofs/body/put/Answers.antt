@@ -1,5 +1,6 @@
 use Rattle.std.proofs.Common.{arith}
 use Rattle.gated_write.proofs.Bodies.{on_ok, only_one, put_is, put_settles, put_through}
+use Rattle.gated_write.proofs.Fronts.{write_keeps, write_settles}
 use Rattle.gated_write.proofs.body.put.Goals as goal
 
 pub returns-clause-only : goal.returns-clause-only
@@ -28,3 +29,15 @@ returns-clause-settles g c old gate t each there lt =
     put_settles c.args.set c.args.at _ _ _ (g.met.S.Site.lawful c.args.site.now t)
     (g.met.S.Site.lawful c.write_at.new.self (c.write_at.ensures.told t)) (c.write_at.ensures.crash t) old gate each
     there lt
+
+pub returns-clause-front : goal.returns-clause-front
+returns-clause-front g c old gate t each le below =
+    write_keeps c.args.set c.args.at _ _ _ (g.met.S.Site.lawful c.args.site.now t)
+    (g.met.S.Site.lawful c.write_at.new.self (c.write_at.ensures.told t)) (c.write_at.ensures.crash t) old gate each
+    le below
+
+pub returns-clause-front_settles : goal.returns-clause-front_settles
+returns-clause-front_settles g c old gate t each le below =
+    write_settles c.args.set c.args.at _ _ _ (g.met.S.Site.lawful c.args.site.now t)
+    (g.met.S.Site.lawful c.write_at.new.self (c.write_at.ensures.told t)) (c.write_at.ensures.crash t) old gate each
+    le below

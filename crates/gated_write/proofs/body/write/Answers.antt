@@ -1,7 +1,9 @@
-use Rattle.std.proofs.Common.{inl, inr, ◌+◌, ◌<◌, [], arith}
+use Rattle.std.proofs.Common.{◌∙◌, inl, inr, ◌+◌, ◌<◌, ◌≤◌, ◌∷◌, [], ap, arith}
+use Rattle.fp_site.specs.Disk.{written}
 use Rattle.fp_site.proofs.Frames.{only_joined}
 use Rattle.fp_site.proofs.Runs.{joined, weaker}
-use Rattle.gated_write.proofs.Bodies.{begins}
+use Rattle.gated_write.proofs.Bodies.{begins, on_ok}
+use Rattle.gated_write.proofs.Fronts.{all_fronts, with_body_is}
 use Rattle.gated_write.proofs.body.write.Goals as goal
 
 pub returns-in_err-put-clause-crash : goal.returns-in_err-put-clause-crash
@@ -117,3 +119,60 @@ returns-clause-settles g c image t durable stands settles =
     let writing = c.in_ok-put.ensures.wrote _ c.args.gate [] t b (omega arith) in
     let ready = c.in_ok-finish.ensures.ready _ c.args.gate c.args.body.now t1 writing in
     inr (c.open.ensures.settles _ c.args.body.now image t2 ready settles)
+
+-- ---- the bytes at the end
+
+pub returns-clause-text : goal.returns-clause-text
+returns-clause-text g c t le =
+    let t1 = c.put.ensures.told t in
+    let t2 = c.finish.ensures.told t1 in
+    on_ok c.open.result (c.open.ensures.text t2) (λ text.
+    text
+    ∙ ap (λ l. written l c.args.gate (1 ∷ [])) (c.finish.ensures.same t1 ∙ c.in_ok-put.ensures.text t)
+    ∙ with_body_is ((g.S.Site.disk c.args.site.now).contents c.args.set) c.args.gate c.args.body.now le)
+
+-- ---- the bytes in front of the gate
+
+pub returns-in_err-put-clause-front : goal.returns-in_err-put-clause-front
+returns-in_err-put-clause-front g c t durable le =
+    let each = all_fronts c.args.set c.args.gate (g.S.Site.disk c.args.site.now) durable in
+    c.put.ensures.front _ c.args.gate t each le (omega arith)
+
+pub returns-in_err-put-clause-front_settles : goal.returns-in_err-put-clause-front_settles
+returns-in_err-put-clause-front_settles g c t durable le =
+    let each = all_fronts c.args.set c.args.gate (g.S.Site.disk c.args.site.now) durable in
+    c.put.ensures.front_settles _ c.args.gate t each le (omega arith)
+
+pub returns-in_err-finish-clause-front : goal.returns-in_err-finish-clause-front
+returns-in_err-finish-clause-front g c t durable le =
+    let t1 = c.put.ensures.told t in
+    let each = all_fronts c.args.set c.args.gate (g.S.Site.disk c.args.site.now) durable in
+    let each1 = c.put.ensures.front_settles _ c.args.gate t each le (omega arith) in
+    joined _ _ _ _ (c.put.ensures.front _ c.args.gate t each le (omega arith))
+    (c.finish.ensures.front _ c.args.gate t1 each1)
+
+pub returns-in_err-finish-clause-front_settles : goal.returns-in_err-finish-clause-front_settles
+returns-in_err-finish-clause-front_settles g c t durable le =
+    let t1 = c.put.ensures.told t in
+    let each = all_fronts c.args.set c.args.gate (g.S.Site.disk c.args.site.now) durable in
+    let each1 = c.put.ensures.front_settles _ c.args.gate t each le (omega arith) in
+    c.finish.ensures.front_settles _ c.args.gate t1 each1
+
+pub returns-clause-front : goal.returns-clause-front
+returns-clause-front g c t durable le =
+    let t1 = c.put.ensures.told t in
+    let t2 = c.finish.ensures.told t1 in
+    let each = all_fronts c.args.set c.args.gate (g.S.Site.disk c.args.site.now) durable in
+    let each1 = c.put.ensures.front_settles _ c.args.gate t each le (omega arith) in
+    let each2 = c.finish.ensures.front_settles _ c.args.gate t1 each1 in
+    joined _ _ _ _ (joined _ _ _ _ (c.put.ensures.front _ c.args.gate t each le (omega arith))
+    (c.finish.ensures.front _ c.args.gate t1 each1)) (c.open.ensures.front _ t2 each2 le)
+
+pub returns-clause-front_settles : goal.returns-clause-front_settles
+returns-clause-front_settles g c t durable le =
+    let t1 = c.put.ensures.told t in
+    let t2 = c.finish.ensures.told t1 in
+    let each = all_fronts c.args.set c.args.gate (g.S.Site.disk c.args.site.now) durable in
+    let each1 = c.put.ensures.front_settles _ c.args.gate t each le (omega arith) in
+    let each2 = c.finish.ensures.front_settles _ c.args.gate t1 each1 in
+    c.open.ensures.front_settles _ t2 each2 le

@@ -1,6 +1,7 @@
-use Rattle.std.proofs.Common.{◌∙◌}
+use Rattle.std.proofs.Common.{◌∙◌, ap, arith}
 use Rattle.gated_write.proofs.Bodies.{on_ok, only_one}
 use Rattle.gated_write.proofs.Openings.{only_two, opened, settled1, settled2, synced, wrote}
+use Rattle.gated_write.proofs.Fronts.{sync_settles, both_keep, write_keeps, write_settles}
 use Rattle.gated_write.proofs.gate.open.Goals as goal
 
 pub returns-in_err-write_at-clause-only : goal.returns-in_err-write_at-clause-only
@@ -44,3 +45,34 @@ returns-clause-opened g c old body t ready =
     on_ok c.sync.result (c.sync.ensures.durable t1)
     (λ durable. opened old c.args.gate body ready.rest _ ready.stands ready.is c.args.set _ durable
     (c.sync.ensures.same t1 ∙ c.in_ok-write_at.ensures.wrote t))
+
+-- ---- the bytes in front of the gate
+
+pub returns-in_err-write_at-clause-front : goal.returns-in_err-write_at-clause-front
+returns-in_err-write_at-clause-front g c old t each le =
+    write_keeps c.args.set c.args.gate _ _ _ (g.met.S.Site.lawful c.args.site.now t)
+    (g.met.S.Site.lawful c.write_at.new.self (c.write_at.ensures.told t)) (c.write_at.ensures.crash t) old
+    c.args.gate each le (omega arith)
+
+pub returns-in_err-write_at-clause-front_settles : goal.returns-in_err-write_at-clause-front_settles
+returns-in_err-write_at-clause-front_settles g c old t each le =
+    write_settles c.args.set c.args.gate _ _ _ (g.met.S.Site.lawful c.args.site.now t)
+    (g.met.S.Site.lawful c.write_at.new.self (c.write_at.ensures.told t)) (c.write_at.ensures.crash t) old
+    c.args.gate each le (omega arith)
+
+pub returns-clause-front : goal.returns-clause-front
+returns-clause-front g c old t each le =
+    let t1 = c.write_at.ensures.told t in
+    both_keep c.args.set c.args.gate _ _ _ (g.met.S.Site.lawful c.args.site.now t)
+    (g.met.S.Site.lawful c.write_at.new.self t1) (c.write_at.ensures.crash t) old c.args.gate each le (omega arith) _
+    (c.sync.ensures.crash t1)
+
+pub returns-clause-front_settles : goal.returns-clause-front_settles
+returns-clause-front_settles g c old t each le =
+    let t1 = c.write_at.ensures.told t in
+    let law1 = g.met.S.Site.lawful c.write_at.new.self t1 in
+    let each1 =
+    write_settles c.args.set c.args.gate _ _ _ (g.met.S.Site.lawful c.args.site.now t) law1
+    (c.write_at.ensures.crash t) old c.args.gate each le (omega arith) in
+    sync_settles c.args.set _ _ law1 (g.met.S.Site.lawful c.sync.new.self (c.sync.ensures.told t1))
+    (c.sync.ensures.crash t1) old c.args.gate each1

@@ -3,7 +3,8 @@ use Rattle.std.proofs.lemmas.List.{length-append}
 use Rattle.fp_model.specs.LogText.{front_rest}
 use Rattle.fp_site.specs.Moments.{Through}
 use Rattle.fp_site.proofs.Frames.{only_joined}
-use Rattle.log_groups.specs.Images.{IsGated, IsGatedImage, IsOpened, as_front}
+use Rattle.gated_write.specs.Gates.{IsGatedImage}
+use Rattle.log_groups.specs.Images.{IsGated, IsOpened, as_front}
 use Rattle.log_groups.proofs.Shutting.{length-front, once_made, made_image, made_log}
 use Rattle.log_groups.proofs.FrontsKept.{new_length, new_text}
 use Rattle.log_groups.proofs.making.make.Goals as goal

@@ -3,7 +3,8 @@ use Rattle.fp_model.specs.LogText.{body_text}
 use Rattle.fp_model.specs.Recovery.{Holds}
 use Rattle.fp_site.specs.Moments.{Through}
 use Rattle.fp_site.proofs.Images.{durable_settles}
-use Rattle.log_groups.specs.Images.{HasFrontOf, IsFrontOf, IsLog, IsAtRest, IsWithOrWithout, IsBeforeOrAfter, IsGated, IsGatedImage, IsOpened, with_group, with_group_at}
+use Rattle.gated_write.specs.Gates.{IsGatedImage}
+use Rattle.log_groups.specs.Images.{HasFrontOf, IsFrontOf, IsLog, IsAtRest, IsWithOrWithout, IsBeforeOrAfter, IsGated, IsOpened, with_group, with_group_at}
 use Rattle.log_groups.specs.Log.{entries_in, part_text}
 use Rattle.log_groups.proofs.LogImages.{held_reaches}
 use Rattle.log_groups.proofs.Sealing.{gated_log, sealed_through, sealed_log, sealed_text, with_some, take_fewer, span, total, many, spells, gate_is, now_unsealed, now_buffered}
