@@ -29,7 +29,7 @@ not_before_itself a b = grind (arith, nat_tests)
 before_differs : (a b c d : ℕ) → before a b c d ≡ true → (a == c && b == d) ≡ false
 before_differs a b c d p = grind (arith, nat_tests)
 
-after_differs : (a b c d : ℕ) → before a b c d ≡ true → (c == a && d == b) ≡ false
+pub after_differs : (a b c d : ℕ) → before a b c d ≡ true → (c == a && d == b) ≡ false
 after_differs a b c d p = grind (arith, nat_tests)
 
 not_before_back : (a b c d : ℕ) → before a b c d ≡ true → before c d a b ≡ false
@@ -39,7 +39,7 @@ not_before_back a b c d p = grind (arith, nat_tests)
 same_or_after : (a b c d : ℕ) → before a b c d ≡ false → (a == c && b == d) ≡ false → before c d a b ≡ true
 same_or_after a b c d p q = grind (arith, nat_tests)
 
-same_numbers : (a b c d : ℕ) → (a == c && b == d) ≡ true → (a ≡ c) × (b ≡ d)
+pub same_numbers : (a b c d : ℕ) → (a == c && b == d) ≡ true → (a ≡ c) × (b ≡ d)
 same_numbers a b c d p = (grind (arith, nat_tests), grind (arith, nat_tests))
 
 same_itself : (a b : ℕ) → (a == a && b == b) ≡ true
@@ -61,7 +61,7 @@ abbrev if_it : ℕ → ℕ → Option HeldAnchor → Option HeldAnchor
 if_it dedb anchor None = None
 if_it dedb anchor (Some a) = if is_anchor_of dedb anchor a then Some a else None
 
-abbrev IsAfter : HeldAnchor → HeldAnchor → Type 0
+abbrev pub IsAfter : HeldAnchor → HeldAnchor → Type 0
 IsAfter a b = stands_before b.dedb b.anchor a ≡ true
 
 module _ (dedb anchor : ℕ) where

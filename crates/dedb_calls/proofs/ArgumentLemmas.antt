@@ -4,11 +4,15 @@ use Rattle.std.proofs.lemmas.Bool.Decides.{nat_tests}
 use Rattle.std.specs.Option.{option_map_or}
 use Rattle.fp_model.specs.declared.calls.Ssa.{Ssa}
 use Rattle.fp_model.specs.declared.definitions.SegDef.{SegDef}
+use Rattle.fp_model.specs.declared.definitions.DedbDef.{DedbDef}
+use Rattle.fp_model.specs.DedbCalls.{type_of_path}
+use Rattle.dli_tree.specs.Paths.{steps_of}
+use Rattle.dli_tree.specs.declared.path.Step.{Step as StepOf}
 use Rattle.fp_model.specs.Order.{line_within, parent_of}
 use Rattle.fp_model.specs.Texts.{same_text}
 
 -- without its last, and the last
-split : {X : Type 0} (xs : List X) (x : X) → 1 ≤ length xs → x ≡ slice_index_or xs (length xs - 1) x
+pub split : {X : Type 0} (xs : List X) (x : X) → 1 ≤ length xs → x ≡ slice_index_or xs (length xs - 1) x
     → xs ≡ take (length xs - 1) xs ++ x ∷ []
 split [] x some is = absurd (omega (arith, some))
 split (y ∷ []) x some is = ap (λ z. z ∷ []) (sym is)
@@ -133,3 +137,11 @@ module _ (types : List SegDef) (type levels : ℕ) (ssas : List Ssa) (last : Ssa
       line (suc n) more =
           ap (λ o. option_map_or (λ p. line_within n types p ++ type ∷ []) o (type ∷ [])) (sym up)
           ∙ ap (λ m. line_within m types parent ++ type ∷ []) (omega arith)
+
+-- ---- the end of a path
+
+pub ends_with : (def : DedbDef) (dedb : ℕ) (steps : List StepOf) (last : StepOf)
+    → type_of_path def dedb (steps_of (steps ++ last ∷ [])) ≡ last.segment
+ends_with def dedb [] last = refl
+ends_with def dedb (s ∷ []) last = refl
+ends_with def dedb (s ∷ t ∷ ts) last = ends_with def dedb (t ∷ ts) last

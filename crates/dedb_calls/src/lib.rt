@@ -5,6 +5,7 @@
 mod anchors;
 mod arguments;
 mod get;
+mod insert;
 mod place;
 mod randomizer;
 mod ready;

@@ -1,7 +1,9 @@
 //! Places, and where a transaction stands in a database.
+ghost use Rattle.fp_model.specs.DedbCalls.{anchor_at};
 ghost use Rattle.fp_model.specs.Workspace.{no_dedb_position};
+ghost use Rattle.fp_model.specs.declared.definitions.DedbDef.{DedbDef as DefOf};
 ghost use Rattle.std.specs.Option.{option_copied};
-ghost use Rattle.std.specs.Prelude.{◌≡◌, IfOk, None, if◌then◌else◌};
+ghost use Rattle.std.specs.Prelude.{◌≡◌, ◌<◌, ℕ, IfOk, None, if◌then◌else◌};
 
 use dli_tree::Path;
 use std::alloc::AllocError;
@@ -72,6 +74,28 @@ impl Position {
             self.place.as_ref()
         } else {
             None
+        }
+    }
+
+    /// The anchor of the place; 0 where there is none.
+    pub(crate) fn anchor(&self) -> u64
+        ensures exact { (def : DefOf) (dedb : ℕ) → result ≡ anchor_at def dedb self.now.place }
+        ensures within { result < 4294967296 }
+    {
+        match &self.place {
+            Some(place) => u64::from(place.anchor),
+            None => 0,
+        }
+    }
+
+    /// The anchor of the parent; 0 where there is none.
+    pub(crate) fn parent_anchor(&self) -> u64
+        ensures exact { (def : DefOf) (dedb : ℕ) → result ≡ anchor_at def dedb self.now.parent }
+        ensures within { result < 4294967296 }
+    {
+        match &self.parent {
+            Some(place) => u64::from(place.anchor),
+            None => 0,
         }
     }
 }

@@ -1,7 +1,11 @@
 //! What a transaction keeps of data entry databases until it commits.
-ghost use Rattle.dedb_calls.specs.Anchors.{Ascend, Sees, changes_in, held_at};
-ghost use Rattle.dedb_calls.specs.Progress.{FitsDedb, IsDedbWorkOf, position_in, with_position_at};
-ghost use Rattle.dli_tree.specs.InOrder.{any_ends};
+ghost use Rattle.dedb_calls.specs.Anchors.{Ascend, IsEdited, Sees, changes_in, held_at};
+ghost use Rattle.dedb_calls.specs.Progress.{IsDedbWorkOf, position_in, with_position_at};
+ghost use Rattle.dedb_calls.specs.declared.anchors.HeldAnchor.{HeldAnchor as HeldOf};
+ghost use Rattle.dli_tree.specs.Changes.{edit_of};
+ghost use Rattle.dli_tree.specs.InOrder.{AreTypes, any_ends, are_in_order};
+ghost use Rattle.dli_tree.specs.Paths.{steps_of};
+ghost use Rattle.fp_model.specs.Order.{edited};
 ghost use Rattle.fp_model.specs.Shape.{is_anchor};
 ghost use Rattle.fp_model.specs.State.{roots_at};
 ghost use Rattle.fp_model.specs.Workspace.{no_dedb_position};
@@ -10,9 +14,10 @@ ghost use Rattle.fp_model.specs.declared.definitions.DedbDef.{DedbDef as DefOf};
 ghost use Rattle.fp_model.specs.declared.definitions.Defs.{Defs as DefsOf};
 ghost use Rattle.std.specs.Prelude.{◌≡◌, ◌<◌, ◌==◌, ◌&&◌, [], IfOk, List as ListOf, None, OnErr, OnOk, Some, false, is_some, length, map, slice_get, true, unwrap_or, ℕ};
 
-use crate::anchors::{HeldAnchor, hold, into_changes};
+use crate::anchors::{HeldAnchor, edit, hold, into_changes};
 use crate::place::{Place, Position};
-use fp_model::{AnchorChange, Defs, List, Root, SeqInsert};
+use dli_tree::{Change, Step};
+use fp_model::{AnchorChange, DedbDef, Defs, List, Root, SeqInsert};
 use std::alloc::{AllocError, Global};
 use std::marker::Model;
 
@@ -120,8 +125,41 @@ impl DedbWork {
     }
 }
 
+// Anchors.
+impl DedbWork {
+    /// Edits the roots of an anchor that it holds, at the end of a path. It fails only for want of memory, for an insert
+    /// alone, and then nothing changes.
+    pub(crate) fn edit(
+        &mut self,
+        def: &DedbDef,
+        dedb: u8,
+        anchor: u32,
+        steps: &[Step],
+        change: Change,
+    ) -> Result<(), AllocError>
+        requires { AreTypes def.now.segments }
+        ensures ok { Ascend self.old.anchors → (a : HeldOf) → held_at self.old.anchors dedb anchor ≡ Some a
+            → are_in_order def.now.segments a.roots ≡ true
+            → OnOk result (IsEdited dedb anchor (edited def.now.segments a.roots (steps_of steps.now) (edit_of change))
+            self.old.anchors self.new.anchors) }
+        ensures positions { self.new.positions ≡ self.old.positions }
+        ensures inserts { self.new.inserts ≡ self.old.inserts }
+        ensures err { OnErr result (self.new ≡ self.old) }
+    {
+        let segments = def.segments.as_slice();
+        edit(segments, dedb, anchor, steps, change, &mut self.anchors)
+    }
+}
+
 // Positions.
 impl DedbWork {
+    /// The anchors that it holds.
+    pub(crate) fn held(&self) -> &[HeldAnchor]
+        ensures { result.now ≡ self.now.anchors }
+    {
+        self.anchors.as_slice()
+    }
+
     /// The position in a database.
     pub(crate) fn position(&self, dedb: u8) -> &Position
         requires { dedb < length self.now.positions }
@@ -161,12 +199,16 @@ impl DedbWork {
         position.held = hold;
     }
 
-    /// Has a parent in a database.
-    pub(crate) fn set_parent(&mut self, dedb: u8, parent: Place)
+    /// Is at a place below a parent, and holds it or not.
+    pub(crate) fn move_below(&mut self, dedb: u8, place: Place, parent: Place, hold: bool)
         requires { dedb < length self.old.positions }
-        ensures { self.new ≡ with_position_at dedb (record (position_in self.old dedb) { parent = Some parent })
-            self.old }
+        ensures { self.new
+            ≡ with_position_at dedb (record { place = Some place; parent = Some parent; held = hold }) self.old }
     {
-        self.positions[dedb as usize].parent = Some(parent);
+        self.positions[dedb as usize] = Position {
+            place: Some(place),
+            parent: Some(parent),
+            held: hold,
+        };
     }
 }
