@@ -15,7 +15,7 @@ use std::alloc::{AllocError, Global};
 
 /// What an edit does to the segment at the end of a path.
 #[derive(Drop)]
-pub(crate) enum Change {
+pub enum Change {
     /// With what a new segment's rows are made.
     Insert(Global, Bytes),
     Replace(Bytes),
@@ -295,7 +295,7 @@ fn edit_below(
 }
 
 /// Edits at the end of a path.
-pub(crate) fn edit_at(
+pub fn edit_at(
     segments: &[SegDef],
     steps: &[Step],
     change: Change,

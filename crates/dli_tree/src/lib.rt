@@ -14,6 +14,9 @@ mod standing;
 mod types;
 
 pub use calls::{delete, insert, replace};
+pub use edit::{Change, edit_at};
 pub use first::first_after;
 pub use laws::a_path_leads_where_a_segment_stands;
 pub use path::{Path, Step};
+pub use standing::leads_to;
+pub use types::{is_on_line, key_in, parent_of};

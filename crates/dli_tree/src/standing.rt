@@ -65,7 +65,7 @@ fn leads_below(segments: &[SegDef], parent: u8, steps: &[Step], rows: &[List<Nod
 }
 
 /// Whether a path leads to a segment of an anchor.
-pub(crate) fn leads_to(segments: &[SegDef], roots: &[Root], steps: &[Step]) -> bool
+pub fn leads_to(segments: &[SegDef], roots: &[Root], steps: &[Step]) -> bool
     requires { AreTypes segments.now }
     ensures { are_in_order segments.now roots.now ≡ true
         → result ≡ leads_to segments.now roots.now (steps_of steps.now) }

@@ -7,7 +7,7 @@ ghost use Rattle.dli_tree.specs.InOrder.{AreTypes};
 use fp_model::{SegDef, key_of};
 
 /// The key of a segment of a type.
-pub(crate) fn key_in<'a>(segments: &[SegDef], segment: u8, bytes: &'a [u8]) -> &'a [u8]
+pub fn key_in<'a>(segments: &[SegDef], segment: u8, bytes: &'a [u8]) -> &'a [u8]
     ensures { result.now ≡ key_in segments.now segment bytes.now }
 {
     let at = usize::from(segment);
@@ -19,7 +19,7 @@ pub(crate) fn key_in<'a>(segments: &[SegDef], segment: u8, bytes: &'a [u8]) -> &
 }
 
 /// The parent type of a type.
-pub(crate) fn parent_of(segments: &[SegDef], segment: u8) -> Option<u8>
+pub fn parent_of(segments: &[SegDef], segment: u8) -> Option<u8>
     ensures { result ≡ parent_of segments.now segment }
 {
     let at = usize::from(segment);
@@ -71,7 +71,7 @@ pub(crate) fn sequential_type(segments: &[SegDef]) -> Option<u8>
 }
 
 /// Whether a type stands on the line from the root down to another.
-pub(crate) fn is_on_line(segments: &[SegDef], segment: u8, last: u8) -> bool
+pub fn is_on_line(segments: &[SegDef], segment: u8, last: u8) -> bool
     ensures { result ≡ list_any (λ t. t == segment) (line_to segments.now last) }
 {
     let mut at = last;

@@ -1,0 +1,53 @@
+-- The anchors that a transaction holds, with their roots as it sees them: in order of database and anchor, each once.
+use Rattle.std.specs.Prelude.{◌≡◌, ⊤, ℕ, List, [], ◌∷◌, length, Bool, true, false, ◌&&◌, ◌||◌, ◌==◌, nat_lt, if◌then◌else◌, Option, Some, None, find, slice_get}
+use Rattle.std.specs.List.{AllByRecursion, AllWithin}
+use Rattle.fp_model.specs.declared.calls.AnchorChange.{AnchorChange}
+use Rattle.fp_model.specs.declared.database.Db.{Db}
+use Rattle.fp_model.specs.declared.database.Root.{Root}
+use Rattle.fp_model.specs.State.{roots_at}
+use Rattle.fp_model.specs.Workspace.{put_change}
+use Rattle.dedb_calls.specs.declared.anchors.HeldAnchor.{HeldAnchor}
+
+-- it stands before an anchor: by database, then by number
+abbrev pub stands_before : ℕ → ℕ → HeldAnchor → Bool
+stands_before dedb anchor a = nat_lt a.dedb dedb || a.dedb == dedb && nat_lt a.anchor anchor
+
+abbrev pub is_anchor_of : ℕ → ℕ → HeldAnchor → Bool
+is_anchor_of dedb anchor a = a.dedb == dedb && a.anchor == anchor
+
+-- each stands before all that follow
+abbrev pub Ascend : List HeldAnchor → Type 0
+Ascend [] = ⊤
+Ascend (a ∷ others) = AllByRecursion (λ b. stands_before b.dedb b.anchor a ≡ true) others × Ascend others
+
+-- what is held of an anchor
+abbrev pub held_at : List HeldAnchor → ℕ → ℕ → Option HeldAnchor
+held_at anchors dedb anchor = find (is_anchor_of dedb anchor) anchors
+
+abbrev pub change_of : HeldAnchor → AnchorChange
+change_of a = record { dedb = a.dedb; anchor = a.anchor; roots = a.roots }
+
+-- the anchors that were changed, in their order
+abbrev pub changes_in : List HeldAnchor → List AnchorChange
+changes_in [] = []
+changes_in (a ∷ others) = if a.is_changed then change_of a ∷ changes_in others else changes_in others
+
+-- The roots of those that weren't changed are those of the database.
+abbrev pub Sees : Db → List HeldAnchor → Type 0
+Sees db anchors =
+    (dedb anchor : ℕ) (a : HeldAnchor) → held_at anchors dedb anchor ≡ Some a → a.is_changed ≡ false
+    → roots_at db dedb anchor ≡ a.roots
+
+-- the anchor's place among them: those in front stand before it, and those from there on don't
+abbrev pub IsPlaceOf : ℕ → ℕ → List HeldAnchor → ℕ → Type 0
+IsPlaceOf dedb anchor anchors n =
+    AllWithin (λ a. stands_before dedb anchor a ≡ true) anchors 0 n
+    × AllWithin (λ a. stands_before dedb anchor a ≡ false) anchors n (length anchors)
+
+-- what an edit leaves: other roots at the anchor, which count as changed
+pub record IsEdited (dedb anchor : ℕ) (roots : List Root) (old new : List HeldAnchor) : Type 0 where
+  pub order : Ascend new
+  pub there : held_at new dedb anchor
+      ≡ Some (record { dedb = dedb; anchor = anchor; roots = roots; is_changed = true })
+  pub others : (d a : ℕ) → (d == dedb && a == anchor) ≡ false → held_at new d a ≡ held_at old d a
+  pub changes : changes_in new ≡ put_change (record { dedb = dedb; anchor = anchor; roots = roots }) (changes_in old)

@@ -1,0 +1,7 @@
+pub mod Anchors
+pub mod Arguments
+pub mod Calls
+pub mod Inserts
+pub mod Progress
+pub mod Readiness
+pub mod Searches

@@ -1,0 +1,16 @@
+//! The calls of one transaction to the data entry databases: what each is answered, which lock it needs first, and what
+//! the transaction keeps to itself until it commits.
+#![tactic(auto)]
+
+mod anchors;
+mod arguments;
+mod get;
+mod insert;
+mod place;
+mod randomizer;
+mod ready;
+mod search;
+mod work;
+
+pub use ready::DedbReady;
+pub use work::DedbWork;

@@ -1,0 +1,194 @@
+//! The search of a get over the anchors of a database.
+ghost use Rattle.ci_locks.specs.Table.{standing};
+ghost use Rattle.dedb_calls.specs.Anchors.{Ascend, held_at};
+ghost use Rattle.dedb_calls.specs.Progress.{Knows, roots_in};
+ghost use Rattle.dedb_calls.specs.Searches.{HasLooked, HasRoots, behind_here, numbers_in, within_here};
+ghost use Rattle.dedb_calls.specs.declared.anchors.HeldAnchor.{HeldAnchor as HeldOf};
+ghost use Rattle.dli_tree.specs.InOrder.{AreTypes, are_in_order};
+ghost use Rattle.dli_tree.specs.Paths.{occurrence_of, path_steps};
+ghost use Rattle.fp_model.specs.Answers.{serves};
+ghost use Rattle.fp_model.specs.Order.{first_admitted};
+ghost use Rattle.fp_model.specs.declared.calls.Resource.TheVariants.{Anchor};
+ghost use Rattle.std.specs.Option.{option_copied};
+ghost use Rattle.std.specs.Prelude.{◌≡◌, ◌≤◌, IfOk, MatchOption, Some, false, length, option_map, true, ℕ};
+
+use crate::anchors::{HeldAnchor, held_at};
+use crate::place::Place;
+use ci_locks::Locks;
+use dli_tree::{Path, first_after};
+use fp_model::{Bytes, List, Mode, Resource, Root, SegDef, Ssa};
+use std::alloc::{AllocError, Global};
+
+/// The anchors from one on up to another, which isn't among them.
+#[derive(Clone, Copy)]
+pub(crate) struct Stretch {
+    pub(crate) from: u64,
+    pub(crate) to: u64,
+}
+
+/// What a search looks for: segments behind a place and below another, where these are given, that the arguments admit.
+#[derive(Clone, Copy)]
+pub(crate) struct Quest<'a> {
+    pub(crate) behind: Option<&'a Place>,
+    pub(crate) within: Option<&'a Place>,
+    pub(crate) ssas: &'a List<Ssa>,
+}
+
+/// A segment that was found.
+#[derive(Drop)]
+pub(crate) struct Found {
+    pub(crate) anchor: u32,
+    pub(crate) path: Path,
+    pub(crate) bytes: Bytes,
+}
+
+/// What a search came to.
+#[derive(Drop)]
+pub(crate) enum Looked {
+    Found(Found),
+    Nothing,
+    /// It came to this anchor without its lock.
+    Unlocked(u32),
+}
+
+/// The locks of a region on the anchors of a database, as strong as a search needs them.
+#[derive(Clone, Copy)]
+pub(crate) struct Reach<'a> {
+    pub(crate) locks: &'a Locks,
+    pub(crate) region: u8,
+    pub(crate) dedb: u8,
+    pub(crate) mode: Mode,
+}
+
+impl Reach<'_> {
+    /// Whether the region holds an anchor so.
+    pub(crate) fn has(self, anchor: u32) -> bool
+        requires some { 1 ≤ self.region }
+        requires within { self.region ≤ length self.locks.now }
+
+        ensures { result ≡ serves ((standing self.entry.locks.now).holds self.entry.region (Anchor self.entry.dedb
+            anchor)) self.entry.mode }
+    {
+        let resource = Resource::Anchor {
+            dedb: self.dedb,
+            anchor,
+        };
+        match (self.locks.holds(self.region, &resource), self.mode) {
+            (Some(Mode::Exclusive), _) | (Some(Mode::Share), Mode::Share) => true,
+            (Some(Mode::Share), Mode::Exclusive) | (None, _) => false,
+        }
+    }
+
+    /// The roots of an anchor that the region holds so.
+    pub(crate) fn roots(self, held: &[HeldAnchor], anchor: u32) -> Option<&List<Root>>
+        requires some { 1 ≤ self.region }
+        requires within { self.region ≤ length self.locks.now }
+        requires order { Ascend held.now }
+        requires known { Knows ((standing self.locks.now).holds self.region) held.now }
+
+        ensures { MatchOption result
+            (serves ((standing self.entry.locks.now).holds self.entry.region (Anchor self.entry.dedb anchor))
+            self.entry.mode ≡ false)
+            (λ roots. HasRoots self.entry.dedb anchor held.now roots.now
+            (serves ((standing self.entry.locks.now).holds self.entry.region (Anchor self.entry.dedb anchor))
+            self.entry.mode)) }
+    {
+        if !self.has(anchor) {
+            return None;
+        }
+        match held_at(held, self.dedb, anchor) {
+            Some(one) => Some(&one.roots),
+            None => None,
+        }
+    }
+}
+
+/// What is left at an anchor of the place behind which all is looked for. None where nothing there is behind it.
+fn behind_here(behind: Option<&Place>, anchor: u32) -> Option<Option<&Path>>
+    ensures { option_map (λ path. path_steps (option_copied path)) result
+        ≡ behind_here (option_copied behind.entry) anchor }
+{
+    match behind {
+        None => Some(None),
+        Some(place) if place.anchor == anchor => Some(Some(&place.path)),
+        Some(place) if place.anchor < anchor => Some(None),
+        Some(_) => None,
+    }
+}
+
+/// What is left at an anchor of the parent below which all is looked for. None where nothing there is below it.
+fn within_here(within: Option<&Place>, anchor: u32) -> Option<Option<&Path>>
+    ensures { option_map (λ path. path_steps (option_copied path)) result
+        ≡ within_here (option_copied within.entry) anchor }
+{
+    match within {
+        None => Some(None),
+        Some(place) if place.anchor == anchor => Some(Some(&place.path)),
+        Some(_) => None,
+    }
+}
+
+/// The first segment of an anchor that is looked for. It fails only for want of memory.
+fn look(
+    alloc: Global,
+    segments: &List<SegDef>,
+    quest: Quest<'_>,
+    anchor: u32,
+    roots: &List<Root>,
+) -> Result<Option<(Path, Bytes)>, AllocError>
+    requires { AreTypes segments.now }
+    ensures { are_in_order segments.now roots.now ≡ true
+        → IfOk result (λ found. option_map occurrence_of found
+        ≡ first_admitted segments.now anchor roots.now (option_copied quest.entry.behind)
+        (option_copied quest.entry.within) quest.entry.ssas.now) }
+{
+    let Some(behind) = behind_here(quest.behind, anchor) else {
+        return Ok(None);
+    };
+    let Some(within) = within_here(quest.within, anchor) else {
+        return Ok(None);
+    };
+    first_after(alloc, roots, segments, behind, within, quest.ssas)
+}
+
+/// Searches anchors in turn, up to the first that the region doesn't hold or at which something is found. It fails only
+/// for want of memory.
+pub(crate) fn search(
+    alloc: Global,
+    segments: &List<SegDef>,
+    held: &[HeldAnchor],
+    reach: Reach<'_>,
+    quest: Quest<'_>,
+    stretch: Stretch,
+) -> Result<Looked, AllocError>
+    requires types { AreTypes segments.now }
+    requires some { 1 ≤ reach.region }
+    requires within { reach.region ≤ length reach.locks.now }
+    requires order { Ascend held.now }
+    requires known { Knows ((standing reach.locks.now).holds reach.region) held.now }
+    requires numbers { stretch.to ≤ 4294967296 }
+    requires shapes { (anchor : ℕ) (a : HeldOf) → held_at held.now reach.dedb anchor ≡ Some a
+        → are_in_order segments.now a.roots ≡ true }
+
+    ensures { IfOk result (λ looked. HasLooked looked
+        (λ anchor. serves ((standing reach.entry.locks.now).holds reach.entry.region (Anchor reach.entry.dedb anchor))
+        reach.entry.mode)
+        (λ anchor. first_admitted segments.now anchor (roots_in held.now reach.entry.dedb anchor)
+        (option_copied quest.entry.behind) (option_copied quest.entry.within) quest.entry.ssas.now)
+        (numbers_in stretch)) }
+{
+    for number in stretch.from..stretch.to {
+        let anchor = number as u32;
+        let Some(roots) = reach.roots(held, anchor) else {
+            return Ok(Looked::Unlocked(anchor));
+        };
+        if let Some((path, bytes)) = look(alloc, segments, quest, anchor, roots)? {
+            return Ok(Looked::Found(Found {
+                anchor,
+                path,
+                bytes,
+            }));
+        }
+    }
+    Ok(Looked::Nothing)
+}

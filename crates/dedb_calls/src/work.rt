@@ -1,0 +1,214 @@
+//! What a transaction keeps of data entry databases until it commits.
+ghost use Rattle.dedb_calls.specs.Anchors.{Ascend, IsEdited, Sees, changes_in, held_at};
+ghost use Rattle.dedb_calls.specs.Progress.{IsDedbWorkOf, position_in, with_position_at};
+ghost use Rattle.dedb_calls.specs.declared.anchors.HeldAnchor.{HeldAnchor as HeldOf};
+ghost use Rattle.dli_tree.specs.Changes.{edit_of};
+ghost use Rattle.dli_tree.specs.InOrder.{AreTypes, any_ends, are_in_order};
+ghost use Rattle.dli_tree.specs.Paths.{steps_of};
+ghost use Rattle.fp_model.specs.Order.{edited};
+ghost use Rattle.fp_model.specs.Shape.{is_anchor};
+ghost use Rattle.fp_model.specs.State.{roots_at};
+ghost use Rattle.fp_model.specs.Workspace.{no_dedb_position};
+ghost use Rattle.fp_model.specs.declared.database.Db.{Db as DbOf};
+ghost use Rattle.fp_model.specs.declared.definitions.DedbDef.{DedbDef as DefOf};
+ghost use Rattle.fp_model.specs.declared.definitions.Defs.{Defs as DefsOf};
+ghost use Rattle.std.specs.Prelude.{◌≡◌, ◌<◌, ◌==◌, ◌&&◌, [], IfOk, List as ListOf, None, OnErr, OnOk, Some, false, is_some, length, map, slice_get, true, unwrap_or, ℕ};
+
+use crate::anchors::{HeldAnchor, edit, hold, into_changes};
+use crate::place::{Place, Position};
+use dli_tree::{Change, Step};
+use fp_model::{AnchorChange, DedbDef, Defs, List, Root, SeqInsert};
+use std::alloc::{AllocError, Global};
+use std::marker::Model;
+
+/// What one transaction keeps of data entry databases until it commits: its positions, the anchors that it holds with
+/// their roots as it sees them, and its sequential inserts. Its region's locks stand elsewhere.
+#[derive(Debug, Drop)]
+pub struct DedbWork {
+    pub(crate) positions: Vec<Position>,
+    /// In order of database and anchor.
+    pub(crate) anchors: List<HeldAnchor>,
+    /// In call order.
+    pub(crate) inserts: Vec<SeqInsert>,
+}
+
+impl Model for DedbWork {
+    ghost use Rattle.std.specs.Coded.{codes};
+    ghost use Rattle.fp_model.specs.contracts.database.Node as node;
+    ghost use Rattle.dedb_calls.specs.Progress.{DedbProgress};
+
+    ghost Value = { DedbProgress };
+
+    ghost coded = { Prim.hlevel (codes, node.the_row.coded) };
+
+    ghost view = { λ w. record {
+      positions = w.positions.items;
+      anchors = w.anchors;
+      inserts = w.inserts.items;
+    } };
+}
+
+impl DedbWork {
+    /// As a transaction begins: no positions, no anchors, no inserts. It fails only for want of memory.
+    pub fn new(alloc: Global, defs: &Defs) -> Result<DedbWork, AllocError>
+        ensures of { IfOk result (IsDedbWorkOf defs.now.dedbs) }
+        ensures begins { IfOk result (λ work. work ≡ record {
+          positions = map (λ def. no_dedb_position) defs.now.dedbs;
+          anchors = [];
+          inserts = [];
+        }) }
+    {
+        let mut positions = Vec::new(alloc);
+        for _ in 0..defs.dedbs.len() {
+            positions.push(Position::new())?;
+        }
+        Ok(DedbWork {
+            positions,
+            anchors: List::new(alloc),
+            inserts: Vec::new(alloc),
+        })
+    }
+
+    /// Tells it of the first lock of an anchor that it gains, with the roots that stand there. Where it has roots of
+    /// the anchor already, as behind a lock that is raised, these stay. It fails only for want of memory, and then
+    /// nothing changes.
+    pub fn hold_anchor(
+        &mut self,
+        dedb: u8,
+        anchor: u32,
+        roots: List<Root>,
+    ) -> Result<(), AllocError>
+        requires { Ascend self.old.anchors }
+
+        // The transaction has these roots then, and of other anchors what it had.
+        ensures there { held_at self.old.anchors dedb anchor ≡ None
+            → OnOk result (held_at self.new.anchors dedb anchor
+            ≡ Some (record { dedb = dedb; anchor = anchor; roots = roots; is_changed = false })) }
+        ensures others { (d a : ℕ) → (d == dedb && a == anchor) ≡ false
+            → held_at self.new.anchors d a ≡ held_at self.old.anchors d a }
+        ensures again { is_some (held_at self.old.anchors dedb anchor) ≡ true → self.new ≡ self.old }
+        ensures sees { (db : DbOf) → roots_at db dedb anchor ≡ roots → Sees db self.old.anchors
+            → Sees db self.new.anchors }
+
+        // It stays a transaction's, where the roots have the anchor's shape.
+        ensures of { (defs : ListOf DefOf)
+            → ((def : DefOf) → slice_get defs dedb ≡ Some def → is_anchor def anchor any_ends roots ≡ true)
+            → IsDedbWorkOf defs self.old → IsDedbWorkOf defs self.new }
+
+        // All else stays.
+        ensures positions { self.new.positions ≡ self.old.positions }
+        ensures inserts { self.new.inserts ≡ self.old.inserts }
+        ensures changes { changes_in self.new.anchors ≡ changes_in self.old.anchors }
+        ensures err { OnErr result (self.new ≡ self.old) }
+    {
+        hold(&mut self.anchors, dedb, anchor, roots)
+    }
+
+    /// The sequential inserts, in call order.
+    pub fn inserts(&self) -> &[SeqInsert]
+        ensures { result.now ≡ self.now.inserts }
+    {
+        self.inserts.as_slice()
+    }
+
+    /// What the commit is to write: the anchors that were changed, ascending by database and number, and the sequential
+    /// inserts in call order. The roots are handed on, and not copied. It fails only for want of memory.
+    pub fn into_parts(
+        self,
+        alloc: Global,
+    ) -> Result<(List<AnchorChange>, List<SeqInsert>), AllocError>
+        ensures changes { IfOk result (λ parts. parts.0 ≡ changes_in self.anchors) }
+        ensures inserts { IfOk result (λ parts. parts.1 ≡ self.inserts) }
+    {
+        let changes = into_changes(alloc, self.anchors)?;
+        Ok((changes, List::from_vec(self.inserts)))
+    }
+}
+
+// Anchors.
+impl DedbWork {
+    /// Edits the roots of an anchor that it holds, at the end of a path. It fails only for want of memory, for an insert
+    /// alone, and then nothing changes.
+    pub(crate) fn edit(
+        &mut self,
+        def: &DedbDef,
+        dedb: u8,
+        anchor: u32,
+        steps: &[Step],
+        change: Change,
+    ) -> Result<(), AllocError>
+        requires { AreTypes def.now.segments }
+        ensures ok { Ascend self.old.anchors → (a : HeldOf) → held_at self.old.anchors dedb anchor ≡ Some a
+            → are_in_order def.now.segments a.roots ≡ true
+            → OnOk result (IsEdited dedb anchor (edited def.now.segments a.roots (steps_of steps.now) (edit_of change))
+            self.old.anchors self.new.anchors) }
+        ensures positions { self.new.positions ≡ self.old.positions }
+        ensures inserts { self.new.inserts ≡ self.old.inserts }
+        ensures err { OnErr result (self.new ≡ self.old) }
+    {
+        let segments = def.segments.as_slice();
+        edit(segments, dedb, anchor, steps, change, &mut self.anchors)
+    }
+}
+
+// Positions.
+impl DedbWork {
+    /// The anchors that it holds.
+    pub(crate) fn held(&self) -> &[HeldAnchor]
+        ensures { result.now ≡ self.now.anchors }
+    {
+        self.anchors.as_slice()
+    }
+
+    /// The position in a database.
+    pub(crate) fn position(&self, dedb: u8) -> &Position
+        requires { dedb < length self.now.positions }
+        ensures { result.now ≡ position_in self.now dedb }
+    {
+        &self.positions[dedb as usize]
+    }
+
+    /// Ends the hold in a database.
+    pub(crate) fn let_go(&mut self, dedb: u8)
+        requires { dedb < length self.old.positions }
+        ensures { self.new
+            ≡ with_position_at dedb (record (position_in self.old dedb) { held = false }) self.old }
+    {
+        self.positions[dedb as usize].held = false;
+    }
+
+    /// Ends the hold in a database, and forgets the parent.
+    pub(crate) fn forget_parent(&mut self, dedb: u8)
+        requires { dedb < length self.old.positions }
+        ensures { self.new ≡ with_position_at dedb
+            (record (position_in self.old dedb) { parent = None; held = false }) self.old }
+    {
+        let position = &mut self.positions[dedb as usize];
+        position.held = false;
+        position.parent = None;
+    }
+
+    /// Is at a place, and holds it or not; the parent stays.
+    pub(crate) fn move_to(&mut self, dedb: u8, place: Place, hold: bool)
+        requires { dedb < length self.old.positions }
+        ensures { self.new ≡ with_position_at dedb
+            (record (position_in self.old dedb) { place = Some place; held = hold }) self.old }
+    {
+        let position = &mut self.positions[dedb as usize];
+        position.place = Some(place);
+        position.held = hold;
+    }
+
+    /// Is at a place below a parent, and holds it or not.
+    pub(crate) fn move_below(&mut self, dedb: u8, place: Place, parent: Place, hold: bool)
+        requires { dedb < length self.old.positions }
+        ensures { self.new
+            ≡ with_position_at dedb (record { place = Some place; parent = Some parent; held = hold }) self.old }
+    {
+        self.positions[dedb as usize] = Position {
+            place: Some(place),
+            parent: Some(parent),
+            held: hold,
+        };
+    }
+}
