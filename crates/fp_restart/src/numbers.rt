@@ -1,16 +1,15 @@
 //! The numbers that the entries of a log used up.
 ghost use Rattle.balancing.specs.Numbered.{Numbered};
-ghost use Rattle.fp_model.specs.Lasts.{Last, format_behind, last_by, last_in, uses_number, with_last};
-ghost use Rattle.fp_model.specs.Messages.{message_of};
+ghost use Rattle.fp_model.specs.Lasts.{format_behind, last_by, uses_number, with_last};
 ghost use Rattle.fp_model.specs.ReplyLine.{line_text};
 ghost use Rattle.fp_restart.specs.Numbers.{as_last};
 ghost use Rattle.fp_restart.specs.Replayed.{HasNumbersOf};
 ghost use Rattle.std.specs.Option.{option_map_or};
-ghost use Rattle.std.specs.Prelude.{◌≡◌, ◌≤◌, [], ℕ, IfOk, List as ListOf, OnOk, option_map, unwrap_or};
+ghost use Rattle.std.specs.Prelude.{◌≡◌, [], IfOk, OnOk, option_map, unwrap_or};
 
 use balancing::Lasts;
-use fp_messages::{MessageFault, read_message, reply_text};
-use fp_model::{Bytes, Entry, Message, Name, Outcome};
+use fp_messages::{message_number_of, reply_text};
+use fp_model::{Bytes, Entry, Name, Outcome};
 use std::alloc::{AllocError, Global};
 
 /// What entries leave of numbers: the format in which the next line is read, and the last number of each terminal.
@@ -78,7 +77,7 @@ fn used_by(alloc: Global, format: u8, entry: &Entry) -> Result<Option<Used>, All
     if !uses_number(&entry.outcome) {
         return Ok(None);
     }
-    let Some((lterm, number)) = number_in(alloc, format, entry.line.as_slice())? else {
+    let Some((lterm, number)) = message_number_of(format, entry.line.as_slice()) else {
         return Ok(None);
     };
     let line = kept_line(alloc, entry)?;
@@ -98,29 +97,6 @@ fn uses_number(outcome: &Outcome) -> bool
         Outcome::Repeat(_) => false,
         _ => true,
     }
-}
-
-// The terminal and the number of a line that is a numbered message.
-fn number_in(alloc: Global, format: u8, line: &[u8]) -> Result<Option<(Name, u64)>, AllocError>
-    ensures { (kept : ListOf ℕ) → IfOk result (λ found. last_in kept (message_of format line.now)
-        ≡ option_map (λ of. record { lterm = of.0; number = of.1; line = kept }) found) }
-{
-    match read_message(alloc, format, line) {
-        Ok(message) => Ok(number_of(&message)),
-        Err(MessageFault::Memory) => Err(AllocError),
-        Err(MessageFault::NoTerminal) => Ok(None),
-        Err(MessageFault::NoTran) => Ok(None),
-        Err(MessageFault::TooLong) => Ok(None),
-        Err(MessageFault::NotAscii) => Ok(None),
-    }
-}
-
-// The terminal and the number of a message.
-fn number_of(message: &Message) -> Option<(Name, u64)>
-    ensures { result ≡ option_map (λ number. (message.now.lterm, number)) message.now.number }
-{
-    let number = message.number?;
-    Some((message.lterm, number))
 }
 
 // The reply line of an entry without its newline, no bytes where it has none.
