@@ -1,6 +1,6 @@
 #!/bin/sh
-# Kills the running program at random moments and sends the same numbered messages again until all are answered, a hundred
-# rounds: each deposit counts once. Not a part of the gate. It needs python3 and the built program:
+# Kills the running program at random moments and sends the same numbered messages again until all are answered, a
+# hundred rounds: each deposit counts once. Not a part of the gate. It needs python3 and the built program:
 #     sample/run.sh && scripts/send-again.sh [PROGRAM [TIMES]]
 set -e
 cd "$(dirname "$0")/.."

@@ -1,5 +1,5 @@
-"""Kills `PROGRAM run FOLDER` at random moments and sends the same numbered messages again, until all are answered: TIMES times.
-Each deposit of 1 must count once, whatever was killed and however often it was sent."""
+"""Kills `PROGRAM run FOLDER` at random moments and sends the same numbered messages again, until all are answered:
+TIMES times. Each deposit of 1 must count once, whatever was killed and however often it was sent."""
 import random
 import subprocess
 import sys
