@@ -1,6 +1,6 @@
 #!/bin/sh
-# Folders that are absent, foreign, damaged, cut off, locked or not to be written: what each command says of them, and its
-# status. Not a part of the gate. It needs python3 and the built program:
+# Folders that are absent, foreign, damaged, cut off, locked or not to be written: what each command says of them, and
+# its status. Not a part of the gate. It needs python3 and the built program:
 #     sample/run.sh && scripts/folders.sh [PROGRAM]
 set -e
 cd "$(dirname "$0")/.."

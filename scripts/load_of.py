@@ -1,6 +1,7 @@
 #!/usr/bin/env python3
-"""load_of.py N: draws the messages and the schedule of the number N, apart from the product, and prints how each begins and
-ends and how many bytes it has: the rows of `low_tests/src/loads.rt`. With a folder behind N it writes both there."""
+"""load_of.py N: draws the messages and the schedule of the number N, apart from the product, and prints how each
+begins and ends and how many bytes it has: the rows of `low_tests/src/loads.rt`. With a folder behind N it writes both
+there."""
 import sys
 
 
