@@ -2,12 +2,12 @@
 """run.py PROGRAM [--out FILE] [--svg FILE] [--work DIR] [--reps N] [--quick]
 
 Measures the built program beside SQLite and a plain Rust program of the same bytes and syncs, on this machine and in
-this run, and prints the tables of docs/BENCHMARKS.md. It needs rustc, gcc, libsqlite3's header and /usr/bin/time. Each figure
-is the best of N runs.
+this run, and prints the tables of docs/BENCHMARKS.md. It needs rustc, gcc, libsqlite3's header and /usr/bin/time. Each
+figure is the best of N runs.
 
-A load is 45 deposits, 45 withdrawals (of which 1 in 25 is refused) and 10 questions in 100; its schedule takes one message
-after another, or interleaves regions. The replies of all three are compared, and the log with that of the plain program,
-byte for byte.
+A load is 45 deposits, 45 withdrawals (of which 1 in 25 is refused) and 10 questions in 100; its schedule takes one
+message after another, or interleaves regions. The replies of all three are compared, and the log with that of the
+plain program, byte for byte.
 """
 import argparse
 import os
@@ -224,8 +224,8 @@ def restart(bench, count):
     plain = bench.best(lambda: Cost([f"{bench.room}/plain", "--read", f"{folder}/log"], f"{folder}/out"), folder)
     size = os.path.getsize(f"{folder}/log")
     shutil.rmtree(folder)
-    return [f"A restart over {count:,} entries ({size / 1e6:.0f} MB) takes {ours.seconds:.2f} s, and {plain.seconds:.2f} s",
-            f"in plain Rust that reads and parses them: {ours.seconds / plain.seconds:.2f} times as long. The program also",
+    return [f"A restart over {count:,} entries ({size / 1e6:.0f} MB) takes {ours.seconds:.2f} s, and reading and parsing",
+            f"them in plain Rust {plain.seconds:.2f} s: {ours.seconds / plain.seconds:.2f} times as long. The program also",
             "writes the log back in place, and syncs it."]
 
 

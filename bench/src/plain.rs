@@ -3,8 +3,8 @@
 //     plain DIR GROUP LOG REPLIES     runs DIR/messages.txt over DIR/accounts.txt, GROUP messages a group
 //     plain --read LOG                reads a log, and parses each entry into a struct: what a restart costs at least
 //
-// Messages are taken one at a time, in order: DEPOSIT account amount, WDRAW account amount, ASK account. A line may have
-// a number behind its terminal; the last one of each terminal is kept with its reply line.
+// Messages are taken one at a time, in order: DEPOSIT account amount, WDRAW account amount, ASK account. A line may
+// have a number behind its terminal; the last one of each terminal is kept with its reply line.
 use std::collections::HashMap;
 use std::fs::{self, File};
 use std::io::Write;
