@@ -224,9 +224,10 @@ def restart(bench, count):
     plain = bench.best(lambda: Cost([f"{bench.room}/plain", "--read", f"{folder}/log"], f"{folder}/out"), folder)
     size = os.path.getsize(f"{folder}/log")
     shutil.rmtree(folder)
-    return [f"A restart over {count:,} entries ({size / 1e6:.0f} MB) takes {ours.seconds:.2f} s, and reading and parsing",
-            f"them in plain Rust {plain.seconds:.2f} s: {ours.seconds / plain.seconds:.2f} times as long. The program also",
-            "writes the log back in place, and syncs it."]
+    ratio = ours.seconds / plain.seconds
+    return [f"A restart over {count:,} entries ({size / 1e6:.0f} MB) takes {ours.seconds:.2f} s, and reading and",
+            f"parsing them in plain Rust {plain.seconds:.2f} s: {ratio:.2f} times as long. The program also writes the",
+            "log back in place, and syncs it."]
 
 
 def plot(points):
