@@ -13,3 +13,5 @@ pub mod CauseLemmas
 pub mod AnsweredLemmas
 mod SentTexts
 pub mod OneRun
+mod OldLogs
+mod Migrations
