@@ -147,7 +147,7 @@ Made defs first h =
 pub made_more : (defs : Defs) (first : ℕ) (h : History) (e : Entry) (next : Db)
     → length h.past ≡ length h.entries → Made defs first h → IsMade defs h.now e next
     → Made defs first (with_entry e next h)
-made_more defs first h e next even made new place before after x from was is then =
+made_more defs first h e next even made new place before after x from was is next_is =
     let states : length (states_of h) ≡ length h.entries + 1 =
     length-append h.past (h.now ∷ []) ∙ (omega (arith, even)) in
     let within : place < length (h.entries ++ e ∷ []) = is_within (h.entries ++ e ∷ []) place x is in
@@ -157,14 +157,14 @@ made_more defs first h e next even made new place before after x from was is the
           made place before after x from
           (sym (get_front (states_of h) (next ∷ []) place (omega (arith, old, states))) ∙ was)
           (sym (get_front h.entries (e ∷ []) place old) ∙ is)
-          (sym (get_front (states_of h) (next ∷ []) (suc place) (omega (arith, old, states))) ∙ then)
+          (sym (get_front (states_of h) (next ∷ []) (suc place) (omega (arith, old, states))) ∙ next_is)
       | inr last ↦
           let entry : x ≡ e = some_same x e (sym is ∙ get_last h.entries e place last) in
           let first_state : before ≡ h.now = some_same before h.now
           (sym was ∙ get_front (states_of h) (next ∷ []) place (omega (arith, last, states)) ∙ get_last h.past h.now
           place (omega (arith, last, even))) in
           let last_state : after ≡ next = some_same after next
-          (sym then ∙ get_last (states_of h) next (suc place) (omega (arith, last, states))) in
+          (sym next_is ∙ get_last (states_of h) next (suc place) (omega (arith, last, states))) in
           subst (λ q. IsMade defs q x after) (sym first_state)
           (subst (λ q. IsMade defs h.now q after) (sym entry)
           (subst (λ q. IsMade defs h.now e q) (sym last_state) new))

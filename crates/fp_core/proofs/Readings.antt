@@ -1,6 +1,6 @@
 -- A line is read, and queued, held or refused.
 use Rattle.std.proofs.Common.{◌≡◌, refl, sym, ◌∙◌, ap, subst, arith, ℕ, ◌+◌, ◌-◌, ◌≤◌, List, [], ◌∷◌, ◌++◌, length, map, drop, Option, Some, None, slice_get, slice_set, Bool, true, false, ◌||◌, unwrap_or}
-use Rattle.std.specs.Prelude.{IfSome, if◌then◌else◌}
+use Rattle.std.specs.Prelude.{IfSome, IsSome, if◌then◌else◌}
 use Rattle.std.specs.List.{AllByRecursion, list_any}
 use Rattle.std.specs.Option.{option_map_or}
 use Rattle.std.specs.VecDeque.{deque_capacity}
@@ -17,11 +17,13 @@ use Rattle.fp_model.specs.declared.log.Entry.{Entry}
 use Rattle.fp_model.specs.declared.log.Outcome.{Outcome}
 use Rattle.fp_model.specs.declared.log.Outcome.TheVariants as outcome
 use Rattle.fp_model.specs.declared.name.Name.{Name}
+use Rattle.fp_model.specs.declared.scripts.Script.{Script}
+use Rattle.fp_model.specs.Asking.{script_of}
 use Rattle.fp_model.specs.Exits.{group_of}
 use Rattle.fp_model.specs.History.{Request, Accepts, Refuses}
 use Rattle.fp_model.specs.Lasts.{format_behind, last_by}
 use Rattle.fp_model.specs.Machine.{Machine, entry_here, is_among, queued_at, same_name, terminal_in, with_line, with_message, with_refusal, with_request_of, next_line, taken_in}
-use Rattle.fp_model.specs.Messages.{terminal_of}
+use Rattle.fp_model.specs.Messages.{message_of, terminal_of}
 use Rattle.fp_model.specs.Product.{groups_defined, request_of}
 use Rattle.fp_model.specs.Rules.{Rules}
 use Rattle.fp_model.specs.Turns.{NoFault}
@@ -29,12 +31,13 @@ use Rattle.fp_source.specs.Lines.{lines_ahead, lines_given}
 use Rattle.fp_source.specs.declared.lines.Lines.{Lines}
 use Rattle.log_groups.specs.Log.{LogState}
 use Rattle.serial_order.specs.Laws.{IsRefusal}
+use Rattle.fp_core.specs.declared.asking.Demand.TheVariants as demand
 use Rattle.fp_core.specs.declared.did.Did.{Did}
 use Rattle.fp_core.specs.declared.did.Did.TheVariants as did
 use Rattle.fp_core.specs.declared.engine.Engine.{Engine}
 use Rattle.fp_core.specs.declared.engine.Owed.{Owed}
 use Rattle.fp_core.specs.Numbering.{with_used}
-use Rattle.fp_core.specs.Reading.{refused_line}
+use Rattle.fp_core.specs.Reading.{IsDemandIn, refused_line}
 use Rattle.fp_core.specs.Relation.{IsShort, IsTakeable, StandsFor, first_place, owed_of, rules_in}
 use Rattle.fp_core.specs.Standing.{Stepped, SteppedBy}
 use Rattle.fp_core.specs.Turning.{Turned, did_for, did_with}
@@ -103,6 +106,20 @@ all_queued P place message queues all new = by (slice_get queues place) refl
     by (Some messages) is =
         all_put (AllByRecursion P) queues place (messages ++ message ∷ []) all
         (all_more P messages message (each_has (AllByRecursion P) queues place messages all is) new)
+
+-- a message that a line asks for can be taken
+pub takeable_in : (format : ℕ) (scripts : List Script) (line : List ℕ) (message : Message) → IsShort line
+    → IsDemandIn format scripts line (demand.Message message) → IsTakeable format scripts message
+takeable_in format scripts line message short is = by (script_of scripts message.tran) refl is.3
+  where
+    by : (o : Option Script) → script_of scripts message.tran ≡ o → IsSome o → IsTakeable format scripts message
+    by None none some = absurd some
+    by (Some script) named some = record {
+      short = subst IsShort (sym is.2) short;
+      read = ap (message_of format) is.2 ∙ is.0;
+      script = script;
+      named = named;
+    }
 
 -- such a refusal doesn't change the format
 line_refusal_format : (format : ℕ) (o : Outcome) → IsRefusal o → format_behind format o ≡ format

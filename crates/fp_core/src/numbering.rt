@@ -1,7 +1,8 @@
 //! Message numbers: of each terminal the last one is kept, and the reply line that it got.
 ghost use Rattle.fp_core.specs.Numbering.{last_kept, last_told, with_used};
-ghost use Rattle.fp_model.specs.Lasts.{Last};
-ghost use Rattle.std.specs.Prelude.{◌≡◌, ◌≤◌, ◌+◌, IfOk, option_map};
+ghost use Rattle.fp_model.specs.Messages.{terminal_of};
+ghost use Rattle.fp_model.specs.ReplyLine.{addressee, line_for, verdict};
+ghost use Rattle.std.specs.Prelude.{◌≡◌, ◌≤◌, ◌+◌, [], IfOk, option_map, unwrap_or};
 
 use balancing::Lasts;
 use fp_messages::reply_text;
@@ -16,6 +17,22 @@ pub(crate) struct Kept {
     pub(crate) line: Bytes,
 }
 
+// The reply line of a line that is answered so, without its newline; no bytes where nobody is told.
+fn line_told(
+    alloc: Global,
+    line: &[u8],
+    outcome: &Outcome,
+    reply: &[u8],
+) -> Result<Bytes, AllocError>
+    ensures { IfOk result (λ told. told
+        ≡ unwrap_or (line_for (addressee (terminal_of line.now)) (verdict outcome.now reply.now)) []) }
+{
+    match reply_text(alloc, line, outcome, reply)? {
+        Some(text) => Ok(text),
+        None => Ok(Bytes::new(alloc)),
+    }
+}
+
 /// What is kept of a message that is answered so, where it has a number. It fails only for want of memory.
 pub(crate) fn kept_of(
     alloc: Global,
@@ -28,10 +45,7 @@ pub(crate) fn kept_of(
     let Some(number) = message.number else {
         return Ok(None);
     };
-    let line = match reply_text(alloc, message.line.as_slice(), outcome, reply)? {
-        Some(line) => line,
-        None => Bytes::new(alloc),
-    };
+    let line = line_told(alloc, message.line.as_slice(), outcome, reply)?;
     Ok(Some(Kept {
         lterm: message.lterm,
         number,

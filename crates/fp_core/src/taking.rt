@@ -1,5 +1,6 @@
 //! An idle region takes the oldest message of its group.
 ghost use Rattle.fp_core.specs.Numbering.{last_kept, last_told};
+ghost use Rattle.fp_core.specs.declared.numbering.Kept.{Kept as KeptOf};
 ghost use Rattle.fp_core.specs.Relation.{IsShort, IsTransaction, StandsFor, rules_in};
 ghost use Rattle.fp_core.specs.Turning.{Turned};
 ghost use Rattle.fp_core.specs.declared.engine.Region.TheVariants as regions;
@@ -10,7 +11,7 @@ ghost use Rattle.fp_model.specs.Serial.{begun};
 ghost use Rattle.fp_model.specs.declared.events.Event.TheVariants as events;
 ghost use Rattle.fp_model.specs.declared.log.Outcome.TheVariants.{Memory};
 ghost use Rattle.fp_model.specs.declared.scripts.Script.{Script};
-ghost use Rattle.std.specs.Prelude.{◌≡◌, ◌≤◌, ◌-◌, ◌+◌, ℕ, [], IfOk, None, OnErr, OnOk, Some, length, option_map, slice_get};
+ghost use Rattle.std.specs.Prelude.{◌≡◌, ◌≤◌, ◌-◌, ◌+◌, ℕ, [], IfOk, None, OnErr, OnOk, Option as OptionOf, Some, length, option_map, slice_get};
 ghost use Rattle.std.specs.VecDeque.{deque_capacity};
 ghost use Rattle.sync_point.specs.Refusals.{refusal_room};
 
@@ -48,7 +49,7 @@ pub(crate) fn start(
     requires no_dedbs { defs.now.dedbs ≡ [] }
     requires named { (script : Script) × (script_of scripts.now.scripts message.now.tran ≡ Some script) }
     requires short { IsShort message.now.line }
-    ensures { (from tries : ℕ) (refusal : Option Kept)
+    ensures { (from tries : ℕ) (refusal : OptionOf KeptOf)
         → option_map last_kept refusal ≡ last_told message.now Memory []
         → IfOk result (λ made. IsTransaction defs.now scripts.now.scripts
         (record {

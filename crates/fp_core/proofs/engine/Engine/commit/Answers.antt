@@ -101,7 +101,8 @@ returns-in-Ok-clause-turned c m t h =
     let used : lasts.terminals ≡ with_used (last_by engine.format made) engine.lasts.terminals =
     uses_last engine m region t u made engine.lasts.terminals lasts.terminals refl refl
     (c.keep.ensures.terminals ∙ ap (λ (o : Option Last). with_used o engine.lasts.terminals)
-    (c.in_ok-kept.ensures ∙ ap (λ (x : Message). last_told x outcome.Done reply) is.message)) in
+    (c.in_ok-kept.ensures ∙ ap (λ (text : List ℕ). last_told active.message outcome.Done text) c.as_slice.ensures
+    ∙ ap (λ (x : Message). last_told x outcome.Done reply) is.message)) in
     let items : with_items engine.defs.now.msdbs m.history.now.msdbs entry.items ≡ store.msdbs =
     ap (λ (msdbs : List Msdb). with_items engine.defs.now.msdbs msdbs entry.items) w.stands.msdbs ∙ sym
     (e.msdbs engine.defs.now.msdbs handed.able) in
@@ -165,8 +166,8 @@ returns-in-Err-Verify-clause-err c m t w =
     c.in_ok-draft.draft w c.active_in-active.ensures.there c.in_ok-draft.ensures
     c.commit.new.msdbs c.commit.new.log (e.of engine.defs.now.msdbs) e.segments e.sealed e.waiting e.spare)
 
-pub returns-in-Err-Memory-clause-err : goal.returns-in-Err-Memory-clause-err
-returns-in-Err-Memory-clause-err c m t w =
+pub returns-clause-err : goal.returns-clause-err
+returns-clause-err c m t w =
     let engine = c.args.self.now in
     let e = c.in-Err-Memory.ensures in
     may_end (record engine { store = c.commit.new.msdbs; log = c.commit.new.log }) m c.args.region t

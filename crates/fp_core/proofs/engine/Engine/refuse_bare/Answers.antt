@@ -29,10 +29,10 @@ returns-clause-refused c m t u =
     let seen = region_is engine m c.args.region t (regions.Active c.active_in.result.now) u c.active_in.ensures.there in
     let seen_line : length c.active_in.result.now.message.line ≡ length t.message.line =
     ap (λ message. length message.line) seen.message in
-    let entry = c.bare_parts-entry.ensures.entry ∙ bare_is engine.defs.now engine.scripts.now.scripts c.in-Active.active
+    let entry = c.bare_parts.ensures.entry ∙ bare_is engine.defs.now engine.scripts.now.scripts c.in-Active.active
     t
     outcome.Memory m.history.now is in
-    let long : length (entry_text c.bare_parts-entry.result.0) ≡ c.refusal_room.result =
+    let long : length (entry_text c.bare_parts.result.0) ≡ c.refusal_room.result =
     ap (λ (x : Entry). length (entry_text x)) entry
     ∙ subst (λ text. length (entry_text (bare_entry t.from outcome.Memory text)) ≡ c.refusal_room.result)
     (ap (λ message. message.line) seen.message)
@@ -44,15 +44,15 @@ returns-clause-refused c m t u =
     let owed = c.append_owed.new.owed in
     let lasts = c.keep.new.lasts in
     let room : ℕ = engine.room - c.refusal_room.result in
-    let unsealed : log.unsealed ≡ engine.log.unsealed ++ c.bare_parts-entry.result.0 ∷ [] =
+    let unsealed : log.unsealed ≡ engine.log.unsealed ++ c.bare_parts.result.0 ∷ [] =
     surely _ c.append_owed.result ok c.append_owed.ensures.unsealed in
-    let owes : owed.items ≡ engine.owed.items ++ owed_of c.bare_parts-entry.result.0 ∷ [] =
+    let owes : owed.items ≡ engine.owed.items ++ owed_of c.bare_parts.result.0 ∷ [] =
     surely _ c.append_owed.result ok c.append_owed.ensures.owed in
     let spare : room ≤ log.spare = surely _ c.append_owed.result ok c.append_owed.ensures.room in
     let e : Entry = entry_of t (refused_as outcome.Memory m.history.now) [] [] in
     let used : lasts.terminals ≡ with_used (last_told t.message outcome.Memory []) engine.lasts.terminals =
     c.keep.ensures.terminals ∙ ap (λ (o : Option Last). with_used o engine.lasts.terminals)
-    (ap (λ (k : Option Kept). option_map last_kept k) c.bare_parts-entry.ensures.kept ∙ is.refusal) in
+    (ap (λ (k : Option Kept). option_map last_kept k) c.bare_parts.ensures.kept ∙ is.refusal) in
     let slots : deque_capacity engine.owed ≤ deque_capacity owed = omega (arith, c.append_owed.ensures.slots) in
     let less : room + refusal_room t.message.line ≡ engine.room =
     omega (arith, most, seen_line, c.refusal_room.ensures.room) in

@@ -9,11 +9,20 @@ use Rattle.fp_core.proofs.Readings.{refused_stands}
 use Rattle.fp_core.proofs.Steps.{regions_long}
 use Rattle.fp_core.proofs.engine.Engine.refuse_line.Goals as goal
 
-pub overflow_add-len : goal.overflow_add-len
-overflow_add-len c =
+pub overflow_add-slots : goal.overflow_add-slots
+overflow_add-slots c =
     omega (
       arith,
-      c.len.ensures,
+      c.len-slots.ensures,
+      regions_long c.args.self.now c.requires.stands.0 c.requires.stands.1,
+      c.requires.stands.1.setup.defined.regions.1,
+    )
+
+pub overflow_cast-slots : goal.overflow_cast-slots
+overflow_cast-slots c =
+    omega (
+      arith,
+      c.len-slots.ensures,
       regions_long c.args.self.now c.requires.stands.0 c.requires.stands.1,
       c.requires.stands.1.setup.defined.regions.1,
     )
@@ -34,9 +43,9 @@ returns-clause-refused c m s =
     c.mark.ensures.queues c.in_ok-mark.ensures.ok c.append_owed.ensures.sealed
     c.in_ok-append_owed.ensures.unsealed
     (c.in_ok-append_owed.ensures.owed ∙ ap (λ (xs : List Owed). xs ++ owed_of e ∷ []) c.reserve.ensures.items)
-    (omega (arith, c.in_ok-reserve.ensures.ok, c.len.ensures, c.append_owed.ensures.slots))
+    (omega (arith, c.in_ok-reserve.ensures.ok, c.len-slots.ensures, c.append_owed.ensures.slots))
     c.in_ok-append_owed.ensures.room
     (c.keep.ensures.terminals
     ∙ ap (λ (lasts : List Last). with_used (option_map last_kept c.args.kept) lasts) c.reserve-2.ensures.terminals
     ∙ ap (λ (o : Option Last). with_used o c.args.self.now.lasts.terminals) c.requires.kept)
-    (omega (arith, c.in_ok-reserve-2.ensures.ok, c.len.ensures, c.keep.ensures.spare))
+    (omega (arith, c.in_ok-reserve-2.ensures.ok, c.len-slots.ensures, c.keep.ensures.spare))
