@@ -15,3 +15,4 @@ mod SentTexts
 pub mod OneRun
 mod OldLogs
 mod Migrations
+mod Restarted

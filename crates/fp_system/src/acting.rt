@@ -25,7 +25,7 @@ ghost use Rattle.site_texts.specs.Texts.{ReadsOnce};
 ghost use Rattle.std.specs.List.{AllByRecursion};
 ghost use Rattle.fp_model.specs.declared.log.Entry.{Entry as EntryOf};
 ghost use Rattle.fp_restart.specs.Replayed.{AreOfSome};
-ghost use Rattle.std.specs.Prelude.{◌≡◌, ◌⊎◌, ◌≤◌, ◌∷◌, ◌++◌, ℕ, [], List as ListOf, None, Some, true};
+ghost use Rattle.std.specs.Prelude.{◌≡◌, ◌⊎◌, ◌≤◌, ◌∷◌, ◌++◌, ℕ, [], List as ListOf, None, Some, false, true};
 
 use crate::Status;
 use crate::parts::{Setup, Task};
@@ -42,6 +42,14 @@ use std::alloc::Global;
 
 // The format of a log in which no message has a number.
 const OLD_FORMAT: u8 = 1;
+
+// Whether no message of this log's next line has a number.
+fn is_old(log: &Log) -> bool
+    ensures old { result ≡ true → log.now.format ≡ 1 }
+    ensures new { result ≡ false → ¬ (log.now.format ≡ 1) }
+{
+    log.format() == OLD_FORMAT
+}
 
 // The status of a fault of storage.
 fn fault_status(fault: RestartFault) -> Status
@@ -226,10 +234,10 @@ pub(crate) fn run_on<S: Source, T: Site>(
         Ok(parts) => parts,
         Err(fault) => return fault_status(fault),
     };
-    let format = log.format();
-    if format == OLD_FORMAT {
+    if is_old(&log) {
         return Status::OldFormat;
     }
+    let format = log.format();
     let started = Started {
         msdbs,
         log,
@@ -308,7 +316,7 @@ pub(crate) fn migrate_on<T: Site>(alloc: Global, site: &mut T, setup: &Setup) ->
         Ok(parts) => parts,
         Err(fault) => return fault_status(fault),
     };
-    if log.format() != OLD_FORMAT {
+    if !is_old(&log) {
         return Status::Done;
     }
     seal_format(alloc, site, &mut log)
