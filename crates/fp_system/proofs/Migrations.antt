@@ -12,7 +12,7 @@ use Rattle.fp_model.specs.Groups.{entries_of}
 use Rattle.fp_model.specs.History.{History, beginning, place_of, with_entry}
 use Rattle.fp_model.specs.Items.{AreFit, items_of, with_items}
 use Rattle.fp_model.specs.Lasts.{format_at}
-use Rattle.fp_model.specs.LogText.{Front, first_gate}
+use Rattle.fp_model.specs.LogText.{FitsEntry, Front, KeepsRules, first_gate}
 use Rattle.fp_model.specs.Product.{rules_of}
 use Rattle.fp_model.specs.Rules.{Rules}
 use Rattle.fp_model.specs.SerialHistory.{Comes, LeadsOn}
@@ -41,6 +41,7 @@ use Rattle.fp_system.specs.Table.{IsOld, IsSpared}
 use Rattle.fp_system.specs.declared.status.Status.{Status}
 use Rattle.fp_system.specs.declared.status.Status.TheVariants.{Done}
 use Rattle.fp_system.proofs.Begins.{front_kept}
+use Rattle.fp_system.proofs.Went.{unchanged_same}
 
 -- ---- a log with one entry more
 
@@ -113,7 +114,29 @@ module _ (defs : Defs) (scripts : List Script) (front : Front) (log : List ℕ) 
         made = ap (with_items defs.msdbs (start defs).msdbs) items ∙ sound.made;
       }
 
+-- it fits its place in the log
+pub format_keeps : (place : ℕ) → KeepsRules (format_entry place)
+format_keeps place = record { in_order = tt; parts = (refl, refl) }
+
+pub format_fits : (place : ℕ) → FitsEntry (format_entry place)
+format_fits place = record {
+  outcome = tt;
+  line = omega arith;
+  reply = omega arith;
+  notes = omega arith;
+  items = omega arith;
+  each_item = tt;
+}
+
 -- ---- what sealing it leaves
+
+-- a log at rest that stays
+pub rests_before : (front : Front) (groups : List (List Entry)) (gate : ℕ) (more : List Entry) (disk : Disk)
+    → IsLawful disk → IsAtRest disk front groups gate
+    → Through disk disk (IsBeforeOrAfter front groups gate more)
+rests_before front groups gate more disk law rest =
+    started (IsBeforeOrAfter front groups gate more) disk law
+    (λ s left. inl (subst (λ (l : List ℕ). HasLog front l groups gate) (sym (rest.durable s left)) rest.log))
 
 -- What the call that seals it says, of a log at rest.
 pub record Seals (front : Front) (groups : List (List Entry)) (gate : ℕ) (entry : Entry) (answer : Status)
@@ -241,3 +264,10 @@ migrated_not job answer h h1 same goes = record {
   keeps = λ format groups gate log. weaker (Syncs h 0) (KeepsFront gate h) h h1 (λ s d. inl d) same.crash;
   goes = goes;
 }
+
+-- where no site was looked at
+pub unmigrated : (job : Job) (answer : Status) (h : Disk) → IsLawful h → ¬ (answer ≡ Done) → Migrated job answer h h
+unmigrated job answer h law undone =
+    let same = unchanged_same h law in
+    migrated_not job answer h h same (λ format earlier safe first.
+    moved_not job format earlier answer h h undone refl (λ image settles. settles) same.crash)

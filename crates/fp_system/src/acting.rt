@@ -25,7 +25,7 @@ ghost use Rattle.site_texts.specs.Texts.{ReadsOnce};
 ghost use Rattle.std.specs.List.{AllByRecursion};
 ghost use Rattle.fp_model.specs.declared.log.Entry.{Entry as EntryOf};
 ghost use Rattle.fp_restart.specs.Replayed.{AreOfSome};
-ghost use Rattle.std.specs.Prelude.{◌≡◌, ◌⊎◌, ◌≤◌, ◌∷◌, ◌++◌, ℕ, [], List as ListOf, None, Some, false, true};
+ghost use Rattle.std.specs.Prelude.{◌≡◌, ◌⊎◌, ◌≤◌, ◌∷◌, ◌++◌, ℕ, [], IfErr, List as ListOf, None, OnOk, Some, false, true};
 
 use crate::Status;
 use crate::parts::{Setup, Task};
@@ -38,7 +38,7 @@ use fp_source::Source;
 use log_groups::Log;
 use schedule_runs::run_schedule;
 use site_texts::{log, show};
-use std::alloc::Global;
+use std::alloc::{AllocError, Global};
 
 // The format of a log in which no message has a number.
 const OLD_FORMAT: u8 = 1;
@@ -261,14 +261,26 @@ fn format_entry(alloc: Global, place: u64) -> Entry
     }
 }
 
-// Appends and seals that entry.
-fn seal_format<T: Site>(alloc: Global, site: &mut T, log: &mut Log) -> Status
-    requires unsealed { log.old.unsealed ≡ [] }
-    ensures outcome { result ≡ status.Done ⊎ ((result ≡ status.SiteFault) ⊎ (result ≡ status.NoMemory)) }
-    ensures cause { IsCausedBySite (T.faults site.old) (T.faults site.new) result }
+// Appends that entry to a log in which no entry waits.
+fn append_format(alloc: Global, log: &mut Log) -> Result<(), AllocError>
+    requires { log.old.unsealed ≡ [] }
+    ensures entry { OnOk result (log.new.unsealed ≡ format_entry log.old.sealed ∷ []) }
+    ensures gate { log.new.gate ≡ log.old.gate }
+{
+    let entry = format_entry(alloc, log.count());
+    log.append(&entry)?;
+    Ok(())
+}
+
+// Appends and seals it.
+fn seal_format<T: Site>(alloc: Global, site: &mut T, log: &mut Log) -> Result<(), Status>
+    requires { log.old.unsealed ≡ [] }
+    ensures refused { IfErr result (λ answer. (answer ≡ status.SiteFault) ⊎ (answer ≡ status.NoMemory)) }
+    ensures cause { IfErr result (IsCausedBySite (T.faults site.old) (T.faults site.new)) }
+    ensures stayed { OnOk result (T.faults site.new ≡ T.faults site.old) }
 
     // Where the log is at rest a crash leaves its groups, or these and the one with that entry, whole; and so does each
-    // image that a further sync may make. With Done the one is there for good.
+    // image that a further sync may make. At Ok the one is there for good.
     ensures crash { (front : Front) (groups : ListOf (ListOf EntryOf)) → T.told site.old
         → IsAtRest (T.disk site.old) front groups log.old.gate → Through (T.disk site.old) (T.disk site.new)
         (IsBeforeOrAfter front groups log.old.gate (format_entry log.old.sealed ∷ [])) }
@@ -276,20 +288,17 @@ fn seal_format<T: Site>(alloc: Global, site: &mut T, log: &mut Log) -> Status
         → IsAtRest (T.disk site.old) front groups log.old.gate → Settles (T.disk site.new) 0 image
         → IsWithOrWithout front groups log.old.gate (format_entry log.old.sealed ∷ []) image }
     ensures durable { (front : Front) (groups : ListOf (ListOf EntryOf)) → T.told site.old
-        → IsAtRest (T.disk site.old) front groups log.old.gate → result ≡ status.Done →
-        IsAtRest (T.disk site.new) front (groups ++ (format_entry log.old.sealed ∷ []) ∷ []) log.new.gate }
+        → IsAtRest (T.disk site.old) front groups log.old.gate → OnOk result
+        (IsAtRest (T.disk site.new) front (groups ++ (format_entry log.old.sealed ∷ []) ∷ []) log.new.gate) }
     ensures only { T.told site.old → OnlyOn 0 (T.disk site.old) (T.disk site.new) }
     ensures reads { ReadsNothing (T.tells_reads site.old) (T.tells_reads site.new)
         (T.bytes_read site.old) (T.bytes_read site.new) }
     ensures site { IsContinued T.told T.faults T.holds T.keeps site.old site.new }
 {
-    let entry = format_entry(alloc, log.count());
-    if log.append(&entry).is_err() {
-        return Status::NoMemory;
-    }
+    append_format(alloc, log)?;
     match log.seal(site, 1) {
-        Ok(_) => Status::Done,
-        Err(_) => Status::SiteFault,
+        Ok(_) => Ok(()),
+        Err(_) => Err(Status::SiteFault),
     }
 }
 
@@ -319,5 +328,8 @@ pub(crate) fn migrate_on<T: Site>(alloc: Global, site: &mut T, setup: &Setup) ->
     if !is_old(&log) {
         return Status::Done;
     }
-    seal_format(alloc, site, &mut log)
+    match seal_format(alloc, site, &mut log) {
+        Ok(()) => Status::Done,
+        Err(fault) => fault,
+    }
 }
