@@ -323,7 +323,7 @@ pub(crate) fn migrate_on<T: Site>(alloc: Global, site: &mut T, setup: &Setup) ->
 {
     let (_msdbs, mut log, _lasts) = match restart(alloc, &setup.defs, &setup.front, site) {
         Ok(parts) => parts,
-        Err(fault) => return fault_status(fault),
+        Err(why) => return fault_status(why),
     };
     if !is_old(&log) {
         return Status::Done;

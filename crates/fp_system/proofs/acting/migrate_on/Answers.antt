@@ -33,7 +33,7 @@ returns-in-Err-clause-due g c t =
     let call = c.in-Err.ensures in
     subst (λ (answer : Status). ByLog job log (λ behind. behind ≡ Done) answer ⊎ MayStandIn answer)
     (sym c.fault_status.ensures)
-    (due_by_log job log c.in-Err.fault
+    (due_by_log job log c.in-Err.why
     (λ e. subst (λ (f : Front). ¬ (BeginsFor f log)) c.requires.front (call.foreign t (ap (λ f. Err f) e)))
     (λ set at e. (
       call.damaged set at t (ap (λ f. Err f) e),
@@ -52,7 +52,7 @@ returns-in-Err-clause-migrated g c t =
     let answer = c.fault_status.result in
     migrated_not job answer h h1 (record { contents = c.restart.ensures.contents t; sent = sent; crash = crash })
     (λ format earlier safe first. moved_not job format earlier answer h h1
-    (λ done. fault_not_done c.in-Err.fault (sym c.fault_status.ensures ∙ done)) sent
+    (λ done. fault_not_done c.in-Err.why (sym c.fault_status.ensures ∙ done)) sent
     (λ image settles. c.restart.ensures.settles image t settles) crash)
 
 pub returns-in-Err-clause-cause : goal.returns-in-Err-clause-cause
@@ -60,7 +60,7 @@ returns-in-Err-clause-cause g c =
     let before = g.T.Site.faults c.args.site.now in
     let now = g.T.Site.faults c.restart.new.site in
     subst (IsCausedBySite before now) (sym c.fault_status.ensures)
-    (fault_by_site before now c.in-Err.fault (λ e. c.in-Err.ensures.cause (ap (λ f. Err f) e))
+    (fault_by_site before now c.in-Err.why (λ e. c.in-Err.ensures.cause (ap (λ f. Err f) e))
     (λ other. c.in-Err.ensures.stayed (λ e. other (one_err _ refl e))))
 
 pub returns-in-Err-clause-once : goal.returns-in-Err-clause-once
