@@ -14,7 +14,6 @@ use Rattle.fp_model.specs.declared.database.Db.{Db}
 use Rattle.fp_model.specs.declared.definitions.Defs.{Defs}
 use Rattle.fp_model.specs.declared.log.Entry.{Entry}
 use Rattle.fp_model.specs.declared.log.Outcome.{Outcome}
-use Rattle.fp_model.specs.declared.log.Outcome.TheVariants as outcome
 use Rattle.fp_model.specs.declared.scripts.Script.{Script}
 use Rattle.fp_model.specs.History.{History, states_of, with_entry}
 use Rattle.fp_model.specs.Lasts.{Last, format_at, format_behind, last_by, last_in, lasts_of, uses_number}
@@ -35,7 +34,7 @@ use Rattle.fp_core.specs.declared.engine.Region.TheVariants as regions
 use Rattle.fp_core.specs.Acting.{IsAtWork, MayEnd}
 use Rattle.fp_core.specs.Numbering.{last_told, with_used}
 use Rattle.fp_core.specs.Relation.{IsMade, IsRead, IsReadIn, IsRegion, IsTransaction, StandsFor, first_place, owed_of, room_of}
-use Rattle.sync_point.specs.Refusals.{IsBare, bare_entry, refusal_room}
+use Rattle.sync_point.specs.Refusals.{bare_entry, refusal_room}
 use Rattle.fp_core.proofs.Places.{all_put, each_has, left_of, put_both, get_front, get_last, is_within, none_some, some_same, sum_has, sum_put}
 
 -- ---- where the transaction is

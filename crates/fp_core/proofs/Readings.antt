@@ -113,7 +113,7 @@ pub takeable_in : (format : ℕ) (scripts : List Script) (line : List ℕ) (mess
 takeable_in format scripts line message short is = by (script_of scripts message.tran) refl is.3
   where
     by : (o : Option Script) → script_of scripts message.tran ≡ o → IsSome o → IsTakeable format scripts message
-    by None none some = absurd some
+    by None none some = absurd cc
     by (Some script) named some = record {
       short = subst IsShort (sym is.2) short;
       read = ap (message_of format) is.2 ∙ is.0;

@@ -1,6 +1,6 @@
 -- An idle region takes a message.
-use Rattle.std.proofs.Common.{◌≤◌, ◌≡◌, refl, sym, ◌∙◌, ap, subst, arith, ℕ, zero, suc, ◌+◌, ◌-◌, ◌<◌, List, [], ◌∷◌, length, drop, map, Option, Some, None, slice_get, slice_set, unwrap_or}
-use Rattle.std.specs.Prelude.{IfSome, fold, max, sum_by}
+use Rattle.std.proofs.Common.{◌≤◌, ◌≡◌, refl, sym, ◌∙◌, ap, subst, arith, ℕ, zero, suc, ◌+◌, ◌-◌, List, [], ◌∷◌, length, drop, map, Option, Some, None, slice_get, slice_set, unwrap_or}
+use Rattle.std.specs.Prelude.{IfSome, fold, max}
 use Rattle.std.specs.List.{AllByRecursion}
 use Rattle.std.specs.VecDeque.{deque_capacity}
 use Rattle.std.specs.declared.alloc.Global.{Global}
@@ -13,8 +13,6 @@ use Rattle.balancing.specs.Numbered.{Numbered}
 use Rattle.drain_laws.specs.Measure.{active_in, one_if_active}
 use Rattle.fp_model.specs.declared.calls.Message.{Message}
 use Rattle.fp_model.specs.declared.events.Event.TheVariants as event
-use Rattle.fp_model.specs.declared.log.Entry.{Entry}
-use Rattle.fp_model.specs.declared.scripts.Script.{Script}
 use Rattle.fp_model.specs.Machine as machine
 use Rattle.fp_model.specs.Machine.{Transaction, Machine, region_at}
 use Rattle.fp_model.specs.Rules.{Rules}
@@ -27,7 +25,6 @@ use Rattle.fp_core.specs.declared.did.Did.TheVariants as did
 use Rattle.fp_core.specs.declared.engine.Active.{Active}
 use Rattle.fp_core.specs.declared.engine.Engine.{Engine}
 use Rattle.fp_core.specs.declared.engine.Owed.{Owed}
-use Rattle.fp_core.specs.declared.engine.Region.{Region}
 use Rattle.fp_core.specs.declared.engine.Region.TheVariants as regions
 use Rattle.fp_core.specs.Relation.{IsAhead, IsReadIn, IsRegion, IsTakeable, IsTransaction, StandsFor, owed_of, room_of, rules_in}
 use Rattle.fp_core.specs.Turning.{IsDidOfRegion, Turned, did_take}

@@ -17,7 +17,7 @@ use Rattle.fp_model.specs.Groups.{HoldsGroups, IsDamaged, IsGroup, entries_of}
 use Rattle.fp_model.specs.Items.{AreFit, IsFit, with_item, with_items, items_of}
 use Rattle.balancing.specs.Numbered.{Numbered}
 use Rattle.fp_model.specs.Lasts.{format_at, lasts_behind, lasts_of}
-use Rattle.fp_model.specs.LogText.{Front, StartsWithFront, first_gate, group_text, groups_text}
+use Rattle.fp_model.specs.LogText.{Front, IsFormat, StartsWithFront, first_gate, group_text, groups_text}
 use Rattle.fp_model.specs.Product.{rules_of}
 use Rattle.fp_model.specs.History.{History, beginning}
 use Rattle.fp_model.specs.SerialHistory.{IsSerialHistory}
@@ -315,11 +315,12 @@ read_kept defs front disk store l lasts it = record {
 
 -- ---- of a new log
 
-module _ (defs : Defs) (scripts : List Script) (front : Front) (disk : Disk)
+module _ (defs : Defs) (scripts : List Script) (front : Front) (is_format : IsFormat front.format) (disk : Disk)
     (rest : IsAtRest disk front [] (first_gate front)) where
   -- a log without groups is sound
   new_sound : IsSound defs scripts front (disk.contents 0) []
   new_sound = record {
+    is_format = is_format;
     groups = [];
     gate = first_gate front;
     holds = rest.log.holds;

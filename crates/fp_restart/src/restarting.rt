@@ -48,7 +48,7 @@ pub fn restart<T: Site>(
         → IsSound defs.now scripts (in_format format (as_front front.now)) ((T.disk site.old).contents 0) entries
         → IfOk result (λ parts. StandsFor defs.now scripts (in_format format (as_front front.now)) (T.disk site.new)
         entries parts.0 parts.1 parts.2) }
-    ensures never { (format : ℕ) (scripts : ListOf Script) (entries : ListOf Entry) → T.told site.old → IsFormat format
+    ensures never { (format : ℕ) (scripts : ListOf Script) (entries : ListOf Entry) → T.told site.old
         → IsSound defs.now scripts (in_format format (as_front front.now)) ((T.disk site.old).contents 0) entries
         → (IsErrOf result faults.Foreign → ⊥) × ((set at : ℕ) → IsErrOf result (faults.Damaged set at) → ⊥) }
 

@@ -4,18 +4,19 @@ use Rattle.fp_model.specs.declared.log.Entry.{Entry}
 use Rattle.fp_site.specs.Disk.{Disk, IsDurable, Settles, Snapshot}
 use Rattle.log_groups.specs.Kept.{lines_of_entries}
 use Rattle.fp_system.specs.Courses.{Input, IsSoundFor}
-use Rattle.fp_system.specs.Gives.{Ran}
+use Rattle.fp_system.specs.Gives.{Migrated, Ran}
 use Rattle.fp_system.specs.Ims.{IsUnchanged}
 use Rattle.fp_system.specs.Parts.{Job}
 use Rattle.fp_system.specs.declared.status.Status.{Status}
 
--- What stood at some time: the entries of the log, and the bytes sent by then.
+-- What stood at some time: the format of the log's front, its entries, and the bytes sent by then.
 pub record Standing : Type 0 where
+  pub format : ℕ
   pub entries : List Entry
   pub sent : List ℕ
 
-abbrev pub standing : List Entry → List ℕ → Standing
-standing entries sent = record { entries = entries; sent = sent }
+abbrev pub standing : ℕ → List Entry → List ℕ → Standing
+standing format entries sent = record { format = format; entries = entries; sent = sent }
 
 -- ---- what was answered
 
@@ -29,7 +30,7 @@ pub data IsTold : List Entry → List ℕ → Type 0 where
 -- each line that was sent since.
 pub record HoldsSince (job : Job) (start : Standing) (sent log : List ℕ) : Type 0 where
   pub later : List Entry
-  pub sound : IsSoundFor job log (start.entries ++ later)
+  pub sound : IsSoundFor job start.format log (start.entries ++ later)
   pub text : List ℕ
   pub since : sent ≡ start.sent ++ text
   pub told : IsTold later text
@@ -44,10 +45,11 @@ HeldThrough job start moment new = (s : Snapshot) → new.left_since moment s �
 
 -- ---- again and again
 
--- One call: a run of the job, whatever it was given and whatever it answers; or a call that leaves the disk, as that of
--- another job does.
+-- One call: a run of the job, whatever it was given and whatever it answers; its migration; or a call that leaves the
+-- disk, as that of another job does.
 pub data Calls (job : Job) (old new : Disk) : Type 0 where
   ran : {given : Input} {answer : Status} → Ran job given answer old new → Calls job old new
+  migrated : {answer : Status} → Migrated job answer old new → Calls job old new
   spared : IsUnchanged old new → Calls job old new
 
 -- a site begins as what a crash left at some moment since an earlier one

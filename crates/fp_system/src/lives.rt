@@ -60,7 +60,7 @@ fn is_made<S: Source>(
 ) -> bool
     ensures { (job : Job) → S.told source.old
         → Asks (given exits.now words.now (S.left source.old) (memory_disk site.old)) command.Define job
-        → result ≡ true → HoldsOn job (standing [] (memory_disk site.old).sent) (memory_disk site.new) }
+        → result ≡ true → HoldsOn job (standing 2 [] (memory_disk site.old).sent) (memory_disk site.new) }
 {
     match ims(alloc, words, source, site, exits) {
         Status::Done => true,
@@ -88,7 +88,7 @@ pub fn define_and_run<S: Source>(
         → Asks (given exits.now run.now (S.left second.old) (memory_disk site.old)) command.Run job
         → Asks (given exits.now run.now (S.left third.old) (memory_disk site.old)) command.Run job →
         IfOk result (λ made. IfSome made (λ last.
-        HoldsOn job (standing [] (memory_disk site.old).sent) (memory_disk last))) }
+        HoldsOn job (standing 2 [] (memory_disk site.old).sent) (memory_disk last))) }
 {
     if !is_made(alloc, define, parts, site, exits) {
         return Ok(None);

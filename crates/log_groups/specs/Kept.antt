@@ -8,7 +8,7 @@ use Rattle.fp_model.specs.declared.log.Entry.{Entry}
 use Rattle.fp_model.specs.declared.scripts.Script.{Script}
 use Rattle.fp_model.specs.Groups.{entries_of}
 use Rattle.fp_model.specs.Items.{AreFit, items_of, with_items}
-use Rattle.fp_model.specs.LogText.{Front}
+use Rattle.fp_model.specs.LogText.{Front, IsFormat}
 use Rattle.fp_model.specs.Product.{rules_of}
 use Rattle.fp_model.specs.Recovery.{Holds}
 use Rattle.fp_model.specs.ReplyLine.{line_of}
@@ -26,6 +26,7 @@ module _ (defs : Defs) (scripts : List Script) (front : Front) where
   -- these, are a serial history whose first line is read in the front's format. Their items are fit, and make of the
   -- segments loaded those of the last state.
   pub record IsSound (log : List ℕ) (entries : List Entry) : Type 0 where
+    pub is_format : IsFormat front.format
     pub groups : List (List Entry)
     pub gate : ℕ
     pub holds : Holds front log groups gate

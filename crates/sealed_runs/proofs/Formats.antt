@@ -33,15 +33,15 @@ refusal_plain : (o : Outcome) → IsRefusal o → IsPlain o
 refusal_plain outcome.Unknown is format = refl
 refusal_plain (outcome.Old last) is format = refl
 refusal_plain (outcome.Repeat kept) is format = refl
-refusal_plain outcome.Done is = absurd is
-refusal_plain (outcome.Verify call fsa found) is = absurd is
-refusal_plain (outcome.Roll code) is = absurd is
-refusal_plain (outcome.SeqFull set begin end n) is = absurd is
-refusal_plain (outcome.Deadlock cycle) is = absurd is
-refusal_plain outcome.Device is = absurd is
-refusal_plain outcome.Memory is = absurd is
-refusal_plain (outcome.Purge set n) is = absurd is
-refusal_plain outcome.Format is = absurd is
+refusal_plain outcome.Done is format = absurd is
+refusal_plain (outcome.Verify call fsa found) is format = absurd is
+refusal_plain (outcome.Roll code) is format = absurd is
+refusal_plain (outcome.SeqFull set begin end n) is format = absurd is
+refusal_plain (outcome.Deadlock cycle) is format = absurd is
+refusal_plain outcome.Device is format = absurd is
+refusal_plain outcome.Memory is format = absurd is
+refusal_plain (outcome.Purge set n) is format = absurd is
+refusal_plain outcome.Format is format = absurd is
 
 -- ---- histories
 

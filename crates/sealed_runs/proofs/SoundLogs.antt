@@ -137,6 +137,7 @@ module _ (defs : Defs) (scripts : List Script) (its_format : ℕ) (earlier : Lis
           → IsLog its_front image (before ++ (sealed_times times rules m).groups) gate
           → IsSound defs scripts its_front image (earlier ++ later)
       sound_run before image gate all log = record {
+        is_format = sound.is_format;
         groups = before ++ (sealed_times times rules m).groups;
         gate = gate;
         holds = log.holds;

@@ -47,7 +47,7 @@ returns-clause-sound g c format scripts entries t sound =
     c.read_parts.ensures.of (c.read_parts.ensures.front t1)
 
 pub returns-clause-never : goal.returns-clause-never
-returns-clause-never g c format scripts entries t is_format sound =
+returns-clause-never g c format scripts entries t sound =
     let defs = c.args.defs.now in
     let texts = as_front c.args.front.now in
     let front = in_format format texts in
@@ -56,7 +56,7 @@ returns-clause-never g c format scripts entries t is_format sound =
     let here : IsSound defs scripts front bytes entries =
     subst (λ l. IsSound defs scripts front l entries) (sym (c.sync.ensures.same t)) sound in (
       λ is. c.read_parts.ensures.foreign t1 is (record
-          { format = format; is_format = is_format; begins = sound_begins defs scripts front bytes entries here }),
+          { format = format; is_format = sound.is_format; begins = sound_begins defs scripts front bytes entries here }),
       λ set at is. sound_not_bad defs scripts front bytes entries here at
           (subst (λ n. IsFirstBadAt defs bytes n at) (sym (same_gate format texts))
           (c.read_parts.ensures.damaged set at t1 is).1),

@@ -11,7 +11,6 @@ use Rattle.site_texts.specs.Texts.{IsLogSent, IsSentToDamage, SendsGroups}
 use Rattle.site_texts.proofs.Whole.{none_sent, whole_sent, part_sent, damage_sent}
 use Rattle.site_texts.proofs.groups.log.Given as given
 use Rattle.site_texts.proofs.groups.log.Goals as goal
-use Rattle.site_texts.proofs.groups.log.Goals.{In_ok-log}
 
 pub returns-in_err-log-clause-sends : goal.returns-in_err-log-clause-sends
 returns-in_err-log-clause-sends g c t =
@@ -19,7 +18,7 @@ returns-in_err-log-clause-sends g c t =
     (c.open.ensures.stays t)
 
 -- the log begins with the front, in the format that it was opened in
-begun : (g : given.Over) (c : In_ok-log g) → g.T.Site.told c.args.site.now
+begun : (g : given.Over) (c : goal.After-drop-log-inside g) → g.T.Site.told c.args.site.now
     → BeginsFor (as_front c.args.front.now) ((g.T.Site.disk c.args.site.now).contents 0)
 begun g c t = record {
   format = c.in_ok-log.log.front_format;

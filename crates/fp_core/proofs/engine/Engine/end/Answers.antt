@@ -1,4 +1,4 @@
-use Rattle.std.proofs.Common.{◌≡◌, ◌∙◌, ap, arith, length, Option}
+use Rattle.std.proofs.Common.{◌≡◌, ◌∙◌, ap, arith, length, List, ℕ, Option}
 use Rattle.fp_model.specs.declared.calls.Message.{Message}
 use Rattle.fp_model.specs.Lasts.{Last}
 use Rattle.fp_core.specs.Numbering.{last_told, with_used}
@@ -20,4 +20,7 @@ returns-clause-used c m t u =
     let is = region_is engine m c.args.region t (regions.Active c.active_in-active.result.now) u c.active_in-active.ensures.there in
     c.keep.ensures.terminals
     ∙ ap (λ (o : Option Last). with_used o engine.lasts.terminals)
-    (c.in_ok-kept.ensures ∙ ap (λ (x : Message). last_told x c.args.entry.outcome c.args.entry.reply) is.message)
+    (c.in_ok-kept.ensures
+    ∙ ap (λ (text : List ℕ). last_told c.active_in-active.result.now.message c.args.entry.outcome text)
+    c.as_slice.ensures
+    ∙ ap (λ (x : Message). last_told x c.args.entry.outcome c.args.entry.reply) is.message)
