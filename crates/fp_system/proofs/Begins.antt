@@ -31,7 +31,7 @@ use Rattle.fp_model.specs.declared.log.Outcome.TheVariants as outcome
 use Rattle.fp_model.specs.declared.calls.Message.{Message}
 use Rattle.fp_model.specs.declared.name.Name.{Name}
 use Rattle.fp_model.specs.History.{History, place_of}
-use Rattle.fp_model.specs.Lasts.{Last, format_at, format_behind, last_by, last_in, lasts_behind, lasts_of, uses_number, with_last}
+use Rattle.fp_model.specs.Lasts.{Last, format_at, format_behind, last_by, last_in, last_of_message, lasts_behind, lasts_of, uses_number, with_last}
 use Rattle.fp_model.specs.LogText.{Front, front_text, group_text, groups_text}
 use Rattle.fp_model.specs.Machine.{Machine, at_rest}
 use Rattle.fp_model.specs.Rules.{Rules}
@@ -92,6 +92,13 @@ one_first : (format : ℕ) (es : List Entry) → format_at format es ≡ 1 → f
 one_first format [] is = is
 one_first format (e ∷ es) is = one_before format e.outcome (one_first (format_behind format e.outcome) es is)
 
+-- a message without a number uses none
+last_none : (text : List ℕ) (message : Message) → message.number ≡ None → last_of_message text message ≡ None
+last_none text message none =
+    let last : Option ℕ → Option Last =
+    λ n. option_map (λ number. record { lterm = message.lterm; number = number; line = text }) n in
+    ap last none
+
 -- a line has no number there
 unnumbered : (text line : List ℕ) → last_in text (message_of 1 line) ≡ None
 unnumbered text line =
@@ -103,8 +110,7 @@ unnumbered text line =
         either : (long printable : Bool)
             → last_in text (if long then Err TooLong else (if printable then Ok message else Err NotAscii)) ≡ None
         either true printable = refl
-        either false true = ap (option_map (λ number. let l : Last =
-        record { lterm = message.lterm; number = number; line = text } in l)) none
+        either false true = last_none text message none
         either false false = refl
 
     by : (terminal tran : Option Name) (asked : List ℕ)
