@@ -7,7 +7,8 @@
 //! spreaders of these kinds.
 ghost use Rattle.fp_exits.specs.Ranges.{IsRoutable, IsSpreadable};
 ghost use Rattle.fp_model.specs.Exits.{route, spread};
-ghost use Rattle.std.specs.Prelude.{◌≡◌};
+ghost use Rattle.fp_model.specs.WellFormed.{AreDefs};
+ghost use Rattle.std.specs.Prelude.{◌≡◌, IfOk};
 
 use crate::fault::CaseFault;
 use fp_defs::{DefsFault, read_defs};
@@ -63,7 +64,9 @@ pub(crate) fn read(
     alloc: Global,
     text: &[u8],
     kinds: Kinds,
-) -> Result<Result<Defs, DefsFault>, AllocError> {
+) -> Result<Result<Defs, DefsFault>, AllocError>
+    ensures { IfOk result (λ outcome. IfOk outcome AreDefs) }
+{
     let mut routers = Vec::new(alloc);
     if kinds.folding_router {
         let f: Routing = Box::new(
@@ -94,7 +97,9 @@ fn read_routed(
     text: &[u8],
     routers: Vec<Router>,
     kinds: Kinds,
-) -> Result<Result<Defs, DefsFault>, AllocError> {
+) -> Result<Result<Defs, DefsFault>, AllocError>
+    ensures { IfOk result (λ outcome. IfOk outcome AreDefs) }
+{
     let mut spreaders = Vec::new(alloc);
     if kinds.folding_spreader {
         let f: Spreading = Box::new(
