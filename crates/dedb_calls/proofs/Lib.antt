@@ -6,3 +6,5 @@ pub mod RandomizerLemmas
 pub mod SeenLemmas
 pub mod GetLemmas
 pub mod EditLemmas
+pub mod InsertLemmas
+pub mod HeldLemmas
