@@ -139,7 +139,7 @@ module _ (def : DedbDef) (number : ℕ) (held : Resource → Option Mode) (work 
   -- ---- REPL
 
   module _ (bytes : List ℕ) where
-    abbrev replaced : Db → Workspace → Option Place → Replied
+    abbrev pub replaced : Db → Workspace → Option Place → Replied
     replaced db own o = dedb.repl_reply def number db own bytes o
 
     abbrev kind : Place → Bool
@@ -205,7 +205,7 @@ module _ (def : DedbDef) (number : ℕ) (held : Resource → Option Mode) (work 
 
   -- ---- DLET
 
-  abbrev dropped : Db → Workspace → Option Place → Replied
+  abbrev pub dropped : Db → Workspace → Option Place → Replied
   dropped db own o = dedb.dlet_reply def number db own o
 
   pub dlet_sequential : (place : Place) → is_sequential def.segments (dedb.type_of_path def number place.path) ≡ true

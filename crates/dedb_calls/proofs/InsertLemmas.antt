@@ -319,6 +319,31 @@ insert_key_fits def number (a ∷ rest) bytes root good ok fit long at =
 
 -- ---- what an insert comes to
 
+-- its arguments aren't such
+pub insert_refused : (def : DedbDef) (number : ℕ) (held : Resource → Option Mode) (work : DedbProgress)
+    → (ssas : List Ssa) (bytes : List ℕ) (n : ℕ) → dedb.are_insert_arguments def number ssas ≡ false
+    → (end : DedbProgress) (came : DedbReady)
+    → end ≡ with_position_at number (record (position_in work number) { held = false }) work
+    → came ≡ ready.Answer (answered (codes "AM"))
+    → ComesTo number (λ db own. dedb.dedb_need def number db own held (call.Isrt n ssas bytes))
+    (λ db own. dedb.isrt_reply def number db own ssas bytes) work end came
+insert_refused def number held work ssas bytes n e end came end_is came_is =
+    subst (λ (w : DedbProgress). ComesTo number (λ db own. dedb.dedb_need def number db own held (call.Isrt n ssas bytes))
+    (λ db own. dedb.isrt_reply def number db own ssas bytes) work w came) (sym end_is)
+    (subst (λ (r : DedbReady). ComesTo number
+    (λ db own. dedb.dedb_need def number db own held (call.Isrt n ssas bytes))
+    (λ db own. dedb.isrt_reply def number db own ssas bytes) work
+    (with_position_at number (record (position_in work number) { held = false }) work) r) (sym came_is) (record {
+      need = λ db own sees.
+          sym (ap (λ b. if b then dedb.unless_locked def number held Exclusive
+          (dedb.anchor_of_path def number (dedb.insert_path def number ssas bytes)) else None) e);
+      answer = λ db own sees.
+          ap (λ b. if b then dedb.isrt_at def number (dedb.roots_seen def number db (with_progress work own)
+          (dedb.anchor_of_path def number (dedb.insert_path def number ssas bytes))) (with_progress work own)
+          (dedb.type_of_last def number ssas) (dedb.insert_path def number ssas bytes) bytes
+          else dedb.refused def number (with_progress work own) (codes "AM")) e;
+    }))
+
 module _ (def : DedbDef) (good : IsDedbDef def) (number : ℕ) (held : Resource → Option Mode) (work : DedbProgress)
     (fits : FitsDedb def number work) (order : Ascend work.anchors) (known : Knows held work.anchors) (ssas : List Ssa)
     (new : NewSegment) (its : IsNewOf def number ssas new) where

@@ -8,3 +8,4 @@ pub mod GetLemmas
 pub mod EditLemmas
 pub mod InsertLemmas
 pub mod HeldLemmas
+pub mod CallLemmas

@@ -66,11 +66,24 @@ impl Database<'_> {
             }
             Call::Fld { .. } => Ok(refused(alloc, self.number, work, *b"AM")),
             Call::Isrt { ssas, bytes, .. } => {
+                let ssas = ssas.as_slice();
                 self.isrt(alloc, work, ssas, bytes, exits, locks, region)
             }
             Call::Repl { bytes, .. } => self.repl(alloc, work, bytes, locks, region),
             Call::Dlet { .. } => self.dlet(alloc, work, locks, region),
         }
+    }
+}
+
+/// The database of a number.
+fn database_of<'a>(number: u8, defs: &'a Defs) -> Database<'a>
+    requires { number < length defs.now.dedbs }
+    ensures number { result.number ≡ number }
+    ensures there { slice_get defs.now.dedbs number ≡ Some result.def.now }
+{
+    Database {
+        number,
+        def: &defs.dedbs.as_slice()[usize::from(number)],
     }
 }
 
@@ -114,9 +127,6 @@ pub fn answer(
     ensures needing { IfOk result (λ came. OnNeed came (work.new ≡ work.old)) }
     ensures err { OnErr result (work.new ≡ work.old) }
 {
-    let database = Database {
-        number,
-        def: &defs.dedbs.as_slice()[usize::from(number)],
-    };
+    let database = database_of(number, defs);
     database.answer(alloc, work, call, exits, locks, region)
 }

@@ -79,6 +79,13 @@ impl Position {
         }
     }
 
+    /// The place.
+    pub(crate) fn place(&self) -> Option<&Place>
+        ensures { option_copied result ≡ self.now.place }
+    {
+        self.place.as_ref()
+    }
+
     /// The place that is held.
     pub(crate) fn held_place(&self) -> Option<&Place>
         ensures { option_copied result ≡ (if self.now.held then self.now.place else None) }

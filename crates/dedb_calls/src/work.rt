@@ -15,7 +15,7 @@ ghost use Rattle.fp_model.specs.declared.database.Db.{Db as DbOf};
 ghost use Rattle.fp_model.specs.declared.definitions.DedbDef.{DedbDef as DefOf};
 ghost use Rattle.fp_model.specs.declared.definitions.Defs.{Defs as DefsOf};
 ghost use Rattle.std.specs.Option.{option_copied};
-ghost use Rattle.std.specs.Prelude.{◌≡◌, ◌<◌, ◌==◌, ◌&&◌, [], IfOk, List as ListOf, None, OnErr, OnOk, Some, false, filter, is_some, length, map, not, slice_get, true, unwrap_or, ℕ};
+ghost use Rattle.std.specs.Prelude.{◌≡◌, ◌<◌, ◌++◌, ◌∷◌, ◌==◌, ◌&&◌, [], IfOk, List as ListOf, None, OnErr, OnOk, Some, false, filter, is_some, length, map, not, slice_get, true, unwrap_or, ℕ};
 
 use crate::anchors::{HeldAnchor, edit, hold, into_changes};
 use crate::place::{Place, Position};
@@ -200,6 +200,18 @@ fn drop_below(dedb: u8, place: Option<&Place>, inserts: &mut Vec<SeqInsert>)
     );
 }
 
+// The queue.
+impl DedbWork {
+    /// Puts a sequential insert at the end of the queue. It fails only for want of memory, and then nothing changes.
+    pub(crate) fn queue(&mut self, insert: SeqInsert) -> Result<(), AllocError>
+        ensures ok { OnOk result (self.new ≡ record self.old { inserts = self.old.inserts ++ insert ∷ [] }) }
+        ensures err { OnErr result (self.new ≡ self.old) }
+    {
+        self.inserts.push(insert)?;
+        Ok(())
+    }
+}
+
 // The segment that is held.
 impl DedbWork {
     /// The place that is held in a database.
@@ -243,7 +255,7 @@ impl DedbWork {
         ensures positions { self.new.positions ≡ self.old.positions }
         ensures anchors { self.new.anchors ≡ self.old.anchors }
     {
-        let place = self.positions[dedb as usize].place.as_ref();
+        let place = self.positions[dedb as usize].place();
         drop_below(dedb, place, &mut self.inserts);
     }
 }
