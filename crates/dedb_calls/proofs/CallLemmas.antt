@@ -11,7 +11,9 @@ use Rattle.fp_model.specs.Workspace.{DedbPosition, no_dedb_position}
 use Rattle.dedb_calls.specs.Anchors.{held_at}
 use Rattle.dedb_calls.specs.Calls.{FitsCallOn}
 use Rattle.dedb_calls.specs.Progress.{DedbProgress, FitsDedb, GoesOn, IsDedbWorkOf, held_in}
-use Rattle.dedb_calls.specs.Readiness.{ComesTo}
+use Rattle.fp_model.specs.Calls.{OnDedb}
+use Rattle.fp_model.specs.FitCalls.{FitsAnswerOf}
+use Rattle.dedb_calls.specs.Readiness.{ComesTo, IfAnswer}
 use Rattle.dedb_calls.specs.declared.ready.DedbReady.{DedbReady}
 use Rattle.dedb_calls.proofs.AnchorLemmas.{some_is}
 
@@ -75,3 +77,11 @@ stays_work defs number def old new there work goes fits = record {
               let p : DedbPosition = unwrap_or o no_dedb_position in if p.held then p.place else None)
               (goes.positions d apart)) ∙ held);
         }
+
+abbrev pub ShowsBy : {E : Type 0} → Result DedbReady E → DedbDef → ℕ → Call → Type 0
+ShowsBy r def number c = IfOk r (λ came. IfAnswer came (FitsAnswerOf (OnDedb def number) c))
+
+pub shows_at : {E : Type 0} (r : Result DedbReady E) (def def2 : DedbDef) (number number2 : ℕ) (c : Call) → def ≡ def2
+    → number ≡ number2 → ShowsBy r def number c → ShowsBy r def2 number2 c
+shows_at r def def2 number number2 c same same_number h =
+    subst (λ (n : ℕ). ShowsBy r def2 n c) same_number (subst (λ (d : DedbDef). ShowsBy r d number c) same h)

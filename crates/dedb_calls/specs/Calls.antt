@@ -1,5 +1,6 @@
 -- Parts of what calls are answered.
-use Rattle.std.specs.Prelude.{◌≡◌, ⊤, ℕ, List, Bool, true, false, codes, not, if◌then◌else◌, Option, Some, None, is_some}
+use Rattle.std.specs.Prelude.{◌≡◌, ⊤, ℕ, List, [], Bool, true, false, codes, not, if◌then◌else◌, Option, Some, None, is_some}
+use Rattle.fp_model.specs.declared.calls.Answer.{Answer}
 use Rattle.fp_model.specs.declared.calls.Call.{Call}
 use Rattle.fp_model.specs.declared.calls.Call.TheVariants as call
 use Rattle.fp_model.specs.declared.calls.Get.{Get}
@@ -14,6 +15,7 @@ use Rattle.fp_model.specs.DedbCalls.{are_get_arguments, type_of_path}
 use Rattle.fp_model.specs.FitCalls.{AreFitSsas}
 use Rattle.fp_model.specs.Order.{Place, last_type}
 use Rattle.fp_model.specs.Shape.{has_length}
+use Rattle.fp_model.specs.Texts.{same_text, trimmed}
 use Rattle.fp_model.specs.Workspace.{DedbPosition}
 use Rattle.dedb_calls.specs.Progress.{DedbProgress, held_in, position_in}
 use Rattle.dedb_calls.specs.Searches.{found_there}
@@ -51,3 +53,12 @@ FitsCallOn def dedb work (call.Repl db bytes) =
     (place : Place) → held_in work dedb ≡ Some place
     → has_length def.segments (type_of_path def dedb place.path) bytes ≡ true
 FitsCallOn def dedb work (call.Dlet db) = ⊤
+
+-- an answer that says that it found shows a whole segment of its type
+abbrev pub ShowsWhole : DedbDef → Answer → Type 0
+ShowsWhole def answer =
+    same_text (trimmed answer.status) [] ≡ true → has_length def.segments answer.segment answer.bytes ≡ true
+
+-- letters that don't say so
+abbrev pub SaysNot : List ℕ → Type 0
+SaysNot status = same_text (trimmed status) [] ≡ false

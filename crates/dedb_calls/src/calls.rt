@@ -3,9 +3,11 @@ ghost use Rattle.ci_locks.specs.Table.{standing};
 ghost use Rattle.dedb_calls.specs.Anchors.{Ascend};
 ghost use Rattle.dedb_calls.specs.Calls.{FitsCallOn};
 ghost use Rattle.dedb_calls.specs.Progress.{FitsDedb, GoesOn, IsDedbWorkOf, Knows};
-ghost use Rattle.dedb_calls.specs.Readiness.{ComesTo, OnNeed};
+ghost use Rattle.dedb_calls.specs.Readiness.{ComesTo, IfAnswer, OnNeed};
 ghost use Rattle.fp_exits.specs.Kinds.{has_kind, kinds_of};
+ghost use Rattle.fp_model.specs.Calls.{OnDedb};
 ghost use Rattle.fp_model.specs.DedbCalls.{dedb_need, dedb_reply};
+ghost use Rattle.fp_model.specs.FitCalls.{FitsAnswerOf};
 ghost use Rattle.fp_model.specs.WellFormed.{IsDedbDef};
 ghost use Rattle.fp_model.specs.declared.definitions.DedbDef.{DedbDef as DefOf};
 ghost use Rattle.std.specs.List.{AllByRecursion};
@@ -44,6 +46,8 @@ impl Database<'_> {
             (λ db own. dedb_need self.entry.def.now self.entry.number db own ((standing locks.now).holds region)
             call.now)
             (λ db own. dedb_reply self.entry.def.now self.entry.number db own call.now) work.old work.new came) }
+        ensures shown { IfOk result (λ came. IfAnswer came (FitsAnswerOf (OnDedb self.entry.def.now self.entry.number)
+            call.now)) }
         ensures goes { GoesOn self.entry.number work.old work.new }
         ensures fits { FitsDedb self.entry.def.now self.entry.number work.new }
         ensures needing { IfOk result (λ came. OnNeed came (work.new ≡ work.old)) }
@@ -118,6 +122,10 @@ pub fn answer(
     ensures comes { (def : DefOf) → slice_get defs.now.dedbs number ≡ Some def → IfOk result (λ came. ComesTo number
         (λ db own. dedb_need def number db own ((standing locks.now).holds region) call.now)
         (λ db own. dedb_reply def number db own call.now) work.old work.new came) }
+
+    // A get that found shows a whole segment of the database.
+    ensures shown { (def : DefOf) → slice_get defs.now.dedbs number ≡ Some def → IfOk result (λ came. IfAnswer came
+        (FitsAnswerOf (OnDedb def number) call.now)) }
 
     // It stays one under way, and has the same anchors.
     ensures of { IsDedbWorkOf defs.now.dedbs work.new }

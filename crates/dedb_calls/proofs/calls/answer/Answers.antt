@@ -1,7 +1,7 @@
 use Rattle.std.proofs.Common.{◌≡◌, ◌∙◌, sym}
 use Rattle.ci_locks.specs.Table.{standing}
 use Rattle.dedb_calls.proofs.AnchorLemmas.{some_is}
-use Rattle.dedb_calls.proofs.CallLemmas.{comes_at, fits_at, fits_call_at, goes_at, stays_work}
+use Rattle.dedb_calls.proofs.CallLemmas.{comes_at, fits_at, fits_call_at, goes_at, shows_at, stays_work}
 use Rattle.dedb_calls.proofs.calls.answer.Goals as goal
 
 pub answer-requires-clause-fits : goal.answer-requires-clause-fits
@@ -31,3 +31,10 @@ returns-clause-of g c =
     c.database_of-database.ensures.number c.answer.ensures.goes)
     (fits_at c.database_of-database.result.def.now c.database_of-database.result.number c.args.number
     c.answer.new.work (sym c.database_of-database.ensures.number) c.answer.ensures.fits)
+
+pub returns-clause-shown : goal.returns-clause-shown
+returns-clause-shown g c def at =
+    shows_at c.answer.result c.database_of-database.result.def.now def c.database_of-database.result.number
+    c.args.number c.args.call.now
+    (some_is c.database_of-database.result.def.now def (sym c.database_of-database.ensures.there ∙ at))
+    c.database_of-database.ensures.number c.answer.ensures.shown
