@@ -1,12 +1,12 @@
 -- Arguments that name the types on the line down to one: from the last upwards.
-use Rattle.std.proofs.Common.{◌≡◌, ℕ, zero, suc, ◌+◌, ◌-◌, ◌≤◌, ◌<◌, List, [], ◌∷◌, ◌++◌, map, length, take, drop, Some, None, refl, sym, ◌∙◌, ap, subst, Bool, true, false, ◌&&◌, ◌==◌, Option, slice_index_or, arith}
+use Rattle.std.proofs.Common.{◌≡◌, ℕ, zero, suc, ◌+◌, ◌-◌, ◌≤◌, ◌<◌, List, [], ◌∷◌, ◌++◌, map, length, take, drop, Some, None, refl, sym, ◌∙◌, ap, subst, Bool, true, false, ◌&&◌, ◌==◌, Option, slice_get, slice_index_or, unwrap_or, arith}
 use Rattle.std.proofs.lemmas.Bool.Decides.{nat_tests}
 use Rattle.std.specs.Option.{option_map_or}
 use Rattle.fp_model.specs.declared.calls.Ssa.{Ssa}
 use Rattle.fp_model.specs.declared.definitions.SegDef.{SegDef}
 use Rattle.fp_model.specs.declared.definitions.DedbDef.{DedbDef}
-use Rattle.fp_model.specs.DedbCalls.{type_of_path}
-use Rattle.dli_tree.specs.Paths.{steps_of}
+use Rattle.fp_model.specs.DedbCalls.{key_of_path, type_of_path}
+use Rattle.dli_tree.specs.Paths.{step_of, steps_of}
 use Rattle.dli_tree.specs.declared.path.Step.{Step as StepOf}
 use Rattle.fp_model.specs.Order.{line_within, parent_of}
 use Rattle.fp_model.specs.Texts.{same_text}
@@ -145,3 +145,40 @@ pub ends_with : (def : DedbDef) (dedb : ℕ) (steps : List StepOf) (last : StepO
 ends_with def dedb [] last = refl
 ends_with def dedb (s ∷ []) last = refl
 ends_with def dedb (s ∷ t ∷ ts) last = ends_with def dedb (t ∷ ts) last
+
+pub ends_with_key : (def : DedbDef) (dedb : ℕ) (steps : List StepOf) (last : StepOf)
+    → key_of_path def dedb (steps_of (steps ++ last ∷ [])) ≡ last.key
+ends_with_key def dedb [] last = refl
+ends_with_key def dedb (s ∷ []) last = refl
+ends_with_key def dedb (s ∷ t ∷ ts) last = ends_with_key def dedb (t ∷ ts) last
+
+-- ---- the beginning of a path
+
+pub first_there : {X : Type 0} (xs : List X) (x : X) → 1 ≤ length xs → x ≡ slice_index_or xs 0 x
+    → slice_get xs 0 ≡ Some x
+first_there [] x some is = absurd (omega (arith, some))
+first_there (y ∷ ys) x some is = ap (λ z. Some z) (sym is)
+
+pub first_step : (xs : List StepOf) (x : StepOf) → slice_get xs 0 ≡ Some x → slice_get (steps_of xs) 0 ≡ Some (step_of x)
+first_step [] x e = absurd (cc)
+first_step (y ∷ ys) x e = let same : y ≡ x = cc in ap (λ z. Some (step_of z)) same
+
+-- ---- elements by their index
+
+there : {X : Type 0} (xs : List X) (n : ℕ) (x : X) → n < length xs → x ≡ slice_index_or xs n x → slice_get xs n ≡ Some x
+there [] n x less is = absurd (omega (arith, less))
+there (y ∷ ys) zero x less is = ap (λ z. Some z) (sym is)
+there (y ∷ ys) (suc n) x less is = there ys n x (omega (arith, less)) is
+
+pub indexed : {X : Type 0} (xs ys : List X) (x : X) (n m : ℕ) → ys ≡ xs → m ≡ n → x ≡ slice_index_or ys m x
+    → n < length xs → slice_get xs n ≡ Some x
+indexed xs ys x n m same number is less =
+    there xs n x less (is ∙ ap (λ zs. slice_index_or zs m x) same ∙ ap (λ k. slice_index_or xs k x) number)
+
+pub steps_long : (xs : List StepOf) → length (steps_of xs) ≡ length xs
+steps_long [] = refl
+steps_long (x ∷ xs) = let later = steps_long xs in omega (arith, later)
+
+pub or_else : {X : Type 0} (xs : List X) (n : ℕ) (x d : X) → n < length xs → x ≡ slice_index_or xs n x
+    → x ≡ unwrap_or (slice_get xs n) d
+or_else xs n x d less is = sym (ap (λ o. unwrap_or o d) (there xs n x less is))

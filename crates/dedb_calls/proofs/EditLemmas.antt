@@ -1,21 +1,22 @@
 -- Edits of an anchor: what they leave of all else, what fits after them, and what the transaction keeps to itself then.
 use Rattle.std.proofs.Common.{◌≡◌, ℕ, zero, suc, ◌<◌, List, [], ◌∷◌, length, Option, Some, None, refl, sym, ◌∙◌, ap, subst, Bool, true, false, ◌&&◌, ◌==◌, slice_get, slice_set, unwrap_or, arith}
 use Rattle.std.proofs.lemmas.Bool.Decides.{nat_tests}
-use Rattle.std.specs.Prelude.{if◌then◌else◌, is_some}
+use Rattle.std.specs.Prelude.{filter, if◌then◌else◌, is_some, not}
 use Rattle.fp_model.specs.declared.calls.AnchorChange.{AnchorChange}
 use Rattle.fp_model.specs.declared.calls.SeqInsert.{SeqInsert}
 use Rattle.fp_model.specs.declared.database.Db.{Db}
 use Rattle.fp_model.specs.declared.database.Root.{Root}
 use Rattle.fp_model.specs.declared.definitions.DedbDef.{DedbDef}
-use Rattle.fp_model.specs.DedbCalls.{with_change, with_position}
+use Rattle.fp_model.specs.DedbCalls.{goes_with, root_key_of, with_change, with_position}
 use Rattle.fp_model.specs.Order.{Place}
 use Rattle.fp_model.specs.Shape.{is_anchor}
 use Rattle.fp_model.specs.State.{roots_at}
+use Rattle.fp_model.specs.Texts.{same_text}
 use Rattle.fp_model.specs.Workspace.{DedbPosition, Workspace, no_dedb_position, put_change}
 use Rattle.dli_tree.specs.InOrder.{any_ends}
 use Rattle.dedb_calls.specs.Anchors.{Ascend, IsEdited, Sees, changes_in, held_at}
 use Rattle.dedb_calls.specs.Inserts.{IsEditedTo}
-use Rattle.dedb_calls.specs.Progress.{DedbProgress, FitsDedb, GoesOn, held_in, position_in, with_progress}
+use Rattle.dedb_calls.specs.Progress.{DedbProgress, FitsDedb, GoesOn, held_in, position_in, with_position_at, with_progress}
 use Rattle.dedb_calls.specs.declared.anchors.HeldAnchor.{HeldAnchor}
 use Rattle.dedb_calls.proofs.AnchorLemmas.{same_numbers, some_is}
 use Rattle.dedb_calls.proofs.SeenLemmas.{differ, get_other, get_set, length_set}
@@ -114,3 +115,57 @@ module _ (dedb anchor : ℕ) (roots : List Root) (p : DedbPosition) (inserts : L
       ∙ ap (λ (cs : List AnchorChange). keeps own (slice_set old.positions dedb p) cs new.inserts) e.anchors.changes
       ∙ ap (λ (queue : List SeqInsert). keeps own (slice_set old.positions dedb p)
       (put_change (record { dedb = dedb; anchor = anchor; roots = roots }) (changes_in old.anchors)) queue) e.inserts
+
+-- ---- deletions
+
+-- an edit, then fewer inserts, then no parent
+pub deleted_to : (dedb anchor : ℕ) (roots : List Root) (queue : List SeqInsert) (old mid late new : DedbProgress)
+    → IsEdited dedb anchor roots old.anchors mid.anchors → mid.positions ≡ old.positions
+    → late.positions ≡ mid.positions → late.anchors ≡ mid.anchors → late.inserts ≡ queue
+    → new ≡ with_position_at dedb (record (position_in late dedb) { parent = None; held = false }) late
+    → IsEditedTo dedb anchor roots (record (position_in old dedb) { parent = None; held = false }) queue old new
+deleted_to dedb anchor roots queue old mid late new edit places places2 same inserts is = record {
+  anchors =
+      subst (λ (xs : List HeldAnchor). IsEdited dedb anchor roots old.anchors xs)
+      (sym (ap (λ (w : DedbProgress). w.anchors) is ∙ same)) edit;
+  positions =
+      ap (λ (w : DedbProgress). w.positions) is
+      ∙ ap (λ (ps : List DedbPosition). slice_set ps dedb
+      (record (unwrap_or (slice_get ps dedb) no_dedb_position) { parent = None; held = false })) (places2 ∙ places);
+  inserts = ap (λ (w : DedbProgress). w.inserts) is ∙ inserts;
+}
+
+filter_all : {X : Type 0} (p : X → Bool) (xs : List X) → ((x : X) → p x ≡ true) → xs ≡ filter p xs
+filter_all p [] all = refl
+filter_all {X} p (x ∷ xs) all =
+    ap (λ rest. x ∷ rest) (filter_all p xs all) ∙ sym (ap (λ b. if b then x ∷ filter p xs else filter p xs) (all x))
+
+filter_same_test : {X : Type 0} (p q : X → Bool) (xs : List X) → ((x : X) → p x ≡ q x) → filter p xs ≡ filter q xs
+filter_same_test p q [] same = refl
+filter_same_test {X} p q (x ∷ xs) same =
+    ap (λ b. if b then x ∷ filter p xs else filter p xs) (same x)
+    ∙ ap (λ rest. if q x then x ∷ rest else rest) (filter_same_test p q xs same)
+
+other_number : (a b : ℕ) → (a ≡ b → ⊥) → (a == b) ≡ false
+other_number a b e = grind (arith, nat_tests)
+
+-- below a place that is no root no insert goes with it
+pub none_goes : (def : DedbDef) (dedb : ℕ) (at : Place) (xs : List SeqInsert) → (length at.path ≡ 1 → ⊥)
+    → xs ≡ filter (λ i. not (goes_with def dedb at i)) xs
+none_goes def dedb at xs deep =
+    filter_all (λ i. not (goes_with def dedb at i)) xs
+    (λ i. ap (λ b. not (b && i.dedb == dedb && i.anchor == at.anchor && same_text i.key (root_key_of def dedb at.path)))
+    (other_number (length at.path) 1 deep))
+
+-- those of a root's key and anchor do
+pub those_go : (def : DedbDef) (dedb : ℕ) (at : Place) (xs : List SeqInsert) (anchor : ℕ) (key : List ℕ)
+    → length at.path ≡ 1 → anchor ≡ at.anchor → key ≡ root_key_of def dedb at.path
+    → filter (λ i. not (i.dedb == dedb && i.anchor == anchor && same_text i.key key)) xs
+    ≡ filter (λ i. not (goes_with def dedb at i)) xs
+those_go def dedb at xs anchor key one same same_key =
+    filter_same_test (λ i. not (i.dedb == dedb && i.anchor == anchor && same_text i.key key))
+    (λ i. not (goes_with def dedb at i)) xs
+    (λ i. ap (λ k. not (i.dedb == dedb && i.anchor == k && same_text i.key key)) same
+    ∙ ap (λ k. not (i.dedb == dedb && i.anchor == at.anchor && same_text i.key k)) same_key
+    ∙ sym (ap (λ b. not (b && i.dedb == dedb && i.anchor == at.anchor && same_text i.key (root_key_of def dedb at.path)))
+    (both (length at.path) 1 one)))

@@ -18,6 +18,7 @@ use Rattle.fp_model.specs.declared.definitions.SegDef.{SegDef}
 use Rattle.fp_model.specs.Answers.{Needed, Replied, answered, serves, showing}
 use Rattle.fp_model.specs.DedbCalls as dedb
 use Rattle.fp_model.specs.Order.{Occurrence, Place, first_admitted, sequence}
+use Rattle.fp_model.specs.Shape.{has_length}
 use Rattle.fp_model.specs.Workspace.{DedbPosition, Workspace}
 use Rattle.state_laws.specs.Workspaces.{FitsPlace}
 use Rattle.state_laws.proofs.DedbReplies.{found_at}
@@ -287,6 +288,17 @@ module _ (def : DedbDef) (number : ℕ) (held : Resource → Option Mode) (work 
       (sequence def.segments (roots_in work.anchors number (found_there found).0)) (found_there found).1
       (all_segments def number work (found_there found).0 fits) at in
       record { begins = segment.begins; direct = segment.direct }
+
+  pub found_long : (found : Found) → FitsDedb def number work
+      → HasLooked (looked.Found found) lock (look_in def number work g ssas) anchors
+      → has_length def.segments (dedb.type_of_path def number (found_there found).1.path) (found_there found).1.bytes
+      ≡ true
+  found_long found fits h =
+      let at = found_at (look_in def number work g ssas) anchors (found_there found) h.1 in
+      let segment = found_has (IsSegment def number) _
+      (sequence def.segments (roots_in work.anchors number (found_there found).0)) (found_there found).1
+      (all_segments def number work (found_there found).0 fits) at in
+      segment.long
 
   pub held_found : (found : Found) (place : Place) → FitsPlace def number (place_found found)
       → (if hold then Some (place_found found) else None) ≡ Some place → FitsPlace def number place

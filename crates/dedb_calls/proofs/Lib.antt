@@ -6,3 +6,6 @@ pub mod RandomizerLemmas
 pub mod SeenLemmas
 pub mod GetLemmas
 pub mod EditLemmas
+pub mod InsertLemmas
+pub mod HeldLemmas
+pub mod CallLemmas

@@ -81,6 +81,13 @@ short_key (f ∷ fs) end begins stand =
     some zero e = absurd (cc)
     some (suc n) e = omega arith
 
+pub first_type : (def : DedbDef) (root : SegDef) → IsDedbDef def → slice_get def.segments 0 ≡ Some root
+    → StandFrom 0 root.fields root.length × (root.sequential ≡ false)
+first_type def root good at = (
+  (first_at (IsSegDef def.segments) def.segments root good.each_type at).layout.stand,
+  not_sequential root (first_place def.segments root good.places at),
+)
+
 pub root_key_fits : (def : DedbDef) (root : SegDef) → IsDedbDef def → slice_get def.segments 0 ≡ Some root
     → (1 ≤ key_length root.fields) × (key_length root.fields ≤ 64)
 root_key_fits def root good at =

@@ -1,7 +1,7 @@
 -- What a transaction sees at an anchor that it holds, and which changes of its positions fit.
 use Rattle.std.proofs.Common.{◌≡◌, ℕ, zero, suc, ◌+◌, ◌<◌, List, [], ◌∷◌, map, length, Option, Some, None, refl, sym, ◌∙◌, ap, subst, Bool, true, false, not, ◌&&◌, ◌==◌, slice_get, slice_set, unwrap_or, arith}
 use Rattle.std.proofs.lemmas.Bool.Decides.{nat_tests}
-use Rattle.std.specs.Prelude.{find, if◌then◌else◌, is_some, option_map}
+use Rattle.std.specs.Prelude.{find, if◌then◌else◌, is_some, option_map, IfOk, Result, Ok, Err}
 use Rattle.std.specs.List.{AllByRecursion, list_all}
 use Rattle.std.specs.Option.{option_map_or}
 use Rattle.fp_model.specs.declared.calls.Answer.{Answer}
@@ -10,11 +10,11 @@ use Rattle.fp_model.specs.declared.calls.Mode.TheVariants.{Share, Exclusive}
 use Rattle.fp_model.specs.declared.database.Db.{Db}
 use Rattle.fp_model.specs.declared.database.Root.{Root}
 use Rattle.fp_model.specs.declared.definitions.DedbDef.{DedbDef}
-use Rattle.fp_model.specs.Answers.{serves}
+use Rattle.fp_model.specs.Answers.{answered, serves, showing}
 use Rattle.fp_model.specs.DedbCalls.{is_change_of, roots_seen}
 use Rattle.fp_model.specs.Exits.{anchor_of}
 use Rattle.fp_model.specs.Order.{Place, sequence, root_key}
-use Rattle.fp_model.specs.Shape.{is_anchor, is_root}
+use Rattle.fp_model.specs.Shape.{has_length, is_anchor, is_root}
 use Rattle.fp_model.specs.State.{ascend, roots_at}
 use Rattle.fp_model.specs.WellFormed.{IsDedbDef}
 use Rattle.fp_model.specs.Workspace.{DedbPosition, Workspace, no_dedb_position}
@@ -23,7 +23,8 @@ use Rattle.state_laws.specs.Workspaces.{FitsPlace}
 use Rattle.state_laws.proofs.Sequences.{IsSegment, anchor_shows}
 use Rattle.dedb_calls.specs.Anchors.{Ascend, Sees, change_of, changes_in, held_at, is_anchor_of}
 use Rattle.dedb_calls.specs.Progress.{DedbProgress, FitsDedb, GoesOn, held_in, position_in, roots_in, with_position_at, with_progress}
-use Rattle.dedb_calls.specs.Readiness.{OnNeed}
+use Rattle.dedb_calls.specs.Calls.{SaysNot, ShowsWhole}
+use Rattle.dedb_calls.specs.Readiness.{IfAnswer, OnNeed}
 use Rattle.dedb_calls.specs.declared.anchors.HeldAnchor.{HeldAnchor}
 use Rattle.dedb_calls.specs.declared.ready.DedbReady.{DedbReady}
 use Rattle.dedb_calls.specs.declared.ready.DedbReady.TheVariants as ready
@@ -192,3 +193,27 @@ option_is f (Some a) n e = (a, refl, some_is n (f a) e)
 pub option_none : {A : Type 0} (f : A → ℕ) (o : Option A) → None ≡ option_map f o → o ≡ None
 option_none f None e = refl
 option_none f (Some a) e = absurd (cc)
+
+-- ---- what is shown
+
+pub shows_not : (def : DedbDef) (came : DedbReady) (status : List ℕ) → came ≡ ready.Answer (answered status)
+    → SaysNot status → IfAnswer came (ShowsWhole def)
+shows_not def came status is says =
+    subst (λ r. IfAnswer r (ShowsWhole def)) (sym is) (λ e. absurd (both_ways (sym e ∙ says)))
+  where
+    both_ways : true ≡ false → ⊥
+    both_ways f = cc
+
+pub shows_found : (def : DedbDef) (came : DedbReady) (type : ℕ) (bytes : List ℕ)
+    → came ≡ ready.Answer (showing type bytes) → has_length def.segments type bytes ≡ true
+    → IfAnswer came (ShowsWhole def)
+shows_found def came type bytes is long = subst (λ r. IfAnswer r (ShowsWhole def)) (sym is) (λ e. long)
+
+pub never_finds : {E : Type 0} (r : Result DedbReady E) (P : Answer → Type 0) → ((a : Answer) → P a)
+    → IfOk r (λ came. IfAnswer came P)
+never_finds (Err e) P all = tt
+never_finds (Ok came) P all = by came
+  where
+    by : (came : DedbReady) → IfAnswer came P
+    by (ready.Answer a) = all a
+    by (ready.Need anchor mode) = tt

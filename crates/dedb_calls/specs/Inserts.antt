@@ -54,8 +54,8 @@ with_queued dedb i work =
     { inserts = work.inserts ++ i ∷ [] }
 
 -- What an edit of an anchor leaves: other roots there, a position, and a queue.
-pub record IsEditedTo (dedb anchor : ℕ) (roots : List Root) (p : DedbPosition) (inserts : List SeqInsert)
+pub record IsEditedTo (dedb anchor : ℕ) (roots : List Root) (p : DedbPosition) (queue : List SeqInsert)
     (old new : DedbProgress) : Type 0 where
   pub anchors : IsEdited dedb anchor roots old.anchors new.anchors
   pub positions : new.positions ≡ slice_set old.positions dedb p
-  pub inserts : new.inserts ≡ inserts
+  pub inserts : new.inserts ≡ queue

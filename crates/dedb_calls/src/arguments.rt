@@ -1,5 +1,6 @@
 //! Segment search arguments: what gets and inserts may name.
 ghost use Rattle.dedb_calls.specs.Arguments.{named_step};
+ghost use Rattle.dedb_calls.specs.Calls.{SaysNot};
 ghost use Rattle.dli_tree.specs.Paths.{step_of, steps_of};
 ghost use Rattle.fp_model.specs.DedbCalls.{are_descending, are_get_arguments, are_insert_arguments, insert_path, is_qualified, not_found, only_last_unqualified, root_named, type_of_last};
 ghost use Rattle.fp_model.specs.Order.{is_ancestor, is_sequential, line_within};
@@ -105,7 +106,8 @@ fn give_no_key(ssas: &[Ssa]) -> bool
 
 /// The status of a get that finds nothing.
 pub(crate) fn not_found(get: Get, ssas: &[Ssa]) -> [u8; 2]
-    ensures { (def : DefOf) (dedb : ℕ) → result ≡ not_found def dedb get ssas.now }
+    ensures status { (def : DefOf) (dedb : ℕ) → result ≡ not_found def dedb get ssas.now }
+    ensures says { SaysNot result }
 {
     match get {
         Get::Next if give_no_key(ssas) => *b"GB",

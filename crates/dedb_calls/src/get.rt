@@ -1,9 +1,9 @@
 //! Gets: the search, and what becomes of the transaction.
 ghost use Rattle.ci_locks.specs.Table.{standing};
 ghost use Rattle.dedb_calls.specs.Anchors.{Ascend};
-ghost use Rattle.dedb_calls.specs.Calls.{is_locked, lacks_parent_at, place_found, refusal_of};
+ghost use Rattle.dedb_calls.specs.Calls.{SaysNot, ShowsWhole, is_locked, lacks_parent_at, place_found, refusal_of};
 ghost use Rattle.dedb_calls.specs.Progress.{FitsDedb, GoesOn, Knows, position_in, with_position_at};
-ghost use Rattle.dedb_calls.specs.Readiness.{ComesTo, OnNeed};
+ghost use Rattle.dedb_calls.specs.Readiness.{ComesTo, IfAnswer, OnNeed};
 ghost use Rattle.dedb_calls.specs.Searches.{HasLooked, found_there, look_in, numbers_in};
 ghost use Rattle.dedb_calls.specs.declared.ready.DedbReady.TheVariants as ready;
 ghost use Rattle.dli_tree.specs.Paths.{steps_of};
@@ -15,7 +15,7 @@ ghost use Rattle.fp_model.specs.State.{anchor_count};
 ghost use Rattle.fp_model.specs.WellFormed.{IsDedbDef};
 ghost use Rattle.fp_model.specs.declared.definitions.DedbDef.{DedbDef as DefOf};
 ghost use Rattle.std.specs.Option.{option_copied};
-ghost use Rattle.std.specs.Prelude.{◌≡◌, ◌<◌, ◌≤◌, ◌∷◌, [], IfOk, List as ListOf, None, OnErr, OnOk, Option as OptionOf, Some, false, if◌then◌else◌, length, option_map, ℕ};
+ghost use Rattle.std.specs.Prelude.{◌≡◌, ◌<◌, ◌≤◌, ◌∷◌, [], IfOk, IfSome, List as ListOf, None, OnErr, OnOk, Option as OptionOf, Some, false, if◌then◌else◌, length, option_map, ℕ};
 
 use crate::arguments::{are_get_arguments, not_found};
 use crate::place::{Place, Position};
@@ -248,7 +248,9 @@ impl Database<'_> {
     /// The letters of a get that is refused before it looks anywhere.
     fn refusal(self, work: &DedbWork, asked: Asked<'_>) -> Option<[u8; 2]>
         requires { self.number < length work.now.positions }
-        ensures { result ≡ refusal_of self.entry.def.now self.entry.number work.now asked.entry.get asked.entry.ssas.now }
+        ensures status { result
+            ≡ refusal_of self.entry.def.now self.entry.number work.now asked.entry.get asked.entry.ssas.now }
+        ensures says { IfSome result SaysNot }
     {
         if !are_get_arguments(self.def, asked.ssas.as_slice()) {
             return Some(*b"AM");
@@ -322,6 +324,7 @@ impl Database<'_> {
             asked.entry.get asked.entry.hold asked.entry.ssas.now)
             (λ db own. get_reply self.entry.def.now self.entry.number db own asked.entry.get asked.entry.hold
             asked.entry.ssas.now) work.old work.new came) }
+        ensures shown { IfOk result (λ came. IfAnswer came (ShowsWhole self.entry.def.now)) }
         ensures goes { GoesOn self.entry.number work.old work.new }
         ensures fits { FitsDedb self.entry.def.now self.entry.number work.new }
         ensures needing { IfOk result (λ came. OnNeed came (work.new ≡ work.old)) }

@@ -143,7 +143,7 @@ impl Database<'_> {
         ensures err { OnErr result (work.new ≡ work.old) }
     {
         let key = root_key(alloc, &new.path)?;
-        work.inserts.push(SeqInsert {
+        work.queue(SeqInsert {
             dedb: self.number,
             anchor: new.anchor,
             key,
@@ -271,7 +271,7 @@ impl Database<'_> {
         self,
         alloc: Global,
         work: &mut DedbWork,
-        ssas: &List<Ssa>,
+        ssas: &[Ssa],
         bytes: &Bytes,
         exits: &Exits,
         locks: &Locks,
@@ -297,10 +297,10 @@ impl Database<'_> {
         ensures needing { IfOk result (λ came. OnNeed came (work.new ≡ work.old)) }
         ensures err { OnErr result (work.new ≡ work.old) }
     {
-        if !are_insert_arguments(self.def, ssas.as_slice()) {
+        if !are_insert_arguments(self.def, ssas) {
             return Ok(refused(alloc, self.number, work, *b"AM"));
         }
-        let new = self.new_segment(alloc, ssas.as_slice(), bytes, exits)?;
+        let new = self.new_segment(alloc, ssas, bytes, exits)?;
         Ok(self.isrt_new(alloc, work, new, locks, region)?)
     }
 }

@@ -4,6 +4,8 @@
 
 mod anchors;
 mod arguments;
+mod calls;
+mod edits;
 mod get;
 mod insert;
 mod place;
@@ -12,5 +14,6 @@ mod ready;
 mod search;
 mod work;
 
+pub use calls::answer;
 pub use ready::DedbReady;
 pub use work::DedbWork;

@@ -1,11 +1,12 @@
 //! Places, and where a transaction stands in a database.
+ghost use Rattle.dli_tree.specs.Paths.{steps_of};
 ghost use Rattle.fp_model.specs.DedbCalls.{anchor_at};
 ghost use Rattle.fp_model.specs.Workspace.{no_dedb_position};
 ghost use Rattle.fp_model.specs.declared.definitions.DedbDef.{DedbDef as DefOf};
 ghost use Rattle.std.specs.Option.{option_copied};
 ghost use Rattle.std.specs.Prelude.{◌≡◌, ◌<◌, ℕ, IfOk, None, if◌then◌else◌};
 
-use dli_tree::Path;
+use dli_tree::{Path, Step};
 use std::alloc::AllocError;
 use std::marker::Model;
 
@@ -26,6 +27,18 @@ impl Model for Place {
 }
 
 impl Place {
+    pub(crate) fn anchor(&self) -> u32
+        ensures { result ≡ self.now.anchor }
+    {
+        self.anchor
+    }
+
+    pub(crate) fn steps(&self) -> &[Step]
+        ensures { steps_of result.now ≡ self.now.path }
+    {
+        self.path.steps.as_slice()
+    }
+
     /// The same place once more. It fails only for want of memory.
     pub(crate) fn copy(&self) -> Result<Place, AllocError>
         ensures { IfOk result (λ place. place ≡ self.now) }
@@ -64,6 +77,13 @@ impl Position {
             parent: None,
             held: false,
         }
+    }
+
+    /// The place.
+    pub(crate) fn place(&self) -> Option<&Place>
+        ensures { option_copied result ≡ self.now.place }
+    {
+        self.place.as_ref()
     }
 
     /// The place that is held.

@@ -1,18 +1,21 @@
 //! What a transaction keeps of data entry databases until it commits.
 ghost use Rattle.dedb_calls.specs.Anchors.{Ascend, IsEdited, Sees, changes_in, held_at};
-ghost use Rattle.dedb_calls.specs.Progress.{IsDedbWorkOf, position_in, with_position_at};
+ghost use Rattle.dedb_calls.specs.Progress.{IsDedbWorkOf, held_in, position_in, with_position_at};
 ghost use Rattle.dedb_calls.specs.declared.anchors.HeldAnchor.{HeldAnchor as HeldOf};
 ghost use Rattle.dli_tree.specs.Changes.{edit_of};
 ghost use Rattle.dli_tree.specs.InOrder.{AreTypes, any_ends, are_in_order};
 ghost use Rattle.dli_tree.specs.Paths.{steps_of};
-ghost use Rattle.fp_model.specs.Order.{edited};
+ghost use Rattle.fp_model.specs.DedbCalls.{goes_with};
+ghost use Rattle.fp_model.specs.Order.{Place as PlaceOf, edited};
 ghost use Rattle.fp_model.specs.Shape.{is_anchor};
 ghost use Rattle.fp_model.specs.State.{roots_at};
+ghost use Rattle.fp_model.specs.Texts.{same_text};
 ghost use Rattle.fp_model.specs.Workspace.{no_dedb_position};
 ghost use Rattle.fp_model.specs.declared.database.Db.{Db as DbOf};
 ghost use Rattle.fp_model.specs.declared.definitions.DedbDef.{DedbDef as DefOf};
 ghost use Rattle.fp_model.specs.declared.definitions.Defs.{Defs as DefsOf};
-ghost use Rattle.std.specs.Prelude.{◌≡◌, ◌<◌, ◌==◌, ◌&&◌, [], IfOk, List as ListOf, None, OnErr, OnOk, Some, false, is_some, length, map, slice_get, true, unwrap_or, ℕ};
+ghost use Rattle.std.specs.Option.{option_copied};
+ghost use Rattle.std.specs.Prelude.{◌≡◌, ◌<◌, ◌++◌, ◌∷◌, ◌==◌, ◌&&◌, [], IfOk, List as ListOf, None, OnErr, OnOk, Some, false, filter, is_some, length, map, not, slice_get, true, unwrap_or, ℕ};
 
 use crate::anchors::{HeldAnchor, edit, hold, into_changes};
 use crate::place::{Place, Position};
@@ -148,6 +151,112 @@ impl DedbWork {
     {
         let segments = def.segments.as_slice();
         edit(segments, dedb, anchor, steps, change, &mut self.anchors)
+    }
+}
+
+/// Edits the roots of a place's anchor at the end of its path.
+fn edit_place(
+    def: &DedbDef,
+    dedb: u8,
+    place: Option<&Place>,
+    change: Change,
+    held: &mut List<HeldAnchor>,
+) -> Result<(), AllocError>
+    requires { AreTypes def.now.segments }
+    ensures ok { Ascend held.old → (at : PlaceOf) (a : HeldOf) → option_copied place.entry ≡ Some at
+        → held_at held.old dedb at.anchor ≡ Some a
+        → are_in_order def.now.segments a.roots ≡ true
+        → OnOk result (IsEdited dedb at.anchor (edited def.now.segments a.roots at.path (edit_of change)) held.old
+        held.new) }
+    ensures err { OnErr result (held.new ≡ held.old) }
+{
+    match place {
+        Some(place) => {
+            let segments = def.segments.as_slice();
+            edit(segments, dedb, place.anchor(), place.steps(), change, held)
+        }
+        None => Ok(()),
+    }
+}
+
+/// Without the sequential inserts below a root, if the place is one.
+fn drop_below(dedb: u8, place: Option<&Place>, inserts: &mut Vec<SeqInsert>)
+    ensures { (def : DefOf) (at : PlaceOf) → option_copied place.entry ≡ Some at
+        → inserts.new.items ≡ filter (λ i. not (goes_with def dedb at i)) inserts.old.items }
+{
+    let Some(place) = place else {
+        return;
+    };
+    let steps = place.steps();
+    if steps.len() != 1 {
+        return;
+    }
+    let anchor = place.anchor();
+    let key = steps[0].key.as_slice();
+    inserts.retain(
+        |one: &SeqInsert| -> bool
+            ensures { result ≡ not (one.now.dedb == dedb && one.now.anchor == anchor && same_text one.now.key key.entry.now) }
+        { !(one.dedb == dedb && one.anchor == anchor && one.key.as_slice() == key) },
+    );
+}
+
+// The queue.
+impl DedbWork {
+    /// Puts a sequential insert at the end of the queue. It fails only for want of memory, and then nothing changes.
+    pub(crate) fn queue(&mut self, insert: SeqInsert) -> Result<(), AllocError>
+        ensures ok { OnOk result (self.new ≡ record self.old { inserts = self.old.inserts ++ insert ∷ [] }) }
+        ensures err { OnErr result (self.new ≡ self.old) }
+    {
+        self.inserts.push(insert)?;
+        Ok(())
+    }
+}
+
+// The segment that is held.
+impl DedbWork {
+    /// The place that is held in a database.
+    pub(crate) fn held_place(&self, dedb: u8) -> Option<&Place>
+        requires { dedb < length self.now.positions }
+        ensures { option_copied result ≡ held_in self.now dedb }
+    {
+        self.positions[dedb as usize].held_place()
+    }
+
+    /// Edits the roots of the anchor of the place that was found last. It fails only for want of memory, for an insert
+    /// alone, and then nothing changes.
+    pub(crate) fn edit_held(
+        &mut self,
+        def: &DedbDef,
+        dedb: u8,
+        change: Change,
+    ) -> Result<(), AllocError>
+        requires types { AreTypes def.now.segments }
+        requires counted { dedb < length self.old.positions }
+
+        ensures ok { Ascend self.old.anchors → (at : PlaceOf) (a : HeldOf)
+            → (position_in self.old dedb).place ≡ Some at
+            → held_at self.old.anchors dedb at.anchor ≡ Some a
+            → are_in_order def.now.segments a.roots ≡ true
+            → OnOk result (IsEdited dedb at.anchor (edited def.now.segments a.roots at.path (edit_of change))
+            self.old.anchors self.new.anchors) }
+        ensures positions { self.new.positions ≡ self.old.positions }
+        ensures inserts { self.new.inserts ≡ self.old.inserts }
+        ensures err { OnErr result (self.new ≡ self.old) }
+    {
+        let place = self.positions[dedb as usize].place.as_ref();
+        edit_place(def, dedb, place, change, &mut self.anchors)
+    }
+
+    /// Takes the sequential inserts below the root that was found last out of the queue; where no root was, none.
+    pub(crate) fn drop_held(&mut self, dedb: u8)
+        requires { dedb < length self.old.positions }
+        ensures inserts { (def : DefOf) (at : PlaceOf) → (position_in self.old dedb).place ≡ Some at
+            → self.new.inserts ≡ filter (λ i. not (goes_with def dedb at i)) self.old.inserts }
+        ensures positions { self.new.positions ≡ self.old.positions }
+        ensures anchors { self.new.anchors ≡ self.old.anchors }
+    {
+        let place = self.positions[dedb as usize].place();
+        drop_below(dedb, place, &mut self.inserts);
     }
 }
 
