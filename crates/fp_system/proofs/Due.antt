@@ -7,7 +7,9 @@ use Rattle.fp_restart.specs.declared.fault.RestartFault.{RestartFault}
 use Rattle.fp_restart.specs.declared.fault.RestartFault.TheVariants as fault
 use Rattle.log_groups.specs.Images.{BeginsFor, as_front}
 use Rattle.fp_system.specs.declared.parts.Setup.{Setup}
-use Rattle.fp_system.specs.Answers.{IsEarly, MayStandIn, IsOfParts, IsStop, faulty_line, status_of_fault}
+use Rattle.fp_system.specs.Answers.{IsEarly, MayStandIn, IsOfParts, IsStop, faulty_line, status_of_fault, status_of_stop}
+use Rattle.fp_core.specs.declared.stop.Stop.{Stop}
+use Rattle.fp_core.specs.declared.stop.Stop.TheVariants as stop
 use Rattle.fp_system.specs.Parts.{front_for}
 use Rattle.fp_system.specs.Setups.{IsSetup, job_of}
 use Rattle.fp_system.specs.Table as table
@@ -142,3 +144,10 @@ parts_not_done answer of e = absurd (subst IsOfParts e of)
 
 pub parts_not_line : {Any : Type 0} (answer : Status) (number : ℕ) → IsOfParts answer → answer ≡ Line number → Any
 parts_not_line answer number of e = absurd (subst IsOfParts e of)
+
+-- a line that stops a run is the one that its step named
+pub stop_line : (why : Stop) (number : ℕ) → status_of_stop why ≡ Line number → why ≡ stop.LineFault number
+stop_line stop.LogFault number e = absurd cc
+stop_line stop.ReadFault number e = absurd cc
+stop_line (stop.LineFault n) number e = cc
+stop_line stop.Memory number e = absurd cc

@@ -116,7 +116,7 @@ module _ (defs : Defs) (scripts : List Script) (front : Front) (log : List ℕ) 
 
 -- it fits its place in the log
 pub format_keeps : (place : ℕ) → KeepsRules (format_entry place)
-format_keeps place = record { in_order = tt; parts = (refl, refl) }
+format_keeps place = record { in_order = refl; parts = (refl, refl) }
 
 pub format_fits : (place : ℕ) → FitsEntry (format_entry place)
 format_fits place = record {

@@ -250,7 +250,7 @@ made_holds job sent disk same rest =
 -- what a crash now may leave was left since each moment
 pub left_once : (h : History) (t : ℕ) (s : Snapshot) → MayLeave h s → LeftSince t h s
 left_once [] t s now = now
-left_once (e ∷ before) t s now = inl now
+left_once (e ∷ earlier) t s now = inl now
 
 -- one that begins as a snapshot
 pub begun_again : (moment : ℕ) (stopped : Disk) (s : Snapshot) (m : MemorySite) → stopped.left_since moment s

@@ -1,4 +1,7 @@
-use Rattle.std.proofs.Common.{◌≡◌, ◌∙◌, inl, inr, refl, sym, subst, arith, List, []}
+use Rattle.std.proofs.Common.{◌≡◌, ◌∙◌, ap, inl, inr, refl, sym, subst, arith, List, []}
+use Rattle.std.specs.Prelude.{Err, option_map}
+use Rattle.fp_core.specs.Standing.{number_of}
+use Rattle.fp_system.proofs.Due.{stop_line}
 use Rattle.fp_core.specs.Sparing.{IsLogSet as IsLog}
 use Rattle.fp_model.specs.Machine.{at_rest}
 use Rattle.fp_model.specs.Messages.{lines_of}
@@ -132,3 +135,10 @@ returns-clause-cause g c =
       source = stop_by_source read read2 why c.in-Err-run_schedule.ensures.source_cause;
       site = stop_by_site site site2 why c.in-Err-run_schedule.ensures.site_cause;
     })
+
+pub returns-clause-line : goal.returns-clause-line
+returns-clause-line g c number s e =
+    let left = g.S.Source.left c.args.source.now part.Messages in
+    ap (option_map number_of) (sym (c.in-Ok.ensures.fault left))
+    ∙ c.in-Err-run_schedule.ensures.line s number
+    (ap (λ why. Err why) (stop_line c.in-Err-run_schedule.stop number (sym c.from.ensures ∙ e)))

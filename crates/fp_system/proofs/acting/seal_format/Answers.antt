@@ -4,7 +4,7 @@ use Rattle.fp_model.specs.LogText.{Front}
 use Rattle.fp_model.specs.declared.log.Entry.{Entry}
 use Rattle.fp_site.specs.Moments.{Through}
 use Rattle.fp_site.proofs.Images.{durable_settles}
-use Rattle.log_groups.specs.Images.{IsAtRest, IsBeforeOrAfter, IsLog, IsWithOrWithout}
+use Rattle.log_groups.specs.Images.{IsAtRest, IsBeforeOrAfter, IsLog, IsWithOrWithout, with_group}
 use Rattle.fp_system.specs.Gives.{format_entry}
 use Rattle.fp_system.proofs.Migrations.{rests_before}
 use Rattle.fp_system.proofs.Runs.{only_same}
@@ -47,8 +47,8 @@ returns-in-Ok-clause-settles g c front groups image t rest settles =
     (ap (take 1) c.in_ok-append_format.ensures.entry)
     (subst (λ (n : ℕ). IsWithOrWithout front groups n (take 1 log.unsealed) image) c.append_format.ensures.gate one)
 
-pub returns-clause-crash : goal.returns-clause-crash
-returns-clause-crash g c front groups t rest =
+pub returns-in-Err-clause-crash : goal.returns-in-Err-clause-crash
+returns-in-Err-clause-crash g c front groups t rest =
     let log = c.append_format.new.log in
     let run = c.seal.ensures.crash front groups t
     (subst (IsAtRest (g.T.Site.disk c.args.site.now) front groups) (sym c.append_format.ensures.gate) rest) in
@@ -57,11 +57,18 @@ returns-clause-crash g c front groups t rest =
     (subst (λ (n : ℕ). Through (g.T.Site.disk c.args.site.now) (g.T.Site.disk c.seal.new.site)
     (IsBeforeOrAfter front groups n (take 1 log.unsealed))) c.append_format.ensures.gate run)
 
-pub returns-clause-settles : goal.returns-clause-settles
-returns-clause-settles g c front groups image t rest settles =
+pub returns-in-Err-clause-settles : goal.returns-in-Err-clause-settles
+returns-in-Err-clause-settles g c front groups image t rest settles =
     let log = c.append_format.new.log in
     let one = c.seal.ensures.settles front groups image t
     (subst (IsAtRest (g.T.Site.disk c.args.site.now) front groups) (sym c.append_format.ensures.gate) rest) settles in
     subst (λ (es : List Entry). IsWithOrWithout front groups c.args.log.now.gate es image)
     (ap (take 1) c.in_ok-append_format.ensures.entry)
     (subst (λ (n : ℕ). IsWithOrWithout front groups n (take 1 log.unsealed) image) c.append_format.ensures.gate one)
+
+pub returns-in-Ok-clause-durable : goal.returns-in-Ok-clause-durable
+returns-in-Ok-clause-durable g c front groups t rest =
+    let one = c.in-Ok.ensures.durable front groups t
+    (subst (IsAtRest (g.T.Site.disk c.args.site.now) front groups) (sym c.append_format.ensures.gate) rest) in
+    subst (λ (es : List Entry). IsAtRest (g.T.Site.disk c.seal.new.site) front (with_group groups es)
+    c.seal.new.self.gate) (ap (take 1) c.in_ok-append_format.ensures.entry) one
