@@ -70,7 +70,8 @@ module _ (dedb anchor : ℕ) where
   partitioned (x ∷ xs) up zero zero d le within less = less
   partitioned (x ∷ xs) up zero (suc j) d le within less =
       let b : HeldAnchor = slice_index_or xs j d in
-      before_trans x.dedb x.anchor b.dedb b.anchor dedb anchor (all_at (IsAfter x) xs j d up.0 (omega (arith, within))) less
+      before_trans x.dedb x.anchor b.dedb b.anchor dedb anchor (all_at (IsAfter x) xs j d up.0 (omega (arith, within)))
+          less
   partitioned (x ∷ xs) up (suc i) zero d le within less = absurd (omega (arith, le))
   partitioned (x ∷ xs) up (suc i) (suc j) d le within less =
       partitioned xs up.1 i j d (omega (arith, le)) (omega (arith, within)) less

@@ -103,7 +103,8 @@ module _ (types : List SegDef) (type levels : ℕ) (ssas : List Ssa) (last : Ssa
 
   with_line : (line : List ℕ) → same_text (named ssas) (line ++ type ∷ [])
       ≡ (same_text (named front) line && last.segment == type)
-  with_line line = ap (λ list. same_text list (line ++ type ∷ [])) parts ∙ same_last (named front) line last.segment type
+  with_line line = ap (λ list. same_text list (line ++ type ∷ [])) parts ∙ same_last (named front) line last.segment
+      type
 
   pub line_lacks : (last.segment ≡ type → ⊥) → false ≡ same_text (named ssas) (line_within levels types type)
   line_lacks other =
@@ -159,7 +160,8 @@ pub first_there : {X : Type 0} (xs : List X) (x : X) → 1 ≤ length xs → x �
 first_there [] x some is = absurd (omega (arith, some))
 first_there (y ∷ ys) x some is = ap (λ z. Some z) (sym is)
 
-pub first_step : (xs : List StepOf) (x : StepOf) → slice_get xs 0 ≡ Some x → slice_get (steps_of xs) 0 ≡ Some (step_of x)
+pub first_step : (xs : List StepOf) (x : StepOf) → slice_get xs 0 ≡ Some x → slice_get (steps_of xs) 0 ≡ Some (step_of
+    x)
 first_step [] x e = absurd (cc)
 first_step (y ∷ ys) x e = let same : y ≡ x = cc in ap (λ z. Some (step_of z)) same
 

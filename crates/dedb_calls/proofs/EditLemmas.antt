@@ -167,5 +167,6 @@ those_go def dedb at xs anchor key one same same_key =
     (λ i. not (goes_with def dedb at i)) xs
     (λ i. ap (λ k. not (i.dedb == dedb && i.anchor == k && same_text i.key key)) same
     ∙ ap (λ k. not (i.dedb == dedb && i.anchor == at.anchor && same_text i.key k)) same_key
-    ∙ sym (ap (λ b. not (b && i.dedb == dedb && i.anchor == at.anchor && same_text i.key (root_key_of def dedb at.path)))
+    ∙ sym (ap (λ b. not (b && i.dedb == dedb && i.anchor == at.anchor && same_text i.key (root_key_of def dedb
+        at.path)))
     (both (length at.path) 1 one)))

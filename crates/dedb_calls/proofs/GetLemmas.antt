@@ -65,7 +65,8 @@ module _ (def : DedbDef) (number : ℕ) (work : DedbProgress) (g : Get) (ssas : 
   refused_args e = ap (λ b. if not b then Some (codes "AM")
       else if lacks_parent_at (position_in work number) g then Some (codes "GP") else None) e
 
-  pub refused_parent : true ≡ dedb.are_get_arguments def number ssas → true ≡ lacks_parent_at (position_in work number) g
+  pub refused_parent : true ≡ dedb.are_get_arguments def number ssas → true ≡ lacks_parent_at (position_in work number)
+      g
       → Some (codes "GP") ≡ refusal_of def number work g ssas
   refused_parent e f =
       ap (λ b. if b then Some (codes "GP") else None) f
@@ -103,7 +104,8 @@ pub looked_is : (l l2 : Looked) (locked : ℕ → Bool) (look : ℕ → Option O
     → HasLooked l locked look n → HasLooked l2 locked look n
 looked_is l l2 locked look n same h = subst (λ k. HasLooked k locked look n) same h
 
-module _ (def : DedbDef) (number : ℕ) (held : Resource → Option Mode) (work : DedbProgress) (order : Ascend work.anchors)
+module _ (def : DedbDef) (number : ℕ) (held : Resource → Option Mode) (work : DedbProgress) (order : Ascend
+    work.anchors)
     (known : Knows held work.anchors) (g : Get) (hold : Bool) (ssas : List Ssa) where
   abbrev lock : ℕ → Bool
   lock = is_locked held number (dedb.lock_of def number hold)

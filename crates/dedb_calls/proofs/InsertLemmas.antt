@@ -328,7 +328,8 @@ pub insert_refused : (def : DedbDef) (number : ℕ) (held : Resource → Option 
     → ComesTo number (λ db own. dedb.dedb_need def number db own held (call.Isrt n ssas bytes))
     (λ db own. dedb.isrt_reply def number db own ssas bytes) work end came
 insert_refused def number held work ssas bytes n e end came end_is came_is =
-    subst (λ (w : DedbProgress). ComesTo number (λ db own. dedb.dedb_need def number db own held (call.Isrt n ssas bytes))
+    subst (λ (w : DedbProgress). ComesTo number (λ db own. dedb.dedb_need def number db own held
+        (call.Isrt n ssas bytes))
     (λ db own. dedb.isrt_reply def number db own ssas bytes) work w came) (sym end_is)
     (subst (λ (r : DedbReady). ComesTo number
     (λ db own. dedb.dedb_need def number db own held (call.Isrt n ssas bytes))

@@ -27,7 +27,8 @@ if_ok (Err e) p f = tt
 find_same : {X : Type 0} (p q : X → Bool) (xs : List X) → ((x : X) → p x ≡ q x) → find p xs ≡ find q xs
 find_same p q [] same = refl
 find_same {X} p q (x ∷ xs) same =
-    ap (λ b. if b then Some x else find p xs) (same x) ∙ ap (λ rest. if q x then Some x else rest) (find_same p q xs same)
+    ap (λ b. if b then Some x else find p xs) (same x) ∙ ap (λ rest. if q x then Some x else rest) (find_same p q xs
+        same)
 
 find_none : {X : Type 0} (p : X → Bool) (xs : List X) → ((x : X) → p x ≡ false) → find p xs ≡ None
 find_none p [] never = refl
@@ -39,7 +40,8 @@ abbrev at_zero : List Step → Place
 at_zero path = record { anchor = 0; path = path }
 
 abbrev is_behind : ℕ → Option Place → Occurrence → Bool
-is_behind anchor behind s = option_map_or (λ p. place_precedes p (record { anchor = anchor; path = s.path })) behind true
+is_behind anchor behind s = option_map_or (λ p. place_precedes p (record { anchor = anchor; path = s.path })) behind
+    true
 
 abbrev is_within : ℕ → Option Place → Occurrence → Bool
 is_within anchor within s = option_map_or (λ p. lies_within p (record { anchor = anchor; path = s.path })) within true
@@ -195,7 +197,8 @@ held_roots held dedb anchor one roots there its =
 
 module _ (is_locked : ℕ → Bool) (look other : ℕ → Option Occurrence)
     (same : (anchor : ℕ) → is_locked anchor ≡ true → look anchor ≡ other anchor) where
-  pub unlocked_same : (anchors : List ℕ) → first_unlocked is_locked look anchors ≡ first_unlocked is_locked other anchors
+  pub unlocked_same : (anchors : List ℕ) → first_unlocked is_locked look anchors ≡ first_unlocked is_locked other
+      anchors
   unlocked_same [] = refl
   unlocked_same (a ∷ rest) = by (is_locked a) refl (unlocked_same rest)
     where
@@ -226,4 +229,5 @@ module _ (is_locked : ℕ → Bool) (look other : ℕ → Option Occurrence)
               passed.1 ∙ later (sym passed.0 ∙ f)
               ∙ sym (is_passed is_locked other a rest e (sym (same a e) ∙ g)).1
           at (Some s) g =
-              (is_found is_locked look a rest s e g).1 ∙ sym (is_found is_locked other a rest s e (sym (same a e) ∙ g)).1
+              (is_found is_locked look a rest s e g).1 ∙ sym (is_found is_locked other a rest s e
+                  (sym (same a e) ∙ g)).1

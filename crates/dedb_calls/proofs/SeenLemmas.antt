@@ -122,7 +122,8 @@ get_set [] n p less = absurd (omega (arith, less))
 get_set (x ∷ xs) zero p less = refl
 get_set (x ∷ xs) (suc n) p less = get_set xs n p (omega (arith, less))
 
-pub get_other : {X : Type 0} (xs : List X) (n d : ℕ) (p : X) → (d ≡ n → ⊥) → slice_get (slice_set xs n p) d ≡ slice_get xs d
+pub get_other : {X : Type 0} (xs : List X) (n d : ℕ) (p : X) → (d ≡ n → ⊥) → slice_get (slice_set xs n p) d ≡ slice_get
+    xs d
 get_other [] n d p other = refl
 get_other (x ∷ xs) zero zero p other = absurd (other refl)
 get_other (x ∷ xs) zero (suc d) p other = refl

@@ -18,7 +18,8 @@ use Rattle.dedb_calls.specs.declared.insert.Judged.{Judged}
 use Rattle.dedb_calls.specs.declared.insert.NewSegment.{NewSegment}
 use Rattle.dedb_calls.specs.declared.insert.Judged.TheVariants as judged
 
--- The path of an insert: its arguments are such, fit the types, and the bytes are as long as the type that they name last.
+-- The path of an insert: its arguments are such, fit the types, and the bytes are as long as the type that they name
+-- last.
 pub record IsInsert (def : DedbDef) (dedb : ℕ) (ssas : List Ssa) (path : List Step) (bytes : List ℕ) : Type 0 where
   pub arguments : are_insert_arguments def dedb ssas ≡ true
   pub path_is : path ≡ insert_path def dedb ssas bytes
@@ -36,7 +37,8 @@ abbrev pub AreDirectOrNone : List SegDef → List Step → Type 0
 AreDirectOrNone types [] = ⊤
 AreDirectOrNone types (s ∷ ss) = AreDirect types (s ∷ ss)
 
--- what becomes of an insert, by whether its anchor is locked, its parents stand, its type is sequential, and it is there
+-- what becomes of an insert, by whether its anchor is locked, its parents stand, its type is sequential, and it is
+-- there
 abbrev pub HasJudged : Judged → Bool → Bool → Bool → Bool → Type 0
 HasJudged judged.Unlocked locked parents sequential there = locked ≡ false
 HasJudged judged.NoParent locked parents sequential there = (locked ≡ true) × (parents ≡ false)

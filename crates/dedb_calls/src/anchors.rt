@@ -71,6 +71,7 @@ pub(crate) fn hold(
     ensures there { Ascend held.old → held_at held.old dedb anchor ≡ None
         → OnOk result (held_at held.new dedb anchor
         ≡ Some (record { dedb = dedb; anchor = anchor; roots = roots; is_changed = false })) }
+    ensures has { Ascend held.old → OnOk result (is_some (held_at held.new dedb anchor) ≡ true) }
     ensures others { Ascend held.old → (d a : ℕ) → (d == dedb && a == anchor) ≡ false
         → held_at held.new d a ≡ held_at held.old d a }
     ensures again { Ascend held.old → is_some (held_at held.old dedb anchor) ≡ true → held.new ≡ held.old }

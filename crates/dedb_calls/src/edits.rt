@@ -134,8 +134,8 @@ impl Database<'_> {
         Ok(DedbReady::Answer(answered(alloc, *b"  ")))
     }
 
-    /// Deletes the segment that is held, with all below it and its queued inserts, and forgets the parent. It fails only
-    /// for want of memory, and then nothing changes.
+    /// Deletes the segment that is held, with all below it and its queued inserts, and forgets the parent. It fails
+    /// only for want of memory, and then nothing changes.
     fn delete(self, alloc: Global, work: &mut DedbWork) -> Result<DedbReady, AllocError>
         requires types { AreTypes self.def.now.segments }
         requires counted { self.number < length work.old.positions }
@@ -158,7 +158,8 @@ impl Database<'_> {
         Ok(DedbReady::Answer(answered(alloc, *b"  ")))
     }
 
-    /// What a replacement comes to. It fails only for want of memory; then, and where a lock is needed, nothing changes.
+    /// What a replacement comes to. It fails only for want of memory; then, and where a lock is needed, nothing
+    /// changes.
     pub(crate) fn repl(
         self,
         alloc: Global,

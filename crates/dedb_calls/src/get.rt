@@ -81,8 +81,8 @@ fn alone(anchor: u64) -> Stretch
     }
 }
 
-/// The anchors that a get looks at where its arguments name the root: the anchor of the root's key alone, and none where
-/// GN is past it.
+/// The anchors that a get looks at where its arguments name the root: the anchor of the root's key alone, and none
+/// where GN is past it.
 fn named_stretch(position: &Position, get: Get, root: u32) -> Stretch
     ensures anchors { (def : DefOf) (dedb : ℕ) (key : ListOf ℕ) → root ≡ anchor_of def key
         → numbers_in result ≡ anchors_searched def dedb position.now get (Some key) }
@@ -181,10 +181,7 @@ fn leaves_parent(get: Get) -> bool
     ensures { (def : DefOf) (dedb : ℕ) (before : OptionOf PlaceOf) (place : PlaceOf)
         → parent_after def dedb get before place ≡ (if result then before else Some place) }
 {
-    match get {
-        Get::Unique | Get::Next => false,
-        Get::NextInParent => true,
-    }
+    matches!(get, Get::NextInParent)
 }
 
 /// Moves to what a get found: GU and GN set the parent too. It fails only for want of memory, and then nothing changes.
@@ -278,7 +275,8 @@ impl Database<'_> {
         requires some { 1 ≤ region }
         requires within { region ≤ length locks.now }
         requires known { Knows ((standing locks.now).holds region) work.now.anchors }
-        requires root { root ≡ option_map (anchor_of self.def.now) (root_named self.def.now self.number asked.ssas.now) }
+        requires root { root ≡ option_map (anchor_of self.def.now) (root_named self.def.now self.number asked.ssas.now)
+            }
 
         ensures { IfOk result (λ looked. HasLooked looked
             (is_locked ((standing locks.now).holds region) self.entry.number
@@ -317,7 +315,8 @@ impl Database<'_> {
         requires some { 1 ≤ region }
         requires within { region ≤ length locks.now }
         requires known { Knows ((standing locks.now).holds region) work.old.anchors }
-        requires root { root ≡ option_map (anchor_of self.def.now) (root_named self.def.now self.number asked.ssas.now) }
+        requires root { root ≡ option_map (anchor_of self.def.now) (root_named self.def.now self.number asked.ssas.now)
+            }
 
         ensures comes { IfOk result (λ came. ComesTo self.entry.number
             (λ db own. get_need self.entry.def.now self.entry.number db own ((standing locks.now).holds region)

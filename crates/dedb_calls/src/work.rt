@@ -5,7 +5,7 @@ ghost use Rattle.dedb_calls.specs.declared.anchors.HeldAnchor.{HeldAnchor as Hel
 ghost use Rattle.dli_tree.specs.Changes.{edit_of};
 ghost use Rattle.dli_tree.specs.InOrder.{AreTypes, any_ends, are_in_order};
 ghost use Rattle.dli_tree.specs.Paths.{steps_of};
-ghost use Rattle.fp_model.specs.DedbCalls.{goes_with};
+ghost use Rattle.fp_model.specs.DedbCalls.{goes_with, type_of_path};
 ghost use Rattle.fp_model.specs.Order.{Place as PlaceOf, edited};
 ghost use Rattle.fp_model.specs.Shape.{is_anchor};
 ghost use Rattle.fp_model.specs.State.{roots_at};
@@ -15,9 +15,10 @@ ghost use Rattle.fp_model.specs.declared.database.Db.{Db as DbOf};
 ghost use Rattle.fp_model.specs.declared.definitions.DedbDef.{DedbDef as DefOf};
 ghost use Rattle.fp_model.specs.declared.definitions.Defs.{Defs as DefsOf};
 ghost use Rattle.std.specs.Option.{option_copied};
-ghost use Rattle.std.specs.Prelude.{◌≡◌, ◌<◌, ◌++◌, ◌∷◌, ◌==◌, ◌&&◌, [], IfOk, List as ListOf, None, OnErr, OnOk, Some, false, filter, is_some, length, map, not, slice_get, true, unwrap_or, ℕ};
+ghost use Rattle.std.specs.Prelude.{◌≡◌, ◌<◌, ◌++◌, ◌∷◌, ◌==◌, ◌&&◌, [], IfOk, List as ListOf, None, OnErr, OnOk, Some, false, filter, is_some, length, map, not, option_map, slice_get, true, unwrap_or, ℕ};
 
 use crate::anchors::{HeldAnchor, edit, hold, into_changes};
+use crate::get::type_of_path;
 use crate::place::{Place, Position};
 use dli_tree::{Change, Step};
 use fp_model::{AnchorChange, DedbDef, Defs, List, Root, SeqInsert};
@@ -90,6 +91,7 @@ impl DedbWork {
         ensures others { (d a : ℕ) → (d == dedb && a == anchor) ≡ false
             → held_at self.new.anchors d a ≡ held_at self.old.anchors d a }
         ensures again { is_some (held_at self.old.anchors dedb anchor) ≡ true → self.new ≡ self.old }
+        ensures has { OnOk result (is_some (held_at self.new.anchors dedb anchor) ≡ true) }
         ensures sees { (db : DbOf) → roots_at db dedb anchor ≡ roots → Sees db self.old.anchors
             → Sees db self.new.anchors }
 
@@ -105,6 +107,18 @@ impl DedbWork {
         ensures err { OnErr result (self.new ≡ self.old) }
     {
         hold(&mut self.anchors, dedb, anchor, roots)
+    }
+
+    /// The type of the segment that is held in a database, if one is.
+    pub fn held_type(&self, dedb: u8) -> Option<u8>
+        requires { dedb < length self.now.positions }
+        ensures { (def : DefOf) → result
+            ≡ option_map (λ place. type_of_path def dedb place.path) (held_in self.now dedb) }
+    {
+        match self.held_place(dedb) {
+            Some(place) => Some(type_of_path(place.steps())),
+            None => None,
+        }
     }
 
     /// The sequential inserts, in call order.
@@ -130,8 +144,8 @@ impl DedbWork {
 
 // Anchors.
 impl DedbWork {
-    /// Edits the roots of an anchor that it holds, at the end of a path. It fails only for want of memory, for an insert
-    /// alone, and then nothing changes.
+    /// Edits the roots of an anchor that it holds, at the end of a path. It fails only for want of memory, for an
+    /// insert alone, and then nothing changes.
     pub(crate) fn edit(
         &mut self,
         def: &DedbDef,
@@ -195,7 +209,8 @@ fn drop_below(dedb: u8, place: Option<&Place>, inserts: &mut Vec<SeqInsert>)
     let key = steps[0].key.as_slice();
     inserts.retain(
         |one: &SeqInsert| -> bool
-            ensures { result ≡ not (one.now.dedb == dedb && one.now.anchor == anchor && same_text one.now.key key.entry.now) }
+            ensures { result ≡ not (one.now.dedb == dedb && one.now.anchor == anchor && same_text one.now.key
+                key.entry.now) }
         { !(one.dedb == dedb && one.anchor == anchor && one.key.as_slice() == key) },
     );
 }

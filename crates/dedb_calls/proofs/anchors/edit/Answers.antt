@@ -10,7 +10,8 @@ use Rattle.dedb_calls.proofs.anchors.edit.Goals as goal
 
 pub returns-then-not-is_there-clause-ok : goal.returns-then-not-is_there-clause-ok
 returns-then-not-is_there-clause-ok c up a at =
-    let lacking = none_there c.args.held.now c.as_slice-items.result.now c.as_slice-items.ensures c.args.dedb c.args.anchor
+    let lacking = none_there c.args.held.now c.as_slice-items.result.now c.as_slice-items.ensures c.args.dedb
+        c.args.anchor
     c.place_of-at.result c.place_of-at.ensures.place c.is_there.result c.is_there.ensures.there c.is_there.ensures.none
     c.if-not-is_there.true up in
     absurd (not_held c.args.held.now c.args.dedb c.args.anchor a at lacking)

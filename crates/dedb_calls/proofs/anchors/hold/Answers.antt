@@ -30,7 +30,8 @@ returns-clause-others c up =
 
 pub returns-clause-again : goal.returns-clause-again
 returns-clause-again c up there =
-    let lacking = none_there c.args.held.now c.as_slice-items.result.now c.as_slice-items.ensures c.args.dedb c.args.anchor
+    let lacking = none_there c.args.held.now c.as_slice-items.result.now c.as_slice-items.ensures c.args.dedb
+        c.args.anchor
     c.place_of-at.result c.place_of-at.ensures.place c.is_there.result c.is_there.ensures.there c.is_there.ensures.none
     c.if-is_there.false up in
     absurd (not_both (sym there ∙ ap is_some lacking))
@@ -40,3 +41,17 @@ returns-clause-changes c =
     put_changes c.args.held.now c.as_slice-items.result.now c.as_slice-items.ensures c.args.dedb c.args.anchor
     c.place_of-at.result c.place_of-at.ensures.place c.is_there.result c.is_there.ensures.there c.is_there.ensures.none
     c.if-is_there.false c.place_of-at.ensures.within c.args.roots c.insert.new.self c.in_ok-insert.ensures.ok
+
+pub returns-then-is_there-clause-has : goal.returns-then-is_there-clause-has
+returns-then-is_there-clause-has c up =
+    let f = found_there c.args.held.now c.as_slice-items.result.now c.as_slice-items.ensures c.args.dedb c.args.anchor
+    c.place_of-at.result c.place_of-at.ensures.place c.is_there.result c.is_there.ensures.there c.is_there.ensures.none
+    c.if-is_there.true up in
+    ap is_some f.3
+
+pub returns-clause-has : goal.returns-clause-has
+returns-clause-has c up =
+    ap is_some (put_there c.args.held.now c.as_slice-items.result.now c.as_slice-items.ensures c.args.dedb
+    c.args.anchor c.place_of-at.result c.place_of-at.ensures.place c.is_there.result c.is_there.ensures.there
+    c.is_there.ensures.none c.if-is_there.false c.place_of-at.ensures.within c.args.roots c.insert.new.self
+    c.in_ok-insert.ensures.ok up)

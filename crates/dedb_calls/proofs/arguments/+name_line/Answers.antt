@@ -11,7 +11,8 @@ pub returns-in-Some : goal.returns-in-Some
 returns-in-Some t c =
     c.name_line.ensures
     ∙ line_above c.args.segments.now c.args.segment c.args.levels c.args.ssas.now c.last-item.result
-    c.in-len1-up.len_at_least c.last-item.is c.in-Some.parent c.if-last-segment.false c.if-levels-eq0.false c.in-Some.ensures
+    c.in-len1-up.len_at_least c.last-item.is c.in-Some.parent c.if-last-segment.false c.if-levels-eq0.false
+        c.in-Some.ensures
 
 pub returns-in-None : goal.returns-in-None
 returns-in-None t c =

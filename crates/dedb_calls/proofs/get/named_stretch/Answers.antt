@@ -9,7 +9,8 @@ use Rattle.dedb_calls.proofs.get.named_stretch.Goals as goal
 pub returns-then-named-least-clause-anchors : goal.returns-then-named-least-clause-anchors
 returns-then-named-least-clause-anchors c def dedb key is =
     subst (λ (g : Get). [] ≡ anchors_searched def dedb c.args.position.now g (Some key)) (sym c.in-Next.is)
-    (next_none c.from-named.result (anchor_of def key) c.anchor-least.result (anchor_at def dedb c.args.position.now.place)
+    (next_none c.from-named.result (anchor_of def key) c.anchor-least.result (anchor_at def dedb
+        c.args.position.now.place)
     (c.from-named.ensures ∙ is) (c.anchor-least.ensures.exact def dedb) c.if-named-least.true)
 
 pub returns-else-named-least-clause-anchors : goal.returns-else-named-least-clause-anchors

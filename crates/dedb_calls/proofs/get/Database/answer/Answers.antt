@@ -24,7 +24,8 @@ get-requires-clause-root g c =
 
 pub returns-in-Get-clause-comes : goal.returns-in-Get-clause-comes
 returns-in-Get-clause-comes g c =
-    comes_as c.get.result c.args.self.def.now c.args.self.number ((standing c.args.locks.now).holds c.args.region) c.args.call.now
+    comes_as c.get.result c.args.self.def.now c.args.self.number ((standing c.args.locks.now).holds c.args.region)
+        c.args.call.now
     (call.Get c.in-Get.get c.in-Get.hold c.in-Get.db c.in-Get.ssas) c.args.work.now c.get.new.work c.in-Get.is
     c.get.ensures.comes
 
@@ -39,7 +40,8 @@ returns-in-Fld-clause-fits g c =
 
 pub returns-in-Isrt-clause-comes : goal.returns-in-Isrt-clause-comes
 returns-in-Isrt-clause-comes g c =
-    comes_as c.isrt.result c.args.self.def.now c.args.self.number ((standing c.args.locks.now).holds c.args.region) c.args.call.now
+    comes_as c.isrt.result c.args.self.def.now c.args.self.number ((standing c.args.locks.now).holds c.args.region)
+        c.args.call.now
     (call.Isrt c.in-Isrt.db c.in-Isrt.ssas c.in-Isrt.bytes) c.args.work.now c.isrt.new.work c.in-Isrt.is
     (subst (λ (ssas : List Ssa). ComesBy c.isrt.result c.args.self.def.now c.args.self.number
     ((standing c.args.locks.now).holds c.args.region) (call.Isrt c.in-Isrt.db ssas c.in-Isrt.bytes) c.args.work.now
@@ -47,13 +49,15 @@ returns-in-Isrt-clause-comes g c =
 
 pub returns-in-Repl-clause-comes : goal.returns-in-Repl-clause-comes
 returns-in-Repl-clause-comes g c =
-    comes_as c.repl.result c.args.self.def.now c.args.self.number ((standing c.args.locks.now).holds c.args.region) c.args.call.now
+    comes_as c.repl.result c.args.self.def.now c.args.self.number ((standing c.args.locks.now).holds c.args.region)
+        c.args.call.now
     (call.Repl c.in-Repl.db c.in-Repl.bytes) c.args.work.now c.repl.new.work c.in-Repl.is
     (c.repl.ensures.comes c.in-Repl.db)
 
 pub returns-in-Dlet-clause-comes : goal.returns-in-Dlet-clause-comes
 returns-in-Dlet-clause-comes g c =
-    comes_as c.dlet.result c.args.self.def.now c.args.self.number ((standing c.args.locks.now).holds c.args.region) c.args.call.now
+    comes_as c.dlet.result c.args.self.def.now c.args.self.number ((standing c.args.locks.now).holds c.args.region)
+        c.args.call.now
     (call.Dlet c.in-Dlet.db) c.args.work.now c.dlet.new.work c.in-Dlet.is
     (c.dlet.ensures.comes c.in-Dlet.db)
 

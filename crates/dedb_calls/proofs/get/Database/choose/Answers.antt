@@ -17,7 +17,8 @@ returns-then-is_sequential c =
     (is_locked ((standing c.args.locks.now).holds c.args.region) c.args.self.number Exclusive) true place = record {
       its = sym c.in-Some.ensures;
       lock =
-          ap (is_locked ((standing c.args.locks.now).holds c.args.region) c.args.self.number Exclusive) (sym c.anchor-anchor.ensures)
+          ap (is_locked ((standing c.args.locks.now).holds c.args.region) c.args.self.number Exclusive) (sym
+              c.anchor-anchor.ensures)
           ∙ sym c.has.ensures ∙ c.if-not-has.false;
     } in
     let type = ap (λ (ts : List SegDef). is_sequential ts c.type_of_path.result) c.as_slice-segments.ensures
@@ -32,7 +33,8 @@ returns c =
     (is_locked ((standing c.args.locks.now).holds c.args.region) c.args.self.number Exclusive) true place = record {
       its = sym c.in-Some.ensures;
       lock =
-          ap (is_locked ((standing c.args.locks.now).holds c.args.region) c.args.self.number Exclusive) (sym c.anchor-anchor.ensures)
+          ap (is_locked ((standing c.args.locks.now).holds c.args.region) c.args.self.number Exclusive) (sym
+              c.anchor-anchor.ensures)
           ∙ sym c.has.ensures ∙ c.if-not-has.false;
     } in
     let type = ap (λ (ts : List SegDef). is_sequential ts c.type_of_path.result) c.as_slice-segments.ensures

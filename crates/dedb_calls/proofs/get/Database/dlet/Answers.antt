@@ -11,7 +11,10 @@ use Rattle.dedb_calls.proofs.get.Database.dlet.Goals as goal
 
 pub returns-in-NotHeld-clause-comes : goal.returns-in-NotHeld-clause-comes
 returns-in-NotHeld-clause-comes c n =
-    held_none c.args.self.def.now c.args.self.number ((standing c.args.locks.now).holds c.args.region) c.args.work.now c.requires.order c.requires.known (dropped c.args.self.def.now c.args.self.number ((standing c.args.locks.now).holds c.args.region) c.args.work.now c.requires.order c.requires.known) c.refused.new.work c.refused.result (λ db own. refl)
+    held_none c.args.self.def.now c.args.self.number ((standing c.args.locks.now).holds c.args.region) c.args.work.now
+        c.requires.order c.requires.known (dropped c.args.self.def.now c.args.self.number
+        ((standing c.args.locks.now).holds c.args.region) c.args.work.now c.requires.order c.requires.known)
+        c.refused.new.work c.refused.result (λ db own. refl)
     c.in-NotHeld.ensures c.refused.ensures.work c.refused.ensures.answer
 
 pub returns-in-NotHeld-clause-goes : goal.returns-in-NotHeld-clause-goes
@@ -25,26 +28,36 @@ returns-in-NotHeld-clause-fits c =
 
 pub returns-in-Unlocked-clause-comes : goal.returns-in-Unlocked-clause-comes
 returns-in-Unlocked-clause-comes c n =
-    held_unlocked c.args.self.def.now c.args.self.number ((standing c.args.locks.now).holds c.args.region) c.args.work.now c.requires.order c.requires.known (dropped c.args.self.def.now c.args.self.number ((standing c.args.locks.now).holds c.args.region) c.args.work.now c.requires.order c.requires.known) c.in-Unlocked.anchor c.in-Unlocked.ensures.0
+    held_unlocked c.args.self.def.now c.args.self.number ((standing c.args.locks.now).holds c.args.region)
+        c.args.work.now c.requires.order c.requires.known (dropped c.args.self.def.now c.args.self.number
+        ((standing c.args.locks.now).holds c.args.region) c.args.work.now c.requires.order c.requires.known)
+        c.in-Unlocked.anchor c.in-Unlocked.ensures.0
     c.in-Unlocked.ensures.1 c.in-Unlocked.ensures.2
 
 pub returns-in_ok-delete-in-Direct-clause-comes : goal.returns-in_ok-delete-in-Direct-clause-comes
 returns-in_ok-delete-in-Direct-clause-comes c n =
     let place = c.in-Direct.ensures.0 in
     let so = c.in-Direct.ensures.1 in
-    let a = anchor_there c.args.self.def.now c.args.self.number ((standing c.args.locks.now).holds c.args.region) c.args.work.now c.requires.order c.requires.known place so.lock in
+    let a = anchor_there c.args.self.def.now c.args.self.number ((standing c.args.locks.now).holds c.args.region)
+        c.args.work.now c.requires.order c.requires.known place so.lock in
     let order = in_order c.args.self.def.now place.anchor a.0.roots (c.requires.fits.shapes place.anchor a.0 a.1) in
     let its = place_is (position_in c.args.work.now c.args.self.number) place so.its in
     let edit = c.in_ok-delete-in-Direct.ensures.work c.requires.order place a.0 its a.1 order in
-    held_done c.args.self.def.now c.args.self.number ((standing c.args.locks.now).holds c.args.region) c.args.work.now c.requires.order c.requires.known (dropped c.args.self.def.now c.args.self.number ((standing c.args.locks.now).holds c.args.region) c.args.work.now c.requires.order c.requires.known) place c.delete.new.work c.in_ok-delete-in-Direct.field-0
-    (dlet_done c.args.self.def.now c.args.self.number ((standing c.args.locks.now).holds c.args.region) c.args.work.now c.requires.order c.requires.known place a.0 c.delete.new.work c.requires.fits.counted c.in-Direct.ensures.2 a.1 edit)
+    held_done c.args.self.def.now c.args.self.number ((standing c.args.locks.now).holds c.args.region) c.args.work.now
+        c.requires.order c.requires.known (dropped c.args.self.def.now c.args.self.number
+        ((standing c.args.locks.now).holds c.args.region) c.args.work.now c.requires.order c.requires.known) place
+        c.delete.new.work c.in_ok-delete-in-Direct.field-0
+    (dlet_done c.args.self.def.now c.args.self.number ((standing c.args.locks.now).holds c.args.region) c.args.work.now
+        c.requires.order c.requires.known place a.0 c.delete.new.work c.requires.fits.counted c.in-Direct.ensures.2 a.1
+        edit)
     so c.in_ok-delete-in-Direct.ensures.answer
 
 pub returns-in_ok-delete-in-Direct-clause-goes : goal.returns-in_ok-delete-in-Direct-clause-goes
 returns-in_ok-delete-in-Direct-clause-goes c =
     let place = c.in-Direct.ensures.0 in
     let so = c.in-Direct.ensures.1 in
-    let a = anchor_there c.args.self.def.now c.args.self.number ((standing c.args.locks.now).holds c.args.region) c.args.work.now c.requires.order c.requires.known place so.lock in
+    let a = anchor_there c.args.self.def.now c.args.self.number ((standing c.args.locks.now).holds c.args.region)
+        c.args.work.now c.requires.order c.requires.known place so.lock in
     let order = in_order c.args.self.def.now place.anchor a.0.roots (c.requires.fits.shapes place.anchor a.0 a.1) in
     let its = place_is (position_in c.args.work.now c.args.self.number) place so.its in
     edited_goes c.args.self.number place.anchor _ _ _ c.args.work.now c.delete.new.work
@@ -54,12 +67,14 @@ pub returns-in_ok-delete-in-Direct-clause-fits : goal.returns-in_ok-delete-in-Di
 returns-in_ok-delete-in-Direct-clause-fits c =
     let place = c.in-Direct.ensures.0 in
     let so = c.in-Direct.ensures.1 in
-    let a = anchor_there c.args.self.def.now c.args.self.number ((standing c.args.locks.now).holds c.args.region) c.args.work.now c.requires.order c.requires.known place so.lock in
+    let a = anchor_there c.args.self.def.now c.args.self.number ((standing c.args.locks.now).holds c.args.region)
+        c.args.work.now c.requires.order c.requires.known place so.lock in
     let order = in_order c.args.self.def.now place.anchor a.0.roots (c.requires.fits.shapes place.anchor a.0 a.1) in
     let its = place_is (position_in c.args.work.now c.args.self.number) place so.its in
     edited_fits c.args.self.number place.anchor _ _ _ c.args.work.now c.delete.new.work
     (c.in_ok-delete-in-Direct.ensures.work c.requires.order place a.0 its a.1 order) c.args.self.def.now c.requires.fits
-    (dlet_shape c.args.self.def.now c.args.self.number ((standing c.args.locks.now).holds c.args.region) c.args.work.now c.requires.order c.requires.known c.requires.fits place so.its a.0 a.1 c.in-Direct.ensures.2) refl
+    (dlet_shape c.args.self.def.now c.args.self.number ((standing c.args.locks.now).holds c.args.region) c.args.work.now
+        c.requires.order c.requires.known c.requires.fits place so.its a.0 a.1 c.in-Direct.ensures.2) refl
 
 pub returns-in-Sequential-clause-goes : goal.returns-in-Sequential-clause-goes
 returns-in-Sequential-clause-goes c =

@@ -10,8 +10,10 @@ use Rattle.dedb_calls.proofs.get.Database.get.Goals as goal
 
 pub returns-in-Some-clause-comes : goal.returns-in-Some-clause-comes
 returns-in-Some-clause-comes c =
-    comes_refused c.args.self.def.now c.args.self.number ((standing c.args.locks.now).holds c.args.region) c.args.work.now
-    c.requires.order c.requires.known c.args.asked.get c.args.asked.hold c.args.asked.ssas.now c.in-Some.status c.refused.new.work c.refused.result (sym c.refusal.ensures.status ∙ c.in-Some.is)
+    comes_refused c.args.self.def.now c.args.self.number ((standing c.args.locks.now).holds c.args.region)
+        c.args.work.now
+    c.requires.order c.requires.known c.args.asked.get c.args.asked.hold c.args.asked.ssas.now c.in-Some.status
+        c.refused.new.work c.refused.result (sym c.refusal.ensures.status ∙ c.in-Some.is)
     c.refused.ensures.work c.refused.ensures.answer
 
 pub returns-in-Some-clause-goes : goal.returns-in-Some-clause-goes
@@ -25,15 +27,19 @@ returns-in-Some-clause-fits c =
 
 pub returns-in-Unlocked-clause-comes : goal.returns-in-Unlocked-clause-comes
 returns-in-Unlocked-clause-comes c =
-    comes_unlocked c.args.self.def.now c.args.self.number ((standing c.args.locks.now).holds c.args.region) c.args.work.now
-    c.requires.order c.requires.known c.args.asked.get c.args.asked.hold c.args.asked.ssas.now c.in-Unlocked.anchor c.lock_of.result (sym c.refusal.ensures.status ∙ c.in_default.is)
+    comes_unlocked c.args.self.def.now c.args.self.number ((standing c.args.locks.now).holds c.args.region)
+        c.args.work.now
+    c.requires.order c.requires.known c.args.asked.get c.args.asked.hold c.args.asked.ssas.now c.in-Unlocked.anchor
+        c.lock_of.result (sym c.refusal.ensures.status ∙ c.in_default.is)
     (c.lock_of.ensures c.args.self.def.now c.args.self.number)
     (looked_is _ _ _ _ _ c.in-Unlocked.is c.in_ok-anchor.ensures)
 
 pub returns-in-Nothing-clause-comes : goal.returns-in-Nothing-clause-comes
 returns-in-Nothing-clause-comes c =
-    comes_nothing c.args.self.def.now c.args.self.number ((standing c.args.locks.now).holds c.args.region) c.args.work.now
-    c.requires.order c.requires.known c.args.asked.get c.args.asked.hold c.args.asked.ssas.now c.not_found-status.result c.refused-in-Nothing.new.work c.refused-in-Nothing.result
+    comes_nothing c.args.self.def.now c.args.self.number ((standing c.args.locks.now).holds c.args.region)
+        c.args.work.now
+    c.requires.order c.requires.known c.args.asked.get c.args.asked.hold c.args.asked.ssas.now c.not_found-status.result
+        c.refused-in-Nothing.new.work c.refused-in-Nothing.result
     (sym c.refusal.ensures.status ∙ c.in_default.is)
     (c.not_found-status.ensures.status c.args.self.def.now c.args.self.number
     ∙ ap (λ (ssas : List Ssa). not_found c.args.self.def.now c.args.self.number c.args.asked.get ssas)
@@ -53,7 +59,8 @@ returns-in-Nothing-clause-fits c =
 pub returns-in_ok-show-in-Found-clause-comes : goal.returns-in_ok-show-in-Found-clause-comes
 returns-in_ok-show-in-Found-clause-comes c =
     comes_found c.args.self.def.now c.args.self.number ((standing c.args.locks.now).holds c.args.region) c.args.work.now
-    c.requires.order c.requires.known c.args.asked.get c.args.asked.hold c.args.asked.ssas.now c.in-Found.found c.show.new.work c.in_ok-show-in-Found.field-0
+    c.requires.order c.requires.known c.args.asked.get c.args.asked.hold c.args.asked.ssas.now c.in-Found.found
+        c.show.new.work c.in_ok-show-in-Found.field-0
     (sym c.refusal.ensures.status ∙ c.in_default.is)
     (c.in_ok-show-in-Found.ensures.work c.args.self.def.now)
     (c.in_ok-show-in-Found.ensures.answer c.args.self.def.now)
@@ -71,10 +78,12 @@ returns-in_ok-show-in-Found-clause-fits c =
     c.requires.order c.requires.known c.args.asked.get c.args.asked.hold c.args.asked.ssas.now c.in-Found.found)
     c.show.new.work (c.in_ok-show-in-Found.ensures.work c.args.self.def.now)
     (moved_fits c.args.self.def.now c.args.self.number _ c.args.work.now c.requires.fits
-    (λ place e. held_found c.args.self.def.now c.args.self.number ((standing c.args.locks.now).holds c.args.region) c.args.work.now
+    (λ place e. held_found c.args.self.def.now c.args.self.number ((standing c.args.locks.now).holds c.args.region)
+        c.args.work.now
     c.requires.order c.requires.known c.args.asked.get c.args.asked.hold c.args.asked.ssas.now c.in-Found.found place
     (found_fits c.args.self.def.now c.args.self.number ((standing c.args.locks.now).holds c.args.region) c.args.work.now
-    c.requires.order c.requires.known c.args.asked.get c.args.asked.hold c.args.asked.ssas.now c.in-Found.found c.requires.fits
+    c.requires.order c.requires.known c.args.asked.get c.args.asked.hold c.args.asked.ssas.now c.in-Found.found
+        c.requires.fits
     (looked_is _ _ _ _ _ c.in-Found.is c.in_ok-anchor.ensures)) e))
 
 pub returns-in_ok-show-in-Found-clause-needing : goal.returns-in_ok-show-in-Found-clause-needing
@@ -95,5 +104,6 @@ returns-in_ok-show-in-Found-clause-shown c =
     shows_found c.args.self.def.now c.in_ok-show-in-Found.field-0 _ _
     (c.in_ok-show-in-Found.ensures.answer c.args.self.def.now)
     (found_long c.args.self.def.now c.args.self.number ((standing c.args.locks.now).holds c.args.region) c.args.work.now
-    c.requires.order c.requires.known c.args.asked.get c.args.asked.hold c.args.asked.ssas.now c.in-Found.found c.requires.fits
+    c.requires.order c.requires.known c.args.asked.get c.args.asked.hold c.args.asked.ssas.now c.in-Found.found
+        c.requires.fits
     (looked_is _ _ _ _ _ c.in-Found.is c.in_ok-anchor.ensures))

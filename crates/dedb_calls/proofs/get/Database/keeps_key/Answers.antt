@@ -19,5 +19,6 @@ returns-in-Some c place its =
 pub returns-in-None : goal.returns-in-None
 returns-in-None c place its = absurd (lacks c.in-None.ensures its)
   where
-    lacks : None ≡ held_in c.args.work.now c.args.self.number → held_in c.args.work.now c.args.self.number ≡ Some place → ⊥
+    lacks : None ≡ held_in c.args.work.now c.args.self.number → held_in c.args.work.now c.args.self.number ≡ Some place
+        → ⊥
     lacks e f = cc

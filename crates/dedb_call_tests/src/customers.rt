@@ -1,0 +1,187 @@
+//! Customers and loans: inserts, gets, replacements, deletions and refusals in one transaction, worked out by hand.
+//!
+//! The folding randomizer sends C001 and C009 to anchor 6 of 8, and C003 to anchor 0.
+
+use crate::bench::{CUSTOMERS, ask, exits};
+use ci_locks::Locks;
+use dedb_calls::DedbWork;
+use fp_defs::read_defs;
+use fp_model::{Bytes, Call, Get, List, Ssa};
+use std::alloc::{AllocError, Global};
+use std::test::Fail;
+
+/// A type, and a key where it is qualified.
+type Argument = (u8, Option<&'static [u8]>);
+
+#[derive(Clone, Copy)]
+enum Asked {
+    Get(Get, bool, &'static [Argument]),
+    Fld,
+    Isrt(&'static [Argument], &'static [u8]),
+    Repl(&'static [u8]),
+    Dlet,
+}
+
+/// A call, the letters of its answer, and the bytes shown.
+type Step = (Asked, [u8; 2], &'static [u8]);
+
+const CUSTOMER: u8 = 0;
+
+const AUDIT: u8 = 1;
+
+const LOAN: u8 = 2;
+
+fn ssas(alloc: Global, arguments: &[Argument]) -> Result<List<Ssa>, AllocError> {
+    let mut list = List::new(alloc);
+    for (segment, key) in arguments {
+        let key = match key {
+            Some(key) => Some(Bytes::from_slice(alloc, key)?),
+            None => None,
+        };
+        list.push(Ssa {
+            segment: *segment,
+            key,
+        })?;
+    }
+    Ok(list)
+}
+
+fn call_of(alloc: Global, asked: &Asked) -> Result<Call, AllocError> {
+    match asked {
+        Asked::Get(get, hold, arguments) => Ok(Call::Get {
+            get: *get,
+            hold: *hold,
+            db: 0,
+            ssas: ssas(alloc, arguments)?,
+        }),
+        Asked::Fld => Ok(Call::Fld {
+            db: 0,
+            key: Bytes::new(alloc),
+            fsas: Bytes::new(alloc),
+        }),
+        Asked::Isrt(arguments, bytes) => Ok(Call::Isrt {
+            db: 0,
+            ssas: ssas(alloc, arguments)?,
+            bytes: Bytes::from_slice(alloc, bytes)?,
+        }),
+        Asked::Repl(bytes) => Ok(Call::Repl {
+            db: 0,
+            bytes: Bytes::from_slice(alloc, bytes)?,
+        }),
+        Asked::Dlet => Ok(Call::Dlet { db: 0 }),
+    }
+}
+
+/// Asks these calls in one transaction on an empty database.
+fn all_answer(rt: &HostRuntime, steps: &[Step]) -> Result<(), Fail> {
+    let alloc = rt.alloc();
+    let exits = exits(alloc)?;
+    let defs = read_defs(alloc, CUSTOMERS.as_bytes(), &exits)?;
+    if defs.dedbs.is_empty() {
+        return Err(Fail::from("no database"));
+    }
+    let mut work = DedbWork::new(alloc, &defs)?;
+    let mut locks = Locks::new(alloc, 1)?;
+    for (asked, status, shown) in steps {
+        let call = call_of(alloc, asked)?;
+        let answer = ask(alloc, &mut work, &mut locks, &call, &defs, &exits)?;
+        assert_eq!(rt; answer.status, *status);
+        assert_eq!(rt; answer.bytes.as_slice(), *shown);
+    }
+    Ok(())
+}
+
+const ANN: &[u8] = b"C001ANN         ";
+
+const BOB: &[u8] = b"C003BOB         ";
+
+const CY: &[u8] = b"C009CY          ";
+
+const C001: Argument = (CUSTOMER, Some(b"C001"));
+
+const L1: &[u8] = b"L1\x00\x00\x05\x0c";
+
+const L2: &[u8] = b"L2\x00\x00\x07\x0c";
+
+const OK: [u8; 2] = *b"  ";
+
+/// Three customers, of whom one has two loans.
+const FILLED: [Step; 5] = [
+    (Asked::Isrt(&[(CUSTOMER, None)], CY), OK, b""),
+    (Asked::Isrt(&[(CUSTOMER, None)], ANN), OK, b""),
+    (Asked::Isrt(&[(CUSTOMER, None)], BOB), OK, b""),
+    (Asked::Isrt(&[C001, (LOAN, None)], L2), OK, b""),
+    (Asked::Isrt(&[C001, (LOAN, None)], L1), OK, b""),
+];
+
+/// GN goes through the anchors and down, GNP stays below its parent.
+const GETS: [Step; 12] = [
+    (Asked::Get(Get::Unique, false, &[]), OK, BOB),
+    (Asked::Get(Get::Next, false, &[]), OK, ANN),
+    (Asked::Get(Get::NextInParent, false, &[]), OK, L1),
+    (Asked::Get(Get::NextInParent, false, &[(LOAN, None)]), OK, L2),
+    (Asked::Get(Get::NextInParent, false, &[]), *b"GE", b""),
+    (Asked::Get(Get::Next, false, &[]), OK, CY),
+    (Asked::Get(Get::NextInParent, false, &[]), *b"GE", b""),
+    (Asked::Get(Get::Next, false, &[]), *b"GB", b""),
+    (Asked::Get(Get::Next, false, &[C001]), *b"GE", b""),
+    (Asked::Get(Get::Unique, false, &[C001, (LOAN, Some(b"L2"))]), OK, L2),
+    (Asked::Get(Get::Unique, false, &[(LOAN, None), C001]), *b"AM", b""),
+    (Asked::Get(Get::Unique, false, &[(AUDIT, Some(b""))]), *b"AM", b""),
+];
+
+/// A loan is held, replaced and deleted; its root goes with the other, and the parent is forgotten.
+const EDITS: [Step; 14] = [
+    (Asked::Repl(L1), *b"DJ", b""),
+    (Asked::Get(Get::Unique, true, &[C001, (LOAN, None)]), OK, L1),
+    (Asked::Repl(b"L3\x00\x00\x05\x0c"), *b"DA", b""),
+    (Asked::Repl(L1), *b"DJ", b""),
+    (Asked::Get(Get::Unique, true, &[C001, (LOAN, None)]), OK, L1),
+    (Asked::Repl(b"L1\x00\x00\x09\x0c"), OK, b""),
+    (Asked::Get(Get::Unique, true, &[(LOAN, None)]), OK, b"L1\x00\x00\x09\x0c"),
+    (Asked::Dlet, OK, b""),
+    (Asked::Get(Get::NextInParent, false, &[]), *b"GP", b""),
+    (Asked::Get(Get::Unique, true, &[C001]), OK, ANN),
+    (Asked::Isrt(&[C001, (AUDIT, None)], b"OPENED  "), OK, b""),
+    (Asked::Get(Get::Unique, true, &[C001]), OK, ANN),
+    (Asked::Dlet, OK, b""),
+    (Asked::Get(Get::Unique, false, &[(LOAN, None)]), *b"GE", b""),
+];
+
+/// What is refused.
+const REFUSED: [Step; 7] = [
+    (Asked::Get(Get::NextInParent, false, &[]), *b"GP", b""),
+    (Asked::Fld, *b"AM", b""),
+    (Asked::Dlet, *b"DJ", b""),
+    (Asked::Isrt(&[(CUSTOMER, None)], ANN), *b"II", b""),
+    (Asked::Isrt(&[C001], ANN), *b"AM", b""),
+    (Asked::Isrt(&[(CUSTOMER, Some(b"C002")), (LOAN, None)], L1), *b"GE", b""),
+    (Asked::Isrt(&[C001, (LOAN, None)], L1), *b"II", b""),
+];
+
+/// These behind the three customers.
+fn behind(rt: &HostRuntime, steps: &[Step]) -> Result<(), Fail> {
+    let mut all = Vec::new(rt.alloc());
+    for step in FILLED {
+        all.push(step)?;
+    }
+    for step in steps {
+        all.push(*step)?;
+    }
+    all_answer(rt, all.as_slice())
+}
+
+#[test]
+fn gets_go_in_hierarchical_order(rt: HostRuntime) -> Result<(), Fail> {
+    behind(&rt, &GETS)
+}
+
+#[test]
+fn what_is_held_is_replaced_and_deleted(rt: HostRuntime) -> Result<(), Fail> {
+    behind(&rt, &EDITS)
+}
+
+#[test]
+fn what_does_not_fit_is_refused(rt: HostRuntime) -> Result<(), Fail> {
+    behind(&rt, &REFUSED)
+}

@@ -1,0 +1,11 @@
+//! Tests of calls to data entry databases: each kind of call once on its way to an answer, with ample memory.
+//!
+//! They stand here and not in the crate that they test, since a crate with tests is proved twice.
+#![tactic(auto)]
+
+#[cfg(test)]
+mod bench;
+#[cfg(test)]
+mod customers;
+#[cfg(test)]
+mod fitting;
