@@ -1,6 +1,6 @@
 -- What a history has used up, entry by entry.
-use Rattle.std.proofs.Common.{◌≡◌, ◌≢◌, ◌⊎◌, ⊎_elim, inl, inr, refl, sym, ap, subst, ◌∙◌, arith, ℕ, ◌<◌, ◌≤◌, List, [], ◌∷◌, ◌++◌, length, take, Bool, true, false, unwrap_or, ⊤}
-use Rattle.std.specs.Prelude.{Option, Some, None, Result, Ok, Err, slice_get, if◌then◌else◌, nat_lt, ◌==◌, option_map, is_some}
+use Rattle.std.proofs.Common.{◌≡◌, ◌≢◌, ◌⊎◌, ⊎_elim, inl, inr, refl, sym, ap, subst, ◌∙◌, arith, ℕ, ◌<◌, ◌≤◌, List, [], ◌∷◌, ◌++◌, length, take, Bool, true, false, unwrap_or}
+use Rattle.std.specs.Prelude.{⊤, Option, Some, None, Result, Ok, Err, slice_get, if◌then◌else◌, nat_lt, ◌==◌, option_map, is_some}
 use Rattle.std.specs.Option.{option_map_or}
 use Rattle.std.proofs.lemmas.Bool.Decides.{nat_tests}
 use Rattle.std.proofs.lemmas.Option.{slice_get_within}
@@ -344,6 +344,11 @@ module _ (defs : Defs) (scripts : List Script) (h : History) (e : Entry) (next :
     is_once = record { once = once_more; repeats = repeats_more };
   }
 
+  -- a number isn't above the last one of its terminal
+  abbrev Held : Last → Type 0
+  Held used = (top : Last)
+      × ((last_of used.lterm (lasts_of h.format (h.entries ++ e ∷ [])) ≡ Some top) × (used.number ≤ top.number))
+
   -- and where it does
   some_used : (last : Last) → last_by (format_at h.format h.entries) e ≡ Some last → IsUsed (with_entry e next h)
   some_used last is = record {
@@ -354,10 +359,6 @@ module _ (defs : Defs) (scripts : List Script) (h : History) (e : Entry) (next :
     is_once = record { once = once_more; repeats = repeats_more };
   }
     where
-      abbrev Held : Last → Type 0
-      Held used = (top : Last)
-          × ((last_of used.lterm (lasts_of h.format (h.entries ++ e ∷ [])) ≡ Some top) × (used.number ≤ top.number))
-
       some_is : (a b : Last) → Some a ≡ Some b → b ≡ a
       some_is a b e = cc
 
