@@ -46,8 +46,8 @@ HeldThrough job start moment new = (s : Snapshot) → new.left_since moment s �
 
 -- ---- numbers
 
--- A log holds what stood, and no number of a terminal was used up twice: each Repeat has the reply line of the entry that
--- used up its number.
+-- A log holds what stood, and no number of a terminal was used up twice: each Repeat has the reply line of the entry
+-- that used up its number.
 pub record IsOnceSince (job : Job) (start : Standing) (sent log : List ℕ) : Type 0 where
   pub holds : HoldsSince job start sent log
   pub once : IsOnce start.format (start.entries ++ holds.later)

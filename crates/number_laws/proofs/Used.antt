@@ -335,8 +335,13 @@ module _ (defs : Defs) (scripts : List Script) (h : History) (e : Entry) (next :
   none_used : last_by (format_at h.format h.entries) e ≡ None → IsUsed (with_entry e next h)
   none_used none = record {
     held = λ place used uses. ⊎_elim
-        (λ p. let top = so_far.held place used p in (top.0, (ap (last_of used.lterm) (lasts_more None none) ∙ top.1.0,
-        top.1.1)))
+        (λ p. let top = so_far.held place used p in (
+          top.0,
+          (
+            ap (last_of used.lterm) (lasts_more None none) ∙ top.1.0,
+            top.1.1,
+          ),
+        ))
         (λ q. none_is used (sym none ∙ q.1)) (uses_in h.format h.entries e place used uses);
     newest = λ name top is.
         let it = so_far.newest name top (sym (ap (last_of name) (lasts_more None none)) ∙ is) in
@@ -447,4 +452,5 @@ used_once defs scripts format entries last is =
     let first = beginning format (start defs) in
     let used = used_on defs scripts first entries is.history is.leads (used_none format (start defs)) in
     subst (λ (f : ℕ). IsOnce f entries) (format_stays (rules_of defs scripts) first entries is.history is.leads)
-    (subst (IsOnce is.history.format) (entries_put (rules_of defs scripts) first entries is.history is.leads) used.is_once)
+    (subst (IsOnce is.history.format) (entries_put (rules_of defs scripts) first entries is.history is.leads)
+    used.is_once)
