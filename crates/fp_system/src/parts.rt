@@ -31,8 +31,8 @@ use log_groups::Front;
 use std::alloc::{AllocError, Global};
 use txn_lang::{ScriptFault, Scripts, parse};
 
-/// The format of a log that is made: in this one no message has a number.
-pub(crate) const FORMAT: u8 = 1;
+// The format of a log that is made: in this one messages may have numbers.
+const FORMAT: u8 = 2;
 
 // How many bytes definitions and scripts have at most.
 const MOST_BYTES: u64 = 1_000_000;
@@ -289,7 +289,9 @@ fn read_rest<S: Source>(
 {
     match command {
         Command::Run => read_schedule(alloc, source, &setup.defs),
-        Command::Define | Command::Show | Command::Log => Ok(List::new(alloc)),
+        Command::Define | Command::Show | Command::Log | Command::Migrate => {
+            Ok(List::new(alloc))
+        },
     }
 }
 

@@ -2,6 +2,7 @@ pub mod LogImages
 pub mod GatedWrites
 pub mod FrontsKept
 pub mod Shutting
+pub mod Fronts
 pub mod BodyReads
 pub mod BufferParts
 pub mod Sealing

@@ -3,14 +3,38 @@ use Rattle.std.specs.Prelude.{◌≡◌, ◌≢◌, ◌⊎◌, ℕ, ◌+◌, ◌
 use Rattle.fp_site.specs.Disk.{Disk, Snapshot, IsDurable, Settles}
 use Rattle.fp_model.specs.declared.log.Entry.{Entry}
 use Rattle.fp_model.specs.Spellings.{be64}
-use Rattle.fp_model.specs.LogText.{Front, StartsWithFront, first_gate, front_text, body_text, group_text, groups_text}
-use Rattle.fp_model.specs.Groups.{IsGroup}
+use Rattle.fp_model.specs.LogText.{
+  Front,
+  IsFormat,
+  StartsWithFront,
+  first_gate,
+  front_text,
+  body_text,
+  group_text,
+  groups_text,
+}
+use Rattle.fp_model.specs.Groups.{Groups, IsGroup, Reads}
 use Rattle.fp_model.specs.Recovery.{Holds}
 use Rattle.log_groups.specs.declared.front.Front.{Front as Kept}
 
 -- the front that a program's values are
 abbrev pub as_front : Kept → Front
 as_front front = record { format = front.format; defs = front.defs; scripts = front.scripts }
+
+-- the front of a format for the same definitions and scripts
+abbrev pub in_format : ℕ → Front → Front
+in_format format front = record { format = format; defs = front.defs; scripts = front.scripts }
+
+-- the bytes of a log that was made for these definitions and scripts, in whichever format
+pub record BeginsFor (front : Front) (bytes : List ℕ) : Type 0 where
+  pub format : ℕ
+  pub is_format : IsFormat format
+  pub begins : StartsWithFront bytes (in_format format front)
+
+-- they hold these groups up to a gate that isn't open
+pub record HoldsFor (front : Front) (bytes : List ℕ) (groups : List (List Entry)) (gate : ℕ) : Type 0 where
+  pub begins : BeginsFor front bytes
+  pub reads : Reads bytes (first_gate front) (Groups groups gate)
 
 -- The bytes of a log: the open front, these groups, and the next gate, which is there and isn't open.
 pub record IsLog (front : Front) (bytes : List ℕ) (groups : List (List Entry)) (gate : ℕ) : Type 0 where

@@ -1,5 +1,26 @@
 -- What contracts see of a log that is open, and how its buffer keeps that.
-use Rattle.std.specs.Prelude.{◌≡◌, ℕ, ◌+◌, ◌-◌, ◌*◌, ◌^◌, ◌≤◌, List, [], ◌∷◌, ◌++◌, length, drop, take, Option, Some, None, Vec, vec_len, vec_capacity}
+use Rattle.std.specs.Prelude.{
+  ◌≡◌,
+  ℕ,
+  ◌+◌,
+  ◌-◌,
+  ◌*◌,
+  ◌^◌,
+  ◌≤◌,
+  List,
+  [],
+  ◌∷◌,
+  ◌++◌,
+  length,
+  drop,
+  take,
+  Option,
+  Some,
+  None,
+  Vec,
+  vec_len,
+  vec_capacity,
+}
 use Rattle.std.specs.List.{AllByRecursion}
 use Rattle.std.specs.declared.alloc.Global.{Global}
 use Rattle.fp_model.specs.declared.log.Entry.{Entry}
@@ -8,9 +29,11 @@ use Rattle.fp_model.specs.LogText.{HasSpelling, body_text}
 use Rattle.log_format.specs.Reading.{many_at}
 use Rattle.log_format.specs.EntryReading.{entry_at}
 
--- an open log: how many entries are sealed, its closed gate, the entries that aren't sealed, the oldest first, and
--- how many bytes of entries its buffer has room for
+-- an open log: the format of its front, that of its site, how many entries are sealed, its closed gate, the entries
+-- that aren't sealed, the oldest first, and how many bytes of entries its buffer has room for
 pub record LogState : Type 0 where
+  pub front_format : ℕ
+  pub format : ℕ
   pub sealed : ℕ
   pub gate : ℕ
   pub unsealed : List Entry

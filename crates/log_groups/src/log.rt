@@ -1,20 +1,79 @@
 //! A log that is open: what is sealed of it, and the entries that are not.
 ghost use Rattle.fp_model.specs.Groups.{IsDamaged};
-ghost use Rattle.fp_model.specs.LogText.{FitsEntry, FitsFront, Front as FrontOf, KeepsRules, StartsWithFront, body_text, entry_text, first_gate, log_text};
+ghost use Rattle.fp_model.specs.Lasts.{format_behind};
+ghost use Rattle.fp_model.specs.LogText.{
+  FitsEntry,
+  FitsFront,
+  Front as FrontOf,
+  IsFormat,
+  KeepsRules,
+  StartsWithFront,
+  body_text,
+  entry_text,
+  first_gate,
+  log_text,
+};
 ghost use Rattle.fp_model.specs.declared.log.Entry.{Entry as EntryOf};
 ghost use Rattle.fp_site.specs.Disk.{Differs, Disk, IsDurable, Settles, Stays};
 ghost use Rattle.fp_site.specs.Moments.{OnlyOn, Through};
 ghost use Rattle.fp_site.specs.Site.{Counts, ReadsNothing};
-ghost use Rattle.log_groups.specs.Images.{HasFrontOf, IsAtRest, IsBeforeOrAfter, IsBeforeOrMade, IsBeforeOrShut, IsFrontOf, IsKept, IsOldOrMade, IsOldOrShut, IsSameOrMade, IsSameOrShut, IsShut, IsWithOrWithout, as_front, with_group, with_group_at};
+ghost use Rattle.log_groups.specs.Images.{
+  BeginsFor,
+  HasFrontOf,
+  IsAtRest,
+  IsBeforeOrAfter,
+  IsBeforeOrMade,
+  IsBeforeOrShut,
+  IsFrontOf,
+  IsKept,
+  IsOldOrMade,
+  IsOldOrShut,
+  IsSameOrMade,
+  IsSameOrShut,
+  IsShut,
+  IsWithOrWithout,
+  as_front,
+  in_format,
+  with_group,
+  with_group_at,
+};
 ghost use Rattle.log_groups.specs.Reads.{HasGroup, ReadsOnlyLog};
 ghost use Rattle.log_groups.specs.declared.fault.LogFault.TheVariants as faults;
-ghost use Rattle.std.specs.Prelude.{◌≡◌, ◌≢◌, ◌⊎◌, ◌+◌, ◌-◌, ◌*◌, ◌<◌, ◌≤◌, ◌^◌, ◌∷◌, ◌++◌, ℕ, [], IfNone, IfOk, IfSome, IsErrOf, IsOk, List as ListOf, OnErr, OnOk, drop, length, max, min, slice_index, take};
+ghost use Rattle.std.specs.Prelude.{
+  ◌≡◌,
+  ◌≢◌,
+  ◌⊎◌,
+  ◌+◌,
+  ◌-◌,
+  ◌*◌,
+  ◌<◌,
+  ◌≤◌,
+  ◌^◌,
+  ◌∷◌,
+  ◌++◌,
+  ℕ,
+  [],
+  IfNone,
+  IfOk,
+  IfSome,
+  IsErrOf,
+  IsOk,
+  List as ListOf,
+  OnErr,
+  OnOk,
+  drop,
+  length,
+  max,
+  min,
+  slice_index,
+  take,
+};
 
 use crate::buffer::{add_entry, end_of, move_down, seal_part};
 use crate::group::read_group;
-use crate::opening::begins_with;
+use crate::opening::format_of;
 use crate::{Front, Group, LogFault, SealFault, making};
-use fp_model::Entry;
+use fp_model::{Entry, Outcome};
 use fp_site::{Failed, Site};
 use log_format::entry_length;
 use std::alloc::{AllocError, Global};
@@ -23,10 +82,12 @@ use std::marker::Model;
 // Where a data set ends at the latest.
 const LIMIT: u64 = 1 << 62;
 
-/// A log that is open. Contracts see how many entries are sealed, its closed gate, the entries that are not sealed,
-/// the oldest first, and its spare.
+/// A log that is open. Contracts see the format of its front and of its site, how many entries are sealed, its closed
+/// gate, the entries that are not sealed, the oldest first, and its spare.
 #[derive(Debug, Drop)]
 pub struct Log {
+    front_format: u8,
+    format: u8,
     sealed: u64,
     gate: u64,
     // How many entries are not sealed.
@@ -45,6 +106,8 @@ impl Model for Log {
     ghost Value = { LogState };
 
     ghost view = { λ l. record {
+      front_format = l.front_format;
+      format = l.format;
       sealed = l.sealed;
       gate = l.gate;
       unsealed =
@@ -57,6 +120,21 @@ impl Model for Log {
 }
 
 impl Log {
+    /// The format of the front that stands: 1 or 2. The log's first line is read in it. Takes no memory.
+    pub fn front_format(&self) -> u8
+        ensures { result ≡ self.now.front_format }
+    {
+        self.front_format
+    }
+
+    /// The format in which the log's next line is read: the front's until `end_at` tells another, and 2 once a Format
+    /// entry is appended. Takes no memory.
+    pub fn format(&self) -> u8
+        ensures { result ≡ self.now.format }
+    {
+        self.format
+    }
+
     /// How many entries there are, sealed or not.
     pub fn count(&self) -> u64
         ensures { result ≡ self.now.sealed + length self.now.unsealed }
@@ -167,16 +245,23 @@ impl Log {
         making::make(alloc, site, front)
     }
 
-    /// Opens a log with this front, as far as its first gate. It fails with `Foreign`, with the site, and for want
-    /// of memory.
+    /// Opens a log that was made for these definitions and scripts, in format 1 or 2, as far as its first gate; the
+    /// format of the given front doesn't count. It fails with `Foreign`, with the site, and for want of memory.
     pub fn open<T: Site>(alloc: Global, site: &mut T, front: &Front) -> Result<Log, LogFault>
         requires fits { FitsFront (as_front front.now) }
-        ensures log { IfOk result (λ log. log ≡ record
-            { sealed = 0; gate = first_gate (as_front front.now); unsealed = []; spare = 0 }) }
-        ensures front { T.told site.old → OnOk result
-            (StartsWithFront ((T.disk site.old).contents 0) (as_front front.now)) }
+        ensures log { IfOk result (λ log. log ≡ record {
+          front_format = log.front_format;
+          format = log.front_format;
+          sealed = 0;
+          gate = first_gate (as_front front.now);
+          unsealed = [];
+          spare = 0;
+        }) }
+        ensures is_format { IfOk result (λ log. IsFormat log.front_format) }
+        ensures front { T.told site.old → IfOk result (λ log. StartsWithFront ((T.disk site.old).contents 0)
+            (in_format log.front_format (as_front front.now))) }
         ensures foreign { T.told site.old → IsErrOf result faults.Foreign
-            → StartsWithFront ((T.disk site.old).contents 0) (as_front front.now) → ⊥ }
+            → BeginsFor (as_front front.now) ((T.disk site.old).contents 0) → ⊥ }
         ensures cause { IsErrOf result faults.Failed → (T.faults site.old < T.faults site.new)
             ⊎ (T.faults site.new ≡ 2 ^ 64 - 1) }
         ensures later { T.faults site.old ≤ T.faults site.new }
@@ -197,14 +282,15 @@ impl Log {
         ensures holds { T.holds site.new ≡ T.holds site.old }
         ensures keeps { (first : T) → T.keeps first site.old → T.keeps first site.new }
     {
-        let text = front.text(alloc)?;
-        if !begins_with(alloc, site, text.as_slice())? {
+        let Some(format) = format_of(alloc, site, front)? else {
             return Err(LogFault::Foreign);
-        }
+        };
         let buffer = Vec::from_slice(alloc, &[0; 9])?;
         Ok(Log {
+            front_format: format,
+            format,
             sealed: 0,
-            gate: text.len() as u64,
+            gate: front.gate(),
             waiting: 0,
             buffer,
             start: 8,
@@ -255,16 +341,20 @@ impl Log {
         read_group(*self.buffer.allocator(), site, at)
     }
 
-    /// Tells where the log ends: the place of its closed gate, and how many entries stand before it.
-    pub fn end_at(&mut self, at: u64, count: u64)
+    /// Tells where the log ends: the place of its closed gate, how many entries stand before it, and the format in
+    /// which the next line is read. Takes no memory.
+    pub fn end_at(&mut self, at: u64, count: u64, format: u8)
         requires unsealed { self.old.unsealed ≡ [] }
         requires at { at ≤ 2 ^ 62 }
         requires count { count ≤ at }
         ensures sealed { self.new.sealed ≡ count }
         ensures gate { self.new.gate ≡ at }
+        ensures format { self.new.format ≡ format }
+        ensures front_format { self.new.front_format ≡ self.old.front_format }
         ensures unsealed { self.new.unsealed ≡ [] }
         ensures spare { self.new.spare ≤ self.old.spare }
     {
+        self.format = format;
         self.sealed = count;
         self.gate = at;
         self.spare = self.spare.min(((LIMIT - at) / 2) as usize);
@@ -292,6 +382,8 @@ impl Log {
         ensures spare { self.old.spare ≤ self.new.spare }
         ensures bounded { self.new.spare < 2 ^ 64 }
         ensures same { self.new ≡ record {
+          front_format = self.old.front_format;
+          format = self.old.format;
           sealed = self.old.sealed;
           gate = self.old.gate;
           unsealed =
@@ -322,12 +414,14 @@ impl Log {
         requires fits { FitsEntry e.now }
         ensures ok { OnOk result (self.new.unsealed ≡ self.old.unsealed ++ e.now ∷ []) }
         ensures place { IfOk result (λ place. place ≡ self.old.sealed + length self.old.unsealed) }
+        ensures format { OnOk result (self.new.format ≡ format_behind self.old.format e.now.outcome) }
         ensures sure { length (entry_text e.now) ≤ self.old.spare → IsOk result }
 
         // What stays. A refusal changes nothing.
         ensures err { OnErr result (self.new ≡ self.old) }
         ensures spare { self.old.spare ≤ self.new.spare + length (entry_text e.now) }
         ensures bounded { self.new.spare < 2 ^ 64 }
+        ensures front_format { self.new.front_format ≡ self.old.front_format }
         ensures sealed { self.new.sealed ≡ self.old.sealed }
         ensures gate { self.new.gate ≡ self.old.gate }
     {
@@ -335,6 +429,7 @@ impl Log {
         let len = entry_length(e);
         self.reserve(len)?;
         add_entry(&mut self.buffer, e);
+        self.format = next_format(self.format, &e.outcome);
         self.spare -= len as usize;
         self.waiting += 1;
         Ok(place)
@@ -355,6 +450,8 @@ impl Log {
         ensures text { T.told site.old → 1 ≤ length self.old.unsealed
             → self.old.gate ≤ length ((T.disk site.old).contents 0) → OnOk result ((T.disk site.new).contents 0 ≡
             with_group_at ((T.disk site.old).contents 0) self.old.gate (take most self.old.unsealed)) }
+        ensures front_format { self.new.front_format ≡ self.old.front_format }
+        ensures format { self.new.format ≡ self.old.format }
         ensures spare { self.old.spare ≤ self.new.spare }
         ensures bounded { self.new.spare < 2 ^ 64 }
 
@@ -408,5 +505,15 @@ impl Log {
         self.start = end;
         self.waiting -= count;
         Ok(count as u32)
+    }
+}
+
+// The format behind an entry with this outcome.
+fn next_format(format: u8, outcome: &Outcome) -> u8
+    ensures { result ≡ format_behind format outcome.now }
+{
+    match outcome {
+        Outcome::Format => 2,
+        _ => format,
     }
 }

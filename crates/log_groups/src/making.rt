@@ -3,10 +3,40 @@ ghost use Rattle.fp_model.specs.LogText.{FitsFront, first_gate, log_text};
 ghost use Rattle.fp_site.specs.Disk.{Disk, Settles, Stays};
 ghost use Rattle.fp_site.specs.Moments.{OnlyOn, Through};
 ghost use Rattle.fp_site.specs.Site.{Counts};
-ghost use Rattle.log_groups.specs.Images.{IsAtRest, IsBeforeOrMade, IsBeforeOrShut, IsOldOrMade, IsOldOrShut, IsOpenGate, IsShut, IsShutGate, as_front};
+ghost use Rattle.log_groups.specs.Images.{
+  IsAtRest,
+  IsBeforeOrMade,
+  IsBeforeOrShut,
+  IsOldOrMade,
+  IsOldOrShut,
+  IsOpenGate,
+  IsShut,
+  IsShutGate,
+  as_front,
+};
 ghost use Rattle.log_groups.specs.Reads.{ReadsOnlyLog};
 ghost use Rattle.log_groups.specs.declared.fault.LogFault.TheVariants as faults;
-ghost use Rattle.std.specs.Prelude.{◌≡◌, ◌⊎◌, ◌+◌, ◌-◌, ◌<◌, ◌≤◌, ◌^◌, ◌++◌, ℕ, [], IfOk, IsErrOf, List as ListOf, OnOk, drop, length, max, true, false};
+ghost use Rattle.std.specs.Prelude.{
+  ◌≡◌,
+  ◌⊎◌,
+  ◌+◌,
+  ◌-◌,
+  ◌<◌,
+  ◌≤◌,
+  ◌^◌,
+  ◌++◌,
+  ℕ,
+  [],
+  IfOk,
+  IsErrOf,
+  List as ListOf,
+  OnOk,
+  drop,
+  length,
+  max,
+  true,
+  false,
+};
 
 use crate::gated::write_gated;
 use crate::{Front, LogFault};
@@ -106,7 +136,7 @@ pub(crate) fn make<S: Site>(alloc: Global, site: &mut S, front: &Front) -> Resul
     ensures settles { (image : ListOf ℕ) → S.told site.old → Settles (S.disk site.new) 0 image
         → IsOldOrMade (S.disk site.old) (as_front front.now) image }
 {
-    let mut bytes = front.rest(alloc)?;
+    let mut bytes = front.rest(alloc, front.format)?;
     bytes.push(0)?;
     shut(site)?;
     write_gated(site, 0, bytes.as_slice())?;

@@ -137,6 +137,7 @@ module _ (defs : Defs) (scripts : List Script) (its_format : ℕ) (earlier : Lis
           → IsLog its_front image (before ++ (sealed_times times rules m).groups) gate
           → IsSound defs scripts its_front image (earlier ++ later)
       sound_run before image gate all log = record {
+        is_format = sound.is_format;
         groups = before ++ (sealed_times times rules m).groups;
         gate = gate;
         holds = log.holds;
@@ -145,14 +146,6 @@ module _ (defs : Defs) (scripts : List Script) (its_format : ℕ) (earlier : Lis
             ap (λ (es : List Entry). es ++ later) all ∙ sym (entries_both before (sealed_times times rules m).groups);
         last = last.now;
         history = record { history = last; leads = all_front.1.0; ends = refl };
-        still =
-            format_within its_front.format (earlier ++ later) rest
-            (ap (format_at its_front.format) entries_are
-            ∙ ap (λ (format : ℕ). format_at format m.history.entries) (sym first_format)
-            ∙ its_formats.now
-            ∙ ap (λ (format : ℕ). format_at format behind.start.entries) (behind.front ∙ sym same_format)
-            ∙ ap (format_at its_front.format) behind.entries
-            ∙ sound.still);
         fit =
             subst (AreFit defs) (sym (items_both earlier later))
             (fit-append defs (items_of earlier) (items_of later) sound.fit made.1);
