@@ -7,21 +7,7 @@ ghost use Rattle.fp_model.specs.declared.database.Msdb.{Msdb as MsdbOf};
 ghost use Rattle.msdb_store.specs.Store.{IsOf};
 ghost use Rattle.std.specs.List.{AllByRecursion, flat_map, zip};
 ghost use Rattle.std.specs.Option.{option_copied};
-ghost use Rattle.std.specs.Prelude.{
-  ◌≡◌,
-  ◌+◌,
-  ◌<◌,
-  ◌≤◌,
-  ◌^◌,
-  ◌∷◌,
-  ◌++◌,
-  IfOk,
-  OnOk,
-  Some,
-  codes,
-  length,
-  slice_get,
-};
+ghost use Rattle.std.specs.Prelude.{◌≡◌, ◌+◌, ◌<◌, ◌≤◌, ◌^◌, ◌∷◌, ◌++◌, IfOk, OnOk, Some, codes, length, slice_get};
 
 use crate::Place;
 use crate::terminals::put_lasts;

@@ -91,7 +91,8 @@ behind_migrate : (rest : List (List ℕ)) → length rest ≤ 2 → AreWords res
 behind_migrate [] short h = refused (codes "migrate" ∷ []) refl (λ e. let bad = sym migrate_1 ∙ e in cc)
 behind_migrate ([] ∷ ws) short h = absurd (false≢true h.0)
 behind_migrate ((b ∷ bs) ∷ []) short h =
-    let hyphen = not_hyphen b h.0 in named (codes "migrate") (b ∷ bs) h.0 (migrate_2 b bs hyphen) (migrate_name b bs hyphen)
+    let hyphen = not_hyphen b h.0 in named (codes "migrate") (b ∷ bs) h.0 (migrate_2 b bs hyphen) (migrate_name b bs
+    hyphen)
 behind_migrate ((b ∷ bs) ∷ [] ∷ ws) short h = absurd (false≢true h.1.0)
 behind_migrate ((b ∷ bs) ∷ (d ∷ ds) ∷ []) short h =
     refused (codes "migrate" ∷ (b ∷ bs) ∷ (d ∷ ds) ∷ []) refl

@@ -287,7 +287,8 @@ module _ (defs : Defs) (front : Front) (log : List ℕ) (disk : Disk) (store : S
       durable = durable;
       begins = subst (λ bytes. StartsWithFront bytes front) (sym now) begins;
       front_format = front_format;
-      replayed = subst (λ bytes. IsReplayed defs bytes (way_to (first_gate front) l lasts) (start defs).msdbs store.msdbs)
+      replayed = subst (λ bytes. IsReplayed defs bytes (way_to (first_gate front) l lasts) (start defs).msdbs
+          store.msdbs)
           (sym now) replayed;
       closed = subst (λ bytes. slice_index bytes l.gate ≢ 1) (sym now) closed;
       unsealed = unsealed;

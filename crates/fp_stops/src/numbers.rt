@@ -1,4 +1,5 @@
-//! Messages with numbers: sent again, also after a stop; and sites of format 1, which are migrated before they take any.
+//! Messages with numbers: sent again, also after a stop; and sites of format 1, which are migrated before they take
+//! any.
 ghost use Rattle.fp_model.specs.LogText.{FitsEntry, FitsFront, KeepsRules};
 ghost use Rattle.log_groups.specs.Images.{as_front};
 ghost use Rattle.std.specs.Prelude.{◌<◌, ◌^◌, IfOk, length};
@@ -28,7 +29,10 @@ fn a_number_is_used_once(rt: HostRuntime) -> Result<(), Fail> {
 // Messages of one run, and the reply lines that are sent.
 const NUMBERED: [(&str, &str); 6] = [
     ("T1 1 ASK A001\nT1 1 ASK A001\n", "T1 OK 100\nT1 OK 100\n"),
-    ("T1 7 NOSUCH\nT1 7 ASK A001\n", "T1 NO UNKNOWN\nT1 NO UNKNOWN\n"),
+    (
+        "T1 7 NOSUCH\nT1 7 ASK A001\n",
+        "T1 NO UNKNOWN\nT1 NO UNKNOWN\n",
+    ),
     (
         "T1 2 DEPOSIT A009 1\nT1 2 DEPOSIT A001 1\nT1 ASK A001\n",
         "T1 NO ROLB 1\nT1 NO ROLB 1\nT1 OK 100\n",
@@ -211,9 +215,7 @@ fn goes_on(alloc: Global, snapshot: Snapshot) -> Result<bool, AllocError> {
     let mut site = MemorySite::from_snapshot(alloc, snapshot, &[])?;
     let moved = run(alloc, "migrate", SCRIPTS, b"", &[], &mut site)?;
     let status = run(alloc, "run", SCRIPTS, LINE, &[], &mut site)?;
-    Ok(moved == Status::Done
-        && status == Status::Done
-        && site.sent() == b"T1 OK 100\n".as_slice())
+    Ok(moved == Status::Done && status == Status::Done && site.sent() == b"T1 OK 100\n".as_slice())
 }
 
 // Whether each of eight snapshots does.

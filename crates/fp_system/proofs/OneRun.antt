@@ -65,7 +65,8 @@ same_history job format earlier a b p q =
         is.is_serial)
 
 -- that of a sound log
-sound_history : (job : Job) (format : ℕ) (log : List ℕ) (earlier : List Entry) (h : History) → (sound : IsSoundFor job format log earlier)
+sound_history : (job : Job) (format : ℕ) (log : List ℕ) (earlier : List Entry) (h : History) → (sound : IsSoundFor job
+    format log earlier)
     → IsHistoryOf job format earlier h → h.now ≡ sound.last
 sound_history job format log earlier h sound is =
     ap (λ (x : History). x.now)
@@ -116,7 +117,8 @@ module _ (job : Job) (format : ℕ) (given : Input) (earlier : List Entry) (old 
         (sound_shape job format (old.contents 0) earlier none begin sound)
 
     -- and where none lacked memory
-    pub none_from : (h : History) → IsHistoryOf job format earlier h → NoneStarved (length earlier) went.point.here.history
+    pub none_from : (h : History) → IsHistoryOf job format earlier h → NoneStarved (length earlier)
+        went.point.here.history
         → NoneStarved (length h.entries) went.point.here.history
     none_from h is none =
         subst (λ (n : ℕ). NoneStarved n went.point.here.history) (sym (ap length is.entries)) none
@@ -127,6 +129,7 @@ pub one_point : (job : Job) (format : ℕ) (given : Input) (earlier : List Entry
     → went.point.here ≡ went2.point.here → went.point ≡ went2.point
 one_point job format given earlier old old2 new new2 went went2 same =
     same_point went.point went2.point
-    ((end job format given earlier old new went).ends.0 ∙ sym (end job format given earlier old2 new2 went2).ends.0) same
+    ((end job format given earlier old new went).ends.0 ∙ sym (end job format given earlier old2 new2 went2).ends.0)
+    same
     (its_text job format given earlier old new went ∙ ap (λ (m : Machine). m.sent) same
     ∙ sym (its_text job format given earlier old2 new2 went2))

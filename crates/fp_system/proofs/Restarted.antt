@@ -45,7 +45,8 @@ module _ (setup : Setup) (is : IsSetup setup) where
     its_back =
         subst (λ (f : Front). ReadsBack setup.defs (in_format state.front_format f) h1 store state lasts) is.front back
 
-    its_reads : Reads (h1.contents 0) (first_gate (front_for (job_of setup))) (Groups its_back.replayed.groups state.gate)
+    its_reads : Reads (h1.contents 0) (first_gate (front_for (job_of setup))) (Groups its_back.replayed.groups
+        state.gate)
     its_reads =
         subst (λ (n : ℕ). Reads (h1.contents 0) n (Groups its_back.replayed.groups state.gate))
         (same_gate state.front_format (front_for (job_of setup))) (its_back.replayed.holds.holds, its_back.closed)

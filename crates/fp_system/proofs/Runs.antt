@@ -44,7 +44,8 @@ module _ (job : Job) (given : Input) (answer : Status) where
   pub ran : (old new : Disk) → (IsSpared job (old.contents 0) → IsUnchanged old new)
       → (IsOld job (old.contents 0) → IsUnchanged old new × ¬ (answer ≡ Done))
       → Spares IsLog old new
-      → ((format : ℕ) (groups : List (List Entry)) (gate : ℕ) → HasLog (front_in format job) (old.contents 0) groups gate
+      → ((format : ℕ) (groups : List (List Entry)) (gate : ℕ) → HasLog (front_in format job) (old.contents 0) groups
+      gate
       → Through old new (KeepsFront gate old))
       → ((format : ℕ) (earlier : List Entry) → IsSafeFor job format old earlier → ¬ (IsOld job (old.contents 0))
       → Went job format given earlier answer old new)
@@ -74,7 +75,8 @@ pub unmade : (front : Front) (h : Disk) → IsLawful h → Through h h (IsBefore
 unmade front h law = started (IsBeforeOrMade h front) h law (λ s left. inl (inl (settles_left h 0 s left)))
 
 -- a run from a safe site that ended before its core began
-pub went_in_place : (job : Job) (format : ℕ) (given : Input) (answer : Status) (earlier : List Entry) (h h1 : Disk) → IsLawful h
+pub went_in_place : (job : Job) (format : ℕ) (given : Input) (answer : Status) (earlier : List Entry) (h h1 : Disk) →
+    IsLawful h
     → IsLawful h1 → IsSafeFor job format h earlier → ((set : ℕ) → h1.contents set ≡ h.contents set) → h1.sent ≡ h.sent
     → Through h h1 (Syncs h 0) → MayStandIn answer → Went job format given earlier answer h h1
 went_in_place job format given answer earlier h h1 law law1 safe contents sent run stands =
@@ -88,7 +90,8 @@ stands_not_done answer stands done = subst MayStandIn done stands
 pub ran_not : (job : Job) (given : Input) (answer : Status) (h : Disk) → IsLawful h → MayStandIn answer
     → Ran job given answer h h
 ran_not job given answer h law stands =
-    ran job given answer h h (λ why. unchanged_same h law) (λ first. (unchanged_same h law, stands_not_done answer stands))
+    ran job given answer h h (λ why. unchanged_same h law) (λ first.
+    (unchanged_same h law, stands_not_done answer stands))
     (spares_none IsLog h law)
     (λ format groups gate log. kept_synced job given answer h h (started (Syncs h 0) h law (same_synced h)) gate)
     (λ format earlier safe new.

@@ -40,7 +40,8 @@ module _ (job : Job) (start : Standing) where
       let text = point.text in
       let is : text ≡ take (length text) (lines_of_entries more) =
       text_told job.defs job.scripts start.format (start.entries ++ has.later) point.here goes.times text
-      (comes_behind job start.format (start.entries ++ has.later) course.behind given.lines given.events point.left point.here
+      (comes_behind job start.format (start.entries ++ has.later) course.behind given.lines given.events point.left
+      point.here
       course.history course.comes) goes.told in
       record {
         later = has.later ++ more;
@@ -243,7 +244,8 @@ pub made_holds : (job : Job) (sent : List ℕ) (disk : Disk) → disk.sent ≡ s
     → IsAtRest disk (front_for job) [] (first_gate (front_for job)) → HoldsOn job (standing 2 [] sent) disk
 made_holds job sent disk same rest =
     subst (λ (s : List ℕ). HoldsOn job (standing 2 [] s) disk) same
-    (rest_holds job 2 [] disk rest.durable (new_safe job.defs job.scripts (front_for job) (1, omega arith, refl) disk rest).now)
+    (rest_holds job 2 [] disk rest.durable (new_safe job.defs job.scripts (front_for job) (1, omega arith, refl) disk
+    rest).now)
 
 -- ---- a site in memory
 

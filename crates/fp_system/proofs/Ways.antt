@@ -32,7 +32,8 @@ module _ (defs : Defs) (rules : Rules) where
   goes_runs events left m m2 vs (again left_to_do rest) = goes_runs _ left m m2 vs rest
 
 -- a run that comes to a machine behind a history
-pub comes_behind : (job : Job) (format : ℕ) (earlier : List Entry) (h : History) (lines : List (List ℕ)) (events left : List Event)
+pub comes_behind : (job : Job) (format : ℕ) (earlier : List Entry) (h : History) (lines : List (List ℕ)) (events left :
+    List Event)
     (m : Machine) → IsHistoryOf job format earlier h
     → Comes job.defs (rules_for job) events (at_rest (rules_for job) lines h) left m
     → IsBehind job.defs job.scripts format earlier m

@@ -123,7 +123,8 @@ module _ (job : Job) (format : ℕ) (given : Input) (earlier : List Entry) (are 
                   (ap (λ (es : List Entry). es ++ entries_of more) all ∙ sym (entries_both groups more))
                   (groups_sound job.defs job.scripts origin (h.contents 0) earlier point.here
                   (seals_of (next_event point.left) point.here) point.text log are none safe.now
-                  (comes_behind job format earlier before given.lines given.events point.left point.here its_history comes)
+                  (comes_behind job format earlier before given.lines given.events point.left point.here its_history
+                  comes)
                   all has);
               told = has.lines;
             }
@@ -178,7 +179,8 @@ unchanged_same h law = record { contents = λ set. refl; sent = refl; crash = st
 
 module _ (job : Job) (format : ℕ) (given : Input) (earlier : List Entry) (h h1 : Disk) (law : IsLawful h)
     (law1 : IsLawful h1)
-    (safe : IsSafeFor job format h earlier) (contents : (set : ℕ) → h1.contents set ≡ h.contents set) (sent : h1.sent ≡ h.sent)
+    (safe : IsSafeFor job format h earlier) (contents : (set : ℕ) → h1.contents set ≡ h.contents set) (sent : h1.sent ≡
+    h.sent)
     (run : Through h h1 (Syncs h 0)) where
   abbrev its : History
   its = stood job format (h.contents 0) earlier safe.now

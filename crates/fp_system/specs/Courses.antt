@@ -45,7 +45,8 @@ pub record IsHistoryOf (job : Job) (format : ℕ) (earlier : List Entry) (h : Hi
 
 -- From the machine at rest behind the earlier entries, with these lines, turns of the table lead over the schedule and
 -- the drain to this machine, and these events are left.
-pub record Course (job : Job) (format : ℕ) (given : Input) (earlier : List Entry) (left : List Event) (here : Machine) : Type 0 where
+pub record Course (job : Job) (format : ℕ) (given : Input) (earlier : List Entry) (left : List Event) (here : Machine) :
+    Type 0 where
   pub behind : History
   pub history : IsHistoryOf job format earlier behind
   pub comes : Comes job.defs (rules_for job) given.events (at_rest (rules_for job) given.lines behind) left here
@@ -132,8 +133,8 @@ pub record IsNotBegun (given : Input) (answer : Status) (start : Machine) (point
 -- ---- from where a run begins
 
 -- What a run begins with: the log is at rest behind the groups of the origin, in which so many entries are sealed, the
--- store has the databases of a history of so many entries, the next line is read in its format, and the numbers are those
--- of its entries.
+-- store has the databases of a history of so many entries, the next line is read in its format, and the numbers are
+-- those of its entries.
 pub record IsBegun (origin : Origin) (h : History) (store : Stored) (log : LogState) (numbers : Numbered) (disk : Disk)
     : Type 0 where
   pub msdbs : h.now.msdbs ≡ store.msdbs

@@ -72,8 +72,8 @@ pub record Went (job : Job) (format : ℕ) (given : Input) (earlier : List Entry
   pub moments : Through old new (IsKeptBy job format given earlier before old)
 
 -- Whatever the answer is: another's log stays, and a bad one, and one of format 1, and all other data sets. A log that
--- can be read stays up to its first gate that isn't open, where that is there, also if its entries are no history. A safe
--- site in format 2 goes on.
+-- can be read stays up to its first gate that isn't open, where that is there, also if its entries are no history. A
+-- safe site in format 2 goes on.
 pub record Ran (job : Job) (given : Input) (answer : Status) (old new : Disk) : Type 0 where
   pub spares : IsSpared job (old.contents 0) → IsUnchanged old new
   pub first : IsOld job (old.contents 0) → IsUnchanged old new × ¬ (answer ≡ Done)
@@ -131,8 +131,8 @@ pub record Moved (job : Job) (format : ℕ) (earlier : List Entry) (answer : Sta
   pub moments : Through old new (λ s. Syncs old 0 s ⊎ IsMigrating job format earlier old s)
 
 -- Whatever the answer is: another's log stays, and a bad one, and one of format 2, and all other data sets. A log that
--- can be read stays up to its first gate that isn't open, where that is there. A safe site in format 1 gets the one entry
--- whole, or stays.
+-- can be read stays up to its first gate that isn't open, where that is there. A safe site in format 1 gets the one
+-- entry whole, or stays.
 pub record Migrated (job : Job) (answer : Status) (old new : Disk) : Type 0 where
   pub spares : IsSpared job (old.contents 0) → IsUnchanged old new
   pub stays : ¬ (IsOld job (old.contents 0)) → IsUnchanged old new

@@ -3,6 +3,7 @@ use Rattle.std.specs.Prelude.{◌≡◌, ℕ, List, [], ◌++◌, take}
 use Rattle.fp_model.specs.declared.log.Entry.{Entry}
 use Rattle.fp_site.specs.Disk.{Disk, IsDurable, Settles, Snapshot}
 use Rattle.log_groups.specs.Kept.{lines_of_entries}
+use Rattle.number_laws.specs.Once.{IsOnce}
 use Rattle.fp_system.specs.Courses.{Input, IsSoundFor}
 use Rattle.fp_system.specs.Gives.{Migrated, Ran}
 use Rattle.fp_system.specs.Ims.{IsUnchanged}
@@ -42,6 +43,18 @@ HoldsOn job start disk = (log : List ℕ) → Settles disk 0 log → HoldsSince 
 -- So does each snapshot of a crash since a moment of this disk.
 abbrev pub HeldThrough : Job → Standing → ℕ → Disk → Type 0
 HeldThrough job start moment new = (s : Snapshot) → new.left_since moment s → HoldsSince job start s.sent (s.images 0)
+
+-- ---- numbers
+
+-- A log holds what stood, and no number of a terminal was used up twice: each Repeat has the reply line of the entry
+-- that used up its number.
+pub record IsOnceSince (job : Job) (start : Standing) (sent log : List ℕ) : Type 0 where
+  pub holds : HoldsSince job start sent log
+  pub once : IsOnce start.format (start.entries ++ holds.later)
+
+-- So it is on a disk, also in each log that a crash now may leave, or a sync make of that.
+abbrev pub IsOnceOn : Job → Standing → Disk → Type 0
+IsOnceOn job start disk = (log : List ℕ) → Settles disk 0 log → IsOnceSince job start disk.sent log
 
 -- ---- again and again
 

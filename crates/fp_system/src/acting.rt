@@ -210,7 +210,8 @@ pub(crate) fn run_on<S: Source, T: Site>(
     requires router { has_kind (kinds_of exits.now).routers task.now.setup.defs.router ≡ true }
     requires events { AllByRecursion (IsEventOf task.now.setup.defs) task.now.events }
     ensures due { S.told source.old → T.told site.old →
-        ByLog (job_of task.now.setup) ((T.disk site.old).contents 0) (IsEnd (job_of task.now.setup) ((T.disk site.old).contents 0) (S.left source.old part.Messages)) result
+        ByLog (job_of task.now.setup) ((T.disk site.old).contents 0) (IsEnd (job_of task.now.setup)
+        ((T.disk site.old).contents 0) (S.left source.old part.Messages)) result
         ⊎ MayStandIn result }
     ensures ran { S.told source.old → T.told site.old →
         Ran (job_of task.now.setup) (input task.now.events (lines_of (S.left source.old part.Messages))) result

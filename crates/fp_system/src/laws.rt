@@ -7,7 +7,7 @@ ghost use Rattle.fp_system.specs.Answers.{faulty_line};
 ghost use Rattle.fp_system.specs.Courses.{Input, IsSoundFor};
 ghost use Rattle.fp_system.specs.Gives.{Defined, IsSafeFor, Ran, Went};
 ghost use Rattle.fp_system.specs.Parts.{Job};
-ghost use Rattle.fp_system.specs.Stops.{Calls, HeldThrough, HoldsOn, Lives, Standing, standing};
+ghost use Rattle.fp_system.specs.Stops.{Calls, HeldThrough, HoldsOn, IsOnceOn, Lives, Standing, standing};
 ghost use Rattle.fp_system.specs.Table.{Asks, Given, IsDue, end_of_lines};
 ghost use Rattle.fp_system.specs.declared.status.Status.{Status as StatusOf};
 ghost use Rattle.fp_system.specs.declared.status.Status.TheVariants as status;
@@ -18,6 +18,7 @@ ghost use Rattle.fp_model.specs.Lasts.{format_at};
 
 use fp_site::Site;
 use line_laws::every_line_is_answered;
+use number_laws::a_number_is_used_once;
 use schedule_runs::a_way_is_determined;
 use state_laws::the_start_has_its_shape;
 
@@ -91,3 +92,16 @@ pub fn what_was_answered_is_held<T: Site>()
     ensures { (job : Job) (start : Standing) (first last : T) → HoldsOn job start (T.disk first)
         → Lives T.told T.disk job first last → HoldsOn job start (T.disk last) }
 {}
+
+/// So a numbered message counts once, however often it is sent over any number of calls and stops: at most one entry of
+/// the log has a terminal's number and is answered neither Old nor Repeat, and each line that was sent for that number,
+/// but `NO OLD`, is that entry's line.
+pub fn a_number_counts_once<T: Site>()
+    ensures holds { (job : Job) (start : Standing) (site : T) → HoldsOn job start (T.disk site)
+        → IsOnceOn job start (T.disk site) }
+    ensures lives { (job : Job) (start : Standing) (first last : T) → HoldsOn job start (T.disk first)
+        → Lives T.told T.disk job first last → IsOnceOn job start (T.disk last) }
+{
+    a_number_is_used_once();
+    what_was_answered_is_held::<T>()
+}

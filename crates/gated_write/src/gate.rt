@@ -2,37 +2,8 @@
 ghost use Rattle.fp_site.specs.Disk.{Disk, IsDurable, Settles, Stays, written};
 ghost use Rattle.fp_site.specs.Moments.{OnlyOn, Through};
 ghost use Rattle.fp_site.specs.Site.{Counts, ReadsNothing};
-ghost use Rattle.gated_write.specs.Gates.{
-  AreFronts,
-  IsClosed,
-  IsFrontOf,
-  IsOldOrShut,
-  IsOpened,
-  IsReady,
-  IsShut,
-  IsStaged,
-  ReadsOnly,
-};
-ghost use Rattle.std.specs.Prelude.{
-  ◌≡◌,
-  ◌⊎◌,
-  ◌+◌,
-  ◌-◌,
-  ◌<◌,
-  ◌≤◌,
-  ◌^◌,
-  ◌∷◌,
-  [],
-  ℕ,
-  IfOk,
-  List as ListOf,
-  OnOk,
-  drop,
-  length,
-  slice_index,
-  true,
-  false,
-};
+ghost use Rattle.gated_write.specs.Gates.{AreFronts, IsClosed, IsFrontOf, IsOldOrShut, IsOpened, IsReady, IsShut, IsStaged, ReadsOnly};
+ghost use Rattle.std.specs.Prelude.{◌≡◌, ◌⊎◌, ◌+◌, ◌-◌, ◌<◌, ◌≤◌, ◌^◌, ◌∷◌, [], ℕ, IfOk, List as ListOf, OnOk, drop, length, slice_index, true, false};
 
 use fp_site::{Failed, Site};
 

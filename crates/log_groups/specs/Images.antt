@@ -3,16 +3,7 @@ use Rattle.std.specs.Prelude.{◌≡◌, ◌≢◌, ◌⊎◌, ℕ, ◌+◌, ◌
 use Rattle.fp_site.specs.Disk.{Disk, Snapshot, IsDurable, Settles}
 use Rattle.fp_model.specs.declared.log.Entry.{Entry}
 use Rattle.fp_model.specs.Spellings.{be64}
-use Rattle.fp_model.specs.LogText.{
-  Front,
-  IsFormat,
-  StartsWithFront,
-  first_gate,
-  front_text,
-  body_text,
-  group_text,
-  groups_text,
-}
+use Rattle.fp_model.specs.LogText.{Front, IsFormat, StartsWithFront, first_gate, front_text, body_text, group_text, groups_text}
 use Rattle.fp_model.specs.Groups.{Groups, IsGroup, Reads}
 use Rattle.fp_model.specs.Recovery.{Holds}
 use Rattle.gated_write.specs.Gates.{IsGatedImage}

@@ -9,28 +9,7 @@ ghost use Rattle.fp_model.specs.LogText.{FitsEntry, HasSpelling, KeepsRules, bod
 ghost use Rattle.fp_model.specs.declared.log.Entry.{Entry as EntryOf};
 ghost use Rattle.log_groups.specs.Log.{HasEntries, part_text};
 ghost use Rattle.std.specs.List.{AllByRecursion};
-ghost use Rattle.std.specs.Prelude.{
-  ◌≡◌,
-  ◌⊎◌,
-  ◌+◌,
-  ◌-◌,
-  ◌<◌,
-  ◌≤◌,
-  ◌^◌,
-  ◌∷◌,
-  ◌++◌,
-  ℕ,
-  [],
-  List as ListOf,
-  OnOk,
-  drop,
-  length,
-  slice_index,
-  slice_set,
-  take,
-  vec_capacity,
-  vec_len,
-};
+ghost use Rattle.std.specs.Prelude.{◌≡◌, ◌⊎◌, ◌+◌, ◌-◌, ◌<◌, ◌≤◌, ◌^◌, ◌∷◌, ◌++◌, ℕ, [], List as ListOf, OnOk, drop, length, slice_index, slice_set, take, vec_capacity, vec_len};
 
 use crate::gated::write_gated;
 use byteorder::{BigEndian, ByteOrder};

@@ -1,73 +1,15 @@
 //! A log that is open: what is sealed of it, and the entries that are not.
 ghost use Rattle.fp_model.specs.Groups.{IsDamaged};
 ghost use Rattle.fp_model.specs.Lasts.{format_behind};
-ghost use Rattle.fp_model.specs.LogText.{
-  FitsEntry,
-  FitsFront,
-  Front as FrontOf,
-  IsFormat,
-  KeepsRules,
-  StartsWithFront,
-  body_text,
-  entry_text,
-  first_gate,
-  log_text,
-};
+ghost use Rattle.fp_model.specs.LogText.{FitsEntry, FitsFront, Front as FrontOf, IsFormat, KeepsRules, StartsWithFront, body_text, entry_text, first_gate, log_text};
 ghost use Rattle.fp_model.specs.declared.log.Entry.{Entry as EntryOf};
 ghost use Rattle.fp_site.specs.Disk.{Differs, Disk, IsDurable, Settles, Stays};
 ghost use Rattle.fp_site.specs.Moments.{OnlyOn, Through};
 ghost use Rattle.fp_site.specs.Site.{Counts, ReadsNothing};
-ghost use Rattle.log_groups.specs.Images.{
-  BeginsFor,
-  HasFrontOf,
-  IsAtRest,
-  IsBeforeOrAfter,
-  IsBeforeOrMade,
-  IsBeforeOrShut,
-  IsFrontOf,
-  IsKept,
-  IsOldOrMade,
-  IsOldOrShut,
-  IsSameOrMade,
-  IsSameOrShut,
-  IsShut,
-  IsWithOrWithout,
-  as_front,
-  in_format,
-  with_group,
-  with_group_at,
-};
+ghost use Rattle.log_groups.specs.Images.{BeginsFor, HasFrontOf, IsAtRest, IsBeforeOrAfter, IsBeforeOrMade, IsBeforeOrShut, IsFrontOf, IsKept, IsOldOrMade, IsOldOrShut, IsSameOrMade, IsSameOrShut, IsShut, IsWithOrWithout, as_front, in_format, with_group, with_group_at};
 ghost use Rattle.log_groups.specs.Reads.{HasGroup, ReadsOnlyLog};
 ghost use Rattle.log_groups.specs.declared.fault.LogFault.TheVariants as faults;
-ghost use Rattle.std.specs.Prelude.{
-  ◌≡◌,
-  ◌≢◌,
-  ◌⊎◌,
-  ◌+◌,
-  ◌-◌,
-  ◌*◌,
-  ◌<◌,
-  ◌≤◌,
-  ◌^◌,
-  ◌∷◌,
-  ◌++◌,
-  ℕ,
-  [],
-  IfNone,
-  IfOk,
-  IfSome,
-  IsErrOf,
-  IsOk,
-  List as ListOf,
-  OnErr,
-  OnOk,
-  drop,
-  length,
-  max,
-  min,
-  slice_index,
-  take,
-};
+ghost use Rattle.std.specs.Prelude.{◌≡◌, ◌≢◌, ◌⊎◌, ◌+◌, ◌-◌, ◌*◌, ◌<◌, ◌≤◌, ◌^◌, ◌∷◌, ◌++◌, ℕ, [], IfNone, IfOk, IfSome, IsErrOf, IsOk, List as ListOf, OnErr, OnOk, drop, length, max, min, slice_index, take};
 
 use crate::buffer::{add_entry, end_of, move_down, seal_part};
 use crate::group::read_group;

@@ -4,24 +4,7 @@ ghost use Rattle.fp_site.specs.Disk.{Disk, Stays};
 ghost use Rattle.log_groups.specs.Images.{BeginsFor, as_front, in_format};
 ghost use Rattle.log_groups.specs.Reads.{ReadsOnlyLog};
 ghost use Rattle.log_groups.specs.declared.fault.LogFault.TheVariants as faults;
-ghost use Rattle.std.specs.Prelude.{
-  ◌≡◌,
-  ◌≢◌,
-  ◌⊎◌,
-  ◌+◌,
-  ◌-◌,
-  ◌<◌,
-  ◌≤◌,
-  ◌^◌,
-  ℕ,
-  IfNone,
-  IfOk,
-  IfSome,
-  IsErrOf,
-  OnOk,
-  length,
-  take,
-};
+ghost use Rattle.std.specs.Prelude.{◌≡◌, ◌≢◌, ◌⊎◌, ◌+◌, ◌-◌, ◌<◌, ◌≤◌, ◌^◌, ℕ, IfNone, IfOk, IfSome, IsErrOf, OnOk, length, take};
 
 use crate::group::bytes_at;
 use crate::{Front, LogFault};

@@ -7,42 +7,14 @@ ghost use Rattle.fp_site.specs.Moments.{OnlyOn, Through};
 ghost use Rattle.fp_site.specs.Site.{Counts};
 ghost use Rattle.gated_write.specs.Gates.{ReadsOnly};
 ghost use Rattle.msdb_checkpoint.specs.Given.{body_with};
-ghost use Rattle.msdb_checkpoint.specs.Steps.{
-  IsOldClosedOrWhole,
-  IsSure,
-  IsSureNow,
-  StandsOn,
-  Turn,
-  other_set,
-  turns_left,
-};
+ghost use Rattle.msdb_checkpoint.specs.Steps.{IsOldClosedOrWhole, IsSure, IsSureNow, StandsOn, Turn, other_set, turns_left};
 ghost use Rattle.msdb_checkpoint.specs.declared.fault.CkptFault.TheVariants as faults;
 ghost use Rattle.msdb_checkpoint.specs.declared.stages.Stage.TheVariants as stages;
 ghost use Rattle.msdb_checkpoint.specs.declared.stages.UnderWay.{UnderWay as UnderWayOf};
 ghost use Rattle.msdb_store.specs.Store.{IsOf};
 ghost use Rattle.std.specs.List.{AllByRecursion};
 ghost use Rattle.std.specs.Option.{option_copied, option_map_or};
-ghost use Rattle.std.specs.Prelude.{
-  ◌≡◌,
-  ◌⊎◌,
-  ◌+◌,
-  ◌-◌,
-  ◌<◌,
-  ◌≤◌,
-  ◌^◌,
-  ℕ,
-  None,
-  Some,
-  IfOk,
-  IsErrOf,
-  IsOk,
-  List as ListOf,
-  OnErr,
-  OnOk,
-  false,
-  length,
-  true,
-};
+ghost use Rattle.std.specs.Prelude.{◌≡◌, ◌⊎◌, ◌+◌, ◌-◌, ◌<◌, ◌≤◌, ◌^◌, ℕ, None, Some, IfOk, IsErrOf, IsOk, List as ListOf, OnErr, OnOk, false, length, true};
 
 use crate::CkptFault;
 use crate::stages::{Stage, UnderWay, advance, run};

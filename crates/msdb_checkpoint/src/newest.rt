@@ -3,40 +3,10 @@ ghost use Rattle.fp_model.specs.CheckpointText.{IsOpen};
 ghost use Rattle.fp_site.specs.Disk.{Disk, Stays, read_range};
 ghost use Rattle.fp_site.specs.Site.{Counts};
 ghost use Rattle.gated_write.specs.Gates.{ReadsOnly};
-ghost use Rattle.msdb_checkpoint.specs.Newest.{
-  HasBadHead,
-  HasCheckpoint,
-  HasNoCheckpoint,
-  HasNumber,
-  IsBadSet,
-  IsDamagedSet,
-  IsNewer,
-  IsNewest,
-  IsNotOpen,
-  IsWhole,
-  ReadsCheckpoints,
-};
+ghost use Rattle.msdb_checkpoint.specs.Newest.{HasBadHead, HasCheckpoint, HasNoCheckpoint, HasNumber, IsBadSet, IsDamagedSet, IsNewer, IsNewest, IsNotOpen, IsWhole, ReadsCheckpoints};
 ghost use Rattle.msdb_checkpoint.specs.declared.fault.CkptFault.TheVariants as faults;
 ghost use Rattle.std.specs.List.{AllByRecursion};
-ghost use Rattle.std.specs.Prelude.{
-  ◌≡◌,
-  ◌⊎◌,
-  ◌+◌,
-  ◌-◌,
-  ◌<◌,
-  ◌≤◌,
-  ◌^◌,
-  ℕ,
-  IfNone,
-  IfOk,
-  IfSome,
-  IsErrOf,
-  drop,
-  false,
-  length,
-  take,
-  true,
-};
+ghost use Rattle.std.specs.Prelude.{◌≡◌, ◌⊎◌, ◌+◌, ◌-◌, ◌<◌, ◌≤◌, ◌^◌, ℕ, IfNone, IfOk, IfSome, IsErrOf, drop, false, length, take, true};
 
 use crate::{Checkpoints, CkptFault};
 use checkpoint_format::{Loaded, head, read};

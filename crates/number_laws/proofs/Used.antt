@@ -1,6 +1,6 @@
 -- What a history has used up, entry by entry.
-use Rattle.std.proofs.Common.{◌≡◌, ◌≢◌, ◌⊎◌, ⊎_elim, inl, inr, refl, sym, ap, subst, ◌∙◌, arith, ℕ, ◌<◌, ◌≤◌, List, [], ◌∷◌, ◌++◌, length, take, Bool, true, false, unwrap_or, ⊤}
-use Rattle.std.specs.Prelude.{Option, Some, None, Result, Ok, Err, slice_get, if◌then◌else◌, nat_lt, ◌==◌, option_map, is_some}
+use Rattle.std.proofs.Common.{◌≡◌, ◌≢◌, ◌⊎◌, ⊎_elim, inl, inr, refl, sym, ap, subst, ◌∙◌, arith, ℕ, ◌<◌, ◌≤◌, List, [], ◌∷◌, ◌++◌, length, take, Bool, true, false, unwrap_or}
+use Rattle.std.specs.Prelude.{⊤, Option, Some, None, Result, Ok, Err, slice_get, if◌then◌else◌, nat_lt, ◌==◌, option_map, is_some}
 use Rattle.std.specs.Option.{option_map_or}
 use Rattle.std.proofs.lemmas.Bool.Decides.{nat_tests}
 use Rattle.std.proofs.lemmas.Option.{slice_get_within}
@@ -335,14 +335,24 @@ module _ (defs : Defs) (scripts : List Script) (h : History) (e : Entry) (next :
   none_used : last_by (format_at h.format h.entries) e ≡ None → IsUsed (with_entry e next h)
   none_used none = record {
     held = λ place used uses. ⊎_elim
-        (λ p. let top = so_far.held place used p in (top.0, (ap (last_of used.lterm) (lasts_more None none) ∙ top.1.0,
-        top.1.1)))
+        (λ p. let top = so_far.held place used p in (
+          top.0,
+          (
+            ap (last_of used.lterm) (lasts_more None none) ∙ top.1.0,
+            top.1.1,
+          ),
+        ))
         (λ q. none_is used (sym none ∙ q.1)) (uses_in h.format h.entries e place used uses);
     newest = λ name top is.
         let it = so_far.newest name top (sym (ap (last_of name) (lasts_more None none)) ∙ is) in
         (it.0, uses_before h.format h.entries e it.0 top it.1);
     is_once = record { once = once_more; repeats = repeats_more };
   }
+
+  -- a number isn't above the last one of its terminal
+  abbrev Held : Last → Type 0
+  Held used = (top : Last)
+      × ((last_of used.lterm (lasts_of h.format (h.entries ++ e ∷ [])) ≡ Some top) × (used.number ≤ top.number))
 
   -- and where it does
   some_used : (last : Last) → last_by (format_at h.format h.entries) e ≡ Some last → IsUsed (with_entry e next h)
@@ -354,10 +364,6 @@ module _ (defs : Defs) (scripts : List Script) (h : History) (e : Entry) (next :
     is_once = record { once = once_more; repeats = repeats_more };
   }
     where
-      abbrev Held : Last → Type 0
-      Held used = (top : Last)
-          × ((last_of used.lterm (lasts_of h.format (h.entries ++ e ∷ [])) ≡ Some top) × (used.number ≤ top.number))
-
       some_is : (a b : Last) → Some a ≡ Some b → b ≡ a
       some_is a b e = cc
 
@@ -446,4 +452,5 @@ used_once defs scripts format entries last is =
     let first = beginning format (start defs) in
     let used = used_on defs scripts first entries is.history is.leads (used_none format (start defs)) in
     subst (λ (f : ℕ). IsOnce f entries) (format_stays (rules_of defs scripts) first entries is.history is.leads)
-    (subst (IsOnce is.history.format) (entries_put (rules_of defs scripts) first entries is.history is.leads) used.is_once)
+    (subst (IsOnce is.history.format) (entries_put (rules_of defs scripts) first entries is.history is.leads)
+    used.is_once)

@@ -18,24 +18,7 @@ ghost use Rattle.site_texts.specs.Texts.{IsDbSent, ReadsOnce, SendsDb, msdbs_tex
 ghost use Rattle.fp_site.specs.Disk.{IsDurable};
 ghost use Rattle.fp_site.specs.Site.{ReadsNothing};
 ghost use Rattle.std.specs.List.{AllByRecursion};
-ghost use Rattle.std.specs.Prelude.{
-  ◌≡◌,
-  ◌⊎◌,
-  ◌++◌,
-  ◌+◌,
-  ◌-◌,
-  ◌<◌,
-  ◌≤◌,
-  ◌^◌,
-  ℕ,
-  [],
-  Some,
-  IsErrOf,
-  List as ListOf,
-  OnOk,
-  length,
-  slice_get,
-};
+ghost use Rattle.std.specs.Prelude.{◌≡◌, ◌⊎◌, ◌++◌, ◌+◌, ◌-◌, ◌<◌, ◌≤◌, ◌^◌, ℕ, [], Some, IsErrOf, List as ListOf, OnOk, length, slice_get};
 
 use crate::telling::{send_held, send_large};
 use fp_model::{Bytes, Defs, MsdbDef};
@@ -46,8 +29,8 @@ use log_groups::Front;
 use msdb_store::MsdbStore;
 use std::alloc::Global;
 
-/// Restarts, and sends the text of the main storage databases, of a log of either format. Nothing is written; the log is
-/// synced.
+/// Restarts, and sends the text of the main storage databases, of a log of either format. Nothing is written; the log
+/// is synced.
 ///
 /// `Foreign` and `Damaged` come as from a restart, and nothing is sent then. Where the site fails or memory is short a
 /// first part of the text may be sent. The text goes out in parts of about 65,536 bytes, and no more of it is held.

@@ -9,28 +9,7 @@ ghost use Rattle.site_texts.specs.Groups.{AreAllSent, AreSentToDamage, IsOneSent
 ghost use Rattle.site_texts.specs.Sent.{GoesOn};
 ghost use Rattle.site_texts.specs.Texts.{IsLogSent, IsSentToDamage, ReadsOnce, SendsGroups};
 ghost use Rattle.fp_site.specs.Disk.{Stays};
-ghost use Rattle.std.specs.Prelude.{
-  ◌≡◌,
-  ◌≢◌,
-  ◌⊎◌,
-  ◌+◌,
-  ◌-◌,
-  ◌<◌,
-  ◌≤◌,
-  ◌^◌,
-  ℕ,
-  false,
-  length,
-  slice_index,
-  true,
-  IfNone,
-  IfOk,
-  IfSome,
-  IsErrOf,
-  List as ListOf,
-  OnOk,
-  max,
-};
+ghost use Rattle.std.specs.Prelude.{◌≡◌, ◌≢◌, ◌⊎◌, ◌+◌, ◌-◌, ◌<◌, ◌≤◌, ◌^◌, ℕ, false, length, slice_index, true, IfNone, IfOk, IfSome, IsErrOf, List as ListOf, OnOk, max};
 
 use fp_restart::RestartFault;
 use fp_show::show_group;

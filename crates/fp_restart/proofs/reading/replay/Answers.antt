@@ -140,7 +140,8 @@ loop-numbers-preserved g c =
           c.take_group.new.store.msdbs) same taken);
       first_format = it.first_format;
       no_number = it.no_number;
-      some = some_more c.loop-numbers.count c.in-Some.taken.count _ c.loop-numbers.numbers c.take_group.new.numbers it.some
+      some = some_more c.loop-numbers.count c.in-Some.taken.count _ c.loop-numbers.numbers c.take_group.new.numbers
+          it.some
           (rw c.in-Some.is at c.in_ok-taken.ensures.some);
       counted = c.in_ok-taken.ensures.stayed (λ is. cc) ∙ it.counted;
       only_log = λ set told.

@@ -55,8 +55,11 @@ returns-clause-never g c format scripts entries t sound =
     let t1 = c.sync.ensures.told t in
     let here : IsSound defs scripts front bytes entries =
     subst (λ l. IsSound defs scripts front l entries) (sym (c.sync.ensures.same t)) sound in (
-      λ is. c.read_parts.ensures.foreign t1 is (record
-          { format = format; is_format = sound.is_format; begins = sound_begins defs scripts front bytes entries here }),
+      λ is. c.read_parts.ensures.foreign t1 is (record {
+        format = format;
+        is_format = sound.is_format;
+        begins = sound_begins defs scripts front bytes entries here;
+      }),
       λ set at is. sound_not_bad defs scripts front bytes entries here at
           (subst (λ n. IsFirstBadAt defs bytes n at) (sym (same_gate format texts))
           (c.read_parts.ensures.damaged set at t1 is).1),

@@ -261,10 +261,12 @@ returns-clause-migrated g c t =
                 c.seal_format.ensures.settles front found.groups image t1 found.at_rest settles;
             gate_then = c.seal_format.new.log.gate;
             durable = λ done.
-                absurd (subst MayStandIn done (stands_in c.in-Err-seal_format.fault c.in-Err-seal_format.ensures.refused));
+                absurd (subst MayStandIn done (stands_in c.in-Err-seal_format.fault
+                c.in-Err-seal_format.ensures.refused));
           } in
           moved job format earlier h h1 h2 law1 safe
-          (sound_old_only job format (h.contents 0) earlier safe.now was) sent crash store state lasts found c.in-Err-seal_format.fault
+          (sound_old_only job format (h.contents 0) earlier safe.now was) sent crash store state lasts found
+          c.in-Err-seal_format.fault
           seals only;
     }
 

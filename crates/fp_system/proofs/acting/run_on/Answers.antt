@@ -156,7 +156,8 @@ returns-clause-ran g c s t =
     let origin : Origin = record { front = front_in format job; groups = found.groups; sent = h1.sent } in
     let history = stood job format (h.contents 0) earlier safe.now in
     ⊎_elim
-    (λ on. went job format given earlier is.are is.no_dedbs h h1 h2 law2 safe contents sent crash found.groups state.gate
+    (λ on. went job format given earlier is.are is.no_dedbs h h1 h2 law2 safe contents sent crash found.groups
+    state.gate
     found.all found.at_rest answer on)
     (λ none. subst (λ (x : _). Went job format given earlier answer h (g.T.Site.disk x)) (sym none.1)
     (went_in_place job format given answer earlier h h1 law law1 safe contents sent crash

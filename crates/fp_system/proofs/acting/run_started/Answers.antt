@@ -74,7 +74,8 @@ returns-in-Ok-run_schedule-clause-ran g c origin h s t is =
     let new = g.T.Site.disk c.run_schedule.new.site in
     let stands = c.in-Ok.ensures.stands (lines_of left) h is.msdbs is.place is.states
     (is.format ∙ sym c.requires.format) is.lasts in
-    let beside = stands_beside origin h c.args.started.msdbs c.args.started.log c.args.started.lasts old core.engine rules core.lines left is
+    let beside = stands_beside origin h c.args.started.msdbs c.args.started.log c.args.started.lasts old core.engine
+    rules core.lines left is
     stands c.in-Ok.ensures.gate (c.in-Ok.ensures.lines left) in
     let reached = reached_at_rest core.engine rules (lines_of left) h c.in-Ok.ensures.rules stands in
     inl (ended_done job given origin h old new next.lines bytes next.engine
@@ -97,7 +98,8 @@ returns-clause-ran g c origin h s t is =
     let new = g.T.Site.disk c.run_schedule.new.site in
     let stands = c.in-Ok.ensures.stands (lines_of left) h is.msdbs is.place is.states
     (is.format ∙ sym c.requires.format) is.lasts in
-    let beside = stands_beside origin h c.args.started.msdbs c.args.started.log c.args.started.lasts old core.engine rules core.lines left is
+    let beside = stands_beside origin h c.args.started.msdbs c.args.started.log c.args.started.lasts old core.engine
+    rules core.lines left is
     stands c.in-Ok.ensures.gate (c.in-Ok.ensures.lines left) in
     let reached = reached_at_rest core.engine rules (lines_of left) h c.in-Ok.ensures.rules stands in
     let stopped = as_given (λ d r es. IsStopped origin d r es m old core.lines new why) c.in-Ok.ensures.defs

@@ -93,7 +93,8 @@ returns-clause-cause g c =
     let site = g.T.Site.faults c.args.site.now in
     record {
       source = c.in-Err-read_task.ensures.cause;
-      site = by_site site site c.in-Err-read_task.answer (λ e. absurd (subst IsOfParts e c.in-Err-read_task.ensures.early)) (λ other. refl);
+      site = by_site site site c.in-Err-read_task.answer (λ e. absurd
+          (subst IsOfParts e c.in-Err-read_task.ensures.early)) (λ other. refl);
     }
 
 pub returns-in-Show-clause-due : goal.returns-in-Show-clause-due
@@ -204,7 +205,8 @@ returns-clause-ran g c job events s t asks has =
     (λ stands. ran_not job (input events (lines_of (left part.Messages))) c.in-Err-read_task.answer
     (g.T.Site.disk c.args.site.now) (g.met.T.Site.lawful c.args.site.now t) stands)
     (λ why. no_job_refused kinds left job command.Run c.in-Err-read_task.answer asks.job_is asks.schedule_is
-    (subst (λ (x : Command). Refuses kinds left x c.in-Err-read_task.answer) run_is why)) (c.in-Err-read_task.ensures.refused s)
+    (subst (λ (x : Command). Refuses kinds left x c.in-Err-read_task.answer) run_is why))
+    (c.in-Err-read_task.ensures.refused s)
 
 pub returns-in-Err-clause-ran : goal.returns-in-Err-clause-ran
 returns-in-Err-clause-ran g c job events s t asks has =

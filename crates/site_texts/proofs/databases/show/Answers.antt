@@ -102,7 +102,11 @@ returns-clause-once g c t tells =
     let on = c.send_databases.ensures.reads 0 tells in
     record {
       all = let at_most = call.once t on.0 in omega (arith, on.1, at_most);
-      up_to = λ groups gate holds. let at_most = call.read groups gate t holds.reads on.0 in omega (arith, on.1, at_most);
+      up_to = λ groups gate holds. let at_most = call.read groups gate t holds.reads on.0 in omega (
+        arith,
+        on.1,
+        at_most,
+      );
       of_others = λ away. let at_most = call.no_front t away on.0 in omega (arith, on.1, at_most);
     }
 
