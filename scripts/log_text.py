@@ -31,7 +31,7 @@ def reply_of(entry):
 def replies(log):
     """The reply lines of the log's entries, in order: the front, then groups up to the first closed gate."""
     log, lines = Cut(log), []
-    assert log.take(9) == b"\x01IMSFPLG1", "no open front"
+    assert log.take(9) in (b"\x01IMSFPLG1", b"\x01IMSFPLG2"), "no open front"
     log.take(log.number(4))
     log.take(log.number(4))
     while log.left() and log.number(1) == 1:

@@ -35,7 +35,7 @@ def main():
     groups, count = (int(word) for word in (sys.argv[2:] + ["1000", "1000"][len(sys.argv) - 2:]))
     with open(folder / "log", "wb") as log:
         parts = [(folder / name).read_bytes() for name in ("defs.toml", "scripts.txt")]
-        log.write(b"\1IMSFPLG1" + b"".join(sized(part, 4) for part in parts))
+        log.write(b"\1IMSFPLG2" + b"".join(sized(part, 4) for part in parts))
         for group in range(groups):
             log.write(b"\1" + sized(b"".join(entry(group * count + place) for place in range(count)), 8))
         log.write(b"\0")

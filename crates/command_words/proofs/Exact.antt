@@ -8,7 +8,7 @@ use Rattle.fp_model.specs.Texts.{same_text}
 use Rattle.command_words.specs.Apps.{program_app}
 use Rattle.command_words.specs.Words.{AreWords, command_named, command_of, is_word}
 use Rattle.command_words.specs.declared.words.Command.{Command}
-use Rattle.command_words.proofs.Forms.{define_1, define_2, define_3, define_name, log_1, log_2, log_3, log_name, name_in, no_words, run_1, run_2, run_3, run_name, show_1, show_2, show_3, show_name, unknown}
+use Rattle.command_words.proofs.Forms.{define_1, define_2, define_3, define_name, log_1, log_2, log_3, log_name, migrate_1, migrate_2, migrate_3, migrate_name, name_in, no_words, run_1, run_2, run_3, run_name, show_1, show_2, show_3, show_name, unknown}
 
 -- where clap takes the words it names their command, and where it doesn't they are none
 pub record IsExact (words : List (List ℕ)) : Type 0 where
@@ -87,6 +87,17 @@ behind_log ((b ∷ bs) ∷ (d ∷ ds) ∷ []) short h =
     (λ e. let bad = sym (log_3 b d bs ds (not_hyphen b h.0) (not_hyphen d h.1.0)) ∙ e in cc)
 behind_log ((b ∷ bs) ∷ (d ∷ ds) ∷ x ∷ ws) short h = absurd (omega arith)
 
+behind_migrate : (rest : List (List ℕ)) → length rest ≤ 2 → AreWords rest → IsExact (codes "migrate" ∷ rest)
+behind_migrate [] short h = refused (codes "migrate" ∷ []) refl (λ e. let bad = sym migrate_1 ∙ e in cc)
+behind_migrate ([] ∷ ws) short h = absurd (false≢true h.0)
+behind_migrate ((b ∷ bs) ∷ []) short h =
+    let hyphen = not_hyphen b h.0 in named (codes "migrate") (b ∷ bs) h.0 (migrate_2 b bs hyphen) (migrate_name b bs hyphen)
+behind_migrate ((b ∷ bs) ∷ [] ∷ ws) short h = absurd (false≢true h.1.0)
+behind_migrate ((b ∷ bs) ∷ (d ∷ ds) ∷ []) short h =
+    refused (codes "migrate" ∷ (b ∷ bs) ∷ (d ∷ ds) ∷ []) refl
+    (λ e. let bad = sym (migrate_3 b d bs ds (not_hyphen b h.0) (not_hyphen d h.1.0)) ∙ e in cc)
+behind_migrate ((b ∷ bs) ∷ (d ∷ ds) ∷ x ∷ ws) short h = absurd (omega arith)
+
 -- two ways to compare bytes
 differ : (a b : List ℕ) → bytes_eq a b ≡ false → same_text b a ≡ false
 differ a b h =
@@ -97,9 +108,16 @@ differ a b h =
 
 -- a word that is none of the names
 unnamed : (c : List ℕ) → bytes_eq (codes "define") c ≡ false → bytes_eq (codes "run") c ≡ false
-    → bytes_eq (codes "show") c ≡ false → bytes_eq (codes "log") c ≡ false → command_named c ≡ None
-unnamed c d r s l =
-    rw (differ (codes "define") c d, differ (codes "run") c r, differ (codes "show") c s, differ (codes "log") c l) refl
+    → bytes_eq (codes "show") c ≡ false → bytes_eq (codes "log") c ≡ false → bytes_eq (codes "migrate") c ≡ false
+    → command_named c ≡ None
+unnamed c d r s l m =
+    rw (
+      differ (codes "define") c d,
+      differ (codes "run") c r,
+      differ (codes "show") c s,
+      differ (codes "log") c l,
+      differ (codes "migrate") c m,
+    ) refl
 
 no_command : (c : List ℕ) (rest : List (List ℕ)) → command_named c ≡ None → command_of (c ∷ rest) ≡ None
 no_command c [] none = refl
@@ -124,8 +142,11 @@ exact ((b ∷ bs) ∷ ws) short h =
           | inl e ↦ subst P e (behind_show ws less h.1)
           | inr s ↦ elim (name_cases (codes "log") (b ∷ bs)) [
             | inl e ↦ subst P e (behind_log ws less h.1)
-            | inr l ↦ refused ((b ∷ bs) ∷ ws) (no_command (b ∷ bs) ws (unnamed (b ∷ bs) d r s l))
-                (λ e. let bad = sym (unknown b bs ws (not_hyphen b h.0) d r s l) ∙ e in cc)
+            | inr l ↦ elim (name_cases (codes "migrate") (b ∷ bs)) [
+              | inl e ↦ subst P e (behind_migrate ws less h.1)
+              | inr m ↦ refused ((b ∷ bs) ∷ ws) (no_command (b ∷ bs) ws (unnamed (b ∷ bs) d r s l m))
+                  (λ e. let bad = sym (unknown b bs ws (not_hyphen b h.0) d r s l m) ∙ e in cc)
+            ]
           ]
         ]
       ]

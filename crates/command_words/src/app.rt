@@ -45,5 +45,6 @@ pub(crate) fn program_command<'a>(alloc: Global) -> Result<Command<'a>, AllocErr
     let top = with_folder(alloc, top, "define")?;
     let top = with_folder(alloc, top, "run")?;
     let top = with_folder(alloc, top, "show")?;
-    with_folder(alloc, top, "log")
+    let top = with_folder(alloc, top, "log")?;
+    with_folder(alloc, top, "migrate")
 }

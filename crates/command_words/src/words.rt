@@ -17,6 +17,8 @@ pub enum Command {
     Show,
     /// `log DIR`: sends the text of the log's groups.
     Log,
+    /// `migrate DIR`: lets the messages of a site of format 1 have numbers from here on.
+    Migrate,
 }
 
 // Whether a word has a byte, and doesn't begin with a minus sign.
@@ -53,6 +55,9 @@ fn command_named(name: &[u8]) -> Option<Command>
     }
     if name == b"log".as_slice() {
         return Some(Command::Log);
+    }
+    if name == b"migrate".as_slice() {
+        return Some(Command::Migrate);
     }
     None
 }

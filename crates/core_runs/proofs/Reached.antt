@@ -38,13 +38,13 @@ if_ok_both P Q R (Ok a) f p q = f a p q
 if_ok_both P Q R (Err e) f p q = p
 
 -- at rest, before any entry
-pub reached_at_rest : (defs : Defs) (scripts : List Script) (engine : Engine)
+pub reached_at_rest : (defs : Defs) (scripts : List Script) (format : ℕ) (engine : Engine)
     → rules_in engine ≡ rules_of defs scripts
-    → StandsFor engine (at_rest (rules_of defs scripts) [] (beginning 1 (start defs)))
+    → StandsFor engine (at_rest (rules_of defs scripts) [] (beginning format (start defs)))
     → (m : Machine) × IsReachedBy engine m
-reached_at_rest defs scripts engine same stands =
+reached_at_rest defs scripts format engine same stands =
     let rules : Rules = rules_of defs scripts in
-    let h : History = beginning 1 (start defs) in
+    let h : History = beginning format (start defs) in
     let m : Machine = at_rest rules [] h in
     let reached : IsReached rules (gauge_of engine.defs.now) m = record {
       in_order = rest_ordered rules [] h;

@@ -14,6 +14,7 @@ ghost use Rattle.std.specs.Prelude.{◌≡◌, ◌≤◌, [], IfOk, IsTrue, OnOk
 use crate::fault::Fault;
 use crate::setup::{Task, definitions, front, scripts};
 use crate::telling::{databases_text, log_text};
+use balancing::Lasts;
 use fp_core::{Core, Did, Started, Stop};
 use fp_exits::Exits;
 use fp_model::{Bytes, Defs, Event};
@@ -54,14 +55,20 @@ fn source_of(alloc: Global, messages: &[u8]) -> Result<MemorySource, AllocError>
 }
 
 // What a core begins with on a new site: the loaded databases, and a log without entries.
-fn begun(alloc: Global, defs: &Defs, site: &mut MemorySite) -> Result<Started, Fault>
+fn begun(
+    alloc: Global,
+    defs: &Defs,
+    numbered: bool,
+    site: &mut MemorySite,
+) -> Result<Started, Fault>
     requires { AllByRecursion IsMsdbDef defs.now.msdbs }
     ensures of { IfOk result (λ started. IsOf defs.now.msdbs started.msdbs) }
     ensures msdbs { IfOk result (λ started. started.msdbs.msdbs ≡ (start defs.now).msdbs) }
     ensures sealed { IfOk result (λ started. started.log.sealed ≡ 0) }
     ensures unsealed { IfOk result (λ started. started.log.unsealed ≡ []) }
+    ensures lasts { IfOk result (λ started. started.lasts.terminals ≡ []) }
 {
-    let front = front(alloc)?;
+    let front = front(alloc, numbered)?;
     if Log::make(alloc, site, &front).is_err() {
         return Err(Fault::NoLog);
     }
@@ -69,7 +76,13 @@ fn begun(alloc: Global, defs: &Defs, site: &mut MemorySite) -> Result<Started, F
         return Err(Fault::NoLog);
     };
     let msdbs = MsdbStore::start(alloc, defs)?;
-    Ok(Started { msdbs, log })
+    let lasts = Lasts::new(alloc)?;
+    Ok(Started {
+        msdbs,
+        log,
+        format: front.format,
+        lasts,
+    })
 }
 
 // The core at rest.
@@ -86,6 +99,7 @@ fn core_of<'a>(
     requires msdbs { started.msdbs.msdbs ≡ (start defs.now).msdbs }
     requires sealed { started.log.sealed ≡ 0 }
     requires unsealed { started.log.unsealed ≡ [] }
+    requires lasts { started.lasts.terminals ≡ [] }
     ensures reached { IfOk result (λ core. (m : Machine) × IsReachedBy core.engine m) }
     ensures routed { IfOk result (λ core. core.router.now.kind ≡ core.engine.defs.now.router) }
     ensures regions { IfOk result (λ core. core.engine.defs.now.regions ≡ defs.now.regions) }
@@ -191,7 +205,7 @@ pub fn run(
         return Err(Fault::NotRead);
     };
     let mut source = source_of(alloc, task.messages)?;
-    let started = begun(alloc, &defs, site)?;
+    let started = begun(alloc, &defs, task.numbered, site)?;
     let mut core = core_of(alloc, &defs, &scripts, exits, started)?;
     take(
         alloc,
@@ -209,9 +223,9 @@ pub fn find(alloc: Global, task: &Task<'_>, exits: &Exits) -> Result<Found, Faul
     let Story { dids, quiet } = run(alloc, task, exits, &mut site)?;
     let sent = Bytes::from_slice(alloc, site.sent())?;
     let log = Bytes::from_slice(alloc, site.contents(0))?;
-    let groups = log_text(alloc, &mut site)?;
+    let groups = log_text(alloc, task.numbered, &mut site)?;
     let defs = definitions(alloc, task.definitions, exits)?;
-    let databases = databases_text(alloc, &defs, &mut site)?;
+    let databases = databases_text(alloc, &defs, task.numbered, &mut site)?;
     Ok(Found {
         dids,
         quiet,

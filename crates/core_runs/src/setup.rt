@@ -22,6 +22,8 @@ pub struct Task<'a> {
     pub scripts: &'a [u8],
     pub schedule: &'a [u8],
     pub messages: &'a [u8],
+    /// Whether the log is of format 2, in which a message may have a number.
+    pub numbered: bool,
 }
 
 /// The definitions that a text is read as, which have no data entry database.
@@ -53,13 +55,13 @@ pub(crate) fn scripts(alloc: Global, text: &[u8], defs: &Defs) -> Result<Scripts
     }
 }
 
-/// The front of each log: what it says isn't looked at.
-pub(crate) fn front(alloc: Global) -> Result<Front, AllocError>
+/// The front of each log: what it says besides its format isn't looked at.
+pub(crate) fn front(alloc: Global, numbered: bool) -> Result<Front, AllocError>
     ensures { IfOk result (λ front. FitsFront (as_front front)) }
 {
     let defs = Bytes::from_slice(alloc, b"D")?;
     Ok(Front {
-        format: 1,
+        format: if numbered { 2 } else { 1 },
         defs,
         scripts: Bytes::new(alloc),
     })

@@ -30,9 +30,9 @@ fn tell_group(
 // The most groups that a log is read for.
 const MOST_GROUPS: u64 = 100_000;
 
-/// The text of the groups of the log.
-pub fn log_text(alloc: Global, site: &mut MemorySite) -> Result<Bytes, Fault> {
-    let front = front(alloc)?;
+/// The text of the groups of the log, which is of format 2 where it is numbered.
+pub fn log_text(alloc: Global, numbered: bool, site: &mut MemorySite) -> Result<Bytes, Fault> {
+    let front = front(alloc, numbered)?;
     let Ok(mut log) = Log::open(alloc, site, &front) else {
         return Err(Fault::NoLog);
     };
@@ -52,11 +52,16 @@ pub fn log_text(alloc: Global, site: &mut MemorySite) -> Result<Bytes, Fault> {
     Err(Fault::NoLog)
 }
 
-/// The text of the databases that a restart of the site gives.
-pub fn databases_text(alloc: Global, defs: &Defs, site: &mut MemorySite) -> Result<Bytes, Fault>
+/// The text of the databases that a restart of the site gives, whose log is of format 2 where it is numbered.
+pub fn databases_text(
+    alloc: Global,
+    defs: &Defs,
+    numbered: bool,
+    site: &mut MemorySite,
+) -> Result<Bytes, Fault>
     requires { AllByRecursion IsMsdbDef defs.now.msdbs }
 {
-    let front = front(alloc)?;
+    let front = front(alloc, numbered)?;
     let Ok(mut parts) = restart(alloc, defs, &front, site) else {
         return Err(Fault::NoLog);
     };

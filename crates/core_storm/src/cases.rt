@@ -101,6 +101,7 @@ impl<'a> Case<'a> {
             scripts: self.scripts.as_bytes(),
             schedule: self.events.as_bytes(),
             messages: self.lines.as_bytes(),
+            numbered: false,
         };
         match find(alloc, &task, exits) {
             Ok(found) => self.first_other(alloc, &found),

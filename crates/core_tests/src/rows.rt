@@ -26,6 +26,7 @@ const SAMPLE: Setting = Setting {
     regions: "1, 1",
     log_group: 100,
     tries: 0,
+    numbered: false,
 };
 
 /// In which a transaction is begun again once.
@@ -33,6 +34,7 @@ const AGAIN: Setting = Setting {
     regions: "1, 1",
     log_group: 100,
     tries: 1,
+    numbered: false,
 };
 
 /// In which each entry is a group.
@@ -40,6 +42,7 @@ const SMALL_GROUPS: Setting = Setting {
     regions: "1, 1",
     log_group: 1,
     tries: 0,
+    numbered: false,
 };
 
 /// In which each region has a group of its own.
@@ -47,6 +50,15 @@ const TWO_GROUPS: Setting = Setting {
     regions: "1, 2",
     log_group: 100,
     tries: 0,
+    numbered: false,
+};
+
+/// The sample, with a log of format 2.
+const NUMBERED: Setting = Setting {
+    regions: "1, 1",
+    log_group: 100,
+    tries: 0,
+    numbered: true,
 };
 
 // ---- withdrawals and deposits side by side
@@ -315,7 +327,97 @@ group 1 entries 1\n\
     databases: "msdb ACCTS 2\n\x20 ACCT=A001 BAL=101\n\x20 ACCT=A002 BAL=50\nmsdb TELLERS 1\n\x20 TNO=T001 CASH=0\n",
 };
 
-const ROWS: [Row; 16] = [
+// ---- message numbers
+
+/// The line of the last number gets the same reply and runs nothing, a lower number is old, and a line without a number
+/// runs each time.
+const SENT_AGAIN: Row = Row {
+    setting: NUMBERED,
+    schedule: "IN R1 R1 R1 R1 LOG IN LOG IN R1 R1 R1 LOG IN LOG IN LOG IN R1 R1 R1 R1 LOG IN LOG",
+    messages: b"T1 1 DEPOSIT A001 10\nT1 1 DEPOSIT A001 10\nT1 3 ASK A001\nT1 2 ASK A001\nT1 3 ASK A001\n\
+T1 DEPOSIT A001 5\nT1 3 ASK A001\n",
+    dids: "queued took answered gained committed sealed/1 refused sealed/1 queued took answered committed sealed/1 \
+refused sealed/1 refused sealed/1 queued took answered gained committed sealed/1 refused sealed/1",
+    quiet: 6,
+    sent: "T1 OK NEW\nT1 OK NEW\nT1 OK 110\nT1 NO OLD 3\nT1 OK 110\nT1 OK NEW\nT1 OK 110\n",
+    log: "group 0 entries 1\n\
+0 from 0 notes 0 DONE T1 1 DEPOSIT A001 10 => NEW\n\
+group 1 entries 1\n\
+1 from 1 notes - REPEAT T1 1 DEPOSIT A001 10 => -\n\
+group 2 entries 1\n\
+2 from 2 notes 2 DONE T1 3 ASK A001 => 110\n\
+group 3 entries 1\n\
+3 from 3 notes - OLD 3 T1 2 ASK A001 => -\n\
+group 4 entries 1\n\
+4 from 4 notes - REPEAT T1 3 ASK A001 => -\n\
+group 5 entries 1\n\
+5 from 5 notes 5 DONE T1 DEPOSIT A001 5 => NEW\n\
+group 6 entries 1\n\
+6 from 6 notes - REPEAT T1 3 ASK A001 => -\n",
+    databases: "msdb ACCTS 2\n\x20 ACCT=A001 BAL=115\n\x20 ACCT=A002 BAL=50\nmsdb TELLERS 1\n\x20 TNO=T001 CASH=0\n",
+};
+
+/// A refusal uses its number too: a transaction that isn't known, and one that rolls back. Each terminal has numbers of
+/// its own.
+const REFUSED_AGAIN: Row = Row {
+    setting: NUMBERED,
+    schedule: "IN IN IN R1 R2 R1 R1 R2 R2 LOG IN IN IN LOG IN IN IN LOG",
+    messages: b"T1 7 NOSUCH A001\nT2 7 WDRAW A001 101\nT3 8 ASK A001\nT1 7 ASK A001\nT2 7 ASK A001\nT3 7 ASK A001\n\
+T1 6 ASK A001\nT2 6 ASK A001\nT3 8 NOSUCH\n",
+    dids: "refused queued queued took took answered refused answered committed sealed/3 \
+refused refused refused sealed/3 refused refused refused sealed/3",
+    quiet: 10,
+    sent: "T1 NO UNKNOWN\nT2 NO ROLB 7\nT3 OK 100\nT1 NO UNKNOWN\nT2 NO ROLB 7\nT3 NO OLD 8\n\
+T1 NO OLD 7\nT2 NO OLD 7\nT3 OK 100\n",
+    log: "group 0 entries 3\n\
+0 from 0 notes - UNKNOWN T1 7 NOSUCH A001 => -\n\
+1 from 1 notes 1 ROLB 7 T2 7 WDRAW A001 101 => -\n\
+2 from 1 notes 2 DONE T3 8 ASK A001 => 100\n\
+group 1 entries 3\n\
+3 from 3 notes - REPEAT T1 7 ASK A001 => -\n\
+4 from 4 notes - REPEAT T2 7 ASK A001 => -\n\
+5 from 5 notes - OLD 8 T3 7 ASK A001 => -\n\
+group 2 entries 3\n\
+6 from 6 notes - OLD 7 T1 6 ASK A001 => -\n\
+7 from 7 notes - OLD 7 T2 6 ASK A001 => -\n\
+8 from 8 notes - REPEAT T3 8 NOSUCH => -\n",
+    databases: "msdb ACCTS 2\n\x20 ACCT=A001 BAL=100\n\x20 ACCT=A002 BAL=50\nmsdb TELLERS 1\n\x20 TNO=T001 CASH=0\n",
+};
+
+/// So does a refusal with a deadlock.
+const CROSSED_AGAIN: Row = Row {
+    setting: NUMBERED,
+    schedule: "IN IN R1 R1 R2 R2 R1 R2 R1 R2 R1 R1 R1 LOG IN IN LOG",
+    messages: b"T1 1 TWOACC A001 A002\nT2 1 TWOACC A002 A001\nT2 1 TWOACC A002 A001\nT1 1 TWOACC A001 A002\n",
+    dids: "queued queued took gained took gained answered answered waited refused \
+gained answered committed sealed/2 refused refused sealed/2",
+    quiet: 14,
+    sent: "T2 NO DEADLOCK\nT1 OK BOTH\nT2 NO DEADLOCK\nT1 OK BOTH\n",
+    log: "group 0 entries 2\n\
+0 from 0 notes - DEADLOCK 2,1 T2 1 TWOACC A002 A001 => -\n\
+1 from 0 notes - DONE T1 1 TWOACC A001 A002 => BOTH\n\
+group 1 entries 2\n\
+2 from 2 notes - REPEAT T2 1 TWOACC A002 A001 => -\n\
+3 from 3 notes - REPEAT T1 1 TWOACC A001 A002 => -\n",
+    databases: "msdb ACCTS 2\n\x20 ACCT=A001 BAL=100\n\x20 ACCT=A002 BAL=50\nmsdb TELLERS 1\n\x20 TNO=T001 CASH=0\n",
+};
+
+/// In a log of format 1 no line has a number: such a line names no script.
+const WITHOUT_NUMBERS: Row = Row {
+    setting: SAMPLE,
+    schedule: "IN LOG IN LOG",
+    messages: b"T1 1 ASK A001\nT1 1 ASK A001\n",
+    dids: "refused sealed/1 refused sealed/1",
+    quiet: 2,
+    sent: "T1 NO UNKNOWN\nT1 NO UNKNOWN\n",
+    log: "group 0 entries 1\n\
+0 from 0 notes - UNKNOWN T1 1 ASK A001 => -\n\
+group 1 entries 1\n\
+1 from 1 notes - UNKNOWN T1 1 ASK A001 => -\n",
+    databases: "msdb ACCTS 2\n\x20 ACCT=A001 BAL=100\n\x20 ACCT=A002 BAL=50\nmsdb TELLERS 1\n\x20 TNO=T001 CASH=0\n",
+};
+
+const ROWS: [Row; 20] = [
     OVERDRAWN,
     OVERDRAWN_AGAIN,
     BOTH_ADD,
@@ -332,6 +434,10 @@ const ROWS: [Row; 16] = [
     INSERTS,
     ROUTED,
     DRAINED,
+    SENT_AGAIN,
+    REFUSED_AGAIN,
+    CROSSED_AGAIN,
+    WITHOUT_NUMBERS,
 ];
 
 // What is found of the run of a row.
@@ -342,6 +448,7 @@ fn found_of(alloc: Global, row: &Row) -> Result<Found, Fault> {
         scripts: SCRIPTS.as_bytes(),
         schedule: row.schedule.as_bytes(),
         messages: row.messages,
+        numbered: row.setting.numbered,
     };
     find(alloc, &task, &exits(alloc)?)
 }

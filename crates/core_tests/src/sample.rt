@@ -14,6 +14,8 @@ pub struct Setting {
     pub regions: &'static str,
     pub log_group: u32,
     pub tries: u32,
+    /// Whether the log is of format 2, in which a message may have a number.
+    pub numbered: bool,
 }
 
 const DATABASES: &str = "[[msdb]]
@@ -80,6 +82,7 @@ pub fn definitions(alloc: Global, setting: &Setting) -> Result<String, AllocErro
         regions,
         log_group,
         tries,
+        numbered: _,
     } = setting;
     format!(in alloc;
         "regions = [{regions}]\nrouter = \"FOLD\"\nlog_group = {log_group}\ntries = {tries}\n{DATABASES}"

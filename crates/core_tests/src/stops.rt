@@ -1,5 +1,5 @@
-//! Runs on a site whose calls fail, one alone or all from one on, and a restart from what a crash may leave then: it has
-//! each transaction that was answered, be it in part.
+//! Runs on a site whose calls fail, one alone or all from one on, and a restart from what a crash may leave then: it
+//! has each transaction that was answered, be it in part.
 ghost use Rattle.fp_model.specs.WellFormed.{IsMsdbDef};
 ghost use Rattle.std.specs.List.{AllByRecursion};
 
@@ -125,12 +125,12 @@ impl Stand {
             .filter(|line| !line.is_empty())
             .count();
         let mut site = MemorySite::from_snapshot(self.alloc, snapshot, &[])?;
-        let log = match log_text(self.alloc, &mut site) {
+        let log = match log_text(self.alloc, row.setting.numbered, &mut site) {
             Err(Fault::NoLog) => return Ok(!made && answered == 0),
             log => log?,
         };
         let entries = entries_in(log.as_slice());
-        let found = databases_text(self.alloc, defs, &mut site)?;
+        let found = databases_text(self.alloc, defs, row.setting.numbered, &mut site)?;
         Ok(
             is_first
                 && answered <= entries
@@ -159,6 +159,7 @@ fn task_of<'a>(definitions: &'a String, row: &Row) -> Task<'a> {
         scripts: SCRIPTS.as_bytes(),
         schedule: row.schedule.as_bytes(),
         messages: row.messages,
+        numbered: row.setting.numbered,
     }
 }
 

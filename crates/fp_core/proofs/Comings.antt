@@ -70,7 +70,6 @@ in_behind defs rules rounds m mid here e goes calm exact i = record {
   calm = (all_both AreCalm rounds i.rounds calm i.calm.0, i.calm.1);
   exact = (exact_both defs rules rounds m mid i.rounds goes exact i.exact.0, i.exact.1);
   made = i.made;
-  format = i.format;
 }
 
 module _ (origin : Origin) (defs : Defs) (rules : Rules) (m : Machine) (old : Disk) (old_lines : Lines) where
@@ -252,7 +251,6 @@ in_first rules m engine stands = record {
   calm = (tt, refl);
   exact = (tt, tt);
   made = stands.made;
-  format = stands.format;
 }
 
 -- the numbers up to one, that one, and others
@@ -297,7 +295,6 @@ module _ (defs : Defs) (rules : Rules) (m : Machine) (old_lines lines : Lines) (
     calm = (tt, part_calm rules m old_lines lines first second given same same2 stepped n took);
     exact = (tt, part_exact rules m old_lines lines first second given same same2 stepped defs same_defs n took);
     made = subst (λ (d : Defs). AreMade d took.after) same_defs took.stands.made;
-    format = took.stands.format;
   }
 
   -- before LOG

@@ -1,25 +1,30 @@
 -- A region's transaction ends.
-use Rattle.std.proofs.Common.{◌≡◌, refl, sym, ◌∙◌, ap, subst, arith, ℕ, zero, suc, ◌-◌, ◌+◌, ◌<◌, ◌≤◌, List, [], ◌∷◌, ◌++◌, length, map, Some, slice_get, slice_set, inl, inr, ◌⊎◌}
+use Rattle.std.proofs.Common.{◌≡◌, refl, sym, ◌∙◌, ap, subst, arith, ℕ, zero, suc, ◌-◌, ◌+◌, ◌<◌, ◌≤◌, List, [], ◌∷◌, ◌++◌, length, map, Option, None, Some, slice_get, slice_set, inl, inr, ◌⊎◌, Bool, true, unwrap_or}
+use Rattle.std.specs.Prelude.{if◌then◌else◌}
 use Rattle.std.proofs.lemmas.List.{drop-append-le, length-append, length-set}
 use Rattle.std.specs.declared.collections.VecDeque.{VecDeque}
 use Rattle.std.specs.VecDeque.{deque_capacity}
 use Rattle.std.specs.declared.alloc.Global.{Global}
+use Rattle.balancing.specs.Numbered.{Numbered}
 use Rattle.ci_locks.specs.Standing.{Shows}
 use Rattle.ci_locks.specs.Table.{Row, standing}
 use Rattle.drain_laws.specs.Measure.{one_if_active}
+use Rattle.fp_model.specs.declared.calls.Message.{Message}
 use Rattle.fp_model.specs.declared.database.Db.{Db}
 use Rattle.fp_model.specs.declared.definitions.Defs.{Defs}
 use Rattle.fp_model.specs.declared.log.Entry.{Entry}
 use Rattle.fp_model.specs.declared.log.Outcome.{Outcome}
-use Rattle.fp_model.specs.declared.log.Outcome.TheVariants as outcome
 use Rattle.fp_model.specs.declared.scripts.Script.{Script}
 use Rattle.fp_model.specs.History.{History, states_of, with_entry}
-use Rattle.fp_model.specs.Lasts.{format_at, format_behind}
+use Rattle.fp_model.specs.Lasts.{Last, format_at, format_behind, last_by, last_in, lasts_of, uses_number}
 use Rattle.fp_model.specs.Machine as machine
 use Rattle.fp_model.specs.Machine.{Transaction, Machine, ended_with, entry_of, region_at}
+use Rattle.fp_model.specs.Messages.{message_of, terminal_of}
+use Rattle.fp_model.specs.ReplyLine.{addressee, line_for, verdict}
 use Rattle.fp_model.specs.Serial.{refused_as}
 use Rattle.fp_model.specs.Waiting.{Lock, without_region}
 use Rattle.log_groups.specs.Log.{LogState}
+use Rattle.serial_order.proofs.Lines.{lasts_push}
 use Rattle.msdb_store.specs.Store.{IsOf, Stored}
 use Rattle.fp_core.specs.declared.engine.Active.{Active}
 use Rattle.fp_core.specs.declared.engine.Engine.{Engine}
@@ -27,9 +32,10 @@ use Rattle.fp_core.specs.declared.engine.Owed.{Owed}
 use Rattle.fp_core.specs.declared.engine.Region.{Region}
 use Rattle.fp_core.specs.declared.engine.Region.TheVariants as regions
 use Rattle.fp_core.specs.Acting.{IsAtWork, MayEnd}
-use Rattle.fp_core.specs.Relation.{IsMade, IsRegion, IsTransaction, StandsFor, first_place, owed_of, room_of}
-use Rattle.sync_point.specs.Refusals.{IsBare, bare_entry, refusal_room}
-use Rattle.fp_core.proofs.Places.{left_of, put_both, get_front, get_last, is_within, none_some, some_same, sum_has, sum_put}
+use Rattle.fp_core.specs.Numbering.{last_told, with_used}
+use Rattle.fp_core.specs.Relation.{IsMade, IsRead, IsReadIn, IsRegion, IsTransaction, StandsFor, first_place, owed_of, room_of}
+use Rattle.sync_point.specs.Refusals.{bare_entry, refusal_room}
+use Rattle.fp_core.proofs.Places.{all_put, each_has, left_of, put_both, get_front, get_last, is_within, none_some, some_same, sum_has, sum_put}
 
 -- ---- where the transaction is
 
@@ -88,6 +94,38 @@ slot_within engine m region t e =
     let at = stands_at engine m region t e in
     omega (arith, sum_has one_if_active m.regions at.place (machine.Active t) at.here, e.stands.slots)
 
+-- and a place for its number
+pub place_within : (engine : Engine) (m : Machine) (region : ℕ) (t : Transaction) → MayEnd engine m region t
+    → 1 ≤ engine.lasts.spare
+place_within engine m region t e =
+    let at = stands_at engine m region t e in
+    let one : one_if_active (machine.Active t) ≡ 1 = refl in
+    omega (arith, sum_has one_if_active m.regions at.place (machine.Active t) at.here, one, e.stands.places)
+
+-- its message is what its line says
+pub is_read : (engine : Engine) (m : Machine) (region : ℕ) (t : Transaction) → MayEnd engine m region t
+    → IsRead engine.format t.message
+is_read engine m region t e =
+    let at = stands_at engine m region t e in
+    each_has (IsReadIn engine.format) m.regions at.place (machine.Active t) e.stands.read at.here
+
+-- the number that the entry of a message uses, as the message has it
+pub used_is : (format : ℕ) (e : Entry) (message : Message) → IsRead format message → e.line ≡ message.line
+    → uses_number e.outcome ≡ true → last_by format e ≡ last_told message e.outcome e.reply
+used_is format e message read line uses =
+    let text : List ℕ → List ℕ = λ l. unwrap_or (line_for (addressee (terminal_of l)) (verdict e.outcome e.reply)) [] in
+    ap (λ (b : Bool). if b then last_in (text e.line) (message_of format e.line) else None) uses
+    ∙ ap (λ (l : List ℕ). last_in (text l) (message_of format l)) line
+    ∙ ap (last_in (text message.line)) read
+
+-- So an entry of its line puts the number of its message in the place of the last one.
+pub uses_last : (engine : Engine) (m : Machine) (region : ℕ) (t : Transaction) → MayEnd engine m region t
+    → (e : Entry) (lasts more : List Last) → e.line ≡ t.message.line → uses_number e.outcome ≡ true
+    → more ≡ with_used (last_told t.message e.outcome e.reply) lasts → more ≡ with_used (last_by engine.format e) lasts
+uses_last engine m region t u e lasts more line uses is =
+    is ∙ ap (λ (o : Option Last). with_used o lasts)
+    (sym (used_is engine.format e t.message (is_read engine m region t u) line uses))
+
 -- what a region at work is, it is also where its request is left out
 pub may_end : (engine : Engine) (m : Machine) (region : ℕ) (t : Transaction) → IsAtWork engine m region t
     → MayEnd engine m region t
@@ -108,7 +146,7 @@ Made defs first h =
 pub made_more : (defs : Defs) (first : ℕ) (h : History) (e : Entry) (next : Db)
     → length h.past ≡ length h.entries → Made defs first h → IsMade defs h.now e next
     → Made defs first (with_entry e next h)
-made_more defs first h e next even made new place before after x from was is then =
+made_more defs first h e next even made new place before after x from was is next_is =
     let states : length (states_of h) ≡ length h.entries + 1 =
     length-append h.past (h.now ∷ []) ∙ (omega (arith, even)) in
     let within : place < length (h.entries ++ e ∷ []) = is_within (h.entries ++ e ∷ []) place x is in
@@ -118,14 +156,14 @@ made_more defs first h e next even made new place before after x from was is the
           made place before after x from
           (sym (get_front (states_of h) (next ∷ []) place (omega (arith, old, states))) ∙ was)
           (sym (get_front h.entries (e ∷ []) place old) ∙ is)
-          (sym (get_front (states_of h) (next ∷ []) (suc place) (omega (arith, old, states))) ∙ then)
+          (sym (get_front (states_of h) (next ∷ []) (suc place) (omega (arith, old, states))) ∙ next_is)
       | inr last ↦
           let entry : x ≡ e = some_same x e (sym is ∙ get_last h.entries e place last) in
           let first_state : before ≡ h.now = some_same before h.now
           (sym was ∙ get_front (states_of h) (next ∷ []) place (omega (arith, last, states)) ∙ get_last h.past h.now
           place (omega (arith, last, even))) in
           let last_state : after ≡ next = some_same after next
-          (sym then ∙ get_last (states_of h) next (suc place) (omega (arith, last, states))) in
+          (sym next_is ∙ get_last (states_of h) next (suc place) (omega (arith, last, states))) in
           subst (λ q. IsMade defs q x after) (sym first_state)
           (subst (λ q. IsMade defs h.now q after) (sym entry)
           (subst (λ q. IsMade defs h.now e q) (sym last_state) new))
@@ -139,10 +177,19 @@ made_more defs first h e next even made new place before after x from was is the
         [ inl less ↦ inl (omega (arith, less)) | inr same ↦ inr (omega (arith, same)) ]
 
 -- the format stays where an entry doesn't change it
-pub format_more : (format : ℕ) (entries : List Entry) (e : Entry) → format_at format entries ≡ 1
-    → format_behind 1 e.outcome ≡ 1 → format_at format (entries ++ e ∷ []) ≡ 1
-format_more format [] e is still = ap (λ f. format_behind f e.outcome) is ∙ still
-format_more format (x ∷ xs) e is still = format_more (format_behind format x.outcome) xs e is still
+pub format_more : (format : ℕ) (entries : List Entry) (e : Entry) (now : ℕ) → format_at format entries ≡ now
+    → format_behind now e.outcome ≡ now → format_at format (entries ++ e ∷ []) ≡ now
+format_more format [] e now is still = ap (λ f. format_behind f e.outcome) is ∙ still
+format_more format (x ∷ xs) e now is still = format_more (format_behind format x.outcome) xs e now is still
+
+-- the numbers with that of one entry more
+pub lasts_more : (format : ℕ) (entries : List Entry) (e : Entry) (now : ℕ) (lasts more : List Last)
+    → format_at format entries ≡ now → lasts ≡ lasts_of format entries → more ≡ with_used (last_by now e) lasts
+    → more ≡ lasts_of format (entries ++ e ∷ [])
+lasts_more format entries e now lasts more at are is =
+    is ∙ ap (λ (f : ℕ). with_used (last_by f e) lasts) (sym at)
+    ∙ ap (with_used (last_by (format_at format entries) e)) are
+    ∙ sym (lasts_push format entries e [])
 
 pub map_more : {A B : Type 0} (f : A → B) (xs : List A) (x : A) → map f (xs ++ x ∷ []) ≡ map f xs ++ f x ∷ []
 map_more f [] x = refl
@@ -152,7 +199,7 @@ module _ (engine : Engine) (m : Machine) (place : ℕ) (s : StandsFor engine m) 
   -- The region is idle, its locks and its request are gone, there is one entry more, and the databases are those of
   -- the next state.
   pub ended_stands : (t : Transaction) (e : Entry) (next : Db) (rows : List Row) (store : Stored) (log : LogState)
-      → (owed : VecDeque Owed Global) (room : ℕ)
+      → (owed : VecDeque Owed Global) (room : ℕ) (lasts : Numbered)
       → slice_get m.regions place ≡ Some (machine.Active t)
       → Shows (standing rows) (without_region (suc place) m.locks) (without_region (suc place) m.requests)
       → length rows ≡ length engine.locks
@@ -164,7 +211,9 @@ module _ (engine : Engine) (m : Machine) (place : ℕ) (s : StandsFor engine m) 
       → room ≤ log.spare
       → IsOf engine.defs.now.msdbs store
       → next.msdbs ≡ store.msdbs
-      → format_behind 1 e.outcome ≡ 1
+      → format_behind engine.format e.outcome ≡ engine.format
+      → lasts.terminals ≡ with_used (last_by engine.format e) engine.lasts.terminals
+      → engine.lasts.spare ≤ lasts.spare + 1
       → IsMade engine.defs.now m.history.now e next
       → StandsFor (record engine {
         regions = slice_set engine.regions place regions.Idle;
@@ -173,9 +222,10 @@ module _ (engine : Engine) (m : Machine) (place : ℕ) (s : StandsFor engine m) 
         log = log;
         owed = owed;
         room = room;
+        lasts = lasts;
       }) (ended_with (suc place) e next m)
-  ended_stands t e next rows store log owed room there shows same_rows sealed unsealed is_owed slots less spare of msdbs
-      format made =
+  ended_stands t e next rows store log owed room lasts there shows same_rows sealed unsealed is_owed slots less spare of
+      msdbs format used numbers made =
       let one : length (m.history.entries ++ e ∷ []) ≡ length m.history.entries + 1 =
       length-append m.history.entries (e ∷ []) in
       let state : length (m.history.past ++ m.history.now ∷ []) ≡ length m.history.past + 1 =
@@ -201,7 +251,15 @@ module _ (engine : Engine) (m : Machine) (place : ℕ) (s : StandsFor engine m) 
         of = of;
         msdbs = msdbs;
         past = state ∙ (omega (arith, s.past)) ∙ sym one;
-        format = format_more m.history.format m.history.entries e s.format format;
+        format = format_more m.history.format m.history.entries e engine.format s.format format;
+        read = all_put (IsReadIn engine.format) m.regions place machine.Idle s.read tt;
+        lasts = lasts_more m.history.format m.history.entries e engine.format engine.lasts.terminals lasts.terminals
+            s.format s.lasts used;
+        places =
+            let put = sum_put one_if_active m.regions place machine.Idle (machine.Active t) there in
+            let one : one_if_active (machine.Active t) ≡ 1 = refl in
+            let none : one_if_active machine.Idle ≡ 0 = refl in
+            omega (arith, put, one, none, numbers, s.places);
         count = count ∙ sym one;
         sealed = sealed ∙ s.sealed;
         unsealed = unsealed ∙ ap (λ (xs : List Entry). xs ++ e ∷ []) s.unsealed ∙ sym
@@ -223,7 +281,7 @@ module _ (engine : Engine) (m : Machine) (place : ℕ) (s : StandsFor engine m) 
 -- The same at the region's number, from an engine that stands for the machine but for the region's request.
 pub ended_at : (engine : Engine) (m : Machine) (region : ℕ) (t : Transaction) (e : Entry) (next : Db) (rows : List Row)
     (store : Stored) (log : LogState)
-    → (owed : VecDeque Owed Global) (room : ℕ)
+    → (owed : VecDeque Owed Global) (room : ℕ) (lasts : Numbered)
     → MayEnd engine m region t
     → ((locks requests : List Lock) → Shows (standing engine.locks) locks requests
     → Shows (standing rows) (without_region region locks) (without_region region requests))
@@ -236,7 +294,9 @@ pub ended_at : (engine : Engine) (m : Machine) (region : ℕ) (t : Transaction) 
     → room ≤ log.spare
     → IsOf engine.defs.now.msdbs store
     → next.msdbs ≡ store.msdbs
-    → format_behind 1 e.outcome ≡ 1
+    → format_behind engine.format e.outcome ≡ engine.format
+    → lasts.terminals ≡ with_used (last_by engine.format e) engine.lasts.terminals
+    → engine.lasts.spare ≤ lasts.spare + 1
     → IsMade engine.defs.now m.history.now e next
     → StandsFor (record engine {
       regions = slice_set engine.regions (region - 1) regions.Idle;
@@ -245,12 +305,13 @@ pub ended_at : (engine : Engine) (m : Machine) (region : ℕ) (t : Transaction) 
       log = log;
       owed = owed;
       room = room;
+      lasts = lasts;
     }) (ended_with region e next m)
-ended_at engine m zero t e next rows store log owed room w frees same_rows sealed unsealed is_owed slots less spare of
-    msdbs format made =
+ended_at engine m zero t e next rows store log owed room lasts w frees same_rows sealed unsealed is_owed slots less
+    spare of msdbs format used numbers made =
     absurd (none_some (machine.Active t) w.active)
-ended_at engine m (suc place) t e next rows store log owed room w frees same_rows sealed unsealed is_owed slots less
-    spare of msdbs format made =
+ended_at engine m (suc place) t e next rows store log owed room lasts w frees same_rows sealed unsealed is_owed slots
+    less spare of msdbs format used numbers made =
     let same : suc place - 1 ≡ place = omega arith in
     let m1 : Machine = record m { requests = w.requests } in
     let ended : StandsFor (record engine {
@@ -260,9 +321,11 @@ ended_at engine m (suc place) t e next rows store log owed room w frees same_row
       log = log;
       owed = owed;
       room = room;
+      lasts = lasts;
     }) (ended_with (suc place) e next m1) = ended_stands engine m1 place w.stands t e next rows store log owed room
+    lasts
     w.active (frees m.locks w.requests w.stands.locks)
-    same_rows sealed unsealed is_owed slots less spare of msdbs format made in
+    same_rows sealed unsealed is_owed slots less spare of msdbs format used numbers made in
     let m2 : List Lock → Machine = λ requests. record (ended_with (suc place) e next m) { requests = requests } in
     subst (λ n. StandsFor (record engine {
       regions = slice_set engine.regions n regions.Idle;
@@ -271,6 +334,7 @@ ended_at engine m (suc place) t e next rows store log owed room w frees same_row
       log = log;
       owed = owed;
       room = room;
+      lasts = lasts;
     }) (ended_with (suc place) e next m)) (sym same)
     (subst (λ requests. StandsFor (record engine {
       regions = slice_set engine.regions place regions.Idle;
@@ -279,6 +343,7 @@ ended_at engine m (suc place) t e next rows store log owed room w frees same_row
       log = log;
       owed = owed;
       room = room;
+      lasts = lasts;
     }) (m2 requests)) w.others ended)
 
 -- ---- refused for what befell
@@ -287,21 +352,6 @@ ended_at engine m (suc place) t e next rows store log owed room w frees same_row
 pub makes_nothing : (defs : Defs) (now : Db) (from : ℕ) (o : Outcome) (line reply notes : List ℕ)
     → IsMade defs now (record { from = from; outcome = o; line = line; reply = reply; notes = notes; items = [] }) now
 makes_nothing defs now from o line reply notes = record { fit = tt; made = refl }
-
--- such an outcome doesn't change the format
-pub bare_format : (o : Outcome) → IsBare o → format_behind 1 o ≡ 1
-bare_format outcome.Device bare = refl
-bare_format outcome.Memory bare = refl
-bare_format outcome.Done bare = absurd bare
-bare_format outcome.Unknown bare = absurd bare
-bare_format (outcome.Verify call fsa found) bare = absurd bare
-bare_format (outcome.Roll code) bare = absurd bare
-bare_format (outcome.SeqFull set begin end n) bare = absurd bare
-bare_format (outcome.Deadlock cycle) bare = absurd bare
-bare_format (outcome.Purge set n) bare = absurd bare
-bare_format (outcome.Old last) bare = absurd bare
-bare_format (outcome.Repeat line) bare = absurd bare
-bare_format outcome.Format bare = absurd bare
 
 -- its entry, of the code's transaction and of the machine's
 pub bare_is : (defs : Defs) (scripts : List Script) (a : Active) (t : Transaction) (o : Outcome) (now : Db)

@@ -6,13 +6,12 @@ use Rattle.fp_model.specs.declared.definitions.Defs.{Defs}
 use Rattle.fp_model.specs.declared.events.Event.{Event}
 use Rattle.fp_model.specs.declared.events.Event.TheVariants as event
 use Rattle.fp_model.specs.declared.log.Entry.{Entry}
-use Rattle.fp_model.specs.declared.log.Item.{Item}
 use Rattle.fp_model.specs.declared.log.Outcome.{Outcome}
 use Rattle.fp_model.specs.declared.log.Outcome.TheVariants as outcome
 use Rattle.fp_model.specs.Answers.{Needed}
 use Rattle.fp_model.specs.Commit.{Settlement, Commits, FailsVerify, FillsPart}
 use Rattle.fp_model.specs.Asking.{Ask, Asks, Replies, Rolls}
-use Rattle.fp_model.specs.Machine.{Transaction, Region, Idle, Active, Machine, region_at, ended_with, entry_of}
+use Rattle.fp_model.specs.Machine.{Transaction, Region, Idle, Active, Machine, region_at, entry_of}
 use Rattle.fp_model.specs.Rules.{Rules}
 use Rattle.fp_model.specs.Serial.{Ending, refused_as, settled_as}
 use Rattle.fp_model.specs.Turns.{Environment, NoFault, DeviceFault, OutOfMemory, Act, Answers, Gains, Waits, Deadlocks, Retries_at_cycle, Finishes, Retries_at_verify, Does, RegionTurn, Turn, AreItemsFor, asks, ending_of, refused_with, requests_with, wanted}

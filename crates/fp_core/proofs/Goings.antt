@@ -32,9 +32,9 @@ use Rattle.fp_core.specs.declared.engine.Engine.{Engine}
 use Rattle.fp_core.specs.declared.engine.Region.TheVariants as regions
 use Rattle.fp_core.specs.Acting.{HasActed, IsAtWork, MayEnd}
 use Rattle.fp_core.specs.Answering.{IsActed, lock_for}
-use Rattle.fp_core.specs.Relation.{IsAhead, IsRegion, IsTransaction, StandsFor, room_of, rules_in}
+use Rattle.fp_core.specs.Relation.{IsAhead, IsRead, IsReadIn, IsRegion, IsTransaction, StandsFor, room_of, rules_in}
 use Rattle.fp_core.proofs.Ends.{may_end}
-use Rattle.fp_core.proofs.Places.{none_some, put_both, put_left, sum_put}
+use Rattle.fp_core.proofs.Places.{all_put, each_has, none_some, put_both, put_left, sum_put}
 use Rattle.fp_core.proofs.Turns.{acted}
 
 -- ---- one transaction
@@ -79,6 +79,7 @@ module _ (defs : Defs) (scripts : List Script) (active : Active) (t : Transactio
     message = s.message;
     short = s.short;
     tries = s.tries;
+    refusal = s.refusal;
     own = s.own;
     notes = s.notes;
     of = s.of;
@@ -100,6 +101,7 @@ module _ (defs : Defs) (scripts : List Script) (active : Active) (t : Transactio
     message = s.message;
     short = s.short;
     tries = s.tries;
+    refusal = s.refusal;
     own = s.own;
     notes = s.notes;
     of = s.of;
@@ -151,6 +153,13 @@ module _ (engine : Engine) (m : Machine) (place : ℕ) (t : Transaction) (new : 
     msdbs = s.msdbs;
     past = s.past;
     format = s.format;
+    read = all_put (IsReadIn engine.format) m.regions place (machine.Active u) s.read
+        (subst (IsRead engine.format) (sym same)
+        (each_has (IsReadIn engine.format) m.regions place (machine.Active t) s.read there));
+    lasts = s.lasts;
+    places =
+        let put = sum_put one_if_active m.regions place (machine.Active u) (machine.Active t) there in
+        omega (arith, s.places, put);
     count = s.count;
     sealed = s.sealed;
     unsealed = s.unsealed;
@@ -186,6 +195,9 @@ module _ (engine : Engine) (m : Machine) (place : ℕ) (t : Transaction) (new : 
     msdbs = s.msdbs;
     past = s.past;
     format = s.format;
+    read = s.read;
+    lasts = s.lasts;
+    places = s.places;
     count = s.count;
     sealed = s.sealed;
     unsealed = s.unsealed;

@@ -11,6 +11,7 @@ pub mod Refusals
 pub mod Tries
 pub mod Commits
 pub mod Rests
+pub mod Askings
 pub mod Readings
 pub mod Tells
 pub mod Seals

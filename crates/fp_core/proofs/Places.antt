@@ -122,6 +122,13 @@ each_has P [] place x h e = absurd cc
 each_has P (y ∷ ys) zero x h e = subst P (some_same y x e) h.0
 each_has P (y ∷ ys) (suc n) x h e = each_has P ys n x h.1 e
 
+-- one place is changed to what is so too
+pub all_put : {A : Type 0} (P : A → Type 0) (xs : List A) (place : ℕ) (x : A) → AllByRecursion P xs → P x
+    → AllByRecursion P (slice_set xs place x)
+all_put P [] place x all new = tt
+all_put P (y ∷ ys) zero x all new = (new, all.1)
+all_put P (y ∷ ys) (suc n) x all new = (all.0, all_put P ys n x all.1 new)
+
 -- ---- results
 
 pub on_err_by : {A E : Type 0} (P Q : Type 0) (r : Result A E) → (P → Q) → OnErr r P → OnErr r Q

@@ -1,6 +1,6 @@
 -- A line is read, and queued, held or refused.
 use Rattle.std.proofs.Common.{◌≡◌, refl, sym, ◌∙◌, ap, subst, arith, ℕ, ◌+◌, ◌-◌, ◌≤◌, List, [], ◌∷◌, ◌++◌, length, map, drop, Option, Some, None, slice_get, slice_set, Bool, true, false, ◌||◌, unwrap_or}
-use Rattle.std.specs.Prelude.{IfSome, if◌then◌else◌}
+use Rattle.std.specs.Prelude.{IfSome, IsSome, if◌then◌else◌}
 use Rattle.std.specs.List.{AllByRecursion, list_any}
 use Rattle.std.specs.Option.{option_map_or}
 use Rattle.std.specs.VecDeque.{deque_capacity}
@@ -9,33 +9,42 @@ use Rattle.std.specs.declared.collections.VecDeque.{VecDeque}
 use Rattle.std.proofs.lemmas.List.{drop-append-le, length-append, length-set}
 use Rattle.std.proofs.lemmas.List.Folds.{list_any-append}
 use Rattle.balancing.specs.Backlog.{AreSame, Backlog, group_for}
+use Rattle.balancing.specs.Numbered.{Numbered}
 use Rattle.fp_model.specs.declared.calls.Message.{Message}
 use Rattle.fp_model.specs.declared.definitions.Kind.{Kind}
 use Rattle.fp_model.specs.declared.events.Event.TheVariants as event
 use Rattle.fp_model.specs.declared.log.Entry.{Entry}
+use Rattle.fp_model.specs.declared.log.Outcome.{Outcome}
 use Rattle.fp_model.specs.declared.log.Outcome.TheVariants as outcome
 use Rattle.fp_model.specs.declared.name.Name.{Name}
+use Rattle.fp_model.specs.declared.scripts.Script.{Script}
+use Rattle.fp_model.specs.Asking.{script_of}
 use Rattle.fp_model.specs.Exits.{group_of}
 use Rattle.fp_model.specs.History.{Request, Accepts, Refuses}
+use Rattle.fp_model.specs.Lasts.{format_behind, last_by}
 use Rattle.fp_model.specs.Machine.{Machine, entry_here, is_among, queued_at, same_name, terminal_in, with_line, with_message, with_refusal, with_request_of, next_line, taken_in}
-use Rattle.fp_model.specs.Messages.{terminal_of}
+use Rattle.fp_model.specs.Messages.{message_of, terminal_of}
 use Rattle.fp_model.specs.Product.{groups_defined, request_of}
 use Rattle.fp_model.specs.Rules.{Rules}
 use Rattle.fp_model.specs.Turns.{NoFault}
 use Rattle.fp_source.specs.Lines.{lines_ahead, lines_given}
 use Rattle.fp_source.specs.declared.lines.Lines.{Lines}
 use Rattle.log_groups.specs.Log.{LogState}
+use Rattle.serial_order.specs.Laws.{IsRefusal}
+use Rattle.fp_core.specs.declared.asking.Demand.TheVariants as demand
 use Rattle.fp_core.specs.declared.did.Did.{Did}
 use Rattle.fp_core.specs.declared.did.Did.TheVariants as did
 use Rattle.fp_core.specs.declared.engine.Engine.{Engine}
 use Rattle.fp_core.specs.declared.engine.Owed.{Owed}
+use Rattle.fp_core.specs.Numbering.{with_used}
+use Rattle.fp_core.specs.Reading.{IsDemandIn, refused_line}
 use Rattle.fp_core.specs.Relation.{IsShort, IsTakeable, StandsFor, first_place, owed_of, rules_in}
 use Rattle.fp_core.specs.Standing.{Stepped, SteppedBy}
 use Rattle.fp_core.specs.Turning.{Turned, did_for, did_with}
-use Rattle.fp_core.proofs.Ends.{format_more, made_more, makes_nothing, map_more}
-use Rattle.fp_core.proofs.Places.{each_has}
+use Rattle.fp_core.proofs.Ends.{format_more, lasts_more, made_more, makes_nothing, map_more}
+use Rattle.fp_core.proofs.Places.{all_put, each_has}
 use Rattle.fp_core.proofs.Steps.{regions_long}
-use Rattle.fp_core.proofs.Takes.{all_put, at_work_few}
+use Rattle.fp_core.proofs.Takes.{at_work_few}
 use Rattle.fp_core.proofs.Turns.{is_device}
 
 -- ---- what is answered
@@ -98,6 +107,35 @@ all_queued P place message queues all new = by (slice_get queues place) refl
         all_put (AllByRecursion P) queues place (messages ++ message ∷ []) all
         (all_more P messages message (each_has (AllByRecursion P) queues place messages all is) new)
 
+-- a message that a line asks for can be taken
+pub takeable_in : (format : ℕ) (scripts : List Script) (line : List ℕ) (message : Message) → IsShort line
+    → IsDemandIn format scripts line (demand.Message message) → IsTakeable format scripts message
+takeable_in format scripts line message short is = by (script_of scripts message.tran) refl is.3
+  where
+    by : (o : Option Script) → script_of scripts message.tran ≡ o → IsSome o → IsTakeable format scripts message
+    by None none some = absurd cc
+    by (Some script) named some = record {
+      short = subst IsShort (sym is.2) short;
+      read = ap (message_of format) is.2 ∙ is.0;
+      script = script;
+      named = named;
+    }
+
+-- such a refusal doesn't change the format
+line_refusal_format : (format : ℕ) (o : Outcome) → IsRefusal o → format_behind format o ≡ format
+line_refusal_format format outcome.Unknown is = refl
+line_refusal_format format (outcome.Old last) is = refl
+line_refusal_format format (outcome.Repeat kept) is = refl
+line_refusal_format format outcome.Done is = absurd is
+line_refusal_format format (outcome.Verify call fsa found) is = absurd is
+line_refusal_format format (outcome.Roll code) is = absurd is
+line_refusal_format format (outcome.SeqFull set begin end n) is = absurd is
+line_refusal_format format (outcome.Deadlock cycle) is = absurd is
+line_refusal_format format outcome.Device is = absurd is
+line_refusal_format format outcome.Memory is = absurd is
+line_refusal_format format (outcome.Purge set n) is = absurd is
+line_refusal_format format outcome.Format is = absurd is
+
 -- ---- the engine
 
 module _ (engine : Engine) (m : Machine) (s : StandsFor engine m) where
@@ -119,6 +157,9 @@ module _ (engine : Engine) (m : Machine) (s : StandsFor engine m) where
     msdbs = s.msdbs;
     past = s.past;
     format = s.format;
+    read = s.read;
+    lasts = s.lasts;
+    places = s.places;
     count = s.count;
     sealed = s.sealed;
     unsealed = s.unsealed;
@@ -148,6 +189,9 @@ module _ (engine : Engine) (m : Machine) (s : StandsFor engine m) where
     msdbs = s.msdbs;
     past = s.past;
     format = s.format;
+    read = s.read;
+    lasts = s.lasts;
+    places = s.places;
     count = s.count;
     sealed = s.sealed;
     unsealed = s.unsealed;
@@ -161,7 +205,7 @@ module _ (engine : Engine) (m : Machine) (s : StandsFor engine m) where
   -- a message is the last of its group's queue, and its terminal is busy
   pub queued_stands : (message : Message) (kind : Kind) (backlog : Backlog)
       → kind ≡ engine.defs.now.router
-      → IsTakeable engine.scripts.now.scripts message
+      → IsTakeable engine.format engine.scripts.now.scripts message
       → backlog.queues ≡ queued_at (group_for kind message engine.queues - 1) message engine.queues.queues
       → AreSame backlog.busy (engine.queues.busy ++ message.lterm ∷ [])
       → StandsFor (record engine { queues = backlog }) (with_message (rules_in engine) message m)
@@ -178,7 +222,8 @@ module _ (engine : Engine) (m : Machine) (s : StandsFor engine m) where
             ∙ ap (λ n. queued_at (group_of engine.defs.now.router n message.tran - 1) message engine.queues.queues) long
             ∙ ap (queued_at place message) s.queues;
         groups = queued_long place message m.queues ∙ s.groups;
-        takeable = all_queued (IsTakeable engine.scripts.now.scripts) place message m.queues s.takeable takeable;
+        takeable = all_queued (IsTakeable engine.format engine.scripts.now.scripts) place message m.queues s.takeable
+            takeable;
         busy = same_then backlog.busy (engine.queues.busy ++ message.lterm ∷ []) (m.busy ++ message.lterm ∷ [])
             marked (same_more engine.queues.busy m.busy (message.lterm ∷ []) s.busy);
         regions = s.regions;
@@ -189,6 +234,9 @@ module _ (engine : Engine) (m : Machine) (s : StandsFor engine m) where
         msdbs = s.msdbs;
         past = s.past;
         format = s.format;
+        read = s.read;
+        lasts = s.lasts;
+        places = s.places;
         count = s.count;
         sealed = s.sealed;
         unsealed = s.unsealed;
@@ -199,11 +247,13 @@ module _ (engine : Engine) (m : Machine) (s : StandsFor engine m) where
         slots = s.slots;
       }
 
-  -- a line has the entry of its refusal, and its terminal is busy
-  pub refused_stands : (line : List ℕ) (e : Entry) (backlog : Backlog) (log : LogState) (owed : VecDeque Owed Global)
+  -- a line has the entry of its refusal, its terminal is busy, and its number is kept
+  pub refused_stands : (o : Outcome) (line : List ℕ) (e : Entry) (backlog : Backlog) (log : LogState)
+      → (owed : VecDeque Owed Global) (lasts : Numbered)
+      → IsRefusal o
       → e ≡ record {
         from = engine.log.sealed + length engine.log.unsealed;
-        outcome = outcome.Unknown;
+        outcome = o;
         line = line;
         reply = [];
         notes = [];
@@ -216,10 +266,13 @@ module _ (engine : Engine) (m : Machine) (s : StandsFor engine m) where
       → owed.items ≡ engine.owed.items ++ owed_of e ∷ []
       → length engine.owed.items + (length engine.regions + 1) ≤ deque_capacity owed
       → engine.room ≤ log.spare
-      → StandsFor (record engine { queues = backlog; log = log; owed = owed })
-      (with_refusal (rules_in engine) outcome.Unknown line m)
-  refused_stands line e backlog log owed is queues marked sealed unsealed is_owed slots spare =
-      let here : Entry = entry_here m outcome.Unknown line [] in
+      → lasts.terminals ≡ with_used (last_by engine.format (refused_line o line)) engine.lasts.terminals
+      → length engine.regions ≤ lasts.spare
+      → StandsFor (record engine { queues = backlog; log = log; owed = owed; lasts = lasts })
+      (with_refusal (rules_in engine) o line m)
+  refused_stands o line e backlog log owed lasts allowed is queues marked sealed unsealed is_owed slots spare used
+      numbers =
+      let here : Entry = entry_here m o line [] in
       let same : e ≡ here = is ∙ ap (λ (from : ℕ). record here { from = from }) s.count in
       let entries : log.unsealed ≡ engine.log.unsealed ++ here ∷ [] =
       unsealed ∙ ap (λ (x : Entry). engine.log.unsealed ++ x ∷ []) same in
@@ -251,7 +304,15 @@ module _ (engine : Engine) (m : Machine) (s : StandsFor engine m) where
         of = s.of;
         msdbs = s.msdbs;
         past = state ∙ omega (arith, s.past) ∙ sym one;
-        format = format_more m.history.format m.history.entries here s.format refl;
+        format = format_more m.history.format m.history.entries here engine.format s.format
+            (line_refusal_format engine.format o allowed);
+        read = s.read;
+        lasts = lasts_more m.history.format m.history.entries here engine.format engine.lasts.terminals lasts.terminals
+            s.format s.lasts used;
+        places =
+            let few = at_work_few m.regions in
+            let long : length engine.regions ≡ length m.regions = regions_long engine m s ∙ sym s.numbers in
+            omega (arith, few, long, numbers);
         count = count ∙ sym one;
         sealed = sealed ∙ s.sealed;
         unsealed = entries ∙ ap (λ (xs : List Entry). xs ++ here ∷ []) s.unsealed
@@ -259,7 +320,7 @@ module _ (engine : Engine) (m : Machine) (s : StandsFor engine m) where
         owed = all_owed ∙ ap (λ xs. xs ++ owed_of here ∷ []) s.owed
             ∙ sym (map_more owed_of engine.log.unsealed here) ∙ ap (map owed_of) (sym entries);
         made = made_more engine.defs.now (first_place m) m.history here m.history.now s.past s.made
-            (makes_nothing engine.defs.now m.history.now here.from outcome.Unknown line [] []);
+            (makes_nothing engine.defs.now m.history.now here.from o line [] []);
         room = s.room;
         spare = spare;
         slots =

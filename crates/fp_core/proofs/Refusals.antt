@@ -1,5 +1,5 @@
 -- A transaction is refused by itself.
-use Rattle.std.proofs.Common.{◌≡◌, refl, sym, ◌∙◌, ap, subst, arith, ℕ, ◌≤◌, ◌<◌, List, [], ◌∷◌, map}
+use Rattle.std.proofs.Common.{◌≡◌, refl, sym, ◌∙◌, ap, subst, arith, ℕ, ◌≤◌, ◌<◌, List, [], ◌∷◌, map, true}
 use Rattle.std.specs.List.{AllByRecursion}
 use Rattle.fp_model.specs.declared.database.Db.{Db}
 use Rattle.fp_model.specs.declared.definitions.Defs.{Defs}
@@ -12,7 +12,7 @@ use Rattle.fp_model.specs.declared.log.Outcome.TheVariants as outcome
 use Rattle.fp_model.specs.declared.scripts.Script.{Script}
 use Rattle.fp_model.specs.Asking.{Rolls}
 use Rattle.fp_model.specs.Items.{IsFit as IsFitItem, with_items}
-use Rattle.fp_model.specs.Lasts.{format_behind}
+use Rattle.fp_model.specs.Lasts.{format_behind, uses_number}
 use Rattle.fp_model.specs.LogText.{HasItsParts}
 use Rattle.fp_model.specs.Machine.{Transaction, Machine, ended_with, entry_of}
 use Rattle.fp_model.specs.Rules.{Rules}
@@ -32,19 +32,34 @@ use Rattle.fp_core.proofs.Turns.{acted}
 -- ---- its entry
 
 -- such an outcome doesn't change the format
-pub refusal_format : (o : Outcome) → IsRefusal o → format_behind 1 o ≡ 1
-refusal_format outcome.Done is = absurd is
-refusal_format outcome.Unknown is = absurd is
-refusal_format (outcome.Verify call fsa found) is = refl
-refusal_format (outcome.Roll code) is = refl
-refusal_format (outcome.SeqFull set begin end n) is = refl
-refusal_format (outcome.Deadlock cycle) is = refl
-refusal_format outcome.Device is = absurd is
-refusal_format outcome.Memory is = absurd is
-refusal_format (outcome.Purge set n) is = absurd is
-refusal_format (outcome.Old last) is = absurd is
-refusal_format (outcome.Repeat line) is = absurd is
-refusal_format outcome.Format is = absurd is
+pub refusal_format : (format : ℕ) (o : Outcome) → IsRefusal o → format_behind format o ≡ format
+refusal_format format outcome.Done is = absurd is
+refusal_format format outcome.Unknown is = absurd is
+refusal_format format (outcome.Verify call fsa found) is = refl
+refusal_format format (outcome.Roll code) is = refl
+refusal_format format (outcome.SeqFull set begin end n) is = refl
+refusal_format format (outcome.Deadlock cycle) is = refl
+refusal_format format outcome.Device is = absurd is
+refusal_format format outcome.Memory is = absurd is
+refusal_format format (outcome.Purge set n) is = absurd is
+refusal_format format (outcome.Old last) is = absurd is
+refusal_format format (outcome.Repeat line) is = absurd is
+refusal_format format outcome.Format is = absurd is
+
+-- and it uses the number of its message
+pub refusal_uses : (o : Outcome) → IsRefusal o → uses_number o ≡ true
+refusal_uses outcome.Done is = absurd is
+refusal_uses outcome.Unknown is = absurd is
+refusal_uses (outcome.Verify call fsa found) is = refl
+refusal_uses (outcome.Roll code) is = refl
+refusal_uses (outcome.SeqFull set begin end n) is = refl
+refusal_uses (outcome.Deadlock cycle) is = refl
+refusal_uses outcome.Device is = absurd is
+refusal_uses outcome.Memory is = absurd is
+refusal_uses (outcome.Purge set n) is = absurd is
+refusal_uses (outcome.Old last) is = absurd is
+refusal_uses (outcome.Repeat line) is = absurd is
+refusal_uses outcome.Format is = absurd is
 
 has_no_items : (o : Outcome) (reply : List ℕ) (items : List Item) → IsRefusal o → HasItsParts o reply items
     → items ≡ []
@@ -113,6 +128,9 @@ unsettled_stands engine m store log s of msdbs sealed unsealed spare = record {
   msdbs = s.msdbs ∙ sym msdbs;
   past = s.past;
   format = s.format;
+  read = s.read;
+  lasts = s.lasts;
+  places = s.places;
   count = rw (sealed, unsealed) s.count;
   sealed = sealed ∙ s.sealed;
   unsealed = unsealed ∙ s.unsealed;

@@ -16,14 +16,14 @@ use Rattle.fp_model.specs.declared.definitions.Kind.{Kind}
 use Rattle.fp_model.specs.declared.name.Name.{Name}
 use Rattle.fp_model.specs.declared.scripts.Script.{Script}
 use Rattle.fp_model.specs.History.{History, place_of}
-use Rattle.fp_model.specs.Lasts.{format_at}
+use Rattle.fp_model.specs.Lasts.{format_at, lasts_of}
 use Rattle.fp_model.specs.Machine as machine
 use Rattle.fp_model.specs.Machine.{Machine, at_rest}
 use Rattle.fp_model.specs.Product.{groups_defined}
 use Rattle.msdb_store.specs.Store.{IsOf}
 use Rattle.fp_core.specs.declared.engine.Engine.{Engine}
 use Rattle.fp_core.specs.declared.engine.Region.TheVariants as regions
-use Rattle.fp_core.specs.Relation.{IsRegion, IsSetup, StandsFor, owed_of, room_of, rules_in}
+use Rattle.fp_core.specs.Relation.{IsReadIn, IsRegion, IsSetup, StandsFor, owed_of, room_of, rules_in}
 use Rattle.fp_core.proofs.Places.{is_within}
 
 -- a kind that is there isn't missing
@@ -46,6 +46,11 @@ sum_idle f none [] = refl
 sum_idle f none (g ∷ gs) =
     omega (arith, none, sum_idle f none gs, sum_by-cons f machine.Idle (map (λ (group : ℕ). machine.Idle) gs))
 
+-- and have no message
+all_resting : (format : ℕ) (groups : List ℕ) → AllByRecursion (IsReadIn format) (map (λ group. machine.Idle) groups)
+all_resting format [] = tt
+all_resting format (g ∷ gs) = (tt, all_resting format gs)
+
 -- in empty queues each message is anything
 all_empty : {A : Type 0} (P : A → Type 0) (n : ℕ) → AllByRecursion (AllByRecursion P) (replicate n [])
 all_empty P zero = tt
@@ -64,42 +69,50 @@ pub rests : (engine : Engine) (lines : List (List ℕ)) (h : History)
     → h.now.msdbs ≡ engine.store.msdbs
     → place_of h ≡ engine.log.sealed
     → length h.past ≡ place_of h
-    → format_at h.format h.entries ≡ 1
+    → format_at h.format h.entries ≡ engine.format
+    → engine.lasts.terminals ≡ lasts_of h.format h.entries
     → engine.log.unsealed ≡ []
     → engine.owed.items ≡ []
     → engine.room ≡ 0
     → StandsFor engine (at_rest (rules_in engine) lines h)
-rests engine lines h setup held queues busy idle locks rows of msdbs sealed past format unsealed owed room = record {
-  setup = setup;
-  held = held;
-  held_short = tt;
-  queues = queues;
-  groups = length-replicate (groups_defined engine.defs.now) [];
-  takeable = all_empty _ (groups_defined engine.defs.now);
-  busy = subst (λ (names : List Name). AreSame names []) (sym busy) (λ name. refl);
-  regions = subst (λ rs. AllZip (IsRegion engine.defs.now engine.scripts.now.scripts) rs
-      (map (λ group. machine.Idle) engine.defs.now.regions)) (sym idle)
-      (all_idle engine.defs.now engine.scripts.now.scripts engine.defs.now.regions);
-  numbers = length-map engine.defs.now.regions (λ group. machine.Idle);
-  locks = locks;
-  rows = rows ∙ sym (ap length idle ∙ length-replicate (length engine.defs.now.regions) regions.Idle);
-  of = of;
-  msdbs = msdbs;
-  past = past;
-  format = format;
-  count =
-      let none : length engine.log.unsealed ≡ 0 = ap length unsealed in
-      omega (arith, none, sealed);
-  sealed = sym sealed;
-  unsealed = unsealed ∙ sym (drop-length h.entries);
-  owed = owed ∙ ap (map owed_of) (sym unsealed);
-  made = λ place before after e first was is then.
-      absurd (omega (arith, first, is_within h.entries place e is));
-  room = room ∙ sym (sum_idle room_of refl engine.defs.now.regions);
-  spare = omega (arith, room);
-  slots =
-      let none : length engine.owed.items ≡ 0 = ap length owed in
-      let idle_all : active_in (map (λ group. machine.Idle) engine.defs.now.regions) ≡ 0 =
-      sum_idle one_if_active refl engine.defs.now.regions in
-      omega (arith, none, idle_all);
-}
+rests engine lines h setup held queues busy idle locks rows of msdbs sealed past format lasts unsealed owed room =
+    record {
+      setup = setup;
+      held = held;
+      held_short = tt;
+      queues = queues;
+      groups = length-replicate (groups_defined engine.defs.now) [];
+      takeable = all_empty _ (groups_defined engine.defs.now);
+      busy = subst (λ (names : List Name). AreSame names []) (sym busy) (λ name. refl);
+      regions = subst (λ rs. AllZip (IsRegion engine.defs.now engine.scripts.now.scripts) rs
+          (map (λ group. machine.Idle) engine.defs.now.regions)) (sym idle)
+          (all_idle engine.defs.now engine.scripts.now.scripts engine.defs.now.regions);
+      numbers = length-map engine.defs.now.regions (λ group. machine.Idle);
+      locks = locks;
+      rows = rows ∙ sym (ap length idle ∙ length-replicate (length engine.defs.now.regions) regions.Idle);
+      of = of;
+      msdbs = msdbs;
+      past = past;
+      format = format;
+      read = all_resting engine.format engine.defs.now.regions;
+      lasts = lasts;
+      places =
+          let idle_all : active_in (map (λ group. machine.Idle) engine.defs.now.regions) ≡ 0 =
+          sum_idle one_if_active refl engine.defs.now.regions in
+          omega (arith, idle_all);
+      count =
+          let none : length engine.log.unsealed ≡ 0 = ap length unsealed in
+          omega (arith, none, sealed);
+      sealed = sym sealed;
+      unsealed = unsealed ∙ sym (drop-length h.entries);
+      owed = owed ∙ ap (map owed_of) (sym unsealed);
+      made = λ place before after e first was is then.
+          absurd (omega (arith, first, is_within h.entries place e is));
+      room = room ∙ sym (sum_idle room_of refl engine.defs.now.regions);
+      spare = omega (arith, room);
+      slots =
+          let none : length engine.owed.items ≡ 0 = ap length owed in
+          let idle_all : active_in (map (λ group. machine.Idle) engine.defs.now.regions) ≡ 0 =
+          sum_idle one_if_active refl engine.defs.now.regions in
+          omega (arith, none, idle_all);
+    }

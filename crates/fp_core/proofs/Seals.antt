@@ -217,6 +217,9 @@ module _ (engine : Engine) (m : Machine) (s : StandsFor engine m) where
         msdbs = s.msdbs;
         past = s.past;
         format = s.format;
+        read = s.read;
+        lasts = s.lasts;
+        places = s.places;
         count =
             let left = ap length unsealed ∙ length-drop n engine.log.unsealed in
             let few : n ≤ length engine.log.unsealed = omega (arith, count) in

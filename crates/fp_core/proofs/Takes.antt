@@ -1,6 +1,6 @@
 -- An idle region takes a message.
-use Rattle.std.proofs.Common.{◌≤◌, ◌≡◌, refl, sym, ◌∙◌, ap, subst, arith, ℕ, zero, suc, ◌+◌, ◌-◌, ◌<◌, List, [], ◌∷◌, length, drop, map, Option, Some, None, slice_get, slice_set, unwrap_or}
-use Rattle.std.specs.Prelude.{IfSome, fold, max, sum_by}
+use Rattle.std.proofs.Common.{◌≤◌, ◌≡◌, refl, sym, ◌∙◌, ap, subst, arith, ℕ, zero, suc, ◌+◌, ◌-◌, List, [], ◌∷◌, length, drop, map, Option, Some, None, slice_get, slice_set, unwrap_or}
+use Rattle.std.specs.Prelude.{IfSome, fold, max}
 use Rattle.std.specs.List.{AllByRecursion}
 use Rattle.std.specs.VecDeque.{deque_capacity}
 use Rattle.std.specs.declared.alloc.Global.{Global}
@@ -9,11 +9,10 @@ use Rattle.std.proofs.lemmas.List.{length-set}
 use Rattle.std.proofs.lemmas.List.Sums.{sum_by-cons}
 use Rattle.std.proofs.lemmas.Slice.Zip.{AllZip-long}
 use Rattle.balancing.specs.Backlog.{AreSame, Backlog, queue_of}
+use Rattle.balancing.specs.Numbered.{Numbered}
 use Rattle.drain_laws.specs.Measure.{active_in, one_if_active}
 use Rattle.fp_model.specs.declared.calls.Message.{Message}
 use Rattle.fp_model.specs.declared.events.Event.TheVariants as event
-use Rattle.fp_model.specs.declared.log.Entry.{Entry}
-use Rattle.fp_model.specs.declared.scripts.Script.{Script}
 use Rattle.fp_model.specs.Machine as machine
 use Rattle.fp_model.specs.Machine.{Transaction, Machine, region_at}
 use Rattle.fp_model.specs.Rules.{Rules}
@@ -26,11 +25,10 @@ use Rattle.fp_core.specs.declared.did.Did.TheVariants as did
 use Rattle.fp_core.specs.declared.engine.Active.{Active}
 use Rattle.fp_core.specs.declared.engine.Engine.{Engine}
 use Rattle.fp_core.specs.declared.engine.Owed.{Owed}
-use Rattle.fp_core.specs.declared.engine.Region.{Region}
 use Rattle.fp_core.specs.declared.engine.Region.TheVariants as regions
-use Rattle.fp_core.specs.Relation.{IsAhead, IsRegion, IsTakeable, IsTransaction, StandsFor, owed_of, room_of, rules_in}
+use Rattle.fp_core.specs.Relation.{IsAhead, IsReadIn, IsRegion, IsTakeable, IsTransaction, StandsFor, owed_of, room_of, rules_in}
 use Rattle.fp_core.specs.Turning.{IsDidOfRegion, Turned, did_take}
-use Rattle.fp_core.proofs.Places.{each_has, put_both, right_of, some_same, sum_put}
+use Rattle.fp_core.proofs.Places.{all_put, each_has, put_both, right_of, some_same, sum_put}
 use Rattle.fp_core.proofs.Turns.{is_device}
 
 -- ---- lists
@@ -44,13 +42,6 @@ with_first (y ∷ ys) x is = ap (λ first. first ∷ ys) (some_same y x is)
 pub with_none : {A : Type 0} (xs : List A) → slice_get xs 0 ≡ None → xs ≡ []
 with_none [] is = refl
 with_none (y ∷ ys) is = absurd cc
-
--- one place is changed to what is so too
-pub all_put : {A : Type 0} (P : A → Type 0) (xs : List A) (place : ℕ) (x : A) → AllByRecursion P xs → P x
-    → AllByRecursion P (slice_set xs place x)
-all_put P [] place x all new = tt
-all_put P (y ∷ ys) zero x all new = (new, all.1)
-all_put P (y ∷ ys) (suc n) x all new = (all.0, all_put P ys n x all.1 new)
 
 -- without the first
 all_rest : {A : Type 0} (P : A → Type 0) (xs : List A) → AllByRecursion P xs → AllByRecursion P (drop 1 xs)
@@ -155,23 +146,28 @@ group_within engine m place group s in_group =
 
 -- each message of a queue can be taken
 pub first_takeable : (engine : Engine) (m : Machine) (group : ℕ) (message : Message) → StandsFor engine m
-    → slice_get (queue_of group engine.queues) 0 ≡ Some message → IsTakeable engine.scripts.now.scripts message
+    → slice_get (queue_of group engine.queues) 0 ≡ Some message → IsTakeable engine.format engine.scripts.now.scripts
+    message
 first_takeable engine m group message s first =
-    let all = subst (AllByRecursion (AllByRecursion (IsTakeable engine.scripts.now.scripts))) (sym s.queues) s.takeable
+    let all = subst (AllByRecursion (AllByRecursion (IsTakeable engine.format engine.scripts.now.scripts))) (sym
+    s.queues) s.takeable
     in
-    each_has (IsTakeable engine.scripts.now.scripts) (queue_of group engine.queues) 0 message
-    (all_at (IsTakeable engine.scripts.now.scripts) engine.queues.queues (group - 1) all) first
+    each_has (IsTakeable engine.format engine.scripts.now.scripts) (queue_of group engine.queues) 0 message
+    (all_at (IsTakeable engine.format engine.scripts.now.scripts) engine.queues.queues (group - 1) all) first
 
 -- ---- room
 
--- With more room in the log and more slots for what is owed it stands for the same.
-pub roomier : (engine : Engine) (m : Machine) (log : LogState) (owed : VecDeque Owed Global) → StandsFor engine m
+-- With more room in the log, for what is owed and for numbers it stands for the same.
+pub roomier : (engine : Engine) (m : Machine) (log : LogState) (owed : VecDeque Owed Global)
+    (lasts : Numbered) → StandsFor engine m
     → log ≡ record engine.log { spare = log.spare }
     → engine.log.spare ≤ log.spare
     → owed.items ≡ engine.owed.items
     → deque_capacity engine.owed ≤ deque_capacity owed
-    → StandsFor (record engine { log = log; owed = owed }) m
-roomier engine m log owed s same more items slots = record {
+    → lasts.terminals ≡ engine.lasts.terminals
+    → engine.lasts.spare ≤ lasts.spare
+    → StandsFor (record engine { log = log; owed = owed; lasts = lasts }) m
+roomier engine m log owed lasts s same more items slots terminals numbers = record {
   setup = s.setup;
   held = s.held;
   held_short = s.held_short;
@@ -187,6 +183,9 @@ roomier engine m log owed s same more items slots = record {
   msdbs = s.msdbs;
   past = s.past;
   format = s.format;
+  read = s.read;
+  lasts = terminals ∙ s.lasts;
+  places = omega (arith, s.places, numbers);
   count = ap (λ (l : LogState). l.sealed + length l.unsealed) same ∙ s.count;
   sealed = ap (λ (l : LogState). l.sealed) same ∙ s.sealed;
   unsealed = ap (λ (l : LogState). l.unsealed) same ∙ s.unsealed;
@@ -223,7 +222,7 @@ module _ (engine : Engine) (m : Machine) (place group : ℕ) (s : StandsFor engi
       (messages_are ∙ with_none (queue_of group engine.queues) none) s
 
   module _ (message : Message) (active : Active) (backlog : Backlog) (log : LogState) (owed : VecDeque Owed Global)
-      (room : ℕ) where
+      (room : ℕ) (lasts : Numbered) where
     -- the engine with the message taken
     abbrev pub with_taken : Engine
     with_taken = record engine {
@@ -232,6 +231,7 @@ module _ (engine : Engine) (m : Machine) (place group : ℕ) (s : StandsFor engi
       log = log;
       owed = owed;
       room = room;
+      lasts = lasts;
     }
 
     takes_here : slice_get (queue_of group engine.queues) 0 ≡ Some message
@@ -242,14 +242,18 @@ module _ (engine : Engine) (m : Machine) (place group : ℕ) (s : StandsFor engi
         → length owed.items + length engine.regions ≤ deque_capacity owed
         → room ≡ engine.room + refusal_room message.line
         → room ≤ log.spare
+        → lasts.terminals ≡ engine.lasts.terminals
+        → length engine.regions ≤ lasts.spare
         → IsTransaction engine.defs.now engine.scripts.now.scripts active (begun_in (rules_in engine) m message 0)
         → Turned (event.Region (suc place)) m with_taken did.Took
-    takes_here oldest rest busy same items slots more spare is =
+    takes_here oldest rest busy same items slots more spare terminals numbers is =
         let here : slice_get m.regions place ≡ Some machine.Idle = is_idle engine m place s idle in
         let t : Transaction = begun_in (rules_in engine) m message 0 in
         let others : List Message = drop 1 (queue_of group engine.queues) in
-        let all : AllByRecursion (AllByRecursion (IsTakeable engine.scripts.now.scripts)) engine.queues.queues =
-        subst (AllByRecursion (AllByRecursion (IsTakeable engine.scripts.now.scripts))) (sym s.queues) s.takeable in
+        let all : AllByRecursion (AllByRecursion (IsTakeable engine.format engine.scripts.now.scripts))
+        engine.queues.queues =
+        subst (AllByRecursion (AllByRecursion (IsTakeable engine.format engine.scripts.now.scripts))) (sym s.queues)
+        s.takeable in
         idle_turned engine with_taken m place (message ∷ others) refl here
         (messages_are ∙ with_first (queue_of group engine.queues) message oldest)
         (record {
@@ -260,10 +264,10 @@ module _ (engine : Engine) (m : Machine) (place group : ℕ) (s : StandsFor engi
               ∙ ap (λ (qs : List (List Message)). slice_set qs (group - 1) others) s.queues
               ∙ ap (λ (q : ℕ). slice_set m.queues q others) (sym queue_is);
           groups = length-set m.queues (queue_of_region (rules_in engine) (suc place)) others ∙ s.groups;
-          takeable = all_put (AllByRecursion (IsTakeable engine.scripts.now.scripts)) m.queues
+          takeable = all_put (AllByRecursion (IsTakeable engine.format engine.scripts.now.scripts)) m.queues
               (queue_of_region (rules_in engine) (suc place)) others s.takeable
-              (all_rest (IsTakeable engine.scripts.now.scripts) (queue_of group engine.queues)
-              (all_at (IsTakeable engine.scripts.now.scripts) engine.queues.queues (group - 1) all));
+              (all_rest (IsTakeable engine.format engine.scripts.now.scripts) (queue_of group engine.queues)
+              (all_at (IsTakeable engine.format engine.scripts.now.scripts) engine.queues.queues (group - 1) all));
           busy = subst (λ names. AreSame names m.busy) (sym busy) s.busy;
           regions = put_both (IsRegion engine.defs.now engine.scripts.now.scripts) engine.regions m.regions place
               (regions.Active active) (machine.Active t) s.regions is;
@@ -274,6 +278,16 @@ module _ (engine : Engine) (m : Machine) (place group : ℕ) (s : StandsFor engi
           msdbs = s.msdbs;
           past = s.past;
           format = s.format;
+          read = all_put (IsReadIn engine.format) m.regions place (machine.Active t) s.read
+              (first_takeable engine m group message s oldest).read;
+          lasts = terminals ∙ s.lasts;
+          places =
+              let few = at_work_few (slice_set m.regions place (machine.Active t)) in
+              let long : length (slice_set m.regions place (machine.Active t)) ≡ length m.regions =
+              length-set m.regions place (machine.Active t) in
+              let both = AllZip-long (IsRegion engine.defs.now engine.scripts.now.scripts) engine.regions m.regions
+              s.regions in
+              omega (arith, few, long, both, numbers);
           count = ap (λ (l : LogState). l.sealed + length l.unsealed) same ∙ s.count;
           sealed = ap (λ (l : LogState). l.sealed) same ∙ s.sealed;
           unsealed = ap (λ (l : LogState). l.unsealed) same ∙ s.unsealed;
@@ -309,7 +323,7 @@ pub takes : (engine : Engine) (m : Machine) (place group region : ℕ) → suc p
     → slice_get engine.defs.now.regions place ≡ Some group
     → slice_get engine.regions place ≡ Some regions.Idle
     → (message : Message) (active : Active) (backlog : Backlog) (log : LogState) (owed : VecDeque Owed Global)
-    (room : ℕ)
+    (room : ℕ) (lasts : Numbered)
     → slice_get (queue_of group engine.queues) 0 ≡ Some message
     → backlog.queues ≡ slice_set engine.queues.queues (group - 1) (drop 1 (queue_of group engine.queues))
     → backlog.busy ≡ engine.queues.busy
@@ -318,6 +332,8 @@ pub takes : (engine : Engine) (m : Machine) (place group region : ℕ) → suc p
     → length owed.items + length engine.regions ≤ deque_capacity owed
     → room ≡ engine.room + refusal_room message.line
     → room ≤ log.spare
+    → lasts.terminals ≡ engine.lasts.terminals
+    → length engine.regions ≤ lasts.spare
     → active.from ≡ engine.log.sealed + length engine.log.unsealed
     → active.message ≡ message
     → IsTransaction engine.defs.now engine.scripts.now.scripts
@@ -328,6 +344,7 @@ pub takes : (engine : Engine) (m : Machine) (place group region : ℕ) → suc p
       work = active.work;
       tries = active.tries;
       ahead = active.ahead;
+      refusal = active.refusal;
     })
     (record { from = active.from; message = message; point = begun (rules_in engine); notes = []; tries = 0 })
     → Turned (event.Region region) m (record engine {
@@ -336,24 +353,27 @@ pub takes : (engine : Engine) (m : Machine) (place group region : ℕ) → suc p
       log = log;
       owed = owed;
       room = room;
+      lasts = lasts;
     }) did.Took
-takes engine m place group region numbered s in_group idle message active backlog log owed room oldest rest busy same
-    items slots more spare from is_message b =
+takes engine m place group region numbered s in_group idle message active backlog log owed room lasts oldest rest busy
+    same items slots more spare terminals numbers from is_message b =
     let engine2 : Engine = record engine {
       queues = backlog;
       regions = slice_set engine.regions place (regions.Active active);
       log = log;
       owed = owed;
       room = room;
+      lasts = lasts;
     } in
     subst (λ (n : ℕ). Turned (event.Region n) m engine2 did.Took) numbered
-    (takes_here engine m place group s in_group idle message active backlog log owed room oldest rest busy same items
-    slots more spare
+    (takes_here engine m place group s in_group idle message active backlog log owed room lasts oldest rest busy
+    same items slots more spare terminals numbers
     (record {
       from = from ∙ s.count;
       message = is_message;
       short = b.short;
       tries = b.tries;
+      refusal = b.refusal;
       own = b.own;
       notes = b.notes;
       of = b.of;

@@ -1,10 +1,12 @@
 -- A transaction begins again.
-use Rattle.std.proofs.Common.{◌≡◌, refl, sym, ◌∙◌, ap, subst, arith, ℕ, zero, suc, ◌-◌, ◌+◌, List, [], length, None, slice_set}
+use Rattle.std.proofs.Common.{◌≡◌, refl, sym, ◌∙◌, ap, subst, arith, ℕ, zero, suc, ◌-◌, ◌+◌, List, [], length, Option, None, slice_set}
+use Rattle.std.specs.Prelude.{option_map}
 use Rattle.ci_locks.specs.Standing.{Shows}
 use Rattle.ci_locks.specs.Table.{Row, standing}
 use Rattle.dli_calls.specs.Progress.{Progress}
 use Rattle.fp_model.specs.declared.calls.Message.{Message}
 use Rattle.fp_model.specs.declared.definitions.Defs.{Defs}
+use Rattle.fp_model.specs.declared.log.Outcome.TheVariants as outcome
 use Rattle.fp_model.specs.declared.scripts.Script.{Script}
 use Rattle.fp_model.specs.Machine as machine
 use Rattle.fp_model.specs.Machine.{Transaction, Machine}
@@ -15,8 +17,10 @@ use Rattle.fp_model.specs.Waiting.{Lock, without_region}
 use Rattle.txn_machine.specs.declared.program.Program.{Program}
 use Rattle.fp_core.specs.declared.engine.Active.{Active}
 use Rattle.fp_core.specs.declared.engine.Engine.{Engine}
+use Rattle.fp_core.specs.declared.numbering.Kept.{Kept}
 use Rattle.fp_core.specs.declared.engine.Region.TheVariants as regions
 use Rattle.fp_core.specs.Acting.{MayEnd}
+use Rattle.fp_core.specs.Numbering.{last_kept, last_told}
 use Rattle.fp_core.specs.Relation.{IsTransaction, StandsFor, rules_in}
 use Rattle.fp_core.proofs.Goings.{stands_with, with_active}
 use Rattle.fp_core.proofs.Grants.{locked_stands}
@@ -26,9 +30,16 @@ use Rattle.fp_core.proofs.Places.{none_some}
 
 module _ (defs : Defs) (scripts : List Script) (program : Program) (work : Progress) where
   -- the code's and the machine's at its beginning
-  abbrev pub code_of : ℕ → Message → ℕ → Active
-  code_of from message tries =
-      record { from = from; message = message; program = program; work = work; tries = tries; ahead = None }
+  abbrev pub code_of : ℕ → Message → ℕ → Option Kept → Active
+  code_of from message tries refusal = record {
+    from = from;
+    message = message;
+    program = program;
+    work = work;
+    tries = tries;
+    ahead = None;
+    refusal = refusal;
+  }
 
   abbrev pub begun_as : ℕ → Message → ℕ → Transaction
   begun_as from message tries =
@@ -40,16 +51,20 @@ module _ (defs : Defs) (scripts : List Script) (program : Program) (work : Progr
       → a.message ≡ t.message
       → c.message ≡ t.message
       → c.tries ≡ t.tries
-      → ((n tries : ℕ) → IsTransaction defs scripts (code_of n a.message tries) (begun_as n a.message tries))
-      → new ≡ code_of from c.message (c.tries + 1)
+      → option_map last_kept c.refusal ≡ last_told t.message outcome.Memory []
+      → ((n tries : ℕ) (refusal : Option Kept)
+      → option_map last_kept refusal ≡ last_told a.message outcome.Memory []
+      → IsTransaction defs scripts (code_of n a.message tries refusal) (begun_as n a.message tries))
+      → new ≡ code_of from c.message (c.tries + 1) c.refusal
       → IsTransaction defs scripts new (begun_as place t.message (t.tries + 1))
-  begins_again a c new t from place at seen there tries is e =
-      let made = subst (λ (x : Message). IsTransaction defs scripts (code_of place x (t.tries + 1))
-      (begun_as place x (t.tries + 1))) seen (is place (t.tries + 1)) in
-      let same : new ≡ code_of place t.message (t.tries + 1) =
-      e ∙ ap (λ (n : ℕ). code_of n c.message (c.tries + 1)) at
-      ∙ ap (λ (x : Message). code_of place x (c.tries + 1)) there
-      ∙ ap (λ (n : ℕ). code_of place t.message (n + 1)) tries in
+  begins_again a c new t from place at seen there tries kept is e =
+      let made = subst (λ (x : Message). IsTransaction defs scripts (code_of place x (t.tries + 1) c.refusal)
+      (begun_as place x (t.tries + 1))) seen (is place (t.tries + 1) c.refusal
+      (kept ∙ ap (λ (x : Message). last_told x outcome.Memory []) (sym seen))) in
+      let same : new ≡ code_of place t.message (t.tries + 1) c.refusal =
+      e ∙ ap (λ (n : ℕ). code_of n c.message (c.tries + 1) c.refusal) at
+      ∙ ap (λ (x : Message). code_of place x (c.tries + 1) c.refusal) there
+      ∙ ap (λ (n : ℕ). code_of place t.message (n + 1) c.refusal) tries in
       subst (λ (x : Active). IsTransaction defs scripts x (begun_as place t.message (t.tries + 1))) (sym same) made
 
 -- ---- its region

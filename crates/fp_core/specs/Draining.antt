@@ -7,7 +7,6 @@ use Rattle.drain_laws.specs.Rounds.{GoesRounds}
 use Rattle.fp_model.specs.declared.definitions.Defs.{Defs}
 use Rattle.fp_model.specs.declared.events.Event.{Event}
 use Rattle.fp_model.specs.declared.events.Event.TheVariants as events
-use Rattle.fp_model.specs.Lasts.{format_at}
 use Rattle.fp_model.specs.Machine.{Idle, Machine, region_at}
 use Rattle.fp_model.specs.Rules.{Rules}
 use Rattle.fp_model.specs.Runs.{RunStep, TakesOf, Runs, IsDrained, device_faults, round, Drains}
@@ -33,8 +32,7 @@ AreCalm steps = device_faults steps ≡ 0
 
 -- A drain of the machine stands here, before this event: behind whole rounds, and a first part of one more. A round
 -- goes on behind its IN only where something was left; the last IN of a drain finds nothing, and is left out. Each turn
--- is exact. The items of each entry of the run are fit and make its next state, and no entry changed the format of the
--- log.
+-- is exact. The items of each entry of the run are fit and make its next state.
 pub record IsInDrain (defs : Defs) (rules : Rules) (m here : Machine) (event : Event) : Type 0 where
   pub rounds : List (List RunStep)
   pub behind : Machine
@@ -47,7 +45,6 @@ pub record IsInDrain (defs : Defs) (rules : Rules) (m here : Machine) (event : E
   pub calm : AllByRecursion AreCalm rounds × AreCalm part
   pub exact : RoundsAreExact defs rules m rounds × AreExact defs rules behind part
   pub made : AreMade defs here
-  pub format : format_at here.history.format here.history.entries ≡ 1
 
 -- A drain, each turn of which is exact, leads to a machine that is drained, and engine, site and source stand for it.
 -- No

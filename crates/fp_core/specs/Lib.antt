@@ -7,5 +7,6 @@ pub mod Sparing
 pub mod Draining
 pub mod Rounding
 pub mod Answering
+pub mod Numbering
 pub mod Reading
 pub mod Sealing

@@ -1,5 +1,5 @@
 -- What it is for the engine to stand for a machine of the table of turns.
-use Rattle.std.specs.Prelude.{◌≡◌, ⊤, ℕ, suc, ◌+◌, ◌-◌, ◌≤◌, List, [], length, drop, map, sum_by, true, IfSome, Some, slice_get}
+use Rattle.std.specs.Prelude.{◌≡◌, ⊤, ℕ, suc, ◌+◌, ◌-◌, ◌≤◌, List, [], length, drop, map, option_map, sum_by, true, IfSome, Ok, Some, slice_get}
 use Rattle.std.specs.List.{AllByRecursion, AllZip}
 use Rattle.std.specs.VecDeque.{deque_capacity}
 use Rattle.balancing.specs.Backlog.{AreSame}
@@ -12,15 +12,17 @@ use Rattle.fp_model.specs.declared.calls.Message.{Message}
 use Rattle.fp_model.specs.declared.database.Db.{Db}
 use Rattle.fp_model.specs.declared.definitions.Defs.{Defs}
 use Rattle.fp_model.specs.declared.log.Entry.{Entry}
+use Rattle.fp_model.specs.declared.log.Outcome.TheVariants as outcome
 use Rattle.fp_model.specs.declared.scripts.Script.{Script}
 use Rattle.fp_model.specs.Asking.{Asks, Replies, Rolls, full_cost, script_of}
 use Rattle.fp_model.specs.FitCalls.{IsMsdbCall, are_fit}
 use Rattle.fp_model.specs.Groups.{entries_of}
 use Rattle.fp_model.specs.History.{states_of, place_of}
 use Rattle.fp_model.specs.Items.{IsFit as IsFitItem, with_items}
-use Rattle.fp_model.specs.Lasts.{format_at}
+use Rattle.fp_model.specs.Lasts.{format_at, lasts_of}
 use Rattle.fp_model.specs.Machine as machine
 use Rattle.fp_model.specs.Machine.{Transaction, Machine}
+use Rattle.fp_model.specs.Messages.{message_of}
 use Rattle.fp_model.specs.Product.{rules_of, groups_defined}
 use Rattle.fp_model.specs.Rules.{Rules}
 use Rattle.fp_model.specs.Settle.{resources}
@@ -37,6 +39,7 @@ use Rattle.fp_core.specs.declared.engine.Engine.{Engine}
 use Rattle.fp_core.specs.declared.engine.Owed.{Owed}
 use Rattle.fp_core.specs.declared.engine.Region.{Region}
 use Rattle.fp_core.specs.declared.engine.Region.TheVariants as region
+use Rattle.fp_core.specs.Numbering.{last_kept, last_told}
 
 -- ---- what the engine runs by
 
@@ -56,6 +59,10 @@ rules_in engine = rules_of engine.defs.now engine.scripts.now.scripts
 -- no longer than lines are read
 abbrev pub IsShort : List ℕ → Type 0
 IsShort line = length line ≤ 2100
+
+-- in this format it is what its line says
+abbrev pub IsRead : ℕ → Message → Type 0
+IsRead format message = message_of format message.line ≡ Ok message
 
 -- The call that it does next: the program waits for its answer.
 pub record IsCallAhead (defs : Defs) (scripts : List Script) (program : Program) (t : Transaction) (call : Call)
@@ -77,6 +84,8 @@ pub record IsTransaction (defs : Defs) (scripts : List Script) (active : Active)
   pub message : active.message ≡ t.message
   pub short : IsShort t.message.line
   pub tries : active.tries ≡ t.tries
+  -- what is kept of its number if it is refused for want of memory
+  pub refusal : option_map last_kept active.refusal ≡ last_told t.message outcome.Memory []
   -- what its calls left
   pub own : active.work.own ≡ t.point.own
   pub notes : active.work.notes ≡ t.notes
@@ -98,11 +107,17 @@ IsRegion defs scripts region.Idle (machine.Active t) = ⊥
 IsRegion defs scripts (region.Active active) machine.Idle = ⊥
 IsRegion defs scripts (region.Active active) (machine.Active t) = IsTransaction defs scripts active t
 
+-- the message of a region at work is read in this format
+abbrev pub IsReadIn : ℕ → machine.Region → Type 0
+IsReadIn format machine.Idle = ⊤
+IsReadIn format (machine.Active t) = IsRead format t.message
+
 -- ---- messages that wait
 
--- A message that a region can take: it names a script.
-pub record IsTakeable (scripts : List Script) (message : Message) : Type 0 where
+-- A message that a region can take: it is read in this format, and names a script.
+pub record IsTakeable (format : ℕ) (scripts : List Script) (message : Message) : Type 0 where
   pub short : IsShort message.line
+  pub read : IsRead format message
   pub script : Script
   pub named : script_of scripts message.tran ≡ Some script
 
@@ -146,7 +161,7 @@ pub record StandsFor (engine : Engine) (m : Machine) : Type 0 where
   pub held_short : IfSome m.held IsShort
   pub queues : engine.queues.queues ≡ m.queues
   pub groups : length m.queues ≡ groups_defined engine.defs.now
-  pub takeable : AllByRecursion (AllByRecursion (IsTakeable engine.scripts.now.scripts)) m.queues
+  pub takeable : AllByRecursion (AllByRecursion (IsTakeable engine.format engine.scripts.now.scripts)) m.queues
   pub busy : AreSame engine.queues.busy m.busy
   -- regions and their locks
   pub regions : AllZip (IsRegion engine.defs.now engine.scripts.now.scripts) engine.regions m.regions
@@ -156,14 +171,19 @@ pub record StandsFor (engine : Engine) (m : Machine) : Type 0 where
   -- the databases now
   pub of : IsOf engine.defs.now.msdbs engine.store
   pub msdbs : m.history.now.msdbs ≡ engine.store.msdbs
-  -- entries, each with the state before it, and those that aren't sealed; lines have no numbers in format 1
+  -- entries, each with the state before it, and those that aren't sealed
   pub past : length m.history.past ≡ place_of m.history
-  pub format : format_at m.history.format m.history.entries ≡ 1
   pub count : engine.log.sealed + length engine.log.unsealed ≡ place_of m.history
   pub sealed : engine.log.sealed ≡ m.sealed
   pub unsealed : engine.log.unsealed ≡ drop m.sealed m.history.entries
   pub owed : engine.owed.items ≡ map owed_of engine.log.unsealed
   pub made : AreMade engine.defs.now m
+  -- lines are read in the log's format, and the last number of each terminal is kept as the entries give it
+  pub format : format_at m.history.format m.history.entries ≡ engine.format
+  pub read : AllByRecursion (IsReadIn engine.format) m.regions
+  pub lasts : engine.lasts.terminals ≡ lasts_of m.history.format m.history.entries
+  -- each transaction under way may use one more
+  pub places : active_in m.regions ≤ engine.lasts.spare
   -- the log has room for a refusal of each transaction, and so has what is owed
   pub room : engine.room ≡ sum_by room_of m.regions
   pub spare : engine.room ≤ engine.log.spare

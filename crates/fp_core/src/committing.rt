@@ -13,6 +13,7 @@ ghost use Rattle.std.specs.Prelude.{◌≡◌, ◌≤◌, IfOk, OnErr, length};
 use crate::did::Did;
 use crate::ending::owed_of;
 use crate::engine::{Active, Engine, Region};
+use crate::numbering::{keep, kept_of};
 use crate::refusing::{notes_of, refused_entry};
 use fp_model::{Bytes, Outcome};
 use std::alloc::AllocError;
@@ -83,10 +84,17 @@ impl Engine<'_> {
     {
         let active = self.active_in(region);
         let room = self.room - refusal_room(&active.message.line);
+        let kept = kept_of(
+            self.alloc,
+            &active.message,
+            &Outcome::Done,
+            reply.as_slice(),
+        )?;
         let draft = draft_of(active, reply)?;
         match sync_point::commit(draft, &mut self.store, &mut self.log) {
             Ok(entry) => {
                 self.owed.push_back_reserved(owed_of(entry));
+                keep(&mut self.lasts, kept);
                 *self.regions.item_mut(usize::from(region) - 1) = Region::Idle;
                 self.locks.release_all(region);
                 self.room = room;

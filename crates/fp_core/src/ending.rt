@@ -2,6 +2,7 @@
 ghost use Rattle.ci_locks.specs.Standing.{Shows};
 ghost use Rattle.ci_locks.specs.Table.{standing};
 ghost use Rattle.fp_core.specs.Acting.{MayEnd};
+ghost use Rattle.fp_core.specs.Numbering.{last_told, with_used};
 ghost use Rattle.fp_core.specs.Relation.{IsShort, owed_of};
 ghost use Rattle.fp_core.specs.declared.engine.Region.TheVariants as regions;
 ghost use Rattle.fp_model.specs.LogText.{FitsEntry, KeepsRules, entry_text};
@@ -12,6 +13,7 @@ ghost use Rattle.std.specs.VecDeque.{deque_capacity};
 ghost use Rattle.sync_point.specs.Refusals.{refusal_room};
 
 use crate::engine::{Active, Engine, Owed, Region};
+use crate::numbering::{keep, kept_of};
 use fp_model::Entry;
 use log_groups::Log;
 use std::alloc::AllocError;
@@ -76,6 +78,7 @@ impl Engine<'_> {
         ensures short { IsShort result.now.message.line }
         ensures room { refusal_room result.now.message.line ≤ self.now.room }
         ensures slot { length self.now.owed.items < deque_capacity self.now.owed }
+        ensures place { 1 ≤ self.now.lasts.spare }
     {
         match self.region(region) {
             Region::Active(active) => active,
@@ -83,8 +86,8 @@ impl Engine<'_> {
         }
     }
 
-    /// The active region's transaction ends with this entry: the region is idle, and its locks, its request and its
-    /// room are gone. Want of memory changes nothing but what the log has room for.
+    /// The active region's transaction ends with this entry: the region is idle, its locks, its request and its room
+    /// are gone, and its number is used. Want of memory changes nothing but what the log has room for.
     pub(crate) fn end(&mut self, region: u8, entry: Entry) -> Result<(), AllocError>
         requires some { 1 ≤ region }
         requires within { region ≤ length self.old.regions }
@@ -100,6 +103,12 @@ impl Engine<'_> {
         ensures gate { self.new.log.gate ≡ self.old.log.gate }
         ensures slots { deque_capacity self.new.owed ≡ deque_capacity self.old.owed }
 
+        // The number of its message, where it has one.
+        ensures used { (m : Machine) (t : Transaction) → MayEnd self.old m region t
+            → OnOk result (self.new.lasts.terminals
+            ≡ with_used (last_told t.message entry.outcome entry.reply) self.old.lasts.terminals) }
+        ensures places { OnOk result (self.old.lasts.spare ≤ self.new.lasts.spare + 1) }
+
         // The region.
         ensures room { (m : Machine) (t : Transaction) → MayEnd self.old m region t
             → OnOk result (self.new.room + refusal_room t.message.line ≡ self.old.room) }
@@ -109,6 +118,7 @@ impl Engine<'_> {
           log = self.new.log;
           owed = self.new.owed;
           room = self.new.room;
+          lasts = self.new.lasts;
         }) }
         ensures locks { (locks requests : ListOf Lock) → Shows (standing self.old.locks) locks requests
             → OnOk result (Shows (standing self.new.locks)
@@ -119,8 +129,16 @@ impl Engine<'_> {
         ensures waiting { OnErr result (self.new.log.unsealed ≡ self.old.log.unsealed) }
         ensures more { OnErr result (self.old.log.spare ≤ self.new.log.spare) }
     {
-        let room = self.room - refusal_room(&self.active_in(region).message.line);
+        let active = self.active_in(region);
+        let room = self.room - refusal_room(&active.message.line);
+        let kept = kept_of(
+            self.alloc,
+            &active.message,
+            &entry.outcome,
+            entry.reply.as_slice(),
+        )?;
         append_owed(&mut self.log, &mut self.owed, entry, room)?;
+        keep(&mut self.lasts, kept);
         *self.regions.item_mut(usize::from(region) - 1) = Region::Idle;
         self.locks.release_all(region);
         self.room = room;

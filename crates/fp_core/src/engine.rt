@@ -2,14 +2,15 @@
 ghost use Rattle.fp_core.specs.Relation.{IsSetup, StandsFor, rules_in};
 ghost use Rattle.fp_core.specs.declared.engine.Region.TheVariants as regions;
 ghost use Rattle.fp_model.specs.History.{History, place_of};
-ghost use Rattle.fp_model.specs.Lasts.{format_at};
+ghost use Rattle.fp_model.specs.Lasts.{format_at, lasts_of};
 ghost use Rattle.fp_model.specs.Machine.{at_rest};
 ghost use Rattle.fp_model.specs.Product.{rules_of};
 ghost use Rattle.msdb_store.specs.Store.{IsOf};
 ghost use Rattle.std.specs.Prelude.{◌≡◌, ◌≤◌, ◌-◌, ℕ, [], IfOk, List as ListOf, Some, length, replicate, slice_get};
 
+use crate::numbering::Kept;
 use crate::stepping::Started;
-use balancing::Queues;
+use balancing::{Lasts, Queues};
 use ci_locks::Locks;
 use dli_calls::Work;
 use fp_defs::group_count;
@@ -47,6 +48,8 @@ pub(crate) struct Active {
     pub(crate) tries: u32,
     /// What it does next, once that is worked out: it is kept while the region waits for a lock.
     pub(crate) ahead: Option<Ahead>,
+    /// What is kept of its number where it is refused for want of memory.
+    pub(crate) refusal: Option<Kept>,
 }
 
 #[derive(Drop)]
@@ -69,6 +72,8 @@ pub(crate) struct Engine<'a> {
     pub(crate) alloc: Global,
     pub(crate) defs: &'a Defs,
     pub(crate) scripts: &'a Scripts,
+    /// The format of the log, by which lines are read. No entry of a run changes it.
+    pub(crate) format: u8,
     /// The line that waits for its terminal.
     pub(crate) held: Option<Bytes>,
     pub(crate) queues: Queues,
@@ -81,6 +86,8 @@ pub(crate) struct Engine<'a> {
     pub(crate) owed: VecDeque<Owed>,
     /// How many bytes of entries the log keeps free, for the refusal of each transaction under way.
     pub(crate) room: u64,
+    /// The last number of each terminal, with room for one more of each transaction under way.
+    pub(crate) lasts: Lasts,
 }
 
 // So many idle regions.
@@ -109,19 +116,27 @@ impl<'a> Engine<'a> {
 
         // Behind any entries that come to these databases.
         ensures stands { (lines : ListOf (ListOf ℕ)) (h : History) → h.now.msdbs ≡ started.msdbs.msdbs
-            → place_of h ≡ started.log.sealed → length h.past ≡ place_of h → format_at h.format h.entries ≡ 1
+            → place_of h ≡ started.log.sealed → length h.past ≡ place_of h
+            → format_at h.format h.entries ≡ started.format
+            → started.lasts.terminals ≡ lasts_of h.format h.entries
             → IfOk result (λ engine. StandsFor engine (at_rest (rules_of defs.now scripts.now.scripts) lines h)) }
         ensures rules { IfOk result (λ engine. rules_in engine ≡ rules_of defs.now scripts.now.scripts) }
         ensures defs { IfOk result (λ engine. engine.defs.now ≡ defs.now) }
         ensures scripts { IfOk result (λ engine. engine.scripts.now ≡ scripts.now) }
         ensures gate { IfOk result (λ engine. engine.log.gate ≡ started.log.gate) }
     {
-        let Started { msdbs, log } = started;
+        let Started {
+            msdbs,
+            log,
+            format,
+            lasts,
+        } = started;
         let regions = defs.regions.len();
         Ok(Engine {
             alloc,
             defs,
             scripts,
+            format,
             held: None,
             queues: Queues::new(alloc, group_count(defs))?,
             regions: idle_regions(alloc, regions)?,
@@ -130,6 +145,7 @@ impl<'a> Engine<'a> {
             log,
             owed: VecDeque::new(alloc),
             room: 0,
+            lasts,
         })
     }
 }

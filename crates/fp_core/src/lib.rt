@@ -3,12 +3,14 @@
 
 mod acting;
 mod answering;
+mod asking;
 mod committing;
 mod did;
 mod draining;
 mod ending;
 mod engine;
 mod locking;
+mod numbering;
 mod reading;
 mod refusing;
 mod sealing;

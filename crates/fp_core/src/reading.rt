@@ -1,68 +1,32 @@
 //! IN: a line is read, and queued, held or refused.
 ghost use Rattle.balancing.specs.Backlog.{AreSame};
-ghost use Rattle.fp_core.specs.Reading.{request_for};
+ghost use Rattle.fp_core.specs.Numbering.{last_kept};
+ghost use Rattle.fp_core.specs.Reading.{IsRefused, refused_line};
 ghost use Rattle.fp_core.specs.Relation.{IsShort, IsTakeable, StandsFor, rules_in};
 ghost use Rattle.fp_core.specs.Standing.{IsCausedBySource, MayStop, Stepped, SteppedBy, number_of};
 ghost use Rattle.fp_core.specs.Turning.{did_with};
-ghost use Rattle.fp_model.specs.Asking.{script_of};
-ghost use Rattle.fp_model.specs.History.{History};
-ghost use Rattle.fp_model.specs.Lasts.{format_at};
+ghost use Rattle.fp_model.specs.Lasts.{last_by};
 ghost use Rattle.fp_model.specs.Machine.{Machine, is_among, terminal_in, with_line, with_message, with_refusal};
 ghost use Rattle.fp_model.specs.Messages.{terminal_of};
-ghost use Rattle.fp_model.specs.Product.{request_of};
 ghost use Rattle.fp_model.specs.declared.events.Event.TheVariants as events;
-ghost use Rattle.fp_model.specs.declared.log.Outcome.TheVariants as outcomes;
 ghost use Rattle.fp_source.specs.Lines.{fault_ahead, lines_ahead, lines_given, to_come};
 ghost use Rattle.fp_source.specs.Source.{ReadsOnly};
 ghost use Rattle.std.specs.List.{list_any};
-ghost use Rattle.std.specs.Prelude.{◌≡◌, ◌+◌, ◌++◌, ℕ, [], IfErr, IfNone, IfOk, IfSome, IsErrOf, IsSome, List as ListOf, None, OnErr, OnOk, Some, false, length, option_map};
+ghost use Rattle.std.specs.Prelude.{◌≡◌, ◌+◌, ◌++◌, ℕ, [], IfErr, IfOk, IsErrOf, List as ListOf, None, OnErr, OnOk, Some, false, length, option_map};
 
+use crate::asking::{Demand, demand_in};
 use crate::did::Did;
 use crate::ending::append_owed;
 use crate::engine::Engine;
+use crate::numbering::{Kept, keep};
 use crate::stepping::Core;
 use crate::stop::Stop;
 use balancing::Queues;
 use fp_exits::Router;
-use fp_messages::{MessageFault, read_message, terminal_of};
+use fp_messages::terminal_of;
 use fp_model::{Bytes, Entry, List, Message, Outcome};
 use fp_source::{Part, Source};
-use std::alloc::{AllocError, Global};
-use txn_lang::Scripts;
-
-// The format of lines: in this one no message has a number.
-const FORMAT: u8 = 1;
-
-// The message that a line is, where it names a script.
-fn message_in(alloc: Global, scripts: &Scripts, line: &Bytes) -> Result<Option<Message>, AllocError>
-    ensures request { (h : History) → format_at h.format h.entries ≡ 1
-        → IfOk result (λ found. request_of scripts.now.scripts h line.now ≡ request_for found) }
-    ensures lterm { IfOk result (λ found. IfSome found (λ message. terminal_of line.now ≡ Some message.lterm)) }
-    ensures line { IfOk result (λ found. IfSome found (λ message. message.line ≡ line.now)) }
-    ensures named { IfOk result (λ found. IfSome found (λ message.
-        IsSome (script_of scripts.now.scripts message.tran))) }
-{
-    match read_message(alloc, FORMAT, line.as_slice()) {
-        Ok(message) => Ok(with_script(scripts, message)),
-        Err(MessageFault::NoTerminal) => Ok(None),
-        Err(MessageFault::NoTran) => Ok(None),
-        Err(MessageFault::TooLong) => Ok(None),
-        Err(MessageFault::NotAscii) => Ok(None),
-        Err(MessageFault::Memory) => Err(AllocError),
-    }
-}
-
-// A message, where it names a script.
-fn with_script(scripts: &Scripts, message: Message) -> Option<Message>
-    ensures same { IfSome result (λ found. found ≡ message) }
-    ensures some { IfSome result (λ found. IsSome (script_of scripts.now.scripts message.tran)) }
-    ensures none { IfNone result (script_of scripts.now.scripts message.tran ≡ None) }
-{
-    match scripts.find(&message.tran) {
-        Some(_) => Some(message),
-        None => None,
-    }
-}
+use std::alloc::AllocError;
 
 // Makes the terminal of a line busy, where it can be read.
 fn mark(queues: &mut Queues, line: &Bytes) -> Result<(), AllocError>
@@ -90,7 +54,7 @@ impl Engine<'_> {
     // A message whose terminal is free is queued, and its terminal is busy.
     fn queue(&mut self, router: &Router, message: Message) -> Result<(), AllocError>
         requires free { is_among self.old.queues.busy message.lterm ≡ false }
-        requires takeable { IsTakeable self.old.scripts.now.scripts message }
+        requires takeable { IsTakeable self.old.format self.old.scripts.now.scripts message }
         requires routed { router.now.kind ≡ self.old.defs.now.router }
         ensures queued { (m : Machine) → StandsFor self.old m
             → OnOk result (StandsFor self.new (with_message (rules_in self.old) message m)) }
@@ -106,12 +70,20 @@ impl Engine<'_> {
         Ok(())
     }
 
-    // A line that asks for nothing is refused, and its terminal is busy, where it can be read.
-    fn refuse_line(&mut self, line: Bytes) -> Result<(), AllocError>
+    // A line that asks for nothing is refused, its terminal is busy, where it can be read, and its number is kept,
+    // where it uses one.
+    fn refuse_line(
+        &mut self,
+        line: Bytes,
+        outcome: Outcome,
+        kept: Option<Kept>,
+    ) -> Result<(), AllocError>
         requires stands { (m : Machine) × StandsFor self.old m }
         requires short { IsShort line }
+        requires refused { IsRefused outcome }
+        requires kept { option_map last_kept kept ≡ last_by self.old.format (refused_line outcome line) }
         ensures refused { (m : Machine) → StandsFor self.old m
-            → OnOk result (StandsFor self.new (with_refusal (rules_in self.old) outcomes.Unknown line m)) }
+            → OnOk result (StandsFor self.new (with_refusal (rules_in self.old) outcome line m)) }
 
         // What stays.
         ensures rules { rules_in self.new ≡ rules_in self.old }
@@ -120,17 +92,20 @@ impl Engine<'_> {
         ensures gate { self.new.log.gate ≡ self.old.log.gate }
         ensures count { length self.new.regions ≡ length self.old.regions }
     {
-        self.owed.reserve(self.regions.len() + 1)?;
+        let slots = self.regions.len() + 1;
+        self.owed.reserve(slots)?;
+        self.lasts.reserve(slots as u32)?;
         mark(&mut self.queues, &line)?;
         let entry = Entry {
             from: self.log.count(),
-            outcome: Outcome::Unknown,
+            outcome,
             line,
             reply: Bytes::new(self.alloc),
             notes: List::new(self.alloc),
             items: List::new(self.alloc),
         };
         append_owed(&mut self.log, &mut self.owed, entry, self.room)?;
+        keep(&mut self.lasts, kept);
         Ok(())
     }
 
@@ -157,13 +132,13 @@ impl Engine<'_> {
             self.held = Some(line);
             return Ok(Did::Held);
         }
-        match message_in(self.alloc, self.scripts, &line)? {
-            Some(message) => {
+        match demand_in(self.alloc, self.format, self.scripts, &self.lasts, &line)? {
+            Demand::Message(message) => {
                 self.queue(router, message)?;
                 Ok(Did::Queued)
             }
-            None => {
-                self.refuse_line(line)?;
+            Demand::Nothing { outcome, kept } => {
+                self.refuse_line(line, outcome, kept)?;
                 Ok(Did::Refused)
             }
         }

@@ -8,13 +8,14 @@ ghost use Rattle.fp_model.specs.LogText.{FitsEntry, FitsOutcome, KeepsRules};
 ghost use Rattle.fp_model.specs.Machine.{Machine, Transaction, ended_with};
 ghost use Rattle.fp_model.specs.Turns.{refused_with, tried_again};
 ghost use Rattle.fp_model.specs.declared.events.Event.TheVariants as events;
-ghost use Rattle.fp_model.specs.declared.log.Outcome.TheVariants.{Deadlock};
+ghost use Rattle.fp_model.specs.declared.log.Outcome.TheVariants.{Deadlock, Memory};
 ghost use Rattle.std.specs.Prelude.{◌≡◌, ◌≤◌, ◌<◌, ◌+◌, ◌^◌, [], IfOk, None, OnErr, OnOk, length};
-ghost use Rattle.sync_point.specs.Refusals.{IsBare, bare_entry};
+ghost use Rattle.sync_point.specs.Refusals.{bare_entry};
 
 use crate::did::Did;
 use crate::ending::append_owed;
 use crate::engine::{Active, Engine, Region};
+use crate::numbering::{Kept, keep};
 use crate::taking::start;
 use dli_calls::Work;
 use fp_model::{Bytes, Entry, List, Message, Outcome};
@@ -23,9 +24,10 @@ use std::mem::replace;
 use sync_point::refusal_room;
 use txn_machine::Program;
 
-// The entry of a transaction that is refused for what befell. Takes no memory.
-fn bare_entry(alloc: Global, active: Active, outcome: Outcome) -> Entry
-    ensures { result ≡ bare_entry active.from outcome active.message.line }
+// The entry of a transaction that is refused for want of memory, and what is kept of its number. Takes none.
+fn bare_parts(alloc: Global, active: Active) -> (Entry, Option<Kept>)
+    ensures entry { result.0 ≡ bare_entry active.from Memory active.message.line }
+    ensures kept { result.1 ≡ active.refusal }
 {
     let Active {
         from,
@@ -34,6 +36,7 @@ fn bare_entry(alloc: Global, active: Active, outcome: Outcome) -> Entry
         work: _,
         tries: _,
         ahead: _,
+        refusal,
     } = active;
     let Message {
         lterm: _,
@@ -42,14 +45,15 @@ fn bare_entry(alloc: Global, active: Active, outcome: Outcome) -> Entry
         line,
         number: _,
     } = message;
-    Entry {
+    let entry = Entry {
         from,
-        outcome,
+        outcome: Outcome::Memory,
         line,
         reply: Bytes::new(alloc),
         notes: List::new(alloc),
         items: List::new(alloc),
-    }
+    };
+    (entry, refusal)
 }
 
 // An entry has fewer notes than this.
@@ -113,6 +117,7 @@ fn begin_again(active: &mut Active, from: u64, program: Program, work: Work)
       work = work;
       tries = active.old.tries + 1;
       ahead = None;
+      refusal = active.old.refusal;
     } }
 {
     active.from = from;
@@ -123,14 +128,13 @@ fn begin_again(active: &mut Active, from: u64, program: Program, work: Work)
 }
 
 impl Engine<'_> {
-    // The active region's transaction is refused for what befell. Takes no memory.
-    fn refuse_bare(&mut self, region: u8, outcome: Outcome)
+    // The active region's transaction is refused for want of memory. Takes none.
+    fn refuse_bare(&mut self, region: u8)
         requires some { 1 ≤ region }
         requires within { region ≤ length self.old.regions }
         requires under { (m : Machine) × ((t : Transaction) × MayEnd self.old m region t) }
-        requires bare { IsBare outcome }
         ensures refused { (m : Machine) (t : Transaction) → MayEnd self.old m region t
-            → StandsFor self.new (refused_with (rules_in self.old) m region t outcome) }
+            → StandsFor self.new (refused_with (rules_in self.old) m region t Memory) }
 
         // What stays.
         ensures rules { rules_in self.new ≡ rules_in self.old }
@@ -140,11 +144,15 @@ impl Engine<'_> {
         ensures count { length self.new.regions ≡ length self.old.regions }
     {
         let room = self.room - refusal_room(&self.active_in(region).message.line);
-        let entry = match replace(self.regions.item_mut(usize::from(region) - 1), Region::Idle) {
-            Region::Active(active) => bare_entry(self.alloc, active, outcome),
+        let (entry, kept) = match replace(
+            self.regions.item_mut(usize::from(region) - 1),
+            Region::Idle,
+        ) {
+            Region::Active(active) => bare_parts(self.alloc, active),
             Region::Idle => unreachable!(),
         };
         let _ = append_owed(&mut self.log, &mut self.owed, entry, room); // there is room for it
+        keep(&mut self.lasts, kept);
         self.locks.release_all(region);
         self.room = room;
     }
@@ -164,7 +172,7 @@ impl Engine<'_> {
         ensures gate { self.new.log.gate ≡ self.old.log.gate }
         ensures count { length self.new.regions ≡ length self.old.regions }
     {
-        self.refuse_bare(region, Outcome::Memory);
+        self.refuse_bare(region);
         Did::Refused
     }
 
@@ -176,6 +184,7 @@ impl Engine<'_> {
         requires refusal { IsRefusal entry.outcome }
         requires rules { KeepsRules entry }
         requires fits { FitsEntry entry }
+        requires line { (m : Machine) (t : Transaction) → MayEnd self.old m region t → entry.line ≡ t.message.line }
         ensures ended { (m : Machine) (t : Transaction) → MayEnd self.old m region t
             → OnOk result (StandsFor self.new (ended_with region entry m.history.now m)) }
         ensures err { (m : Machine) (t : Transaction) → MayEnd self.old m region t

@@ -4,7 +4,7 @@ ghost use Rattle.fp_core.specs.Sparing.{IsLogSet, IsSealing, Spares};
 ghost use Rattle.fp_core.specs.Standing.{IsCausedBySite, IsCausedBySource, IsContinued, IsEventOf, IsUnbegun, Leaves, MayStop, Origin, StandsAt, StandsBeside, Stepped, SteppedBeside, number_of, seals_of};
 ghost use Rattle.fp_exits.specs.Kinds.{has_kind, kinds_of};
 ghost use Rattle.fp_model.specs.History.{History, place_of};
-ghost use Rattle.fp_model.specs.Lasts.{format_at};
+ghost use Rattle.fp_model.specs.Lasts.{format_at, lasts_of};
 ghost use Rattle.fp_model.specs.Machine.{Machine, at_rest};
 ghost use Rattle.fp_model.specs.Messages.{line_fault, lines_of};
 ghost use Rattle.fp_model.specs.Product.{rules_of};
@@ -18,6 +18,7 @@ ghost use Rattle.std.specs.Prelude.{◌≡◌, ◌+◌, ℕ, [], IfErr, IfOk, Is
 use crate::did::Did;
 use crate::engine::Engine;
 use crate::stop::Stop;
+use balancing::Lasts;
 use fp_exits::{Exits, Router};
 use fp_model::{Defs, Event, Kind};
 use fp_site::Site;
@@ -27,13 +28,18 @@ use msdb_store::MsdbStore;
 use std::alloc::{AllocError, Global};
 use txn_lang::Scripts;
 
-/// What a restart gives to begin with: the databases behind all entries, and the log, in which all are sealed.
+/// What a restart gives to begin with: the databases behind all entries, the log, in which all are sealed, and the last
+/// number of each terminal.
 #[derive(Drop)]
 pub struct Started {
     /// The main storage databases behind all entries of the log.
     pub msdbs: MsdbStore,
     /// The log, opened, in which no entry is unsealed.
     pub log: Log,
+    /// The format of that log.
+    pub format: u8,
+    /// The last number of each terminal in it, and the reply line that it got.
+    pub lasts: Lasts,
 }
 
 /// The interleaved system: regions that run transactions side by side, one turn after another.
@@ -73,7 +79,9 @@ impl<'a> Core<'a> {
 
         // Behind any entries that come to these databases.
         ensures stands { (lines : ListOf (ListOf ℕ)) (h : History) → h.now.msdbs ≡ started.msdbs.msdbs
-            → place_of h ≡ started.log.sealed → length h.past ≡ place_of h → format_at h.format h.entries ≡ 1
+            → place_of h ≡ started.log.sealed → length h.past ≡ place_of h
+            → format_at h.format h.entries ≡ started.format
+            → started.lasts.terminals ≡ lasts_of h.format h.entries
             → IfOk result (λ core. StandsFor core.engine (at_rest (rules_of defs.now scripts.now.scripts) lines h)) }
         ensures rules { IfOk result (λ core. rules_in core.engine ≡ rules_of defs.now scripts.now.scripts) }
         ensures defs { IfOk result (λ core. core.engine.defs.now ≡ defs.now) }

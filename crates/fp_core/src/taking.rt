@@ -1,4 +1,6 @@
 //! An idle region takes the oldest message of its group.
+ghost use Rattle.fp_core.specs.Numbering.{last_kept, last_told};
+ghost use Rattle.fp_core.specs.declared.numbering.Kept.{Kept as KeptOf};
 ghost use Rattle.fp_core.specs.Relation.{IsShort, IsTransaction, StandsFor, rules_in};
 ghost use Rattle.fp_core.specs.Turning.{Turned};
 ghost use Rattle.fp_core.specs.declared.engine.Region.TheVariants as regions;
@@ -7,15 +9,18 @@ ghost use Rattle.fp_model.specs.Machine.{Machine};
 ghost use Rattle.fp_model.specs.Product.{rules_of};
 ghost use Rattle.fp_model.specs.Serial.{begun};
 ghost use Rattle.fp_model.specs.declared.events.Event.TheVariants as events;
+ghost use Rattle.fp_model.specs.declared.log.Outcome.TheVariants.{Memory};
 ghost use Rattle.fp_model.specs.declared.scripts.Script.{Script};
-ghost use Rattle.std.specs.Prelude.{◌≡◌, ◌≤◌, ◌-◌, ◌+◌, ℕ, [], IfOk, None, OnErr, OnOk, Some, length, slice_get};
+ghost use Rattle.std.specs.Prelude.{◌≡◌, ◌≤◌, ◌-◌, ◌+◌, ℕ, [], IfOk, None, OnErr, OnOk, Option as OptionOf, Some, length, option_map, slice_get};
 ghost use Rattle.std.specs.VecDeque.{deque_capacity};
 ghost use Rattle.sync_point.specs.Refusals.{refusal_room};
 
 use crate::did::Did;
 use crate::engine::{Active, Engine, Owed, Region};
+use crate::numbering::{Kept, kept_of};
+use balancing::Lasts;
 use dli_calls::Work;
-use fp_model::{Bytes, Defs, Message};
+use fp_model::{Bytes, Defs, Message, Outcome};
 use log_groups::Log;
 use std::alloc::{AllocError, Global};
 use std::collections::VecDeque;
@@ -44,7 +49,9 @@ pub(crate) fn start(
     requires no_dedbs { defs.now.dedbs ≡ [] }
     requires named { (script : Script) × (script_of scripts.now.scripts message.now.tran ≡ Some script) }
     requires short { IsShort message.now.line }
-    ensures { (from tries : ℕ) → IfOk result (λ made. IsTransaction defs.now scripts.now.scripts
+    ensures { (from tries : ℕ) (refusal : OptionOf KeptOf)
+        → option_map last_kept refusal ≡ last_told message.now Memory []
+        → IfOk result (λ made. IsTransaction defs.now scripts.now.scripts
         (record {
           from = from;
           message = message.now;
@@ -52,6 +59,7 @@ pub(crate) fn start(
           work = made.1;
           tries = tries;
           ahead = None;
+          refusal = refusal;
         })
         (record {
           from = from;
@@ -69,14 +77,25 @@ pub(crate) fn start(
     Ok((program, work))
 }
 
-// The same, and the room with that of its refusal.
+// What a transaction begins with.
+#[derive(Drop)]
+struct Begun {
+    program: Program,
+    work: Work,
+    // What is kept of its number where it is refused for want of memory.
+    refusal: Option<Kept>,
+    // The room of refusals, with that of its own.
+    room: u64,
+}
+
+// A script at its beginning, and what its refusal takes.
 fn begin(
     alloc: Global,
     defs: &Defs,
     scripts: &Scripts,
     message: &Message,
     room: u64,
-) -> Result<(Program, Work, u64), AllocError>
+) -> Result<Begun, AllocError>
     requires no_dedbs { defs.now.dedbs ≡ [] }
     requires named { (script : Script) × (script_of scripts.now.scripts message.now.tran ≡ Some script) }
     requires short { IsShort message.now.line }
@@ -84,10 +103,11 @@ fn begin(
         (record {
           from = from;
           message = message.now;
-          program = made.0;
-          work = made.1;
+          program = made.program;
+          work = made.work;
           tries = 0;
           ahead = None;
+          refusal = made.refusal;
         })
         (record {
           from = from;
@@ -97,22 +117,31 @@ fn begin(
               [];
           tries = 0;
         })) }
-    ensures room { IfOk result (λ made. made.2 ≡ room + refusal_room message.now.line) }
+    ensures room { IfOk result (λ made. made.room ≡ room + refusal_room message.now.line) }
 {
     let room = room_with(room, &message.line)?;
+    let refusal = kept_of(alloc, message, &Outcome::Memory, &[])?;
     let (program, work) = start(alloc, defs, scripts, message)?;
-    Ok((program, work, room))
+    Ok(Begun {
+        program,
+        work,
+        refusal,
+        room,
+    })
 }
 
-// Makes room in the log for entries of so many bytes, and for so many more that are owed.
+// Makes room in the log for entries of so many bytes, for so many more that are owed, and for so many numbers.
 fn make_room(
     log: &mut Log,
     owed: &mut VecDeque<Owed>,
+    lasts: &mut Lasts,
     room: u64,
     slots: usize,
 ) -> Result<(), AllocError>
+    requires few { slots ≤ 64 }
     ensures room { OnOk result (room ≤ log.new.spare) }
     ensures slots { OnOk result (length owed.new.items + slots ≤ deque_capacity owed.new) }
+    ensures places { OnOk result (slots ≤ lasts.new.spare) }
 
     // What stays.
     ensures log { log.new ≡ record log.old { spare = log.new.spare } }
@@ -120,8 +149,11 @@ fn make_room(
     ensures spare { log.old.spare ≤ log.new.spare }
     ensures owed { owed.new.items ≡ owed.old.items }
     ensures capacity { deque_capacity owed.old ≤ deque_capacity owed.new }
+    ensures lasts { lasts.new.terminals ≡ lasts.old.terminals }
+    ensures numbers { lasts.old.spare ≤ lasts.new.spare }
 {
     owed.reserve(slots)?;
+    lasts.reserve(slots as u32)?;
     log.reserve(room)
 }
 
@@ -155,11 +187,23 @@ impl Engine<'_> {
         let place = usize::from(region) - 1;
         let group = self.group_of(region);
         let from = self.log.count();
-        let (program, work, room) = match self.queues.oldest(group) {
+        let begun = match self.queues.oldest(group) {
             Option::None => return Ok(Did::Nothing),
             Some(message) => begin(self.alloc, self.defs, self.scripts, message, self.room)?,
         };
-        make_room(&mut self.log, &mut self.owed, room, self.regions.len())?;
+        let Begun {
+            program,
+            work,
+            refusal,
+            room,
+        } = begun;
+        make_room(
+            &mut self.log,
+            &mut self.owed,
+            &mut self.lasts,
+            room,
+            self.regions.len(),
+        )?;
         let Some(message) = self.queues.take(group) else {
             unreachable!()
         };
@@ -171,6 +215,7 @@ impl Engine<'_> {
             work,
             tries: 0,
             ahead: Option::None,
+            refusal,
         });
         Ok(Did::Took)
     }

@@ -8,3 +8,4 @@ pub mod Results
 mod NoDedbs
 pub mod Firsts
 mod Intervals
+pub mod NumbersBehind

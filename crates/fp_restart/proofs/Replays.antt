@@ -15,7 +15,9 @@ use Rattle.fp_model.specs.declared.log.Item.TheVariants.{Segment, Image, Range}
 use Rattle.fp_model.specs.declared.scripts.Script.{Script}
 use Rattle.fp_model.specs.Groups.{HoldsGroups, IsDamaged, IsGroup, entries_of}
 use Rattle.fp_model.specs.Items.{AreFit, IsFit, with_item, with_items, items_of}
-use Rattle.fp_model.specs.LogText.{Front, StartsWithFront, first_gate, group_text, groups_text}
+use Rattle.balancing.specs.Numbered.{Numbered}
+use Rattle.fp_model.specs.Lasts.{format_at, lasts_behind, lasts_of}
+use Rattle.fp_model.specs.LogText.{Front, IsFormat, StartsWithFront, first_gate, group_text, groups_text}
 use Rattle.fp_model.specs.Product.{rules_of}
 use Rattle.fp_model.specs.History.{History, beginning}
 use Rattle.fp_model.specs.SerialHistory.{IsSerialHistory}
@@ -30,10 +32,12 @@ use Rattle.log_groups.specs.Log.{LogState}
 use Rattle.msdb_store.specs.Store.{IsFitSegment, IsOf, Stored}
 use Rattle.fp_restart.specs.Begun.{IsBegunBy}
 use Rattle.fp_restart.specs.declared.begun.Begun.{Begun}
-use Rattle.fp_restart.specs.Replayed.{IsFirstBadAt, IsFollowed, IsReadable, IsReplayed, IsTaken, ReadsBack}
+use Rattle.fp_restart.specs.Replayed.{HoldsFit, IsFirstBadAt, IsFollowed, IsReadable, IsReplayed, IsTaken, Progress, ReadsBack, way_to}
+use Rattle.fp_restart.specs.declared.numbers.Numbers.{Numbers}
 use Rattle.fp_restart.specs.Restarts.{HasUnfit, IsBadAt, StandsFor}
 use Rattle.fp_restart.proofs.Firsts.{fit-front, fit-nothing}
 use Rattle.fp_restart.proofs.Fits.{entries-append, entries-more, items-append}
+use Rattle.fp_restart.proofs.NumbersBehind.{format_both, lasts_both}
 use Rattle.fp_restart.proofs.Groups.{GoesFurther, group_opens, groups-cons, one_goes_further, same_reading}
 
 -- fit items are fit for the store
@@ -46,26 +50,41 @@ fit_segments defs (Range set ci at bytes ∷ items) all = (tt, fit_segments defs
 
 -- ---- group by group
 
+-- how far a log was read, with the numbers so far
+abbrev pub way_of : ℕ → ℕ → ℕ → ℕ → Numbers → Progress
+way_of first format at count numbers = record {
+  first = first;
+  at = at;
+  count = count;
+  first_format = format;
+  format = numbers.format;
+  lasts = numbers.lasts.terminals;
+}
+
 module _ (defs : Defs) (log : List ℕ) where
   -- nothing is read yet
-  pub followed_none : (first : ℕ) (begun : Begun) (before : List Msdb) → IsBegunBy begun []
-      → IsFollowed defs log (record { first = first; at = first; count = 0 }) begun before before
-  followed_none first begun before none = record {
+  pub followed_none : (first : ℕ) (begun : Begun) (numbers : Numbers) (before : List Msdb) → IsBegunBy begun []
+      → numbers.lasts.terminals ≡ []
+      → IsFollowed defs log (way_of first numbers.format first 0 numbers) begun before before
+  followed_none first begun numbers before none no_number = record {
     replayed = record {
       groups = [];
       holds = record { holds = record { each = tt; next = omega arith; text = refl }; fit = fit-nothing defs };
       count = refl;
+      format = refl;
+      lasts = no_number;
       msdbs = refl;
     };
     intervals = none;
   }
 
   -- a group more
-  pub followed_more : (first at next count more : ℕ) (old new : Begun) (before mid now : List Msdb)
-      → (so_far : IsFollowed defs log (record { first = first; at = at; count = count }) old before mid)
-      → IsTaken defs log (entries_of so_far.replayed.groups) at next more new mid now
-      → IsFollowed defs log (record { first = first; at = next; count = count + more }) new before now
-  followed_more first at next count more old new before mid now so_far taken =
+  pub followed_more : (first format at next count more : ℕ) (old new : Begun) (numbers numbers2 : Numbers)
+      (before mid now : List Msdb)
+      → (so_far : IsFollowed defs log (way_of first format at count numbers) old before mid)
+      → IsTaken defs log (entries_of so_far.replayed.groups) at next more new numbers numbers2 mid now
+      → IsFollowed defs log (way_of first format next (count + more) numbers2) new before now
+  followed_more first format at next count more old new numbers numbers2 before mid now so_far taken =
       let gs = so_far.replayed.groups in
       let es = taken.entries in
       let all : entries_of (gs ++ es ∷ []) ≡ entries_of gs ++ es = entries-more gs es in
@@ -79,11 +98,40 @@ module _ (defs : Defs) (log : List ℕ) where
             fit = subst (AreFit defs) (sym items) taken.fit;
           };
           count = omega (arith, so_far.replayed.count, taken.count_is, ap length all, length-append (entries_of gs) es);
+          format =
+              taken.numbers.format ∙ ap (λ f. format_at f es) so_far.replayed.format
+              ∙ sym (format_both format (entries_of gs) es) ∙ ap (format_at format) (sym all);
+          lasts =
+              taken.numbers.lasts
+              ∙ ap (λ ls. lasts_behind numbers.format es ls) so_far.replayed.lasts
+              ∙ ap (λ f. lasts_behind f es (lasts_of format (entries_of gs))) so_far.replayed.format
+              ∙ sym (lasts_both format (entries_of gs) es []) ∙ ap (lasts_of format) (sym all);
           msdbs = taken.msdbs ∙ ap (λ ms. with_items defs.msdbs ms (items_of es)) so_far.replayed.msdbs
               ∙ sym (fold-append (with_item defs.msdbs) before (items_of (entries_of gs)) (items_of es))
               ∙ ap (with_items defs.msdbs before) (sym items);
         };
         intervals = subst (IsBegunBy new) (sym items) taken.intervals;
+      }
+
+  -- a log that is told where it ends says the same
+  pub ended_at : (first format at count : ℕ) (numbers numbers2 : Numbers) (l : LogState) (before : List Msdb)
+      (store store2 : Stored) → IsReplayed defs log (way_of first format at count numbers) before store.msdbs
+      → l.gate ≡ at → l.sealed ≡ count → l.front_format ≡ format → l.format ≡ numbers2.format
+      → numbers2 ≡ numbers → store2 ≡ store
+      → IsReplayed defs log (way_to first l numbers2.lasts) before store2.msdbs
+  ended_at first format at count numbers numbers2 l before store store2 it gate sealed front_format last_format same
+      kept =
+      record {
+        groups = it.groups;
+        holds = subst (λ n. HoldsFit defs log first n it.groups) (sym gate) it.holds;
+        count = sealed ∙ it.count;
+        format =
+            last_format ∙ ap (λ n. n.format) same ∙ it.format
+            ∙ ap (λ f. format_at f (entries_of it.groups)) (sym front_format);
+        lasts =
+            ap (λ n. n.lasts.terminals) same ∙ it.lasts
+            ∙ ap (λ f. lasts_of f (entries_of it.groups)) (sym front_format);
+        msdbs = ap (λ s. s.msdbs) kept ∙ it.msdbs;
       }
 
   -- groups behind others: the next one has items that may be applied behind those
@@ -184,12 +232,12 @@ module _ (defs : Defs) (scripts : List Script) (front : Front) (log : List ℕ) 
   sound_not_bad at it = readable_not_bad defs log (first_gate front) at sound_readable it
 
   -- what was read of it to its end stands for it
-  pub sound_stands : (disk : Disk) (store : Stored) (l : LogState) → IsDurable disk 0 → disk.contents 0 ≡ log
-      → IsOf defs.msdbs store → l.unsealed ≡ []
-      → IsReplayed defs log (record { first = first_gate front; at = l.gate; count = l.sealed }) (start defs).msdbs
-      store.msdbs → slice_index log l.gate ≢ 1
-      → StandsFor defs scripts front disk entries store l
-  sound_stands disk store l durable now of unsealed replayed closed =
+  pub sound_stands : (disk : Disk) (store : Stored) (l : LogState) (lasts : Numbered) → IsDurable disk 0
+      → disk.contents 0 ≡ log → IsOf defs.msdbs store → l.unsealed ≡ [] → l.front_format ≡ front.format
+      → IsReplayed defs log (way_to (first_gate front) l lasts) (start defs).msdbs store.msdbs
+      → slice_index log l.gate ≢ 1
+      → StandsFor defs scripts front disk entries store l lasts
+  sound_stands disk store l lasts durable now of unsealed front_format replayed closed =
       let same = same_reading log (first_gate front) replayed.groups sound.groups l.gate sound.gate
       (replayed.holds.holds, closed) sound.holds.reads in
       let all : entries ≡ entries_of replayed.groups = sound.all ∙ ap entries_of (sym same.0) in
@@ -201,6 +249,13 @@ module _ (defs : Defs) (scripts : List Script) (front : Front) (log : List ℕ) 
             history.ends);
         sealed = replayed.count ∙ ap length (sym all);
         unsealed = unsealed;
+        front_format = front_format;
+        format =
+            replayed.format ∙ ap (λ f. format_at f (entries_of replayed.groups)) front_format
+            ∙ ap (format_at front.format) (sym all);
+        lasts =
+            replayed.lasts ∙ ap (λ f. lasts_of f (entries_of replayed.groups)) front_format
+            ∙ ap (lasts_of front.format) (sym all);
         groups = replayed.groups;
         all = all;
         at_rest = record {
@@ -220,27 +275,29 @@ module _ (defs : Defs) (scripts : List Script) (front : Front) (log : List ℕ) 
 
 -- ---- of any log that can be read
 
-module _ (defs : Defs) (front : Front) (log : List ℕ) (disk : Disk) (store : Stored) (l : LogState) where
-  -- what was read stands on the disk
-  pub reads_back : IsDurable disk 0 → disk.contents 0 ≡ log → StartsWithFront log front → l.unsealed ≡ []
-      → IsReplayed defs log (record { first = first_gate front; at = l.gate; count = l.sealed }) (start defs).msdbs
-      store.msdbs → slice_index log l.gate ≢ 1
-      → ReadsBack defs front disk store l
-  reads_back durable now begins unsealed replayed closed = record {
-    durable = durable;
-    begins = subst (λ bytes. StartsWithFront bytes front) (sym now) begins;
-    replayed = subst (λ bytes. IsReplayed defs bytes
-        (record { first = first_gate front; at = l.gate; count = l.sealed }) (start defs).msdbs store.msdbs) (sym now)
-        replayed;
-    closed = subst (λ bytes. slice_index bytes l.gate ≢ 1) (sym now) closed;
-    unsealed = unsealed;
-  }
+module _ (defs : Defs) (front : Front) (log : List ℕ) (disk : Disk) (store : Stored) (l : LogState) (lasts : Numbered)
+  where
+    -- what was read stands on the disk
+    pub reads_back : IsDurable disk 0 → disk.contents 0 ≡ log → StartsWithFront log front → l.unsealed ≡ []
+        → l.front_format ≡ front.format
+        → IsReplayed defs log (way_to (first_gate front) l lasts) (start defs).msdbs store.msdbs
+        → slice_index log l.gate ≢ 1
+        → ReadsBack defs front disk store l lasts
+    reads_back durable now begins unsealed front_format replayed closed = record {
+      durable = durable;
+      begins = subst (λ bytes. StartsWithFront bytes front) (sym now) begins;
+      front_format = front_format;
+      replayed = subst (λ bytes. IsReplayed defs bytes (way_to (first_gate front) l lasts) (start defs).msdbs store.msdbs)
+          (sym now) replayed;
+      closed = subst (λ bytes. slice_index bytes l.gate ≢ 1) (sym now) closed;
+      unsealed = unsealed;
+    }
 
 -- where the gate that isn't open is there, the log is at rest
-pub read_at_rest : (defs : Defs) (front : Front) (disk : Disk) (store : Stored) (l : LogState)
-    → (it : ReadsBack defs front disk store l) → l.gate < length (disk.contents 0)
+pub read_at_rest : (defs : Defs) (front : Front) (disk : Disk) (store : Stored) (l : LogState) (lasts : Numbered)
+    → (it : ReadsBack defs front disk store l lasts) → l.gate < length (disk.contents 0)
     → IsAtRest disk front it.replayed.groups l.gate
-read_at_rest defs front disk store l it stands = record {
+read_at_rest defs front disk store l lasts it stands = record {
   durable = it.durable;
   log = record {
     holds = record { begins = it.begins; reads = (it.replayed.holds.holds, it.closed) };
@@ -249,20 +306,21 @@ read_at_rest defs front disk store l it stands = record {
 }
 
 -- and also where it is absent the log is kept
-pub read_kept : (defs : Defs) (front : Front) (disk : Disk) (store : Stored) (l : LogState)
-    → (it : ReadsBack defs front disk store l) → IsKept disk front it.replayed.groups l.gate
-read_kept defs front disk store l it = record {
+pub read_kept : (defs : Defs) (front : Front) (disk : Disk) (store : Stored) (l : LogState) (lasts : Numbered)
+    → (it : ReadsBack defs front disk store l lasts) → IsKept disk front it.replayed.groups l.gate
+read_kept defs front disk store l lasts it = record {
   durable = it.durable;
   holds = record { begins = it.begins; reads = (it.replayed.holds.holds, it.closed) };
 }
 
 -- ---- of a new log
 
-module _ (defs : Defs) (scripts : List Script) (front : Front) (disk : Disk)
+module _ (defs : Defs) (scripts : List Script) (front : Front) (is_format : IsFormat front.format) (disk : Disk)
     (rest : IsAtRest disk front [] (first_gate front)) where
   -- a log without groups is sound
   new_sound : IsSound defs scripts front (disk.contents 0) []
   new_sound = record {
+    is_format = is_format;
     groups = [];
     gate = first_gate front;
     holds = rest.log.holds;
@@ -270,7 +328,6 @@ module _ (defs : Defs) (scripts : List Script) (front : Front) (disk : Disk)
     all = refl;
     last = start defs;
     history = record { history = beginning front.format (start defs); leads = refl; ends = refl };
-    still = refl;
     fit = fit-nothing defs;
     made = refl;
   }

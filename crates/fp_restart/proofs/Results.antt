@@ -20,10 +20,11 @@ pub of_four : {X E : Type 0} (r : Result X E) (A B C D Q : X → Type 0) → ((x
 of_four (Ok x) A B C D Q f a b c d = f x a b c d
 of_four (Err e) A B C D Q f a b c d = tt
 
--- what is so of a good answer is so of its value
-pub as_each : {X E : Type 0} (r : Result X E) (P : Type 0) → OnOk r P → IfOk r (λ x. P)
-as_each (Ok x) P p = p
-as_each (Err e) P p = tt
+-- and five
+pub of_five : {X E : Type 0} (r : Result X E) (A B C D E2 Q : X → Type 0)
+    → ((x : X) → A x → B x → C x → D x → E2 x → Q x) → IfOk r A → IfOk r B → IfOk r C → IfOk r D → IfOk r E2 → IfOk r Q
+of_five (Ok x) A B C D E2 Q f a b c d e = f x a b c d e
+of_five (Err bad) A B C D E2 Q f a b c d e = tt
 
 -- a log that is bad at a place has no answer but that, or a fault
 pub damage_or : {X : Type 0} (r : Result X RestartFault) (defs : Defs) (log : List ℕ) (first at : ℕ)

@@ -2,3 +2,4 @@ pub mod Begun
 pub mod Restarts
 pub mod Replayed
 pub mod Faults
+pub mod Numbers

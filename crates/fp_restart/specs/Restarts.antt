@@ -1,5 +1,6 @@
 -- What a restart gives, and when the log is damaged.
 use Rattle.std.specs.Prelude.{◌≡◌, ◌⊎◌, ⊤, ℕ, List, [], ◌++◌, length, Result, Ok, Err}
+use Rattle.balancing.specs.Numbered.{Numbered}
 use Rattle.fp_site.specs.Disk.{Disk}
 use Rattle.fp_model.specs.declared.definitions.Defs.{Defs}
 use Rattle.fp_model.specs.declared.database.Db.{Db}
@@ -8,6 +9,7 @@ use Rattle.fp_model.specs.declared.scripts.Script.{Script}
 use Rattle.fp_model.specs.Groups.{IsDamaged, entries_of}
 use Rattle.fp_model.specs.SerialHistory.{IsSerialHistory}
 use Rattle.fp_model.specs.Items.{AreFit, items_of}
+use Rattle.fp_model.specs.Lasts.{format_at, lasts_of}
 use Rattle.fp_model.specs.LogText.{Front}
 use Rattle.fp_model.specs.Product.{rules_of}
 use Rattle.log_groups.specs.Images.{IsAtRest}
@@ -17,15 +19,19 @@ use Rattle.msdb_store.specs.Store.{Stored, IsOf}
 use Rattle.fp_restart.specs.declared.fault.RestartFault.{RestartFault}
 use Rattle.fp_restart.specs.declared.fault.RestartFault.TheVariants as fault
 
--- The store and the open log stand for these entries: the store has the segments of the state behind them, all of them
--- are sealed, and the log on the disk is at rest and holds them.
+-- The store, the open log and the numbers stand for these entries: the store has the segments of the state behind them,
+-- all of them are sealed, the log on the disk is at rest and holds them, and behind them the format and the last number
+-- of each terminal are these.
 pub record StandsFor (defs : Defs) (scripts : List Script) (front : Front) (disk : Disk) (entries : List Entry)
-    (store : Stored) (log : LogState) : Type 0 where
+    (store : Stored) (log : LogState) (numbers : Numbered) : Type 0 where
   pub of : IsOf defs.msdbs store
   pub segments : (last : Db) → IsSerialHistory (rules_of defs scripts) front.format entries last
       → store.msdbs ≡ last.msdbs
   pub sealed : log.sealed ≡ length entries
   pub unsealed : log.unsealed ≡ []
+  pub front_format : log.front_format ≡ front.format
+  pub format : log.format ≡ format_at front.format entries
+  pub lasts : numbers.terminals ≡ lasts_of front.format entries
   pub groups : List (List Entry)
   pub all : entries ≡ entries_of groups
   pub at_rest : IsAtRest disk front groups log.gate

@@ -1,17 +1,16 @@
 //! Reading the groups of a log, and putting their segments.
 ghost use Rattle.fp_model.specs.Groups.{Groups, Reads};
 ghost use Rattle.fp_model.specs.Items.{AreFit, with_items, items_of};
-ghost use Rattle.fp_model.specs.Recovery.{Holds};
 ghost use Rattle.fp_model.specs.State.{start};
-ghost use Rattle.fp_model.specs.LogText.{FitsFront, StartsWithFront, first_gate};
+ghost use Rattle.fp_model.specs.LogText.{FitsFront, IsFormat, StartsWithFront, first_gate};
 ghost use Rattle.fp_model.specs.WellFormed.{IsMsdbDef};
 ghost use Rattle.fp_model.specs.declared.log.Entry.{Entry as EntryOf};
 ghost use Rattle.fp_restart.specs.Begun.{IsBegunBy};
-ghost use Rattle.fp_restart.specs.Replayed.{IsFirstBadAt, IsReadable, IsReplayed, IsTaken};
+ghost use Rattle.fp_restart.specs.Replayed.{AreOfSome, HasNumbersOfSome, IsFirstBadAt, IsReadable, IsReplayed, IsTaken, way_to};
 ghost use Rattle.fp_restart.specs.Restarts.{IsBadAt};
 ghost use Rattle.fp_restart.specs.declared.fault.RestartFault.TheVariants as faults;
 ghost use Rattle.fp_site.specs.Disk.{Stays};
-ghost use Rattle.log_groups.specs.Images.{as_front};
+ghost use Rattle.log_groups.specs.Images.{BeginsFor, as_front, in_format};
 ghost use Rattle.log_groups.specs.Reads.{HasGroup, ReadsOnlyLog};
 ghost use Rattle.fp_model.specs.declared.definitions.MsdbDef.{MsdbDef as DefOf};
 ghost use Rattle.msdb_store.specs.Store.{IsFitSegment, IsOf};
@@ -21,7 +20,9 @@ ghost use Rattle.std.specs.Prelude.{◌≡◌, ◌≢◌, ◌⊎◌, ◌+◌, �
 use crate::RestartFault;
 use crate::begun::Begun;
 use crate::fitting::are_fit;
+use crate::numbers::Numbers;
 use crate::restarting::Parts;
+use balancing::Lasts;
 use fp_model::{Defs, Entry};
 use fp_site::Site;
 use log_groups::{Front, Group, Log};
@@ -50,24 +51,25 @@ pub(crate) fn read_parts<T: Site>(
 
     // The groups up to the first gate that isn't open are put.
     ensures replayed { T.told site.old → IfOk result (λ parts. IsReplayed defs.now ((T.disk site.old).contents 0)
-        (record { first = first_gate (as_front front.now); at = parts.1.gate; count = parts.1.sealed })
-        (start defs.now).msdbs parts.0.msdbs) }
+        (way_to (first_gate (as_front front.now)) parts.1 parts.2) (start defs.now).msdbs parts.0.msdbs) }
     ensures closed { T.told site.old → IfOk result (λ parts. slice_index ((T.disk site.old).contents 0) parts.1.gate ≢
         1) }
     ensures readable { T.told site.old → OnOk result
         (IsReadable defs.now ((T.disk site.old).contents 0) (first_gate (as_front front.now))) }
     ensures unsealed { IfOk result (λ parts. parts.1.unsealed ≡ []) }
+    ensures some { IfOk result (λ parts. AreOfSome parts.1 parts.2) }
     ensures of { IfOk result (λ parts. IsOf defs.now.msdbs parts.0) }
 
     // When each refusal comes.
-    ensures front { T.told site.old → OnOk result (StartsWithFront ((T.disk site.old).contents 0)
-        (as_front front.now)) }
+    ensures is_format { IfOk result (λ parts. IsFormat parts.1.front_format) }
+    ensures front { T.told site.old → IfOk result (λ parts. StartsWithFront ((T.disk site.old).contents 0)
+        (in_format parts.1.front_format (as_front front.now))) }
     ensures foreign { T.told site.old → IsErrOf result faults.Foreign
-        → StartsWithFront ((T.disk site.old).contents 0) (as_front front.now) → ⊥ }
+        → BeginsFor (as_front front.now) ((T.disk site.old).contents 0) → ⊥ }
     ensures damaged { (set at : ℕ) → T.told site.old → IsErrOf result (faults.Damaged set at) →
         (set ≡ 0) × IsFirstBadAt defs.now ((T.disk site.old).contents 0) (first_gate (as_front front.now)) at }
     ensures begun { (set at : ℕ) → T.told site.old → IsErrOf result (faults.Damaged set at)
-        → StartsWithFront ((T.disk site.old).contents 0) (as_front front.now) }
+        → BeginsFor (as_front front.now) ((T.disk site.old).contents 0) }
     ensures cause { IsErrOf result faults.SiteFault → (T.faults site.old < T.faults site.new)
         ⊎ (T.faults site.new ≡ 2 ^ 64 - 1) }
     ensures later { T.faults site.old ≤ T.faults site.new }
@@ -76,11 +78,11 @@ pub(crate) fn read_parts<T: Site>(
     // Nothing changes. Of a log with groups up to a closed gate the front, these and that gate are read at most, each
     // byte once; of any log no more than each of its bytes, and one past its end.
     ensures read { (groups : ListOf (ListOf EntryOf)) (gate : ℕ) → T.told site.old
-        → Holds (as_front front.now) ((T.disk site.old).contents 0) groups gate → T.tells_reads site.new 0
-        → T.bytes_read site.new 0 ≤ T.bytes_read site.old 0 + gate + 1 }
+        → Reads ((T.disk site.old).contents 0) (first_gate (as_front front.now)) (Groups groups gate)
+        → T.tells_reads site.new 0 → T.bytes_read site.new 0 ≤ T.bytes_read site.old 0 + gate + 1 }
     ensures exact { T.tells_reads site.new 0 → IfOk result
         (λ parts. T.bytes_read site.new 0 ≡ T.bytes_read site.old 0 + parts.1.gate + 1) }
-    ensures no_front { T.told site.old → (StartsWithFront ((T.disk site.old).contents 0) (as_front front.now) → ⊥)
+    ensures no_front { T.told site.old → (BeginsFor (as_front front.now) ((T.disk site.old).contents 0) → ⊥)
         → T.tells_reads site.new 0
         → T.bytes_read site.new 0 ≤ T.bytes_read site.old 0 + first_gate (as_front front.now) }
     ensures once { T.told site.old → T.tells_reads site.new 0
@@ -94,23 +96,26 @@ pub(crate) fn read_parts<T: Site>(
 {
     let mut log = Log::open(alloc, site, front)?;
     let mut store = MsdbStore::start(alloc, defs)?;
-    replay(alloc, defs, site, &mut log, &mut store)?;
-    Ok((store, log))
+    let lasts = replay(alloc, defs, site, &mut log, &mut store)?;
+    Ok((store, log, lasts))
 }
 
-// Reads the groups behind a log's gate, puts their segments, and tells the log where it ends.
+// Reads the groups behind a log's gate, puts their segments, and tells the log where it ends. It gives the last number
+// of each terminal.
 fn replay<T: Site>(
     alloc: Global,
     defs: &Defs,
     site: &mut T,
     log: &mut Log,
     store: &mut MsdbStore,
-) -> Result<(), RestartFault>
+) -> Result<Lasts, RestartFault>
     requires of { IsOf defs.now.msdbs store.old }
     requires unsealed { log.old.unsealed ≡ [] }
     requires gate { log.old.gate ≤ 2 ^ 62 }
-    ensures replayed { T.told site.old → OnOk result (IsReplayed defs.now ((T.disk site.old).contents 0)
-        (record { first = log.old.gate; at = log.new.gate; count = log.new.sealed }) store.old.msdbs store.new.msdbs) }
+    ensures replayed { T.told site.old → IfOk result (λ lasts. IsReplayed defs.now ((T.disk site.old).contents 0)
+        (way_to log.old.gate log.new lasts) store.old.msdbs store.new.msdbs) }
+    ensures front_format { OnOk result (log.new.front_format ≡ log.old.front_format) }
+    ensures some { IfOk result (λ lasts. AreOfSome log.new lasts) }
     ensures closed { T.told site.old → OnOk result (slice_index ((T.disk site.old).contents 0) log.new.gate ≢ 1) }
     ensures unsealed { OnOk result (log.new.unsealed ≡ []) }
     ensures of { OnOk result (IsOf defs.now.msdbs store.new) }
@@ -138,25 +143,29 @@ fn replay<T: Site>(
     ensures keeps { (first : T) → T.keeps first site.old → T.keeps first site.new }
 {
     let mut begun = Begun::new(alloc);
+    let mut numbers = Numbers::new(alloc, log.front_format())?;
     let mut at = log.gate();
     let mut count = 0;
     loop {
-        let Some(taken) = take_group(defs, site, log, &mut begun, store, at)? else {
-            log.end_at(at, count);
-            return Ok(());
+        let Some(taken) = take_group(alloc, defs, site, log, &mut begun, &mut numbers, store, at)?
+        else {
+            log.end_at(at, count, numbers.format);
+            return Ok(numbers.lasts);
         };
         at = taken.next;
         count += taken.count;
     }
 }
 
-// Reads the group behind the gate at this place, and puts its segments; the intervals begun are those of the entries
-// so far. None where that gate isn't open.
+// Reads the group behind the gate at this place, puts its segments, and adds its numbers; the intervals begun are those
+// of the entries so far. None where that gate isn't open.
 fn take_group<T: Site>(
+    alloc: Global,
     defs: &Defs,
     site: &mut T,
     log: &mut Log,
     begun: &mut Begun,
+    numbers: &mut Numbers,
     store: &mut MsdbStore,
     at: u64,
 ) -> Result<Option<Taken>, RestartFault>
@@ -164,12 +173,15 @@ fn take_group<T: Site>(
     ensures taken { (earlier : ListOf EntryOf) → IsBegunBy begun.old (items_of earlier)
         → AreFit defs.now (items_of earlier)
         → T.told site.old → IfOk result (λ found. IfSome found (λ taken. IsTaken defs.now ((T.disk site.old).contents 0)
-        earlier at taken.next taken.count begun.new store.old.msdbs store.new.msdbs)) }
+        earlier at taken.next taken.count begun.new numbers.old numbers.new store.old.msdbs store.new.msdbs)) }
     ensures goes_on { IfOk result (λ found. IfSome found
         (λ taken. (at < taken.next) × (taken.next ≤ 2 ^ 62) × (at + taken.count ≤ taken.next))) }
     ensures closed { T.told site.old → IfOk result (λ found. IfNone found
         (slice_index ((T.disk site.old).contents 0) at ≢ 1)) }
     ensures none { IfOk result (λ found. IfNone found (store.new ≡ store.old)) }
+    ensures some { IfOk result (λ found. IfSome found
+        (λ taken. HasNumbersOfSome taken.count numbers.old numbers.new)) }
+    ensures no_more { IfOk result (λ found. IfNone found (numbers.new ≡ numbers.old)) }
     ensures of { OnOk result (IsOf defs.now.msdbs store.new) }
     ensures damaged { (earlier : ListOf EntryOf) → IsBegunBy begun.old (items_of earlier)
         → AreFit defs.now (items_of earlier)
@@ -213,6 +225,7 @@ fn take_group<T: Site>(
         return Err(RestartFault::Damaged { set: 0, at });
     }
     put_entries(store, group.entries.as_slice())?;
+    numbers.add(alloc, group.entries.as_slice())?;
     Ok(Some(Taken {
         next: group.next,
         count: group.entries.len() as u64,

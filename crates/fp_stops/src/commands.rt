@@ -69,11 +69,11 @@ fn refused(
 }
 
 // Answers of a run, with what is said of each and its number.
-const ANSWERS: [(Status, &str); 12] = [
+const ANSWERS: [(Status, &str); 13] = [
     (Status::Done, "|0"),
     (
         Status::Usage,
-        "usage: ims_fp define DIR | run DIR | show DIR | log DIR|1",
+        "usage: ims_fp define DIR | run DIR | show DIR | log DIR | migrate DIR|1",
     ),
     (
         Status::Schedule(ScheduleFault::BadToken(3)),
@@ -100,6 +100,7 @@ const ANSWERS: [(Status, &str); 12] = [
         Status::NotBuilt(Part::Definitions),
         "not built: definitions|11",
     ),
+    (Status::OldFormat, "old format|12"),
 ];
 
 #[test]
@@ -192,7 +193,7 @@ fn words_in_no_form_are_usage(rt: HostRuntime) -> Result<(), Fail> {
         let (said, same) = refused(rt.alloc(), form, GOOD, "", "")?;
         assert_eq!(rt;
             said.as_str(),
-            "usage: ims_fp define DIR | run DIR | show DIR | log DIR|1",
+            "usage: ims_fp define DIR | run DIR | show DIR | log DIR | migrate DIR|1",
             "at {form:?}"
         );
         assert!(rt; same);

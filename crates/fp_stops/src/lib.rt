@@ -6,6 +6,8 @@ mod commands;
 #[cfg(test)]
 mod logs;
 #[cfg(test)]
+mod numbers;
+#[cfg(test)]
 mod restarts;
 #[cfg(test)]
 mod runs;

@@ -241,7 +241,7 @@ impl InUse {
         let front = front(alloc)?;
         Log::make(alloc, &mut site, &front)?;
         let mut log = Log::open(alloc, &mut site, &front)?;
-        log.end_at(18, 0);
+        log.end_at(18, 0, 1);
         Ok(InUse {
             site,
             log,

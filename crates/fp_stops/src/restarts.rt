@@ -285,7 +285,7 @@ fn go_on(alloc: Global, defs: &Defs, site: &mut MemorySite) -> Result<(), Restar
     requires text { length defs.now.text < 2 ^ 32 }
 {
     let front = front(alloc, defs, b'S')?;
-    let (_, mut log) = restart(alloc, defs, &front, site)?;
+    let (_, mut log, _) = restart(alloc, defs, &front, site)?;
     let item = segment(alloc, 0, b"B002", b"B002shut")?;
     seal(alloc, &mut log, site, item)
 }

@@ -7,7 +7,7 @@ use fp_system::Status;
 use std::alloc::{AllocError, Global};
 use std::test::Fail;
 
-const DEFINITIONS: &str = "regions = [1]
+pub(crate) const DEFINITIONS: &str = "regions = [1]
 router = \"FOLD\"
 [[msdb]]
 name = \"ACCTS\"
@@ -88,7 +88,7 @@ pub(crate) fn run(
 }
 
 // A new site, and the answer of a run on it.
-fn new_run(alloc: Global, messages: &[u8]) -> Result<(Status, MemorySite), AllocError> {
+pub(crate) fn new_run(alloc: Global, messages: &[u8]) -> Result<(Status, MemorySite), AllocError> {
     let mut site = MemorySite::new(alloc, &[])?;
     let _ = run(alloc, "define", SCRIPTS, b"", &[], &mut site)?;
     let status = run(alloc, "run", SCRIPTS, messages, &[], &mut site)?;

@@ -31,9 +31,9 @@ defs_are kinds left job is =
     are_defs (left part.Definitions) job.defs (read_for kinds (left part.Definitions) job.defs is.definitions)
 
 -- the course of a run is one from rest behind a serial history
-abbrev pub run_of : (job : Job) (given : Input) (earlier : List Entry) (left : List Event) (here : Machine)
-    → Course job given earlier left here → IsFromSerial (rules_for job) here
-run_of job given earlier left here course =
+abbrev pub run_of : (job : Job) (format : ℕ) (given : Input) (earlier : List Entry) (left : List Event) (here : Machine)
+    → Course job format given earlier left here → IsFromSerial (rules_for job) here
+run_of job format given earlier left here course =
     let comes = course.comes in
     let steps = goes_runs job.defs (rules_for job) given.events left (at_rest (rules_for job) given.lines course.behind)
     here
@@ -54,10 +54,10 @@ same_text first text it =
     none [] e = refl
     none (x ∷ xs) e = absurd cc
 
-module _ (job : Job) (given : Input) (earlier : List Entry) (old new : Disk)
-    (went : Went job given earlier Done old new) where
+module _ (job : Job) (format : ℕ) (given : Input) (earlier : List Entry) (old new : Disk)
+    (went : Went job format given earlier Done old new) where
   -- a run that is done was begun
-  pub end : IsEnded job given Done went.before went.point new
+  pub end : IsEnded job format given Done went.before went.point new
   end = ⊎_elim (λ none. absurd none.in_place) (λ is. is) went.ended
 
   -- no group is sealed beyond those of the machine
@@ -74,7 +74,7 @@ module _ (job : Job) (given : Input) (earlier : List Entry) (old new : Disk)
       went.log.told)
 
   pub answers_each : AreAnswered (rules_for job) given.lines went.course.behind.entries went.point.here
-      → AnswersEachLine job given.lines earlier old new
+      → AnswersEachLine job format given.lines earlier old new
   answers_each all =
       let groups = (with_seals job went.point went.log.times).groups in
       let sealed : entries_of groups ≡ all.later =
@@ -83,7 +83,7 @@ module _ (job : Job) (given : Input) (earlier : List Entry) (old new : Disk)
         later = all.later;
         in_order = all.in_order;
         sound =
-            subst (IsSoundFor job (new.contents 0))
+            subst (IsSoundFor job format (new.contents 0))
             (entries_both went.before groups ∙ ap (λ (es : List Entry). es ++ entries_of groups) went.stood
             ∙ ap (λ (es : List Entry). earlier ++ es) sealed) went.log.sound;
         durable = end.rest (subst (λ (l : List Event). ¬ IsSealing (next_event l)) (sym end.ends.0) (λ s. s));

@@ -15,53 +15,41 @@ use Rattle.fp_model.specs.Messages.{lines_of}
 use Rattle.fp_site.specs.Disk.{Disk}
 use Rattle.fp_source.specs.Lines.{lines_ahead}
 use Rattle.fp_source.specs.declared.lines.Lines.{Lines}
+use Rattle.balancing.specs.Numbered.{Numbered}
 use Rattle.log_groups.specs.Log.{LogState}
 use Rattle.msdb_store.specs.Store.{Stored}
 use Rattle.fp_system.specs.Courses.{IsBegun}
 use Rattle.fp_model.specs.declared.database.Db.{Db}
 use Rattle.fp_model.specs.declared.database.Msdb.{Msdb}
 use Rattle.fp_model.specs.declared.log.Entry.{Entry}
-use Rattle.fp_model.specs.declared.log.Outcome.TheVariants as outcome
 use Rattle.fp_model.specs.History.{History, place_of}
-use Rattle.fp_model.specs.Lasts.{format_at}
 use Rattle.fp_model.specs.LogText.{Front, front_text, group_text, groups_text}
 use Rattle.fp_model.specs.Machine.{Machine, at_rest}
 use Rattle.fp_model.specs.Rules.{Rules}
 use Rattle.log_groups.specs.Images.{IsAtRest, IsLog, before_gate}
 use Rattle.log_groups.proofs.LogImages.{front_of, shape_of}
 
--- ---- a history of so many entries
+-- ---- a history of some entries
 
 length-same : {X : Type 0} (n : ℕ) (x : X) → length (replicate n x) ≡ n
 length-same zero x = refl
 length-same (suc n) x = ap suc (length-same n x)
 
--- an entry that nobody made: it changes nothing
-abbrev plain_entry : Entry
-plain_entry = record { from = 0; outcome = outcome.Unknown; line = []; reply = []; notes = []; items = [] }
-
 abbrev plain_db : List Msdb → Db
 plain_db msdbs = record { msdbs = msdbs; dedbs = [] }
 
--- a history of so many entries, of which only the databases now are known
-abbrev pub any_history : ℕ → List Msdb → History
-any_history n msdbs = record {
-  format = 1;
-  entries = replicate n plain_entry;
-  past = replicate n (plain_db msdbs);
+-- a history of these entries, of whose states only the databases now are known
+abbrev pub any_history : ℕ → List Entry → List Msdb → History
+any_history format entries msdbs = record {
+  format = format;
+  entries = entries;
+  past = replicate (length entries) (plain_db msdbs);
   now = plain_db msdbs;
 }
 
-pub any_place : (n : ℕ) (msdbs : List Msdb) → place_of (any_history n msdbs) ≡ n
-any_place n msdbs = length-same n plain_entry
-
-pub any_states : (n : ℕ) (msdbs : List Msdb) → length (any_history n msdbs).past ≡ place_of (any_history n msdbs)
-any_states n msdbs = length-same n (plain_db msdbs) ∙ sym (length-same n plain_entry)
-
-pub any_format : (n : ℕ) (msdbs : List Msdb)
-    → format_at (any_history n msdbs).format (any_history n msdbs).entries ≡ 1
-any_format zero msdbs = refl
-any_format (suc n) msdbs = any_format n msdbs
+pub any_states : (format : ℕ) (entries : List Entry) (msdbs : List Msdb)
+    → length (any_history format entries msdbs).past ≡ place_of (any_history format entries msdbs)
+any_states format entries msdbs = length-same (length entries) (plain_db msdbs)
 
 -- ---- a machine at rest
 
@@ -79,12 +67,12 @@ reached_at_rest engine rules lines h same stands =
     }
 
 -- engine, site and source stand for it
-pub stands_beside : (origin : Origin) (h : History) (store : Stored) (log : LogState) (disk : Disk) (engine : Engine)
-    (rules : Rules) (lines : Lines) (left : List ℕ) → IsBegun origin h store log disk
+pub stands_beside : (origin : Origin) (h : History) (store : Stored) (log : LogState) (lasts : Numbered) (disk : Disk)
+    (engine : Engine) (rules : Rules) (lines : Lines) (left : List ℕ) → IsBegun origin h store log lasts disk
     → StandsFor engine (at_rest rules (lines_of left) h) → engine.log.gate ≡ log.gate
     → lines_ahead lines left ≡ lines_of left
     → StandsBeside origin disk lines left engine (at_rest rules (lines_of left) h)
-stands_beside origin h store log disk engine rules lines left is stands gate ahead = record {
+stands_beside origin h store log lasts disk engine rules lines left is stands gate ahead = record {
   at = record {
     parts = stands;
     at_rest =

@@ -11,7 +11,7 @@ use Rattle.fp_system.specs.Answers.{status_of_fault, status_of_stop}
 use Rattle.fp_system.specs.Causes.{IsCausedBySite, IsCausedBySource}
 use Rattle.fp_system.specs.declared.status.Status.{Status}
 use Rattle.fp_system.specs.declared.status.Status.TheVariants.{Done, Usage, Definitions, Scripts, Schedule, ReadFault, SiteFault}
-use Rattle.fp_system.specs.declared.status.Status.TheVariants.{Foreign, Damaged, Line, NoMemory, NotBuilt}
+use Rattle.fp_system.specs.declared.status.Status.TheVariants.{Foreign, Damaged, Line, NoMemory, NotBuilt, OldFormat}
 
 -- ---- by the answer
 
@@ -30,6 +30,7 @@ by_source before now (Damaged set at) rose stayed = stayed (λ e. cc)
 by_source before now (Line number) rose stayed = stayed (λ e. cc)
 by_source before now NoMemory rose stayed = stayed (λ e. cc)
 by_source before now (NotBuilt p) rose stayed = stayed (λ e. cc)
+by_source before now OldFormat rose stayed = stayed (λ e. cc)
 
 -- the same of the site
 pub by_site : (before now : ℕ) (answer : Status) → (answer ≡ SiteFault → Rose before now)
@@ -46,6 +47,7 @@ by_site before now (Damaged set at) rose stayed = stayed (λ e. cc)
 by_site before now (Line number) rose stayed = stayed (λ e. cc)
 by_site before now NoMemory rose stayed = stayed (λ e. cc)
 by_site before now (NotBuilt p) rose stayed = stayed (λ e. cc)
+by_site before now OldFormat rose stayed = stayed (λ e. cc)
 
 -- an answer that is no read fault, where the source's count stayed
 pub calm_err : {A : Type 0} (before now : ℕ) (r : Result A Status) → (IsErrOf r ReadFault → ⊥) → now ≡ before

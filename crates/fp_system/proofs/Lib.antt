@@ -13,3 +13,6 @@ pub mod CauseLemmas
 pub mod AnsweredLemmas
 mod SentTexts
 pub mod OneRun
+mod OldLogs
+mod Migrations
+mod Restarted

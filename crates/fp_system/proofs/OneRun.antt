@@ -41,10 +41,10 @@ module _ (defs : Defs) (none : defs.dedbs ≡ []) where
   segments_only (Range set ci at b ∷ items) fit = absurd (no_area defs none set ci fit.0.0 fit.0.1)
 
 -- they are of their definitions
-sound_shape : (job : Job) (log : List ℕ) (earlier : List Entry) → job.defs.dedbs ≡ []
-    → AllZip IsMsdbOf job.defs.msdbs (start job.defs).msdbs → (sound : IsSoundFor job log earlier)
+sound_shape : (job : Job) (format : ℕ) (log : List ℕ) (earlier : List Entry) → job.defs.dedbs ≡ []
+    → AllZip IsMsdbOf job.defs.msdbs (start job.defs).msdbs → (sound : IsSoundFor job format log earlier)
     → AllZip IsMsdbOf job.defs.msdbs sound.last.msdbs
-sound_shape job log earlier none begin sound =
+sound_shape job format log earlier none begin sound =
     let parts = segments_only job.defs none (items_of earlier) sound.fit.each in
     subst (λ (ms : List Msdb). AllZip IsMsdbOf job.defs.msdbs ms) sound.made
     (still_of job.defs.msdbs (items_of earlier) (start job.defs).msdbs begin parts.0 parts.1)
@@ -52,31 +52,31 @@ sound_shape job log earlier none begin sound =
 -- ---- one history
 
 -- of these entries there is one
-same_history : (job : Job) (earlier : List Entry) (a b : History) → IsHistoryOf job earlier a
-    → IsHistoryOf job earlier b → a ≡ b
-same_history job earlier a b p q =
-    one_end (rules_for job) (beginning 1 (start job.defs)) earlier b a (leads b q) (leads a p)
+same_history : (job : Job) (format : ℕ) (earlier : List Entry) (a b : History) → IsHistoryOf job format earlier a
+    → IsHistoryOf job format earlier b → a ≡ b
+same_history job format earlier a b p q =
+    one_end (rules_for job) (beginning format (start job.defs)) earlier b a (leads b q) (leads a p)
   where
-    leads : (h : History) → IsHistoryOf job earlier h
-        → LeadsOn (rules_for job) (beginning 1 (start job.defs)) earlier h
+    leads : (h : History) → IsHistoryOf job format earlier h
+        → LeadsOn (rules_for job) (beginning format (start job.defs)) earlier h
     leads h is =
-        subst (λ (es : List Entry). LeadsOn (rules_for job) (beginning 1 (start job.defs)) es h) is.entries
-        (subst (λ (format : ℕ). LeadsOn (rules_for job) (beginning format (start job.defs)) h.entries h) is.format
+        subst (λ (es : List Entry). LeadsOn (rules_for job) (beginning format (start job.defs)) es h) is.entries
+        (subst (λ (f : ℕ). LeadsOn (rules_for job) (beginning f (start job.defs)) h.entries h) is.front
         is.is_serial)
 
 -- that of a sound log
-sound_history : (job : Job) (log : List ℕ) (earlier : List Entry) (h : History) → (sound : IsSoundFor job log earlier)
-    → IsHistoryOf job earlier h → h.now ≡ sound.last
-sound_history job log earlier h sound is =
+sound_history : (job : Job) (format : ℕ) (log : List ℕ) (earlier : List Entry) (h : History) → (sound : IsSoundFor job format log earlier)
+    → IsHistoryOf job format earlier h → h.now ≡ sound.last
+sound_history job format log earlier h sound is =
     ap (λ (x : History). x.now)
-    (one_end (rules_for job) (beginning 1 (start job.defs)) earlier sound.history.history h sound.history.leads
+    (one_end (rules_for job) (beginning format (start job.defs)) earlier sound.history.history h sound.history.leads
     (leads h is)) ∙ sound.history.ends
   where
-    leads : (h : History) → IsHistoryOf job earlier h
-        → LeadsOn (rules_for job) (beginning 1 (start job.defs)) earlier h
+    leads : (h : History) → IsHistoryOf job format earlier h
+        → LeadsOn (rules_for job) (beginning format (start job.defs)) earlier h
     leads h is =
-        subst (λ (es : List Entry). LeadsOn (rules_for job) (beginning 1 (start job.defs)) es h) is.entries
-        (subst (λ (format : ℕ). LeadsOn (rules_for job) (beginning format (start job.defs)) h.entries h) is.format
+        subst (λ (es : List Entry). LeadsOn (rules_for job) (beginning format (start job.defs)) es h) is.entries
+        (subst (λ (f : ℕ). LeadsOn (rules_for job) (beginning f (start job.defs)) h.entries h) is.front
         is.is_serial)
 
 -- ---- two runs
@@ -90,8 +90,8 @@ same_point p q e f g =
     point_of : List Event → Machine → List ℕ → Point
     point_of left here text = record { left = left; here = here; text = text }
 
-module _ (job : Job) (given : Input) (earlier : List Entry) (old new : Disk)
-    (went : Went job given earlier Done old new)
+module _ (job : Job) (format : ℕ) (given : Input) (earlier : List Entry) (old new : Disk)
+    (went : Went job format given earlier Done old new)
   where
     -- a run that is done came to its machine with no event left
     pub came : Comes job.defs (rules_for job) given.events (at_rest (rules_for job) given.lines went.course.behind) []
@@ -99,34 +99,34 @@ module _ (job : Job) (given : Input) (earlier : List Entry) (old new : Disk)
     came =
         subst (λ (left : List Event). Comes job.defs (rules_for job) given.events
         (at_rest (rules_for job) given.lines went.course.behind) left went.point.here)
-        (end job given earlier old new went).ends.0 went.course.comes
+        (end job format given earlier old new went).ends.0 went.course.comes
 
-    pub came_from : (h : History) → IsHistoryOf job earlier h
+    pub came_from : (h : History) → IsHistoryOf job format earlier h
         → Comes job.defs (rules_for job) given.events (at_rest (rules_for job) given.lines h) [] went.point.here
     came_from h is =
         subst (λ (x : History). Comes job.defs (rules_for job) given.events (at_rest (rules_for job) given.lines x) []
-        went.point.here) (same_history job earlier went.course.behind h went.course.history is) came
+        went.point.here) (same_history job format earlier went.course.behind h went.course.history is) came
 
     -- the databases that it began with
     pub began : job.defs.dedbs ≡ [] → AllZip IsMsdbOf job.defs.msdbs (start job.defs).msdbs
-        → IsSoundFor job (old.contents 0) earlier → AllZip IsMsdbOf job.defs.msdbs went.course.behind.now.msdbs
+        → IsSoundFor job format (old.contents 0) earlier → AllZip IsMsdbOf job.defs.msdbs went.course.behind.now.msdbs
     began none begin sound =
         subst (λ (db : Db). AllZip IsMsdbOf job.defs.msdbs db.msdbs)
-        (sym (sound_history job (old.contents 0) earlier went.course.behind sound went.course.history))
-        (sound_shape job (old.contents 0) earlier none begin sound)
+        (sym (sound_history job format (old.contents 0) earlier went.course.behind sound went.course.history))
+        (sound_shape job format (old.contents 0) earlier none begin sound)
 
     -- and where none lacked memory
-    pub none_from : (h : History) → IsHistoryOf job earlier h → NoneStarved (length earlier) went.point.here.history
+    pub none_from : (h : History) → IsHistoryOf job format earlier h → NoneStarved (length earlier) went.point.here.history
         → NoneStarved (length h.entries) went.point.here.history
     none_from h is none =
         subst (λ (n : ℕ). NoneStarved n went.point.here.history) (sym (ap length is.entries)) none
 
 -- so they came to one point
-pub one_point : (job : Job) (given : Input) (earlier : List Entry) (old old2 new new2 : Disk)
-    → (went : Went job given earlier Done old new) → (went2 : Went job given earlier Done old2 new2)
+pub one_point : (job : Job) (format : ℕ) (given : Input) (earlier : List Entry) (old old2 new new2 : Disk)
+    → (went : Went job format given earlier Done old new) → (went2 : Went job format given earlier Done old2 new2)
     → went.point.here ≡ went2.point.here → went.point ≡ went2.point
-one_point job given earlier old old2 new new2 went went2 same =
+one_point job format given earlier old old2 new new2 went went2 same =
     same_point went.point went2.point
-    ((end job given earlier old new went).ends.0 ∙ sym (end job given earlier old2 new2 went2).ends.0) same
-    (its_text job given earlier old new went ∙ ap (λ (m : Machine). m.sent) same
-    ∙ sym (its_text job given earlier old2 new2 went2))
+    ((end job format given earlier old new went).ends.0 ∙ sym (end job format given earlier old2 new2 went2).ends.0) same
+    (its_text job format given earlier old new went ∙ ap (λ (m : Machine). m.sent) same
+    ∙ sym (its_text job format given earlier old2 new2 went2))

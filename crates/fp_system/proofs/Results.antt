@@ -7,6 +7,11 @@ pub ok_with : {A E : Type 0} (r : Result A E) (R Q : A → Type 0) → ((x : A) 
 ok_with (Ok x) R Q f h = f x h
 ok_with (Err e) R Q f h = tt
 
+-- of what there is more is said
+pub some_with : {A : Type 0} (o : Option A) (R Q : A → Type 0) → ((x : A) → R x → Q x) → IfSome o R → IfSome o Q
+some_with (Some x) R Q f h = f x h
+some_with None R Q f h = tt
+
 -- what holds in any case holds at a fault
 pub at_err : {A E : Type 0} (r : Result A E) (Q : Type 0) → Q → OnErr r Q
 at_err (Ok x) Q q = tt

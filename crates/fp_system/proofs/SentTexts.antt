@@ -6,7 +6,8 @@ use Rattle.fp_model.specs.declared.database.Db.{Db}
 use Rattle.fp_model.specs.declared.database.Dedb.{Dedb}
 use Rattle.fp_model.specs.declared.definitions.DedbDef.{DedbDef}
 use Rattle.fp_model.specs.declared.definitions.Defs.{Defs}
-use Rattle.fp_model.specs.LogText.{Front, StartsWithFront, first_gate, front_rest}
+use Rattle.fp_model.specs.LogText.{Front, first_gate, front_rest}
+use Rattle.log_groups.specs.Images.{BeginsFor}
 use Rattle.fp_restart.specs.Replayed.{IsFirstBadAt}
 use Rattle.fp_restart.specs.declared.fault.RestartFault.{RestartFault}
 use Rattle.fp_restart.specs.declared.fault.RestartFault.TheVariants as fault
@@ -38,7 +39,7 @@ good_text job old new sent = record {
 
 -- what a fault of a restart says of a log
 pub due_by_log : (job : Job) (log : List ℕ) (why : RestartFault) → (why ≡ fault.Foreign → IsForeign job log)
-    → ((set at : ℕ) → why ≡ fault.Damaged set at → (set ≡ 0) × StartsWithFront log (front_for job)
+    → ((set at : ℕ) → why ≡ fault.Damaged set at → (set ≡ 0) × BeginsFor (front_for job) log
     × IsFirstBadAt job.defs log (first_gate (front_for job)) at)
     → ByLog job log (λ behind. behind ≡ Done) (status_of_fault why) ⊎ MayStandIn (status_of_fault why)
 due_by_log job log fault.Foreign away bad = inl (foreign (away refl))
@@ -102,7 +103,7 @@ shown_not job answer disk law undone = record {
     contents = λ set. refl;
     crash = started (SyncsAndSends disk []) disk law (sends_none disk);
   };
-  means = λ entries last sound history done. absurd (undone done);
+  means = λ format entries last sound history done. absurd (undone done);
 }
 
 pub logged_not : (job : Job) (answer : Status) (disk : Disk) → (answer ≡ Done → ⊥)

@@ -3,21 +3,24 @@ use Rattle.std.proofs.Common.{◌≡◌, refl, sym, ap, subst, ◌∙◌, ℕ, L
 use Rattle.fp_model.specs.LogText.{first_gate}
 use Rattle.fp_model.specs.Items.{AreFit, items_of}
 use Rattle.fp_model.specs.declared.log.Entry.{Entry}
-use Rattle.fp_model.specs.Groups.{Damage, Groups, LogReading, Reads}
+use Rattle.fp_model.specs.Groups.{Damage, Groups, HoldsGroups, LogReading, Reads}
+use Rattle.fp_model.specs.Lasts.{format_at}
+use Rattle.log_groups.proofs.Fronts.{same_gate}
+use Rattle.fp_system.proofs.OldLogs.{sound_old_only, sound_old_where}
 use Rattle.log_format.proofs.GroupLaws.{one_reading}
 use Rattle.fp_restart.proofs.Replays.{one_first_bad, readable_not_bad, sound_begins}
 use Rattle.fp_system.specs.Answers.{faulty_line}
-use Rattle.fp_system.specs.Parts.{Job, Refuses, front_for}
+use Rattle.fp_system.specs.Parts.{Job, Refuses, front_for, front_in}
 use Rattle.fp_source.specs.declared.part.Part.TheVariants as part
 use Rattle.command_words.specs.Words.{command_of}
 use Rattle.fp_system.specs.declared.status.Status.{Status}
-use Rattle.fp_system.specs.declared.status.Status.TheVariants.{Damaged, Done}
+use Rattle.fp_system.specs.declared.status.Status.TheVariants.{Damaged, Done, OldFormat}
 use Rattle.command_words.specs.declared.words.Command.{Command}
-use Rattle.command_words.specs.declared.words.Command.TheVariants.{Define, Run, Show, Log}
+use Rattle.command_words.specs.declared.words.Command.TheVariants.{Define, Run, Show, Log, Migrate}
 use Rattle.fp_system.proofs.Jobs.{one_job, one_answer, no_job_refused}
 use Rattle.fp_system.specs.Courses.{IsSoundFor}
 use Rattle.fp_system.specs.Table.{Given, Asks, ByGroups, ByLog, IsDue, IsDueTo, IsEnd, IsGood, end_of_lines}
-use Rattle.fp_system.specs.Table.{asked, broken, damaged, foreign, good, no_command, of_others, refused, whole}
+use Rattle.fp_system.specs.Table.{asked, broken, damaged, foreign, good, lines, no_command, of_others, old, refused, whole}
 
 -- ---- the log
 
@@ -67,16 +70,27 @@ one_by_groups job log a b (whole hs gate is) (broken gs {at = at} begins holds b
     not_both e = absurd cc
 one_by_groups job log a b (whole gs gate is) (whole hs gate2 is2) = refl
 
+-- a run ends in one way behind a good log
+one_end : (job : Job) (log messages : List ℕ) (a b : Status) → IsEnd job log messages a → IsEnd job log messages b
+    → a ≡ b
+one_end job log messages a b (old first) (old first2) = refl
+one_end job log messages a b (old first) (lines new) = absurd (new first)
+one_end job log messages a b (lines new) (old first) = absurd (new first)
+one_end job log messages a b (lines new) (lines new2) = refl
+
 -- ---- the commands
 
 one_due_to : (command : Command) (job : Job) (g : Given) (a b : Status) → IsDueTo command job g a
     → IsDueTo command job g b → a ≡ b
 one_due_to Define job g a b p q = p ∙ sym q
 one_due_to Run job g a b p q =
-    one_by_log job (g.contents 0) (IsEnd (g.left part.Messages)) (λ x y h k. h ∙ sym k) a b p q
+    one_by_log job (g.contents 0) (IsEnd job (g.contents 0) (g.left part.Messages))
+    (one_end job (g.contents 0) (g.left part.Messages)) a b p q
 one_due_to Show job g a b p q =
     one_by_log job (g.contents 0) (λ behind. behind ≡ Done) (λ x y h k. h ∙ sym k) a b p q
 one_due_to Log job g a b p q = one_by_groups job (g.contents 0) a b p q
+one_due_to Migrate job g a b p q =
+    one_by_log job (g.contents 0) (λ behind. behind ≡ Done) (λ x y h k. h ∙ sym k) a b p q
 
 same_command : (found : Option Command) (c d : Command) → found ≡ Some c → found ≡ Some d → c ≡ d
 same_command found c d p q = cc
@@ -110,21 +124,38 @@ one_due g a b (asked {command = c} {job = job} asks p) (asked {command = d} {job
 -- ---- a sound log
 
 -- it is the job's, and good
-sound_good : (job : Job) (log : List ℕ) (entries : List Entry) → IsSoundFor job log entries → IsGood job log
-sound_good job log entries sound = record {
-  begins = sound_begins job.defs job.scripts (front_for job) log entries sound;
+sound_good : (job : Job) (format : ℕ) (log : List ℕ) (entries : List Entry)
+    → IsSoundFor job format log entries → IsGood job log
+sound_good job format log entries sound = record {
+  begins = record {
+    format = format;
+    is_format = sound.is_format;
+    begins = sound_begins job.defs job.scripts (front_in format job) log entries sound;
+  };
   readable = record {
     groups = sound.groups;
     gate = sound.gate;
     holds = record {
-      holds = sound.holds.reads.0;
+      holds =
+          subst (λ (n : ℕ). HoldsGroups log n sound.groups sound.gate) (same_gate format (front_for job))
+          sound.holds.reads.0;
       fit = subst (λ (l : List Entry). AreFit job.defs (items_of l)) sound.all sound.fit;
     };
     closed = sound.holds.reads.1;
   };
 }
 
--- so that its run is due the end of its lines
-pub lines_due : (g : Given) (job : Job) (entries : List Entry) → Asks g Run job → IsSoundFor job (g.contents 0) entries
+-- so that its run is due the end of its lines, where they may have numbers,
+pub lines_due : (g : Given) (job : Job) (format : ℕ) (entries : List Entry) → Asks g Run job
+    → IsSoundFor job format (g.contents 0) entries → ¬ (format_at format entries ≡ 1)
     → IsDue g (end_of_lines (faulty_line (g.left part.Messages)))
-lines_due g job entries asks sound = asked asks (good (sound_good job (g.contents 0) entries sound) refl)
+lines_due g job format entries asks sound new =
+    asked asks (good (sound_good job format (g.contents 0) entries sound)
+    (lines (λ it. new (sound_old_only job format (g.contents 0) entries sound it))))
+
+-- and else is told to be migrated first
+pub old_due : (g : Given) (job : Job) (format : ℕ) (entries : List Entry) → Asks g Run job
+    → IsSoundFor job format (g.contents 0) entries → format_at format entries ≡ 1 → IsDue g OldFormat
+old_due g job format entries asks sound first =
+    asked asks (good (sound_good job format (g.contents 0) entries sound)
+    (old (sound_old_where job format (g.contents 0) entries sound first)))

@@ -32,22 +32,22 @@ module _ (defs : Defs) (rules : Rules) where
   goes_runs events left m m2 vs (again left_to_do rest) = goes_runs _ left m m2 vs rest
 
 -- a run that comes to a machine behind a history
-pub comes_behind : (job : Job) (earlier : List Entry) (h : History) (lines : List (List ℕ)) (events left : List Event)
-    (m : Machine) → IsHistoryOf job earlier h
+pub comes_behind : (job : Job) (format : ℕ) (earlier : List Entry) (h : History) (lines : List (List ℕ)) (events left : List Event)
+    (m : Machine) → IsHistoryOf job format earlier h
     → Comes job.defs (rules_for job) events (at_rest (rules_for job) lines h) left m
-    → IsBehind job.defs job.scripts earlier m
-comes_behind job earlier h lines events left m is comes =
+    → IsBehind job.defs job.scripts format earlier m
+comes_behind job format earlier h lines events left m is comes =
     let steps = goes_runs job.defs (rules_for job) events left (at_rest (rules_for job) lines h) m comes.environments
     comes.goes
     in
     record {
       start = h;
+      front = is.front;
       is_serial = is.is_serial;
       entries = is.entries;
       lines = lines;
       steps = steps.0;
       runs = steps.1;
-      format = comes.format;
       made = comes.made;
     }
 

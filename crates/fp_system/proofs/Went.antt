@@ -7,7 +7,7 @@ use Rattle.fp_core.specs.Standing.{HasGroups, Origin, seals_of}
 use Rattle.fp_model.specs.declared.log.Entry.{Entry}
 use Rattle.fp_model.specs.Groups.{entries_of}
 use Rattle.fp_model.specs.History.{History, beginning}
-use Rattle.fp_model.specs.Lasts.{format_at}
+use Rattle.fp_model.specs.Lasts.{format_at, lasts_of}
 use Rattle.fp_model.specs.Machine.{Machine, at_rest}
 use Rattle.fp_model.specs.Recovery.{Holds}
 use Rattle.fp_model.specs.SerialHistory.{LeadsOn}
@@ -22,6 +22,7 @@ use Rattle.fp_site.proofs.Images.{settles_again, settles_contents}
 use Rattle.fp_site.proofs.Runs.{joined, started, weaker}
 use Rattle.log_groups.specs.Images.{IsAtRest, IsLog}
 use Rattle.log_groups.specs.Kept.{IsSound}
+use Rattle.balancing.specs.Numbered.{Numbered}
 use Rattle.log_groups.specs.Log.{LogState}
 use Rattle.msdb_store.specs.Store.{Stored}
 use Rattle.schedule_runs.specs.Standing.{IsLeftOnWay}
@@ -33,70 +34,73 @@ use Rattle.fp_system.specs.Courses.{Course, GoesOnTo, Input, IsBegun, IsHistoryO
 use Rattle.fp_system.specs.Answers.{MayStandIn}
 use Rattle.fp_system.specs.Gives.{IsSafeFor, Went}
 use Rattle.fp_system.specs.Ims.{IsUnchanged}
-use Rattle.fp_system.specs.Parts.{Job, front_for, rules_for}
+use Rattle.fp_system.specs.Parts.{Job, front_in, rules_for}
 use Rattle.fp_system.specs.declared.status.Status.{Status}
 use Rattle.fp_system.proofs.Ways.{comes_behind}
 
 -- ---- the history of a sound log
 
-module _ (job : Job) (log : List ℕ) (earlier : List Entry)
-    (sound : IsSound job.defs job.scripts (front_for job) log earlier) where
+module _ (job : Job) (format : ℕ) (log : List ℕ) (earlier : List Entry)
+    (sound : IsSound job.defs job.scripts (front_in format job) log earlier) where
   abbrev pub stood : History
   stood = sound.history.history
 
-  first : History
-  first = beginning 1 (start job.defs)
-
   stood_entries : stood.entries ≡ earlier
-  stood_entries = entries_put (rules_for job) (beginning 1 (start job.defs)) earlier stood sound.history.leads
+  stood_entries = entries_put (rules_for job) (beginning format (start job.defs)) earlier stood sound.history.leads
 
-  stood_format : stood.format ≡ 1
-  stood_format = format_stays (rules_for job) (beginning 1 (start job.defs)) earlier stood sound.history.leads
+  stood_format : stood.format ≡ format
+  stood_format = format_stays (rules_for job) (beginning format (start job.defs)) earlier stood sound.history.leads
 
-  pub is_history : IsHistoryOf job earlier stood
+  pub is_history : IsHistoryOf job format earlier stood
   is_history = record {
     is_serial =
-        subst (λ (format : ℕ). LeadsOn (rules_for job) (beginning format (start job.defs)) stood.entries stood)
+        subst (λ (f : ℕ). LeadsOn (rules_for job) (beginning f (start job.defs)) stood.entries stood)
         (sym stood_format)
-        (subst (λ (es : List Entry). LeadsOn (rules_for job) (beginning 1 (start job.defs)) es stood)
+        (subst (λ (es : List Entry). LeadsOn (rules_for job) (beginning format (start job.defs)) es stood)
         (sym stood_entries) sound.history.leads);
     entries = stood_entries;
-    format = stood_format;
+    front = stood_format;
   }
 
   -- from there a run begins, on what a restart gave
-  pub begins : (h h1 : Disk) (store : Stored) (state : LogState)
-      → (found : StandsFor job.defs job.scripts (front_for job) h1 earlier store state)
-      → IsBegun (record { front = front_for job; groups = found.groups; sent = h1.sent }) stood store state h1
-  begins h h1 store state found = record {
+  pub begins : (h1 : Disk) (store : Stored) (state : LogState) (lasts : Numbered)
+      → (found : StandsFor job.defs job.scripts (front_in format job) h1 earlier store state lasts)
+      → IsBegun (record { front = front_in format job; groups = found.groups; sent = h1.sent }) stood store state lasts
+      h1
+  begins h1 store state lasts found = record {
     msdbs =
         ap (λ db. db.msdbs) sound.history.ends ∙ sym (found.segments sound.last sound.history);
     place = ap length stood_entries ∙ sym found.sealed;
     states =
-        let counted = states_counted (rules_for job) (beginning 1 (start job.defs)) earlier stood sound.history.leads in
+        let counted =
+        states_counted (rules_for job) (beginning format (start job.defs)) earlier stood sound.history.leads in
         omega (arith, counted, ap length stood_entries);
     format =
-        ap (λ (format : ℕ). format_at format stood.entries) stood_format ∙ ap (format_at 1) stood_entries ∙ sound.still;
+        ap (λ (f : ℕ). format_at f stood.entries) stood_format ∙ ap (format_at format) stood_entries
+        ∙ sym found.format;
+    lasts =
+        found.lasts ∙ sym (ap (λ (f : ℕ). lasts_of f stood.entries) stood_format ∙ ap (lasts_of format) stood_entries);
     at_rest = found.at_rest;
     sent = refl;
   }
 
 -- ---- a run from a safe site
 
-module _ (job : Job) (given : Input) (earlier : List Entry) (are : AreDefs job.defs) (none : job.defs.dedbs ≡ [])
-    (h h1 h2 : Disk) (law2 : IsLawful h2) (safe : IsSafeFor job h earlier)
+module _ (job : Job) (format : ℕ) (given : Input) (earlier : List Entry) (are : AreDefs job.defs)
+    (none : job.defs.dedbs ≡ [])
+    (h h1 h2 : Disk) (law2 : IsLawful h2) (safe : IsSafeFor job format h earlier)
     (contents : (set : ℕ) → h1.contents set ≡ h.contents set) (sent : h1.sent ≡ h.sent) (run : Through h h1 (Syncs h 0))
   where
     abbrev before : History
-    before = stood job (h.contents 0) earlier safe.now
+    before = stood job format (h.contents 0) earlier safe.now
 
-    its_history : IsHistoryOf job earlier before
-    its_history = is_history job (h.contents 0) earlier safe.now
+    its_history : IsHistoryOf job format earlier before
+    its_history = is_history job format (h.contents 0) earlier safe.now
 
     module _ (groups : List (List Entry)) (gate : ℕ) (all : earlier ≡ entries_of groups)
-        (rest : IsAtRest h1 (front_for job) groups gate) (answer : Status) where
+        (rest : IsAtRest h1 (front_in format job) groups gate) (answer : Status) where
       abbrev origin : Origin
-      origin = record { front = front_for job; groups = groups; sent = h1.sent }
+      origin = record { front = front_in format job; groups = groups; sent = h1.sent }
 
       module _ (it : RanFrom job given origin before answer h1 h2) where
         abbrev begun : Machine
@@ -106,7 +110,7 @@ module _ (job : Job) (given : Input) (earlier : List Entry) (are : AreDefs job.d
         goes_to : (point : Point) (log : List ℕ)
             → Comes job.defs (rules_for job) given.events begun point.left point.here
             → HasGroups origin (rules_for job) point.here (seals_of (next_event point.left) point.here) point.text log
-            → GoesOnTo job groups point log
+            → GoesOnTo job format groups point log
         goes_to point log comes has =
             let more = (with_seals job point has.times).groups in
             record {
@@ -115,18 +119,18 @@ module _ (job : Job) (given : Input) (earlier : List Entry) (are : AreDefs job.d
               gate = has.gate;
               groups = has.log;
               sound =
-                  subst (IsSoundFor job log)
+                  subst (IsSoundFor job format log)
                   (ap (λ (es : List Entry). es ++ entries_of more) all ∙ sym (entries_both groups more))
                   (groups_sound job.defs job.scripts origin (h.contents 0) earlier point.here
-                  (seals_of (next_event point.left) point.here) point.text log are none refl safe.now
-                  (comes_behind job earlier before given.lines given.events point.left point.here its_history comes)
+                  (seals_of (next_event point.left) point.here) point.text log are none safe.now
+                  (comes_behind job format earlier before given.lines given.events point.left point.here its_history comes)
                   all has);
               told = has.lines;
             }
 
         -- a snapshot that a step on the way left
         on_way : (s : Snapshot) → IsLeftOnWay origin job.defs (rules_for job) given.events begun h1 s
-            → IsKeptBy job given earlier groups h s
+            → IsKeptBy job format given earlier groups h s
         on_way s on =
             let is = on.is_left in
             let point : Point = record { left = on.left; here = on.here; text = is.text } in
@@ -137,21 +141,21 @@ module _ (job : Job) (given : Input) (earlier : List Entry) (are : AreDefs job.d
               sent = λ tells. is.sent (run.tells_sent tells) ∙ ap (λ (t : List ℕ). t ++ is.text) sent;
             })
 
-        moments_of : Through h h2 (IsKeptBy job given earlier groups h)
+        moments_of : Through h h2 (IsKeptBy job format given earlier groups h)
         moments_of =
-            joined (IsKeptBy job given earlier groups h) h h1 h2
-            (weaker (Syncs h 0) (IsKeptBy job given earlier groups h) h h1 (λ s is. inl is) run)
+            joined (IsKeptBy job format given earlier groups h) h h1 h2
+            (weaker (Syncs h 0) (IsKeptBy job format given earlier groups h) h h1 (λ s is. inl is) run)
             (weaker (IsLeftOnWay origin job.defs (rules_for job) given.events begun h1)
-            (IsKeptBy job given earlier groups h) h1 h2 on_way it.moments)
+            (IsKeptBy job format given earlier groups h) h1 h2 on_way it.moments)
 
-        pub went : Went job given earlier answer h h2
+        pub went : Went job format given earlier answer h h2
         went =
             let point : Point = record { left = it.left; here = it.here; text = it.within.text } in
             record {
               before = groups;
               stood = sym all;
               old_gate = gate;
-              held = subst (λ (l : List ℕ). Holds (front_for job) l groups gate) (contents 0) rest.log.holds;
+              held = subst (λ (l : List ℕ). Holds (front_in format job) l groups gate) (contents 0) rest.log.holds;
               point = point;
               course = record { behind = before; history = its_history; comes = it.comes };
               log =
@@ -172,11 +176,12 @@ module _ (job : Job) (given : Input) (earlier : List Entry) (are : AreDefs job.d
 pub unchanged_same : (h : Disk) → IsLawful h → IsUnchanged h h
 unchanged_same h law = record { contents = λ set. refl; sent = refl; crash = started (Syncs h 0) h law (same_synced h) }
 
-module _ (job : Job) (given : Input) (earlier : List Entry) (h h1 : Disk) (law : IsLawful h) (law1 : IsLawful h1)
-    (safe : IsSafeFor job h earlier) (contents : (set : ℕ) → h1.contents set ≡ h.contents set) (sent : h1.sent ≡ h.sent)
+module _ (job : Job) (format : ℕ) (given : Input) (earlier : List Entry) (h h1 : Disk) (law : IsLawful h)
+    (law1 : IsLawful h1)
+    (safe : IsSafeFor job format h earlier) (contents : (set : ℕ) → h1.contents set ≡ h.contents set) (sent : h1.sent ≡ h.sent)
     (run : Through h h1 (Syncs h 0)) where
   abbrev its : History
-  its = stood job (h.contents 0) earlier safe.now
+  its = stood job format (h.contents 0) earlier safe.now
 
   abbrev at_first : Machine
   at_first = at_rest (rules_for job) given.lines its
@@ -188,25 +193,19 @@ module _ (job : Job) (given : Input) (earlier : List Entry) (h h1 : Disk) (law :
   settled : (s : Snapshot) → h1.may_leave s → Settles h 0 (s.images 0)
   settled s left = (run.each s (law1.earlier h.moment h1.moment s run.later (law1.counts_now s left))).this
 
-  abbrev its_course : Course job given earlier given.events at_first
+  abbrev its_course : Course job format given earlier given.events at_first
   its_course = record {
     behind = its;
-    history = is_history job (h.contents 0) earlier safe.now;
+    history = is_history job format (h.contents 0) earlier safe.now;
     comes = record {
       environments = [];
       goes = way.here;
       calm = refl;
       made = none_made;
-      format =
-          ap (λ (format : ℕ). format_at format its.entries)
-          (format_stays (rules_for job) (beginning 1 (start job.defs)) earlier its safe.now.history.leads)
-          ∙ ap (format_at 1)
-          (entries_put (rules_for job) (beginning 1 (start job.defs)) earlier its safe.now.history.leads)
-          ∙ safe.now.still;
     };
   }
 
-  pub went_not : (answer : Status) → MayStandIn answer → Went job given earlier answer h h1
+  pub went_not : (answer : Status) → MayStandIn answer → Went job format given earlier answer h h1
   went_not answer in_place =
       let groups = safe.now.groups in
       record {
@@ -221,15 +220,15 @@ module _ (job : Job) (given : Input) (earlier : List Entry) (h h1 : Disk) (law :
           few = omega arith;
           gate = safe.now.gate;
           groups =
-              subst (λ (gs : List (List Entry)). IsLog (front_for job) (h1.contents 0) gs safe.now.gate)
+              subst (λ (gs : List (List Entry)). IsLog (front_in format job) (h1.contents 0) gs safe.now.gate)
               (sym (append-nil groups))
-              (subst (λ (l : List ℕ). IsLog (front_for job) l groups safe.now.gate) (sym (contents 0))
+              (subst (λ (l : List ℕ). IsLog (front_in format job) l groups safe.now.gate) (sym (contents 0))
               (record { holds = safe.now.holds; stands = safe.now.stands }));
           sound =
-              subst (λ (gs : List (List Entry)). IsSoundFor job (h1.contents 0) (entries_of gs))
+              subst (λ (gs : List (List Entry)). IsSoundFor job format (h1.contents 0) (entries_of gs))
               (sym (append-nil groups))
-              (subst (IsSoundFor job (h1.contents 0)) safe.now.all
-              (subst (λ (l : List ℕ). IsSoundFor job l earlier) (sym (contents 0)) safe.now));
+              (subst (IsSoundFor job format (h1.contents 0)) safe.now.all
+              (subst (λ (l : List ℕ). IsSoundFor job format l earlier) (sym (contents 0)) safe.now));
           told = record { more = []; rest = []; from = refl; to = refl };
         };
         sent = sent ∙ sym (append-nil h.sent);
@@ -241,5 +240,5 @@ module _ (job : Job) (given : Input) (earlier : List Entry) (h h1 : Disk) (law :
               unsent = refl;
               images = λ log settles. settles_again h h1 0 log settled settles;
             });
-        moments = weaker (Syncs h 0) (IsKeptBy job given earlier groups h) h h1 (λ s is. inl is) run;
+        moments = weaker (Syncs h 0) (IsKeptBy job format given earlier groups h) h h1 (λ s is. inl is) run;
       }

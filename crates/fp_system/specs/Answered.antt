@@ -11,11 +11,11 @@ use Rattle.fp_system.specs.Parts.{Job, rules_for}
 -- Behind the entries from before, those of this run answer just its lines: of each terminal its lines, in their order,
 -- and so those in which no terminal can be read. They stand in the log for good, and just their reply lines were sent,
 -- in the order of the log.
-pub record AnswersEachLine (job : Job) (lines : List (List ℕ)) (earlier : List Entry) (old new : Disk) : Type 0 where
+pub record AnswersEachLine (job : Job) (format : ℕ) (lines : List (List ℕ)) (earlier : List Entry) (old new : Disk) : Type 0 where
   pub later : List Entry
   pub in_order : (terminal : Option Name)
       → filter (is_from (rules_for job) terminal) (lines_answered later)
       ≡ filter (is_from (rules_for job) terminal) lines
-  pub sound : IsSoundFor job (new.contents 0) (earlier ++ later)
+  pub sound : IsSoundFor job format (new.contents 0) (earlier ++ later)
   pub durable : IsDurable new 0
   pub sent : new.sent ≡ old.sent ++ lines_of_entries later

@@ -1,5 +1,6 @@
 -- Courses of a run: how far turns of the table come behind what a log has, and what was sealed and sent by then.
 use Rattle.std.specs.Prelude.{◌≡◌, ◌⊎◌, ⊤, ℕ, ◌-◌, ◌≤◌, List, [], ◌++◌, drop, length, None, Some}
+use Rattle.balancing.specs.Numbered.{Numbered}
 use Rattle.fp_core.specs.Sparing.{IsSealing}
 use Rattle.fp_core.specs.Standing.{IsBetween, IsWithin, Origin, seals_of}
 use Rattle.fp_model.specs.declared.events.Event.{Event}
@@ -7,7 +8,7 @@ use Rattle.fp_model.specs.declared.events.Event.TheVariants as event
 use Rattle.fp_model.specs.declared.log.Entry.{Entry}
 use Rattle.fp_model.specs.Groups.{entries_of}
 use Rattle.fp_model.specs.History.{History, place_of}
-use Rattle.fp_model.specs.Lasts.{format_at}
+use Rattle.fp_model.specs.Lasts.{format_at, lasts_of}
 use Rattle.fp_model.specs.Machine.{Idle, Machine, at_rest, region_at, sealed_times}
 use Rattle.fp_model.specs.Runs.{IsDrained}
 use Rattle.fp_model.specs.SerialHistory.{IsSerial}
@@ -20,7 +21,7 @@ use Rattle.msdb_store.specs.Store.{Stored}
 use Rattle.schedule_runs.specs.Standing.{IsLeftOnWay}
 use Rattle.schedule_runs.specs.Ways.{Comes, next_event}
 use Rattle.fp_system.specs.Answers.{MayStandIn}
-use Rattle.fp_system.specs.Parts.{Job, front_for, rules_for}
+use Rattle.fp_system.specs.Parts.{Job, front_in, rules_for}
 use Rattle.fp_system.specs.declared.status.Status.{Status}
 use Rattle.fp_system.specs.declared.status.Status.TheVariants.{Done, ReadFault, SiteFault, Line, NoMemory}
 
@@ -32,21 +33,21 @@ pub record Input : Type 0 where
 abbrev pub input : List Event → List (List ℕ) → Input
 input events lines = record { events = events; lines = lines }
 
--- the log is a serial history of these entries under the job
-abbrev pub IsSoundFor : Job → List ℕ → List Entry → Type 0
-IsSoundFor job log entries = IsSound job.defs job.scripts (front_for job) log entries
+-- the log is a serial history of these entries under the job, behind a front of this format
+abbrev pub IsSoundFor : Job → ℕ → List ℕ → List Entry → Type 0
+IsSoundFor job format log entries = IsSound job.defs job.scripts (front_in format job) log entries
 
--- a serial history of these entries, behind a front of format 1
-pub record IsHistoryOf (job : Job) (earlier : List Entry) (h : History) : Type 0 where
+-- a serial history of these entries, behind a front of this format
+pub record IsHistoryOf (job : Job) (format : ℕ) (earlier : List Entry) (h : History) : Type 0 where
   pub is_serial : IsSerial (rules_for job) h
   pub entries : h.entries ≡ earlier
-  pub format : h.format ≡ 1
+  pub front : h.format ≡ format
 
 -- From the machine at rest behind the earlier entries, with these lines, turns of the table lead over the schedule and
 -- the drain to this machine, and these events are left.
-pub record Course (job : Job) (given : Input) (earlier : List Entry) (left : List Event) (here : Machine) : Type 0 where
+pub record Course (job : Job) (format : ℕ) (given : Input) (earlier : List Entry) (left : List Event) (here : Machine) : Type 0 where
   pub behind : History
-  pub history : IsHistoryOf job earlier behind
+  pub history : IsHistoryOf job format earlier behind
   pub comes : Comes job.defs (rules_for job) given.events (at_rest (rules_for job) given.lines behind) left here
 
 -- How far a run had come: the events that were left, the machine that turns had led to, and the text that was sent
@@ -63,26 +64,26 @@ with_seals job point times = sealed_times times (rules_for job) point.here
 -- A log goes on from the groups before by just those that the machine sealed, and just its bytes were sent. Where the
 -- next step is LOG or CKPT, that may have sealed so many groups more, and sent a first part of the lines of their
 -- entries. It is sound.
-pub record GoesOnTo (job : Job) (before : List (List Entry)) (point : Point) (log : List ℕ) : Type 0 where
+pub record GoesOnTo (job : Job) (format : ℕ) (before : List (List Entry)) (point : Point) (log : List ℕ) : Type 0 where
   pub times : ℕ
   pub few : times ≤ seals_of (next_event point.left) point.here
   pub gate : ℕ
-  pub groups : HasLog (front_for job) log (before ++ (with_seals job point times).groups) gate
-  pub sound : IsSoundFor job log (entries_of (before ++ (with_seals job point times).groups))
+  pub groups : HasLog (front_in format job) log (before ++ (with_seals job point times).groups) gate
+  pub sound : IsSoundFor job format log (entries_of (before ++ (with_seals job point times).groups))
   pub told : IsBetween point.here.sent point.text (with_seals job point times).sent
 
 -- A crash left a log that goes on so, from wherever the run had come by then.
-pub record GoesOnBy (job : Job) (given : Input) (earlier : List Entry) (before : List (List Entry)) (old : Disk)
-    (s : Snapshot) : Type 0 where
+pub record GoesOnBy (job : Job) (format : ℕ) (given : Input) (earlier : List Entry) (before : List (List Entry))
+    (old : Disk) (s : Snapshot) : Type 0 where
   pub point : Point
-  pub course : Course job given earlier point.left point.here
-  pub log : GoesOnTo job before point (s.images 0)
+  pub course : Course job format given earlier point.left point.here
+  pub log : GoesOnTo job format before point (s.images 0)
   pub sent : old.tells_sent → s.sent ≡ old.sent ++ point.text
 
 -- A snapshot keeps what stood: it is one that a crash might have left as the call began, but for a sync of the log, or
 -- its log goes on from it.
-abbrev pub IsKeptBy : Job → Input → List Entry → List (List Entry) → Disk → Snapshot → Type 0
-IsKeptBy job given earlier before old s = Syncs old 0 s ⊎ GoesOnBy job given earlier before old s
+abbrev pub IsKeptBy : Job → ℕ → Input → List Entry → List (List Entry) → Disk → Snapshot → Type 0
+IsKeptBy job format given earlier before old s = Syncs old 0 s ⊎ GoesOnBy job format given earlier before old s
 
 -- ---- where a run ends
 
@@ -112,10 +113,10 @@ EndsAt job given _ left here = ⊥
 
 -- A run ended there with this answer. Each log that a sync may make of its own goes on so; and it is for good, where
 -- the next step seals nothing.
-pub record IsEnded (job : Job) (given : Input) (answer : Status) (before : List (List Entry)) (point : Point)
-    (new : Disk) : Type 0 where
+pub record IsEnded (job : Job) (format : ℕ) (given : Input) (answer : Status) (before : List (List Entry))
+    (point : Point) (new : Disk) : Type 0 where
   pub ends : EndsAt job given answer point.left point.here
-  pub images : (log : List ℕ) → Settles new 0 log → GoesOnTo job before point log
+  pub images : (log : List ℕ) → Settles new 0 log → GoesOnTo job format before point log
   pub rest : ¬ IsSealing (next_event point.left) → IsDurable new 0
 
 -- No step was done: a fault or want of memory came first. Each log that a sync may make is one that it might have made
@@ -130,13 +131,16 @@ pub record IsNotBegun (given : Input) (answer : Status) (start : Machine) (point
 
 -- ---- from where a run begins
 
--- What a run begins with: the log is at rest behind the groups of the origin, in which so many entries are sealed, and
--- the store has the databases of a history of so many entries, in format 1.
-pub record IsBegun (origin : Origin) (h : History) (store : Stored) (log : LogState) (disk : Disk) : Type 0 where
+-- What a run begins with: the log is at rest behind the groups of the origin, in which so many entries are sealed, the
+-- store has the databases of a history of so many entries, the next line is read in its format, and the numbers are those
+-- of its entries.
+pub record IsBegun (origin : Origin) (h : History) (store : Stored) (log : LogState) (numbers : Numbered) (disk : Disk)
+    : Type 0 where
   pub msdbs : h.now.msdbs ≡ store.msdbs
   pub place : place_of h ≡ log.sealed
   pub states : length h.past ≡ place_of h
-  pub format : format_at h.format h.entries ≡ 1
+  pub format : format_at h.format h.entries ≡ log.format
+  pub lasts : numbers.terminals ≡ lasts_of h.format h.entries
   pub at_rest : IsAtRest disk origin.front origin.groups log.gate
   pub sent : disk.sent ≡ origin.sent
 

@@ -1,11 +1,12 @@
 -- What the commands give, whatever the answer is.
-use Rattle.std.specs.Prelude.{◌≡◌, ◌⊎◌, ⊤, ℕ, ◌+◌, ◌≤◌, List, [], ◌++◌, drop, length, take, Err, Option, None, Some}
+use Rattle.std.specs.Prelude.{◌≡◌, ◌⊎◌, ⊤, ℕ, ◌+◌, ◌≤◌, List, [], ◌∷◌, ◌++◌, drop, length, take, Err, Option, None, Some}
 use Rattle.fp_model.specs.declared.log.Entry.{Entry}
+use Rattle.fp_model.specs.declared.log.Outcome.TheVariants.{Format}
 use Rattle.fp_model.specs.Groups.{entries_of}
 use Rattle.fp_model.specs.LogText.{first_gate, log_text}
 use Rattle.fp_model.specs.Machine.{at_rest}
 use Rattle.fp_model.specs.Recovery.{Holds}
-use Rattle.fp_site.specs.Disk.{Disk, IsDurable, Snapshot, Syncs}
+use Rattle.fp_site.specs.Disk.{Disk, IsDurable, Settles, Snapshot, Syncs}
 use Rattle.fp_site.specs.Moments.{OnlyOn, Through}
 use Rattle.fp_model.specs.declared.database.Db.{Db}
 use Rattle.fp_model.specs.SerialHistory.{IsSerialHistory}
@@ -19,17 +20,17 @@ use Rattle.fp_system.specs.Answers.{IsEarly}
 use Rattle.fp_core.specs.Sparing.{IsLogSet as IsLog, Spares}
 use Rattle.fp_system.specs.Ims.{IsUnchanged}
 use Rattle.fp_exits.specs.Kinds.{Kinds}
-use Rattle.fp_system.specs.Parts.{Job, HasSchedule, IsJob, definitions_in, front_for, rules_for}
+use Rattle.fp_system.specs.Parts.{Job, HasSchedule, IsJob, definitions_in, front_for, front_in, rules_for}
 use Rattle.fp_system.specs.Courses.{Course, GoesOnTo, Input, IsSoundFor, IsEnded, IsKeptBy, IsNotBegun, Point}
-use Rattle.fp_system.specs.Table.{Given, IsForeign, IsSpared}
+use Rattle.fp_system.specs.Table.{Given, IsOld, IsSpared}
 use Rattle.fp_system.specs.declared.status.Status.{Status}
 use Rattle.fp_system.specs.declared.status.Status.TheVariants.{Damaged, Done, ReadFault, NoMemory}
 use Rattle.command_words.specs.declared.words.Command.{Command}
 use Rattle.command_words.specs.declared.words.Command.TheVariants.{Define, Run}
 
--- the site safely holds these entries under the job
-abbrev pub IsSafeFor : Job → Disk → List Entry → Type 0
-IsSafeFor job disk entries = IsSafe job.defs job.scripts (front_for job) disk entries
+-- the site safely holds these entries under the job, behind a front of this format
+abbrev pub IsSafeFor : Job → ℕ → Disk → List Entry → Type 0
+IsSafeFor job format disk entries = IsSafe job.defs job.scripts (front_in format job) disk entries
 
 -- ---- define
 
@@ -56,27 +57,31 @@ KeepsFront gate old s = Syncs old 0 s ⊎ (take gate (s.images 0) ≡ take gate 
 -- stand in these groups, to where it ended. The log goes on by the groups that the machine sealed, and just its bytes
 -- were sent; where a step ended the run early, the turns before it are such a run. Or no step was done. At each moment
 -- since the call's start a crash leaves what stood, or a log that goes on from it.
-pub record Went (job : Job) (given : Input) (earlier : List Entry) (answer : Status) (old new : Disk) : Type 0 where
+pub record Went (job : Job) (format : ℕ) (given : Input) (earlier : List Entry) (answer : Status) (old new : Disk)
+    : Type 0 where
   pub before : List (List Entry)
   pub stood : entries_of before ≡ earlier
   pub old_gate : ℕ
-  pub held : Holds (front_for job) (old.contents 0) before old_gate
+  pub held : Holds (front_in format job) (old.contents 0) before old_gate
   pub point : Point
-  pub course : Course job given earlier point.left point.here
-  pub log : GoesOnTo job before point (new.contents 0)
+  pub course : Course job format given earlier point.left point.here
+  pub log : GoesOnTo job format before point (new.contents 0)
   pub sent : new.sent ≡ old.sent ++ point.text
   pub ended : IsNotBegun given answer (at_rest (rules_for job) given.lines course.behind) point old new
-      ⊎ IsEnded job given answer before point new
-  pub moments : Through old new (IsKeptBy job given earlier before old)
+      ⊎ IsEnded job format given answer before point new
+  pub moments : Through old new (IsKeptBy job format given earlier before old)
 
--- Whatever the answer is: another's log stays, and a bad one, and all other data sets. A log that can be read stays up
--- to its first gate that isn't open, where that is there, also if its entries are no history. A safe site goes on.
+-- Whatever the answer is: another's log stays, and a bad one, and one of format 1, and all other data sets. A log that
+-- can be read stays up to its first gate that isn't open, where that is there, also if its entries are no history. A safe
+-- site in format 2 goes on.
 pub record Ran (job : Job) (given : Input) (answer : Status) (old new : Disk) : Type 0 where
   pub spares : IsSpared job (old.contents 0) → IsUnchanged old new
+  pub first : IsOld job (old.contents 0) → IsUnchanged old new × ¬ (answer ≡ Done)
   pub others : Spares IsLog old new
-  pub keeps : (groups : List (List Entry)) (gate : ℕ) → HasLog (front_for job) (old.contents 0) groups gate
-      → Through old new (KeepsFront gate old)
-  pub goes : (earlier : List Entry) → IsSafeFor job old earlier → Went job given earlier answer old new
+  pub keeps : (format : ℕ) (groups : List (List Entry)) (gate : ℕ)
+      → HasLog (front_in format job) (old.contents 0) groups gate → Through old new (KeepsFront gate old)
+  pub goes : (format : ℕ) (earlier : List Entry) → IsSafeFor job format old earlier → ¬ (IsOld job (old.contents 0))
+      → Went job format given earlier answer old new
 
 -- ---- show and log
 
@@ -87,8 +92,8 @@ pub record Shown (job : Job) (answer : Status) (old new : Disk) : Type 0 where
   pub whole : answer ≡ Done → IsDbSent job.defs (front_for job) old new
   pub rests : answer ≡ Done → IsDurable new 0
   pub sends : SendsDb job.defs (front_for job) old new
-  pub means : (entries : List Entry) (last : Db) → IsSoundFor job (old.contents 0) entries
-      → IsSerialHistory (rules_for job) 1 entries last → answer ≡ Done
+  pub means : (format : ℕ) (entries : List Entry) (last : Db) → IsSoundFor job format (old.contents 0) entries
+      → IsSerialHistory (rules_for job) format entries last → answer ≡ Done
       → new.sent ≡ old.sent ++ db_text job.defs last
 
 -- With Done the text of all groups up to the first gate that isn't open was sent, with Damaged that of the groups
@@ -98,6 +103,44 @@ pub record Logged (job : Job) (answer : Status) (old new : Disk) : Type 0 where
   pub whole : answer ≡ Done → IsLogSent (front_for job) old new
   pub damaged : (at : ℕ) → answer ≡ Damaged 0 at → IsSentToDamage (front_for job) at old new
   pub sends : SendsGroups (front_for job) old new
+
+-- ---- migrate
+
+-- The entry that lets messages have numbers from its place on.
+abbrev pub format_entry : ℕ → Entry
+format_entry place = record { from = place; outcome = Format; line = []; reply = []; notes = []; items = [] }
+
+-- A log has the entries from before, or behind them the one that lets messages have numbers; it is sound.
+abbrev pub IsMigratedOr : Job → ℕ → List Entry → List ℕ → Type 0
+IsMigratedOr job format earlier log =
+    IsSoundFor job format log earlier ⊎ IsSoundFor job format log (earlier ++ format_entry (length earlier) ∷ [])
+
+-- A crash left such a log, and nothing was sent.
+pub record IsMigrating (job : Job) (format : ℕ) (earlier : List Entry) (old : Disk) (s : Snapshot) : Type 0 where
+  pub log : IsMigratedOr job format earlier (s.images 0)
+  pub sent : old.tells_sent → s.sent ≡ old.sent
+
+-- What becomes of a safe site in format 1. Nothing is sent. The log has the entries from before, and with Done also the
+-- one more, for good; so has each log that a sync may make of it, or it is one that a sync might have made before. At
+-- each moment a crash leaves what stood, but for a sync of the log, or such a log.
+pub record Moved (job : Job) (format : ℕ) (earlier : List Entry) (answer : Status) (old new : Disk) : Type 0 where
+  pub sent : new.sent ≡ old.sent
+  pub done : answer ≡ Done
+      → IsSoundFor job format (new.contents 0) (earlier ++ format_entry (length earlier) ∷ []) × IsDurable new 0
+  pub images : (log : List ℕ) → Settles new 0 log → Settles old 0 log ⊎ IsMigratedOr job format earlier log
+  pub moments : Through old new (λ s. Syncs old 0 s ⊎ IsMigrating job format earlier old s)
+
+-- Whatever the answer is: another's log stays, and a bad one, and one of format 2, and all other data sets. A log that
+-- can be read stays up to its first gate that isn't open, where that is there. A safe site in format 1 gets the one entry
+-- whole, or stays.
+pub record Migrated (job : Job) (answer : Status) (old new : Disk) : Type 0 where
+  pub spares : IsSpared job (old.contents 0) → IsUnchanged old new
+  pub stays : ¬ (IsOld job (old.contents 0)) → IsUnchanged old new
+  pub others : Spares IsLog old new
+  pub keeps : (format : ℕ) (groups : List (List Entry)) (gate : ℕ)
+      → HasLog (front_in format job) (old.contents 0) groups gate → Through old new (KeepsFront gate old)
+  pub goes : (format : ℕ) (earlier : List Entry) → IsSafeFor job format old earlier → IsOld job (old.contents 0)
+      → Moved job format earlier answer old new
 
 -- ---- what stays
 

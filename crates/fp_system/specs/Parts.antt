@@ -4,6 +4,7 @@ use Rattle.fp_defs.specs.Exits.{defs_for}
 use Rattle.fp_defs.specs.declared.fault.DefsFault.{DefsFault}
 use Rattle.fp_exits.specs.Kinds.{Kinds}
 use Rattle.fp_model.specs.LogText.{Front}
+use Rattle.log_groups.specs.Images.{in_format}
 use Rattle.fp_model.specs.Product.{rules_of}
 use Rattle.fp_model.specs.Recovery.{front_of}
 use Rattle.fp_model.specs.Rules.{Rules}
@@ -27,9 +28,13 @@ pub record Job : Type 0 where
   pub scripts : List Script
   pub scripts_text : List ℕ
 
--- the front of a log that is made for them: in format 1, in which no message has a number
+-- the front of a log that is made for them: in format 2, in which messages may have numbers
 abbrev pub front_for : Job → Front
-front_for job = front_of 1 job.defs job.scripts_text
+front_for job = front_of 2 job.defs job.scripts_text
+
+-- that of a log of theirs in a format
+abbrev pub front_in : ℕ → Job → Front
+front_in format job = in_format format (front_for job)
 
 -- the rules by which they run
 abbrev pub rules_for : Job → Rules

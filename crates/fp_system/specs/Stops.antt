@@ -3,19 +3,21 @@ use Rattle.std.specs.Prelude.{◌≡◌, ℕ, List, [], ◌++◌, take}
 use Rattle.fp_model.specs.declared.log.Entry.{Entry}
 use Rattle.fp_site.specs.Disk.{Disk, IsDurable, Settles, Snapshot}
 use Rattle.log_groups.specs.Kept.{lines_of_entries}
+use Rattle.number_laws.specs.Once.{IsOnce}
 use Rattle.fp_system.specs.Courses.{Input, IsSoundFor}
-use Rattle.fp_system.specs.Gives.{Ran}
+use Rattle.fp_system.specs.Gives.{Migrated, Ran}
 use Rattle.fp_system.specs.Ims.{IsUnchanged}
 use Rattle.fp_system.specs.Parts.{Job}
 use Rattle.fp_system.specs.declared.status.Status.{Status}
 
--- What stood at some time: the entries of the log, and the bytes sent by then.
+-- What stood at some time: the format of the log's front, its entries, and the bytes sent by then.
 pub record Standing : Type 0 where
+  pub format : ℕ
   pub entries : List Entry
   pub sent : List ℕ
 
-abbrev pub standing : List Entry → List ℕ → Standing
-standing entries sent = record { entries = entries; sent = sent }
+abbrev pub standing : ℕ → List Entry → List ℕ → Standing
+standing format entries sent = record { format = format; entries = entries; sent = sent }
 
 -- ---- what was answered
 
@@ -29,7 +31,7 @@ pub data IsTold : List Entry → List ℕ → Type 0 where
 -- each line that was sent since.
 pub record HoldsSince (job : Job) (start : Standing) (sent log : List ℕ) : Type 0 where
   pub later : List Entry
-  pub sound : IsSoundFor job log (start.entries ++ later)
+  pub sound : IsSoundFor job start.format log (start.entries ++ later)
   pub text : List ℕ
   pub since : sent ≡ start.sent ++ text
   pub told : IsTold later text
@@ -42,12 +44,25 @@ HoldsOn job start disk = (log : List ℕ) → Settles disk 0 log → HoldsSince 
 abbrev pub HeldThrough : Job → Standing → ℕ → Disk → Type 0
 HeldThrough job start moment new = (s : Snapshot) → new.left_since moment s → HoldsSince job start s.sent (s.images 0)
 
+-- ---- numbers
+
+-- A log holds what stood, and no number of a terminal was used up twice: each Repeat has the reply line of the entry that
+-- used up its number.
+pub record IsOnceSince (job : Job) (start : Standing) (sent log : List ℕ) : Type 0 where
+  pub holds : HoldsSince job start sent log
+  pub once : IsOnce start.format (start.entries ++ holds.later)
+
+-- So it is on a disk, also in each log that a crash now may leave, or a sync make of that.
+abbrev pub IsOnceOn : Job → Standing → Disk → Type 0
+IsOnceOn job start disk = (log : List ℕ) → Settles disk 0 log → IsOnceSince job start disk.sent log
+
 -- ---- again and again
 
--- One call: a run of the job, whatever it was given and whatever it answers; or a call that leaves the disk, as that of
--- another job does.
+-- One call: a run of the job, whatever it was given and whatever it answers; its migration; or a call that leaves the
+-- disk, as that of another job does.
 pub data Calls (job : Job) (old new : Disk) : Type 0 where
   ran : {given : Input} {answer : Status} → Ran job given answer old new → Calls job old new
+  migrated : {answer : Status} → Migrated job answer old new → Calls job old new
   spared : IsUnchanged old new → Calls job old new
 
 -- a site begins as what a crash left at some moment since an earlier one

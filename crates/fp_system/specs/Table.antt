@@ -7,9 +7,10 @@ use Rattle.fp_exits.specs.Kinds.{Kinds, kinds_of}
 use Rattle.fp_exits.specs.declared.exits.Exits.{Exits}
 use Rattle.fp_model.specs.declared.name.Name.{Name}
 use Rattle.fp_model.specs.declared.log.Entry.{Entry}
-use Rattle.fp_model.specs.Groups.{HoldsGroups, IsDamaged}
-use Rattle.fp_model.specs.LogText.{StartsWithFront, first_gate}
-use Rattle.fp_model.specs.Recovery.{Holds}
+use Rattle.fp_model.specs.Groups.{HoldsGroups, IsDamaged, entries_of}
+use Rattle.fp_model.specs.Lasts.{format_at}
+use Rattle.fp_model.specs.LogText.{first_gate}
+use Rattle.log_groups.specs.Images.{BeginsFor, HoldsFor}
 use Rattle.fp_restart.specs.Replayed.{IsFirstBadAt, IsReadable}
 use Rattle.fp_site.specs.Disk.{Disk}
 use Rattle.fp_source.specs.declared.part.Part.{Part}
@@ -18,9 +19,9 @@ use Rattle.fp_system.specs.Answers.{MayStandIn, faulty_line}
 use Rattle.fp_system.specs.Parts.{Job, HasSchedule, IsJob, Refuses, front_for}
 use Rattle.command_words.specs.Words.{command_of}
 use Rattle.fp_system.specs.declared.status.Status.{Status}
-use Rattle.fp_system.specs.declared.status.Status.TheVariants.{Done, Usage, Foreign, Damaged, Line}
+use Rattle.fp_system.specs.declared.status.Status.TheVariants.{Done, Usage, Foreign, Damaged, Line, OldFormat}
 use Rattle.command_words.specs.declared.words.Command.{Command}
-use Rattle.command_words.specs.declared.words.Command.TheVariants.{Define, Run, Show, Log}
+use Rattle.command_words.specs.declared.words.Command.TheVariants.{Define, Run, Show, Log, Migrate}
 
 -- What a call is given, as it is told: the kinds of exit that there are, the words behind the program's name, what is
 -- left of each part, and what each data set holds.
@@ -45,13 +46,13 @@ pub record Asks (g : Given) (command : Command) (job : Job) : Type 0 where
 
 -- ---- the log
 
--- the log doesn't begin with the job's open front
+-- the log begins with the job's open front in neither format
 abbrev pub IsForeign : Job → List ℕ → Type 0
-IsForeign job log = ¬ (StartsWithFront log (front_for job))
+IsForeign job log = ¬ (BeginsFor (front_for job) log)
 
 -- behind the front it is bad, first at this place
 pub record IsBadFirst (job : Job) (log : List ℕ) (at : ℕ) : Type 0 where
-  pub begins : StartsWithFront log (front_for job)
+  pub begins : BeginsFor (front_for job) log
   pub bad : IsFirstBadAt job.defs log (first_gate (front_for job)) at
 
 -- another's log, or one that is bad somewhere
@@ -60,7 +61,7 @@ IsSpared job log = IsForeign job log ⊎ ((at : ℕ) × IsBadFirst job log at)
 
 -- it is the job's, and can be read to a gate that isn't open
 pub record IsGood (job : Job) (log : List ℕ) : Type 0 where
-  pub begins : StartsWithFront log (front_for job)
+  pub begins : BeginsFor (front_for job) log
   pub readable : IsReadable job.defs log (first_gate (front_for job))
 
 -- The log is judged first. Of a good one the answer is what stands behind.
@@ -73,9 +74,9 @@ pub data ByLog (job : Job) (log : List ℕ) (behind : Status → Type 0) : Statu
 -- the end.
 pub data ByGroups (job : Job) (log : List ℕ) : Status → Type 0 where
   of_others : IsForeign job log → ByGroups job log Foreign
-  broken : (groups : List (List Entry)) {at : ℕ} → StartsWithFront log (front_for job)
+  broken : (groups : List (List Entry)) {at : ℕ} → BeginsFor (front_for job) log
       → HoldsGroups log (first_gate (front_for job)) groups at → IsDamaged log at → ByGroups job log (Damaged 0 at)
-  whole : (groups : List (List Entry)) (gate : ℕ) → Holds (front_for job) log groups gate → ByGroups job log Done
+  whole : (groups : List (List Entry)) (gate : ℕ) → HoldsFor (front_for job) log groups gate → ByGroups job log Done
 
 -- ---- the lines
 
@@ -84,17 +85,27 @@ abbrev pub end_of_lines : Option ℕ → Status
 end_of_lines None = Done
 end_of_lines (Some number) = Line number
 
-abbrev pub IsEnd : List ℕ → Status → Type 0
-IsEnd messages answer = answer ≡ end_of_lines (faulty_line messages)
+-- The log is one of format 1: behind its entries a line is still read in it.
+pub record IsOld (job : Job) (log : List ℕ) : Type 0 where
+  pub groups : List (List Entry)
+  pub gate : ℕ
+  pub holds : HoldsFor (front_for job) log groups gate
+  pub first : format_at holds.begins.format (entries_of groups) ≡ 1
+
+-- No line of a log of format 1 is read. Of any other it is the first line that isn't taken, or the end.
+pub data IsEnd (job : Job) (log messages : List ℕ) : Status → Type 0 where
+  old : IsOld job log → IsEnd job log messages OldFormat
+  lines : ¬ (IsOld job log) → IsEnd job log messages (end_of_lines (faulty_line messages))
 
 -- ---- the table
 
 -- what a command is due, of a job
 abbrev pub IsDueTo : Command → Job → Given → Status → Type 0
 IsDueTo Define job g answer = answer ≡ Done
-IsDueTo Run job g answer = ByLog job (g.contents 0) (IsEnd (g.left part.Messages)) answer
+IsDueTo Run job g answer = ByLog job (g.contents 0) (IsEnd job (g.contents 0) (g.left part.Messages)) answer
 IsDueTo Show job g answer = ByLog job (g.contents 0) (λ behind. behind ≡ Done) answer
 IsDueTo Log job g answer = ByGroups job (g.contents 0) answer
+IsDueTo Migrate job g answer = ByLog job (g.contents 0) (λ behind. behind ≡ Done) answer
 
 -- the answer that a call is due
 pub data IsDue (g : Given) : Status → Type 0 where

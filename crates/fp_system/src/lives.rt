@@ -2,12 +2,12 @@
 //! it.
 ghost use Rattle.fp_site.specs.Memory.{memory_disk};
 ghost use Rattle.fp_system.specs.Parts.{Job};
-ghost use Rattle.fp_system.specs.Stops.{HoldsOn, Standing, standing};
+ghost use Rattle.fp_system.specs.Stops.{HoldsOn, IsOnceOn, Standing, standing};
 ghost use Rattle.fp_system.specs.Table.{Asks, given};
 ghost use Rattle.command_words.specs.declared.words.Command.TheVariants as command;
 ghost use Rattle.std.specs.Prelude.{◌≡◌, [], true, IfOk, IfSome};
 
-use crate::laws::a_call_keeps_what_was_answered;
+use crate::laws::{a_call_keeps_what_was_answered, a_number_counts_once};
 use crate::{Status, ims};
 use fp_exits::Exits;
 use fp_site::MemorySite;
@@ -60,7 +60,7 @@ fn is_made<S: Source>(
 ) -> bool
     ensures { (job : Job) → S.told source.old
         → Asks (given exits.now words.now (S.left source.old) (memory_disk site.old)) command.Define job
-        → result ≡ true → HoldsOn job (standing [] (memory_disk site.old).sent) (memory_disk site.new) }
+        → result ≡ true → HoldsOn job (standing 2 [] (memory_disk site.old).sent) (memory_disk site.new) }
 {
     match ims(alloc, words, source, site, exits) {
         Status::Done => true,
@@ -88,7 +88,7 @@ pub fn define_and_run<S: Source>(
         → Asks (given exits.now run.now (S.left second.old) (memory_disk site.old)) command.Run job
         → Asks (given exits.now run.now (S.left third.old) (memory_disk site.old)) command.Run job →
         IfOk result (λ made. IfSome made (λ last.
-        HoldsOn job (standing [] (memory_disk site.old).sent) (memory_disk last))) }
+        HoldsOn job (standing 2 [] (memory_disk site.old).sent) (memory_disk last))) }
 {
     if !is_made(alloc, define, parts, site, exits) {
         return Ok(None);
@@ -97,4 +97,32 @@ pub fn define_and_run<S: Source>(
     let mut next = run_and_stop(alloc, run, second, site, exits, choice)?;
     run_once(alloc, run, third, &mut next, exits);
     Ok(Some(next))
+}
+
+/// The same. A message with a number that was sent in more than one of the runs counted once.
+pub fn define_and_send_again<S: Source>(
+    alloc: Global,
+    define: &[String],
+    run: &[String],
+    parts: &mut S,
+    first: &mut S,
+    second: &mut S,
+    third: &mut S,
+    site: &mut MemorySite,
+    exits: &Exits,
+    choice: u64,
+) -> Result<Option<MemorySite>, AllocError>
+    ensures { (job : Job) → S.told parts.old → S.told first.old → S.told second.old → S.told third.old
+        → Asks (given exits.now define.now (S.left parts.old) (memory_disk site.old)) command.Define job
+        → Asks (given exits.now run.now (S.left first.old) (memory_disk site.old)) command.Run job
+        → Asks (given exits.now run.now (S.left second.old) (memory_disk site.old)) command.Run job
+        → Asks (given exits.now run.now (S.left third.old) (memory_disk site.old)) command.Run job →
+        IfOk result (λ made. IfSome made (λ last.
+        IsOnceOn job (standing 2 [] (memory_disk site.old).sent) (memory_disk last))) }
+{
+    let made = define_and_run(
+        alloc, define, run, parts, first, second, third, site, exits, choice,
+    )?;
+    a_number_counts_once::<MemorySite>();
+    Ok(made)
 }

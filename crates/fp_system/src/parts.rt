@@ -6,13 +6,7 @@ ghost use Rattle.fp_source.specs.Source.{ReadsOnly};
 ghost use Rattle.fp_source.specs.declared.part.Part.TheVariants as part;
 ghost use Rattle.fp_schedule.specs.Schedule.{events_of};
 ghost use Rattle.fp_schedule.specs.declared.fault.ScheduleFault.{ScheduleFault as ScheduleFaultOf};
-ghost use Rattle.fp_system.specs.Answers.{
-  MayStandIn,
-  IsOfParts,
-  status_of_definitions,
-  status_of_schedule,
-  status_of_scripts,
-};
+ghost use Rattle.fp_system.specs.Answers.{MayStandIn, IsOfParts, status_of_definitions, status_of_schedule, status_of_scripts};
 ghost use Rattle.fp_system.specs.Causes.{IsCausedBySource};
 ghost use Rattle.fp_system.specs.Parts.{HasSchedule, IsJob, Job as JobOf, Refuses, are_built, definitions_in};
 ghost use Rattle.fp_system.specs.Setups.{HasEventsFor, IsRefusedSchedule, IsSetup, job_of};
@@ -37,8 +31,8 @@ use log_groups::Front;
 use std::alloc::{AllocError, Global};
 use txn_lang::{ScriptFault, Scripts, parse};
 
-// The format of a log that is made: in this one no message has a number.
-const FORMAT: u8 = 1;
+// The format of a log that is made: in this one messages may have numbers.
+const FORMAT: u8 = 2;
 
 // How many bytes definitions and scripts have at most.
 const MOST_BYTES: u64 = 1_000_000;
@@ -295,7 +289,9 @@ fn read_rest<S: Source>(
 {
     match command {
         Command::Run => read_schedule(alloc, source, &setup.defs),
-        Command::Define | Command::Show | Command::Log => Ok(List::new(alloc)),
+        Command::Define | Command::Show | Command::Log | Command::Migrate => {
+            Ok(List::new(alloc))
+        },
     }
 }
 

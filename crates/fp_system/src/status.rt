@@ -48,6 +48,8 @@ pub enum Status {
     NoMemory,
     /// The part asks for something that isn't built yet.
     NotBuilt(Part),
+    /// The log is one of format 1, in which no message has a number: it is to be migrated before a run.
+    OldFormat,
 }
 
 impl From<AllocError> for Status {
@@ -93,6 +95,7 @@ impl Status {
             Status::Line { .. } => 9,
             Status::NoMemory => 10,
             Status::NotBuilt(_) => 11,
+            Status::OldFormat => 12,
         }
     }
 }
@@ -106,7 +109,7 @@ pub fn fault_text(alloc: Global, status: &Status) -> Result<Bytes, AllocError>
         Status::Usage => {
             Bytes::from_slice(
                 alloc,
-                b"usage: ims_fp define DIR | run DIR | show DIR | log DIR",
+                b"usage: ims_fp define DIR | run DIR | show DIR | log DIR | migrate DIR",
             )
         },
         Status::Definitions(fault) => definitions_text(alloc, fault),
@@ -119,5 +122,6 @@ pub fn fault_text(alloc: Global, status: &Status) -> Result<Bytes, AllocError>
         Status::Line { number } => line_text(alloc, *number),
         Status::NoMemory => Bytes::from_slice(alloc, b"no memory"),
         Status::NotBuilt(part) => joined(alloc, b"not built: ", part_name(*part), b""),
+        Status::OldFormat => Bytes::from_slice(alloc, b"old format"),
     }
 }

@@ -13,7 +13,7 @@ use Rattle.fp_model.specs.LogText.{
   group_text,
   groups_text,
 }
-use Rattle.fp_model.specs.Groups.{IsGroup}
+use Rattle.fp_model.specs.Groups.{Groups, IsGroup, Reads}
 use Rattle.fp_model.specs.Recovery.{Holds}
 use Rattle.gated_write.specs.Gates.{IsGatedImage}
 use Rattle.log_groups.specs.declared.front.Front.{Front as Kept}
@@ -31,6 +31,11 @@ pub record BeginsFor (front : Front) (bytes : List ℕ) : Type 0 where
   pub format : ℕ
   pub is_format : IsFormat format
   pub begins : StartsWithFront bytes (in_format format front)
+
+-- they hold these groups up to a gate that isn't open
+pub record HoldsFor (front : Front) (bytes : List ℕ) (groups : List (List Entry)) (gate : ℕ) : Type 0 where
+  pub begins : BeginsFor front bytes
+  pub reads : Reads bytes (first_gate front) (Groups groups gate)
 
 -- The bytes of a log: the open front, these groups, and the next gate, which is there and isn't open.
 pub record IsLog (front : Front) (bytes : List ℕ) (groups : List (List Entry)) (gate : ℕ) : Type 0 where

@@ -8,8 +8,7 @@ use Rattle.fp_model.specs.declared.log.Entry.{Entry}
 use Rattle.fp_model.specs.declared.scripts.Script.{Script}
 use Rattle.fp_model.specs.Groups.{entries_of}
 use Rattle.fp_model.specs.Items.{AreFit, items_of, with_items}
-use Rattle.fp_model.specs.Lasts.{format_at}
-use Rattle.fp_model.specs.LogText.{Front}
+use Rattle.fp_model.specs.LogText.{Front, IsFormat}
 use Rattle.fp_model.specs.Product.{rules_of}
 use Rattle.fp_model.specs.Recovery.{Holds}
 use Rattle.fp_model.specs.ReplyLine.{line_of}
@@ -24,9 +23,10 @@ lines_of_entries entries = flat_map line_of entries
 -- definitions, scripts, and the front of a log that is made for them
 module _ (defs : Defs) (scripts : List Script) (front : Front) where
   -- The log begins with the open front, its groups end at a gate that stands in it and isn't open, and their entries,
-  -- these, are a serial history in the front's format, which none of them changes. Their items are fit, and make of the
+  -- these, are a serial history whose first line is read in the front's format. Their items are fit, and make of the
   -- segments loaded those of the last state.
   pub record IsSound (log : List ℕ) (entries : List Entry) : Type 0 where
+    pub is_format : IsFormat front.format
     pub groups : List (List Entry)
     pub gate : ℕ
     pub holds : Holds front log groups gate
@@ -34,7 +34,6 @@ module _ (defs : Defs) (scripts : List Script) (front : Front) where
     pub all : entries ≡ entries_of groups
     pub last : Db
     pub history : IsSerialHistory (rules_of defs scripts) front.format entries last
-    pub still : format_at front.format entries ≡ front.format
     pub fit : AreFit defs (items_of entries)
     pub made : with_items defs.msdbs (start defs).msdbs (items_of entries) ≡ last.msdbs
 

@@ -178,7 +178,6 @@ comes_behind defs rules events m part mid left here c more = record {
   goes = goes_behind c.goes more.environments left here more.goes;
   calm = faults_both c.environments more.environments c.calm more.calm;
   made = more.made;
-  format = more.format;
 }
 
 -- no turn yet
@@ -189,7 +188,6 @@ comes_still rules events engine m stands = record {
   goes = ways.here;
   calm = refl;
   made = stands.made;
-  format = stands.format;
 }
 
 -- the turn of the next event
@@ -201,7 +199,6 @@ comes_turn e left m engine given t = record {
       (exact_of engine.defs.now (rules_in engine) m e t.environment t.after given t.is_did) ways.here;
   calm = calm_turn t.environment t.no_device;
   made = t.stands.made;
-  format = t.stands.format;
 }
 
 -- a whole drain
@@ -213,7 +210,6 @@ comes_drained origin m old new lines left engine d = record {
   goes = (drain_rounds engine.defs.now (rules_in engine) d.rounds m d.after d.drains d.exact).0;
   calm = calm_rounds d.rounds d.calm;
   made = d.beside.at.parts.made;
-  format = d.beside.at.parts.format;
 }
 
 -- a part of one
@@ -224,5 +220,4 @@ comes_within defs rules m here e i b = record {
   goes = b.goes;
   calm = b.calm;
   made = i.made;
-  format = i.format;
 }

@@ -6,7 +6,6 @@ use Rattle.fp_model.specs.declared.events.Event.TheVariants as event
 use Rattle.fp_model.specs.declared.log.Entry.{Entry}
 use Rattle.fp_model.specs.declared.log.Outcome.TheVariants as outcome
 use Rattle.fp_model.specs.History.{History}
-use Rattle.fp_model.specs.Lasts.{format_at}
 use Rattle.fp_model.specs.Machine.{Machine}
 use Rattle.fp_model.specs.Rules.{Rules}
 use Rattle.fp_model.specs.Runs.{IsDrained, is_device_fault, round}
@@ -46,11 +45,10 @@ NoneStarved count h =
     (place : ℕ) (e : Entry) → count ≤ place → slice_get h.entries place ≡ Some e → ¬ (e.outcome ≡ outcome.Memory)
 
 -- A run comes to here, with these events left: exact turns lead there, and no fault of the device befell one. The items
--- of each entry of the run are fit and make its next state, and no entry changed the log's format.
+-- of each entry of the run are fit and make its next state.
 pub record Comes (defs : Defs) (rules : Rules) (events : List Event) (m : Machine) (left : List Event)
     (here : Machine) : Type 0 where
   pub environments : List Environment
   pub goes : Goes defs rules events m environments left here
   pub calm : faults_in environments ≡ 0
   pub made : AreMade defs here
-  pub format : format_at here.history.format here.history.entries ≡ 1

@@ -1,4 +1,5 @@
 pub mod Parts
 pub mod Sealing
 pub mod Making
+pub mod Formats
 pub mod SoundLogs

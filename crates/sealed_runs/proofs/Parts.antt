@@ -1,5 +1,5 @@
 -- Parts of lists and of histories.
-use Rattle.std.proofs.Common.{◌≡◌, refl, sym, ◌∙◌, ap, arith, ℕ, zero, suc, ◌+◌, List, [], ◌∷◌, ◌++◌, length, take, drop, append_assoc}
+use Rattle.std.proofs.Common.{◌≡◌, refl, sym, ◌∙◌, ap, arith, ℕ, zero, suc, ◌+◌, inl, inr, ◌⊎◌, List, [], ◌∷◌, ◌++◌, length, take, drop, append_assoc}
 use Rattle.std.specs.Prelude.{Some, slice_get}
 use Rattle.std.proofs.Math.Seq.{take-add}
 use Rattle.std.proofs.lemmas.List.{append-nil}
@@ -61,30 +61,47 @@ items_first e es = flat_map-cons (λ (x : Entry). x.items) e es
 
 -- ---- formats
 
--- a format behind which is 1 was 1
-one_before : (format : ℕ) (o : Outcome) → format_behind format o ≡ 1 → format ≡ 1
-one_before format outcome.Done is = is
-one_before format (outcome.Verify call fsa found) is = is
-one_before format (outcome.Roll code) is = is
-one_before format (outcome.SeqFull set begin end n) is = is
-one_before format (outcome.Deadlock cycle) is = is
-one_before format outcome.Device is = is
-one_before format outcome.Memory is = is
-one_before format outcome.Unknown is = is
-one_before format (outcome.Old last) is = is
-one_before format (outcome.Repeat line) is = is
-one_before format (outcome.Purge set n) is = is
-one_before format outcome.Format is = absurd (omega (arith, is))
+-- an entry leaves a format, or makes it 2,
+either_behind : (format : ℕ) (o : Outcome) → (format_behind format o ≡ format) ⊎ (format_behind format o ≡ 2)
+either_behind format outcome.Done = inl refl
+either_behind format (outcome.Verify call fsa found) = inl refl
+either_behind format (outcome.Roll code) = inl refl
+either_behind format (outcome.SeqFull set begin end n) = inl refl
+either_behind format (outcome.Deadlock cycle) = inl refl
+either_behind format outcome.Device = inl refl
+either_behind format outcome.Memory = inl refl
+either_behind format outcome.Unknown = inl refl
+either_behind format (outcome.Old last) = inl refl
+either_behind format (outcome.Repeat line) = inl refl
+either_behind format (outcome.Purge set n) = inl refl
+either_behind format outcome.Format = inr refl
 
-pub one_first : (format : ℕ) (es : List Entry) → format_at format es ≡ 1 → format ≡ 1
-one_first format [] is = is
-one_first format (e ∷ es) is = one_before format e.outcome (one_first (format_behind format e.outcome) es is)
+-- and so do entries
+either_at : (format : ℕ) (es : List Entry) → (format_at format es ≡ format) ⊎ (format_at format es ≡ 2)
+either_at format [] = inl refl
+either_at format (e ∷ es) = elim (either_behind format e.outcome) [
+  | inl same ↦ elim (either_at format es) [
+    | inl stays ↦ inl (ap (λ (f : ℕ). format_at f es) same ∙ stays)
+    | inr two ↦ inr (ap (λ (f : ℕ). format_at f es) same ∙ two)
+  ]
+  | inr two ↦ elim (either_at 2 es) [
+    | inl stays ↦ inr (ap (λ (f : ℕ). format_at f es) two ∙ stays)
+    | inr still ↦ inr (ap (λ (f : ℕ). format_at f es) two ∙ still)
+  ]
+]
 
--- so it is behind a first part
-pub one_within : (format : ℕ) (es fs : List Entry) → format_at format (es ++ fs) ≡ 1 → format_at format es ≡ 1
-one_within format es fs is =
-    one_first (format_at format es) fs
-    (sym (fold-append (λ (before : ℕ) (e : Entry). format_behind before e.outcome) format es fs) ∙ is)
+two_at : (es : List Entry) → format_at 2 es ≡ 2
+two_at es = elim (either_at 2 es) [ inl stays ↦ stays | inr two ↦ two ]
+
+-- where it stays behind all of them, it does behind a first part
+pub format_within : (format : ℕ) (es fs : List Entry) → format_at format (es ++ fs) ≡ format
+    → format_at format es ≡ format
+format_within format es fs is = elim (either_at format es) [
+  | inl stays ↦ stays
+  | inr two ↦
+      two ∙ sym (two_at fs) ∙ sym (ap (λ (f : ℕ). format_at f fs) two)
+      ∙ sym (fold-append (λ (before : ℕ) (e : Entry). format_behind before e.outcome) format es fs) ∙ is
+]
 
 -- ---- histories
 

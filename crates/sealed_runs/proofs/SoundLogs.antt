@@ -27,17 +27,19 @@ use Rattle.fp_restart.proofs.Firsts.{fit-append}
 use Rattle.serial_order.specs.ProductView.{view_of}
 use Rattle.serial_order.proofs.ProductLaws.{laws_of}
 use Rattle.serial_order.proofs.Turns.{at_rest_rests, rest_kept, run_kept}
-use Rattle.sealed_runs.specs.Behind.{GoesFurther, IsBehind}
+use Rattle.serial_order.proofs.Lines.{refuses_only}
+use Rattle.sealed_runs.specs.Behind.{GoesFurther, IsBehind, KeepsFormat}
+use Rattle.sealed_runs.proofs.Formats.{run_format}
 use Rattle.sealed_runs.proofs.Making.{made_on}
-use Rattle.sealed_runs.proofs.Parts.{entries_both, items_both, one_first, one_within}
+use Rattle.sealed_runs.proofs.Parts.{entries_both, format_within, items_both}
 use Rattle.sealed_runs.proofs.Sealing.{HasSealed, run_from_rest, times_history, times_sealed}
 
 -- the text that another one begins with
 begins_with : (text more whole : List ℕ) → whole ≡ text ++ more → text ≡ take (length text) whole
 begins_with text more whole is = sym (ap (take (length text)) is ∙ take-append_seam text more)
 
-module _ (defs : Defs) (scripts : List Script) (earlier : List Entry) (m : Machine)
-    (behind : IsBehind defs scripts earlier m) where
+module _ (defs : Defs) (scripts : List Script) (its_format : ℕ) (earlier : List Entry) (m : Machine)
+    (behind : IsBehind defs scripts its_format earlier m) where
   abbrev rules : Rules
   rules = rules_of defs scripts
 
@@ -47,6 +49,11 @@ module _ (defs : Defs) (scripts : List Script) (earlier : List Entry) (m : Machi
 
   sealed_then : (times : ℕ) → HasSealed rules earlier (sealed_times times rules m)
   sealed_then times = times_sealed rules earlier times m sealed_so_far
+
+  -- the format of the log's front, and that in which lines are read
+  its_formats : KeepsFormat (at_rest rules behind.lines behind.start) m
+  its_formats = run_format rules (λ h line o. refuses_only scripts h line o)
+      (at_rest rules behind.lines behind.start) behind.steps m behind.runs
 
   pub sent_lines : (times : ℕ)
       → (sealed_times times rules m).sent ≡ lines_of_entries (entries_of (sealed_times times rules m).groups)
@@ -61,7 +68,7 @@ module _ (defs : Defs) (scripts : List Script) (earlier : List Entry) (m : Machi
         (run_kept rules view (laws_of defs scripts are.each_msdb) (at_rest rules behind.lines behind.start)
         behind.steps m behind.runs rest).history
 
-    module _ (none : defs.dedbs ≡ []) (its_front : Front) (one : its_front.format ≡ 1) (old : List ℕ)
+    module _ (none : defs.dedbs ≡ []) (its_front : Front) (same_format : its_front.format ≡ its_format) (old : List ℕ)
         (sound : IsSound defs scripts its_front old earlier) (times : ℕ) where
       abbrev later : List Entry
       later = entries_of (sealed_times times rules m).groups
@@ -78,13 +85,13 @@ module _ (defs : Defs) (scripts : List Script) (earlier : List Entry) (m : Machi
           (times_history rules earlier times m) in
           ap (λ (es : List Entry). es ++ rest) first ∙ take-append-drop s.sealed m.history.entries
 
-      first_format : m.history.format ≡ 1
-      first_format = one_first m.history.format m.history.entries behind.format
+      first_format : m.history.format ≡ its_front.format
+      first_format = its_formats.front ∙ behind.front ∙ sym same_format
 
       leads : LeadsOn rules (beginning its_front.format rules.start) ((earlier ++ later) ++ rest) m.history
       leads =
           subst (λ (format : ℕ). LeadsOn rules (beginning format rules.start) ((earlier ++ later) ++ rest) m.history)
-          (first_format ∙ sym one)
+          first_format
           (subst (λ (es : List Entry). LeadsOn rules (beginning m.history.format rules.start) es m.history)
           (sym entries_are) serial)
 
@@ -130,6 +137,7 @@ module _ (defs : Defs) (scripts : List Script) (earlier : List Entry) (m : Machi
           → IsLog its_front image (before ++ (sealed_times times rules m).groups) gate
           → IsSound defs scripts its_front image (earlier ++ later)
       sound_run before image gate all log = record {
+        is_format = sound.is_format;
         groups = before ++ (sealed_times times rules m).groups;
         gate = gate;
         holds = log.holds;
@@ -138,11 +146,6 @@ module _ (defs : Defs) (scripts : List Script) (earlier : List Entry) (m : Machi
             ap (λ (es : List Entry). es ++ later) all ∙ sym (entries_both before (sealed_times times rules m).groups);
         last = last.now;
         history = record { history = last; leads = all_front.1.0; ends = refl };
-        still =
-            one_within its_front.format (earlier ++ later) rest
-            (ap (λ (format : ℕ). format_at format ((earlier ++ later) ++ rest)) (one ∙ sym first_format)
-            ∙ ap (format_at m.history.format) entries_are ∙ behind.format)
-            ∙ sym one;
         fit =
             subst (AreFit defs) (sym (items_both earlier later))
             (fit-append defs (items_of earlier) (items_of later) sound.fit made.1);
@@ -157,33 +160,34 @@ module _ (defs : Defs) (scripts : List Script) (earlier : List Entry) (m : Machi
 
 -- an image that a step left is sound, by the groups that it has,
 pub groups_sound : (defs : Defs) (scripts : List Script) (origin : Origin) (old : List ℕ) (earlier : List Entry)
-    (m : Machine) (most : ℕ) (text image : List ℕ) → AreDefs defs → defs.dedbs ≡ [] → origin.front.format ≡ 1
-    → IsSound defs scripts origin.front old earlier → IsBehind defs scripts earlier m
+    (m : Machine) (most : ℕ) (text image : List ℕ) → AreDefs defs → defs.dedbs ≡ []
+    → IsSound defs scripts origin.front old earlier → IsBehind defs scripts origin.front.format earlier m
     → earlier ≡ entries_of origin.groups
     → (has : HasGroups origin (rules_of defs scripts) m most text image)
     → IsSound defs scripts origin.front image
     (earlier ++ entries_of (sealed_times has.times (rules_of defs scripts) m).groups)
-groups_sound defs scripts origin old earlier m most text image are none one sound behind all has =
-    sound_run defs scripts earlier m behind are none origin.front one old sound has.times origin.groups image has.gate
-    all has.log
+groups_sound defs scripts origin old earlier m most text image are none sound behind all has =
+    sound_run defs scripts origin.front.format earlier m behind are none origin.front refl old sound has.times
+    origin.groups image has.gate all has.log
 
 -- and what was sent by then is a first part of the lines of the entries behind the earlier ones
-pub text_told : (defs : Defs) (scripts : List Script) (earlier : List Entry) (m : Machine) (times : ℕ) (text : List ℕ)
-    → IsBehind defs scripts earlier m → IsBetween m.sent text (sealed_times times (rules_of defs scripts) m).sent
+pub text_told : (defs : Defs) (scripts : List Script) (format : ℕ) (earlier : List Entry) (m : Machine) (times : ℕ)
+    (text : List ℕ)
+    → IsBehind defs scripts format earlier m → IsBetween m.sent text (sealed_times times (rules_of defs scripts) m).sent
     → text ≡ take (length text) (lines_of_entries (entries_of (sealed_times times (rules_of defs scripts) m).groups))
-text_told defs scripts earlier m times text behind between =
-    begins_with text between.rest _ (sym (sent_lines defs scripts earlier m behind times) ∙ between.to)
+text_told defs scripts format earlier m times text behind between =
+    begins_with text between.rest _ (sym (sent_lines defs scripts format earlier m behind times) ∙ between.to)
 
 -- both
 pub left_further : (defs : Defs) (scripts : List Script) (origin : Origin) (old : List ℕ) (earlier : List Entry)
-    (m : Machine) (most : ℕ) (text image : List ℕ) → AreDefs defs → defs.dedbs ≡ [] → origin.front.format ≡ 1
-    → IsSound defs scripts origin.front old earlier → IsBehind defs scripts earlier m
+    (m : Machine) (most : ℕ) (text image : List ℕ) → AreDefs defs → defs.dedbs ≡ []
+    → IsSound defs scripts origin.front old earlier → IsBehind defs scripts origin.front.format earlier m
     → earlier ≡ entries_of origin.groups
     → HasGroups origin (rules_of defs scripts) m most text image
     → GoesFurther defs scripts origin.front earlier text image
-left_further defs scripts origin old earlier m most text image are none one sound behind all has = record {
+left_further defs scripts origin old earlier m most text image are none sound behind all has = record {
   later = entries_of (sealed_times has.times (rules_of defs scripts) m).groups;
-  sound = groups_sound defs scripts origin old earlier m most text image are none one sound behind all has;
+  sound = groups_sound defs scripts origin old earlier m most text image are none sound behind all has;
   count = length text;
-  told = text_told defs scripts earlier m has.times text behind has.lines;
+  told = text_told defs scripts origin.front.format earlier m has.times text behind has.lines;
 }

@@ -6,5 +6,6 @@
 mod logs;
 
 pub use logs::{
-    what_a_run_seals_is_sound, what_a_run_sends_is_sealed, what_a_step_leaves_is_sound,
+    a_run_keeps_the_format, what_a_run_seals_is_sound, what_a_run_sends_is_sealed,
+    what_a_step_leaves_is_sound,
 };

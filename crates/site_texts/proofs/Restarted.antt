@@ -5,7 +5,10 @@ use Rattle.std.proofs.lemmas.List.{append-nil}
 use Rattle.fp_model.specs.declared.database.Msdb.{Msdb}
 use Rattle.fp_model.specs.declared.definitions.Defs.{Defs}
 use Rattle.fp_model.specs.Groups.{entries_of}
-use Rattle.fp_model.specs.LogText.{Front, StartsWithFront, first_gate}
+use Rattle.balancing.specs.Numbered.{Numbered}
+use Rattle.fp_model.specs.LogText.{Front, IsFormat, StartsWithFront, first_gate}
+use Rattle.log_groups.specs.Images.{in_format}
+use Rattle.log_groups.proofs.Fronts.{same_gate}
 use Rattle.fp_restart.specs.Replayed.{HoldsFit, ReadsBack}
 use Rattle.fp_site.specs.Disk.{Disk, IsDurable, IsLawful, Sends, Settles, Snapshot, Syncs}
 use Rattle.fp_site.specs.Moments.{Through}
@@ -62,15 +65,24 @@ nothing_shown defs front old mid contents sent run = record {
 }
 
 -- what a restart read back is the log's text
-pub text_read : (defs : Defs) (front : Front) (old mid : Disk) (store : Stored) (log : LogState)
-    → mid.contents 0 ≡ old.contents 0 → ReadsBack defs front mid store log
+pub text_read : (defs : Defs) (front : Front) (old mid : Disk) (store : Stored) (log : LogState) (lasts : Numbered)
+    → mid.contents 0 ≡ old.contents 0 → IsFormat log.front_format
+    → ReadsBack defs (in_format log.front_format front) mid store log lasts
     → IsTextOf defs front (old.contents 0) (msdbs_text defs store.msdbs)
-text_read defs front old mid store log same read = record {
+text_read defs front old mid store log lasts same is_format read = record {
   groups = read.replayed.groups;
   gate = log.gate;
-  begins = subst (λ (l : List ℕ). StartsWithFront l front) same read.begins;
+  begins = record {
+    format = log.front_format;
+    is_format = is_format;
+    begins = subst (λ (l : List ℕ). StartsWithFront l (in_format log.front_format front)) same read.begins;
+  };
   holds =
-      subst (λ (l : List ℕ). HoldsFit defs l (first_gate front) log.gate read.replayed.groups) same read.replayed.holds;
+      subst (λ (n : ℕ). HoldsFit defs (old.contents 0) n log.gate read.replayed.groups)
+      (same_gate log.front_format front)
+      (subst (λ (l : List ℕ).
+      HoldsFit defs l (first_gate (in_format log.front_format front)) log.gate read.replayed.groups) same
+      read.replayed.holds);
   closed = subst (λ (l : List ℕ). slice_index l log.gate ≢ 1) same read.closed;
   is_text = ap (λ (ms : List Msdb). msdbs_text defs ms) read.replayed.msdbs;
 }

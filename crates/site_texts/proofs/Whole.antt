@@ -1,7 +1,8 @@
 -- The text of a log, seen from before it was opened.
 use Rattle.std.proofs.Common.{◌≡◌, ◌≢◌, ◌∙◌, ◌++◌, ap, inl, inr, sym, arith, subst, refl, ℕ, List, []}
 use Rattle.std.specs.Prelude.{slice_index}
-use Rattle.fp_model.specs.LogText.{Front, StartsWithFront, first_gate}
+use Rattle.fp_model.specs.LogText.{Front, first_gate}
+use Rattle.log_groups.specs.Images.{BeginsFor}
 use Rattle.fp_model.specs.Groups.{HoldsGroups, IsDamaged}
 use Rattle.fp_site.specs.Disk.{Disk, IsLawful, Stays}
 use Rattle.site_texts.specs.Groups.{AreAllSent, AreSentToDamage, SendsFrom}
@@ -23,7 +24,7 @@ module _ (front : Front) (first : ℕ) (d0 d1 d2 : Disk) (law0 : IsLawful d0) (l
   same : d1.contents 0 ≡ d0.contents 0
   same = ap (λ (f : ℕ → List ℕ). f 0) stays.contents
 
-  pub part_sent : StartsWithFront (d0.contents 0) front → SendsFrom first d1 d2 → SendsGroups front d0 d2
+  pub part_sent : BeginsFor front (d0.contents 0) → SendsFrom first d1 d2 → SendsGroups front d0 d2
   part_sent begins sends = record {
     groups = sends.groups;
     gate = sends.gate;
@@ -34,7 +35,7 @@ module _ (front : Front) (first : ℕ) (d0 d1 d2 : Disk) (law0 : IsLawful d0) (l
     sent = stays_then_part d0 d1 d2 _ law0 law1 stays sends.sent;
   }
 
-  pub whole_sent : StartsWithFront (d0.contents 0) front → AreAllSent first d1 d2 → IsLogSent front d0 d2
+  pub whole_sent : BeginsFor front (d0.contents 0) → AreAllSent first d1 d2 → IsLogSent front d0 d2
   whole_sent begins all = record {
     groups = all.groups;
     gate = all.gate;
@@ -49,7 +50,7 @@ module _ (front : Front) (first : ℕ) (d0 d1 d2 : Disk) (law0 : IsLawful d0) (l
     sent = all.sent ∙ ap (λ (t : List ℕ). t ++ log_shown all.groups) stays.sent;
   }
 
-  pub damage_sent : (at : ℕ) → StartsWithFront (d0.contents 0) front → AreSentToDamage first at d1 d2
+  pub damage_sent : (at : ℕ) → BeginsFor front (d0.contents 0) → AreSentToDamage first at d1 d2
       → IsSentToDamage front at d0 d2
   damage_sent at begins all = record {
     groups = all.groups;

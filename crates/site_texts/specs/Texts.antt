@@ -5,8 +5,8 @@ use Rattle.fp_model.specs.declared.definitions.Defs.{Defs}
 use Rattle.fp_model.specs.declared.log.Entry.{Entry}
 use Rattle.fp_model.specs.Groups.{HoldsGroups, IsDamaged, entries_of}
 use Rattle.fp_model.specs.Items.{with_items, items_of}
-use Rattle.fp_model.specs.LogText.{Front, StartsWithFront, first_gate}
-use Rattle.fp_model.specs.Recovery.{Holds}
+use Rattle.fp_model.specs.LogText.{Front, first_gate}
+use Rattle.log_groups.specs.Images.{BeginsFor, HoldsFor}
 use Rattle.fp_model.specs.State.{start}
 use Rattle.fp_restart.specs.Replayed.{HoldsFit}
 use Rattle.fp_show.specs.DbText.{each_text, msdb_text}
@@ -23,12 +23,12 @@ msdbs_text defs msdbs = each_text msdb_text defs.msdbs msdbs
 abbrev pub msdbs_behind : Defs → List Entry → List Msdb
 msdbs_behind defs entries = with_items defs.msdbs (start defs).msdbs (items_of entries)
 
--- The text of the databases of a log: it begins with the front, and holds these groups, whose items may be applied, up
--- to a gate that isn't open.
+-- The text of the databases of a log: it begins with the front, in either format, and holds these groups, whose items
+-- may be applied, up to a gate that isn't open.
 pub record IsTextOf (defs : Defs) (front : Front) (log text : List ℕ) : Type 0 where
   pub groups : List (List Entry)
   pub gate : ℕ
-  pub begins : StartsWithFront log front
+  pub begins : BeginsFor front log
   pub holds : HoldsFit defs log (first_gate front) gate groups
   pub closed : slice_index log gate ≢ 1
   pub is_text : text ≡ msdbs_text defs (msdbs_behind defs (entries_of groups))
@@ -47,13 +47,13 @@ log_shown groups = groups_shown 0 0 groups
 pub record IsLogSent (front : Front) (old new : Disk) : Type 0 where
   pub groups : List (List Entry)
   pub gate : ℕ
-  pub holds : Holds front (old.contents 0) groups gate
+  pub holds : HoldsFor front (old.contents 0) groups gate
   pub sent : new.sent ≡ old.sent ++ log_shown groups
 
 -- The text of the groups before a damaged one was sent.
 pub record IsSentToDamage (front : Front) (at : ℕ) (old new : Disk) : Type 0 where
   pub groups : List (List Entry)
-  pub begins : StartsWithFront (old.contents 0) front
+  pub begins : BeginsFor front (old.contents 0)
   pub holds : HoldsGroups (old.contents 0) (first_gate front) groups at
   pub damaged : IsDamaged (old.contents 0) at
   pub sent : new.sent ≡ old.sent ++ log_shown groups
@@ -63,7 +63,7 @@ pub record IsSentToDamage (front : Front) (at : ℕ) (old new : Disk) : Type 0 w
 pub record SendsGroups (front : Front) (old new : Disk) : Type 0 where
   pub groups : List (List Entry)
   pub gate : ℕ
-  pub begins : (groups ≡ []) ⊎ StartsWithFront (old.contents 0) front
+  pub begins : (groups ≡ []) ⊎ BeginsFor front (old.contents 0)
   pub holds : HoldsGroups (old.contents 0) (first_gate front) groups gate
   pub sent : HasSentPart old new (log_shown groups)
 
@@ -87,5 +87,5 @@ pub record SendsDb (defs : Defs) (front : Front) (old new : Disk) : Type 0 where
 -- isn't open, and of one with another front no more than the front has.
 pub record ReadsOnce (front : Front) (log : List ℕ) (before now : ℕ) : Type 0 where
   pub all : now ≤ before + length log + 1
-  pub up_to : (groups : List (List Entry)) (gate : ℕ) → Holds front log groups gate → now ≤ before + gate + 1
-  pub of_others : ¬ (StartsWithFront log front) → now ≤ before + first_gate front
+  pub up_to : (groups : List (List Entry)) (gate : ℕ) → HoldsFor front log groups gate → now ≤ before + gate + 1
+  pub of_others : ¬ (BeginsFor front log) → now ≤ before + first_gate front

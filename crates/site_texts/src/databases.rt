@@ -1,5 +1,5 @@
 //! The text of the databases.
-ghost use Rattle.fp_model.specs.LogText.{FitsFront, StartsWithFront, first_gate};
+ghost use Rattle.fp_model.specs.LogText.{FitsFront, first_gate};
 ghost use Rattle.fp_model.specs.Product.{rules_of};
 ghost use Rattle.fp_model.specs.SerialHistory.{IsSerialHistory};
 ghost use Rattle.fp_model.specs.WellFormed.{IsMsdbDef};
@@ -10,7 +10,7 @@ ghost use Rattle.fp_model.specs.declared.scripts.Script.{Script};
 ghost use Rattle.fp_restart.specs.Replayed.{IsFirstBadAt};
 ghost use Rattle.fp_restart.specs.declared.fault.RestartFault.TheVariants as faults;
 ghost use Rattle.fp_show.specs.DbText.{each_text, msdb_text};
-ghost use Rattle.log_groups.specs.Images.{as_front};
+ghost use Rattle.log_groups.specs.Images.{BeginsFor, as_front, in_format};
 ghost use Rattle.log_groups.specs.Kept.{IsSound};
 ghost use Rattle.log_groups.specs.Reads.{ReadsOnlyLog};
 ghost use Rattle.site_texts.specs.Sent.{GoesOn, HasSent, HasSentPart, IsTold};
@@ -46,7 +46,8 @@ use log_groups::Front;
 use msdb_store::MsdbStore;
 use std::alloc::Global;
 
-/// Restarts, and sends the text of the main storage databases. Nothing is written; the log is synced.
+/// Restarts, and sends the text of the main storage databases, of a log of either format. Nothing is written; the log is
+/// synced.
 ///
 /// `Foreign` and `Damaged` come as from a restart, and nothing is sent then. Where the site fails or memory is short a
 /// first part of the text may be sent. The text goes out in parts of about 65,536 bytes, and no more of it is held.
@@ -69,18 +70,18 @@ pub fn show<T: Site>(
     ensures rests { T.told site.old → OnOk result (IsDurable (T.disk site.new) 0) }
 
     // Of a sound log it is that of the last state of its history.
-    ensures means { (scripts : ListOf Script) (entries : ListOf Entry) (last : DbOf) → T.told site.old
-        → IsSound defs.now scripts (as_front front.now) ((T.disk site.old).contents 0) entries
-        → IsSerialHistory (rules_of defs.now scripts) front.now.format entries last
+    ensures means { (format : ℕ) (scripts : ListOf Script) (entries : ListOf Entry) (last : DbOf) → T.told site.old
+        → IsSound defs.now scripts (in_format format (as_front front.now)) ((T.disk site.old).contents 0) entries
+        → IsSerialHistory (rules_of defs.now scripts) format entries last
         → OnOk result ((T.disk site.new).sent ≡ (T.disk site.old).sent ++ msdbs_text defs.now last.msdbs) }
 
     // When each refusal comes. Behind one of these two nothing was sent.
     ensures foreign { T.told site.old → IsErrOf result faults.Foreign
         → ((T.disk site.new).sent ≡ (T.disk site.old).sent)
-        × (StartsWithFront ((T.disk site.old).contents 0) (as_front front.now) → ⊥) }
+        × (BeginsFor (as_front front.now) ((T.disk site.old).contents 0) → ⊥) }
     ensures damaged { (set at : ℕ) → T.told site.old → IsErrOf result (faults.Damaged set at)
         → ((T.disk site.new).sent ≡ (T.disk site.old).sent) × (set ≡ 0)
-        × StartsWithFront ((T.disk site.old).contents 0) (as_front front.now)
+        × BeginsFor (as_front front.now) ((T.disk site.old).contents 0)
         × IsFirstBadAt defs.now ((T.disk site.old).contents 0) (first_gate (as_front front.now)) at }
     ensures cause { IsErrOf result faults.SiteFault → (T.faults site.old < T.faults site.new)
         ⊎ (T.faults site.new ≡ 2 ^ 64 - 1) }
@@ -93,7 +94,7 @@ pub fn show<T: Site>(
         (T.bytes_read site.new) }
     ensures site { GoesOn T.told T.faults T.holds T.keeps site.old site.new }
 {
-    let (store, _log) = restart(alloc, defs, front, site)?;
+    let (store, _log, _lasts) = restart(alloc, defs, front, site)?;
     send_databases(alloc, defs, &store, site)
 }
 

@@ -1,7 +1,7 @@
 //! The text of the log.
-ghost use Rattle.fp_model.specs.LogText.{FitsFront, StartsWithFront};
+ghost use Rattle.fp_model.specs.LogText.{FitsFront};
 ghost use Rattle.fp_restart.specs.declared.fault.RestartFault.TheVariants as faults;
-ghost use Rattle.log_groups.specs.Images.{as_front};
+ghost use Rattle.log_groups.specs.Images.{BeginsFor, as_front};
 ghost use Rattle.log_groups.specs.Reads.{HasGroup, ReadsOnlyLog};
 ghost use Rattle.fp_model.specs.Groups.{Groups, IsDamaged, Reads};
 ghost use Rattle.fp_model.specs.declared.log.Entry.{Entry as EntryOf};
@@ -44,9 +44,9 @@ const LIMIT: u64 = 1 << 62;
 /// Sends the text of the log's groups, one after another, as each is read: so the groups before a damaged one are sent.
 /// Nothing is written and nothing synced, and one group is in memory at a time.
 ///
-/// `Foreign` comes exactly where the log doesn't begin with the open front, and nothing is sent then. `Damaged` names
-/// the first gate with bytes behind it that are no group. Items aren't applied, so one that doesn't fit the definitions
-/// is no damage here.
+/// `Foreign` comes exactly where the log begins with the open front in neither format, and nothing is sent then.
+/// `Damaged` names the first gate with bytes behind it that are no group. Items aren't applied, so one that doesn't fit
+/// the definitions is no damage here.
 pub fn log<T: Site>(alloc: Global, front: &Front, site: &mut T) -> Result<(), RestartFault>
     requires fits { FitsFront (as_front front.now) }
 
@@ -58,7 +58,7 @@ pub fn log<T: Site>(alloc: Global, front: &Front, site: &mut T) -> Result<(), Re
     // When each refusal comes.
     ensures foreign { T.told site.old → IsErrOf result faults.Foreign
         → ((T.disk site.new).sent ≡ (T.disk site.old).sent)
-        × (StartsWithFront ((T.disk site.old).contents 0) (as_front front.now) → ⊥) }
+        × (BeginsFor (as_front front.now) ((T.disk site.old).contents 0) → ⊥) }
     ensures damaged { (set at : ℕ) → T.told site.old → IsErrOf result (faults.Damaged set at)
         → (set ≡ 0) × IsSentToDamage (as_front front.now) at (T.disk site.old) (T.disk site.new) }
     ensures cause { IsErrOf result faults.SiteFault → (T.faults site.old < T.faults site.new)

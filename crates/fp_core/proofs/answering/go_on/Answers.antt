@@ -69,6 +69,7 @@ returns-in-Answer-clause-acted c now t e s =
         message = s1.message;
         short = s1.short;
         tries = s1.tries;
+        refusal = s1.refusal;
         own = sym own;
         notes = notes ∙ noted_is (rules_of defs scripts) (looks_unheld defs old.own call) old.notes c.args.count
             ∙ ap (λ b. noted (rules_of defs scripts) b old.notes c.args.count) looks

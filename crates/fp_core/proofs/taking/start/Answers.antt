@@ -2,11 +2,12 @@ use Rattle.std.proofs.Common.{◌∙◌, refl}
 use Rattle.fp_core.proofs.taking.start.Goals as goal
 
 pub returns : goal.returns
-returns c from tries = record {
+returns c from tries refusal kept = record {
   from = refl;
   message = refl;
   short = c.requires.short;
   tries = refl;
+  refusal = kept;
   own = c.in_ok-work.ensures.own c.requires.no_dedbs;
   notes = c.in_ok-work.ensures.notes;
   of = c.in_ok-work.ensures.of;

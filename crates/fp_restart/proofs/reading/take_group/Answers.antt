@@ -4,6 +4,7 @@ use Rattle.fp_model.specs.Items.{IsFit, with_items, items_of}
 use Rattle.msdb_store.specs.Store.{IsFitSegment}
 use Rattle.log_groups.specs.Reads.{HasGroup}
 use Rattle.fp_restart.specs.Begun.{Judges}
+use Rattle.fp_restart.specs.Replayed.{HasNumbersOf}
 use Rattle.fp_restart.proofs.Groups.{stands_further}
 use Rattle.fp_restart.proofs.Replays.{fit_segments}
 use Rattle.fp_restart.proofs.reading.take_group.Given as given
@@ -48,9 +49,17 @@ returns-clause-taken g c earlier by_these front t =
       fit = its.0;
       intervals = its.1;
       count_is = c.len.ensures;
+      numbers = subst (λ l. HasNumbersOf l c.args.numbers.now c.add.new.self) c.as_slice-3.ensures c.in_ok-add.ensures;
       msdbs = c.in_ok-put_entries.ensures.msdbs c.args.defs.now.msdbs c.requires (fit_here g c)
           ∙ ap (λ l. with_items c.args.defs.now.msdbs c.args.store.now.msdbs (items_of l)) c.as_slice-2.ensures;
     }
 
 pub returns-clause-of : goal.returns-clause-of
 returns-clause-of g c = c.put_entries.ensures.of c.args.defs.now.msdbs c.requires (fit_here g c)
+
+pub returns-clause-some : goal.returns-clause-some
+returns-clause-some g c = record {
+  entries = c.in-Some.group.entries;
+  count_is = c.len.ensures;
+  numbers = subst (λ l. HasNumbersOf l c.args.numbers.now c.add.new.self) c.as_slice-3.ensures c.in_ok-add.ensures;
+}

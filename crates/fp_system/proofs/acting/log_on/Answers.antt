@@ -1,6 +1,7 @@
 use Rattle.std.proofs.Common.{◌≡◌, ◌∙◌, ap, inl, refl, sym, subst, ℕ}
 use Rattle.std.specs.Prelude.{◌⊎◌, Err}
-use Rattle.fp_model.specs.LogText.{Front, StartsWithFront}
+use Rattle.fp_model.specs.LogText.{Front}
+use Rattle.log_groups.specs.Images.{BeginsFor}
 use Rattle.site_texts.specs.Texts.{IsLogSent, IsSentToDamage, ReadsOnce, SendsGroups}
 use Rattle.fp_system.specs.Answers.{MayStandIn}
 use Rattle.fp_system.specs.Causes.{IsCausedBySite}
@@ -35,7 +36,7 @@ returns-in-Err-clause-due g c t =
     subst (λ (answer : Status). ByGroups job (old.contents 0) answer ⊎ MayStandIn answer)
     (sym c.fault_status.ensures)
     (due_by_groups job old new c.in-Err.why
-    (λ e. subst (λ (f : Front). ¬ (StartsWithFront (old.contents 0) f)) c.requires.front
+    (λ e. subst (λ (f : Front). ¬ (BeginsFor f (old.contents 0))) c.requires.front
     (c.in-Err.ensures.foreign t (ap (λ why. Err why) e)).1)
     (λ set at e.
     let bad = c.in-Err.ensures.damaged set at t (ap (λ why. Err why) e) in

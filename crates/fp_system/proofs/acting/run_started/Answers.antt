@@ -1,4 +1,7 @@
-use Rattle.std.proofs.Common.{◌≡◌, inl, inr, refl, sym, subst, arith, List, []}
+use Rattle.std.proofs.Common.{◌≡◌, ◌∙◌, ap, inl, inr, refl, sym, subst, arith, List, []}
+use Rattle.std.specs.Prelude.{Err, option_map}
+use Rattle.fp_core.specs.Standing.{number_of}
+use Rattle.fp_system.proofs.Due.{stop_line}
 use Rattle.fp_core.specs.Sparing.{IsLogSet as IsLog}
 use Rattle.fp_model.specs.Machine.{at_rest}
 use Rattle.fp_model.specs.Messages.{lines_of}
@@ -14,7 +17,7 @@ use Rattle.fp_system.specs.Courses.{RanFrom, input}
 use Rattle.fp_system.specs.declared.status.Status.{Status}
 use Rattle.fp_system.specs.Parts.{rules_for}
 use Rattle.fp_system.specs.Setups.{job_of}
-use Rattle.fp_system.proofs.Begins.{any_format, any_history, any_place, any_states, reached_at_rest, stands_beside}
+use Rattle.fp_system.proofs.Begins.{any_history, any_states, reached_at_rest, stands_beside}
 use Rattle.fp_core.proofs.Onwards.{reads_nothing_none}
 use Rattle.fp_system.specs.Causes.{IsCaused}
 use Rattle.fp_system.proofs.CauseLemmas.{stop_by_site, stop_by_source}
@@ -33,11 +36,13 @@ pub run_schedule-requires : goal.run_schedule-requires
 run_schedule-requires g c =
     let core = c.in-Ok.core in
     let setup = c.args.task.now.setup in
-    let n = c.args.started.log.sealed in
     let msdbs = c.args.started.msdbs.msdbs in
+    let some = c.requires.numbers in
+    let format = c.args.started.log.front_format in
     let rules = rules_for (job_of setup) in
-    let h = any_history n msdbs in
-    let stands = c.in-Ok.ensures.stands [] h refl (any_place n msdbs) (any_states n msdbs) (any_format n msdbs) in
+    let h = any_history format some.entries msdbs in
+    let stands = c.in-Ok.ensures.stands [] h refl (sym some.count) (any_states format some.entries msdbs)
+    (sym some.format ∙ sym c.requires.format) some.lasts in
     record {
       reached = (at_rest rules [] h, reached_at_rest core.engine rules [] h c.in-Ok.ensures.rules stands);
       events =
@@ -67,8 +72,9 @@ returns-in-Ok-run_schedule-clause-ran g c origin h s t is =
     let m = at_rest rules (lines_of left) h in
     let old = g.T.Site.disk c.args.site.now in
     let new = g.T.Site.disk c.run_schedule.new.site in
-    let stands = c.in-Ok.ensures.stands (lines_of left) h is.msdbs is.place is.states is.format in
-    let beside = stands_beside origin h c.args.started.msdbs c.args.started.log old core.engine rules core.lines left is
+    let stands = c.in-Ok.ensures.stands (lines_of left) h is.msdbs is.place is.states
+    (is.format ∙ sym c.requires.format) is.lasts in
+    let beside = stands_beside origin h c.args.started.msdbs c.args.started.log c.args.started.lasts old core.engine rules core.lines left is
     stands c.in-Ok.ensures.gate (c.in-Ok.ensures.lines left) in
     let reached = reached_at_rest core.engine rules (lines_of left) h c.in-Ok.ensures.rules stands in
     inl (ended_done job given origin h old new next.lines bytes next.engine
@@ -89,8 +95,9 @@ returns-clause-ran g c origin h s t is =
     let m = at_rest rules (lines_of left) h in
     let old = g.T.Site.disk c.args.site.now in
     let new = g.T.Site.disk c.run_schedule.new.site in
-    let stands = c.in-Ok.ensures.stands (lines_of left) h is.msdbs is.place is.states is.format in
-    let beside = stands_beside origin h c.args.started.msdbs c.args.started.log old core.engine rules core.lines left is
+    let stands = c.in-Ok.ensures.stands (lines_of left) h is.msdbs is.place is.states
+    (is.format ∙ sym c.requires.format) is.lasts in
+    let beside = stands_beside origin h c.args.started.msdbs c.args.started.log c.args.started.lasts old core.engine rules core.lines left is
     stands c.in-Ok.ensures.gate (c.in-Ok.ensures.lines left) in
     let reached = reached_at_rest core.engine rules (lines_of left) h c.in-Ok.ensures.rules stands in
     let stopped = as_given (λ d r es. IsStopped origin d r es m old core.lines new why) c.in-Ok.ensures.defs
@@ -128,3 +135,10 @@ returns-clause-cause g c =
       source = stop_by_source read read2 why c.in-Err-run_schedule.ensures.source_cause;
       site = stop_by_site site site2 why c.in-Err-run_schedule.ensures.site_cause;
     })
+
+pub returns-clause-line : goal.returns-clause-line
+returns-clause-line g c number s e =
+    let left = g.S.Source.left c.args.source.now part.Messages in
+    ap (option_map number_of) (sym (c.in-Ok.ensures.fault left))
+    ∙ c.in-Err-run_schedule.ensures.line s number
+    (ap (λ why. Err why) (stop_line c.in-Err-run_schedule.stop number (sym c.from.ensures ∙ e)))

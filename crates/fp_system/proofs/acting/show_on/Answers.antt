@@ -1,10 +1,10 @@
 use Rattle.std.proofs.Common.{◌≡◌, ◌∙◌, ◌++◌, ap, inl, refl, sym, subst, List, ℕ}
 use Rattle.std.specs.Prelude.{◌⊎◌, Err}
-use Rattle.fp_model.specs.LogText.{Front, StartsWithFront, first_gate}
+use Rattle.fp_model.specs.LogText.{Front, first_gate}
 use Rattle.fp_model.specs.Product.{rules_of}
 use Rattle.fp_model.specs.SerialHistory.{IsSerialHistory}
 use Rattle.fp_restart.specs.Replayed.{IsFirstBadAt}
-use Rattle.log_groups.specs.Images.{as_front}
+use Rattle.log_groups.specs.Images.{BeginsFor, as_front, in_format}
 use Rattle.log_groups.specs.Kept.{IsSound}
 use Rattle.site_texts.specs.Texts.{IsDbSent, ReadsOnce, SendsDb}
 use Rattle.fp_system.specs.Answers.{MayStandIn}
@@ -36,11 +36,10 @@ returns-in-Ok-clause-shown g c t =
       whole = λ done. subst (λ (f : Front). IsDbSent job.defs f old new) c.requires.front (c.in-Ok.ensures.shown t);
       rests = λ done. c.in-Ok.ensures.rests t;
       sends = subst (λ (f : Front). SendsDb job.defs f old new) c.requires.front (c.show.ensures.sends t);
-      means = λ entries last sound history done.
-          let format : setup.front.format ≡ 1 = ap (λ (f : Front). f.format) c.requires.front in
-          c.in-Ok.ensures.means setup.scripts.scripts entries last t
-          (subst (λ (f : Front). IsSound job.defs job.scripts f (old.contents 0) entries) (sym c.requires.front) sound)
-          (subst (λ (n : ℕ). IsSerialHistory (rules_of job.defs job.scripts) n entries last) (sym format) history)
+      means = λ format entries last sound history done.
+          c.in-Ok.ensures.means format setup.scripts.scripts entries last t
+          (subst (λ (f : Front). IsSound job.defs job.scripts (in_format format f) (old.contents 0) entries)
+          (sym c.requires.front) sound) history
           ∙ ap (λ (text : List ℕ). old.sent ++ text) (whole_text job.defs last c.requires.no_dedbs);
     }
 
@@ -51,12 +50,12 @@ returns-in-Err-clause-due g c t =
     subst (λ (answer : Status). ByLog job log (λ behind. behind ≡ Done) answer ⊎ MayStandIn answer)
     (sym c.fault_status.ensures)
     (due_by_log job log c.in-Err.why
-    (λ e. subst (λ (f : Front). ¬ (StartsWithFront log f)) c.requires.front
+    (λ e. subst (λ (f : Front). ¬ (BeginsFor f log)) c.requires.front
     (c.in-Err.ensures.foreign t (ap (λ why. Err why) e)).1)
     (λ set at e.
     let bad = c.in-Err.ensures.damaged set at t (ap (λ why. Err why) e) in (
       bad.1,
-      subst (λ (f : Front). StartsWithFront log f) c.requires.front bad.2,
+      subst (λ (f : Front). BeginsFor f log) c.requires.front bad.2,
       subst (λ (f : Front). IsFirstBadAt job.defs log (first_gate f) at) c.requires.front bad.3,
     )))
 
@@ -69,7 +68,7 @@ returns-in-Err-clause-shown g c t =
       whole = λ done. fault_not_done c.in-Err.why (sym c.fault_status.ensures ∙ done);
       rests = λ done. fault_not_done c.in-Err.why (sym c.fault_status.ensures ∙ done);
       sends = subst (λ (f : Front). SendsDb job.defs f old new) c.requires.front (c.show.ensures.sends t);
-      means = λ entries last sound history done. fault_not_done c.in-Err.why (sym c.fault_status.ensures ∙ done);
+      means = λ format entries last sound history done. fault_not_done c.in-Err.why (sym c.fault_status.ensures ∙ done);
     }
 
 pub returns-in-Ok-clause-cause : goal.returns-in-Ok-clause-cause

@@ -3,8 +3,8 @@ use Rattle.fp_system.proofs.laws.a_call_keeps_what_was_answered.Goals as goal
 
 pub returns-clause-stands : goal.returns-clause-stands
 returns-clause-stands g c = λ job start old new t t2 call holds.
-    call_holds job start (g.T.Site.disk old) (g.T.Site.disk new) (g.met.T.Site.lawful old t)
-    (g.met.T.Site.lawful new t2) holds call
+    call_holds job start (g.T.Site.disk old) (g.T.Site.disk new) (g.met.T.Site.lawful old t) holds
+    (g.met.T.Site.lawful new t2) call
 
 pub returns-clause-moments : goal.returns-clause-moments
 returns-clause-moments g c = λ job start old new t tells call holds.

@@ -3,8 +3,8 @@ use Rattle.fp_system.proofs.StopLemmas.{made_holds, rest_holds}
 use Rattle.fp_system.proofs.laws.a_log_at_rest_holds_its_entries.Goals as goal
 
 pub returns-clause-rests : goal.returns-clause-rests
-returns-clause-rests g c = λ job entries site durable sound.
-    rest_holds job entries (g.T.Site.disk site) durable sound
+returns-clause-rests g c = λ job format entries site durable sound.
+    rest_holds job format entries (g.T.Site.disk site) durable sound
 
 pub returns-clause-made : goal.returns-clause-made
 returns-clause-made g c = λ asked job old new asks defined.

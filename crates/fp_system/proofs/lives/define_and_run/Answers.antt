@@ -9,7 +9,7 @@ pub returns : goal.returns
 returns g c job s s1 s2 s3 asks asks1 asks2 asks3 =
     let made : c.is_made.result ≡ true = cc in
     let left = g.S.Source.left in
-    let start = standing [] (memory_disk c.args.site.now).sent in
+    let start = standing 2 [] (memory_disk c.args.site.now).sent in
     let site = memory_disk c.is_made.new.site in
     let site1 = memory_disk c.run_once.new.site in
     let next = memory_disk c.in_ok-next.next in

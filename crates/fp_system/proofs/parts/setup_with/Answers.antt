@@ -27,5 +27,5 @@ returns-clause-setup c =
       };
       scripts = c.requires.scripts;
       front = rw (defs, scripts) refl;
-      fits = rw (defs, scripts) (record { is_format = (0, omega arith, refl); defs_fit = long; scripts_fit = short });
+      fits = rw (defs, scripts) (record { is_format = (1, omega arith, refl); defs_fit = long; scripts_fit = short });
     }

@@ -36,8 +36,7 @@ returns-clause-shown g c t =
       text = text;
       is =
           text_read c.args.defs.now (as_front c.args.front.now) d0 d1 c.in_ok-store.store c.in_ok-store._log
-          (call.contents t 0)
-          (c.in_ok-store.ensures.reads t);
+          c.in_ok-store._lasts (call.contents t 0) c.in_ok-store.ensures.is_format (c.in_ok-store.ensures.reads t);
       sent = all.sent ∙ ap (λ (x : List ℕ). x ++ text) (call.sent t);
     })
     (c.send_databases.ensures.sent t1)
@@ -54,7 +53,7 @@ returns-clause-sends g c t =
     record {
       text = text;
       is = inr (text_read c.args.defs.now (as_front c.args.front.now) d0 d1 c.in_ok-store.store c.in_ok-store._log
-          (call.contents t 0) (c.in_ok-store.ensures.reads t));
+          c.in_ok-store._lasts (call.contents t 0) c.in_ok-store.ensures.is_format (c.in_ok-store.ensures.reads t));
       count = part.count;
       sent = part.sent ∙ ap (λ (x : List ℕ). x ++ take part.count text) (call.sent t);
       contents = λ set. ap (λ (f : ℕ → List ℕ). f set) part.contents ∙ call.contents t set;
@@ -74,13 +73,13 @@ returns-clause-rests g c t =
     (c.send_databases.ensures.sent t1)
 
 pub returns-clause-means : goal.returns-clause-means
-returns-clause-means g c scripts entries last t sound history =
+returns-clause-means g c format scripts entries last t sound history =
     let call = c.restart.ensures in
     let t1 = call.told t in
     let d1 = g.T.Site.disk c.restart.new.site in
     let d2 = g.T.Site.disk c.send_databases.new.site in
     let text = msdbs_text c.args.defs.now c.in_ok-store.store.msdbs in
-    let stands = c.in_ok-store.ensures.sound scripts entries t sound in
+    let stands = c.in_ok-store.ensures.sound format scripts entries t sound in
     on_ok_weaker c.send_databases.result
     (λ (all : HasSent d1 d2 text).
     all.sent ∙ ap (λ (x : List ℕ). x ++ text) (call.sent t)
@@ -93,7 +92,7 @@ returns-in_err-store-clause-once g c t tells =
     let call = c.restart.ensures in
     record {
       all = call.once t tells;
-      up_to = λ groups gate holds. call.read groups gate t holds tells;
+      up_to = λ groups gate holds. call.read groups gate t holds.reads tells;
       of_others = λ away. call.no_front t away tells;
     }
 
@@ -103,7 +102,7 @@ returns-clause-once g c t tells =
     let on = c.send_databases.ensures.reads 0 tells in
     record {
       all = let at_most = call.once t on.0 in omega (arith, on.1, at_most);
-      up_to = λ groups gate holds. let at_most = call.read groups gate t holds on.0 in omega (arith, on.1, at_most);
+      up_to = λ groups gate holds. let at_most = call.read groups gate t holds.reads on.0 in omega (arith, on.1, at_most);
       of_others = λ away. let at_most = call.no_front t away on.0 in omega (arith, on.1, at_most);
     }
 

@@ -1,6 +1,6 @@
 use Rattle.std.proofs.Common.{◌∙◌, ap, Some}
 use Rattle.fp_core.specs.declared.engine.Region.TheVariants as region
-use Rattle.fp_core.proofs.Ends.{not_idle, region_is, room_within, slot_within}
+use Rattle.fp_core.proofs.Ends.{not_idle, place_within, region_is, room_within, slot_within}
 use Rattle.fp_core.proofs.engine.Engine.active_in.Goals as goal
 
 pub unreachable-requires : goal.unreachable-requires
@@ -24,3 +24,6 @@ returns-clause-room c =
 
 pub returns-clause-slot : goal.returns-clause-slot
 returns-clause-slot c = let u = c.requires.under in slot_within c.args.self.now u.0 c.args.region u.1.0 u.1.1
+
+pub returns-clause-place : goal.returns-clause-place
+returns-clause-place c = let u = c.requires.under in place_within c.args.self.now u.0 c.args.region u.1.0 u.1.1

@@ -1,13 +1,15 @@
-use Rattle.std.proofs.Common.{◌≡◌, refl, ◌∙◌, sym, ap, subst, arith, [], ◌∷◌, ◌++◌, ◌+◌, ◌≤◌, ℕ, ◌-◌, List, length, slice_set}
+use Rattle.std.proofs.Common.{◌≡◌, refl, ◌∙◌, sym, ap, subst, arith, [], ◌∷◌, ◌++◌, ◌+◌, ◌≤◌, ℕ, ◌-◌, List, length, Option, slice_set}
 use Rattle.std.specs.Prelude.{Err, ◌↔◌}
 use Rattle.std.specs.VecDeque.{deque_capacity}
 use Rattle.fp_model.specs.declared.calls.Deferred.{Deferred}
+use Rattle.fp_model.specs.declared.calls.Message.{Message}
 use Rattle.fp_model.specs.declared.database.Db.{Db}
 use Rattle.fp_model.specs.declared.database.Msdb.{Msdb}
 use Rattle.fp_model.specs.declared.log.Entry.{Entry}
 use Rattle.fp_model.specs.declared.log.Outcome.TheVariants as outcome
 use Rattle.fp_model.specs.Commit.{settlement}
 use Rattle.fp_model.specs.Items.{with_items}
+use Rattle.fp_model.specs.Lasts.{Last, last_by}
 use Rattle.fp_model.specs.Machine.{ended_with, entry_of}
 use Rattle.fp_model.specs.Serial.{refused_as, settled_as}
 use Rattle.msdb_store.specs.Settling.{HasItem, IsNamed}
@@ -17,10 +19,11 @@ use Rattle.sync_point.specs.Drafts.{IsEnd}
 use Rattle.sync_point.specs.Refusals.{refusal_room}
 use Rattle.fp_core.specs.declared.engine.Engine.{Engine}
 use Rattle.fp_core.specs.declared.engine.Region.TheVariants as regions
+use Rattle.fp_core.specs.Numbering.{last_told, with_used}
 use Rattle.fp_core.specs.Relation.{StandsFor, owed_of}
 use Rattle.fp_core.specs.Turning.{AreItemsOf}
 use Rattle.fp_core.proofs.Commits.{at_work_is, at_work_still, committed, done_as, done_is, draft_at, ends_done, ends_so, reply_is_short}
-use Rattle.fp_core.proofs.Ends.{ended_at, may_end, room_within}
+use Rattle.fp_core.proofs.Ends.{ended_at, may_end, room_within, uses_last}
 use Rattle.fp_core.proofs.engine.Engine.commit.Goals as goal
 
 pub commit-requires-clause-able : goal.commit-requires-clause-able
@@ -76,6 +79,7 @@ returns-in-Ok-clause-turned c m t h =
     let store = c.commit.new.msdbs in
     let log = c.commit.new.log in
     let owed = c.push_back_reserved.new.self in
+    let lasts = c.keep.new.lasts in
     let room : ℕ = engine.room - c.refusal_room.result in
     let next : Db = record m.history.now { msdbs = store.msdbs } in
     let made : Entry = entry_of t (done_as m reply store) t.notes entry.items in
@@ -94,6 +98,11 @@ returns-in-Ok-clause-turned c m t h =
     let owes : owed.items ≡ engine.owed.items ++ owed_of made ∷ [] =
     c.push_back_reserved.ensures.items ∙ ap (λ o. engine.owed.items ++ o ∷ []) c.owed_of.ensures ∙ ap
     (λ (x : Entry). engine.owed.items ++ owed_of x ∷ []) done in
+    let used : lasts.terminals ≡ with_used (last_by engine.format made) engine.lasts.terminals =
+    uses_last engine m region t u made engine.lasts.terminals lasts.terminals refl refl
+    (c.keep.ensures.terminals ∙ ap (λ (o : Option Last). with_used o engine.lasts.terminals)
+    (c.in_ok-kept.ensures ∙ ap (λ (text : List ℕ). last_told active.message outcome.Done text) c.as_slice.ensures
+    ∙ ap (λ (x : Message). last_told x outcome.Done reply) is.message)) in
     let items : with_items engine.defs.now.msdbs m.history.now.msdbs entry.items ≡ store.msdbs =
     ap (λ (msdbs : List Msdb). with_items engine.defs.now.msdbs msdbs entry.items) w.stands.msdbs ∙ sym
     (e.msdbs engine.defs.now.msdbs handed.able) in
@@ -104,6 +113,7 @@ returns-in-Ok-clause-turned c m t h =
       log = log;
       owed = owed;
       room = room;
+      lasts = lasts;
     } in
     let its : AreItemsOf engine.defs.now t.point.own.deferred m.history.now.msdbs store.msdbs entry.items = record {
       kinds = e.kinds engine.defs.now.msdbs handed.able;
@@ -118,9 +128,10 @@ returns-in-Ok-clause-turned c m t h =
     (ends_done engine m region t reply store active draft entry (settlement engine.defs.now m.history.now t.point.own)
     c.in_ok-draft.ensures e.entry (e.end engine.defs.now m.history.now t.point.own handed))
     (subst (λ n. StandsFor (after n) (ended_with region made next m)) (sym same)
-    (ended_at engine m region t made next c.release_all.new.self store log owed room u c.release_all.ensures.lists
-    c.release_all.ensures.regions
-    e.sealed unsealed owes slots less spare (e.of engine.defs.now.msdbs handed.able) refl refl
+    (ended_at engine m region t made next c.release_all.new.self store log owed room lasts u
+    c.release_all.ensures.lists c.release_all.ensures.regions
+    e.sealed unsealed owes slots less spare (e.of engine.defs.now.msdbs handed.able) refl refl used
+    c.keep.ensures.spare
     (record { fit = e.fit engine.defs.now handed.able; made = items })))
 
 pub returns-in-Err-Verify-clause-turned : goal.returns-in-Err-Verify-clause-turned
@@ -155,8 +166,8 @@ returns-in-Err-Verify-clause-err c m t w =
     c.in_ok-draft.draft w c.active_in-active.ensures.there c.in_ok-draft.ensures
     c.commit.new.msdbs c.commit.new.log (e.of engine.defs.now.msdbs) e.segments e.sealed e.waiting e.spare)
 
-pub returns-in-Err-Memory-clause-err : goal.returns-in-Err-Memory-clause-err
-returns-in-Err-Memory-clause-err c m t w =
+pub returns-clause-err : goal.returns-clause-err
+returns-clause-err c m t w =
     let engine = c.args.self.now in
     let e = c.in-Err-Memory.ensures in
     may_end (record engine { store = c.commit.new.msdbs; log = c.commit.new.log }) m c.args.region t

@@ -1,4 +1,5 @@
 use Rattle.std.proofs.Common.{◌∙◌, ap, subst, arith, ℕ, List, ◌≤◌, ◌<◌}
+use Rattle.fp_model.specs.declared.calls.Message.{Message}
 use Rattle.fp_model.specs.declared.log.Entry.{Entry}
 use Rattle.fp_model.specs.declared.log.Outcome.{Outcome}
 use Rattle.fp_model.specs.declared.log.Outcome.TheVariants as outcome
@@ -41,3 +42,10 @@ returns-clause-turned c m t w end =
     w end used
     (subst (λ (x : Entry). StandsFor c.refuse.new.self (ended_with c.args.region x m.history.now m)) entry
     (c.in_ok-refuse.ensures.ended m t u))
+
+pub refuse-requires-clause-line : goal.refuse-requires-clause-line
+refuse-requires-clause-line c m t u =
+    let engine = c.args.self.now in
+    let is = region_is engine m c.args.region t (regions.Active c.active_in-active.result.now) u
+    c.active_in-active.ensures.there in
+    ap (λ (e : Entry). e.line) c.in_ok-entry.ensures.entry ∙ ap (λ (x : Message). x.line) is.message

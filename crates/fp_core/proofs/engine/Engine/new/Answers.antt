@@ -5,11 +5,11 @@ use Rattle.fp_core.proofs.Rests.{rests}
 use Rattle.fp_core.proofs.engine.Engine.new.Goals as goal
 
 pub returns-clause-stands : goal.returns-clause-stands
-returns-clause-stands c lines h msdbs place past format =
+returns-clause-stands c lines h msdbs place past format lasts =
     rests _ lines h c.requires.setup refl
     (c.in_ok-new.ensures.queues ∙ ap (λ (n : ℕ). replicate {A = List Message} n []) c.group_count.ensures.count)
     c.in_ok-new.ensures.free
     (c.in_ok-idle_regions.ensures ∙ ap (λ (n : ℕ). replicate n regions.Idle) c.len-regions.ensures)
     c.in_ok-new-2.ensures.none
     (c.in_ok-new-2.ensures.regions ∙ c.len-regions.ensures)
-    c.requires.store msdbs place past format c.requires.sealed c.new-3.ensures.items refl
+    c.requires.store msdbs place past format lasts c.requires.sealed c.new-3.ensures.items refl

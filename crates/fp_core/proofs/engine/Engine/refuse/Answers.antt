@@ -4,9 +4,9 @@ use Rattle.fp_model.specs.Machine.{ended_with}
 use Rattle.fp_core.specs.declared.engine.Engine.{Engine}
 use Rattle.fp_core.specs.Acting.{MayEnd}
 use Rattle.fp_core.specs.Relation.{StandsFor}
-use Rattle.fp_core.proofs.Ends.{ended_at}
+use Rattle.fp_core.proofs.Ends.{ended_at, uses_last}
 use Rattle.fp_core.proofs.Goings.{on_err}
-use Rattle.fp_core.proofs.Refusals.{refusal_format, refusal_makes, unsettled}
+use Rattle.fp_core.proofs.Refusals.{refusal_format, refusal_makes, refusal_uses, unsettled}
 use Rattle.fp_core.proofs.engine.Engine.refuse.Goals as goal
 
 pub returns-in_err-end-clause-err : goal.returns-in_err-end-clause-err
@@ -25,7 +25,11 @@ returns-clause-ended c m t u =
     let entry = c.args.entry in
     let slots : deque_capacity engine.owed ≤ deque_capacity new.owed = omega (arith, e.slots) in
     subst (λ (x : Engine). StandsFor x (ended_with c.args.region entry m.history.now m)) (sym e.ok)
-    (ended_at engine m c.args.region t entry m.history.now new.locks engine.store new.log new.owed new.room u e.locks
+    (ended_at engine m c.args.region t entry m.history.now new.locks engine.store new.log new.owed new.room new.lasts u
+    e.locks
     e.rows e.sealed e.unsealed e.owed
-    slots (e.room m t u) e.spare u.stands.of u.stands.msdbs (refusal_format entry.outcome c.requires.refusal)
+    slots (e.room m t u) e.spare u.stands.of u.stands.msdbs
+    (refusal_format engine.format entry.outcome c.requires.refusal)
+    (uses_last engine m c.args.region t u entry engine.lasts.terminals new.lasts.terminals (c.requires.line m t u)
+    (refusal_uses entry.outcome c.requires.refusal) (e.used m t u)) e.places
     (refusal_makes engine.defs.now m.history.now entry c.requires.refusal c.requires.rules.parts))

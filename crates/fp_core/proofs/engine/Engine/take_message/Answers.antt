@@ -51,8 +51,9 @@ returns-in-None-clause-turned c m s =
 pub returns-in_err-make_room-clause-err : goal.returns-in_err-make_room-clause-err
 returns-in_err-make_room-clause-err c m s =
     on_err c.from_residual-in_err-make_room.result
-    (roomier c.args.self.now m c.make_room.new.log c.make_room.new.owed s c.make_room.ensures.log
-    c.make_room.ensures.spare c.make_room.ensures.owed c.make_room.ensures.capacity)
+    (roomier c.args.self.now m c.make_room.new.log c.make_room.new.owed c.make_room.new.lasts s
+    c.make_room.ensures.log c.make_room.ensures.spare c.make_room.ensures.owed c.make_room.ensures.capacity
+    c.make_room.ensures.lasts c.make_room.ensures.numbers)
 
 pub returns-clause-turned : goal.returns-clause-turned
 returns-clause-turned c m s =
@@ -66,14 +67,25 @@ returns-clause-turned c m s =
     (record {
       from = c.count-from.result;
       message = c.in-Some-take.message;
-      program =
-          c.in_ok-program-in-Some.program;
-      work = c.in_ok-program-in-Some.work;
+      program = c.in_ok-begun-in-Some.begun.program;
+      work = c.in_ok-begun-in-Some.begun.work;
       tries = 0;
       ahead = None;
+      refusal = c.in_ok-begun-in-Some.begun.refusal;
     })
-    c.take.new.self c.make_room.new.log c.make_room.new.owed c.in_ok-program-in-Some.room
+    c.take.new.self c.make_room.new.log c.make_room.new.owed c.in_ok-begun-in-Some.begun.room
+    c.make_room.new.lasts
     (sym c.in-Some.ensures) c.take.ensures.rest c.take.ensures.busy c.make_room.ensures.log c.make_room.ensures.owed
-    (omega (arith, c.in_ok-make_room.ensures.slots, c.len.ensures)) c.in_ok-program-in-Some.ensures.room
-    c.in_ok-make_room.ensures.room
-    c.count-from.ensures same (c.in_ok-program-in-Some.ensures.is c.count-from.result)
+    (omega (arith, c.in_ok-make_room.ensures.slots, c.len.ensures)) c.in_ok-begun-in-Some.ensures.room
+    c.in_ok-make_room.ensures.room c.make_room.ensures.lasts
+    (omega (arith, c.in_ok-make_room.ensures.places, c.len.ensures))
+    c.count-from.ensures same (c.in_ok-begun-in-Some.ensures.is c.count-from.result)
+
+pub make_room-requires : goal.make_room-requires
+make_room-requires c =
+    omega (
+      arith,
+      c.len.ensures,
+      regions_long c.args.self.now c.requires.stands.0 c.requires.stands.1,
+      c.requires.stands.1.setup.defined.regions.1,
+    )

@@ -40,7 +40,7 @@ returns-clause-again c m t u =
     let begun = begins_again engine.defs.now engine.scripts.now.scripts c.in_ok-program.program c.in_ok-program.work
     c.active_in.result.now c.in-Active.active c.begin_again.new.active t c.count-from.result (place_of m.history)
     (c.count-from.ensures ∙ u.stands.count)
-    seen.message is.message is.tries c.in_ok-program.ensures c.begin_again.ensures in
+    seen.message is.message is.tries is.refusal c.in_ok-program.ensures c.begin_again.ensures in
     subst (λ n. StandsFor (record engine {
       regions =
           slice_set engine.regions n (regions.Active c.begin_again.new.active);
