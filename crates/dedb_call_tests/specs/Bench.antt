@@ -7,7 +7,7 @@ use Rattle.fp_model.specs.Waiting.{Lock}
 use Rattle.dedb_calls.specs.Progress.{DedbProgress, IsDedbWorkOf, Knows}
 
 pub record IsUnderWay (defs : List DedbDef) (work : DedbProgress) (locks : List Row) : Type 0 where
-  pub work : IsDedbWorkOf defs work
+  pub going : IsDedbWorkOf defs work
   pub region : length locks ≡ 1
   pub all : List Lock
   pub requests : List Lock

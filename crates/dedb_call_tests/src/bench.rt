@@ -1,16 +1,17 @@
 //! The sample's customers, and a transaction of one region that begins without any.
 ghost use Rattle.dedb_call_tests.specs.Bench.{IsUnderWay};
+ghost use Rattle.dedb_calls.specs.Calls.{FitsCallOn};
 ghost use Rattle.fp_exits.specs.Kinds.{has_kind, kinds_of};
 ghost use Rattle.fp_exits.specs.Ranges.{IsRoutable, IsSpreadable};
 ghost use Rattle.fp_model.specs.Exits.{route, spread};
 ghost use Rattle.fp_model.specs.WellFormed.{IsDedbDef};
+ghost use Rattle.fp_model.specs.declared.definitions.DedbDef.{DedbDef as DefOf};
 ghost use Rattle.std.specs.List.{AllByRecursion};
-ghost use Rattle.std.specs.Prelude.{◌≡◌, ◌<◌, IfOk, length, true};
+ghost use Rattle.std.specs.Prelude.{◌≡◌, ◌<◌, IfOk, IsTrue, Some, length, slice_get, true};
 
 use crate::fitting::fits_call;
 use ci_locks::Locks;
 use dedb_calls::{DedbReady, DedbWork, answer};
-use fp_defs::read_defs;
 use fp_exits::{Exits, Router, Routing, Spreader, Spreading, fold_group, fold_place};
 use fp_model::{Answer, Call, Defs, Kind, List, Mode, Name, Resource};
 use std::alloc::Global;
@@ -87,6 +88,65 @@ fn gain(
     Ok(())
 }
 
+/// Whether a call fits the first database.
+fn fits_first(defs: &Defs, work: &DedbWork, call: &Call) -> bool
+    requires some { 0 < length defs.now.dedbs }
+    requires positions { length work.now.positions ≡ length defs.now.dedbs }
+    ensures { IsTrue result → (def : DefOf) → slice_get defs.now.dedbs 0 ≡ Some def
+        → FitsCallOn def 0 work.now call.now }
+{
+    fits_call(&defs.dedbs.as_slice()[0], work, call)
+}
+
+/// Asks a call once.
+fn ask_once(
+    alloc: Global,
+    work: &mut DedbWork,
+    locks: &Locks,
+    call: &Call,
+    defs: &Defs,
+    exits: &Exits,
+) -> Result<DedbReady, Fail>
+    requires defs { AllByRecursion IsDedbDef defs.now.dedbs }
+    requires some { 0 < length defs.now.dedbs }
+    requires exits { AllByRecursion (λ dedb. has_kind (kinds_of exits.now).spreaders dedb.randomizer ≡ true)
+        defs.now.dedbs }
+    requires going { IsUnderWay defs.now.dedbs work.old locks.now }
+
+    ensures { IfOk result (λ came. IsUnderWay defs.now.dedbs work.new locks.now) }
+{
+    if !fits_first(defs, work, call) {
+        return Err(Fail::from("a call that doesn't fit"));
+    }
+    Ok(answer(alloc, work, call, 0, defs, exits, locks, REGION)?)
+}
+
+/// Asks a call once, and gains the lock that it needs.
+fn turn(
+    alloc: Global,
+    work: &mut DedbWork,
+    locks: &mut Locks,
+    call: &Call,
+    defs: &Defs,
+    exits: &Exits,
+) -> Result<Option<Answer>, Fail>
+    requires defs { AllByRecursion IsDedbDef defs.now.dedbs }
+    requires some { 0 < length defs.now.dedbs }
+    requires exits { AllByRecursion (λ dedb. has_kind (kinds_of exits.now).spreaders dedb.randomizer ≡ true)
+        defs.now.dedbs }
+    requires going { IsUnderWay defs.now.dedbs work.old locks.old }
+
+    ensures { IfOk result (λ answer. IsUnderWay defs.now.dedbs work.new locks.new) }
+{
+    match ask_once(alloc, work, locks, call, defs, exits)? {
+        DedbReady::Answer(answer) => Ok(Some(answer)),
+        DedbReady::Need { anchor, mode } => {
+            gain(alloc, work, locks, anchor, mode, defs)?;
+            Ok(None)
+        }
+    }
+}
+
 /// Asks a call until it is answered, and gains each lock that it needs.
 pub(crate) fn ask(
     alloc: Global,
@@ -105,12 +165,8 @@ pub(crate) fn ask(
     ensures { IfOk result (λ answer. IsUnderWay defs.now.dedbs work.new locks.new) }
 {
     for _ in 0..20u8 {
-        if !fits_call(&defs.dedbs.as_slice()[0], work, call) {
-            return Err(Fail::from("a call that doesn't fit"));
-        }
-        match answer(alloc, work, call, 0, defs, exits, locks, REGION)? {
-            DedbReady::Answer(answer) => return Ok(answer),
-            DedbReady::Need { anchor, mode } => gain(alloc, work, locks, anchor, mode, defs)?,
+        if let Some(answer) = turn(alloc, work, locks, call, defs, exits)? {
+            return Ok(answer);
         }
     }
     Err(Fail::from("no answer"))
