@@ -77,12 +77,7 @@ fn begun(
     };
     let msdbs = MsdbStore::start(alloc, defs)?;
     let lasts = Lasts::new(alloc)?;
-    Ok(Started {
-        msdbs,
-        log,
-        format: front.format,
-        lasts,
-    })
+    Ok(Started { msdbs, log, lasts })
 }
 
 // The core at rest.

@@ -117,7 +117,7 @@ impl<'a> Engine<'a> {
         // Behind any entries that come to these databases.
         ensures stands { (lines : ListOf (ListOf ℕ)) (h : History) → h.now.msdbs ≡ started.msdbs.msdbs
             → place_of h ≡ started.log.sealed → length h.past ≡ place_of h
-            → format_at h.format h.entries ≡ started.format
+            → format_at h.format h.entries ≡ started.log.format
             → started.lasts.terminals ≡ lasts_of h.format h.entries
             → IfOk result (λ engine. StandsFor engine (at_rest (rules_of defs.now scripts.now.scripts) lines h)) }
         ensures rules { IfOk result (λ engine. rules_in engine ≡ rules_of defs.now scripts.now.scripts) }
@@ -125,12 +125,8 @@ impl<'a> Engine<'a> {
         ensures scripts { IfOk result (λ engine. engine.scripts.now ≡ scripts.now) }
         ensures gate { IfOk result (λ engine. engine.log.gate ≡ started.log.gate) }
     {
-        let Started {
-            msdbs,
-            log,
-            format,
-            lasts,
-        } = started;
+        let Started { msdbs, log, lasts } = started;
+        let format = log.format();
         let regions = defs.regions.len();
         Ok(Engine {
             alloc,

@@ -36,8 +36,6 @@ pub struct Started {
     pub msdbs: MsdbStore,
     /// The log, opened, in which no entry is unsealed.
     pub log: Log,
-    /// The format of that log.
-    pub format: u8,
     /// The last number of each terminal in it, and the reply line that it got.
     pub lasts: Lasts,
 }
@@ -80,7 +78,7 @@ impl<'a> Core<'a> {
         // Behind any entries that come to these databases.
         ensures stands { (lines : ListOf (ListOf ℕ)) (h : History) → h.now.msdbs ≡ started.msdbs.msdbs
             → place_of h ≡ started.log.sealed → length h.past ≡ place_of h
-            → format_at h.format h.entries ≡ started.format
+            → format_at h.format h.entries ≡ started.log.format
             → started.lasts.terminals ≡ lasts_of h.format h.entries
             → IfOk result (λ core. StandsFor core.engine (at_rest (rules_of defs.now scripts.now.scripts) lines h)) }
         ensures rules { IfOk result (λ core. rules_in core.engine ≡ rules_of defs.now scripts.now.scripts) }

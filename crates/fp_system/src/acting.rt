@@ -163,7 +163,6 @@ fn run_started<S: Source, T: Site>(
     requires events { AllByRecursion (IsEventOf task.now.setup.defs) task.now.events }
     requires store { IsOf task.now.setup.defs.msdbs started.msdbs }
     requires unsealed { started.log.unsealed ≡ [] }
-    requires format { started.format ≡ started.log.format }
     requires numbers { AreOfSome started.log started.lasts }
 
     // Behind any entries that come to these databases, where their log is at rest; or there was no memory to begin.
@@ -238,14 +237,14 @@ pub(crate) fn run_on<S: Source, T: Site>(
     if is_old(&log) {
         return Status::OldFormat;
     }
-    let format = log.format();
-    let started = Started {
-        msdbs,
-        log,
-        format,
-        lasts,
-    };
-    run_started(alloc, source, site, exits, task, started)
+    run_started(
+        alloc,
+        source,
+        site,
+        exits,
+        task,
+        Started { msdbs, log, lasts },
+    )
 }
 
 // The entry from whose place on messages may have numbers.

@@ -10,9 +10,9 @@ pub returns-clause-reached : goal.returns-clause-reached
 returns-clause-reached g c =
     let defs = c.args.defs.now in
     if_ok_both _ _ _ c.new.result
-    (λ core stands same. reached_at_rest defs c.args.scripts.now.scripts c.args.started.format core.engine same
+    (λ core stands same. reached_at_rest defs c.args.scripts.now.scripts c.args.started.log.format core.engine same
     stands)
-    (c.new.ensures.stands [] (beginning c.args.started.format (start defs)) (sym c.requires.msdbs)
+    (c.new.ensures.stands [] (beginning c.args.started.log.format (start defs)) (sym c.requires.msdbs)
     (sym c.requires.sealed) refl refl c.requires.lasts)
     c.new.ensures.rules
 

@@ -42,7 +42,7 @@ run_schedule-requires g c =
     let rules = rules_for (job_of setup) in
     let h = any_history format some.entries msdbs in
     let stands = c.in-Ok.ensures.stands [] h refl (sym some.count) (any_states format some.entries msdbs)
-    (sym some.format ∙ sym c.requires.format) some.lasts in
+    (sym some.format) some.lasts in
     record {
       reached = (at_rest rules [] h, reached_at_rest core.engine rules [] h c.in-Ok.ensures.rules stands);
       events =
@@ -73,7 +73,7 @@ returns-in-Ok-run_schedule-clause-ran g c origin h s t is =
     let old = g.T.Site.disk c.args.site.now in
     let new = g.T.Site.disk c.run_schedule.new.site in
     let stands = c.in-Ok.ensures.stands (lines_of left) h is.msdbs is.place is.states
-    (is.format ∙ sym c.requires.format) is.lasts in
+    is.format is.lasts in
     let beside = stands_beside origin h c.args.started.msdbs c.args.started.log c.args.started.lasts old core.engine
     rules core.lines left is
     stands c.in-Ok.ensures.gate (c.in-Ok.ensures.lines left) in
@@ -97,7 +97,7 @@ returns-clause-ran g c origin h s t is =
     let old = g.T.Site.disk c.args.site.now in
     let new = g.T.Site.disk c.run_schedule.new.site in
     let stands = c.in-Ok.ensures.stands (lines_of left) h is.msdbs is.place is.states
-    (is.format ∙ sym c.requires.format) is.lasts in
+    is.format is.lasts in
     let beside = stands_beside origin h c.args.started.msdbs c.args.started.log c.args.started.lasts old core.engine
     rules core.lines left is
     stands c.in-Ok.ensures.gate (c.in-Ok.ensures.lines left) in

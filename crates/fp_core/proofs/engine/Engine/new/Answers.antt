@@ -1,4 +1,4 @@
-use Rattle.std.proofs.Common.{◌∙◌, ap, refl, ℕ, List, [], replicate}
+use Rattle.std.proofs.Common.{◌∙◌, ap, sym, refl, ℕ, List, [], replicate}
 use Rattle.fp_model.specs.declared.calls.Message.{Message}
 use Rattle.fp_core.specs.declared.engine.Region.TheVariants as regions
 use Rattle.fp_core.proofs.Rests.{rests}
@@ -12,4 +12,4 @@ returns-clause-stands c lines h msdbs place past format lasts =
     (c.in_ok-idle_regions.ensures ∙ ap (λ (n : ℕ). replicate n regions.Idle) c.len-regions.ensures)
     c.in_ok-new-2.ensures.none
     (c.in_ok-new-2.ensures.regions ∙ c.len-regions.ensures)
-    c.requires.store msdbs place past format lasts c.requires.sealed c.new-3.ensures.items refl
+    c.requires.store msdbs place past (format ∙ sym c.format-format.ensures) lasts c.requires.sealed c.new-3.ensures.items refl
