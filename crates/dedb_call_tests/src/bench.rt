@@ -17,7 +17,8 @@ use fp_model::{Answer, Call, Defs, Kind, List, Mode, Name, Resource};
 use std::alloc::Global;
 use std::test::Fail;
 
-/// One database: CUSTOMER with a key of 4 bytes and 12 more, AUDIT (sequential) with 8, LOAN with a key of 2 and 4 more.
+/// One database: CUSTOMER with a key of 4 bytes and 12 more, AUDIT (sequential) with 8, LOAN with a key of 2 and 4
+/// more.
 pub(crate) const CUSTOMERS: &str = r#"regions = [1]
 router = "FOLD"
 [[dedb]]
