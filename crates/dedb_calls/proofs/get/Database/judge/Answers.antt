@@ -7,7 +7,8 @@ pub returns-then-not-parents_stand : goal.returns-then-not-parents_stand
 returns-then-not-parents_stand c = (
   c.in-Some.ensures.locked,
   sym (parents_as c.args.self.def.now c.requires.good c.args.self.number
-      ((standing c.args.locks.now).holds c.args.region) c.args.work.now c.requires.fits c.requires.order c.requires.known
+      ((standing c.args.locks.now).holds c.args.region) c.args.work.now c.requires.fits c.requires.order
+      c.requires.known
       c.requires.insert.0 c.args.new.now
       c.requires.insert.1 c.held.result.now c.held.ensures c.in-Some.roots.now c.in-Some.ensures
       c.as_slice-segments.result.now c.as_slice-segments.ensures c.as_slice-roots.result.now c.as_slice-roots.ensures
@@ -18,13 +19,15 @@ pub returns-then-is_sequential : goal.returns-then-is_sequential
 returns-then-is_sequential c = (
   c.in-Some.ensures.locked,
   sym (parents_as c.args.self.def.now c.requires.good c.args.self.number
-      ((standing c.args.locks.now).holds c.args.region) c.args.work.now c.requires.fits c.requires.order c.requires.known
+      ((standing c.args.locks.now).holds c.args.region) c.args.work.now c.requires.fits c.requires.order
+      c.requires.known
       c.requires.insert.0 c.args.new.now
       c.requires.insert.1 c.held.result.now c.held.ensures c.in-Some.roots.now c.in-Some.ensures
       c.as_slice-segments.result.now c.as_slice-segments.ensures c.as_slice-roots.result.now c.as_slice-roots.ensures
       c.as_slice-steps.result.now c.as_slice-steps.ensures true c.if-not-parents_stand.ensures),
   sym (kind_as c.args.self.def.now c.requires.good c.args.self.number
-      ((standing c.args.locks.now).holds c.args.region) c.args.work.now c.requires.fits c.requires.order c.requires.known
+      ((standing c.args.locks.now).holds c.args.region) c.args.work.now c.requires.fits c.requires.order
+      c.requires.known
       c.requires.insert.0 c.args.new.now
       c.requires.insert.1 c.held.result.now c.held.ensures c.in-Some.roots.now c.in-Some.ensures
       c.as_slice-segments.result.now c.as_slice-segments.ensures c.as_slice-roots.result.now c.as_slice-roots.ensures
@@ -41,17 +44,21 @@ returns-then-leads_to c =
     c.as_slice-steps.result.now c.as_slice-steps.ensures false c.if-is_sequential.ensures) in (
       c.in-Some.ensures.locked,
       sym (parents_as c.args.self.def.now c.requires.good c.args.self.number
-          ((standing c.args.locks.now).holds c.args.region) c.args.work.now c.requires.fits c.requires.order c.requires.known
+          ((standing c.args.locks.now).holds c.args.region) c.args.work.now c.requires.fits c.requires.order
+          c.requires.known
           c.requires.insert.0 c.args.new.now
           c.requires.insert.1 c.held.result.now c.held.ensures c.in-Some.roots.now c.in-Some.ensures
-          c.as_slice-segments.result.now c.as_slice-segments.ensures c.as_slice-roots.result.now c.as_slice-roots.ensures
+          c.as_slice-segments.result.now c.as_slice-segments.ensures c.as_slice-roots.result.now
+          c.as_slice-roots.ensures
           c.as_slice-steps.result.now c.as_slice-steps.ensures true c.if-not-parents_stand.ensures),
       direct,
       sym (there_as c.args.self.def.now c.requires.good c.args.self.number
-          ((standing c.args.locks.now).holds c.args.region) c.args.work.now c.requires.fits c.requires.order c.requires.known
+          ((standing c.args.locks.now).holds c.args.region) c.args.work.now c.requires.fits c.requires.order
+          c.requires.known
           c.requires.insert.0 c.args.new.now
           c.requires.insert.1 c.held.result.now c.held.ensures c.in-Some.roots.now c.in-Some.ensures
-          c.as_slice-segments.result.now c.as_slice-segments.ensures c.as_slice-roots.result.now c.as_slice-roots.ensures
+          c.as_slice-segments.result.now c.as_slice-segments.ensures c.as_slice-roots.result.now
+          c.as_slice-roots.ensures
           c.as_slice-steps.result.now c.as_slice-steps.ensures true c.if-leads_to.ensures direct),
     )
 
@@ -65,16 +72,20 @@ returns c =
     c.as_slice-steps.result.now c.as_slice-steps.ensures false c.if-is_sequential.ensures) in (
       c.in-Some.ensures.locked,
       sym (parents_as c.args.self.def.now c.requires.good c.args.self.number
-          ((standing c.args.locks.now).holds c.args.region) c.args.work.now c.requires.fits c.requires.order c.requires.known
+          ((standing c.args.locks.now).holds c.args.region) c.args.work.now c.requires.fits c.requires.order
+          c.requires.known
           c.requires.insert.0 c.args.new.now
           c.requires.insert.1 c.held.result.now c.held.ensures c.in-Some.roots.now c.in-Some.ensures
-          c.as_slice-segments.result.now c.as_slice-segments.ensures c.as_slice-roots.result.now c.as_slice-roots.ensures
+          c.as_slice-segments.result.now c.as_slice-segments.ensures c.as_slice-roots.result.now
+          c.as_slice-roots.ensures
           c.as_slice-steps.result.now c.as_slice-steps.ensures true c.if-not-parents_stand.ensures),
       direct,
       sym (there_as c.args.self.def.now c.requires.good c.args.self.number
-          ((standing c.args.locks.now).holds c.args.region) c.args.work.now c.requires.fits c.requires.order c.requires.known
+          ((standing c.args.locks.now).holds c.args.region) c.args.work.now c.requires.fits c.requires.order
+          c.requires.known
           c.requires.insert.0 c.args.new.now
           c.requires.insert.1 c.held.result.now c.held.ensures c.in-Some.roots.now c.in-Some.ensures
-          c.as_slice-segments.result.now c.as_slice-segments.ensures c.as_slice-roots.result.now c.as_slice-roots.ensures
+          c.as_slice-segments.result.now c.as_slice-segments.ensures c.as_slice-roots.result.now
+          c.as_slice-roots.ensures
           c.as_slice-steps.result.now c.as_slice-steps.ensures false c.if-leads_to.ensures direct),
     )
