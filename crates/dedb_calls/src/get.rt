@@ -270,7 +270,8 @@ impl Database<'_> {
         requires some { 1 ≤ region }
         requires within { region ≤ length locks.now }
         requires known { Knows ((standing locks.now).holds region) work.now.anchors }
-        requires root { root ≡ option_map (anchor_of self.def.now) (root_named self.def.now self.number asked.ssas.now) }
+        requires root { root ≡ option_map (anchor_of self.def.now)
+            (root_named self.def.now self.number asked.ssas.now) }
 
         ensures { IfOk result (λ looked. HasLooked looked
             (is_locked ((standing locks.now).holds region) self.entry.number
@@ -309,7 +310,8 @@ impl Database<'_> {
         requires some { 1 ≤ region }
         requires within { region ≤ length locks.now }
         requires known { Knows ((standing locks.now).holds region) work.old.anchors }
-        requires root { root ≡ option_map (anchor_of self.def.now) (root_named self.def.now self.number asked.ssas.now) }
+        requires root { root ≡ option_map (anchor_of self.def.now)
+            (root_named self.def.now self.number asked.ssas.now) }
 
         ensures comes { IfOk result (λ came. ComesTo self.entry.number
             (λ db own. get_need self.entry.def.now self.entry.number db own ((standing locks.now).holds region)
