@@ -119,15 +119,31 @@ const GETS: [Step; 12] = [
     (Asked::Get(Get::Unique, false, &[]), OK, BOB),
     (Asked::Get(Get::Next, false, &[]), OK, ANN),
     (Asked::Get(Get::NextInParent, false, &[]), OK, L1),
-    (Asked::Get(Get::NextInParent, false, &[(LOAN, None)]), OK, L2),
+    (
+        Asked::Get(Get::NextInParent, false, &[(LOAN, None)]),
+        OK,
+        L2,
+    ),
     (Asked::Get(Get::NextInParent, false, &[]), *b"GE", b""),
     (Asked::Get(Get::Next, false, &[]), OK, CY),
     (Asked::Get(Get::NextInParent, false, &[]), *b"GE", b""),
     (Asked::Get(Get::Next, false, &[]), *b"GB", b""),
     (Asked::Get(Get::Next, false, &[C001]), *b"GE", b""),
-    (Asked::Get(Get::Unique, false, &[C001, (LOAN, Some(b"L2"))]), OK, L2),
-    (Asked::Get(Get::Unique, false, &[(LOAN, None), C001]), *b"AM", b""),
-    (Asked::Get(Get::Unique, false, &[(AUDIT, Some(b""))]), *b"AM", b""),
+    (
+        Asked::Get(Get::Unique, false, &[C001, (LOAN, Some(b"L2"))]),
+        OK,
+        L2,
+    ),
+    (
+        Asked::Get(Get::Unique, false, &[(LOAN, None), C001]),
+        *b"AM",
+        b"",
+    ),
+    (
+        Asked::Get(Get::Unique, false, &[(AUDIT, Some(b""))]),
+        *b"AM",
+        b"",
+    ),
 ];
 
 /// A loan is held, replaced and deleted; its root goes with the other, and the parent is forgotten.
@@ -138,7 +154,11 @@ const EDITS: [Step; 14] = [
     (Asked::Repl(L1), *b"DJ", b""),
     (Asked::Get(Get::Unique, true, &[C001, (LOAN, None)]), OK, L1),
     (Asked::Repl(b"L1\x00\x00\x09\x0c"), OK, b""),
-    (Asked::Get(Get::Unique, true, &[(LOAN, None)]), OK, b"L1\x00\x00\x09\x0c"),
+    (
+        Asked::Get(Get::Unique, true, &[(LOAN, None)]),
+        OK,
+        b"L1\x00\x00\x09\x0c",
+    ),
     (Asked::Dlet, OK, b""),
     (Asked::Get(Get::NextInParent, false, &[]), *b"GP", b""),
     (Asked::Get(Get::Unique, true, &[C001]), OK, ANN),
@@ -155,7 +175,11 @@ const REFUSED: [Step; 7] = [
     (Asked::Dlet, *b"DJ", b""),
     (Asked::Isrt(&[(CUSTOMER, None)], ANN), *b"II", b""),
     (Asked::Isrt(&[C001], ANN), *b"AM", b""),
-    (Asked::Isrt(&[(CUSTOMER, Some(b"C002")), (LOAN, None)], L1), *b"GE", b""),
+    (
+        Asked::Isrt(&[(CUSTOMER, Some(b"C002")), (LOAN, None)], L1),
+        *b"GE",
+        b"",
+    ),
     (Asked::Isrt(&[C001, (LOAN, None)], L1), *b"II", b""),
 ];
 

@@ -1,9 +1,9 @@
 -- Held anchors in their order: where one stands, and what that says of look-ups, of one more and of edits.
-use Rattle.std.proofs.Common.{◌≡◌, ℕ, zero, suc, ◌+◌, ◌<◌, ◌≤◌, List, [], ◌∷◌, ◌++◌, length, take, drop, Some, None, refl, sym, ◌∙◌, ap, subst, Bool, true, false, ◌&&◌, ◌||◌, ◌==◌, slice_get, slice_set, slice_index_or, Option, arith}
+use Rattle.std.proofs.Common.{◌≡◌, ℕ, zero, suc, ◌+◌, ◌<◌, ◌≤◌, List, [], ◌∷◌, ◌++◌, length, Some, None, refl, sym, ◌∙◌, ap, subst, Bool, true, false, ◌&&◌, ◌||◌, ◌==◌, slice_get, slice_set, slice_index_or, Option, arith}
 use Rattle.std.proofs.lemmas.Bool.Decides.{nat_tests}
-use Rattle.std.specs.Prelude.{find, is_some, nat_lt, if◌then◌else◌, Result, Ok, Err}
+use Rattle.std.specs.Prelude.{nat_lt, if◌then◌else◌, Result, Ok, Err}
 use Rattle.std.specs.Result.{OnErr}
-use Rattle.std.specs.List.{AllByRecursion, AllWithin, insert}
+use Rattle.std.specs.List.{AllByRecursion, insert}
 use Rattle.std.specs.List.Sorted.{IsPartitionedBy}
 use Rattle.fp_model.specs.declared.calls.AnchorChange.{AnchorChange}
 use Rattle.fp_model.specs.declared.database.Root.{Root}
@@ -71,7 +71,7 @@ module _ (dedb anchor : ℕ) where
   partitioned (x ∷ xs) up zero (suc j) d le within less =
       let b : HeldAnchor = slice_index_or xs j d in
       before_trans x.dedb x.anchor b.dedb b.anchor dedb anchor (all_at (IsAfter x) xs j d up.0 (omega (arith, within)))
-          less
+      less
   partitioned (x ∷ xs) up (suc i) zero d le within less = absurd (omega (arith, le))
   partitioned (x ∷ xs) up (suc i) (suc j) d le within less =
       partitioned xs up.1 i j d (omega (arith, le)) (omega (arith, within)) less
@@ -314,9 +314,13 @@ module _ (xs items : List HeldAnchor) (same : items ≡ xs) (dedb anchor n : ℕ
           × (held_at xs dedb anchor ≡ Some a)
       by None e = absurd (not_both (sym standing ∙ none e))
       by (Some a) e =
-          let its : is_anchor_of dedb anchor a ≡ true = sym (is a e) ∙ standing in
-          (a, e, its, subst (λ zs. held_at zs dedb anchor ≡ Some a) same
-          (stands dedb anchor items n a (order up) (place (order up)) e its))
+          let its : is_anchor_of dedb anchor a ≡ true = sym (is a e) ∙ standing in (
+            a,
+            e,
+            its,
+            subst (λ zs. held_at zs dedb anchor ≡ Some a) same
+                (stands dedb anchor items n a (order up) (place (order up)) e its),
+          )
 
   -- it doesn't
   pub none_there : there ≡ false → Ascend xs → held_at xs dedb anchor ≡ None

@@ -1,12 +1,10 @@
 -- A transaction as it begins.
-use Rattle.std.proofs.Common.{◌≡◌, ◌∙◌, ℕ, zero, suc, ◌<◌, List, [], ◌∷◌, map, length, replicate, Option, Some, None, refl, sym, ap, subst, Bool, true, false, slice_get, unwrap_or, arith}
+use Rattle.std.proofs.Common.{◌≡◌, ◌∙◌, ℕ, zero, suc, ◌<◌, List, [], ◌∷◌, map, length, replicate, Some, None, refl, sym, ap, false, slice_get, unwrap_or, arith}
 use Rattle.std.specs.Prelude.{if◌then◌else◌}
-use Rattle.fp_model.specs.declared.calls.SeqInsert.{SeqInsert}
 use Rattle.fp_model.specs.declared.definitions.DedbDef.{DedbDef}
 use Rattle.fp_model.specs.Order.{Place}
 use Rattle.fp_model.specs.Workspace.{DedbPosition, no_dedb_position}
-use Rattle.dedb_calls.specs.Anchors.{held_at}
-use Rattle.dedb_calls.specs.Progress.{DedbProgress, FitsDedb, IsDedbWorkOf, held_in, position_in}
+use Rattle.dedb_calls.specs.Progress.{DedbProgress, IsDedbWorkOf, position_in}
 
 fresh_positions : (defs : List DedbDef) → replicate (length defs) no_dedb_position ≡ map (λ def. no_dedb_position) defs
 fresh_positions [] = refl

@@ -1,18 +1,19 @@
 -- Calls: the same call under other names, and what stays a transaction's behind one.
-use Rattle.std.proofs.Common.{◌≡◌, ◌∙◌, ℕ, ◌<◌, List, length, Option, Some, None, refl, sym, ap, subst, Bool, true, false, ◌==◌, slice_get, unwrap_or, arith}
+use Rattle.std.proofs.Common.{◌≡◌, ◌∙◌, ℕ, List, Option, Some, None, refl, sym, ap, subst, Bool, true, false, ◌==◌, slice_get, unwrap_or, arith}
 use Rattle.std.specs.Prelude.{IfOk, Result, if◌then◌else◌}
 use Rattle.fp_model.specs.declared.calls.Call.{Call}
+use Rattle.fp_model.specs.declared.calls.Call.TheVariants as call
 use Rattle.fp_model.specs.declared.calls.Mode.{Mode}
 use Rattle.fp_model.specs.declared.calls.Resource.{Resource}
 use Rattle.fp_model.specs.declared.definitions.DedbDef.{DedbDef}
-use Rattle.fp_model.specs.DedbCalls.{dedb_need, dedb_reply}
+use Rattle.fp_model.specs.DedbCalls.{dedb_need, dedb_reply, type_of_path}
 use Rattle.fp_model.specs.Order.{Place}
+use Rattle.fp_model.specs.Shape.{has_length}
 use Rattle.fp_model.specs.Workspace.{DedbPosition, no_dedb_position}
-use Rattle.dedb_calls.specs.Anchors.{held_at}
 use Rattle.dedb_calls.specs.Calls.{FitsCallOn}
 use Rattle.dedb_calls.specs.Progress.{DedbProgress, FitsDedb, GoesOn, IsDedbWorkOf, held_in}
 use Rattle.fp_model.specs.Calls.{OnDedb}
-use Rattle.fp_model.specs.FitCalls.{FitsAnswerOf}
+use Rattle.fp_model.specs.FitCalls.{FitsAnswerOf, FitsDedbCall}
 use Rattle.dedb_calls.specs.Readiness.{ComesTo, IfAnswer}
 use Rattle.dedb_calls.specs.declared.ready.DedbReady.{DedbReady}
 use Rattle.dedb_calls.proofs.AnchorLemmas.{some_is}
@@ -85,3 +86,16 @@ pub shows_at : {E : Type 0} (r : Result DedbReady E) (def def2 : DedbDef) (numbe
     → number ≡ number2 → ShowsBy r def number c → ShowsBy r def2 number2 c
 shows_at r def def2 number number2 c same same_number h =
     subst (λ (n : ℕ). ShowsBy r def2 n c) same_number (subst (λ (d : DedbDef). ShowsBy r d number c) same h)
+
+-- A call that fits its target fits by what is held, where that is of the type shown last.
+pub fits_on : (def : DedbDef) (number : ℕ) (shown : Option ℕ) (work : DedbProgress) (c : Call)
+    → FitsDedbCall def shown c
+    → ((place : Place) → held_in work number ≡ Some place → shown ≡ Some (type_of_path def number place.path))
+    → FitsCallOn def number work c
+fits_on def number shown work (call.Get g hold n ssas) fit tied = fit
+fits_on def number shown work (call.Fld n key fsas) fit tied = tt
+fits_on def number shown work (call.Isrt n ssas bytes) fit tied = (fit.0, fit.2)
+fits_on def number shown work (call.Repl n bytes) fit tied = λ place held.
+    let same = some_is fit.0 (type_of_path def number place.path) (sym fit.1 ∙ tied place held) in
+    subst (λ (t : ℕ). has_length def.segments t bytes ≡ true) same fit.2
+fits_on def number shown work (call.Dlet n) fit tied = tt

@@ -1,5 +1,5 @@
 -- Edits of an anchor: what they leave of all else, what fits after them, and what the transaction keeps to itself then.
-use Rattle.std.proofs.Common.{◌≡◌, ℕ, zero, suc, ◌<◌, List, [], ◌∷◌, length, Option, Some, None, refl, sym, ◌∙◌, ap, subst, Bool, true, false, ◌&&◌, ◌==◌, slice_get, slice_set, unwrap_or, arith}
+use Rattle.std.proofs.Common.{◌≡◌, ℕ, List, [], ◌∷◌, length, Some, None, refl, sym, ◌∙◌, ap, subst, Bool, true, false, ◌&&◌, ◌==◌, slice_get, slice_set, unwrap_or, arith}
 use Rattle.std.proofs.lemmas.Bool.Decides.{nat_tests}
 use Rattle.std.specs.Prelude.{filter, if◌then◌else◌, is_some, not}
 use Rattle.fp_model.specs.declared.calls.AnchorChange.{AnchorChange}
@@ -14,7 +14,7 @@ use Rattle.fp_model.specs.State.{roots_at}
 use Rattle.fp_model.specs.Texts.{same_text}
 use Rattle.fp_model.specs.Workspace.{DedbPosition, Workspace, no_dedb_position, put_change}
 use Rattle.dli_tree.specs.InOrder.{any_ends}
-use Rattle.dedb_calls.specs.Anchors.{Ascend, IsEdited, Sees, changes_in, held_at}
+use Rattle.dedb_calls.specs.Anchors.{IsEdited, Sees, changes_in, held_at}
 use Rattle.dedb_calls.specs.Inserts.{IsEditedTo}
 use Rattle.dedb_calls.specs.Progress.{DedbProgress, FitsDedb, GoesOn, held_in, position_in, with_position_at, with_progress}
 use Rattle.dedb_calls.specs.declared.anchors.HeldAnchor.{HeldAnchor}
@@ -168,5 +168,5 @@ those_go def dedb at xs anchor key one same same_key =
     (λ i. ap (λ k. not (i.dedb == dedb && i.anchor == k && same_text i.key key)) same
     ∙ ap (λ k. not (i.dedb == dedb && i.anchor == at.anchor && same_text i.key k)) same_key
     ∙ sym (ap (λ b. not (b && i.dedb == dedb && i.anchor == at.anchor && same_text i.key (root_key_of def dedb
-        at.path)))
+    at.path)))
     (both (length at.path) 1 one)))

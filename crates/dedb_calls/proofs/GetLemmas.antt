@@ -1,10 +1,7 @@
 -- Gets: what the search over the anchors that are held says of the answer.
 use Rattle.std.proofs.Common.{◌≡◌, ℕ, List, [], ◌∷◌, Option, ◌<◌, ◌≤◌, arith, Some, None, refl, sym, ◌∙◌, ap, subst, Bool, true, false, not, ◌||◌}
 use Rattle.std.proofs.lemmas.Bool.Decides.{nat_tests}
-use Rattle.std.specs.Prelude.{codes, nat_lt, if◌then◌else◌, is_some, option_map}
-use Rattle.std.specs.List.{AllByRecursion}
-use Rattle.std.specs.Option.{option_map_or}
-use Rattle.fp_model.specs.declared.calls.Answer.{Answer}
+use Rattle.std.specs.Prelude.{codes, nat_lt, if◌then◌else◌, option_map}
 use Rattle.fp_model.specs.declared.calls.Get.{Get}
 use Rattle.fp_model.specs.declared.calls.Get.TheVariants as get
 use Rattle.fp_model.specs.declared.calls.Mode.{Mode}
@@ -12,14 +9,13 @@ use Rattle.fp_model.specs.declared.calls.Resource.{Resource}
 use Rattle.fp_model.specs.declared.calls.Resource.TheVariants.{Anchor}
 use Rattle.fp_model.specs.declared.calls.Ssa.{Ssa}
 use Rattle.fp_model.specs.declared.database.Db.{Db}
-use Rattle.fp_model.specs.declared.database.Root.{Root}
 use Rattle.fp_model.specs.declared.definitions.DedbDef.{DedbDef}
 use Rattle.fp_model.specs.declared.definitions.SegDef.{SegDef}
 use Rattle.fp_model.specs.Answers.{Needed, Replied, answered, serves, showing}
 use Rattle.fp_model.specs.DedbCalls as dedb
 use Rattle.fp_model.specs.Order.{Occurrence, Place, first_admitted, sequence}
 use Rattle.fp_model.specs.Shape.{has_length}
-use Rattle.fp_model.specs.Workspace.{DedbPosition, Workspace}
+use Rattle.fp_model.specs.Workspace.{Workspace}
 use Rattle.state_laws.specs.Workspaces.{FitsPlace}
 use Rattle.state_laws.proofs.DedbReplies.{found_at}
 use Rattle.state_laws.proofs.Lists.{found_has}
@@ -27,7 +23,7 @@ use Rattle.state_laws.proofs.Sequences.{IsSegment}
 use Rattle.dedb_calls.specs.Anchors.{Ascend, Sees, held_at}
 use Rattle.dedb_calls.specs.Calls.{is_locked, lacks_parent_at, place_found, refusal_of}
 use Rattle.dedb_calls.specs.Progress.{DedbProgress, FitsDedb, Knows, position_in, roots_in, with_position_at, with_progress}
-use Rattle.dedb_calls.specs.Readiness.{ComesTo, IfAnswer, needed_in}
+use Rattle.dedb_calls.specs.Readiness.{ComesTo}
 use Rattle.dedb_calls.specs.Searches.{HasLooked, found_there, look_in}
 use Rattle.dedb_calls.specs.declared.anchors.HeldAnchor.{HeldAnchor}
 use Rattle.dedb_calls.specs.declared.ready.DedbReady.{DedbReady}
@@ -36,7 +32,7 @@ use Rattle.dedb_calls.specs.declared.search.Found.{Found}
 use Rattle.dedb_calls.specs.declared.search.Looked.{Looked}
 use Rattle.dedb_calls.specs.declared.search.Looked.TheVariants as looked
 use Rattle.dedb_calls.proofs.SearchLemmas.{found_same, held_roots, unlocked_same}
-use Rattle.dedb_calls.proofs.SeenLemmas.{all_segments, is_there, not_held, seen_roots, serves_some}
+use Rattle.dedb_calls.proofs.SeenLemmas.{all_segments, is_there, seen_roots, serves_some}
 
 -- ---- the anchors of GN with the root's key
 

@@ -1,7 +1,6 @@
 -- Replacements and deletions: what they come to, by the segment that is held.
-use Rattle.std.proofs.Common.{◌≡◌, ℕ, zero, suc, ◌<◌, List, [], ◌∷◌, length, Option, Some, None, refl, sym, ◌∙◌, ap, subst, Bool, true, false, not, slice_get, slice_set, unwrap_or, arith}
-use Rattle.std.specs.Prelude.{codes, filter, if◌then◌else◌, is_some}
-use Rattle.fp_model.specs.declared.calls.Call.TheVariants as call
+use Rattle.std.proofs.Common.{◌≡◌, ℕ, zero, suc, ◌<◌, List, [], ◌∷◌, length, Option, Some, None, refl, sym, ◌∙◌, ap, subst, Bool, true, false, not, slice_get, slice_set, unwrap_or}
+use Rattle.std.specs.Prelude.{codes, filter, if◌then◌else◌}
 use Rattle.fp_model.specs.declared.calls.Mode.{Mode}
 use Rattle.fp_model.specs.declared.calls.Mode.TheVariants.{Exclusive}
 use Rattle.fp_model.specs.declared.calls.Resource.{Resource}
@@ -10,15 +9,13 @@ use Rattle.fp_model.specs.declared.calls.SeqInsert.{SeqInsert}
 use Rattle.fp_model.specs.declared.database.Db.{Db}
 use Rattle.fp_model.specs.declared.database.Root.{Root}
 use Rattle.fp_model.specs.declared.definitions.DedbDef.{DedbDef}
-use Rattle.fp_model.specs.declared.definitions.SegDef.{SegDef}
-use Rattle.fp_model.specs.Answers.{Needed, Replied, answered, blank, serves}
+use Rattle.fp_model.specs.Answers.{Needed, Replied, answered, blank}
 use Rattle.fp_model.specs.DedbCalls as dedb
-use Rattle.fp_model.specs.Order.{Deletes, Edit, Place, Replaces, Step, edited, is_sequential, key_in}
+use Rattle.fp_model.specs.Order.{Deletes, Place, Replaces, Step, edited, is_sequential, key_in}
 use Rattle.fp_model.specs.Shape.{has_length, is_anchor}
-use Rattle.fp_model.specs.Texts.{same_text}
 use Rattle.fp_model.specs.Workspace.{DedbPosition, Workspace, no_dedb_position}
 use Rattle.dli_tree.specs.InOrder.{any_ends}
-use Rattle.state_laws.specs.Edits.{FitsBytes, FitsEdit, FitsEnd, IsNew}
+use Rattle.state_laws.specs.Edits.{FitsEdit, FitsEnd}
 use Rattle.state_laws.proofs.Ascending.{same_is}
 use Rattle.state_laws.proofs.Roots.{edited_good}
 use Rattle.dedb_calls.specs.Anchors.{Ascend, Sees, held_at}

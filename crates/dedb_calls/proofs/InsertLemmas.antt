@@ -1,5 +1,5 @@
 -- Inserts: their paths, whether parents stand, and what an insert comes to.
-use Rattle.std.proofs.Common.{◌≡◌, ℕ, zero, suc, ◌+◌, ◌-◌, ◌<◌, ◌≤◌, List, [], ◌∷◌, ◌++◌, map, length, take, drop, Option, Some, None, refl, sym, ◌∙◌, ap, subst, Bool, true, false, not, ◌&&◌, ◌==◌, ◌⊎◌, inl, inr, slice_get, unwrap_or, arith}
+use Rattle.std.proofs.Common.{◌≡◌, ℕ, zero, suc, ◌+◌, ◌-◌, ◌≤◌, List, [], ◌∷◌, ◌++◌, map, length, take, Option, Some, None, refl, sym, ◌∙◌, ap, subst, Bool, true, false, not, ◌==◌, ◌⊎◌, inl, inr, slice_get, unwrap_or, arith}
 use Rattle.std.specs.Prelude.{codes, IfSome, if◌then◌else◌, is_some}
 use Rattle.std.specs.List.{AllByRecursion}
 use Rattle.std.specs.Option.{option_map_or}
@@ -15,17 +15,17 @@ use Rattle.fp_model.specs.declared.database.Root.{Root}
 use Rattle.fp_model.specs.declared.definitions.DedbDef.{DedbDef}
 use Rattle.fp_model.specs.declared.definitions.FieldDef.{FieldDef}
 use Rattle.fp_model.specs.declared.definitions.SegDef.{SegDef}
-use Rattle.fp_model.specs.Answers.{Needed, Replied, answered, blank, serves}
+use Rattle.fp_model.specs.Answers.{Needed, Replied, answered, blank}
 use Rattle.fp_model.specs.DedbCalls as dedb
 use Rattle.fp_model.specs.Exits.{anchor_of}
 use Rattle.fp_model.specs.FitCalls.{AreFitSsas, FitsSsa}
-use Rattle.fp_model.specs.Order.{Inserts, Place, Step, bytes_at, direct, edited, is_sequential, key_in, last_type, line_to, line_within, parent_of}
+use Rattle.fp_model.specs.Order.{Inserts, Step, bytes_at, direct, edited, is_sequential, key_in, last_type, line_to, line_within, parent_of}
 use Rattle.fp_model.specs.Shape.{has_length, is_anchor}
 use Rattle.fp_model.specs.State.{key_length, key_of}
 use Rattle.fp_model.specs.Texts.{same_text}
 use Rattle.fp_model.specs.WellFormed.{IsDedbDef, StandFrom, IsNoSequentialChild, IsSegDef}
 use Rattle.fp_model.specs.Workspace.{DedbPosition, Workspace}
-use Rattle.dli_tree.specs.Descents.{AreDirect, leads_to}
+use Rattle.dli_tree.specs.Descents.{leads_to}
 use Rattle.dli_tree.specs.InOrder.{any_ends, are_in_order}
 use Rattle.dli_tree.specs.Paths.{step_of, steps_of}
 use Rattle.dli_tree.specs.declared.path.Step.{Step as StepOf}
@@ -33,11 +33,11 @@ use Rattle.dli_tree.proofs.Leading.{leads_is}
 use Rattle.state_laws.specs.Edits.{AreDirect as EditDirect, FitsEdit, FitsEnd}
 use Rattle.state_laws.proofs.Ascending.{same_is}
 use Rattle.state_laws.proofs.Lists.{all_at, first_true, second_true}
-use Rattle.state_laws.proofs.Paths.{ends_fit, insert_direct, last_is}
+use Rattle.state_laws.proofs.Paths.{ends_fit, insert_direct}
 use Rattle.state_laws.proofs.Roots.{edited_good}
 use Rattle.dedb_calls.specs.Anchors.{Ascend, Sees, held_at}
 use Rattle.dedb_calls.specs.Calls.{is_locked}
-use Rattle.dedb_calls.specs.Inserts.{AreDirectOrNone, HasJudged, IsEditedTo, IsInsert, IsNewOf, with_queued}
+use Rattle.dedb_calls.specs.Inserts.{AreDirectOrNone, HasJudged, IsEditedTo, IsNewOf, with_queued}
 use Rattle.dedb_calls.specs.Progress.{DedbProgress, FitsDedb, GoesOn, Knows, position_in, roots_in, with_position_at, with_progress}
 use Rattle.dedb_calls.specs.Readiness.{ComesTo}
 use Rattle.dedb_calls.specs.Searches.{HasRoots}
@@ -329,7 +329,7 @@ pub insert_refused : (def : DedbDef) (number : ℕ) (held : Resource → Option 
     (λ db own. dedb.isrt_reply def number db own ssas bytes) work end came
 insert_refused def number held work ssas bytes n e end came end_is came_is =
     subst (λ (w : DedbProgress). ComesTo number (λ db own. dedb.dedb_need def number db own held
-        (call.Isrt n ssas bytes))
+    (call.Isrt n ssas bytes))
     (λ db own. dedb.isrt_reply def number db own ssas bytes) work w came) (sym end_is)
     (subst (λ (r : DedbReady). ComesTo number
     (λ db own. dedb.dedb_need def number db own held (call.Isrt n ssas bytes))
@@ -592,6 +592,7 @@ module _ (def : DedbDef) (good : IsDedbDef def) (number : ℕ) (held : Resource 
               answered_as h.0 db own sees ∙ by_kind h.0 h.1 true h.2 own
               ∙ ap (λ (k : ℕ). queues_at own k) (sym its.anchor);
         })
+
     abbrev pub put_at : HeldAnchor → List Root
     put_at a = edited def.segments a.roots steps (Inserts new.bytes)
 

@@ -1,6 +1,6 @@
 -- That a transaction has the roots of each anchor that its region holds: kept where a lock is gained and its anchor
 -- held.
-use Rattle.std.proofs.Common.{◌≡◌, ◌∙◌, ◌⊎◌, inl, inr, ℕ, List, [], ◌∷◌, Option, Some, None, refl, sym, ap, Bool, true, false, ◌&&◌, ◌==◌, arith}
+use Rattle.std.proofs.Common.{◌≡◌, ◌∙◌, ◌⊎◌, inl, inr, ℕ, List, ◌∷◌, Option, Some, None, refl, sym, ap, Bool, true, false, ◌&&◌, ◌==◌, arith}
 use Rattle.std.specs.Prelude.{if◌then◌else◌, is_some}
 use Rattle.ci_locks.specs.Standing.{Shows, Standing, gained_over, locks_after}
 use Rattle.ci_locks.specs.declared.locks.Grant.{Grant}

@@ -1,8 +1,8 @@
 -- What definitions say of anchors and root keys: at least one anchor, keys of 1 to 64 bytes, an exit of the kind.
-use Rattle.std.proofs.Common.{◌≡◌, ℕ, zero, suc, ◌+◌, ◌*◌, ◌≤◌, ◌<◌, List, [], ◌∷◌, map, length, take, Option, Some, None, refl, sym, ◌∙◌, ap, subst, Bool, true, false, ◌||◌, ◌==◌, ◌⊎◌, inl, inr, slice_get, slice_index_or, arith}
+use Rattle.std.proofs.Common.{◌≡◌, ℕ, zero, suc, ◌*◌, ◌≤◌, List, [], ◌∷◌, map, length, Some, None, refl, sym, ◌∙◌, ap, subst, Bool, true, false, ◌||◌, ◌==◌, ◌⊎◌, inl, inr, slice_get, arith}
 use Rattle.std.proofs.Math.Nat.{mul-le-mul_left}
 use Rattle.std.proofs.lemmas.List.Sums.{sum_by-cons}
-use Rattle.std.specs.Prelude.{All, sum_by, IfSome, IsTrue, if◌then◌else◌, option_map}
+use Rattle.std.specs.Prelude.{All, sum_by, IfSome, IsTrue, if◌then◌else◌}
 use Rattle.std.specs.List.{AllByRecursion}
 use Rattle.fp_exits.specs.Kinds.{has_kind, same_kind}
 use Rattle.fp_model.specs.declared.calls.Ssa.{Ssa}

@@ -1,5 +1,5 @@
 -- Searches: what is looked for at one anchor, and anchors in turn.
-use Rattle.std.proofs.Common.{◌≡◌, ℕ, zero, suc, ◌+◌, ◌-◌, ◌<◌, List, [], ◌∷◌, Some, None, refl, sym, ◌∙◌, ap, subst, Bool, true, false, not, ◌&&◌, ◌==◌, Option, arith}
+use Rattle.std.proofs.Common.{◌≡◌, ℕ, suc, ◌+◌, ◌-◌, ◌<◌, List, [], ◌∷◌, Some, None, refl, sym, ◌∙◌, ap, Bool, true, false, ◌&&◌, ◌==◌, Option, arith}
 use Rattle.std.specs.Prelude.{find, nat_lt, if◌then◌else◌, is_some, option_map, IfOk, Result, Ok, Err}
 use Rattle.std.specs.Option.{option_map_or}
 use Rattle.fp_model.specs.declared.calls.Ssa.{Ssa}
@@ -8,7 +8,7 @@ use Rattle.fp_model.specs.declared.definitions.SegDef.{SegDef}
 use Rattle.fp_model.specs.DedbCalls.{first_found, first_unlocked}
 use Rattle.fp_model.specs.Order.{Occurrence, Place, Step, admits, first_admitted, lies_within, path_precedes, place_precedes, sequence}
 use Rattle.fp_model.specs.State.{numbers_up}
-use Rattle.dli_tree.specs.Paths.{path_steps, place_of, steps_of}
+use Rattle.dli_tree.specs.Paths.{path_steps, place_of}
 use Rattle.dli_tree.specs.declared.path.Path.{Path}
 use Rattle.dedb_calls.specs.Anchors.{held_at}
 use Rattle.dedb_calls.specs.Progress.{roots_in}
@@ -28,7 +28,7 @@ find_same : {X : Type 0} (p q : X → Bool) (xs : List X) → ((x : X) → p x �
 find_same p q [] same = refl
 find_same {X} p q (x ∷ xs) same =
     ap (λ b. if b then Some x else find p xs) (same x) ∙ ap (λ rest. if q x then Some x else rest) (find_same p q xs
-        same)
+    same)
 
 find_none : {X : Type 0} (p : X → Bool) (xs : List X) → ((x : X) → p x ≡ false) → find p xs ≡ None
 find_none p [] never = refl
@@ -230,4 +230,4 @@ module _ (is_locked : ℕ → Bool) (look other : ℕ → Option Occurrence)
               ∙ sym (is_passed is_locked other a rest e (sym (same a e) ∙ g)).1
           at (Some s) g =
               (is_found is_locked look a rest s e g).1 ∙ sym (is_found is_locked other a rest s e
-                  (sym (same a e) ∙ g)).1
+              (sym (same a e) ∙ g)).1

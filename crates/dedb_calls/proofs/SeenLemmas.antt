@@ -1,12 +1,11 @@
 -- What a transaction sees at an anchor that it holds, and which changes of its positions fit.
-use Rattle.std.proofs.Common.{◌≡◌, ℕ, zero, suc, ◌+◌, ◌<◌, List, [], ◌∷◌, map, length, Option, Some, None, refl, sym, ◌∙◌, ap, subst, Bool, true, false, not, ◌&&◌, ◌==◌, slice_get, slice_set, unwrap_or, arith}
+use Rattle.std.proofs.Common.{◌≡◌, ℕ, zero, suc, ◌<◌, List, [], ◌∷◌, map, length, Option, Some, None, refl, sym, ◌∙◌, ap, subst, Bool, true, false, ◌&&◌, ◌==◌, slice_get, slice_set, unwrap_or, arith}
 use Rattle.std.proofs.lemmas.Bool.Decides.{nat_tests}
 use Rattle.std.specs.Prelude.{find, if◌then◌else◌, is_some, option_map, IfOk, Result, Ok, Err}
 use Rattle.std.specs.List.{AllByRecursion, list_all}
 use Rattle.std.specs.Option.{option_map_or}
 use Rattle.fp_model.specs.declared.calls.Answer.{Answer}
 use Rattle.fp_model.specs.declared.calls.Mode.{Mode}
-use Rattle.fp_model.specs.declared.calls.Mode.TheVariants.{Share, Exclusive}
 use Rattle.fp_model.specs.declared.database.Db.{Db}
 use Rattle.fp_model.specs.declared.database.Root.{Root}
 use Rattle.fp_model.specs.declared.definitions.DedbDef.{DedbDef}
@@ -22,7 +21,7 @@ use Rattle.dli_tree.specs.InOrder.{AreTypes, any_ends, are_in_order}
 use Rattle.state_laws.specs.Workspaces.{FitsPlace}
 use Rattle.state_laws.proofs.Sequences.{IsSegment, anchor_shows}
 use Rattle.dedb_calls.specs.Anchors.{Ascend, Sees, change_of, changes_in, held_at, is_anchor_of}
-use Rattle.dedb_calls.specs.Progress.{DedbProgress, FitsDedb, GoesOn, held_in, position_in, roots_in, with_position_at, with_progress}
+use Rattle.dedb_calls.specs.Progress.{DedbProgress, FitsDedb, GoesOn, position_in, roots_in, with_position_at, with_progress}
 use Rattle.dedb_calls.specs.Calls.{SaysNot, ShowsWhole}
 use Rattle.dedb_calls.specs.Readiness.{IfAnswer, OnNeed}
 use Rattle.dedb_calls.specs.declared.anchors.HeldAnchor.{HeldAnchor}

@@ -1,5 +1,5 @@
 -- The anchors that a transaction holds, with their roots as it sees them: in order of database and anchor, each once.
-use Rattle.std.specs.Prelude.{◌≡◌, ⊤, ℕ, List, [], ◌∷◌, length, Bool, true, false, ◌&&◌, ◌||◌, ◌==◌, nat_lt, if◌then◌else◌, Option, Some, None, find, slice_get}
+use Rattle.std.specs.Prelude.{◌≡◌, ⊤, ℕ, List, [], ◌∷◌, length, Bool, true, false, ◌&&◌, ◌||◌, ◌==◌, nat_lt, if◌then◌else◌, Option, Some, find}
 use Rattle.std.specs.List.{AllByRecursion, AllWithin}
 use Rattle.fp_model.specs.declared.calls.AnchorChange.{AnchorChange}
 use Rattle.fp_model.specs.declared.database.Db.{Db}

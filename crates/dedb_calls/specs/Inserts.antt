@@ -1,5 +1,5 @@
 -- Inserts and edits: what is judged of an insert, and what an edit leaves.
-use Rattle.std.specs.Prelude.{◌≡◌, ⊤, ℕ, List, [], ◌∷◌, ◌++◌, Bool, true, false, Some, None, slice_set}
+use Rattle.std.specs.Prelude.{◌≡◌, ⊤, ℕ, List, [], ◌∷◌, ◌++◌, Bool, true, false, slice_set}
 use Rattle.fp_model.specs.declared.calls.SeqInsert.{SeqInsert}
 use Rattle.fp_model.specs.declared.calls.Ssa.{Ssa}
 use Rattle.fp_model.specs.declared.database.Root.{Root}

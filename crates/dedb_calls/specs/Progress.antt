@@ -1,5 +1,5 @@
 -- What contracts see of a transaction under way, as far as it has to do with data entry databases.
-use Rattle.std.specs.Prelude.{◌≡◌, ℕ, ◌<◌, List, [], Bool, true, false, ◌==◌, if◌then◌else◌, Option, Some, None, is_some, length, slice_get, slice_set, unwrap_or}
+use Rattle.std.specs.Prelude.{◌≡◌, ℕ, ◌<◌, List, [], true, false, ◌==◌, if◌then◌else◌, Option, Some, None, is_some, length, slice_get, slice_set, unwrap_or}
 use Rattle.std.specs.Option.{option_map_or}
 use Rattle.fp_model.specs.declared.calls.Mode.{Mode}
 use Rattle.fp_model.specs.declared.calls.Resource.{Resource}

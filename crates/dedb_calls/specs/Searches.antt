@@ -1,6 +1,5 @@
 -- Searches over the anchors of a database.
-use Rattle.std.specs.Prelude.{◌≡◌, ℕ, ◌-◌, List, Bool, true, ◌==◌, nat_lt, if◌then◌else◌, Option, Some, None, option_map}
-use Rattle.std.specs.Option.{option_copied, option_map_or}
+use Rattle.std.specs.Prelude.{◌≡◌, ℕ, ◌-◌, List, Bool, true, ◌==◌, nat_lt, if◌then◌else◌, Option, Some, None}
 use Rattle.fp_model.specs.declared.calls.Get.{Get}
 use Rattle.fp_model.specs.declared.calls.Ssa.{Ssa}
 use Rattle.fp_model.specs.declared.database.Root.{Root}

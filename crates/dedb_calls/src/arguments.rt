@@ -179,17 +179,11 @@ pub(crate) fn are_insert_arguments(def: &DedbDef, ssas: &[Ssa]) -> bool
     ensures { (dedb : ℕ) → result ≡ are_insert_arguments def.now dedb ssas.now }
 {
     let segments = def.segments.as_slice();
-    only_last_is_unqualified(ssas)
-        && name_line(segments, ssas, type_of_last(ssas), segments.len())
+    only_last_is_unqualified(ssas) && name_line(segments, ssas, type_of_last(ssas), segments.len())
 }
 
 /// The step that an argument names; an unqualified one has the key that the new segment begins with.
-fn step_of(
-    alloc: Global,
-    segments: &[SegDef],
-    ssa: &Ssa,
-    bytes: &[u8],
-) -> Result<Step, AllocError>
+fn step_of(alloc: Global, segments: &[SegDef], ssa: &Ssa, bytes: &[u8]) -> Result<Step, AllocError>
     ensures { IfOk result (λ step. step_of step ≡ named_step segments.now bytes.now ssa.now) }
 {
     let key = match &ssa.key {

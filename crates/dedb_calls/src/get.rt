@@ -23,8 +23,8 @@ use crate::randomizer::anchor_count;
 use crate::ready::{DedbReady, answered};
 use crate::search::{Found, Looked, Quest, Reach, Stretch, search};
 use crate::work::DedbWork;
-use dli_tree::Step;
 use ci_locks::Locks;
+use dli_tree::Step;
 use fp_model::{Answer, Bytes, DedbDef, Get, List, Mode, Ssa};
 use std::alloc::{AllocError, Global};
 
@@ -44,12 +44,7 @@ pub(crate) struct Asked<'a> {
 }
 
 /// Ends the hold, and answers two letters.
-pub(crate) fn refused(
-    alloc: Global,
-    number: u8,
-    work: &mut DedbWork,
-    status: [u8; 2],
-) -> DedbReady
+pub(crate) fn refused(alloc: Global, number: u8, work: &mut DedbWork, status: [u8; 2]) -> DedbReady
     requires { number < length work.old.positions }
     ensures answer { result ≡ ready.Answer (answered status) }
     ensures work { work.new
@@ -275,8 +270,8 @@ impl Database<'_> {
         requires some { 1 ≤ region }
         requires within { region ≤ length locks.now }
         requires known { Knows ((standing locks.now).holds region) work.now.anchors }
-        requires root { root ≡ option_map (anchor_of self.def.now) (root_named self.def.now self.number asked.ssas.now)
-            }
+        requires root { root ≡ option_map (anchor_of self.def.now)
+            (root_named self.def.now self.number asked.ssas.now) }
 
         ensures { IfOk result (λ looked. HasLooked looked
             (is_locked ((standing locks.now).holds region) self.entry.number
@@ -315,8 +310,8 @@ impl Database<'_> {
         requires some { 1 ≤ region }
         requires within { region ≤ length locks.now }
         requires known { Knows ((standing locks.now).holds region) work.old.anchors }
-        requires root { root ≡ option_map (anchor_of self.def.now) (root_named self.def.now self.number asked.ssas.now)
-            }
+        requires root { root ≡ option_map (anchor_of self.def.now)
+            (root_named self.def.now self.number asked.ssas.now) }
 
         ensures comes { IfOk result (λ came. ComesTo self.entry.number
             (λ db own. get_need self.entry.def.now self.entry.number db own ((standing locks.now).holds region)

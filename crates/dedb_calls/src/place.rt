@@ -90,11 +90,7 @@ impl Position {
     pub(crate) fn held_place(&self) -> Option<&Place>
         ensures { option_copied result ≡ (if self.now.held then self.now.place else None) }
     {
-        if self.held {
-            self.place.as_ref()
-        } else {
-            None
-        }
+        if self.held { self.place.as_ref() } else { None }
     }
 
     /// The anchor of the place; 0 where there is none.

@@ -16,7 +16,8 @@ returns c =
     record {
       going =
           c.hold_anchor.ensures.of c.args.defs.now.dedbs
-          (λ def at. subst (λ (rs : List Root). is_anchor def c.args.anchor any_ends rs ≡ true) (sym c.new.ensures) refl)
+          (λ def at. subst (λ (rs : List Root). is_anchor def c.args.anchor any_ends rs ≡ true) (sym c.new.ensures)
+          refl)
           c.requires.going;
       region = c.in_ok-ask.ensures.regions ∙ c.requires.region;
       all = locks_after c.in_ok-ask.field-0 wanted c.requires.all;

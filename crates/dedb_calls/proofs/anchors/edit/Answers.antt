@@ -1,4 +1,4 @@
-use Rattle.std.proofs.Common.{◌≡◌, ◌∙◌, ap, sym, subst, refl, Some, List, true, false, slice_get, slice_set}
+use Rattle.std.proofs.Common.{◌≡◌, ◌∙◌, ap, sym, subst, Some, List, true, slice_get, slice_set}
 use Rattle.fp_model.specs.Order.{edited}
 use Rattle.dli_tree.specs.Changes.{edit_of}
 use Rattle.dli_tree.specs.InOrder.{are_in_order}
@@ -11,7 +11,7 @@ use Rattle.dedb_calls.proofs.anchors.edit.Goals as goal
 pub returns-then-not-is_there-clause-ok : goal.returns-then-not-is_there-clause-ok
 returns-then-not-is_there-clause-ok c up a at =
     let lacking = none_there c.args.held.now c.as_slice-items.result.now c.as_slice-items.ensures c.args.dedb
-        c.args.anchor
+    c.args.anchor
     c.place_of-at.result c.place_of-at.ensures.place c.is_there.result c.is_there.ensures.there c.is_there.ensures.none
     c.if-not-is_there.true up in
     absurd (not_held c.args.held.now c.args.dedb c.args.anchor a at lacking)

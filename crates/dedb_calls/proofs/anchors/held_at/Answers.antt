@@ -1,5 +1,4 @@
-use Rattle.std.proofs.Common.{◌≡◌, ◌∙◌, sym, refl, Some, slice_get}
-use Rattle.dedb_calls.specs.declared.anchors.HeldAnchor.{HeldAnchor}
+use Rattle.std.proofs.Common.{◌∙◌, sym}
 use Rattle.dedb_calls.proofs.AnchorLemmas.{lacks, stands, there_at}
 use Rattle.dedb_calls.proofs.anchors.held_at.Goals as goal
 

@@ -1,4 +1,4 @@
-use Rattle.std.proofs.Common.{◌≡◌, ◌∙◌, ap, sym, refl, Some, true, false}
+use Rattle.std.proofs.Common.{◌∙◌, ap, sym}
 use Rattle.std.specs.Prelude.{is_some}
 use Rattle.dedb_calls.proofs.AnchorLemmas.{found_there, none_there, not_both, not_held, put_changes, put_order, put_others, put_there}
 use Rattle.dedb_calls.proofs.anchors.hold.Goals as goal
@@ -31,7 +31,7 @@ returns-clause-others c up =
 pub returns-clause-again : goal.returns-clause-again
 returns-clause-again c up there =
     let lacking = none_there c.args.held.now c.as_slice-items.result.now c.as_slice-items.ensures c.args.dedb
-        c.args.anchor
+    c.args.anchor
     c.place_of-at.result c.place_of-at.ensures.place c.is_there.result c.is_there.ensures.there c.is_there.ensures.none
     c.if-is_there.false up in
     absurd (not_both (sym there ∙ ap is_some lacking))

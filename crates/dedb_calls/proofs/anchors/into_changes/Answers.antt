@@ -1,4 +1,4 @@
-use Rattle.std.proofs.Common.{◌≡◌, ◌∙◌, ◌++◌, ◌∷◌, [], sym, ap}
+use Rattle.std.proofs.Common.{◌∙◌, ◌++◌, ◌∷◌, [], sym, ap}
 use Rattle.dedb_calls.specs.Anchors.{change_of}
 use Rattle.dedb_calls.proofs.AnchorLemmas.{more_behind, none_behind_it}
 use Rattle.dedb_calls.proofs.anchors.into_changes.Goals as goal

@@ -1,4 +1,4 @@
-use Rattle.std.proofs.Common.{◌≡◌, ◌++◌}
+use Rattle.std.proofs.Common.{◌≡◌}
 use Rattle.dedb_calls.specs.Anchors.{changes_in}
 use Rattle.dedb_calls.proofs.anchors.into_changes.Given as goal
 

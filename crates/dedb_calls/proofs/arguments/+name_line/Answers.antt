@@ -1,4 +1,4 @@
-use Rattle.std.proofs.Common.{◌≡◌, ◌∙◌, sym, ap, map, true, false, Some, None}
+use Rattle.std.proofs.Common.{◌∙◌}
 use Rattle.dedb_calls.proofs.ArgumentLemmas.{line_above, line_lacks, line_starts}
 use Rattle.dedb_calls.proofs.arguments.+name_line.Goals as goal
 
@@ -12,7 +12,7 @@ returns-in-Some t c =
     c.name_line.ensures
     ∙ line_above c.args.segments.now c.args.segment c.args.levels c.args.ssas.now c.last-item.result
     c.in-len1-up.len_at_least c.last-item.is c.in-Some.parent c.if-last-segment.false c.if-levels-eq0.false
-        c.in-Some.ensures
+    c.in-Some.ensures
 
 pub returns-in-None : goal.returns-in-None
 returns-in-None t c =

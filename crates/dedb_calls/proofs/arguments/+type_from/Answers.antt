@@ -1,4 +1,4 @@
-use Rattle.std.proofs.Common.{◌≡◌, ◌∙◌, ◌∷◌, ap}
+use Rattle.std.proofs.Common.{◌∙◌, ◌∷◌, ap}
 use Rattle.fp_model.specs.DedbCalls.{type_of_last}
 use Rattle.dedb_calls.proofs.ArgumentLemmas.{front_of}
 use Rattle.dedb_calls.proofs.arguments.+type_from.Goals as goal

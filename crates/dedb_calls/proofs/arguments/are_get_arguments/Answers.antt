@@ -1,4 +1,4 @@
-use Rattle.std.proofs.Common.{◌≡◌, ◌∙◌, ◌&&◌, sym, ap, not, true, false}
+use Rattle.std.proofs.Common.{◌∙◌, ◌&&◌, ap, not}
 use Rattle.std.specs.List.{list_all}
 use Rattle.fp_model.specs.DedbCalls.{is_qualified}
 use Rattle.fp_model.specs.Order.{is_sequential}

@@ -1,4 +1,4 @@
-use Rattle.std.proofs.Common.{◌≡◌, ◌∙◌, ◌&&◌, List, length, sym, ap, map, true, false}
+use Rattle.std.proofs.Common.{◌∙◌, ◌&&◌, List, length, ap, map}
 use Rattle.fp_model.specs.DedbCalls.{type_of_last}
 use Rattle.fp_model.specs.Order.{line_to, line_within}
 use Rattle.fp_model.specs.Texts.{same_text}

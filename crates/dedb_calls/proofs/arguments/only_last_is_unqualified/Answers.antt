@@ -1,4 +1,4 @@
-use Rattle.std.proofs.Common.{◌≡◌, ◌∙◌, ap}
+use Rattle.std.proofs.Common.{◌∙◌, ap}
 use Rattle.fp_model.specs.DedbCalls.{only_last_unqualified}
 use Rattle.dedb_calls.proofs.ArgumentLemmas.{front_of}
 use Rattle.dedb_calls.proofs.arguments.only_last_is_unqualified.Goals as goal

@@ -1,4 +1,4 @@
-use Rattle.std.proofs.Common.{◌≡◌, ◌∙◌, sym}
+use Rattle.std.proofs.Common.{◌∙◌, sym}
 use Rattle.ci_locks.specs.Table.{standing}
 use Rattle.dedb_calls.proofs.AnchorLemmas.{some_is}
 use Rattle.dedb_calls.proofs.CallLemmas.{comes_at, fits_at, fits_call_at, goes_at, shows_at, stays_work}

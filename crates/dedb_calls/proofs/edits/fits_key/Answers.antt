@@ -1,4 +1,4 @@
-use Rattle.std.proofs.Common.{◌≡◌, ◌∙◌, List, ℕ, sym, ap}
+use Rattle.std.proofs.Common.{◌∙◌, List, ℕ, sym, ap}
 use Rattle.dli_tree.specs.Paths.{steps_of}
 use Rattle.fp_model.specs.DedbCalls.{type_of_path}
 use Rattle.fp_model.specs.Order.{key_in}

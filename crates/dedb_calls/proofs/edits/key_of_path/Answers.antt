@@ -1,4 +1,4 @@
-use Rattle.std.proofs.Common.{◌≡◌, ◌∙◌, ◌-◌, List, take, length, sym, ap}
+use Rattle.std.proofs.Common.{◌∙◌, ◌-◌, List, take, length, sym, ap}
 use Rattle.dli_tree.specs.Paths.{steps_of}
 use Rattle.dli_tree.specs.declared.path.Step.{Step}
 use Rattle.fp_model.specs.DedbCalls.{key_of_path}

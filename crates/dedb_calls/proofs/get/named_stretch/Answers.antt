@@ -1,4 +1,4 @@
-use Rattle.std.proofs.Common.{◌≡◌, ◌∙◌, [], Some, sym, subst, refl, ℕ, List}
+use Rattle.std.proofs.Common.{◌≡◌, ◌∙◌, [], Some, sym, subst}
 use Rattle.fp_model.specs.DedbCalls.{anchor_at, anchors_searched}
 use Rattle.fp_model.specs.Exits.{anchor_of}
 use Rattle.fp_model.specs.declared.calls.Get.{Get}
@@ -10,7 +10,7 @@ pub returns-then-named-least-clause-anchors : goal.returns-then-named-least-clau
 returns-then-named-least-clause-anchors c def dedb key is =
     subst (λ (g : Get). [] ≡ anchors_searched def dedb c.args.position.now g (Some key)) (sym c.in-Next.is)
     (next_none c.from-named.result (anchor_of def key) c.anchor-least.result (anchor_at def dedb
-        c.args.position.now.place)
+    c.args.position.now.place)
     (c.from-named.ensures ∙ is) (c.anchor-least.ensures.exact def dedb) c.if-named-least.true)
 
 pub returns-else-named-least-clause-anchors : goal.returns-else-named-least-clause-anchors

@@ -1,5 +1,5 @@
-use Rattle.std.proofs.Common.{◌≡◌, ◌∙◌, ◌∷◌, ◌-◌, [], None, sym, ap, subst, refl, ℕ, List}
-use Rattle.fp_model.specs.DedbCalls.{anchor_at, anchors_searched}
+use Rattle.std.proofs.Common.{◌≡◌, ◌∙◌, ◌∷◌, ◌-◌, [], None, sym, ap, subst}
+use Rattle.fp_model.specs.DedbCalls.{anchors_searched}
 use Rattle.fp_model.specs.State.{anchor_count, numbers_up}
 use Rattle.fp_model.specs.declared.calls.Get.{Get}
 use Rattle.dedb_calls.specs.Searches.{numbers_in}

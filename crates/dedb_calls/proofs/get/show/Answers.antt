@@ -1,4 +1,4 @@
-use Rattle.std.proofs.Common.{◌≡◌, ◌∙◌, ◌∷◌, [], ap, List, ℕ}
+use Rattle.std.proofs.Common.{◌∙◌, ◌∷◌, [], ap, List, ℕ}
 use Rattle.dli_tree.specs.declared.path.Step.{Step}
 use Rattle.dli_tree.specs.Paths.{steps_of}
 use Rattle.dedb_calls.specs.declared.ready.DedbReady.TheVariants as ready

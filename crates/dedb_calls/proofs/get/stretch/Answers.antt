@@ -1,5 +1,4 @@
-use Rattle.std.proofs.Common.{◌≡◌, ◌∙◌, Option, Some, None, List, sym, subst, refl, ℕ}
-use Rattle.std.specs.Prelude.{option_map}
+use Rattle.std.proofs.Common.{◌≡◌, ◌∙◌, Option, List, sym, subst, ℕ}
 use Rattle.fp_model.specs.DedbCalls.{anchors_searched}
 use Rattle.fp_model.specs.Exits.{anchor_of}
 use Rattle.dedb_calls.specs.Searches.{numbers_in}

@@ -1,4 +1,4 @@
-use Rattle.std.proofs.Common.{◌≡◌, ◌∙◌, ◌++◌, ◌∷◌, ◌-◌, [], take, length, sym, ap}
+use Rattle.std.proofs.Common.{◌∙◌, ◌-◌, take, length, sym, ap}
 use Rattle.dli_tree.specs.Paths.{steps_of}
 use Rattle.fp_model.specs.DedbCalls.{type_of_path}
 use Rattle.dedb_calls.proofs.ArgumentLemmas.{ends_with, split}

@@ -1,4 +1,4 @@
-use Rattle.std.proofs.Common.{◌≡◌, ◌∙◌, refl, sym, ap, arith, Some, None, List, ℕ, Option}
+use Rattle.std.proofs.Common.{◌∙◌, sym, ap, Some, List, ℕ, Option}
 use Rattle.std.specs.Prelude.{option_map}
 use Rattle.fp_model.specs.Exits.{anchor_of}
 use Rattle.dedb_calls.proofs.RandomizerLemmas.{named_key_fits}

@@ -13,23 +13,23 @@ use Rattle.dedb_calls.proofs.search.search.Given as goal
 abbrev pub invariant-loop-number : goal.invariant-loop-number
 invariant-loop-number l = record {
   locked :
-    first_unlocked
-    (λ anchor. serves ((standing l.reach.locks.now).holds l.reach.region (Anchor l.reach.dedb anchor)) l.reach.mode)
-    (λ anchor. first_admitted l.segments anchor (roots_in l.held l.reach.dedb anchor) (option_copied l.quest.behind)
-    (option_copied l.quest.within) l.quest.ssas.now)
-    (numbers_up (l.fn.stretch.to - l.fn.stretch.from) l.fn.stretch.from)
-    ≡ first_unlocked
-    (λ anchor. serves ((standing l.reach.locks.now).holds l.reach.region (Anchor l.reach.dedb anchor)) l.reach.mode)
-    (λ anchor. first_admitted l.segments anchor (roots_in l.held l.reach.dedb anchor) (option_copied l.quest.behind)
-    (option_copied l.quest.within) l.quest.ssas.now)
-    (numbers_up (l.fn.stretch.to - l.number) l.number);
+      first_unlocked
+      (λ anchor. serves ((standing l.reach.locks.now).holds l.reach.region (Anchor l.reach.dedb anchor)) l.reach.mode)
+      (λ anchor. first_admitted l.segments anchor (roots_in l.held l.reach.dedb anchor) (option_copied l.quest.behind)
+      (option_copied l.quest.within) l.quest.ssas.now)
+      (numbers_up (l.fn.stretch.to - l.fn.stretch.from) l.fn.stretch.from)
+      ≡ first_unlocked
+      (λ anchor. serves ((standing l.reach.locks.now).holds l.reach.region (Anchor l.reach.dedb anchor)) l.reach.mode)
+      (λ anchor. first_admitted l.segments anchor (roots_in l.held l.reach.dedb anchor) (option_copied l.quest.behind)
+      (option_copied l.quest.within) l.quest.ssas.now)
+      (numbers_up (l.fn.stretch.to - l.number) l.number);
   found :
-    first_found
-    (λ anchor. first_admitted l.segments anchor (roots_in l.held l.reach.dedb anchor) (option_copied l.quest.behind)
-    (option_copied l.quest.within) l.quest.ssas.now)
-    (numbers_up (l.fn.stretch.to - l.fn.stretch.from) l.fn.stretch.from)
-    ≡ first_found
-    (λ anchor. first_admitted l.segments anchor (roots_in l.held l.reach.dedb anchor) (option_copied l.quest.behind)
-    (option_copied l.quest.within) l.quest.ssas.now)
-    (numbers_up (l.fn.stretch.to - l.number) l.number);
+      first_found
+      (λ anchor. first_admitted l.segments anchor (roots_in l.held l.reach.dedb anchor) (option_copied l.quest.behind)
+      (option_copied l.quest.within) l.quest.ssas.now)
+      (numbers_up (l.fn.stretch.to - l.fn.stretch.from) l.fn.stretch.from)
+      ≡ first_found
+      (λ anchor. first_admitted l.segments anchor (roots_in l.held l.reach.dedb anchor) (option_copied l.quest.behind)
+      (option_copied l.quest.within) l.quest.ssas.now)
+      (numbers_up (l.fn.stretch.to - l.number) l.number);
 }

@@ -1,10 +1,9 @@
-use Rattle.std.proofs.Common.{◌≡◌, ◌∙◌, ◌≤◌, [], List, ℕ, length, slice_get, sym, ap, not, rules, arith}
+use Rattle.std.proofs.Common.{◌∙◌, ◌≤◌, [], List, length, slice_get, sym, ap, not, rules, arith}
 use Rattle.std.specs.Prelude.{◌==◌, ◌&&◌}
 use Rattle.std.specs.Option.{option_copied, option_map_or}
 use Rattle.std.proofs.lemmas.Fn.{filter_same}
 use Rattle.fp_model.specs.Order.{Place, Step}
 use Rattle.fp_model.specs.Texts.{same_text}
-use Rattle.dli_tree.specs.Paths.{step_of, steps_of}
 use Rattle.dli_tree.specs.declared.path.Step.{Step as StepOf}
 use Rattle.dedb_calls.proofs.AnchorLemmas.{some_is}
 use Rattle.dedb_calls.proofs.ArgumentLemmas.{first_step, first_there, steps_long}

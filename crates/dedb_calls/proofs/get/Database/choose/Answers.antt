@@ -1,12 +1,11 @@
-use Rattle.std.proofs.Common.{◌≡◌, ◌∙◌, List, sym, ap, true, false}
-use Rattle.std.specs.Option.{option_copied}
+use Rattle.std.proofs.Common.{◌∙◌, List, sym, ap, true}
 use Rattle.ci_locks.specs.Table.{standing}
 use Rattle.fp_model.specs.DedbCalls.{type_of_path}
 use Rattle.fp_model.specs.Order.{is_sequential}
 use Rattle.fp_model.specs.declared.calls.Mode.TheVariants.{Exclusive}
 use Rattle.fp_model.specs.declared.definitions.SegDef.{SegDef}
 use Rattle.dedb_calls.specs.Calls.{is_locked}
-use Rattle.dedb_calls.specs.Edits.{IsHeldSo, fits_key}
+use Rattle.dedb_calls.specs.Edits.{IsHeldSo}
 use Rattle.dedb_calls.specs.Progress.{held_in}
 use Rattle.dedb_calls.proofs.get.Database.choose.Goals as goal
 
@@ -18,7 +17,7 @@ returns-then-is_sequential c =
       its = sym c.in-Some.ensures;
       lock =
           ap (is_locked ((standing c.args.locks.now).holds c.args.region) c.args.self.number Exclusive) (sym
-              c.anchor-anchor.ensures)
+          c.anchor-anchor.ensures)
           ∙ sym c.has.ensures ∙ c.if-not-has.false;
     } in
     let type = ap (λ (ts : List SegDef). is_sequential ts c.type_of_path.result) c.as_slice-segments.ensures
@@ -34,7 +33,7 @@ returns c =
       its = sym c.in-Some.ensures;
       lock =
           ap (is_locked ((standing c.args.locks.now).holds c.args.region) c.args.self.number Exclusive) (sym
-              c.anchor-anchor.ensures)
+          c.anchor-anchor.ensures)
           ∙ sym c.has.ensures ∙ c.if-not-has.false;
     } in
     let type = ap (λ (ts : List SegDef). is_sequential ts c.type_of_path.result) c.as_slice-segments.ensures

@@ -1,4 +1,4 @@
-use Rattle.std.proofs.Common.{◌≡◌, ◌∙◌, List, ap, not}
+use Rattle.std.proofs.Common.{◌∙◌, List, ap, not}
 use Rattle.std.specs.Prelude.{filter}
 use Rattle.fp_model.specs.declared.calls.SeqInsert.{SeqInsert}
 use Rattle.fp_model.specs.DedbCalls.{goes_with}

@@ -1,20 +1,17 @@
-use Rattle.std.proofs.Common.{◌≡◌, ◌∙◌, refl, sym, ap}
-use Rattle.std.specs.Prelude.{codes}
+use Rattle.std.proofs.Common.{refl}
 use Rattle.ci_locks.specs.Table.{standing}
-use Rattle.fp_model.specs.Workspace.{DedbPosition}
-use Rattle.fp_model.specs.DedbCalls as dedb
 use Rattle.dedb_calls.specs.Progress.{position_in}
 use Rattle.dedb_calls.proofs.EditLemmas.{edited_fits, edited_goes}
-use Rattle.dedb_calls.proofs.HeldLemmas.{anchor_there, dlet_done, dlet_sequential, dlet_shape, dropped, held_done, held_none, held_refused, held_unlocked, place_is, repl_done, repl_other_key, repl_sequential, repl_shape, replaced}
+use Rattle.dedb_calls.proofs.HeldLemmas.{anchor_there, dlet_done, dlet_shape, dropped, held_done, held_none, held_unlocked, place_is}
 use Rattle.dedb_calls.proofs.SeenLemmas.{in_order, let_go_fits, lets_go}
 use Rattle.dedb_calls.proofs.get.Database.dlet.Goals as goal
 
 pub returns-in-NotHeld-clause-comes : goal.returns-in-NotHeld-clause-comes
 returns-in-NotHeld-clause-comes c n =
     held_none c.args.self.def.now c.args.self.number ((standing c.args.locks.now).holds c.args.region) c.args.work.now
-        c.requires.order c.requires.known (dropped c.args.self.def.now c.args.self.number
-        ((standing c.args.locks.now).holds c.args.region) c.args.work.now c.requires.order c.requires.known)
-        c.refused.new.work c.refused.result (λ db own. refl)
+    c.requires.order c.requires.known (dropped c.args.self.def.now c.args.self.number
+    ((standing c.args.locks.now).holds c.args.region) c.args.work.now c.requires.order c.requires.known)
+    c.refused.new.work c.refused.result (λ db own. refl)
     c.in-NotHeld.ensures c.refused.ensures.work c.refused.ensures.answer
 
 pub returns-in-NotHeld-clause-goes : goal.returns-in-NotHeld-clause-goes
@@ -29,9 +26,9 @@ returns-in-NotHeld-clause-fits c =
 pub returns-in-Unlocked-clause-comes : goal.returns-in-Unlocked-clause-comes
 returns-in-Unlocked-clause-comes c n =
     held_unlocked c.args.self.def.now c.args.self.number ((standing c.args.locks.now).holds c.args.region)
-        c.args.work.now c.requires.order c.requires.known (dropped c.args.self.def.now c.args.self.number
-        ((standing c.args.locks.now).holds c.args.region) c.args.work.now c.requires.order c.requires.known)
-        c.in-Unlocked.anchor c.in-Unlocked.ensures.0
+    c.args.work.now c.requires.order c.requires.known (dropped c.args.self.def.now c.args.self.number
+    ((standing c.args.locks.now).holds c.args.region) c.args.work.now c.requires.order c.requires.known)
+    c.in-Unlocked.anchor c.in-Unlocked.ensures.0
     c.in-Unlocked.ensures.1 c.in-Unlocked.ensures.2
 
 pub returns-in_ok-delete-in-Direct-clause-comes : goal.returns-in_ok-delete-in-Direct-clause-comes
@@ -39,17 +36,17 @@ returns-in_ok-delete-in-Direct-clause-comes c n =
     let place = c.in-Direct.ensures.0 in
     let so = c.in-Direct.ensures.1 in
     let a = anchor_there c.args.self.def.now c.args.self.number ((standing c.args.locks.now).holds c.args.region)
-        c.args.work.now c.requires.order c.requires.known place so.lock in
+    c.args.work.now c.requires.order c.requires.known place so.lock in
     let order = in_order c.args.self.def.now place.anchor a.0.roots (c.requires.fits.shapes place.anchor a.0 a.1) in
     let its = place_is (position_in c.args.work.now c.args.self.number) place so.its in
     let edit = c.in_ok-delete-in-Direct.ensures.work c.requires.order place a.0 its a.1 order in
     held_done c.args.self.def.now c.args.self.number ((standing c.args.locks.now).holds c.args.region) c.args.work.now
-        c.requires.order c.requires.known (dropped c.args.self.def.now c.args.self.number
-        ((standing c.args.locks.now).holds c.args.region) c.args.work.now c.requires.order c.requires.known) place
-        c.delete.new.work c.in_ok-delete-in-Direct.field-0
+    c.requires.order c.requires.known (dropped c.args.self.def.now c.args.self.number
+    ((standing c.args.locks.now).holds c.args.region) c.args.work.now c.requires.order c.requires.known) place
+    c.delete.new.work c.in_ok-delete-in-Direct.field-0
     (dlet_done c.args.self.def.now c.args.self.number ((standing c.args.locks.now).holds c.args.region) c.args.work.now
-        c.requires.order c.requires.known place a.0 c.delete.new.work c.requires.fits.counted c.in-Direct.ensures.2 a.1
-        edit)
+    c.requires.order c.requires.known place a.0 c.delete.new.work c.requires.fits.counted c.in-Direct.ensures.2 a.1
+    edit)
     so c.in_ok-delete-in-Direct.ensures.answer
 
 pub returns-in_ok-delete-in-Direct-clause-goes : goal.returns-in_ok-delete-in-Direct-clause-goes
@@ -57,7 +54,7 @@ returns-in_ok-delete-in-Direct-clause-goes c =
     let place = c.in-Direct.ensures.0 in
     let so = c.in-Direct.ensures.1 in
     let a = anchor_there c.args.self.def.now c.args.self.number ((standing c.args.locks.now).holds c.args.region)
-        c.args.work.now c.requires.order c.requires.known place so.lock in
+    c.args.work.now c.requires.order c.requires.known place so.lock in
     let order = in_order c.args.self.def.now place.anchor a.0.roots (c.requires.fits.shapes place.anchor a.0 a.1) in
     let its = place_is (position_in c.args.work.now c.args.self.number) place so.its in
     edited_goes c.args.self.number place.anchor _ _ _ c.args.work.now c.delete.new.work
@@ -68,13 +65,13 @@ returns-in_ok-delete-in-Direct-clause-fits c =
     let place = c.in-Direct.ensures.0 in
     let so = c.in-Direct.ensures.1 in
     let a = anchor_there c.args.self.def.now c.args.self.number ((standing c.args.locks.now).holds c.args.region)
-        c.args.work.now c.requires.order c.requires.known place so.lock in
+    c.args.work.now c.requires.order c.requires.known place so.lock in
     let order = in_order c.args.self.def.now place.anchor a.0.roots (c.requires.fits.shapes place.anchor a.0 a.1) in
     let its = place_is (position_in c.args.work.now c.args.self.number) place so.its in
     edited_fits c.args.self.number place.anchor _ _ _ c.args.work.now c.delete.new.work
     (c.in_ok-delete-in-Direct.ensures.work c.requires.order place a.0 its a.1 order) c.args.self.def.now c.requires.fits
     (dlet_shape c.args.self.def.now c.args.self.number ((standing c.args.locks.now).holds c.args.region) c.args.work.now
-        c.requires.order c.requires.known c.requires.fits place so.its a.0 a.1 c.in-Direct.ensures.2) refl
+    c.requires.order c.requires.known c.requires.fits place so.its a.0 a.1 c.in-Direct.ensures.2) refl
 
 pub returns-in-Sequential-clause-goes : goal.returns-in-Sequential-clause-goes
 returns-in-Sequential-clause-goes c =

@@ -1,9 +1,7 @@
-use Rattle.std.proofs.Common.{◌≡◌, ◌∙◌, ◌∷◌, [], refl, sym, ap, List, ℕ}
+use Rattle.std.proofs.Common.{◌∙◌, sym, ap, List}
 use Rattle.ci_locks.specs.Table.{standing}
-use Rattle.fp_model.specs.DedbCalls.{lock_of, not_found}
+use Rattle.fp_model.specs.DedbCalls.{not_found}
 use Rattle.fp_model.specs.declared.calls.Ssa.{Ssa}
-use Rattle.dedb_calls.specs.Calls.{is_locked}
-use Rattle.dedb_calls.specs.Searches.{look_in}
 use Rattle.dedb_calls.proofs.GetLemmas.{comes_found, comes_nothing, comes_refused, comes_unlocked, found_fits, found_long, held_found, looked_is, moved}
 use Rattle.dedb_calls.proofs.SeenLemmas.{let_go_fits, lets_go, moved_fits, moves_to, needs_nothing, shows_found, shows_not, subst_fits}
 use Rattle.dedb_calls.proofs.get.Database.get.Goals as goal
@@ -11,9 +9,9 @@ use Rattle.dedb_calls.proofs.get.Database.get.Goals as goal
 pub returns-in-Some-clause-comes : goal.returns-in-Some-clause-comes
 returns-in-Some-clause-comes c =
     comes_refused c.args.self.def.now c.args.self.number ((standing c.args.locks.now).holds c.args.region)
-        c.args.work.now
+    c.args.work.now
     c.requires.order c.requires.known c.args.asked.get c.args.asked.hold c.args.asked.ssas.now c.in-Some.status
-        c.refused.new.work c.refused.result (sym c.refusal.ensures.status ∙ c.in-Some.is)
+    c.refused.new.work c.refused.result (sym c.refusal.ensures.status ∙ c.in-Some.is)
     c.refused.ensures.work c.refused.ensures.answer
 
 pub returns-in-Some-clause-goes : goal.returns-in-Some-clause-goes
@@ -28,18 +26,18 @@ returns-in-Some-clause-fits c =
 pub returns-in-Unlocked-clause-comes : goal.returns-in-Unlocked-clause-comes
 returns-in-Unlocked-clause-comes c =
     comes_unlocked c.args.self.def.now c.args.self.number ((standing c.args.locks.now).holds c.args.region)
-        c.args.work.now
+    c.args.work.now
     c.requires.order c.requires.known c.args.asked.get c.args.asked.hold c.args.asked.ssas.now c.in-Unlocked.anchor
-        c.lock_of.result (sym c.refusal.ensures.status ∙ c.in_default.is)
+    c.lock_of.result (sym c.refusal.ensures.status ∙ c.in_default.is)
     (c.lock_of.ensures c.args.self.def.now c.args.self.number)
     (looked_is _ _ _ _ _ c.in-Unlocked.is c.in_ok-anchor.ensures)
 
 pub returns-in-Nothing-clause-comes : goal.returns-in-Nothing-clause-comes
 returns-in-Nothing-clause-comes c =
     comes_nothing c.args.self.def.now c.args.self.number ((standing c.args.locks.now).holds c.args.region)
-        c.args.work.now
+    c.args.work.now
     c.requires.order c.requires.known c.args.asked.get c.args.asked.hold c.args.asked.ssas.now c.not_found-status.result
-        c.refused-in-Nothing.new.work c.refused-in-Nothing.result
+    c.refused-in-Nothing.new.work c.refused-in-Nothing.result
     (sym c.refusal.ensures.status ∙ c.in_default.is)
     (c.not_found-status.ensures.status c.args.self.def.now c.args.self.number
     ∙ ap (λ (ssas : List Ssa). not_found c.args.self.def.now c.args.self.number c.args.asked.get ssas)
@@ -60,7 +58,7 @@ pub returns-in_ok-show-in-Found-clause-comes : goal.returns-in_ok-show-in-Found-
 returns-in_ok-show-in-Found-clause-comes c =
     comes_found c.args.self.def.now c.args.self.number ((standing c.args.locks.now).holds c.args.region) c.args.work.now
     c.requires.order c.requires.known c.args.asked.get c.args.asked.hold c.args.asked.ssas.now c.in-Found.found
-        c.show.new.work c.in_ok-show-in-Found.field-0
+    c.show.new.work c.in_ok-show-in-Found.field-0
     (sym c.refusal.ensures.status ∙ c.in_default.is)
     (c.in_ok-show-in-Found.ensures.work c.args.self.def.now)
     (c.in_ok-show-in-Found.ensures.answer c.args.self.def.now)
@@ -79,11 +77,11 @@ returns-in_ok-show-in-Found-clause-fits c =
     c.show.new.work (c.in_ok-show-in-Found.ensures.work c.args.self.def.now)
     (moved_fits c.args.self.def.now c.args.self.number _ c.args.work.now c.requires.fits
     (λ place e. held_found c.args.self.def.now c.args.self.number ((standing c.args.locks.now).holds c.args.region)
-        c.args.work.now
+    c.args.work.now
     c.requires.order c.requires.known c.args.asked.get c.args.asked.hold c.args.asked.ssas.now c.in-Found.found place
     (found_fits c.args.self.def.now c.args.self.number ((standing c.args.locks.now).holds c.args.region) c.args.work.now
     c.requires.order c.requires.known c.args.asked.get c.args.asked.hold c.args.asked.ssas.now c.in-Found.found
-        c.requires.fits
+    c.requires.fits
     (looked_is _ _ _ _ _ c.in-Found.is c.in_ok-anchor.ensures)) e))
 
 pub returns-in_ok-show-in-Found-clause-needing : goal.returns-in_ok-show-in-Found-clause-needing
@@ -105,5 +103,5 @@ returns-in_ok-show-in-Found-clause-shown c =
     (c.in_ok-show-in-Found.ensures.answer c.args.self.def.now)
     (found_long c.args.self.def.now c.args.self.number ((standing c.args.locks.now).holds c.args.region) c.args.work.now
     c.requires.order c.requires.known c.args.asked.get c.args.asked.hold c.args.asked.ssas.now c.in-Found.found
-        c.requires.fits
+    c.requires.fits
     (looked_is _ _ _ _ _ c.in-Found.is c.in_ok-anchor.ensures))

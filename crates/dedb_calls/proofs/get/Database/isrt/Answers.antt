@@ -1,4 +1,4 @@
-use Rattle.std.proofs.Common.{◌≡◌, ◌∙◌, List, ℕ, sym, subst, true, false}
+use Rattle.std.proofs.Common.{List, ℕ, sym, subst}
 use Rattle.ci_locks.specs.Table.{standing}
 use Rattle.fp_model.specs.DedbCalls.{dedb_need, isrt_reply}
 use Rattle.fp_model.specs.declared.calls.Call.TheVariants as call
@@ -10,7 +10,7 @@ use Rattle.dedb_calls.proofs.get.Database.isrt.Goals as goal
 pub returns-then-not-are_insert_arguments-clause-comes : goal.returns-then-not-are_insert_arguments-clause-comes
 returns-then-not-are_insert_arguments-clause-comes g c n =
     insert_refused c.args.self.def.now c.args.self.number ((standing c.args.locks.now).holds c.args.region)
-        c.args.work.now c.args.ssas.now c.args.bytes.now n
+    c.args.work.now c.args.ssas.now c.args.bytes.now n
     (sym (c.if-not-are_insert_arguments.ensures c.args.self.number)) c.refused.new.work c.refused.result
     c.refused.ensures.work c.refused.ensures.answer
 
@@ -31,7 +31,7 @@ returns-clause-comes g c n =
     let new = c.in_ok-new.ensures in
     subst (λ (b : List ℕ). ComesTo c.args.self.number
     (λ db own. dedb_need c.args.self.def.now c.args.self.number db own ((standing c.args.locks.now).holds c.args.region)
-        (call.Isrt n c.args.ssas.now b))
+    (call.Isrt n c.args.ssas.now b))
     (λ db own. isrt_reply c.args.self.def.now c.args.self.number db own c.args.ssas.now b)
     c.args.work.now c.isrt_new.new.work c.in_ok-isrt_new.field-0) new.bytes
     (c.in_ok-isrt_new.ensures.comes c.args.ssas.now n

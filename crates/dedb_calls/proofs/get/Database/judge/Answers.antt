@@ -1,4 +1,4 @@
-use Rattle.std.proofs.Common.{◌≡◌, sym, true, false}
+use Rattle.std.proofs.Common.{sym, true, false}
 use Rattle.ci_locks.specs.Table.{standing}
 use Rattle.dedb_calls.proofs.InsertLemmas.{kind_as, parents_as, there_as}
 use Rattle.dedb_calls.proofs.get.Database.judge.Goals as goal
@@ -7,74 +7,85 @@ pub returns-then-not-parents_stand : goal.returns-then-not-parents_stand
 returns-then-not-parents_stand c = (
   c.in-Some.ensures.locked,
   sym (parents_as c.args.self.def.now c.requires.good c.args.self.number
-    ((standing c.args.locks.now).holds c.args.region) c.args.work.now c.requires.fits c.requires.order c.requires.known
-        c.requires.insert.0 c.args.new.now
-    c.requires.insert.1 c.held.result.now c.held.ensures c.in-Some.roots.now c.in-Some.ensures
-    c.as_slice-segments.result.now c.as_slice-segments.ensures c.as_slice-roots.result.now c.as_slice-roots.ensures
-    c.as_slice-steps.result.now c.as_slice-steps.ensures false c.if-not-parents_stand.ensures),
+      ((standing c.args.locks.now).holds c.args.region) c.args.work.now c.requires.fits c.requires.order
+      c.requires.known
+      c.requires.insert.0 c.args.new.now
+      c.requires.insert.1 c.held.result.now c.held.ensures c.in-Some.roots.now c.in-Some.ensures
+      c.as_slice-segments.result.now c.as_slice-segments.ensures c.as_slice-roots.result.now c.as_slice-roots.ensures
+      c.as_slice-steps.result.now c.as_slice-steps.ensures false c.if-not-parents_stand.ensures),
 )
 
 pub returns-then-is_sequential : goal.returns-then-is_sequential
 returns-then-is_sequential c = (
   c.in-Some.ensures.locked,
   sym (parents_as c.args.self.def.now c.requires.good c.args.self.number
-    ((standing c.args.locks.now).holds c.args.region) c.args.work.now c.requires.fits c.requires.order c.requires.known
-        c.requires.insert.0 c.args.new.now
-    c.requires.insert.1 c.held.result.now c.held.ensures c.in-Some.roots.now c.in-Some.ensures
-    c.as_slice-segments.result.now c.as_slice-segments.ensures c.as_slice-roots.result.now c.as_slice-roots.ensures
-    c.as_slice-steps.result.now c.as_slice-steps.ensures true c.if-not-parents_stand.ensures),
+      ((standing c.args.locks.now).holds c.args.region) c.args.work.now c.requires.fits c.requires.order
+      c.requires.known
+      c.requires.insert.0 c.args.new.now
+      c.requires.insert.1 c.held.result.now c.held.ensures c.in-Some.roots.now c.in-Some.ensures
+      c.as_slice-segments.result.now c.as_slice-segments.ensures c.as_slice-roots.result.now c.as_slice-roots.ensures
+      c.as_slice-steps.result.now c.as_slice-steps.ensures true c.if-not-parents_stand.ensures),
   sym (kind_as c.args.self.def.now c.requires.good c.args.self.number
-    ((standing c.args.locks.now).holds c.args.region) c.args.work.now c.requires.fits c.requires.order c.requires.known
-        c.requires.insert.0 c.args.new.now
-    c.requires.insert.1 c.held.result.now c.held.ensures c.in-Some.roots.now c.in-Some.ensures
-    c.as_slice-segments.result.now c.as_slice-segments.ensures c.as_slice-roots.result.now c.as_slice-roots.ensures
-    c.as_slice-steps.result.now c.as_slice-steps.ensures true c.if-is_sequential.ensures),
+      ((standing c.args.locks.now).holds c.args.region) c.args.work.now c.requires.fits c.requires.order
+      c.requires.known
+      c.requires.insert.0 c.args.new.now
+      c.requires.insert.1 c.held.result.now c.held.ensures c.in-Some.roots.now c.in-Some.ensures
+      c.as_slice-segments.result.now c.as_slice-segments.ensures c.as_slice-roots.result.now c.as_slice-roots.ensures
+      c.as_slice-steps.result.now c.as_slice-steps.ensures true c.if-is_sequential.ensures),
 )
 
 pub returns-then-leads_to : goal.returns-then-leads_to
 returns-then-leads_to c =
     let direct = sym (kind_as c.args.self.def.now c.requires.good c.args.self.number
     ((standing c.args.locks.now).holds c.args.region) c.args.work.now c.requires.fits c.requires.order c.requires.known
-        c.requires.insert.0 c.args.new.now
+    c.requires.insert.0 c.args.new.now
     c.requires.insert.1 c.held.result.now c.held.ensures c.in-Some.roots.now c.in-Some.ensures
     c.as_slice-segments.result.now c.as_slice-segments.ensures c.as_slice-roots.result.now c.as_slice-roots.ensures
     c.as_slice-steps.result.now c.as_slice-steps.ensures false c.if-is_sequential.ensures) in (
       c.in-Some.ensures.locked,
       sym (parents_as c.args.self.def.now c.requires.good c.args.self.number
-    ((standing c.args.locks.now).holds c.args.region) c.args.work.now c.requires.fits c.requires.order c.requires.known
-        c.requires.insert.0 c.args.new.now
-    c.requires.insert.1 c.held.result.now c.held.ensures c.in-Some.roots.now c.in-Some.ensures
-    c.as_slice-segments.result.now c.as_slice-segments.ensures c.as_slice-roots.result.now c.as_slice-roots.ensures
-    c.as_slice-steps.result.now c.as_slice-steps.ensures true c.if-not-parents_stand.ensures),
+          ((standing c.args.locks.now).holds c.args.region) c.args.work.now c.requires.fits c.requires.order
+          c.requires.known
+          c.requires.insert.0 c.args.new.now
+          c.requires.insert.1 c.held.result.now c.held.ensures c.in-Some.roots.now c.in-Some.ensures
+          c.as_slice-segments.result.now c.as_slice-segments.ensures c.as_slice-roots.result.now
+          c.as_slice-roots.ensures
+          c.as_slice-steps.result.now c.as_slice-steps.ensures true c.if-not-parents_stand.ensures),
       direct,
       sym (there_as c.args.self.def.now c.requires.good c.args.self.number
-    ((standing c.args.locks.now).holds c.args.region) c.args.work.now c.requires.fits c.requires.order c.requires.known
-        c.requires.insert.0 c.args.new.now
-    c.requires.insert.1 c.held.result.now c.held.ensures c.in-Some.roots.now c.in-Some.ensures
-    c.as_slice-segments.result.now c.as_slice-segments.ensures c.as_slice-roots.result.now c.as_slice-roots.ensures
-    c.as_slice-steps.result.now c.as_slice-steps.ensures true c.if-leads_to.ensures direct),
+          ((standing c.args.locks.now).holds c.args.region) c.args.work.now c.requires.fits c.requires.order
+          c.requires.known
+          c.requires.insert.0 c.args.new.now
+          c.requires.insert.1 c.held.result.now c.held.ensures c.in-Some.roots.now c.in-Some.ensures
+          c.as_slice-segments.result.now c.as_slice-segments.ensures c.as_slice-roots.result.now
+          c.as_slice-roots.ensures
+          c.as_slice-steps.result.now c.as_slice-steps.ensures true c.if-leads_to.ensures direct),
     )
 
 pub returns : goal.returns
 returns c =
     let direct = sym (kind_as c.args.self.def.now c.requires.good c.args.self.number
     ((standing c.args.locks.now).holds c.args.region) c.args.work.now c.requires.fits c.requires.order c.requires.known
-        c.requires.insert.0 c.args.new.now
+    c.requires.insert.0 c.args.new.now
     c.requires.insert.1 c.held.result.now c.held.ensures c.in-Some.roots.now c.in-Some.ensures
     c.as_slice-segments.result.now c.as_slice-segments.ensures c.as_slice-roots.result.now c.as_slice-roots.ensures
     c.as_slice-steps.result.now c.as_slice-steps.ensures false c.if-is_sequential.ensures) in (
       c.in-Some.ensures.locked,
       sym (parents_as c.args.self.def.now c.requires.good c.args.self.number
-    ((standing c.args.locks.now).holds c.args.region) c.args.work.now c.requires.fits c.requires.order c.requires.known
-        c.requires.insert.0 c.args.new.now
-    c.requires.insert.1 c.held.result.now c.held.ensures c.in-Some.roots.now c.in-Some.ensures
-    c.as_slice-segments.result.now c.as_slice-segments.ensures c.as_slice-roots.result.now c.as_slice-roots.ensures
-    c.as_slice-steps.result.now c.as_slice-steps.ensures true c.if-not-parents_stand.ensures),
+          ((standing c.args.locks.now).holds c.args.region) c.args.work.now c.requires.fits c.requires.order
+          c.requires.known
+          c.requires.insert.0 c.args.new.now
+          c.requires.insert.1 c.held.result.now c.held.ensures c.in-Some.roots.now c.in-Some.ensures
+          c.as_slice-segments.result.now c.as_slice-segments.ensures c.as_slice-roots.result.now
+          c.as_slice-roots.ensures
+          c.as_slice-steps.result.now c.as_slice-steps.ensures true c.if-not-parents_stand.ensures),
       direct,
       sym (there_as c.args.self.def.now c.requires.good c.args.self.number
-    ((standing c.args.locks.now).holds c.args.region) c.args.work.now c.requires.fits c.requires.order c.requires.known
-        c.requires.insert.0 c.args.new.now
-    c.requires.insert.1 c.held.result.now c.held.ensures c.in-Some.roots.now c.in-Some.ensures
-    c.as_slice-segments.result.now c.as_slice-segments.ensures c.as_slice-roots.result.now c.as_slice-roots.ensures
-    c.as_slice-steps.result.now c.as_slice-steps.ensures false c.if-leads_to.ensures direct),
+          ((standing c.args.locks.now).holds c.args.region) c.args.work.now c.requires.fits c.requires.order
+          c.requires.known
+          c.requires.insert.0 c.args.new.now
+          c.requires.insert.1 c.held.result.now c.held.ensures c.in-Some.roots.now c.in-Some.ensures
+          c.as_slice-segments.result.now c.as_slice-segments.ensures c.as_slice-roots.result.now
+          c.as_slice-roots.ensures
+          c.as_slice-steps.result.now c.as_slice-steps.ensures false c.if-leads_to.ensures direct),
     )

@@ -1,6 +1,5 @@
-use Rattle.std.proofs.Common.{◌≡◌, ◌∙◌, List, ℕ, Some, None, sym, ap, true, false}
-use Rattle.std.specs.Option.{option_copied}
-use Rattle.fp_model.specs.Order.{Place, Step}
+use Rattle.std.proofs.Common.{◌≡◌, ◌∙◌, List, ℕ, Some, None, sym, ap}
+use Rattle.fp_model.specs.Order.{Place}
 use Rattle.dli_tree.specs.Paths.{steps_of}
 use Rattle.dedb_calls.specs.Edits.{fits_key}
 use Rattle.dedb_calls.specs.Progress.{held_in}

@@ -1,4 +1,4 @@
-use Rattle.std.proofs.Common.{◌≡◌, ◌∙◌, ℕ, List, Some, Option, subst, sym, refl, ap}
+use Rattle.std.proofs.Common.{◌≡◌, ◌∙◌, List, Some, subst, ap}
 use Rattle.std.specs.Option.{option_copied}
 use Rattle.ci_locks.specs.Table.{standing}
 use Rattle.fp_model.specs.DedbCalls.{anchors_searched, begins_behind, lock_of, root_named, stays_below}
@@ -9,7 +9,7 @@ use Rattle.dedb_calls.specs.Progress.{position_in}
 use Rattle.dedb_calls.specs.Searches.{numbers_in}
 use Rattle.dedb_calls.specs.declared.anchors.HeldAnchor.{HeldAnchor}
 use Rattle.dedb_calls.proofs.SearchLemmas.{if_ok}
-use Rattle.dedb_calls.proofs.SeenLemmas.{in_order, types_of}
+use Rattle.dedb_calls.proofs.SeenLemmas.{in_order}
 use Rattle.dedb_calls.proofs.GetLemmas.{renamed}
 use Rattle.dedb_calls.proofs.get.Database.look.Goals as goal
 

@@ -1,4 +1,4 @@
-use Rattle.std.proofs.Common.{◌≡◌, ◌∙◌, List, ℕ, ap, false}
+use Rattle.std.proofs.Common.{◌∙◌, List, ℕ, ap, false}
 use Rattle.dedb_calls.specs.Inserts.{with_queued}
 use Rattle.dedb_calls.specs.Progress.{DedbProgress, position_in, with_position_at}
 use Rattle.dedb_calls.proofs.get.Database.queue.Goals as goal

@@ -1,4 +1,4 @@
-use Rattle.std.proofs.Common.{◌≡◌, ◌∙◌, ap, List}
+use Rattle.std.proofs.Common.{◌∙◌, ap, List}
 use Rattle.fp_model.specs.DedbCalls.{are_get_arguments}
 use Rattle.fp_model.specs.declared.calls.Ssa.{Ssa}
 use Rattle.fp_model.specs.Workspace.{DedbPosition}

@@ -1,20 +1,18 @@
-use Rattle.std.proofs.Common.{◌≡◌, ◌∙◌, refl, sym, ap}
+use Rattle.std.proofs.Common.{refl, sym}
 use Rattle.std.specs.Prelude.{codes}
 use Rattle.ci_locks.specs.Table.{standing}
-use Rattle.fp_model.specs.Workspace.{DedbPosition}
-use Rattle.fp_model.specs.DedbCalls as dedb
 use Rattle.dedb_calls.specs.Progress.{position_in}
 use Rattle.dedb_calls.proofs.EditLemmas.{edited_fits, edited_goes}
-use Rattle.dedb_calls.proofs.HeldLemmas.{anchor_there, dlet_done, dlet_sequential, dlet_shape, dropped, held_done, held_none, held_refused, held_unlocked, place_is, repl_done, repl_other_key, repl_sequential, repl_shape, replaced}
+use Rattle.dedb_calls.proofs.HeldLemmas.{anchor_there, held_done, held_none, held_refused, held_unlocked, place_is, repl_done, repl_other_key, repl_sequential, repl_shape, replaced}
 use Rattle.dedb_calls.proofs.SeenLemmas.{in_order, let_go_fits, lets_go}
 use Rattle.dedb_calls.proofs.get.Database.repl.Goals as goal
 
 pub returns-in-NotHeld-clause-comes : goal.returns-in-NotHeld-clause-comes
 returns-in-NotHeld-clause-comes c n =
     held_none c.args.self.def.now c.args.self.number ((standing c.args.locks.now).holds c.args.region) c.args.work.now
-        c.requires.order c.requires.known (replaced c.args.self.def.now c.args.self.number
-        ((standing c.args.locks.now).holds c.args.region) c.args.work.now c.requires.order c.requires.known
-        c.args.bytes.now) c.refused.new.work c.refused.result (λ db own. refl)
+    c.requires.order c.requires.known (replaced c.args.self.def.now c.args.self.number
+    ((standing c.args.locks.now).holds c.args.region) c.args.work.now c.requires.order c.requires.known
+    c.args.bytes.now) c.refused.new.work c.refused.result (λ db own. refl)
     c.in-NotHeld.ensures c.refused.ensures.work c.refused.ensures.answer
 
 pub returns-in-NotHeld-clause-goes : goal.returns-in-NotHeld-clause-goes
@@ -29,21 +27,21 @@ returns-in-NotHeld-clause-fits c =
 pub returns-in-Unlocked-clause-comes : goal.returns-in-Unlocked-clause-comes
 returns-in-Unlocked-clause-comes c n =
     held_unlocked c.args.self.def.now c.args.self.number ((standing c.args.locks.now).holds c.args.region)
-        c.args.work.now c.requires.order c.requires.known (replaced c.args.self.def.now c.args.self.number
-        ((standing c.args.locks.now).holds c.args.region) c.args.work.now c.requires.order c.requires.known
-        c.args.bytes.now) c.in-Unlocked.anchor c.in-Unlocked.ensures.0
+    c.args.work.now c.requires.order c.requires.known (replaced c.args.self.def.now c.args.self.number
+    ((standing c.args.locks.now).holds c.args.region) c.args.work.now c.requires.order c.requires.known
+    c.args.bytes.now) c.in-Unlocked.anchor c.in-Unlocked.ensures.0
     c.in-Unlocked.ensures.1 c.in-Unlocked.ensures.2
 
 pub returns-in-Sequential-clause-comes : goal.returns-in-Sequential-clause-comes
 returns-in-Sequential-clause-comes c n =
     held_refused c.args.self.def.now c.args.self.number ((standing c.args.locks.now).holds c.args.region)
-        c.args.work.now c.requires.order c.requires.known (replaced c.args.self.def.now c.args.self.number
-        ((standing c.args.locks.now).holds c.args.region) c.args.work.now c.requires.order c.requires.known
-        c.args.bytes.now) c.in-Sequential.ensures.0 (codes "AM")
+    c.args.work.now c.requires.order c.requires.known (replaced c.args.self.def.now c.args.self.number
+    ((standing c.args.locks.now).holds c.args.region) c.args.work.now c.requires.order c.requires.known
+    c.args.bytes.now) c.in-Sequential.ensures.0 (codes "AM")
     c.refused-in-Sequential.new.work c.refused-in-Sequential.result
     (repl_sequential c.args.self.def.now c.args.self.number ((standing c.args.locks.now).holds c.args.region)
-        c.args.work.now c.requires.order c.requires.known c.args.bytes.now c.in-Sequential.ensures.0
-        c.in-Sequential.ensures.2)
+    c.args.work.now c.requires.order c.requires.known c.args.bytes.now c.in-Sequential.ensures.0
+    c.in-Sequential.ensures.2)
     c.in-Sequential.ensures.1 c.refused-in-Sequential.ensures.work c.refused-in-Sequential.ensures.answer
 
 pub returns-in-Sequential-clause-goes : goal.returns-in-Sequential-clause-goes
@@ -59,13 +57,13 @@ pub returns-then-not-keeps_key-clause-comes : goal.returns-then-not-keeps_key-cl
 returns-then-not-keeps_key-clause-comes c n =
     let key = sym (c.if-not-keeps_key.ensures c.in-Direct.ensures.0 c.in-Direct.ensures.1.its) in
     held_refused c.args.self.def.now c.args.self.number ((standing c.args.locks.now).holds c.args.region)
-        c.args.work.now c.requires.order c.requires.known (replaced c.args.self.def.now c.args.self.number
-        ((standing c.args.locks.now).holds c.args.region) c.args.work.now c.requires.order c.requires.known
-        c.args.bytes.now) c.in-Direct.ensures.0 (codes "DA")
+    c.args.work.now c.requires.order c.requires.known (replaced c.args.self.def.now c.args.self.number
+    ((standing c.args.locks.now).holds c.args.region) c.args.work.now c.requires.order c.requires.known
+    c.args.bytes.now) c.in-Direct.ensures.0 (codes "DA")
     c.refused-then-not-keeps_key.new.work c.refused-then-not-keeps_key.result
     (repl_other_key c.args.self.def.now c.args.self.number ((standing c.args.locks.now).holds c.args.region)
-        c.args.work.now c.requires.order c.requires.known c.args.bytes.now c.in-Direct.ensures.0 c.in-Direct.ensures.2
-        key)
+    c.args.work.now c.requires.order c.requires.known c.args.bytes.now c.in-Direct.ensures.0 c.in-Direct.ensures.2
+    key)
     c.in-Direct.ensures.1 c.refused-then-not-keeps_key.ensures.work c.refused-then-not-keeps_key.ensures.answer
 
 pub returns-then-not-keeps_key-clause-goes : goal.returns-then-not-keeps_key-clause-goes
@@ -83,18 +81,18 @@ returns-in_ok-replace-in-Direct-clause-comes c n =
     let place = c.in-Direct.ensures.0 in
     let so = c.in-Direct.ensures.1 in
     let a = anchor_there c.args.self.def.now c.args.self.number ((standing c.args.locks.now).holds c.args.region)
-        c.args.work.now c.requires.order c.requires.known place so.lock in
+    c.args.work.now c.requires.order c.requires.known place so.lock in
     let order = in_order c.args.self.def.now place.anchor a.0.roots (c.requires.fits.shapes place.anchor a.0 a.1) in
     let its = place_is (position_in c.args.work.now c.args.self.number) place so.its in
     let key = sym (c.if-not-keeps_key.ensures place so.its) in
     let edit = c.in_ok-replace-in-Direct.ensures.work c.requires.order place a.0 its a.1 order in
     held_done c.args.self.def.now c.args.self.number ((standing c.args.locks.now).holds c.args.region) c.args.work.now
-        c.requires.order c.requires.known (replaced c.args.self.def.now c.args.self.number
-        ((standing c.args.locks.now).holds c.args.region) c.args.work.now c.requires.order c.requires.known
-        c.args.bytes.now) place c.replace.new.work c.in_ok-replace-in-Direct.field-0
+    c.requires.order c.requires.known (replaced c.args.self.def.now c.args.self.number
+    ((standing c.args.locks.now).holds c.args.region) c.args.work.now c.requires.order c.requires.known
+    c.args.bytes.now) place c.replace.new.work c.in_ok-replace-in-Direct.field-0
     (repl_done c.args.self.def.now c.args.self.number ((standing c.args.locks.now).holds c.args.region) c.args.work.now
-        c.requires.order c.requires.known c.args.bytes.now place a.0 c.replace.new.work c.in-Direct.ensures.2 key a.1
-        edit)
+    c.requires.order c.requires.known c.args.bytes.now place a.0 c.replace.new.work c.in-Direct.ensures.2 key a.1
+    edit)
     so c.in_ok-replace-in-Direct.ensures.answer
 
 pub returns-in_ok-replace-in-Direct-clause-goes : goal.returns-in_ok-replace-in-Direct-clause-goes
@@ -102,7 +100,7 @@ returns-in_ok-replace-in-Direct-clause-goes c =
     let place = c.in-Direct.ensures.0 in
     let so = c.in-Direct.ensures.1 in
     let a = anchor_there c.args.self.def.now c.args.self.number ((standing c.args.locks.now).holds c.args.region)
-        c.args.work.now c.requires.order c.requires.known place so.lock in
+    c.args.work.now c.requires.order c.requires.known place so.lock in
     let order = in_order c.args.self.def.now place.anchor a.0.roots (c.requires.fits.shapes place.anchor a.0 a.1) in
     let its = place_is (position_in c.args.work.now c.args.self.number) place so.its in
     edited_goes c.args.self.number place.anchor _ _ _ c.args.work.now c.replace.new.work
@@ -113,13 +111,13 @@ returns-in_ok-replace-in-Direct-clause-fits c =
     let place = c.in-Direct.ensures.0 in
     let so = c.in-Direct.ensures.1 in
     let a = anchor_there c.args.self.def.now c.args.self.number ((standing c.args.locks.now).holds c.args.region)
-        c.args.work.now c.requires.order c.requires.known place so.lock in
+    c.args.work.now c.requires.order c.requires.known place so.lock in
     let order = in_order c.args.self.def.now place.anchor a.0.roots (c.requires.fits.shapes place.anchor a.0 a.1) in
     let its = place_is (position_in c.args.work.now c.args.self.number) place so.its in
     let key = sym (c.if-not-keeps_key.ensures place so.its) in
     edited_fits c.args.self.number place.anchor _ _ _ c.args.work.now c.replace.new.work
     (c.in_ok-replace-in-Direct.ensures.work c.requires.order place a.0 its a.1 order) c.args.self.def.now
-        c.requires.fits
+    c.requires.fits
     (repl_shape c.args.self.def.now c.args.self.number ((standing c.args.locks.now).holds c.args.region) c.args.work.now
-        c.requires.order c.requires.known c.requires.fits place so.its a.0 a.1 c.in-Direct.ensures.2 c.args.bytes.now
+    c.requires.order c.requires.known c.requires.fits place so.its a.0 a.1 c.in-Direct.ensures.2 c.args.bytes.now
     (c.requires.long place so.its) key) refl

@@ -1,9 +1,9 @@
-use Rattle.std.proofs.Common.{◌≡◌, ◌∙◌, ◌<◌, [], List, map, ap, sym, subst, arith}
+use Rattle.std.proofs.Common.{◌≡◌, ◌∙◌, [], List, map, ap, sym, subst, arith}
 use Rattle.fp_model.specs.declared.calls.SeqInsert.{SeqInsert}
 use Rattle.fp_model.specs.Workspace.{DedbPosition, no_dedb_position}
 use Rattle.dedb_calls.specs.declared.anchors.HeldAnchor.{HeldAnchor}
 use Rattle.dedb_calls.specs.Progress.{DedbProgress, IsDedbWorkOf}
-use Rattle.dedb_calls.proofs.BeginLemmas.{begun, begun_fits, fresh_all}
+use Rattle.dedb_calls.proofs.BeginLemmas.{begun_fits, fresh_all}
 use Rattle.dedb_calls.proofs.work.DedbWork.new.Goals as goal
 
 all : (c : goal.After-new-3) → c.loop.positions.items ≡ map (λ def. no_dedb_position) c.args.defs.now.dedbs
