@@ -242,13 +242,13 @@ fn each_call_of_a_migration_may_fail(rt: HostRuntime) -> Result<(), Fail> {
 #[test]
 fn a_migration_may_be_stopped_at_each_call(rt: HostRuntime) -> Result<(), Fail> {
     let alloc = rt.alloc();
-    let mut stops = 0;
+    let mut stops: u32 = 0;
     for after in 0..50 {
         let mut site = MemorySite::stopping(alloc, after)?;
         if write_old(alloc, &mut site)? {
             let _ = run(alloc, "migrate", SCRIPTS, b"", &[], &mut site)?;
             assert!(rt; all_go_on(alloc, &site)?, "stopped at {after}");
-            stops += 1;
+            stops = stops.saturating_add(1);
         }
     }
     assert!(rt; stops > 20);
