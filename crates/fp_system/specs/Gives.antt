@@ -16,7 +16,7 @@ use Rattle.log_groups.specs.Images.{IsAtRest, IsBeforeOrMade, IsLog as HasLog}
 use Rattle.log_groups.specs.Kept.{IsSafe}
 use Rattle.fp_source.specs.declared.part.Part.{Part}
 use Rattle.fp_source.specs.declared.part.Part.TheVariants as part
-use Rattle.fp_system.specs.Answers.{IsEarly}
+use Rattle.fp_system.specs.Answers.{IsEarly, IsOfLog}
 use Rattle.fp_core.specs.Sparing.{IsLogSet as IsLog, Spares}
 use Rattle.fp_system.specs.Ims.{IsUnchanged}
 use Rattle.fp_exits.specs.Kinds.{Kinds}
@@ -151,11 +151,13 @@ IsBeforeSite found ReadFault = ¬ (found ≡ Some Run)
 IsBeforeSite found NoMemory = found ≡ Some Define
 IsBeforeSite found answer = IsEarly answer
 
--- only a run reads schedule and messages, and one that is done leaves no message
+-- Only a run reads schedule and messages. One that is done leaves no message, and one whose log is foreign, damaged or
+-- of format 1 reads none.
 pub record Took (found : Option Command) (answer : Status) (old new : Part → List ℕ) : Type 0 where
   pub no_schedule : ¬ (found ≡ Some Run) → new part.Schedule ≡ old part.Schedule
   pub no_messages : ¬ (found ≡ Some Run) → new part.Messages ≡ old part.Messages
   pub all : found ≡ Some Run → answer ≡ Done → new part.Messages ≡ []
+  pub unread : found ≡ Some Run → IsOfLog answer → new part.Messages ≡ old part.Messages
 
 -- The parts are read in their order, none for words that are no command, and none behind one that is refused: the
 -- scripts where the definitions are good, the schedule where both are a job, and message lines where that has its
