@@ -130,15 +130,26 @@ pub record Moved (job : Job) (format : ℕ) (earlier : List Entry) (answer : Sta
   pub images : (log : List ℕ) → Settles new 0 log → Settles old 0 log ⊎ IsMigratedOr job format earlier log
   pub moments : Through old new (λ s. Syncs old 0 s ⊎ IsMigrating job format earlier old s)
 
--- Whatever the answer is: another's log stays, and a bad one, and one of format 2, and all other data sets. A log that
--- can be read stays up to its first gate that isn't open, where that is there. A safe site in format 1 gets the one
--- entry whole, or stays.
+-- A log is at rest with these groups, and behind them one of the entry that lets messages have numbers.
+pub record HasMore (job : Job) (format : ℕ) (groups : List (List Entry)) (disk : Disk) : Type 0 where
+  pub gate : ℕ
+  pub at_rest : IsAtRest disk (front_in format job)
+      (groups ++ (format_entry (length (entries_of groups)) ∷ []) ∷ []) gate
+
+-- Whatever the answer is: nothing is sent, and another's log stays, and a bad one, and one of format 2, and all other
+-- data sets. A log that can be read stays up to its first gate that isn't open, where that is there; and with Done one
+-- of format 1 has the one entry more, in a group of its own, also if its entries are no history. A safe site in format
+-- 1 gets that whole, or stays.
 pub record Migrated (job : Job) (answer : Status) (old new : Disk) : Type 0 where
   pub spares : IsSpared job (old.contents 0) → IsUnchanged old new
   pub stays : ¬ (IsOld job (old.contents 0)) → IsUnchanged old new
   pub others : Spares IsLog old new
   pub keeps : (format : ℕ) (groups : List (List Entry)) (gate : ℕ)
       → HasLog (front_in format job) (old.contents 0) groups gate → Through old new (KeepsFront gate old)
+  pub unsent : new.sent ≡ old.sent
+  pub whole : (format : ℕ) (groups : List (List Entry)) (gate : ℕ)
+      → HasLog (front_in format job) (old.contents 0) groups gate → IsOld job (old.contents 0) → answer ≡ Done
+      → HasMore job format groups new
   pub goes : (format : ℕ) (earlier : List Entry) → IsSafeFor job format old earlier → IsOld job (old.contents 0)
       → Moved job format earlier answer old new
 
