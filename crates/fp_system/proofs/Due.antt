@@ -7,7 +7,7 @@ use Rattle.fp_restart.specs.declared.fault.RestartFault.{RestartFault}
 use Rattle.fp_restart.specs.declared.fault.RestartFault.TheVariants as fault
 use Rattle.log_groups.specs.Images.{BeginsFor, as_front}
 use Rattle.fp_system.specs.declared.parts.Setup.{Setup}
-use Rattle.fp_system.specs.Answers.{IsEarly, MayStandIn, IsOfParts, IsStop, faulty_line, status_of_fault, status_of_stop}
+use Rattle.fp_system.specs.Answers.{IsEarly, IsOfLog, IsOfParts, IsStop, MayStandIn, faulty_line, status_of_fault, status_of_stop}
 use Rattle.fp_core.specs.declared.stop.Stop.{Stop}
 use Rattle.fp_core.specs.declared.stop.Stop.TheVariants as stop
 use Rattle.fp_system.specs.Parts.{front_for}
@@ -123,6 +123,23 @@ late Foreign (inr stop) early = stop
 late (Damaged set at) (inr stop) early = stop
 late (NotBuilt p) (inr stop) early = stop
 late OldFormat (inr stop) early = stop
+
+-- nor one to its log
+pub not_of_log : (answer : Status) → (answer ≡ Done) ⊎ IsStop answer → IsOfLog answer → ⊥
+not_of_log answer (inl e) of = subst IsOfLog e of
+not_of_log Foreign (inr stop) of = stop
+not_of_log (Damaged set at) (inr stop) of = stop
+not_of_log OldFormat (inr stop) of = stop
+not_of_log Done (inr stop) of = stop
+not_of_log Usage (inr stop) of = of
+not_of_log (Definitions f) (inr stop) of = of
+not_of_log (Scripts f) (inr stop) of = of
+not_of_log (Schedule f) (inr stop) of = of
+not_of_log ReadFault (inr stop) of = of
+not_of_log SiteFault (inr stop) of = of
+not_of_log (Line number) (inr stop) of = of
+not_of_log NoMemory (inr stop) of = of
+not_of_log (NotBuilt p) (inr stop) of = of
 
 pub fault_not_done : {Any : Type 0} (f : RestartFault) → status_of_fault f ≡ Done → Any
 fault_not_done fault.Foreign e = absurd cc

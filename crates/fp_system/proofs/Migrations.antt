@@ -34,7 +34,7 @@ use Rattle.log_groups.specs.Log.{LogState}
 use Rattle.log_groups.proofs.Fronts.{one_format}
 use Rattle.msdb_store.specs.Store.{Stored}
 use Rattle.fp_system.specs.Courses.{IsSoundFor}
-use Rattle.fp_system.specs.Gives.{IsMigrating, IsMigratedOr, IsSafeFor, KeepsFront, Migrated, Moved, format_entry}
+use Rattle.fp_system.specs.Gives.{HasMore, IsMigrating, IsMigratedOr, IsSafeFor, KeepsFront, Migrated, Moved, format_entry}
 use Rattle.fp_system.specs.Ims.{IsUnchanged}
 use Rattle.fp_system.specs.Parts.{Job, front_for, front_in, rules_for}
 use Rattle.fp_system.specs.Table.{IsOld, IsSpared}
@@ -251,17 +251,53 @@ module _ (job : Job) (h h1 h2 : Disk) (contents : (set : ℕ) → h1.contents se
       (gate_behind state.gate (entry ∷ [])) rest.log more)) is)
       (crash its rest))
 
+  -- and has the entry of a migration behind its groups, where that was sealed
+  pub more_at_rest : (answer : Status) (gate_then : ℕ)
+      → (answer ≡ Done → (groups : List (List Entry)) → IsAtRest h1 (front_in first_format job) groups state.gate
+      → IsAtRest h2 (front_in first_format job) (groups ++ (format_entry state.sealed ∷ []) ∷ []) gate_then)
+      → (format : ℕ) (groups : List (List Entry)) (gate : ℕ) → HasLog (front_in format job) (h.contents 0) groups gate
+      → answer ≡ Done → HasMore job format groups h2
+  more_at_rest answer gate_then sealed format groups gate log done =
+      let front = front_in first_format job in
+      let there : HasLog (front_in format job) (h1.contents 0) groups gate =
+      subst (λ (l : List ℕ). HasLog (front_in format job) l groups gate) (sym (contents 0)) log in
+      let one : format ≡ first_format =
+      one_format format first_format (front_for job) (h1.contents 0) there.holds.begins back.begins in
+      let here : HasLog front (h1.contents 0) groups gate =
+      subst (λ (f : ℕ). HasLog (front_in f job) (h1.contents 0) groups gate) one there in
+      let its = back.replayed.groups in
+      let same = same_reading (h1.contents 0) (first_gate front) its groups state.gate gate
+      (back.replayed.holds.holds, back.closed) here.holds.reads in
+      let stands : state.gate < length (h1.contents 0) =
+      subst (λ (g : ℕ). g < length (h1.contents 0)) (sym same.1) here.stands in
+      let counted : state.sealed ≡ length (entries_of groups) =
+      back.replayed.count ∙ ap (λ (gs : List (List Entry)). length (entries_of gs)) same.0 in
+      let after : IsAtRest h2 front (its ++ (format_entry state.sealed ∷ []) ∷ []) gate_then =
+      sealed done its (read_at_rest job.defs front h1 store state lasts back stands) in
+      record {
+        gate = gate_then;
+        at_rest =
+            subst (λ (f : ℕ). IsAtRest h2 (front_in f job)
+            (groups ++ (format_entry (length (entries_of groups)) ∷ []) ∷ []) gate_then) (sym one)
+            (subst (λ (n : ℕ). IsAtRest h2 front (groups ++ (format_entry n ∷ []) ∷ []) gate_then) counted
+            (subst (λ (gs : List (List Entry)). IsAtRest h2 front (gs ++ (format_entry state.sealed ∷ []) ∷ [])
+            gate_then) same.0 after));
+      }
+
 -- ---- where nothing is done
 
 pub migrated_not : (job : Job) (answer : Status) (h h1 : Disk) → IsUnchanged h h1
+    → (IsOld job (h.contents 0) → ¬ (answer ≡ Done))
     → ((format : ℕ) (earlier : List Entry) → IsSafeFor job format h earlier → IsOld job (h.contents 0)
     → Moved job format earlier answer h h1)
     → Migrated job answer h h1
-migrated_not job answer h h1 same goes = record {
+migrated_not job answer h h1 same never goes = record {
   spares = λ why. same;
   stays = λ new. same;
   others = spares_syncs h h1 same.contents same.crash;
   keeps = λ format groups gate log. weaker (Syncs h 0) (KeepsFront gate h) h h1 (λ s d. inl d) same.crash;
+  unsent = same.sent;
+  whole = λ format groups gate log was done. absurd (never was done);
   goes = goes;
 }
 
@@ -269,5 +305,5 @@ migrated_not job answer h h1 same goes = record {
 pub unmigrated : (job : Job) (answer : Status) (h : Disk) → IsLawful h → ¬ (answer ≡ Done) → Migrated job answer h h
 unmigrated job answer h law undone =
     let same = unchanged_same h law in
-    migrated_not job answer h h same (λ format earlier safe first.
+    migrated_not job answer h h same (λ was. undone) (λ format earlier safe first.
     moved_not job format earlier answer h h undone refl (λ image settles. settles) same.crash)

@@ -11,7 +11,7 @@ use Rattle.fp_restart.specs.declared.fault.RestartFault.TheVariants as fault
 use Rattle.fp_schedule.specs.declared.fault.ScheduleFault.{ScheduleFault}
 use Rattle.fp_schedule.specs.declared.fault.ScheduleFault.TheVariants as unfit
 use Rattle.fp_system.specs.declared.status.Status.{Status}
-use Rattle.fp_system.specs.declared.status.Status.TheVariants.{Usage, Definitions, Scripts, Schedule, ReadFault, SiteFault, Foreign, Damaged, Line, NoMemory, NotBuilt}
+use Rattle.fp_system.specs.declared.status.Status.TheVariants.{Usage, Definitions, Scripts, Schedule, ReadFault, SiteFault, Foreign, Damaged, Line, NoMemory, NotBuilt, OldFormat}
 use Rattle.txn_lang.specs.declared.fault.ScriptFault.{ScriptFault}
 use Rattle.txn_lang.specs.declared.fault.ScriptFault.TheVariants as wrong
 
@@ -34,6 +34,13 @@ IsEarly (Scripts fault) = ⊤
 IsEarly (Schedule fault) = ⊤
 IsEarly (NotBuilt part) = ⊤
 IsEarly _ = ⊥
+
+-- an answer to the log that stands, in front of any line
+abbrev pub IsOfLog : Status → Type 0
+IsOfLog Foreign = ⊤
+IsOfLog (Damaged set at) = ⊤
+IsOfLog OldFormat = ⊤
+IsOfLog _ = ⊥
 
 -- an answer to the parts
 abbrev pub IsOfParts : Status → Type 0

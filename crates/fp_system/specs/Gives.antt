@@ -16,7 +16,7 @@ use Rattle.log_groups.specs.Images.{IsAtRest, IsBeforeOrMade, IsLog as HasLog}
 use Rattle.log_groups.specs.Kept.{IsSafe}
 use Rattle.fp_source.specs.declared.part.Part.{Part}
 use Rattle.fp_source.specs.declared.part.Part.TheVariants as part
-use Rattle.fp_system.specs.Answers.{IsEarly}
+use Rattle.fp_system.specs.Answers.{IsEarly, IsOfLog}
 use Rattle.fp_core.specs.Sparing.{IsLogSet as IsLog, Spares}
 use Rattle.fp_system.specs.Ims.{IsUnchanged}
 use Rattle.fp_exits.specs.Kinds.{Kinds}
@@ -130,15 +130,26 @@ pub record Moved (job : Job) (format : ℕ) (earlier : List Entry) (answer : Sta
   pub images : (log : List ℕ) → Settles new 0 log → Settles old 0 log ⊎ IsMigratedOr job format earlier log
   pub moments : Through old new (λ s. Syncs old 0 s ⊎ IsMigrating job format earlier old s)
 
--- Whatever the answer is: another's log stays, and a bad one, and one of format 2, and all other data sets. A log that
--- can be read stays up to its first gate that isn't open, where that is there. A safe site in format 1 gets the one
--- entry whole, or stays.
+-- A log is at rest with these groups, and behind them one of the entry that lets messages have numbers.
+pub record HasMore (job : Job) (format : ℕ) (groups : List (List Entry)) (disk : Disk) : Type 0 where
+  pub gate : ℕ
+  pub at_rest : IsAtRest disk (front_in format job)
+      (groups ++ (format_entry (length (entries_of groups)) ∷ []) ∷ []) gate
+
+-- Whatever the answer is: nothing is sent, and another's log stays, and a bad one, and one of format 2, and all other
+-- data sets. A log that can be read stays up to its first gate that isn't open, where that is there; and with Done one
+-- of format 1 has the one entry more, in a group of its own, also if its entries are no history. A safe site in format
+-- 1 gets that whole, or stays.
 pub record Migrated (job : Job) (answer : Status) (old new : Disk) : Type 0 where
   pub spares : IsSpared job (old.contents 0) → IsUnchanged old new
   pub stays : ¬ (IsOld job (old.contents 0)) → IsUnchanged old new
   pub others : Spares IsLog old new
   pub keeps : (format : ℕ) (groups : List (List Entry)) (gate : ℕ)
       → HasLog (front_in format job) (old.contents 0) groups gate → Through old new (KeepsFront gate old)
+  pub unsent : new.sent ≡ old.sent
+  pub whole : (format : ℕ) (groups : List (List Entry)) (gate : ℕ)
+      → HasLog (front_in format job) (old.contents 0) groups gate → IsOld job (old.contents 0) → answer ≡ Done
+      → HasMore job format groups new
   pub goes : (format : ℕ) (earlier : List Entry) → IsSafeFor job format old earlier → IsOld job (old.contents 0)
       → Moved job format earlier answer old new
 
@@ -151,11 +162,13 @@ IsBeforeSite found ReadFault = ¬ (found ≡ Some Run)
 IsBeforeSite found NoMemory = found ≡ Some Define
 IsBeforeSite found answer = IsEarly answer
 
--- only a run reads schedule and messages, and one that is done leaves no message
+-- Only a run reads schedule and messages. One that is done leaves no message, and one whose log is foreign, damaged or
+-- of format 1 reads none.
 pub record Took (found : Option Command) (answer : Status) (old new : Part → List ℕ) : Type 0 where
   pub no_schedule : ¬ (found ≡ Some Run) → new part.Schedule ≡ old part.Schedule
   pub no_messages : ¬ (found ≡ Some Run) → new part.Messages ≡ old part.Messages
   pub all : found ≡ Some Run → answer ≡ Done → new part.Messages ≡ []
+  pub unread : found ≡ Some Run → IsOfLog answer → new part.Messages ≡ old part.Messages
 
 -- The parts are read in their order, none for words that are no command, and none behind one that is refused: the
 -- scripts where the definitions are good, the schedule where both are a job, and message lines where that has its

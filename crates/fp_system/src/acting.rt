@@ -8,7 +8,7 @@ ghost use Rattle.fp_site.specs.Disk.{Disk, Settles};
 ghost use Rattle.fp_site.specs.Moments.{OnlyOn, Through};
 ghost use Rattle.fp_site.specs.Site.{ReadsNothing};
 ghost use Rattle.fp_source.specs.declared.part.Part.TheVariants as part;
-ghost use Rattle.fp_system.specs.Answers.{IsEarly, IsOr, IsStop, MayStandIn, faulty_line, status_of_fault};
+ghost use Rattle.fp_system.specs.Answers.{IsEarly, IsOfLog, IsOr, IsStop, MayStandIn, faulty_line, status_of_fault};
 ghost use Rattle.fp_system.specs.Causes.{IsCaused, IsCausedBySite};
 ghost use Rattle.fp_system.specs.Courses.{IsBegun, RanFrom, input};
 ghost use Rattle.fp_core.specs.Sparing.{IsLogSet as IsLog, Spares};
@@ -218,6 +218,9 @@ pub(crate) fn run_on<S: Source, T: Site>(
     ensures early { IsEarly result → ⊥ }
     ensures cause { IsCaused (S.faults source.old) (S.faults source.new)
         (T.faults site.old) (T.faults site.new) result }
+
+    // No line is read where the log is foreign, damaged or of format 1.
+    ensures unread { IsOfLog result → source.new ≡ source.old }
 
     // At the end no message is left. Each byte of the log is read once.
     ensures read { S.told source.old → result ≡ status.Done → S.left source.new part.Messages ≡ [] }

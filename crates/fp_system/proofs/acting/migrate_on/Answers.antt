@@ -19,7 +19,7 @@ use Rattle.fp_system.specs.declared.status.Status.{Status}
 use Rattle.fp_system.specs.declared.status.Status.TheVariants.{Done, NoMemory, ReadFault, SiteFault}
 use Rattle.fp_system.proofs.CauseLemmas.{fault_by_site, one_err, site_since}
 use Rattle.fp_system.proofs.Due.{fault_not_done, is_good, not_spared}
-use Rattle.fp_system.proofs.Migrations.{Seals, kept_before, migrated_not, moved, moved_not}
+use Rattle.fp_system.proofs.Migrations.{Seals, kept_before, migrated_not, more_at_rest, moved, moved_not}
 use Rattle.fp_system.proofs.OldLogs.{sound_old_only}
 use Rattle.fp_system.proofs.Restarted.{its_back, new_told, old_told, sound_for, stands_for}
 use Rattle.fp_system.proofs.SentTexts.{due_by_log}
@@ -51,6 +51,7 @@ returns-in-Err-clause-migrated g c t =
     let crash = c.restart.ensures.crash t in
     let answer = c.fault_status.result in
     migrated_not job answer h h1 (record { contents = c.restart.ensures.contents t; sent = sent; crash = crash })
+    (λ was done. fault_not_done c.in-Err.why (sym c.fault_status.ensures ∙ done))
     (λ format earlier safe first. moved_not job format earlier answer h h1
     (λ done. fault_not_done c.in-Err.why (sym c.fault_status.ensures ∙ done)) sent
     (λ image settles. c.restart.ensures.settles image t settles) crash)
@@ -100,6 +101,7 @@ returns-then-not-is_old-clause-migrated g c t =
     (c.in-Ok.ensures.reads t) (c.is_old.ensures.new c.if-not-is_old.true) in
     migrated_not (job_of setup) Done h h1
     (record { contents = contents; sent = c.restart.ensures.sent t; crash = c.restart.ensures.crash t })
+    (λ was done. new was)
     (λ format earlier safe first. absurd (new first))
 
 pub returns-then-not-is_old-clause-cause : goal.returns-then-not-is_old-clause-cause
@@ -165,6 +167,12 @@ returns-in-Ok-seal_format-clause-migrated g c t =
       keeps = kept_before job h h1 h2 contents crash store state lasts state.front_format
           (its_back setup is h h1 contents store state lasts reads) entry
           (λ groups rest. c.seal_format.ensures.crash (front_in state.front_format job) groups t1 rest);
+      unsent = only.now.sent ∙ sent;
+      whole = λ format groups gate log was done.
+          more_at_rest job h h1 h2 contents crash store state lasts state.front_format
+          (its_back setup is h h1 contents store state lasts reads) entry Done c.seal_format.new.log.gate
+          (λ done its rest. c.in-Ok-seal_format.ensures.durable (front_in state.front_format job) its t1 rest)
+          format groups gate log refl;
       goes = λ format earlier safe was.
           let found = stands_for setup is format h1 earlier store state lasts
           (c.in-Ok.ensures.sound format setup.scripts.scripts earlier t
@@ -250,6 +258,10 @@ returns-clause-migrated g c t =
       keeps = kept_before job h h1 h2 contents crash store state lasts state.front_format
           (its_back setup is h h1 contents store state lasts reads) entry
           (λ groups rest. c.seal_format.ensures.crash (front_in state.front_format job) groups t1 rest);
+      unsent = only.now.sent ∙ sent;
+      whole = λ format groups gate log was done.
+          absurd (subst MayStandIn done (stands_in c.in-Err-seal_format.fault
+          c.in-Err-seal_format.ensures.refused));
       goes = λ format earlier safe was.
           let found = stands_for setup is format h1 earlier store state lasts
           (c.in-Ok.ensures.sound format setup.scripts.scripts earlier t

@@ -20,7 +20,7 @@ use Rattle.fp_system.specs.Table.{ByLog, IsEnd}
 use Rattle.fp_system.specs.declared.status.Status.{Status}
 use Rattle.fp_system.specs.declared.status.Status.TheVariants.{OldFormat}
 use Rattle.fp_system.proofs.CauseLemmas.{fault_by_site, fault_by_source, one_err, site_since}
-use Rattle.fp_system.proofs.Due.{ended_due, fault_due, fault_not_done, fault_stands, late, not_spared, old_due}
+use Rattle.fp_system.proofs.Due.{ended_due, fault_due, fault_not_done, fault_stands, late, not_of_log, not_spared, old_due}
 use Rattle.fp_system.proofs.Restarted.{its_back, new_told, old_told, sound_for, stands_for}
 use Rattle.fp_core.proofs.SparingLemmas.{spares_syncs, spares_on}
 use Rattle.fp_system.proofs.Runs.{kept_front, kept_synced, ran, went_in_place}
@@ -170,6 +170,9 @@ returns-then-is_old-clause-early g c early = early
 
 pub returns-clause-early : goal.returns-clause-early
 returns-clause-early g c early = late c.run_started.result c.run_started.ensures.outcome early
+
+pub returns-clause-unread : goal.returns-clause-unread
+returns-clause-unread g c of = absurd (not_of_log c.run_started.result c.run_started.ensures.outcome of)
 
 pub returns-in-Err-clause-read : goal.returns-in-Err-clause-read
 returns-in-Err-clause-read g c s e = fault_not_done c.in-Err.fault (sym c.fault_status.ensures ∙ e)

@@ -438,6 +438,7 @@ returns-in-Define-clause-parts g c s =
       no_schedule = λ other. c.read_task.ensures.schedule_unread s (λ e. no_run mine e (λ d. cc));
       no_messages = λ other. c.read_task.ensures.messages s;
       all = λ run done. other_command named run (λ e. cc);
+      unread = λ run of. c.read_task.ensures.messages s;
     }
 
 pub returns-in-Show-clause-parts : goal.returns-in-Show-clause-parts
@@ -448,6 +449,7 @@ returns-in-Show-clause-parts g c s =
       no_schedule = λ other. c.read_task.ensures.schedule_unread s (λ e. no_run mine e (λ d. cc));
       no_messages = λ other. c.read_task.ensures.messages s;
       all = λ run done. other_command named run (λ e. cc);
+      unread = λ run of. c.read_task.ensures.messages s;
     }
 
 pub returns-in-Log-clause-parts : goal.returns-in-Log-clause-parts
@@ -458,6 +460,7 @@ returns-in-Log-clause-parts g c s =
       no_schedule = λ other. c.read_task.ensures.schedule_unread s (λ e. no_run mine e (λ d. cc));
       no_messages = λ other. c.read_task.ensures.messages s;
       all = λ run done. other_command named run (λ e. cc);
+      unread = λ run of. c.read_task.ensures.messages s;
     }
 
 pub returns-in-Ok-clause-parts : goal.returns-in-Ok-clause-parts
@@ -468,6 +471,7 @@ returns-in-Ok-clause-parts g c s =
       no_schedule = λ other. c.read_task.ensures.schedule_unread s (λ e. no_run mine e (λ d. cc));
       no_messages = λ other. c.read_task.ensures.messages s;
       all = λ run done. other_command named run (λ e. cc);
+      unread = λ run of. c.read_task.ensures.messages s;
     }
 
 pub returns-in-Run-clause-parts : goal.returns-in-Run-clause-parts
@@ -477,6 +481,9 @@ returns-in-Run-clause-parts g c s =
       no_schedule = λ other. absurd (other named);
       no_messages = λ other. absurd (other named);
       all = λ run done. c.run_on.ensures.read (c.read_task.ensures.told s) done;
+      unread = λ run of.
+          ap (λ (next : _). g.S.Source.left next part.Messages) (c.run_on.ensures.unread of)
+          ∙ c.read_task.ensures.messages s;
     }
 
 pub returns-clause-parts : goal.returns-clause-parts
@@ -487,6 +494,7 @@ returns-clause-parts g c s =
           c.read_task.ensures.schedule_unread s (λ e. other (named ∙ ap (λ (d : Command). Some d) e));
       no_messages = λ other. c.read_task.ensures.messages s;
       all = λ run done. parts_not_done c.in-Err-read_task.answer c.in-Err-read_task.ensures.early done;
+      unread = λ run of. c.read_task.ensures.messages s;
     }
 
 pub returns-in-Ok-None-clause-parts : goal.returns-in-Ok-None-clause-parts
@@ -494,6 +502,7 @@ returns-in-Ok-None-clause-parts g c s = record {
   no_schedule = λ other. refl;
   no_messages = λ other. refl;
   all = λ run done. absurd cc;
+  unread = λ run of. refl;
 }
 
 pub returns-in-Err-clause-parts : goal.returns-in-Err-clause-parts
@@ -501,6 +510,7 @@ returns-in-Err-clause-parts g c s = record {
   no_schedule = λ other. refl;
   no_messages = λ other. refl;
   all = λ run done. absurd cc;
+  unread = λ run of. refl;
 }
 
 -- ---- the order of the parts
