@@ -10,7 +10,7 @@ pub returns-clause-room : goal.returns-clause-room
 returns-clause-room c m t u =
     let engine = c.args.self.now in
     let is = region_is engine m c.args.region t (regions.Active c.active_in-active.result.now) u
-        c.active_in-active.ensures.there in
+    c.active_in-active.ensures.there in
     let line : length c.active_in-active.result.now.message.line ≡ length t.message.line =
     ap (λ message. length message.line) is.message in
     omega (arith, room_within engine m c.args.region t u, c.refusal_room.ensures.room, line)
@@ -19,7 +19,7 @@ pub returns-clause-used : goal.returns-clause-used
 returns-clause-used c m t u =
     let engine = c.args.self.now in
     let is = region_is engine m c.args.region t (regions.Active c.active_in-active.result.now) u
-        c.active_in-active.ensures.there in
+    c.active_in-active.ensures.there in
     c.keep.ensures.terminals
     ∙ ap (λ (o : Option Last). with_used o engine.lasts.terminals)
     (c.in_ok-kept.ensures
