@@ -67,6 +67,10 @@ IsUnderWay set disk (Some u) = IsAt u.body set disk u.stage
 abbrev pub StandsOn : Turn → Disk → Type 0
 StandsOn turn disk = IsUnderWay (other_set turn.set) disk turn.under_way
 
+-- the same checkpoint is under way, at some stage
+abbrev pub OnlyStage : UnderWay → Option UnderWay → Type 0
+OnlyStage u now = (stage : Stage) × (now ≡ Some (record { number = u.number; body = u.body; stage = stage }))
+
 -- the steps that are left of what is under way
 abbrev pub turns_left : Option UnderWay → ℕ
 turns_left None = 0

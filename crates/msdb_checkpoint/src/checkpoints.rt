@@ -7,7 +7,7 @@ ghost use Rattle.fp_site.specs.Moments.{OnlyOn, Through};
 ghost use Rattle.fp_site.specs.Site.{Counts};
 ghost use Rattle.gated_write.specs.Gates.{ReadsOnly};
 ghost use Rattle.msdb_checkpoint.specs.Given.{body_with};
-ghost use Rattle.msdb_checkpoint.specs.Steps.{IsOldClosedOrWhole, IsSure, IsSureNow, StandsOn, Turn, other_set, turns_left};
+ghost use Rattle.msdb_checkpoint.specs.Steps.{IsOldClosedOrWhole, IsSure, IsSureNow, OnlyStage, StandsOn, Turn, other_set, turns_left};
 ghost use Rattle.msdb_checkpoint.specs.declared.fault.CkptFault.TheVariants as faults;
 ghost use Rattle.msdb_checkpoint.specs.declared.stages.Stage.TheVariants as stages;
 ghost use Rattle.msdb_checkpoint.specs.declared.stages.UnderWay.{UnderWay as UnderWayOf};
@@ -141,6 +141,10 @@ impl Checkpoints {
             → IfOk result (λ sure. sure ≡ true → IsSureNow self.old self.new (S.disk site.new)) }
         ensures set { IfOk result (λ sure. sure ≡ false → (self.new.set ≡ self.old.set)
             × (self.new.number ≡ self.old.number)) }
+        // What is under way is the same checkpoint, at a further stage, until it is sure.
+        ensures same { (u : UnderWayOf) → self.old.under_way ≡ Some u → IfOk result (λ sure. sure ≡ false
+            → OnlyStage u self.new.under_way) }
+
         // The steps that are left are fewer by one.
         ensures fewer { IfOk result (λ _. turns_left self.new.under_way ≡ turns_left self.old.under_way - 1) }
         ensures failed { OnErr result (self.new
@@ -263,6 +267,11 @@ impl Checkpoints {
             (option_copied lasts.entry)) (other_set self.old.set) (S.disk site.new)) }
         ensures turn { OnOk result (self.new
             ≡ record { set = other_set self.old.set; number = self.old.number + 1; under_way = None }) }
+
+        // After `Failed` the newest sure one stays; after want of memory all is as it was.
+        ensures failed { IsErrOf result faults.Failed → self.new
+            ≡ record { set = self.old.set; number = self.old.number; under_way = None } }
+        ensures unchanged { IsErrOf result faults.Memory → self.new ≡ self.old }
         ensures cause { IsErrOf result faults.Failed → (S.faults site.old < S.faults site.new)
             ⊎ (S.faults site.new ≡ 2 ^ 64 - 1) }
         ensures later { S.faults site.old ≤ S.faults site.new }
