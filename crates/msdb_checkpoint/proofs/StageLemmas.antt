@@ -1,8 +1,8 @@
 -- What a gated write leaves, as a checkpoint that is old, closed or whole.
-use Rattle.std.proofs.Common.{◌≡◌, inl, inr, ℕ, ◌+◌, ◌-◌, ◌<◌, ◌≤◌, List, ◌∷◌, ◌++◌, length, take, drop, Option, Some, None, sym, ◌∙◌, ap, subst, arith}
+use Rattle.std.proofs.Common.{◌≡◌, inl, inr, ℕ, ◌+◌, ◌-◌, ◌<◌, ◌≤◌, List, ◌∷◌, ◌++◌, length, min, take, drop, Option, Some, None, sym, ◌∙◌, ap, subst, arith}
 use Rattle.std.specs.Prelude.{slice_index}
-use Rattle.std.proofs.lemmas.Bool.{cases_eq}
-use Rattle.std.proofs.lemmas.List.{drop-take, take-append-drop, take-take, take_all, length-append, length-take}
+use Rattle.std.proofs.lemmas.Bool.{cases_eq, cases_lt}
+use Rattle.std.proofs.lemmas.List.{drop-take, take-append-drop, take-take, take_all, length-append, length-drop, length-take}
 use Rattle.fp_site.specs.Disk.{Disk, Settles}
 use Rattle.gated_write.specs.Gates.{IsClosed, IsOpened, IsShut, IsStaged, IsUnopened, IsWriting}
 use Rattle.gated_write.proofs.Bodies.{begins}
@@ -53,6 +53,15 @@ up_to body count end le =
     ∙ ap (λ l. l ++ drop count (take end body)) (take-take count end body le)
     ∙ ap (λ n. take count body ++ drop count (take n body)) is
     ∙ ap (λ l. take count body ++ l) (drop-take count (end - count) body)
+
+-- a piece ends where the body ends, or 65,536 bytes behind its beginning
+pub piece_is : (body : List ℕ) (count end : ℕ) → count ≤ length body → end ≡ min (length body) (count + 65536)
+    → take (end - count) (drop count body) ≡ take 65536 (drop count body)
+piece_is body count end le is = elim (cases_lt (length body) (count + 65536)) [
+  | inl short ↦ take_all (end - count) (drop count body) (omega (arith, length-drop count body, le, is, short))
+      ∙ sym (take_all 65536 (drop count body) (omega (arith, length-drop count body, le, short)))
+  | inr fits ↦ let all : end - count ≡ 65536 = omega (arith, fits, is) in ap (λ n. take n (drop count body)) all
+]
 
 -- all of it is written
 pub whole_body : (old body : List ℕ) (set : ℕ) (disk : Disk) (count : ℕ) → length body ≤ count

@@ -1,6 +1,6 @@
 -- A checkpoint that is written in steps, and what its data set is at every moment of it.
-use Rattle.std.specs.Prelude.{◌≡◌, ◌⊎◌, ⊤, ℕ, ◌+◌, ◌-◌, ◌/◌, ◌^◌, ◌<◌, ◌≤◌, List, ◌∷◌, ◌++◌, length, take, Option, Some, None}
-use Rattle.fp_site.specs.Disk.{Disk, IsDurable, Settles}
+use Rattle.std.specs.Prelude.{◌≡◌, ◌⊎◌, ⊤, ℕ, ◌+◌, ◌-◌, ◌/◌, ◌^◌, ◌<◌, ◌≤◌, List, ◌∷◌, ◌++◌, length, drop, take, Option, Some, None}
+use Rattle.fp_site.specs.Disk.{Disk, IsDurable, Settles, written}
 use Rattle.gated_write.specs.Gates.{IsClosed, IsReady, IsWriting}
 use Rattle.msdb_checkpoint.specs.declared.stages.Stage.{Stage}
 use Rattle.msdb_checkpoint.specs.declared.stages.Stage.TheVariants.{Begun, Written, Synced}
@@ -24,6 +24,11 @@ IsAt body set disk Begun = 0 < length (disk.contents set)
 IsAt body set disk (Written count) =
     (old : List ℕ) × IsClosed 0 old × (count ≤ length body) × IsWriting old 0 (take count body) set disk
 IsAt body set disk Synced = (old : List ℕ) × IsClosed 0 old × IsReady old 0 body set disk
+
+-- Behind so many bytes of the body a step writes the next 65,536, or those that are left, and nothing else.
+abbrev pub WritesPiece : List ℕ → ℕ → ℕ → Disk → Disk → Type 0
+WritesPiece body count set old new =
+    new.contents set ≡ written (old.contents set) (1 + count) (take 65536 (drop count body))
 
 -- how many pieces so many bytes have
 abbrev pub pieces : ℕ → ℕ

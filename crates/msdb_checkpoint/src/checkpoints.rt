@@ -7,7 +7,7 @@ ghost use Rattle.fp_site.specs.Moments.{OnlyOn, Through};
 ghost use Rattle.fp_site.specs.Site.{Counts};
 ghost use Rattle.gated_write.specs.Gates.{ReadsOnly};
 ghost use Rattle.msdb_checkpoint.specs.Given.{body_with};
-ghost use Rattle.msdb_checkpoint.specs.Steps.{IsOldClosedOrWhole, IsSure, IsSureNow, OnlyStage, StandsOn, Turn, other_set, turns_left};
+ghost use Rattle.msdb_checkpoint.specs.Steps.{IsOldClosedOrWhole, IsSure, IsSureNow, OnlyStage, StandsOn, Turn, WritesPiece, other_set, turns_left};
 ghost use Rattle.msdb_checkpoint.specs.declared.fault.CkptFault.TheVariants as faults;
 ghost use Rattle.msdb_checkpoint.specs.declared.stages.Stage.TheVariants as stages;
 ghost use Rattle.msdb_checkpoint.specs.declared.stages.UnderWay.{UnderWay as UnderWayOf};
@@ -144,6 +144,11 @@ impl Checkpoints {
         // What is under way is the same checkpoint, at a further stage, until it is sure.
         ensures same { (u : UnderWayOf) → self.old.under_way ≡ Some u → IfOk result (λ sure. sure ≡ false
             → OnlyStage u self.new.under_way) }
+
+        // A step of the body writes its next 65,536 bytes, or those that are left.
+        ensures piece { (u : UnderWayOf) (count : ℕ) → S.told site.old → self.old.under_way ≡ Some u
+            → u.stage ≡ stages.Written count → count < length u.body
+            → OnOk result (WritesPiece u.body count (other_set self.old.set) (S.disk site.old) (S.disk site.new)) }
 
         // The steps that are left are fewer by one.
         ensures fewer { IfOk result (λ _. turns_left self.new.under_way ≡ turns_left self.old.under_way - 1) }

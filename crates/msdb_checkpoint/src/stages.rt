@@ -3,7 +3,7 @@ ghost use Rattle.fp_site.specs.Disk.{Disk, Settles};
 ghost use Rattle.fp_site.specs.Moments.{OnlyOn, Through};
 ghost use Rattle.fp_site.specs.Site.{Counts};
 ghost use Rattle.gated_write.specs.Gates.{ReadsOnly};
-ghost use Rattle.msdb_checkpoint.specs.Steps.{IsAt, IsNext, IsOldClosedOrWhole, IsSure, left_behind, steps_left};
+ghost use Rattle.msdb_checkpoint.specs.Steps.{IsAt, IsNext, IsOldClosedOrWhole, IsSure, WritesPiece, left_behind, steps_left};
 ghost use Rattle.msdb_checkpoint.specs.declared.stages.Stage.TheVariants.{Begun, Synced, Written};
 ghost use Rattle.std.specs.Prelude.{◌≡◌, ◌+◌, ◌<◌, ◌≤◌, ◌^◌, ℕ, IfOk, List as ListOf, OnOk, Some, length};
 
@@ -67,6 +67,8 @@ fn write_piece<S: Site>(
     requires more { count < length body.now }
     ensures next { S.told site.old → IsAt body.now set (S.disk site.old) (Written count)
         → IfOk result (IsNext body.now set (S.disk site.new)) }
+    ensures piece { S.told site.old
+        → OnOk result (WritesPiece body.now count set (S.disk site.old) (S.disk site.new)) }
     ensures fewer { IfOk result (λ next. left_behind body.now next + 1 ≡ steps_left body.now (Written count)) }
     ensures cause { Counts (S.faults site.old) (S.faults site.new) result }
     ensures only { S.told site.old → OnlyOn set (S.disk site.old) (S.disk site.new) }
@@ -146,6 +148,8 @@ pub(crate) fn advance<S: Site>(
     requires room { length body.now + 1 ≤ 2 ^ 62 }
     ensures next { S.told site.old → IsAt body.now set (S.disk site.old) stage
         → IfOk result (IsNext body.now set (S.disk site.new)) }
+    ensures piece { (count : ℕ) → S.told site.old → stage ≡ Written count → count < length body.now
+        → OnOk result (WritesPiece body.now count set (S.disk site.old) (S.disk site.new)) }
     ensures fewer { IfOk result (λ next. left_behind body.now next + 1 ≡ steps_left body.now stage) }
     ensures cause { Counts (S.faults site.old) (S.faults site.new) result }
 

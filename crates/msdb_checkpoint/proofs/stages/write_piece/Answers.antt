@@ -1,8 +1,9 @@
-use Rattle.std.proofs.Common.{take, sym, subst, arith}
+use Rattle.std.proofs.Common.{◌+◌, take, sym, ap, ◌∙◌, subst, arith}
 use Rattle.std.proofs.lemmas.List.{length-take}
 use Rattle.fp_site.proofs.Runs.{weaker}
 use Rattle.gated_write.specs.Gates.{IsWriting}
-use Rattle.msdb_checkpoint.proofs.StageLemmas.{unopened_is, up_to}
+use Rattle.msdb_checkpoint.proofs.StageLemmas.{piece_is, unopened_is, up_to}
+use Rattle.fp_site.specs.Disk.{written}
 use Rattle.msdb_checkpoint.proofs.stages.write_piece.Goals as goal
 
 pub returns-in_err-put-clause-crash : goal.returns-in_err-put-clause-crash
@@ -33,3 +34,10 @@ returns-clause-crash g c t at = weaker _ _ _ _
 pub returns-clause-settles : goal.returns-clause-settles
 returns-clause-settles g c image t at settles = unopened_is _ c.args.set c.args.body.now at.0 image at.1
     (c.put.ensures.settles at.0 0 t at.3.each at.3.stands (omega arith) image settles)
+
+pub returns-clause-piece : goal.returns-clause-piece
+returns-clause-piece g c t =
+    let old = (g.S.Site.disk c.args.site.now).contents c.args.set in
+    let same = piece_is c.args.body.now c.args.count c.min-end.result (omega (arith, c.requires.more))
+    (omega (arith, c.min-end.ensures)) in
+    c.in_ok-put.ensures.text t ∙ ap (λ piece. written old (1 + c.args.count) piece) same
