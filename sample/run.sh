@@ -1,6 +1,6 @@
 #!/bin/sh
-# Makes the small sample's databases in a folder of its own, runs its messages, and prints the replies, the databases
-# and the log.
+# Makes the small sample's databases in a folder of its own, runs its messages with a stop in the middle, sends the same
+# messages again, and prints the replies of both runs, the databases and the log.
 # The first time it proves the program and builds it. sample/try.sh runs the same
 # messages in about a minute, with no proof.
 set -e
@@ -60,9 +60,16 @@ fi
 cp data/defs.toml data/scripts.txt data/schedule.txt data/messages.txt "$room"
 say "making the databases"
 rt run -- define "$room"
-say "running the messages"
-rt run -- run "$room"
+
+# The system kills a program that writes a file past its limit, here 2 blocks of 512 bytes: so in the middle of a group.
+say "running the messages, with a stop within the write of a group"
+if (ulimit -c 0 && ulimit -f 2 && exec out/ims_fp run "$room"); then
+    say "it should have been stopped"
+    exit 1
+fi
+say "sending the same messages again: what was answered is answered as it was, and counts once"
+out/ims_fp run "$room"
 say "the databases"
-rt run -- show "$room"
+out/ims_fp show "$room"
 say "the log"
-rt run -- log "$room"
+out/ims_fp log "$room"

@@ -90,12 +90,20 @@ class Machine:
         self.held = None
         if terminal is not None:
             self.busy.add(terminal)
-        tran, _ = message(line)
+        return self.request(line)
+
+    def request(self, line):
+        """A line is queued for its group, or refused."""
+        tran, _ = self.message(line)
         if tran not in self.scripts:
             self.append(["unknown"], len(self.entries), line)
             return "refused"
         self.queues[self.group(tran)].append(line)
         return "queued"
+
+    def message(self, line):
+        """The transaction and the text of a line."""
+        return message(line)
 
     def group(self, tran):
         """The group that the router gives a transaction."""
@@ -152,7 +160,7 @@ class Machine:
     def ask(self, at, answer=None):
         """Runs the script to its next call, or its end."""
         if at.script is None:
-            tran, text = message(at.line)
+            tran, text = self.message(at.line)
             at.script = Script(self.scripts[tran], text, self.bases).run()
         try:
             at.asked = ("call", at.script.send(answer))

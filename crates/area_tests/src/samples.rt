@@ -1,10 +1,10 @@
 //! Segment types, shapes and roots that the tests of anchors share.
-ghost use Rattle.std.specs.Prelude.{◌≡◌, List, [], true, length, map, IfOk};
+ghost use Rattle.std.specs.Prelude.{◌≡◌, List, [], true, length, IfOk};
 ghost use Rattle.fp_model.specs.declared.definitions.SegDef.{SegDef as SegDefOf};
 ghost use Rattle.fp_model.specs.declared.database.Node.{out-Node};
-ghost use Rattle.fp_model.specs.Shape.{is_row, seen_as};
 ghost use Rattle.area_tests.specs.Samples.{AreSampleTypes};
-ghost use Rattle.root_anchor.specs.Stored.{AreTypes, is_newest, is_storable, are_storable};
+ghost use Rattle.anchor_elements.specs.Elements.{AreTypes};
+ghost use Rattle.root_anchor.specs.Stored.{is_newest, is_storable, are_storable, row_has_form};
 
 use ci_space::Shape;
 use fp_model::{Bytes, FieldDef, FieldKind, List, Name, Node, Root, SegDef, SeqItem};
@@ -12,7 +12,7 @@ use std::alloc::{AllocError, Global};
 use std::test::Fail;
 
 /// A segment type with a key of this length.
-fn segment(
+pub fn segment(
     alloc: Global,
     parent: Option<u8>,
     sequential: bool,
@@ -88,7 +88,7 @@ fn loan(rt: &HostRuntime, amount: u8) -> Result<Node, Fail>
 /// The row below a root.
 fn loans(rt: &HostRuntime, amount: Option<u8>) -> Result<List<Node>, Fail>
     ensures { (types : List SegDefOf) → AreSampleTypes types
-        → IfOk result (λ row. is_row types 2 (map (seen_as types) row) ≡ true) }
+        → IfOk result (λ row. row_has_form types 2 row ≡ true) }
 {
     let mut row = List::new(rt.alloc());
     if let Some(amount) = amount {

@@ -44,7 +44,7 @@ fn has<I: Intervals>(
 }
 
 /// Intervals that all have 512 bytes have the size 512.
-fn have_size<I: Intervals>(i: &I)
+pub fn have_size<I: Intervals>(i: &I)
     requires told { I.told i.now }
     requires each { HaveSize 512 (I.intervals i.now) }
     requires some { 0 < length (I.intervals i.now) }
@@ -94,7 +94,7 @@ fn add_units(rt: &HostRuntime, intervals: &mut Vec<Interval>, uows: u32) -> Resu
 }
 
 /// The area of that shape as it is formatted.
-fn area(rt: &HostRuntime, uows: u32) -> Result<MemoryIntervals, Fail>
+pub fn area(rt: &HostRuntime, uows: u32) -> Result<MemoryIntervals, Fail>
     ensures each { IfOk result (λ memory. HaveSize 512 (intervals_of memory)) }
     ensures some { IfOk result (λ memory. 0 < length (intervals_of memory)) }
 {

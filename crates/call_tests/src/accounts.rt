@@ -42,6 +42,7 @@ fn accounts(alloc: Global, dynamic: bool) -> Result<MsdbDef, AllocError>
 /// Definitions of one database of accounts.
 pub(crate) fn defs(alloc: Global, dynamic: bool) -> Result<Defs, AllocError>
     ensures good { IfOk result (λ defs. AllByRecursion IsMsdbDef defs.msdbs) }
+    ensures alone { IfOk result (λ defs. defs.dedbs ≡ []) }
     ensures one { IfOk result (λ defs. (def : DefOf) × (defs.msdbs ≡ def ∷ []) × IsMsdbDef def × (def.length ≡ 8)
         × (key_length def.fields ≡ 4)) }
 {

@@ -13,6 +13,7 @@ use crate::accounts::defs;
 use ci_locks::Locks;
 use dli_calls::{Ready, Work, answer};
 use fld_calls::{Fsa, write_list};
+use fp_exits::Exits;
 use fp_model::{Bytes, Call, Defs, Get, List, Msdb, Name, Ssa};
 use msdb_store::MsdbStore;
 use std::alloc::{AllocError, Global};
@@ -145,6 +146,27 @@ fn take(locks: &mut Locks, ready: Ready, run: &mut Run) -> Result<bool, AllocErr
     }
 }
 
+// Asks a call once.
+fn ask_once(
+    alloc: Global,
+    work: &mut Work,
+    locks: &Locks,
+    call: &Call,
+    store: &MsdbStore,
+    defs: &Defs,
+    exits: &Exits,
+) -> Result<Ready, AllocError>
+    requires defs { AllByRecursion IsMsdbDef defs.now.msdbs }
+    requires alone { defs.now.dedbs ≡ [] }
+    requires store { IsOf defs.now.msdbs store.now }
+    requires work { IsWorkOf defs.now work.old }
+    requires call { IsMsdbCall defs.now.msdbs call.now }
+    requires locks { length locks.now ≡ 1 }
+    ensures { IsWorkOf defs.now work.new }
+{
+    answer(alloc, work, call, store, defs, exits, locks, REGION, 7)
+}
+
 // Asks a call, and once more where it needed a lock.
 fn ask(
     alloc: Global,
@@ -153,9 +175,11 @@ fn ask(
     call: &Call,
     store: &MsdbStore,
     defs: &Defs,
+    exits: &Exits,
     run: &mut Run,
 ) -> Result<(), AllocError>
     requires defs { AllByRecursion IsMsdbDef defs.now.msdbs }
+    requires alone { defs.now.dedbs ≡ [] }
     requires store { IsOf defs.now.msdbs store.now }
     requires work { IsWorkOf defs.now work.old }
     requires call { IsMsdbCall defs.now.msdbs call.now }
@@ -163,9 +187,9 @@ fn ask(
     ensures work { IsWorkOf defs.now work.new }
     ensures locks { length locks.new ≡ 1 }
 {
-    let ready = answer(alloc, work, call, store, defs, locks, REGION, 7)?;
+    let ready = ask_once(alloc, work, locks, call, store, defs, exits)?;
     if !take(locks, ready, run)? {
-        let ready = answer(alloc, work, call, store, defs, locks, REGION, 7)?;
+        let ready = ask_once(alloc, work, locks, call, store, defs, exits)?;
         take(locks, ready, run)?;
     }
     Ok(())
@@ -176,6 +200,7 @@ fn run_of(alloc: Global, dynamic: bool, steps: &[Step]) -> Result<Run, AllocErro
     let store = store(alloc, &defs)?;
     let mut work = Work::new(alloc, &defs)?;
     let mut locks = Locks::new(alloc, REGION)?;
+    let exits = Exits::new(Vec::new(alloc), Vec::new(alloc));
     let mut run = Run {
         statuses: Bytes::new(alloc),
         letters: Bytes::new(alloc),
@@ -184,7 +209,9 @@ fn run_of(alloc: Global, dynamic: bool, steps: &[Step]) -> Result<Run, AllocErro
     };
     for step in steps {
         let call = call_of(alloc, &defs, step)?;
-        ask(alloc, &mut work, &mut locks, &call, &store, &defs, &mut run)?;
+        ask(
+            alloc, &mut work, &mut locks, &call, &store, &defs, &exits, &mut run,
+        )?;
     }
     run.notes = work.notes().len();
     run.queued = work.deferred().len();

@@ -10,7 +10,7 @@
 //!
 //! An `Interval` is always one whose bytes are in this form (`IsInterval`).
 
-ghost use Rattle.std.specs.Prelude.{◌≡◌, ◌↔◌, ◌+◌, ◌-◌, ◌≤◌, ◌<◌, ◌≢◌, ℕ, List, [], ◌∷◌, ◌++◌, length, drop, take, slice_range, slice_set, IsTrue, IsSome, IfOk, IfSome, IfNone};
+ghost use Rattle.std.specs.Prelude.{◌≡◌, ◌↔◌, ◌+◌, ◌-◌, ◌≤◌, ◌<◌, ◌≢◌, ℕ, List, [], ◌∷◌, ◌++◌, length, drop, take, slice_range, slice_set, IsTrue, IsSome, IsOk, IfOk, IfErr, IfSome, IfNone};
 ghost use Rattle.ci_space.specs.Element.{Element, Free, Used};
 ghost use Rattle.ci_space.specs.Interval.{is_size, is_kind, kind_of, has_elements, IsInterval, IsEmpty, IsUsed, HasUsed, HasRoom, Tiles, Takes, IsFull, UsedBecomes, UsedIsFreed, OthersStay, Keeps, SameSize, EndsWithin, empty_bytes, written};
 ghost use Rattle.ci_space.specs.Head.{head_of, IsHeadOf, ends_of};
@@ -86,6 +86,29 @@ impl Interval {
         let mut bytes = vec![in alloc; 0u8; usize::from(size)]?;
         elements::put_empty(&mut bytes, kind);
         Ok(Interval { bytes })
+    }
+
+    /// The interval that these bytes are, without a copy of them. Err gives back the bytes, exactly where they are
+    /// none, which is where `read` answers None.
+    pub fn from_bytes(bytes: Vec<u8>) -> Result<Interval, Vec<u8>>
+        ensures ok { IsOk result ↔ IsInterval bytes.items }
+        ensures same { IfOk result (λ interval. interval ≡ bytes.items) }
+        ensures back { IfErr result (λ back. back ≡ bytes) }
+    {
+        if is_interval(&bytes) {
+            Ok(Interval { bytes })
+        } else {
+            Err(bytes)
+        }
+    }
+
+    /// Its bytes, without a copy of them.
+    pub fn into_bytes(self) -> Vec<u8>
+        ensures same { result.items ≡ self }
+        ensures interval { IsInterval self }
+    {
+        let Interval { bytes } = self;
+        bytes
     }
 
     /// All bytes of the interval.

@@ -8,6 +8,6 @@ mod setup;
 mod telling;
 
 pub use fault::Fault;
-pub use running::{Found, find, run};
-pub use setup::{Task, definitions};
+pub use running::{Found, begun, core_of, find, is_event, run, source_of, step};
+pub use setup::{Task, definitions, scripts};
 pub use telling::{databases_text, log_text};

@@ -3,10 +3,12 @@ ghost use Rattle.fp_core.specs.Draining.{IsReachedBy};
 ghost use Rattle.fp_core.specs.Relation.{IsSetup};
 ghost use Rattle.fp_core.specs.Standing.{IsEventOf};
 ghost use Rattle.fp_exits.specs.Kinds.{has_kind, kinds_of};
+ghost use Rattle.fp_model.specs.LogText.{FitsFront};
 ghost use Rattle.fp_model.specs.Machine.{Machine};
 ghost use Rattle.fp_model.specs.State.{start};
 ghost use Rattle.fp_model.specs.WellFormed.{IsMsdbDef};
 ghost use Rattle.fp_model.specs.declared.definitions.Defs.{Defs as DefsOf};
+ghost use Rattle.log_groups.specs.Images.{as_front};
 ghost use Rattle.msdb_store.specs.Store.{IsOf};
 ghost use Rattle.std.specs.List.{AllByRecursion};
 ghost use Rattle.std.specs.Prelude.{◌≡◌, ◌≤◌, [], IfOk, IsTrue, OnOk, length, true};
@@ -21,7 +23,7 @@ use fp_model::{Bytes, Defs, Event};
 use fp_schedule::read_events;
 use fp_site::MemorySite;
 use fp_source::MemorySource;
-use log_groups::Log;
+use log_groups::{Front, Log};
 use msdb_store::MsdbStore;
 use std::alloc::{AllocError, Global};
 use txn_lang::Scripts;
@@ -43,8 +45,8 @@ pub struct Found {
     pub databases: Bytes,
 }
 
-// A source of these messages alone.
-fn source_of(alloc: Global, messages: &[u8]) -> Result<MemorySource, AllocError> {
+/// A source of these messages alone.
+pub fn source_of(alloc: Global, messages: &[u8]) -> Result<MemorySource, AllocError> {
     let parts = [
         Bytes::new(alloc),
         Bytes::new(alloc),
@@ -54,25 +56,25 @@ fn source_of(alloc: Global, messages: &[u8]) -> Result<MemorySource, AllocError>
     MemorySource::new(alloc, parts, &[])
 }
 
-// What a core begins with on a new site: the loaded databases, and a log without entries.
-fn begun(
+/// What a core begins with on a new site: the loaded databases, and a log without entries behind this front.
+pub fn begun(
     alloc: Global,
     defs: &Defs,
-    numbered: bool,
+    front: &Front,
     site: &mut MemorySite,
 ) -> Result<Started, Fault>
-    requires { AllByRecursion IsMsdbDef defs.now.msdbs }
+    requires defs { AllByRecursion IsMsdbDef defs.now.msdbs }
+    requires fits { FitsFront (as_front front.now) }
     ensures of { IfOk result (λ started. IsOf defs.now.msdbs started.msdbs) }
     ensures msdbs { IfOk result (λ started. started.msdbs.msdbs ≡ (start defs.now).msdbs) }
     ensures sealed { IfOk result (λ started. started.log.sealed ≡ 0) }
     ensures unsealed { IfOk result (λ started. started.log.unsealed ≡ []) }
     ensures lasts { IfOk result (λ started. started.lasts.terminals ≡ []) }
 {
-    let front = front(alloc, numbered)?;
-    if Log::make(alloc, site, &front).is_err() {
+    if Log::make(alloc, site, front).is_err() {
         return Err(Fault::NoLog);
     }
-    let Ok(log) = Log::open(alloc, site, &front) else {
+    let Ok(log) = Log::open(alloc, site, front) else {
         return Err(Fault::NoLog);
     };
     let msdbs = MsdbStore::start(alloc, defs)?;
@@ -80,8 +82,8 @@ fn begun(
     Ok(Started { msdbs, log, lasts })
 }
 
-// The core at rest.
-fn core_of<'a>(
+/// The core at rest.
+pub fn core_of<'a>(
     alloc: Global,
     defs: &'a Defs,
     scripts: &'a Scripts,
@@ -102,8 +104,8 @@ fn core_of<'a>(
     Core::new(alloc, defs, scripts, exits, started)
 }
 
-// Whether an event is one of definitions with so many regions, and no data entry database.
-fn is_event(event: &Event, regions: usize) -> bool
+/// Whether an event is one of definitions with so many regions, and no data entry database.
+pub fn is_event(event: &Event, regions: usize) -> bool
     ensures { IsTrue result → (defs : DefsOf) → length defs.regions ≡ regions → IsEventOf defs event.now }
 {
     match *event {
@@ -113,8 +115,8 @@ fn is_event(event: &Event, regions: usize) -> bool
     }
 }
 
-// One event.
-fn step(
+/// One event: what it did.
+pub fn step(
     core: &mut Core<'_>,
     event: &Event,
     site: &mut MemorySite,
@@ -200,7 +202,8 @@ pub fn run(
         return Err(Fault::NotRead);
     };
     let mut source = source_of(alloc, task.messages)?;
-    let started = begun(alloc, &defs, task.numbered, site)?;
+    let front = front(alloc, task.numbered)?;
+    let started = begun(alloc, &defs, &front, site)?;
     let mut core = core_of(alloc, &defs, &scripts, exits, started)?;
     take(
         alloc,

@@ -41,11 +41,12 @@ pub fn definitions(alloc: Global, text: &[u8], exits: &Exits) -> Result<Defs, Fa
     Ok(defs)
 }
 
-/// The scripts.
-pub(crate) fn scripts(alloc: Global, text: &[u8], defs: &Defs) -> Result<Scripts, Fault>
+/// The scripts that a text is read as under definitions.
+pub fn scripts(alloc: Global, text: &[u8], defs: &Defs) -> Result<Scripts, Fault>
     requires defs { AreDefs defs.now }
     requires no_dedbs { defs.now.dedbs ≡ [] }
     ensures setup { IfOk result (λ scripts. IsSetup defs.now scripts.scripts) }
+    ensures text { IfOk result (λ scripts. scripts.text ≡ text.now) }
 {
     definitions_have_byte_numbers();
     what_was_read_fits();

@@ -45,7 +45,16 @@ overflow = 1
 capacity = 4
 "#;
 
-const REGION: u8 = 1;
+pub(crate) const REGION: u8 = 1;
+
+/// A transaction as it begins, and locks of which none is held.
+pub(crate) fn begin(alloc: Global, defs: &Defs) -> Result<(DedbWork, Locks), Fail>
+    ensures { IfOk result (λ begun. IsUnderWay defs.now.dedbs begun.0 begun.1) }
+{
+    let work = DedbWork::new(alloc, defs)?;
+    let locks = Locks::new(alloc, REGION)?;
+    Ok((work, locks))
+}
 
 /// Exits that fold.
 pub(crate) fn exits(alloc: Global) -> Result<Exits, Fail> {

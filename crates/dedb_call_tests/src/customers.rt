@@ -3,74 +3,13 @@
 //! The folding randomizer sends C001 and C009 to anchor 6 of 8, and C003 to anchor 0.
 
 use crate::bench::{CUSTOMERS, ask, exits};
+use crate::steps::{AUDIT, Argument, Asked, CUSTOMER, LOAN, OK, Step, call_of};
 use ci_locks::Locks;
 use dedb_calls::DedbWork;
 use fp_defs::read_defs;
-use fp_model::{Bytes, Call, Get, List, Ssa};
-use std::alloc::{AllocError, Global};
+use fp_model::Get;
+use std::alloc::Global;
 use std::test::Fail;
-
-/// A type, and a key where it is qualified.
-type Argument = (u8, Option<&'static [u8]>);
-
-#[derive(Clone, Copy)]
-enum Asked {
-    Get(Get, bool, &'static [Argument]),
-    Fld,
-    Isrt(&'static [Argument], &'static [u8]),
-    Repl(&'static [u8]),
-    Dlet,
-}
-
-/// A call, the letters of its answer, and the bytes shown.
-type Step = (Asked, [u8; 2], &'static [u8]);
-
-const CUSTOMER: u8 = 0;
-
-const AUDIT: u8 = 1;
-
-const LOAN: u8 = 2;
-
-fn ssas(alloc: Global, arguments: &[Argument]) -> Result<List<Ssa>, AllocError> {
-    let mut list = List::new(alloc);
-    for (segment, key) in arguments {
-        let key = match key {
-            Some(key) => Some(Bytes::from_slice(alloc, key)?),
-            None => None,
-        };
-        list.push(Ssa {
-            segment: *segment,
-            key,
-        })?;
-    }
-    Ok(list)
-}
-
-fn call_of(alloc: Global, asked: &Asked) -> Result<Call, AllocError> {
-    match asked {
-        Asked::Get(get, hold, arguments) => Ok(Call::Get {
-            get: *get,
-            hold: *hold,
-            db: 0,
-            ssas: ssas(alloc, arguments)?,
-        }),
-        Asked::Fld => Ok(Call::Fld {
-            db: 0,
-            key: Bytes::new(alloc),
-            fsas: Bytes::new(alloc),
-        }),
-        Asked::Isrt(arguments, bytes) => Ok(Call::Isrt {
-            db: 0,
-            ssas: ssas(alloc, arguments)?,
-            bytes: Bytes::from_slice(alloc, bytes)?,
-        }),
-        Asked::Repl(bytes) => Ok(Call::Repl {
-            db: 0,
-            bytes: Bytes::from_slice(alloc, bytes)?,
-        }),
-        Asked::Dlet => Ok(Call::Dlet { db: 0 }),
-    }
-}
 
 /// Asks these calls in one transaction on an empty database. The number of the first that is answered otherwise.
 fn first_wrong(alloc: Global, steps: &[Step]) -> Result<Option<usize>, Fail> {
@@ -82,7 +21,7 @@ fn first_wrong(alloc: Global, steps: &[Step]) -> Result<Option<usize>, Fail> {
     let mut work = DedbWork::new(alloc, &defs)?;
     let mut locks = Locks::new(alloc, 1)?;
     for (at, (asked, status, shown)) in steps.iter().enumerate() {
-        let call = call_of(alloc, asked)?;
+        let call = call_of(alloc, 0, asked)?;
         let answer = ask(alloc, &mut work, &mut locks, &call, &defs, &exits)?;
         if answer.status != *status || answer.bytes.as_slice() != *shown {
             return Ok(Some(at));
@@ -102,8 +41,6 @@ const C001: Argument = (CUSTOMER, Some(b"C001"));
 const L1: &[u8] = b"L1\x00\x00\x05\x0c";
 
 const L2: &[u8] = b"L2\x00\x00\x07\x0c";
-
-const OK: [u8; 2] = *b"  ";
 
 /// Three customers, of whom one has two loans.
 const FILLED: [Step; 5] = [

@@ -8,7 +8,8 @@ ghost use Rattle.std.specs.Prelude.{◌≡◌, ◌<◌, ◌∷◌, IsTrue, lengt
 use dedb_calls::DedbWork;
 use fp_model::{Call, DedbDef, SegDef, Ssa, key_length};
 
-fn has_length(types: &[SegDef], segment: u8, bytes: &[u8]) -> bool
+/// Whether a segment has the length of its type.
+pub(crate) fn has_length(types: &[SegDef], segment: u8, bytes: &[u8]) -> bool
     ensures { result ≡ has_length types.now segment bytes.now }
 {
     let at = usize::from(segment);
@@ -35,7 +36,8 @@ fn fits(types: &[SegDef], ssa: &Ssa) -> bool
     }
 }
 
-fn fit(types: &[SegDef], ssas: &[Ssa]) -> bool
+/// Whether each argument fits.
+pub(crate) fn fit(types: &[SegDef], ssas: &[Ssa]) -> bool
     ensures { IsTrue result → AreFitSsas types.now ssas.now }
 {
     match ssas {
@@ -44,7 +46,8 @@ fn fit(types: &[SegDef], ssas: &[Ssa]) -> bool
     }
 }
 
-fn last_type(segment: u8, ssas: &[Ssa]) -> u8
+/// The type that the arguments end in.
+pub(crate) fn last_type(segment: u8, ssas: &[Ssa]) -> u8
     ensures { result ≡ last_type segment ssas.now }
 {
     match ssas {

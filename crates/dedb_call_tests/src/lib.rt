@@ -4,8 +4,24 @@
 #![tactic(auto)]
 
 #[cfg(test)]
+mod bank;
+#[cfg(test)]
 mod bench;
 #[cfg(test)]
 mod customers;
 #[cfg(test)]
 mod fitting;
+#[cfg(test)]
+mod loans;
+#[cfg(test)]
+mod many;
+#[cfg(test)]
+mod notes;
+#[cfg(test)]
+mod randomizing;
+#[cfg(test)]
+mod running;
+#[cfg(test)]
+mod steps;
+#[cfg(test)]
+mod two_regions;

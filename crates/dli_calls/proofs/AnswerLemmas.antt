@@ -1,7 +1,7 @@
 -- A call to the main storage database that it names.
-use Rattle.std.proofs.Common.{◌≡◌, ℕ, ◌-◌, List, [], length, Option, Some, None, ap, sym, ◌∙◌, subst, get_or, slice_get, unwrap_or}
-use Rattle.std.proofs.lemmas.Option.{get_or_from_slice_get}
+use Rattle.std.proofs.Common.{◌≡◌, ℕ, ◌-◌, List, [], length, Option, Some, None, ap, ◌∙◌, subst, slice_get, unwrap_or}
 use Rattle.std.specs.Option.{option_map_or}
+use Rattle.std.specs.Prelude.{Err, IfOk, Ok, Result}
 use Rattle.fp_model.specs.declared.calls.Answer.{Answer}
 use Rattle.fp_model.specs.declared.calls.Call.{Call}
 use Rattle.fp_model.specs.declared.calls.Call.TheVariants as call
@@ -13,7 +13,7 @@ use Rattle.fp_model.specs.declared.definitions.Defs.{Defs}
 use Rattle.fp_model.specs.declared.definitions.MsdbDef.{MsdbDef}
 use Rattle.fp_model.specs.Answers.{unless_held}
 use Rattle.fp_model.specs.Calls.{OnMsdb, database_of, dedb_target, looks_on, looks_unheld, need_of, need_on, reply_on, reply_to, target_of}
-use Rattle.fp_model.specs.FitCalls.{FitsAnswer, IsMsdbCall}
+use Rattle.fp_model.specs.FitCalls.{FitsAnswerOf}
 use Rattle.fp_model.specs.MsdbCalls.{msdb_looks, msdb_need, msdb_reply}
 use Rattle.fp_model.specs.Workspace.{Workspace}
 use Rattle.dli_calls.specs.declared.answering.Ready.{Ready}
@@ -26,21 +26,23 @@ pub if_answer : (P Q : Answer → Type 0) (r : Ready) → IfAnswer r P → ((ans
 if_answer P Q (ready.Answer answer) p f = f answer p
 if_answer P Q (ready.Need resource mode) p f = tt
 
--- the call names this database, and fits it
+-- what is so of every answer
+pub any_answer : {E : Type 0} (P : Type 0) (r : Result Ready E) → P → IfOk r (λ came. IfAnswer came (λ answer. P))
+any_answer P (Ok (ready.Answer answer)) p = p
+any_answer P (Ok (ready.Need resource mode)) p = tt
+any_answer P (Err e) p = tt
+
+-- the call names this database
 pub record Names (defs : List MsdbDef) (c : Call) (n : ℕ) (def : MsdbDef) : Type 0 where
   pub same : n ≡ database_of c
   pub there : slice_get defs n ≡ Some def
 
-pub named : (defs list : List MsdbDef) (c : Call) (n from : ℕ) (def : MsdbDef) → list ≡ defs → n ≡ database_of c
-    → from ≡ n → def ≡ get_or list from def → IsMsdbCall defs c → slice_get defs n ≡ Some def
-named defs list c n from def its same place is (other, at, fits) =
-    let at_n : slice_get defs n ≡ Some other = ap (λ number. slice_get defs number) same ∙ at in
-    let read : get_or list from def ≡ other = ap (λ one. get_or one from def) its ∙ ap
-    (λ number. get_or defs number def) place ∙ get_or_from_slice_get defs n other def at_n in
-    at_n ∙ ap Some (sym read ∙ sym is)
+pub names_it : (defs : List MsdbDef) (c : Call) (n : ℕ) (def : MsdbDef) → n ≡ database_of c
+    → slice_get defs n ≡ Some def → Names defs c n def
+names_it defs c n def same there = record { same = same; there = there }
 
 module _ (defs : Defs) (c : Call) (n : ℕ) (def : MsdbDef) (it : Names defs.msdbs c n def) where
-  target : target_of defs (database_of c) ≡ OnMsdb def n
+  pub target : target_of defs (database_of c) ≡ OnMsdb def n
   target =
       subst (λ number. target_of defs number ≡ OnMsdb def n) it.same
       (ap (λ (found : Option MsdbDef). option_map_or (λ one. OnMsdb one n) found
@@ -65,11 +67,10 @@ module _ (defs : Defs) (c : Call) (n : ℕ) (def : MsdbDef) (it : Names defs.msd
   looks own = ap (λ on. looks_on on own c) target
 
 -- what a get shows is a segment of the database that it names
-pub fits_answer : (defs : List MsdbDef) (c : Call) (n : ℕ) (def : MsdbDef) (answer : Answer) → Names defs c n def
-    → ShowsFound def c answer → FitsAnswer defs c answer
-fits_answer defs (call.Get get hold db ssas) n def answer it shows =
-    λ blank. (def, subst (λ number. slice_get defs number ≡ Some def) it.same it.there, shows blank)
-fits_answer defs (call.Fld db key fsas) n def answer it shows = tt
-fits_answer defs (call.Isrt db ssas bytes) n def answer it shows = tt
-fits_answer defs (call.Repl db bytes) n def answer it shows = tt
-fits_answer defs (call.Dlet db) n def answer it shows = tt
+pub fits_answer : (c : Call) (n : ℕ) (def : MsdbDef) (answer : Answer) → ShowsFound def c answer
+    → FitsAnswerOf (OnMsdb def n) c answer
+fits_answer (call.Get get hold db ssas) n def answer shows = shows
+fits_answer (call.Fld db key fsas) n def answer shows = λ found. absurd (cc)
+fits_answer (call.Isrt db ssas bytes) n def answer shows = λ found. absurd (cc)
+fits_answer (call.Repl db bytes) n def answer shows = λ found. absurd (cc)
+fits_answer (call.Dlet db) n def answer shows = λ found. absurd (cc)

@@ -2,3 +2,4 @@ pub mod Keys
 pub mod Progress
 pub mod Readiness
 pub mod Replies
+pub mod Targets

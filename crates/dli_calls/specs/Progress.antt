@@ -9,13 +9,22 @@ use Rattle.fp_model.specs.FitCalls.{FitsKey, IsFitDeferred}
 use Rattle.fp_model.specs.MsdbCalls.{is_put_or_dropped}
 use Rattle.fp_model.specs.Waiting.{same_resource}
 use Rattle.fp_model.specs.Workspace.{MsdbPosition, Workspace}
+use Rattle.dedb_calls.specs.Anchors.{changes_in}
+use Rattle.dedb_calls.specs.Progress.{DedbProgress, IsDedbWorkOf}
+use Rattle.dedb_calls.specs.declared.anchors.HeldAnchor.{HeldAnchor}
 
--- What it keeps to itself, the keys of main storage databases whose segments its queue inserts or deletes, and its
--- notes: how many entries stood at each unheld look, oldest first.
+-- What it keeps to itself, the anchors that it holds with their roots as it sees them, the keys of main storage
+-- databases whose segments its queue inserts or deletes, and its notes: how many entries stood at each unheld look,
+-- oldest first.
 pub record Progress : Type 0 where
   pub own : Workspace
+  pub anchors : List HeldAnchor
   pub changed : List Resource
   pub notes : List ℕ
+
+-- as far as it has to do with data entry databases
+abbrev pub dedbs_in : Progress → DedbProgress
+dedbs_in work = record { positions = work.own.dedbs; anchors = work.anchors; inserts = work.own.inserts }
 
 abbrev pub is_among : List Resource → Resource → Bool
 is_among resources resource = list_any (λ other. same_resource other resource) resources
@@ -25,12 +34,15 @@ abbrev pub FitsPosition : MsdbDef → MsdbPosition → Type 0
 FitsPosition def position = IfSome position.key (λ key. FitsKey key def)
 
 -- It is a transaction's under these definitions: a position for each main storage database, deferred calls as fit calls
--- leave them, and the keys that those insert or delete.
+-- leave them, the keys that those insert or delete, what it keeps of data entry databases, and the changes of the
+-- anchors that it holds.
 pub record IsWorkOf (defs : Defs) (work : Progress) : Type 0 where
   pub positions : AllZip FitsPosition defs.msdbs work.own.msdbs
   pub deferred : AllByRecursion (IsFitDeferred defs.msdbs) work.own.deferred
   pub changes : (msdb : ℕ) (def : MsdbDef) → slice_get defs.msdbs msdb ≡ Some def → (key : List ℕ)
       → is_among work.changed (Segment msdb key) ≡ is_put_or_dropped def msdb work.own key
+  pub dedbs : IsDedbWorkOf defs.dedbs (dedbs_in work)
+  pub edits : work.own.changes ≡ changes_in work.anchors
 
 -- with one more note, if there is one
 abbrev pub noted : Option ℕ → List ℕ → List ℕ

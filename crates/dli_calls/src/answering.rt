@@ -1,23 +1,30 @@
 //! The answer to a call, or the lock that it needs first.
-ghost use Rattle.std.specs.List.{AllByRecursion};
-ghost use Rattle.std.specs.Option.{option_copied, option_map, option_map_or};
-ghost use Rattle.std.specs.Prelude.{◌≡◌, ◌<◌, ◌≤◌, ◌++◌, ◌∷◌, [], IfOk, List as ListOf, OnErr, if◌then◌else◌, length, option_and_then, slice_get, ℕ};
+ghost use Rattle.ci_locks.specs.Table.{standing};
+ghost use Rattle.dedb_calls.specs.Anchors.{Sees};
+ghost use Rattle.dedb_calls.specs.Calls.{FitsCallOn};
+ghost use Rattle.dedb_calls.specs.Progress.{GoesOn, Knows};
+ghost use Rattle.dli_calls.specs.Progress.{FitsPosition, IsWorkOf, dedbs_in, is_among};
+ghost use Rattle.dli_calls.specs.Readiness.{IfAnswer, OnNeed, needed_exclusive, needed_in, ready_in};
+ghost use Rattle.dli_calls.specs.Replies.{IsDatabase, ShowsFound, is_changed, key_to_change, segments_in};
+ghost use Rattle.dli_calls.specs.Targets.{FitsWork, IfDedb, LeavesDedbs, LeavesMsdbs, LeavesOthers};
+ghost use Rattle.fp_exits.specs.Kinds.{has_kind, kinds_of};
 ghost use Rattle.fp_model.specs.Answers.{serves, unless_held};
-ghost use Rattle.fp_model.specs.declared.calls.Mode.TheVariants.{Exclusive};
-ghost use Rattle.fp_model.specs.Calls.{database_of, looks_unheld, need_of, reply_to};
-ghost use Rattle.fp_model.specs.FitCalls.{FitsAnswer, FitsCall, IsMsdbCall};
+ghost use Rattle.fp_model.specs.Calls.{OnDedb, OnMsdb, database_of, looks_unheld, need_of, reply_to, target_of};
+ghost use Rattle.fp_model.specs.DedbCalls.{dedb_need, dedb_reply};
+ghost use Rattle.fp_model.specs.FitCalls.{FitsAnswerOf, FitsCall};
 ghost use Rattle.fp_model.specs.MsdbCalls.{exclusively, is_put_or_dropped, msdb_looks, msdb_need, msdb_reply, position_of};
-ghost use Rattle.fp_model.specs.WellFormed.{IsMsdbDef};
+ghost use Rattle.fp_model.specs.WellFormed.{IsDedbDef, IsMsdbDef};
 ghost use Rattle.fp_model.specs.Workspace.{Workspace};
+ghost use Rattle.fp_model.specs.declared.calls.Mode.TheVariants.{Exclusive};
 ghost use Rattle.fp_model.specs.declared.calls.Resource.TheVariants.{Segment};
 ghost use Rattle.fp_model.specs.declared.database.Db.{Db as DbOf};
+ghost use Rattle.fp_model.specs.declared.definitions.DedbDef.{DedbDef as DedbOf};
 ghost use Rattle.fp_model.specs.declared.definitions.Defs.{Defs as DefsOf};
 ghost use Rattle.fp_model.specs.declared.definitions.MsdbDef.{MsdbDef as DefOf};
 ghost use Rattle.msdb_store.specs.Store.{IsOf};
-ghost use Rattle.ci_locks.specs.Table.{standing};
-ghost use Rattle.dli_calls.specs.Progress.{FitsPosition, IsWorkOf, is_among};
-ghost use Rattle.dli_calls.specs.Readiness.{IfAnswer, OnNeed, needed_exclusive, needed_in};
-ghost use Rattle.dli_calls.specs.Replies.{IsDatabase, ShowsFound, is_changed, key_to_change, segments_in};
+ghost use Rattle.std.specs.List.{AllByRecursion};
+ghost use Rattle.std.specs.Option.{option_copied, option_map, option_map_or};
+ghost use Rattle.std.specs.Prelude.{◌≡◌, ◌-◌, ◌<◌, ◌≤◌, ◌++◌, ◌∷◌, [], IfOk, List as ListOf, OnErr, Some, if◌then◌else◌, length, option_and_then, slice_get, true, ℕ};
 
 use crate::database::{Database, key_in};
 use crate::keys::SegmentKey;
@@ -25,6 +32,8 @@ use crate::reply::Reply;
 use crate::replying::key_named;
 use crate::work::Work;
 use ci_locks::Locks;
+use dedb_calls::DedbReady;
+use fp_exits::Exits;
 use fp_model::{Answer, Bytes, Call, Defs, Get, Mode, Resource};
 use msdb_store::MsdbStore;
 use std::alloc::{AllocError, Global};
@@ -51,14 +60,13 @@ fn database_of(call: &Call) -> u8
     }
 }
 
-// That database.
-fn database_for<'a>(call: &Call, msdbs: &'a MsdbStore, defs: &'a Defs) -> Database<'a>
-    requires { IsMsdbCall defs.now.msdbs call.now }
-    ensures number { result.number ≡ database_of call.now }
+// The main storage database of a number.
+fn database_for<'a>(number: u8, msdbs: &'a MsdbStore, defs: &'a Defs) -> Database<'a>
+    requires { number < length defs.now.msdbs }
+    ensures number { result.number ≡ number }
     ensures def { slice_get defs.now.msdbs result.number ≡ Some result.def.now }
     ensures store { result.store.now ≡ msdbs.now }
 {
-    let number = database_of(call);
     Database {
         number,
         def: &defs.msdbs.as_slice()[usize::from(number)],
@@ -209,8 +217,7 @@ impl Database<'_> {
             ≡ (if msdb_looks self.now.def.now self.now.number work.old.own call.now then work.old.notes ++ count ∷ []
             else work.old.notes))) }
         ensures shown { IfOk result (λ ready. IfAnswer ready (ShowsFound self.now.def.now call.now)) }
-        ensures changes { work.new.own.changes ≡ work.old.own.changes }
-        ensures inserts { work.new.own.inserts ≡ work.old.own.inserts }
+        ensures leaves { LeavesDedbs work.old work.new }
         ensures of { (defs : DefsOf) → slice_get defs.msdbs self.now.number ≡ Some self.now.def.now
             → IsWorkOf defs work.old → IsWorkOf defs work.new }
         ensures needing { IfOk result (λ ready. OnNeed ready (work.new ≡ work.old)) }
@@ -226,16 +233,12 @@ impl Database<'_> {
     }
 }
 
-/// Answers a call on the committed segments, or says which lock its region needs first. `count` is the number of
-/// entries that stand; an unheld look notes it. It fails only for want of memory; then, and where a lock is needed,
-/// nothing changes.
-///
-/// Condition: definitions that were read, their store, a transaction under way under them, a call that fits the main
-/// storage database which it names, and a region of the locks.
-pub fn answer(
+// Answers a call to the main storage database of this number.
+fn answer_msdb(
     alloc: Global,
     work: &mut Work,
     call: &Call,
+    number: u8,
     msdbs: &MsdbStore,
     defs: &Defs,
     locks: &Locks,
@@ -244,13 +247,14 @@ pub fn answer(
 ) -> Result<Ready, AllocError>
     requires defs { AllByRecursion IsMsdbDef defs.now.msdbs }
     requires store { IsOf defs.now.msdbs msdbs.now }
+    requires number { number < length defs.now.msdbs }
+    requires named { number ≡ database_of call.now }
     requires work { IsWorkOf defs.now work.old }
-    requires call { IsMsdbCall defs.now.msdbs call.now }
+    requires call { FitsWork (target_of defs.now (database_of call.now)) work.old call.now }
     requires some { 1 ≤ region }
     requires within { region ≤ length locks.now }
 
-    // On any database with these segments: a lock is needed exactly where the definitions say so, by what the region
-    // holds; else the answer and what the transaction keeps are theirs.
+    ensures on { (def : DefOf) × (target_of defs.now (database_of call.now) ≡ OnMsdb def number) }
     ensures need { (db : DbOf) → db.msdbs ≡ msdbs.now.msdbs
         → IfOk result (λ ready. needed_in ready ≡ need_of defs.now db work.old.own ((standing locks.now).holds region)
         call.now) }
@@ -259,19 +263,145 @@ pub fn answer(
     ensures notes { IfOk result (λ ready. IfAnswer ready (λ answer.
         work.new.notes ≡ (if looks_unheld defs.now work.old.own call.now then work.old.notes ++ count ∷ [] else
         work.old.notes))) }
-    ensures fits { IfOk result (λ ready. IfAnswer ready (FitsAnswer defs.now.msdbs call.now)) }
-
-    // No anchor is changed, and no sequential dependent inserted.
-    ensures changes { work.new.own.changes ≡ work.old.own.changes }
-    ensures inserts { work.new.own.inserts ≡ work.old.own.inserts }
-
-    // It stays one under way.
+    ensures shown { IfOk result (λ ready. IfAnswer ready
+        (FitsAnswerOf (target_of defs.now (database_of call.now)) call.now)) }
+    ensures leaves { LeavesDedbs work.old work.new }
     ensures of { IsWorkOf defs.now work.new }
+    ensures needing { IfOk result (λ ready. OnNeed ready (work.new ≡ work.old)) }
+    ensures err { OnErr result (work.new ≡ work.old) }
+{
+    let database = database_for(number, msdbs, defs);
+    database.ready(alloc, work, call, locks, region, count)
+}
+
+// What a call to the data entry database of this number comes to.
+fn ready_in(number: u8, ready: DedbReady) -> Ready
+    ensures { result ≡ ready_in number ready }
+{
+    match ready {
+        DedbReady::Answer(answer) => Ready::Answer(answer),
+        DedbReady::Need { anchor, mode } => {
+            let dedb = number;
+            Ready::Need(Resource::Anchor { dedb, anchor }, mode)
+        }
+    }
+}
+
+// Answers a call to the data entry database of this number among its kind.
+fn answer_dedb(
+    alloc: Global,
+    work: &mut Work,
+    call: &Call,
+    number: u8,
+    defs: &Defs,
+    exits: &Exits,
+    locks: &Locks,
+    region: u8,
+) -> Result<Ready, AllocError>
+    requires defs { AllByRecursion IsDedbDef defs.now.dedbs }
+    requires number { number < length defs.now.dedbs }
+    requires exits { AllByRecursion (λ dedb. has_kind (kinds_of exits.now).spreaders dedb.randomizer ≡ true)
+        defs.now.dedbs }
+    requires work { IsWorkOf defs.now work.old }
+    requires call { (def : DedbOf) → slice_get defs.now.dedbs number ≡ Some def
+        → FitsCallOn def number (dedbs_in work.old) call.now }
+    requires known { Knows ((standing locks.now).holds region) work.old.anchors }
+    requires some { 1 ≤ region }
+    requires within { region ≤ length locks.now }
+
+    ensures need { (def : DedbOf) (db : DbOf) → slice_get defs.now.dedbs number ≡ Some def
+        → Sees db work.old.anchors → IfOk result (λ ready. needed_in ready
+        ≡ dedb_need def number db work.old.own ((standing locks.now).holds region) call.now) }
+    ensures answer { (def : DedbOf) (db : DbOf) → slice_get defs.now.dedbs number ≡ Some def
+        → Sees db work.old.anchors → IfOk result (λ ready. IfAnswer ready (λ answer.
+        dedb_reply def number db work.old.own call.now ≡ record { answer = answer; own = work.new.own })) }
+    ensures shown { (def : DedbOf) → slice_get defs.now.dedbs number ≡ Some def
+        → IfOk result (λ ready. IfAnswer ready (FitsAnswerOf (OnDedb def number) call.now)) }
+    ensures leaves { LeavesMsdbs work.old work.new }
+    ensures goes { GoesOn number (dedbs_in work.old) (dedbs_in work.new) }
+    ensures of { IsWorkOf defs.now work.new }
+    ensures needing { IfOk result (λ ready. OnNeed ready (work.new ≡ work.old)) }
+    ensures err { OnErr result (work.new ≡ work.old) }
+{
+    let came = dedb_calls::answer(
+        alloc,
+        &mut work.dedbs,
+        call,
+        number,
+        defs,
+        exits,
+        locks,
+        region,
+    )?;
+    Ok(ready_in(number, came))
+}
+
+/// Answers a call, or says which lock its region needs first: on the committed segments of main storage databases, and
+/// on the roots of data entry databases that the transaction has. `count` is the number of entries that stand; an
+/// unheld look at a main storage database notes it. It fails only for want of memory; then, and where a lock is needed,
+/// nothing changes.
+///
+/// Condition: definitions that were read, with the exits that they name, and their store; a transaction under way under
+/// them; a call that fits the database which it names; a region of the locks; and, for a data entry database, that the
+/// transaction has the roots of each anchor that its region holds.
+pub fn answer(
+    alloc: Global,
+    work: &mut Work,
+    call: &Call,
+    msdbs: &MsdbStore,
+    defs: &Defs,
+    exits: &Exits,
+    locks: &Locks,
+    region: u8,
+    count: u64,
+) -> Result<Ready, AllocError>
+    requires defs { AllByRecursion IsMsdbDef defs.now.msdbs }
+    requires dedbs { AllByRecursion IsDedbDef defs.now.dedbs }
+    requires exits { AllByRecursion (λ dedb. has_kind (kinds_of exits.now).spreaders dedb.randomizer ≡ true)
+        defs.now.dedbs }
+    requires store { IsOf defs.now.msdbs msdbs.now }
+    requires work { IsWorkOf defs.now work.old }
+    requires call { FitsWork (target_of defs.now (database_of call.now)) work.old call.now }
+    requires known { IfDedb (target_of defs.now (database_of call.now))
+        (Knows ((standing locks.now).holds region) work.old.anchors) }
+    requires some { 1 ≤ region }
+    requires within { region ≤ length locks.now }
+
+    // On any database with these segments, and for a data entry database with the roots that the transaction has: a
+    // lock is needed exactly where the definitions say so, by what the region holds; else the answer and what the
+    // transaction keeps are theirs.
+    ensures need { (db : DbOf) → db.msdbs ≡ msdbs.now.msdbs
+        → IfDedb (target_of defs.now (database_of call.now)) (Sees db work.old.anchors)
+        → IfOk result (λ ready. needed_in ready ≡ need_of defs.now db work.old.own ((standing locks.now).holds region)
+        call.now) }
+    ensures answer { (db : DbOf) → db.msdbs ≡ msdbs.now.msdbs
+        → IfDedb (target_of defs.now (database_of call.now)) (Sees db work.old.anchors)
+        → IfOk result (λ ready. IfAnswer ready (λ answer.
+        reply_to defs.now db db work.old.own call.now ≡ record { answer = answer; own = work.new.own })) }
+    ensures notes { IfOk result (λ ready. IfAnswer ready (λ answer.
+        work.new.notes ≡ (if looks_unheld defs.now work.old.own call.now then work.old.notes ++ count ∷ [] else
+        work.old.notes))) }
+
+    // A get that found shows a whole segment of its database.
+    ensures shown { IfOk result (λ ready. IfAnswer ready
+        (FitsAnswerOf (target_of defs.now (database_of call.now)) call.now)) }
+
+    // It stays one under way. What has to do with databases of the other kind stays, and so do the anchors that are
+    // held, and the positions and the anchors of other data entry databases.
+    ensures of { IsWorkOf defs.now work.new }
+    ensures others { LeavesOthers (target_of defs.now (database_of call.now)) work.old work.new }
 
     // Where no answer is given nothing changes.
     ensures needing { IfOk result (λ ready. OnNeed ready (work.new ≡ work.old)) }
     ensures err { OnErr result (work.new ≡ work.old) }
 {
-    let database = database_for(call, msdbs, defs);
-    database.ready(alloc, work, call, locks, region, count)
+    let number = database_of(call);
+    let at = usize::from(number);
+    let msdb_count = defs.msdbs.len();
+    if at < msdb_count {
+        answer_msdb(alloc, work, call, number, msdbs, defs, locks, region, count)
+    } else {
+        let dedb = (at - msdb_count) as u8;
+        answer_dedb(alloc, work, call, dedb, defs, exits, locks, region)
+    }
 }

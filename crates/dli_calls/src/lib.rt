@@ -1,5 +1,6 @@
-//! The calls of one transaction to the main storage databases: what each is answered, which lock it needs first, and
-//! what the transaction keeps to itself until it commits. Calls are answered on the committed segments.
+//! The calls of one transaction: what each is answered, which lock it needs first, and what the transaction keeps to
+//! itself until it commits. Calls to main storage databases are answered on the committed segments; those to data entry
+//! databases on the roots of the anchors that it holds, as it has changed them.
 #![tactic(auto)]
 
 mod answering;
@@ -11,4 +12,4 @@ mod replying;
 mod work;
 
 pub use answering::{Ready, answer};
-pub use work::Work;
+pub use work::{Parts, Work};

@@ -1,8 +1,14 @@
 //! What a transaction keeps until it commits.
 ghost use Rattle.std.specs.Option.{option_copied, option_map};
-ghost use Rattle.std.specs.Prelude.{◌≡◌, ◌<◌, ◌++◌, ◌∷◌, ◌||◌, [], IfOk, IsTrue, List as ListOf, OnErr, OnOk, if◌then◌else◌, length, slice_get, slice_set, unwrap_or, ℕ, false, Some};
+ghost use Rattle.std.specs.Prelude.{◌≡◌, ◌<◌, ◌++◌, ◌∷◌, ◌||◌, ◌&&◌, ◌==◌, [], IfOk, IsTrue, List as ListOf, None, OnErr, OnOk, if◌then◌else◌, is_some, length, slice_get, slice_set, true, unwrap_or, ℕ, false, Some};
+ghost use Rattle.dedb_calls.specs.Anchors.{Ascend, Sees, held_at};
+ghost use Rattle.dli_tree.specs.InOrder.{any_ends};
+ghost use Rattle.fp_model.specs.Shape.{is_anchor};
+ghost use Rattle.fp_model.specs.State.{roots_at};
 ghost use Rattle.fp_model.specs.Workspace.{fresh, no_msdb_position};
 ghost use Rattle.fp_model.specs.declared.calls.Resource.{Resource as ResourceOf};
+ghost use Rattle.fp_model.specs.declared.database.Db.{Db as DbOf};
+ghost use Rattle.fp_model.specs.declared.definitions.DedbDef.{DedbDef as DedbOf};
 ghost use Rattle.fp_model.specs.declared.definitions.Defs.{Defs as DefsOf};
 ghost use Rattle.dli_calls.specs.Keys.{resource_of};
 ghost use Rattle.dli_calls.specs.Progress.{IsWorkOf, is_among, noted};
@@ -11,7 +17,8 @@ ghost use Rattle.dli_calls.specs.Replies.{is_marked, mark_in, mark_of, own_behin
 use crate::database::key_in;
 use crate::keys::{Keys, SegmentKey};
 use crate::reply::Change;
-use fp_model::{Bytes, Deferred, Defs, List, MsdbDef};
+use dedb_calls::DedbWork;
+use fp_model::{AnchorChange, Bytes, Deferred, Defs, List, MsdbDef, Root, SeqInsert};
 use std::alloc::{AllocError, Global};
 use std::marker::Model;
 
@@ -65,8 +72,8 @@ fn drop_last<T: Drop>(list: &mut List<T>)
     let _ = list.pop();
 }
 
-/// What one transaction keeps to itself until it commits: its positions, its deferred calls, and its notes. Its
-/// region's locks stand elsewhere.
+/// What one transaction keeps to itself until it commits: its positions, its deferred calls, the anchors that it holds
+/// with their roots as it sees them, its sequential inserts, and its notes. Its region's locks stand elsewhere.
 #[derive(Debug, Drop)]
 pub struct Work {
     positions: Vec<Position>,
@@ -74,12 +81,26 @@ pub struct Work {
     changed: Keys,
     deferred: List<Deferred>,
     notes: List<u64>,
+    pub(crate) dedbs: DedbWork,
+}
+
+/// What a transaction hands to its commit.
+#[derive(Debug, Drop)]
+pub struct Parts {
+    /// The deferred calls, in call order.
+    pub deferred: List<Deferred>,
+    /// The anchors that were changed, ascending by database and number.
+    pub changes: List<AnchorChange>,
+    /// The sequential inserts, in call order.
+    pub inserts: List<SeqInsert>,
+    /// The notes, in call order.
+    pub notes: List<u64>,
 }
 
 impl Model for Work {
     ghost use Rattle.std.specs.Coded.{codes};
-    ghost use Rattle.std.specs.Prelude.{[]};
     ghost use Rattle.fp_model.specs.contracts.database.Node as node;
+    ghost use Rattle.dedb_calls.specs.Anchors.{changes_in};
     ghost use Rattle.dli_calls.specs.Progress.{Progress};
 
     ghost Value = { Progress };
@@ -87,20 +108,28 @@ impl Model for Work {
     ghost coded = { Prim.hlevel (codes, node.the_row.coded) };
 
     ghost view = { λ w. record {
-      own = record { msdbs = w.positions.items; dedbs = []; changes = []; deferred = w.deferred; inserts = [] };
+      own = record {
+        msdbs = w.positions.items;
+        dedbs = w.dedbs.positions;
+        changes = changes_in w.dedbs.anchors;
+        deferred = w.deferred;
+        inserts = w.dedbs.inserts;
+      };
+      anchors = w.dedbs.anchors;
       changed = w.changed;
       notes = w.notes;
     } };
 }
 
 impl Work {
-    /// As a transaction begins: no positions, nothing deferred, no notes. It fails only for want of memory.
+    /// As a transaction begins: no positions, nothing deferred, no anchors, no notes. It fails only for want of memory.
     pub fn new(alloc: Global, defs: &Defs) -> Result<Work, AllocError>
         ensures of { IfOk result (IsWorkOf defs.now) }
-        ensures own { defs.now.dedbs ≡ [] → IfOk result (λ work. work.own ≡ fresh defs.now) }
-        ensures begins { IfOk result (λ work. work.own ≡ record (fresh defs.now) { dedbs = [] }) }
+        ensures own { IfOk result (λ work. work.own ≡ fresh defs.now) }
+        ensures anchors { IfOk result (λ work. work.anchors ≡ []) }
         ensures notes { IfOk result (λ work. work.notes ≡ []) }
     {
+        let dedbs = DedbWork::new(alloc, defs)?;
         let mut positions = Vec::new(alloc);
         for _ in 0..defs.msdbs.len() {
             positions.push(Position::new())?;
@@ -110,7 +139,42 @@ impl Work {
             changed: Keys::new(alloc),
             deferred: List::new(alloc),
             notes: List::new(alloc),
+            dedbs,
         })
+    }
+
+    /// Tells it of the first lock of an anchor that it gains, with the roots that stand there. Where it has roots of
+    /// the anchor already, as behind a lock that is raised, these stay. It fails only for want of memory, and then
+    /// nothing changes.
+    pub fn hold_anchor(
+        &mut self,
+        dedb: u8,
+        anchor: u32,
+        roots: List<Root>,
+    ) -> Result<(), AllocError>
+        requires { Ascend self.old.anchors }
+
+        // The transaction has these roots then, and of other anchors what it had.
+        ensures there { held_at self.old.anchors dedb anchor ≡ None
+            → OnOk result (held_at self.new.anchors dedb anchor
+            ≡ Some (record { dedb = dedb; anchor = anchor; roots = roots; is_changed = false })) }
+        ensures others { (d a : ℕ) → (d == dedb && a == anchor) ≡ false
+            → held_at self.new.anchors d a ≡ held_at self.old.anchors d a }
+        ensures again { is_some (held_at self.old.anchors dedb anchor) ≡ true → self.new ≡ self.old }
+        ensures has { OnOk result (is_some (held_at self.new.anchors dedb anchor) ≡ true) }
+        ensures sees { (db : DbOf) → roots_at db dedb anchor ≡ roots → Sees db self.old.anchors
+            → Sees db self.new.anchors }
+
+        // It stays a transaction's, where the roots have the anchor's shape.
+        ensures of { (defs : DefsOf)
+            → ((def : DedbOf) → slice_get defs.dedbs dedb ≡ Some def → is_anchor def anchor any_ends roots ≡ true)
+            → IsWorkOf defs self.old → IsWorkOf defs self.new }
+
+        // All else stays: what it would do to the databases, and its notes.
+        ensures same { self.new ≡ record self.old { anchors = self.new.anchors } }
+        ensures err { OnErr result (self.new ≡ self.old) }
+    {
+        self.dedbs.hold_anchor(dedb, anchor, roots)
     }
 
     /// The deferred calls, in call order.
@@ -125,6 +189,36 @@ impl Work {
         ensures { result.now ≡ self.now.notes }
     {
         &self.notes
+    }
+
+    /// The sequential inserts, in call order.
+    pub fn inserts(&self) -> &[SeqInsert]
+        ensures { result.now ≡ self.now.own.inserts }
+    {
+        self.dedbs.inserts()
+    }
+
+    /// What the commit is to settle and to write. It is handed on, and not copied. It fails only for want of memory.
+    pub fn into_parts(self, alloc: Global) -> Result<Parts, AllocError>
+        ensures deferred { IfOk result (λ parts. parts.deferred ≡ self.own.deferred) }
+        ensures changes { IfOk result (λ parts. parts.changes ≡ self.own.changes) }
+        ensures inserts { IfOk result (λ parts. parts.inserts ≡ self.own.inserts) }
+        ensures notes { IfOk result (λ parts. parts.notes ≡ self.notes) }
+    {
+        let Work {
+            positions: _,
+            changed: _,
+            deferred,
+            notes,
+            dedbs,
+        } = self;
+        let (changes, inserts) = dedbs.into_parts(alloc)?;
+        Ok(Parts {
+            deferred,
+            changes,
+            inserts,
+            notes,
+        })
     }
 
     // The position in a database.
@@ -161,6 +255,7 @@ impl Work {
         requires { msdb < length self.old.own.msdbs }
         ensures own { OnOk result (self.new.own ≡ own_behind def.now msdb change self.old.own) }
         ensures notes { OnOk result (self.new.notes ≡ noted note self.old.notes) }
+        ensures anchors { self.new.anchors ≡ self.old.anchors }
         ensures changed { OnOk result ((resource : ResourceOf)
             → is_among self.new.changed resource ≡ (is_marked (mark_in def.now change) resource || is_among
             self.old.changed resource)) }
@@ -201,6 +296,7 @@ impl Work {
         requires { msdb < length self.old.own.msdbs }
         ensures own { OnOk result (self.new.own ≡ own_behind def.now msdb change self.old.own) }
         ensures notes { OnOk result (self.new.notes ≡ self.old.notes) }
+        ensures anchors { self.new.anchors ≡ self.old.anchors }
         ensures changed { OnOk result ((resource : ResourceOf)
             → is_among self.new.changed resource ≡ (is_marked (mark_in def.now change) resource || is_among
             self.old.changed resource)) }
@@ -252,6 +348,7 @@ impl Work {
         ensures own { OnOk result (self.new.own ≡ record self.old.own
             { deferred = self.old.own.deferred ++ deferred ∷ [] }) }
         ensures notes { self.new.notes ≡ self.old.notes }
+        ensures anchors { self.new.anchors ≡ self.old.anchors }
         ensures changed { OnOk result ((resource : ResourceOf)
             → is_among self.new.changed resource ≡ (is_marked (mark_of def.now deferred) resource || is_among
             self.old.changed resource)) }

@@ -72,7 +72,7 @@ module _ (defs : Defs) (scripts : List Script) (active : Active) (t : Transactio
   -- the program moves on to its next call, where nothing is worked out
   pub moves : active.ahead ≡ None → (program : Program) → program.number ≡ active.program.number
       → IsAt defs s.script.statements active.message t.point.answers program
-      → IsFit defs.msdbs program
+      → IsFit defs program
       → IsTransaction defs scripts (record active { program = program }) t
   moves none program number at fit = record {
     from = s.from;

@@ -97,7 +97,7 @@ pub record IsTransaction (defs : Defs) (scripts : List Script) (active : Active)
   pub named : script_of scripts t.message.tran ≡ Some script
   pub numbered : slice_get scripts active.program.number ≡ Some script
   pub at : IsAt defs script.statements t.message t.point.answers active.program
-  pub fit : IsFit defs.msdbs active.program
+  pub fit : IsFit defs active.program
   -- what was worked out is what it does next
   pub ahead : IfSome active.ahead (IsAhead defs scripts active.program t)
 

@@ -11,6 +11,7 @@ use crate::answering::Acted;
 use crate::did::Did;
 use crate::engine::{Engine, Region};
 use crate::locking::Asked;
+use fp_exits::Exits;
 use fp_model::{Mode, Resource};
 use std::alloc::AllocError;
 
@@ -43,7 +44,7 @@ impl Engine<'_> {
     }
 
     // It does one thing. Want of memory may have dropped its request.
-    fn try_act(&mut self, region: u8) -> Result<Did, AllocError>
+    fn try_act(&mut self, region: u8, exits: &Exits) -> Result<Did, AllocError>
         requires some { 1 ≤ region }
         requires within { region ≤ length self.old.regions }
         requires under { (m : Machine) × ((t : Transaction) × IsAtWork self.old m region t) }
@@ -59,7 +60,7 @@ impl Engine<'_> {
         ensures gate { self.new.log.gate ≡ self.old.log.gate }
         ensures count { length self.new.regions ≡ length self.old.regions }
     {
-        match self.go_on(region)? {
+        match self.go_on(region, exits)? {
             Acted::Answered => Ok(Did::Answered),
             Acted::Needs(resource, mode) => self.lock(region, &resource, mode),
             Acted::Replies(reply) => self.commit(region, reply),
@@ -68,7 +69,7 @@ impl Engine<'_> {
     }
 
     /// The turn of an active region. Where it lacks memory its transaction is refused.
-    pub(crate) fn act(&mut self, region: u8) -> Did
+    pub(crate) fn act(&mut self, region: u8, exits: &Exits) -> Did
         requires some { 1 ≤ region }
         requires within { region ≤ length self.old.regions }
         requires under { (m : Machine) × ((t : Transaction) × IsAtWork self.old m region t) }
@@ -82,14 +83,14 @@ impl Engine<'_> {
         ensures gate { self.new.log.gate ≡ self.old.log.gate }
         ensures count { length self.new.regions ≡ length self.old.regions }
     {
-        match self.try_act(region) {
+        match self.try_act(region, exits) {
             Ok(did) => did,
             Err(AllocError) => self.refuse_for_memory(region),
         }
     }
 
     /// The turn of a region. It fails only for want of memory, where an idle region takes a message.
-    pub(crate) fn turn(&mut self, region: u8) -> Result<Did, AllocError>
+    pub(crate) fn turn(&mut self, region: u8, exits: &Exits) -> Result<Did, AllocError>
         requires some { 1 ≤ region }
         requires within { region ≤ length self.old.regions }
         requires stands { (m : Machine) × StandsFor self.old m }
@@ -106,7 +107,7 @@ impl Engine<'_> {
     {
         match self.region(region) {
             Region::Idle => self.take_message(region),
-            Region::Active(_) => Ok(self.act(region)),
+            Region::Active(_) => Ok(self.act(region, exits)),
         }
     }
 }

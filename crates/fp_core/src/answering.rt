@@ -12,6 +12,7 @@ use crate::engine::{Active, Ahead, Engine, Region};
 use crate::locking::{copy_of, first_unheld};
 use ci_locks::Locks;
 use dli_calls::{Ready, answer};
+use fp_exits::Exits;
 use fp_model::{Bytes, Defs, Mode, Resource};
 use msdb_store::MsdbStore;
 use std::alloc::{AllocError, Global};
@@ -89,6 +90,7 @@ fn go_on(
     alloc: Global,
     defs: &Defs,
     scripts: &Scripts,
+    exits: &Exits,
     store: &MsdbStore,
     locks: &Locks,
     region: u8,
@@ -115,6 +117,7 @@ fn go_on(
                 &call,
                 store,
                 defs,
+                exits,
                 locks,
                 region,
                 count,
@@ -145,7 +148,7 @@ fn go_on(
 
 impl Engine<'_> {
     /// The active region runs to its next call, and answers it where it needs no lock.
-    pub(crate) fn go_on(&mut self, region: u8) -> Result<Acted, AllocError>
+    pub(crate) fn go_on(&mut self, region: u8, exits: &Exits) -> Result<Acted, AllocError>
         requires some { 1 ≤ region }
         requires within { region ≤ length self.old.regions }
         requires under { (m : Machine) × ((t : Transaction) × IsAtWork self.old m region t) }
@@ -168,6 +171,7 @@ impl Engine<'_> {
                 self.alloc,
                 self.defs,
                 self.scripts,
+                exits,
                 &self.store,
                 &self.locks,
                 region,

@@ -18,6 +18,7 @@ use crate::did::Did;
 use crate::engine::{Engine, Region};
 use crate::stepping::Core;
 use crate::stop::Stop;
+use fp_exits::Exits;
 use fp_site::Site;
 use fp_source::{Part, Source};
 use std::alloc::AllocError;
@@ -56,7 +57,7 @@ impl Engine<'_> {
     }
 
     // The turn of each region.
-    fn turn_each(&mut self) -> Result<(), AllocError>
+    fn turn_each(&mut self, exits: &Exits) -> Result<(), AllocError>
         requires stands { (m : Machine) × StandsFor self.old m }
         ensures turned { (m : Machine) → StandsFor self.old m
             → OnOk result (TookTurns (turns_of (length self.old.defs.now.regions)) m self.new) }
@@ -71,7 +72,7 @@ impl Engine<'_> {
     {
         let count = self.regions.len() as u8;
         for done in 0..count {
-            self.turn(done + 1)?;
+            self.turn(done + 1, exits)?;
         }
         Ok(())
     }
@@ -165,7 +166,7 @@ impl<'a> Core<'a> {
         if !self.begin_round(source)? {
             return Ok(false);
         }
-        self.engine.turn_each()?;
+        self.engine.turn_each(self.exits)?;
         self.engine.seal(site)?;
         Ok(true)
     }

@@ -43,6 +43,7 @@ pub struct Started {
 /// The interleaved system: regions that run transactions side by side, one turn after another.
 #[derive(Drop)]
 pub struct Core<'a> {
+    pub(crate) exits: &'a Exits,
     pub(crate) router: &'a Router,
     /// The message lines that are still to come.
     pub(crate) lines: Lines,
@@ -93,6 +94,7 @@ impl<'a> Core<'a> {
         ensures given { IfOk result (λ core. lines_given core.lines ≡ 0) }
     {
         Ok(Core {
+            exits,
             router: router_of(exits, defs.router),
             lines: Lines::new(alloc)?,
             engine: Engine::new(alloc, defs, scripts, started)?,
@@ -156,7 +158,7 @@ impl<'a> Core<'a> {
     {
         match *event {
             Event::In => self.read_line(source),
-            Event::Region(region) => Ok(self.engine.turn(region)?),
+            Event::Region(region) => Ok(self.engine.turn(region, self.exits)?),
             Event::Log => self.engine.seal(site),
             Event::Ckpt => self.engine.seal_all(site),
             Event::Out => Ok(Did::Nothing),

@@ -46,7 +46,6 @@ pub(crate) fn start(
     scripts: &Scripts,
     message: &Message,
 ) -> Result<(Program, Work), AllocError>
-    requires no_dedbs { defs.now.dedbs ≡ [] }
     requires named { (script : Script) × (script_of scripts.now.scripts message.now.tran ≡ Some script) }
     requires short { IsShort message.now.line }
     ensures { (from tries : ℕ) (refusal : OptionOf KeptOf)
@@ -96,7 +95,6 @@ fn begin(
     message: &Message,
     room: u64,
 ) -> Result<Begun, AllocError>
-    requires no_dedbs { defs.now.dedbs ≡ [] }
     requires named { (script : Script) × (script_of scripts.now.scripts message.now.tran ≡ Some script) }
     requires short { IsShort message.now.line }
     ensures is { (from : ℕ) → IfOk result (λ made. IsTransaction defs.now scripts.now.scripts

@@ -183,8 +183,13 @@ fn a_site_of_format_1_is_migrated_before_a_run(rt: HostRuntime) -> Result<(), Fa
     let long = site.contents(0).len();
     assert_eq!(rt; done(alloc, "run", &mut site)?, (Status::OldFormat, long));
     let behind = long + FORMAT_GROUP;
-    assert_eq!(rt; done(alloc, "migrate", &mut site)?, (Status::Done, behind));
-    assert_eq!(rt; done(alloc, "migrate", &mut site)?, (Status::Done, behind));
+    for time in 1..3 {
+        assert_eq!(rt;
+            done(alloc, "migrate", &mut site)?,
+            (Status::Done, behind),
+            "time {time}"
+        );
+    }
     Ok(())
 }
 

@@ -256,6 +256,12 @@ fn a_restart_has_whole_groups_and_what_was_answered(rt: HostRuntime) -> Result<(
             assert!(rt; kept, "stopped at {after}, image {choice}");
         }
     }
+    Ok(())
+}
+
+#[test]
+fn behind_the_last_stop_all_is_answered(rt: HostRuntime) -> Result<(), Fail> {
+    let alloc = rt.alloc();
     let (site, made) = stopped(alloc, 40)?;
     let (status, text) = asked(alloc, site.snapshot_as(0)?)?;
     assert_eq!(rt; (made, status), (true, Status::Done));

@@ -275,27 +275,35 @@ fn lines_of(text: &[u8]) -> usize {
     count
 }
 
+// Whether a new site, a run over it and its text are done, and all that was sent.
+fn mixed_text(alloc: Global, schedule: &str, messages: &str) -> Result<(bool, Bytes), AllocError> {
+    let mut site = MemorySite::new(alloc, &[])?;
+    let mut sent = Bytes::new(alloc);
+    let mut done = true;
+    for command in ["define", "run", "show"] {
+        let (status, more) = sent_over(
+            alloc,
+            command,
+            FOUR_REGIONS,
+            SCRIPTS,
+            schedule,
+            messages,
+            &mut site,
+        )?;
+        done &= status == Status::Done;
+        sent.append(more.as_slice())?;
+    }
+    Ok((done, sent))
+}
+
 #[test]
 fn a_mix_comes_to_one_text_by_each_schedule(rt: HostRuntime) -> Result<(), Fail> {
     let alloc = rt.alloc();
     let messages = mixed_messages(alloc)?;
     for (text, times) in MIXED {
         let schedule = repeated(alloc, text, times)?;
-        let mut site = MemorySite::new(alloc, &[])?;
-        let mut sent = Bytes::new(alloc);
-        for command in ["define", "run", "show"] {
-            let (status, more) = sent_over(
-                alloc,
-                command,
-                FOUR_REGIONS,
-                SCRIPTS,
-                &schedule,
-                &messages,
-                &mut site,
-            )?;
-            assert_eq!(rt; status, Status::Done, "{command} by {text:?}");
-            sent.append(more.as_slice())?;
-        }
+        let (done, sent) = mixed_text(alloc, &schedule, &messages)?;
+        assert!(rt; done, "by {text:?}");
         assert_eq!(rt; lines_of(sent.as_slice()), 35, "by {text:?}");
         assert!(rt; sent.as_slice().ends_with(MIXED_SHOWN), "by {text:?}");
     }

@@ -6,13 +6,9 @@ pub mod Ended
 pub mod Went
 pub mod Begins
 pub mod Due
-pub mod TableLemmas
-pub mod StopLemmas
 pub mod Runs
 pub mod CauseLemmas
-pub mod AnsweredLemmas
 mod SentTexts
-pub mod OneRun
-mod OldLogs
+pub mod OldLogs
 mod Migrations
 mod Restarted

@@ -5,7 +5,5 @@ pub mod Setups
 pub mod Courses
 pub mod Ims
 pub mod Table
-pub mod Stops
 pub mod Causes
 pub mod Gives
-pub mod Answered

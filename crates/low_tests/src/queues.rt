@@ -147,6 +147,12 @@ fn answers(
     }
 }
 
+const RUNS: [(&str, &[Step]); 3] = [
+    ("in turn", &IN_TURN),
+    ("waiting", &WAITING),
+    ("marked", &MARKED),
+];
+
 /// The place of the first step that answers something else.
 fn first_wrong(
     alloc: Global,
@@ -172,9 +178,9 @@ fn terminals_and_their_messages(rt: HostRuntime) -> Result<(), Fail> {
         { fold_group(tran, n) },
     )?;
     let router = Router::new(Kind::Fold, folds);
-    assert_eq!(rt; first_wrong(rt.alloc(), &router, &IN_TURN)?, None);
-    assert_eq!(rt; first_wrong(rt.alloc(), &router, &WAITING)?, None);
-    assert_eq!(rt; first_wrong(rt.alloc(), &router, &MARKED)?, None);
+    for (name, steps) in RUNS {
+        assert_eq!(rt; first_wrong(rt.alloc(), &router, steps)?, None, "{name}");
+    }
     Ok(())
 }
 

@@ -1,5 +1,5 @@
 -- Elements with ascending keys: where a key stands among them, and what that says of searches and edits.
-use Rattle.std.proofs.Common.{Ordering, Less, Equal, Greater, ◌≡◌, ℕ, zero, suc, ◌<◌, ◌≤◌, List, [], ◌∷◌, ◌++◌, map, length, take, drop, Some, None, refl, sym, ◌∙◌, ap, subst, Bool, true, false, ◌&&◌, slice_get, slice_set, slice_index_or, arith}
+use Rattle.std.proofs.Common.{Ordering, Less, Equal, Greater, ◌≡◌, ℕ, zero, suc, ◌<◌, ◌≤◌, ◌-◌, List, [], ◌∷◌, ◌++◌, map, length, take, drop, Some, None, refl, sym, ◌∙◌, ap, subst, Bool, true, false, ◌&&◌, slice_get, slice_set, slice_index_or, arith}
 use Rattle.std.specs.Prelude.{find, if◌then◌else◌}
 use Rattle.std.specs.List.{AllByRecursion, insert, remove}
 use Rattle.std.specs.List.Sorted.{IsPartitionedBy}
@@ -138,6 +138,21 @@ module _ {X : Type 0} (key : X → List ℕ) where
   partitioned k (x ∷ xs) up (suc i) zero d le within less = absurd (omega (arith, le))
   partitioned k (x ∷ xs) up (suc i) (suc j) d le within less =
       partitioned k xs (tail_ascends x xs up) i j d (omega (arith, le)) (omega (arith, within)) less
+
+  -- what stands on both sides of a place says whether it is a key's
+  pub place_between : (k : List ℕ) (xs : List X) (n : ℕ) → IsAscending xs
+      → ((d : X) → 0 < n → is_below (key (slice_index_or xs (n - 1) d)) k ≡ true)
+      → ((d : X) → n < length xs → is_below (key (slice_index_or xs n d)) k ≡ false) → n ≤ length xs → IsPlace key k xs n
+  place_between k xs n up lower no_lower within = (
+    λ i d low high. partitioned k xs up i (n - 1) d (omega (arith, high)) (omega (arith, high, within))
+        (lower d (omega (arith, high))),
+    λ i d low high. by i d (is_below (key (slice_index_or xs i d)) k) refl low high,
+  )
+    where
+      by : (i : ℕ) (d : X) (b : Bool) → is_below (key (slice_index_or xs i d)) k ≡ b → n ≤ i → i < length xs → b ≡ false
+      by i d true e low high = absurd (not_both (sym (partitioned k xs up n i d low high e)
+          ∙ no_lower d (omega (arith, low, high))))
+      by i d false e low high = refl
 
   place_behind : (k : List ℕ) (x : X) (xs : List X) (n : ℕ) → IsPlace key k (x ∷ xs) (suc n) → IsPlace key k xs n
   place_behind k x xs n p = (

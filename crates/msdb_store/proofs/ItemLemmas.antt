@@ -1,5 +1,5 @@
 -- Ascending items of segments show what they make, so items of the same keys that make the same are one list.
-use Rattle.std.proofs.Common.{◌≡◌, ◌⊎◌, inl, inr, refl, sym, ◌∙◌, ap, subst, arith, ℕ, ◌<◌, List, [], ◌∷◌, Bool, true, false}
+use Rattle.std.proofs.Common.{◌≡◌, ◌⊎◌, inl, inr, refl, sym, ◌∙◌, ap, subst, arith, ℕ, List, [], ◌∷◌, Bool, true, false}
 use Rattle.std.specs.Prelude.{if◌then◌else◌, ◌&&◌, ◌==◌, Contains}
 use Rattle.std.specs.List.{AllByRecursion, AllZip}
 use Rattle.std.proofs.lemmas.Bool.Decides.{nat_tests}

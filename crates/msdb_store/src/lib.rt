@@ -1,6 +1,7 @@
 //! The segments of the main storage databases, by key.
 #![tactic(auto)]
 
+mod heads;
 mod keyed;
 mod segments;
 mod settling;

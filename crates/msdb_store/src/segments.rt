@@ -4,7 +4,7 @@ ghost use Rattle.msdb_store.specs.Places.{IsPlace};
 ghost use Rattle.msdb_store.specs.Slots.{in_slots, slot_of};
 ghost use Rattle.msdb_store.specs.Store.{room};
 ghost use Rattle.std.specs.Option.{option_copied};
-ghost use Rattle.std.specs.Prelude.{◌≡◌, ◌-◌, ◌<◌, ◌≤◌, ◌^◌, [], IfOk, IsOk, OnErr, OnOk, Some, insert, length, map, remove, slice_get, slice_set, take, true};
+ghost use Rattle.std.specs.Prelude.{◌≡◌, ℕ, ◌-◌, ◌<◌, ◌≤◌, ◌^◌, [], IfOk, IsOk, OnErr, OnOk, Some, false, insert, length, map, remove, slice_get, slice_index_or, slice_set, take, true};
 
 use crate::keyed::key_in;
 use fp_model::Bytes;
@@ -45,6 +45,13 @@ fn in_slot(slots: &[Bytes], number: u32) -> &[u8]
     }
 }
 
+// Whether the segment in a slot has a lower key.
+fn is_lower(slots: &[Bytes], number: u32, count: usize, key: &[u8]) -> bool
+    ensures { result ≡ is_below (take count (slot_of slots.now number)) key.now }
+{
+    key_in(in_slot(slots, number), count).cmp(key).is_lt()
+}
+
 // How many of the segments in the slots of these numbers have a lower key.
 fn count_below(slots: &[Bytes], numbers: &[u32], count: usize, key: &[u8]) -> usize
     ensures within { result ≤ length numbers.now }
@@ -54,8 +61,48 @@ fn count_below(slots: &[Bytes], numbers: &[u32], count: usize, key: &[u8]) -> us
     numbers.partition_point(
         |number: &u32| -> bool
             ensures { result ≡ is_below (take count (slot_of slots.entry.now number.now)) key.entry.now }
-        { key_in(in_slot(slots, *number), count).cmp(key).is_lt() },
+        { is_lower(slots, *number, count, key) },
     )
+}
+
+// Whether a place has no segment before it, or one with a lower key.
+fn follows_lower(slots: &[Bytes], numbers: &[u32], count: usize, key: &[u8], at: usize) -> bool
+    ensures { result ≡ true → (d : ℕ) → 0 < at
+        → is_below (take count (slot_of slots.now (slice_index_or numbers.now (at - 1) d))) key.now ≡ true }
+{
+    if at == 0 {
+        return true;
+    }
+    match numbers.get(at - 1) {
+        Some(number) => is_lower(slots, *number, count, key),
+        None => false,
+    }
+}
+
+// Whether a place has no segment, or one whose key isn't lower.
+fn has_no_lower(slots: &[Bytes], numbers: &[u32], count: usize, key: &[u8], at: usize) -> bool
+    ensures { result ≡ true → (d : ℕ) → at < length numbers.now
+        → is_below (take count (slot_of slots.now (slice_index_or numbers.now at d))) key.now ≡ false }
+{
+    match numbers.get(at) {
+        Some(number) => !is_lower(slots, *number, count, key),
+        None => true,
+    }
+}
+
+// Whether a key's place is this one: as the keys ascend, what stands on both sides of it says so.
+fn is_place(slots: &[Bytes], numbers: &[u32], count: usize, key: &[u8], at: usize) -> bool
+    ensures within { result ≡ true → at ≤ length numbers.now }
+    ensures place { result ≡ true → ascend (map (take count) (in_slots slots.now numbers.now)) ≡ true
+        → IsPlace (take count) key.now (in_slots slots.now numbers.now) at }
+{
+    if at > numbers.len() {
+        return false;
+    }
+    if !follows_lower(slots, numbers, count, key, at) {
+        return false;
+    }
+    has_no_lower(slots, numbers, count, key, at)
 }
 
 // The numbers below this one, ascending.
@@ -108,14 +155,18 @@ impl Segments {
         in_slot(&self.slots, self.order[at])
     }
 
-    // How many of them have a lower key.
-    pub(crate) fn count_below(&self, count: usize, key: &[u8]) -> usize
+    // How many of them have a lower key. A guess that is good saves the search.
+    pub(crate) fn count_below(&self, count: usize, key: &[u8], guess: usize) -> usize
         ensures within { result ≤ length self.now.items }
         ensures fits { length self.now.items < 2 ^ 64 }
         ensures place { ascend (map (take count) self.now.items) ≡ true
             → IsPlace (take count) key.now self.now.items result }
     {
-        count_below(&self.slots, &self.order[..self.used], count, key)
+        let numbers = &self.order[..self.used];
+        if is_place(&self.slots, numbers, count, key, guess) {
+            return guess;
+        }
+        count_below(&self.slots, numbers, count, key)
     }
 }
 
@@ -193,6 +244,14 @@ impl Segments {
         // There is room for the number where it stood, so it takes no memory and is done.
         let _ = self.order.push(number);
         self.used -= 1;
+    }
+
+    // Whether there is room for so many more.
+    pub(crate) fn has_room(&self, n: usize) -> bool
+        ensures { n ≤ room self.now.capacity (length self.now.items) → result ≡ true }
+    {
+        let capacity = self.slots.capacity().min(self.order.capacity());
+        n <= capacity.saturating_sub(self.used)
     }
 
     // Makes room for so many segments more, unless there would be 2^32 of them. Where there is room nothing changes.

@@ -6,6 +6,7 @@ ghost use Rattle.std.specs.Option.{option_copied};
 ghost use Rattle.msdb_store.specs.Store.{lacks, room};
 ghost use Rattle.std.specs.Prelude.{slice_get, ◌≡◌, ◌+◌, ◌<◌, ◌≤◌, IfOk, IsOk, ◌^◌, OnErr, OnOk, find, if◌then◌else◌, length, map, true};
 
+use crate::heads::{Heads, head_of};
 use crate::keyed::{Place, key_in};
 use crate::segments::Segments;
 use fp_model::{Bytes, FieldDef, List, Msdb, MsdbDef, key_length};
@@ -15,6 +16,7 @@ use std::alloc::{AllocError, Global};
 pub(crate) struct Table {
     pub(crate) fields: List<FieldDef>,
     pub(crate) segments: Segments,
+    heads: Heads,
 }
 
 impl Table {
@@ -28,9 +30,12 @@ impl Table {
         ensures segments { IfOk result (λ table. table.segments.items ≡ segments.items) }
         ensures few { IfOk result (λ table. length table.segments.items < 2 ^ 32) }
     {
+        let count = usize::from(key_length(def.fields.as_slice()));
+        let heads = Heads::of(alloc, segments.as_slice(), count)?;
         Ok(Table {
             fields: List::from_vec(Vec::from_slice(alloc, def.fields.as_slice())?),
             segments: Segments::from_vec(segments)?,
+            heads,
         })
     }
 
@@ -48,7 +53,7 @@ impl Table {
             → IsPlaced (key_of self.now.fields) key.now self.now.segments.items result }
     {
         let count = self.key_length();
-        let at = self.segments.count_below(count, key);
+        let at = self.segments.count_below(count, key, self.heads.guess(key));
         let Some(segment) = self.segments.get(at) else {
             return Place::Lacks(at);
         };
@@ -124,10 +129,14 @@ impl Table {
         ensures few { length self.old.segments.items < 2 ^ 32 → length self.new.segments.items < 2 ^ 32 }
         ensures capacity { self.old.segments.capacity ≤ self.new.segments.capacity }
     {
-        let place = self.place(key_in(segment.as_slice(), self.key_length()));
-        match place {
+        let key = key_in(segment.as_slice(), self.key_length());
+        let head = head_of(key);
+        match self.place(key) {
             Place::Stands(at) => self.segments.set(at, segment),
-            Place::Lacks(at) => self.segments.insert(at, segment)?,
+            Place::Lacks(at) => {
+                self.segments.insert(at, segment)?;
+                self.heads.insert(at, head);
+            }
         }
         Ok(())
     }
@@ -141,7 +150,10 @@ impl Table {
         ensures capacity { self.old.segments.capacity ≤ self.new.segments.capacity }
     {
         match self.place(key) {
-            Place::Stands(at) => self.segments.remove(at),
+            Place::Stands(at) => {
+                self.segments.remove(at);
+                self.heads.remove(at);
+            }
             Place::Lacks(_) => {}
         }
     }
@@ -155,7 +167,12 @@ impl Table {
         ensures capacity { self.old.segments.capacity ≤ self.new.segments.capacity }
         ensures fields { self.new.fields ≡ self.old.fields }
     {
-        self.segments.reserve(n)
+        let has_room = self.segments.has_room(n);
+        self.segments.reserve(n)?;
+        if has_room {
+            return Ok(());
+        }
+        self.heads.reserve(n)
     }
 
     // The segments once more.

@@ -2,8 +2,8 @@
 use Rattle.std.proofs.Common.{◌≡◌, ◌≢◌, suc, ◌⊎◌, inl, inr, List, [], ◌∷◌, ◌++◌, Contains, AllPairs, refl, sym, subst, arith}
 use Rattle.std.proofs.lemmas.List.Elements.{Contains-append_left, Contains-append_right, Contains-append_cases}
 use Rattle.root_anchor.proofs.Members.{none_in, front_in, behind_in, in_cases}
-use Rattle.root_anchor.proofs.PutLemmas.{pointer_or}
-use Rattle.root_anchor.specs.Elements.{Pointer}
+use Rattle.anchor_elements.proofs.Pointers.{pointer_or}
+use Rattle.anchor_elements.specs.Elements.{Pointer}
 use Rattle.root_anchor.specs.Rebuilding.{AreApart, met_after}
 
 -- ---- what a list holds

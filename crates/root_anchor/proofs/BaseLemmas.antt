@@ -1,5 +1,5 @@
 -- An anchor's base interval, and the whole walk.
-use Rattle.std.proofs.Common.{Bool, true, ◌≡◌, ◌≢◌, inl, inr, ℕ, ◌<◌, List, [], reverse, sym, ap, subst, ◌∙◌}
+use Rattle.std.proofs.Common.{Bool, true, Result, Ok, Err, IfOk, ◌≡◌, ◌≢◌, inl, inr, ℕ, ◌<◌, List, [], reverse, sym, ap, subst, ◌∙◌}
 use Rattle.std.specs.List.{Contains, AllPairs}
 use Rattle.std.proofs.lemmas.List.{get_or_past}
 use Rattle.ci_space.specs.declared.intervals.Shape.{Shape}
@@ -10,14 +10,15 @@ use Rattle.fp_model.specs.declared.definitions.SegDef.{SegDef}
 use Rattle.root_anchor.specs.declared.anchor.Walked.{Walked}
 use Rattle.root_anchor.specs.declared.standing.Standing.{Standing}
 use Rattle.root_anchor.specs.declared.walk.Walk.{Walk}
-use Rattle.root_anchor.specs.Elements.{Pointer}
-use Rattle.root_anchor.specs.Chains.{AreRoots, anchor_count, root_of}
+use Rattle.anchor_elements.specs.Elements.{Pointer}
+use Rattle.root_anchor.specs.Chains.{AreRoots, IsChain, anchor_count, root_of}
+use Rattle.root_anchor.specs.Formed.{HasRoots}
 use Rattle.root_anchor.specs.Damage.{RootsFail, ChainFails, no_base, wrong_pointer}
-use Rattle.root_anchor.specs.Reading.{IsMissing}
+use Rattle.anchor_elements.specs.Reading.{IsMissing}
 use Rattle.root_anchor.specs.Standing.{places_of, Stands, AreStanding, AreInTurn, AreKeyed}
 use Rattle.root_anchor.specs.Walking.{met_of, WalksOn, AllStand, IsWalked}
 use Rattle.root_anchor.proofs.PutLemmas.{base_kind}
-use Rattle.root_anchor.proofs.ReadLemmas.{no_bytes}
+use Rattle.anchor_elements.proofs.ReadLemmas.{no_bytes}
 use Rattle.root_anchor.proofs.WalkLemmas.{in_reverse, reverse_in}
 
 not_in_place : (shape : Shape) (types : List SegDef) (area : List (List ℕ)) (anchor base ci : ℕ)
@@ -51,6 +52,27 @@ right_base shape area anchor base bytes b e g i k =
       is_kind =
           ap kind_of (sym g) ∙ k ∙ sym (base_kind shape anchor b) ∙ ap (kind_at shape) (sym e);
     })
+
+-- the same without the roots that were wanted
+pub missing_none : (shape : Shape) (area : List (List ℕ)) (anchor base ci : ℕ) → base ≡ base_of shape anchor
+    → IsMissing area base base ci → (ci ≡ base_of shape anchor) × (¬ IsInPlace shape area (base_of shape anchor))
+missing_none shape area anchor base ci e (inl there) = (
+  there.2 ∙ e,
+  λ p. there.1 (subst (λ n. IsInPlace shape area n) (sym e) p).is_interval,
+)
+missing_none shape area anchor base ci e (inr past) = (
+  past.1 ∙ e,
+  λ p. no_bytes (subst IsInterval (get_or_past area base [] past.0)
+      (subst (λ n. IsInPlace shape area n) (sym e) p).is_interval),
+)
+
+pub wrong_none : (shape : Shape) (area : List (List ℕ)) (anchor base ci : ℕ) (bytes : List ℕ)
+    → anchor < anchor_count shape → base ≡ base_of shape anchor → base ≡ ci → bytes ≡ bytes_at area base
+    → kind_of bytes ≢ 2 → (ci ≡ base_of shape anchor) × (¬ IsInPlace shape area (base_of shape anchor))
+wrong_none shape area anchor base ci bytes b e f g wrong = (
+  sym f ∙ e,
+  λ p. wrong (ap kind_of (g ∙ ap (bytes_at area) e) ∙ p.is_kind ∙ base_kind shape anchor b),
+)
 
 -- ---- the whole walk
 
@@ -105,3 +127,13 @@ pub keys_walked : (types : List SegDef) (area now : List (List ℕ)) (number : �
     → AreKeyed types area walk.met.items
 keys_walked types area now number start walk keyed e f wanted on all =
     subst (λ a. AreKeyed types a walk.met.items) e (all.keys (on.same_keyed ∙ f ∙ wanted))
+
+-- a walk over an area reads the anchor's roots
+pub walked_roots : {E : Type 0} (shape : Shape) (types : List SegDef) (area now : List (List ℕ)) (anchor : ℕ)
+    (r : Result Walked E) → now ≡ area → IfOk r (IsWalked shape types now anchor)
+    → IfOk r (λ walked. HasRoots shape types area anchor walked.roots)
+walked_roots shape types area now anchor (Ok walked) e w = record {
+  elements = reverse (places_of walked.met.items);
+  is_chain = subst (λ a. IsChain shape types a anchor walked.roots (reverse (places_of walked.met.items))) e w.is_chain;
+}
+walked_roots shape types area now anchor (Err f) e w = tt

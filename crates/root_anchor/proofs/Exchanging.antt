@@ -4,7 +4,7 @@ use Rattle.std.proofs.lemmas.List.Elements.{Contains-append_left, Contains-appen
 use Rattle.ci_space.specs.declared.intervals.Shape.{Shape}
 use Rattle.ci_space.specs.Interval.{HasUsed, IsUsed}
 use Rattle.ci_overflow.specs.Lists.{bytes_at}
-use Rattle.root_anchor.specs.Elements.{Pointer}
+use Rattle.anchor_elements.specs.Elements.{Pointer}
 use Rattle.root_anchor.specs.Stored.{KeepsSequential}
 use Rattle.root_anchor.specs.Rebuilding.{Exchanges}
 use Rattle.root_anchor.proofs.Apart.{holds_or, apart-both}
@@ -20,7 +20,8 @@ sequential-joined shape a b c p q = record {
   intervals = λ ci k. q.intervals ci k ∙ p.intervals ci k;
 }
 
-pub used-stays : (old new : List ℕ) (at : ℕ) → ((type : ℕ) (content : List ℕ) → HasUsed old at type content → HasUsed new at type content) → IsUsed old at → IsUsed new at
+pub used-stays : (old new : List ℕ) (at : ℕ) → ((type : ℕ) (content : List ℕ) → HasUsed old at type content → HasUsed
+    new at type content) → IsUsed old at → IsUsed new at
 used-stays old new at f u = record { segment = u.segment; content = u.content; used = f u.segment u.content u.used }
 
 -- an exchange of some elements, and then one of others

@@ -6,7 +6,7 @@ use Rattle.fp_model.specs.declared.definitions.SegDef.{SegDef}
 use Rattle.fp_model.specs.declared.database.Node.{Node, roll-Node}
 use Rattle.fp_model.specs.declared.database.Root.{Root}
 use Rattle.fp_model.specs.Order.{child_types}
-use Rattle.root_anchor.specs.Elements.{Pointer, Segment, HasSegment}
+use Rattle.anchor_elements.specs.Elements.{Pointer, Segment, HasSegment}
 use Rattle.root_anchor.specs.Chains.{AreRows, no_row, row_end, segment, newest, AreRoots, no_root, root}
 use Rattle.root_anchor.proofs.Members.{none_in, front_in, behind_in, in_cases}
 

@@ -1,79 +1,118 @@
--- Elements that are given back, from the last to the first.
-use Rattle.std.proofs.Common.{◌≡◌, ℕ, suc, ◌-◌, ◌<◌, ◌≤◌, List, [], ◌∷◌, ◌++◌, length, get_or, take, drop, Contains, sym, ap, ◌∙◌, subst, arith}
+-- Elements that are given back, from the first to the last.
+use Rattle.std.proofs.Common.{◌≡◌, ℕ, zero, suc, ◌+◌, ◌<◌, ◌≤◌, ◌⊎◌, inl, inr, List, [], ◌∷◌, ◌++◌, length, get_or, take, drop, Contains, sym, ap, ◌∙◌, subst, arith}
 use Rattle.std.proofs.Math.Seq.{drop-cons}
-use Rattle.std.proofs.lemmas.List.{take-append-drop, drop_all, map-append}
-use Rattle.std.proofs.lemmas.List.Elements.{Contains-append_right}
+use Rattle.std.proofs.lemmas.List.{take-append-drop, map-append, take_all}
+use Rattle.std.proofs.lemmas.List.Elements.{Contains-append_left, Contains-append_right, Contains-append_cases}
 use Rattle.ci_space.specs.declared.intervals.Shape.{Shape}
 use Rattle.ci_space.specs.Interval.{IsUsed}
 use Rattle.ci_overflow.specs.Lists.{bytes_at, IsInOrder}
 use Rattle.ci_overflow.specs.Freed.{GivesBack}
-use Rattle.root_anchor.specs.Elements.{Pointer}
+use Rattle.anchor_elements.specs.Elements.{Pointer}
 use Rattle.root_anchor.specs.Standing.{places_of}
 use Rattle.root_anchor.specs.Rebuilding.{AreApart, Exchanges, AreGivable}
 use Rattle.root_anchor.specs.declared.standing.Standing.{Standing}
-use Rattle.root_anchor.proofs.Apart.{contains-one, apart-right}
-use Rattle.root_anchor.proofs.Members.{front_in}
+use Rattle.root_anchor.proofs.Apart.{contains-one, apart-disjoint}
+use Rattle.root_anchor.proofs.Members.{front_in, behind_in, in_cases}
 use Rattle.root_anchor.proofs.Exchanging.{exchange-both, used-stays}
 use Rattle.root_anchor.proofs.Planning.{exchange-none}
 use Rattle.root_anchor.proofs.Steps.{gives-back}
 
-pub given-none : (shape : Shape) (area : List (List ℕ)) (all : List Standing) (left : ℕ) → left ≡ length all
-    → IsInOrder shape area → Exchanges shape area area (places_of (drop left all)) []
-given-none shape area all left e o =
-    let d : drop left all ≡ [] = drop_all left all (omega arith) in
-    let P : List Standing → Type 0 = λ xs. Exchanges shape area area (places_of xs) [] in
-    subst P (sym d) (exchange-none shape area o)
+pub given-none : (shape : Shape) (area : List (List ℕ)) → IsInOrder shape area → Exchanges shape area area [] []
+given-none shape area o = exchange-none shape area o
 
--- the one that is next
-record IsNextPlace (area : List (List ℕ)) (all : List Standing) (left : ℕ) (one : Standing) : Type 0 where
-  here : places_of (drop (left - 1) all) ≡ one.at ∷ places_of (drop left all)
+-- only which elements give way matters, and not their order
+exchange-same : (shape : Shape) (old new : List (List ℕ)) (had other has : List Pointer)
+    → ((at : Pointer) → Contains had at → Contains other at) → ((at : Pointer) → Contains other at → Contains had at)
+    → Exchanges shape old new had has → Exchanges shape old new other has
+exchange-same shape old new had other has to from e = record {
+  in_order = e.in_order;
+  stay = λ at type content n h. e.stay at type content (λ c. n (to at c)) h;
+  none_comes = λ at type content n h. let x = e.none_comes at type content n h in ((λ c. x.0 (from at c)), x.1);
+  fresh = λ at c. elim (e.fresh at c) as (λ _. Contains other at ⊎ (¬ IsUsed (bytes_at old at.0) at.1))
+      [ inl x ↦ inl (to at x) | inr x ↦ inr x ];
+  used = e.used;
+  once = e.once;
+  roots = e.roots;
+  sequential = e.sequential;
+}
+
+-- the first elements, the next one, and the others
+record IsNextPlace (area : List (List ℕ)) (all : List Standing) (k : ℕ) (one : Standing) : Type 0 where
+  more : (at : Pointer) → Contains (one.at ∷ places_of (take k all)) at → Contains (places_of (take (k + 1) all)) at
+  back : (at : Pointer) → Contains (places_of (take (k + 1) all)) at → Contains (one.at ∷ places_of (take k all)) at
   used : IsUsed (bytes_at area one.at.0) one.at.1
-  apart : ¬ Contains (places_of (drop left all)) one.at
+  apart : ¬ Contains (places_of (take k all)) one.at
 
-next_place : (area : List (List ℕ)) (all : List Standing) (left : ℕ) (one : Standing) → AreGivable area (places_of all)
-    → 0 < left → left ≤ length all → one ≡ get_or all (left - 1) one → IsNextPlace area all left one
-next_place area all left one g z b e =
-    let k : suc (left - 1) ≡ left = omega arith in
-    let d : drop (left - 1) all ≡ one ∷ drop left all =
-    drop-cons all (left - 1) one (omega arith) ∙ ap (λ y. y ∷ drop (suc (left - 1)) all) (sym e) ∙ ap
-    (λ j. one ∷ drop j all) k in
-    let here : places_of (drop (left - 1) all) ≡ one.at ∷ places_of (drop left all) = ap places_of d in
-    let whole : places_of all ≡ places_of (take (left - 1) all) ++ (one.at ∷ places_of (drop left all)) =
-    ap places_of (sym (take-append-drop (left - 1) all)) ∙ map-append (λ (s : Standing). s.at) (take (left - 1) all)
-    (drop (left - 1) all) ∙ ap (λ xs. places_of (take (left - 1) all) ++ xs) here
-    in
+take_one : (xs : List Standing) (k : ℕ) (x : Standing) → k < length xs → x ≡ get_or xs k x
+    → take (k + 1) xs ≡ take k xs ++ x ∷ []
+take_one [] k x l e = absurd (omega arith)
+take_one (y ∷ ys) zero x l e = ap (λ (z : Standing). z ∷ []) (sym e)
+take_one (y ∷ ys) (suc k) x l e =
+    let n : suc k + 1 ≡ suc (k + 1) = omega arith in
+    ap (λ j. take j (y ∷ ys)) n ∙ ap (λ (zs : List Standing). y ∷ zs) (take_one ys k x (omega arith) e)
+
+next_place : (area : List (List ℕ)) (all : List Standing) (k : ℕ) (one : Standing) → AreGivable area (places_of all)
+    → k < length all → one ≡ get_or all k one → IsNextPlace area all k one
+next_place area all k one g b e =
+    let t : places_of (take (k + 1) all) ≡ places_of (take k all) ++ one.at ∷ [] =
+    ap places_of (take_one all k one b e) ∙ map-append (λ (s : Standing). s.at) (take k all) (one ∷ []) in
+    let d : drop k all ≡ one ∷ drop (suc k) all =
+    drop-cons all k one b ∙ ap (λ y. y ∷ drop (suc k) all) (sym e) in
+    let whole : places_of all ≡ places_of (take k all) ++ (one.at ∷ places_of (drop (suc k) all)) =
+    ap places_of (sym (take-append-drop k all)) ∙ map-append (λ (s : Standing). s.at) (take k all) (drop k all)
+    ∙ ap (λ xs. places_of (take k all) ++ places_of xs) d in
     let P : List Pointer → Type 0 = AreApart in
     let Q : List Pointer → Type 0 = λ xs. Contains xs one.at in
-    let a : AreApart (one.at ∷ places_of (drop left all)) =
-    apart-right (places_of (take (left - 1) all)) (one.at ∷ places_of (drop left all)) (subst P whole g.once) in
+    let here : Contains (one.at ∷ places_of (drop (suc k) all)) one.at =
+    front_in one.at (places_of (drop (suc k) all)) in
+    let R : (at : Pointer) → List Pointer → Type 0 = λ at xs. Contains xs at in
     record {
-      here = here;
-      used = g.used one.at (subst Q (sym whole) (Contains-append_right (places_of (take (left - 1) all))
-          (one.at ∷ places_of (drop left all)) one.at (front_in one.at (places_of (drop left all)))));
-      apart = a.0;
+      more = λ at c. subst (R at) (sym t) (elim (in_cases one.at (places_of (take k all)) at c) as
+          (λ _. Contains (places_of (take k all) ++ one.at ∷ []) at) [
+            | inl s ↦ Contains-append_right (places_of (take k all)) (one.at ∷ []) at
+                (let S : Pointer → Type 0 = λ p. Contains (one.at ∷ []) p in subst S s (front_in one.at []))
+            | inr x ↦ Contains-append_left (places_of (take k all)) (one.at ∷ []) at x
+          ]);
+      back = λ at c. elim (Contains-append_cases (places_of (take k all)) (one.at ∷ []) at (subst (R at) t c)) as
+          (λ _. Contains (one.at ∷ places_of (take k all)) at) [
+            | inl x ↦ behind_in one.at (places_of (take k all)) at x
+            | inr x ↦ (let S : Pointer → Type 0 = λ p. Contains (one.at ∷ places_of (take k all)) p in
+                subst S (contains-one one.at at x) (front_in one.at (places_of (take k all))))
+          ];
+      used = g.used one.at (subst Q (sym whole) (Contains-append_right (places_of (take k all))
+          (one.at ∷ places_of (drop (suc k) all)) one.at here));
+      apart = λ c. apart-disjoint (places_of (take k all)) (one.at ∷ places_of (drop (suc k) all)) one.at
+          (subst P whole g.once) c here;
     }
 
-pub given-used : (shape : Shape) (old now : List (List ℕ)) (all : List Standing) (left : ℕ) (one : Standing)
-    → AreGivable old (places_of all) → 0 < left → left ≤ length all → one ≡ get_or all (left - 1) one
-    → Exchanges shape old now (places_of (drop left all)) [] → IsUsed (bytes_at now one.at.0) one.at.1
-given-used shape old now all left one g z b e x =
-    let n = next_place old all left one g z b e in
+pub given-used : (shape : Shape) (old now : List (List ℕ)) (all : List Standing) (k : ℕ) (one : Standing)
+    → AreGivable old (places_of all) → k < length all → one ≡ get_or all k one
+    → Exchanges shape old now (places_of (take k all)) [] → IsUsed (bytes_at now one.at.0) one.at.1
+given-used shape old now all k one g b e x =
+    let n = next_place old all k one g b e in
     used-stays (bytes_at old one.at.0) (bytes_at now one.at.0) one.at.1
     (λ type content. x.stay one.at type content n.apart) n.used
 
-pub given-on : (shape : Shape) (old now new : List (List ℕ)) (all : List Standing) (left : ℕ) (one : Standing)
-    → AreGivable old (places_of all) → 0 < left → left ≤ length all → one ≡ get_or all (left - 1) one
-    → Exchanges shape old now (places_of (drop left all)) [] → GivesBack shape now new one.at.0 one.at.1
-    → IsInOrder shape new → Exchanges shape old new (places_of (drop (left - 1) all)) []
-given-on shape old now new all left one g z b e x y o =
-    let n = next_place old all left one g z b e in
+pub given-on : (shape : Shape) (old now new : List (List ℕ)) (all : List Standing) (k : ℕ) (one : Standing)
+    → AreGivable old (places_of all) → k < length all → one ≡ get_or all k one
+    → Exchanges shape old now (places_of (take k all)) [] → GivesBack shape now new one.at.0 one.at.1
+    → IsInOrder shape new → Exchanges shape old new (places_of (take (k + 1) all)) []
+given-on shape old now new all k one g b e x y o =
+    let n = next_place old all k one g b e in
     let u : (at : Pointer) → Contains (one.at ∷ []) at → IsUsed (bytes_at old at.0) at.1 =
     λ at c. let P : Pointer → Type 0 = λ p. IsUsed (bytes_at old p.0) p.1 in
     subst P (contains-one one.at at c) n.used in
-    let d : (at : Pointer) → Contains (one.at ∷ []) at → ¬ Contains (places_of (drop left all)) at =
-    λ at c m. let P : Pointer → Type 0 = λ p. Contains (places_of (drop left all)) p in
+    let d : (at : Pointer) → Contains (one.at ∷ []) at → ¬ Contains (places_of (take k all)) at =
+    λ at c m. let P : Pointer → Type 0 = λ p. Contains (places_of (take k all)) p in
     n.apart (subst P (sym (contains-one one.at at c)) m)
     in
-    let P : List Pointer → Type 0 = λ had. Exchanges shape old new had [] in
-    subst P (sym n.here) (exchange-both shape old now new (places_of (drop left all)) [] (one.at ∷ []) [] x
+    exchange-same shape old new (one.at ∷ places_of (take k all)) (places_of (take (k + 1) all)) [] n.more n.back
+    (exchange-both shape old now new (places_of (take k all)) [] (one.at ∷ []) [] x
     (gives-back shape now new one.at y o) u d)
+
+-- all of them
+pub given-all : (shape : Shape) (old new : List (List ℕ)) (all : List Standing) (k : ℕ) → length all ≤ k
+    → Exchanges shape old new (places_of (take k all)) [] → Exchanges shape old new (places_of all) []
+given-all shape old new all k l x =
+    let P : List Standing → Type 0 = λ xs. Exchanges shape old new (places_of xs) [] in
+    subst P (take_all k all l) x

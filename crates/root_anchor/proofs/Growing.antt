@@ -11,9 +11,9 @@ use Rattle.fp_model.specs.declared.database.Node.{Node, out-Node}
 use Rattle.fp_model.specs.declared.database.Node.TheFolds.{fold_out-Node}
 use Rattle.fp_model.specs.declared.database.Root.{Root}
 use Rattle.fp_model.specs.Order.{child_types}
-use Rattle.root_anchor.specs.Elements.{Pointer, nothing}
+use Rattle.anchor_elements.specs.Elements.{Pointer, nothing}
 use Rattle.root_anchor.specs.Chains.{newest}
-use Rattle.root_anchor.specs.Stored.{AreTypes}
+use Rattle.anchor_elements.specs.Elements.{AreTypes}
 use Rattle.root_anchor.specs.Rebuilding.{Exchanges, HaveRoom, AreReserved, PlacesSegment, reserved, types_of, IsPlanned, RowsStand, RootsStand, BuildsRows, BuildsRoots, BuildsSegment, types_step, types_below, types_in_rows, types_of_row, types_of_rows, types_of_segment, types_of_roots}
 use Rattle.root_anchor.specs.declared.plan.Planned.{Planned}
 use Rattle.root_anchor.proofs.Exchanging.{exchange-both}

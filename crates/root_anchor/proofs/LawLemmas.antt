@@ -6,7 +6,7 @@ use Rattle.ci_overflow.specs.Lists.{IsInPlace}
 use Rattle.ci_overflow.specs.Places.{base_of}
 use Rattle.fp_model.specs.declared.definitions.SegDef.{SegDef}
 use Rattle.fp_model.specs.declared.database.Root.{Root}
-use Rattle.root_anchor.specs.Elements.{Pointer, Segment, HasSegment}
+use Rattle.anchor_elements.specs.Elements.{Pointer, Segment, HasSegment}
 use Rattle.root_anchor.specs.Chains.{AreRoots, root_of, IsChain}
 use Rattle.root_anchor.proofs.Framing.{roots_stay}
 use Rattle.root_anchor.proofs.OneChain.{HasSome, chain_has}

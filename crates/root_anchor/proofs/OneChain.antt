@@ -11,7 +11,7 @@ use Rattle.fp_model.specs.declared.definitions.SegDef.{SegDef}
 use Rattle.fp_model.specs.declared.database.Node.{Node, roll-Node}
 use Rattle.fp_model.specs.declared.database.Root.{Root}
 use Rattle.fp_model.specs.Order.{child_types}
-use Rattle.root_anchor.specs.Elements.{Pointer, nothing, Segment, segment_in, HasSegment}
+use Rattle.anchor_elements.specs.Elements.{Pointer, nothing, Segment, segment_in, HasSegment}
 use Rattle.root_anchor.specs.Chains.{AreRows, no_row, row_end, segment, newest, AreRoots, no_root, root, IsChain}
 use Rattle.root_anchor.proofs.Members.{none_in, in_cases}
 

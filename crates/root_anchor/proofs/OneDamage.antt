@@ -8,11 +8,12 @@ use Rattle.ci_overflow.specs.Lists.{bytes_at}
 use Rattle.fp_model.specs.declared.definitions.SegDef.{SegDef}
 use Rattle.fp_model.specs.declared.database.Node.{Node}
 use Rattle.fp_model.specs.Order.{child_types}
-use Rattle.root_anchor.specs.Elements.{Pointer, Segment, HasSegment}
+use Rattle.anchor_elements.specs.Elements.{Pointer, Segment, HasSegment}
 use Rattle.root_anchor.specs.Chains.{AreRows}
-use Rattle.root_anchor.specs.Damage.{IsWrong, leads_to_no_interval, leads_to_no_element, leads_to_no_segment, leads_back, RowsFail, here, below, at_twin, next_row, RootsFail, root_here, below_root, next_root, ChainFails, no_base, wrong_pointer}
+use Rattle.anchor_elements.specs.Wrong.{IsWrong, leads_to_no_interval, leads_to_no_element, leads_to_no_segment, leads_back}
+use Rattle.root_anchor.specs.Damage.{RowsFail, here, below, at_twin, next_row, RootsFail, root_here, below_root, next_root, ChainFails, no_base, wrong_pointer}
 use Rattle.root_anchor.proofs.Members.{none_in, in_cases}
-use Rattle.root_anchor.proofs.ReadLemmas.{content_interval}
+use Rattle.anchor_elements.proofs.ReadLemmas.{content_interval}
 use Rattle.root_anchor.proofs.OneChain.{HasSome, one_segment, none_at_nothing, stands_in_interval, one_rows, rows_have}
 use Rattle.root_anchor.proofs.Sound.{right, fails_so, roots_fail_so, rows_sound}
 

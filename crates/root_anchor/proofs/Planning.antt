@@ -6,7 +6,7 @@ use Rattle.ci_space.specs.declared.intervals.Shape.{Shape}
 use Rattle.ci_space.specs.Interval.{HasUsed, IsUsed, HasRoom}
 use Rattle.ci_overflow.specs.Lists.{bytes_at, IsInOrder}
 use Rattle.fp_model.specs.declared.definitions.SegDef.{SegDef}
-use Rattle.root_anchor.specs.Elements.{Pointer, content_length}
+use Rattle.anchor_elements.specs.Elements.{Pointer, content_length}
 use Rattle.root_anchor.specs.Rebuilding.{AreApart, Exchanges, and_place, reserved, types_of, HaveRooms, AreReserved, IsPlanned}
 use Rattle.root_anchor.specs.declared.plan.Planned.{Planned}
 use Rattle.root_anchor.proofs.Apart.{apart-left, apart-right, apart-disjoint}

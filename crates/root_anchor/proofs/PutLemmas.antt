@@ -1,5 +1,5 @@
 -- What stays where a segment or a root anchor point is put.
-use Rattle.std.proofs.Common.{◌≡◌, ◌≢◌, ℕ, ◌+◌, ◌-◌, ◌*◌, ◌%◌, ◌<◌, ◌≤◌, ◌⊎◌, inl, inr, false, List, [], ◌∷◌, length, slice_index, refl, sym, ap, ◌∙◌, subst, arith}
+use Rattle.std.proofs.Common.{◌≡◌, ◌≢◌, ℕ, ◌+◌, ◌-◌, ◌*◌, ◌%◌, ◌<◌, ◌≤◌, inl, inr, false, List, [], ◌∷◌, length, slice_index, refl, sym, ap, ◌∙◌, subst, arith}
 use Rattle.std.proofs.lemmas.Nat.{mul-le, mod-mul-add, same_from_place, div_below}
 use Rattle.std.proofs.lemmas.List.{get_or_past}
 use Rattle.std.proofs.lemmas.Bool.{cases_lt}
@@ -17,23 +17,14 @@ use Rattle.ci_overflow.proofs.Joins.{keeps-head}
 use Rattle.ci_overflow.proofs.Finds.{same_or, control-first, base-some}
 use Rattle.ci_overflow.proofs.Orders.{list-stays}
 use Rattle.fp_model.specs.declared.definitions.SegDef.{SegDef}
-use Rattle.root_anchor.specs.Elements.{Pointer, Segment, HasSegment, content_length}
+use Rattle.anchor_elements.specs.Elements.{Pointer, Segment, HasSegment, content_length}
 use Rattle.root_anchor.specs.Chains.{anchor_count, root_of}
 use Rattle.root_anchor.specs.Stored.{KeepsSequential}
-use Rattle.root_anchor.specs.Puts.{PutsSegment, PutsRoot}
+use Rattle.anchor_elements.specs.Puts.{PutsSegment}
+use Rattle.anchor_elements.proofs.Pointers.{same_pointer}
+use Rattle.root_anchor.specs.Puts.{PutsRoot}
 
 -- ---- places
-
-pub same_pointer : (p q : Pointer) → p.0 ≡ q.0 → p.1 ≡ q.1 → p ≡ q
-same_pointer p q e f = ap (λ (a : ℕ). (let x : Pointer = (a, p.1) in x)) e ∙ ap
-    (λ (b : ℕ). (let x : Pointer = (q.0, b) in x)) f
-
-pub pointer_or : (p q : Pointer) → (p ≡ q) ⊎ (p ≢ q)
-pointer_or p q = elim (same_or p.0 q.0) as (λ _. (p ≡ q) ⊎ (p ≢ q)) [
-  | inl e ↦ elim (same_or p.1 q.1) as (λ _. (p ≡ q) ⊎ (p ≢ q))
-      [ inl f ↦ inl (same_pointer p q e f) | inr f ↦ inr (λ h. f (ap (λ (x : Pointer). x.1) h)) ]
-  | inr e ↦ inr (λ h. e (ap (λ (x : Pointer). x.0) h))
-]
 
 -- an interval of the area stands within it
 pub within_area : (area : List (List ℕ)) (ci : ℕ) → IsInterval (bytes_at area ci) → ci < length area

@@ -8,11 +8,11 @@ use Rattle.ci_overflow.specs.Lists.{bytes_at, IsInOrder, IsInPlace}
 use Rattle.ci_overflow.proofs.Finds.{same_or}
 use Rattle.fp_model.specs.declared.definitions.SegDef.{SegDef}
 use Rattle.fp_model.specs.declared.database.Root.{Root}
-use Rattle.root_anchor.specs.Elements.{Pointer}
+use Rattle.anchor_elements.specs.Elements.{Pointer}
 use Rattle.root_anchor.specs.Chains.{IsChain, AreRoots, anchor_count, root_of}
 use Rattle.root_anchor.specs.Formed.{IsFormed, HasChain, HasRoots, Meets, IsMet}
 use Rattle.root_anchor.specs.Puts.{PutsRoot}
-use Rattle.root_anchor.specs.Stored.{KeepsSequential, OthersKeep}
+use Rattle.root_anchor.specs.Stored.{KeepsSequential, OthersKeep, ApartKeep}
 use Rattle.std.proofs.lemmas.List.{append-nil}
 use Rattle.root_anchor.specs.Standing.{places_of, AreStanding}
 use Rattle.root_anchor.specs.declared.plan.Planned.{Planned}
@@ -72,6 +72,22 @@ module _ (shape : Shape) (types : List SegDef) (old middle new : List (List ℕ)
   new-sequential = sequential-joined shape old middle new it.exchange.sequential
       (root_keeps_sequential shape middle new anchor first it.put it.below)
 
+  -- an anchor keeps its roots that had none of those elements
+  pub apart-stays : (other : ℕ) (rs : List Root) (es : List Pointer) → other < anchor_count shape → other ≢ anchor
+      → IsChain shape types old other rs es → ((at : Pointer) → Contains es at → ¬ Contains had at)
+      → IsChain shape types new other rs es
+  apart-stays other rs es b n c apart =
+      let stay : Stay types old new [] es = record {
+        each = λ p h _ type s x. segment_stays types old new type p s
+            (λ content. stays p type content (apart p h)) x;
+      } in
+      let there : AreRoots types new [] (root_of shape old other) rs es = roots_stay c.are_roots stay in
+      let e : root_of shape new other ≡ root_of shape old other =
+      root_keeps_roots shape middle new anchor first it.put it.below other b n ∙ it.exchange.roots
+      (base_of shape other) in
+      let P : Pointer → Type 0 = λ at. AreRoots types new [] at rs es in
+      record { base = base-in-place shape new other new-order b; are_roots = subst P (sym e) there }
+
   module _ (types_had : List Pointer) (olds : List Root) (chain : IsChain shape types old anchor olds types_had)
       (same : (at : Pointer) → Contains had at → Contains types_had at)
       (back : (at : Pointer) → Contains types_had at → Contains had at) (formed : IsFormed shape types old) where
@@ -86,19 +102,13 @@ module _ (shape : Shape) (types : List SegDef) (old middle new : List (List ℕ)
     apart-had other at b n m c = n (formed.apart other anchor at b it.below m
         (record { roots = olds; elements = types_had; is_chain = chain; met = same at c }))
 
+    others-stay : (other : ℕ) (rs : List Root) (es : List Pointer) → other < anchor_count shape → other ≢ anchor
+        → IsChain shape types old other rs es → IsChain shape types new other rs es
+    others-stay other rs es b n c = apart-stays other rs es b n c
+        (λ p h. apart-had other p b n (record { roots = rs; elements = es; is_chain = c; met = h }))
+
     pub others-keep : OthersKeep shape types old new anchor
-    others-keep other rs es b n c =
-        let stay : Stay types old new [] es = record {
-          each = λ p h _ type s x. segment_stays types old new type p s
-              (λ content. stays p type content (apart-had other p b n
-              (record { roots = rs; elements = es; is_chain = c; met = h }))) x;
-        } in
-        let there : AreRoots types new [] (root_of shape old other) rs es = roots_stay c.are_roots stay in
-        let e : root_of shape new other ≡ root_of shape old other =
-        root_keeps_roots shape middle new anchor first it.put it.below other b n ∙ it.exchange.roots
-        (base_of shape other) in
-        let P : Pointer → Type 0 = λ at. AreRoots types new [] at rs es in
-        record { base = base-in-place shape new other new-order b; are_roots = subst P (sym e) there }
+    others-keep = record { keep = others-stay }
 
     -- what is met in the new area
     met-new : (at : Pointer) → Meets shape types new anchor at → Contains has at
@@ -116,7 +126,7 @@ module _ (shape : Shape) (types : List SegDef) (old middle new : List (List ℕ)
           roots = h.roots;
           elements = h.elements;
           is_chain = h.is_chain;
-          met = subst P ((one_chain m.is_chain (others-keep other h.roots h.elements b n h.is_chain)).1) m.met;
+          met = subst P ((one_chain m.is_chain (others-stay other h.roots h.elements b n h.is_chain)).1) m.met;
         }
 
     used-before : (other : ℕ) (at : Pointer) → Meets shape types old other at → IsUsed (bytes_at old at.0) at.1
@@ -155,7 +165,7 @@ module _ (shape : Shape) (types : List SegDef) (old middle new : List (List ℕ)
             roots = h.roots;
             elements = h.elements;
             is_chain =
-                others-keep other h.roots h.elements b n h.is_chain;
+                others-stay other h.roots h.elements b n h.is_chain;
           })
     ]
 
@@ -190,7 +200,7 @@ module _ (shape : Shape) (types : List SegDef) (old middle new : List (List ℕ)
                     roots = m.meets.roots;
                     elements = m.meets.elements;
                     is_chain =
-                        others-keep m.anchor m.meets.roots m.meets.elements m.below d m.meets.is_chain;
+                        others-stay m.anchor m.meets.roots m.meets.elements m.below d m.meets.is_chain;
                     met =
                         m.meets.met;
                   };
@@ -315,6 +325,30 @@ stores shape types old now new anchor all rest slice plan roots e s b f a h r =
     let P : List (List ℕ) → Type 0 = λ area. Rebuilds shape types area new anchor plan slice roots in
     let Q : List Standing → Type 0 = λ xs. Rebuilds shape types old new anchor plan xs roots in
     is-stored shape types old new anchor all rest plan roots b f a h (subst Q s (subst P e r))
+
+-- an anchor that shares no element with this one keeps its roots, in any area in order
+pub apart-kept : (shape : Shape) (types : List SegDef) (old now new : List (List ℕ)) (anchor : ℕ)
+    (all rest slice : List Standing) (plan : List Planned) (roots : List Root) → now ≡ old → slice ≡ rest
+    → anchor < anchor_count shape → AreStanding shape types old anchor all → Shares all plan rest
+    → Rebuilds shape types now new anchor plan slice roots → ApartKeep shape types old new anchor
+apart-kept shape types old now new anchor all rest slice plan roots e f b a s r0 =
+    let P : List (List ℕ) → Type 0 = λ area. Rebuilds shape types area new anchor plan slice roots in
+    let Q : List Standing → Type 0 = λ xs. Rebuilds shape types old new anchor plan xs roots in
+    let r : Rebuilds shape types old new anchor plan rest roots = subst Q f (subst P e r0) in
+    let had : List Pointer = reserved plan ++ places_of rest in
+    let it : IsRebuilt shape types old r.middle new anchor had r.elements r.first roots = record {
+      below = b;
+      exchange =
+          r.exchange;
+      stand = r.stand;
+      put = r.put;
+    } in
+    record {
+      keep = λ other rs mine es of_mine l n c m d.
+          apart-stays shape types old r.middle new anchor had r.elements r.first roots it other rs es l n c
+          (λ at h k. d at h (let R : List Pointer → Type 0 = λ xs. Contains xs at in
+          subst R ((one_chain a.is_chain m).1) ((a.same at).0 (s.has at k))));
+    }
 
 -- an anchor has the roots that stand in its elements
 pub has_chain : {shape : Shape} {types : List SegDef} {area : List (List ℕ)} {anchor : ℕ} {list : List Standing}

@@ -6,7 +6,7 @@ use Rattle.fp_model.specs.declared.database.Node.{Node, out-Node, roll-Node}
 use Rattle.fp_model.specs.declared.database.Node.TheViews.{roll-out-Node}
 use Rattle.fp_model.specs.declared.database.Root.{Root}
 use Rattle.fp_model.specs.Order.{child_types}
-use Rattle.root_anchor.specs.Elements.{Pointer, nothing, Segment, HasSegment}
+use Rattle.anchor_elements.specs.Elements.{Pointer, nothing, Segment, HasSegment}
 use Rattle.root_anchor.specs.Chains.{AreRows, no_row, row_end, segment, newest, AreRoots, no_root, root}
 use Rattle.root_anchor.specs.Rebuilding.{AreApart, met_after, RowsStand, RootsStand}
 use Rattle.root_anchor.proofs.Apart.{apart-disjoint, met-cases, met-append}

@@ -7,7 +7,7 @@ use Rattle.ci_space.specs.declared.intervals.Shape.{Shape}
 use Rattle.ci_space.specs.Interval.{HasRoom}
 use Rattle.ci_overflow.specs.Lists.{bytes_at}
 use Rattle.fp_model.specs.declared.definitions.SegDef.{SegDef}
-use Rattle.root_anchor.specs.Elements.{Pointer, content_length}
+use Rattle.anchor_elements.specs.Elements.{Pointer, content_length}
 use Rattle.root_anchor.specs.Standing.{places_of, Stands, AreStanding}
 use Rattle.root_anchor.specs.Rebuilding.{AreApart, reserved, HaveRoom, HaveRooms, AreReserved, TakesOut, IsOneOf, AreTyped, Shares}
 use Rattle.root_anchor.specs.declared.plan.Planned.{Planned}

@@ -14,15 +14,15 @@ use Rattle.ci_overflow.proofs.Finds.{same_or, base-some}
 use Rattle.ci_overflow.proofs.FaultLemmas.{kind-base}
 use Rattle.ci_space.specs.declared.head.Head.{Head}
 use Rattle.fp_model.specs.declared.definitions.SegDef.{SegDef}
-use Rattle.root_anchor.specs.Elements.{Pointer, Segment, content_length}
-use Rattle.root_anchor.specs.Puts.{PutsSegment}
+use Rattle.anchor_elements.specs.Elements.{Pointer, Segment, content_length}
+use Rattle.anchor_elements.specs.Puts.{PutsSegment}
 use Rattle.root_anchor.specs.Rebuilding.{Exchanges, and_place, HaveRoom, TakesPlace, PlacesSegment}
 use Rattle.root_anchor.proofs.Exchanging.{exchange-again}
 use Rattle.root_anchor.specs.Chains.{anchor_count}
 use Rattle.root_anchor.proofs.PutLemmas.{uow_below, put_keeps_order, put_keeps_head, put_keeps_sequential}
 use Rattle.root_anchor.proofs.Apart.{contains-one}
 use Rattle.root_anchor.proofs.Members.{none_in, front_in}
-use Rattle.root_anchor.proofs.PutLemmas.{same_pointer}
+use Rattle.anchor_elements.proofs.Pointers.{same_pointer}
 
 -- ---- where elements stand
 
@@ -40,11 +40,13 @@ used-below area at u = elim (cases_lt at.0 (length area)) as (λ _. at.0 < lengt
 pub used-elements : (bytes : List ℕ) (at : ℕ) → IsUsed bytes at → has_elements (kind_of bytes) ≡ true
 used-elements bytes at u = used-kind bytes u.used.before u.used.after (Used u.segment u.content) u.used.tiles
 
-pub used-kind-at : (shape : Shape) (area : List (List ℕ)) (at : Pointer) → IsInOrder shape area → IsUsed (bytes_at area at.0) at.1 → has_elements (kind_at shape at.0) ≡ true
+pub used-kind-at : (shape : Shape) (area : List (List ℕ)) (at : Pointer) → IsInOrder shape area → IsUsed (bytes_at area
+    at.0) at.1 → has_elements (kind_at shape at.0) ≡ true
 used-kind-at shape area at o u = ap has_elements (sym (o.in_place at.0 (used-below area at u)).is_kind) ∙ used-elements
     (bytes_at area at.0) at.1 u
 
-pub used-not-sequential : (shape : Shape) (area : List (List ℕ)) (at : Pointer) (ci : ℕ) → IsInOrder shape area → IsUsed (bytes_at area at.0) at.1 → kind_at shape ci ≡ 4 → ci ≢ at.0
+pub used-not-sequential : (shape : Shape) (area : List (List ℕ)) (at : Pointer) (ci : ℕ) → IsInOrder shape area → IsUsed
+    (bytes_at area at.0) at.1 → kind_at shape ci ≡ 4 → ci ≢ at.0
 used-not-sequential shape area at ci o u k e =
     let h : has_elements 4 ≡ true = ap has_elements (sym k) ∙ ap (λ c. has_elements (kind_at shape c)) e ∙ used-kind-at
     shape area at o u in

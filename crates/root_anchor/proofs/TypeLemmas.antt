@@ -1,20 +1,19 @@
 -- What the types of a database fit into, and which are direct.
-use Rattle.std.proofs.Common.{◌≡◌, ◌≢◌, ℕ, zero, suc, ◌+◌, ◌-◌, ◌*◌, ◌/◌, ◌^◌, ◌<◌, ◌≤◌, inl, inr, Bool, true, false, not, ◌&&◌, ◌==◌, List, [], ◌∷◌, length, slice_get, get_or, map, Option, Some, None, IfSome, if◌then◌else◌, refl, sym, ap, ◌∙◌, subst, arith}
-use Rattle.std.specs.List.{list_all}
+use Rattle.std.proofs.Common.{◌≡◌, ◌≢◌, ℕ, zero, suc, ◌+◌, ◌-◌, ◌*◌, ◌/◌, ◌^◌, ◌<◌, ◌≤◌, inl, inr, Bool, true, false, not, ◌&&◌, ◌==◌, List, [], ◌∷◌, length, slice_get, get_or, Option, Some, None, IfSome, if◌then◌else◌, refl, sym, ap, ◌∙◌, subst, arith}
 use Rattle.std.proofs.lemmas.Option.{slice_get_cases}
 use Rattle.fp_model.specs.declared.database.Node.{Node, out-Node}
 use Rattle.fp_model.specs.declared.database.Node.TheFolds.{fold_out-Node}
 use Rattle.fp_model.specs.declared.database.Root.{Root}
-use Rattle.fp_model.specs.State.{ascend}
-use Rattle.fp_model.specs.Order.{key_in, is_child_of, numbers_from, child_types}
-use Rattle.fp_model.specs.Shape.{Seen, has_length, is_row, are_rows, seen_step, seen_as}
+use Rattle.fp_model.specs.Order.{is_child_of, numbers_from, child_types}
+use Rattle.fp_model.specs.Shape.{has_length}
 use Rattle.std.specs.Option.{option_map_or}
 use Rattle.ci_space.specs.Element.{size_for}
 use Rattle.ci_overflow.specs.Faults.{FitsEmpty}
 use Rattle.fp_model.specs.declared.definitions.SegDef.{SegDef}
 use Rattle.fp_model.specs.WellFormed.{HavePlaces, EachFits, stored_length, in_fours, has_sequential}
-use Rattle.root_anchor.specs.Elements.{has_serial, serial_length, segment_length, content_length}
-use Rattle.root_anchor.specs.Stored.{AreTypes, is_newest, is_storable, are_storable}
+use Rattle.anchor_elements.specs.Elements.{has_serial, serial_length, segment_length, content_length}
+use Rattle.anchor_elements.specs.Elements.{AreTypes}
+use Rattle.root_anchor.specs.Stored.{is_newest, is_storable, are_storable, form_step, is_in_form, row_has_form, rows_have_form}
 use Rattle.root_anchor.specs.Rebuilding.{IsDirect}
 
 -- ---- what a type fits into
@@ -205,51 +204,48 @@ root_direct (def ∷ defs) b h = pick_false def.sequential (λ e. let x : 0 ≡ 
 pub root-direct : (size : ℕ) (types : List SegDef) → AreTypes size types → IsDirect types 0
 root-direct size types a = record { defined = a.some; direct = root_direct types a.some a.places }
 
--- ---- rows in the shape of their types
+-- ---- rows in form
 
 pub rows-count : (types : List SegDef) (kinds : List ℕ) (rows : List (List Node))
-    → are_rows types kinds (map (map (seen_as types)) rows) ≡ true → length rows ≡ length kinds
+    → rows_have_form types kinds rows ≡ true → length rows ≡ length kinds
 rows-count types [] [] e = refl
 rows-count types [] (row ∷ rows) e = absurd (cc)
 rows-count types (t ∷ kinds) [] e = absurd (cc)
 rows-count types (t ∷ kinds) (row ∷ rows) e =
     omega (
       arith,
-      rows-count types kinds rows (and_right (is_row types t (map (seen_as types) row))
-          (are_rows types kinds (map (map (seen_as types)) rows)) e),
+      rows-count types kinds rows (and_right (row_has_form types t row)
+          (rows_have_form types kinds rows) e),
     )
 
 row_at : (types : List SegDef) (kinds : List ℕ) (rows : List (List Node)) (k : ℕ) (d : List Node)
-    → are_rows types kinds (map (map (seen_as types)) rows) ≡ true → k < length rows
-    → is_row types (get_or kinds k 0) (map (seen_as types) (get_or rows k d)) ≡ true
+    → rows_have_form types kinds rows ≡ true → k < length rows
+    → row_has_form types (get_or kinds k 0) (get_or rows k d) ≡ true
 row_at types kinds [] k d e b = absurd (omega (arith, b))
 row_at types [] (row ∷ rows) k d e b = absurd (cc)
-row_at types (t ∷ kinds) (row ∷ rows) zero d e b = and_left (is_row types t (map (seen_as types) row))
-    (are_rows types kinds (map (map (seen_as types)) rows)) e
+row_at types (t ∷ kinds) (row ∷ rows) zero d e b = and_left (row_has_form types t row)
+    (rows_have_form types kinds rows) e
 row_at types (t ∷ kinds) (row ∷ rows) (suc k) d e b =
-    row_at types kinds rows k d (and_right (is_row types t (map (seen_as types) row))
-    (are_rows types kinds (map (map (seen_as types)) rows)) e) (omega (arith, b))
+    row_at types kinds rows k d (and_right (row_has_form types t row)
+    (rows_have_form types kinds rows) e) (omega (arith, b))
 
 pub rows-row : (types : List SegDef) (kinds : List ℕ) (rows : List (List Node)) (k : ℕ) (row : List Node) (type : ℕ)
-    → are_rows types kinds (map (map (seen_as types)) rows) ≡ true → k < length rows
-    → row ≡ get_or rows k row → type ≡ get_or kinds k 0 → is_row types type (map (seen_as types) row) ≡ true
-rows-row types kinds rows k row type e b r t = ap (λ x. is_row types x (map (seen_as types) row)) t ∙ ap
-    (λ x. is_row types (get_or kinds k 0) (map (seen_as types) x)) r ∙ row_at types kinds rows k row e b
+    → rows_have_form types kinds rows ≡ true → k < length rows
+    → row ≡ get_or rows k row → type ≡ get_or kinds k 0 → row_has_form types type row ≡ true
+rows-row types kinds rows k row type e b r t = ap (λ x. row_has_form types x row) t ∙ ap
+    (λ x. row_has_form types (get_or kinds k 0) x) r ∙ row_at types kinds rows k row e b
 
-all_in_shape : (types : List SegDef) (type : ℕ) (row : List Node) (k : ℕ) (d : Node)
-    → list_all (λ seen. (seen type).in_shape) (map (seen_as types) row) ≡ true → k < length row
-    → (seen_as types (get_or row k d) type).in_shape ≡ true
-all_in_shape types type [] k d e b = absurd (omega (arith, b))
-all_in_shape types type (n ∷ row) zero d e b = and_left (seen_as types n type).in_shape
-    (list_all (λ seen. (seen type).in_shape) (map (seen_as types) row)) e
-all_in_shape types type (n ∷ row) (suc k) d e b = all_in_shape types type row k d
-    (and_right (seen_as types n type).in_shape (list_all (λ seen. (seen type).in_shape) (map (seen_as types) row)) e)
-    (omega (arith, b))
+all_in_form : (types : List SegDef) (type : ℕ) (row : List Node) (k : ℕ) (d : Node)
+    → row_has_form types type row ≡ true → k < length row → is_in_form types (get_or row k d) type ≡ true
+all_in_form types type [] k d e b = absurd (omega (arith, b))
+all_in_form types type (n ∷ row) zero d e b = and_left (is_in_form types n type) (row_has_form types type row) e
+all_in_form types type (n ∷ row) (suc k) d e b = all_in_form types type row k d
+    (and_right (is_in_form types n type) (row_has_form types type row) e) (omega (arith, b))
 
--- a segment of a row is as long as its type says, and has rows in shape below it
-pub record InShape (types : List SegDef) (type : ℕ) (node : Node) : Type 0 where
+-- a segment of a row is as long as its type says, and has rows in form below it
+pub record HasForm (types : List SegDef) (type : ℕ) (node : Node) : Type 0 where
   pub bytes : length (out-Node node).bytes ≡ segment_length types type
-  pub rows : are_rows types (child_types types type) (map (map (seen_as types)) (out-Node node).children) ≡ true
+  pub rows : rows_have_form types (child_types types type) (out-Node node).children ≡ true
 
 same_length : (types : List SegDef) (o : Option SegDef) (bytes : List ℕ)
     → option_map_or (λ (def : SegDef). length bytes == def.length) o false ≡ true
@@ -262,32 +258,28 @@ pub length-is : (types : List SegDef) (type : ℕ) (bytes : List ℕ) → has_le
 length-is types type bytes e = same_length types (slice_get types type) bytes e
 
 pub row-node : (types : List SegDef) (type : ℕ) (row : List Node) (k : ℕ) (node : Node)
-    → is_row types type (map (seen_as types) row) ≡ true → k < length row → node ≡ get_or row k node
-    → InShape types type node
+    → row_has_form types type row ≡ true → k < length row → node ≡ get_or row k node
+    → HasForm types type node
 row-node types type row k node e b n =
-    let all : list_all (λ seen. (seen type).in_shape) (map (seen_as types) row) ≡ true =
-    and_left (list_all (λ seen. (seen type).in_shape) (map (seen_as types) row))
-    (ascend (map (λ seen. key_in types type (seen type).bytes) (map (seen_as types) row))) e
-    in
-    let here : (seen_as types node type).in_shape ≡ true =
-    ap (λ x. (seen_as types x type).in_shape) n ∙ all_in_shape types type row k node all b in
-    let step : (has_length types type (out-Node node).bytes && are_rows types (child_types types type)
-    (map (map (seen_as types)) (out-Node node).children)) ≡ true =
-    sym (ap (λ (f : ℕ → Seen). (f type).in_shape) (fold_out-Node (ℕ → Seen) (seen_step types) node)) ∙ here
+    let here : is_in_form types node type ≡ true =
+    ap (λ x. is_in_form types x type) n ∙ all_in_form types type row k node e b in
+    let step : (has_length types type (out-Node node).bytes && rows_have_form types (child_types types type)
+    (out-Node node).children) ≡ true =
+    sym (ap (λ (f : ℕ → Bool). f type) (fold_out-Node (ℕ → Bool) (form_step types) node)) ∙ here
     in
     record {
       bytes = length-is types type (out-Node node).bytes
           (and_left (has_length types type (out-Node node).bytes)
-          (are_rows types (child_types types type) (map (map (seen_as types)) (out-Node node).children)) step);
+          (rows_have_form types (child_types types type) (out-Node node).children) step);
       rows = and_right (has_length types type (out-Node node).bytes)
-          (are_rows types (child_types types type) (map (map (seen_as types)) (out-Node node).children)) step;
+          (rows_have_form types (child_types types type) (out-Node node).children) step;
     }
 
--- ---- roots in the shape of their types
+-- ---- roots in form
 
-pub record RootInShape (types : List SegDef) (root : Root) : Type 0 where
+pub record RootHasForm (types : List SegDef) (root : Root) : Type 0 where
   pub bytes : length root.bytes ≡ segment_length types 0
-  pub rows : are_rows types (child_types types 0) (map (map (seen_as types)) root.children) ≡ true
+  pub rows : rows_have_form types (child_types types 0) root.children ≡ true
   pub seqs : is_newest types root.seqs ≡ true
 
 root_at : (types : List SegDef) (roots : List Root) (k : ℕ) (d : Root) → are_storable types roots ≡ true
@@ -298,11 +290,11 @@ root_at types (r ∷ roots) (suc k) d e b = root_at types roots k d
     (and_right (is_storable types r) (are_storable types roots) e) (omega (arith, b))
 
 pub roots-root : (types : List SegDef) (roots : List Root) (k : ℕ) (root : Root) → are_storable types roots ≡ true
-    → k < length roots → root ≡ get_or roots k root → RootInShape types root
+    → k < length roots → root ≡ get_or roots k root → RootHasForm types root
 roots-root types roots k root e b r =
     let here : is_storable types root ≡ true = ap (is_storable types) r ∙ root_at types roots k root e b in
     let one : Bool = has_length types 0 root.bytes in
-    let two : Bool = are_rows types (child_types types 0) (map (map (seen_as types)) root.children) in
+    let two : Bool = rows_have_form types (child_types types 0) root.children in
     let both : (one && two) ≡ true = and_left (one && two) (is_newest types root.seqs) here in
     record {
       bytes = length-is types 0 root.bytes (and_left one two both);

@@ -18,8 +18,8 @@ use Rattle.root_anchor.specs.declared.standing.Standing.{Standing}
 use Rattle.root_anchor.specs.declared.walk.Walk.{Walk}
 use Rattle.fp_model.specs.declared.definitions.SegDef.{SegDef}
 use Rattle.fp_model.specs.Order.{key_in}
-use Rattle.root_anchor.specs.Elements.{Pointer, Segment, HasSegment}
-use Rattle.root_anchor.specs.Damage.{IsWrong, leads_back}
+use Rattle.anchor_elements.specs.Elements.{Pointer, Segment, HasSegment}
+use Rattle.anchor_elements.specs.Wrong.{IsWrong, leads_back}
 use Rattle.root_anchor.specs.Standing.{places_of, Stands}
 use Rattle.root_anchor.specs.Walking.{place_cmp, met_of, IsWalk, IsNoted, AllStand}
 use Rattle.root_anchor.proofs.OneChain.{one_segment}

@@ -12,13 +12,14 @@ use Rattle.fp_model.specs.declared.database.Root.{Root}
 use Rattle.fp_model.specs.declared.database.SeqItem.{SeqItem}
 use Rattle.fp_model.specs.Order.{child_types, is_child_of, numbers_from}
 use Rattle.fp_model.specs.WellFormed.{HasPlace, HavePlaces}
-use Rattle.root_anchor.specs.declared.element.First.{First}
-use Rattle.root_anchor.specs.declared.element.Said.{Said}
+use Rattle.anchor_elements.specs.declared.element.First.{First}
+use Rattle.anchor_elements.specs.declared.element.Said.{Said}
 use Rattle.root_anchor.specs.declared.walk.Walk.{Walk}
-use Rattle.root_anchor.specs.Elements.{Pointer, nothing, HasSegment}
+use Rattle.anchor_elements.specs.Elements.{Pointer, nothing, HasSegment}
 use Rattle.root_anchor.specs.Chains.{AreRows, no_row, row_end, segment, newest, AreRoots, no_root, root}
-use Rattle.root_anchor.specs.Damage.{IsWrong, RowsFail, here, below, at_twin, next_row, RootsFail, root_here, below_root, next_root}
-use Rattle.root_anchor.specs.Reading.{types_of, pointers_of, segment_of}
+use Rattle.anchor_elements.specs.Wrong.{IsWrong}
+use Rattle.root_anchor.specs.Damage.{RowsFail, here, below, at_twin, next_row, RootsFail, root_here, below_root, next_root}
+use Rattle.anchor_elements.specs.Reading.{types_of, pointers_of, segment_of}
 use Rattle.root_anchor.specs.Walking.{IsWalk, WalksOn, AllStand, IsLook, IsRow, RowFails, IsAlong, IsAmong, IsAlongRoots}
 use Rattle.root_anchor.proofs.WalkLemmas.{few_met}
 
@@ -168,7 +169,7 @@ pub among_start : (types : List SegDef) (area : List (List ℕ)) (start : List P
     (firsts : List Pointer) → IsAmong types area start home all firsts [] start all firsts
 among_start types area start home all firsts = record { reads = λ rest after h. h; fails = λ ci h. h }
 
-left_first : (list : List First) (k : ℕ) (d : First) → k < length list
+pub left_first : (list : List First) (k : ℕ) (d : First) → k < length list
     → drop k list ≡ get_or list k d ∷ drop (k + 1) list
 left_first list k d l =
     let n : suc k ≡ k + 1 = omega arith in

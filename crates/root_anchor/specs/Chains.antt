@@ -9,7 +9,7 @@ use Rattle.fp_model.specs.declared.database.Node.{Node, roll-Node}
 use Rattle.fp_model.specs.declared.database.Root.{Root}
 use Rattle.fp_model.specs.declared.database.SeqItem.{SeqItem}
 use Rattle.fp_model.specs.Order.{child_types}
-use Rattle.root_anchor.specs.Elements.{Pointer, nothing, Segment, HasSegment}
+use Rattle.anchor_elements.specs.Elements.{Pointer, nothing, Segment, HasSegment}
 
 -- The segments of these types, one row for each, that the pointers give from these first ones on, each with all below
 -- it. `met` are the elements that were met before, `after` those met then, the last first; none is met twice. An

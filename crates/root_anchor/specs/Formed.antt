@@ -5,7 +5,7 @@ use Rattle.ci_space.specs.Interval.{IsUsed}
 use Rattle.ci_overflow.specs.Lists.{bytes_at, IsInOrder}
 use Rattle.fp_model.specs.declared.definitions.SegDef.{SegDef}
 use Rattle.fp_model.specs.declared.database.Root.{Root}
-use Rattle.root_anchor.specs.Elements.{Pointer}
+use Rattle.anchor_elements.specs.Elements.{Pointer}
 use Rattle.root_anchor.specs.Chains.{IsChain, anchor_count}
 
 -- an anchor has these roots

@@ -1,11 +1,10 @@
-pub mod Elements
 pub mod Chains
 pub mod Damage
 pub mod Formed
+pub mod Roots
+pub mod Newest
 pub mod Stored
 pub mod Puts
 pub mod Standing
 pub mod Rebuilding
-pub mod Spelling
-pub mod Reading
 pub mod Walking

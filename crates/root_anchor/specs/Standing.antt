@@ -4,7 +4,7 @@ use Rattle.ci_space.specs.declared.intervals.Shape.{Shape}
 use Rattle.fp_model.specs.declared.definitions.SegDef.{SegDef}
 use Rattle.fp_model.specs.declared.database.Root.{Root}
 use Rattle.fp_model.specs.Order.{key_in}
-use Rattle.root_anchor.specs.Elements.{Pointer, Segment, HasSegment}
+use Rattle.anchor_elements.specs.Elements.{Pointer, Segment, HasSegment}
 use Rattle.root_anchor.specs.Chains.{IsChain}
 use Rattle.root_anchor.specs.declared.standing.Standing.{Standing}
 

@@ -12,7 +12,7 @@ use Rattle.fp_model.specs.Order.{key_in}
 use Rattle.root_anchor.specs.declared.standing.Standing.{Standing}
 use Rattle.root_anchor.specs.declared.walk.Walk.{Walk}
 use Rattle.root_anchor.specs.declared.anchor.Walked.{Walked}
-use Rattle.root_anchor.specs.Elements.{Pointer}
+use Rattle.anchor_elements.specs.Elements.{Pointer}
 use Rattle.root_anchor.specs.Chains.{AreRows, AreRoots, IsChain}
 use Rattle.root_anchor.specs.Damage.{RowsFail, RootsFail}
 use Rattle.root_anchor.specs.Standing.{places_of, Stands, AreKeyed}

@@ -7,13 +7,13 @@ ghost use Rattle.ci_overflow.specs.Places.{base_of};
 ghost use Rattle.root_anchor.specs.Chains.{anchor_count, root_of};
 ghost use Rattle.root_anchor.specs.Damage.{ChainFails};
 ghost use Rattle.root_anchor.specs.Standing.{AreKeyed};
-ghost use Rattle.root_anchor.specs.Stored.{AreTypes};
+ghost use Rattle.anchor_elements.specs.Elements.{AreTypes};
+ghost use Rattle.root_anchor.specs.Stored.{are_storable};
 ghost use Rattle.root_anchor.specs.Walking.{IsLook, IsWalked};
 
-use crate::element::interval_at;
-use crate::fault::AnchorFault;
-use crate::standing::{Pointer, Standing};
+use crate::standing::Standing;
 use crate::walk::{Walk, roots};
+use anchor_elements::{AnchorFault, Pointer, interval_at};
 use ci_space::{Intervals, Shape};
 use fp_model::{List, Root, SegDef};
 use std::alloc::Global;
@@ -40,7 +40,7 @@ pub(crate) fn base_of(shape: &Shape, anchor: u32) -> u64
 }
 
 /// The root anchor point in an anchor's base interval.
-fn root_anchor_point<I: Intervals>(
+pub(crate) fn root_anchor_point<I: Intervals>(
     i: &mut I,
     shape: &Shape,
     anchor: u32,
@@ -52,6 +52,9 @@ fn root_anchor_point<I: Intervals>(
     ensures in_place { I.told i.old → OnOk result (IsInPlace shape.now (I.intervals i.old) (base_of shape.now anchor)) }
     ensures damaged { I.told i.old → (types : List SegDef) (ci : ℕ) → result ≡ Err (AnchorFault.Damaged ci)
         → ChainFails shape.now types (I.intervals i.old) anchor ci }
+    ensures no_base { I.told i.old → (ci : ℕ) → result ≡ Err (AnchorFault.Damaged ci)
+        → (ci ≡ base_of shape.now anchor)
+        × (¬ IsInPlace shape.now (I.intervals i.old) (base_of shape.now anchor)) }
     ensures failed { IsErrOf result AnchorFault.Failed → Rose (I.faults i.old) (I.faults i.new) }
     ensures look { IsLook I.told I.intervals I.number I.size I.faults I.keeps i.old i.new }
 {
@@ -75,6 +78,7 @@ pub(crate) fn walk_anchor<I: Intervals>(
     requires anchor { anchor < anchor_count shape.now }
     requires types { AreTypes (I.size i.old) segments.now }
     ensures walked { I.told i.old → IfOk result (IsWalked shape.now segments.now (I.intervals i.old) anchor) }
+    ensures form { IfOk result (λ walked. are_storable segments.now walked.roots ≡ true) }
     ensures keys { I.told i.old → keyed ≡ true → IfOk result
         (λ walked. AreKeyed segments.now (I.intervals i.old) walked.met.items) }
     ensures damaged { I.told i.old → (ci : ℕ) → result ≡ Err (AnchorFault.Damaged ci)

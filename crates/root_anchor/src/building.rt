@@ -7,19 +7,16 @@ ghost use Rattle.std.specs.Prelude.{◌≡◌, ◌≢◌, ◌<◌, ◌≤◌, �
 ghost use Rattle.ci_space.specs.Calls.{Rose, GoesOn};
 ghost use Rattle.ci_overflow.specs.Lists.{IsInOrder};
 ghost use Rattle.fp_model.specs.Order.{child_types};
-ghost use Rattle.fp_model.specs.Shape.{are_rows, is_row, seen_as};
-ghost use Rattle.root_anchor.specs.Elements.{content_length, has_serial, segment_length};
+ghost use Rattle.anchor_elements.specs.Elements.{content_length, has_serial, segment_length};
 ghost use Rattle.root_anchor.specs.Chains.{anchor_count, newest};
-ghost use Rattle.root_anchor.specs.Stored.{AreTypes, are_storable, is_newest};
+ghost use Rattle.anchor_elements.specs.Elements.{AreTypes};
+ghost use Rattle.root_anchor.specs.Stored.{are_storable, is_newest, row_has_form, rows_have_form};
 ghost use Rattle.root_anchor.specs.Rebuilding.{HaveRoom, TakesPlace, PlacesSegment, IsDirect, IsPlanned, BuildsSegment, BuildsRows, BuildsRoots, types_of_row, types_of_rows, types_of_roots, types_of_segment};
 ghost use Rattle.root_anchor.specs.declared.plan.Planned.{Planned as PlannedOf};
 ghost use Rattle.fp_model.specs.declared.definitions.SegDef.{SegDef as SegDefOf};
 
-use crate::element::{content_length, is_child_of};
-use crate::fault::AnchorFault;
 use crate::plan::Planned;
-use crate::putting::{Saying, put_segment};
-use crate::standing::Pointer;
+use anchor_elements::{AnchorFault, Pointer, Saying, content_length, is_child_of, put_segment};
 use ci_overflow::{SpaceFault, find_room};
 use ci_space::{Intervals, Shape};
 use fp_model::{Bytes, List, Node, Root, SegDef, SeqItem};
@@ -177,8 +174,8 @@ fn build_segment<I: Intervals>(
     requires direct { IsDirect home.now.segments.now segment }
     requires bytes { length itself.now.bytes.now ≡ segment_length home.now.segments.now segment }
     requires serial { has_serial home.now.segments.now segment ≡ false → itself.now.serial ≡ 0 }
-    requires rows { are_rows home.now.segments.now (child_types home.now.segments.now segment)
-        (map (map (seen_as home.now.segments.now)) children.now) ≡ true }
+    requires rows { rows_have_form home.now.segments.now (child_types home.now.segments.now segment) children.now
+        ≡ true }
     ensures built { I.told i.old → (before used : List PlannedOf)
         → IsPlanned home.now.shape.now home.now.segments.now (I.intervals i.old) plan.old.items before used
         (types_of_segment home.now.segments.now segment children.now)
@@ -218,7 +215,7 @@ fn build_row<I: Intervals>(
     requires types { AreTypes (I.size i.old) home.now.segments.now }
     requires direct { IsDirect home.now.segments.now segment }
     requires child { has_serial home.now.segments.now segment ≡ false }
-    requires row { is_row home.now.segments.now segment (map (seen_as home.now.segments.now) row.now) ≡ true }
+    requires row { row_has_form home.now.segments.now segment row.now ≡ true }
     ensures built { I.told i.old → (before used : List PlannedOf)
         → IsPlanned home.now.shape.now home.now.segments.now (I.intervals i.old) plan.old.items before used
         (types_of_row home.now.segments.now segment row.now)
@@ -260,8 +257,7 @@ fn build_rows<I: Intervals>(
 ) -> Result<Vec<Pointer>, AnchorFault>
     requires anchor { home.now.anchor < anchor_count home.now.shape.now }
     requires types { AreTypes (I.size i.old) home.now.segments.now }
-    requires rows { are_rows home.now.segments.now (child_types home.now.segments.now segment)
-        (map (map (seen_as home.now.segments.now)) rows.now) ≡ true }
+    requires rows { rows_have_form home.now.segments.now (child_types home.now.segments.now segment) rows.now ≡ true }
     ensures count { IfOk result (λ firsts. length firsts.items ≡ length (child_types home.now.segments.now segment)) }
     ensures built { I.told i.old → (before used : List PlannedOf)
         → IsPlanned home.now.shape.now home.now.segments.now (I.intervals i.old) plan.old.items before used

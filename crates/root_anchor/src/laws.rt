@@ -1,15 +1,19 @@
 //! Laws of the chains of an area, each the contract of a function that does nothing.
 
-ghost use Rattle.std.specs.Prelude.{◌≡◌, ℕ, List, Contains};
+ghost use Rattle.std.specs.Prelude.{◌≡◌, ◌<◌, ℕ, List, Contains, Some, slice_get};
 ghost use Rattle.ci_space.specs.declared.intervals.Shape.{Shape};
 ghost use Rattle.ci_overflow.specs.Lists.{IsInPlace};
 ghost use Rattle.ci_overflow.specs.Places.{base_of};
 ghost use Rattle.fp_model.specs.declared.definitions.SegDef.{SegDef};
 ghost use Rattle.fp_model.specs.declared.database.Root.{Root};
-ghost use Rattle.root_anchor.specs.Elements.{Pointer, Segment, HasSegment};
-ghost use Rattle.root_anchor.specs.Chains.{root_of, IsChain};
+ghost use Rattle.anchor_elements.specs.Elements.{Pointer, Segment, HasSegment};
+ghost use Rattle.root_anchor.specs.Chains.{anchor_count, newest, root_of, IsChain};
 ghost use Rattle.root_anchor.specs.Damage.{ChainFails};
-ghost use Rattle.root_anchor.specs.Formed.{HasChain};
+ghost use Rattle.root_anchor.specs.Formed.{HasChain, IsFormed};
+ghost use Rattle.root_anchor.specs.Newest.{SetsNewest, with_newest};
+ghost use Rattle.root_anchor.specs.Stored.{OthersKeep};
+ghost use Rattle.root_anchor.specs.Roots.{HasRootAt};
+ghost use Rattle.root_anchor.specs.declared.places.RootPlace.{RootPlace};
 
 /// An element says one thing.
 pub fn an_element_has_one_segment()
@@ -67,4 +71,33 @@ pub fn a_chain_stays_with_its_elements()
         → ((at : Pointer) (type : ℕ) (s : Segment) → Contains elements at → HasSegment types old type at s
         → HasSegment types new type at s)
         → IsChain shape types new anchor roots elements }
+{}
+
+/// The root that stands at a place has that number in the anchor's list, and its newest serial there.
+pub fn a_root_at_a_place_is_that_of_the_chain()
+    ensures { (shape : Shape) (types : List SegDef) (area : List (List ℕ)) (anchor number : ℕ) (place : RootPlace)
+        (roots : List Root) (elements : List Pointer)
+        → IsChain shape types area anchor roots elements
+        → HasRootAt shape types area anchor number place
+        → (root : Root) × ((slice_get roots number ≡ Some root) × (root.seqs ≡ newest place.newest)) }
+{}
+
+/// Where a newest serial was set, the anchor has its roots with it, in the same elements. In a formed area every other
+/// anchor keeps its roots, and the area is formed again.
+pub fn a_newest_serial_that_is_set_is_there()
+    ensures roots { (shape : Shape) (types : List SegDef) (old new : List (List ℕ)) (anchor number serial : ℕ)
+        (roots : List Root) (elements : List Pointer)
+        → SetsNewest shape types old new anchor number serial
+        → IsChain shape types old anchor roots elements
+        → IsChain shape types new anchor (with_newest number serial roots) elements }
+    ensures others { (shape : Shape) (types : List SegDef) (old new : List (List ℕ)) (anchor number serial : ℕ)
+        → SetsNewest shape types old new anchor number serial
+        → IsFormed shape types old
+        → anchor < anchor_count shape
+        → OthersKeep shape types old new anchor }
+    ensures formed { (shape : Shape) (types : List SegDef) (old new : List (List ℕ)) (anchor number serial : ℕ)
+        → SetsNewest shape types old new anchor number serial
+        → IsFormed shape types old
+        → anchor < anchor_count shape
+        → IsFormed shape types new }
 {}

@@ -10,21 +10,25 @@
 
 mod anchor;
 mod building;
-mod element;
-mod fault;
+mod holding;
 mod laws;
 mod loading;
+mod newest;
+mod places;
 mod plan;
 mod putting;
-mod spelling;
 mod standing;
 mod storing;
 mod walk;
 
-pub use fault::AnchorFault;
+pub use anchor_elements::AnchorFault;
 pub use laws::{
-    a_chain_stays_with_its_elements, a_chain_that_stands_does_not_fail, an_anchor_has_one_chain,
-    an_element_has_one_segment, each_element_has_a_segment, one_interval_is_damaged,
+    a_chain_stays_with_its_elements, a_chain_that_stands_does_not_fail,
+    a_newest_serial_that_is_set_is_there, a_root_at_a_place_is_that_of_the_chain,
+    an_anchor_has_one_chain, an_element_has_one_segment, each_element_has_a_segment,
+    one_interval_is_damaged,
 };
 pub use loading::load;
+pub use newest::set_newest;
+pub use places::{RootPlace, root_place};
 pub use storing::store;

@@ -7,15 +7,14 @@
 
 ghost use Rattle.std.specs.Prelude.{◌≡◌, ◌<◌, ◌≤◌, ◌++◌, ◌∷◌, List, OnOk, IfOk, IsErr, Err, IfSome, IfNone, length, map, true};
 ghost use Rattle.fp_model.specs.Order.{child_types};
-ghost use Rattle.fp_model.specs.Shape.{are_rows, is_row, seen_as};
 ghost use Rattle.fp_model.specs.WellFormed.{HavePlaces};
-ghost use Rattle.root_anchor.specs.Stored.{are_storable};
+ghost use Rattle.root_anchor.specs.Stored.{are_storable, row_has_form, rows_have_form};
 ghost use Rattle.root_anchor.specs.Rebuilding.{types_of, types_of_row, types_of_rows, types_of_roots, types_of_segment, TakesOut, Shares};
 ghost use Rattle.root_anchor.specs.declared.standing.Standing.{Standing as StandingOf};
 
 use crate::building::types_below;
-use crate::fault::AnchorFault;
-use crate::standing::{Pointer, Standing};
+use crate::standing::Standing;
+use anchor_elements::{AnchorFault, Pointer};
 use fp_model::{Bytes, List, Node, Root, SegDef, key_of};
 use std::alloc::Global;
 use std::cmp::Ordering;
@@ -127,8 +126,7 @@ fn plan_segment(
 ) -> Result<(), AnchorFault>
     requires few { length segments.now ≤ 15 }
     requires places { HavePlaces 0 segments.now }
-    requires rows { are_rows segments.now (child_types segments.now segment)
-        (map (map (seen_as segments.now)) children.now) ≡ true }
+    requires rows { rows_have_form segments.now (child_types segments.now segment) children.now ≡ true }
     ensures types { OnOk result (types_of plan.new.items ≡ types_of_segment segments.now segment children.now ++
         types_of plan.old.items) }
     ensures shares { (all : List StandingOf) → Shares all plan.old.items standing.old.items
@@ -162,7 +160,7 @@ fn plan_row(
 ) -> Result<(), AnchorFault>
     requires few { length segments.now ≤ 15 }
     requires places { HavePlaces 0 segments.now }
-    requires row { is_row segments.now segment (map (seen_as segments.now) row.now) ≡ true }
+    requires row { row_has_form segments.now segment row.now ≡ true }
     requires defined { segment < length segments.now }
     ensures types { OnOk result (types_of plan.new.items ≡ types_of_row segments.now segment row.now ++ types_of
         plan.old.items) }
@@ -203,8 +201,7 @@ fn plan_rows(
 ) -> Result<(), AnchorFault>
     requires few { length segments.now ≤ 15 }
     requires places { HavePlaces 0 segments.now }
-    requires rows { are_rows segments.now (child_types segments.now segment) (map (map (seen_as segments.now)) rows.now)
-        ≡ true }
+    requires rows { rows_have_form segments.now (child_types segments.now segment) rows.now ≡ true }
     ensures types { OnOk result (types_of plan.new.items ≡ types_of_rows segments.now (child_types segments.now segment)
         rows.now ++ types_of plan.old.items) }
     ensures shares { (all : List StandingOf) → Shares all plan.old.items standing.old.items

@@ -5,16 +5,13 @@ ghost use Rattle.ci_space.specs.Calls.{Rose, GoesOn};
 ghost use Rattle.root_anchor.specs.Chains.{anchor_count};
 ghost use Rattle.root_anchor.specs.Damage.{ChainFails};
 ghost use Rattle.root_anchor.specs.Standing.{AreStanding, AreInTurn, AreKeyed};
-ghost use Rattle.root_anchor.specs.Stored.{AreTypes};
+ghost use Rattle.anchor_elements.specs.Elements.{AreTypes};
 
 use crate::anchor::{Walked, walk_anchor};
-use crate::fault::AnchorFault;
+use anchor_elements::{AnchorFault, Pointer};
 use ci_space::{Intervals, Shape};
 use fp_model::{Bytes, List, SegDef};
 use std::alloc::Global;
-
-/// A place in an area: the number of an interval and the place of an element in it. Zeros are none.
-pub(crate) type Pointer = (u64, u16);
 
 /// An element in which a segment stands.
 #[derive(Debug, Drop)]

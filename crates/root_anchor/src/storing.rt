@@ -10,22 +10,26 @@ ghost use Rattle.ci_overflow.specs.Lists.{IsInOrder};
 ghost use Rattle.root_anchor.specs.Chains.{anchor_count};
 ghost use Rattle.root_anchor.specs.Damage.{ChainFails};
 ghost use Rattle.root_anchor.specs.Formed.{IsFormed, HasChain, HasRoots};
-ghost use Rattle.root_anchor.specs.Stored.{AreTypes, are_storable, OthersKeep, KeepsSequential};
+ghost use Rattle.anchor_elements.specs.Elements.{AreTypes};
+ghost use Rattle.root_anchor.specs.Stored.{are_storable, ApartKeep, OthersKeep, KeepsSequential};
 ghost use Rattle.root_anchor.specs.Standing.{places_of};
 ghost use Rattle.root_anchor.specs.Rebuilding.{Exchanges, AreGivable, IsRebuildable, Rebuilds};
 
 use crate::building::{Home, build_roots, fault_of};
-use crate::fault::AnchorFault;
+use crate::holding::{Begun, begin, rest, settle};
 use crate::plan::{Planned, plan_roots};
 use crate::putting::put_root;
 use crate::standing::{Standing, elements_of};
+use anchor_elements::AnchorFault;
 use ci_overflow::give_back;
 use ci_space::{Intervals, Shape};
 use fp_model::{List, Root, SegDef};
+use held_intervals::Held;
 use std::alloc::Global;
 use std::collections::VecDeque;
 
-/// Gives these elements back.
+/// Gives these elements back, in this order: the intervals in front of an overflow list, in which a chain begins,
+/// become empty first.
 fn give_back_all<I: Intervals>(
     i: &mut I,
     shape: &Shape,
@@ -40,11 +44,8 @@ fn give_back_all<I: Intervals>(
     ensures number { I.number i.new ≡ I.number i.old }
     ensures goes_on { GoesOn I.told I.size I.faults I.keeps i.old i.new }
 {
-    let mut left = elements.len();
-    while left > 0 {
-        left -= 1;
-        let place = elements[left].at;
-        match give_back(i, shape, place.0, place.1) {
+    for element in elements {
+        match give_back(i, shape, element.at.0, element.at.1) {
             Ok(()) => {}
             Err(fault) => return Err(fault_of(fault)),
         }
@@ -80,15 +81,8 @@ fn rebuild<I: Intervals>(
     put_root(i, home.shape, home.anchor, first)
 }
 
-/// Gives an anchor these roots, in this order: `load` gives just them afterwards. A root's sequential list is its
-/// newest serial alone, in an item without bytes, or none. An anchor is counted from 0 within its area.
-///
-/// The root anchor point, pointers and segments are written where they change. Elements that no segment keeps are given
-/// back before room is looked for.
-///
-/// `Damaged` names the interval that is damaged, where the anchor's chain is broken; in a formed area it never comes.
-/// `Failed` comes only with what holds the intervals. After a fault what holds them is thrown away.
-pub fn store<I: Intervals>(
+/// Gives an anchor these roots, through intervals that are held.
+fn store_held<I: Intervals>(
     alloc: Global,
     i: &mut I,
     shape: &Shape,
@@ -100,11 +94,14 @@ pub fn store<I: Intervals>(
     requires types { AreTypes (I.size i.old) segments.now }
     requires roots { are_storable segments.now roots.now ≡ true }
 
-    // In a formed area this anchor has these roots, all others keep theirs, and the area is formed again.
+    // In a formed area this anchor has these roots, all others keep theirs, and the area is formed again. In any area
+    // in order each anchor keeps its roots that shares no element with this one.
     ensures stored { I.told i.old → IsFormed shape.now segments.now (I.intervals i.old)
         → OnOk result (HasRoots shape.now segments.now (I.intervals i.new) anchor roots.now) }
     ensures others { I.told i.old → IsFormed shape.now segments.now (I.intervals i.old)
         → OnOk result (OthersKeep shape.now segments.now (I.intervals i.old) (I.intervals i.new) anchor) }
+    ensures apart { I.told i.old → IsInOrder shape.now (I.intervals i.old)
+        → OnOk result (ApartKeep shape.now segments.now (I.intervals i.old) (I.intervals i.new) anchor) }
     ensures sequential { I.told i.old → IsFormed shape.now segments.now (I.intervals i.old)
         → OnOk result (KeepsSequential shape.now (I.intervals i.old) (I.intervals i.new)) }
     ensures formed { I.told i.old → IsFormed shape.now segments.now (I.intervals i.old)
@@ -135,4 +132,69 @@ pub fn store<I: Intervals>(
         anchor,
     };
     rebuild(alloc, i, &home, &mut plan, standing.as_slice(), roots)
+}
+
+/// Gives an anchor these roots, in this order: `load` gives just them afterwards. A root's sequential list is its
+/// newest serial alone, in an item without bytes, or none. An anchor is counted from 0 within its area.
+///
+/// The root anchor point, pointers and segments are written where they change. Elements that no segment keeps are given
+/// back before room is looked for.
+///
+/// `Damaged` names the interval that is damaged, where the anchor's chain is broken; in a formed area it never comes.
+/// `Failed` comes only with what holds the intervals. After a fault what holds them is thrown away.
+pub fn store<I: Intervals>(
+    alloc: Global,
+    i: &mut I,
+    shape: &Shape,
+    segments: &List<SegDef>,
+    anchor: u32,
+    roots: &List<Root>,
+) -> Result<(), AnchorFault>
+    requires anchor { anchor < anchor_count shape.now }
+    requires types { AreTypes (I.size i.old) segments.now }
+    requires roots { are_storable segments.now roots.now ≡ true }
+
+    // In a formed area this anchor has these roots, all others keep theirs, and the area is formed again. In any area
+    // in order each anchor keeps its roots that shares no element with this one.
+    ensures stored { I.told i.old → IsFormed shape.now segments.now (I.intervals i.old)
+        → OnOk result (HasRoots shape.now segments.now (I.intervals i.new) anchor roots.now) }
+    ensures others { I.told i.old → IsFormed shape.now segments.now (I.intervals i.old)
+        → OnOk result (OthersKeep shape.now segments.now (I.intervals i.old) (I.intervals i.new) anchor) }
+    ensures apart { I.told i.old → IsInOrder shape.now (I.intervals i.old)
+        → OnOk result (ApartKeep shape.now segments.now (I.intervals i.old) (I.intervals i.new) anchor) }
+    ensures sequential { I.told i.old → IsFormed shape.now segments.now (I.intervals i.old)
+        → OnOk result (KeepsSequential shape.now (I.intervals i.old) (I.intervals i.new)) }
+    ensures formed { I.told i.old → IsFormed shape.now segments.now (I.intervals i.old)
+        → OnOk result (IsFormed shape.now segments.now (I.intervals i.new)) }
+
+    // Where the area is in order and the anchor's chain stands, nothing is damaged.
+    ensures sound { I.told i.old → IsInOrder shape.now (I.intervals i.old)
+        → HasChain shape.now segments.now (I.intervals i.old) anchor → (ci : ℕ)
+        → result ≢ Err (AnchorFault.Damaged ci) }
+
+    // Where its chain is broken, the interval that is damaged is named, and `Ok` doesn't come.
+    ensures damaged { I.told i.old → ¬ HasChain shape.now segments.now (I.intervals i.old) anchor → (ci : ℕ)
+        → result ≡ Err (AnchorFault.Damaged ci) → ChainFails shape.now segments.now (I.intervals i.old) anchor ci }
+    ensures stood { I.told i.old → OnOk result (HasChain shape.now segments.now (I.intervals i.old) anchor) }
+
+    // It fails only with what holds the intervals.
+    ensures failed { IsErrOf result AnchorFault.Failed → Rose (I.faults i.old) (I.faults i.new) }
+
+    // What stays, whatever the answer is.
+    ensures number { I.number i.old ≤ I.number i.new }
+    ensures goes_on { GoesOn I.told I.size I.faults I.keeps i.old i.new }
+{
+    let Begun { size, read } = begin(alloc, i, shape, anchor)?;
+    let mut held = Held::new(alloc, i, size, read);
+    let stored = store_held(alloc, &mut held, shape, segments, anchor, roots);
+    let Held {
+        alloc: _,
+        under,
+        size: _,
+        read: _,
+        changed,
+    } = held;
+    let result = settle(under, changed, stored);
+    rest(under);
+    result
 }

@@ -2,19 +2,21 @@
 //!
 //! No element is met twice, so the walk ends whatever the pointers are: what was met are distinct places in the area.
 
-ghost use Rattle.std.specs.Prelude.{◌≡◌, ◌↔◌, ◌+◌, ◌≤◌, ◌<◌, ◌∷◌, ◌++◌, [], true, ℕ, Err, List, length, slice_get, All, Contains, IsTrue, IfOk, OnOk, IsErrOf};
+ghost use Rattle.std.specs.Prelude.{◌≡◌, ◌↔◌, ◌+◌, ◌≤◌, ◌<◌, ◌∷◌, ◌++◌, [], true, false, ℕ, Err, List, length, slice_get, All, Contains, IsTrue, IfOk, OnOk, IsErrOf};
 ghost use Rattle.ci_space.specs.Calls.{Rose, GoesOn};
 ghost use Rattle.fp_model.specs.Order.{child_types, key_in};
+ghost use Rattle.fp_model.specs.Shape.{has_length};
 ghost use Rattle.fp_model.specs.WellFormed.{HavePlaces};
-ghost use Rattle.root_anchor.specs.Elements.{HasSegment, nothing};
+ghost use Rattle.anchor_elements.specs.Elements.{HasSegment, has_serial, nothing};
 ghost use Rattle.root_anchor.specs.Chains.{AreRows, AreRoots, newest};
-ghost use Rattle.root_anchor.specs.Damage.{IsWrong, RowsFail, RootsFail};
-ghost use Rattle.root_anchor.specs.Reading.{types_of, pointers_of, segment_of};
+ghost use Rattle.anchor_elements.specs.Wrong.{IsWrong};
+ghost use Rattle.root_anchor.specs.Damage.{RowsFail, RootsFail};
+ghost use Rattle.anchor_elements.specs.Reading.{types_of, pointers_of, segment_of};
+ghost use Rattle.root_anchor.specs.Stored.{are_storable, row_has_form, rows_have_form};
 ghost use Rattle.root_anchor.specs.Walking.{met_of, IsWalk, IsNoted, WalksOn, AllStand, IsLook, IsRow, RowFails};
 
-use crate::element::{First, Said, read_element};
-use crate::fault::AnchorFault;
-use crate::standing::{Pointer, Standing};
+use crate::standing::Standing;
+use anchor_elements::{AnchorFault, First, Pointer, Said, read_element};
 use ci_space::Intervals;
 use fp_model::{Bytes, List, Node, Root, SegDef, SeqItem, key_of};
 use std::alloc::{AllocError, Global};
@@ -126,6 +128,8 @@ fn visit<I: Intervals>(
     ensures says { I.told i.old → IfOk result (λ said. HasSegment segments.now (I.intervals i.old) segment at
         (segment_of said)) }
     ensures types { IfOk result (λ said. types_of said.firsts.items ≡ child_types segments.now segment) }
+    ensures long { IfOk result (λ said. has_length segments.now segment said.bytes ≡ true) }
+    ensures serial { IfOk result (λ said. has_serial segments.now segment ≡ false → said.serial ≡ 0) }
     ensures fresh { OnOk result (¬ Contains (met_of walk.old) at) }
     ensures wrong { I.told i.old → (ci : ℕ) → result ≡ Err (AnchorFault.Damaged ci)
         → IsWrong segments.now (I.intervals i.old) (met_of walk.old) from segment at ci }
@@ -166,6 +170,7 @@ fn row<I: Intervals>(
 
     ensures row { I.told i.old → IfOk result (λ row. IsRow segments.now (I.intervals i.old) (met_of walk.old) segment
         first row (met_of walk.new)) }
+    ensures form { IfOk result (λ row. row_has_form segments.now segment row ≡ true) }
     ensures damaged { I.told i.old → (ci : ℕ) → result ≡ Err (AnchorFault.Damaged ci)
         → RowFails segments.now (I.intervals i.old) (met_of walk.old) home segment first ci }
     ensures failed { IsErrOf result AnchorFault.Failed → Rose (I.faults i.old) (I.faults i.new) }
@@ -212,6 +217,7 @@ fn rows<I: Intervals>(
 
     ensures rows { I.told i.old → IfOk result (λ rows. AreRows segments.now (I.intervals i.old) (met_of walk.old)
         (types_of firsts.now) (pointers_of firsts.now) rows (met_of walk.new)) }
+    ensures form { IfOk result (λ rows. rows_have_form segments.now (types_of firsts.now) rows ≡ true) }
     ensures damaged { I.told i.old → (ci : ℕ) → result ≡ Err (AnchorFault.Damaged ci)
         → RowsFail segments.now (I.intervals i.old) (met_of walk.old) home home (types_of firsts.now)
         (pointers_of firsts.now) ci }
@@ -259,6 +265,7 @@ pub(crate) fn roots<I: Intervals>(
 
     ensures roots { I.told i.old → IfOk result (λ roots. AreRoots segments.now (I.intervals i.old) [] first roots
         (met_of walk.new)) }
+    ensures form { IfOk result (λ roots. are_storable segments.now roots ≡ true) }
     ensures damaged { I.told i.old → (ci : ℕ) → result ≡ Err (AnchorFault.Damaged ci)
         → RootsFail segments.now (I.intervals i.old) [] base first ci }
     ensures failed { IsErrOf result AnchorFault.Failed → Rose (I.faults i.old) (I.faults i.new) }

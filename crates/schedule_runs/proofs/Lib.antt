@@ -1,4 +1,2 @@
 pub mod WayLemmas
-pub mod Determined
-pub mod OneWay
 pub mod StandingLemmas

@@ -5,4 +5,4 @@ mod runs;
 mod ways;
 
 pub use runs::run_schedule;
-pub use ways::{a_way_is_a_run, a_way_is_determined};
+pub use ways::a_way_is_a_run;

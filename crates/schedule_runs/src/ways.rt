@@ -1,18 +1,13 @@
-//! A way over a schedule is a run, and one machine at its end.
+//! A way over a schedule is a run.
 ghost use Rattle.fp_core.specs.Turning.{AreExact};
 ghost use Rattle.fp_model.specs.declared.definitions.Defs.{Defs};
 ghost use Rattle.fp_model.specs.declared.events.Event.{Event};
-ghost use Rattle.fp_model.specs.declared.scripts.Script.{Script};
-ghost use Rattle.fp_model.specs.CheckpointText.{IsMsdbOf};
-ghost use Rattle.fp_model.specs.History.{place_of};
 ghost use Rattle.fp_model.specs.Machine.{Machine};
-ghost use Rattle.fp_model.specs.Product.{rules_of};
 ghost use Rattle.fp_model.specs.Rules.{Rules};
-ghost use Rattle.fp_model.specs.Runs.{IsDrained, RunStep, Runs};
+ghost use Rattle.fp_model.specs.Runs.{RunStep, Runs};
 ghost use Rattle.fp_model.specs.Turns.{Environment};
-ghost use Rattle.schedule_runs.specs.Ways.{Comes, Goes, NoneStarved};
-ghost use Rattle.std.specs.List.{AllZip};
-ghost use Rattle.std.specs.Prelude.{◌≡◌, List, [], map};
+ghost use Rattle.schedule_runs.specs.Ways.{Goes};
+ghost use Rattle.std.specs.Prelude.{◌≡◌, List, map};
 
 /// Where turns lead over events and rounds of the drain, there is a list of steps by which they do, each exact, and the
 /// same befalls these. So what is so of every run is so of it.
@@ -22,25 +17,4 @@ pub fn a_way_is_a_run()
         → Goes defs rules events m environments left here
         → (steps : List RunStep) × (Runs rules m steps here
         × (AreExact defs rules m steps × (map (λ step. step.environment) steps ≡ environments))) }
-{}
-
-/// From a machine whose databases are of the definitions the same events, with the same befalling each, lead to one
-/// machine. So two runs that are done, and in which no transaction lacked memory, come to one: it has the same entries,
-/// items and cycles too, the same groups, and the same reply lines sent.
-pub fn a_way_is_determined()
-    ensures way { (defs : Defs) (scripts : List Script) (events : List Event) (m : Machine)
-        → (environments : List Environment) (left left2 : List Event) (here here2 : Machine)
-        → AllZip IsMsdbOf defs.msdbs m.history.now.msdbs
-        → Goes defs (rules_of defs scripts) events m environments left here
-        → Goes defs (rules_of defs scripts) events m environments left2 here2
-        → here ≡ here2 }
-    ensures done { (defs : Defs) (scripts : List Script) (events : List Event) (m here here2 : Machine)
-        → AllZip IsMsdbOf defs.msdbs m.history.now.msdbs
-        → Comes defs (rules_of defs scripts) events m [] here
-        → IsDrained (rules_of defs scripts) here
-        → NoneStarved (place_of m.history) here.history
-        → Comes defs (rules_of defs scripts) events m [] here2
-        → IsDrained (rules_of defs scripts) here2
-        → NoneStarved (place_of m.history) here2.history
-        → here ≡ here2 }
 {}

@@ -11,12 +11,13 @@ use Rattle.fp_model.specs.declared.definitions.Defs.{Defs}
 use Rattle.fp_model.specs.declared.definitions.DedbDef.{DedbDef}
 use Rattle.fp_model.specs.declared.definitions.MsdbDef.{MsdbDef}
 use Rattle.fp_model.specs.declared.scripts.Operand.{Operand}
+use Rattle.fp_model.specs.declared.scripts.Operation.{Operation}
 use Rattle.fp_model.specs.declared.scripts.Comparison.{Comparison}
 use Rattle.fp_model.specs.declared.scripts.Script.{Script}
 use Rattle.fp_model.specs.declared.scripts.Statement.{Statement, roll-Statement, map-Statement}
 use Rattle.fp_model.specs.declared.scripts.Statement.TheOpen.{Statement-F}
 use Rattle.fp_model.specs.declared.scripts.Statement.TheOpen as statement
-use Rattle.fp_model.specs.declared.scripts.Statement.TheFolds.{fold-roll-Statement}
+use Rattle.fp_model.specs.declared.scripts.Statement.TheFolds.{fold-Statement, fold-roll-Statement}
 use Rattle.fp_model.specs.FitCalls.{are_fit, fits_statement, fits_step, is_some_few}
 use Rattle.txn_lang.specs.declared.line.Line.{Line}
 use Rattle.txn_lang.specs.declared.line.Line.TheVariants as line
@@ -34,16 +35,41 @@ use Rattle.txn_lang.specs.declared.token.Token.{Token}
 use Rattle.txn_lang.specs.Readings.{Reading, ◌>>=◌, all_by, ended}
 use Rattle.txn_lang.specs.Tokens.{or_syntax, tokens_of}
 use Rattle.txn_lang.specs.Parts.{word_at, variable_at, operand_at, comparison_at, count_at, key_at, operands_in, ssas_in, fsa_at, fsas_in, fields_in, one_to_255}
-use Rattle.txn_lang.specs.Lookups.{are_known, db_by, db_of, get_ssas, has_name, isrt_fields, isrt_ssas}
+use Rattle.txn_lang.specs.Lookups.{are_known, db_by, db_of, dedb_ssas, get_ssas, has_name, is_msdb, isrt_count, isrt_fields, isrt_ssas, or_unknown, segment_of, types_of}
+use Rattle.txn_lang.specs.Suiting.{all_suit, has_types, is_defined, names_new, suits_step}
+use Rattle.txn_lang.specs.declared.line.WrittenSsa.{WrittenSsa}
+use Rattle.fp_model.specs.Calls.{OnMsdb, OnDedb, Nowhere, dedb_target, target_of}
+use Rattle.fp_model.specs.declared.definitions.Kind.TheVariants.{Fold}
+use Rattle.fp_model.specs.declared.definitions.SegDef.{SegDef}
+use Rattle.fp_model.specs.declared.scripts.SsaText.{SsaText}
+use Rattle.std.specs.Option.{option_map_or}
 use Rattle.txn_lang.specs.Statements.{before_fields, dlet_line, fld_line, from_fields, get_line, if_line, isrt_line, keyword_at, line_behind, repeat_line, repl_line, reply_line, rolb_line, set_line, set_rest, tran_line, whole}
 use Rattle.txn_lang.specs.Grammar.{AreScriptsOf, Read, and_then, fault_of_script, in_front, is_ascii, is_skipped, line_in, lines_in, numbered, or_later, script_fault, scripts_fault, statement_in}
 use Rattle.txn_lang.specs.Blocks.{Context, at_top, stands}
 use Rattle.txn_lang.specs.Blocks.{choice, loop, AreStatements, none, one, if_end, if_else_end, repeat_end, AreScripts, no_script, script}
 
-module _ (defs : Defs) where
+-- how one statement is judged: blocks by all in them, and what is no call isn't looked at
+pub record Judges (step : Statement-F Bool → Bool) : Type 0 where
+  pub choice : (left : Operand) (comparison : Comparison) (right : Operand) (taken otherwise : List Bool)
+      → step (statement.If left comparison right taken otherwise)
+      ≡ (list_all (λ (b : Bool). b) taken && list_all (λ (b : Bool). b) otherwise)
+  pub loop : (times : ℕ) (body : List Bool) → step (statement.Repeat times body) ≡ list_all (λ (b : Bool). b) body
+  pub sets : (variable : Name) (first : Operand) (rest : Option (Operation × Operand))
+      → step (statement.Set variable first rest) ≡ true
+  pub breaks : step statement.Break ≡ true
+  pub replies : (operands : List Operand) → step (statement.Reply operands) ≡ true
+  pub rolls : (code : ℕ) → step (statement.Roll code) ≡ true
+
+module _ (step : Statement-F Bool → Bool) (judges : Judges step) where
+  abbrev judged : Statement → Bool
+  judged = fold-Statement Bool step
+
+  abbrev pub all_judged : List Statement → Bool
+  all_judged ss = list_all judged ss
+
   -- a line whose statement, if it is one, fits
   abbrev pub LineFits : Line → Type 0
-  LineFits (line.Whole s) = fits_statement defs s ≡ true
+  LineFits (line.Whole s) = judged s ≡ true
   LineFits l = Unit {0}
 
   abbrev pub LinesFit : List Line → Type 0
@@ -57,28 +83,30 @@ module _ (defs : Defs) where
   fit_parts (l ∷ a) b h = let rest = fit_parts a b h.1 in ((h.0, rest.0), rest.1)
 
   -- a block in a statement
-  block_fits : (ss : List Statement) → are_fit defs ss ≡ true
-      → list_all (λ (fits : Bool). fits) (map (fits_statement defs) ss) ≡ true
+  block_fits : (ss : List Statement) → all_judged ss ≡ true
+      → list_all (λ (b : Bool). b) (map (judged) ss) ≡ true
   block_fits [] h = refl
-  block_fits (s ∷ ss) h = let p = and_parts (fits_statement defs s) (are_fit defs ss) h in
+  block_fits (s ∷ ss) h = let p = and_parts (judged s) (all_judged ss) h in
       rw (p.0, block_fits ss p.1) refl
 
   both : (a b : Bool) → a ≡ true → b ≡ true → (a && b) ≡ true
   both a b h g = rw (h, g) refl
 
   choice_fits : (left : Operand) (comparison : Comparison) (right : Operand) (taken otherwise : List Statement)
-      → are_fit defs taken ≡ true → are_fit defs otherwise ≡ true
-      → fits_statement defs (choice left comparison right taken otherwise) ≡ true
+      → all_judged taken ≡ true → all_judged otherwise ≡ true
+      → judged (choice left comparison right taken otherwise) ≡ true
   choice_fits left comparison right taken otherwise h g =
-      fold-roll-Statement Bool (fits_step defs) (statement.If left comparison right taken otherwise)
+      fold-roll-Statement Bool step (statement.If left comparison right taken otherwise)
+      ∙ judges.choice left comparison right (map judged taken) (map judged otherwise)
       ∙ both _ _ (block_fits taken h) (block_fits otherwise g)
 
-  loop_fits : (times : ℕ) (body : List Statement) → are_fit defs body ≡ true
-      → fits_statement defs (loop times body) ≡ true
-  loop_fits times body h = fold-roll-Statement Bool (fits_step defs) (statement.Repeat times body) ∙ block_fits body h
+  loop_fits : (times : ℕ) (body : List Statement) → all_judged body ≡ true
+      → judged (loop times body) ≡ true
+  loop_fits times body h = fold-roll-Statement Bool step (statement.Repeat times body)
+      ∙ judges.loop times (map judged body) ∙ block_fits body h
 
   statements_fit : {lines : List Line} {ss : List Statement} → AreStatements lines ss → LinesFit lines
-      → are_fit defs ss ≡ true
+      → all_judged ss ≡ true
   statements_fit none h = refl
   statements_fit (one s k) h = both _ _ h.0 (statements_fit k h.1)
   statements_fit (if_end left comparison right {a} {lines} {taken} {more} p k) h =
@@ -94,7 +122,7 @@ module _ (defs : Defs) where
       both _ _ (loop_fits times body (statements_fit p parts.0)) (statements_fit k parts.1.1)
 
   scripts_fit : {lines : List Line} {scripts : List Script} → AreScripts lines scripts → LinesFit lines
-      → AllByRecursion (λ (s : Script). are_fit defs s.statements ≡ true) scripts
+      → AllByRecursion (λ (s : Script). all_judged s.statements ≡ true) scripts
   scripts_fit no_script h = tt
   scripts_fit (script name {a} {lines} {statements} {more} p k) h = let parts = fit_parts a lines h.1 in
       (statements_fit p parts.0, scripts_fit k parts.1)
@@ -134,141 +162,88 @@ unfolding fsas_in
 few_fsas tokens fsas e = few_behind (all_by fsa_at tokens) fsas e
 
 -- lists of lines
-joined_fit : (defs : Defs) (a b : List Line) → LinesFit defs a → LinesFit defs b → LinesFit defs (a ++ b)
-joined_fit defs [] b h g = g
-joined_fit defs (l ∷ a) b h g = (h.0, joined_fit defs a b h.1 g)
+joined_fit : (step : Statement-F Bool → Bool) (judges : Judges step) (a b : List Line) → LinesFit step judges a
+    → LinesFit step judges b → LinesFit step judges (a ++ b)
+joined_fit step judges [] b h g = g
+joined_fit step judges (l ∷ a) b h g = (h.0, joined_fit step judges a b h.1 g)
 
-module _ (defs : Defs) (no_dedbs : defs.dedbs ≡ []) where
-  -- a name of a database is that of a main storage database
-  named : (o : Option ℕ) (db : ℕ) (name : Name) → position (λ def. has_name name def.name) defs.msdbs ≡ o
-      → db_by o None (length defs.msdbs) ≡ Ok db → nat_lt db (length defs.msdbs) ≡ true
-  named None db name e f = absurd cc
-  named (Some place) db name e f =
-      let found = position-Some (λ (def : MsdbDef). has_name name def.name) defs.msdbs place nothing e in
-      let same : place ≡ db = cc in
-      let within = found.0 in
-      subst (λ (n : ℕ). nat_lt n (length defs.msdbs) ≡ true) same (grind (arith, nat_tests, within))
-    where
-      nothing : MsdbDef
-      nothing = record { name = name; dynamic = false; fields = []; length = 0; load = [] }
+module _ (step : Statement-F Bool → Bool) where
+  rolled : (x : Statement-F Statement) → step (map-Statement _ _ (fold-Statement Bool step) x) ≡ true
+      → fold-Statement Bool step (roll-Statement x) ≡ true
+  rolled x h = fold-roll-Statement Bool step x ∙ h
 
-  is_known_db : (name : Name) (db : ℕ) → db_of defs name ≡ Ok db → nat_lt db (length defs.msdbs) ≡ true
-  unfolding db_of
-  is_known_db name db e =
-      named (position (λ def. has_name name def.name) defs.msdbs) db name refl
-      (rw no_dedbs at e)
+-- lines of calls fit
+record CallLinesFit (defs : Defs) (step : Statement-F Bool → Bool) (judges : Judges step) : Type 0 where
+  get : (get : Get) (hold : Bool) (tokens : List Token) → Holds (LineFits step judges) (get_line defs get hold tokens)
+  fld : (tokens : List Token) → Holds (LineFits step judges) (fld_line defs tokens)
+  isrt : (tokens : List Token) → Holds (LineFits step judges) (isrt_line defs tokens)
+  repl : (tokens : List Token) → Holds (LineFits step judges) (repl_line defs tokens)
+  dlet : (tokens : List Token) → Holds (LineFits step judges) (dlet_line defs tokens)
 
-  rolled : (x : Statement-F Statement) → fits_step defs (map-Statement _ _ (fits_statement defs) x) ≡ true
-      → fits_statement defs (roll-Statement x) ≡ true
-  rolled x h = fold-roll-Statement Bool (fits_step defs) x ∙ h
-
-  get_fits : (get : Get) (hold : Bool) (tokens : List Token) → Holds (LineFits defs) (get_line defs get hold tokens)
-  unfolding get_line
-  get_fits get hold tokens =
-      behind (LineFits defs) (word_at tokens) _ (λ database e1.
-      behind (LineFits defs) (ssas_in database.1) _ (λ written e2.
-      behind (LineFits defs) (db_of defs database.0) _ (λ db e3.
-      behind (LineFits defs) (get_ssas defs db written) _
-      (λ ssas e4. rolled (statement.Get get hold db ssas) (is_known_db database.0 db e3)))))
-
-  fld_fits : (tokens : List Token) → Holds (LineFits defs) (fld_line defs tokens)
-  unfolding fld_line
-  fld_fits tokens =
-      behind (LineFits defs) (word_at tokens) _ (λ database e1.
-      behind (LineFits defs) (key_at database.1) _ (λ key e2.
-      behind (LineFits defs) (fsas_in key.1) _ (λ fsas e3.
-      behind (LineFits defs) (db_of defs database.0) _
-      (λ db e4. rolled (statement.Fld db key.0 fsas)
-      (both defs _ _ (is_known_db database.0 db e4) (few_fsas key.1 fsas e3))))))
-
-  isrt_fits : (tokens : List Token) → Holds (LineFits defs) (isrt_line defs tokens)
-  unfolding isrt_line
-  isrt_fits tokens =
-      behind (LineFits defs) (word_at tokens) _ (λ database e1.
-      behind (LineFits defs) (ssas_in (before_fields database.1)) _ (λ written e2.
-      behind (LineFits defs) (fields_in (from_fields database.1)) _ (λ given e3.
-      behind (LineFits defs) (db_of defs database.0) _ (λ db e4.
-      behind (LineFits defs) (isrt_ssas defs db written) _ (λ ssas e5.
-      behind (LineFits defs) (isrt_fields defs db ssas given) _
-      (λ fields e6. rolled (statement.Isrt db ssas fields) (is_known_db database.0 db e4)))))))
-
-  repl_fits : (tokens : List Token) → Holds (LineFits defs) (repl_line defs tokens)
-  unfolding repl_line
-  repl_fits tokens =
-      behind (LineFits defs) (word_at tokens) _ (λ database e1.
-      behind (LineFits defs) (fields_in database.1) _ (λ fields e2.
-      behind (LineFits defs) (db_of defs database.0) _
-      (λ db e3. rolled (statement.Repl db fields) (is_known_db database.0 db e3))))
-
-  dlet_fits : (tokens : List Token) → Holds (LineFits defs) (dlet_line defs tokens)
-  unfolding dlet_line
-  dlet_fits tokens =
-      behind (LineFits defs) (word_at tokens) _ (λ database e1.
-      behind (LineFits defs) (ended database.0 database.1) _ (λ name e2.
-      behind (LineFits defs) (db_of defs name) _ (λ db e3. rolled (statement.Dlet db) (is_known_db name db e3))))
-
+module _ (defs : Defs) (step : Statement-F Bool → Bool) (judges : Judges step)
+    (calls : CallLinesFit defs step judges) where
   plain_fits : (x : Statement-F Statement) (tokens : List Token)
-      → fits_step defs (map-Statement _ _ (fits_statement defs) x) ≡ true
-      → Holds (LineFits defs) (ended (whole (roll-Statement x)) tokens)
-  plain_fits x tokens h = at_end (LineFits defs) (whole (roll-Statement x)) tokens (rolled x h)
+      → step (map-Statement _ _ (fold-Statement Bool step) x) ≡ true
+      → Holds (LineFits step judges) (ended (whole (roll-Statement x)) tokens)
+  plain_fits x tokens h = at_end (LineFits step judges) (whole (roll-Statement x)) tokens (rolled step x h)
 
-  set_fits : (tokens : List Token) → Holds (LineFits defs) (set_line tokens)
+  set_fits : (tokens : List Token) → Holds (LineFits step judges) (set_line tokens)
   unfolding set_line
   set_fits tokens =
-      behind (LineFits defs) (variable_at tokens) _ (λ variable e1.
-      behind (LineFits defs) (operand_at variable.1) _ (λ first e2.
-      behind (LineFits defs) (set_rest first.1) _ (λ rest e3. rolled (statement.Set variable.0 first.0 rest) refl)))
+      behind (LineFits step judges) (variable_at tokens) _ (λ variable e1.
+      behind (LineFits step judges) (operand_at variable.1) _ (λ first e2.
+      behind (LineFits step judges) (set_rest first.1) _ (λ rest e3. rolled step (statement.Set variable.0 first.0 rest) (judges.sets variable.0 first.0 rest))))
 
-  reply_fits : (tokens : List Token) → Holds (LineFits defs) (reply_line tokens)
+  reply_fits : (tokens : List Token) → Holds (LineFits step judges) (reply_line tokens)
   unfolding reply_line
-  reply_fits tokens = behind (LineFits defs) (operands_in tokens) _
-      (λ operands e1. rolled (statement.Reply operands) refl)
+  reply_fits tokens = behind (LineFits step judges) (operands_in tokens) _
+      (λ operands e1. rolled step (statement.Reply operands) (judges.replies operands))
 
-  rolb_fits : (tokens : List Token) → Holds (LineFits defs) (rolb_line tokens)
+  rolb_fits : (tokens : List Token) → Holds (LineFits step judges) (rolb_line tokens)
   unfolding rolb_line
-  rolb_fits tokens = behind (LineFits defs) (count_at 0 98 tokens) _
-      (λ code e1. plain_fits (statement.Roll code.0) code.1 refl)
+  rolb_fits tokens = behind (LineFits step judges) (count_at 0 98 tokens) _
+      (λ code e1. plain_fits (statement.Roll code.0) code.1 (judges.rolls code.0))
 
-  block_line_fits : (tokens : List Token) → Holds (LineFits defs) (tran_line tokens)
-      × Holds (LineFits defs) (if_line tokens) × Holds (LineFits defs) (repeat_line tokens)
+  block_line_fits : (tokens : List Token) → Holds (LineFits step judges) (tran_line tokens)
+      × Holds (LineFits step judges) (if_line tokens) × Holds (LineFits step judges) (repeat_line tokens)
   unfolding tran_line if_line repeat_line
   block_line_fits tokens = (
-    behind (LineFits defs) (word_at tokens) _ (λ name e. at_end (LineFits defs) (line.Tran name.0) name.1 tt),
-    behind (LineFits defs) (operand_at tokens) _ (λ left e1. behind (LineFits defs) (comparison_at left.1) _
-        (λ comparison e2. behind (LineFits defs) (operand_at comparison.1) _
-        (λ right e3. at_end (LineFits defs) (line.If left.0 comparison.0 right.0) right.1 tt))),
-    behind (LineFits defs) (count_at 1 10000 tokens) _
-        (λ times e. at_end (LineFits defs) (line.Repeat times.0) times.1 tt),
+    behind (LineFits step judges) (word_at tokens) _ (λ name e. at_end (LineFits step judges) (line.Tran name.0) name.1 tt),
+    behind (LineFits step judges) (operand_at tokens) _ (λ left e1. behind (LineFits step judges) (comparison_at left.1) _
+        (λ comparison e2. behind (LineFits step judges) (operand_at comparison.1) _
+        (λ right e3. at_end (LineFits step judges) (line.If left.0 comparison.0 right.0) right.1 tt))),
+    behind (LineFits step judges) (count_at 1 10000 tokens) _
+        (λ times e. at_end (LineFits step judges) (line.Repeat times.0) times.1 tt),
   )
 
   -- what a line says
-  line_fits : (k : Keyword) (tokens : List Token) → Holds (LineFits defs) (line_behind defs k tokens)
+  line_fits : (k : Keyword) (tokens : List Token) → Holds (LineFits step judges) (line_behind defs k tokens)
   unfolding line_behind
   line_fits keyword.Tran tokens = (block_line_fits tokens).0
   line_fits keyword.Set tokens = set_fits tokens
   line_fits keyword.If tokens = (block_line_fits tokens).1
-  line_fits keyword.Else tokens = at_end (LineFits defs) line.Else tokens tt
-  line_fits keyword.End tokens = at_end (LineFits defs) line.End tokens tt
+  line_fits keyword.Else tokens = at_end (LineFits step judges) line.Else tokens tt
+  line_fits keyword.End tokens = at_end (LineFits step judges) line.End tokens tt
   line_fits keyword.Repeat tokens = (block_line_fits tokens).2
-  line_fits keyword.Break tokens = plain_fits statement.Break tokens refl
+  line_fits keyword.Break tokens = plain_fits statement.Break tokens judges.breaks
   line_fits keyword.Reply tokens = reply_fits tokens
   line_fits keyword.Rolb tokens = rolb_fits tokens
-  line_fits (keyword.Get get hold) tokens = get_fits get hold tokens
-  line_fits keyword.Fld tokens = fld_fits tokens
-  line_fits keyword.Isrt tokens = isrt_fits tokens
-  line_fits keyword.Repl tokens = repl_fits tokens
-  line_fits keyword.Dlet tokens = dlet_fits tokens
+  line_fits (keyword.Get get hold) tokens = calls.get get hold tokens
+  line_fits keyword.Fld tokens = calls.fld tokens
+  line_fits keyword.Isrt tokens = calls.isrt tokens
+  line_fits keyword.Repl tokens = calls.repl tokens
+  line_fits keyword.Dlet tokens = calls.dlet tokens
 
   abbrev ReadFits : Read → Type 0
-  ReadFits read = LinesFit defs read.said
+  ReadFits read = LinesFit step judges read.said
 
-  known : (b : Bool) (l : Line) (next : Context) → LineFits defs l
+  known : (b : Bool) (l : Line) (next : Context) → LineFits step judges l
       → Holds ReadFits (if b then Ok (record { said = l ∷ []; context = next }) else Err UnknownName)
   known true l next h = (h, tt)
   known false l next h = tt
 
-  of_line : {r : Reading Line} {l : Line} → Holds (LineFits defs) r → r ≡ Ok l → LineFits defs l
-  of_line {r} {l} h e = subst (Holds (LineFits defs)) e h
+  of_line : {r : Reading Line} {l : Line} → Holds (LineFits step judges) r → r ≡ Ok l → LineFits step judges l
+  of_line {r} {l} h e = subst (Holds (LineFits step judges)) e h
 
   statement_fits : (number : ℕ) (context : Context) (bytes : List ℕ)
       → Holds ReadFits (statement_in defs number context bytes)
@@ -295,9 +270,9 @@ module _ (defs : Defs) (no_dedbs : defs.dedbs ≡ []) where
   numbered_fits number (Ok read) h = h
   numbered_fits number (Err e) h = tt
 
-  front_fits : (said : List Line) (r : Result Read ScriptFault) → LinesFit defs said → Holds ReadFits r
+  front_fits : (said : List Line) (r : Result Read ScriptFault) → LinesFit step judges said → Holds ReadFits r
       → Holds ReadFits (in_front said r)
-  front_fits said (Ok read) h g = joined_fit defs said read.said h g
+  front_fits said (Ok read) h g = joined_fit step judges said read.said h g
   front_fits said (Err e) h g = tt
 
   more_fit : (r : Result Read ScriptFault) (f : Context → Result Read ScriptFault) → Holds ReadFits r
@@ -314,11 +289,313 @@ module _ (defs : Defs) (no_dedbs : defs.dedbs ≡ []) where
       (numbered_fits number (line_in defs number context bytes) (any_line_fits number context bytes))
       (λ next. all_lines_fit (number + 1) next more)
 
+  read_fits : (text : List ℕ) (scripts : List Script) → AreScriptsOf defs text scripts
+      → AllByRecursion (λ (s : Script). all_judged step judges s.statements ≡ true) scripts
+  read_fits text scripts h = scripts_fit step judges h.written.shape
+      (subst (Holds ReadFits) h.written.lines (all_lines_fit 1 at_top (lines_of text)))
+
+-- ---- main storage databases alone
+
+pub fits_judges : (defs : Defs) → Judges (fits_step defs)
+fits_judges defs = record {
+  choice = λ left comparison right taken otherwise. refl;
+  loop = λ times body. refl;
+  sets = λ variable first rest. refl;
+  breaks = refl;
+  replies = λ operands. refl;
+  rolls = λ code. refl;
+}
+
+module _ (defs : Defs) (no_dedbs : defs.dedbs ≡ []) where
+  -- a name of a database is that of a main storage database
+  named : (o : Option ℕ) (db : ℕ) (name : Name) → position (λ def. has_name name def.name) defs.msdbs ≡ o
+      → db_by o None (length defs.msdbs) ≡ Ok db → nat_lt db (length defs.msdbs) ≡ true
+  named None db name e f = absurd cc
+  named (Some place) db name e f =
+      let found = position-Some (λ (def : MsdbDef). has_name name def.name) defs.msdbs place nothing e in
+      let same : place ≡ db = cc in
+      let within = found.0 in
+      subst (λ (n : ℕ). nat_lt n (length defs.msdbs) ≡ true) same (grind (arith, nat_tests, within))
+    where
+      nothing : MsdbDef
+      nothing = record { name = name; dynamic = false; fields = []; length = 0; load = [] }
+
+  is_known_db : (name : Name) (db : ℕ) → db_of defs name ≡ Ok db → nat_lt db (length defs.msdbs) ≡ true
+  unfolding db_of
+  is_known_db name db e =
+      named (position (λ def. has_name name def.name) defs.msdbs) db name refl
+      (rw no_dedbs at e)
+
+  get_fits : (get : Get) (hold : Bool) (tokens : List Token) → Holds (LineFits (fits_step defs) (fits_judges defs)) (get_line defs get hold tokens)
+  unfolding get_line
+  get_fits get hold tokens =
+      behind (LineFits (fits_step defs) (fits_judges defs)) (word_at tokens) _ (λ database e1.
+      behind (LineFits (fits_step defs) (fits_judges defs)) (ssas_in database.1) _ (λ written e2.
+      behind (LineFits (fits_step defs) (fits_judges defs)) (db_of defs database.0) _ (λ db e3.
+      behind (LineFits (fits_step defs) (fits_judges defs)) (get_ssas defs db written) _
+      (λ ssas e4. rolled (fits_step defs) (statement.Get get hold db ssas) (is_known_db database.0 db e3)))))
+
+  fld_fits : (tokens : List Token) → Holds (LineFits (fits_step defs) (fits_judges defs)) (fld_line defs tokens)
+  unfolding fld_line
+  fld_fits tokens =
+      behind (LineFits (fits_step defs) (fits_judges defs)) (word_at tokens) _ (λ database e1.
+      behind (LineFits (fits_step defs) (fits_judges defs)) (key_at database.1) _ (λ key e2.
+      behind (LineFits (fits_step defs) (fits_judges defs)) (fsas_in key.1) _ (λ fsas e3.
+      behind (LineFits (fits_step defs) (fits_judges defs)) (db_of defs database.0) _
+      (λ db e4. rolled (fits_step defs) (statement.Fld db key.0 fsas)
+      (both (fits_step defs) (fits_judges defs) _ _ (is_known_db database.0 db e4) (few_fsas key.1 fsas e3))))))
+
+  isrt_fits : (tokens : List Token) → Holds (LineFits (fits_step defs) (fits_judges defs)) (isrt_line defs tokens)
+  unfolding isrt_line
+  isrt_fits tokens =
+      behind (LineFits (fits_step defs) (fits_judges defs)) (word_at tokens) _ (λ database e1.
+      behind (LineFits (fits_step defs) (fits_judges defs)) (ssas_in (before_fields database.1)) _ (λ written e2.
+      behind (LineFits (fits_step defs) (fits_judges defs)) (fields_in (from_fields database.1)) _ (λ given e3.
+      behind (LineFits (fits_step defs) (fits_judges defs)) (db_of defs database.0) _ (λ db e4.
+      behind (LineFits (fits_step defs) (fits_judges defs)) (isrt_ssas defs db written) _ (λ ssas e5.
+      behind (LineFits (fits_step defs) (fits_judges defs)) (isrt_fields defs db ssas given) _
+      (λ fields e6. rolled (fits_step defs) (statement.Isrt db ssas fields) (is_known_db database.0 db e4)))))))
+
+  repl_fits : (tokens : List Token) → Holds (LineFits (fits_step defs) (fits_judges defs)) (repl_line defs tokens)
+  unfolding repl_line
+  repl_fits tokens =
+      behind (LineFits (fits_step defs) (fits_judges defs)) (word_at tokens) _ (λ database e1.
+      behind (LineFits (fits_step defs) (fits_judges defs)) (fields_in database.1) _ (λ fields e2.
+      behind (LineFits (fits_step defs) (fits_judges defs)) (db_of defs database.0) _
+      (λ db e3. rolled (fits_step defs) (statement.Repl db fields) (is_known_db database.0 db e3))))
+
+  dlet_fits : (tokens : List Token) → Holds (LineFits (fits_step defs) (fits_judges defs)) (dlet_line defs tokens)
+  unfolding dlet_line
+  dlet_fits tokens =
+      behind (LineFits (fits_step defs) (fits_judges defs)) (word_at tokens) _ (λ database e1.
+      behind (LineFits (fits_step defs) (fits_judges defs)) (ended database.0 database.1) _ (λ name e2.
+      behind (LineFits (fits_step defs) (fits_judges defs)) (db_of defs name) _ (λ db e3. rolled (fits_step defs) (statement.Dlet db) (is_known_db name db e3))))
+
+  call_lines_fit : CallLinesFit defs (fits_step defs) (fits_judges defs)
+  call_lines_fit = record { get = get_fits; fld = fld_fits; isrt = isrt_fits; repl = repl_fits; dlet = dlet_fits }
+
   -- What was read calls what is defined.
   pub what_was_read_fits : (text : List ℕ) (scripts : List Script) → AreScriptsOf defs text scripts
       → AllByRecursion (λ (s : Script). are_fit defs s.statements ≡ true) scripts
-  what_was_read_fits text scripts h = scripts_fit defs h.written.shape
-      (subst (Holds ReadFits) h.written.lines (all_lines_fit 1 at_top (lines_of text)))
+  what_was_read_fits text scripts h = read_fits defs (fits_step defs) (fits_judges defs) call_lines_fit text scripts h
+
+-- ---- every database
+
+pub suits_judges : (defs : Defs) → Judges (suits_step defs)
+suits_judges defs = record {
+  choice = λ left comparison right taken otherwise. refl;
+  loop = λ times body. refl;
+  sets = λ variable first rest. refl;
+  breaks = refl;
+  replies = λ operands. refl;
+  rolls = λ code. refl;
+}
+
+-- what stands within a list, and what doesn't
+stands_within : {A : Type 0} (xs : List A) (n : ℕ) → n < length xs → (x : A) × (slice_get xs n ≡ Some x)
+stands_within [] n less = absurd (omega arith)
+stands_within (x ∷ xs) zero less = (x, refl)
+stands_within (x ∷ xs) (suc n) less = stands_within xs n (omega arith)
+
+stands_beyond : {A : Type 0} (xs : List A) (n : ℕ) → length xs ≤ n → slice_get xs n ≡ None
+stands_beyond [] n beyond = refl
+stands_beyond (x ∷ xs) zero beyond = absurd (omega arith)
+stands_beyond (x ∷ xs) (suc n) beyond = stands_beyond xs n (omega arith)
+
+-- what a part that was read was made of
+parts_of : {A B : Type 0} (r : Reading A) (f : A → Reading B) (y : B) → (r >>= f) ≡ Ok y
+    → (x : A) × (r ≡ Ok x) × (f x ≡ Ok y)
+parts_of (Ok x) f y e = (x, refl, e)
+parts_of (Err e) f y is = absurd cc
+
+-- a segment type that is named is one of these
+type_within : (types : List SegDef) (name : Name) (segment : ℕ) → segment_of types name ≡ Ok segment
+    → segment < length types
+type_within types name segment e = by (position (λ def. has_name name def.name) types) refl e
+  where
+    nothing : SegDef
+    nothing = record { name = name; parent = None; sequential = false; fields = []; length = 0 }
+
+    by : (o : Option ℕ) → position (λ (def : SegDef). has_name name def.name) types ≡ o → or_unknown o ≡ Ok segment
+        → segment < length types
+    by None is f = absurd cc
+    by (Some place) is f =
+        let found = position-Some (λ (def : SegDef). has_name name def.name) types place nothing is in
+        let same : place ≡ segment = cc in
+        let within = found.0 in
+        subst (λ (n : ℕ). n < length types) same within
+
+named_types : (types : List SegDef) (written : List WrittenSsa) (ssas : List SsaText) → dedb_ssas types written ≡ Ok ssas
+    → list_all (λ (ssa : SsaText). nat_lt ssa.segment (length types)) ssas ≡ true
+unfolding dedb_ssas
+named_types types [] ssas e =
+    let same : [] ≡ ssas = cc in
+    subst (λ (l : List SsaText). list_all (λ (ssa : SsaText). nat_lt ssa.segment (length types)) l ≡ true) same refl
+named_types types (w ∷ ws) ssas e =
+    let first = parts_of (segment_of types w.name) _ ssas e in
+    let others = parts_of (dedb_ssas types ws) _ ssas first.2 in
+    let same : record { segment = first.0; key = w.key } ∷ others.0 ≡ ssas = let is = others.2 in cc in
+    let within = type_within types w.name first.0 first.1 in
+    let less : nat_lt first.0 (length types) ≡ true = grind (arith, nat_tests, within) in
+    subst (λ (l : List SsaText). list_all (λ (ssa : SsaText). nat_lt ssa.segment (length types)) l ≡ true) same
+    (both_true less (named_types types ws others.0 others.1))
+  where
+    both_true : {a b : Bool} → a ≡ true → b ≡ true → (a && b) ≡ true
+    both_true h g = rw (h, g) refl
+
+-- as many search arguments as were written
+named_count : (types : List SegDef) (written : List WrittenSsa) (ssas : List SsaText)
+    → dedb_ssas types written ≡ Ok ssas → length ssas ≡ length written
+unfolding dedb_ssas
+named_count types [] ssas e = let same : [] ≡ ssas = cc in sym (ap length same)
+named_count types (w ∷ ws) ssas e =
+    let first = parts_of (segment_of types w.name) _ ssas e in
+    let others = parts_of (dedb_ssas types ws) _ ssas first.2 in
+    let same : record { segment = first.0; key = w.key } ∷ others.0 ≡ ssas = let is = others.2 in cc in
+    sym (ap length same) ∙ ap suc (named_count types ws others.0 others.1)
+
+module _ (defs : Defs) where
+  -- a database that is defined, of the one kind or of the other
+  data Kind_of (db : ℕ) : Type 0 where
+    is_main : (def : MsdbDef) → is_msdb defs db ≡ true → target_of defs db ≡ OnMsdb def db → Kind_of db
+    is_entry : (def : DedbDef) → is_msdb defs db ≡ false → types_of defs db ≡ def.segments
+        → target_of defs db ≡ OnDedb def (db - length defs.msdbs)
+        → Kind_of db
+
+  kind_of : (db : ℕ) → db < length defs.msdbs + length defs.dedbs → Kind_of db
+  kind_of db less = by (nat_lt db (length defs.msdbs)) refl
+    where
+      main : db < length defs.msdbs → Kind_of db
+      main within =
+          let found = stands_within defs.msdbs db within in
+          is_main found.0 (grind (arith, nat_tests, within))
+          (ap (λ (o : Option MsdbDef). option_map_or (λ def. OnMsdb def db) o (dedb_target defs (db - length defs.msdbs)))
+          found.1)
+
+      entry : length defs.msdbs ≤ db → Kind_of db
+      entry beyond =
+          let found = stands_within defs.dedbs (db - length defs.msdbs) (omega (arith, less, beyond)) in
+          is_entry found.0 (grind (arith, nat_tests, beyond))
+          (ap (λ (o : Option DedbDef). option_map_or (λ dedb. dedb.segments) o []) found.1)
+          (ap (λ (o : Option MsdbDef). option_map_or (λ def. OnMsdb def db) o (dedb_target defs (db - length defs.msdbs)))
+          (stands_beyond defs.msdbs db beyond)
+          ∙ ap (λ (o : Option DedbDef). option_map_or (λ def. OnDedb def (db - length defs.msdbs)) o Nowhere) found.1)
+
+      by : (b : Bool) → nat_lt db (length defs.msdbs) ≡ b → Kind_of db
+      by true is = main (grind (arith, nat_tests, is))
+      by false is = entry (grind (arith, nat_tests, is))
+
+  -- a name of a database is that of one
+  name_of : (name : Name) (db : ℕ) → db_of defs name ≡ Ok db → Kind_of db
+  unfolding db_of
+  name_of name db e =
+      by (position (λ def. has_name name def.name) defs.msdbs) (position (λ def. has_name name def.name) defs.dedbs) refl
+      refl e
+    where
+      no_main : MsdbDef
+      no_main = record { name = name; dynamic = false; fields = []; length = 0; load = [] }
+
+      no_entry : DedbDef
+      no_entry = record { name = name; randomizer = Fold; ci = 0; segments = []; areas = [] }
+
+      by : (o p : Option ℕ) → position (λ (def : MsdbDef). has_name name def.name) defs.msdbs ≡ o
+          → position (λ (def : DedbDef). has_name name def.name) defs.dedbs ≡ p
+          → db_by o p (length defs.msdbs) ≡ Ok db
+          → Kind_of db
+      by (Some place) p is other f =
+          let found = position-Some (λ (def : MsdbDef). has_name name def.name) defs.msdbs place no_main is in
+          let same : place ≡ db = cc in
+          let within = found.0 in
+          kind_of db (omega (arith, same, within))
+      by None (Some place) is other f =
+          let found = position-Some (λ (def : DedbDef). has_name name def.name) defs.dedbs place no_entry other in
+          let same : length defs.msdbs + place ≡ db = cc in
+          let within = found.0 in
+          kind_of db (omega (arith, same, within))
+      by None None is other f = absurd cc
+
+  defined : (db : ℕ) → Kind_of db → is_defined (target_of defs db) ≡ true
+  defined db (is_main def is target) = ap is_defined target
+  defined db (is_entry def is types target) = ap is_defined target
+
+  get_has_types : (db : ℕ) (written : List WrittenSsa) (ssas : List SsaText) → Kind_of db
+      → get_ssas defs db written ≡ Ok ssas → has_types (target_of defs db) ssas ≡ true
+  unfolding get_ssas
+  get_has_types db written ssas (is_main def is target) e = ap (λ t. has_types t ssas) target
+  get_has_types db written ssas (is_entry def is types target) e =
+      let read : dedb_ssas (types_of defs db) written ≡ Ok ssas = rw is at e in
+      ap (λ t. has_types t ssas) target
+      ∙ subst (λ (ts : List SegDef). list_all (λ (ssa : SsaText). nat_lt ssa.segment (length ts)) ssas ≡ true) types
+      (named_types (types_of defs db) written ssas read)
+
+  isrt_suits : (db : ℕ) (written : List WrittenSsa) (ssas : List SsaText) → Kind_of db
+      → isrt_ssas defs db written ≡ Ok ssas
+      → (has_types (target_of defs db) ssas && names_new (target_of defs db) ssas) ≡ true
+  unfolding isrt_ssas
+  isrt_suits db written ssas (is_main def is target) e = ap (λ t. has_types t ssas && names_new t ssas) target
+  isrt_suits db written ssas (is_entry def is types target) e =
+      let counted = parts_of (isrt_count (is_msdb defs db) written) _ ssas e in
+      let some = counted_some written counted.0 (ap (λ b. isrt_count b written) (sym is) ∙ counted.1) in
+      let as_many = named_count (types_of defs db) counted.0 ssas counted.2 in
+      ap (λ t. has_types t ssas && names_new t ssas) target
+      ∙ both (suits_step defs) (suits_judges defs) _ _
+      (subst (λ (ts : List SegDef). list_all (λ (ssa : SsaText). nat_lt ssa.segment (length ts)) ssas ≡ true) types
+      (named_types (types_of defs db) counted.0 ssas counted.2))
+      (grind (arith, nat_tests, some, as_many))
+    where
+      counted_some : (written counted : List WrittenSsa) → isrt_count false written ≡ Ok counted → 1 ≤ length counted
+      counted_some [] counted e = absurd cc
+      counted_some (w ∷ ws) counted e =
+          let same : w ∷ ws ≡ counted = cc in
+          subst (λ (l : List WrittenSsa). 1 ≤ length l) same (omega arith)
+
+  abbrev Suits : Line → Type 0
+  Suits = LineFits (suits_step defs) (suits_judges defs)
+
+  call_lines_suit : CallLinesFit defs (suits_step defs) (suits_judges defs)
+  unfolding get_line fld_line isrt_line repl_line dlet_line
+  call_lines_suit = record {
+    get = λ get hold tokens.
+        behind Suits (word_at tokens) _ (λ database e1.
+        behind Suits (ssas_in database.1) _ (λ written e2.
+        behind Suits (db_of defs database.0) _ (λ db e3.
+        behind Suits (get_ssas defs db written) _ (λ ssas e4.
+        rolled (suits_step defs) (statement.Get get hold db ssas)
+        (get_has_types db written ssas (name_of database.0 db e3) e4)))));
+    fld = λ tokens.
+        behind Suits (word_at tokens) _ (λ database e1.
+        behind Suits (key_at database.1) _ (λ key e2.
+        behind Suits (fsas_in key.1) _ (λ fsas e3.
+        behind Suits (db_of defs database.0) _ (λ db e4.
+        rolled (suits_step defs) (statement.Fld db key.0 fsas)
+        (both (suits_step defs) (suits_judges defs) _ _ (defined db (name_of database.0 db e4))
+        (few_fsas key.1 fsas e3))))));
+    isrt = λ tokens.
+        behind Suits (word_at tokens) _ (λ database e1.
+        behind Suits (ssas_in (before_fields database.1)) _ (λ written e2.
+        behind Suits (fields_in (from_fields database.1)) _ (λ given e3.
+        behind Suits (db_of defs database.0) _ (λ db e4.
+        behind Suits (isrt_ssas defs db written) _ (λ ssas e5.
+        behind Suits (isrt_fields defs db ssas given) _ (λ fields e6.
+        rolled (suits_step defs) (statement.Isrt db ssas fields)
+        (isrt_suits db written ssas (name_of database.0 db e4) e5)))))));
+    repl = λ tokens.
+        behind Suits (word_at tokens) _ (λ database e1.
+        behind Suits (fields_in database.1) _ (λ fields e2.
+        behind Suits (db_of defs database.0) _ (λ db e3.
+        rolled (suits_step defs) (statement.Repl db fields) (defined db (name_of database.0 db e3)))));
+    dlet = λ tokens.
+        behind Suits (word_at tokens) _ (λ database e1.
+        behind Suits (ended database.0 database.1) _ (λ name e2.
+        behind Suits (db_of defs name) _ (λ db e3.
+        rolled (suits_step defs) (statement.Dlet db) (defined db (name_of name db e3)))));
+  }
+
+  -- What was read suits its definitions.
+  pub what_was_read_suits : (text : List ℕ) (scripts : List Script) → AreScriptsOf defs text scripts
+      → AllByRecursion (λ (s : Script). all_suit defs s.statements ≡ true) scripts
+  what_was_read_suits text scripts h =
+      read_fits defs (suits_step defs) (suits_judges defs) call_lines_suit text scripts h
 
 -- ---- costs
 

@@ -7,3 +7,4 @@ pub mod Blocks
 pub mod Grammar
 pub mod Building
 pub mod Numbers
+pub mod Suiting

@@ -9,6 +9,7 @@ ghost use Rattle.fp_model.specs.WellFormed.{AreDefs};
 ghost use Rattle.txn_lang.specs.declared.fault.ScriptFault.{ScriptFault};
 ghost use Rattle.txn_lang.specs.Lookups.{HaveByteNumbers};
 ghost use Rattle.txn_lang.specs.Grammar.{AreScriptsOf, HasFault};
+ghost use Rattle.txn_lang.specs.Suiting.{all_suit};
 
 /// Definitions that a reader gives are ones that scripts can be read for.
 pub fn definitions_have_byte_numbers()
@@ -25,9 +26,12 @@ pub fn a_text_has_one_meaning()
         → AreScriptsOf defs text scripts → HasFault defs text f → ⊥ }
 {}
 
-/// Scripts that were read under definitions without data entry databases call databases that are defined, field calls
-/// have 1 to 255 search arguments, and each script takes at most 10,000 calls.
+/// Scripts that were read call databases that are defined, and segment types that these have; field calls have 1 to 255
+/// search arguments, and each script takes at most 10,000 calls. Under definitions without data entry databases they
+/// call main storage databases.
 pub fn what_was_read_fits()
+    ensures suits { (defs : Defs) (text : List ℕ) (scripts : List Script) → AreScriptsOf defs text scripts
+        → AllByRecursion (λ s. all_suit defs s.statements ≡ true) scripts }
     ensures fit { (defs : Defs) (text : List ℕ) (scripts : List Script) → AreScriptsOf defs text scripts
         → defs.dedbs ≡ []
         → AllByRecursion (λ s. are_fit defs s.statements ≡ true) scripts }

@@ -1,18 +1,14 @@
 -- Calls that fit a main storage database: what a fit statement asks, of what was shown.
-use Rattle.std.proofs.Common.{◌≡◌, ◌∙◌, refl, sym, ap, subst, arith, ℕ, zero, suc, ◌+◌, ◌-◌, ◌<◌, ◌≤◌, List, [], ◌∷◌, ◌++◌, map, drop, take, length, length-drop, length-append, Bool, true, false, if◌then◌else◌, Option, Some, None}
-use Rattle.std.specs.Prelude.{slice_get, find, option_map, nat_lt, nat_le, not, ◌==◌, ◌&&◌, IfSome, IsTrue, replicate, ℤ, pos}
-use Rattle.std.specs.List.{AllByRecursion, list_all}
-use Rattle.std.proofs.lemmas.Bool.{and_parts, eqb-true, leb-true, ltb-true}
+use Rattle.std.proofs.Common.{◌≡◌, ◌∙◌, refl, sym, ap, subst, arith, ℕ, zero, suc, ◌+◌, ◌-◌, ◌<◌, ◌≤◌, List, [], ◌∷◌, ◌++◌, drop, take, length, length-drop, length-append, Bool, true, false, if◌then◌else◌, Option, Some, None}
+use Rattle.std.specs.Prelude.{slice_get, find, option_map, nat_le, not, ◌==◌, IfSome, replicate, pos}
+use Rattle.std.specs.List.{AllByRecursion}
+use Rattle.std.proofs.lemmas.Bool.{eqb-true, leb-true}
 use Rattle.std.proofs.lemmas.List.{length-take, length-replicate}
 use Rattle.fp_model.specs.declared.calls.Message.{Message}
-use Rattle.fp_model.specs.declared.calls.Call.{Call}
-use Rattle.fp_model.specs.declared.calls.Call.TheVariants as call
 use Rattle.fp_model.specs.declared.calls.Ssa.{Ssa}
 use Rattle.fp_model.specs.declared.definitions.Defs.{Defs}
 use Rattle.fp_model.specs.declared.definitions.MsdbDef.{MsdbDef}
 use Rattle.fp_model.specs.declared.definitions.FieldDef.{FieldDef}
-use Rattle.fp_model.specs.declared.definitions.FieldKind.{FieldKind}
-use Rattle.fp_model.specs.declared.definitions.FieldKind.TheVariants as kind
 use Rattle.fp_model.specs.declared.scripts.Operand.{Operand}
 use Rattle.fp_model.specs.declared.scripts.SsaText.{SsaText}
 use Rattle.fp_model.specs.declared.scripts.FsaText.{FsaText}
@@ -22,10 +18,10 @@ use Rattle.fp_model.specs.Texts.{padded, number_in, same_text}
 use Rattle.fp_model.specs.Numbers.{bytes_of}
 use Rattle.fp_model.specs.Fsas.{Fsa, field_of, with_field, is_text}
 use Rattle.fp_model.specs.MsdbCalls.{key_named}
-use Rattle.fp_model.specs.WellFormed.{IsMsdbDef, StandFrom}
-use Rattle.fp_model.specs.FitCalls.{OfMsdb, FitsKey, FitsSegment, IsMsdbCall}
+use Rattle.fp_model.specs.WellFormed.{StandFrom}
+use Rattle.fp_model.specs.FitCalls.{FitsKey}
 use Rattle.fp_model.specs.Values.{◌>>=◌, Layout, layout_of, fitted, fitted_key, value_bytes, empty_field, empty_segment}
-use Rattle.fp_model.specs.Operands.{Env, ShownSegment, text_of, key_text, ssa_of, ssas_of, fsas_given, filled, shown_on}
+use Rattle.fp_model.specs.Operands.{Env, ShownSegment, text_of, key_text, ssa_of, ssas_of, fsas_given, filled}
 use Rattle.packed_dec.proofs.ReadsBack.{reads_back}
 
 -- ---- values that there are
@@ -55,7 +51,7 @@ fitted_by n text bytes true le is =
     let to : length (padded n text) ≡ length bytes = ap length same in
     omega (arith, long, count, short, to)
 
-fitted_length : (n : ℕ) (text bytes : List ℕ) → fitted n text ≡ Some bytes → length bytes ≡ n
+pub fitted_length : (n : ℕ) (text bytes : List ℕ) → fitted n text ≡ Some bytes → length bytes ≡ n
 fitted_length n text bytes is = fitted_by n text bytes (nat_le (length text) n) refl is
 
 by_kind : {A : Type 0} (b : Bool) (x y : Option A) (z : A) (P : Type 0) → (if b then x else y) ≡ Some z

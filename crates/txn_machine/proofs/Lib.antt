@@ -14,3 +14,4 @@ pub mod NextLemmas
 pub mod FitLemmas
 pub mod FitStatements
 mod GivenLemmas
+pub mod SuitLemmas

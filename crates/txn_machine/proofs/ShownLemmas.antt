@@ -6,7 +6,7 @@ use Rattle.std.proofs.lemmas.Bool.{eqb-true, eq-eqb, ne_eqb}
 use Rattle.fp_model.specs.Operands.{ShownSegment}
 use Rattle.txn_machine.specs.declared.shown.Shown.{Shown}
 use Rattle.txn_machine.specs.declared.shown.Gets.{Gets}
-use Rattle.fp_model.specs.declared.definitions.MsdbDef.{MsdbDef}
+use Rattle.fp_model.specs.declared.definitions.Defs.{Defs}
 use Rattle.txn_machine.specs.Fit.{AreShown, IsShownSegment}
 use Rattle.txn_machine.specs.Alike.{ShowAlike}
 use Rattle.txn_machine.specs.Knowing.{in_place, segment_on, segments_from}
@@ -101,7 +101,7 @@ show_moves s places i at last is lt = record {
   first = refl;
 }
 
-pub shown_set : (defs : List MsdbDef) (gets : Gets) (i db : ℕ) (newest : Shown) → i ≡ gets.db → i < length gets.older
+pub shown_set : (defs : Defs) (gets : Gets) (i db : ℕ) (newest : Shown) → i ≡ gets.db → i < length gets.older
     → AreShown defs (Some gets) → IsShownSegment defs (segment_on db newest)
     → AreShown defs (Some (record { db = db; newest = newest; older = slice_set gets.older i (Some gets.newest) }))
 shown_set defs gets i db newest is lt all h = record {

@@ -1,19 +1,20 @@
 -- A program on its way through a script.
-use Rattle.std.specs.Prelude.{◌≡◌, ⊤, ℕ, List, [], ◌∷◌, ◌++◌, length, Option, Some, None, IfSome}
+use Rattle.std.specs.Prelude.{◌≡◌, ⊤, ℕ, List, ◌++◌, Option, Some, IfSome}
 use Rattle.fp_model.specs.declared.definitions.Defs.{Defs}
 use Rattle.fp_model.specs.declared.definitions.MsdbDef.{MsdbDef}
 use Rattle.fp_model.specs.declared.calls.Message.{Message}
 use Rattle.fp_model.specs.declared.calls.Answer.{Answer}
 use Rattle.fp_model.specs.declared.calls.Call.{Call}
 use Rattle.fp_model.specs.declared.scripts.Statement.{Statement}
-use Rattle.fp_model.specs.Asking.{Ask, Asks, Replies, Rolls, Way, goes_on, called, ended, ask}
-use Rattle.fp_model.specs.FitCalls.{IsMsdbCall}
+use Rattle.fp_model.specs.Asking.{Ask, Asks, Replies, Rolls, goes_on, called, ended, ask}
+use Rattle.fp_model.specs.Calls.{database_of, target_of}
+use Rattle.fp_model.specs.FitCalls.{FitsTarget, IsMsdbCall}
 use Rattle.txn_machine.specs.declared.program.Program.{Program}
 use Rattle.txn_machine.specs.declared.program.Wait.{Wait}
 use Rattle.txn_machine.specs.declared.program.Next.{Next}
 use Rattle.txn_machine.specs.declared.program.Next.TheVariants as next
 use Rattle.txn_machine.specs.Knowing.{HasPlace, env_of, lesson_of}
-use Rattle.txn_machine.specs.Fit.{AreShown}
+use Rattle.txn_machine.specs.Fit.{AreShown, type_shown}
 use Rattle.txn_machine.specs.Places.{block_at, from_place, around, end_from}
 
 -- ---- answers
@@ -79,8 +80,8 @@ Awaits (next.Roll code) program = ⊤
 
 -- ---- fit
 
--- every segment that the program was shown is one of its main storage database
-pub record IsFit (defs : List MsdbDef) (program : Program) : Type 0 where
+-- every segment that the program was shown is a whole one of its database
+pub record IsFit (defs : Defs) (program : Program) : Type 0 where
   pub shown : AreShown defs program.known.gets
 
 -- a call fits its main storage database
@@ -88,3 +89,14 @@ abbrev pub IsFitNext : List MsdbDef → Next → Type 0
 IsFitNext defs (next.Call asked) = IsMsdbCall defs asked
 IsFitNext defs (next.Reply text) = ⊤
 IsFitNext defs (next.Roll code) = ⊤
+
+-- the types that it was shown last, by the number of the database
+abbrev pub types_shown : Program → ℕ → Option ℕ
+types_shown program db = type_shown program.known.gets db
+
+-- a call fits its target, where these types were shown last
+abbrev pub IsSuitedNext : Defs → (ℕ → Option ℕ) → Next → Type 0
+IsSuitedNext defs shown (next.Call asked) =
+    FitsTarget (target_of defs (database_of asked)) (shown (database_of asked)) asked
+IsSuitedNext defs shown (next.Reply text) = ⊤
+IsSuitedNext defs shown (next.Roll code) = ⊤

@@ -1,7 +1,7 @@
 //! What a program knows: its variables, and what its calls were answered.
 ghost use Rattle.std.specs.Prelude.{◌≡◌, [], OnErr, OnOk, List};
 ghost use Rattle.fp_model.specs.declared.calls.Answer.{Answer};
-ghost use Rattle.fp_model.specs.declared.definitions.MsdbDef.{MsdbDef};
+ghost use Rattle.fp_model.specs.declared.definitions.Defs.{Defs};
 ghost use Rattle.fp_model.specs.Operands.{at_top, setting_of, with_setting};
 ghost use Rattle.fp_model.specs.Texts.{same_text, trimmed};
 ghost use Rattle.txn_machine.specs.Alike.{AreAlike, AreTwins};
@@ -97,8 +97,8 @@ impl Known {
         requires { HasPlace self.old.gets }
         ensures shows { (answers : List Answer) → AreTwins (showing (segment_on db shown) (env_of self.old answers))
             (env_of self.new answers) }
-        ensures fit { (msdbs : List MsdbDef) → AreShown msdbs self.old.gets → IsShownSegment msdbs (segment_on db shown)
-            → AreShown msdbs self.new.gets }
+        ensures fit { (defs : Defs) → AreShown defs self.old.gets → IsShownSegment defs (segment_on db shown)
+            → AreShown defs self.new.gets }
     {
         let gets = Gets::show(self.gets.take(), self.alloc, db, shown);
         self.gets = Some(gets);
@@ -110,8 +110,8 @@ impl Known {
         ensures learns { (answers : List Answer)
             → AreTwins (taught lesson answer (record (env_of self.old answers) { status = answer.status }))
             (env_of self.new answers) }
-        ensures fit { (msdbs : List MsdbDef) → AreShown msdbs self.old.gets → FitsLesson msdbs lesson answer
-            → AreShown msdbs self.new.gets }
+        ensures fit { (defs : Defs) → AreShown defs self.old.gets → FitsLesson defs lesson answer
+            → AreShown defs self.new.gets }
     {
         let Answer {
             status,

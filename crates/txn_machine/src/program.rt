@@ -2,7 +2,6 @@
 ghost use Rattle.std.specs.Prelude.{◌≡◌, ◌<◌, ◌++◌, ◌∷◌, [], ℕ, List, length, ◌+◌, ◌≤◌, true, None, Some, IfOk, IfSome, OnErr, OnOk, slice_get};
 ghost use Rattle.std.specs.List.{AllByRecursion};
 ghost use Rattle.fp_model.specs.declared.definitions.Defs.{Defs};
-ghost use Rattle.fp_model.specs.declared.definitions.MsdbDef.{MsdbDef};
 ghost use Rattle.fp_model.specs.declared.calls.Message.{Message as MessageOf};
 ghost use Rattle.fp_model.specs.declared.calls.Answer.{Answer};
 ghost use Rattle.fp_model.specs.declared.calls.Call.{Call};
@@ -10,11 +9,13 @@ ghost use Rattle.fp_model.specs.declared.scripts.Statement.{Statement};
 ghost use Rattle.fp_model.specs.declared.scripts.Script.{Script};
 ghost use Rattle.fp_model.specs.Operands.{Env, with_setting};
 ghost use Rattle.fp_model.specs.Asking.{Leaves, ask, ended};
-ghost use Rattle.fp_model.specs.FitCalls.{FitsAnswer, are_fit};
-ghost use Rattle.fp_model.specs.WellFormed.{IsMsdbDef};
-ghost use Rattle.txn_machine.specs.Running.{Awaits, IsAsked, IsAt, IsFit, IsFitNext, IsWaiting, StandsAtCall, WaitsFor, end_of};
+ghost use Rattle.fp_model.specs.FitCalls.{FitsAnswerOf, are_fit, shown_behind};
+ghost use Rattle.fp_model.specs.Calls.{database_of, target_of};
+ghost use Rattle.fp_model.specs.WellFormed.{IsDedbDef, IsMsdbDef};
+ghost use Rattle.txn_lang.specs.Suiting.{all_suit};
+ghost use Rattle.txn_machine.specs.Running.{Awaits, IsAsked, IsAt, IsFit, IsFitNext, IsSuitedNext, IsWaiting, StandsAtCall, WaitsFor, end_of, types_shown};
 ghost use Rattle.txn_machine.specs.Alike.{AreAlike};
-ghost use Rattle.txn_machine.specs.Fit.{AreShown};
+ghost use Rattle.txn_machine.specs.Fit.{AreShown, type_shown};
 ghost use Rattle.txn_machine.specs.Places.{around, end_from};
 ghost use Rattle.txn_machine.specs.Knowing.{env_of, lesson_of, segments_of};
 ghost use Rattle.txn_machine.specs.Stepping.{ComesAlike, IsDeed, IsGivenBy};
@@ -77,7 +78,8 @@ impl Program {
         // The program is where each script of these statements is before its first answer, whatever the message.
         ensures at { (defs : Defs) (statements : List Statement) (message : MessageOf)
             → IsAt defs statements message [] result }
-        ensures fit { (msdbs : List MsdbDef) → IsFit msdbs result }
+        ensures fit { (defs : Defs) → IsFit defs result }
+        ensures types { (db : ℕ) → types_shown result db ≡ None }
     {
         Program {
             number,
@@ -119,9 +121,19 @@ impl Program {
             → slice_get scripts.now.scripts self.old.number ≡ Some script
             → AllByRecursion IsMsdbDef defs.now.msdbs
             → are_fit defs.now script.statements ≡ true
-            → IsFit defs.now.msdbs self.old
+            → IsFit defs.now self.old
             → IfOk result (λ next. IsFitNext defs.now.msdbs next) }
-        ensures fit { (msdbs : List MsdbDef) → IsFit msdbs self.old → IsFit msdbs self.new }
+
+        // Whatever databases are named, each call fits its own, by the type that was shown last of it.
+        ensures suits_call { (script : Script)
+            → slice_get scripts.now.scripts self.old.number ≡ Some script
+            → AllByRecursion IsMsdbDef defs.now.msdbs
+            → AllByRecursion IsDedbDef defs.now.dedbs
+            → all_suit defs.now script.statements ≡ true
+            → IsFit defs.now self.old
+            → IfOk result (IsSuitedNext defs.now (types_shown self.old)) }
+        ensures fit { (defs : Defs) → IsFit defs self.old → IsFit defs self.new }
+        ensures types { (db : ℕ) → types_shown self.new db ≡ types_shown self.old db }
     {
         self.wait = None;
         let statements = scripts.script(self.number).statements.as_slice();
@@ -268,8 +280,13 @@ impl Program {
         ensures shown { segments_of self.new.known.gets ≡ segments_of self.old.known.gets }
         ensures fit_call { AllByRecursion IsMsdbDef defs.now.msdbs
             → are_fit defs.now statements.now ≡ true
-            → AreShown defs.now.msdbs self.old.known.gets
+            → AreShown defs.now self.old.known.gets
             → IfOk result (λ given. IfSome given (IsFitNext defs.now.msdbs)) }
+        ensures suits_call { AllByRecursion IsMsdbDef defs.now.msdbs
+            → AllByRecursion IsDedbDef defs.now.dedbs
+            → all_suit defs.now statements.now ≡ true
+            → AreShown defs.now self.old.known.gets
+            → IfOk result (λ given. IfSome given (IsSuitedNext defs.now (type_shown self.old.known.gets))) }
     {
         let block = block_at(statements, self.place.frames.as_slice());
         if self.place.at < block.len() {
@@ -292,11 +309,14 @@ impl Program {
         ensures at { (defs : Defs) (statements : List Statement) (message : MessageOf) (answers : List Answer)
             → IsAt defs statements message answers self.old
             → IsAt defs statements message (answers ++ answer ∷ []) self.new }
-        ensures fit { (msdbs : List MsdbDef) (asked : Call)
+        ensures fit { (defs : Defs) (asked : Call)
             → WaitsFor asked self.old
-            → IsFit msdbs self.old
-            → FitsAnswer msdbs asked answer
-            → IsFit msdbs self.new }
+            → IsFit defs self.old
+            → FitsAnswerOf (target_of defs (database_of asked)) asked answer
+            → IsFit defs self.new }
+        ensures types { (asked : Call) (db : ℕ)
+            → WaitsFor asked self.old
+            → types_shown self.new db ≡ shown_behind asked answer (types_shown self.old) db }
     {
         let Some(wait) = self.wait.take() else {
             unreachable!()

@@ -1,6 +1,6 @@
 //! The segments that a program was shown.
 ghost use Rattle.std.specs.Prelude.{◌≡◌, ◌==◌, ◌∷◌, [], List, MatchOption, None, OnOk, Some, find, slice_get};
-ghost use Rattle.fp_model.specs.declared.definitions.MsdbDef.{MsdbDef};
+ghost use Rattle.fp_model.specs.declared.definitions.Defs.{Defs};
 ghost use Rattle.txn_machine.specs.Knowing.{HasPlace, in_place, segment_on, segments_of};
 ghost use Rattle.txn_machine.specs.Alike.{ShowAlike};
 ghost use Rattle.txn_machine.specs.Fit.{AreShown, IsShownSegment};
@@ -51,8 +51,8 @@ impl Gets {
     fn next(self, db: u8, newest: Shown) -> Gets
         requires { HasPlace (Some self) }
         ensures shows { ShowAlike (segment_on db newest ∷ segments_of (Some self)) (segments_of (Some result)) }
-        ensures fit { (msdbs : List MsdbDef) → AreShown msdbs (Some self) → IsShownSegment msdbs (segment_on db newest)
-            → AreShown msdbs (Some result) }
+        ensures fit { (defs : Defs) → AreShown defs (Some self) → IsShownSegment defs (segment_on db newest)
+            → AreShown defs (Some result) }
     {
         let Gets {
             db: place,
@@ -67,8 +67,8 @@ impl Gets {
     pub(crate) fn show(gets: Option<Gets>, alloc: Global, db: u8, newest: Shown) -> Gets
         requires { HasPlace gets }
         ensures shows { ShowAlike (segment_on db newest ∷ segments_of gets) (segments_of (Some result)) }
-        ensures fit { (msdbs : List MsdbDef) → AreShown msdbs gets → IsShownSegment msdbs (segment_on db newest)
-            → AreShown msdbs (Some result) }
+        ensures fit { (defs : Defs) → AreShown defs gets → IsShownSegment defs (segment_on db newest)
+            → AreShown defs (Some result) }
     {
         match gets {
             Some(gets) => gets.next(db, newest),

@@ -1,4 +1,4 @@
-use Rattle.std.proofs.Common.{◌≡◌, ◌∙◌, ℕ, List, Option, Some, None, sym, ap, subst, true}
+use Rattle.std.proofs.Common.{◌∙◌, ℕ, List, Option, sym, ap, subst}
 use Rattle.std.specs.Prelude.{option_map}
 use Rattle.fp_model.specs.DedbCalls.{type_of_path}
 use Rattle.fp_model.specs.Order.{Place}

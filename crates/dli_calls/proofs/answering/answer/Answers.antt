@@ -1,74 +1,84 @@
-use Rattle.std.proofs.Common.{◌≡◌, ◌++◌, ◌∷◌, [], ap, sym, ◌∙◌, if◌then◌else◌}
-use Rattle.fp_model.specs.declared.calls.Answer.{Answer}
-use Rattle.fp_model.specs.Answers.{Replied}
-use Rattle.fp_model.specs.Calls.{looks_unheld, reply_to}
-use Rattle.fp_model.specs.FitCalls.{FitsAnswer}
-use Rattle.fp_model.specs.MsdbCalls.{msdb_looks, msdb_reply}
+use Rattle.std.proofs.Common.{◌∙◌, refl, ap, sym, subst, ◌++◌, ◌∷◌, []}
+use Rattle.std.specs.Prelude.{IfOk, if◌then◌else◌}
 use Rattle.ci_locks.specs.Table.{standing}
-use Rattle.dli_calls.specs.Replies.{ShowsFound, segments_in}
-use Rattle.dli_calls.proofs.AnswerLemmas.{Names, fits_answer, if_answer, looks, needs, replies}
+use Rattle.dedb_calls.specs.Anchors.{Sees}
+use Rattle.dedb_calls.specs.Progress.{Knows}
+use Rattle.fp_model.specs.Calls.{Target}
+use Rattle.fp_model.specs.FitCalls.{FitsAnswerOf}
+use Rattle.dli_calls.specs.Readiness.{IfAnswer}
+use Rattle.dli_calls.specs.Targets.{IfDedb, LeavesOthers}
+use Rattle.dli_calls.proofs.AnswerLemmas.{any_answer, if_answer}
 use Rattle.dli_calls.proofs.BeginLemmas.{if_ok}
-use Rattle.dli_calls.proofs.WorkLemmas.{position_fits, positions_within}
+use Rattle.dli_calls.proofs.TargetLemmas.{dedb_fits, dedb_looks, dedb_needs, dedb_replies, names_dedb, within_at}
 use Rattle.dli_calls.proofs.answering.answer.Goals as goal
 
-pub ready-requires-clause-positions : goal.ready-requires-clause-positions
-ready-requires-clause-positions c =
-    positions_within c.args.defs.now.msdbs c.args.work.now.own.msdbs _ _ c.requires.work.positions
-    c.database_for-database.ensures.def
+pub returns-then-at-msdb_count-clause-answer : goal.returns-then-at-msdb_count-clause-answer
+returns-then-at-msdb_count-clause-answer g c db same sees = c.answer_msdb.ensures.answer db same
 
-pub ready-requires-clause-position : goal.ready-requires-clause-position
-ready-requires-clause-position c =
-    position_fits c.args.defs.now.msdbs c.args.work.now.own.msdbs _ _ c.requires.work.positions
-    c.database_for-database.ensures.def
+pub answer_dedb-requires-clause-number : goal.answer_dedb-requires-clause-number
+answer_dedb-requires-clause-number g c =
+    let it = (names_dedb c.args.defs.now c.args.call.now c.args.work.now c.database_of-number.result c.from-at.result
+    c.len-msdb_count.result _ c.database_of-number.ensures c.from-at.ensures c.len-msdb_count.ensures
+    c.if-at-msdb_count.false refl c.requires.call) in
+    within_at c.args.defs.now.dedbs _ it.def it.there
 
-pub ready-requires-clause-changes : goal.ready-requires-clause-changes
-ready-requires-clause-changes c = c.requires.work.changes _ _ c.database_for-database.ensures.def
+pub answer_dedb-requires-clause-call : goal.answer_dedb-requires-clause-call
+answer_dedb-requires-clause-call g c =
+    let it = (names_dedb c.args.defs.now c.args.call.now c.args.work.now c.database_of-number.result c.from-at.result
+    c.len-msdb_count.result _ c.database_of-number.ensures c.from-at.ensures c.len-msdb_count.ensures
+    c.if-at-msdb_count.false refl c.requires.call) in
+    dedb_fits c.args.defs.now c.args.call.now _ it c.args.work.now c.requires.call
 
-it : (c : goal.After-ready) → Names c.args.defs.now.msdbs c.args.call.now c.database_for-database.result.number
-    c.database_for-database.result.def.now
-it c = record { same = c.database_for-database.ensures.number; there = c.database_for-database.ensures.def }
+pub answer_dedb-requires-clause-known : goal.answer_dedb-requires-clause-known
+answer_dedb-requires-clause-known g c =
+    let it = (names_dedb c.args.defs.now c.args.call.now c.args.work.now c.database_of-number.result c.from-at.result
+    c.len-msdb_count.result _ c.database_of-number.ensures c.from-at.ensures c.len-msdb_count.ensures
+    c.if-at-msdb_count.false refl c.requires.call) in
+    subst (λ (t : Target). IfDedb t (Knows ((standing c.args.locks.now).holds c.args.region) c.args.work.now.anchors))
+    it.target c.requires.known
 
-pub returns-clause-need : goal.returns-clause-need
-returns-clause-need c =
-    λ db same. if_ok c.ready.result c.ready.ensures.need
-    (λ ready is. is ∙ sym (needs c.args.defs.now c.args.call.now _ _ (it c) db c.args.work.now.own
+pub returns-else-at-msdb_count-clause-need : goal.returns-else-at-msdb_count-clause-need
+returns-else-at-msdb_count-clause-need g c db same sees =
+    let it = (names_dedb c.args.defs.now c.args.call.now c.args.work.now c.database_of-number.result c.from-at.result
+    c.len-msdb_count.result _ c.database_of-number.ensures c.from-at.ensures c.len-msdb_count.ensures
+    c.if-at-msdb_count.false refl c.requires.call) in
+    let has = subst (λ (t : Target). IfDedb t (Sees db c.args.work.now.anchors)) it.target sees in
+    if_ok c.answer_dedb.result (c.answer_dedb.ensures.need it.def db it.there has)
+    (λ came is. is ∙ sym (dedb_needs c.args.defs.now c.args.call.now _ it db c.args.work.now.own
     ((standing c.args.locks.now).holds c.args.region)))
 
-pub returns-clause-answer : goal.returns-clause-answer
-returns-clause-answer c =
-    λ db same.
-    let database = c.database_for-database.result in
-    let own = c.args.work.now.own in
-    let segments = segments_in database in
-    let stored : c.args.msdbs.now.msdbs ≡ database.store.now.msdbs =
-    ap (λ store. store.msdbs) (sym c.database_for-database.ensures.store) in
-    let replied : Answer → Replied = λ answer. record { answer = answer; own = c.ready.new.work.own } in
-    if_ok c.ready.result c.ready.ensures.answer (λ ready is.
-    if_answer (λ answer. msdb_reply database.def.now database.number segments segments own c.args.call.now ≡ replied
-    answer)
-    (λ answer. reply_to c.args.defs.now db db own c.args.call.now ≡ replied answer) ready is
-    (λ answer so. replies c.args.defs.now c.args.call.now _ _ (it c) db database.store.now.msdbs own (same ∙ stored) ∙
-    so))
+pub returns-else-at-msdb_count-clause-answer : goal.returns-else-at-msdb_count-clause-answer
+returns-else-at-msdb_count-clause-answer g c db same sees =
+    let it = (names_dedb c.args.defs.now c.args.call.now c.args.work.now c.database_of-number.result c.from-at.result
+    c.len-msdb_count.result _ c.database_of-number.ensures c.from-at.ensures c.len-msdb_count.ensures
+    c.if-at-msdb_count.false refl c.requires.call) in
+    let has = subst (λ (t : Target). IfDedb t (Sees db c.args.work.now.anchors)) it.target sees in
+    if_ok c.answer_dedb.result (c.answer_dedb.ensures.answer it.def db it.there has)
+    (λ came is. if_answer _ _ came is
+    (λ answer so. dedb_replies c.args.defs.now c.args.call.now _ it db c.args.work.now.own ∙ so))
 
-pub returns-clause-notes : goal.returns-clause-notes
-returns-clause-notes c =
-    let database = c.database_for-database.result in
-    let own = c.args.work.now.own in
+pub returns-else-at-msdb_count-clause-notes : goal.returns-else-at-msdb_count-clause-notes
+returns-else-at-msdb_count-clause-notes g c =
+    let it = (names_dedb c.args.defs.now c.args.call.now c.args.work.now c.database_of-number.result c.from-at.result
+    c.len-msdb_count.result _ c.database_of-number.ensures c.from-at.ensures c.len-msdb_count.ensures
+    c.if-at-msdb_count.false refl c.requires.call) in
     let notes = c.args.work.now.notes in
-    if_ok c.ready.result c.ready.ensures.notes (λ ready is.
-    if_answer (λ answer. c.ready.new.work.notes ≡ (if msdb_looks database.def.now database.number own c.args.call.now
-    then notes ++ c.args.count ∷ [] else notes))
-    (λ answer. c.ready.new.work.notes ≡ (if looks_unheld c.args.defs.now own c.args.call.now then notes ++ c.args.count
-    ∷ [] else notes)) ready is
-    (λ answer so. so ∙ ap (λ looked. if looked then notes ++ c.args.count ∷ [] else notes)
-    (sym (looks c.args.defs.now c.args.call.now _ _ (it c) own))))
+    any_answer _ c.answer_dedb.result (c.answer_dedb.ensures.leaves.notes
+    ∙ sym (ap (λ looked. if looked then notes ++ c.args.count ∷ [] else notes)
+    (dedb_looks c.args.defs.now c.args.call.now _ it c.args.work.now.own)))
 
-pub returns-clause-fits : goal.returns-clause-fits
-returns-clause-fits c =
-    if_ok c.ready.result c.ready.ensures.shown (λ ready is.
-    if_answer (ShowsFound c.database_for-database.result.def.now c.args.call.now)
-    (FitsAnswer c.args.defs.now.msdbs c.args.call.now) ready is
-    (λ answer shows. fits_answer c.args.defs.now.msdbs c.args.call.now _ _ answer (it c) shows))
+pub returns-else-at-msdb_count-clause-shown : goal.returns-else-at-msdb_count-clause-shown
+returns-else-at-msdb_count-clause-shown g c =
+    let it = (names_dedb c.args.defs.now c.args.call.now c.args.work.now c.database_of-number.result c.from-at.result
+    c.len-msdb_count.result _ c.database_of-number.ensures c.from-at.ensures c.len-msdb_count.ensures
+    c.if-at-msdb_count.false refl c.requires.call) in
+    subst (λ (t : Target). IfOk c.answer_dedb.result (λ came. IfAnswer came (FitsAnswerOf t c.args.call.now)))
+    (sym it.target) (c.answer_dedb.ensures.shown it.def it.there)
 
-pub returns-clause-of : goal.returns-clause-of
-returns-clause-of c = c.ready.ensures.of c.args.defs.now c.database_for-database.ensures.def c.requires.work
+pub returns-else-at-msdb_count-clause-others : goal.returns-else-at-msdb_count-clause-others
+returns-else-at-msdb_count-clause-others g c =
+    let it = (names_dedb c.args.defs.now c.args.call.now c.args.work.now c.database_of-number.result c.from-at.result
+    c.len-msdb_count.result _ c.database_of-number.ensures c.from-at.ensures c.len-msdb_count.ensures
+    c.if-at-msdb_count.false refl c.requires.call) in
+    subst (λ (t : Target). LeavesOthers t c.args.work.now c.answer_dedb.new.work) (sym it.target)
+    (c.answer_dedb.ensures.leaves, c.answer_dedb.ensures.goes)

@@ -1,8 +1,7 @@
-use Rattle.dli_calls.proofs.AnswerLemmas.{named}
+use Rattle.dedb_calls.proofs.ArgumentLemmas.{indexed}
 use Rattle.dli_calls.proofs.answering.database_for.Goals as goal
 
 pub returns-clause-def : goal.returns-clause-def
 returns-clause-def c =
-    named c.args.defs.now.msdbs c.as_slice.result.now c.args.call.now c.database_of-number.result c.from.result
-    c.index-as_slice-from.result
-    c.as_slice.ensures c.database_of-number.ensures c.from.ensures c.index-as_slice-from.is c.requires
+    indexed c.args.defs.now.msdbs c.as_slice.result.now c.index-as_slice-from.result c.args.number c.from.result
+    c.as_slice.ensures c.from.ensures c.index-as_slice-from.is c.requires

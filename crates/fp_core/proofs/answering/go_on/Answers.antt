@@ -1,11 +1,16 @@
-use Rattle.std.proofs.Common.{◌≡◌, sym, ◌∙◌, ap, subst, ℕ, List, ◌∷◌, ◌++◌, [], Option, Some, None}
+use Rattle.std.proofs.Common.{◌≡◌, sym, ◌∙◌, ap, subst, ℕ, List, ◌∷◌, ◌++◌, [], Option, Some, None, true}
 use Rattle.std.specs.Prelude.{option_map}
 use Rattle.ci_locks.specs.Table.{standing}
 use Rattle.fp_model.specs.declared.calls.Answer.{Answer}
 use Rattle.fp_model.specs.declared.calls.Resource.{Resource}
 use Rattle.fp_model.specs.Answers.{Replied}
 use Rattle.fp_model.specs.Asking.{Ask, Replies, Rolls}
-use Rattle.fp_model.specs.Calls.{reply_to, looks_unheld}
+use Rattle.dli_calls.proofs.TargetLemmas.{leaves_msdb, msdb_fits, msdb_only}
+use Rattle.dli_calls.specs.Targets.{IfDedb, LeavesDedbs}
+use Rattle.fp_exits.specs.Kinds.{has_kind, kinds_of}
+use Rattle.fp_model.specs.Calls.{database_of, reply_to, looks_unheld, target_of}
+use Rattle.fp_model.specs.WellFormed.{IsDedbDef}
+use Rattle.std.specs.List.{AllByRecursion}
 use Rattle.fp_model.specs.Commit.{lacking}
 use Rattle.fp_model.specs.Product.{rules_of}
 use Rattle.fp_model.specs.Settle.{resources}
@@ -20,18 +25,35 @@ use Rattle.fp_core.proofs.Lacks.{is_first_lack}
 use Rattle.fp_core.proofs.answering.go_on.Goals as goal
 
 pub answer-requires-clause-work : goal.answer-requires-clause-work
-answer-requires-clause-work c = (c.look_ahead.ensures.same c.requires.under.0 c.requires.under.1).of
+answer-requires-clause-work g c = (c.look_ahead.ensures.same c.requires.under.0 c.requires.under.1).of
 
 pub answer-requires-clause-call : goal.answer-requires-clause-call
-answer-requires-clause-call c =
+answer-requires-clause-call g c =
     let u = c.requires.under in
     let is : IsCallAhead c.args.defs.now c.args.scripts.now.scripts c.look_ahead.new.active.program u.0 c.in-Call.call =
     subst (IsAhead c.args.defs.now c.args.scripts.now.scripts c.look_ahead.new.active.program u.0) c.in-Call.is
     (c.in_ok-ahead.ensures.is u.0 u.1) in
-    is.fits
+    msdb_fits c.args.defs.now c.look_ahead.new.active.work c.in-Call.call is.fits
+
+pub answer-requires-clause-known : goal.answer-requires-clause-known
+answer-requires-clause-known g c =
+    let u = c.requires.under in
+    let is : IsCallAhead c.args.defs.now c.args.scripts.now.scripts c.look_ahead.new.active.program u.0 c.in-Call.call =
+    subst (IsAhead c.args.defs.now c.args.scripts.now.scripts c.look_ahead.new.active.program u.0) c.in-Call.is
+    (c.in_ok-ahead.ensures.is u.0 u.1) in
+    msdb_only c.args.defs.now _ c.in-Call.call is.fits
+
+-- there are no data entry databases
+pub answer-requires-clause-dedbs : goal.answer-requires-clause-dedbs
+answer-requires-clause-dedbs g c = subst (AllByRecursion IsDedbDef) (sym c.requires.setup.no_dedbs) tt
+
+pub answer-requires-clause-exits : goal.answer-requires-clause-exits
+answer-requires-clause-exits g c =
+    subst (AllByRecursion (λ dedb. has_kind (kinds_of c.args.exits.now).spreaders dedb.randomizer ≡ true))
+    (sym c.requires.setup.no_dedbs) tt
 
 pub give-requires : goal.give-requires
-give-requires c =
+give-requires g c =
     let u = c.requires.under in
     let is : IsCallAhead c.args.defs.now c.args.scripts.now.scripts c.look_ahead.new.active.program u.0 c.in-Call.call =
     subst (IsAhead c.args.defs.now c.args.scripts.now.scripts c.look_ahead.new.active.program u.0) c.in-Call.is
@@ -39,7 +61,7 @@ give-requires c =
     (c.in-Call.call, is.waits)
 
 pub returns-in-Answer-clause-acted : goal.returns-in-Answer-clause-acted
-returns-in-Answer-clause-acted c now t e s =
+returns-in-Answer-clause-acted g c now t e s =
     let defs = c.args.defs.now in
     let scripts = c.args.scripts.now.scripts in
     let call = c.in-Call.call in
@@ -50,16 +72,18 @@ returns-in-Answer-clause-acted c now t e s =
     subst (IsAhead defs scripts one.program t) c.in-Call.is (c.in_ok-ahead.ensures.is t s) in
     let old = one.work in
     let new = c.answer.new.work in
-    let needed = rw c.in-Answer.is at (c.in_ok-given-in-Call.ensures.need now e) in
+    let alone : (P : Type 0) → IfDedb (target_of defs (database_of call)) P = λ P. msdb_only defs P call is.fits in
+    let needed = rw c.in-Answer.is at (c.in_ok-given-in-Call.ensures.need now e (alone _)) in
     let answered : reply_to defs now now old.own call ≡ record { answer = given; own = new.own } =
-    rw c.in-Answer.is at (c.in_ok-given-in-Call.ensures.answer now e) in
+    rw c.in-Answer.is at (c.in_ok-given-in-Call.ensures.answer now e (alone _)) in
     let reply : reply_to defs now now t.point.own call ≡ record { answer = given; own = new.own } =
     ap (λ own. reply_to defs now now own call) (sym s1.own) ∙ answered in
     let own : (reply_to defs now now t.point.own call).own ≡ new.own = ap (λ (r : Replied). r.own) reply in
     let notes = rw c.in-Answer.is at c.in_ok-given-in-Call.ensures.notes in
     let looks : looks_unheld defs old.own call ≡ looks_unheld defs t.point.own call =
     ap (λ own. looks_unheld defs own call) s1.own in
-    let fits = rw c.in-Answer.is at c.in_ok-given-in-Call.ensures.fits in
+    let fits = rw c.in-Answer.is at c.in_ok-given-in-Call.ensures.shown in
+    let others : LeavesDedbs old new = leaves_msdb defs call old new is.fits c.answer.ensures.others in
     record {
       call = call;
       asked = is.asked;
@@ -76,9 +100,9 @@ returns-in-Answer-clause-acted c now t e s =
             ∙ ap (λ (ns : List ℕ). noted (rules_of defs scripts) (looks_unheld defs t.point.own call) ns c.args.count)
             s1.notes;
         of = c.answer.ensures.of;
-        changes = ap (λ (w : Workspace). w.changes) own ∙ c.answer.ensures.changes ∙ ap (λ (w : Workspace). w.changes)
+        changes = ap (λ (w : Workspace). w.changes) own ∙ others.changes ∙ ap (λ (w : Workspace). w.changes)
             s1.own ∙ s1.changes;
-        inserts = ap (λ (w : Workspace). w.inserts) own ∙ c.answer.ensures.inserts ∙ ap (λ (w : Workspace). w.inserts)
+        inserts = ap (λ (w : Workspace). w.inserts) own ∙ others.inserts ∙ ap (λ (w : Workspace). w.inserts)
             s1.own ∙ s1.inserts;
         script = s1.script;
         named = s1.named;
@@ -87,13 +111,13 @@ returns-in-Answer-clause-acted c now t e s =
             c.give.new.self)
             (sym (ap (λ (r : Replied). r.answer) reply))
             (c.give.ensures.at defs s1.script.statements t.message t.point.answers s1.at);
-        fit = c.give.ensures.fit defs.msdbs call is.waits s1.fit fits;
+        fit = c.give.ensures.fit defs call is.waits s1.fit fits;
         ahead = nothing _ one.ahead c.look_ahead.ensures.taken;
       };
     }
 
 pub returns-in-Need-clause-acted : goal.returns-in-Need-clause-acted
-returns-in-Need-clause-acted c now t e s =
+returns-in-Need-clause-acted g c now t e s =
     let defs = c.args.defs.now in
     let scripts = c.args.scripts.now.scripts in
     let call = c.in-Call.call in
@@ -102,7 +126,7 @@ returns-in-Need-clause-acted c now t e s =
     let held = (standing c.args.locks.now).holds c.args.region in
     let is : IsCallAhead defs scripts one.program t call =
     subst (IsAhead defs scripts one.program t) c.in-Call.is (c.in_ok-ahead.ensures.is t s) in
-    let needed = rw c.in-Need.is at (c.in_ok-given-in-Call.ensures.need now e) in
+    let needed = rw c.in-Need.is at (c.in_ok-given-in-Call.ensures.need now e (msdb_only defs _ call is.fits)) in
     let same = rw c.in-Need.is at c.in_ok-given-in-Call.ensures.needing in
     record {
       needs = ap (λ (a : Ask). lock_for (rules_of defs scripts) held now t a) is.asked
@@ -112,7 +136,7 @@ returns-in-Need-clause-acted c now t e s =
     }
 
 pub returns-in_ok-lack-in-Some-clause-acted : goal.returns-in_ok-lack-in-Some-clause-acted
-returns-in_ok-lack-in-Some-clause-acted c now t e s =
+returns-in_ok-lack-in-Some-clause-acted g c now t e s =
     let defs = c.args.defs.now in
     let scripts = c.args.scripts.now.scripts in
     let one = c.look_ahead.new.active in
@@ -132,7 +156,7 @@ returns-in_ok-lack-in-Some-clause-acted c now t e s =
     }
 
 pub returns-in-None-clause-acted : goal.returns-in-None-clause-acted
-returns-in-None-clause-acted c now t e s =
+returns-in-None-clause-acted g c now t e s =
     let defs = c.args.defs.now in
     let scripts = c.args.scripts.now.scripts in
     let one = c.look_ahead.new.active in
@@ -148,7 +172,7 @@ returns-in-None-clause-acted c now t e s =
     }
 
 pub returns-in-Roll-clause-acted : goal.returns-in-Roll-clause-acted
-returns-in-Roll-clause-acted c now t e s =
+returns-in-Roll-clause-acted g c now t e s =
     let defs = c.args.defs.now in
     let scripts = c.args.scripts.now.scripts in
     let one = c.look_ahead.new.active in

@@ -10,14 +10,14 @@ returns-in_err-call-clause-same c t s =
     moves c.args.defs.now c.args.scripts.now.scripts c.args.active.now t s c.requires.unknown c.next.new.self
     c.in_err-call.ensures.number (c.in_err-call.ensures.at s.script t.point.answers s.numbered
     (is_here c.args.defs.now c.args.scripts.now.scripts c.args.active.now t s))
-    (c.in_err-call.ensures.fit c.args.defs.now.msdbs s.fit)
+    (c.in_err-call.ensures.fit c.args.defs.now s.fit)
 
 pub returns-in_err-segments-in-Reply-clause-same : goal.returns-in_err-segments-in-Reply-clause-same
 returns-in_err-segments-in-Reply-clause-same c t s =
     moves c.args.defs.now c.args.scripts.now.scripts c.args.active.now t s c.requires.unknown c.next.new.self
     c.in_ok-call.ensures.number (c.in_ok-call.ensures.at s.script t.point.answers s.numbered
     (is_here c.args.defs.now c.args.scripts.now.scripts c.args.active.now t s))
-    (c.in_ok-call.ensures.fit c.args.defs.now.msdbs s.fit)
+    (c.in_ok-call.ensures.fit c.args.defs.now s.fit)
 
 pub returns-in-Call-clause-is : goal.returns-in-Call-clause-is
 returns-in-Call-clause-is c t s = record {
@@ -35,18 +35,18 @@ returns-in-Call-clause-same c t s =
     moves c.args.defs.now c.args.scripts.now.scripts c.args.active.now t s c.requires.unknown c.next.new.self
     c.in_ok-call.ensures.number (c.in_ok-call.ensures.at s.script t.point.answers s.numbered
     (is_here c.args.defs.now c.args.scripts.now.scripts c.args.active.now t s))
-    (c.in_ok-call.ensures.fit c.args.defs.now.msdbs s.fit)
+    (c.in_ok-call.ensures.fit c.args.defs.now s.fit)
 
 pub returns-in_ok-segments-in-Reply-clause-same : goal.returns-in_ok-segments-in-Reply-clause-same
 returns-in_ok-segments-in-Reply-clause-same c t s =
     moves c.args.defs.now c.args.scripts.now.scripts c.args.active.now t s c.requires.unknown c.next.new.self
     c.in_ok-call.ensures.number (c.in_ok-call.ensures.at s.script t.point.answers s.numbered
     (is_here c.args.defs.now c.args.scripts.now.scripts c.args.active.now t s))
-    (c.in_ok-call.ensures.fit c.args.defs.now.msdbs s.fit)
+    (c.in_ok-call.ensures.fit c.args.defs.now s.fit)
 
 pub returns-in-Roll-clause-same : goal.returns-in-Roll-clause-same
 returns-in-Roll-clause-same c t s =
     moves c.args.defs.now c.args.scripts.now.scripts c.args.active.now t s c.requires.unknown c.next.new.self
     c.in_ok-call.ensures.number (c.in_ok-call.ensures.at s.script t.point.answers s.numbered
     (is_here c.args.defs.now c.args.scripts.now.scripts c.args.active.now t s))
-    (c.in_ok-call.ensures.fit c.args.defs.now.msdbs s.fit)
+    (c.in_ok-call.ensures.fit c.args.defs.now s.fit)

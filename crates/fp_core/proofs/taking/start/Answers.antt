@@ -8,7 +8,7 @@ returns c from tries refusal kept = record {
   short = c.requires.short;
   tries = refl;
   refusal = kept;
-  own = c.in_ok-work.ensures.own c.requires.no_dedbs;
+  own = c.in_ok-work.ensures.own;
   notes = c.in_ok-work.ensures.notes;
   of = c.in_ok-work.ensures.of;
   changes = refl;
@@ -17,6 +17,6 @@ returns c from tries refusal kept = record {
   named = c.requires.named.1;
   numbered = rw c.start-program.ensures.number (c.in-Some.ensures.script ∙ c.requires.named.1);
   at = c.start-program.ensures.at c.args.defs.now c.requires.named.0.statements c.args.message.now;
-  fit = c.start-program.ensures.fit c.args.defs.now.msdbs;
+  fit = c.start-program.ensures.fit c.args.defs.now;
   ahead = tt;
 }

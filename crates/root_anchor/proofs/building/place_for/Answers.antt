@@ -2,7 +2,7 @@ use Rattle.std.proofs.Common.{◌≡◌, ℕ, Err, sym, subst, ap, ◌∙◌, ar
 use Rattle.ci_space.proofs.Tilings.{size-bounds}
 use Rattle.ci_overflow.specs.Faults.{FitsEmpty}
 use Rattle.ci_overflow.specs.declared.SpaceFault.TheVariants.{Damaged as SpaceDamaged}
-use Rattle.root_anchor.specs.declared.fault.AnchorFault.TheVariants.{Damaged}
+use Rattle.anchor_elements.specs.declared.fault.AnchorFault.TheVariants.{Damaged}
 use Rattle.root_anchor.proofs.TypeLemmas.{fits-empty, content-small}
 use Rattle.root_anchor.proofs.Steps.{finds-place, keeps-place}
 use Rattle.root_anchor.proofs.building.place_for.Goals as goal

@@ -4,7 +4,8 @@ use Rattle.ci_overflow.specs.Lists.{bytes_at}
 use Rattle.ci_overflow.proofs.Going.{goes_on_joined}
 use Rattle.ci_overflow.proofs.Joins.{on_ok-map}
 use Rattle.root_anchor.proofs.PutLemmas.{base_kind}
-use Rattle.root_anchor.proofs.ElementLemmas.{puts_root, stays_root, pointer_is}
+use Rattle.root_anchor.proofs.RootPuts.{puts_root, stays_root}
+use Rattle.anchor_elements.proofs.ElementLemmas.{pointer_is}
 use Rattle.root_anchor.proofs.putting.put_root.Goals as goal
 
 pub returns-then-head-ne-BASE-clause-sound : goal.returns-then-head-ne-BASE-clause-sound

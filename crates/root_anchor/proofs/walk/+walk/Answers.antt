@@ -1,6 +1,8 @@
-use Rattle.std.proofs.Common.{◌∙◌, rules, arith}
+use Rattle.std.proofs.Common.{◌∙◌, ap, rules, arith}
+use Rattle.anchor_elements.specs.Reading.{types_of}
 use Rattle.std.proofs.lemmas.Result.{err_from_is_err_and}
-use Rattle.root_anchor.proofs.ReadLemmas.{refused}
+use Rattle.anchor_elements.proofs.ReadLemmas.{refused}
+use Rattle.root_anchor.proofs.Forms.{row_form, rows_form, rows_whole}
 use Rattle.root_anchor.proofs.WalkSteps.{looks_joined, along_wrong, along_below, along_next, along_end, among_fails, among_next, among_end, less_left, walks_further, walks_joined, child_above, all_stand_on}
 use Rattle.root_anchor.proofs.walk.+walk.Goals as goal
 
@@ -46,6 +48,9 @@ row-loop-alloc-preserved g m c = record {
       c.loop-alloc.walk c.visit.new.walk c.rows.new.walk
       (c.visit.ensures.look.same_number ∙ c.loop-alloc.invariant.look.same_number) c.loop-alloc.invariant.walk
       c.in_ok-next.ensures.more c.in_ok-next.ensures.keyed c.in_ok-children.ensures.walk;
+  form = row_form _ _ _ _ _ _ _ c.loop-alloc.invariant.form c.in_ok-next.ensures.long
+      (ap types_of c.as_slice.ensures.value ∙ c.in_ok-next.ensures.types) c.in_ok-children.ensures.form
+      c.in_ok-push.ensures.ok;
   along = λ t.
       let told = c.loop-alloc.invariant.look.goes_on.tells t in
       along_next _ _ _ _ _ _ _ _ _ _ _ c.loop-alloc.at _ _ c.in_ok-next.field-0 c.as_slice.result.now _
@@ -95,6 +100,8 @@ rows-loop-first-preserved g m c = record {
   walk = walks_joined (g.I.Intervals.number c.args.i.now) (g.I.Intervals.number c.loop-first.i) c.args.walk.now
       c.loop-first.walk c.row.new.walk
       c.loop-first.invariant.look.same_number c.loop-first.invariant.walk c.in_ok-read.ensures.walk;
+  form = rows_form _ c.args.firsts.now _ _ _ c.loop-first.first-index (record { segment = 0; at = (0, 0) })
+      c.loop-first-test.true c.loop-first.invariant.form c.in_ok-read.ensures.form c.in_ok-push.ensures.ok;
   among = λ t.
       among_next _ _ _ _ _ _ _ c.args.firsts.now _ _ _ c.loop-first.first-index (record { segment = 0; at = (0, 0) })
       (c.loop-first.invariant.look.same t) c.loop-first-test.true (c.loop-first.invariant.among t)
@@ -104,6 +111,10 @@ rows-loop-first-preserved g m c = record {
       (c.in_ok-read.ensures.stand (c.loop-first.invariant.look.goes_on.tells t))
       (c.loop-first.invariant.stand t stand);
 }
+
+pub rows-returns-clause-form : goal.rows-returns-clause-form
+rows-returns-clause-form g m c = rows_whole _ c.args.firsts.now _ c.loop-first.first-index (omega arith)
+    c.loop-first.invariant.form
 
 pub rows-returns-clause-rows : goal.rows-returns-clause-rows
 rows-returns-clause-rows g m c = λ t. among_end _ _ _ _ _ _ _ c.loop-first.first-index (omega arith)

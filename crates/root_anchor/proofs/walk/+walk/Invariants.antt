@@ -1,5 +1,7 @@
-use Rattle.std.proofs.Common.{◌+◌, ◌-◌, ◌*◌, drop, length}
-use Rattle.root_anchor.specs.Reading.{types_of, pointers_of}
+use Rattle.std.proofs.Common.{◌≡◌, ◌+◌, ◌-◌, ◌*◌, ◌++◌, true, List, drop, length}
+use Rattle.fp_model.specs.declared.database.Node.{Node}
+use Rattle.anchor_elements.specs.Reading.{types_of, pointers_of}
+use Rattle.root_anchor.specs.Stored.{row_has_form, rows_have_form}
 use Rattle.root_anchor.specs.Walking.{met_of, WalksOn, AllStand, IsLook, IsAlong, IsAmong}
 use Rattle.root_anchor.proofs.walk.+walk.Given as goal
 
@@ -16,6 +18,7 @@ invariant-row-loop-alloc g l = record {
   look : IsLook g.I.Intervals.told g.I.Intervals.intervals g.I.Intervals.number g.I.Intervals.size g.I.Intervals.faults
       g.I.Intervals.keeps l.initial.i l.i;
   walk : WalksOn (g.I.Intervals.number l.initial.i) l.initial.walk l.walk;
+  form : row_has_form l.segments l.segment l.row ≡ true;
   along : g.I.Intervals.told l.initial.i → IsAlong l.segments (g.I.Intervals.intervals l.initial.i)
       (met_of l.initial.walk) l.home l.segment l.fn.first l.row (met_of l.walk) l.from l.at;
   stand : g.I.Intervals.told l.initial.i → AllStand l.segments (g.I.Intervals.intervals l.initial.i) l.initial.walk
@@ -32,6 +35,8 @@ invariant-rows-loop-first g l = record {
   look : IsLook g.I.Intervals.told g.I.Intervals.intervals g.I.Intervals.number g.I.Intervals.size g.I.Intervals.faults
       g.I.Intervals.keeps l.initial.i l.i;
   walk : WalksOn (g.I.Intervals.number l.initial.i) l.initial.walk l.walk;
+  form : (rest : List (List Node)) → rows_have_form l.segments (types_of (drop l.first-index l.firsts)) rest ≡ true
+      → rows_have_form l.segments (types_of l.firsts) (l.rows ++ rest) ≡ true;
   among : g.I.Intervals.told l.initial.i → IsAmong l.segments (g.I.Intervals.intervals l.initial.i)
       (met_of l.initial.walk) l.home (types_of l.firsts) (pointers_of l.firsts) l.rows (met_of l.walk)
       (types_of (drop l.first-index l.firsts)) (pointers_of (drop l.first-index l.firsts));

@@ -1,6 +1,8 @@
-use Rattle.std.proofs.Common.{◌∙◌}
+use Rattle.std.proofs.Common.{◌∙◌, ap}
+use Rattle.anchor_elements.specs.Reading.{types_of}
 use Rattle.std.proofs.lemmas.Result.{err_from_is_err_and}
-use Rattle.root_anchor.proofs.ReadLemmas.{refused}
+use Rattle.anchor_elements.proofs.ReadLemmas.{refused}
+use Rattle.root_anchor.proofs.Forms.{roots_form}
 use Rattle.root_anchor.proofs.WalkSteps.{looks_joined, roots_wrong, roots_below, roots_next, roots_end, less_left, walks_further, all_stand_on}
 use Rattle.root_anchor.proofs.walk.roots.Goals as goal
 
@@ -44,6 +46,9 @@ loop-alloc-preserved g c = record {
       c.loop-alloc.walk c.visit.new.walk c.rows.new.walk
       (c.visit.ensures.look.same_number ∙ c.loop-alloc.invariant.look.same_number) c.loop-alloc.invariant.walk
       c.in_ok-next.ensures.more c.in_ok-next.ensures.keyed c.in_ok-children.ensures.walk;
+  form = roots_form _ _ _ _ _ _ _ _ c.loop-alloc.invariant.form c.in_ok-next.ensures.long
+      (ap types_of c.as_slice.ensures.value ∙ c.in_ok-next.ensures.types) c.in_ok-children.ensures.form
+      c.in_ok-next.ensures.serial c.in_ok-seqs.ensures c.in_ok-push.ensures.ok;
   along = λ t.
       let told = c.loop-alloc.invariant.look.goes_on.tells t in
       roots_next _ _ _ _ _ _ _ _ _ c.loop-alloc.at _ _ c.in_ok-next.field-0 c.as_slice.result.now _ _

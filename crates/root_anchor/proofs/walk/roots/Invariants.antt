@@ -1,4 +1,5 @@
-use Rattle.std.proofs.Common.{◌-◌, ◌*◌, length}
+use Rattle.std.proofs.Common.{◌≡◌, ◌-◌, ◌*◌, true, length}
+use Rattle.root_anchor.specs.Stored.{are_storable}
 use Rattle.root_anchor.specs.Walking.{met_of, WalksOn, AllStand, IsLook, IsAlongRoots}
 use Rattle.root_anchor.proofs.walk.roots.Given as goal
 
@@ -8,6 +9,7 @@ invariant-loop-alloc g l = record {
   look : IsLook g.I.Intervals.told g.I.Intervals.intervals g.I.Intervals.number g.I.Intervals.size g.I.Intervals.faults
       g.I.Intervals.keeps l.initial.i l.i;
   walk : WalksOn (g.I.Intervals.number l.initial.i) l.initial.walk l.walk;
+  form : are_storable l.segments l.roots ≡ true;
   along : g.I.Intervals.told l.initial.i → IsAlongRoots l.segments (g.I.Intervals.intervals l.initial.i) l.base
       l.fn.first l.roots (met_of l.walk) l.from l.at;
   stand : g.I.Intervals.told l.initial.i → AllStand l.segments (g.I.Intervals.intervals l.initial.i) l.walk;

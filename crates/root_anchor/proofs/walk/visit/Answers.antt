@@ -1,5 +1,5 @@
 use Rattle.std.proofs.Common.{◌≡◌}
-use Rattle.root_anchor.proofs.ReadLemmas.{refused}
+use Rattle.anchor_elements.proofs.ReadLemmas.{refused}
 use Rattle.root_anchor.proofs.WalkLemmas.{wrong_met, all_stand_pushed}
 use Rattle.root_anchor.proofs.walk.visit.Goals as goal
 

@@ -1,14 +1,19 @@
-use Rattle.std.proofs.Common.{arith, ◌≡◌, [], length, replicate, map, ap, sym, ◌∙◌, subst}
+use Rattle.std.proofs.Common.{arith, refl, ◌≡◌, List, length, replicate, map, ap, sym, ◌∙◌, subst}
 use Rattle.std.specs.List.{AllZip, AllByRecursion, list_any}
+use Rattle.dedb_calls.specs.Anchors.{changes_in}
+use Rattle.dedb_calls.specs.Progress.{DedbProgress}
+use Rattle.dedb_calls.proofs.BeginLemmas.{begun}
 use Rattle.fp_model.specs.FitCalls.{IsFitDeferred}
+use Rattle.fp_model.specs.declared.calls.Deferred.{Deferred}
 use Rattle.fp_model.specs.declared.calls.Resource.TheVariants.{Segment}
 use Rattle.fp_model.specs.MsdbCalls.{puts_or_drops}
-use Rattle.fp_model.specs.Workspace.{Workspace, no_dedb_position, no_msdb_position}
+use Rattle.fp_model.specs.Workspace.{MsdbPosition, Workspace, no_msdb_position}
 use Rattle.dli_calls.specs.Progress.{FitsPosition, is_among}
 use Rattle.dli_calls.proofs.BeginLemmas.{fresh_all, fresh_fit, fresh_positions}
 use Rattle.dli_calls.proofs.work.Work.new.Goals as goal
+use Rattle.dli_calls.proofs.work.Work.new.Goals.{After-new-4}
 
-all : (c : goal.After-new-4) → c.loop.positions.items ≡ replicate (length c.args.defs.now.msdbs) no_msdb_position
+all : (c : After-new-4) → c.loop.positions.items ≡ replicate (length c.args.defs.now.msdbs) no_msdb_position
 all c = fresh_all c.loop.counter c.loop.positions.items c.args.defs.now.msdbs c.loop.invariant
     (omega (arith, c.len-end.ensures))
 
@@ -19,39 +24,27 @@ returns-clause-of c = record {
   changes = λ msdb def there key.
       ap (λ keys. is_among keys (Segment msdb key)) c.new-2.ensures
       ∙ sym (ap (λ queue. list_any (puts_or_drops def msdb key) queue) c.new-3.ensures);
+  dedbs = c.in_ok-dedbs.ensures.of;
+  edits = refl;
 }
 
-pub returns-clause-begins : goal.returns-clause-begins
-returns-clause-begins c =
-    ap (λ positions.
-    let w : Workspace = record {
-      msdbs = positions;
-      dedbs = [];
-      changes = [];
-      deferred = c.new-3.result;
-      inserts =
-          [];
-    } in w) (all c ∙ fresh_positions c.args.defs.now.msdbs)
-    ∙ ap (λ queue.
-    let w : Workspace = record {
-      msdbs = map (λ def. no_msdb_position) c.args.defs.now.msdbs;
-      dedbs = [];
-      changes =
-          [];
-      deferred = queue;
-      inserts = [];
-    } in w) c.new-3.ensures
+abbrev own_with : List MsdbPosition → DedbProgress → List Deferred → Workspace
+own_with positions dedbs queue = record {
+  msdbs = positions;
+  dedbs = dedbs.positions;
+  changes = changes_in dedbs.anchors;
+  deferred = queue;
+  inserts = dedbs.inserts;
+}
 
 pub returns-clause-own : goal.returns-clause-own
 returns-clause-own c =
-    λ none.
-    returns-clause-begins c
-    ∙ ap (λ dedbs.
-    let w : Workspace = record {
-      msdbs = map (λ def. no_msdb_position) c.args.defs.now.msdbs;
-      dedbs =
-          map (λ def. no_dedb_position) dedbs;
-      changes = [];
-      deferred = [];
-      inserts = [];
-    } in w) (sym none)
+    let dedbs : DedbProgress = c.in_ok-dedbs.dedbs in
+    ap (λ positions. own_with positions dedbs c.new-3.result) (all c ∙ fresh_positions c.args.defs.now.msdbs)
+    ∙ ap (λ one. own_with (map (λ def. no_msdb_position) c.args.defs.now.msdbs) one c.new-3.result)
+    c.in_ok-dedbs.ensures.begins
+    ∙ ap (λ queue. own_with (map (λ def. no_msdb_position) c.args.defs.now.msdbs) (begun c.args.defs.now.dedbs) queue)
+    c.new-3.ensures
+
+pub returns-clause-anchors : goal.returns-clause-anchors
+returns-clause-anchors c = ap (λ (one : DedbProgress). one.anchors) c.in_ok-dedbs.ensures.begins

@@ -10,7 +10,7 @@ use Rattle.fp_core.proofs.Places.{if_ok_by, on_err_by}
 use Rattle.fp_core.proofs.engine.Engine.go_on.Goals as goal
 
 pub go_on-requires-clause-under : goal.go_on-requires-clause-under
-go_on-requires-clause-under c =
+go_on-requires-clause-under g c =
     let engine = c.args.self.now in
     let u = c.requires.under in
     let same : c.from.result - 1 ≡ c.args.region - 1 = ap (λ n. n - 1) c.from.ensures in
@@ -23,16 +23,16 @@ go_on-requires-clause-under c =
     )
 
 pub go_on-requires-clause-within : goal.go_on-requires-clause-within
-go_on-requires-clause-within c = omega (arith, c.requires.within, c.requires.under.1.1.stands.rows)
+go_on-requires-clause-within g c = omega (arith, c.requires.within, c.requires.under.1.1.stands.rows)
 
 pub go_on-requires-clause-setup : goal.go_on-requires-clause-setup
-go_on-requires-clause-setup c = c.requires.under.1.1.stands.setup
+go_on-requires-clause-setup g c = c.requires.under.1.1.stands.setup
 
 pub go_on-requires-clause-store : goal.go_on-requires-clause-store
-go_on-requires-clause-store c = c.requires.under.1.1.stands.of
+go_on-requires-clause-store g c = c.requires.under.1.1.stands.of
 
 pub unreachable-requires : goal.unreachable-requires
-unreachable-requires c =
+unreachable-requires g c =
     let engine = c.args.self.now in
     let u = c.requires.under in
     let same : c.from.result - 1 ≡ c.args.region - 1 = ap (λ n. n - 1) c.from.ensures in
@@ -42,7 +42,7 @@ unreachable-requires c =
     not_idle engine u.0 c.args.region u.1.0 (may_end engine u.0 c.args.region u.1.0 u.1.1) there
 
 pub returns-clause-acted : goal.returns-clause-acted
-returns-clause-acted c m t w =
+returns-clause-acted g c m t w =
     let engine = c.args.self.now in
     let new = c.go_on.new.active in
     let same : c.from.result - 1 ≡ c.args.region - 1 = ap (λ n. n - 1) c.from.ensures in
@@ -59,7 +59,7 @@ returns-clause-acted c m t w =
     (c.go_on.ensures.acted m.history.now t w.stands.msdbs is)
 
 pub returns-clause-err : goal.returns-clause-err
-returns-clause-err c m t w =
+returns-clause-err g c m t w =
     let engine = c.args.self.now in
     let new = c.go_on.new.active in
     let same : c.from.result - 1 ≡ c.args.region - 1 = ap (λ n. n - 1) c.from.ensures in

@@ -19,9 +19,6 @@ oldest-requires-clause-within c =
     group_within c.args.self.now c.requires.stands.0 (c.args.region - 1) c.group_of-group.result c.requires.stands.1
     c.group_of-group.ensures
 
-pub begin-requires-clause-no_dedbs : goal.begin-requires-clause-no_dedbs
-begin-requires-clause-no_dedbs c = c.requires.stands.1.setup.no_dedbs
-
 pub begin-requires-clause-named : goal.begin-requires-clause-named
 begin-requires-clause-named c =
     let is = first_takeable c.args.self.now c.requires.stands.0 c.group_of-group.result c.in-Some.message.now

@@ -7,12 +7,12 @@ use Rattle.fp_core.proofs.Takes.{is_idle}
 use Rattle.fp_core.proofs.engine.Engine.turn_each.Goals as goal
 
 pub overflow_cast-count : goal.overflow_cast-count
-overflow_cast-count c =
+overflow_cast-count g c =
     let s = c.requires.stands in
     omega (arith, s.1.setup.defined.regions, regions_long c.args.self.now s.0 s.1)
 
 pub returns-in_err-turn-clause-stopped : goal.returns-in_err-turn-clause-stopped
-returns-in_err-turn-clause-stopped c m s =
+returns-in_err-turn-clause-stopped g c m s =
     let t = c.loop-done.invariant.took m s in
     let same : length c.turn.new.self.defs.now.regions ≡ length c.args.self.now.defs.now.regions
     = ap (λ d. length d.now.regions) (c.turn.ensures.defs ∙ c.loop-done.invariant.defs) in
@@ -27,7 +27,7 @@ returns-in_err-turn-clause-stopped c m s =
     (is_idle c.loop-done.self t.after c.loop-done.done t.stands idle))
 
 pub loop-done-preserved : goal.loop-done-preserved
-loop-done-preserved c = record {
+loop-done-preserved g c = record {
   rules = c.turn.ensures.rules ∙ c.loop-done.invariant.rules;
   defs = c.turn.ensures.defs ∙ c.loop-done.invariant.defs;
   scripts = c.turn.ensures.scripts ∙ c.loop-done.invariant.scripts;
@@ -41,7 +41,7 @@ loop-done-preserved c = record {
 }
 
 pub returns-clause-turned : goal.returns-clause-turned
-returns-clause-turned c m s =
+returns-clause-turned g c m s =
     let all : c.loop-done.done ≡ length c.args.self.now.defs.now.regions
     = omega (arith, regions_long c.args.self.now m s) in
     subst (λ (n : ℕ). TookTurns (turns_of n) m c.loop-done.self) all (c.loop-done.invariant.took m s)

@@ -6,7 +6,7 @@ use Rattle.fp_core.proofs.engine.Engine.turn_each.Given as goal
 
 -- the regions so far had their turns
 abbrev pub invariant-loop-done : goal.invariant-loop-done
-invariant-loop-done l = record {
+invariant-loop-done g l = record {
   rules : rules_in l.self ≡ rules_in l.initial.self;
   defs : l.self.defs ≡ l.initial.self.defs;
   scripts : l.self.scripts ≡ l.initial.self.scripts;

@@ -12,8 +12,8 @@ pub returns-in-Stands-clause-ok : goal.returns-in-Stands-clause-ok
 returns-in-Stands-clause-ok c up =
     let xs = c.args.self.now.segments.items in
     let key = key_of c.args.self.now.fields in
-    let is : c.key_in.result.now ≡ key c.args.segment =
-    c.key_in.ensures ∙ ap (take c.key_length.result) c.as_slice.ensures ∙ ap (λ n. take n c.args.segment)
+    let is : c.key_in-key.result.now ≡ key c.args.segment =
+    c.key_in-key.ensures ∙ ap (take c.key_length.result) c.as_slice.ensures ∙ ap (λ n. take n c.args.segment)
     c.key_length.ensures in
     let p = subst (λ k. IsPlaced key k xs (Stands c.in-Stands.at)) is (c.in-Stands.ensures.place up) in
     c.set.ensures.items ∙ put_over key c.args.segment xs c.in-Stands.at p.1 up p.0 p.2 p.3
@@ -22,8 +22,8 @@ pub returns-in_ok-insert-in-Lacks-clause-ok : goal.returns-in_ok-insert-in-Lacks
 returns-in_ok-insert-in-Lacks-clause-ok c up =
     let xs = c.args.self.now.segments.items in
     let key = key_of c.args.self.now.fields in
-    let is : c.key_in.result.now ≡ key c.args.segment =
-    c.key_in.ensures ∙ ap (take c.key_length.result) c.as_slice.ensures ∙ ap (λ n. take n c.args.segment)
+    let is : c.key_in-key.result.now ≡ key c.args.segment =
+    c.key_in-key.ensures ∙ ap (take c.key_length.result) c.as_slice.ensures ∙ ap (λ n. take n c.args.segment)
     c.key_length.ensures in
     let p = subst (λ k. IsPlaced key k xs (Lacks c.in-Lacks.at)) is (c.in-Lacks.ensures.place up) in
     c.in_ok-insert-in-Lacks.ensures.items ∙ put_in key c.args.segment xs c.in-Lacks.at up p.0 p.1
@@ -33,8 +33,8 @@ pub returns-in_err-insert-in-Lacks-clause-done : goal.returns-in_err-insert-in-L
 returns-in_err-insert-in-Lacks-clause-done c up fits =
     let xs = c.args.self.now.segments.items in
     let key = key_of c.args.self.now.fields in
-    let is : c.key_in.result.now ≡ key c.args.segment =
-    c.key_in.ensures ∙ ap (take c.key_length.result) c.as_slice.ensures ∙ ap (λ n. take n c.args.segment)
+    let is : c.key_in-key.result.now ≡ key c.args.segment =
+    c.key_in-key.ensures ∙ ap (take c.key_length.result) c.as_slice.ensures ∙ ap (λ n. take n c.args.segment)
     c.key_length.ensures in
     let p = subst (λ k. IsPlaced key k xs (Lacks c.in-Lacks.at)) is (c.in-Lacks.ensures.place up) in
     let none : lacks c.args.self.now.fields xs c.args.segment ≡ true =
@@ -45,8 +45,8 @@ pub returns-in_ok-insert-in-Lacks-clause-long : goal.returns-in_ok-insert-in-Lac
 returns-in_ok-insert-in-Lacks-clause-long c up =
     let xs = c.args.self.now.segments.items in
     let key = key_of c.args.self.now.fields in
-    let is : c.key_in.result.now ≡ key c.args.segment =
-    c.key_in.ensures ∙ ap (take c.key_length.result) c.as_slice.ensures ∙ ap (λ n. take n c.args.segment)
+    let is : c.key_in-key.result.now ≡ key c.args.segment =
+    c.key_in-key.ensures ∙ ap (take c.key_length.result) c.as_slice.ensures ∙ ap (λ n. take n c.args.segment)
     c.key_length.ensures in
     let p = subst (λ k. IsPlaced key k xs (Lacks c.in-Lacks.at)) is (c.in-Lacks.ensures.place up) in
     let none : lacks c.args.self.now.fields xs c.args.segment ≡ true =

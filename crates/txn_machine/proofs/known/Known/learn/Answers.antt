@@ -1,6 +1,3 @@
-use Rattle.std.proofs.Common.{◌≡◌, ◌∙◌, sym, true}
-use Rattle.std.specs.Prelude.{[]}
-use Rattle.fp_model.specs.Texts.{same_text, trimmed}
 use Rattle.txn_machine.proofs.LessonLemmas.{taught_found, fits_found}
 use Rattle.txn_machine.proofs.known.Known.learn.Goals as goal
 
@@ -9,5 +6,5 @@ returns-in-Segment-clause-learns c = λ answers. taught_found c.args.lesson c.in
     c.in-Segment.is (cc) (c.show.ensures.shows answers)
 
 pub returns-in-Segment-clause-fit : goal.returns-in-Segment-clause-fit
-returns-in-Segment-clause-fit c = λ msdbs all h. c.show.ensures.fit msdbs all
-    (fits_found msdbs c.args.lesson c.in-Segment.db c.args.answer c.in-Segment.is (cc) h)
+returns-in-Segment-clause-fit c = λ defs all h. c.show.ensures.fit defs all
+    (fits_found defs c.args.lesson c.in-Segment.db c.args.answer c.in-Segment.is (cc) h)

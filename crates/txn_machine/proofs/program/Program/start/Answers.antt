@@ -1,7 +1,7 @@
-use Rattle.std.proofs.Common.{◌≡◌, ◌∙◌, ap, sym, subst, List, []}
-use Rattle.fp_model.specs.declared.calls.Answer.{Answer}
+use Rattle.std.proofs.Common.{◌∙◌, ap, sym, subst, List, []}
 use Rattle.fp_model.specs.Asking.{ask}
-use Rattle.fp_model.specs.Operands.{Env}
+use Rattle.fp_model.specs.Operands.{Env, ShownSegment}
+use Rattle.std.specs.Prelude.{◌==◌, find, option_map}
 use Rattle.txn_machine.specs.declared.place.Frame.{Frame}
 use Rattle.txn_machine.specs.Places.{end_from}
 use Rattle.txn_machine.specs.Knowing.{env_of}
@@ -21,9 +21,14 @@ returns-clause-at c = λ defs statements message. record {
 }
 
 pub returns-clause-fit : goal.returns-clause-fit
-returns-clause-fit c = λ msdbs. record {
+returns-clause-fit c = λ defs. record {
   shown = record {
-    each = subst (AllByRecursion (IsShownSegment msdbs))
+    each = subst (AllByRecursion (IsShownSegment defs))
         (sym (ap (λ (env : Env). env.shown) (c.new-2.ensures []))) tt;
   };
 }
+
+pub returns-clause-types : goal.returns-clause-types
+returns-clause-types c = λ db.
+    ap (λ (env : Env). option_map (λ (s : ShownSegment). s.type_number) (find (λ (s : ShownSegment). s.db == db)
+    env.shown)) (c.new-2.ensures [])

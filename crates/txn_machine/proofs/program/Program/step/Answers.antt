@@ -1,11 +1,17 @@
-use Rattle.std.proofs.Common.{◌≡◌, ◌∙◌, sym, ap, arith, refl, subst, length, List, Some}
+use Rattle.std.proofs.Common.{◌∙◌, sym, ap, arith, refl, subst, length, List}
 use Rattle.std.specs.Prelude.{slice_get}
 use Rattle.fp_model.specs.declared.scripts.Statement.{Statement}
 use Rattle.txn_machine.specs.declared.place.Frame.{Frame}
 use Rattle.txn_machine.specs.Places.{block_at}
 use Rattle.txn_machine.specs.declared.doing.Deed.{Deed}
 use Rattle.txn_machine.specs.Doing.{Does, IsCall}
-use Rattle.txn_machine.proofs.FitStatements.{fit_at, fit_block, result_fits, statement_fit}
+use Rattle.txn_machine.proofs.FitStatements.{fit_at, fit_block, result_fits, result_holds, statement_fit}
+use Rattle.txn_machine.proofs.SuitLemmas.{ends_suit, statement_suits}
+use Rattle.txn_machine.specs.Fit.{type_shown}
+use Rattle.txn_machine.specs.Running.{IsSuitedNext}
+use Rattle.txn_lang.specs.Suiting.{suits_step}
+use Rattle.fp_model.specs.FitCalls.{fits_step}
+use Rattle.txn_lang.proofs.Fitting.{fits_judges, suits_judges}
 use Rattle.txn_machine.specs.Stepping.{IsDeed}
 use Rattle.txn_machine.proofs.EndLemmas.{stands_at}
 use Rattle.txn_machine.proofs.program.Program.step.Goals as goal
@@ -47,9 +53,26 @@ returns-then-self-block-clause-fit_call c = λ well fit shown.
     let d = deed_here c in
     result_fits c.args.defs.now.msdbs c.in_ok-deed.deed c.act.result c.act.ensures.given (λ asked is.
     statement_fit c.args.defs.now c.args.message.now c.args.self.now.known asked well shown c.index-block-self.result
-    (fit_at c.args.defs.now (block_at c.args.self.now.place.frames c.args.statements.now) c.args.self.now.place.at
-    c.index-block-self.result (fit_block c.args.defs.now c.args.self.now.place.frames c.args.statements.now fit)
-    d.here)
+    (fit_at (fits_step c.args.defs.now) (fits_judges c.args.defs.now)
+    (block_at c.args.self.now.place.frames c.args.statements.now) c.args.self.now.place.at c.index-block-self.result
+    (fit_block (fits_step c.args.defs.now) (fits_judges c.args.defs.now) c.args.self.now.place.frames
+    c.args.statements.now fit) d.here)
     (c.in_ok-deed.ensures.spelled (subst (λ (x : Deed). IsCall x) (sym is) tt))
     (subst (λ (x : Deed). Does c.args.defs.now c.args.message.now c.args.self.now.known c.index-block-self.result x) is
+    c.in_ok-deed.ensures.does))
+
+pub returns-then-self-block-clause-suits_call : goal.returns-then-self-block-clause-suits_call
+unfolding deed_here
+returns-then-self-block-clause-suits_call c = λ well good suits shown.
+    let d = deed_here c in
+    let defs = c.args.defs.now in
+    result_holds (IsSuitedNext defs (type_shown c.args.self.now.known.gets))
+    (ends_suit defs (type_shown c.args.self.now.known.gets)) c.in_ok-deed.deed c.act.result c.act.ensures.given
+    (λ asked is.
+    statement_suits defs c.args.message.now c.args.self.now.known asked well good shown c.index-block-self.result
+    (fit_at (suits_step defs) (suits_judges defs) (block_at c.args.self.now.place.frames c.args.statements.now)
+    c.args.self.now.place.at c.index-block-self.result
+    (fit_block (suits_step defs) (suits_judges defs) c.args.self.now.place.frames c.args.statements.now suits) d.here)
+    (c.in_ok-deed.ensures.spelled (subst (λ (x : Deed). IsCall x) (sym is) tt))
+    (subst (λ (x : Deed). Does defs c.args.message.now c.args.self.now.known c.index-block-self.result x) is
     c.in_ok-deed.ensures.does))

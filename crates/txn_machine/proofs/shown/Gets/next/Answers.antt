@@ -11,7 +11,7 @@ returns-clause-shows c =
     lt
 
 pub returns-clause-fit : goal.returns-clause-fit
-returns-clause-fit c = λ msdbs all h.
+returns-clause-fit c = λ defs all h.
     let is : c.from.result ≡ c.args.self.db = omega arith in
     let lt : c.from.result < length c.args.self.older = omega arith in
-    shown_set msdbs c.args.self c.from.result c.args.db c.args.newest is lt all h
+    shown_set defs c.args.self c.from.result c.args.db c.args.newest is lt all h

@@ -1,0 +1,4 @@
+pub mod Pointers
+pub mod SpellingLemmas
+pub mod ReadLemmas
+pub mod ElementLemmas

@@ -1,0 +1,5 @@
+pub mod Elements
+pub mod Wrong
+pub mod Puts
+pub mod Spelling
+pub mod Reading

@@ -1,0 +1,12 @@
+//! Tests of what stands in areas: rows of several segments, types and levels below a root, where roots stand, and the
+//! sequential part. They count how often an interval is got and put.
+#![tactic(auto)]
+
+#[cfg(test)]
+mod counted;
+#[cfg(test)]
+mod families;
+#[cfg(test)]
+mod places;
+#[cfg(test)]
+mod sequential;

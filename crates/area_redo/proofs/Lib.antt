@@ -1,0 +1,13 @@
+pub mod Items
+pub mod Places
+pub mod Areas
+pub mod Entries
+pub mod Dues
+pub mod Steps
+pub mod Opening
+pub mod Finding
+pub mod Changes
+pub mod Staged
+pub mod Moments
+pub mod OneArea
+pub mod Waits

@@ -1,0 +1,14 @@
+use Rattle.std.proofs.Common.{◌≡◌, Some, rules, ◌∙◌, ap}
+use Rattle.std.specs.Map.{lookup}
+use Rattle.lru.specs.LruCache.{lru_cache}
+use Rattle.ci_pool.specs.Cells.{is_key}
+use Rattle.ci_pool.proofs.CleanLists.{used_again}
+use Rattle.ci_pool.proofs.clean.use_again.Goals as goal
+
+pub returns-clause-list : goal.returns-clause-list
+returns-clause-list c =
+    let old = c.args.clean.now in
+    let is : lookup (is_key c.args.set c.args.ci) old.entries ≡ Some c.in_ok-bytes.bytes = search rules in
+    c.promote.ensures.entries
+    ∙ ap (λ es. lru_cache es old.cap)
+    (used_again old.cap c.args.set c.args.ci old.entries c.in_ok-bytes.bytes is c.len-count.ensures.valid.1)

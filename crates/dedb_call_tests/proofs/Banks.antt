@@ -1,0 +1,132 @@
+-- A transaction on the sample's databases: as it begins, behind an answer, and what its commit leaves.
+use Rattle.std.proofs.Common.{◌≡◌, ◌∙◌, ℕ, List, [], ◌∷◌, ◌++◌, length, Option, Some, None, refl, sym, subst, Bool, true, false, slice_get, drop, take, zero, suc, arith}
+use Rattle.std.proofs.lemmas.Bool.Decides.{nat_tests}
+use Rattle.std.specs.Prelude.{is_some, ◌&&◌, ◌==◌, if◌then◌else◌}
+use Rattle.std.specs.List.{AllByRecursion}
+use Rattle.ci_locks.specs.Standing.{Shows, locks_after}
+use Rattle.ci_locks.specs.Table.{Row, standing}
+use Rattle.ci_locks.specs.declared.locks.Grant.{Grant}
+use Rattle.ci_locks.specs.declared.locks.Grant.TheVariants as grant
+use Rattle.fp_model.specs.declared.calls.AnchorChange.{AnchorChange}
+use Rattle.fp_model.specs.declared.calls.Call.{Call}
+use Rattle.fp_model.specs.declared.calls.Mode.{Mode}
+use Rattle.fp_model.specs.declared.calls.Resource.{Resource}
+use Rattle.fp_model.specs.declared.calls.Resource.TheVariants.{Anchor}
+use Rattle.fp_model.specs.declared.definitions.DedbDef.{DedbDef}
+use Rattle.fp_model.specs.declared.definitions.Defs.{Defs}
+use Rattle.fp_model.specs.Calls.{OnDedb, Target, database_of, target_of}
+use Rattle.fp_model.specs.Waiting.{Lock, held_as}
+use Rattle.dedb_calls.specs.Anchors.{Ascend, change_of, changes_in, held_at, stands_before}
+use Rattle.dedb_calls.specs.Calls.{FitsCallOn}
+use Rattle.dedb_calls.specs.Progress.{GoesOn}
+use Rattle.dedb_calls.specs.declared.anchors.HeldAnchor.{HeldAnchor}
+use Rattle.dedb_calls.proofs.AnchorLemmas.{after_differs, turned}
+use Rattle.dli_calls.specs.Progress.{IsWorkOf, Progress, dedbs_in}
+use Rattle.dli_calls.specs.Targets.{FitsWork, IfDedb, LeavesOthers}
+use Rattle.dli_calls.proofs.TargetLemmas.{on_dedb}
+use Rattle.dedb_call_tests.specs.Bank.{AreKept, IsKept, StartsAlone}
+
+-- ---- as it begins
+
+no_more : (o : Option Mode) → o ≡ None → is_some o ≡ true → ⊥
+no_more o none some = cc
+
+pub starts_free : (locks : List Row) → length locks ≡ 2 → Shows (standing locks) [] [] → StartsAlone locks
+starts_free locks regions shows = record {
+  locked = record { regions = regions; all = []; requests = []; shows = shows };
+  known = λ d a held. absurd (no_more _ (sym (shows.held 1 (Anchor d a))) held);
+}
+
+abbrev pub of_other : Resource → Mode → Lock
+of_other resource mode = record { region = 2; resource = resource; mode = mode }
+
+not_first : (g : Grant) (resource other : Resource) (mode : Mode)
+    → held_as (locks_after g (of_other resource mode) []) 1 other ≡ None
+not_first grant.Held resource other mode = refl
+not_first (grant.Wait holders) resource other mode = refl
+not_first (grant.Cycle list) resource other mode = refl
+
+pub starts_beside : (locks : List Row) (g : Grant) (resource : Resource) (mode : Mode) (requests : List Lock)
+    → length locks ≡ 2 → Shows (standing locks) (locks_after g (of_other resource mode) []) requests
+    → StartsAlone locks
+starts_beside locks g resource mode requests regions shows = record {
+  locked = record { regions = regions; all = locks_after g (of_other resource mode) []; requests = requests; shows = shows };
+  known = λ d a held.
+      absurd (no_more _ (sym (shows.held 1 (Anchor d a)) ∙ not_first g resource (Anchor d a) mode) held);
+}
+
+-- ---- a call to the data entry database
+
+module _ (defs : Defs) (c : Call) (def : DedbDef) (there : slice_get defs.dedbs 0 ≡ Some def)
+    (number : database_of c ≡ length defs.msdbs) where
+  target : target_of defs (database_of c) ≡ OnDedb def 0
+  target = on_dedb defs (database_of c) 0 def (omega (arith, number)) (omega (arith, number)) there
+
+  pub bank_fits : (work : Progress) → FitsCallOn def 0 (dedbs_in work) c
+      → FitsWork (target_of defs (database_of c)) work c
+  bank_fits work fits = subst (λ (t : Target). FitsWork t work c) (sym target) fits
+
+  pub bank_knows : (P : Type 0) → P → IfDedb (target_of defs (database_of c)) P
+  bank_knows P p = subst (λ (t : Target). IfDedb t P) (sym target) p
+
+  pub bank_goes : (old new : Progress) → LeavesOthers (target_of defs (database_of c)) old new
+      → GoesOn 0 (dedbs_in old) (dedbs_in new)
+  bank_goes old new leaves = (subst (λ (t : Target). LeavesOthers t old new) target leaves).1
+
+-- ---- what a commit leaves
+
+pub all_append : {X : Type 0} (P : X → Type 0) (xs ys : List X) → AllByRecursion P xs → AllByRecursion P ys
+    → AllByRecursion P (xs ++ ys)
+all_append P [] ys all more = more
+all_append P (x ∷ xs) ys all more = (all.0, all_append P xs ys all.1 more)
+
+same_itself : (a b : ℕ) → (a == a && b == b) ≡ true
+same_itself a b = grind (arith, nat_tests)
+
+-- each anchor is found among those that ascend
+found_behind : (x : HeldAnchor) (ys xs : List HeldAnchor)
+    → AllByRecursion (λ b. stands_before b.dedb b.anchor x ≡ true) ys
+    → AllByRecursion (λ a. held_at xs a.dedb a.anchor ≡ Some a) ys
+    → AllByRecursion (λ a. held_at (x ∷ xs) a.dedb a.anchor ≡ Some a) ys
+found_behind x [] xs before found = tt
+found_behind x (y ∷ ys) xs before found =
+    let other : (x.dedb == y.dedb && x.anchor == y.anchor) ≡ false =
+    turned y.dedb y.anchor x.dedb x.anchor (after_differs x.dedb x.anchor y.dedb y.anchor before.0) in
+    (rw other found.0, found_behind x ys xs before.1 found.1)
+
+found_each : (xs : List HeldAnchor) → Ascend xs → AllByRecursion (λ a. held_at xs a.dedb a.anchor ≡ Some a) xs
+found_each [] up = tt
+found_each (x ∷ xs) up =
+    (rw (same_itself x.dedb x.anchor) refl, found_behind x xs xs up.0 (found_each xs up.1))
+
+changes_kept : (dedbs : List DedbDef) (xs ys : List HeldAnchor)
+    → AllByRecursion (λ a. held_at ys a.dedb a.anchor ≡ Some a) xs
+    → ((a : HeldAnchor) → held_at ys a.dedb a.anchor ≡ Some a → IsKept dedbs (change_of a))
+    → AreKept dedbs (changes_in xs)
+changes_kept dedbs [] ys found kept = tt
+changes_kept dedbs (x ∷ xs) ys found kept = by x.is_changed (changes_kept dedbs xs ys found.1 kept)
+  where
+    by : (b : Bool) → AreKept dedbs (changes_in xs)
+        → AreKept dedbs (if b then change_of x ∷ changes_in xs else changes_in xs)
+    by true rest = (kept x found.0, rest)
+    by false rest = rest
+
+pub left_kept : (defs : Defs) (work : Progress) (kept : List AnchorChange) → IsWorkOf defs work
+    → AreKept defs.dedbs kept → AreKept defs.dedbs (work.own.changes ++ kept)
+left_kept defs work kept of before =
+    all_append (IsKept defs.dedbs) work.own.changes kept
+    (subst (AreKept defs.dedbs) (sym of.edits)
+    (changes_kept defs.dedbs work.anchors work.anchors (found_each work.anchors of.dedbs.order)
+    (λ a found def there. (of.dedbs.each a.dedb def there).shapes a.anchor a found)))
+    before
+
+all_taken : {X : Type 0} (P : X → Type 0) (n : ℕ) (xs : List X) → AllByRecursion P xs → AllByRecursion P (take n xs)
+all_taken P zero xs all = tt
+all_taken P (suc n) [] all = tt
+all_taken P (suc n) (x ∷ xs) all = (all.0, all_taken P n xs all.1)
+
+-- those behind the first
+pub kept_behind : (dedbs : List DedbDef) (n : ℕ) (kept : List AnchorChange) → AreKept dedbs kept
+    → AreKept dedbs (take n (drop 1 kept))
+kept_behind dedbs n [] all = all_taken (IsKept dedbs) n [] tt
+kept_behind dedbs n (change ∷ kept) all = all_taken (IsKept dedbs) n kept all.1

@@ -1,0 +1,16 @@
+use Rattle.std.proofs.Common.{◌≡◌, ◌<◌, arith, length}
+use Rattle.fp_model.specs.Calls.{database_of}
+use Rattle.dedb_calls.proofs.ArgumentLemmas.{indexed}
+use Rattle.dedb_call_tests.proofs.bank.fits_first.Goals as goal
+
+pub returns : goal.returns
+returns c fits =
+    let some : 0 < length c.args.defs.now.dedbs = omega (arith, c.if-count-lt1.false, c.len-count.ensures) in
+    let number : database_of c.args.call.now ≡ length c.args.defs.now.msdbs =
+    omega (arith, c.if-number-behind.false, c.from-number.ensures, c.database_of.ensures, c.len-behind.ensures) in (
+      c.index-as_slice-0.result,
+      indexed c.args.defs.now.dedbs c.as_slice.result.now c.index-as_slice-0.result 0 0 c.as_slice.ensures (omega arith)
+          c.index-as_slice-0.is some,
+      number,
+      λ work. c.fits_always.ensures fits work,
+    )

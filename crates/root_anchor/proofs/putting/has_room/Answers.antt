@@ -1,5 +1,0 @@
-use Rattle.root_anchor.proofs.ElementLemmas.{room_is}
-use Rattle.root_anchor.proofs.putting.has_room.Goals as goal
-
-pub returns-then-is_used : goal.returns-then-is_used
-returns-then-is_used c = room_is _ _ _ _ (c.is_used.ensures.0 c.if-is_used.true) c.content.ensures

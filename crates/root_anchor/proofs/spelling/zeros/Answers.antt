@@ -1,5 +1,0 @@
-use Rattle.std.proofs.lemmas.List.{get_or-replicate}
-use Rattle.root_anchor.proofs.spelling.zeros.Goals as goal
-
-pub returns : goal.returns
-returns c = λ k x y. get_or-replicate 4096 k 0 0 y

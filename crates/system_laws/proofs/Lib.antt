@@ -1,0 +1,6 @@
+mod TableLemmas
+mod StopLemmas
+mod AnsweredLemmas
+mod Determined
+mod OneWay
+mod OneRun
