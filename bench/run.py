@@ -122,7 +122,7 @@ class Bench:
 
     def beyond(self, folder, cost):
         """Memory beyond databases, schedule and what a start needs."""
-        return cost.memory - self.idle(folder, "messages.txt").memory
+        return max(cost.memory - self.idle(folder, "messages.txt").memory, 0)
 
     def sync_time(self):
         """Seconds of a write of one byte and its sync, in the middle of some hundred."""
@@ -203,7 +203,7 @@ def alone(bench):
         numbered = f"yes, {load.terminals:,} terminals" if load.numbered else "no"
         lines.append(row(f"{load.count:,}", f"{load.accounts:,}", f"{load.share:.0%}", load.regions, f"{load.waits:,}",
                          load.group, numbered, f"{rate:,.0f}", f"{time_each:.2f}", f"{cost.memory / 1e6:.0f}",
-                         f"{beyond / 1e6:.0f}"))
+                         f"{beyond / 1e6:.1f}"))
         found.append((load, time_each, beyond))
         shutil.rmtree(folder)
     return lines, found
@@ -264,7 +264,7 @@ def goals(points, found, ratio):
                      f"{each[plain[0]]:.2f} and {each[plain[1]]:.2f} µs"))
     lines.append(row("a message costs the same over 10 accounts and 40,000", f"{few:.2f} and {many:.2f} µs"))
     lines.append(row("a restart within 1.5 times reading and parsing in plain Rust", f"{ratio:.2f} times"))
-    lines.append(row("64 MB beyond databases, schedule and start", f"{max(b for _, _, b in found) / 1e6:.0f} MB"))
+    lines.append(row("64 MB beyond databases, schedule and start", f"{max(b for _, _, b in found) / 1e6:.1f} MB"))
     return lines
 
 
