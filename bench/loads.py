@@ -135,7 +135,8 @@ class Load:
         self.messages = Messages(self.accounts, self.terminals, self.numbered, 10, self.share)
         loaded = ",\n".join(f'["A{n:07d}", "{START}"]' for n in range(self.accounts))
         put(folder, "defs.toml", [
-            f"regions = {[1] * self.regions}\nrouter = \"FOLD\"\nlog_group = {self.group}\n[[msdb]]\nname = \"ACCTS\"\n",
+            f"regions = {[1] * self.regions}\nrouter = \"FOLD\"\nlog_group = {self.group}\n",
+            "[[msdb]]\nname = \"ACCTS\"\n",
             f"fields = [[\"ACCT\", \"C\", 8], [\"BAL\", \"P\", 8]]\nload = [\n{loaded}\n]\n"])
         put(folder, "scripts.txt", [SCRIPTS])
         put(folder, "accounts.txt", [f"A{n:07d} {START}\n" for n in range(self.accounts)])

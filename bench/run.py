@@ -56,7 +56,8 @@ class Best:
 
     def behind(self, start, count):
         """Messages a second and processor µs a message, beyond a start."""
-        return count / (self.seconds - start.seconds), (self.processor - start.processor) / count * 1e6
+        seconds = max(self.seconds - start.seconds, 1e-3)
+        return count / seconds, max(self.processor - start.processor, 0) / count * 1e6
 
 
 class Bench:
@@ -172,7 +173,7 @@ def beside(bench):
         found = bench.best(lambda: bench.run(folder), *makes)
         rates, costs = zip(*(cost.behind(start, load.count) for cost, start in zip(found, starts)))
         lines.append(row(group, *(f"{r:,.0f}" for r in rates), *(f"{rates[0] / r:.2f}" for r in rates[1:])))
-        times.append(row(group, *(f"{c:.2f}" for c in costs), f"{costs[0] / costs[1]:.2f}"))
+        times.append(row(group, *(f"{c:.2f}" for c in costs), f"{costs[0] / max(costs[1], 1e-3):.2f}"))
         points.append((group, rates, costs))
         shutil.rmtree(folder)
     return lines, times, points
@@ -255,7 +256,7 @@ def goals(points, found, ratio):
     plain = (small, 10_000, 0.1, 1, 1_000, False), (most, 10_000, 0.1, 1, 1_000, False)
     rates, costs = by_group[1_000]
     lines = heads("Goal", "Here")
-    lines.append(row("outside the syncs within 1.25 times plain Rust", f"{costs[0] / costs[1]:.1f} times at 1,000"))
+    lines.append(row("outside the syncs within 1.25 times plain Rust", f"{costs[0] / max(costs[1], 1e-3):.1f} times at 1,000"))
     for place, name in (2, "SQLite"), (3, "LMDB"):
         ahead = ", ".join(f"{by_group[g][0][0] / by_group[g][0][place]:.2f}" for g in GROUPS[1:])
         lines.append(row(f"ahead of {name} at 100 and 1,000", ahead))
@@ -322,11 +323,13 @@ def write(text, svg):
 def main():
     words = argparse.ArgumentParser(description=__doc__, formatter_class=argparse.RawDescriptionHelpFormatter)
     words.add_argument("program")
-    words.add_argument("--write", action="store_true", help="puts the tables into docs/BENCHMARKS.md, and the plot beside")
+    words.add_argument("--write", action="store_true", help="puts the tables into docs/BENCHMARKS.md and draws the plot")
     words.add_argument("--reps", type=int, default=3)
     words.add_argument("--quick", action="store_true", help="a twentieth of the messages")
     words.add_argument("--work", help="where the folders of the loads are made")
     words = words.parse_args()
+    if words.write and words.quick:
+        sys.exit("--write is of a whole run, and not of a quick one")
     bench = Bench(words)
     text, svg = page(bench)
     shutil.rmtree(bench.room)
