@@ -32,26 +32,6 @@ pub(crate) fn head_of(key: &[u8]) -> u64 {
     u64::from_be_bytes(head)
 }
 
-// How many of these heads are lower. Each step halves what is left, by a choice that takes no jump.
-fn count_lower(heads: &[u64], head: u64) -> usize {
-    let mut first = 0;
-    let mut left = heads.len();
-    while left > 1 {
-        let half = left / 2;
-        first = if heads[first + half] < head {
-            first + half
-        } else {
-            first
-        };
-        left -= half;
-    }
-    if left == 1 && heads[first] < head {
-        first + 1
-    } else {
-        first
-    }
-}
-
 impl Heads {
     // Those of the keys of these segments.
     pub(crate) fn of(alloc: Global, segments: &[Bytes], count: usize) -> Result<Heads, AllocError> {
@@ -72,7 +52,9 @@ impl Heads {
         if last.head == head {
             return last.place;
         }
-        let place = count_lower(&self.heads, head);
+        let place = self
+            .heads
+            .partition_point(|lower: &u64| -> bool { *lower < head });
         self.last.set(Guess { head, place });
         place
     }
