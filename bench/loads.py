@@ -126,6 +126,8 @@ class Load:
     """So many messages a run, over so many accounts, of so many terminals in turn, in a folder of its own."""
 
     def __init__(self, count, accounts=10_000, group=1_000, regions=1, terminals=1_000, numbered=False, share=0.1):
+        if terminals < group + regions - 1:
+            raise SystemExit("a line would wait for its terminal's reply, which the schedule doesn't know of")
         self.count, self.accounts, self.group, self.regions = count, accounts, group, regions
         self.terminals, self.numbered, self.share, self.waits = terminals, numbered, share, 0
 
