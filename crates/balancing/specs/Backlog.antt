@@ -1,4 +1,5 @@
 -- Messages that wait for a region, and terminals that wait for a reply.
+use Rattle.std.specs.Int.{w64, to_be_bytes}
 use Rattle.std.specs.Prelude.{ℕ, ◌-◌, ◌≡◌, List, [], length, unwrap_or, slice_get, filter, not}
 use Rattle.fp_model.specs.declared.definitions.Kind.{Kind}
 use Rattle.fp_model.specs.declared.calls.Message.{Message}
@@ -26,3 +27,7 @@ AreSame names others = (name : Name) → is_among names name ≡ is_among others
 -- without a name
 abbrev pub without : Name → List Name → List Name
 without name names = filter (λ other. not (same_name name other)) names
+
+-- the name whose bytes spell a number
+abbrev pub spelled : ℕ → Name
+spelled n = record { 0 = to_be_bytes w64 n }

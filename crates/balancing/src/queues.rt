@@ -2,7 +2,7 @@
 ghost use Rattle.std.specs.Option.{option_copied};
 ghost use Rattle.std.specs.Prelude.{◌≡◌, ◌≤◌, ◌-◌, ◌*◌, ◌^◌, ◌++◌, ◌∷◌, [], true, false, length, drop, replicate, slice_get, slice_set, sum_by, Ok, IfOk, OnOk, OnErr, IsNone, IsTrue, ◌↔◌};
 ghost use Rattle.fp_model.specs.Machine.{is_among, queued_at};
-ghost use Rattle.balancing.specs.Backlog.{AreSame, group_for, queue_of, without};
+ghost use Rattle.balancing.specs.Backlog.{AreSame, group_for, queue_of, spelled, without};
 
 use fp_exits::Router;
 use fp_model::{Message, Name};
@@ -24,18 +24,31 @@ pub enum Offer {
 pub struct Queues {
     /// The queue of group g stands at place g - 1.
     queues: Vec<VecDeque<Message>>,
-    waiting: BTreeSet<Name>,
+    /// Each terminal that waits, as the number that its name spells: numbers are compared at once.
+    waiting: BTreeSet<u64>,
+}
+
+// The number that the bytes of a name spell.
+fn number_of(name: Name) -> u64
+    ensures { spelled result ≡ name }
+{
+    u64::from_be_bytes(name.0)
 }
 
 impl Model for Queues {
-    ghost use Rattle.std.specs.Prelude.{◌≤◌, length, map};
-    ghost use Rattle.balancing.specs.Backlog.{Backlog};
+    ghost use Rattle.std.specs.List.{All};
+    ghost use Rattle.std.specs.Prelude.{◌<◌, ◌≤◌, ◌^◌, length, map};
+    ghost use Rattle.balancing.specs.Backlog.{Backlog, spelled};
 
     ghost Value = { Backlog };
 
-    ghost view = { λ q. record { queues = map (λ queue. queue.items) q.queues.items; busy = q.waiting.keys } };
+    ghost view = { λ q. record {
+      queues = map (λ queue. queue.items) q.queues.items;
+      busy = map spelled q.waiting.keys;
+    } };
 
-    ghost invariant = { λ q. (1 ≤ length q.queues.items) × (length q.queues.items ≤ 16) };
+    ghost invariant = { λ q. (1 ≤ length q.queues.items) × (length q.queues.items ≤ 16)
+        × All (λ n. n < 2 ^ 64) q.waiting.keys };
 }
 
 impl Queues {
@@ -84,7 +97,7 @@ impl Queues {
         let place = router.group(&message.tran, self.queues.len() as u64);
         let queue = &mut self.queues[place as usize];
         queue.reserve(1)?;
-        self.waiting.insert(message.lterm)?;
+        self.waiting.insert(number_of(message.lterm))?;
         queue.push_back_reserved(message);
         Ok(Offer::Queued(place as u8 + 1))
     }
@@ -139,7 +152,7 @@ impl Queues {
     pub fn busy(&self, lterm: &Name) -> bool
         ensures { result ≡ is_among self.now.busy lterm.now }
     {
-        self.waiting.contains(lterm)
+        self.waiting.contains(&number_of(*lterm))
     }
 
     /// Makes a terminal busy: one whose line is answered without a queue. It may be busy already.
@@ -148,7 +161,7 @@ impl Queues {
         ensures queues { self.new.queues ≡ self.old.queues }
         ensures err { OnErr result (self.new ≡ self.old) }
     {
-        self.waiting.insert(*lterm)?;
+        self.waiting.insert(number_of(*lterm))?;
         Ok(())
     }
 
@@ -157,6 +170,6 @@ impl Queues {
         ensures freed { AreSame self.new.busy (without lterm.now self.old.busy) }
         ensures queues { self.new.queues ≡ self.old.queues }
     {
-        self.waiting.remove(lterm);
+        self.waiting.remove(&number_of(*lterm));
     }
 }

@@ -154,6 +154,40 @@ module _ {X : Type 0} (key : X → List ℕ) where
           ∙ no_lower d (omega (arith, low, high))))
       by i d false e low high = refl
 
+  at_is : (xs : List X) (n : ℕ) (d x : X) → slice_get xs n ≡ Some x → slice_index_or xs n d ≡ x
+  at_is [] n d x e = absurd (none_is_not_some x e)
+  at_is (y ∷ ys) zero d x e = some_is y x e
+  at_is (y ∷ ys) (suc n) d x e = at_is ys n d x e
+
+  pub at_within : (xs : List X) (n : ℕ) (x : X) → slice_get xs n ≡ Some x → n < length xs
+  at_within [] n x e = absurd (none_is_not_some x e)
+  at_within (y ∷ ys) zero x e = omega (arith)
+  at_within (y ∷ ys) (suc n) x e = omega (arith, at_within ys n x e)
+
+  below_later : (xs : List X) (n : ℕ) (d : X) → IsAscending xs → suc n < length xs
+      → is_below (key (slice_index_or xs n d)) (key (slice_index_or xs (suc n) d)) ≡ true
+  below_later [] n d up within = absurd (omega (arith, within))
+  below_later (x ∷ xs) zero d up within =
+      all_at (λ y. is_below (key x) (key y) ≡ true) xs 0 d (all_above x xs up) (omega (arith, within))
+  below_later (x ∷ xs) (suc n) d up within = below_later xs n d (tail_ascends x xs up) (omega (arith, within))
+
+  below_before : (k : List ℕ) (xs : List X) (n : ℕ) (x d : X) → IsAscending xs → slice_get xs n ≡ Some x
+      → same_text (key x) k ≡ true → 0 < n → is_below (key (slice_index_or xs (n - 1) d)) k ≡ true
+  below_before k xs zero x d up at e some = absurd (omega (arith, some))
+  below_before k xs (suc m) x d up at e some =
+      let same : suc m - 1 ≡ m = omega (arith) in
+      rw same (subst (λ y. is_below (key (slice_index_or xs m d)) y ≡ true)
+      (ap key (at_is xs (suc m) d x at) ∙ same_is (key x) k e) (below_later xs m d up (at_within xs (suc m) x at)))
+
+  -- where the element of a key stands is the key's place
+  pub place_of_same : (k : List ℕ) (xs : List X) (n : ℕ) (x : X) → IsAscending xs → slice_get xs n ≡ Some x
+      → same_text (key x) k ≡ true → IsPlace key k xs n
+  place_of_same k xs n x up at e =
+      let within : n < length xs = at_within xs n x at in
+      place_between k xs n up (λ d some. below_before k xs n x d up at e some)
+      (λ d some. subst (λ y. is_below y k ≡ false) (sym (ap key (at_is xs n d x at) ∙ same_is (key x) k e))
+      (not_below_itself k)) (omega (arith, within))
+
   place_behind : (k : List ℕ) (x : X) (xs : List X) (n : ℕ) → IsPlace key k (x ∷ xs) (suc n) → IsPlace key k xs n
   place_behind k x xs n p = (
     λ i d low high. p.0 (suc i) d (omega (arith)) (omega (arith, high)),

@@ -4,7 +4,7 @@ ghost use Rattle.fp_model.specs.Texts.{same_text};
 ghost use Rattle.msdb_store.specs.Places.{IsPlaced, IsWithin};
 ghost use Rattle.std.specs.Option.{option_copied};
 ghost use Rattle.msdb_store.specs.Store.{lacks, room};
-ghost use Rattle.std.specs.Prelude.{slice_get, ◌≡◌, ◌+◌, ◌<◌, ◌≤◌, IfOk, IsOk, ◌^◌, OnErr, OnOk, find, if◌then◌else◌, length, map, true};
+ghost use Rattle.std.specs.Prelude.{slice_get, ◌≡◌, ◌+◌, ◌<◌, ◌≤◌, IfOk, IsOk, ◌^◌, ℕ, List as ListOf, OnErr, OnOk, Some, find, if◌then◌else◌, length, map, take, true};
 
 use crate::heads::{Heads, head_of};
 use crate::keyed::{Place, key_in};
@@ -45,6 +45,19 @@ impl Table {
         usize::from(key_length(self.fields.as_slice()))
     }
 
+    // Whether the segment at a place has this key, of so many bytes.
+    fn has_key(&self, at: usize, count: usize, key: &[u8]) -> bool
+        ensures same { result ≡ true → (segment : ListOf ℕ) × (slice_get self.now.segments.items at ≡ Some segment)
+            × (same_text (take count segment) key.now ≡ true) }
+        ensures within { result ≡ true → at < length self.now.segments.items }
+        ensures fits { length self.now.segments.items < 2 ^ 64 }
+    {
+        if at >= self.segments.len() {
+            return false;
+        }
+        key_in(self.segments.at(at), count) == key
+    }
+
     // Where the segment of a key stands, or would stand.
     fn place(&self, key: &[u8]) -> Place
         ensures within { IsWithin (length self.now.segments.items) result }
@@ -53,7 +66,11 @@ impl Table {
             → IsPlaced (key_of self.now.fields) key.now self.now.segments.items result }
     {
         let count = self.key_length();
-        let at = self.segments.count_below(count, key, self.heads.guess(key));
+        let guess = self.heads.guess(key);
+        if self.has_key(guess, count, key) {
+            return Place::Stands(guess);
+        }
+        let at = self.segments.count_below(count, key, guess);
         let Some(segment) = self.segments.get(at) else {
             return Place::Lacks(at);
         };

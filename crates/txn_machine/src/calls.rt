@@ -22,6 +22,9 @@ use fp_model::{
     SsaText,
 };
 
+// Room for the bytes of a field search argument; one with a long operand takes more.
+const FSA_ROOM: usize = 32;
+
 // The number of the type that the last argument names; 0 where there is none.
 fn new_type(ssas: &[SsaText]) -> u8
     ensures { (defs : Defs) (message : MessageOf) → result ≡ new_type defs message ssas.now }
@@ -118,7 +121,7 @@ impl Known {
             → fsas_given defs.now message.now (env_of self.now []) fsas.now ≡ Some list
             → AllByRecursion IsFsa list) }
     {
-        let mut text = Bytes::new(self.alloc);
+        let mut text = Bytes::with_capacity(self.alloc, fsas.len().saturating_mul(FSA_ROOM))?;
         let mut left = fsas.len();
         for fsa in fsas {
             left -= 1;

@@ -20,6 +20,9 @@ use std::alloc::{AllocError, Global};
 // How many bytes a value has at most.
 const LONGEST_VALUE: usize = 1024;
 
+// Room for operands joined; long ones take more.
+const JOINED_ROOM: usize = 32;
+
 // How many bytes a reply has at most.
 const LONGEST_REPLY: usize = 1000;
 
@@ -159,7 +162,7 @@ impl Known {
     ) -> Result<Bytes, Stop>
         ensures { Gives result (joined_texts defs.now message.now (env_of self.now []) operands.now) }
     {
-        let mut joined = Bytes::new(self.alloc);
+        let mut joined = Bytes::with_capacity(self.alloc, JOINED_ROOM)?;
         for operand in operands {
             let text = self.text_of(defs, message, operand)?;
             joined.append(text.as_slice())?;

@@ -1,9 +1,9 @@
-use Rattle.std.proofs.Common.{arith, ◌≡◌, ◌<◌, ◌-◌, [], ◌∷◌, ◌++◌, length, map, ap, sym, ◌∙◌}
+use Rattle.std.proofs.Common.{rules, arith, ◌≡◌, ◌<◌, ◌-◌, [], ◌∷◌, ◌++◌, length, map, ap, sym, ◌∙◌}
 use Rattle.std.proofs.lemmas.List.{length-map}
 use Rattle.fp_model.specs.Exits.{route}
 use Rattle.fp_model.specs.Machine.{queued_at}
-use Rattle.balancing.specs.Backlog.{group_for}
-use Rattle.balancing.proofs.NameLemmas.{put_last}
+use Rattle.balancing.specs.Backlog.{group_for, spelled}
+use Rattle.balancing.proofs.NameLemmas.{all_put, put_last}
 use Rattle.balancing.proofs.QueueLemmas.{on_err, queued, set_kept}
 use Rattle.balancing.proofs.queues.Queues.offer.Goals as goal
 
@@ -11,7 +11,7 @@ use Rattle.balancing.proofs.queues.Queues.offer.Goals as goal
 pub returns-in_err-reserve-clause-err : goal.returns-in_err-reserve-clause-err
 returns-in_err-reserve-clause-err g c =
     on_err c.from_residual.result
-    (ap (λ queues. record { queues = queues; busy = c.self.inside.waiting.keys })
+    (ap (λ queues. record { queues = queues; busy = map spelled c.self.inside.waiting.keys })
     (set_kept (λ queue. queue.items) c.self.inside.queues.items c.group-place.result c.index_mut-queue.result.now
     c.reserve.new.self c.index_mut-queue.ensures.value c.reserve.ensures.items)
     ∙ c.self.view_is)
@@ -19,10 +19,10 @@ returns-in_err-reserve-clause-err g c =
 pub returns-in_err-insert-clause-err : goal.returns-in_err-insert-clause-err
 returns-in_err-insert-clause-err g c =
     on_err c.from_residual-in_err-insert.result
-    (ap (λ queues. record { queues = queues; busy = c.insert.new.self.keys })
+    (ap (λ queues. record { queues = queues; busy = map spelled c.insert.new.self.keys })
     (set_kept (λ queue. queue.items) c.self.inside.queues.items c.group-place.result c.index_mut-queue.result.now
     c.reserve.new.self c.index_mut-queue.ensures.value c.reserve.ensures.items)
-    ∙ ap (λ keys. record { queues = map (λ queue. queue.items) c.self.inside.queues.items; busy = keys })
+    ∙ ap (λ keys. record { queues = map (λ queue. queue.items) c.self.inside.queues.items; busy = map spelled keys })
     c.in_err-insert.ensures.err
     ∙ c.self.view_is)
 
@@ -51,4 +51,15 @@ returns-clause-queued g c =
 pub returns-clause-marked : goal.returns-clause-marked
 returns-clause-marked g c =
     λ free. put_last c.self.inside.waiting.keys c.insert.new.self.keys c.args.self.now.busy c.args.message.lterm
+    c.number_of.result (search rules)
+    (all_put _ c.self.inside.waiting.keys _ c.number_of.result (search rules) (search rules) c.in_ok-insert.ensures.keys) (search rules)
+    c.number_of.ensures
     (ap (λ b. b.busy) c.self.view_is) c.in_ok-insert.ensures.updates.0
+
+pub invariant_of-self-2 : goal.invariant_of-self-2
+invariant_of-self-2 g c = (
+  search rules,
+  search rules,
+  all_put _ c.self.inside.waiting.keys _ c.number_of.result c.self.invariant.2 c.number_of.type_inv
+      c.in_ok-insert.ensures.keys,
+)

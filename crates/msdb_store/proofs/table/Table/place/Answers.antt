@@ -3,8 +3,23 @@ use Rattle.std.specs.Option.{option_copied}
 use Rattle.fp_model.specs.State.{key_of}
 use Rattle.fp_model.specs.Texts.{same_text}
 use Rattle.msdb_store.specs.Places.{if_same}
-use Rattle.msdb_store.proofs.Ascending.{lacks_there, same_place}
+use Rattle.msdb_store.proofs.Ascending.{at_within, lacks_there, place_of_same, same_place}
 use Rattle.msdb_store.proofs.table.Table.place.Goals as goal
+
+pub returns-then-has_key-clause-place : goal.returns-then-has_key-clause-place
+returns-then-has_key-clause-place c up =
+    let found = c.has_key.ensures.same c.if-has_key.true in
+    let same : same_text (key_of c.args.self.now.fields found.0) c.args.key.now ≡ true =
+    subst (λ count. same_text (take count found.0) c.args.key.now ≡ true) c.key_length-count.ensures found.2 in (
+      place_of_same (key_of c.args.self.now.fields) c.args.key.now c.args.self.now.segments.items c.guess-guess.result
+          found.0 up found.1 same,
+      found.0,
+      found.1,
+      same,
+    )
+
+pub returns-then-eq-clause-within : goal.returns-then-eq-clause-within
+returns-then-eq-clause-within c = at_within (λ s. s) _ _ _ (sym c.get.ensures ∙ ap option_copied c.in-Some.is)
 
 pub returns-in_default-clause-place : goal.returns-in_default-clause-place
 returns-in_default-clause-place c up = (
