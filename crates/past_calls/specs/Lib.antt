@@ -1,0 +1,4 @@
+pub mod Keys
+pub mod Pasts
+pub mod Progress
+pub mod Replies
