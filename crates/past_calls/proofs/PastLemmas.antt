@@ -8,7 +8,7 @@ use Rattle.fp_model.specs.declared.database.Msdb.{Msdb}
 use Rattle.fp_model.specs.declared.definitions.MsdbDef.{MsdbDef}
 use Rattle.fp_model.specs.State.{segment_after, segment_of}
 use Rattle.past_segments.specs.Times.{Past, database_at}
-use Rattle.past_calls.specs.Pasts.{ArePastsOf, IsPastOf, databases_at}
+use Rattle.past_segments.specs.Pasts.{ArePastsOf, IsPastOf, databases_at}
 
 -- what holds of each holds of the one that is found
 found_has : {X : Type 0} (P : X → Type 0) (p : X → Bool) (xs : List X) (x : X) → AllByRecursion P xs

@@ -1,4 +1,3 @@
 pub mod Keys
-pub mod Pasts
 pub mod Progress
 pub mod Replies

@@ -19,7 +19,7 @@ use Rattle.fp_model.specs.Waiting.{same_resource}
 use Rattle.fp_model.specs.WellFormed.{IsMsdbDef}
 use Rattle.fp_model.specs.Workspace.{Workspace}
 use Rattle.past_segments.specs.Times.{database_at}
-use Rattle.past_calls.specs.Pasts.{IsPastOf}
+use Rattle.past_segments.specs.Pasts.{IsPastOf}
 use Rattle.past_calls.specs.declared.database.Database.{Database}
 use Rattle.past_calls.specs.declared.reply.Change.{Change}
 use Rattle.past_calls.specs.declared.reply.Change.TheVariants as change

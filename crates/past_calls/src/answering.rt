@@ -8,7 +8,7 @@ ghost use Rattle.fp_model.specs.declared.calls.Resource.TheVariants.{Segment};
 ghost use Rattle.fp_model.specs.declared.database.Db.{Db as DbOf};
 ghost use Rattle.fp_model.specs.declared.definitions.Defs.{Defs as DefsOf};
 ghost use Rattle.fp_model.specs.declared.definitions.MsdbDef.{MsdbDef as DefOf};
-ghost use Rattle.past_calls.specs.Pasts.{ArePastsOf, IsPastOf, databases_at};
+ghost use Rattle.past_segments.specs.Pasts.{ArePastsOf, IsPastOf, databases_at};
 ghost use Rattle.past_calls.specs.Progress.{FitsPosition, IsWorkOf, is_among};
 ghost use Rattle.past_calls.specs.Replies.{IsDatabase, ShowsFound, is_changed, key_to_change, noted_in, segments_in};
 ghost use Rattle.std.specs.List.{AllByRecursion};

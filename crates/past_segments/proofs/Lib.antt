@@ -1,5 +1,5 @@
 pub mod PastLaws
-mod Ascending
+pub mod Ascending
 mod PastLemmas
 mod Showing
 mod Values

@@ -2,7 +2,7 @@ use Rattle.std.proofs.Common.{◌≡◌, ap, sym, subst, ◌∙◌, Some, slice_
 use Rattle.fp_model.specs.declared.database.Msdb.{Msdb}
 use Rattle.fp_model.specs.MsdbCalls.{msdb_reply}
 use Rattle.past_segments.specs.Times.{database_at}
-use Rattle.past_calls.specs.Pasts.{databases_at}
+use Rattle.past_segments.specs.Pasts.{databases_at}
 use Rattle.past_calls.specs.Replies.{segments_in}
 use Rattle.past_calls.proofs.AnswerLemmas.{names_it, replies}
 use Rattle.past_calls.proofs.BeginLemmas.{if_ok}
