@@ -1,0 +1,6 @@
+mod AnswerLemmas
+mod BeginLemmas
+mod FitLemmas
+mod KeyLemmas
+mod PastLemmas
+mod WorkLemmas

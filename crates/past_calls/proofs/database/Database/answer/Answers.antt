@@ -1,0 +1,8 @@
+use Rattle.past_calls.proofs.WorkLemmas.{keeps}
+use Rattle.past_calls.proofs.database.Database.answer.Goals as goal
+
+pub returns-clause-of : goal.returns-clause-of
+returns-clause-of c =
+    λ defs there is.
+    keeps defs c.args.self.now.def.now c.args.self.now.number c.in_ok-answer.field-0.change c.args.work.now
+    c.settle.new.self is there c.in_ok-answer.ensures.change c.in_ok-settle.ensures.own c.in_ok-settle.ensures.changed

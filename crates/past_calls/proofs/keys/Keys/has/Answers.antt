@@ -1,0 +1,11 @@
+use Rattle.std.proofs.Common.{ap, ◌∙◌}
+use Rattle.past_calls.specs.Keys.{resource_of}
+use Rattle.past_calls.specs.Progress.{is_among}
+use Rattle.past_calls.proofs.KeyLemmas.{among_is_contained}
+use Rattle.past_calls.proofs.keys.Keys.has.Goals as goal
+
+pub returns : goal.returns
+returns c =
+    c.contains.ensures
+    ∙ among_is_contained c.self.inside.keys.keys c.args.key.now
+    ∙ ap (λ keys. is_among keys (resource_of c.args.key.now)) c.self.view_is

@@ -1,0 +1,42 @@
+use Rattle.std.proofs.Common.{arith, ◌≡◌, List, length, replicate, map, ap, sym, ◌∙◌, subst}
+use Rattle.std.specs.List.{AllZip, AllByRecursion, list_any}
+use Rattle.fp_model.specs.FitCalls.{IsFitDeferred}
+use Rattle.fp_model.specs.declared.calls.Deferred.{Deferred}
+use Rattle.fp_model.specs.declared.calls.Resource.TheVariants.{Segment}
+use Rattle.fp_model.specs.MsdbCalls.{puts_or_drops}
+use Rattle.fp_model.specs.Workspace.{MsdbPosition, Workspace, fresh, no_dedb_position, no_msdb_position}
+use Rattle.fp_model.specs.declared.definitions.DedbDef.{DedbDef}
+use Rattle.fp_model.specs.declared.definitions.Defs.{Defs}
+use Rattle.std.proofs.Common.{[]}
+use Rattle.past_calls.specs.Progress.{FitsPosition, is_among}
+use Rattle.past_calls.proofs.BeginLemmas.{fresh_all, fresh_fit, fresh_positions}
+use Rattle.past_calls.proofs.work.Work.new.Goals as goal
+use Rattle.past_calls.proofs.work.Work.new.Goals.{After-new-3}
+
+all : (c : After-new-3) → c.loop.positions.items ≡ replicate (length c.args.defs.now.msdbs) no_msdb_position
+all c = fresh_all c.loop.counter c.loop.positions.items c.args.defs.now.msdbs c.loop.invariant
+    (omega (arith, c.len-end.ensures))
+
+pub returns-clause-of : goal.returns-clause-of
+returns-clause-of c = record {
+  positions = subst (AllZip FitsPosition c.args.defs.now.msdbs) (sym (all c)) (fresh_fit c.args.defs.now.msdbs);
+  deferred = subst (AllByRecursion (IsFitDeferred c.args.defs.now.msdbs)) (sym c.new-3.ensures) tt;
+  changes = λ msdb def there key.
+      ap (λ keys. is_among keys (Segment msdb key)) c.new-2.ensures
+      ∙ sym (ap (λ queue. list_any (puts_or_drops def msdb key) queue) c.new-3.ensures);
+}
+
+abbrev own_with : List MsdbPosition → List Deferred → Workspace
+own_with positions queue =
+    record { msdbs = positions; dedbs = []; changes = []; deferred = queue; inserts = [] }
+
+-- where no data entry database is defined there is no position in one
+none_defined : (defs : Defs) → defs.dedbs ≡ [] → (fresh defs).dedbs ≡ []
+none_defined defs none = ap (λ (ds : List DedbDef). map (λ def. no_dedb_position) ds) none
+
+pub returns-clause-own : goal.returns-clause-own
+returns-clause-own c none =
+    ap (λ positions. own_with positions c.new-3.result) (all c ∙ fresh_positions c.args.defs.now.msdbs)
+    ∙ ap (λ queue. own_with (map (λ def. no_msdb_position) c.args.defs.now.msdbs) queue) c.new-3.ensures
+    ∙ ap (λ positions. record (fresh c.args.defs.now) { dedbs = positions })
+    (sym (none_defined c.args.defs.now none))

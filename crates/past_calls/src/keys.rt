@@ -1,0 +1,95 @@
+//! Keys of the main storage databases, in order.
+ghost use Rattle.std.specs.Prelude.{◌≡◌, ◌||◌, [], false, IfOk, IsTrue, OnErr, OnOk};
+ghost use Rattle.fp_model.specs.Waiting.{same_resource};
+ghost use Rattle.fp_model.specs.declared.calls.Resource.{Resource as ResourceOf};
+ghost use Rattle.fp_model.specs.declared.calls.Resource.TheVariants.{Segment};
+ghost use Rattle.std.specs.Option.{option_map};
+ghost use Rattle.past_calls.specs.Keys.{resource_of};
+ghost use Rattle.past_calls.specs.Progress.{is_among};
+ghost use Rattle.past_calls.specs.Replies.{is_marked};
+
+use std::alloc::{AllocError, Global};
+use std::collections::BTreeSet;
+use std::marker::Model;
+
+// A key of a main storage database.
+#[derive(Debug, PartialEq, Eq, PartialOrd, Ord, Drop)]
+pub(crate) struct SegmentKey {
+    msdb: u8,
+    key: Vec<u8>,
+}
+
+impl SegmentKey {
+    // Fails only for want of memory.
+    pub(crate) fn new(alloc: Global, msdb: u8, key: &[u8]) -> Result<SegmentKey, AllocError>
+        ensures { IfOk result (λ made. resource_of made ≡ Segment msdb key.now) }
+    {
+        Ok(SegmentKey {
+            msdb,
+            key: Vec::from_slice(alloc, key)?,
+        })
+    }
+}
+
+// Contracts see the keys as the resources that they are.
+#[derive(Debug, Drop)]
+pub(crate) struct Keys {
+    keys: BTreeSet<SegmentKey>,
+}
+
+impl Model for Keys {
+    ghost use Rattle.std.specs.Prelude.{List, map};
+    ghost use Rattle.fp_model.specs.declared.calls.Resource.{Resource};
+    ghost use Rattle.past_calls.specs.Keys.{resource_of};
+
+    ghost Value = { List Resource };
+
+    ghost view = { λ k. map resource_of k.keys.keys };
+}
+
+impl Keys {
+    pub(crate) fn new(alloc: Global) -> Keys
+        ensures { result ≡ [] }
+    {
+        Keys {
+            keys: BTreeSet::new(alloc),
+        }
+    }
+
+    // Whether there are none.
+    pub(crate) fn is_empty(&self) -> bool
+        ensures { IsTrue result → (resource : ResourceOf) → is_among self.now resource ≡ false }
+    {
+        self.keys.is_empty()
+    }
+
+    // Whether a key is among them.
+    pub(crate) fn has(&self, key: &SegmentKey) -> bool
+        ensures { result ≡ is_among self.now (resource_of key.now) }
+    {
+        self.keys.contains(key)
+    }
+
+    // Puts a key among them; it may be there already.
+    pub(crate) fn put(&mut self, key: SegmentKey) -> Result<(), AllocError>
+        ensures ok { OnOk result ((resource : ResourceOf)
+            → is_among self.new resource ≡ (same_resource (resource_of key) resource || is_among self.old resource)) }
+        ensures err { OnErr result (self.new ≡ self.old) }
+    {
+        self.keys.insert(key)?;
+        Ok(())
+    }
+
+    // Puts a key among them, if there is one.
+    pub(crate) fn put_some(&mut self, key: Option<SegmentKey>) -> Result<(), AllocError>
+        ensures ok { OnOk result ((resource : ResourceOf)
+            → is_among self.new resource ≡ (is_marked (option_map resource_of key) resource || is_among self.old
+            resource)) }
+        ensures err { OnErr result (self.new ≡ self.old) }
+    {
+        match key {
+            Some(key) => self.put(key),
+            None => Ok(()),
+        }
+    }
+}

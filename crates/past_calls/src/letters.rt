@@ -1,0 +1,45 @@
+//! The letters of a field call.
+ghost use Rattle.std.specs.Prelude.{◌≡◌, IfOk, length};
+ghost use Rattle.fp_model.specs.FitCalls.{IsFsaList};
+ghost use Rattle.fp_model.specs.Fsas.{all_blank, fsas_in, list_on};
+ghost use Rattle.fp_model.specs.WellFormed.{IsMsdbDef};
+
+use fld_calls::try_list;
+use fp_model::{Bytes, MsdbDef};
+use std::alloc::{AllocError, Global};
+
+// A letter for each field search argument, and whether all are blank.
+#[derive(Debug, Drop)]
+pub(crate) struct Letters {
+    pub(crate) good: bool,
+    pub(crate) letters: Bytes,
+}
+
+// Whether all letters are blanks.
+fn are_blank(letters: &[u8]) -> bool
+    ensures { result ≡ all_blank letters.now }
+{
+    letters.iter().all(|letter| *letter == b' ')
+}
+
+// Tries arguments on a copy of a segment. It fails only for want of memory.
+pub(crate) fn letters_on(
+    alloc: Global,
+    def: &MsdbDef,
+    fsas: &[u8],
+    segment: &[u8],
+) -> Result<Letters, AllocError>
+    requires def { IsMsdbDef def.now }
+    requires list { IsFsaList fsas.now }
+    requires whole { length segment.now ≡ def.now.length }
+    ensures letters { IfOk result (λ tried. tried.letters ≡ (list_on def.now (fsas_in fsas.now) segment.now).letters) }
+    ensures good { IfOk result (λ tried. tried.good ≡ all_blank
+        (list_on def.now (fsas_in fsas.now) segment.now).letters) }
+{
+    let mut copy = Vec::from_slice(alloc, segment)?;
+    let letters = try_list(alloc, def, fsas, copy.as_mut_slice())?;
+    Ok(Letters {
+        good: are_blank(letters.as_slice()),
+        letters,
+    })
+}

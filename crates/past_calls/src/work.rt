@@ -1,0 +1,235 @@
+//! What a transaction keeps until it commits.
+ghost use Rattle.std.specs.Option.{option_copied, option_map};
+ghost use Rattle.std.specs.Prelude.{◌≡◌, ◌<◌, ◌++◌, ◌∷◌, ◌||◌, ◌&&◌, ◌==◌, [], IfOk, IsTrue, List as ListOf, None, OnErr, OnOk, if◌then◌else◌, is_some, length, slice_get, slice_set, true, unwrap_or, ℕ, false, Some};
+ghost use Rattle.fp_model.specs.Workspace.{fresh, no_msdb_position};
+ghost use Rattle.fp_model.specs.declared.calls.Resource.{Resource as ResourceOf};
+ghost use Rattle.past_calls.specs.Keys.{resource_of};
+ghost use Rattle.past_calls.specs.Progress.{IsWorkOf, is_among};
+ghost use Rattle.past_calls.specs.Replies.{is_marked, mark_in, mark_of, own_behind};
+
+use crate::database::key_in;
+use crate::keys::{Keys, SegmentKey};
+use crate::reply::Change;
+use fp_model::{Bytes, Deferred, Defs, List, MsdbDef};
+use std::alloc::{AllocError, Global};
+use std::marker::Model;
+
+// Of one main storage database: the key of the segment found last, and whether the last call to the database was a
+// hold get that found it.
+#[derive(Debug, Drop)]
+pub(crate) struct Position {
+    key: Option<Bytes>,
+    held: bool,
+}
+
+impl Model for Position {
+    ghost use Rattle.fp_model.specs.Workspace.{MsdbPosition};
+
+    ghost Value = { MsdbPosition };
+
+    ghost view = { λ p. record { key = p.key; held = p.held } };
+}
+
+impl Position {
+    fn new() -> Position
+        ensures { result ≡ no_msdb_position }
+    {
+        Position {
+            key: None,
+            held: false,
+        }
+    }
+
+    pub(crate) fn key(&self) -> Option<&[u8]>
+        ensures { option_copied result ≡ self.now.key }
+    {
+        match &self.key {
+            Some(key) => Some(key.as_slice()),
+            None => None,
+        }
+    }
+
+    // The key of the segment that is held.
+    pub(crate) fn held_key(&self) -> Option<&[u8]>
+        ensures { option_copied result ≡ (if self.now.held then self.now.key else None) }
+    {
+        if self.held { self.key() } else { None }
+    }
+}
+
+// Without its last element.
+fn drop_last<T: Drop>(list: &mut List<T>)
+    ensures { (front : ListOf T) (last : T) → list.old ≡ front ++ last ∷ [] → list.new ≡ front }
+{
+    let _ = list.pop();
+}
+
+/// What one transaction keeps to itself until its end: its positions, and its deferred calls.
+#[derive(Debug, Drop)]
+pub struct Work {
+    positions: Vec<Position>,
+    // Those whose segments the queue inserts or deletes.
+    changed: Keys,
+    deferred: List<Deferred>,
+}
+
+impl Model for Work {
+    ghost use Rattle.std.specs.Coded.{codes};
+    ghost use Rattle.std.specs.Prelude.{[]};
+    ghost use Rattle.fp_model.specs.contracts.database.Node as node;
+    ghost use Rattle.past_calls.specs.Progress.{Progress};
+
+    ghost Value = { Progress };
+
+    ghost coded = { Prim.hlevel (codes, node.the_row.coded) };
+
+    ghost view = { λ w. record {
+      own = record {
+        msdbs = w.positions.items;
+        dedbs = [];
+        changes = [];
+        deferred = w.deferred;
+        inserts = [];
+      };
+      changed = w.changed;
+    } };
+}
+
+impl Work {
+    /// As a transaction begins: no positions, nothing deferred. It fails only for want of memory.
+    pub fn new(alloc: Global, defs: &Defs) -> Result<Work, AllocError>
+        ensures of { IfOk result (IsWorkOf defs.now) }
+        ensures own { defs.now.dedbs ≡ [] → IfOk result (λ work. work.own ≡ fresh defs.now) }
+    {
+        let mut positions = Vec::new(alloc);
+        for _ in 0..defs.msdbs.len() {
+            positions.push(Position::new())?;
+        }
+        Ok(Work {
+            positions,
+            changed: Keys::new(alloc),
+            deferred: List::new(alloc),
+        })
+    }
+
+    /// The deferred calls, in call order.
+    pub fn deferred(&self) -> &List<Deferred>
+        ensures { result.now ≡ self.now.own.deferred }
+    {
+        &self.deferred
+    }
+
+    // The position in a database.
+    pub(crate) fn position(&self, msdb: u8) -> &Position
+        requires { msdb < length self.now.own.msdbs }
+        ensures { slice_get self.now.own.msdbs msdb ≡ Some result.now }
+    {
+        &self.positions[msdb as usize]
+    }
+
+    // Whether its queue inserts and deletes no segment.
+    pub(crate) fn changes_none(&self) -> bool
+        ensures { IsTrue result → (resource : ResourceOf) → is_among self.now.changed resource ≡ false }
+    {
+        self.changed.is_empty()
+    }
+
+    // Whether its queue inserts or deletes the segment of a key.
+    pub(crate) fn changes(&self, key: &SegmentKey) -> bool
+        ensures { result ≡ is_among self.now.changed (resource_of key.now) }
+    {
+        self.changed.has(key)
+    }
+
+    // What becomes of it behind an answer. It fails only for want of memory, and then nothing changes.
+    pub(crate) fn settle(
+        &mut self,
+        def: &MsdbDef,
+        msdb: u8,
+        change: Change,
+    ) -> Result<(), AllocError>
+        requires { msdb < length self.old.own.msdbs }
+        ensures own { OnOk result (self.new.own ≡ own_behind def.now msdb change self.old.own) }
+        ensures changed { OnOk result ((resource : ResourceOf)
+            → is_among self.new.changed resource ≡ (is_marked (mark_in def.now change) resource || is_among
+            self.old.changed resource)) }
+        ensures err { OnErr result (self.new ≡ self.old) }
+    {
+        match change {
+            Change::Nothing => self.let_go(msdb),
+            Change::Found { key, hold } => self.find(msdb, key, hold),
+            Change::Queued(deferred) => {
+                self.queue(def, deferred)?;
+                self.let_go(msdb);
+            }
+        }
+        Ok(())
+    }
+
+    // Holds no segment of the database.
+    fn let_go(&mut self, msdb: u8)
+        requires { msdb < length self.old.own.msdbs }
+        ensures { self.new ≡ record self.old {
+          own = record self.old.own {
+            msdbs = slice_set self.old.own.msdbs msdb
+                (record (unwrap_or (slice_get self.old.own.msdbs msdb) no_msdb_position) { held = false });
+          };
+        } }
+    {
+        self.positions[msdb as usize].held = false;
+    }
+
+    // Is at a segment, and holds it or not.
+    fn find(&mut self, msdb: u8, key: Bytes, hold: bool)
+        requires { msdb < length self.old.own.msdbs }
+        ensures { self.new ≡ record self.old {
+          own =
+              record self.old.own {
+                msdbs = slice_set self.old.own.msdbs msdb
+                    (record { key = Some key; held = hold });
+              };
+        } }
+    {
+        self.positions[msdb as usize] = Position {
+            key: Some(key),
+            held: hold,
+        };
+    }
+
+    // Puts a call at the end of the queue, and marks the key whose segment it inserts or deletes.
+    fn queue(&mut self, def: &MsdbDef, deferred: Deferred) -> Result<(), AllocError>
+        ensures own { OnOk result (self.new.own ≡ record self.old.own
+            { deferred = self.old.own.deferred ++ deferred ∷ [] }) }
+        ensures changed { OnOk result ((resource : ResourceOf)
+            → is_among self.new.changed resource ≡ (is_marked (mark_of def.now deferred) resource || is_among
+            self.old.changed resource)) }
+        ensures err { OnErr result (self.new ≡ self.old) }
+    {
+        let mark = marked_by(*self.positions.allocator(), def, &deferred)?;
+        self.deferred.push(deferred)?;
+        if let Err(error) = self.changed.put_some(mark) {
+            drop_last(&mut self.deferred);
+            return Err(error);
+        }
+        Ok(())
+    }
+}
+
+// The key whose segment a deferred call inserts or deletes.
+fn marked_by(
+    alloc: Global,
+    def: &MsdbDef,
+    deferred: &Deferred,
+) -> Result<Option<SegmentKey>, AllocError>
+    ensures { IfOk result (λ mark. option_map resource_of mark ≡ mark_of def.now deferred.now) }
+{
+    match deferred {
+        Deferred::Isrt { msdb, bytes } => Ok(Some(SegmentKey::new(
+            alloc,
+            *msdb,
+            key_in(def, bytes.as_slice()),
+        )?)),
+        Deferred::Dlet { msdb, key } => { Ok(Some(SegmentKey::new(alloc, *msdb, key.as_slice())?)) }
+        Deferred::Fld { .. } | Deferred::Repl { .. } => Ok(None),
+    }
+}

@@ -1,0 +1,5 @@
+pub mod PastLaws
+pub mod Ascending
+mod PastLemmas
+mod Showing
+mod Values

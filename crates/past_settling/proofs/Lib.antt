@@ -1,0 +1,4 @@
+mod BackLemmas
+mod Kept
+mod OneLemmas
+mod QueueLemmas
