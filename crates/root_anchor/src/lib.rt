@@ -10,6 +10,8 @@
 
 mod anchor;
 mod building;
+mod differing;
+mod finding;
 mod holding;
 mod laws;
 mod loading;
@@ -17,6 +19,7 @@ mod newest;
 mod places;
 mod plan;
 mod putting;
+mod rewriting;
 mod standing;
 mod storing;
 mod walk;
@@ -31,4 +34,5 @@ pub use laws::{
 pub use loading::load;
 pub use newest::set_newest;
 pub use places::{RootPlace, root_place};
+pub use rewriting::rewrite;
 pub use storing::store;
