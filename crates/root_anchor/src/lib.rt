@@ -5,7 +5,7 @@
 //!
 //! A pointer is the number of an interval and a place in it. `load` follows the pointers from an anchor's root anchor
 //! point, in hierarchical order, and meets no element twice. `store` gives an anchor other roots, in the elements that
-//! it had and in new ones.
+//! it had and in new ones; `rewrite` puts the one element in which these differ from those that it has.
 #![tactic(auto)]
 
 mod anchor;

@@ -32,10 +32,12 @@ fn put_found<I: Intervals>(
 ) -> Result<(), AnchorFault>
     requires types { AreTypes (I.size i.old) segments.now }
     requires fits { FitsType segments.now found.now }
-    ensures put { I.told i.old → (s : Segment) → HasSegment segments.now (I.intervals i.old) found.now.segment found.now.at s
+    ensures put { I.told i.old → (s : Segment)
+        → HasSegment segments.now (I.intervals i.old) found.now.segment found.now.at s
         → OnOk result (PutsSegment segments.now (I.intervals i.old) (I.intervals i.new) found.now.segment found.now.at
         (says_of found.now)) }
-    ensures sound { I.told i.old → (s : Segment) → HasSegment segments.now (I.intervals i.old) found.now.segment found.now.at s
+    ensures sound { I.told i.old → (s : Segment)
+        → HasSegment segments.now (I.intervals i.old) found.now.segment found.now.at s
         → (ci : ℕ) → result ≢ Err (AnchorFault.Damaged ci) }
     ensures failed { IsErrOf result AnchorFault.Failed → Rose (I.faults i.old) (I.faults i.new) }
     ensures number { I.number i.new ≡ I.number i.old }
