@@ -41,7 +41,7 @@ pub fn segment(
 }
 
 /// CLIENT, LOAN below it, PAYMENT below LOAN, and ADDRESS below CLIENT.
-fn types(alloc: Global) -> Result<List<SegDef>, AllocError>
+pub fn types(alloc: Global) -> Result<List<SegDef>, AllocError>
     ensures types { IfOk result (AreTypes 512) }
     ensures families { IfOk result AreFamilyTypes }
 {
@@ -89,7 +89,7 @@ struct Client {
 }
 
 /// A segment of twelve bytes or fewer: its key, then the same byte again and again.
-fn text(rt: &HostRuntime, key: u8, says: u8, size: usize) -> Result<Bytes, Fail>
+pub fn text(rt: &HostRuntime, key: u8, says: u8, size: usize) -> Result<Bytes, Fail>
     requires { 2 ≤ size }
     ensures { IfOk result (λ bytes. length bytes ≡ size) }
 {

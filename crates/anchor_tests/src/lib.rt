@@ -9,4 +9,6 @@ mod families;
 #[cfg(test)]
 mod places;
 #[cfg(test)]
+mod rewrites;
+#[cfg(test)]
 mod sequential;

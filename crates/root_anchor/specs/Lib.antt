@@ -3,8 +3,11 @@ pub mod Damage
 pub mod Formed
 pub mod Roots
 pub mod Newest
+pub mod Differing
 pub mod Stored
 pub mod Puts
 pub mod Standing
 pub mod Rebuilding
 pub mod Walking
+pub mod Comparing
+pub mod Finding

@@ -286,7 +286,7 @@ fn build_rows<I: Intervals>(
 }
 
 /// The newest serial of a root, 0 for none.
-fn newest_of(seqs: &List<SeqItem>) -> u64
+pub(crate) fn newest_of(seqs: &List<SeqItem>) -> u64
     ensures newest { (types : List SegDefOf) → is_newest types seqs.now ≡ true → newest result ≡ seqs.now }
     ensures none { (types : List SegDefOf) → is_newest types seqs.now ≡ true → has_serial types 0 ≡ false → result ≡ 0 }
 {

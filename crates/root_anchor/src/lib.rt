@@ -5,11 +5,13 @@
 //!
 //! A pointer is the number of an interval and a place in it. `load` follows the pointers from an anchor's root anchor
 //! point, in hierarchical order, and meets no element twice. `store` gives an anchor other roots, in the elements that
-//! it had and in new ones.
+//! it had and in new ones; `rewrite` puts the one element in which these differ from those that it has.
 #![tactic(auto)]
 
 mod anchor;
 mod building;
+mod differing;
+mod finding;
 mod holding;
 mod laws;
 mod loading;
@@ -17,6 +19,7 @@ mod newest;
 mod places;
 mod plan;
 mod putting;
+mod rewriting;
 mod standing;
 mod storing;
 mod walk;
@@ -31,4 +34,5 @@ pub use laws::{
 pub use loading::load;
 pub use newest::set_newest;
 pub use places::{RootPlace, root_place};
+pub use rewriting::rewrite;
 pub use storing::store;

@@ -18,7 +18,7 @@ use fp_model::{List, SegDef};
 use std::alloc::{AllocError, Global};
 
 /// The pointers to the first children.
-fn pointers_of(alloc: Global, firsts: &[First]) -> Result<Vec<Pointer>, AllocError>
+pub(crate) fn pointers_of(alloc: Global, firsts: &[First]) -> Result<Vec<Pointer>, AllocError>
     ensures { IfOk result (λ pointers. pointers.items ≡ pointers_of firsts.now) }
 {
     let mut pointers = Vec::new(alloc);

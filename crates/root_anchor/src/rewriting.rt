@@ -1,0 +1,154 @@
+//! Roots are changed in place.
+//!
+//! Where an anchor's old and new roots differ in one segment, that one's element alone is put. Else the anchor is
+//! stored.
+
+ghost use Rattle.std.specs.Prelude.{◌≡◌, ◌≢◌, ◌<◌, ◌≤◌, ℕ, List, Err, IfOk, OnOk, IsErrOf, true, false};
+ghost use Rattle.ci_space.specs.Calls.{Rose, GoesOn};
+ghost use Rattle.ci_overflow.specs.Lists.{IsInOrder};
+ghost use Rattle.anchor_elements.specs.Elements.{AreTypes, Segment, HasSegment};
+ghost use Rattle.anchor_elements.specs.Puts.{PutsSegment};
+ghost use Rattle.root_anchor.specs.Chains.{anchor_count};
+ghost use Rattle.root_anchor.specs.Damage.{ChainFails};
+ghost use Rattle.root_anchor.specs.Differing.{RootsDiffer, ChangesAlone};
+ghost use Rattle.root_anchor.specs.Finding.{FitsType, says_of};
+ghost use Rattle.root_anchor.specs.Formed.{IsFormed, HasChain, HasRoots};
+ghost use Rattle.root_anchor.specs.Stored.{are_storable, ApartKeep, OthersKeep, KeepsSequential};
+
+use crate::finding::{Found, find_change};
+use crate::newest::pointers_of;
+use crate::storing::store;
+use anchor_elements::{AnchorFault, Saying, put_segment};
+use ci_space::{Intervals, Shape};
+use fp_model::{List, Root, SegDef};
+use std::alloc::Global;
+
+/// Lets an element say what it is to say.
+fn put_found<I: Intervals>(
+    alloc: Global,
+    i: &mut I,
+    segments: &List<SegDef>,
+    found: &Found<'_>,
+) -> Result<(), AnchorFault>
+    requires types { AreTypes (I.size i.old) segments.now }
+    requires fits { FitsType segments.now found.now }
+    ensures put { I.told i.old → (s : Segment)
+        → HasSegment segments.now (I.intervals i.old) found.now.segment found.now.at s
+        → OnOk result (PutsSegment segments.now (I.intervals i.old) (I.intervals i.new) found.now.segment found.now.at
+        (says_of found.now)) }
+    ensures sound { I.told i.old → (s : Segment)
+        → HasSegment segments.now (I.intervals i.old) found.now.segment found.now.at s
+        → (ci : ℕ) → result ≢ Err (AnchorFault.Damaged ci) }
+    ensures failed { IsErrOf result AnchorFault.Failed → Rose (I.faults i.old) (I.faults i.new) }
+    ensures number { I.number i.new ≡ I.number i.old }
+    ensures goes_on { GoesOn I.told I.size I.faults I.keeps i.old i.new }
+{
+    let firsts = pointers_of(alloc, found.said.firsts.as_slice())?;
+    let saying = Saying {
+        next: found.said.next,
+        serial: found.serial,
+        firsts: firsts.as_slice(),
+        bytes: found.bytes.as_slice(),
+    };
+    put_segment(i, segments, found.segment, found.at, saying)
+}
+
+/// Puts the one element of an anchor in which two lists of its roots differ, and answers whether they differ so. Else
+/// nothing is put; nor is it where the way to it is damaged.
+pub(crate) fn set_alone<I: Intervals>(
+    alloc: Global,
+    i: &mut I,
+    shape: &Shape,
+    segments: &List<SegDef>,
+    anchor: u32,
+    before: &List<Root>,
+    after: &List<Root>,
+) -> Result<bool, AnchorFault>
+    requires anchor { anchor < anchor_count shape.now }
+    requires types { AreTypes (I.size i.old) segments.now }
+    requires form { are_storable segments.now after.now ≡ true }
+    ensures set { I.told i.old → IfOk result (λ set. set ≡ true
+        → ChangesAlone shape.now segments.now (I.intervals i.old) (I.intervals i.new) anchor before.now after.now) }
+    ensures same { I.told i.old → IfOk result (λ set. set ≡ false → I.intervals i.new ≡ I.intervals i.old) }
+    ensures alone { I.told i.old → HasRoots shape.now segments.now (I.intervals i.old) anchor before.now
+        → RootsDiffer before.now after.now → IfOk result (λ set. set ≡ true) }
+    ensures sound { I.told i.old → (ci : ℕ) → result ≢ Err (AnchorFault.Damaged ci) }
+    ensures failed { IsErrOf result AnchorFault.Failed → Rose (I.faults i.old) (I.faults i.new) }
+    ensures number { I.number i.new ≡ I.number i.old }
+    ensures goes_on { GoesOn I.told I.size I.faults I.keeps i.old i.new }
+{
+    match find_change(alloc, i, shape, segments, anchor, before, after) {
+        Ok(Some(found)) => {
+            put_found(alloc, i, segments, &found)?;
+            Ok(true)
+        }
+        Ok(None) => Ok(false),
+        Err(AnchorFault::Damaged(_)) => Ok(false),
+        Err(fault) => Err(fault),
+    }
+}
+
+/// Gives an anchor roots in the place of those that it has, as `store` does. Where the two lists differ in one
+/// segment's bytes, or in one root's newest serial, that one's element alone changes, and no interval is added. An
+/// anchor is counted from 0 within its area.
+///
+/// An element that changes alone costs one `get` for each root up to its own, and for each twin up to the segment's
+/// own on each level below.
+///
+/// `Damaged` and `Failed` as in `store`. After a fault what holds the intervals is thrown away.
+pub fn rewrite<I: Intervals>(
+    alloc: Global,
+    i: &mut I,
+    shape: &Shape,
+    segments: &List<SegDef>,
+    anchor: u32,
+    before: &List<Root>,
+    after: &List<Root>,
+) -> Result<(), AnchorFault>
+    requires anchor { anchor < anchor_count shape.now }
+    requires types { AreTypes (I.size i.old) segments.now }
+    requires roots { are_storable segments.now after.now ≡ true }
+
+    // Where the anchor has the roots `before`: it has the roots `after` then. All others keep theirs, and a formed area
+    // is formed again.
+    ensures stored { I.told i.old → HasRoots shape.now segments.now (I.intervals i.old) anchor before.now
+        → IsFormed shape.now segments.now (I.intervals i.old)
+        → OnOk result (HasRoots shape.now segments.now (I.intervals i.new) anchor after.now) }
+    ensures others { I.told i.old → HasRoots shape.now segments.now (I.intervals i.old) anchor before.now
+        → IsFormed shape.now segments.now (I.intervals i.old)
+        → OnOk result (OthersKeep shape.now segments.now (I.intervals i.old) (I.intervals i.new) anchor) }
+    ensures apart { I.told i.old → HasRoots shape.now segments.now (I.intervals i.old) anchor before.now
+        → IsInOrder shape.now (I.intervals i.old)
+        → OnOk result (ApartKeep shape.now segments.now (I.intervals i.old) (I.intervals i.new) anchor) }
+    ensures formed { I.told i.old → HasRoots shape.now segments.now (I.intervals i.old) anchor before.now
+        → IsFormed shape.now segments.now (I.intervals i.old)
+        → OnOk result (IsFormed shape.now segments.now (I.intervals i.new)) }
+
+    // And where the lists differ in one segment, just its element changes.
+    ensures alone { I.told i.old → HasRoots shape.now segments.now (I.intervals i.old) anchor before.now
+        → RootsDiffer before.now after.now
+        → OnOk result (ChangesAlone shape.now segments.now (I.intervals i.old) (I.intervals i.new) anchor before.now
+        after.now) }
+
+    // Whatever roots it has.
+    ensures sequential { I.told i.old → IsFormed shape.now segments.now (I.intervals i.old)
+        → OnOk result (KeepsSequential shape.now (I.intervals i.old) (I.intervals i.new)) }
+    ensures sound { I.told i.old → IsInOrder shape.now (I.intervals i.old)
+        → HasChain shape.now segments.now (I.intervals i.old) anchor → (ci : ℕ)
+        → result ≢ Err (AnchorFault.Damaged ci) }
+    ensures damaged { I.told i.old → ¬ HasChain shape.now segments.now (I.intervals i.old) anchor → (ci : ℕ)
+        → result ≡ Err (AnchorFault.Damaged ci) → ChainFails shape.now segments.now (I.intervals i.old) anchor ci }
+
+    // It fails only with what holds the intervals.
+    ensures failed { IsErrOf result AnchorFault.Failed → Rose (I.faults i.old) (I.faults i.new) }
+
+    // What stays, whatever the answer is.
+    ensures number { I.number i.old ≤ I.number i.new }
+    ensures goes_on { GoesOn I.told I.size I.faults I.keeps i.old i.new }
+{
+    let alone = set_alone(alloc, i, shape, segments, anchor, before, after)?;
+    if alone {
+        return Ok(());
+    }
+    store(alloc, i, shape, segments, anchor, after)
+}
