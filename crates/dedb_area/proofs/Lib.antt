@@ -4,4 +4,3 @@ pub mod Writes
 pub mod Syncs
 pub mod Looks
 pub mod Newest
-pub mod Opens
