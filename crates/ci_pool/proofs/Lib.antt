@@ -6,3 +6,4 @@ pub mod Searches
 pub mod Unlisting
 pub mod Ranges
 pub mod Pools
+pub mod Counts

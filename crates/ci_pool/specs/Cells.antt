@@ -1,6 +1,6 @@
 -- Cells: what a pool holds of intervals beside the data sets' bytes, as its clauses read it. They ascend by data set
 -- and number.
-use Rattle.std.specs.Prelude.{ℕ, Bool, ◌&&◌, ◌||◌, ◌==◌, nat_lt, if◌then◌else◌, List, [], ◌∷◌, Option, Some, None}
+use Rattle.std.specs.Prelude.{ℕ, ◌+◌, Bool, ◌&&◌, ◌||◌, ◌==◌, nat_lt, if◌then◌else◌, List, [], ◌∷◌, Option, Some, None, is_some}
 use Rattle.ci_pool.specs.declared.cell.Cell.{Cell}
 use Rattle.ci_pool.specs.declared.cell.Waiting.{Waiting}
 
@@ -24,6 +24,14 @@ renewed place bytes (Some waiting) = record { oldest = waiting.oldest; newest = 
 abbrev pub renewed_by : ℕ → Option (List ℕ) → Option Waiting → Option Waiting
 renewed_by place None waiting = waiting
 renewed_by place (Some bytes) waiting = Some (renewed place bytes waiting)
+
+-- how many cells wait
+abbrev pub waiting_number : Cell → ℕ
+waiting_number cell = if is_some cell.waiting then 1 else 0
+
+abbrev pub pending_number : List Cell → ℕ
+pending_number [] = 0
+pending_number (cell ∷ cells) = waiting_number cell + pending_number cells
 
 -- intervals, by data set and number, and their bytes
 abbrev pub Listed : Type 0

@@ -8,14 +8,14 @@
 //!
 //! After a fault the pool is as before.
 
-ghost use Rattle.std.specs.Prelude.{◌≡◌, ◌≢◌, ◌+◌, ◌*◌, ◌<◌, ◌≤◌, ◌^◌, ℕ, ◌==◌, ◌&&◌, not, filter, is_some, if◌then◌else◌, [], List, length, IfOk, OnOk, OnErr, IfSome, IfNone, Some, None, Ok, Err, option_map, option_copied};
+ghost use Rattle.std.specs.Prelude.{◌≡◌, ◌≢◌, ◌+◌, ◌*◌, ◌<◌, ◌≤◌, ◌^◌, ℕ, ◌==◌, ◌&&◌, not, filter, is_some, IsSome, if◌then◌else◌, [], List, length, IfOk, OnOk, OnErr, IfSome, IfNone, Some, None, Ok, Err, option_map, option_copied};
 ghost use Rattle.fp_site.specs.Disk.{Tears, Elapses, Leaves, Stays, Broken, written};
 ghost use Rattle.fp_site.specs.Site.{Counts, ReadsNothing};
-ghost use Rattle.ci_pool.specs.Cells.{renewed_by};
+ghost use Rattle.ci_pool.specs.Cells.{renewed_by, pending_number};
 ghost use Rattle.ci_pool.specs.declared.cell.Waiting.{Waiting as Pending};
 ghost use Rattle.ci_pool.specs.declared.fault.PoolFault.TheVariants as fault;
 ghost use Rattle.ci_pool.specs.declared.pool.Owed.TheVariants as owed;
-ghost use Rattle.ci_pool.specs.Held.{pending_at, staged_at, clean_at, held_at, newest_in, IsClean, HasSize, after_get, IsOldestSealed, NoneSealed, NoneOwes, IsFirstOwed, AreUnsealed, RoseAt, ReadsUpTo};
+ghost use Rattle.ci_pool.specs.Held.{bytes_of, pending_at, staged_at, clean_at, held_at, newest_in, IsClean, HasSize, after_get, IsOldestSealed, NoneSealed, NoneOwes, IsFirstOwed, AreUnsealed, RoseAt, ReadsUpTo};
 
 use crate::PoolFault;
 use crate::clean::{self, Clean};
@@ -174,6 +174,17 @@ impl Pool {
         Some(bytes.as_slice())
     }
 
+    /// The newest published bytes of an interval, if it is pending. It ends at or before byte 2^62.
+    pub fn pending(&self, set: u16, ci: u64) -> Option<&[u8]>
+        ensures value { option_copied result ≡ bytes_of (pending_at self.now set ci) }
+        ensures ends { IfSome result (λ bytes. (ci + 1) * length bytes.now ≤ 2 ^ 62) }
+    {
+        match self.cells.waiting_bytes(set, ci) {
+            None => None,
+            Some(bytes) => Some(bytes.as_slice()),
+        }
+    }
+
     /// The pending interval whose newest entry is the oldest among those below `sealed`, the number of sealed
     /// entries; among equals the first by data set and number. None exactly where there is none.
     pub fn oldest_sealed(&self, sealed: u64) -> Option<(u16, u64)>
@@ -210,6 +221,8 @@ impl Pool {
         ensures done { OnOk result ((s k : ℕ) → pending_at self.new s k
             ≡ (if s == set && k == ci then None else pending_at self.old s k)) }
         ensures err { OnErr result (self.new ≡ self.old) }
+        ensures fewer { IsSome (pending_at self.old set ci)
+            → OnOk result (pending_number self.new.cells < pending_number self.old.cells) }
         ensures staged { (s k : ℕ) → staged_at self.new s k ≡ staged_at self.old s k }
         ensures list { self.new.clean ≡ self.old.clean }
         ensures bound { self.new.bound ≡ self.old.bound }

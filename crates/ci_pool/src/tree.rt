@@ -5,9 +5,9 @@
 //! shape of a heap by `rank`, a number mixed from data set and number: so its depth is expected to be a logarithm of
 //! its cells, in whatever order they came (no clause says so).
 
-ghost use Rattle.std.specs.Prelude.{◌≡◌, [], ◌∷◌, ◌++◌, ℕ, ◌==◌, ◌&&◌, if◌then◌else◌, IsTrue, IfSome, IfNone, IfOk, OnOk, OnErr, Some, None, option_copied, option_map};
+ghost use Rattle.std.specs.Prelude.{◌≡◌, [], ◌∷◌, ◌++◌, ℕ, ◌==◌, ◌&&◌, if◌then◌else◌, ◌<◌, IsSome, IsTrue, IfSome, IfNone, IfOk, OnOk, OnErr, Some, None, option_copied, option_map};
 ghost use Rattle.lru.specs.LruCache.{lru_cache};
-ghost use Rattle.ci_pool.specs.Cells.{cell_at, comes_before};
+ghost use Rattle.ci_pool.specs.Cells.{cell_at, comes_before, pending_number};
 ghost use Rattle.ci_pool.specs.Changes.{IsAscending, AllCells, oldest_of, newest_of, least, any_staged, first_by, may_pay, waits_up_to, without, with_cell, all_published, all_unstaged, published, unstaged_by, after_write, after_write_by, staged_cell, is_staged, unlisted, unlisted_one};
 ghost use Rattle.ci_pool.specs.Held.{bytes_of, waiting_of};
 ghost use Rattle.ci_pool.specs.Trees.{cells_of, below, marks_of, cell_of, IsTree};
@@ -492,8 +492,10 @@ impl Cells {
 
     /// An interval waits no more.
     pub(crate) fn write(&mut self, set: u16, ci: u64)
-        ensures { (s k : ℕ) → cell_at s k self.new
+        ensures at { (s k : ℕ) → cell_at s k self.new
             ≡ (if s == set && k == ci then after_write_by (cell_at s k self.old) else cell_at s k self.old) }
+        ensures fewer { IsSome (waiting_of (cell_at set ci self.old))
+            → pending_number self.new < pending_number self.old }
     {
         let cells = mem::replace(self, Cells::new());
         let (cells, taken) = cells.take_out(set, ci);

@@ -54,10 +54,10 @@ invariant_of-self g c =
     record {
       some = was.some;
       pending_ends = λ s k w is. was.pending_ends s k w
-          (written_waits c.args.set c.args.ci s k cells new (c.write.ensures s k) w is);
+          (written_waits c.args.set c.args.ci s k cells new (c.write.ensures.at s k) w is);
       staged_ends = λ s k b is. was.staged_ends s k b
-          (sym (written_staged c.args.set c.args.ci s k cells new (c.write.ensures s k)) ∙ is);
-      apart = λ s k b there. written_none c.args.set c.args.ci s k cells new (c.write.ensures s k)
+          (sym (written_staged c.args.set c.args.ci s k cells new (c.write.ensures.at s k)) ∙ is);
+      apart = λ s k b there. written_none c.args.set c.args.ci s k cells new (c.write.ensures.at s k)
           (was.apart s k b there);
     }
 
@@ -69,9 +69,9 @@ returns-in_ok-write_at-in-Some-clause-sizes g c s n sized =
     (record { bound = c.self.inside.clean.cap; clean = c.self.inside.clean.entries; cells = cells }) =
     subst (HasSize s n) (sym c.self.view_is) sized in
     record {
-      pending = λ k w is. was.pending k w (written_waits c.args.set c.args.ci s k cells new (c.write.ensures s k) w is);
+      pending = λ k w is. was.pending k w (written_waits c.args.set c.args.ci s k cells new (c.write.ensures.at s k) w is);
       staged = λ k b is. was.staged k b
-          (sym (written_staged c.args.set c.args.ci s k cells new (c.write.ensures s k)) ∙ is);
+          (sym (written_staged c.args.set c.args.ci s k cells new (c.write.ensures.at s k)) ∙ is);
       clean = was.clean;
     }
 

@@ -1,0 +1,6 @@
+pub mod Owing
+pub mod Data
+pub mod Writes
+pub mod Syncs
+pub mod Looks
+pub mod Newest

@@ -1,0 +1,34 @@
+use Rattle.std.proofs.Common.{◌≡◌, ◌*◌, length, sym, subst, ◌∙◌, ap}
+use Rattle.std.specs.Prelude.{IsSome, Some}
+use Rattle.fp_site.specs.Disk.{Broken, written}
+use Rattle.ci_pool.specs.Held.{pending_at}
+use Rattle.dedb_area.specs.Standing.{Holding, IsFitPool}
+use Rattle.dedb_area.specs.Keeping.{KeepsAreas, IsWritten, OnlyAreas}
+use Rattle.dedb_area.proofs.Data.{there}
+use Rattle.dedb_area.proofs.Owing.{by_both}
+use Rattle.dedb_area.proofs.Writes.{Wrote, keeps_written, only_areas, fits}
+use Rattle.dedb_area.proofs.areas.Areas.write.Goals as goal
+
+pub returns-clause-keeps_areas : goal.returns-clause-keeps_areas
+returns-clause-keeps_areas g c told way bytes sealed =
+    let pool = c.self.inside.pool in
+    let after = c.write_one.new.self in
+    let old = g.T.Site.disk c.args.site.now in
+    let new = g.T.Site.disk c.write_one.new.site in
+    let w = there (pending_at pool c.args.set c.args.ci)
+    (subst (λ (h : Holding). IsSome (pending_at h.pool c.args.set c.args.ci)) (sym c.self.view_is) c.requires) in
+    let below = sealed w.0 (subst (λ (h : Holding). pending_at h.pool c.args.set c.args.ci ≡ Some w.0) c.self.view_is
+    w.1) in
+    let how : Wrote pool after c.args.set c.args.ci w.0 old new = by_both c.write_one.result _ _ _ _ _
+    c.write_one.ensures.done (c.write_one.ensures.wrote told w.0 w.1) c.write_one.ensures.err
+    (c.write_one.ensures.broke told w.0 w.1) (λ done is. Wrote.whole done is) (λ same broke. Wrote.broken same broke) in
+    subst (λ (h : Holding). KeepsAreas way bytes old new h (record {
+      places = c.self.inside.places.items;
+      unsynced = c.note_write.new.unsynced.items;
+      pool = after;
+    })) c.self.view_is
+    (keeps_written c.self.inside.places.items c.self.inside.unsynced.items c.note_write.new.unsynced.items pool after c.args.set
+    c.args.ci w.0 old new w.1 c.self.invariant.1 (g.met.T.Site.lawful c.args.site.now told)
+    (g.met.T.Site.lawful c.write_one.new.site (c.write_one.ensures.told told)) c.note_write.ensures.noted
+    (c.write_one.ensures.crash told w.0 w.1) (c.write_one.ensures.leaves told) (c.write_one.ensures.clean told)
+    c.write_one.ensures.sizes how way bytes below)

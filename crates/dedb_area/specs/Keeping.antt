@@ -1,0 +1,49 @@
+-- What the calls on areas keep.
+use Rattle.std.specs.Prelude.{◌≡◌, ℕ, ◌≤◌, ◌<◌, false, true, ◌==◌, ◌&&◌, if◌then◌else◌, Option, None}
+use Rattle.fp_site.specs.Disk.{Disk, IsDurable}
+use Rattle.fp_site.specs.Moments.{OnlyIn}
+use Rattle.fp_model.specs.Items.{items_of}
+use Rattle.fp_model.specs.State.{first_area_set}
+use Rattle.ci_pool.specs.Held.{Held, pending_at}
+use Rattle.area_redo.specs.Redo.{AreaBytes, Layout, RedoesThrough}
+use Rattle.area_redo.specs.Standing.{Way, since_mark, Owed, Stands, MayOpen}
+use Rattle.dedb_area.specs.Places.{layout_of}
+use Rattle.dedb_area.specs.Standing.{Holding, AreasStand, AreasMayOpen}
+
+-- Calls that write no interval: areas that stand do so behind them, and the tail's items make their bytes of what a
+-- crash leaves at each moment. Where a checkpoint may open it still may, and so do the items since its mark.
+pub record KeepsStanding (layout : Layout) (way : Way) (owed : Owed) (bytes : AreaBytes) (old new : Disk) : Type 0 where
+  pub stands : Stands layout way owed bytes old → Stands layout way owed bytes new
+  pub moments : Stands layout way owed bytes old → RedoesThrough layout (items_of way.tail) bytes old new
+  pub opening : Stands layout way owed bytes old → MayOpen layout way owed bytes old
+      → MayOpen layout way owed bytes new
+  pub opening_moments : Stands layout way owed bytes old → MayOpen layout way owed bytes old
+      → RedoesThrough layout (items_of (since_mark way)) bytes old new
+
+-- The same of calls that write intervals too, or read them.
+pub record KeepsAreas (way : Way) (bytes : AreaBytes) (old new : Disk) (before after : Holding) : Type 0 where
+  pub places : after.places ≡ before.places
+  pub stands : AreasStand way bytes old before → AreasStand way bytes new after
+  pub moments : AreasStand way bytes old before
+      → RedoesThrough (layout_of before.places) (items_of way.tail) bytes old new
+  pub opening : AreasStand way bytes old before → AreasMayOpen way bytes old before
+      → AreasMayOpen way bytes new after
+  pub opening_moments : AreasStand way bytes old before → AreasMayOpen way bytes old before
+      → RedoesThrough (layout_of before.places) (items_of (since_mark way)) bytes old new
+
+-- no data set but those of areas changes, at any moment
+abbrev pub OnlyAreas : Disk → Disk → Type 0
+OnlyAreas = OnlyIn (λ set. first_area_set ≤ set)
+
+-- Syncs of areas, whatever they answer: no contents change, what was durable stays so, and areas stand as before.
+pub record SyncsAreas (old new : Disk) : Type 0 where
+  pub contents : (set : ℕ) → new.contents set ≡ old.contents set
+  pub durable : (set : ℕ) → IsDurable old set → IsDurable new set
+  pub only : OnlyAreas old new
+  pub standing : (layout : Layout) (way : Way) (owed : Owed) (bytes : AreaBytes)
+      → KeepsStanding layout way owed bytes old new
+
+-- of all that is pending, this interval no more is
+abbrev pub IsWritten : Held → Held → ℕ → ℕ → Type 0
+IsWritten before after set ci =
+    (s k : ℕ) → pending_at after s k ≡ (if s == set && k == ci then None else pending_at before s k)

@@ -1,0 +1,5 @@
+pub mod Places
+pub mod Standing
+pub mod Keeping
+pub mod Control
+pub mod Looking

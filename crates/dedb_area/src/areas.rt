@@ -1,0 +1,241 @@
+//! The areas of a site: their intervals at hand, and which data sets have to be synced.
+
+ghost use Rattle.std.specs.Prelude.{Err, IsErrOf, ◌≡◌, ◌≢◌, ◌+◌, ◌-◌, ◌≤◌, ◌<◌, ℕ, Ok, Some, None, true, false, IsSome, IfOk, OnOk, OnErr, IsTrue, slice_get, length, is_some};
+ghost use Rattle.fp_site.specs.Disk.{IsDurable};
+ghost use Rattle.fp_site.specs.Site.{Counts, ReadsNothing};
+ghost use Rattle.fp_model.specs.State.{first_area_set};
+ghost use Rattle.fp_model.specs.WellFormed.{AreDefs};
+ghost use Rattle.ci_space.specs.Calls.{Rose};
+ghost use Rattle.ci_pool.specs.Held.{pending_at, IsOldestSealed, NoneSealed, NoneOwes, IsFirstOwed, AreUnsealed};
+ghost use Rattle.ci_pool.specs.declared.cell.Waiting.{Waiting as Pending};
+ghost use Rattle.ci_pool.specs.declared.pool.Owed.TheVariants as owed;
+ghost use Rattle.area_redo.specs.Redo.{AreaBytes};
+ghost use Rattle.area_redo.specs.Standing.{Way, sealed_of, behind};
+ghost use Rattle.dedb_area.specs.Control.{ends_in, IsControlOf};
+ghost use Rattle.dedb_area.specs.Looking.{LooksAtAreas};
+ghost use Rattle.dedb_area.specs.Places.{places_of, place_at};
+ghost use Rattle.dedb_area.specs.declared.place.Place.{Place as PlaceOf};
+ghost use Rattle.dedb_area.specs.declared.fault.AreaFault.TheVariants as fault;
+ghost use Rattle.dedb_area.specs.Standing.{IsFitPool, AreSynced, AreasStand};
+ghost use Rattle.dedb_area.specs.Keeping.{KeepsAreas, OnlyAreas, IsWritten};
+
+use crate::AreaFault;
+use crate::opening::add_places;
+use crate::place::Place;
+use crate::reading::{control, ends_in, place_in};
+use crate::syncing::{clear, note_write, sync_all};
+use ci_pool::{Owed, Pool};
+use fp_model::{AreaEnds, Defs};
+use fp_site::{Failed, Site};
+use std::alloc::{AllocError, Global};
+use std::marker::Model;
+
+/// The areas of a site. Contracts see them with their definitions, the pool of their intervals, and which of them were
+/// written to since they were synced.
+#[derive(Drop)]
+pub struct Areas {
+    pub(crate) places: Vec<Place>,
+    pub(crate) unsynced: Vec<bool>,
+    pub(crate) pool: Pool,
+}
+
+impl Model for Areas {
+    ghost use Rattle.std.specs.Prelude.{◌≤◌, length};
+    ghost use Rattle.dedb_area.specs.Places.{ArePlaces};
+    ghost use Rattle.dedb_area.specs.Standing.{Holding};
+
+    ghost Value = { Holding };
+
+    ghost view = { λ a. record { places = a.places.items; unsynced = a.unsynced.items; pool = a.pool } };
+
+    ghost invariant = { λ a. (length a.unsynced.items ≤ 256) × ArePlaces a.places.items };
+}
+
+impl Areas {
+    /// The areas of an installation, with this pool of their intervals. They count as synced. Fails only for want of
+    /// memory.
+    pub fn open(alloc: Global, defs: &Defs, pool: Pool) -> Result<Areas, AllocError>
+        requires { AreDefs defs.now }
+        ensures places { IfOk result (λ areas. areas.places ≡ places_of defs.now) }
+        ensures pool { IfOk result (λ areas. areas.pool ≡ pool) }
+        ensures count { IfOk result (λ areas. length areas.unsynced ≡ length areas.places) }
+        ensures synced { IfOk result (λ areas. (number : ℕ) → slice_get areas.unsynced number ≢ Some true) }
+    {
+        let mut places = Vec::new(alloc);
+        let mut dedb: u8 = 0;
+        for def in defs.dedbs.as_slice() {
+            add_places(&mut places, def, dedb)?;
+            dedb += 1;
+        }
+        let unsynced = vec![in alloc; false; places.len()]?;
+        Ok(Areas {
+            places,
+            unsynced,
+            pool,
+        })
+    }
+
+    /// The ends of an area's sequential part: the least serial that is kept, and the one that the next sequential
+    /// dependent gets. `Damaged` names the first byte of control.
+    pub fn ends<T: Site>(&mut self, site: &mut T, set: u16) -> Result<AreaEnds, AreaFault>
+        requires { IsSome (place_at self.old.places set) }
+
+        // The answer, by the newest bytes of control.
+        ensures ends { T.told site.old → (way : Way) (bytes : AreaBytes)
+            → AreasStand way bytes (T.disk site.old) self.old
+            → IfOk result (λ ends. ends ≡ ends_in (behind way.unsealed bytes set 0)) }
+        ensures damaged { T.told site.old → (way : Way) (bytes : AreaBytes) (place : PlaceOf) (s at : ℕ)
+            → AreasStand way bytes (T.disk site.old) self.old → place_at self.old.places set ≡ Some place
+            → result ≡ Err (fault.Damaged s at)
+            → ¬ IsControlOf place.capacity (behind way.unsealed bytes set 0) }
+        ensures first { (s at : ℕ) → result ≡ Err (fault.Damaged s at) → (s ≡ set) × (at ≡ 0) }
+        ensures failed { IsErrOf result fault.Device → Rose (T.faults site.old) (T.faults site.new) }
+        ensures never_full { (s begin end n : ℕ) → result ≢ Err (fault.SeqFull s begin end n) }
+
+        // No area changes; the pool may have other clean intervals.
+        ensures looks { LooksAtAreas T.told T.disk T.faults T.holds T.keeps site.old site.new self.old self.new }
+    {
+        let place = place_in(&self.places, set);
+        let control = control(&mut self.pool, site, place, set)?;
+        match ends_in(&control, place.capacity) {
+            Some(ends) => Ok(ends),
+            None => Err(AreaFault::Damaged { set, at: 0 }),
+        }
+    }
+
+    /// Writes a pending interval to its data set.
+    fn write<T: Site>(&mut self, site: &mut T, set: u16, ci: u64) -> Result<(), Failed>
+        requires { IsSome (pending_at self.old.pool set ci) }
+
+        // What waits.
+        ensures done { OnOk result (IsWritten self.old.pool self.new.pool set ci) }
+        ensures err { OnErr result (self.new.pool ≡ self.old.pool) }
+        ensures fit { IsFitPool self.old.places self.old.pool → IsFitPool self.new.places self.new.pool }
+        ensures places { self.new.places ≡ self.old.places }
+
+        // Where its newest change is sealed the areas stand as before, at each moment.
+        ensures keeps_areas { T.told site.old → (way : Way) (bytes : AreaBytes)
+            → ((w : Pending) → pending_at self.old.pool set ci ≡ Some w → w.newest < sealed_of way)
+            → KeepsAreas way bytes (T.disk site.old) (T.disk site.new) self.old self.new }
+        ensures only { T.told site.old → IsFitPool self.old.places self.old.pool
+            → OnlyAreas (T.disk site.old) (T.disk site.new) }
+
+        // The site.
+        ensures cause { Counts (T.faults site.old) (T.faults site.new) result }
+        ensures reads { ReadsNothing (T.tells_reads site.old) (T.tells_reads site.new) (T.bytes_read site.old)
+            (T.bytes_read site.new) }
+        ensures told { T.told site.old → T.told site.new }
+        ensures holds { T.holds site.new ≡ T.holds site.old }
+        ensures keeps { (first : T) → T.keeps first site.old → T.keeps first site.new }
+    {
+        note_write(&mut self.unsynced, set);
+        self.pool.write_one(site, set, ci)
+    }
+
+    /// Writes the pending interval that has waited longest: the first among those whose newest entry, one below
+    /// `sealed`, the number of sealed entries, is the oldest. False exactly where there is none. After `Failed` it
+    /// still waits. Takes no memory.
+    pub fn write_oldest<T: Site>(&mut self, site: &mut T, sealed: u64) -> Result<bool, Failed>
+        // What waits.
+        ensures written { result ≡ Ok true → (set ci : ℕ) × IsOldestSealed self.old.pool sealed set ci
+            × IsWritten self.old.pool self.new.pool set ci }
+        ensures none { result ≡ Ok false → NoneSealed self.old.pool sealed }
+        ensures idle { result ≡ Ok false → (self.new ≡ self.old) × (site.new ≡ site.old) }
+        ensures err { OnErr result (self.new.pool ≡ self.old.pool) }
+        ensures fit { IsFitPool self.old.places self.old.pool → IsFitPool self.new.places self.new.pool }
+        ensures places { self.new.places ≡ self.old.places }
+
+        // The areas stand as before, whatever it answers and at each moment.
+        ensures keeps_areas { T.told site.old → (way : Way) (bytes : AreaBytes) → sealed ≤ sealed_of way
+            → KeepsAreas way bytes (T.disk site.old) (T.disk site.new) self.old self.new }
+        ensures only { T.told site.old → IsFitPool self.old.places self.old.pool
+            → OnlyAreas (T.disk site.old) (T.disk site.new) }
+
+        // The site.
+        ensures cause { Counts (T.faults site.old) (T.faults site.new) result }
+        ensures reads { ReadsNothing (T.tells_reads site.old) (T.tells_reads site.new) (T.bytes_read site.old)
+            (T.bytes_read site.new) }
+        ensures told { T.told site.old → T.told site.new }
+        ensures holds { T.holds site.new ≡ T.holds site.old }
+        ensures keeps { (first : T) → T.keeps first site.old → T.keeps first site.new }
+    {
+        match self.pool.oldest_sealed(sealed) {
+            None => Ok(false),
+            Some((set, ci)) => {
+                self.write(site, set, ci)?;
+                Ok(true)
+            }
+        }
+    }
+
+    /// What a checkpoint of the entries below `count` is owed, where the entries below `sealed` are sealed; at `Write`
+    /// that interval is written. After `Failed` it still waits. Takes no memory.
+    pub fn write_owed<T: Site>(
+        &mut self,
+        site: &mut T,
+        count: u64,
+        sealed: u64,
+    ) -> Result<Owed, Failed>
+        // What waits.
+        ensures none { result ≡ Ok owed.None → NoneOwes self.old.pool count }
+        ensures written { (set ci : ℕ) → result ≡ Ok (owed.Write set ci)
+            → IsFirstOwed self.old.pool count sealed set ci × IsWritten self.old.pool self.new.pool set ci }
+        ensures unsealed { result ≡ Ok owed.Unsealed → AreUnsealed self.old.pool count sealed }
+        ensures idle { IfOk result (λ due. ((set ci : ℕ) → due ≢ owed.Write set ci)
+            → (self.new ≡ self.old) × (site.new ≡ site.old)) }
+        ensures err { OnErr result (self.new.pool ≡ self.old.pool) }
+        ensures fit { IsFitPool self.old.places self.old.pool → IsFitPool self.new.places self.new.pool }
+        ensures places { self.new.places ≡ self.old.places }
+
+        // The areas stand as before, whatever it answers and at each moment.
+        ensures keeps_areas { T.told site.old → (way : Way) (bytes : AreaBytes) → sealed ≤ sealed_of way
+            → KeepsAreas way bytes (T.disk site.old) (T.disk site.new) self.old self.new }
+        ensures only { T.told site.old → IsFitPool self.old.places self.old.pool
+            → OnlyAreas (T.disk site.old) (T.disk site.new) }
+
+        // The site.
+        ensures cause { Counts (T.faults site.old) (T.faults site.new) result }
+        ensures reads { ReadsNothing (T.tells_reads site.old) (T.tells_reads site.new) (T.bytes_read site.old)
+            (T.bytes_read site.new) }
+        ensures told { T.told site.old → T.told site.new }
+        ensures holds { T.holds site.new ≡ T.holds site.old }
+        ensures keeps { (first : T) → T.keeps first site.old → T.keeps first site.new }
+    {
+        let due = self.pool.owed(count, sealed);
+        if let Owed::Write(set, ci) = due {
+            self.write(site, set, ci)?;
+        }
+        Ok(due)
+    }
+
+    /// Syncs every area that was written to since the last success. After `Failed` they are to be synced still. Takes no
+    /// memory.
+    pub fn sync_written<T: Site>(&mut self, site: &mut T) -> Result<(), Failed>
+        // At `Ok` each area that stood is durable, and none is to be synced.
+        ensures durable { T.told site.old → AreSynced self.old.unsynced (T.disk site.old)
+            → OnOk result ((number : ℕ) → number < length self.new.unsynced
+            → IsDurable (T.disk site.new) (first_area_set + number)) }
+        ensures synced { OnOk result ((number : ℕ) → slice_get self.new.unsynced number ≢ Some true) }
+        ensures count { length self.new.unsynced ≡ length self.old.unsynced }
+        ensures err { OnErr result (self.new ≡ self.old) }
+        ensures places { self.new.places ≡ self.old.places }
+        ensures pool { self.new.pool ≡ self.old.pool }
+
+        // The areas stand as before, whatever it answers and at each moment.
+        ensures keeps_areas { T.told site.old → (way : Way) (bytes : AreaBytes)
+            → KeepsAreas way bytes (T.disk site.old) (T.disk site.new) self.old self.new }
+        ensures only { T.told site.old → OnlyAreas (T.disk site.old) (T.disk site.new) }
+
+        // The site.
+        ensures cause { Counts (T.faults site.old) (T.faults site.new) result }
+        ensures reads { ReadsNothing (T.tells_reads site.old) (T.tells_reads site.new) (T.bytes_read site.old)
+            (T.bytes_read site.new) }
+        ensures told { T.told site.old → T.told site.new }
+        ensures holds { T.holds site.new ≡ T.holds site.old }
+        ensures keeps { (first : T) → T.keeps first site.old → T.keeps first site.new }
+    {
+        sync_all(site, &self.unsynced)?;
+        clear(&mut self.unsynced);
+        Ok(())
+    }
+}

@@ -1,0 +1,14 @@
+//! The areas of a site: the intervals that wait to be written, and what calls on areas make of them.
+#![tactic(auto)]
+
+mod areas;
+mod fault;
+mod looking;
+mod opening;
+mod place;
+mod reading;
+mod syncing;
+
+pub use areas::Areas;
+pub use fault::AreaFault;
+pub use place::Place;
