@@ -5,7 +5,7 @@ ghost use Rattle.dli_tree.specs.InOrder.{AreTypes, are_in_order};
 ghost use Rattle.dli_tree.specs.Paths.{steps_of};
 ghost use Rattle.fp_model.specs.Order.{edited};
 ghost use Rattle.std.specs.Option.{option_copied};
-ghost use Rattle.std.specs.Prelude.{◌≡◌, ◌+◌, ◌≤◌, ◌==◌, ◌&&◌, ◌||◌, nat_lt, IfOk, None, OnErr, OnOk, Some, false, is_some, length, slice_get, true, ℕ};
+ghost use Rattle.std.specs.Prelude.{◌≡◌, ◌+◌, ◌≤◌, ◌==◌, ◌&&◌, ◌||◌, nat_lt, IfOk, IsOk, None, OnErr, OnOk, Some, false, is_some, length, slice_get, true, ℕ};
 
 use dli_tree::{Change, Step, edit_at};
 use fp_model::{AnchorChange, List, Root, SegDef};
@@ -59,8 +59,8 @@ pub(crate) fn held_at(held: &[HeldAnchor], dedb: u8, anchor: u32) -> Option<&Hel
     }
 }
 
-/// Holds an anchor. Where it is held already its roots stay. It fails only for want of memory, and then nothing
-/// changes.
+/// Holds an anchor. Where it is held already its roots stay, and no memory is taken. It fails only for want of memory,
+/// and then nothing changes.
 pub(crate) fn hold(
     held: &mut List<HeldAnchor>,
     dedb: u8,
@@ -75,6 +75,7 @@ pub(crate) fn hold(
     ensures others { Ascend held.old → (d a : ℕ) → (d == dedb && a == anchor) ≡ false
         → held_at held.new d a ≡ held_at held.old d a }
     ensures again { Ascend held.old → is_some (held_at held.old dedb anchor) ≡ true → held.new ≡ held.old }
+    ensures at_once { Ascend held.old → is_some (held_at held.old dedb anchor) ≡ true → IsOk result }
     ensures changes { changes_in held.new ≡ changes_in held.old }
     ensures err { OnErr result (held.new ≡ held.old) }
 {

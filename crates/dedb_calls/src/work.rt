@@ -15,7 +15,7 @@ ghost use Rattle.fp_model.specs.declared.database.Db.{Db as DbOf};
 ghost use Rattle.fp_model.specs.declared.definitions.DedbDef.{DedbDef as DefOf};
 ghost use Rattle.fp_model.specs.declared.definitions.Defs.{Defs as DefsOf};
 ghost use Rattle.std.specs.Option.{option_copied};
-ghost use Rattle.std.specs.Prelude.{◌≡◌, ◌<◌, ◌++◌, ◌∷◌, ◌==◌, ◌&&◌, [], IfOk, List as ListOf, None, OnErr, OnOk, Some, false, filter, is_some, length, map, not, option_map, slice_get, true, unwrap_or, ℕ};
+ghost use Rattle.std.specs.Prelude.{◌≡◌, ◌<◌, ◌++◌, ◌∷◌, ◌==◌, ◌&&◌, [], IfOk, IsOk, List as ListOf, None, OnErr, OnOk, Some, false, filter, is_some, length, map, not, option_map, slice_get, true, unwrap_or, ℕ};
 
 use crate::anchors::{HeldAnchor, edit, hold, into_changes};
 use crate::get::type_of_path;
@@ -74,8 +74,8 @@ impl DedbWork {
     }
 
     /// Tells it of the first lock of an anchor that it gains, with the roots that stand there. Where it has roots of
-    /// the anchor already, as behind a lock that is raised, these stay. It fails only for want of memory, and then
-    /// nothing changes.
+    /// the anchor already, as behind a lock that is raised, these stay, and no memory is taken. It fails only for want
+    /// of memory, and then nothing changes.
     pub fn hold_anchor(
         &mut self,
         dedb: u8,
@@ -91,9 +91,13 @@ impl DedbWork {
         ensures others { (d a : ℕ) → (d == dedb && a == anchor) ≡ false
             → held_at self.new.anchors d a ≡ held_at self.old.anchors d a }
         ensures again { is_some (held_at self.old.anchors dedb anchor) ≡ true → self.new ≡ self.old }
+        ensures at_once { is_some (held_at self.old.anchors dedb anchor) ≡ true → IsOk result }
         ensures has { OnOk result (is_some (held_at self.new.anchors dedb anchor) ≡ true) }
         ensures sees { (db : DbOf) → roots_at db dedb anchor ≡ roots → Sees db self.old.anchors
             → Sees db self.new.anchors }
+
+        // The anchors ascend, whatever the roots are.
+        ensures order { Ascend self.new.anchors }
 
         // It stays a transaction's, where the roots have the anchor's shape.
         ensures of { (defs : ListOf DefOf)

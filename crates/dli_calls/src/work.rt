@@ -1,8 +1,10 @@
 //! What a transaction keeps until it commits.
 ghost use Rattle.std.specs.Option.{option_copied, option_map};
-ghost use Rattle.std.specs.Prelude.{◌≡◌, ◌<◌, ◌++◌, ◌∷◌, ◌||◌, ◌&&◌, ◌==◌, [], IfOk, IsTrue, List as ListOf, None, OnErr, OnOk, if◌then◌else◌, is_some, length, slice_get, slice_set, true, unwrap_or, ℕ, false, Some};
+ghost use Rattle.std.specs.Prelude.{◌≡◌, ◌<◌, ◌++◌, ◌∷◌, ◌||◌, ◌&&◌, ◌==◌, [], IfOk, IsOk, IsTrue, List as ListOf, None, OnErr, OnOk, if◌then◌else◌, is_some, length, slice_get, slice_set, true, unwrap_or, ℕ, false, Some};
 ghost use Rattle.dedb_calls.specs.Anchors.{Ascend, Sees, held_at};
+ghost use Rattle.dedb_calls.specs.Progress.{held_in};
 ghost use Rattle.dli_tree.specs.InOrder.{any_ends};
+ghost use Rattle.fp_model.specs.DedbCalls.{type_of_path};
 ghost use Rattle.fp_model.specs.Shape.{is_anchor};
 ghost use Rattle.fp_model.specs.State.{roots_at};
 ghost use Rattle.fp_model.specs.Workspace.{fresh, no_msdb_position};
@@ -11,7 +13,7 @@ ghost use Rattle.fp_model.specs.declared.database.Db.{Db as DbOf};
 ghost use Rattle.fp_model.specs.declared.definitions.DedbDef.{DedbDef as DedbOf};
 ghost use Rattle.fp_model.specs.declared.definitions.Defs.{Defs as DefsOf};
 ghost use Rattle.dli_calls.specs.Keys.{resource_of};
-ghost use Rattle.dli_calls.specs.Progress.{IsWorkOf, is_among, noted};
+ghost use Rattle.dli_calls.specs.Progress.{IsWorkOf, dedbs_in, is_among, noted};
 ghost use Rattle.dli_calls.specs.Replies.{is_marked, mark_in, mark_of, own_behind};
 
 use crate::database::key_in;
@@ -144,8 +146,8 @@ impl Work {
     }
 
     /// Tells it of the first lock of an anchor that it gains, with the roots that stand there. Where it has roots of
-    /// the anchor already, as behind a lock that is raised, these stay. It fails only for want of memory, and then
-    /// nothing changes.
+    /// the anchor already, as behind a lock that is raised, these stay, and no memory is taken. It fails only for want
+    /// of memory, and then nothing changes.
     pub fn hold_anchor(
         &mut self,
         dedb: u8,
@@ -161,9 +163,13 @@ impl Work {
         ensures others { (d a : ℕ) → (d == dedb && a == anchor) ≡ false
             → held_at self.new.anchors d a ≡ held_at self.old.anchors d a }
         ensures again { is_some (held_at self.old.anchors dedb anchor) ≡ true → self.new ≡ self.old }
+        ensures at_once { is_some (held_at self.old.anchors dedb anchor) ≡ true → IsOk result }
         ensures has { OnOk result (is_some (held_at self.new.anchors dedb anchor) ≡ true) }
         ensures sees { (db : DbOf) → roots_at db dedb anchor ≡ roots → Sees db self.old.anchors
             → Sees db self.new.anchors }
+
+        // The anchors ascend, whatever the roots are.
+        ensures order { Ascend self.new.anchors }
 
         // It stays a transaction's, where the roots have the anchor's shape.
         ensures of { (defs : DefsOf)
@@ -175,6 +181,16 @@ impl Work {
         ensures err { OnErr result (self.new ≡ self.old) }
     {
         self.dedbs.hold_anchor(dedb, anchor, roots)
+    }
+
+    /// The type of the segment that is held in the data entry database of this number among its kind, if one is. A
+    /// replacement is to have that type's length.
+    pub fn held_type(&self, dedb: u8) -> Option<u8>
+        requires { dedb < length self.now.own.dedbs }
+        ensures { (def : DedbOf) → result
+            ≡ option_map (λ place. type_of_path def dedb place.path) (held_in (dedbs_in self.now) dedb) }
+    {
+        self.dedbs.held_type(dedb)
     }
 
     /// The deferred calls, in call order.
