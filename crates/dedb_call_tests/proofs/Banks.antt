@@ -1,6 +1,6 @@
 -- Transactions on the sample's databases: as one begins, behind an answer and behind a turn of another, and what its
 -- commit leaves.
-use Rattle.std.proofs.Common.{◌≡◌, ◌∙◌, ℕ, List, [], ◌∷◌, ◌++◌, length, ◌≤◌, Option, Some, None, refl, sym, subst, Bool, true, false, slice_get, drop, take, zero, suc, arith}
+use Rattle.std.proofs.Common.{◌≡◌, ◌∙◌, ℕ, List, [], ◌∷◌, ◌++◌, length, ◌≤◌, Option, Some, None, refl, sym, ap, subst, Bool, true, false, slice_get, drop, take, zero, suc, arith}
 use Rattle.std.proofs.lemmas.Bool.Decides.{nat_tests}
 use Rattle.std.specs.Prelude.{is_some, not, ◌&&◌, ◌==◌, if◌then◌else◌}
 use Rattle.std.specs.List.{AllByRecursion}
@@ -110,27 +110,30 @@ asked_keeps old new g wanted locks requests requests2 shows shows2 other resourc
 module _ (region : ℕ) where
   its_gone : (locks : List Lock) (resource : Resource) → held_as (without_region region locks) region resource ≡ None
   its_gone [] resource = refl
-  its_gone (lock ∷ locks) resource = by (lock.region == region) refl
+  its_gone (lock ∷ locks) resource = by (lock.region == region) refl (its_gone locks resource)
     where
-      by : (b : Bool) → (lock.region == region) ≡ b
+      by : (b : Bool) → (lock.region == region) ≡ b → held_as (without_region region locks) region resource ≡ None
           → held_as (if not b then lock ∷ without_region region locks else without_region region locks) region resource
           ≡ None
-      by true e = its_gone locks resource
-      by false e = passed lock (without_region region locks) region resource e ∙ its_gone locks resource
+      by true e later = later
+      by false e later = passed lock (without_region region locks) region resource e ∙ later
 
   others_stay : (locks : List Lock) (other : ℕ) (resource : Resource) → (other == region) ≡ false
       → held_as (without_region region locks) other resource ≡ held_as locks other resource
   others_stay [] other resource differs = refl
-  others_stay (lock ∷ locks) other resource differs = by (lock.region == region) refl
+  others_stay (lock ∷ locks) other resource differs =
+      by (lock.region == region) refl (others_stay locks other resource differs)
     where
       by : (b : Bool) → (lock.region == region) ≡ b
+          → held_as (without_region region locks) other resource ≡ held_as locks other resource
           → held_as (if not b then lock ∷ without_region region locks else without_region region locks) other resource
           ≡ held_as (lock ∷ locks) other resource
-      by true e =
-          others_stay locks other resource differs
+      by true e later =
+          later
           ∙ sym (passed lock locks other resource (nor_its lock.region other region e differs))
-      by false e = ap (λ (held : Option Mode). if lock.region == other && same_resource lock.resource resource
-          then Some lock.mode else held) (others_stay locks other resource differs)
+      by false e later =
+          ap (λ (held : Option Mode). if lock.region == other && same_resource lock.resource resource
+          then Some lock.mode else held) later
 
   -- behind the end of a region's transaction
   pub freed_keeps : (old new : List Row) (locks requests : List Lock) → Shows (standing old) locks requests

@@ -40,9 +40,10 @@ module _ (def : DedbDef) (anchor : ℕ) where
   in_place roots n old new at same keeps e =
       let good = to_good def anchor any_ends roots e in
       let P : Root → Type 0 = λ root. passes def anchor any_ends root ≡ true in
-      from_good def anchor any_ends (slice_set roots n new)
-      (all_set P roots n new good.0 (keeps (all_at P roots n old good.0 at)),
-      ap ascend (keys_set (root_key def.segments) roots n old new at same) ∙ good.1)
+      from_good def anchor any_ends (slice_set roots n new) (
+        all_set P roots n new good.0 (keeps (all_at P roots n old good.0 at)),
+        ap ascend (keys_set (root_key def.segments) roots n old new at same) ∙ good.1,
+      )
 
   -- ---- one more
 

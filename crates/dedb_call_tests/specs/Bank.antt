@@ -12,6 +12,7 @@ use Rattle.fp_model.specs.declared.calls.Resource.{Resource}
 use Rattle.fp_model.specs.Waiting.{Lock}
 use Rattle.fp_model.specs.WellFormed.{IsDedbDef, IsMsdbDef}
 use Rattle.fp_model.specs.declared.calls.AnchorChange.{AnchorChange}
+use Rattle.fp_model.specs.declared.database.Root.{Root}
 use Rattle.fp_model.specs.declared.definitions.DedbDef.{DedbDef}
 use Rattle.fp_model.specs.declared.definitions.Defs.{Defs}
 use Rattle.msdb_store.specs.Store.{IsOf, Stored}
@@ -30,6 +31,11 @@ IsKept dedbs change =
 
 abbrev pub AreKept : List DedbDef → List AnchorChange → Type 0
 AreKept dedbs changes = AllByRecursion (IsKept dedbs) changes
+
+-- the roots of an anchor of the first database have its shape
+abbrev pub AreRootsAt : List DedbDef → ℕ → List Root → Type 0
+AreRootsAt dedbs anchor roots =
+    (def : DedbDef) → slice_get dedbs 0 ≡ Some def → is_anchor def anchor any_ends roots ≡ true
 
 -- the locks of two regions as some lists say them
 pub record AreLocked (locks : List Row) : Type 0 where

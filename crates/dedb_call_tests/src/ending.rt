@@ -14,7 +14,9 @@ ghost use Rattle.std.specs.Prelude.{◌≡◌, ◌<◌, ◌^◌, ◌++◌, ◌�
 use crate::bank::roots_at;
 use dli_calls::Work;
 use dli_tree::key_in;
-use fp_model::{AnchorChange, AreaEnds, DedbDef, Defs, List, Root, SegDef, SeqInsert, SeqItem};
+use fp_model::{
+    AnchorChange, AreaEnds, Bytes, DedbDef, Defs, List, Root, SegDef, SeqInsert, SeqItem,
+};
 use std::alloc::{AllocError, Global};
 use std::test::Fail;
 
@@ -93,19 +95,25 @@ fn place_of(types: &[SegDef], roots: &[Root], key: &[u8]) -> Option<usize>
 }
 
 /// Puts a dependent in front of those of the root at a place. The anchor's roots keep their shape.
-fn put_at(def: &DedbDef, roots: &mut List<Root>, at: usize, item: SeqItem) -> Result<(), Fail>
+fn put_at(
+    def: &DedbDef,
+    roots: &mut List<Root>,
+    at: usize,
+    serial: u64,
+    bytes: Bytes,
+) -> Result<(), Fail>
     requires { at < length roots.old }
     ensures { OnOk result ((anchor : ℕ) → is_anchor def.now anchor any_ends roots.old ≡ true
         → is_anchor def.now anchor any_ends roots.new ≡ true) }
 {
     let types = def.segments.as_slice();
-    if !is_dependent(types, item.bytes.as_slice()) {
+    if !is_dependent(types, bytes.as_slice()) {
         return Err(Fail::from("no dependent"));
     }
-    if !is_newer(roots.as_slice()[at].seqs.as_slice(), item.serial) {
+    if !is_newer(roots.as_slice()[at].seqs.as_slice(), serial) {
         return Err(Fail::from("an older serial"));
     }
-    put_newest(roots.item_mut(at), item)?;
+    put_newest(roots.item_mut(at), SeqItem { serial, bytes })?;
     Ok(())
 }
 
@@ -121,9 +129,8 @@ fn in_front(
 {
     let mut all = Vec::new(alloc);
     all.push(change)?;
-    for other in others {
-        all.push(other)?;
-    }
+    let mut rest = others;
+    all.append(&mut rest)?;
     Ok(all)
 }
 
@@ -149,7 +156,7 @@ fn numbered(
         return Err(Fail::from("no root"));
     };
     let bytes = insert.bytes.copy()?;
-    put_at(def, &mut roots, at, SeqItem { serial, bytes })?;
+    put_at(def, &mut roots, at, serial, bytes)?;
     let change = AnchorChange {
         dedb: 0,
         anchor,
@@ -189,9 +196,8 @@ fn in_front_of(
     ensures { IfOk result (λ all. all.items ≡ changes ++ kept.items) }
 {
     let mut anchors = changes.into_vec();
-    for change in kept {
-        anchors.push(change)?;
-    }
+    let mut rest = kept;
+    anchors.append(&mut rest)?;
     Ok(anchors)
 }
 
@@ -246,32 +252,21 @@ fn drop_oldest(root: &mut Root)
     let _ = root.seqs.pop();
 }
 
-/// Drops the oldest dependent of the root at a place. The anchor's roots keep their shape.
-fn drop_at(roots: &mut List<Root>, at: usize)
-    requires { at < length roots.old }
-    ensures length { length roots.new ≡ length roots.old }
-    ensures shape { (def : DefOf) (anchor : ℕ) → is_anchor def anchor any_ends roots.old ≡ true
-        → is_anchor def anchor any_ends roots.new ≡ true }
-{
-    drop_oldest(roots.item_mut(at));
-}
-
-/// Drops the dependents of all roots with serials below one, of which no root has more than the part keeps. The
-/// anchor's roots keep their shape.
-fn drop_below(roots: &mut List<Root>, begin: u64)
+/// Drops the oldest dependent of the root at a place, if its serial is below one. The anchor's roots keep their shape.
+fn drop_old_at(roots: &mut List<Root>, at: usize, begin: u64)
     ensures { (def : DefOf) (anchor : ℕ) → is_anchor def anchor any_ends roots.old ≡ true
         → is_anchor def anchor any_ends roots.new ≡ true }
 {
-    for _ in 0..CAPACITY {
-        for at in 0..roots.len() {
-            if is_old(&roots.as_slice()[at], begin) {
-                drop_at(roots, at);
-            }
-        }
+    if at >= roots.len() {
+        return;
+    }
+    if is_old(&roots.as_slice()[at], begin) {
+        drop_oldest(roots.item_mut(at));
     }
 }
 
-/// The sequential part begins at a later serial, and the dependents of an anchor before that go.
+/// The sequential part begins at a later serial, and the dependents of an anchor before that go. No root has more of
+/// them than the part keeps.
 pub(crate) fn purged(
     alloc: Global,
     anchor: u32,
@@ -285,7 +280,11 @@ pub(crate) fn purged(
     let Standing { anchors, mut ends } = before;
     ends.begin = begin;
     let mut roots = roots_at(alloc, anchors.as_slice(), anchor)?;
-    drop_below(&mut roots, begin);
+    for _ in 0..CAPACITY {
+        for at in 0..roots.len() {
+            drop_old_at(&mut roots, at, begin);
+        }
+    }
     let change = AnchorChange {
         dedb: 0,
         anchor,

@@ -141,6 +141,58 @@ fn done(
     }
 }
 
+/// A turn of the first region, and what stands behind it. None where it comes to something else.
+fn first_does(
+    alloc: Global,
+    doing: &Doing,
+    first: &mut Work,
+    second: &Work,
+    locks: &mut Locks,
+    before: Standing,
+    store: &MsdbStore,
+    defs: &Defs,
+    exits: &Exits,
+) -> Result<Option<Standing>, Fail>
+    requires bank { IsBank defs.now store.now (kinds_of exits.now) }
+    requires going { AreBothGoing defs.now first.old second.now locks.old }
+    requires kept { AreKept defs.now.dedbs before.anchors.items }
+
+    ensures going { IfOk result (λ came. AreBothGoing defs.now first.new second.now locks.new) }
+    ensures kept { IfOk result (λ came. IfSome came (λ after. AreKept defs.now.dedbs after.anchors.items)) }
+{
+    let _ = second;
+    let came = done(
+        alloc, REGION, doing, first, locks, before, store, defs, exits,
+    )?;
+    Ok(came)
+}
+
+/// A turn of the second region, and what stands behind it. None where it comes to something else.
+fn second_does(
+    alloc: Global,
+    doing: &Doing,
+    first: &Work,
+    second: &mut Work,
+    locks: &mut Locks,
+    before: Standing,
+    store: &MsdbStore,
+    defs: &Defs,
+    exits: &Exits,
+) -> Result<Option<Standing>, Fail>
+    requires bank { IsBank defs.now store.now (kinds_of exits.now) }
+    requires going { AreBothGoing defs.now first.now second.old locks.old }
+    requires kept { AreKept defs.now.dedbs before.anchors.items }
+
+    ensures going { IfOk result (λ came. AreBothGoing defs.now first.now second.new locks.new) }
+    ensures kept { IfOk result (λ came. IfSome came (λ after. AreKept defs.now.dedbs after.anchors.items)) }
+{
+    let _ = first;
+    let came = done(
+        alloc, OTHER, doing, second, locks, before, store, defs, exits,
+    )?;
+    Ok(came)
+}
+
 /// A turn of one of the two regions, and what stands behind it. None where it comes to something else.
 fn done_by(
     alloc: Global,
@@ -162,14 +214,13 @@ fn done_by(
 {
     let (region, doing) = turn;
     if *region == REGION {
-        done(
-            alloc, REGION, doing, first, locks, before, store, defs, exits,
-        )
-    } else {
-        done(
-            alloc, OTHER, doing, second, locks, before, store, defs, exits,
-        )
+        return first_does(
+            alloc, doing, first, second, locks, before, store, defs, exits,
+        );
     }
+    second_does(
+        alloc, doing, first, second, locks, before, store, defs, exits,
+    )
 }
 
 /// Takes turns one after another, the first on anchors without roots and with no lock held. The number of the first

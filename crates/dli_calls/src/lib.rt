@@ -6,10 +6,12 @@
 mod answering;
 mod database;
 mod keys;
+mod laws;
 mod letters;
 mod reply;
 mod replying;
 mod work;
 
 pub use answering::{Ready, answer};
+pub use laws::what_is_held_is_locked;
 pub use work::{Parts, Work};

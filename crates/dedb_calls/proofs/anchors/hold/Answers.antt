@@ -55,3 +55,11 @@ returns-clause-has c up =
     c.args.anchor c.place_of-at.result c.place_of-at.ensures.place c.is_there.result c.is_there.ensures.there
     c.is_there.ensures.none c.if-is_there.false c.place_of-at.ensures.within c.args.roots c.insert.new.self
     c.in_ok-insert.ensures.ok up)
+
+pub returns-in_err-insert-clause-at_once : goal.returns-in_err-insert-clause-at_once
+returns-in_err-insert-clause-at_once c up there =
+    let lacking = none_there c.args.held.now c.as_slice-items.result.now c.as_slice-items.ensures c.args.dedb
+    c.args.anchor
+    c.place_of-at.result c.place_of-at.ensures.place c.is_there.result c.is_there.ensures.there c.is_there.ensures.none
+    c.if-is_there.false up in
+    absurd (not_both (sym there ∙ ap is_some lacking))
