@@ -91,6 +91,14 @@ pub(crate) fn free_locks(alloc: Global) -> Result<Locks, AllocError>
     Ok(locks)
 }
 
+/// The same, as a transaction of the first region begins.
+pub(crate) fn locks_alone(alloc: Global) -> Result<Locks, AllocError>
+    ensures { IfOk result (StartsAt 1) }
+{
+    let locks = free_locks(alloc)?;
+    Ok(locks)
+}
+
 /// Locks of which the other region holds one, of an anchor.
 pub(crate) fn locks_but(alloc: Global, anchor: u32) -> Result<Locks, AllocError>
     ensures { IfOk result (StartsAt 1) }

@@ -223,13 +223,21 @@ fn done_by(
     )
 }
 
+/// A transaction of each region, and locks of which none is held.
+fn both_begin(alloc: Global, defs: &Defs) -> Result<(Work, Work, Locks), AllocError>
+    ensures { IfOk result (λ begun. AreBothGoing defs.now begun.0 begun.1 begun.2) }
+{
+    let first = Work::new(alloc, defs)?;
+    let second = Work::new(alloc, defs)?;
+    let locks = free_locks(alloc)?;
+    Ok((first, second, locks))
+}
+
 /// Takes turns one after another, the first on anchors without roots and with no lock held. The number of the first
 /// that comes to something else than it is to.
 pub(crate) fn first_other(alloc: Global, turns: &[RegionTurn]) -> Result<Option<usize>, Fail> {
     let (defs, exits, store) = sample(alloc)?;
-    let mut first = Work::new(alloc, &defs)?;
-    let mut second = Work::new(alloc, &defs)?;
-    let mut locks = free_locks(alloc)?;
+    let (mut first, mut second, mut locks) = both_begin(alloc, &defs)?;
     let mut standing = empty(alloc);
     for (at, turn) in turns.iter().enumerate() {
         let came = done_by(

@@ -3,7 +3,7 @@ ghost use Rattle.dedb_call_tests.specs.Bank.{AreKept, IsBank, StartsAt};
 ghost use Rattle.fp_exits.specs.Kinds.{kinds_of};
 ghost use Rattle.std.specs.Prelude.{IfOk, IfSome};
 
-use crate::bank::{CUST, SAMPLE, ask, free_locks, locks_but};
+use crate::bank::{CUST, SAMPLE, ask, locks_alone, locks_but};
 use crate::bench::exits;
 use crate::ending::{Left, Standing, empty, ended, purged};
 use crate::steps::{Argument, Asked, CUSTOMER, OK, Step, call_of};
@@ -54,7 +54,7 @@ fn locks_beside(alloc: Global, beside: Beside) -> Result<Locks, AllocError>
 {
     match beside {
         Beside::Other(anchor) => locks_but(alloc, anchor),
-        Beside::Nothing | Beside::Purge(_, _) => free_locks(alloc),
+        Beside::Nothing | Beside::Purge(_, _) => locks_alone(alloc),
     }
 }
 

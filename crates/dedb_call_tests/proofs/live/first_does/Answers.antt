@@ -3,7 +3,7 @@ use Rattle.dedb_call_tests.proofs.Banks.{other_goes}
 use Rattle.dedb_call_tests.proofs.live.first_does.Goals as goal
 
 pub returns-clause-going : goal.returns-clause-going
-returns-clause-going c =
+returns-clause-going g c =
     let mine = c.in_ok-came.ensures.going in
     record {
       one = mine;
