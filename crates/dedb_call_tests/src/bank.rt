@@ -1,20 +1,20 @@
 //! The sample's databases: transactions one after another, each of calls that `dli_calls` answers, on the anchors as
 //! those before it left them.
-ghost use Rattle.dedb_call_tests.specs.Bank.{AreKept, IfGoes, IsBank, IsGoing, StartsAlone};
-ghost use Rattle.dedb_calls.specs.Progress.{DedbProgress};
+ghost use Rattle.dedb_call_tests.specs.Bank.{AreFree, AreKept, IsBank, IsGoing, KeepsOthers, StartsAt};
 ghost use Rattle.dedb_calls.specs.Calls.{FitsCallOn};
+ghost use Rattle.dli_calls.specs.Progress.{dedbs_in};
 ghost use Rattle.dli_tree.specs.InOrder.{any_ends};
 ghost use Rattle.fp_exits.specs.Kinds.{kinds_of};
 ghost use Rattle.fp_model.specs.Calls.{database_of};
 ghost use Rattle.fp_model.specs.Shape.{is_anchor};
 ghost use Rattle.fp_model.specs.declared.definitions.DedbDef.{DedbDef as DefOf};
-ghost use Rattle.std.specs.Prelude.{◌≡◌, ◌++◌, IfOk, IfSome, IsTrue, List as ListOf, Some, length, slice_get, true};
+ghost use Rattle.std.specs.Prelude.{◌≡◌, IfOk, IsTrue, List as ListOf, Some, length, slice_get, true};
 
-use crate::fitting::{fit, has_length, last_type};
+use crate::fitting::fits_call;
 use ci_locks::{Grant, Locks};
 use dli_calls::{Ready, Work, answer};
 use fp_exits::Exits;
-use fp_model::{AnchorChange, Answer, Call, DedbDef, Defs, List, Mode, Resource, Root};
+use fp_model::{AnchorChange, Answer, Bytes, Call, Defs, List, Mode, Resource, Root};
 use msdb_store::MsdbStore;
 use std::alloc::{AllocError, Global};
 use std::test::Fail;
@@ -65,56 +65,48 @@ capacity = 4
 /// The number of CUST, behind the main storage databases.
 pub(crate) const CUST: u8 = 2;
 
-/// The region whose transactions run.
-const REGION: u8 = 1;
+/// The region whose transactions run, where only one's do.
+pub(crate) const REGION: u8 = 1;
 
-/// Another, which runs none.
-const OTHER: u8 = 2;
+/// The other.
+pub(crate) const OTHER: u8 = 2;
 
-/// What one transaction leaves: the anchors as they stand, those changed last first, and how many sequential inserts
-/// it had queued.
+/// What one turn of a region comes to.
 #[derive(Debug, Drop)]
-pub(crate) struct Left {
-    pub(crate) anchors: Vec<AnchorChange>,
-    pub(crate) inserts: usize,
-}
-
-/// What asking a call once comes to.
-#[derive(Debug, Drop)]
-enum Turn {
+pub(crate) enum Turn {
     Answered(Answer),
-    /// The lock that it needs is gained.
+    /// The lock that the call needs is gained.
     Gained,
-    /// The other region holds it.
-    Waits,
+    /// These regions hold it.
+    Waits(Bytes),
+    /// To wait for it would close this cycle.
+    Closes(Bytes),
 }
 
-/// Locks of which none is held.
-fn free_locks(alloc: Global) -> Result<Locks, AllocError>
-    ensures { IfOk result StartsAlone }
+/// Locks of two regions, of which none is held.
+pub(crate) fn free_locks(alloc: Global) -> Result<Locks, AllocError>
+    ensures { IfOk result AreFree }
 {
     let locks = Locks::new(alloc, OTHER)?;
     Ok(locks)
 }
 
+/// The same, as a transaction of the first region begins.
+pub(crate) fn locks_alone(alloc: Global) -> Result<Locks, AllocError>
+    ensures { IfOk result (StartsAt 1) }
+{
+    let locks = free_locks(alloc)?;
+    Ok(locks)
+}
+
 /// Locks of which the other region holds one, of an anchor.
-fn locks_but(alloc: Global, anchor: u32) -> Result<Locks, AllocError>
-    ensures { IfOk result StartsAlone }
+pub(crate) fn locks_but(alloc: Global, anchor: u32) -> Result<Locks, AllocError>
+    ensures { IfOk result (StartsAt 1) }
 {
     let mut locks = Locks::new(alloc, OTHER)?;
     let resource = Resource::Anchor { dedb: 0, anchor };
     locks.ask(OTHER, &resource, Mode::Exclusive)?;
     Ok(locks)
-}
-
-/// Locks of which none is held but that of an anchor, if one is named, by the other region.
-pub(crate) fn locks_beside(alloc: Global, other: Option<u32>) -> Result<Locks, AllocError>
-    ensures { IfOk result StartsAlone }
-{
-    match other {
-        Some(anchor) => locks_but(alloc, anchor),
-        None => free_locks(alloc),
-    }
 }
 
 fn copy_roots(roots: &List<Root>) -> Result<List<Root>, AllocError>
@@ -160,26 +152,11 @@ fn database_of(call: &Call) -> u8
     }
 }
 
-/// Whether a call fits a database, whatever is held there. A replacement isn't said to.
-fn fits_always(def: &DedbDef, call: &Call) -> bool
-    ensures { IsTrue result → (work : DedbProgress) → FitsCallOn def.now 0 work call.now }
-{
-    let types = def.segments.as_slice();
-    match call {
-        Call::Get { ssas, .. } => fit(types, ssas.as_slice()),
-        Call::Isrt { ssas, bytes, .. } => {
-            let ssas = ssas.as_slice();
-            fit(types, ssas) && has_length(types, last_type(0, ssas), bytes.as_slice())
-        }
-        Call::Repl { .. } => false,
-        Call::Fld { .. } | Call::Dlet { .. } => true,
-    }
-}
-
-/// Whether a call is one to the first data entry database, and fits it.
-fn fits_first(defs: &Defs, call: &Call) -> bool
+/// Whether a call is one to the first data entry database, and fits it by what is held there.
+fn fits_first(defs: &Defs, work: &Work, call: &Call) -> bool
+    requires { length work.now.own.dedbs ≡ length defs.now.dedbs }
     ensures { IsTrue result → (def : DefOf) × (slice_get defs.now.dedbs 0 ≡ Some def)
-        × (database_of call.now ≡ length defs.now.msdbs) × ((work : DedbProgress) → FitsCallOn def 0 work call.now) }
+        × (database_of call.now ≡ length defs.now.msdbs) × FitsCallOn def 0 (dedbs_in work.now) call.now }
 {
     let count = defs.dedbs.len();
     let number = usize::from(database_of(call));
@@ -190,12 +167,13 @@ fn fits_first(defs: &Defs, call: &Call) -> bool
     if number != behind {
         return false;
     }
-    fits_always(&defs.dedbs.as_slice()[0], call)
+    fits_call(&defs.dedbs.as_slice()[0], work.held_type(0), call)
 }
 
-/// Asks a call once.
+/// Asks a call of a region once.
 fn ask_once(
     alloc: Global,
+    region: u8,
     work: &mut Work,
     locks: &Locks,
     call: &Call,
@@ -204,44 +182,49 @@ fn ask_once(
     exits: &Exits,
 ) -> Result<Ready, Fail>
     requires bank { IsBank defs.now store.now (kinds_of exits.now) }
-    requires going { IsGoing defs.now work.old locks.now }
+    requires going { IsGoing defs.now region work.old locks.now }
 
-    ensures { IfOk result (λ came. IsGoing defs.now work.new locks.now) }
+    ensures { IfOk result (λ came. IsGoing defs.now region work.new locks.now) }
 {
-    if !fits_first(defs, call) {
-        return Err(Fail::from("a call that isn't sure to fit"));
+    if !fits_first(defs, work, call) {
+        return Err(Fail::from("a call that doesn't fit"));
     }
-    Ok(answer(alloc, work, call, store, defs, exits, locks, REGION, 0)?)
+    Ok(answer(alloc, work, call, store, defs, exits, locks, region, 0)?)
 }
 
-/// Gains a lock of an anchor, with the roots that stand there. False where the other region holds it.
+/// Asks for the lock of an anchor, and with its first lock brings the roots that stand there.
 fn gain(
     alloc: Global,
+    region: u8,
     work: &mut Work,
     locks: &mut Locks,
     anchor: u32,
     mode: Mode,
     kept: &[AnchorChange],
     defs: &Defs,
-) -> Result<bool, Fail>
-    requires going { IsGoing defs.now work.old locks.old }
+) -> Result<Turn, Fail>
+    requires going { IsGoing defs.now region work.old locks.old }
     requires kept { AreKept defs.now.dedbs kept.now }
 
-    ensures { IfOk result (λ held. IsTrue held → IsGoing defs.now work.new locks.new) }
+    ensures going { IfOk result (λ turn. IsGoing defs.now region work.new locks.new) }
+    ensures others { IfOk result (λ turn. KeepsOthers region locks.old locks.new) }
 {
     let resource = Resource::Anchor { dedb: 0, anchor };
-    let grant = locks.ask(REGION, &resource, mode)?;
-    if !matches!(grant, Grant::Held) {
-        return Ok(false);
+    match locks.ask(region, &resource, mode)? {
+        Grant::Held => {
+            let roots = roots_at(alloc, kept, anchor)?;
+            work.hold_anchor(0, anchor, roots)?;
+            Ok(Turn::Gained)
+        }
+        Grant::Wait(holders) => Ok(Turn::Waits(holders)),
+        Grant::Cycle(regions) => Ok(Turn::Closes(regions)),
     }
-    let roots = roots_at(alloc, kept, anchor)?;
-    work.hold_anchor(0, anchor, roots)?;
-    Ok(true)
 }
 
-/// Asks a call once, and gains the lock that it needs.
-fn ask_or_gain(
+/// One turn of a region: its call is answered, or it asks for the lock that the call needs.
+pub(crate) fn take_turn(
     alloc: Global,
+    region: u8,
     work: &mut Work,
     locks: &mut Locks,
     call: &Call,
@@ -251,19 +234,16 @@ fn ask_or_gain(
     exits: &Exits,
 ) -> Result<Turn, Fail>
     requires bank { IsBank defs.now store.now (kinds_of exits.now) }
-    requires going { IsGoing defs.now work.old locks.old }
+    requires going { IsGoing defs.now region work.old locks.old }
     requires kept { AreKept defs.now.dedbs kept.now }
 
-    ensures { IfOk result (λ turn. IfGoes turn (IsGoing defs.now work.new locks.new)) }
+    ensures going { IfOk result (λ turn. IsGoing defs.now region work.new locks.new) }
+    ensures others { IfOk result (λ turn. KeepsOthers region locks.old locks.new) }
 {
-    match ask_once(alloc, work, locks, call, store, defs, exits)? {
+    match ask_once(alloc, region, work, locks, call, store, defs, exits)? {
         Ready::Answer(answer) => Ok(Turn::Answered(answer)),
         Ready::Need(Resource::Anchor { dedb: 0, anchor }, mode) => {
-            if gain(alloc, work, locks, anchor, mode, kept, defs)? {
-                Ok(Turn::Gained)
-            } else {
-                Ok(Turn::Waits)
-            }
+            gain(alloc, region, work, locks, anchor, mode, kept, defs)
         }
         Ready::Need(_, _) => Err(Fail::from("another need")),
     }
@@ -281,31 +261,17 @@ pub(crate) fn ask(
     exits: &Exits,
 ) -> Result<Option<Answer>, Fail>
     requires bank { IsBank defs.now store.now (kinds_of exits.now) }
-    requires going { IsGoing defs.now work.old locks.old }
+    requires going { IsGoing defs.now 1 work.old locks.old }
     requires kept { AreKept defs.now.dedbs kept.now }
 
-    ensures { IfOk result (λ came. IfSome came (λ answer. IsGoing defs.now work.new locks.new)) }
+    ensures { IfOk result (λ came. IsGoing defs.now 1 work.new locks.new) }
 {
     for _ in 0..20u8 {
-        match ask_or_gain(alloc, work, locks, call, kept, store, defs, exits)? {
+        match take_turn(alloc, REGION, work, locks, call, kept, store, defs, exits)? {
             Turn::Answered(answer) => return Ok(Some(answer)),
             Turn::Gained => {}
-            Turn::Waits => return Ok(None),
+            Turn::Waits(_) | Turn::Closes(_) => return Ok(None),
         }
     }
     Err(Fail::from("no answer"))
-}
-
-/// Ends a transaction: its changed anchors stand in front of those before.
-pub(crate) fn commit(alloc: Global, work: Work, kept: Vec<AnchorChange>) -> Result<Left, AllocError>
-    ensures anchors { IfOk result (λ left. left.anchors.items ≡ work.own.changes ++ kept.items) }
-    ensures inserts { IfOk result (λ left. left.inserts ≡ length work.own.inserts) }
-{
-    let parts = work.into_parts(alloc)?;
-    let inserts = parts.inserts.len();
-    let mut anchors = parts.changes.into_vec();
-    for change in kept {
-        anchors.push(change)?;
-    }
-    Ok(Left { anchors, inserts })
 }

@@ -104,7 +104,7 @@ fn fits_first(defs: &Defs, work: &DedbWork, call: &Call) -> bool
     ensures { IsTrue result → (def : DefOf) → slice_get defs.now.dedbs 0 ≡ Some def
         → FitsCallOn def 0 work.now call.now }
 {
-    fits_call(&defs.dedbs.as_slice()[0], work, call)
+    fits_call(&defs.dedbs.as_slice()[0], work.held_type(0), call)
 }
 
 /// Asks a call once.

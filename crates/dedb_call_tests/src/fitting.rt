@@ -1,11 +1,12 @@
 //! Whether a call fits a database: the condition of answering it.
 ghost use Rattle.dedb_calls.specs.Calls.{FitsCallOn};
+ghost use Rattle.dedb_calls.specs.Progress.{DedbProgress, held_in};
+ghost use Rattle.fp_model.specs.DedbCalls.{type_of_path};
 ghost use Rattle.fp_model.specs.FitCalls.{AreFitSsas, FitsSsa};
 ghost use Rattle.fp_model.specs.Order.{last_type};
 ghost use Rattle.fp_model.specs.Shape.{has_length};
-ghost use Rattle.std.specs.Prelude.{◌≡◌, ◌<◌, ◌∷◌, IsTrue, length};
+ghost use Rattle.std.specs.Prelude.{◌≡◌, IsTrue, option_map};
 
-use dedb_calls::DedbWork;
 use fp_model::{Call, DedbDef, SegDef, Ssa, key_length};
 
 /// Whether a segment has the length of its type.
@@ -56,10 +57,11 @@ pub(crate) fn last_type(segment: u8, ssas: &[Ssa]) -> u8
     }
 }
 
-/// Whether a call fits the first database, by what is held there.
-pub(crate) fn fits_call(def: &DedbDef, work: &DedbWork, call: &Call) -> bool
-    requires { 0 < length work.now.positions }
-    ensures { IsTrue result → FitsCallOn def.now 0 work.now call.now }
+/// Whether a call fits the first database, where a segment of this type is held there, or none is.
+pub(crate) fn fits_call(def: &DedbDef, held: Option<u8>, call: &Call) -> bool
+    ensures { IsTrue result → (work : DedbProgress)
+        → held ≡ option_map (λ place. type_of_path def.now 0 place.path) (held_in work 0)
+        → FitsCallOn def.now 0 work call.now }
 {
     let types = def.segments.as_slice();
     match call {
@@ -68,7 +70,7 @@ pub(crate) fn fits_call(def: &DedbDef, work: &DedbWork, call: &Call) -> bool
             let ssas = ssas.as_slice();
             fit(types, ssas) && has_length(types, last_type(0, ssas), bytes.as_slice())
         }
-        Call::Repl { bytes, .. } => match work.held_type(0) {
+        Call::Repl { bytes, .. } => match held {
             Some(segment) => has_length(types, segment, bytes.as_slice()),
             None => true,
         },

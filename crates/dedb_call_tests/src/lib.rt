@@ -10,7 +10,11 @@ mod bench;
 #[cfg(test)]
 mod customers;
 #[cfg(test)]
+mod ending;
+#[cfg(test)]
 mod fitting;
+#[cfg(test)]
+mod live;
 #[cfg(test)]
 mod loans;
 #[cfg(test)]
@@ -20,8 +24,14 @@ mod notes;
 #[cfg(test)]
 mod randomizing;
 #[cfg(test)]
+mod replacing;
+#[cfg(test)]
 mod running;
 #[cfg(test)]
+mod standing_notes;
+#[cfg(test)]
 mod steps;
+#[cfg(test)]
+mod two_live;
 #[cfg(test)]
 mod two_regions;

@@ -2,7 +2,7 @@
 //!
 //! The folding randomizer sends C001 and C009 to anchor 6 of 8, and C003 to anchor 0.
 
-use crate::running::{Transaction, first_wrong};
+use crate::running::{Beside, Transaction, first_wrong};
 use crate::steps::{Argument, Asked, CUSTOMER, LOAN, OK, Step};
 use fp_model::Get;
 use std::test::Fail;
@@ -67,27 +67,27 @@ const FIELD_CALL: [Step; 1] = [(Asked::Fld, *b"AM", b"")];
 /// A loan, the same once more, one of nobody; then the one that stands.
 const LOANS: [Transaction; 5] = [
     Transaction {
-        other: None,
+        beside: Beside::Nothing,
         steps: &ADD_ANN,
         queued: 0,
     },
     Transaction {
-        other: None,
+        beside: Beside::Nothing,
         steps: &LEND,
         queued: 0,
     },
     Transaction {
-        other: None,
+        beside: Beside::Nothing,
         steps: &LEND_AGAIN,
         queued: 0,
     },
     Transaction {
-        other: None,
+        beside: Beside::Nothing,
         steps: &LEND_NOBODY,
         queued: 0,
     },
     Transaction {
-        other: None,
+        beside: Beside::Nothing,
         steps: &LENT,
         queued: 0,
     },
@@ -95,29 +95,29 @@ const LOANS: [Transaction; 5] = [
 
 const CUSTOMERS: [Transaction; 4] = [
     Transaction {
-        other: None,
+        beside: Beside::Nothing,
         steps: &ADD_CY,
         queued: 0,
     },
     Transaction {
-        other: None,
+        beside: Beside::Nothing,
         steps: &ADD_ANN,
         queued: 0,
     },
     Transaction {
-        other: None,
+        beside: Beside::Nothing,
         steps: &ADD_BOB,
         queued: 0,
     },
     Transaction {
-        other: None,
+        beside: Beside::Nothing,
         steps: &LIST,
         queued: 0,
     },
 ];
 
 const FIELDS: [Transaction; 1] = [Transaction {
-    other: None,
+    beside: Beside::Nothing,
     steps: &FIELD_CALL,
     queued: 0,
 }];

@@ -1,6 +1,6 @@
 //! Notes of a customer, which are sequential: each is queued, and its own transaction doesn't see it.
 
-use crate::running::{Transaction, first_wrong};
+use crate::running::{Beside, Transaction, first_wrong};
 use crate::steps::{AUDIT, Argument, Asked, CUSTOMER, OK, Step};
 use fp_model::Get;
 use std::test::Fail;
@@ -35,32 +35,32 @@ const TWO_NOTES: [Step; 4] = [
 
 const EACH: [Transaction; 6] = [
     Transaction {
-        other: None,
+        beside: Beside::Nothing,
         steps: &ADD_ANN,
         queued: 0,
     },
     Transaction {
-        other: None,
+        beside: Beside::Nothing,
         steps: &N1,
         queued: 1,
     },
     Transaction {
-        other: None,
+        beside: Beside::Nothing,
         steps: &N2,
         queued: 1,
     },
     Transaction {
-        other: None,
+        beside: Beside::Nothing,
         steps: &N3,
         queued: 1,
     },
     Transaction {
-        other: None,
+        beside: Beside::Nothing,
         steps: &N4,
         queued: 1,
     },
     Transaction {
-        other: None,
+        beside: Beside::Nothing,
         steps: &N5,
         queued: 1,
     },
@@ -68,12 +68,12 @@ const EACH: [Transaction; 6] = [
 
 const UNSEEN: [Transaction; 2] = [
     Transaction {
-        other: None,
+        beside: Beside::Nothing,
         steps: &ADD_ANN,
         queued: 0,
     },
     Transaction {
-        other: None,
+        beside: Beside::Nothing,
         steps: &TWO_NOTES,
         queued: 2,
     },

@@ -10,7 +10,7 @@ use crate::bench::{CUSTOMERS, REGION, ask, begin};
 use fp_defs::read_defs;
 use fp_exits::{Exits, Router, Routing, Spreader, Spreading, fold_group, fold_place};
 use fp_model::{Bytes, Call, Defs, Get, Kind, List, Name, Resource, Ssa};
-use std::alloc::Global;
+use std::alloc::{AllocError, Global};
 use std::cell::Cell;
 use std::rc::Rc;
 use std::test::Fail;
@@ -65,11 +65,8 @@ fn asked_for(
     Ok(anchors)
 }
 
-#[test]
-fn a_search_by_key_asks_for_its_anchor_alone(rt: HostRuntime) -> Result<(), Fail> {
-    let alloc = rt.alloc();
-    let calls = Rc::new(alloc, Cell::new(0u64))?;
-    let counted = calls.clone()?;
+/// A randomizer that folds, and counts its calls.
+fn counting(alloc: Global, counted: Rc<Cell<u64>>) -> Result<Spreader, AllocError> {
     let fold: Spreading = Box::new(
         alloc,
         move |key: &[u8], n: u64| -> u64
@@ -80,6 +77,11 @@ fn a_search_by_key_asks_for_its_anchor_alone(rt: HostRuntime) -> Result<(), Fail
             fold_place(key, n)
         },
     )?;
+    Ok(Spreader::new(Kind::Fold, fold))
+}
+
+/// A router that folds.
+fn folding(alloc: Global) -> Result<Router, AllocError> {
     let group: Routing = Box::new(
         alloc,
         |tran: &Name, n: u64| -> u64
@@ -87,23 +89,44 @@ fn a_search_by_key_asks_for_its_anchor_alone(rt: HostRuntime) -> Result<(), Fail
             ensures { result ≡ route Kind.Fold n tran.now }
         { fold_group(tran, n) },
     )?;
+    Ok(Router::new(Kind::Fold, group))
+}
+
+/// Exits with a randomizer that counts its calls.
+fn counting_exits(alloc: Global, counted: Rc<Cell<u64>>) -> Result<Exits, AllocError> {
     let mut spreaders = Vec::new(alloc);
-    spreaders.push(Spreader::new(Kind::Fold, fold))?;
+    spreaders.push(counting(alloc, counted)?)?;
     let mut routers = Vec::new(alloc);
-    routers.push(Router::new(Kind::Fold, group))?;
-    let exits = Exits::new(spreaders, routers);
+    routers.push(folding(alloc)?)?;
+    Ok(Exits::new(spreaders, routers))
+}
+
+/// The anchors that a GU on the empty database asks for, and how often it asks the randomizer.
+fn asked_and_counted(alloc: Global, key: Option<&[u8]>) -> Result<(Vec<u32>, u64), Fail> {
+    let calls = Rc::new(alloc, Cell::new(0u64))?;
+    let exits = counting_exits(alloc, calls.clone()?)?;
     let defs = read_defs(alloc, CUSTOMERS.as_bytes(), &exits)?;
     if defs.dedbs.is_empty() {
         return Err(Fail::from("no database"));
     }
-    // The key is sent to anchor 6. The call is asked before that anchor's lock and behind it.
-    assert_eq!(rt;
-        asked_for(alloc, Some(b"C001"), &defs, &exits)?.as_slice(),
-        [6].as_slice()
-    );
-    assert_eq!(rt; calls.get(), 2);
-    // Without a key all anchors are asked for, and the randomizer not once more.
-    assert_eq!(rt; asked_for(alloc, None, &defs, &exits)?.len(), 8);
-    assert_eq!(rt; calls.get(), 2);
+    let anchors = asked_for(alloc, key, &defs, &exits)?;
+    Ok((anchors, calls.get()))
+}
+
+/// The key is sent to anchor 6. The call is asked before that anchor's lock and behind it.
+#[test]
+fn a_search_by_key_asks_for_its_anchor_alone(rt: HostRuntime) -> Result<(), Fail> {
+    let (anchors, calls) = asked_and_counted(rt.alloc(), Some(b"C001"))?;
+    assert_eq!(rt; anchors.as_slice(), [6].as_slice());
+    assert_eq!(rt; calls, 2);
+    Ok(())
+}
+
+/// All anchors are asked for, and the randomizer isn't.
+#[test]
+fn a_search_without_a_key_asks_for_all_anchors(rt: HostRuntime) -> Result<(), Fail> {
+    let (anchors, calls) = asked_and_counted(rt.alloc(), None)?;
+    assert_eq!(rt; anchors.len(), 8);
+    assert_eq!(rt; calls, 0);
     Ok(())
 }

@@ -2,7 +2,7 @@
 //!
 //! The folding randomizer sends C001 to anchor 6 of 8, and C003 to anchor 0.
 
-use crate::running::{Transaction, WAITS, first_wrong};
+use crate::running::{Beside, Transaction, WAITS, first_wrong};
 use crate::steps::{Argument, Asked, CUSTOMER, OK, Step};
 use fp_model::Get;
 use std::test::Fail;
@@ -38,27 +38,27 @@ const BOB_ALONE: [Step; 2] = [
 
 const TRANSACTIONS: [Transaction; 5] = [
     Transaction {
-        other: None,
+        beside: Beside::Nothing,
         steps: &ADD_ANN,
         queued: 0,
     },
     Transaction {
-        other: None,
+        beside: Beside::Nothing,
         steps: &ADD_BOB,
         queued: 0,
     },
     Transaction {
-        other: Some(0),
+        beside: Beside::Other(0),
         steps: &ANN_ALONE,
         queued: 0,
     },
     Transaction {
-        other: Some(6),
+        beside: Beside::Other(6),
         steps: &BOB_ALONE,
         queued: 0,
     },
     Transaction {
-        other: None,
+        beside: Beside::Nothing,
         steps: &BOTH,
         queued: 0,
     },

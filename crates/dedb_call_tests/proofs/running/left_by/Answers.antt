@@ -1,9 +1,8 @@
-use Rattle.std.proofs.Common.{sym, subst}
-use Rattle.dedb_call_tests.specs.Bank.{AreKept}
-use Rattle.dedb_call_tests.proofs.Banks.{left_kept}
+use Rattle.std.proofs.Common.{arith}
+use Rattle.dedb_call_tests.proofs.Banks.{begins}
 use Rattle.dedb_call_tests.proofs.running.left_by.Goals as goal
 
-pub returns : goal.returns
-returns g c =
-    subst (AreKept c.args.defs.now.dedbs) (sym c.in_ok-left.ensures.anchors) (left_kept c.args.defs.now c.loop-step.work
-    c.args.kept.items c.loop-step.invariant.going c.requires.kept)
+pub loop-step-init : goal.loop-step-init
+loop-step-init g c =
+    begins c.args.defs.now 1 c.in_ok-work.work c.in_ok-locks.locks c.in_ok-work.ensures.of
+    c.in_ok-work.ensures.anchors (omega arith) (omega arith) c.in_ok-locks.ensures
