@@ -72,6 +72,10 @@ fields = [["MKEY", "C", 1], ["MTEXT", "C", 1]]
 name = "LOW"
 parent = "MID"
 fields = [["LKEY", "C", 1], ["LTEXT", "C", 1]]
+[[dedb.segment]]
+name = "LEAF"
+parent = "LOW"
+fields = [["FKEY", "C", 1], ["FTEXT", "C", 1]]
 [[dedb.area]]
 name = "AREA3"
 uows = 2
@@ -84,7 +88,7 @@ NO_PARENT = None
 TREE = [
     (NO_PARENT, False, 2, 3), (0, True, 0, 3), (0, False, 1, 2), (0, False, 1, 3), (0, False, 2, 4), (3, False, 1, 2),
 ]
-LINE = [(NO_PARENT, False, 1, 2), (0, False, 1, 2), (1, False, 1, 2)]
+LINE = [(NO_PARENT, False, 1, 2), (0, False, 1, 2), (1, False, 1, 2), (2, False, 1, 2)]
 
 ROOT_KEYS = [["AA", "AB", "BA", "CC", "D1", "E2", "ZZ"], ["A", "M", "a", "z", "5"]]
 LETTERS = "ABC"
@@ -246,6 +250,10 @@ class Draw:
         if self.below(12) == 0:
             return self.get_ssas(db, database)
         line = database.line(self.one_of([0, 0] + list(range(len(database.types)))))
+        # Half of the parents stand, so that the lowest levels fill.
+        standing = [path[1:] for path in sorted(database.segments) if [it for it, _ in path[1:]] == line[:-1]]
+        if standing and self.below(2):
+            return list(self.one_of(standing)) + [(line[-1], None)]
         return [(segment, self.key(db, database, segment)) for segment in line[:-1]] + [(line[-1], None)]
 
     def call(self, db, database):
