@@ -90,7 +90,7 @@ TREE = [
 ]
 LINE = [(NO_PARENT, False, 1, 2), (0, False, 1, 2), (1, False, 1, 2), (2, False, 1, 2)]
 
-ROOT_KEYS = [["AA", "AB", "BA", "CC", "D1", "E2", "ZZ"], ["A", "M", "a", "z", "5"]]
+ROOT_KEYS = [["AA", "AB", "BA", "CC", "DA", "EE", "ZZ"], ["A", "M", "a", "z", "5"]]
 LETTERS = "ABC"
 
 KINDS = ["GU", "GHU", "GN", "GHN", "GNP", "GHNP", "FLD", "ISRT", "REPL", "DLET"]
