@@ -1,4 +1,3 @@
-mod Ascending
 mod Calls
 mod Databases
 pub mod ItemLemmas

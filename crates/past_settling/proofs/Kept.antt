@@ -8,7 +8,7 @@ use Rattle.fp_model.specs.Texts.{same_text}
 use Rattle.fp_model.specs.WellFormed.{BeginsWithKey, IsMsdbDef, StandFrom, is_field_length}
 use Rattle.fp_model.specs.declared.definitions.FieldDef.{FieldDef}
 use Rattle.fp_model.specs.declared.definitions.MsdbDef.{MsdbDef}
-use Rattle.past_segments.proofs.Ascending.{not_both}
+use Rattle.key_order.proofs.Ascending.{not_both}
 
 -- ---- the first bytes of a list
 

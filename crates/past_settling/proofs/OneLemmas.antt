@@ -17,7 +17,7 @@ use Rattle.fp_model.specs.declared.database.Msdb.{Msdb}
 use Rattle.fp_model.specs.declared.definitions.MsdbDef.{MsdbDef}
 use Rattle.past_segments.specs.Pasts.{IsPastOf}
 use Rattle.past_segments.specs.Times.{Past, database_at}
-use Rattle.past_segments.proofs.Ascending.{all_but, all_put, same_is, still_ascends, with_one_ascends}
+use Rattle.key_order.proofs.Ascending.{all_but, all_put, same_is, still_ascends, with_one_ascends}
 use Rattle.fp_model.specs.Texts.{same_text}
 use Rattle.std.specs.Option.{option_copied}
 use Rattle.std.proofs.Common.{Bor}
