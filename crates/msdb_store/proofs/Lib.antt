@@ -1,7 +1,6 @@
 mod Calls
 mod Databases
 pub mod ItemLemmas
-mod Kept
 mod Loads
 mod Lookups
 mod Names

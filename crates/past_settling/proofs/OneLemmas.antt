@@ -11,7 +11,7 @@ use Rattle.fp_model.specs.Fsas.{Failure, first_failure, fsas_in}
 use Rattle.fp_model.specs.Settle.{absent}
 use Rattle.fp_model.specs.WellFormed.{IsMsdbDef}
 use Rattle.past_settling.specs.Settling.{Gives, IsChanged, IsFieldCall}
-use Rattle.past_settling.proofs.Kept.{has_key, list_keeps}
+use Rattle.fld_calls.proofs.Kept.{has_key, list_keeps}
 use Rattle.fp_model.specs.State.{drop_key, key_length, key_of, segment_of, with_segment, without_segment}
 use Rattle.fp_model.specs.declared.database.Msdb.{Msdb}
 use Rattle.fp_model.specs.declared.definitions.MsdbDef.{MsdbDef}
