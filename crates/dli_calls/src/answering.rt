@@ -28,7 +28,6 @@ ghost use Rattle.std.specs.Option.{option_copied, option_map, option_map_or};
 ghost use Rattle.std.specs.Prelude.{◌≡◌, ◌-◌, ◌<◌, ◌≤◌, ◌++◌, ◌∷◌, [], IfOk, List as ListOf, OnErr, Some, if◌then◌else◌, length, option_and_then, slice_get, true, ℕ};
 
 use crate::database::{Database, key_in};
-use segment_keys::SegmentKey;
 use crate::reply::Reply;
 use crate::replying::key_named;
 use crate::work::Work;
@@ -37,6 +36,7 @@ use dedb_calls::DedbReady;
 use fp_exits::Exits;
 use fp_model::{Answer, Bytes, Call, Defs, Get, Mode, Resource};
 use msdb_store::MsdbStore;
+use segment_keys::SegmentKey;
 use std::alloc::{AllocError, Global};
 
 /// What a call comes to.

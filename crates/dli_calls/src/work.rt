@@ -19,10 +19,10 @@ ghost use Rattle.dli_calls.specs.Replies.{mark_in, mark_of, own_behind};
 ghost use Rattle.segment_keys.specs.Keys.{is_marked};
 
 use crate::database::key_in;
-use segment_keys::{Keys, SegmentKey};
 use crate::reply::Change;
 use dedb_calls::DedbWork;
 use fp_model::{AnchorChange, Bytes, Deferred, Defs, List, MsdbDef, Root, SeqInsert};
+use segment_keys::{Keys, SegmentKey};
 use std::alloc::{AllocError, Global};
 use std::marker::Model;
 

@@ -17,11 +17,11 @@ ghost use Rattle.std.specs.Option.{option_copied};
 ghost use Rattle.std.specs.Prelude.{◌≡◌, ◌<◌, IfOk, List as ListOf, OnErr, Some, length, slice_get, ℕ};
 
 use crate::database::{Database, key_in};
-use segment_keys::SegmentKey;
 use crate::reply::Reply;
 use crate::work::Work;
 use fp_model::{Answer, Call, Defs, Get, MsdbDef};
 use past_segments::PastSegments;
+use segment_keys::SegmentKey;
 use std::alloc::{AllocError, Global};
 
 // The database that a call names.

@@ -10,9 +10,9 @@ ghost use Rattle.past_calls.specs.Replies.{mark_in, mark_of, own_behind};
 ghost use Rattle.segment_keys.specs.Keys.{is_marked};
 
 use crate::database::key_in;
-use segment_keys::{Keys, SegmentKey};
 use crate::reply::Change;
 use fp_model::{Bytes, Deferred, Defs, List, MsdbDef};
+use segment_keys::{Keys, SegmentKey};
 use std::alloc::{AllocError, Global};
 use std::marker::Model;
 
