@@ -1,5 +1,5 @@
 -- Where nothing stands from behind a place.
-use Rattle.std.proofs.Common.{refl, ◌≡◌, ◌∙◌, ap, ℕ, ◌+◌, ◌≤◌, List, [], ◌∷◌, arith}
+use Rattle.std.proofs.Common.{refl, ◌≡◌, ◌∙◌, ap, ℕ, ◌+◌, List, [], ◌∷◌, arith}
 use Rattle.std.specs.List.{AllByRecursion}
 use Rattle.past_segments.specs.Pasts.{databases_at}
 use Rattle.past_segments.specs.Times.{EndsBy, IsSettledBy, Past, database_at}

@@ -4,6 +4,8 @@
 
 mod alone;
 mod replaying;
+mod running;
+mod settling;
 
 pub use alone::Alone;
 pub use replaying::replay;

@@ -12,6 +12,8 @@ ghost use Rattle.std.specs.List.{AllByRecursion};
 ghost use Rattle.std.specs.Prelude.{◌≡◌, ◌+◌, ◌<◌, ◌≤◌, ◌^◌, IfOk, List as ListOf, false, length, slice_get, ℕ};
 
 use crate::alone::Alone;
+use crate::running::{End, Rerun, Running};
+use crate::settling::{commit, roll};
 use fp_model::{Defs, List, Message};
 use past_segments::PastSegments;
 use std::alloc::{AllocError, Global};
@@ -56,5 +58,18 @@ pub fn replay(
     ensures are { ArePastsOf defs.now.msdbs pasts.new }
     ensures settled { AllByRecursion (IsSettledBy (place + 1)) pasts.new }
 {
-    Err(AllocError)
+    let it = Rerun {
+        defs,
+        scripts,
+        pasts,
+        place,
+        message,
+        notes,
+    };
+    let mut running = Running::start(alloc, &it, number)?;
+    match running.run(alloc, &it)? {
+        End::Replies(reply) => commit(alloc, pasts, defs, place, running.deferred(), reply),
+        End::Rolls(code) => Ok(roll(alloc, code)),
+        End::Stuck => Ok(Alone::Stuck),
+    }
 }
