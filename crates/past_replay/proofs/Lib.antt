@@ -1,0 +1,5 @@
+mod EndLemmas
+mod GoingLemmas
+mod Keeping
+mod ListLemmas
+mod SettledLemmas
