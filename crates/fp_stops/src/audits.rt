@@ -28,11 +28,14 @@ enum Wanted {
 
 // Three transactions in one group. The last one, a question of T2, has the entry 2: its note is 1.
 const THREE: &str = "IN R1 R1 R1 R1 IN R2 R2 IN R1 R1 R1 R1 R2 LOG";
+
 const THREE_LINES: &str = "T1 DEPOSIT A001 10\nT2 ASK A001\nT3 DEPOSIT A001 20\n";
 
 // One deposit, and the reply, note, item and gate at the end of its log.
 const ONE_LINE: &str = "T1 DEPOSIT A001 10\n";
+
 const OLD_REPLY: &[u8] = b"OLD";
+
 const OLD_REPLY_OPEN: &[u8] =
     b"OLD\0\0\0\x01\0\0\0\0\0\0\0\0\0\0\0\x01\x01\0\x04A001\0\x08A001\0\0\x11\x0c\x01";
 
@@ -128,7 +131,12 @@ fn an_audit_names_the_first_entry_that_is_not_legal(rt: HostRuntime) -> Result<(
             "at {:?}",
             row.messages
         );
-        assert_eq!(rt; text.as_slice(), text_of(&row.wanted).as_bytes(), "at {:?}", row.messages);
+        assert_eq!(rt;
+            text.as_slice(),
+            text_of(&row.wanted).as_bytes(),
+            "at {:?}",
+            row.messages
+        );
     }
     Ok(())
 }

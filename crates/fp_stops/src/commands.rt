@@ -242,7 +242,13 @@ const REFUSALS: [(&str, &str, &str, &str, &str); 8] = [
         "scripts: unknown name at line 2|3",
     ),
     ("run", GOOD, "TRAN A\nREPLY 'A'\n", "IN R1", "foreign log|7"),
-    ("audit", GOOD, "TRAN A\nREPLY 'A'\n", "BOGUS", "foreign log|7"),
+    (
+        "audit",
+        GOOD,
+        "TRAN A\nREPLY 'A'\n",
+        "BOGUS",
+        "foreign log|7",
+    ),
 ];
 
 #[test]

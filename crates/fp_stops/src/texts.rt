@@ -80,7 +80,11 @@ fn sent_over(
 }
 
 // A new site behind a run that is done.
-pub(crate) fn run_on_new(alloc: Global, schedule: &str, messages: &str) -> Result<MemorySite, AllocError> {
+pub(crate) fn run_on_new(
+    alloc: Global,
+    schedule: &str,
+    messages: &str,
+) -> Result<MemorySite, AllocError> {
     let mut site = MemorySite::new(alloc, &[])?;
     let _ = sent_by(alloc, "define", SCRIPTS, "", "", &mut site)?;
     let _ = sent_by(alloc, "run", SCRIPTS, schedule, messages, &mut site)?;

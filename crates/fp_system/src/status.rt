@@ -3,7 +3,8 @@ ghost use Rattle.std.specs.Prelude.{◌≡◌, IfOk};
 ghost use Rattle.fp_system.specs.Texts.{fault_text, number_of};
 
 use crate::texts::{
-    damage_text, definitions_text, entry_text, joined, line_text, part_name, schedule_text, scripts_text,
+    damage_text, definitions_text, entry_text, joined, line_text, part_name, schedule_text,
+    scripts_text,
 };
 use fp_core::Stop;
 use fp_defs::DefsFault;

@@ -1,6 +1,7 @@
 -- Entries judged one after another, and groups of them.
 use Rattle.std.proofs.Common.{◌≡◌, ℕ, ◌+◌, ◌<◌, ◌≤◌, List, [], ◌∷◌, ◌++◌, length, take, drop, get_or, refl, sym, ◌∙◌, ap, subst, arith, length-append}
-use Rattle.std.specs.Prelude.{Option, None, Some}
+use Rattle.std.specs.declared.alloc.AllocError.{AllocError}
+use Rattle.std.specs.Prelude.{IfOk, Option, None, Some, Result, Ok, Err}
 use Rattle.std.proofs.lemmas.List.{take-append-le, take_more}
 use Rattle.std.proofs.Math.Seq.{take-append-add}
 use Rattle.fp_model.specs.declared.database.Db.{Db}
@@ -45,6 +46,14 @@ module _ (rules : Rules) where
       let same = one_end rules h (take k es) mid two.0 leads two.1.0 in
       let one = subst (λ (x : History). LeadsOn rules x (e ∷ []) last) same two.1.1 in
       never one.0 one.1
+
+  -- what entries come to, where those before them are legal
+  pub ok_goes_on : (before stands : History → Type 0) (es : List Entry) (first : ℕ)
+      (r : Result (Option ℕ) AllocError)
+      → ((h : History) → before h → IfOk r (ComesTo rules stands h es first))
+      → IfOk r (GoesOnTo rules before stands es first None)
+  ok_goes_on before stands es first (Ok found) comes = comes
+  ok_goes_on before stands es first (Err e) comes = tt
 
   -- ---- entries behind entries
 
@@ -152,3 +161,9 @@ module _ (rules : Rules) where
             (judged_more format before stands (entries_of so_far.groups) one.entries place.entries place.illegal
             next.illegal so_far.count so_far.judged one.judged);
       }
+
+-- two facts of an answer that is Ok
+pub both_ok : {X Y : Type 0} (r : Result X Y) (P Q R : X → Type 0) → ((x : X) → P x → Q x → R x) → IfOk r P → IfOk r Q
+    → IfOk r R
+both_ok (Ok x) P Q R joined p q = joined x p q
+both_ok (Err e) P Q R joined p q = tt

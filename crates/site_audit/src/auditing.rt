@@ -1,5 +1,4 @@
 //! The audit of a log's groups.
-ghost use Rattle.fp_audit.specs.Setup.{IsSetup};
 ghost use Rattle.fp_audit.specs.Standing.{IsAt, rules_in};
 ghost use Rattle.fp_model.specs.Groups.{Groups, IsDamaged, Reads};
 ghost use Rattle.fp_model.specs.History.{History, beginning};
@@ -10,13 +9,14 @@ ghost use Rattle.fp_site.specs.Site.{ReadsNothing};
 ghost use Rattle.log_groups.specs.Images.{BeginsFor, as_front, in_format};
 ghost use Rattle.log_groups.specs.Kept.{IsSound};
 ghost use Rattle.log_groups.specs.Reads.{HasGroup, ReadsOnlyLog};
+ghost use Rattle.past_replay.specs.Setup.{IsSetup};
 ghost use Rattle.site_audit.specs.Judged.{AreBroken, AreRead, ComesTo, GoesOnTo, IsOneRead};
 ghost use Rattle.site_audit.specs.Legal.{IsBrokenAt, IsIllegalLog, IsLegalLog};
 ghost use Rattle.site_audit.specs.Verdicts.{SendsVerdict, legal_text};
 ghost use Rattle.site_audit.specs.declared.fault.AuditFault.TheVariants as faults;
 ghost use Rattle.site_texts.specs.Sent.{GoesOn, HasSent, HasSentPart};
 ghost use Rattle.site_texts.specs.Texts.{ReadsOnce};
-ghost use Rattle.std.specs.Prelude.{◌≡◌, ◌≢◌, ◌⊎◌, ◌+◌, ◌-◌, ◌<◌, ◌≤◌, ◌^◌, ℕ, [], false, length, slice_index, true, IfErr, IfNone, IfOk, IfSome, IsErrOf, List as ListOf, OnOk, max};
+ghost use Rattle.std.specs.Prelude.{◌≡◌, ◌≢◌, ◌⊎◌, ◌+◌, ◌-◌, ◌<◌, ◌≤◌, ◌^◌, ℕ, false, length, slice_index, true, IfErr, IfNone, IfOk, IfSome, IsErrOf, List as ListOf, None, OnOk, Some, max};
 
 use crate::AuditFault;
 use fp_audit::Auditor;
@@ -82,14 +82,14 @@ pub fn audit<T: Site>(
         (T.bytes_read site.new) }
     ensures site { GoesOn T.told T.faults T.holds T.keeps site.old site.new }
 {
-    let mut log = Log::open(alloc, site, front)?;
-    let mut auditor = Auditor::new(alloc, defs, scripts, log.format())?;
-    let end = audit_groups(&mut log, &mut auditor, site)?;
-    if let Some(entry) = end.illegal {
-        return Err(AuditFault::Illegal(entry));
+    let end = read_log(alloc, defs, scripts, front, site)?;
+    match end.illegal {
+        Some(entry) => Err(AuditFault::Illegal(entry)),
+        None => {
+            send_legal(alloc, site, end.entries)?;
+            Ok(end.entries)
+        }
     }
-    send_legal(alloc, site, end.entries)?;
-    Ok(end.entries)
 }
 
 // How far a log was judged: the next gate, how many entries stand before it, and the first of them that isn't legal.
@@ -98,6 +98,42 @@ struct Place {
     at: u64,
     entries: u64,
     illegal: Option<u64>,
+}
+
+// Reads and judges the whole log.
+fn read_log<T: Site>(
+    alloc: Global,
+    defs: &Defs,
+    scripts: &Scripts,
+    front: &Front,
+    site: &mut T,
+) -> Result<Place, AuditFault>
+    requires fits { FitsFront (as_front front.now) }
+    requires setup { IsSetup defs.now scripts.now.scripts }
+    ensures legal { T.told site.old → IfOk result (λ end. end.illegal ≡ None →
+        IsLegalLog defs.now scripts.now.scripts (as_front front.now) ((T.disk site.old).contents 0) end.entries) }
+    ensures illegal { (entry : ℕ) → T.told site.old → IfOk result (λ end. end.illegal ≡ Some entry →
+        IsIllegalLog defs.now scripts.now.scripts (as_front front.now) ((T.disk site.old).contents 0) entry) }
+    ensures foreign { T.told site.old → IsErrOf result faults.Foreign
+        → BeginsFor (as_front front.now) ((T.disk site.old).contents 0) → ⊥ }
+    ensures damaged { (at : ℕ) → T.told site.old → IsErrOf result (faults.Damaged at) →
+        IsBrokenAt (as_front front.now) ((T.disk site.old).contents 0) at }
+    ensures never { (entry : ℕ) → IsErrOf result (faults.Illegal entry) → ⊥ }
+    ensures cause { IsErrOf result faults.SiteFault → (T.faults site.old < T.faults site.new)
+        ⊎ (T.faults site.new ≡ 2 ^ 64 - 1) }
+    ensures stayed { (IsErrOf result faults.SiteFault → ⊥) → T.faults site.new ≡ T.faults site.old }
+
+    // Nothing changes. Each byte of the log is read once, and no other data set.
+    ensures once { T.told site.old → T.tells_reads site.new 0 → ReadsOnce (as_front front.now)
+        ((T.disk site.old).contents 0) (T.bytes_read site.old 0) (T.bytes_read site.new 0) }
+    ensures only_log { ReadsOnlyLog (T.tells_reads site.old) (T.tells_reads site.new) (T.bytes_read site.old)
+        (T.bytes_read site.new) }
+    ensures stays { T.told site.old → Stays (T.disk site.old) (T.disk site.new) }
+    ensures site { GoesOn T.told T.faults T.holds T.keeps site.old site.new }
+{
+    let mut log = Log::open(alloc, site, front)?;
+    let mut auditor = Auditor::new(alloc, defs, scripts, log.format())?;
+    audit_groups(&mut log, &mut auditor, site)
 }
 
 // Reads and judges all groups from a log's gate on, up to the first gate that isn't open.
@@ -211,19 +247,15 @@ fn first_illegal(
         place.entries place.illegal) }
     ensures rules { rules_in auditor.new ≡ rules_in auditor.old }
 {
-    if place.illegal.is_some() {
-        return Ok(place.illegal);
+    match place.illegal {
+        Some(entry) => Ok(Some(entry)),
+        None => judge(auditor, entries, place.entries),
     }
-    judge(auditor, entries, place.entries)
 }
 
 // Hands entries to an auditor up to the first that isn't legal, and tells the place of that one. The first of them has
 // this place in the log.
-fn judge(
-    auditor: &mut Auditor,
-    entries: &[Entry],
-    first: u64,
-) -> Result<Option<u64>, AllocError>
+fn judge(auditor: &mut Auditor, entries: &[Entry], first: u64) -> Result<Option<u64>, AllocError>
     requires { first + length entries.now ≤ 2 ^ 62 }
     ensures found { (h : History) → IsAt auditor.old h
         → IfOk result (ComesTo (rules_in auditor.old) (IsAt auditor.new) h entries.now first) }
@@ -261,10 +293,18 @@ fn send_legal<T: Site>(alloc: Global, site: &mut T, count: u64) -> Result<(), Au
         (T.bytes_read site.new) }
     ensures site { GoesOn T.told T.faults T.holds T.keeps site.old site.new }
 {
+    let text = legal_line(alloc, count)?;
+    site.send(text.as_slice())?;
+    Ok(())
+}
+
+// That line.
+fn legal_line(alloc: Global, count: u64) -> Result<Bytes, AllocError>
+    ensures { IfOk result (λ text. text ≡ legal_text count) }
+{
     let number = count.to_string(alloc)?;
     let mut text = Bytes::from_slice(alloc, b"legal ")?;
     text.append(number.as_bytes())?;
     text.append(b"\n")?;
-    site.send(text.as_slice())?;
-    Ok(())
+    Ok(text)
 }

@@ -19,7 +19,7 @@ pub audit-requires : goal.audit-requires
 audit-requires g c = record {
   fits = c.requires.fits;
   setup = record {
-    msdbs = c.requires.are.each_msdb;
+    good = c.requires.are.each_msdb;
     no_dedbs = c.requires.no_dedbs;
     fit = c.requires.runs.fit;
     cheap = c.requires.runs.cheap;

@@ -8,6 +8,6 @@ use Rattle.site_audit.proofs.auditing.judge.Given as goal
 abbrev pub invariant-loop-number : goal.invariant-loop-number
 invariant-loop-number l = record {
   stands : (h : History) → IsAt l.initial.auditor h → (mid : History)
-      × (LeadsOn (rules_in l.initial.auditor) h (take l.entry-index l.entries) mid × IsAt l.auditor mid);
+      × (LeadsOn (rules_in l.initial.auditor) h (take l.number l.entries) mid × IsAt l.auditor mid);
   rules : rules_in l.auditor ≡ rules_in l.initial.auditor;
 }
