@@ -23,8 +23,13 @@ pub struct Auditor<'a> {
 impl<'a> Model for Auditor<'a> {
     ghost use Rattle.fp_audit.specs.Audit.{Audit};
     ghost use Rattle.fp_audit.specs.Setup.{AreReady, IfLegal};
+    ghost use Rattle.fp_model.specs.contracts.scripts.Statement as statement;
+    ghost use Rattle.past_replay.specs.Setup.{IsSetup};
+    ghost use Rattle.std.specs.Coded.{codes};
 
     ghost Value = { Audit };
+
+    ghost coded = { Prim.hlevel (codes, statement.the_row.coded) };
 
     ghost view = { λ a. record {
       defs = a.so_far.defs.now;
