@@ -1,5 +1,5 @@
 -- Entries judged one after another, and groups of them.
-use Rattle.std.proofs.Common.{◌≡◌, ℕ, ◌+◌, ◌<◌, ◌≤◌, List, [], ◌∷◌, ◌++◌, length, take, drop, get_or, refl, sym, ◌∙◌, ap, subst, arith, length-append}
+use Rattle.std.proofs.Common.{◌≡◌, ℕ, ◌+◌, ◌<◌, List, [], ◌∷◌, ◌++◌, length, take, drop, get_or, refl, sym, ◌∙◌, ap, subst, arith, length-append}
 use Rattle.std.specs.declared.alloc.AllocError.{AllocError}
 use Rattle.std.specs.Prelude.{IfOk, Option, None, Some, Result, Ok, Err}
 use Rattle.std.proofs.lemmas.List.{take-append-le, take_more}
@@ -116,18 +116,18 @@ module _ (rules : Rules) where
   -- ---- groups behind groups
 
   -- no group yet
-  pub are_held_none : (bytes : List ℕ) (first : ℕ) → AreHeld bytes first first
-  are_held_none bytes first = record {
+  pub are_held_none : (bytes : List ℕ) (first at : ℕ) → at ≡ first → AreHeld bytes first at
+  are_held_none bytes first at here = record {
     groups = [];
-    holds = record { each = tt; next = omega arith; text = refl };
+    holds = record { each = tt; next = omega arith; text = ap (λ (n : ℕ). drop n bytes) (sym here) };
   }
 
-  pub are_read_none : (format : ℕ) (stands : History → Type 0) (bytes : List ℕ) (first : ℕ)
+  pub are_read_none : (format : ℕ) (stands : History → Type 0) (bytes : List ℕ) (first at : ℕ) → at ≡ first
       → stands (beginning format rules.start)
-      → AreRead rules format stands bytes first (record { at = first; entries = 0; illegal = None })
-  are_read_none format stands bytes first begins = record {
+      → AreRead rules format stands bytes first (record { at = at; entries = 0; illegal = None })
+  are_read_none format stands bytes first at here begins = record {
     groups = [];
-    holds = record { each = tt; next = omega arith; text = refl };
+    holds = record { each = tt; next = omega arith; text = ap (λ (n : ℕ). drop n bytes) (sym here) };
     count = omega arith;
     judged = (beginning format rules.start, (refl, begins));
   }

@@ -1,5 +1,6 @@
 -- What an audit sends, seen from before it read the log.
-use Rattle.std.proofs.Common.{◌≡◌, ℕ, List, [], ◌++◌, inl, inr, refl, sym, ◌∙◌, ap, subst}
+use Rattle.std.proofs.Common.{ℕ, List, [], inl, inr, refl}
+use Rattle.std.specs.Prelude.{IfErr, Result, Ok, Err}
 use Rattle.fp_model.specs.declared.definitions.Defs.{Defs}
 use Rattle.fp_model.specs.declared.scripts.Script.{Script}
 use Rattle.fp_model.specs.LogText.{Front}
@@ -8,6 +9,11 @@ use Rattle.site_audit.specs.Legal.{IsLegalLog}
 use Rattle.site_audit.specs.Verdicts.{SendsVerdict, legal_text}
 use Rattle.site_texts.specs.Sent.{HasSent, HasSentPart}
 use Rattle.site_texts.proofs.Told.{part_whole, sent_on, sent_stays, stays_then_part}
+
+-- what holds with any error
+pub with_any : {A E : Type 0} (r : Result A E) (P : E → Type 0) → ((why : E) → P why) → IfErr r P
+with_any (Ok x) P each = tt
+with_any (Err why) P each = each why
 
 -- nothing was sent
 pub no_verdict : (defs : Defs) (scripts : List Script) (front : Front) (d0 d1 : Disk) → Stays d0 d1

@@ -1,15 +1,11 @@
-use Rattle.std.proofs.Common.{◌≡◌, ◌<◌, ◌-◌, ◌^◌, ◌∙◌, ⊎_elim, ap, sym, refl, rules, subst, ℕ}
-use Rattle.std.specs.Prelude.{◌⊎◌}
-use Rattle.fp_site.proofs.Runs.{stays_then}
+use Rattle.std.proofs.Common.{◌≡◌, rules}
+use Rattle.fp_site.specs.Disk.{Stays}
 use Rattle.log_groups.specs.Images.{as_front}
+use Rattle.site_audit.specs.declared.fault.AuditFault.{AuditFault}
 use Rattle.site_audit.specs.declared.fault.AuditFault.TheVariants as fault
-use Rattle.site_audit.specs.Legal.{IsIllegalLog}
 use Rattle.site_audit.specs.Verdicts.{legal_text}
-use Rattle.site_texts.specs.Texts.{ReadsOnce}
-use Rattle.site_texts.proofs.Told.{part_whole}
 use Rattle.site_audit.proofs.Logs.{sound_count, sound_not_illegal}
-use Rattle.site_audit.proofs.Verdict.{no_verdict, verdict_part, verdict_whole}
-use Rattle.site_audit.proofs.auditing.audit.Given as given
+use Rattle.site_audit.proofs.Verdict.{no_verdict, verdict_part, verdict_whole, with_any}
 use Rattle.site_audit.proofs.auditing.audit.Goals as goal
 
 -- ---- where the log wasn't read to its end
@@ -20,7 +16,10 @@ returns-in_err-end-clause-sends g c t =
     (g.T.Site.disk c.read_log.new.site) (c.read_log.ensures.stays t)
 
 pub returns-in_err-end-clause-silent : goal.returns-in_err-end-clause-silent
-returns-in_err-end-clause-silent g c t = λ other. c.read_log.ensures.stays t
+returns-in_err-end-clause-silent g c t =
+    let P : AuditFault → Type 0 = λ why. ¬ (why ≡ fault.SiteFault)
+    → Stays (g.T.Site.disk c.args.site.now) (g.T.Site.disk c.read_log.new.site) in
+    with_any c.from_residual.result P (λ why other. c.read_log.ensures.stays t)
 
 pub returns-in_err-end-clause-illegal : goal.returns-in_err-end-clause-illegal
 returns-in_err-end-clause-illegal g c entry t is = absurd (c.read_log.ensures.never entry (search rules))
@@ -50,44 +49,32 @@ returns-in-Some-clause-never g c format entry entries t sound is =
 
 -- ---- where all are
 
-pub returns-in_err-send_legal-clause-sends : goal.returns-in_err-send_legal-clause-sends
-returns-in_err-send_legal-clause-sends g c t =
+pub returns-in_err-send_legal-in-None-clause-sends : goal.returns-in_err-send_legal-in-None-clause-sends
+returns-in_err-send_legal-in-None-clause-sends g c t =
     let t1 = c.read_log.ensures.site.still_told t in
     verdict_part (g.T.Site.disk c.args.site.now) (g.T.Site.disk c.read_log.new.site) (g.T.Site.disk c.send_legal.new.site)
     (g.met.T.Site.lawful c.args.site.now t) (g.met.T.Site.lawful c.read_log.new.site t1) (c.read_log.ensures.stays t)
     c.args.defs.now c.args.scripts.now.scripts (as_front c.args.front.now) c.in_ok-end.end.entries
     (c.in_ok-end.ensures.legal t c.in-None.is) (c.send_legal.ensures.part t1)
 
-pub returns-in_err-send_legal-clause-silent : goal.returns-in_err-send_legal-clause-silent
-returns-in_err-send_legal-clause-silent g c t =
-    λ other.
-    let t1 = c.read_log.ensures.site.still_told t in
-    stays_then (g.T.Site.disk c.args.site.now) (g.T.Site.disk c.read_log.new.site)
-    (g.T.Site.disk c.send_legal.new.site) (g.met.T.Site.lawful c.args.site.now t)
-    (g.met.T.Site.lawful c.read_log.new.site t1) (c.read_log.ensures.stays t)
-    (c.in_err-send_legal.ensures.silent t1 other)
-
-pub returns-clause-legal : goal.returns-clause-legal
-returns-clause-legal g c t = c.in_ok-end.ensures.legal t c.in-None.is
-
-pub returns-clause-sent : goal.returns-clause-sent
-returns-clause-sent g c t =
+pub returns-in_ok-send_legal-in-None-clause-sent : goal.returns-in_ok-send_legal-in-None-clause-sent
+returns-in_ok-send_legal-in-None-clause-sent g c t =
     let t1 = c.read_log.ensures.site.still_told t in
     verdict_whole (g.T.Site.disk c.args.site.now) (g.T.Site.disk c.read_log.new.site)
     (g.T.Site.disk c.send_legal.new.site)
     (g.met.T.Site.lawful c.args.site.now t) (g.met.T.Site.lawful c.read_log.new.site t1) (c.read_log.ensures.stays t)
-    (legal_text c.in_ok-end.end.entries) (c.in_ok-send_legal.ensures.sent t1)
+    (legal_text c.in_ok-end.end.entries) (c.in_ok-send_legal-in-None.ensures.sent t1)
 
-pub returns-clause-sends : goal.returns-clause-sends
-returns-clause-sends g c t =
+pub returns-in_ok-send_legal-in-None-clause-sends : goal.returns-in_ok-send_legal-in-None-clause-sends
+returns-in_ok-send_legal-in-None-clause-sends g c t =
     let t1 = c.read_log.ensures.site.still_told t in
     verdict_part (g.T.Site.disk c.args.site.now) (g.T.Site.disk c.read_log.new.site) (g.T.Site.disk c.send_legal.new.site)
     (g.met.T.Site.lawful c.args.site.now t) (g.met.T.Site.lawful c.read_log.new.site t1) (c.read_log.ensures.stays t)
     c.args.defs.now c.args.scripts.now.scripts (as_front c.args.front.now) c.in_ok-end.end.entries
     (c.in_ok-end.ensures.legal t c.in-None.is) (c.send_legal.ensures.part t1)
 
-pub returns-clause-means : goal.returns-clause-means
-returns-clause-means g c format entries t sound =
+pub returns-in_ok-send_legal-in-None-clause-means : goal.returns-in_ok-send_legal-in-None-clause-means
+returns-in_ok-send_legal-in-None-clause-means g c format entries t sound =
     sound_count c.args.defs.now c.args.scripts.now.scripts (as_front c.args.front.now)
     ((g.T.Site.disk c.args.site.now).contents 0) format entries sound c.in_ok-end.end.entries
     (c.in_ok-end.ensures.legal t c.in-None.is)

@@ -1,10 +1,9 @@
-use Rattle.std.proofs.Common.{◌≡◌, ◌+◌, ap, refl, subst, List, ℕ}
+use Rattle.std.proofs.Common.{◌+◌, ap, subst, List, ℕ}
 use Rattle.fp_audit.specs.Standing.{IsAt, rules_in}
 use Rattle.fp_model.specs.declared.log.Entry.{Entry}
 use Rattle.fp_restart.proofs.Groups.{stands_further}
 use Rattle.log_groups.specs.Reads.{HasGroup}
 use Rattle.site_audit.specs.Judged.{GoesOnTo}
-use Rattle.site_audit.proofs.auditing.audit_group.Given as given
 use Rattle.site_audit.proofs.auditing.audit_group.Goals as goal
 
 -- a site that tells what it holds has no group that goes nowhere
@@ -22,7 +21,7 @@ returns-clause-some g c t =
     let bytes = (g.T.Site.disk c.args.site.now).contents 0 in
     let its = c.in-Some.group in
     let old = c.args.auditor.now in
-    let new = c.first_illegal-illegal.new.auditor in
+    let new = c.first_illegal.new.auditor in
     let has : HasGroup bytes c.args.place.at its.entries its.next = rw c.in-Some.is at (c.in_ok-group.ensures.some t) in
     record {
       entries = its.entries;

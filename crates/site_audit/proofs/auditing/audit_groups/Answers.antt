@@ -1,4 +1,4 @@
-use Rattle.std.proofs.Common.{◌≡◌, ◌+◌, ◌∙◌, ap, sym, arith, rules, ◌≤◌, length, subst, List, ℕ}
+use Rattle.std.proofs.Common.{◌≡◌, ◌+◌, ◌∙◌, ap, refl, sym, arith, rules, length, subst, List, ℕ}
 use Rattle.std.specs.Prelude.{slice_index}
 use Rattle.fp_audit.specs.Standing.{IsAt, rules_in}
 use Rattle.fp_model.specs.Groups.{HoldsGroups, IsDamaged}
@@ -8,7 +8,6 @@ use Rattle.fp_restart.proofs.Groups.{read_at_most, read_inside}
 use Rattle.log_groups.specs.Reads.{HasGroup}
 use Rattle.site_audit.specs.Judged.{IsOneRead}
 use Rattle.site_audit.proofs.Judging.{are_held_more, are_held_none, are_read_more, are_read_none}
-use Rattle.site_audit.proofs.auditing.audit_groups.Given as given
 use Rattle.site_audit.proofs.auditing.audit_groups.Goals as goal
 
 pub returns-in_err-next-clause-damaged : goal.returns-in_err-next-clause-damaged
@@ -25,19 +24,24 @@ returns-in_err-next-clause-damaged g c at t is =
     }
 
 pub loop-next-init : goal.loop-next-init
-loop-next-init g c = record {
-  within = search rules;
-  entries = search rules;
-  rules = search rules;
-  same = search rules;
-  read_so_far = λ format begins t. are_read_none _ format (IsAt c.args.auditor.now) _ _ begins;
-  held = λ t. are_held_none _ _ _;
-  stays = λ t. record { contents = refl; sent = refl; crash = elapses_none _ _ };
-  calm = search rules;
-  only_log = λ set h. (h, λ other. refl);
-  read = λ told. omega arith;
-  site = record { later = omega arith; still_told = λ t. t; reference = refl; kept = λ x h. h };
-}
+loop-next-init g c =
+    let old = g.T.Site.disk c.args.site.now in
+    let its = rules_in c.args.auditor.now in
+    let first = c.args.log.now.gate in
+    record {
+      within = search rules;
+      entries = search rules;
+      rules = refl;
+      same = refl;
+      read_so_far = λ format begins t.
+          are_read_none its format (IsAt c.args.auditor.now) (old.contents 0) first c.gate.result (search rules) begins;
+      held = λ t. are_held_none its (old.contents 0) first c.gate.result (search rules);
+      stays = λ t. record { contents = refl; sent = refl; crash = elapses_none old old.may_leave };
+      calm = refl;
+      only_log = λ set h. (h, λ other. refl);
+      read = λ told. omega arith;
+      site = record { later = omega arith; still_told = λ t. t; reference = refl; kept = λ x h. h };
+    }
 
 pub loop-next-preserved : goal.loop-next-preserved
 loop-next-preserved g c =

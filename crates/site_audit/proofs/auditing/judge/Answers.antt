@@ -1,4 +1,4 @@
-use Rattle.std.proofs.Common.{◌≡◌, ◌<◌, ◌≤◌, ◌∙◌, refl, subst, length, List}
+use Rattle.std.proofs.Common.{◌∙◌, refl, subst, List}
 use Rattle.std.proofs.lemmas.List.{take_all}
 use Rattle.fp_audit.specs.Standing.{ComesNever, rules_in}
 use Rattle.fp_model.specs.declared.log.Entry.{Entry}
@@ -14,7 +14,7 @@ loop-number-preserved c =
     let its = rules_in c.args.auditor.now in
     let es = c.args.entries.now in
     let k = c.loop-number.number in
-    let e = c.entry-item.result in
+    let e = c.index-entries-number.result in
     record {
       stands = λ h at.
           let mid = it.stands h at in
@@ -22,7 +22,7 @@ loop-number-preserved c =
           let comes = subst (λ (r : Rules). Comes r mid.0 e on.next) (c.next.ensures.rules ∙ it.rules) on.comes in (
             with_entry e on.next mid.0,
             (
-              leads_more its h mid.0 es k e on.next c.loop-number-test.true c.entry-item.is mid.1.0 comes,
+              leads_more its h mid.0 es k e on.next c.loop-number-test.true c.index-entries-number.is mid.1.0 comes,
               on.stands,
             ),
           );
@@ -35,7 +35,7 @@ returns-then-not-branch-clause-found c h at =
     let its = rules_in c.args.auditor.now in
     let es = c.args.entries.now in
     let k = c.loop-number.number in
-    let e = c.entry-item.result in
+    let e = c.index-entries-number.result in
     let mid = it.stands h at in
     let never = subst (λ (r : Rules). ComesNever r mid.0 e) it.rules
     (c.in_ok-next.ensures.illegal mid.0 mid.1.1 c.if-not-branch.true) in
@@ -45,7 +45,7 @@ returns-then-not-branch-clause-found c h at =
       there = c.loop-number-test.true;
       mid = mid.0;
       before = mid.1.0;
-      never = leads_no_more its h mid.0 es k e c.loop-number-test.true c.entry-item.is mid.1.0 never;
+      never = leads_no_more its h mid.0 es k e c.loop-number-test.true c.index-entries-number.is mid.1.0 never;
     }
 
 pub returns-clause-found : goal.returns-clause-found

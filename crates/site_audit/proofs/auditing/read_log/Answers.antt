@@ -1,4 +1,4 @@
-use Rattle.std.proofs.Common.{◌≡◌, ◌+◌, ◌∙◌, ap, sym, arith, rules, subst, refl, length, List, ℕ}
+use Rattle.std.proofs.Common.{◌≡◌, ◌+◌, ◌∙◌, ap, sym, arith, rules, subst, length, List, ℕ}
 use Rattle.std.specs.Prelude.{◌≢◌, None, Some, slice_index}
 use Rattle.std.proofs.lemmas.List.{length-append}
 use Rattle.fp_audit.specs.Standing.{IsAt, rules_in}
@@ -9,14 +9,13 @@ use Rattle.fp_model.specs.Product.{rules_of}
 use Rattle.fp_model.specs.Rules.{Rules}
 use Rattle.fp_model.specs.State.{start}
 use Rattle.fp_site.proofs.Runs.{stays_then}
-use Rattle.log_groups.specs.Images.{BeginsFor, as_front, in_format}
+use Rattle.log_groups.specs.Images.{as_front, in_format}
 use Rattle.log_groups.proofs.Fronts.{same_gate}
 use Rattle.site_audit.specs.Judged.{AreBroken, AreRead}
 use Rattle.site_audit.specs.Legal.{IsIllegalLog, IsLegalLog}
 use Rattle.site_audit.specs.declared.auditing.Place.{Place}
 use Rattle.site_audit.proofs.Judging.{both_ok}
 use Rattle.site_audit.proofs.Logs.{broken_log, illegal_log, legal_log}
-use Rattle.site_audit.proofs.auditing.read_log.Given as given
 use Rattle.site_audit.proofs.auditing.read_log.Goals as goal
 
 pub returns-clause-legal : goal.returns-clause-legal

@@ -1,9 +1,12 @@
-use Rattle.std.proofs.Common.{◌≡◌, ◌∙◌, refl, subst, List, ℕ}
+use Rattle.std.proofs.Common.{◌≡◌, ◌∙◌, refl, subst}
+use Rattle.fp_site.specs.Disk.{Stays}
 use Rattle.fp_site.proofs.Runs.{elapses_none}
+use Rattle.site_audit.specs.declared.fault.AuditFault.{AuditFault}
+use Rattle.site_audit.specs.declared.fault.AuditFault.TheVariants as fault
 use Rattle.site_audit.specs.Verdicts.{legal_text}
 use Rattle.site_texts.specs.Sent.{HasSent, HasSentPart}
 use Rattle.site_texts.proofs.Told.{part_none, part_whole, sent_none}
-use Rattle.site_audit.proofs.auditing.send_legal.Given as given
+use Rattle.site_audit.proofs.Verdict.{with_any}
 use Rattle.site_audit.proofs.auditing.send_legal.Goals as goal
 
 pub returns-in_err-text-clause-part : goal.returns-in_err-text-clause-part
@@ -12,8 +15,10 @@ returns-in_err-text-clause-part g c t =
 
 pub returns-in_err-text-clause-silent : goal.returns-in_err-text-clause-silent
 returns-in_err-text-clause-silent g c t =
-    λ other. let d = g.T.Site.disk c.args.site.now in
-    record { contents = refl; sent = refl; crash = elapses_none d d.may_leave }
+    let d = g.T.Site.disk c.args.site.now in
+    let P : AuditFault → Type 0 = λ why. ¬ (why ≡ fault.SiteFault) → Stays d d in
+    with_any c.from_residual.result P
+    (λ why other. record { contents = refl; sent = refl; crash = elapses_none d d.may_leave })
 
 pub returns-in_err-send-clause-part : goal.returns-in_err-send-clause-part
 returns-in_err-send-clause-part g c t =
