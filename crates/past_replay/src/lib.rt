@@ -1,0 +1,9 @@
+//! One transaction of a log, run again alone: its script from the beginning, each call answered at the place of its
+//! entry or of a note, and its sync point.
+#![tactic(auto)]
+
+mod alone;
+mod replaying;
+
+pub use alone::Alone;
+pub use replaying::replay;
