@@ -9,9 +9,10 @@ use Rattle.std.specs.Option.{option_map}
 use Rattle.fp_model.specs.Lasts.{Last}
 use Rattle.fp_model.specs.declared.name.Name.{Name}
 use Rattle.fp_model.specs.State.{ascend, is_below}
-use Rattle.balancing.specs.Numbered.{IsPlace, as_last, lasts_in}
+use Rattle.balancing.specs.Numbered.{as_last, lasts_in}
+use Rattle.key_order.specs.Places.{IsPlace}
 use Rattle.balancing.specs.declared.lasts.Kept.{Kept}
-use Rattle.balancing.proofs.Ascending.{not_both, stands_there}
+use Rattle.key_order.proofs.Ascending.{not_both, stands_there}
 
 -- the name of a terminal
 abbrev pub key : Last → List ℕ

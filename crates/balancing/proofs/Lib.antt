@@ -1,4 +1,3 @@
 pub mod NameLemmas
 pub mod QueueLemmas
-pub mod Ascending
 mod LastLemmas

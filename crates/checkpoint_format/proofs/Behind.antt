@@ -6,7 +6,7 @@ use Rattle.fp_model.specs.State.{ascend, drop_key, is_below, put_by_key}
 use Rattle.std.specs.Int.{w64}
 use Rattle.log_format.specs.Reading.{many_at, number_at}
 use Rattle.checkpoint_format.specs.Reading.{last_at, numbered_at}
-use Rattle.balancing.proofs.Ascending.{IsAscending, all_above, below_differs, not_above, tail_ascends}
+use Rattle.key_order.proofs.Ascending.{IsAscending, all_above, below_differs, not_above, tail_ascends}
 
 middle : {X : Type 0} (P : X → Type 0) (xs : List X) (x : X) (more : List X) → AllByRecursion P (xs ++ x ∷ more) → P x
 middle P [] x more all = all.0

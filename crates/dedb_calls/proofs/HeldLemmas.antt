@@ -16,7 +16,7 @@ use Rattle.fp_model.specs.Shape.{has_length, is_anchor}
 use Rattle.fp_model.specs.Workspace.{DedbPosition, Workspace, no_dedb_position}
 use Rattle.dli_tree.specs.InOrder.{any_ends}
 use Rattle.state_laws.specs.Edits.{FitsEdit, FitsEnd}
-use Rattle.state_laws.proofs.Ascending.{same_is}
+use Rattle.key_order.proofs.Ascending.{same_is}
 use Rattle.state_laws.proofs.Roots.{edited_good}
 use Rattle.dedb_calls.specs.Anchors.{Ascend, Sees, held_at}
 use Rattle.dedb_calls.specs.Calls.{is_locked}

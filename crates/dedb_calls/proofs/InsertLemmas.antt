@@ -31,7 +31,7 @@ use Rattle.dli_tree.specs.Paths.{step_of, steps_of}
 use Rattle.dli_tree.specs.declared.path.Step.{Step as StepOf}
 use Rattle.dli_tree.proofs.Leading.{leads_is}
 use Rattle.state_laws.specs.Edits.{AreDirect as EditDirect, FitsEdit, FitsEnd}
-use Rattle.state_laws.proofs.Ascending.{same_is}
+use Rattle.key_order.proofs.Ascending.{same_is}
 use Rattle.state_laws.proofs.Lists.{all_at, first_true, second_true}
 use Rattle.state_laws.proofs.Paths.{ends_fit, insert_direct}
 use Rattle.state_laws.proofs.Roots.{edited_good}

@@ -2,7 +2,6 @@ pub mod AnswerLemmas
 pub mod FitLemmas
 pub mod HoldingLemmas
 pub mod BeginLemmas
-pub mod KeyLemmas
 pub mod ReadyLemmas
 pub mod StoreLemmas
 pub mod TargetLemmas

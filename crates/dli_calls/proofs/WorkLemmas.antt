@@ -20,9 +20,11 @@ use Rattle.dedb_calls.specs.Progress.{DedbProgress, IsDedbWorkOf}
 use Rattle.dedb_calls.specs.declared.anchors.HeldAnchor.{HeldAnchor}
 use Rattle.dli_calls.specs.declared.reply.Change.{Change}
 use Rattle.dli_calls.specs.declared.reply.Change.TheVariants as change
-use Rattle.dli_calls.specs.Progress.{FitsPosition, IsWorkOf, Progress, dedbs_in, is_among}
+use Rattle.dli_calls.specs.Progress.{FitsPosition, IsWorkOf, Progress, dedbs_in}
+use Rattle.segment_keys.specs.Keys.{is_among}
 use Rattle.dli_calls.specs.Targets.{LeavesDedbs}
-use Rattle.dli_calls.specs.Replies.{FitsChange, FitsQueue, is_marked, mark_in, mark_of, own_behind}
+use Rattle.dli_calls.specs.Replies.{FitsChange, FitsQueue, mark_in, mark_of, own_behind}
+use Rattle.segment_keys.specs.Keys.{is_marked}
 
 -- ---- positions
 

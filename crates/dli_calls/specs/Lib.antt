@@ -1,5 +1,4 @@
 pub mod Holding
-pub mod Keys
 pub mod Progress
 pub mod Readiness
 pub mod Replies

@@ -15,7 +15,6 @@ use Rattle.fp_model.specs.FitCalls.{FitsKey, FitsSegment, IsFsaList, IsShownOn}
 use Rattle.fp_model.specs.MsdbCalls.{held_key, is_put_or_dropped, hold_ended, with_position}
 use Rattle.fp_model.specs.State.{key_of}
 use Rattle.fp_model.specs.Texts.{same_text, trimmed}
-use Rattle.fp_model.specs.Waiting.{same_resource}
 use Rattle.fp_model.specs.WellFormed.{IsMsdbDef}
 use Rattle.fp_model.specs.Workspace.{Workspace}
 use Rattle.msdb_store.specs.Store.{IsOf}
@@ -84,9 +83,6 @@ abbrev pub mark_in : MsdbDef → Change → Option Resource
 mark_in def change.Nothing = None
 mark_in def (change.Found key hold) = None
 mark_in def (change.Queued d) = mark_of def d
-
-abbrev pub is_marked : Option Resource → Resource → Bool
-is_marked mark resource = option_map_or (λ marked. same_resource marked resource) mark false
 
 -- ---- answers
 

@@ -3,7 +3,8 @@ ghost use Rattle.ci_locks.specs.Table.{standing};
 ghost use Rattle.dedb_calls.specs.Anchors.{Sees};
 ghost use Rattle.dedb_calls.specs.Calls.{FitsCallOn};
 ghost use Rattle.dedb_calls.specs.Progress.{GoesOn, Knows};
-ghost use Rattle.dli_calls.specs.Progress.{FitsPosition, IsWorkOf, dedbs_in, is_among};
+ghost use Rattle.dli_calls.specs.Progress.{FitsPosition, IsWorkOf, dedbs_in};
+ghost use Rattle.segment_keys.specs.Keys.{is_among};
 ghost use Rattle.dli_calls.specs.Readiness.{IfAnswer, OnNeed, needed_exclusive, needed_in, ready_in};
 ghost use Rattle.dli_calls.specs.Replies.{IsDatabase, ShowsFound, is_changed, key_to_change, segments_in};
 ghost use Rattle.dli_calls.specs.Targets.{FitsWork, IfDedb, LeavesDedbs, LeavesMsdbs, LeavesOthers};
@@ -27,7 +28,6 @@ ghost use Rattle.std.specs.Option.{option_copied, option_map, option_map_or};
 ghost use Rattle.std.specs.Prelude.{◌≡◌, ◌-◌, ◌<◌, ◌≤◌, ◌++◌, ◌∷◌, [], IfOk, List as ListOf, OnErr, Some, if◌then◌else◌, length, option_and_then, slice_get, true, ℕ};
 
 use crate::database::{Database, key_in};
-use crate::keys::SegmentKey;
 use crate::reply::Reply;
 use crate::replying::key_named;
 use crate::work::Work;
@@ -36,6 +36,7 @@ use dedb_calls::DedbReady;
 use fp_exits::Exits;
 use fp_model::{Answer, Bytes, Call, Defs, Get, Mode, Resource};
 use msdb_store::MsdbStore;
+use segment_keys::SegmentKey;
 use std::alloc::{AllocError, Global};
 
 /// What a call comes to.

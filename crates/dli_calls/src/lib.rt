@@ -5,7 +5,6 @@
 
 mod answering;
 mod database;
-mod keys;
 mod laws;
 mod letters;
 mod reply;

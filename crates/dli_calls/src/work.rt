@@ -12,15 +12,17 @@ ghost use Rattle.fp_model.specs.declared.calls.Resource.{Resource as ResourceOf}
 ghost use Rattle.fp_model.specs.declared.database.Db.{Db as DbOf};
 ghost use Rattle.fp_model.specs.declared.definitions.DedbDef.{DedbDef as DedbOf};
 ghost use Rattle.fp_model.specs.declared.definitions.Defs.{Defs as DefsOf};
-ghost use Rattle.dli_calls.specs.Keys.{resource_of};
-ghost use Rattle.dli_calls.specs.Progress.{IsWorkOf, dedbs_in, is_among, noted};
-ghost use Rattle.dli_calls.specs.Replies.{is_marked, mark_in, mark_of, own_behind};
+ghost use Rattle.segment_keys.specs.Keys.{resource_of};
+ghost use Rattle.dli_calls.specs.Progress.{IsWorkOf, dedbs_in, noted};
+ghost use Rattle.segment_keys.specs.Keys.{is_among};
+ghost use Rattle.dli_calls.specs.Replies.{mark_in, mark_of, own_behind};
+ghost use Rattle.segment_keys.specs.Keys.{is_marked};
 
 use crate::database::key_in;
-use crate::keys::{Keys, SegmentKey};
 use crate::reply::Change;
 use dedb_calls::DedbWork;
 use fp_model::{AnchorChange, Bytes, Deferred, Defs, List, MsdbDef, Root, SeqInsert};
+use segment_keys::{Keys, SegmentKey};
 use std::alloc::{AllocError, Global};
 use std::marker::Model;
 

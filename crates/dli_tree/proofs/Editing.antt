@@ -22,7 +22,7 @@ use Rattle.dli_tree.specs.InOrder.{are_in_order}
 use Rattle.dli_tree.specs.Descents.{leads_below, leads_to, twin_of}
 use Rattle.dli_tree.specs.declared.place.Place.{Place}
 use Rattle.dli_tree.specs.declared.place.Place.TheVariants.{Lacks, Stands}
-use Rattle.dli_tree.proofs.Ascending.{changed_at, changed_none, dropped_at, dropped_none, first_of, found_at, found_there, no_same, none_is_not_some, not_both, second_of, put_at, put_behind}
+use Rattle.key_order.proofs.Ascending.{changed_at, changed_none, dropped_at, dropped_none, first_of, found_at, found_there, no_same, none_is_not_some, not_both, second_of, put_at, put_behind}
 
 pub one_is : {X : Type 0} (x y : X) → Some x ≡ Some y → x ≡ y
 one_is x y e = cc

@@ -16,7 +16,7 @@ use Rattle.fp_model.specs.State.{ascend, is_below}
 use Rattle.fp_model.specs.Texts.{same_text}
 use Rattle.dli_tree.specs.Descents.{AreDirect, leads_below, leads_to, twin_of}
 use Rattle.dli_tree.specs.InOrder.{any_ends, are_in_order}
-use Rattle.dli_tree.proofs.Ascending.{IsAscending, all_above, below_differs, differs_back, first_of, is_same, none_is_not_some, not_both, same_is, second_of, tail_ascends}
+use Rattle.key_order.proofs.Ascending.{IsAscending, all_above, below_differs, differs_back, first_of, is_same, none_is_not_some, not_both, same_is, second_of, tail_ascends}
 use Rattle.dli_tree.proofs.Entering.{false_and}
 use Rattle.dli_tree.proofs.Editing.{one_is, row_shape}
 use Rattle.dli_tree.proofs.Roots.{all_roots, roots_ascend, shaped}

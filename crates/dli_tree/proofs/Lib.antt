@@ -1,4 +1,3 @@
-pub mod Ascending
 pub mod Positions
 pub mod Entering
 pub mod Reaching

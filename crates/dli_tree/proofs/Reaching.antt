@@ -10,9 +10,9 @@ use Rattle.fp_model.specs.Texts.{same_text}
 use Rattle.dli_tree.specs.Aims.{Search, agrees, entered, fits, inside_step, past_step}
 use Rattle.dli_tree.specs.Paths.{step_of, steps_of}
 use Rattle.dli_tree.specs.declared.path.Step.{Step as StepOf}
-use Rattle.dli_tree.specs.Places.{IsPlace}
+use Rattle.key_order.specs.Places.{IsPlace}
 use Rattle.dli_tree.specs.Reaches.{IsLeft}
-use Rattle.dli_tree.proofs.Ascending.{IsAscending, all_above, all_at, below_differs, below_trans, differs_back, not_above, not_below_itself, not_both, same_is, tail_ascends}
+use Rattle.key_order.proofs.Ascending.{IsAscending, all_above, all_at, below_differs, below_trans, differs_back, not_above, not_below_itself, not_both, same_is, tail_ascends}
 use Rattle.dli_tree.proofs.Entering.{false_and}
 
 -- ---- steps that aren't entered

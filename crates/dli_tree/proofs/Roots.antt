@@ -27,7 +27,7 @@ use Rattle.dli_tree.specs.InOrder.{any_ends, are_in_order}
 use Rattle.dli_tree.specs.Paths.{occurrence_of, path_steps, place_of, step_of, steps_of}
 use Rattle.dli_tree.specs.Reaches.{IsLeft}
 use Rattle.dli_tree.proofs.Admitting.{admitted, not_admitted}
-use Rattle.dli_tree.proofs.Ascending.{all_at, first_of, none_is_not_some, not_both, second_of, some_is}
+use Rattle.key_order.proofs.Ascending.{all_at, first_of, none_is_not_some, not_both, second_of, some_is}
 use Rattle.dli_tree.proofs.Entering.{false_and, find_under, found_below, none_behind, none_within, wants_down}
 use Rattle.dli_tree.proofs.Lines.{IsFrom, IsLine, all_append, rows_line, under_from}
 use Rattle.dli_tree.proofs.Rows.{found_from, orders, skipped}

@@ -20,7 +20,7 @@ use Rattle.dli_tree.specs.declared.aim.Aim.{Aim}
 use Rattle.dli_tree.specs.declared.path.Path.{Path}
 use Rattle.dli_tree.specs.Paths.{occurrence_of}
 use Rattle.dli_tree.specs.Reaches.{IsLeft}
-use Rattle.dli_tree.proofs.Ascending.{all_at, first_of, none_is_not_some, not_both, second_of, stands_there}
+use Rattle.key_order.proofs.Ascending.{all_at, first_of, none_is_not_some, not_both, second_of, stands_there}
 use Rattle.dli_tree.proofs.Entering.{false_and, find_under, found_below}
 use Rattle.dli_tree.proofs.Lines.{IsFrom, IsLine, end_from, ends_are, first_stands, node_from, stands_on}
 use Rattle.dli_tree.proofs.Positions.{is_equal}

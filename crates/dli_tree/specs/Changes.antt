@@ -5,7 +5,7 @@ use Rattle.fp_model.specs.declared.definitions.SegDef.{SegDef}
 use Rattle.fp_model.specs.Order.{Edit, Inserts, Replaces, Deletes, Step, below_edited, node_key, nodes_edited}
 use Rattle.fp_model.specs.State.{change_key}
 use Rattle.fp_model.specs.Texts.{same_text}
-use Rattle.dli_tree.specs.Places.{IsPlace}
+use Rattle.key_order.specs.Places.{IsPlace}
 use Rattle.dli_tree.specs.declared.edit.Change.{Change}
 use Rattle.dli_tree.specs.declared.edit.Change.TheVariants.{Delete, Insert, Replace}
 use Rattle.dli_tree.specs.declared.place.Place.{Place}

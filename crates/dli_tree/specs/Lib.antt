@@ -1,7 +1,6 @@
 pub mod Paths
 pub mod InOrder
 pub mod Aims
-pub mod Places
 pub mod Reaches
 pub mod Changes
 pub mod Descents

@@ -1,5 +1,5 @@
 -- The bytes of a list, read in place from argument to argument.
-use Rattle.std.proofs.Common.{◌≡◌, refl, sym, ap, ◌∙◌, arith, ℕ, zero, suc, ◌+◌, ◌≤◌, List, [], ◌∷◌, length, Bool, true, false, ◌==◌, if◌then◌else◌, Some, None}
+use Rattle.std.proofs.Common.{◌≡◌, refl, sym, ◌∙◌, ℕ, zero, suc, ◌+◌, List, [], ◌∷◌, length, Bool, true, false, ◌==◌, if◌then◌else◌, Some, None}
 use Rattle.fp_model.specs.Fsas.{Fsa, ListReading, Whole, Short, BadConnector, operand_length, connector_in, behind, fsa_in, with_fsa, joined, fsas_from, fsas_of, fsas_in}
 use Rattle.fp_model.specs.FitCalls.{IsFsaList}
 use Rattle.fld_calls.proofs.ReadLemmas.{one_from, short_from}

@@ -1,6 +1,7 @@
 pub mod Comparing
 pub mod Digits
 mod Fronts
+pub mod Kept
 pub mod Letters
 mod ListBytes
 pub mod ListLemmas

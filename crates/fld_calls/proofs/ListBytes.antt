@@ -1,5 +1,5 @@
 -- The bytes of a list that fits are read as the list.
-use Rattle.std.proofs.Common.{◌≡◌, ap, ◌∙◌, arith, ℕ, zero, suc, All, List, [], ◌∷◌, length}
+use Rattle.std.proofs.Common.{◌≡◌, ap, ◌∙◌, arith, ℕ, zero, suc, All, List, [], ◌∷◌}
 use Rattle.std.specs.List.{AllByRecursion}
 use Rattle.fp_model.specs.Fsas.{Fsa, IsFsa, ListReading, Whole, Short, BadConnector, fsas_in, fsas_of}
 use Rattle.fp_model.specs.FitCalls.{IsFsaList}

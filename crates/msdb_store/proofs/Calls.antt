@@ -23,10 +23,10 @@ use Rattle.fp_model.specs.declared.log.Item.TheVariants.{Segment}
 use Rattle.msdb_store.specs.Settling.{has_bytes, key_in}
 use Rattle.msdb_store.specs.Steps.{IsChanged, IsGiven, given_as}
 use Rattle.msdb_store.specs.Store.{IsFitSegment, IsOf, Stored, segment_in}
-use Rattle.msdb_store.proofs.Ascending.{not_both, same_is, stands_there}
+use Rattle.key_order.proofs.Ascending.{not_both, same_is, stands_there}
 use Rattle.msdb_store.proofs.Tables.{belongs, stored, with_room}
 use Rattle.msdb_store.proofs.Databases.{Partner, in_as, in_at, in_database, partner, with_at}
-use Rattle.msdb_store.proofs.Kept.{HasKey, has_key, list_keeps}
+use Rattle.fld_calls.proofs.Kept.{HasKey, has_key, list_keeps}
 use Rattle.msdb_store.proofs.Lookups.{found_has, found_is}
 
 pub all_got : {X : Type 0} (P : X → Type 0) (xs : List X) (n : ℕ) (x : X) → AllByRecursion P xs

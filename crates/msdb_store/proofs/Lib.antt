@@ -1,8 +1,6 @@
-mod Ascending
 mod Calls
 mod Databases
 pub mod ItemLemmas
-mod Kept
 mod Loads
 mod Lookups
 mod Names

@@ -4,7 +4,7 @@ use Rattle.std.specs.Prelude.{find, if◌then◌else◌}
 use Rattle.std.specs.List.{AllByRecursion}
 use Rattle.fp_model.specs.State.{is_below, put_by_key, drop_key}
 use Rattle.fp_model.specs.Texts.{same_text}
-use Rattle.msdb_store.proofs.Ascending.{IsAscending, all_above, is_same, none_behind, none_is_not_some, not_above, not_below_itself, not_both, same_is, some_is, tail_ascends}
+use Rattle.key_order.proofs.Ascending.{IsAscending, all_above, is_same, none_behind, none_is_not_some, not_above, not_below_itself, not_both, same_is, some_is, tail_ascends}
 use Prim.Native.Nat.{ℕ}
 
 -- two keys that are the same as a third are the same

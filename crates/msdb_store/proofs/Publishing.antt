@@ -16,7 +16,7 @@ use Rattle.msdb_store.specs.Putting.{AreFew, CanPut, KeepsRoom}
 use Rattle.msdb_store.specs.Settling.{IsSegmentItem, IsStaged, adds, has_bytes}
 use Rattle.msdb_store.specs.Store.{IsFitSegment, IsOf, Stored, segment_in}
 use Rattle.msdb_store.specs.Touches.{Touch, made}
-use Rattle.msdb_store.proofs.Ascending.{below_differs, below_trans, not_both}
+use Rattle.key_order.proofs.Ascending.{below_differs, below_trans, not_both}
 use Rattle.msdb_store.proofs.Stagings.{behind_item, first_true, is_number, number_is, second_true}
 
 -- ---- the order of items

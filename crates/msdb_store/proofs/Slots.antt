@@ -7,9 +7,9 @@ use Rattle.std.proofs.lemmas.List.{get_or-map, get_or-set_same, get_or-set_other
 use Rattle.std.proofs.lemmas.List.Edits.{length-insert, length-remove}
 use Rattle.std.proofs.lemmas.List.Sums.{sum_by-cons, sum_by-insert, sum_by-remove, sum_by_push, sum_by-take-le, sum_by-take-drop, sum_by-drop_more, get_or-le-sum_by}
 use Rattle.fp_model.specs.State.{ascend, is_below, numbers_up}
-use Rattle.msdb_store.specs.Places.{IsPlace}
+use Rattle.key_order.specs.Places.{IsPlace}
 use Rattle.msdb_store.specs.Slots.{AreSlots, in_slots, slot_of, times}
-use Rattle.msdb_store.proofs.Ascending.{not_both}
+use Rattle.key_order.proofs.Ascending.{not_both}
 
 -- ---- how often a number stands in a list
 

@@ -20,7 +20,7 @@ use Rattle.fp_model.specs.State.{ascend, is_below, key_of, loaded, put_by_key}
 use Rattle.fp_model.specs.Texts.{same_text}
 use Rattle.fp_model.specs.WellFormed.{IsMsdbDef}
 use Rattle.fp_model.specs.declared.definitions.MsdbDef.{MsdbDef}
-use Rattle.msdb_store.proofs.Ascending.{all_above, below_differs, is_same, not_both, same_is, same_or_above, tail_ascends}
+use Rattle.key_order.proofs.Ascending.{all_above, below_differs, is_same, not_both, same_is, same_or_above, tail_ascends}
 use Rattle.msdb_store.proofs.Loads.{good_load}
 use Rattle.msdb_store.proofs.Lookups.{at, at_first, at_later, found_has, found_is, same_list}
 

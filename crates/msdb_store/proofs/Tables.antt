@@ -14,7 +14,7 @@ use Rattle.fp_model.specs.Settle.{with_msdb}
 use Rattle.fp_model.specs.State.{ascend, drop_key, put_by_key, key_of, segment_of, segment_after, with_segment, without_segment, is_below}
 use Rattle.fp_model.specs.declared.log.Item.{Item}
 use Rattle.fp_model.specs.declared.log.Item.TheVariants.{Segment}
-use Rattle.msdb_store.proofs.Ascending.{all_but, all_put, still_ascends, with_one_ascends}
+use Rattle.key_order.proofs.Ascending.{all_but, all_put, still_ascends, with_one_ascends}
 use Rattle.std.proofs.lemmas.List.{map-set}
 use Rattle.fp_model.specs.Texts.{same_text}
 

@@ -1,8 +1,7 @@
 -- Where a key stands among elements whose keys ascend.
-use Rattle.std.specs.Prelude.{◌≡◌, ℕ, ◌<◌, ◌≤◌, List, length, true, false, if◌then◌else◌, Option, Some, None, slice_get}
-use Rattle.std.specs.List.{AllWithin}
-use Rattle.fp_model.specs.State.{is_below}
+use Rattle.std.specs.Prelude.{◌≡◌, ℕ, ◌<◌, ◌≤◌, List, true, Option, Some, None, slice_get}
 use Rattle.fp_model.specs.Texts.{same_text}
+use Rattle.key_order.specs.Places.{IsPlace, if_same}
 use Rattle.msdb_store.specs.declared.keyed.Place.{Place}
 use Rattle.msdb_store.specs.declared.keyed.Place.TheVariants.{Stands, Lacks}
 
@@ -12,17 +11,7 @@ IsWithin n (Stands at) = at < n
 IsWithin n (Lacks at) = at ≤ n
 
 module _ {X : Type 0} (key : X → List ℕ) (k : List ℕ) where
-  -- those in front of the place are below the key, and those from it on aren't
-  abbrev pub IsPlace : List X → ℕ → Type 0
-  IsPlace xs n = AllWithin (λ x. is_below (key x) k ≡ true) xs 0 n
-      × AllWithin (λ x. is_below (key x) k ≡ false) xs n (length xs)
-
-  -- the element, if it has the key
-  abbrev pub if_same : Option X → Option X
-  if_same None = None
-  if_same (Some x) = if same_text (key x) k then Some x else None
-
   -- the element of the key stands there, or there is none and it would stand there
   abbrev pub IsPlaced : List X → Place → Type 0
-  IsPlaced xs (Stands n) = IsPlace xs n × (x : X) × (slice_get xs n ≡ Some x) × (same_text (key x) k ≡ true)
-  IsPlaced xs (Lacks n) = IsPlace xs n × (if_same (slice_get xs n) ≡ None)
+  IsPlaced xs (Stands n) = IsPlace key k xs n × (x : X) × (slice_get xs n ≡ Some x) × (same_text (key x) k ≡ true)
+  IsPlaced xs (Lacks n) = IsPlace key k xs n × (if_same key k (slice_get xs n) ≡ None)

@@ -1,6 +1,6 @@
 //! Segments in order, each in a slot where it stays: an insert and a delete move numbers of slots, and no segment.
 ghost use Rattle.fp_model.specs.State.{ascend, is_below, numbers_up};
-ghost use Rattle.msdb_store.specs.Places.{IsPlace};
+ghost use Rattle.key_order.specs.Places.{IsPlace};
 ghost use Rattle.msdb_store.specs.Slots.{in_slots, slot_of};
 ghost use Rattle.msdb_store.specs.Store.{room};
 ghost use Rattle.std.specs.Option.{option_copied};

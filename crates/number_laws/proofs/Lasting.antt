@@ -5,7 +5,7 @@ use Rattle.fp_model.specs.declared.name.Name.{Name}
 use Rattle.fp_model.specs.Lasts.{Last, last_of, with_last}
 use Rattle.fp_model.specs.State.{drop_key, is_below, put_by_key}
 use Rattle.fp_model.specs.Texts.{same_text}
-use Rattle.balancing.proofs.Ascending.{is_same}
+use Rattle.key_order.proofs.Ascending.{is_same}
 
 abbrev name_of : Last → List ℕ
 name_of last = last.lterm.0

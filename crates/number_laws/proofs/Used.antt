@@ -25,7 +25,7 @@ use Rattle.fp_model.specs.Texts.{same_text}
 use Rattle.fp_model.proofs.HistoryLemmas.{entries_put, format_stays}
 use Rattle.serial_order.proofs.Lines.{last_leaves, lasts_push, refused_is_not_accepted}
 use Rattle.serial_order.proofs.Locks.{same_text_is}
-use Rattle.balancing.proofs.Ascending.{is_same}
+use Rattle.key_order.proofs.Ascending.{is_same}
 use Rattle.number_laws.specs.Once.{IsOnce, Repeats, Uses}
 use Rattle.number_laws.proofs.Lasting.{last_named, last_put}
 use Rattle.number_laws.proofs.Places.{StandsIn, at_end, before, get_last, stands_before, stands_in, take_front, take_last}

@@ -1,6 +1,5 @@
 mod AnswerLemmas
 mod BeginLemmas
 mod FitLemmas
-mod KeyLemmas
 mod PastLemmas
 mod WorkLemmas

@@ -16,8 +16,10 @@ use Rattle.fp_model.specs.Texts.{same_text}
 use Rattle.fp_model.specs.Workspace.{MsdbPosition, no_msdb_position}
 use Rattle.past_calls.specs.declared.reply.Change.{Change}
 use Rattle.past_calls.specs.declared.reply.Change.TheVariants as change
-use Rattle.past_calls.specs.Progress.{FitsPosition, IsWorkOf, Progress, is_among}
-use Rattle.past_calls.specs.Replies.{FitsChange, FitsQueue, is_marked, mark_in, mark_of, own_behind}
+use Rattle.past_calls.specs.Progress.{FitsPosition, IsWorkOf, Progress}
+use Rattle.segment_keys.specs.Keys.{is_among}
+use Rattle.past_calls.specs.Replies.{FitsChange, FitsQueue, mark_in, mark_of, own_behind}
+use Rattle.segment_keys.specs.Keys.{is_marked}
 
 -- ---- positions
 

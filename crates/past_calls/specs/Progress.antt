@@ -1,22 +1,19 @@
 -- What contracts see of a transaction under way.
-use Rattle.std.specs.Prelude.{ℕ, ◌≡◌, List, Bool, Some, IfSome, slice_get}
-use Rattle.std.specs.List.{AllByRecursion, AllZip, list_any}
+use Rattle.std.specs.Prelude.{ℕ, ◌≡◌, List, Some, IfSome, slice_get}
+use Rattle.std.specs.List.{AllByRecursion, AllZip}
 use Rattle.fp_model.specs.declared.definitions.Defs.{Defs}
 use Rattle.fp_model.specs.declared.definitions.MsdbDef.{MsdbDef}
 use Rattle.fp_model.specs.declared.calls.Resource.{Resource}
 use Rattle.fp_model.specs.declared.calls.Resource.TheVariants.{Segment}
 use Rattle.fp_model.specs.FitCalls.{FitsKey, IsFitDeferred}
 use Rattle.fp_model.specs.MsdbCalls.{is_put_or_dropped}
-use Rattle.fp_model.specs.Waiting.{same_resource}
 use Rattle.fp_model.specs.Workspace.{MsdbPosition, Workspace}
+use Rattle.segment_keys.specs.Keys.{is_among}
 
 -- What it keeps to itself, and the keys whose segments its queue inserts or deletes.
 pub record Progress : Type 0 where
   pub own : Workspace
   pub changed : List Resource
-
-abbrev pub is_among : List Resource → Resource → Bool
-is_among resources resource = list_any (λ other. same_resource other resource) resources
 
 -- the segment found last has a key of the database's length
 abbrev pub FitsPosition : MsdbDef → MsdbPosition → Type 0

@@ -9,18 +9,19 @@ ghost use Rattle.fp_model.specs.declared.database.Db.{Db as DbOf};
 ghost use Rattle.fp_model.specs.declared.definitions.Defs.{Defs as DefsOf};
 ghost use Rattle.fp_model.specs.declared.definitions.MsdbDef.{MsdbDef as DefOf};
 ghost use Rattle.past_segments.specs.Pasts.{ArePastsOf, IsPastOf, databases_at};
-ghost use Rattle.past_calls.specs.Progress.{FitsPosition, IsWorkOf, is_among};
+ghost use Rattle.past_calls.specs.Progress.{FitsPosition, IsWorkOf};
+ghost use Rattle.segment_keys.specs.Keys.{is_among};
 ghost use Rattle.past_calls.specs.Replies.{IsDatabase, ShowsFound, is_changed, key_to_change, noted_in, segments_in};
 ghost use Rattle.std.specs.List.{AllByRecursion};
 ghost use Rattle.std.specs.Option.{option_copied};
 ghost use Rattle.std.specs.Prelude.{◌≡◌, ◌<◌, IfOk, List as ListOf, OnErr, Some, length, slice_get, ℕ};
 
 use crate::database::{Database, key_in};
-use crate::keys::SegmentKey;
 use crate::reply::Reply;
 use crate::work::Work;
 use fp_model::{Answer, Call, Defs, Get, MsdbDef};
 use past_segments::PastSegments;
+use segment_keys::SegmentKey;
 use std::alloc::{AllocError, Global};
 
 // The database that a call names.

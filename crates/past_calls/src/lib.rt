@@ -4,7 +4,6 @@
 
 mod answering;
 mod database;
-mod keys;
 mod letters;
 mod reply;
 mod replying;

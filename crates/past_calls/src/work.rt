@@ -3,14 +3,16 @@ ghost use Rattle.std.specs.Option.{option_copied, option_map};
 ghost use Rattle.std.specs.Prelude.{◌≡◌, ◌<◌, ◌++◌, ◌∷◌, ◌||◌, ◌&&◌, ◌==◌, [], IfOk, IsTrue, List as ListOf, None, OnErr, OnOk, if◌then◌else◌, is_some, length, slice_get, slice_set, true, unwrap_or, ℕ, false, Some};
 ghost use Rattle.fp_model.specs.Workspace.{fresh, no_msdb_position};
 ghost use Rattle.fp_model.specs.declared.calls.Resource.{Resource as ResourceOf};
-ghost use Rattle.past_calls.specs.Keys.{resource_of};
-ghost use Rattle.past_calls.specs.Progress.{IsWorkOf, is_among};
-ghost use Rattle.past_calls.specs.Replies.{is_marked, mark_in, mark_of, own_behind};
+ghost use Rattle.segment_keys.specs.Keys.{resource_of};
+ghost use Rattle.past_calls.specs.Progress.{IsWorkOf};
+ghost use Rattle.segment_keys.specs.Keys.{is_among};
+ghost use Rattle.past_calls.specs.Replies.{mark_in, mark_of, own_behind};
+ghost use Rattle.segment_keys.specs.Keys.{is_marked};
 
 use crate::database::key_in;
-use crate::keys::{Keys, SegmentKey};
 use crate::reply::Change;
 use fp_model::{Bytes, Deferred, Defs, List, MsdbDef};
+use segment_keys::{Keys, SegmentKey};
 use std::alloc::{AllocError, Global};
 use std::marker::Model;
 

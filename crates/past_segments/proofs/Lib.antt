@@ -1,5 +1,4 @@
 pub mod PastLaws
-pub mod Ascending
 mod PastLemmas
 mod Showing
 mod Values

@@ -7,7 +7,7 @@ use Rattle.fp_model.specs.Texts.{same_text}
 use Rattle.past_segments.specs.Times.{EndsBy, IsSettledBy, Past, database_at, is_late, segments_at, value_at}
 use Rattle.past_segments.specs.declared.slot.Slot.{Slot}
 use Rattle.past_segments.specs.declared.slot.Version.{Version}
-use Rattle.past_segments.proofs.Ascending.{is_same}
+use Rattle.key_order.proofs.Ascending.{is_same}
 use Rattle.past_segments.proofs.PastLemmas.{is_late_slot, late_in, value_later}
 
 first_no : (a b : Bool) → (a || b) ≡ false → a ≡ false

@@ -6,11 +6,11 @@ use Rattle.std.specs.List.{AllByRecursion, insert, list_any}
 use Rattle.std.proofs.lemmas.Bool.{lt-leb, le-leb}
 use Rattle.fp_model.specs.State.{ascend, is_below, put_by_key, drop_key}
 use Rattle.fp_model.specs.Texts.{same_text}
-use Rattle.past_segments.specs.Places.{IsPlace, if_same}
+use Rattle.key_order.specs.Places.{IsPlace, if_same}
 use Rattle.past_segments.specs.Times.{AreSlots, EndsBefore, EndsBy, FitsSlot, Rises, segments_at, value_at}
 use Rattle.past_segments.specs.declared.slot.Slot.{Slot}
 use Rattle.past_segments.specs.declared.slot.Version.{Version}
-use Rattle.past_segments.proofs.Ascending.{IsAscending, all_above, below_differs, differ, differs_back, dropped_none, place_behind, put_in as put_in_order, same_is, tail_ascends, with_one_ascends}
+use Rattle.key_order.proofs.Ascending.{IsAscending, all_above, below_differs, differ, differs_back, dropped_none, place_behind, put_in as put_in_order, same_is, tail_ascends, with_one_ascends}
 use Rattle.past_segments.proofs.Showing as showing
 
 abbrev pub key : Slot → List ℕ

@@ -5,8 +5,8 @@ use Rattle.std.specs.Option.{option_and_then}
 use Rattle.std.specs.List.{AllByRecursion, cons_option, filter_map, insert, list_any}
 use Rattle.fp_model.specs.State.{is_below, put_by_key, drop_key}
 use Rattle.fp_model.specs.Texts.{same_text}
-use Rattle.past_segments.specs.Places.{IsPlace, if_same}
-use Rattle.past_segments.proofs.Ascending.{IsAscending, all_above, below_differs, below_trans, differs_back, not_above, not_below_itself, place_behind, same_is, same_or_above, some_is, none_is_not_some, tail_ascends}
+use Rattle.key_order.specs.Places.{IsPlace, if_same}
+use Rattle.key_order.proofs.Ascending.{IsAscending, all_above, below_differs, below_trans, differs_back, not_above, not_below_itself, place_behind, same_is, same_or_above, some_is, none_is_not_some, tail_ascends}
 
 -- ---- segments that all are above a key
 

@@ -8,7 +8,7 @@ use Rattle.std.proofs.lemmas.Bool.{leb-true, leb-false, le-leb, lt-leb}
 use Rattle.std.proofs.lemmas.List.Sums.{fold-append}
 use Rattle.past_segments.specs.Times.{EndsBefore, EndsBy, Rises, reaches, value_at, value_before}
 use Rattle.past_segments.specs.declared.slot.Version.{Version}
-use Rattle.past_segments.proofs.Ascending.{all_at, not_both, stands_there}
+use Rattle.key_order.proofs.Ascending.{all_at, not_both, stands_there}
 
 -- ---- up to a place
 

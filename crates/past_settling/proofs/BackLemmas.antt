@@ -15,7 +15,7 @@ use Rattle.past_segments.specs.Times.{EndsBy, IsSettledBy, Past, database_at, is
 use Rattle.past_segments.specs.declared.slot.Slot.{Slot}
 use Rattle.past_segments.specs.declared.slot.Version.{Version}
 use Rattle.past_segments.proofs.PastLaws.{settled, shows_on}
-use Rattle.past_segments.proofs.Ascending.{same_is, stands_there}
+use Rattle.key_order.proofs.Ascending.{same_is, stands_there}
 use Rattle.past_settling.specs.Queues.{LeavesAll, TakesBack, any_names, is_it, late_at, names}
 use Rattle.past_settling.proofs.QueueLemmas.{get_other, get_set, map_same}
 

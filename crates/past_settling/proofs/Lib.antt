@@ -1,4 +1,3 @@
 mod BackLemmas
-mod Kept
 mod OneLemmas
 mod QueueLemmas

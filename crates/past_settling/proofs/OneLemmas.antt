@@ -11,13 +11,13 @@ use Rattle.fp_model.specs.Fsas.{Failure, first_failure, fsas_in}
 use Rattle.fp_model.specs.Settle.{absent}
 use Rattle.fp_model.specs.WellFormed.{IsMsdbDef}
 use Rattle.past_settling.specs.Settling.{Gives, IsChanged, IsFieldCall}
-use Rattle.past_settling.proofs.Kept.{has_key, list_keeps}
+use Rattle.fld_calls.proofs.Kept.{has_key, list_keeps}
 use Rattle.fp_model.specs.State.{drop_key, key_length, key_of, segment_of, with_segment, without_segment}
 use Rattle.fp_model.specs.declared.database.Msdb.{Msdb}
 use Rattle.fp_model.specs.declared.definitions.MsdbDef.{MsdbDef}
 use Rattle.past_segments.specs.Pasts.{IsPastOf}
 use Rattle.past_segments.specs.Times.{Past, database_at}
-use Rattle.past_segments.proofs.Ascending.{all_but, all_put, same_is, still_ascends, with_one_ascends}
+use Rattle.key_order.proofs.Ascending.{all_but, all_put, same_is, still_ascends, with_one_ascends}
 use Rattle.fp_model.specs.Texts.{same_text}
 use Rattle.std.specs.Option.{option_copied}
 use Rattle.std.proofs.Common.{Bor}

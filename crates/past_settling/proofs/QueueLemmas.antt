@@ -15,7 +15,7 @@ use Rattle.fp_model.specs.declared.database.Msdb.{Msdb}
 use Rattle.fp_model.specs.declared.definitions.MsdbDef.{MsdbDef}
 use Rattle.past_segments.specs.Pasts.{ArePastsOf, IsPastOf, databases_at}
 use Rattle.past_segments.specs.Times.{IsSettledBy, Past, database_at, is_late}
-use Rattle.past_segments.proofs.Ascending.{all_at, stands_there}
+use Rattle.key_order.proofs.Ascending.{all_at, stands_there}
 use Rattle.past_settling.specs.Queues.{IsCall, IsQueue, LeavesAll, fault_at, is_it, late_at}
 use Rattle.past_settling.specs.Settling.{IsFieldCall, Leaves}
 

@@ -13,7 +13,7 @@ use Rattle.fp_model.specs.State.{Area, anchors_in, areas_from, ascend, drop_key,
 use Rattle.fp_model.specs.Texts.{same_text}
 use Rattle.state_laws.specs.Changes.{FitsChange, HasNoneOrNow, IsNow, with_anchor}
 use Rattle.state_laws.proofs.Areas.{contains_cases, contains_first, contains_later, contains_nothing}
-use Rattle.state_laws.proofs.Ascending.{all_above, below_differs, differs_back, is_same, tail_ascends}
+use Rattle.key_order.proofs.Ascending.{all_above, below_differs, differs_back, is_same, tail_ascends}
 use Rattle.state_laws.proofs.Counts.{distinct_few, few_times, part_fewer, times, times_append}
 use Rattle.state_laws.proofs.Lists.{none_is_not_some, some_is, true_is_not_false}
 use Rattle.state_laws.proofs.Ranges.{get_set_other, get_set_same, length_set}

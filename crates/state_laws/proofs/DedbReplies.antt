@@ -24,7 +24,7 @@ use Rattle.fp_model.specs.WellFormed.{AreDefs, HavePlaces, IsDedbDef}
 use Rattle.fp_model.specs.Workspace.{Workspace}
 use Rattle.state_laws.specs.Edits.{FitsBytes, FitsEdit, FitsEnd, IsNew}
 use Rattle.state_laws.specs.Workspaces.{FitsPlace, FitsWorkspace, MayStand}
-use Rattle.state_laws.proofs.Ascending.{same_is}
+use Rattle.key_order.proofs.Ascending.{same_is}
 use Rattle.state_laws.proofs.Keeping.{with_change, with_dedb, with_fewer_inserts, with_insert}
 use Rattle.state_laws.proofs.Lists.{all_at, each_at, found_has, none_is_not_some, some_is, true_is_not_false, first_true}
 use Rattle.state_laws.proofs.Paths.{ends_fit, insert_direct, last_is, sequential_found}

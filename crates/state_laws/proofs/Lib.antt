@@ -1,4 +1,3 @@
-pub mod Ascending
 pub mod Lists
 pub mod Ranges
 pub mod Areas

@@ -19,7 +19,7 @@ use Rattle.fp_model.specs.State.{key_of, segment_after, segment_of}
 use Rattle.fp_model.specs.Texts.{same_text}
 use Rattle.fp_model.specs.Workspace.{Workspace}
 use Rattle.state_laws.specs.Workspaces.{FitsWorkspace}
-use Rattle.state_laws.proofs.Ascending.{same_is}
+use Rattle.key_order.proofs.Ascending.{same_is}
 use Rattle.state_laws.proofs.Keeping.{with_deferred, with_msdb}
 use Rattle.state_laws.proofs.Lists.{none_is_not_some, some_is}
 use Rattle.state_laws.proofs.Stands.{found_passes}

@@ -16,7 +16,7 @@ use Rattle.fp_model.specs.State.{ascend, change_key, drop_key, put_by_key}
 use Rattle.fp_model.specs.Texts.{same_text}
 use Rattle.state_laws.specs.Edits.{FitsBytes}
 use Rattle.state_laws.proofs.Areas.{contains_first, contains_later, contains_cases, contains_nothing}
-use Rattle.state_laws.proofs.Ascending.{all_but, all_put, is_same, put_ascends, same_is, still_ascends}
+use Rattle.key_order.proofs.Ascending.{all_but, all_put, is_same, put_ascends, same_is, still_ascends}
 use Rattle.state_laws.proofs.Lists.{both_true, first_true, none_is_not_some, second_true, some_is, true_is_not_false}
 
 -- ---- tests and lists

@@ -15,7 +15,7 @@ use Rattle.fp_model.specs.Shape.{has_length}
 use Rattle.fp_model.specs.Texts.{same_text}
 use Rattle.fp_model.specs.WellFormed.{HasPlace, HavePlaces}
 use Rattle.state_laws.specs.Edits.{AreDirect, FitsEnd}
-use Rattle.state_laws.proofs.Ascending.{same_is}
+use Rattle.key_order.proofs.Ascending.{same_is}
 use Rattle.state_laws.proofs.Lists.{first_true, none_is_not_some, second_true, some_is, true_is_not_false}
 use Rattle.state_laws.proofs.Purging.{is_lt}
 use Rattle.state_laws.proofs.Stands.{get_below, get_there}

@@ -14,7 +14,7 @@ use Rattle.fp_model.specs.State.{ascend}
 use Rattle.fp_model.specs.Texts.{same_text}
 use Rattle.state_laws.specs.Edits.{FitsBytes, FitsEdit, IsNew}
 use Rattle.state_laws.proofs.Areas.{contains_first}
-use Rattle.state_laws.proofs.Ascending.{is_same}
+use Rattle.key_order.proofs.Ascending.{is_same}
 use Rattle.state_laws.proofs.Lists.{both_true, first_true, none_is_not_some, second_true}
 use Rattle.state_laws.proofs.Nodes.{IsFree, IsGood, below_good, change_good, drop_good, each_contained, empty_rows, fits_later, flat_map_contains, from_all, map_contains, none_found, not_second, other_key, put_good, step_is, to_all, is_number}
 

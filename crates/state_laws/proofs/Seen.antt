@@ -21,7 +21,7 @@ use Rattle.state_laws.specs.Edits.{AreDirect, FitsBytes, FitsEdit}
 use Rattle.state_laws.specs.Parts.{FitsAnchorChange}
 use Rattle.state_laws.specs.Workspaces.{ChangeMayStand, MayStand}
 use Rattle.state_laws.proofs.Areas.{placed}
-use Rattle.state_laws.proofs.Ascending.{all_but, all_put, same_is}
+use Rattle.key_order.proofs.Ascending.{all_but, all_put, same_is}
 use Rattle.state_laws.proofs.Lists.{first_true, found_has, second_true, some_is}
 use Rattle.state_laws.proofs.Nodes.{each_contained}
 use Rattle.state_laws.proofs.Purging.{partner}

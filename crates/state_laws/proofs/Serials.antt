@@ -15,7 +15,7 @@ use Rattle.fp_model.specs.State.{Area, anchors_in, areas_from, ascend, change_ke
 use Rattle.fp_model.specs.Texts.{same_text}
 use Rattle.state_laws.specs.Inserts.{FitsSequential, ending_at, with_sequential, with_serial}
 use Rattle.state_laws.proofs.Areas.{AreApart, LiesIn, lies_in, lies_outside, placed, same_or_apart}
-use Rattle.state_laws.proofs.Ascending.{all_above, below_differs, differs_back, same_is, tail_ascends}
+use Rattle.key_order.proofs.Ascending.{all_above, below_differs, differs_back, same_is, tail_ascends}
 use Rattle.state_laws.proofs.Changing.{serials_at, serials_of}
 use Rattle.state_laws.proofs.Counts.{distinct_few, few_times, times, times_append}
 use Rattle.state_laws.proofs.Inserting.{anchor_later, anchor_with}

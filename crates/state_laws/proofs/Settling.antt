@@ -20,7 +20,7 @@ use Rattle.fp_model.specs.Settle.{Applied, Becomes, Fails, Settled, Stands, Veri
 use Rattle.fp_model.specs.State.{drop_key, key_of, segment_of, with_segment, without_segment}
 use Rattle.fp_model.specs.Texts.{number_in, padded, same_text}
 use Rattle.fp_model.specs.WellFormed.{IsMsdbDef, StandFrom}
-use Rattle.state_laws.proofs.Ascending.{all_but, all_put, still_ascends, with_one_ascends}
+use Rattle.key_order.proofs.Ascending.{all_but, all_put, still_ascends, with_one_ascends}
 use Rattle.state_laws.proofs.Lists.{each_set, each_at, all_at, found_has, none_is_not_some, some_is}
 
 -- ---- lengths of fields

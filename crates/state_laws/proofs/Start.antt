@@ -16,7 +16,7 @@ use Rattle.fp_model.specs.Shape.{IsDbOf, IsDedbOf, are_ends, is_anchor}
 use Rattle.fp_model.specs.State.{anchors_in, anchor_count, first_ends, formatted, key_of, loaded, put_by_key, start}
 use Rattle.fp_model.specs.Texts.{same_text}
 use Rattle.fp_model.specs.WellFormed.{AreDefs, IsLoaded, IsMsdbDef}
-use Rattle.state_laws.proofs.Ascending.{all_put, put_ascends}
+use Rattle.key_order.proofs.Ascending.{all_put, put_ascends}
 
 -- ---- main storage databases
 

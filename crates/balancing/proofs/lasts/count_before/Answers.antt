@@ -1,7 +1,7 @@
 use Rattle.std.proofs.Common.{rules}
 use Rattle.std.proofs.lemmas.List.Sorted.{IsPartitionPoint-from_clause}
 use Rattle.fp_model.specs.State.{is_below}
-use Rattle.balancing.proofs.Ascending.{partitioned}
+use Rattle.key_order.proofs.Ascending.{partitioned}
 use Rattle.balancing.proofs.LastLemmas.{ascends_as, place_as}
 use Rattle.balancing.proofs.lasts.count_before.Goals as goal
 

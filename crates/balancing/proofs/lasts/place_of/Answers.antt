@@ -1,7 +1,8 @@
 use Rattle.std.proofs.Common.{◌∙◌, ap, sym, Some, arith}
 use Rattle.fp_model.specs.Lasts.{Last}
-use Rattle.balancing.specs.Numbered.{if_same, as_last, lasts_in}
-use Rattle.balancing.proofs.Ascending.{lacks_there}
+use Rattle.balancing.specs.Numbered.{as_last, lasts_in}
+use Rattle.key_order.specs.Places.{if_same}
+use Rattle.key_order.proofs.Ascending.{lacks_there}
 use Rattle.balancing.proofs.LastLemmas.{there, past}
 use Rattle.balancing.proofs.lasts.place_of.Goals as goal
 

@@ -1,6 +1,6 @@
 use Rattle.std.proofs.Common.{◌≡◌, ◌∙◌, refl, sym}
 use Rattle.fp_model.specs.Order.{Replaces}
-use Rattle.dli_tree.proofs.Ascending.{not_both}
+use Rattle.key_order.proofs.Ascending.{not_both}
 use Rattle.dli_tree.proofs.Editing.{edit_answer, lead_answer}
 use Rattle.dli_tree.proofs.calls.replace.Goals as goal
 

@@ -2,7 +2,7 @@ use Rattle.std.proofs.Common.{◌≡◌, ◌∙◌, ◌<◌, ℕ, ap, sym, true,
 use Rattle.fp_model.specs.declared.database.Node.{out-Node}
 use Rattle.fp_model.specs.Order.{key_in, node_key, root_key}
 use Rattle.fp_model.specs.Texts.{same_text}
-use Rattle.dli_tree.proofs.Ascending.{differs_there, past_none, stands_there}
+use Rattle.key_order.proofs.Ascending.{differs_there, past_none, stands_there}
 use Rattle.dli_tree.proofs.place.root_place.Goals as goal
 
 pub returns-then-at-roots-clause-place : goal.returns-then-at-roots-clause-place

@@ -2,7 +2,7 @@ use Rattle.std.proofs.Common.{rules}
 use Rattle.std.proofs.lemmas.List.Sorted.{IsPartitionPoint-from_clause}
 use Rattle.fp_model.specs.Order.{node_key, root_key}
 use Rattle.fp_model.specs.State.{is_below}
-use Rattle.dli_tree.proofs.Ascending.{partitioned}
+use Rattle.key_order.proofs.Ascending.{partitioned}
 use Rattle.dli_tree.proofs.place.roots_below.Goals as goal
 
 pub returns-clause-place : goal.returns-clause-place

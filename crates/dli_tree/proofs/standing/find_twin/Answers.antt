@@ -3,7 +3,7 @@ use Rattle.fp_model.specs.declared.database.Node.{Node}
 use Rattle.fp_model.specs.Order.{node_key}
 use Rattle.dli_tree.specs.Paths.{step_of}
 use Rattle.dli_tree.specs.declared.place.Place.TheVariants.{Lacks, Stands}
-use Rattle.dli_tree.proofs.Ascending.{stands_there}
+use Rattle.key_order.proofs.Ascending.{stands_there}
 use Rattle.dli_tree.proofs.Editing.{find_lacks, find_stands, placed_in, row_shape, twin_in_row, twin_no_kind, twin_no_row, twin_there}
 use Rattle.dli_tree.proofs.Rows.{at_place, row_ascends, rows_shape, twin_shape}
 use Rattle.dli_tree.proofs.standing.find_twin.Goals as goal

@@ -1,4 +1,4 @@
-use Rattle.std.proofs.Common.{◌≡◌, ◌∙◌, arith}
+use Rattle.std.proofs.Common.{◌∙◌, arith}
 use Rattle.fp_model.specs.Fsas.{fsas_in}
 use Rattle.fld_calls.specs.Forms.{lent_form_of}
 use Rattle.fld_calls.proofs.Fronts.{first_left, none_left}

@@ -2,7 +2,7 @@ use Rattle.std.proofs.Common.{rules, take}
 use Rattle.std.proofs.lemmas.List.Sorted.{IsPartitionPoint-from_clause}
 use Rattle.fp_model.specs.State.{is_below}
 use Rattle.msdb_store.specs.Slots.{slot_of}
-use Rattle.msdb_store.proofs.Ascending.{partitioned}
+use Rattle.key_order.proofs.Ascending.{partitioned}
 use Rattle.msdb_store.proofs.Slots.{ascends_as, place_as}
 use Rattle.msdb_store.proofs.segments.count_below.Goals as goal
 

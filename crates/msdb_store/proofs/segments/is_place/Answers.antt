@@ -1,7 +1,7 @@
 use Rattle.std.proofs.Common.{rules, ◌≤◌, arith, length, take}
 use Rattle.std.proofs.lemmas.Bool.Decides.{nat_tests}
 use Rattle.msdb_store.specs.Slots.{slot_of}
-use Rattle.msdb_store.proofs.Ascending.{place_between}
+use Rattle.key_order.proofs.Ascending.{place_between}
 use Rattle.msdb_store.proofs.Slots.{ascends_as, place_as}
 use Rattle.msdb_store.proofs.segments.is_place.Goals as goal
 

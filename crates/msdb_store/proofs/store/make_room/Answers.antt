@@ -5,7 +5,7 @@ use Rattle.msdb_store.specs.Putting.{AreFew}
 use Rattle.msdb_store.specs.Rooms.{msdb_of, room_of}
 use Rattle.msdb_store.specs.Store.{least}
 use Rattle.msdb_store.specs.declared.table.Table.{Table}
-use Rattle.msdb_store.proofs.Ascending.{stands_there}
+use Rattle.key_order.proofs.Ascending.{stands_there}
 use Rattle.msdb_store.proofs.Rooms.{few_push, least_at, least_push, least_set, room_less}
 use Rattle.msdb_store.proofs.Tables.{fields_with}
 use Rattle.msdb_store.proofs.store.make_room.Goals as goal

@@ -2,7 +2,7 @@ use Rattle.std.proofs.Common.{rules}
 use Rattle.std.proofs.lemmas.List.Sorted.{IsPartitionPoint-from_clause}
 use Rattle.fp_model.specs.State.{is_below}
 use Rattle.past_segments.specs.declared.slot.Slot.{Slot}
-use Rattle.past_segments.proofs.Ascending.{partitioned}
+use Rattle.key_order.proofs.Ascending.{partitioned}
 use Rattle.past_segments.proofs.past.count_below.Goals as goal
 
 pub returns-clause-place : goal.returns-clause-place

@@ -3,7 +3,7 @@ use Rattle.std.specs.Prelude.{slice_get}
 use Rattle.fp_model.specs.Lasts.{last_of}
 use Rattle.balancing.specs.Numbered.{IsPlaced, as_last, lasts_in}
 use Rattle.balancing.specs.declared.lasts.Place.TheVariants.{Stands, Lacks}
-use Rattle.balancing.proofs.Ascending.{IsAscending, found_at, found_there, some_is}
+use Rattle.key_order.proofs.Ascending.{IsAscending, found_at, found_there, some_is}
 use Rattle.balancing.proofs.LastLemmas.{by_parts, key, there}
 use Rattle.balancing.proofs.NameLemmas.{same_names}
 use Rattle.balancing.proofs.lasts.Lasts.of.Goals as goal

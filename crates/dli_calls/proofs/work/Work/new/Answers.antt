@@ -8,7 +8,8 @@ use Rattle.fp_model.specs.declared.calls.Deferred.{Deferred}
 use Rattle.fp_model.specs.declared.calls.Resource.TheVariants.{Segment}
 use Rattle.fp_model.specs.MsdbCalls.{puts_or_drops}
 use Rattle.fp_model.specs.Workspace.{MsdbPosition, Workspace, no_msdb_position}
-use Rattle.dli_calls.specs.Progress.{FitsPosition, is_among}
+use Rattle.dli_calls.specs.Progress.{FitsPosition}
+use Rattle.segment_keys.specs.Keys.{is_among}
 use Rattle.dli_calls.proofs.BeginLemmas.{fresh_all, fresh_fit, fresh_positions}
 use Rattle.dli_calls.proofs.work.Work.new.Goals as goal
 use Rattle.dli_calls.proofs.work.Work.new.Goals.{After-new-4}

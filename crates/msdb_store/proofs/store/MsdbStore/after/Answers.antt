@@ -6,7 +6,7 @@ use Rattle.fp_model.specs.declared.definitions.MsdbDef.{MsdbDef}
 use Rattle.std.specs.Option.{option_copied}
 use Rattle.msdb_store.specs.Store.{IsOf, found_after}
 use Rattle.msdb_store.proofs.Tables.{after_in, with_room}
-use Rattle.msdb_store.proofs.Ascending.{stands_there}
+use Rattle.key_order.proofs.Ascending.{stands_there}
 use Rattle.msdb_store.proofs.store.MsdbStore.after.Goals as goal
 
 at_key : (c : goal.After-above) (defs : List MsdbDef) → IsOf defs c.args.self.now

@@ -6,7 +6,7 @@ use Rattle.fp_model.specs.FitCalls.{IsFitDeferred}
 use Rattle.fp_model.specs.Settle.{settle}
 use Rattle.msdb_store.specs.Settling.{IsAnswer}
 use Rattle.msdb_store.specs.Steps.{AtCall}
-use Rattle.msdb_store.proofs.Ascending.{all_at}
+use Rattle.key_order.proofs.Ascending.{all_at}
 use Rattle.msdb_store.proofs.Names.{same_keys}
 use Rattle.msdb_store.proofs.Queues.{IsSettling, bad_answer, good_answer, one_more, staged_of, step_long}
 use Rattle.msdb_store.proofs.store.MsdbStore.check.Goals as goal

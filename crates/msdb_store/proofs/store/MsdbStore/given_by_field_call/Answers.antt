@@ -6,7 +6,7 @@ use Rattle.fp_model.specs.declared.database.Msdb.{Msdb}
 use Rattle.msdb_store.specs.declared.table.Table.{Table}
 use Rattle.msdb_store.specs.Store.{Stored}
 use Rattle.msdb_store.proofs.Calls.{all_got, call_within, fields_at, given_changed, whole_in}
-use Rattle.msdb_store.proofs.Kept.{has_key}
+use Rattle.fld_calls.proofs.Kept.{has_key}
 use Rattle.msdb_store.proofs.store.MsdbStore.given_by_field_call.Goals as goal
 
 abbrev msdb_of : Table → Msdb

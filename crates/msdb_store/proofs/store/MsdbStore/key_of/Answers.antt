@@ -4,7 +4,7 @@ use Rattle.fp_model.specs.State.{key_of as key_of_fields}
 use Rattle.fp_model.specs.declared.database.Msdb.{Msdb}
 use Rattle.msdb_store.specs.declared.table.Table.{Table}
 use Rattle.msdb_store.specs.Store.{IsOf}
-use Rattle.msdb_store.proofs.Ascending.{stands_there}
+use Rattle.key_order.proofs.Ascending.{stands_there}
 use Rattle.msdb_store.proofs.Calls.{key_by}
 use Rattle.msdb_store.proofs.Tables.{belongs, with_room}
 use Rattle.msdb_store.proofs.store.MsdbStore.key_of.Goals as goal

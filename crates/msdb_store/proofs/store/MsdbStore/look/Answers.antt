@@ -5,7 +5,7 @@ use Rattle.msdb_store.specs.declared.table.Table.{Table}
 use Rattle.std.specs.Option.{option_copied}
 use Rattle.msdb_store.specs.Store.{IsOf, found}
 use Rattle.msdb_store.proofs.Tables.{found_in, with_room}
-use Rattle.msdb_store.proofs.Ascending.{stands_there}
+use Rattle.key_order.proofs.Ascending.{stands_there}
 use Rattle.msdb_store.proofs.store.MsdbStore.look.Goals as goal
 
 pub returns : goal.returns

@@ -10,7 +10,7 @@ use Rattle.msdb_store.specs.Settling.{adds}
 use Rattle.msdb_store.specs.Store.{IsOf, Stored, lacks, least, room}
 use Rattle.msdb_store.specs.declared.table.Table.{Table}
 use Rattle.msdb_store.proofs.Tables.{belongs, msdb_in, put_into, taken_away, with_room}
-use Rattle.msdb_store.proofs.Ascending.{stands_there}
+use Rattle.key_order.proofs.Ascending.{stands_there}
 use Rattle.msdb_store.proofs.Calls.{some_bytes}
 use Rattle.msdb_store.proofs.Rooms.{adds_lacks, few_set, least_at, least_set, room_less}
 use Rattle.msdb_store.proofs.store.MsdbStore.put_segment.Goals as goal

@@ -1,6 +1,6 @@
 use native.Mathlib.Numerals.{unary_clauses}
 use Rattle.fp_model.specs.State.{key_of}
-use Rattle.msdb_store.proofs.Ascending.{above_at, above_none}
+use Rattle.key_order.proofs.Ascending.{above_at, above_none}
 use Rattle.msdb_store.proofs.table.Table.count_up_to.Goals as goal
 
 pub returns-in-Stands : goal.returns-in-Stands

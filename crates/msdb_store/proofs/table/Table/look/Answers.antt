@@ -1,6 +1,6 @@
 use Rattle.std.proofs.Common.{◌∙◌, sym}
 use Rattle.fp_model.specs.State.{key_of}
-use Rattle.msdb_store.proofs.Ascending.{found_at, found_there}
+use Rattle.key_order.proofs.Ascending.{found_at, found_there}
 use Rattle.msdb_store.proofs.table.Table.look.Goals as goal
 
 pub returns-in-Stands : goal.returns-in-Stands

@@ -2,8 +2,8 @@ use Rattle.std.proofs.Common.{◌≡◌, ◌∙◌, ap, sym, subst, take, true, 
 use Rattle.std.specs.Option.{option_copied}
 use Rattle.fp_model.specs.State.{key_of}
 use Rattle.fp_model.specs.Texts.{same_text}
-use Rattle.msdb_store.specs.Places.{if_same}
-use Rattle.msdb_store.proofs.Ascending.{at_within, lacks_there, place_of_same, same_place}
+use Rattle.key_order.specs.Places.{if_same}
+use Rattle.key_order.proofs.Ascending.{at_within, lacks_there, place_of_same, same_place}
 use Rattle.msdb_store.proofs.table.Table.place.Goals as goal
 
 pub returns-then-has_key-clause-place : goal.returns-then-has_key-clause-place

@@ -5,7 +5,7 @@ use Rattle.msdb_store.specs.Store.{lacks}
 use Rattle.fp_model.specs.State.{key_of}
 use Rattle.msdb_store.specs.Places.{IsPlaced}
 use Rattle.msdb_store.specs.declared.keyed.Place.TheVariants.{Stands, Lacks}
-use Rattle.msdb_store.proofs.Ascending.{found_at, not_both, put_over, put_in}
+use Rattle.key_order.proofs.Ascending.{found_at, not_both, put_over, put_in}
 use Rattle.msdb_store.proofs.table.Table.put.Goals as goal
 
 pub returns-in-Stands-clause-ok : goal.returns-in-Stands-clause-ok

@@ -1,6 +1,6 @@
 use Rattle.std.proofs.Common.{◌∙◌, sym}
 use Rattle.fp_model.specs.State.{key_of}
-use Rattle.msdb_store.proofs.Ascending.{dropped_at, dropped_none}
+use Rattle.key_order.proofs.Ascending.{dropped_at, dropped_none}
 use Rattle.msdb_store.proofs.table.Table.take_away.Goals as goal
 
 pub returns-in-Stands-clause-segments : goal.returns-in-Stands-clause-segments

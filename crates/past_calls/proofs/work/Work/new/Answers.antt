@@ -8,7 +8,8 @@ use Rattle.fp_model.specs.Workspace.{MsdbPosition, Workspace, fresh, no_dedb_pos
 use Rattle.fp_model.specs.declared.definitions.DedbDef.{DedbDef}
 use Rattle.fp_model.specs.declared.definitions.Defs.{Defs}
 use Rattle.std.proofs.Common.{[]}
-use Rattle.past_calls.specs.Progress.{FitsPosition, is_among}
+use Rattle.past_calls.specs.Progress.{FitsPosition}
+use Rattle.segment_keys.specs.Keys.{is_among}
 use Rattle.past_calls.proofs.BeginLemmas.{fresh_all, fresh_fit, fresh_positions}
 use Rattle.past_calls.proofs.work.Work.new.Goals as goal
 use Rattle.past_calls.proofs.work.Work.new.Goals.{After-new-3}

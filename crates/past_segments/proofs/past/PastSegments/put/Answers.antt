@@ -3,7 +3,7 @@ use Rattle.std.specs.List.{insert, list_any}
 use Rattle.fp_model.specs.Texts.{same_text}
 use Rattle.past_segments.specs.Times.{AreSlots, FitsSlot, HasKey, Rises, segments_at, value_at}
 use Rattle.past_segments.specs.declared.slot.Version.{Version}
-use Rattle.past_segments.proofs.Ascending.{same_is}
+use Rattle.key_order.proofs.Ascending.{same_is}
 use Rattle.past_segments.proofs.PastLemmas.{changed, either, in_put, inserted, is_late_slot, late_insert, late_set, on_err, on_ok, over_put, same_here, set_itself, shows_same, shows_same_in}
 use Rattle.past_segments.proofs.Showing.{all_there}
 use Rattle.past_segments.proofs.Values.{value_from, value_stays}

@@ -14,10 +14,10 @@ use Rattle.fp_model.specs.declared.calls.Resource.{Resource}
 use Rattle.fp_model.specs.declared.calls.Resource.TheVariants.{Segment, Anchor}
 use Rattle.fp_model.specs.Texts.{same_text}
 use Rattle.fp_model.specs.Waiting.{same_resource}
-use Rattle.past_calls.specs.Keys.{resource_of}
-use Rattle.past_calls.specs.Progress.{is_among}
-use Rattle.past_calls.specs.declared.keys.SegmentKey.{SegmentKey}
-use Rattle.past_calls.specs.contracts.keys.SegmentKeyOrd.TheImpl.{cmp-value}
+use Rattle.segment_keys.specs.Keys.{resource_of}
+use Rattle.segment_keys.specs.Keys.{is_among}
+use Rattle.segment_keys.specs.declared.keys.SegmentKey.{SegmentKey}
+use Rattle.segment_keys.specs.contracts.keys.SegmentKeyOrd.TheImpl.{cmp-value}
 
 same_number : (m n : ℕ) → is_eq (nat_cmp m n) ≡ (m == n)
 same_number m n = grind (arith, nat_tests)

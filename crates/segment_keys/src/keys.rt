@@ -4,24 +4,22 @@ ghost use Rattle.fp_model.specs.Waiting.{same_resource};
 ghost use Rattle.fp_model.specs.declared.calls.Resource.{Resource as ResourceOf};
 ghost use Rattle.fp_model.specs.declared.calls.Resource.TheVariants.{Segment};
 ghost use Rattle.std.specs.Option.{option_map};
-ghost use Rattle.past_calls.specs.Keys.{resource_of};
-ghost use Rattle.past_calls.specs.Progress.{is_among};
-ghost use Rattle.past_calls.specs.Replies.{is_marked};
+ghost use Rattle.segment_keys.specs.Keys.{is_among, is_marked, resource_of};
 
 use std::alloc::{AllocError, Global};
 use std::collections::BTreeSet;
 use std::marker::Model;
 
-// A key of a main storage database.
+/// A segment of a main storage database: the database's number, and the bytes of the segment's key.
 #[derive(Debug, PartialEq, Eq, PartialOrd, Ord, Drop)]
-pub(crate) struct SegmentKey {
+pub struct SegmentKey {
     msdb: u8,
     key: Vec<u8>,
 }
 
 impl SegmentKey {
-    // Fails only for want of memory.
-    pub(crate) fn new(alloc: Global, msdb: u8, key: &[u8]) -> Result<SegmentKey, AllocError>
+    /// The segment with a key. Fails only for want of memory.
+    pub fn new(alloc: Global, msdb: u8, key: &[u8]) -> Result<SegmentKey, AllocError>
         ensures { IfOk result (λ made. resource_of made ≡ Segment msdb key.now) }
     {
         Ok(SegmentKey {
@@ -31,16 +29,16 @@ impl SegmentKey {
     }
 }
 
-// Contracts see the keys as the resources that they are.
+/// A set of segments. Contracts see them as the resources that they are, of which each call says what is among them.
 #[derive(Debug, Drop)]
-pub(crate) struct Keys {
+pub struct Keys {
     keys: BTreeSet<SegmentKey>,
 }
 
 impl Model for Keys {
     ghost use Rattle.std.specs.Prelude.{List, map};
     ghost use Rattle.fp_model.specs.declared.calls.Resource.{Resource};
-    ghost use Rattle.past_calls.specs.Keys.{resource_of};
+    ghost use Rattle.segment_keys.specs.Keys.{resource_of};
 
     ghost Value = { List Resource };
 
@@ -48,7 +46,8 @@ impl Model for Keys {
 }
 
 impl Keys {
-    pub(crate) fn new(alloc: Global) -> Keys
+    /// None. Takes no memory.
+    pub fn new(alloc: Global) -> Keys
         ensures { result ≡ [] }
     {
         Keys {
@@ -56,22 +55,22 @@ impl Keys {
         }
     }
 
-    // Whether there are none.
-    pub(crate) fn is_empty(&self) -> bool
+    /// Whether there are none.
+    pub fn is_empty(&self) -> bool
         ensures { IsTrue result → (resource : ResourceOf) → is_among self.now resource ≡ false }
     {
         self.keys.is_empty()
     }
 
-    // Whether a key is among them.
-    pub(crate) fn has(&self, key: &SegmentKey) -> bool
+    /// Whether a segment is among them.
+    pub fn has(&self, key: &SegmentKey) -> bool
         ensures { result ≡ is_among self.now (resource_of key.now) }
     {
         self.keys.contains(key)
     }
 
-    // Puts a key among them; it may be there already.
-    pub(crate) fn put(&mut self, key: SegmentKey) -> Result<(), AllocError>
+    /// Puts a segment among them; it may be there already. Fails only for want of memory, and then nothing changes.
+    pub fn put(&mut self, key: SegmentKey) -> Result<(), AllocError>
         ensures ok { OnOk result ((resource : ResourceOf)
             → is_among self.new resource ≡ (same_resource (resource_of key) resource || is_among self.old resource)) }
         ensures err { OnErr result (self.new ≡ self.old) }
@@ -80,8 +79,8 @@ impl Keys {
         Ok(())
     }
 
-    // Puts a key among them, if there is one.
-    pub(crate) fn put_some(&mut self, key: Option<SegmentKey>) -> Result<(), AllocError>
+    /// Puts a segment among them, if there is one. Fails only for want of memory, and then nothing changes.
+    pub fn put_some(&mut self, key: Option<SegmentKey>) -> Result<(), AllocError>
         ensures ok { OnOk result ((resource : ResourceOf)
             → is_among self.new resource ≡ (is_marked (option_map resource_of key) resource || is_among self.old
             resource)) }

@@ -1,5 +1,5 @@
 -- Elements with ascending keys: where a key stands among them, and what that says of searches and edits.
-use Rattle.std.proofs.Common.{Ordering, Less, Equal, Greater, ◌≡◌, ℕ, zero, suc, ◌<◌, ◌≤◌, ◌-◌, List, [], ◌∷◌, ◌++◌, map, length, take, drop, Some, None, refl, sym, ◌∙◌, ap, subst, Bool, true, false, ◌&&◌, slice_get, slice_set, slice_index_or, arith}
+use Rattle.std.proofs.Common.{Ordering, Less, Equal, Greater, ◌≡◌, ℕ, zero, suc, ◌<◌, ◌≤◌, ◌-◌, List, [], ◌∷◌, ◌++◌, map, length, take, drop, Some, None, refl, sym, ◌∙◌, ap, subst, Bool, true, false, ◌&&◌, slice_get, slice_set, slice_index_or, Option, arith}
 use Rattle.std.specs.Prelude.{find, if◌then◌else◌}
 use Rattle.std.specs.List.{AllByRecursion, insert, remove}
 use Rattle.std.specs.List.Sorted.{IsPartitionedBy}
@@ -8,9 +8,9 @@ use Rattle.std.specs.Cmp.Lexicographic.{slice_cmp}
 use Rattle.std.proofs.lemmas.Cmp.{nat_list_cmp_total, tied_itself}
 use Rattle.std.proofs.lemmas.Map.Lookups.{exact_bytes}
 use Rattle.std.proofs.lemmas.Slice.Eq.{bytes_eq-Decides}
-use Rattle.fp_model.specs.State.{is_below, ascend, put_by_key, drop_key}
+use Rattle.fp_model.specs.State.{is_below, ascend, change_key, put_by_key, drop_key}
 use Rattle.fp_model.specs.Texts.{same_text}
-use Rattle.msdb_store.specs.Places.{IsPlace, if_same}
+use Rattle.key_order.specs.Places.{IsPlace, if_same}
 
 -- ---- tests
 
@@ -188,7 +188,7 @@ module _ {X : Type 0} (key : X → List ℕ) where
       (λ d some. subst (λ y. is_below y k ≡ false) (sym (ap key (at_is xs n d x at) ∙ same_is (key x) k e))
       (not_below_itself k)) (omega (arith, within))
 
-  place_behind : (k : List ℕ) (x : X) (xs : List X) (n : ℕ) → IsPlace key k (x ∷ xs) (suc n) → IsPlace key k xs n
+  pub place_behind : (k : List ℕ) (x : X) (xs : List X) (n : ℕ) → IsPlace key k (x ∷ xs) (suc n) → IsPlace key k xs n
   place_behind k x xs n p = (
     λ i d low high. p.0 (suc i) d (omega (arith)) (omega (arith, high)),
     λ i d low high. p.1 (suc i) d (omega (arith, low)) (omega (arith, high)),
@@ -283,7 +283,7 @@ module _ {X : Type 0} (key : X → List ℕ) where
 
   -- ---- order after edits
 
-  before_all : (x : X) (xs : List X) → AllByRecursion (λ y. is_below (key x) (key y) ≡ true) xs → IsAscending xs
+  pub before_all : (x : X) (xs : List X) → AllByRecursion (λ y. is_below (key x) (key y) ≡ true) xs → IsAscending xs
       → IsAscending (x ∷ xs)
   before_all x [] all up = refl
   before_all x (y ∷ ys) all up = rw all.0 up
@@ -330,7 +330,7 @@ module _ {X : Type 0} (key : X → List ℕ) where
       by true e later = rw e later
       by false e later = rw e (e, later)
 
-  put_ascends : (x : X) (xs : List X) → IsAscending xs → AllByRecursion (λ y. same_text (key y) (key x) ≡ false) xs
+  pub put_ascends : (x : X) (xs : List X) → IsAscending xs → AllByRecursion (λ y. same_text (key y) (key x) ≡ false) xs
       → IsAscending (put_by_key key x xs)
   put_ascends x [] up others = refl
   put_ascends x (y ∷ ys) up others = by (is_below (key x) (key y)) refl
@@ -421,3 +421,73 @@ pub put_in : {X : Type 0} (key : X → List ℕ) (x : X) (xs : List X) (n : ℕ)
     → insert xs n x ≡ put_by_key key x (drop_key key (key x) xs)
 put_in key x xs n up p none within = sym (ap (put_by_key key x) (dropped_none key (key x) xs n up p none) ∙ put_at key x
     xs n p none within)
+
+-- ---- places, as the code tells them
+
+-- what stands at a place has another key
+pub differs_there : {X : Type 0} (key : X → List ℕ) (k : List ℕ) (xs : List X) (n : ℕ) (x : X) → slice_get xs n ≡ Some x
+    → same_text (key x) k ≡ false → (y : X) → slice_get xs n ≡ Some y → same_text (key y) k ≡ false
+differs_there key k xs n x at e y also = subst (λ z. same_text (key z) k ≡ false) (some_is x y (sym at ∙ also)) e
+
+pub past_none : {X : Type 0} (key : X → List ℕ) (k : List ℕ) (xs : List X) (n : ℕ) → length xs ≤ n → (y : X)
+    → slice_get xs n ≡ Some y → same_text (key y) k ≡ false
+past_none key k [] n past y at = absurd (none_is_not_some y at)
+past_none key k (x ∷ xs) zero past y at = absurd (omega (arith, past))
+past_none key k (x ∷ xs) (suc n) past y at = past_none key k xs n (omega (arith, past)) y at
+
+pub no_same : {X : Type 0} (key : X → List ℕ) (k : List ℕ) (o : Option X)
+    → ((y : X) → o ≡ Some y → same_text (key y) k ≡ false) → if_same key k o ≡ None
+no_same key k None h = refl
+no_same key k (Some x) h = rw (h x refl) refl
+
+module _ {X : Type 0} (key : X → List ℕ) where
+  -- a change of a key is one at its place
+  kept_changes : (k : List ℕ) (change : X → X) (x : X) (xs : List X) → is_below (key x) k ≡ false
+      → AllByRecursion (λ y. is_below (key x) (key y) ≡ true) xs → change_key key k change xs ≡ xs
+  kept_changes k change x [] not_less all = refl
+  kept_changes k change x (y ∷ ys) not_less all = by (same_text (key y) k) refl
+      (kept_changes k change x ys not_less all.1)
+    where
+      by : (t : Bool) → same_text (key y) k ≡ t → change_key key k change ys ≡ ys
+          → change_key key k change (y ∷ ys) ≡ y ∷ ys
+      by true e later = absurd (not_both (sym all.0 ∙ ap (is_below (key x)) (same_is (key y) k e) ∙ not_less))
+      by false e later = rw e (ap (λ zs. y ∷ zs) later)
+
+  pub changed_at : (k : List ℕ) (change : X → X) (xs : List X) (n : ℕ) (y : X) → IsAscending key xs → IsPlace key k xs n
+      → slice_get xs n ≡ Some y → same_text (key y) k ≡ true → slice_set xs n (change y) ≡ change_key key k change xs
+  changed_at k change [] n y up p at e = cc
+  changed_at k change (x ∷ xs) zero y up p at e =
+      let is : same_text (key x) k ≡ true = subst (λ z. same_text (key z) k ≡ true) (sym (some_is x y at)) e in
+      rw is (ap (λ z. change z ∷ xs) (sym (some_is x y at)) ∙ ap (λ zs. change x ∷ zs)
+      (sym (kept_changes k change x xs (p.1 0 x (omega (arith)) (omega (arith))) (all_above key x xs up))))
+  changed_at k change (x ∷ xs) (suc n) y up p at e =
+      rw (below_differs (key x) k (p.0 0 x (omega (arith)) (omega (arith))))
+      (ap (λ zs. x ∷ zs) (changed_at k change xs n y (tail_ascends key x xs up) (place_behind key k x xs n p) at e))
+
+  pub changed_none : (k : List ℕ) (change : X → X) (xs : List X) (n : ℕ) → IsAscending key xs → IsPlace key k xs n
+      → ((y : X) → slice_get xs n ≡ Some y → same_text (key y) k ≡ false) → xs ≡ change_key key k change xs
+  changed_none k change [] n up p none = refl
+  changed_none k change (x ∷ xs) zero up p none = rw (none x refl)
+      (ap (λ zs. x ∷ zs) (sym (kept_changes k change x xs (p.1 0 x (omega (arith)) (omega (arith)))
+      (all_above key x xs up))))
+  changed_none k change (x ∷ xs) (suc n) up p none =
+      rw (below_differs (key x) k (p.0 0 x (omega (arith)) (omega (arith))))
+      (ap (λ zs. x ∷ zs) (changed_none k change xs n (tail_ascends key x xs up) (place_behind key k x xs n p) none))
+
+  -- one with a key that stands goes behind it
+  before_above : (x : X) (ys : List X) → AllByRecursion (λ z. is_below (key x) (key z) ≡ true) ys
+      → put_by_key key x ys ≡ x ∷ ys
+  before_above x [] all = refl
+  before_above x (y ∷ ys) all = rw all.0 refl
+
+  pub put_behind : (x : X) (xs : List X) (n : ℕ) (y : X) → IsAscending key xs → IsPlace key (key x) xs n
+      → slice_get xs n ≡ Some y → same_text (key y) (key x) ≡ true → put_by_key key x xs ≡ insert xs (suc n) x
+  put_behind x [] n y up p at e = cc
+  put_behind x (z ∷ zs) zero y up p at e =
+      let is : key z ≡ key x = ap key (some_is z y at) ∙ same_is (key y) (key x) e in
+      rw (subst (λ k. is_below k (key z) ≡ false) is (not_below_itself (key z)))
+      (ap (λ ws. z ∷ ws) (before_above x zs (subst (λ k. AllByRecursion (λ w. is_below k (key w) ≡ true) zs) is
+      (all_above key z zs up))))
+  put_behind x (z ∷ zs) (suc n) y up p at e =
+      rw (not_above (key z) (key x) (p.0 0 z (omega (arith)) (omega (arith))))
+      (ap (λ ws. z ∷ ws) (put_behind x zs n y (tail_ascends key z zs up) (place_behind key (key x) z zs n p) at e))

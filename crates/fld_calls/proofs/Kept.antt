@@ -8,7 +8,9 @@ use Rattle.fp_model.specs.Texts.{same_text}
 use Rattle.fp_model.specs.WellFormed.{BeginsWithKey, IsMsdbDef, StandFrom, is_field_length}
 use Rattle.fp_model.specs.declared.definitions.FieldDef.{FieldDef}
 use Rattle.fp_model.specs.declared.definitions.MsdbDef.{MsdbDef}
-use Rattle.past_segments.proofs.Ascending.{not_both}
+
+not_both : true ≡ false → ⊥
+not_both e = cc
 
 -- ---- the first bytes of a list
 

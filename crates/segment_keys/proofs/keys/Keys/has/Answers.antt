@@ -1,8 +1,8 @@
 use Rattle.std.proofs.Common.{ap, ◌∙◌}
-use Rattle.past_calls.specs.Keys.{resource_of}
-use Rattle.past_calls.specs.Progress.{is_among}
-use Rattle.past_calls.proofs.KeyLemmas.{among_is_contained}
-use Rattle.past_calls.proofs.keys.Keys.has.Goals as goal
+use Rattle.segment_keys.specs.Keys.{resource_of}
+use Rattle.segment_keys.specs.Keys.{is_among}
+use Rattle.segment_keys.proofs.KeyLemmas.{among_is_contained}
+use Rattle.segment_keys.proofs.keys.Keys.has.Goals as goal
 
 pub returns : goal.returns
 returns c =

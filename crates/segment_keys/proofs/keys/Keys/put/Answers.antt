@@ -1,9 +1,9 @@
 use Rattle.std.proofs.Common.{◌||◌, map, ap, ◌∙◌}
 use Rattle.fp_model.specs.Waiting.{same_resource}
-use Rattle.dli_calls.specs.Keys.{resource_of}
-use Rattle.dli_calls.specs.Progress.{is_among}
-use Rattle.dli_calls.proofs.KeyLemmas.{among-insert}
-use Rattle.dli_calls.proofs.keys.Keys.put.Goals as goal
+use Rattle.segment_keys.specs.Keys.{resource_of}
+use Rattle.segment_keys.specs.Keys.{is_among}
+use Rattle.segment_keys.proofs.KeyLemmas.{among-insert}
+use Rattle.segment_keys.proofs.keys.Keys.put.Goals as goal
 
 pub returns-clause-ok : goal.returns-clause-ok
 returns-clause-ok c =
