@@ -8,7 +8,7 @@ use Rattle.fp_model.specs.Texts.{same_text}
 use Rattle.command_words.specs.Apps.{program_app}
 use Rattle.command_words.specs.Words.{AreWords, command_named, command_of, is_word}
 use Rattle.command_words.specs.declared.words.Command.{Command}
-use Rattle.command_words.proofs.Forms.{define_1, define_2, define_3, define_name, log_1, log_2, log_3, log_name, migrate_1, migrate_2, migrate_3, migrate_name, name_in, no_words, run_1, run_2, run_3, run_name, show_1, show_2, show_3, show_name, unknown}
+use Rattle.command_words.proofs.Forms.{audit_1, audit_2, audit_3, audit_name, define_1, define_2, define_3, define_name, log_1, log_2, log_3, log_name, migrate_1, migrate_2, migrate_3, migrate_name, name_in, no_words, run_1, run_2, run_3, run_name, show_1, show_2, show_3, show_name, unknown}
 
 -- where clap takes the words it names their command, and where it doesn't they are none
 pub record IsExact (words : List (List ℕ)) : Type 0 where
@@ -99,6 +99,18 @@ behind_migrate ((b ∷ bs) ∷ (d ∷ ds) ∷ []) short h =
     (λ e. let bad = sym (migrate_3 b d bs ds (not_hyphen b h.0) (not_hyphen d h.1.0)) ∙ e in cc)
 behind_migrate ((b ∷ bs) ∷ (d ∷ ds) ∷ x ∷ ws) short h = absurd (omega arith)
 
+behind_audit : (rest : List (List ℕ)) → length rest ≤ 2 → AreWords rest → IsExact (codes "audit" ∷ rest)
+behind_audit [] short h = refused (codes "audit" ∷ []) refl (λ e. let bad = sym audit_1 ∙ e in cc)
+behind_audit ([] ∷ ws) short h = absurd (false≢true h.0)
+behind_audit ((b ∷ bs) ∷ []) short h =
+    let hyphen = not_hyphen b h.0 in named (codes "audit") (b ∷ bs) h.0 (audit_2 b bs hyphen) (audit_name b bs
+    hyphen)
+behind_audit ((b ∷ bs) ∷ [] ∷ ws) short h = absurd (false≢true h.1.0)
+behind_audit ((b ∷ bs) ∷ (d ∷ ds) ∷ []) short h =
+    refused (codes "audit" ∷ (b ∷ bs) ∷ (d ∷ ds) ∷ []) refl
+    (λ e. let bad = sym (audit_3 b d bs ds (not_hyphen b h.0) (not_hyphen d h.1.0)) ∙ e in cc)
+behind_audit ((b ∷ bs) ∷ (d ∷ ds) ∷ x ∷ ws) short h = absurd (omega arith)
+
 -- two ways to compare bytes
 differ : (a b : List ℕ) → bytes_eq a b ≡ false → same_text b a ≡ false
 differ a b h =
@@ -110,14 +122,15 @@ differ a b h =
 -- a word that is none of the names
 unnamed : (c : List ℕ) → bytes_eq (codes "define") c ≡ false → bytes_eq (codes "run") c ≡ false
     → bytes_eq (codes "show") c ≡ false → bytes_eq (codes "log") c ≡ false → bytes_eq (codes "migrate") c ≡ false
-    → command_named c ≡ None
-unnamed c d r s l m =
+    → bytes_eq (codes "audit") c ≡ false → command_named c ≡ None
+unnamed c d r s l m a =
     rw (
       differ (codes "define") c d,
       differ (codes "run") c r,
       differ (codes "show") c s,
       differ (codes "log") c l,
       differ (codes "migrate") c m,
+      differ (codes "audit") c a,
     ) refl
 
 no_command : (c : List ℕ) (rest : List (List ℕ)) → command_named c ≡ None → command_of (c ∷ rest) ≡ None
@@ -145,8 +158,11 @@ exact ((b ∷ bs) ∷ ws) short h =
             | inl e ↦ subst P e (behind_log ws less h.1)
             | inr l ↦ elim (name_cases (codes "migrate") (b ∷ bs)) [
               | inl e ↦ subst P e (behind_migrate ws less h.1)
-              | inr m ↦ refused ((b ∷ bs) ∷ ws) (no_command (b ∷ bs) ws (unnamed (b ∷ bs) d r s l m))
-                  (λ e. let bad = sym (unknown b bs ws (not_hyphen b h.0) d r s l m) ∙ e in cc)
+              | inr m ↦ elim (name_cases (codes "audit") (b ∷ bs)) [
+                | inl e ↦ subst P e (behind_audit ws less h.1)
+                | inr a ↦ refused ((b ∷ bs) ∷ ws) (no_command (b ∷ bs) ws (unnamed (b ∷ bs) d r s l m a))
+                    (λ e. let bad = sym (unknown b bs ws (not_hyphen b h.0) d r s l m a) ∙ e in cc)
+              ]
             ]
           ]
         ]

@@ -30,10 +30,10 @@ no_words = refl
 pub unknown : (b : ℕ) (bs : List ℕ) (more : List (List ℕ)) → (b == 45) ≡ false
     → bytes_eq (codes "define") (b ∷ bs) ≡ false → bytes_eq (codes "run") (b ∷ bs) ≡ false
     → bytes_eq (codes "show") (b ∷ bs) ≡ false → bytes_eq (codes "log") (b ∷ bs) ≡ false
-    → bytes_eq (codes "migrate") (b ∷ bs) ≡ false
+    → bytes_eq (codes "migrate") (b ∷ bs) ≡ false → bytes_eq (codes "audit") (b ∷ bs) ≡ false
     → fault_of program_app ((b ∷ bs) ∷ more) ≡ kind.UnknownArgument ∷ kind.InvalidSubcommand ∷ []
 unfolding clap_on_literals
-unknown b bs more h d r s l m = simp (h, d, r, s, l, m) refl
+unknown b bs more h d r s l m a = simp (h, d, r, s, l, m, a) refl
 
 -- ---- a name, with no, one and two words behind it
 
@@ -126,6 +126,24 @@ pub migrate_name : (b : ℕ) (bs : List ℕ) → (b == 45) ≡ false
     → name_in (codes "migrate" ∷ (b ∷ bs) ∷ []) ≡ Some (codes "migrate")
 unfolding clap_on_literals
 migrate_name b bs h = refl
+
+pub audit_1 : fault_of program_app (codes "audit" ∷ []) ≡ kind.MissingRequiredArgument ∷ []
+unfolding clap_on_literals
+audit_1 = refl
+
+pub audit_2 : (b : ℕ) (bs : List ℕ) → (b == 45) ≡ false → fault_of program_app (codes "audit" ∷ (b ∷ bs) ∷ []) ≡ []
+unfolding clap_on_literals
+audit_2 b bs h = simp h refl
+
+pub audit_3 : (b d : ℕ) (bs ds : List ℕ) → (b == 45) ≡ false → (d == 45) ≡ false
+    → fault_of program_app (codes "audit" ∷ (b ∷ bs) ∷ (d ∷ ds) ∷ []) ≡ kind.UnknownArgument ∷ []
+unfolding clap_on_literals
+audit_3 b d bs ds h k = simp (h, k) refl
+
+pub audit_name : (b : ℕ) (bs : List ℕ) → (b == 45) ≡ false
+    → name_in (codes "audit" ∷ (b ∷ bs) ∷ []) ≡ Some (codes "audit")
+unfolding clap_on_literals
+audit_name b bs h = refl
 
 -- the name of a subcommand, by its rows
 module _ {Z : Type 0} where

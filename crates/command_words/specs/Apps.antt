@@ -20,7 +20,9 @@ program_app =
     with_subcommand
     (with_subcommand
     (with_subcommand
+    (with_subcommand
     (with_subcommand (with_subcommand top_app (folder_app (codes "define")).top) (folder_app (codes "run")).top)
     (folder_app (codes "show")).top)
     (folder_app (codes "log")).top)
-    (folder_app (codes "migrate")).top
+    (folder_app (codes "migrate")).top)
+    (folder_app (codes "audit")).top

@@ -46,5 +46,6 @@ pub(crate) fn program_command<'a>(alloc: Global) -> Result<Command<'a>, AllocErr
     let top = with_folder(alloc, top, "run")?;
     let top = with_folder(alloc, top, "show")?;
     let top = with_folder(alloc, top, "log")?;
-    with_folder(alloc, top, "migrate")
+    let top = with_folder(alloc, top, "migrate")?;
+    with_folder(alloc, top, "audit")
 }

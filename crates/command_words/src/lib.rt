@@ -1,7 +1,7 @@
 //! The words behind the program's name, and the command that they are.
 //!
 //!     words   = command folder
-//!     command = "define" | "run" | "show" | "log" | "migrate"
+//!     command = "define" | "run" | "show" | "log" | "migrate" | "audit"
 //!     folder  = a word that has a byte and doesn't begin with "-"
 //!
 //! The words are read by `clap`, as one command with a subcommand for each name. It is asked of words alone that it has

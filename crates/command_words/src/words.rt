@@ -19,6 +19,8 @@ pub enum Command {
     Log,
     /// `migrate DIR`: lets the messages of a site of format 1 have numbers from here on.
     Migrate,
+    /// `audit DIR`: runs the log's transactions again, one after another, and tells whether each is legal.
+    Audit,
 }
 
 // Whether a word has a byte, and doesn't begin with a minus sign.
@@ -58,6 +60,9 @@ fn command_named(name: &[u8]) -> Option<Command>
     }
     if name == b"migrate".as_slice() {
         return Some(Command::Migrate);
+    }
+    if name == b"audit".as_slice() {
+        return Some(Command::Audit);
     }
     None
 }

@@ -69,11 +69,11 @@ fn refused(
 }
 
 // Answers of a run, with what is said of each and its number.
-const ANSWERS: [(Status, &str); 13] = [
+const ANSWERS: [(Status, &str); 14] = [
     (Status::Done, "|0"),
     (
         Status::Usage,
-        "usage: ims_fp define DIR | run DIR | show DIR | log DIR | migrate DIR|1",
+        "usage: ims_fp define DIR | run DIR | show DIR | log DIR | migrate DIR | audit DIR|1",
     ),
     (
         Status::Schedule(ScheduleFault::BadToken(3)),
@@ -101,6 +101,7 @@ const ANSWERS: [(Status, &str); 13] = [
         "not built: definitions|11",
     ),
     (Status::OldFormat, "old format|12"),
+    (Status::Illegal { entry: 2 }, "illegal entry 2|13"),
 ];
 
 #[test]
@@ -174,7 +175,7 @@ fn faults_of_definitions_have_their_texts(rt: HostRuntime) -> Result<(), Fail> {
     Ok(())
 }
 
-const NO_FORMS: [&[&str]; 10] = [
+const NO_FORMS: [&[&str]; 11] = [
     &[],
     &["run"],
     &["run", ""],
@@ -185,6 +186,7 @@ const NO_FORMS: [&[&str]; 10] = [
     &["show"],
     &["log", "-d"],
     &["log", "", "D"],
+    &["audit"],
 ];
 
 #[test]
@@ -193,7 +195,7 @@ fn words_in_no_form_are_usage(rt: HostRuntime) -> Result<(), Fail> {
         let (said, same) = refused(rt.alloc(), form, GOOD, "", "")?;
         assert_eq!(rt;
             said.as_str(),
-            "usage: ims_fp define DIR | run DIR | show DIR | log DIR | migrate DIR|1",
+            "usage: ims_fp define DIR | run DIR | show DIR | log DIR | migrate DIR | audit DIR|1",
             "at {form:?}"
         );
         assert!(rt; same);
@@ -202,7 +204,7 @@ fn words_in_no_form_are_usage(rt: HostRuntime) -> Result<(), Fail> {
 }
 
 // A command, definitions, scripts and a schedule, and what is said.
-const REFUSALS: [(&str, &str, &str, &str, &str); 7] = [
+const REFUSALS: [(&str, &str, &str, &str, &str); 8] = [
     (
         "run",
         "",
@@ -240,6 +242,13 @@ const REFUSALS: [(&str, &str, &str, &str, &str); 7] = [
         "scripts: unknown name at line 2|3",
     ),
     ("run", GOOD, "TRAN A\nREPLY 'A'\n", "IN R1", "foreign log|7"),
+    (
+        "audit",
+        GOOD,
+        "TRAN A\nREPLY 'A'\n",
+        "BOGUS",
+        "foreign log|7",
+    ),
 ];
 
 #[test]

@@ -36,7 +36,7 @@ load = [[\"T001\", \"0\"]]
 ";
 
 // What a command answers over these scripts, a schedule, messages, and a site, and what it sends.
-fn sent_by(
+pub(crate) fn sent_by(
     alloc: Global,
     command: &str,
     scripts: &str,
@@ -80,7 +80,11 @@ fn sent_over(
 }
 
 // A new site behind a run that is done.
-fn run_on_new(alloc: Global, schedule: &str, messages: &str) -> Result<MemorySite, AllocError> {
+pub(crate) fn run_on_new(
+    alloc: Global,
+    schedule: &str,
+    messages: &str,
+) -> Result<MemorySite, AllocError> {
     let mut site = MemorySite::new(alloc, &[])?;
     let _ = sent_by(alloc, "define", SCRIPTS, "", "", &mut site)?;
     let _ = sent_by(alloc, "run", SCRIPTS, schedule, messages, &mut site)?;
@@ -167,7 +171,7 @@ fn databases_and_log_are_these_texts(rt: HostRuntime) -> Result<(), Fail> {
 #[test]
 fn another_log_is_foreign(rt: HostRuntime) -> Result<(), Fail> {
     let mut site = run_on_new(rt.alloc(), "", "T1 DEPOSIT A001 10\n")?;
-    for command in ["show", "log"] {
+    for command in ["show", "log", "audit"] {
         let (status, text) = sent_by(
             rt.alloc(),
             command,

@@ -7,11 +7,13 @@ use Rattle.fp_core.specs.declared.stop.Stop.TheVariants as stop
 use Rattle.fp_restart.specs.declared.fault.RestartFault.{RestartFault}
 use Rattle.fp_restart.specs.declared.fault.RestartFault.TheVariants as fault
 use Rattle.fp_source.specs.Source.{Rose}
-use Rattle.fp_system.specs.Answers.{status_of_fault, status_of_stop}
+use Rattle.site_audit.specs.declared.fault.AuditFault.{AuditFault}
+use Rattle.site_audit.specs.declared.fault.AuditFault.TheVariants as unsound
+use Rattle.fp_system.specs.Answers.{status_of_audit, status_of_fault, status_of_stop}
 use Rattle.fp_system.specs.Causes.{IsCausedBySite, IsCausedBySource}
 use Rattle.fp_system.specs.declared.status.Status.{Status}
 use Rattle.fp_system.specs.declared.status.Status.TheVariants.{Done, Usage, Definitions, Scripts, Schedule, ReadFault, SiteFault}
-use Rattle.fp_system.specs.declared.status.Status.TheVariants.{Foreign, Damaged, Line, NoMemory, NotBuilt, OldFormat}
+use Rattle.fp_system.specs.declared.status.Status.TheVariants.{Foreign, Damaged, Line, NoMemory, NotBuilt, OldFormat, Illegal}
 
 -- ---- by the answer
 
@@ -31,6 +33,7 @@ by_source before now (Line number) rose stayed = stayed (λ e. cc)
 by_source before now NoMemory rose stayed = stayed (λ e. cc)
 by_source before now (NotBuilt p) rose stayed = stayed (λ e. cc)
 by_source before now OldFormat rose stayed = stayed (λ e. cc)
+by_source before now (Illegal entry) rose stayed = stayed (λ e. cc)
 
 -- the same of the site
 pub by_site : (before now : ℕ) (answer : Status) → (answer ≡ SiteFault → Rose before now)
@@ -48,6 +51,7 @@ by_site before now (Line number) rose stayed = stayed (λ e. cc)
 by_site before now NoMemory rose stayed = stayed (λ e. cc)
 by_site before now (NotBuilt p) rose stayed = stayed (λ e. cc)
 by_site before now OldFormat rose stayed = stayed (λ e. cc)
+by_site before now (Illegal entry) rose stayed = stayed (λ e. cc)
 
 -- an answer that is no read fault, where the source's count stayed
 pub calm_err : {A : Type 0} (before now : ℕ) (r : Result A Status) → (IsErrOf r ReadFault → ⊥) → now ≡ before
@@ -84,6 +88,14 @@ fault_by_site before now fault.Foreign rose stayed = stayed (λ e. cc)
 fault_by_site before now fault.SiteFault rose stayed = rose refl
 fault_by_site before now (fault.Damaged set at) rose stayed = stayed (λ e. cc)
 fault_by_site before now fault.Memory rose stayed = stayed (λ e. cc)
+
+pub audit_by_site : (before now : ℕ) (why : AuditFault) → (why ≡ unsound.SiteFault → Rose before now)
+    → ((why ≡ unsound.SiteFault → ⊥) → now ≡ before) → IsCausedBySite before now (status_of_audit why)
+audit_by_site before now unsound.Foreign rose stayed = stayed (λ e. cc)
+audit_by_site before now unsound.SiteFault rose stayed = rose refl
+audit_by_site before now (unsound.Damaged at) rose stayed = stayed (λ e. cc)
+audit_by_site before now (unsound.Illegal entry) rose stayed = stayed (λ e. cc)
+audit_by_site before now unsound.Memory rose stayed = stayed (λ e. cc)
 
 -- only want of memory is answered so
 pub memory_fault : (why : RestartFault) → status_of_fault why ≡ NoMemory → why ≡ fault.Memory

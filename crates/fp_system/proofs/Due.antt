@@ -16,7 +16,7 @@ use Rattle.fp_system.specs.Table as table
 use Rattle.fp_system.specs.Table.{ByLog, foreign, damaged, good, IsBadFirst, IsEnd, IsGood, IsOld, IsSpared, end_of_lines}
 use Rattle.fp_system.specs.declared.status.Status.{Status}
 use Rattle.fp_system.specs.declared.status.Status.TheVariants.{Done, Usage, Definitions, Scripts, Schedule, ReadFault, SiteFault}
-use Rattle.fp_system.specs.declared.status.Status.TheVariants.{Foreign, Damaged, Line, NoMemory, NotBuilt, OldFormat}
+use Rattle.fp_system.specs.declared.status.Status.TheVariants.{Foreign, Damaged, Line, NoMemory, NotBuilt, OldFormat, Illegal}
 
 module _ (setup : Setup) (is : IsSetup setup) (log : List ℕ) where
   -- a log that can be read to its end is bad nowhere
@@ -89,6 +89,7 @@ module _ (setup : Setup) (is : IsSetup setup) (log : List ℕ) where
       stop_due (Damaged set at) stop line = absurd stop
       stop_due (NotBuilt p) stop line = absurd stop
       stop_due OldFormat stop line = absurd stop
+      stop_due (Illegal entry) stop line = absurd stop
 
       -- how a run ends that came to its core
       pub ended_due : (answer : Status) → (answer ≡ Done) ⊎ IsStop answer
@@ -123,6 +124,7 @@ late Foreign (inr stop) early = stop
 late (Damaged set at) (inr stop) early = stop
 late (NotBuilt p) (inr stop) early = stop
 late OldFormat (inr stop) early = stop
+late (Illegal entry) (inr stop) early = stop
 
 -- nor one to its log
 pub not_of_log : (answer : Status) → (answer ≡ Done) ⊎ IsStop answer → IsOfLog answer → ⊥
@@ -130,6 +132,7 @@ not_of_log answer (inl e) of = subst IsOfLog e of
 not_of_log Foreign (inr stop) of = stop
 not_of_log (Damaged set at) (inr stop) of = stop
 not_of_log OldFormat (inr stop) of = stop
+not_of_log (Illegal entry) (inr stop) of = stop
 not_of_log Done (inr stop) of = stop
 not_of_log Usage (inr stop) of = of
 not_of_log (Definitions f) (inr stop) of = of

@@ -13,7 +13,7 @@ use Rattle.fp_schedule.specs.declared.fault.ScheduleFault.{ScheduleFault}
 use Rattle.fp_schedule.specs.declared.fault.ScheduleFault.TheVariants as unfit
 use Rattle.fp_system.specs.Setups.{HasEventsFor, IsRefusedSchedule}
 use Rattle.command_words.specs.declared.words.Command.{Command}
-use Rattle.command_words.specs.declared.words.Command.TheVariants.{Define, Run, Show, Log, Migrate}
+use Rattle.command_words.specs.declared.words.Command.TheVariants.{Define, Run, Show, Log, Migrate, Audit}
 use Rattle.std.proofs.lemmas.Bool.Decides.{nat_tests}
 use Rattle.fp_defs.specs.Exits.{defs_for}
 use Rattle.fp_defs.specs.Whole.{defs_of}
@@ -254,6 +254,7 @@ or_schedule kinds left left2 Define job a is same (inr r) = absurd r
 or_schedule kinds left left2 Show job a is same (inr r) = absurd r
 or_schedule kinds left left2 Log job a is same (inr r) = absurd r
 or_schedule kinds left left2 Migrate job a is same (inr r) = absurd r
+or_schedule kinds left left2 Audit job a is same (inr r) = absurd r
 or_schedule kinds left left2 Run job a is same (inr (f, e, bad)) =
     inr (subst (Refuses kinds left Run) (sym e) (by_schedule is
     (subst (λ (t : List ℕ). events_of job.defs t ≡ Err f) same bad)))
@@ -276,6 +277,7 @@ events_same Define job left left2 events same has = tt
 events_same Show job left left2 events same has = tt
 events_same Log job left left2 events same has = tt
 events_same Migrate job left left2 events same has = tt
+events_same Audit job left left2 events same has = tt
 events_same Run job left left2 events same has =
     subst (λ (t : List ℕ). events_of job.defs t ≡ Ok events) same has
 
@@ -286,6 +288,7 @@ schedule_had Define job left events has = tt
 schedule_had Show job left events has = tt
 schedule_had Log job left events has = tt
 schedule_had Migrate job left events has = tt
+schedule_had Audit job left events has = tt
 schedule_had Run job left events has = (events, has)
 
 pub same_events : (job : Job) (left : Part → List ℕ) (a b : List Event) → HasEvents job left a → HasEvents job left b

@@ -9,6 +9,7 @@ pub mod Due
 pub mod Runs
 pub mod CauseLemmas
 mod SentTexts
+mod Audits
 pub mod OldLogs
 mod Migrations
 mod Restarted

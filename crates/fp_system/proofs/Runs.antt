@@ -30,7 +30,7 @@ use Rattle.fp_system.specs.Parts.{Job, front_for, front_in, rules_for}
 use Rattle.fp_system.specs.Table.{IsOld, IsSpared}
 use Rattle.fp_system.specs.declared.status.Status.{Status}
 use Rattle.fp_system.specs.declared.status.Status.TheVariants.{Done, Usage, Definitions, Scripts, Schedule, ReadFault}
-use Rattle.fp_system.specs.declared.status.Status.TheVariants.{SiteFault, Foreign, Damaged, Line, NoMemory, NotBuilt, OldFormat}
+use Rattle.fp_system.specs.declared.status.Status.TheVariants.{SiteFault, Foreign, Damaged, Line, NoMemory, NotBuilt, OldFormat, Illegal}
 use Rattle.command_words.specs.declared.words.Command.{Command}
 use Rattle.command_words.specs.declared.words.Command.TheVariants.{Define, Run}
 use Rattle.std.specs.Prelude.{Option, Some, None}
@@ -114,6 +114,7 @@ before_site found (Damaged set at) e f m h = e h
 before_site found (Line number) e f m h = e h
 before_site found (NotBuilt p) e f m h = e h
 before_site found OldFormat e f m h = e h
+before_site found (Illegal entry) e f m h = e h
 
 -- ---- behind a restart
 

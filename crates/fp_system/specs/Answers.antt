@@ -11,7 +11,9 @@ use Rattle.fp_restart.specs.declared.fault.RestartFault.TheVariants as fault
 use Rattle.fp_schedule.specs.declared.fault.ScheduleFault.{ScheduleFault}
 use Rattle.fp_schedule.specs.declared.fault.ScheduleFault.TheVariants as unfit
 use Rattle.fp_system.specs.declared.status.Status.{Status}
-use Rattle.fp_system.specs.declared.status.Status.TheVariants.{Usage, Definitions, Scripts, Schedule, ReadFault, SiteFault, Foreign, Damaged, Line, NoMemory, NotBuilt, OldFormat}
+use Rattle.fp_system.specs.declared.status.Status.TheVariants.{Usage, Definitions, Scripts, Schedule, ReadFault, SiteFault, Foreign, Damaged, Line, NoMemory, NotBuilt, OldFormat, Illegal}
+use Rattle.site_audit.specs.declared.fault.AuditFault.{AuditFault}
+use Rattle.site_audit.specs.declared.fault.AuditFault.TheVariants as unsound
 use Rattle.txn_lang.specs.declared.fault.ScriptFault.{ScriptFault}
 use Rattle.txn_lang.specs.declared.fault.ScriptFault.TheVariants as wrong
 
@@ -83,6 +85,14 @@ status_of_fault fault.Foreign = Foreign
 status_of_fault fault.SiteFault = SiteFault
 status_of_fault (fault.Damaged set at) = Damaged set at
 status_of_fault fault.Memory = NoMemory
+
+-- of an audit
+abbrev pub status_of_audit : AuditFault → Status
+status_of_audit unsound.Foreign = Foreign
+status_of_audit unsound.SiteFault = SiteFault
+status_of_audit (unsound.Damaged at) = Damaged 0 at
+status_of_audit (unsound.Illegal entry) = Illegal entry
+status_of_audit unsound.Memory = NoMemory
 
 -- of a step that ended the run
 abbrev pub status_of_stop : Stop → Status

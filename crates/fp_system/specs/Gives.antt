@@ -6,11 +6,13 @@ use Rattle.fp_model.specs.Groups.{entries_of}
 use Rattle.fp_model.specs.LogText.{first_gate, log_text}
 use Rattle.fp_model.specs.Machine.{at_rest}
 use Rattle.fp_model.specs.Recovery.{Holds}
-use Rattle.fp_site.specs.Disk.{Disk, IsDurable, Settles, Snapshot, Syncs}
+use Rattle.fp_site.specs.Disk.{Disk, IsDurable, Settles, Snapshot, Stays, Syncs}
 use Rattle.fp_site.specs.Moments.{OnlyOn, Through}
 use Rattle.fp_model.specs.declared.database.Db.{Db}
 use Rattle.fp_model.specs.SerialHistory.{IsSerialHistory}
 use Rattle.fp_show.specs.DbText.{db_text}
+use Rattle.site_audit.specs.Legal.{IsLegalLog}
+use Rattle.site_audit.specs.Verdicts.{SendsVerdict, legal_text}
 use Rattle.site_texts.specs.Texts.{IsDbSent, IsLogSent, IsSentToDamage, SendsDb, SendsGroups}
 use Rattle.log_groups.specs.Images.{IsAtRest, IsBeforeOrMade, IsLog as HasLog}
 use Rattle.log_groups.specs.Kept.{IsSafe}
@@ -24,7 +26,7 @@ use Rattle.fp_system.specs.Parts.{Job, HasSchedule, IsJob, definitions_in, front
 use Rattle.fp_system.specs.Courses.{Course, GoesOnTo, Input, IsSoundFor, IsEnded, IsKeptBy, IsNotBegun, Point}
 use Rattle.fp_system.specs.Table.{Given, IsOld, IsSpared}
 use Rattle.fp_system.specs.declared.status.Status.{Status}
-use Rattle.fp_system.specs.declared.status.Status.TheVariants.{Damaged, Done, ReadFault, NoMemory}
+use Rattle.fp_system.specs.declared.status.Status.TheVariants.{Damaged, Done, Illegal, ReadFault, SiteFault, NoMemory}
 use Rattle.command_words.specs.declared.words.Command.{Command}
 use Rattle.command_words.specs.declared.words.Command.TheVariants.{Define, Run}
 
@@ -103,6 +105,21 @@ pub record Logged (job : Job) (answer : Status) (old new : Disk) : Type 0 where
   pub whole : answer ≡ Done → IsLogSent (front_for job) old new
   pub damaged : (at : ℕ) → answer ≡ Damaged 0 at → IsSentToDamage (front_for job) at old new
   pub sends : SendsGroups (front_for job) old new
+
+-- ---- audit
+
+-- With Done the entries of the whole log are legal, and the line with their number was sent. With any other answer
+-- nothing was, or a first part of it with SiteFault; and nothing else changes, at no moment. So no entry of a sound log is
+-- found illegal, and with Done of one the number is that of its entries.
+pub record Audited (job : Job) (answer : Status) (old new : Disk) : Type 0 where
+  pub legal : answer ≡ Done → (count : ℕ) × (IsLegalLog job.defs job.scripts (front_for job) (old.contents 0) count
+      × (new.sent ≡ old.sent ++ legal_text count))
+  pub silent : ¬ (answer ≡ Done) → ¬ (answer ≡ SiteFault) → Stays old new
+  pub sends : SendsVerdict job.defs job.scripts (front_for job) old new
+  pub never : (format entry : ℕ) (entries : List Entry) → IsSoundFor job format (old.contents 0) entries
+      → ¬ (answer ≡ Illegal entry)
+  pub means : (format : ℕ) (entries : List Entry) → IsSoundFor job format (old.contents 0) entries → answer ≡ Done
+      → new.sent ≡ old.sent ++ legal_text (length entries)
 
 -- ---- migrate
 

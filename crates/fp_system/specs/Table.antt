@@ -13,15 +13,16 @@ use Rattle.fp_model.specs.LogText.{first_gate}
 use Rattle.log_groups.specs.Images.{BeginsFor, HoldsFor}
 use Rattle.fp_restart.specs.Replayed.{IsFirstBadAt, IsReadable}
 use Rattle.fp_site.specs.Disk.{Disk}
+use Rattle.site_audit.specs.Legal.{IsBrokenAt, IsIllegalLog, IsLegalLog}
 use Rattle.fp_source.specs.declared.part.Part.{Part}
 use Rattle.fp_source.specs.declared.part.Part.TheVariants as part
 use Rattle.fp_system.specs.Answers.{MayStandIn, faulty_line}
 use Rattle.fp_system.specs.Parts.{Job, HasSchedule, IsJob, Refuses, front_for}
 use Rattle.command_words.specs.Words.{command_of}
 use Rattle.fp_system.specs.declared.status.Status.{Status}
-use Rattle.fp_system.specs.declared.status.Status.TheVariants.{Done, Usage, Foreign, Damaged, Line, OldFormat}
+use Rattle.fp_system.specs.declared.status.Status.TheVariants.{Done, Usage, Foreign, Damaged, Line, OldFormat, Illegal}
 use Rattle.command_words.specs.declared.words.Command.{Command}
-use Rattle.command_words.specs.declared.words.Command.TheVariants.{Define, Run, Show, Log, Migrate}
+use Rattle.command_words.specs.declared.words.Command.TheVariants.{Define, Run, Show, Log, Migrate, Audit}
 
 -- What a call is given, as it is told: the kinds of exit that there are, the words behind the program's name, what is
 -- left of each part, and what each data set holds.
@@ -78,6 +79,15 @@ pub data ByGroups (job : Job) (log : List ℕ) : Status → Type 0 where
       → HoldsGroups log (first_gate (front_for job)) groups at → IsDamaged log at → ByGroups job log (Damaged 0 at)
   whole : (groups : List (List Entry)) (gate : ℕ) → HoldsFor (front_for job) log groups gate → ByGroups job log Done
 
+-- So is it by its entries. The first gate with bytes behind it that are no group is damage, also behind an entry that
+-- isn't legal. Of a log that can be read to its end the first such entry is named, and Done says that there is none.
+pub data ByEntries (job : Job) (log : List ℕ) : Status → Type 0 where
+  of_none : IsForeign job log → ByEntries job log Foreign
+  torn : {at : ℕ} → IsBrokenAt (front_for job) log at → ByEntries job log (Damaged 0 at)
+  illegal : {entry : ℕ} → IsIllegalLog job.defs job.scripts (front_for job) log entry
+      → ByEntries job log (Illegal entry)
+  legal : {count : ℕ} → IsLegalLog job.defs job.scripts (front_for job) log count → ByEntries job log Done
+
 -- ---- the lines
 
 -- the first line that isn't taken, or the end
@@ -106,6 +116,7 @@ IsDueTo Run job g answer = ByLog job (g.contents 0) (IsEnd job (g.contents 0) (g
 IsDueTo Show job g answer = ByLog job (g.contents 0) (λ behind. behind ≡ Done) answer
 IsDueTo Log job g answer = ByGroups job (g.contents 0) answer
 IsDueTo Migrate job g answer = ByLog job (g.contents 0) (λ behind. behind ≡ Done) answer
+IsDueTo Audit job g answer = ByEntries job (g.contents 0) answer
 
 -- the answer that a call is due
 pub data IsDue (g : Given) : Status → Type 0 where

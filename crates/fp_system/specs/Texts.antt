@@ -11,7 +11,7 @@ use Rattle.fp_model.specs.declared.definitions.Kind.TheVariants.{Fold, Range}
 use Rattle.fp_source.specs.declared.part.Part.{Part}
 use Rattle.fp_source.specs.declared.part.Part.TheVariants as part
 use Rattle.fp_system.specs.declared.status.Status.{Status}
-use Rattle.fp_system.specs.declared.status.Status.TheVariants.{Done, Usage, Definitions, Scripts, Schedule, ReadFault, SiteFault, Foreign, Damaged, Line, NoMemory, NotBuilt, OldFormat}
+use Rattle.fp_system.specs.declared.status.Status.TheVariants.{Done, Usage, Definitions, Scripts, Schedule, ReadFault, SiteFault, Foreign, Damaged, Line, NoMemory, NotBuilt, OldFormat, Illegal}
 use Rattle.txn_lang.specs.declared.fault.ScriptFault.{ScriptFault}
 use Rattle.txn_lang.specs.declared.fault.ScriptFault.TheVariants as wrong
 
@@ -56,7 +56,7 @@ schedule_text unfit.Memory = codes "no memory"
 -- what is said of a status, without a newline; nothing of Done
 abbrev pub fault_text : Status → List ℕ
 fault_text Done = []
-fault_text Usage = codes "usage: ims_fp define DIR | run DIR | show DIR | log DIR | migrate DIR"
+fault_text Usage = codes "usage: ims_fp define DIR | run DIR | show DIR | log DIR | migrate DIR | audit DIR"
 fault_text (Definitions fault) = codes "definitions: " ++ definitions_text fault
 fault_text (Scripts fault) = codes "scripts: " ++ scripts_text fault
 fault_text (Schedule fault) = codes "schedule: " ++ schedule_text fault
@@ -68,6 +68,7 @@ fault_text (Line number) = codes "messages: line " ++ decimal number
 fault_text NoMemory = codes "no memory"
 fault_text (NotBuilt part) = codes "not built: " ++ part_name part
 fault_text OldFormat = codes "old format"
+fault_text (Illegal entry) = codes "illegal entry " ++ decimal entry
 
 -- its number, with which the program ends
 abbrev pub number_of : Status → ℕ
@@ -84,3 +85,4 @@ number_of (Line number) = 9
 number_of NoMemory = 10
 number_of (NotBuilt part) = 11
 number_of OldFormat = 12
+number_of (Illegal entry) = 13

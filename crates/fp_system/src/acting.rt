@@ -8,15 +8,15 @@ ghost use Rattle.fp_site.specs.Disk.{Disk, Settles};
 ghost use Rattle.fp_site.specs.Moments.{OnlyOn, Through};
 ghost use Rattle.fp_site.specs.Site.{ReadsNothing};
 ghost use Rattle.fp_source.specs.declared.part.Part.TheVariants as part;
-ghost use Rattle.fp_system.specs.Answers.{IsEarly, IsOfLog, IsOr, IsStop, MayStandIn, faulty_line, status_of_fault};
+ghost use Rattle.fp_system.specs.Answers.{IsEarly, IsOfLog, IsOr, IsStop, MayStandIn, faulty_line, status_of_audit, status_of_fault};
 ghost use Rattle.fp_system.specs.Causes.{IsCaused, IsCausedBySite};
 ghost use Rattle.fp_system.specs.Courses.{IsBegun, RanFrom, input};
 ghost use Rattle.fp_core.specs.Sparing.{IsLogSet as IsLog, Spares};
-ghost use Rattle.fp_system.specs.Gives.{HasNewText, Logged, Migrated, Ran, Shown, format_entry};
+ghost use Rattle.fp_system.specs.Gives.{Audited, HasNewText, Logged, Migrated, Ran, Shown, format_entry};
 ghost use Rattle.fp_system.specs.Ims.{IsContinued};
 ghost use Rattle.fp_system.specs.Parts.{front_for};
 ghost use Rattle.fp_system.specs.Setups.{IsSetup, job_of};
-ghost use Rattle.fp_system.specs.Table.{ByGroups, ByLog, IsEnd};
+ghost use Rattle.fp_system.specs.Table.{ByEntries, ByGroups, ByLog, IsEnd};
 ghost use Rattle.fp_system.specs.declared.status.Status.TheVariants as status;
 ghost use Rattle.log_groups.specs.Images.{IsAtRest, IsBeforeOrAfter, IsBeforeOrMade, IsWithOrWithout};
 ghost use Rattle.log_groups.specs.Reads.{ReadsOnlyLog};
@@ -37,6 +37,7 @@ use fp_site::Site;
 use fp_source::Source;
 use log_groups::Log;
 use schedule_runs::run_schedule;
+use site_audit::{AuditFault, audit};
 use site_texts::{log, show};
 use std::alloc::{AllocError, Global};
 
@@ -146,6 +147,43 @@ pub(crate) fn log_on<T: Site>(alloc: Global, site: &mut T, setup: &Setup) -> Sta
     match log(alloc, &setup.front, site) {
         Ok(()) => Status::Done,
         Err(why) => fault_status(why),
+    }
+}
+
+// The status of a log that an audit didn't find legal.
+fn audit_status(fault: AuditFault) -> Status
+    ensures { result ≡ status_of_audit fault }
+{
+    match fault {
+        AuditFault::Foreign => Status::Foreign,
+        AuditFault::SiteFault => Status::SiteFault,
+        AuditFault::Damaged(at) => Status::Damaged { set: 0, at },
+        AuditFault::Illegal(entry) => Status::Illegal { entry },
+        AuditFault::Memory => Status::NoMemory,
+    }
+}
+
+/// Runs the log's entries again by their meaning alone, and sends how many they are where all are legal.
+pub(crate) fn audit_on<T: Site>(alloc: Global, site: &mut T, setup: &Setup) -> Status
+    requires { IsSetup setup.now }
+    ensures due { T.told site.old → ByEntries (job_of setup.now) ((T.disk site.old).contents 0) result
+        ⊎ MayStandIn result }
+    ensures audited { T.told site.old → Audited (job_of setup.now) result (T.disk site.old) (T.disk site.new) }
+    ensures early { IsEarly result → ⊥ }
+    ensures never { result ≡ status.ReadFault → ⊥ }
+    ensures cause { IsCausedBySite (T.faults site.old) (T.faults site.new) result }
+
+    // Each byte of the log is read once, and no other data set.
+    ensures once { T.told site.old → T.tells_reads site.new 0 →
+        ReadsOnce (front_for (job_of setup.now)) ((T.disk site.old).contents 0)
+        (T.bytes_read site.old 0) (T.bytes_read site.new 0) }
+    ensures reads { ReadsOnlyLog (T.tells_reads site.old) (T.tells_reads site.new)
+        (T.bytes_read site.old) (T.bytes_read site.new) }
+    ensures site { IsContinued T.told T.faults T.holds T.keeps site.old site.new }
+{
+    match audit(alloc, &setup.defs, &setup.scripts, &setup.front, site) {
+        Ok(_) => Status::Done,
+        Err(why) => audit_status(why),
     }
 }
 

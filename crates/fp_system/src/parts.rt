@@ -289,7 +289,7 @@ fn read_rest<S: Source>(
 {
     match command {
         Command::Run => read_schedule(alloc, source, &setup.defs),
-        Command::Define | Command::Show | Command::Log | Command::Migrate => {
+        Command::Define | Command::Show | Command::Log | Command::Migrate | Command::Audit => {
             Ok(List::new(alloc))
         },
     }

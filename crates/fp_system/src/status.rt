@@ -3,7 +3,8 @@ ghost use Rattle.std.specs.Prelude.{◌≡◌, IfOk};
 ghost use Rattle.fp_system.specs.Texts.{fault_text, number_of};
 
 use crate::texts::{
-    damage_text, definitions_text, joined, line_text, part_name, schedule_text, scripts_text,
+    damage_text, definitions_text, entry_text, joined, line_text, part_name, schedule_text,
+    scripts_text,
 };
 use fp_core::Stop;
 use fp_defs::DefsFault;
@@ -50,6 +51,11 @@ pub enum Status {
     NotBuilt(Part),
     /// The log is one of format 1, in which no message has a number: it is to be migrated before a run.
     OldFormat,
+    /// The log's entry at this place is the first that isn't legal.
+    Illegal {
+        /// The place of the entry, counted from 0.
+        entry: u64,
+    },
 }
 
 impl From<AllocError> for Status {
@@ -96,6 +102,7 @@ impl Status {
             Status::NoMemory => 10,
             Status::NotBuilt(_) => 11,
             Status::OldFormat => 12,
+            Status::Illegal { .. } => 13,
         }
     }
 }
@@ -109,7 +116,7 @@ pub fn fault_text(alloc: Global, status: &Status) -> Result<Bytes, AllocError>
         Status::Usage => {
             Bytes::from_slice(
                 alloc,
-                b"usage: ims_fp define DIR | run DIR | show DIR | log DIR | migrate DIR",
+                b"usage: ims_fp define DIR | run DIR | show DIR | log DIR | migrate DIR | audit DIR",
             )
         },
         Status::Definitions(fault) => definitions_text(alloc, fault),
@@ -123,5 +130,6 @@ pub fn fault_text(alloc: Global, status: &Status) -> Result<Bytes, AllocError>
         Status::NoMemory => Bytes::from_slice(alloc, b"no memory"),
         Status::NotBuilt(part) => joined(alloc, b"not built: ", part_name(*part), b""),
         Status::OldFormat => Bytes::from_slice(alloc, b"old format"),
+        Status::Illegal { entry } => entry_text(alloc, *entry),
     }
 }

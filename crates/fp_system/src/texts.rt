@@ -174,3 +174,10 @@ pub(crate) fn line_text(alloc: Global, number: u64) -> Result<Bytes, AllocError>
 {
     numbered(alloc, b"messages: line ", number)
 }
+
+/// What is said of an entry that isn't legal.
+pub(crate) fn entry_text(alloc: Global, entry: u64) -> Result<Bytes, AllocError>
+    ensures { IfOk result (λ text. text ≡ codes "illegal entry " ++ decimal entry) }
+{
+    numbered(alloc, b"illegal entry ", entry)
+}

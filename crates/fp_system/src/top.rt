@@ -5,7 +5,7 @@ ghost use Rattle.fp_model.specs.declared.events.Event.{Event};
 ghost use Rattle.fp_source.specs.declared.part.Part.TheVariants as part;
 ghost use Rattle.fp_system.specs.Causes.{IsCaused};
 ghost use Rattle.fp_system.specs.Courses.{input};
-ghost use Rattle.fp_system.specs.Gives.{Defined, InOrder, IsBeforeSite, Logged, Migrated, Ran, Shown, Took};
+ghost use Rattle.fp_system.specs.Gives.{Audited, Defined, InOrder, IsBeforeSite, Logged, Migrated, Ran, Shown, Took};
 ghost use Rattle.fp_system.specs.Ims.{IsContinued};
 ghost use Rattle.fp_system.specs.Parts.{HasEvents, Job, front_for};
 ghost use Rattle.site_texts.specs.Texts.{ReadsOnce};
@@ -18,7 +18,7 @@ ghost use Rattle.log_groups.specs.Reads.{ReadsOnlyLog};
 ghost use Rattle.std.specs.Prelude.{◌≡◌, ◌⊎◌, None, Some, List as ListOf, map, string_bytes};
 
 use crate::Status;
-use crate::acting::{define_on, log_on, migrate_on, run_on, show_on};
+use crate::acting::{audit_on, define_on, log_on, migrate_on, run_on, show_on};
 use crate::parts::read_task;
 use command_words::{Command, command_of};
 use fp_exits::Exits;
@@ -30,7 +30,8 @@ use std::alloc::Global;
 /// Definitions and Scripts; `run DIR` restarts, takes the events of the part Schedule one after another, behind what
 /// the log has, and drains: so each line of the part Messages is answered; `show DIR` sends the text of the databases,
 /// and `log DIR` that of the log's groups. `migrate DIR` lets the messages of a site of format 1 have numbers from here
-/// on; before that no run takes its lines. Words are judged first, then the definitions, the scripts, of a run the
+/// on; before that no run takes its lines. `audit DIR` runs the log's entries again by their meaning alone, and tells how
+/// many they are, or the first that isn't legal. Words are judged first, then the definitions, the scripts, of a run the
 /// schedule, then the site; the message lines are read one by one. No part is read behind one that is refused.
 ///
 /// # What contracts say
@@ -74,6 +75,9 @@ pub fn ims<S: Source, T: Site>(
     ensures migrated { (job : Job) → S.told source.old → T.told site.old
         → Asks (given exits.now words.now (S.left source.old) (T.disk site.old)) command.Migrate job →
         Migrated job result (T.disk site.old) (T.disk site.new) }
+    ensures audited { (job : Job) → S.told source.old → T.told site.old
+        → Asks (given exits.now words.now (S.left source.old) (T.disk site.old)) command.Audit job →
+        Audited job result (T.disk site.old) (T.disk site.new) }
     ensures once { (which : CommandOf) (job : Job) → S.told source.old → T.told site.old
         → Asks (given exits.now words.now (S.left source.old) (T.disk site.old)) which job
         → T.tells_reads site.new 0 →
@@ -104,6 +108,7 @@ pub fn ims<S: Source, T: Site>(
             Command::Show => show_on(alloc, site, &task.setup),
             Command::Log => log_on(alloc, site, &task.setup),
             Command::Migrate => migrate_on(alloc, site, &task.setup),
+            Command::Audit => audit_on(alloc, site, &task.setup),
         },
         Err(answer) => answer,
     }

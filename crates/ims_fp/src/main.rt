@@ -180,10 +180,10 @@ fn served(rt: &HostRuntime, words: &[String], exits: &Exits) -> Ending {
     }
 }
 
-// What is done with the folder: `show` and `log` only look at it, so one that may only be read serves them.
+// What is done with the folder: `show`, `log` and `audit` only look at it, so one that may only be read serves them.
 fn access_for(words: &[String]) -> Access {
     match words.first().map(|word| word.as_str()) {
-        Option::Some("show" | "log") => Access::Look,
+        Option::Some("show" | "log" | "audit") => Access::Look,
         _ => Access::Change,
     }
 }

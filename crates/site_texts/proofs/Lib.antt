@@ -1,4 +1,4 @@
-mod Told
+pub mod Told
 mod Shown
 mod Whole
 mod Restarted

@@ -9,18 +9,21 @@ use Rattle.log_groups.proofs.Fronts.{same_gate}
 use Rattle.fp_system.proofs.OldLogs.{sound_old_only, sound_old_where}
 use Rattle.log_format.proofs.GroupLaws.{one_reading}
 use Rattle.fp_restart.proofs.Replays.{one_first_bad, readable_not_bad, sound_begins}
+use Rattle.site_audit.specs.Legal.{IsBrokenAt}
+use Rattle.site_audit.proofs.Readings.{legal_or_not, one_illegal}
+use Rattle.log_groups.specs.Images.{HoldsFor}
 use Rattle.fp_system.specs.Answers.{faulty_line}
 use Rattle.fp_system.specs.Parts.{Job, Refuses, front_for, front_in}
 use Rattle.fp_source.specs.declared.part.Part.TheVariants as part
 use Rattle.command_words.specs.Words.{command_of}
 use Rattle.fp_system.specs.declared.status.Status.{Status}
-use Rattle.fp_system.specs.declared.status.Status.TheVariants.{Damaged, Done, OldFormat}
+use Rattle.fp_system.specs.declared.status.Status.TheVariants.{Damaged, Done, Illegal, OldFormat}
 use Rattle.command_words.specs.declared.words.Command.{Command}
-use Rattle.command_words.specs.declared.words.Command.TheVariants.{Define, Run, Show, Log, Migrate}
+use Rattle.command_words.specs.declared.words.Command.TheVariants.{Define, Run, Show, Log, Migrate, Audit}
 use Rattle.fp_system.proofs.Jobs.{one_job, one_answer, no_job_refused}
 use Rattle.fp_system.specs.Courses.{IsSoundFor}
-use Rattle.fp_system.specs.Table.{Given, Asks, ByGroups, ByLog, IsDue, IsDueTo, IsEnd, IsGood, end_of_lines}
-use Rattle.fp_system.specs.Table.{asked, broken, damaged, foreign, good, lines, no_command, of_others, old, refused, whole}
+use Rattle.fp_system.specs.Table.{Given, Asks, ByEntries, ByGroups, ByLog, IsDue, IsDueTo, IsEnd, IsGood, end_of_lines}
+use Rattle.fp_system.specs.Table.{asked, broken, damaged, foreign, good, illegal, legal, lines, no_command, of_none, of_others, old, refused, torn, whole}
 
 -- ---- the log
 
@@ -70,6 +73,48 @@ one_by_groups job log a b (whole hs gate is) (broken gs {at = at} begins holds b
     not_both e = absurd cc
 one_by_groups job log a b (whole gs gate is) (whole hs gate2 is2) = refl
 
+-- and of its entries
+torn_reads : (job : Job) (log : List ℕ) (at : ℕ) → IsBrokenAt (front_for job) log at
+    → Reads log (first_gate (front_for job)) (Damage at)
+torn_reads job log at bad = (bad.groups, bad.holds, bad.damaged)
+
+torn_or_whole : {P : Type 0} (job : Job) (log : List ℕ) (at : ℕ) (groups : List (List Entry)) (gate : ℕ)
+    → IsBrokenAt (front_for job) log at → HoldsFor (front_for job) log groups gate → P
+torn_or_whole job log at groups gate bad holds =
+    not_both (places_are_one job log (Damage at) (Groups groups gate) (torn_reads job log at bad) holds.reads)
+  where
+    not_both : Damage at ≡ Groups groups gate → P
+    not_both e = absurd cc
+
+pub one_by_entries : (job : Job) (log : List ℕ) (a b : Status) → ByEntries job log a → ByEntries job log b → a ≡ b
+one_by_entries job log a b (of_none away) (of_none away2) = refl
+one_by_entries job log a b (of_none away) (torn bad) = absurd (away bad.begins)
+one_by_entries job log a b (of_none away) (illegal is) = absurd (away is.holds.begins)
+one_by_entries job log a b (of_none away) (legal is) = absurd (away is.holds.begins)
+one_by_entries job log a b (torn bad) (of_none away) = absurd (away bad.begins)
+one_by_entries job log a b (torn {at = at} bad) (torn {at = at2} bad2) =
+    ap (λ (place : ℕ). Damaged 0 place)
+    (same_damage (places_are_one job log (Damage at) (Damage at2) (torn_reads job log at bad)
+    (torn_reads job log at2 bad2)))
+  where
+    same_damage : Damage at ≡ Damage at2 → at ≡ at2
+    same_damage e = cc
+one_by_entries job log a b (torn {at = at} bad) (illegal is) =
+    torn_or_whole job log at is.groups is.gate bad is.holds
+one_by_entries job log a b (torn {at = at} bad) (legal is) = torn_or_whole job log at is.groups is.gate bad is.holds
+one_by_entries job log a b (illegal is) (of_none away) = absurd (away is.holds.begins)
+one_by_entries job log a b (illegal is) (torn {at = at} bad) =
+    torn_or_whole job log at is.groups is.gate bad is.holds
+one_by_entries job log a b (illegal {entry = x} is) (illegal {entry = y} is2) =
+    ap (λ (place : ℕ). Illegal place) (one_illegal job.defs job.scripts (front_for job) log x y is is2)
+one_by_entries job log a b (illegal {entry = x} is) (legal {count = n} is2) =
+    absurd (legal_or_not job.defs job.scripts (front_for job) log n x is2 is)
+one_by_entries job log a b (legal is) (of_none away) = absurd (away is.holds.begins)
+one_by_entries job log a b (legal is) (torn {at = at} bad) = torn_or_whole job log at is.groups is.gate bad is.holds
+one_by_entries job log a b (legal {count = n} is) (illegal {entry = x} is2) =
+    absurd (legal_or_not job.defs job.scripts (front_for job) log n x is is2)
+one_by_entries job log a b (legal is) (legal is2) = refl
+
 -- a run ends in one way behind a good log
 one_end : (job : Job) (log messages : List ℕ) (a b : Status) → IsEnd job log messages a → IsEnd job log messages b
     → a ≡ b
@@ -91,6 +136,7 @@ one_due_to Show job g a b p q =
 one_due_to Log job g a b p q = one_by_groups job (g.contents 0) a b p q
 one_due_to Migrate job g a b p q =
     one_by_log job (g.contents 0) (λ behind. behind ≡ Done) (λ x y h k. h ∙ sym k) a b p q
+one_due_to Audit job g a b p q = one_by_entries job (g.contents 0) a b p q
 
 same_command : (found : Option Command) (c d : Command) → found ≡ Some c → found ≡ Some d → c ≡ d
 same_command found c d p q = cc

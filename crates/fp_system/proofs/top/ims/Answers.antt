@@ -7,7 +7,7 @@ use Rattle.fp_site.specs.Moments.{Through}
 use Rattle.fp_source.specs.declared.part.Part.TheVariants as part
 use Rattle.log_groups.specs.Images.{IsAtRest, IsBeforeOrMade}
 use Rattle.fp_system.specs.Answers.{IsOfParts, MayStandIn}
-use Rattle.fp_system.specs.Gives.{HasNewText, Logged, Migrated, Ran, Shown}
+use Rattle.fp_system.specs.Gives.{Audited, HasNewText, Logged, Migrated, Ran, Shown}
 use Rattle.fp_system.specs.Courses.{input}
 use Rattle.site_texts.specs.Texts.{ReadsOnce}
 use Rattle.fp_system.specs.Parts.{HasEvents, Job, Refuses, front_for}
@@ -20,6 +20,7 @@ use Rattle.command_words.specs.declared.words.Command.TheVariants as command
 use Rattle.fp_system.proofs.CauseLemmas.{by_site, by_source, source_since}
 use Rattle.fp_system.proofs.Due.{parts_not_done}
 use Rattle.fp_system.specs.declared.status.Status.TheVariants as status
+use Rattle.fp_system.proofs.Audits.{audited_not}
 use Rattle.fp_system.proofs.Migrations.{unmigrated}
 use Rattle.fp_system.proofs.SentTexts.{logged_not, read_none, shown_not}
 use Rattle.fp_system.proofs.Runs.{before_site, only_same, ran_not, unmade}
@@ -111,12 +112,19 @@ returns-in-Log-clause-due g c s t =
     (record { command_is = named; job_is = c.in-Ok.ensures.job s; schedule_is = tt }) due))
     (λ fault. inr fault) (c.log_on.ensures.due t)
 
-pub returns-in-Ok-clause-due : goal.returns-in-Ok-clause-due
-returns-in-Ok-clause-due g c s t =
+pub returns-in-Migrate-clause-due : goal.returns-in-Migrate-clause-due
+returns-in-Migrate-clause-due g c s t =
     let named : command_of (map string_bytes c.args.words.now) ≡ Some command.Migrate = search rules in
     ⊎_elim (λ due. inl (table.asked
     (record { command_is = named; job_is = c.in-Ok.ensures.job s; schedule_is = tt }) due))
     (λ fault. inr fault) (c.migrate_on.ensures.due t)
+
+pub returns-in-Ok-clause-due : goal.returns-in-Ok-clause-due
+returns-in-Ok-clause-due g c s t =
+    let named : command_of (map string_bytes c.args.words.now) ≡ Some command.Audit = search rules in
+    ⊎_elim (λ due. inl (table.asked
+    (record { command_is = named; job_is = c.in-Ok.ensures.job s; schedule_is = tt }) due))
+    (λ fault. inr fault) (c.audit_on.ensures.due t)
 
 pub returns-in-Show-clause-cause : goal.returns-in-Show-clause-cause
 returns-in-Show-clause-cause g c = record {
@@ -134,12 +142,20 @@ returns-in-Log-clause-cause g c = record {
   site = c.log_on.ensures.cause;
 }
 
-pub returns-in-Ok-clause-cause : goal.returns-in-Ok-clause-cause
-returns-in-Ok-clause-cause g c = record {
+pub returns-in-Migrate-clause-cause : goal.returns-in-Migrate-clause-cause
+returns-in-Migrate-clause-cause g c = record {
   source =
       by_source (g.S.Source.faults c.args.source.now) (g.S.Source.faults c.read_task.new.source) c.migrate_on.result
       (λ e. absurd (c.migrate_on.ensures.never e)) (λ other. c.in-Ok.ensures.stayed);
   site = c.migrate_on.ensures.cause;
+}
+
+pub returns-in-Ok-clause-cause : goal.returns-in-Ok-clause-cause
+returns-in-Ok-clause-cause g c = record {
+  source =
+      by_source (g.S.Source.faults c.args.source.now) (g.S.Source.faults c.read_task.new.source) c.audit_on.result
+      (λ e. absurd (c.audit_on.ensures.never e)) (λ other. c.in-Ok.ensures.stayed);
+  site = c.audit_on.ensures.cause;
 }
 
 -- ---- what the commands give
@@ -239,14 +255,23 @@ returns-in-Log-clause-logged g c job s t asks =
     (one_job (kinds_of c.args.exits.now) (g.S.Source.left c.args.source.now) mine job (c.in-Ok.ensures.job s)
     asks.job_is) (c.log_on.ensures.logged t)
 
-pub returns-in-Ok-clause-migrated : goal.returns-in-Ok-clause-migrated
-returns-in-Ok-clause-migrated g c job s t asks =
+pub returns-in-Migrate-clause-migrated : goal.returns-in-Migrate-clause-migrated
+returns-in-Migrate-clause-migrated g c job s t asks =
     let mine = job_of c.in-Ok.task.setup in
     let old = g.T.Site.disk c.args.site.now in
     let new = g.T.Site.disk c.migrate_on.new.site in
     subst (λ (j : Job). Migrated j c.migrate_on.result old new)
     (one_job (kinds_of c.args.exits.now) (g.S.Source.left c.args.source.now) mine job (c.in-Ok.ensures.job s)
     asks.job_is) (c.migrate_on.ensures.migrated t)
+
+pub returns-in-Ok-clause-audited : goal.returns-in-Ok-clause-audited
+returns-in-Ok-clause-audited g c job s t asks =
+    let mine = job_of c.in-Ok.task.setup in
+    let old = g.T.Site.disk c.args.site.now in
+    let new = g.T.Site.disk c.audit_on.new.site in
+    subst (λ (j : Job). Audited j c.audit_on.result old new)
+    (one_job (kinds_of c.args.exits.now) (g.S.Source.left c.args.source.now) mine job (c.in-Ok.ensures.job s)
+    asks.job_is) (c.audit_on.ensures.audited t)
 
 pub returns-clause-shown : goal.returns-clause-shown
 returns-clause-shown g c job s t asks =
@@ -263,6 +288,16 @@ pub returns-clause-migrated : goal.returns-clause-migrated
 returns-clause-migrated g c job s t asks =
     unmigrated job c.in-Err-read_task.answer (g.T.Site.disk c.args.site.now) (g.met.T.Site.lawful c.args.site.now t)
     (λ done. parts_not_done c.in-Err-read_task.answer c.in-Err-read_task.ensures.early done)
+
+pub returns-clause-audited : goal.returns-clause-audited
+returns-clause-audited g c job s t asks =
+    audited_not job c.in-Err-read_task.answer (g.T.Site.disk c.args.site.now)
+    (λ done. parts_not_done c.in-Err-read_task.answer c.in-Err-read_task.ensures.early done)
+    (λ entry e. absurd (subst IsOfParts e c.in-Err-read_task.ensures.early))
+
+pub returns-in-Err-clause-audited : goal.returns-in-Err-clause-audited
+returns-in-Err-clause-audited g c job s t asks =
+    audited_not job status.NoMemory (g.T.Site.disk c.args.site.now) (λ e. cc) (λ entry e. cc)
 
 pub returns-in-Err-clause-migrated : goal.returns-in-Err-clause-migrated
 returns-in-Err-clause-migrated g c job s t asks =
@@ -306,14 +341,23 @@ returns-in-Log-clause-once g c which job s t asks tells =
     (g.T.Site.bytes_read c.args.site.now 0) (g.T.Site.bytes_read c.log_on.new.site 0)) same
     (c.log_on.ensures.once t tells)
 
-pub returns-in-Ok-clause-once : goal.returns-in-Ok-clause-once
-returns-in-Ok-clause-once g c which job s t asks tells =
+pub returns-in-Migrate-clause-once : goal.returns-in-Migrate-clause-once
+returns-in-Migrate-clause-once g c which job s t asks tells =
     let mine = job_of c.in-Ok.task.setup in
     let same = one_job (kinds_of c.args.exits.now) (g.S.Source.left c.args.source.now) mine job
     (c.in-Ok.ensures.job s) asks.job_is in
     subst (λ (j : Job). ReadsOnce (front_for j) ((g.T.Site.disk c.args.site.now).contents 0)
     (g.T.Site.bytes_read c.args.site.now 0) (g.T.Site.bytes_read c.migrate_on.new.site 0)) same
     (c.migrate_on.ensures.once t tells)
+
+pub returns-in-Ok-clause-once : goal.returns-in-Ok-clause-once
+returns-in-Ok-clause-once g c which job s t asks tells =
+    let mine = job_of c.in-Ok.task.setup in
+    let same = one_job (kinds_of c.args.exits.now) (g.S.Source.left c.args.source.now) mine job
+    (c.in-Ok.ensures.job s) asks.job_is in
+    subst (λ (j : Job). ReadsOnce (front_for j) ((g.T.Site.disk c.args.site.now).contents 0)
+    (g.T.Site.bytes_read c.args.site.now 0) (g.T.Site.bytes_read c.audit_on.new.site 0)) same
+    (c.audit_on.ensures.once t tells)
 
 pub returns-clause-once : goal.returns-clause-once
 returns-clause-once g c which job s t asks tells = read_none job _ (g.T.Site.bytes_read c.args.site.now 0)
@@ -360,11 +404,18 @@ returns-in-Log-clause-untouched g c before =
     (λ early. absurd (c.log_on.ensures.early early)) (λ fault other. absurd (c.log_on.ensures.never fault))
     (λ none named. other_command mine named (λ e. cc)) before
 
-pub returns-in-Ok-clause-untouched : goal.returns-in-Ok-clause-untouched
-returns-in-Ok-clause-untouched g c before =
+pub returns-in-Migrate-clause-untouched : goal.returns-in-Migrate-clause-untouched
+returns-in-Migrate-clause-untouched g c before =
     let mine : command_of (map string_bytes c.args.words.now) ≡ Some command.Migrate = search rules in
     before_site (command_of (map string_bytes c.args.words.now)) c.migrate_on.result
     (λ early. absurd (c.migrate_on.ensures.early early)) (λ fault other. absurd (c.migrate_on.ensures.never fault))
+    (λ none named. other_command mine named (λ e. cc)) before
+
+pub returns-in-Ok-clause-untouched : goal.returns-in-Ok-clause-untouched
+returns-in-Ok-clause-untouched g c before =
+    let mine : command_of (map string_bytes c.args.words.now) ≡ Some command.Audit = search rules in
+    before_site (command_of (map string_bytes c.args.words.now)) c.audit_on.result
+    (λ early. absurd (c.audit_on.ensures.early early)) (λ fault other. absurd (c.audit_on.ensures.never fault))
     (λ none named. other_command mine named (λ e. cc)) before
 
 pub returns-in-Define-clause-no_job : goal.returns-in-Define-clause-no_job
@@ -419,11 +470,22 @@ returns-in-Log-clause-no_job g c s none =
       ),
     ))
 
-pub returns-in-Ok-clause-no_job : goal.returns-in-Ok-clause-no_job
-returns-in-Ok-clause-no_job g c s none =
+pub returns-in-Migrate-clause-no_job : goal.returns-in-Migrate-clause-no_job
+returns-in-Migrate-clause-no_job g c s none =
     let named : command_of (map string_bytes c.args.words.now) ≡ Some command.Migrate = search rules in
     absurd (none (
       command.Migrate,
+      (
+        job_of c.in-Ok.task.setup,
+        record { command_is = named; job_is = c.in-Ok.ensures.job s; schedule_is = tt },
+      ),
+    ))
+
+pub returns-in-Ok-clause-no_job : goal.returns-in-Ok-clause-no_job
+returns-in-Ok-clause-no_job g c s none =
+    let named : command_of (map string_bytes c.args.words.now) ≡ Some command.Audit = search rules in
+    absurd (none (
+      command.Audit,
       (
         job_of c.in-Ok.task.setup,
         record { command_is = named; job_is = c.in-Ok.ensures.job s; schedule_is = tt },
@@ -463,10 +525,21 @@ returns-in-Log-clause-parts g c s =
       unread = λ run of. c.read_task.ensures.messages s;
     }
 
-pub returns-in-Ok-clause-parts : goal.returns-in-Ok-clause-parts
-returns-in-Ok-clause-parts g c s =
+pub returns-in-Migrate-clause-parts : goal.returns-in-Migrate-clause-parts
+returns-in-Migrate-clause-parts g c s =
     let mine : c.in-Ok-Some.command ≡ command.Migrate = search rules in
     let named : command_of (map string_bytes c.args.words.now) ≡ Some command.Migrate = search rules in
+    record {
+      no_schedule = λ other. c.read_task.ensures.schedule_unread s (λ e. no_run mine e (λ d. cc));
+      no_messages = λ other. c.read_task.ensures.messages s;
+      all = λ run done. other_command named run (λ e. cc);
+      unread = λ run of. c.read_task.ensures.messages s;
+    }
+
+pub returns-in-Ok-clause-parts : goal.returns-in-Ok-clause-parts
+returns-in-Ok-clause-parts g c s =
+    let mine : c.in-Ok-Some.command ≡ command.Audit = search rules in
+    let named : command_of (map string_bytes c.args.words.now) ≡ Some command.Audit = search rules in
     record {
       no_schedule = λ other. c.read_task.ensures.schedule_unread s (λ e. no_run mine e (λ d. cc));
       no_messages = λ other. c.read_task.ensures.messages s;
@@ -536,11 +609,18 @@ returns-in-Log-clause-order g c s =
     (g.S.Source.left c.args.source.now) (g.S.Source.left c.read_task.new.source) command.Log
     (job_of c.in-Ok.task.setup) named (c.in-Ok.ensures.job s) (inl (c.read_task.ensures.messages s))
 
-pub returns-in-Ok-clause-order : goal.returns-in-Ok-clause-order
-returns-in-Ok-clause-order g c s =
+pub returns-in-Migrate-clause-order : goal.returns-in-Migrate-clause-order
+returns-in-Migrate-clause-order g c s =
     let named : command_of (map string_bytes c.args.words.now) ≡ Some command.Migrate = search rules in
     in_order (kinds_of c.args.exits.now) (command_of (map string_bytes c.args.words.now))
     (g.S.Source.left c.args.source.now) (g.S.Source.left c.read_task.new.source) command.Migrate
+    (job_of c.in-Ok.task.setup) named (c.in-Ok.ensures.job s) (inl (c.read_task.ensures.messages s))
+
+pub returns-in-Ok-clause-order : goal.returns-in-Ok-clause-order
+returns-in-Ok-clause-order g c s =
+    let named : command_of (map string_bytes c.args.words.now) ≡ Some command.Audit = search rules in
+    in_order (kinds_of c.args.exits.now) (command_of (map string_bytes c.args.words.now))
+    (g.S.Source.left c.args.source.now) (g.S.Source.left c.read_task.new.source) command.Audit
     (job_of c.in-Ok.task.setup) named (c.in-Ok.ensures.job s) (inl (c.read_task.ensures.messages s))
 
 pub returns-in-Run-clause-order : goal.returns-in-Run-clause-order

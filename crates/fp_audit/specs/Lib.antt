@@ -1,0 +1,4 @@
+pub mod Audit
+pub mod Numbers
+pub mod Setup
+pub mod Standing

@@ -1,0 +1,4 @@
+mod Verdict
+mod Judging
+mod Logs
+pub mod Readings

@@ -1,0 +1,4 @@
+pub mod Legal
+pub mod Faults
+pub mod Verdicts
+pub mod Judged
