@@ -26,3 +26,4 @@ pub mod Giving
 pub mod ComparingLemmas
 pub mod AloneLemmas
 pub mod FindingLemmas
+pub mod HeldLemmas

@@ -3,7 +3,7 @@
 //! Where an anchor's old and new roots differ in one segment, that one's element alone is put. Else the anchor is
 //! stored.
 
-ghost use Rattle.std.specs.Prelude.{◌≡◌, ◌≢◌, ◌<◌, ◌≤◌, ℕ, List, Err, IfOk, OnOk, IsErrOf, true, false};
+ghost use Rattle.std.specs.Prelude.{◌≡◌, ◌≢◌, ◌↔◌, ◌<◌, ◌≤◌, ℕ, List, Err, IfOk, OnOk, IsOk, IsErrOf, IsTrue, true, false};
 ghost use Rattle.ci_space.specs.Calls.{Rose, GoesOn};
 ghost use Rattle.ci_overflow.specs.Lists.{IsInOrder};
 ghost use Rattle.anchor_elements.specs.Elements.{AreTypes, Segment, HasSegment};
@@ -15,12 +15,15 @@ ghost use Rattle.root_anchor.specs.Finding.{FitsType, says_of};
 ghost use Rattle.root_anchor.specs.Formed.{IsFormed, HasChain, HasRoots};
 ghost use Rattle.root_anchor.specs.Stored.{are_storable, ApartKeep, OthersKeep, KeepsSequential};
 
+use crate::differing::{Difference, compare_roots};
 use crate::finding::{Found, find_change};
+use crate::holding::{Begun, begin, rest, settle};
 use crate::newest::pointers_of;
-use crate::storing::store;
+use crate::storing::store_held;
 use anchor_elements::{AnchorFault, Saying, put_segment};
 use ci_space::{Intervals, Shape};
 use fp_model::{List, Root, SegDef};
+use held_intervals::Held;
 use std::alloc::Global;
 
 /// Lets an element say what it is to say.
@@ -88,15 +91,8 @@ pub(crate) fn set_alone<I: Intervals>(
     }
 }
 
-/// Gives an anchor roots in the place of those that it has, as `store` does. Where the two lists differ in one
-/// segment's bytes, or in one root's newest serial, that one's element alone changes, and no interval is added. An
-/// anchor is counted from 0 within its area.
-///
-/// An element that changes alone costs one `get` for each root up to its own, and for each twin up to the segment's
-/// own on each level below.
-///
-/// `Damaged` and `Failed` as in `store`. After a fault what holds the intervals is thrown away.
-pub fn rewrite<I: Intervals>(
+/// Gives an anchor roots in the place of those that it has, through intervals that are held.
+fn rewrite_held<I: Intervals>(
     alloc: Global,
     i: &mut I,
     shape: &Shape,
@@ -150,5 +146,95 @@ pub fn rewrite<I: Intervals>(
     if alone {
         return Ok(());
     }
-    store(alloc, i, shape, segments, anchor, after)
+    store_held(alloc, i, shape, segments, anchor, after)
+}
+
+/// Whether two lists of roots are the same.
+fn are_same(roots: &List<Root>, others: &List<Root>) -> bool
+    ensures { IsTrue result ↔ (roots.now ≡ others.now) }
+{
+    matches!(
+        compare_roots(roots.as_slice(), others.as_slice()),
+        Difference::Nowhere
+    )
+}
+
+/// Gives an anchor roots in the place of those that it has, as `store` does. Where the two lists differ in one
+/// segment's bytes, or in one root's newest serial, that one's element alone changes, and no interval is added. Where
+/// they are the same, nothing is read or put. An anchor is counted from 0 within its area.
+///
+/// An element that changes alone costs one `get` for the anchor's base interval, and one for each other interval that
+/// holds a root up to its own, or on a level below a twin up to the segment's own.
+///
+/// `Damaged` and `Failed` as in `store`. After a fault what holds the intervals is thrown away.
+pub fn rewrite<I: Intervals>(
+    alloc: Global,
+    i: &mut I,
+    shape: &Shape,
+    segments: &List<SegDef>,
+    anchor: u32,
+    before: &List<Root>,
+    after: &List<Root>,
+) -> Result<(), AnchorFault>
+    requires anchor { anchor < anchor_count shape.now }
+    requires types { AreTypes (I.size i.old) segments.now }
+    requires roots { are_storable segments.now after.now ≡ true }
+
+    // Where the anchor has the roots `before`: it has the roots `after` then. All others keep theirs, and a formed area
+    // is formed again.
+    ensures stored { I.told i.old → HasRoots shape.now segments.now (I.intervals i.old) anchor before.now
+        → IsFormed shape.now segments.now (I.intervals i.old)
+        → OnOk result (HasRoots shape.now segments.now (I.intervals i.new) anchor after.now) }
+    ensures others { I.told i.old → HasRoots shape.now segments.now (I.intervals i.old) anchor before.now
+        → IsFormed shape.now segments.now (I.intervals i.old)
+        → OnOk result (OthersKeep shape.now segments.now (I.intervals i.old) (I.intervals i.new) anchor) }
+    ensures apart { I.told i.old → HasRoots shape.now segments.now (I.intervals i.old) anchor before.now
+        → IsInOrder shape.now (I.intervals i.old)
+        → OnOk result (ApartKeep shape.now segments.now (I.intervals i.old) (I.intervals i.new) anchor) }
+    ensures formed { I.told i.old → HasRoots shape.now segments.now (I.intervals i.old) anchor before.now
+        → IsFormed shape.now segments.now (I.intervals i.old)
+        → OnOk result (IsFormed shape.now segments.now (I.intervals i.new)) }
+
+    // And where the lists differ in one segment, just its element changes.
+    ensures alone { I.told i.old → HasRoots shape.now segments.now (I.intervals i.old) anchor before.now
+        → RootsDiffer before.now after.now
+        → OnOk result (ChangesAlone shape.now segments.now (I.intervals i.old) (I.intervals i.new) anchor before.now
+        after.now) }
+
+    // And where they are the same, nothing changes.
+    ensures done { before.now ≡ after.now → IsOk result }
+    ensures same { before.now ≡ after.now → i.new ≡ i.old }
+
+    // Whatever roots it has.
+    ensures sequential { I.told i.old → IsFormed shape.now segments.now (I.intervals i.old)
+        → OnOk result (KeepsSequential shape.now (I.intervals i.old) (I.intervals i.new)) }
+    ensures sound { I.told i.old → IsInOrder shape.now (I.intervals i.old)
+        → HasChain shape.now segments.now (I.intervals i.old) anchor → (ci : ℕ)
+        → result ≢ Err (AnchorFault.Damaged ci) }
+    ensures damaged { I.told i.old → ¬ HasChain shape.now segments.now (I.intervals i.old) anchor → (ci : ℕ)
+        → result ≡ Err (AnchorFault.Damaged ci) → ChainFails shape.now segments.now (I.intervals i.old) anchor ci }
+
+    // It fails only with what holds the intervals.
+    ensures failed { IsErrOf result AnchorFault.Failed → Rose (I.faults i.old) (I.faults i.new) }
+
+    // What stays, whatever the answer is.
+    ensures number { I.number i.old ≤ I.number i.new }
+    ensures goes_on { GoesOn I.told I.size I.faults I.keeps i.old i.new }
+{
+    if are_same(before, after) {
+        return Ok(());
+    }
+    let Begun { size, read } = begin(alloc, i, shape, anchor)?;
+    let mut held = Held::new(alloc, i, size, read);
+    let rewritten = rewrite_held(alloc, &mut held, shape, segments, anchor, before, after);
+    let Held {
+        alloc: _,
+        under,
+        size: _,
+        read: _,
+        changed,
+    } = held;
+    let result = settle(under, changed, rewritten);
+    rest(under);
+    result
 }

@@ -82,7 +82,7 @@ fn rebuild<I: Intervals>(
 }
 
 /// Gives an anchor these roots, through intervals that are held.
-fn store_held<I: Intervals>(
+pub(crate) fn store_held<I: Intervals>(
     alloc: Global,
     i: &mut I,
     shape: &Shape,

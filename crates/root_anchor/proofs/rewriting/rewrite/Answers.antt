@@ -1,98 +1,190 @@
-use Rattle.std.proofs.Common.{OnOk, sym, subst}
+use Rattle.std.proofs.Common.{◌≡◌, ◌∙◌, ℕ, List, OnOk, refl, sym, ap, subst, rules}
+use Rattle.std.specs.Ordering.{nat_cmp}
+use Rattle.std.specs.BTreeMap.{get}
 use Rattle.std.proofs.lemmas.Result.{err_from_is_err_and}
+use Rattle.ci_space.specs.Calls.{GoesOn}
+use Rattle.ci_overflow.proofs.Going.{goes_on_joined}
 use Rattle.ci_overflow.specs.Lists.{IsInOrder}
+use Rattle.held_intervals.specs.Holding.{overlaid, AreRead, keeps_itself}
+use Rattle.held_intervals.proofs.Holds.{held_number, on_settled}
 use Rattle.root_anchor.specs.Damage.{ChainFails}
-use Rattle.root_anchor.specs.Formed.{IsFormed, HasChain}
+use Rattle.root_anchor.specs.Differing.{ChangesAlone}
+use Rattle.root_anchor.specs.Formed.{IsFormed, HasChain, HasRoots}
 use Rattle.root_anchor.specs.Stored.{ApartKeep, OthersKeep, KeepsSequential}
-use Rattle.root_anchor.proofs.AloneLemmas.{alone_stored, alone_others, alone_apart, alone_formed, alone_sequential}
+use Rattle.root_anchor.proofs.ComparingLemmas.{roots_apart, same_there}
+use Rattle.root_anchor.proofs.HeldLemmas.{starts}
+use Rattle.root_anchor.proofs.Sound.{chain_sound}
 use Rattle.root_anchor.proofs.rewriting.rewrite.Goals as goal
 
-pub returns-in_err-alone-clause-sound : goal.returns-in_err-alone-clause-sound
-returns-in_err-alone-clause-sound g c = λ told o h ci e.
+-- ---- lists that are the same
+
+-- ---- lists that are the same
+
+pub returns-then-are_same-clause-alone : goal.returns-then-are_same-clause-alone
+returns-then-are_same-clause-alone g c = λ told has differ.
+    let same : c.args.before.now ≡ c.args.after.now = c.are_same.ensures.0 c.if-are_same.true in
+    absurd (roots_apart differ.differ.x differ.differ.y differ.differ.differ (same_there differ.differ.at same))
+
+-- ---- lists that differ
+
+pub returns-in_err-size-clause-sound : goal.returns-in_err-size-clause-sound
+returns-in_err-size-clause-sound g c = λ told o h ci e.
     let p = err_from_is_err_and c.from_residual.result c.from_residual.ensures.1 in
-    c.set_alone.ensures.sound told ci (cc (p.1, p.2, c.in_err-alone.was))
+    chain_sound h ci (c.begin.ensures.damaged told c.args.segments.now ci (cc (p.1, p.2, c.in_err-size.was)))
 
-pub returns-in_err-alone-clause-damaged : goal.returns-in_err-alone-clause-damaged
-returns-in_err-alone-clause-damaged g c = λ told none ci e.
-    let p = err_from_is_err_and c.from_residual.result c.from_residual.ensures.1 in
-    absurd (c.set_alone.ensures.sound told ci (cc (p.1, p.2, c.in_err-alone.was)))
-
-pub returns-then-alone-clause-stored : goal.returns-then-alone-clause-stored
-returns-then-alone-clause-stored g c = λ told has formed. alone_stored c.args.shape.now c.args.segments.now _ _
-    c.args.anchor c.args.before.now c.args.after.now (c.in_ok-alone.ensures.set told c.if-alone.true) has
-
-pub returns-then-alone-clause-others : goal.returns-then-alone-clause-others
-returns-then-alone-clause-others g c = λ told has formed. alone_others c.args.shape.now c.args.segments.now _ _
-    c.args.anchor c.args.before.now c.args.after.now (c.in_ok-alone.ensures.set told c.if-alone.true) has formed
-    c.requires.anchor
-
-pub returns-then-alone-clause-apart : goal.returns-then-alone-clause-apart
-returns-then-alone-clause-apart g c = λ told has order. alone_apart c.args.shape.now c.args.segments.now _ _
-    c.args.anchor c.args.before.now c.args.after.now (c.in_ok-alone.ensures.set told c.if-alone.true) has
-
-pub returns-then-alone-clause-formed : goal.returns-then-alone-clause-formed
-returns-then-alone-clause-formed g c = λ told has formed. alone_formed c.args.shape.now c.args.segments.now _ _
-    c.args.anchor c.args.before.now c.args.after.now (c.in_ok-alone.ensures.set told c.if-alone.true) has formed
-    c.requires.anchor
-
-pub returns-then-alone-clause-alone : goal.returns-then-alone-clause-alone
-returns-then-alone-clause-alone g c = λ told has differ. c.in_ok-alone.ensures.set told c.if-alone.true
-
-pub returns-then-alone-clause-sequential : goal.returns-then-alone-clause-sequential
-returns-then-alone-clause-sequential g c = λ told formed. alone_sequential c.args.shape.now c.args.segments.now _ _
-    c.args.anchor c.args.before.now c.args.after.now (c.in_ok-alone.ensures.set told c.if-alone.true) formed.in_order
+pub settle-result-requires : goal.settle-result-requires
+settle-result-requires g c =
+    let q = c.new-held.result in
+    let kept = c.rewrite_held-rewritten.ensures.goes_on.known q
+    (refl, keeps_itself _ _ _ _ _ _ q.under.now q.size (get nat_cmp q.changed)) in
+    let size : q.size ≡ g.I.Intervals.size q.under.now = c.new-held.ensures.size ∙ c.in_ok-size.ensures.size
+    ∙ sym c.begin.ensures.look.goes_on.same_size ∙ ap g.I.Intervals.size (sym c.new-held.ensures.under) in
+    held_number kept.1 size c.new-held.ensures.none_changed
 
 pub returns-clause-stored : goal.returns-clause-stored
 returns-clause-stored g c = λ told has formed.
-    let same = c.in_ok-alone.ensures.same told c.if-alone.false in
-    c.store.ensures.stored (c.set_alone.ensures.goes_on.tells told)
-    (subst (λ a. IsFormed c.args.shape.now c.args.segments.now a) (sym same) formed)
+    let q = c.new-held.result in
+    let n = c.rewrite_held-rewritten.new.i in
+    let b = starts c.begin.ensures.look c.new-held.ensures.under (c.new-held.ensures.size ∙ c.in_ok-size.ensures.size)
+    (subst (λ m. AreRead (get nat_cmp m) (g.I.Intervals.intervals c.args.i.now)) (sym c.new-held.ensures.read)
+    (c.in_ok-size.ensures.read told)) c.new-held.ensures.none_changed g.met.I.Intervals.numbered told in
+    let kept = c.rewrite_held-rewritten.ensures.goes_on.known q
+    (refl, keeps_itself _ _ _ _ _ _ q.under.now q.size (get nat_cmp q.changed)) in
+    let done = c.settle-result.ensures.put (kept.1.area.tells b.told_held.0) in
+    let name = kept.0 ∙ c.new-held.ensures.same_area in
+    let made = c.rewrite_held-rewritten.ensures.stored b.told_held (subst (λ a. HasRoots c.args.shape.now c.args.segments.now a c.args.anchor c.args.before.now) (sym b.over) has)
+    (subst (λ a. IsFormed c.args.shape.now c.args.segments.now a) (sym b.over) formed) in
+    let x = on_settled c.settle-result.result c.rewrite_held-rewritten.result _ _ (λ a. HasRoots c.args.shape.now c.args.segments.now a c.args.anchor c.args.after.now)
+    c.settle-result.ensures.done done made in
+    search rules
 
 pub returns-clause-others : goal.returns-clause-others
 returns-clause-others g c = λ told has formed.
-    let same = c.in_ok-alone.ensures.same told c.if-alone.false in
-    subst (λ a. OnOk c.store.result (OthersKeep c.args.shape.now c.args.segments.now a
-    (g.I.Intervals.intervals c.store.new.i) c.args.anchor)) same
-    (c.store.ensures.others (c.set_alone.ensures.goes_on.tells told)
-    (subst (λ a. IsFormed c.args.shape.now c.args.segments.now a) (sym same) formed))
+    let q = c.new-held.result in
+    let n = c.rewrite_held-rewritten.new.i in
+    let b = starts c.begin.ensures.look c.new-held.ensures.under (c.new-held.ensures.size ∙ c.in_ok-size.ensures.size)
+    (subst (λ m. AreRead (get nat_cmp m) (g.I.Intervals.intervals c.args.i.now)) (sym c.new-held.ensures.read)
+    (c.in_ok-size.ensures.read told)) c.new-held.ensures.none_changed g.met.I.Intervals.numbered told in
+    let kept = c.rewrite_held-rewritten.ensures.goes_on.known q
+    (refl, keeps_itself _ _ _ _ _ _ q.under.now q.size (get nat_cmp q.changed)) in
+    let next : List (List ℕ) = overlaid (g.I.Intervals.number n.under.now) (get nat_cmp n.changed)
+    (g.I.Intervals.intervals n.under.now) in
+    let done = c.settle-result.ensures.put (kept.1.area.tells b.told_held.0) in
+    let name = kept.0 ∙ c.new-held.ensures.same_area in
+    let made = subst (λ b. OnOk c.rewrite_held-rewritten.result (OthersKeep c.args.shape.now c.args.segments.now b next c.args.anchor)) b.over
+    (c.rewrite_held-rewritten.ensures.others b.told_held (subst (λ a. HasRoots c.args.shape.now c.args.segments.now a c.args.anchor c.args.before.now) (sym b.over) has)
+    (subst (λ a. IsFormed c.args.shape.now c.args.segments.now a) (sym b.over) formed)) in
+    let x = on_settled c.settle-result.result c.rewrite_held-rewritten.result _ _ (λ a. OthersKeep c.args.shape.now c.args.segments.now (g.I.Intervals.intervals c.args.i.now) a c.args.anchor)
+    c.settle-result.ensures.done done made in
+    search rules
 
 pub returns-clause-apart : goal.returns-clause-apart
 returns-clause-apart g c = λ told has order.
-    let same = c.in_ok-alone.ensures.same told c.if-alone.false in
-    subst (λ a. OnOk c.store.result (ApartKeep c.args.shape.now c.args.segments.now a
-    (g.I.Intervals.intervals c.store.new.i) c.args.anchor)) same
-    (c.store.ensures.apart (c.set_alone.ensures.goes_on.tells told)
-    (subst (λ a. IsInOrder c.args.shape.now a) (sym same) order))
+    let q = c.new-held.result in
+    let n = c.rewrite_held-rewritten.new.i in
+    let b = starts c.begin.ensures.look c.new-held.ensures.under (c.new-held.ensures.size ∙ c.in_ok-size.ensures.size)
+    (subst (λ m. AreRead (get nat_cmp m) (g.I.Intervals.intervals c.args.i.now)) (sym c.new-held.ensures.read)
+    (c.in_ok-size.ensures.read told)) c.new-held.ensures.none_changed g.met.I.Intervals.numbered told in
+    let kept = c.rewrite_held-rewritten.ensures.goes_on.known q
+    (refl, keeps_itself _ _ _ _ _ _ q.under.now q.size (get nat_cmp q.changed)) in
+    let next : List (List ℕ) = overlaid (g.I.Intervals.number n.under.now) (get nat_cmp n.changed)
+    (g.I.Intervals.intervals n.under.now) in
+    let done = c.settle-result.ensures.put (kept.1.area.tells b.told_held.0) in
+    let name = kept.0 ∙ c.new-held.ensures.same_area in
+    let made = subst (λ b. OnOk c.rewrite_held-rewritten.result (ApartKeep c.args.shape.now c.args.segments.now b next c.args.anchor)) b.over
+    (c.rewrite_held-rewritten.ensures.apart b.told_held (subst (λ a. HasRoots c.args.shape.now c.args.segments.now a c.args.anchor c.args.before.now) (sym b.over) has)
+    (subst (λ a. IsInOrder c.args.shape.now a) (sym b.over) order)) in
+    let x = on_settled c.settle-result.result c.rewrite_held-rewritten.result _ _ (λ a. ApartKeep c.args.shape.now c.args.segments.now (g.I.Intervals.intervals c.args.i.now) a c.args.anchor)
+    c.settle-result.ensures.done done made in
+    search rules
 
 pub returns-clause-formed : goal.returns-clause-formed
 returns-clause-formed g c = λ told has formed.
-    let same = c.in_ok-alone.ensures.same told c.if-alone.false in
-    c.store.ensures.formed (c.set_alone.ensures.goes_on.tells told)
-    (subst (λ a. IsFormed c.args.shape.now c.args.segments.now a) (sym same) formed)
+    let q = c.new-held.result in
+    let n = c.rewrite_held-rewritten.new.i in
+    let b = starts c.begin.ensures.look c.new-held.ensures.under (c.new-held.ensures.size ∙ c.in_ok-size.ensures.size)
+    (subst (λ m. AreRead (get nat_cmp m) (g.I.Intervals.intervals c.args.i.now)) (sym c.new-held.ensures.read)
+    (c.in_ok-size.ensures.read told)) c.new-held.ensures.none_changed g.met.I.Intervals.numbered told in
+    let kept = c.rewrite_held-rewritten.ensures.goes_on.known q
+    (refl, keeps_itself _ _ _ _ _ _ q.under.now q.size (get nat_cmp q.changed)) in
+    let done = c.settle-result.ensures.put (kept.1.area.tells b.told_held.0) in
+    let name = kept.0 ∙ c.new-held.ensures.same_area in
+    let made = c.rewrite_held-rewritten.ensures.formed b.told_held (subst (λ a. HasRoots c.args.shape.now c.args.segments.now a c.args.anchor c.args.before.now) (sym b.over) has)
+    (subst (λ a. IsFormed c.args.shape.now c.args.segments.now a) (sym b.over) formed) in
+    let x = on_settled c.settle-result.result c.rewrite_held-rewritten.result _ _ (λ a. IsFormed c.args.shape.now c.args.segments.now a)
+    c.settle-result.ensures.done done made in
+    search rules
 
 pub returns-clause-alone : goal.returns-clause-alone
 returns-clause-alone g c = λ told has differ.
-    let yes = c.in_ok-alone.ensures.alone told has differ in
-    let no = c.if-alone.false in
-    absurd (cc)
+    let q = c.new-held.result in
+    let n = c.rewrite_held-rewritten.new.i in
+    let b = starts c.begin.ensures.look c.new-held.ensures.under (c.new-held.ensures.size ∙ c.in_ok-size.ensures.size)
+    (subst (λ m. AreRead (get nat_cmp m) (g.I.Intervals.intervals c.args.i.now)) (sym c.new-held.ensures.read)
+    (c.in_ok-size.ensures.read told)) c.new-held.ensures.none_changed g.met.I.Intervals.numbered told in
+    let kept = c.rewrite_held-rewritten.ensures.goes_on.known q
+    (refl, keeps_itself _ _ _ _ _ _ q.under.now q.size (get nat_cmp q.changed)) in
+    let next : List (List ℕ) = overlaid (g.I.Intervals.number n.under.now) (get nat_cmp n.changed)
+    (g.I.Intervals.intervals n.under.now) in
+    let done = c.settle-result.ensures.put (kept.1.area.tells b.told_held.0) in
+    let name = kept.0 ∙ c.new-held.ensures.same_area in
+    let made = subst (λ b. OnOk c.rewrite_held-rewritten.result (ChangesAlone c.args.shape.now c.args.segments.now b next c.args.anchor c.args.before.now c.args.after.now)) b.over
+    (c.rewrite_held-rewritten.ensures.alone b.told_held (subst (λ a. HasRoots c.args.shape.now c.args.segments.now a c.args.anchor c.args.before.now) (sym b.over) has) differ) in
+    let x = on_settled c.settle-result.result c.rewrite_held-rewritten.result _ _ (λ a. ChangesAlone c.args.shape.now c.args.segments.now (g.I.Intervals.intervals c.args.i.now) a c.args.anchor c.args.before.now c.args.after.now)
+    c.settle-result.ensures.done done made in
+    search rules
 
 pub returns-clause-sequential : goal.returns-clause-sequential
 returns-clause-sequential g c = λ told formed.
-    let same = c.in_ok-alone.ensures.same told c.if-alone.false in
-    subst (λ a. OnOk c.store.result (KeepsSequential c.args.shape.now a (g.I.Intervals.intervals c.store.new.i))) same
-    (c.store.ensures.sequential (c.set_alone.ensures.goes_on.tells told)
-    (subst (λ a. IsFormed c.args.shape.now c.args.segments.now a) (sym same) formed))
+    let q = c.new-held.result in
+    let n = c.rewrite_held-rewritten.new.i in
+    let b = starts c.begin.ensures.look c.new-held.ensures.under (c.new-held.ensures.size ∙ c.in_ok-size.ensures.size)
+    (subst (λ m. AreRead (get nat_cmp m) (g.I.Intervals.intervals c.args.i.now)) (sym c.new-held.ensures.read)
+    (c.in_ok-size.ensures.read told)) c.new-held.ensures.none_changed g.met.I.Intervals.numbered told in
+    let kept = c.rewrite_held-rewritten.ensures.goes_on.known q
+    (refl, keeps_itself _ _ _ _ _ _ q.under.now q.size (get nat_cmp q.changed)) in
+    let next : List (List ℕ) = overlaid (g.I.Intervals.number n.under.now) (get nat_cmp n.changed)
+    (g.I.Intervals.intervals n.under.now) in
+    let done = c.settle-result.ensures.put (kept.1.area.tells b.told_held.0) in
+    let name = kept.0 ∙ c.new-held.ensures.same_area in
+    let made = subst (λ b. OnOk c.rewrite_held-rewritten.result (KeepsSequential c.args.shape.now b next)) b.over
+    (c.rewrite_held-rewritten.ensures.sequential b.told_held (subst (λ a. IsFormed c.args.shape.now c.args.segments.now a) (sym b.over) formed)) in
+    let x = on_settled c.settle-result.result c.rewrite_held-rewritten.result _ _ (λ a. KeepsSequential c.args.shape.now (g.I.Intervals.intervals c.args.i.now) a)
+    c.settle-result.ensures.done done made in
+    search rules
 
 pub returns-clause-sound : goal.returns-clause-sound
 returns-clause-sound g c = λ told order chain ci e.
-    let same = c.in_ok-alone.ensures.same told c.if-alone.false in
-    c.store.ensures.sound (c.set_alone.ensures.goes_on.tells told)
-    (subst (λ a. IsInOrder c.args.shape.now a) (sym same) order)
-    (subst (λ a. HasChain c.args.shape.now c.args.segments.now a c.args.anchor) (sym same) chain) ci e
+    let q = c.new-held.result in
+    let n = c.rewrite_held-rewritten.new.i in
+    let b = starts c.begin.ensures.look c.new-held.ensures.under (c.new-held.ensures.size ∙ c.in_ok-size.ensures.size)
+    (subst (λ m. AreRead (get nat_cmp m) (g.I.Intervals.intervals c.args.i.now)) (sym c.new-held.ensures.read)
+    (c.in_ok-size.ensures.read told)) c.new-held.ensures.none_changed g.met.I.Intervals.numbered told in
+    c.rewrite_held-rewritten.ensures.sound b.told_held (subst (λ a. IsInOrder c.args.shape.now a) (sym b.over) order)
+    (subst (λ a. HasChain c.args.shape.now c.args.segments.now a c.args.anchor) (sym b.over) chain) ci
+    (c.settle-result.ensures.damaged ci e)
 
 pub returns-clause-damaged : goal.returns-clause-damaged
-returns-clause-damaged g c = λ told none ci e.
-    let same = c.in_ok-alone.ensures.same told c.if-alone.false in
-    subst (λ a. ChainFails c.args.shape.now c.args.segments.now a c.args.anchor ci) same
-    (c.store.ensures.damaged (c.set_alone.ensures.goes_on.tells told)
-    (subst (λ a. ¬ HasChain c.args.shape.now c.args.segments.now a c.args.anchor) (sym same) none) ci e)
+returns-clause-damaged g c = λ told broken ci e.
+    let q = c.new-held.result in
+    let n = c.rewrite_held-rewritten.new.i in
+    let b = starts c.begin.ensures.look c.new-held.ensures.under (c.new-held.ensures.size ∙ c.in_ok-size.ensures.size)
+    (subst (λ m. AreRead (get nat_cmp m) (g.I.Intervals.intervals c.args.i.now)) (sym c.new-held.ensures.read)
+    (c.in_ok-size.ensures.read told)) c.new-held.ensures.none_changed g.met.I.Intervals.numbered told in
+    subst (λ a. ChainFails c.args.shape.now c.args.segments.now a c.args.anchor ci) b.over
+    (c.rewrite_held-rewritten.ensures.damaged b.told_held
+    (subst (λ a. ¬ HasChain c.args.shape.now c.args.segments.now a c.args.anchor) (sym b.over) broken) ci
+    (c.settle-result.ensures.damaged ci e))
+
+pub returns-clause-goes_on : goal.returns-clause-goes_on
+returns-clause-goes_on g c =
+    let q = c.new-held.result in
+    let n = c.rewrite_held-rewritten.new.i in
+    let kept = c.rewrite_held-rewritten.ensures.goes_on.known q
+    (refl, keeps_itself _ _ _ _ _ _ q.under.now q.size (get nat_cmp q.changed)) in
+    let name = kept.0 ∙ c.new-held.ensures.same_area in
+    let first = subst (λ x. GoesOn g.I.Intervals.told g.I.Intervals.size g.I.Intervals.faults g.I.Intervals.keeps
+    c.args.i.now x) (sym c.new-held.ensures.under) c.begin.ensures.look.goes_on in
+    let x = goes_on_joined _ _ _ _ _ _ _ (goes_on_joined _ _ _ _ _ _ _ first kept.1.area)
+    c.settle-result.ensures.goes_on in
+    search rules

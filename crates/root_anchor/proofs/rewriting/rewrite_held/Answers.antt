@@ -1,0 +1,98 @@
+use Rattle.std.proofs.Common.{OnOk, sym, subst}
+use Rattle.std.proofs.lemmas.Result.{err_from_is_err_and}
+use Rattle.ci_overflow.specs.Lists.{IsInOrder}
+use Rattle.root_anchor.specs.Damage.{ChainFails}
+use Rattle.root_anchor.specs.Formed.{IsFormed, HasChain}
+use Rattle.root_anchor.specs.Stored.{ApartKeep, OthersKeep, KeepsSequential}
+use Rattle.root_anchor.proofs.AloneLemmas.{alone_stored, alone_others, alone_apart, alone_formed, alone_sequential}
+use Rattle.root_anchor.proofs.rewriting.rewrite_held.Goals as goal
+
+pub returns-in_err-alone-clause-sound : goal.returns-in_err-alone-clause-sound
+returns-in_err-alone-clause-sound g c = λ told o h ci e.
+    let p = err_from_is_err_and c.from_residual.result c.from_residual.ensures.1 in
+    c.set_alone.ensures.sound told ci (cc (p.1, p.2, c.in_err-alone.was))
+
+pub returns-in_err-alone-clause-damaged : goal.returns-in_err-alone-clause-damaged
+returns-in_err-alone-clause-damaged g c = λ told none ci e.
+    let p = err_from_is_err_and c.from_residual.result c.from_residual.ensures.1 in
+    absurd (c.set_alone.ensures.sound told ci (cc (p.1, p.2, c.in_err-alone.was)))
+
+pub returns-then-alone-clause-stored : goal.returns-then-alone-clause-stored
+returns-then-alone-clause-stored g c = λ told has formed. alone_stored c.args.shape.now c.args.segments.now _ _
+    c.args.anchor c.args.before.now c.args.after.now (c.in_ok-alone.ensures.set told c.if-alone.true) has
+
+pub returns-then-alone-clause-others : goal.returns-then-alone-clause-others
+returns-then-alone-clause-others g c = λ told has formed. alone_others c.args.shape.now c.args.segments.now _ _
+    c.args.anchor c.args.before.now c.args.after.now (c.in_ok-alone.ensures.set told c.if-alone.true) has formed
+    c.requires.anchor
+
+pub returns-then-alone-clause-apart : goal.returns-then-alone-clause-apart
+returns-then-alone-clause-apart g c = λ told has order. alone_apart c.args.shape.now c.args.segments.now _ _
+    c.args.anchor c.args.before.now c.args.after.now (c.in_ok-alone.ensures.set told c.if-alone.true) has
+
+pub returns-then-alone-clause-formed : goal.returns-then-alone-clause-formed
+returns-then-alone-clause-formed g c = λ told has formed. alone_formed c.args.shape.now c.args.segments.now _ _
+    c.args.anchor c.args.before.now c.args.after.now (c.in_ok-alone.ensures.set told c.if-alone.true) has formed
+    c.requires.anchor
+
+pub returns-then-alone-clause-alone : goal.returns-then-alone-clause-alone
+returns-then-alone-clause-alone g c = λ told has differ. c.in_ok-alone.ensures.set told c.if-alone.true
+
+pub returns-then-alone-clause-sequential : goal.returns-then-alone-clause-sequential
+returns-then-alone-clause-sequential g c = λ told formed. alone_sequential c.args.shape.now c.args.segments.now _ _
+    c.args.anchor c.args.before.now c.args.after.now (c.in_ok-alone.ensures.set told c.if-alone.true) formed.in_order
+
+pub returns-clause-stored : goal.returns-clause-stored
+returns-clause-stored g c = λ told has formed.
+    let same = c.in_ok-alone.ensures.same told c.if-alone.false in
+    c.store_held.ensures.stored (c.set_alone.ensures.goes_on.tells told)
+    (subst (λ a. IsFormed c.args.shape.now c.args.segments.now a) (sym same) formed)
+
+pub returns-clause-others : goal.returns-clause-others
+returns-clause-others g c = λ told has formed.
+    let same = c.in_ok-alone.ensures.same told c.if-alone.false in
+    subst (λ a. OnOk c.store_held.result (OthersKeep c.args.shape.now c.args.segments.now a
+    (g.I.Intervals.intervals c.store_held.new.i) c.args.anchor)) same
+    (c.store_held.ensures.others (c.set_alone.ensures.goes_on.tells told)
+    (subst (λ a. IsFormed c.args.shape.now c.args.segments.now a) (sym same) formed))
+
+pub returns-clause-apart : goal.returns-clause-apart
+returns-clause-apart g c = λ told has order.
+    let same = c.in_ok-alone.ensures.same told c.if-alone.false in
+    subst (λ a. OnOk c.store_held.result (ApartKeep c.args.shape.now c.args.segments.now a
+    (g.I.Intervals.intervals c.store_held.new.i) c.args.anchor)) same
+    (c.store_held.ensures.apart (c.set_alone.ensures.goes_on.tells told)
+    (subst (λ a. IsInOrder c.args.shape.now a) (sym same) order))
+
+pub returns-clause-formed : goal.returns-clause-formed
+returns-clause-formed g c = λ told has formed.
+    let same = c.in_ok-alone.ensures.same told c.if-alone.false in
+    c.store_held.ensures.formed (c.set_alone.ensures.goes_on.tells told)
+    (subst (λ a. IsFormed c.args.shape.now c.args.segments.now a) (sym same) formed)
+
+pub returns-clause-alone : goal.returns-clause-alone
+returns-clause-alone g c = λ told has differ.
+    let yes = c.in_ok-alone.ensures.alone told has differ in
+    let no = c.if-alone.false in
+    absurd (cc)
+
+pub returns-clause-sequential : goal.returns-clause-sequential
+returns-clause-sequential g c = λ told formed.
+    let same = c.in_ok-alone.ensures.same told c.if-alone.false in
+    subst (λ a. OnOk c.store_held.result (KeepsSequential c.args.shape.now a (g.I.Intervals.intervals c.store_held.new.i))) same
+    (c.store_held.ensures.sequential (c.set_alone.ensures.goes_on.tells told)
+    (subst (λ a. IsFormed c.args.shape.now c.args.segments.now a) (sym same) formed))
+
+pub returns-clause-sound : goal.returns-clause-sound
+returns-clause-sound g c = λ told order chain ci e.
+    let same = c.in_ok-alone.ensures.same told c.if-alone.false in
+    c.store_held.ensures.sound (c.set_alone.ensures.goes_on.tells told)
+    (subst (λ a. IsInOrder c.args.shape.now a) (sym same) order)
+    (subst (λ a. HasChain c.args.shape.now c.args.segments.now a c.args.anchor) (sym same) chain) ci e
+
+pub returns-clause-damaged : goal.returns-clause-damaged
+returns-clause-damaged g c = λ told none ci e.
+    let same = c.in_ok-alone.ensures.same told c.if-alone.false in
+    subst (λ a. ChainFails c.args.shape.now c.args.segments.now a c.args.anchor ci) same
+    (c.store_held.ensures.damaged (c.set_alone.ensures.goes_on.tells told)
+    (subst (λ a. ¬ HasChain c.args.shape.now c.args.segments.now a c.args.anchor) (sym same) none) ci e)
