@@ -4,3 +4,5 @@ pub mod Writes
 pub mod Syncs
 pub mod Looks
 pub mod Newest
+pub mod Everything
+pub mod Applied

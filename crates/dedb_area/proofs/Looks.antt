@@ -13,7 +13,7 @@ use Rattle.area_redo.specs.Steps.{SparesAreas}
 use Rattle.area_redo.proofs.Areas.{stays_spares, spared_through}
 use Rattle.area_redo.proofs.Opening.{spared, may_spared}
 use Rattle.ci_pool.specs.Cells.{cell_at}
-use Rattle.ci_pool.specs.Held.{Held, waiting_of, pending_at}
+use Rattle.ci_pool.specs.Held.{Held, waiting_of, staged_of, pending_at, staged_at}
 use Rattle.dedb_area.specs.declared.place.Place.{Place}
 use Rattle.dedb_area.specs.Places.{place_at, layout_of}
 use Rattle.dedb_area.specs.Standing.{Holding, IsFitPool, due_of, owed_of}
@@ -38,11 +38,29 @@ module _ {S : Type 0} (told : S → Type 0) (disk : S → Disk) (faults holds : 
     clean = λ t was. second.clean (first.tells t) (first.clean t was);
   }
 
+-- of the same data set and size
+pub looks_as : {S : Type 0} (told : S → Type 0) (disk : S → Disk) (faults holds : S → ℕ) (keeps : S → S → Type 0)
+    (set set2 size size2 : ℕ) (a b : S) (p q : Held) → set ≡ set2 → size ≡ size2
+    → LooksAt told disk faults holds keeps set size a b p q → LooksAt told disk faults holds keeps set2 size2 a b p q
+looks_as told disk faults holds keeps set set2 size size2 a b p q e e2 looks = record {
+  tells = looks.tells;
+  stays = looks.stays;
+  later = looks.later;
+  same = looks.same;
+  known = looks.known;
+  cells = looks.cells;
+  sizes = λ s n same was. looks.sizes s n (λ is. same (is ∙ e) ∙ sym e2) was;
+  clean = looks.clean;
+}
+
 -- ---- of areas
 
 -- pools with the same cells have the same pending, and owe the same
 pub same_pending : (pool after : Held) → after.cells ≡ pool.cells → (s k : ℕ) → pending_at after s k ≡ pending_at pool s k
 same_pending pool after same s k = ap (λ cs. waiting_of (cell_at s k cs)) same
+
+same_staged : (pool after : Held) → after.cells ≡ pool.cells → (s k : ℕ) → staged_at after s k ≡ staged_at pool s k
+same_staged pool after same s k = ap (λ cs. staged_of (cell_at s k cs)) same
 
 pub same_owed : (pool after : Held) → after.cells ≡ pool.cells → owed_of after ≡ owed_of pool
 same_owed pool after same = fun_ext (λ s. fun_ext (λ k. ap due_of (same_pending pool after same s k)))
@@ -68,6 +86,7 @@ module _ {S : Type 0} (told : S → Type 0) (disk : S → Disk) (faults holds : 
     sizes = λ s p there. looks.sizes s p.shape.ci (same_place s p there) (fit.sizes s p there);
     areas = λ s k w h. fit.areas s k w (sym (same_pending pool after looks.cells s k) ∙ h);
     below = λ s k w h. fit.below s k w (sym (same_pending pool after looks.cells s k) ∙ h);
+    unstaged = λ s k. same_staged pool after looks.cells s k ∙ fit.unstaged s k;
   }
 
   module _ (t : told old) (way : Way) (bytes : AreaBytes) where

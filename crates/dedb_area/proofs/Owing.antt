@@ -4,10 +4,10 @@ use Rattle.std.specs.Prelude.{◌==◌, ◌&&◌, if◌then◌else◌, Option, S
 use mathlib.Core.Path.{fun_ext}
 use Rattle.area_redo.specs.Standing.{Due, without}
 use Rattle.ci_pool.specs.declared.cell.Waiting.{Waiting}
-use Rattle.ci_pool.specs.Held.{Held, pending_at, HasSize}
+use Rattle.ci_pool.specs.Held.{Held, pending_at, staged_at, HasSize}
 use Rattle.dedb_area.specs.declared.place.Place.{Place}
 use Rattle.dedb_area.specs.Standing.{IsFitPool, due_of, owed_of}
-use Rattle.dedb_area.specs.Keeping.{IsWritten}
+use Rattle.dedb_area.specs.Keeping.{IsWritten, StillWaits}
 
 due_if : (t : Bool) (o : Option Waiting) → due_of (if t then None else o) ≡ (if t then None else due_of o)
 due_if true o = refl
@@ -18,11 +18,6 @@ pub owed_less : (before after : Held) (set ci : ℕ) → IsWritten before after 
     → owed_of after ≡ without set ci (owed_of before)
 owed_less before after set ci done = fun_ext (λ s. fun_ext (λ k.
     ap due_of (done s k) ∙ due_if (s == set && k == ci) (pending_at before s k)))
-
--- what still waits, waited before
-abbrev pub StillWaits : Held → Held → Type 0
-StillWaits before after =
-    (s k : ℕ) (w : Waiting) → pending_at after s k ≡ Some w → pending_at before s k ≡ Some w
 
 left_of : (t : Bool) (o : Option Waiting) (w : Waiting) → (if t then None else o) ≡ Some w → o ≡ Some w
 left_of true o w is = cc
@@ -57,9 +52,11 @@ still_owed before after still s k due is = owing (pending_at after s k) (pending
 
 -- a pool in which no more waits fits as before
 pub fit_still : (places : List Place) (before after : Held) → StillWaits before after
-    → ((s n : ℕ) → HasSize s n before → HasSize s n after) → IsFitPool places before → IsFitPool places after
-fit_still places before after still sizes fit = record {
+    → ((s n : ℕ) → HasSize s n before → HasSize s n after) → ((s k : ℕ) → staged_at after s k ≡ staged_at before s k)
+    → IsFitPool places before → IsFitPool places after
+fit_still places before after still sizes staged fit = record {
   sizes = λ set place is. sizes set place.shape.ci (fit.sizes set place is);
   areas = λ s k w is. fit.areas s k w (still s k w is);
   below = λ s k w is. fit.below s k w (still s k w is);
+  unstaged = λ s k. staged s k ∙ fit.unstaged s k;
 }

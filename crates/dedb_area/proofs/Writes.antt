@@ -16,12 +16,12 @@ use Rattle.area_redo.proofs.Areas.{write_through}
 use Rattle.area_redo.proofs.Steps.{wrote, wrote_not, tail_named}
 use Rattle.area_redo.proofs.Opening.{tail_begins, may_wrote, may_write_through}
 use Rattle.ci_pool.specs.declared.cell.Waiting.{Waiting}
-use Rattle.ci_pool.specs.Held.{Held, pending_at, IsClean, HasSize, IsOldestSealed, IsFirstOwed}
+use Rattle.ci_pool.specs.Held.{Held, pending_at, staged_at, IsClean, HasSize, IsOldestSealed, IsFirstOwed}
 use Rattle.dedb_area.specs.declared.place.Place.{Place}
 use Rattle.dedb_area.specs.Places.{place_at, size_of, ArePlaces, layout_of}
 use Rattle.dedb_area.specs.Standing.{Holding, IsFitPool, due_of, owed_of, PoolStands, AreSynced, AreasStand, AreasMayOpen}
-use Rattle.dedb_area.specs.Keeping.{KeepsAreas, OnlyAreas, IsWritten}
-use Rattle.dedb_area.proofs.Owing.{owed_less, StillWaits, written_waits, same_waits, still_owed, fit_still}
+use Rattle.dedb_area.specs.Keeping.{KeepsAreas, OnlyAreas, IsWritten, StillWaits}
+use Rattle.dedb_area.proofs.Owing.{owed_less, written_waits, same_waits, still_owed, fit_still}
 use Rattle.dedb_area.proofs.Data.{area_behind, there, some_size, place_there}
 
 -- the bytes of an interval are written whole, or any in their place
@@ -113,7 +113,8 @@ module _ (places : List Place) (flags flags2 : List Bool) (pool after : Held) (s
     (noted : IsNoted set flags flags2)
     (more : Elapses old new (Tears old set (ci * length w.bytes) (length w.bytes))) (leaves : Leaves set old new)
     (clean : (size : ℕ) → HasSize set size pool → IsClean old.contents pool → IsClean new.contents after)
-    (sizes : (s n : ℕ) → HasSize s n pool → HasSize s n after) (how : Wrote pool after set ci w old new) where
+    (sizes : (s n : ℕ) → HasSize s n pool → HasSize s n after)
+    (staged : (s k : ℕ) → staged_at after s k ≡ staged_at pool s k) (how : Wrote pool after set ci w old new) where
   abbrev was : Holding
   was = record { places = places; unsynced = flags; pool = pool }
 
@@ -146,7 +147,7 @@ module _ (places : List Place) (flags flags2 : List Bool) (pool after : Held) (s
         })
 
   pub fits : IsFitPool places pool → IsFitPool places after
-  fits fit = fit_still places pool after (still_waits pool after set ci w old new how) sizes fit
+  fits fit = fit_still places pool after (still_waits pool after set ci w old new how) sizes staged fit
 
   module _ (way : Way) (bytes : AreaBytes) (below : w.newest < sealed_of way) where
     pub keeps_written : KeepsAreas way bytes old new was now

@@ -1,9 +1,10 @@
 -- What the calls on areas keep.
-use Rattle.std.specs.Prelude.{◌≡◌, ℕ, ◌≤◌, ◌<◌, false, true, ◌==◌, ◌&&◌, if◌then◌else◌, Option, None}
+use Rattle.std.specs.Prelude.{◌≡◌, ℕ, ◌≤◌, ◌<◌, false, true, ◌==◌, ◌&&◌, if◌then◌else◌, Option, Some, None}
 use Rattle.fp_site.specs.Disk.{Disk, IsDurable}
 use Rattle.fp_site.specs.Moments.{OnlyIn}
 use Rattle.fp_model.specs.Items.{items_of}
 use Rattle.fp_model.specs.State.{first_area_set}
+use Rattle.ci_pool.specs.declared.cell.Waiting.{Waiting}
 use Rattle.ci_pool.specs.Held.{Held, pending_at}
 use Rattle.area_redo.specs.Redo.{AreaBytes, Layout, RedoesThrough}
 use Rattle.area_redo.specs.Standing.{Way, since_mark, Owed, Stands, MayOpen}
@@ -47,3 +48,12 @@ pub record SyncsAreas (old new : Disk) : Type 0 where
 abbrev pub IsWritten : Held → Held → ℕ → ℕ → Type 0
 IsWritten before after set ci =
     (s k : ℕ) → pending_at after s k ≡ (if s == set && k == ci then None else pending_at before s k)
+
+-- nothing is pending
+abbrev pub NonePending : Held → Type 0
+NonePending pool = (set ci : ℕ) → pending_at pool set ci ≡ None
+
+-- what is pending still, was so before
+abbrev pub StillWaits : Held → Held → Type 0
+StillWaits before after =
+    (set ci : ℕ) (w : Waiting) → pending_at after set ci ≡ Some w → pending_at before set ci ≡ Some w

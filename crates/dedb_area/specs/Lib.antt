@@ -3,3 +3,4 @@ pub mod Standing
 pub mod Keeping
 pub mod Control
 pub mod Looking
+pub mod Applying

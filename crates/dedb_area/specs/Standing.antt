@@ -3,7 +3,7 @@ use Rattle.std.specs.Prelude.{◌≡◌, ℕ, ◌+◌, ◌-◌, ◌<◌, ◌^◌
 use Rattle.fp_site.specs.Disk.{Disk, IsDurable}
 use Rattle.fp_model.specs.State.{first_area_set}
 use Rattle.ci_pool.specs.declared.cell.Waiting.{Waiting}
-use Rattle.ci_pool.specs.Held.{Held, pending_at, IsClean, HasSize}
+use Rattle.ci_pool.specs.Held.{Held, pending_at, staged_at, IsClean, HasSize}
 use Rattle.area_redo.specs.Redo.{AreaBytes, Layout}
 use Rattle.area_redo.specs.Standing.{behind, Way, Due, Owed, Stands, MayOpen}
 use Rattle.dedb_area.specs.declared.place.Place.{Place}
@@ -20,12 +20,17 @@ pub record Holding : Type 0 where
 
 -- ---- without the site
 
--- What the pool has of an area's intervals has their size, and it has pending ones of areas alone. No entry has the
--- last number.
+-- nothing is staged
+abbrev pub IsUnstaged : Held → Type 0
+IsUnstaged pool = (set ci : ℕ) → staged_at pool set ci ≡ None
+
+-- What the pool has of an area's intervals has their size, it has pending ones of areas alone, and nothing is staged. No
+-- entry has the last number.
 pub record IsFitPool (places : List Place) (pool : Held) : Type 0 where
   pub sizes : (set : ℕ) (place : Place) → place_at places set ≡ Some place → HasSize set place.shape.ci pool
   pub areas : (set ci : ℕ) (w : Waiting) → pending_at pool set ci ≡ Some w → IsSome (place_at places set)
   pub below : (set ci : ℕ) (w : Waiting) → pending_at pool set ci ≡ Some w → w.newest < 2 ^ 64 - 1
+  pub unstaged : IsUnstaged pool
 
 -- ---- with the site
 

@@ -1,6 +1,6 @@
 //! The areas of a site: their intervals at hand, and which data sets have to be synced.
 
-ghost use Rattle.std.specs.Prelude.{Err, IsErrOf, ◌≡◌, ◌≢◌, ◌+◌, ◌-◌, ◌≤◌, ◌<◌, ℕ, Ok, Some, None, true, false, IsSome, IfOk, OnOk, OnErr, IsTrue, slice_get, length, is_some};
+ghost use Rattle.std.specs.Prelude.{Err, IsErrOf, ◌≡◌, ◌≢◌, ◌+◌, ◌-◌, ◌≤◌, ◌<◌, ℕ, Ok, Some, None, true, false, IsSome, IfOk, OnOk, OnErr, IsTrue, slice_get, [], length, is_some};
 ghost use Rattle.fp_site.specs.Disk.{IsDurable};
 ghost use Rattle.fp_site.specs.Site.{Counts, ReadsNothing};
 ghost use Rattle.fp_model.specs.State.{first_area_set};
@@ -17,7 +17,8 @@ ghost use Rattle.dedb_area.specs.Places.{places_of, place_at};
 ghost use Rattle.dedb_area.specs.declared.place.Place.{Place as PlaceOf};
 ghost use Rattle.dedb_area.specs.declared.fault.AreaFault.TheVariants as fault;
 ghost use Rattle.dedb_area.specs.Standing.{IsFitPool, AreSynced, AreasStand};
-ghost use Rattle.dedb_area.specs.Keeping.{KeepsAreas, OnlyAreas, IsWritten};
+ghost use Rattle.dedb_area.specs.Keeping.{KeepsAreas, OnlyAreas, IsWritten, NonePending, StillWaits};
+ghost use Rattle.ci_pool.specs.Cells.{pending_number};
 
 use crate::AreaFault;
 use crate::opening::add_places;
@@ -34,6 +35,7 @@ use std::marker::Model;
 /// written to since they were synced.
 #[derive(Drop)]
 pub struct Areas {
+    pub(crate) alloc: Global,
     pub(crate) places: Vec<Place>,
     pub(crate) unsynced: Vec<bool>,
     pub(crate) pool: Pool,
@@ -69,6 +71,7 @@ impl Areas {
         }
         let unsynced = vec![in alloc; false; places.len()]?;
         Ok(Areas {
+            alloc,
             places,
             unsynced,
             pool,
@@ -110,8 +113,10 @@ impl Areas {
         // What waits.
         ensures done { OnOk result (IsWritten self.old.pool self.new.pool set ci) }
         ensures err { OnErr result (self.new.pool ≡ self.old.pool) }
+        ensures fewer { OnOk result (pending_number self.new.pool.cells < pending_number self.old.pool.cells) }
         ensures fit { IsFitPool self.old.places self.old.pool → IsFitPool self.new.places self.new.pool }
         ensures places { self.new.places ≡ self.old.places }
+        ensures count { length self.new.unsynced ≡ length self.old.unsynced }
 
         // Where its newest change is sealed the areas stand as before, at each moment.
         ensures keeps_areas { T.told site.old → (way : Way) (bytes : AreaBytes)
@@ -206,6 +211,76 @@ impl Areas {
             self.write(site, set, ci)?;
         }
         Ok(due)
+    }
+
+    /// Writes the pending interval that has waited longest. False exactly where none is pending.
+    fn write_next<T: Site>(&mut self, site: &mut T) -> Result<bool, Failed>
+        // What waits.
+        ensures fewer { result ≡ Ok true
+            → pending_number self.new.pool.cells < pending_number self.old.pool.cells }
+        ensures none { result ≡ Ok false → IsFitPool self.old.places self.old.pool → NonePending self.new.pool }
+        ensures rest { StillWaits self.old.pool self.new.pool }
+        ensures fit { IsFitPool self.old.places self.old.pool → IsFitPool self.new.places self.new.pool }
+        ensures places { self.new.places ≡ self.old.places }
+        ensures count { length self.new.unsynced ≡ length self.old.unsynced }
+
+        // Where every entry is sealed the areas stand as before, whatever it answers and at each moment.
+        ensures keeps_areas { T.told site.old → (way : Way) (bytes : AreaBytes) → way.unsealed ≡ []
+            → KeepsAreas way bytes (T.disk site.old) (T.disk site.new) self.old self.new }
+        ensures only { T.told site.old → IsFitPool self.old.places self.old.pool
+            → OnlyAreas (T.disk site.old) (T.disk site.new) }
+
+        // The site.
+        ensures cause { Counts (T.faults site.old) (T.faults site.new) result }
+        ensures reads { ReadsNothing (T.tells_reads site.old) (T.tells_reads site.new) (T.bytes_read site.old)
+            (T.bytes_read site.new) }
+        ensures told { T.told site.old → T.told site.new }
+        ensures holds { T.holds site.new ≡ T.holds site.old }
+        ensures keeps { (first : T) → T.keeps first site.old → T.keeps first site.new }
+    {
+        match self.pool.oldest_sealed(u64::MAX) {
+            None => Ok(false),
+            Some((set, ci)) => {
+                self.write(site, set, ci)?;
+                Ok(true)
+            }
+        }
+    }
+
+    /// Writes every pending interval, and syncs every area that was written to since the last success. Every entry has
+    /// to be sealed. After `Failed` what wasn't written is pending still, and what was written is to be synced. Takes no
+    /// memory.
+    pub fn write_all<T: Site>(&mut self, site: &mut T) -> Result<(), Failed>
+        // At `Ok` nothing waits, each area is durable, and none is to be synced.
+        ensures none { IsFitPool self.old.places self.old.pool → OnOk result (NonePending self.new.pool) }
+        ensures durable { T.told site.old → (way : Way) (bytes : AreaBytes) → way.unsealed ≡ []
+            → AreasStand way bytes (T.disk site.old) self.old
+            → OnOk result ((number : ℕ) → number < length self.new.unsynced
+            → IsDurable (T.disk site.new) (first_area_set + number)) }
+        ensures synced { OnOk result ((number : ℕ) → slice_get self.new.unsynced number ≢ Some true) }
+
+        // What waits still, waited before.
+        ensures rest { StillWaits self.old.pool self.new.pool }
+        ensures fit { IsFitPool self.old.places self.old.pool → IsFitPool self.new.places self.new.pool }
+        ensures places { self.new.places ≡ self.old.places }
+        ensures count { length self.new.unsynced ≡ length self.old.unsynced }
+
+        // Where every entry is sealed the areas stand as before, whatever it answers and at each moment.
+        ensures keeps_areas { T.told site.old → (way : Way) (bytes : AreaBytes) → way.unsealed ≡ []
+            → KeepsAreas way bytes (T.disk site.old) (T.disk site.new) self.old self.new }
+        ensures only { T.told site.old → IsFitPool self.old.places self.old.pool
+            → OnlyAreas (T.disk site.old) (T.disk site.new) }
+
+        // The site.
+        ensures cause { Counts (T.faults site.old) (T.faults site.new) result }
+        ensures reads { ReadsNothing (T.tells_reads site.old) (T.tells_reads site.new) (T.bytes_read site.old)
+            (T.bytes_read site.new) }
+        ensures told { T.told site.old → T.told site.new }
+        ensures holds { T.holds site.new ≡ T.holds site.old }
+        ensures keeps { (first : T) → T.keeps first site.old → T.keeps first site.new }
+    {
+        'writes: while self.write_next(site)? {}
+        self.sync_written(site)
     }
 
     /// Syncs every area that was written to since the last success. After `Failed` they are to be synced still. Takes no

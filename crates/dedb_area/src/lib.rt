@@ -1,6 +1,7 @@
 //! The areas of a site: the intervals that wait to be written, and what calls on areas make of them.
 #![tactic(auto)]
 
+mod applying;
 mod areas;
 mod fault;
 mod looking;
@@ -9,6 +10,7 @@ mod place;
 mod reading;
 mod syncing;
 
+pub use applying::ApplyFault;
 pub use areas::Areas;
 pub use fault::AreaFault;
 pub use place::Place;

@@ -31,4 +31,4 @@ returns-clause-keeps_areas g c told way bytes sealed =
     c.args.ci w.0 old new w.1 c.self.invariant.1 (g.met.T.Site.lawful c.args.site.now told)
     (g.met.T.Site.lawful c.write_one.new.site (c.write_one.ensures.told told)) c.note_write.ensures.noted
     (c.write_one.ensures.crash told w.0 w.1) (c.write_one.ensures.leaves told) (c.write_one.ensures.clean told)
-    c.write_one.ensures.sizes how way bytes below)
+    c.write_one.ensures.sizes c.write_one.ensures.staged how way bytes below)
