@@ -47,3 +47,17 @@ pub record HasFound (audit : Audit) (format : ℕ) (entries : List Entry) : Type
   pub history : History
   pub leads : LeadsOn (rules_in audit) (beginning format (rules_in audit).start) entries history
   pub stands : IsAt audit history
+
+-- What `next` says of an entry to which it answers true.
+pub record FindsLegal (old : Audit) (e : Entry) (new : Audit) : Type 0 where
+  pub legal : (h : History) → IsAt old h → StandsBehind new e h
+  pub rules : rules_in new ≡ rules_in old
+
+-- and of one to which it answers false
+abbrev pub FindsIllegal : Audit → Entry → Type 0
+FindsIllegal audit e = (h : History) → IsAt audit h → ComesNever (rules_in audit) h e
+
+-- The auditor is given these entries in turn, and finds each of them legal.
+abbrev pub FindsAllLegal : Audit → List Entry → Audit → Type 0
+FindsAllLegal old [] new = new ≡ old
+FindsAllLegal old (e ∷ es) new = (mid : Audit) × FindsLegal old e mid × FindsAllLegal mid es new

@@ -5,6 +5,8 @@ ghost use Rattle.fp_model.specs.State.{start};
 ghost use Rattle.past_replay.specs.Setup.{IsSetup};
 ghost use Rattle.std.specs.Prelude.{◌≡◌, IfOk, IsErr, Ok, OnErr, false, true};
 
+use crate::loading::first_pasts;
+use crate::requests::Requests;
 use crate::so_far::SoFar;
 use crate::verdict::Verdict;
 use fp_model::{Defs, Entry};
@@ -63,8 +65,17 @@ impl<'a> Auditor<'a> {
         ensures begins { IfOk result (λ auditor. IsAt auditor (beginning format (start defs.now))) }
         ensures rules { IfOk result (λ auditor. rules_in auditor ≡ rules_of defs.now scripts.now.scripts) }
     {
-        // Not written yet.
-        Err(AllocError)
+        Ok(Auditor {
+            so_far: SoFar {
+                alloc,
+                defs,
+                scripts,
+                requests: Requests::new(alloc, format),
+                place: 0,
+                pasts: first_pasts(alloc, defs)?,
+            },
+            verdict: Verdict::Legal,
+        })
     }
 
     /// Whether the entry is legal behind those before it. Behind one that isn't it answers false for good. It fails only
@@ -90,8 +101,16 @@ impl<'a> Auditor<'a> {
             Verdict::Illegal => return Ok(false),
             Verdict::Spent => return Err(AllocError),
         }
-        // Not written yet.
-        self.verdict = Verdict::Spent;
-        Err(AllocError)
+        match self.so_far.take(e) {
+            Ok(true) => Ok(true),
+            Ok(false) => {
+                self.verdict = Verdict::Illegal;
+                Ok(false)
+            }
+            Err(error) => {
+                self.verdict = Verdict::Spent;
+                Err(error)
+            }
+        }
     }
 }

@@ -1,6 +1,6 @@
 //! Laws of an audit, each the contract of a function that does nothing.
 ghost use Rattle.fp_audit.specs.Audit.{Audit};
-ghost use Rattle.fp_audit.specs.Standing.{ComesNever, HasFound, IsAt, StandsBehind, rules_in};
+ghost use Rattle.fp_audit.specs.Standing.{ComesNever, FindsAllLegal, FindsIllegal, HasFound, IsAt, StandsBehind, rules_in};
 ghost use Rattle.fp_model.specs.History.{beginning};
 ghost use Rattle.fp_model.specs.SerialHistory.{IsSerialHistory};
 ghost use Rattle.fp_model.specs.declared.database.Db.{Db};
@@ -27,4 +27,19 @@ pub fn no_serial_history_has_an_illegal_entry()
         → ComesNever (rules_in audit) found.history e
         → (rest : List Entry) (last : Db)
         → ¬ (IsSerialHistory (rules_in audit) format (entries ++ e ∷ rest) last) }
+{}
+
+/// Of any list of entries: where an auditor answers true to each, from the beginning on, they are a serial history. Where
+/// it answers true up to an entry and false to that, those before it are one, and none has them and this entry.
+pub fn an_audit_finds_the_first_illegal_entry()
+    ensures legal { (old new : Audit) (format : ℕ) (entries : List Entry)
+        → IsAt old (beginning format (rules_in old).start)
+        → FindsAllLegal old entries new
+        → (last : Db) × IsSerialHistory (rules_in old) format entries last }
+    ensures illegal { (old new : Audit) (format : ℕ) (entries : List Entry) (e : Entry)
+        → IsAt old (beginning format (rules_in old).start)
+        → FindsAllLegal old entries new
+        → FindsIllegal new e
+        → (rest : List Entry) (last : Db)
+        → ¬ (IsSerialHistory (rules_in old) format (entries ++ e ∷ rest) last) }
 {}

@@ -3,11 +3,16 @@
 #![tactic(auto)]
 
 mod auditor;
+mod form;
 mod kept;
 mod laws;
+mod loading;
 mod requests;
 mod so_far;
 mod verdict;
 
 pub use auditor::Auditor;
-pub use laws::{entries_found_legal_are_a_serial_history, no_serial_history_has_an_illegal_entry};
+pub use laws::{
+    an_audit_finds_the_first_illegal_entry, entries_found_legal_are_a_serial_history,
+    no_serial_history_has_an_illegal_entry,
+};

@@ -1,0 +1,172 @@
+-- The states of a history, one more of them, and those where nothing changed.
+use Rattle.std.proofs.Common.{◌≡◌, ◌∙◌, refl, sym, ap, subst, ℕ, zero, suc, ◌+◌, ◌<◌, ◌≤◌, List, [], ◌∷◌, ◌++◌, length, map, take, drop, Option, Some, None, Bool, true, false, arith, ◌⊎◌, inl, inr, length-append, ◌-◌}
+use Rattle.std.specs.Option.{option_map_or}
+use Rattle.std.proofs.lemmas.Bool.{ltb-true, ltb-false}
+use Rattle.std.specs.Prelude.{slice_get, nat_lt, if◌then◌else◌}
+use Rattle.std.specs.List.{AllByRecursion}
+use Rattle.fp_model.specs.declared.database.Db.{Db}
+use Rattle.fp_model.specs.declared.database.Msdb.{Msdb}
+use Rattle.fp_model.specs.declared.definitions.Defs.{Defs}
+use Rattle.fp_model.specs.declared.definitions.MsdbDef.{MsdbDef}
+use Rattle.fp_model.specs.declared.log.Entry.{Entry}
+use Rattle.fp_model.specs.Commit.{area_of_set, purged, purged_area}
+use Rattle.fp_model.specs.History.{History, place_of, states_of, with_entry}
+use Rattle.fp_model.specs.State.{Area, areas_of_all, first_area_set}
+use Rattle.past_replay.specs.States.{AreStatesOf, state_at}
+use Rattle.past_segments.specs.Pasts.{databases_at}
+use Rattle.past_segments.specs.Times.{EndsBy, IsSettledBy, Past, database_at}
+use Rattle.past_segments.specs.declared.slot.Slot.{Slot}
+use Rattle.past_segments.specs.declared.slot.Version.{Version}
+use Rattle.past_segments.proofs.PastLaws.{shows_on}
+use Rattle.fp_model.specs.SerialHistory.{NeverFalls}
+use Rattle.fp_audit.specs.Judging.{Keeps, Stands}
+use Rattle.fp_audit.specs.Setup.{AreReady}
+use Rattle.fp_audit.specs.declared.so_far.SoFar.{SoFar}
+use Rattle.std.proofs.Math.ListN.{drop_of_length-le}
+use Rattle.std.proofs.lemmas.List.{append-nil}
+
+-- the place of the next entry goes up by one
+pub place_more : (h : History) (e : Entry) (next : Db) → place_of (with_entry e next h) ≡ place_of h + 1
+place_more h e next = length-append h.entries (e ∷ [])
+
+-- ---- nothing changed
+
+shows_on_all : (place : ℕ) (pasts : List Past) → AllByRecursion (IsSettledBy place) pasts
+    → databases_at (place + 1) pasts ≡ databases_at place pasts
+shows_on_all place [] all = refl
+shows_on_all place (past ∷ pasts) all =
+    ap (λ (m : Msdb). m ∷ databases_at (place + 1) pasts) (shows_on past place (place + 1) all.0 (omega arith))
+    ∙ ap (λ (ms : List Msdb). database_at place past ∷ ms) (shows_on_all place pasts all.1)
+
+ends_later : (place : ℕ) (pasts : List Past) → AllByRecursion (IsSettledBy place) pasts
+    → AllByRecursion (IsSettledBy (place + 1)) pasts
+ends_later place [] all = tt
+ends_later place (past ∷ pasts) all = (slots_later past.slots all.0, ends_later place pasts all.1)
+  where
+    versions_later : (vs : List Version) → EndsBy place vs → EndsBy (place + 1) vs
+    versions_later [] all = tt
+    versions_later (v ∷ vs) all = (omega (arith, all.0), versions_later vs all.1)
+
+    slots_later : (slots : List Slot) → AllByRecursion (λ (slot : Slot). EndsBy place slot.versions) slots
+        → AllByRecursion (λ (slot : Slot). EndsBy (place + 1) slot.versions) slots
+    slots_later [] all = tt
+    slots_later (slot ∷ slots) all = (versions_later slot.versions all.0, slots_later slots all.1)
+
+-- where nothing stands from behind a place, the state of the next one is the same
+pub same_state : (place : ℕ) (pasts : List Past) → AllByRecursion (IsSettledBy place) pasts
+    → state_at (place + 1) pasts ≡ state_at place pasts
+same_state place pasts all =
+    ap (λ (ms : List Msdb). let db : Db = record { msdbs = ms; dedbs = [] } in db)
+    (shows_on_all place pasts all)
+
+-- and the next entry may be judged there
+pub ready_later : (defs : List MsdbDef) (place : ℕ) (pasts : List Past) → AreReady defs place pasts
+    → AreReady defs (place + 1) pasts
+ready_later defs place pasts ready = record { are = ready.are; settled = ends_later place pasts ready.settled }
+
+-- an entry that changes nothing keeps all
+pub keeps_same : (it : SoFar) → AreReady it.defs.now.msdbs it.place it.pasts.items → Keeps it it
+keeps_same it ready = record {
+  requests = refl;
+  place = refl;
+  defs = refl;
+  scripts = refl;
+  before = λ p le. refl;
+  ready = ready_later it.defs.now.msdbs it.place it.pasts.items ready;
+}
+
+-- the state of the next place is the one now
+pub stays_now : (it : SoFar) (h : History) → AreReady it.defs.now.msdbs it.place it.pasts.items → Stands it h
+    → state_at (it.place + 1) it.pasts.items ≡ h.now
+stays_now it h ready stands = same_state it.place it.pasts.items ready.settled ∙ sym stands.states.here
+
+-- ---- notes
+
+from_within : (from place : ℕ) (notes : List ℕ) → NeverFalls from notes place → from ≤ place
+from_within from place [] order = order
+from_within from place (note ∷ notes) order = omega (arith, order.0, from_within note place notes order.1)
+
+-- notes that never fall lie within the place
+pub notes_within : (from place : ℕ) (notes : List ℕ) → NeverFalls from notes place
+    → AllByRecursion (λ note. note ≤ place) notes
+notes_within from place [] order = tt
+notes_within from place (note ∷ notes) order =
+    (from_within note place notes order.1, notes_within note place notes order.1)
+
+-- ---- a slice of a list
+
+take_all : {X : Type 0} (xs : List X) (n : ℕ) → length xs ≤ n → take n xs ≡ xs
+take_all [] zero le = refl
+take_all [] (suc n) le = refl
+take_all (x ∷ xs) zero le = absurd (omega (arith, le))
+take_all (x ∷ xs) (suc n) le = ap (λ ys. x ∷ ys) (take_all xs n (omega (arith, le)))
+
+-- a list whose slice was changed is the slice, where it is as long
+pub all_changed : {X : Type 0} (old new : List X) (n : ℕ) → length new ≡ length old → n ≡ length old
+    → take n (new ++ drop (length new) old) ≡ new
+all_changed old new n long is =
+    ap (λ (rest : List _). take n (new ++ rest)) (drop_of_length-le old (omega (arith, long)))
+    ∙ ap (λ (k : ℕ). take k (new ++ [])) (is ∙ sym long)
+    ∙ ap (take (length new)) (append-nil new)
+    ∙ take_all new (length new) (omega arith)
+
+-- ---- one more
+
+at_front : {X : Type 0} (xs : List X) (x : X) (p : ℕ) → p < length xs → slice_get (xs ++ x ∷ []) p ≡ slice_get xs p
+at_front [] x p lt = absurd (omega (arith, lt))
+at_front (y ∷ xs) x zero lt = refl
+at_front (y ∷ xs) x (suc p) lt = at_front xs x p (omega (arith, lt))
+
+at_end : {X : Type 0} (xs : List X) (x y : X) (p : ℕ) → length xs ≤ p → slice_get (xs ++ x ∷ []) p ≡ Some y
+    → (p ≡ length xs) × (y ≡ x)
+at_end [] x y zero le e = (refl, cc)
+at_end [] x y (suc p) le e = absurd (cc)
+at_end (z ∷ xs) x y zero le e = absurd (omega (arith, le))
+at_end (z ∷ xs) x y (suc p) le e = let r = at_end xs x y p (omega (arith, le)) e in (omega (arith, r.0), r.1)
+
+before_or : (p n : ℕ) → (p < n) ⊎ (n ≤ p)
+before_or p n = by (nat_lt p n) refl
+  where
+    by : (b : Bool) → nat_lt p n ≡ b → (p < n) ⊎ (n ≤ p)
+    by true e = inl (ltb-true p n e)
+    by false e = inr (ltb-false p n e)
+
+-- the states with the next one
+pub states_more : (old new : List Past) (place : ℕ) (h : History) (e : Entry) (next : Db)
+    → AreStatesOf old place h.now (states_of h)
+    → ((p : ℕ) → p ≤ place → databases_at p new ≡ databases_at p old)
+    → next ≡ state_at (place + 1) new
+    → AreStatesOf new (place + 1) next (states_of (with_entry e next h))
+states_more old new place h e next are before is = record {
+  here = is;
+  count = length-append (states_of h) (next ∷ []) ∙ ap (λ n. n + 1) are.count;
+  each = λ p state at. by p state at (before_or p (length (states_of h)));
+}
+  where
+    same : (p : ℕ) → p ≤ place → state_at p old ≡ state_at p new
+    same p le = ap (λ (ms : List Msdb). let db : Db = record { msdbs = ms; dedbs = [] } in db) (sym (before p le))
+
+    by : (p : ℕ) (state : Db) → slice_get (states_of h ++ next ∷ []) p ≡ Some state
+        → (p < length (states_of h)) ⊎ (length (states_of h) ≤ p) → state ≡ state_at p new
+    by p state at (inl lt) =
+        are.each p state (sym (at_front (states_of h) next p lt) ∙ at) ∙ same p (omega (arith, lt, are.count))
+    by p state at (inr le) =
+        let r = at_end (states_of h) next state p le at in
+        let same_place : place + 1 ≡ p = omega (arith, r.0, are.count) in
+        r.1 ∙ is ∙ ap (λ (q : ℕ). state_at q new) same_place
+
+-- ---- no purge
+
+-- without data entry databases no data set is an area
+pub none_purged : (defs : Defs) (set n : ℕ) (db : Db) → defs.dedbs ≡ [] → purged defs set n db ≡ None
+unfolding purged
+none_purged defs set n db none =
+    ap (λ (areas : List Area). option_map_or (λ area. if nat_lt 0 area.def.capacity then Some (purged_area area n db) else None)
+    (if nat_lt set first_area_set then None else slice_get areas (set - first_area_set)) None)
+    (ap (areas_of_all 0) none)
+    ∙ by (nat_lt set first_area_set)
+  where
+    by : (b : Bool) → option_map_or (λ (area : Area). if nat_lt 0 area.def.capacity then Some (purged_area area n db) else None)
+        (if b then None else slice_get [] (set - first_area_set)) None ≡ None
+    by true = refl
+    by false = refl
