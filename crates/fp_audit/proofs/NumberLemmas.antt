@@ -12,7 +12,7 @@ use Rattle.fp_model.specs.History.{History, with_entry}
 use Rattle.fp_model.specs.Lasts.{Last, format_at, format_behind, last_by, last_of, lasts_behind, lasts_of, with_last}
 use Rattle.fp_model.specs.State.{drop_key, is_below, put_by_key}
 use Rattle.fp_model.specs.Texts.{same_text}
-use Rattle.past_segments.proofs.Ascending.{same_is}
+use Rattle.key_order.proofs.Ascending.{same_is}
 use Rattle.txn_lang.specs.Numbers.{name_cmp}
 use Rattle.fp_audit.specs.Numbers.{AreKept, KnowsLines, kept_of, last_by_name, with_used}
 use Rattle.fp_audit.specs.declared.kept.Kept.{Kept}

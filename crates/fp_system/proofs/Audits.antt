@@ -1,5 +1,5 @@
 -- What an audit says of a job.
-use Rattle.std.proofs.Common.{◌≡◌, inl, inr, refl, sym, ℕ, []}
+use Rattle.std.proofs.Common.{◌≡◌, inl, inr, refl, sym, List, ℕ, []}
 use Rattle.std.specs.Prelude.{◌⊎◌}
 use Rattle.std.proofs.lemmas.List.{append-nil}
 use Rattle.fp_site.specs.Disk.{Disk, Sends}
