@@ -100,8 +100,8 @@ class Replay:
     def alone(self, entry, found, place):
         """The state behind a transaction that ran to the end of its script: alone, on the states of its notes."""
         wants(found is not None and found[2] in self.scripts, "a transaction without a script")
-        wants(sorted(entry.notes) == entry.notes and all(entry.start <= note <= place for note in entry.notes),
-              "notes that aren't in order")
+        places = [entry.start, *entry.notes, place]
+        wants(places == sorted(places), "a start and notes that aren't in order")
         notes, work = list(entry.notes), databases.Work()
         script, answer = Script(self.scripts[found[2]], found[3], self.bases).run(), None
         while True:
