@@ -1,5 +1,5 @@
-"""An audit tried on a seed's log, and on logs in which one field of one entry is another: what the built program's `audit`
-answers of each, beside the verdict of a replay that judges by messages, replies, notes and outcomes alone."""
+"""An audit tried on a seed's log, and on logs in which one field of one entry is another: what the built program's
+`audit` answers of each, beside the verdict of a replay that judges by messages, replies, notes and outcomes alone."""
 import subprocess
 from pathlib import Path
 
@@ -11,9 +11,11 @@ from .scripts import read as read_scripts
 
 LEGAL, ILLEGAL = 0, 13
 # Outcomes that an entry may be given in place of its own.
-OUTCOMES = [["done"], ["verify", 0, 0, b""], ["verify", 0, 65535, b""], ["roll", 1], ["roll", 7], ["seqfull", 3, 0, 0, 1],
-            ["deadlock", b"\x01"], ["device"], ["memory"], ["unknown"], ["purge", 3, 1], ["old", 1], ["repeat", b"T1 OK"],
-            ["format"]]
+OUTCOMES = [["done"], ["verify", 0, 0, b""], ["verify", 0, 65535, b""], ["roll", 1], ["roll", 7],
+            ["seqfull", 3, 0, 0, 1], ["deadlock", b"\x01"], ["device"], ["memory"], ["unknown"], ["purge", 3, 1],
+            ["old", 1], ["repeat", b"T1 OK"], ["format"]]
+# Lines that an entry may be given in place of its own.
+LINES = [b"T30 9 NOSUCH", b"T30 PAY K1 K2 5", b"T30 1 PAY K2 K1 3"]
 # What only some outcomes may have: bytes that break this are no entry, which is damage and no verdict.
 HAVE_REPLY, HAVE_ITEMS = ["done"], ["done", "purge"]
 RUN, REFUSED = ["done", "verify", "roll"], ["deadlock", "device", "memory"]
@@ -58,6 +60,13 @@ class Anything:
         return True
 
 
+def others(value):
+    """Other values of a part of an outcome's detail."""
+    if isinstance(value, int):
+        return [(value + 1) % 65536, max(value - 1, 0)]
+    return [value + b"\x00", value[:-1], b"T9 OK"]
+
+
 def field_changes(entry, place):
     """Entries that differ from this one in a field, as what each is spelled from."""
     whole = {"outcome": [entry.kind, *entry.detail], "start": entry.start, "line": entry.line, "reply": entry.reply,
@@ -69,9 +78,9 @@ def field_changes(entry, place):
         yield {**whole, "outcome": outcome, "reply": b"", "items": []}
         yield {**whole, "outcome": outcome, "reply": b"", "items": [], "notes": [], "start": place}
     for at, value in enumerate(entry.detail):
-        for other in [(value + 1) % 65536, max(value - 1, 0)] if isinstance(value, int) else [value + b"\x00", value[:-1], b"T9 OK"]:
+        for other in others(value):
             yield {**whole, "outcome": [entry.kind, *entry.detail[:at], other, *entry.detail[at + 1:]]}
-    for line in [b"", entry.line + b"1", entry.line[:-1] + b"7", b"T30 9 NOSUCH", b"T30 PAY K1 K2 5", b"T30 1 PAY K2 K1 3"]:
+    for line in [b"", entry.line + b"1", entry.line[:-1] + b"7", *LINES]:
         yield {**whole, "line": line}
     for reply in [b"", entry.reply + b"X", entry.reply[1:], b"NO"]:
         yield {**whole, "reply": reply}
