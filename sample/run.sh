@@ -1,6 +1,6 @@
 #!/bin/sh
 # Makes the small sample's databases in a folder of its own, runs its messages with a stop in the middle, sends the same
-# messages again, and prints the replies of both runs, the databases and the log.
+# messages again, and prints the replies of both runs, the databases, the log, and how many of its entries are legal.
 # The first time it proves the program and builds it. sample/try.sh runs the same
 # messages in about a minute, with no proof.
 set -e
@@ -73,3 +73,5 @@ say "the databases"
 out/ims_fp show "$room"
 say "the log"
 out/ims_fp log "$room"
+say "an audit, which runs each transaction of the log again"
+out/ims_fp audit "$room"
