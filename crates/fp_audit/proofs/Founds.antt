@@ -1,5 +1,5 @@
 -- Whether an entry may come: what running its message alone says of it, and what its line does.
-use Rattle.std.proofs.Common.{◌≡◌, ◌∙◌, refl, sym, ap, subst, ℕ, ◌+◌, List, [], ◌∷◌, Bool, true, false, Option, Some, None, ◌⊎◌, inl, inr}
+use Rattle.std.proofs.Common.{◌≡◌, ◌∙◌, refl, sym, ap, subst, ℕ, List, Bool, true, false, Some, None, ◌⊎◌, inl, inr}
 use Rattle.std.specs.Prelude.{◌↔◌, ◌==◌, ⊤, IfOk, IsTrue, Result, Ok, Err}
 use Rattle.fp_model.specs.declared.calls.Message.{Message}
 use Rattle.fp_model.specs.declared.database.Db.{Db}
@@ -9,7 +9,7 @@ use Rattle.fp_model.specs.History.{History, Request, Accepts, Refuses, place_of,
 use Rattle.fp_model.specs.Rules.{Rules}
 use Rattle.fp_model.specs.Serial.{Ending, serial_run}
 use Rattle.fp_model.specs.Serial as serial
-use Rattle.fp_model.specs.SerialHistory.{AsksNothing, EndsAlone, Leads, NeverFalls, WasRefused}
+use Rattle.fp_model.specs.SerialHistory.{AsksNothing, EndsAlone, Leads, NeverFalls}
 use Rattle.fp_model.specs.declared.log.Outcome.TheVariants as outcome
 use Rattle.fp_model.specs.Lasts.{format_at}
 use Rattle.std.proofs.lemmas.Bool.{eq-eqb, eqb-true}
@@ -21,9 +21,6 @@ use Rattle.fp_audit.specs.Judging.{Finds}
 
 not_both : true ≡ false → ⊥
 not_both e = cc
-
-pub not_accepted : (o : Outcome) (m : Message) → Refuses o ≡ Accepts m → ⊥
-not_accepted o m e = cc
 
 message_is : (x y : Message) (r : Request) → r ≡ Accepts x → r ≡ Accepts y → x ≡ y
 message_is x y r p q = cc
@@ -85,23 +82,6 @@ module _ (rules : Rules) (h : History) (e : Entry) where
       not_both (sym (is.1 (ended_so next other a
       (sym run ∙ ap (λ (m : Message). serial_run rules h.now (states_of h) m e.notes) (sym same) ∙ end.ends))))
 
-  -- an entry whose notes fall
-  pub falls : (next : Db) (place : ℕ) (b : Bool) → place ≡ place_of h → b ≡ false
-      → (IsTrue b ↔ NeverFalls e.from e.notes place) → Finds (EndsAlone rules h e) next false
-  falls next place b at fails is = λ other end.
-      not_both (sym (is.1 (subst (NeverFalls e.from e.notes) (sym at) end.in_order)) ∙ fails)
-
-  -- an entry whose line is refused
-  pub refused : (next : Db) (o : Outcome) → rules.request_of h e.line ≡ Refuses o
-      → Finds (EndsAlone rules h e) next false
-  refused next o asks = λ other end. not_accepted o end.message (sym asks ∙ end.is_request)
-
-  -- ---- refused
-
-  pub was_not : (next : Db) (o : Outcome) → rules.request_of h e.line ≡ Refuses o
-      → Finds (WasRefused rules h e) next false
-  was_not next o asks = λ other end. not_accepted o end.message (sym asks ∙ end.is_request)
-
   -- ---- nothing asked
 
   pub asks_so : (next : Db) (o : Outcome) (b : Bool) → rules.request_of h e.line ≡ Refuses o → next ≡ h.now
@@ -109,10 +89,6 @@ module _ (rules : Rules) (h : History) (e : Entry) where
   asks_so next o true asks same is = (asks ∙ ap Refuses (is.0 refl), same)
   asks_so next o false asks same is = λ other end.
       not_both (sym (is.1 (outcome_is o e.outcome (rules.request_of h e.line) asks end.0)))
-
-  pub asks_more : (next : Db) (m : Message) → rules.request_of h e.line ≡ Accepts m
-      → Finds (AsksNothing rules h e e.outcome) next false
-  asks_more next m asks = λ other end. not_accepted e.outcome m (sym end.0 ∙ asks)
 
   -- ---- the outcome
 

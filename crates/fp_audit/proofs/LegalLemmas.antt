@@ -63,11 +63,10 @@ pub all_legal : (old new : Audit) (format : ℕ) (entries : List Entry)
     → IsAt old (beginning format (rules_in old).start) → FindsAllLegal old entries new
     → (last : Db) × IsSerialHistory (rules_in old) format entries last
 all_legal old new format entries begins all =
-    let it = found_all entries old new format [] (found_none old format begins) all in
-    (
+    let it = found_all entries old new format [] (found_none old format begins) all in (
       it.0.history.now,
       subst (λ (rules : Rules). IsSerialHistory rules format entries it.0.history.now) it.1
-          (found_serial new format entries it.0)
+          (found_serial new format entries it.0),
     )
 
 pub first_illegal : (old new : Audit) (format : ℕ) (entries : List Entry) (e : Entry)

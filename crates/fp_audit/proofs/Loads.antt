@@ -1,5 +1,5 @@
 -- The segments that a definition loads, put one after another.
-use Rattle.std.proofs.Common.{◌≡◌, ◌∙◌, refl, sym, ap, subst, ℕ, ◌+◌, ◌<◌, ◌≤◌, List, [], ◌∷◌, ◌++◌, length, map, take, drop, get_or, slice_index_or, false, arith}
+use Rattle.std.proofs.Common.{◌≡◌, ◌∙◌, refl, sym, ap, subst, ℕ, ◌+◌, ◌<◌, ◌≤◌, List, [], ◌∷◌, ◌++◌, length, map, take, drop, slice_index_or, false}
 use Rattle.std.specs.Prelude.{fold}
 use Rattle.std.specs.List.{AllByRecursion, AllZip, IsDistinct}
 use Rattle.std.proofs.lemmas.List.{drop_more, map-append, take_more}
@@ -11,7 +11,7 @@ use Rattle.fp_model.specs.Texts.{same_text}
 use Rattle.fp_model.specs.WellFormed.{IsLoaded, IsMsdbDef}
 use Rattle.fp_model.specs.declared.database.Msdb.{Msdb}
 use Rattle.fp_model.specs.declared.definitions.MsdbDef.{MsdbDef}
-use Rattle.past_segments.specs.Pasts.{ArePastsOf, IsPastOf, databases_at}
+use Rattle.past_segments.specs.Pasts.{IsPastOf, databases_at}
 use Rattle.past_segments.specs.Times.{IsSettledBy, Past, database_at}
 use Rattle.key_order.proofs.Ascending.{all_but, all_put, with_one_ascends}
 use Rattle.fp_audit.specs.Setup.{AreReady}

@@ -1,5 +1,5 @@
 -- The states of a history, one more of them, and those where nothing changed.
-use Rattle.std.proofs.Common.{◌≡◌, ◌∙◌, refl, sym, ap, subst, ℕ, zero, suc, ◌+◌, ◌<◌, ◌≤◌, List, [], ◌∷◌, ◌++◌, length, map, take, drop, Option, Some, None, Bool, true, false, arith, ◌⊎◌, inl, inr, length-append, ◌-◌}
+use Rattle.std.proofs.Common.{◌≡◌, ◌∙◌, refl, sym, ap, ℕ, zero, suc, ◌+◌, ◌<◌, ◌≤◌, List, [], ◌∷◌, ◌++◌, length, take, drop, Some, None, Bool, true, false, arith, ◌⊎◌, inl, inr, length-append, ◌-◌}
 use Rattle.std.specs.Option.{option_map_or}
 use Rattle.std.proofs.lemmas.Bool.{ltb-true, ltb-false}
 use Rattle.std.specs.Prelude.{slice_get, nat_lt, if◌then◌else◌}
@@ -9,7 +9,7 @@ use Rattle.fp_model.specs.declared.database.Msdb.{Msdb}
 use Rattle.fp_model.specs.declared.definitions.Defs.{Defs}
 use Rattle.fp_model.specs.declared.definitions.MsdbDef.{MsdbDef}
 use Rattle.fp_model.specs.declared.log.Entry.{Entry}
-use Rattle.fp_model.specs.Commit.{area_of_set, purged, purged_area}
+use Rattle.fp_model.specs.Commit.{purged, purged_area}
 use Rattle.fp_model.specs.History.{History, place_of, states_of, with_entry}
 use Rattle.fp_model.specs.State.{Area, areas_of_all, first_area_set}
 use Rattle.past_replay.specs.States.{AreStatesOf, state_at}

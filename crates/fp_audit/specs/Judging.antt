@@ -45,7 +45,8 @@ refused_or (Some outcome) otherwise = history.Refuses outcome
 
 -- ---- one entry
 
--- What judging an entry keeps: all but the segments, and those up to the place; the next entry may be judged at the next.
+-- What judging an entry keeps: all but the segments, and those up to the place; the next entry may be judged at the
+-- next place.
 pub record Keeps (old new : SoFar) : Type 0 where
   pub requests : new.requests ≡ old.requests
   pub place : new.place ≡ old.place

@@ -1,5 +1,5 @@
 -- Where an auditor is in the history of the entries that it was given.
-use Rattle.std.specs.Prelude.{◌≡◌, List, ◌∷◌, ◌++◌, [], ℕ}
+use Rattle.std.specs.Prelude.{◌≡◌, List, ◌∷◌, [], ℕ}
 use Rattle.fp_model.specs.declared.database.Db.{Db}
 use Rattle.fp_model.specs.declared.log.Entry.{Entry}
 use Rattle.fp_model.specs.History.{History, beginning, place_of, states_of, with_entry}

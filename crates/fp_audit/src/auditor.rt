@@ -78,8 +78,8 @@ impl<'a> Auditor<'a> {
         })
     }
 
-    /// Whether the entry is legal behind those before it. Behind one that isn't it answers false for good. It fails only
-    /// for want of memory, and then for good.
+    /// Whether the entry is legal behind those before it. Behind one that isn't it answers false for good. It fails
+    /// only for want of memory, and then for good.
     pub fn next(&mut self, e: &Entry) -> Result<bool, AllocError>
         // True comes where the entry may come, and false exactly where it may not.
         ensures legal { (h : History) → IsAt self.old h

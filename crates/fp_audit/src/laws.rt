@@ -1,6 +1,7 @@
 //! Laws of an audit, each the contract of a function that does nothing.
 ghost use Rattle.fp_audit.specs.Audit.{Audit};
-ghost use Rattle.fp_audit.specs.Standing.{ComesNever, FindsAllLegal, FindsIllegal, HasFound, IsAt, StandsBehind, rules_in};
+ghost use Rattle.fp_audit.specs.Standing.{ComesNever, FindsAllLegal, FindsIllegal, HasFound, IsAt, StandsBehind};
+ghost use Rattle.fp_audit.specs.Standing.{rules_in};
 ghost use Rattle.fp_model.specs.History.{beginning};
 ghost use Rattle.fp_model.specs.SerialHistory.{IsSerialHistory};
 ghost use Rattle.fp_model.specs.declared.database.Db.{Db};
@@ -29,8 +30,8 @@ pub fn no_serial_history_has_an_illegal_entry()
         → ¬ (IsSerialHistory (rules_in audit) format (entries ++ e ∷ rest) last) }
 {}
 
-/// Of any list of entries: where an auditor answers true to each, from the beginning on, they are a serial history. Where
-/// it answers true up to an entry and false to that, those before it are one, and none has them and this entry.
+/// Of any list of entries: where an auditor answers true to each, from the beginning on, they are a serial history.
+/// Where it answers true up to an entry and false to that, those before it are one, and none has them and this entry.
 pub fn an_audit_finds_the_first_illegal_entry()
     ensures legal { (old new : Audit) (format : ℕ) (entries : List Entry)
         → IsAt old (beginning format (rules_in old).start)

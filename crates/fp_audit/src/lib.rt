@@ -1,5 +1,5 @@
-//! An auditor of the log: it replays the entries one after another by the rules of a serial history, and says which is the
-//! first that isn't legal.
+//! An auditor of the log: it replays the entries one after another by the rules of a serial history, and says which is
+//! the first that isn't legal.
 #![tactic(auto)]
 
 mod auditor;

@@ -48,8 +48,8 @@ fn message_in(alloc: Global, format: u8, line: &[u8]) -> Result<Option<Message>,
     }
 }
 
-// The number that an entry uses up, whose line is read in a format: its terminal, and what is kept of it. It fails only for
-// want of memory.
+// The number that an entry uses up, whose line is read in a format: its terminal, and what is kept of it. It fails only
+// for want of memory.
 fn used_by(alloc: Global, format: u8, e: &Entry) -> Result<Option<(Name, Kept)>, AllocError>
     ensures { IfOk result (λ used. option_map last_by_name used ≡ last_by format e.now) }
 {
@@ -98,8 +98,8 @@ impl Requests {
         }
     }
 
-    // How a message is refused by its number, if it is: the number isn't above the last one of its terminal. It fails only
-    // for want of memory.
+    // How a message is refused by its number, if it is: the number isn't above the last one of its terminal. It fails
+    // only for want of memory.
     fn refusal(&self, message: &Message) -> Result<Option<Outcome>, AllocError>
         ensures { (scripts : ListOf ScriptOf) (lasts : ListOf LastOf) → AreKept self.now.lasts.entries lasts
             → IfOk result (λ refusal. by_number scripts lasts message.now message.now.number

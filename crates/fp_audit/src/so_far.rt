@@ -3,14 +3,12 @@ ghost use Rattle.fp_audit.specs.Ending.{IsEndOf};
 ghost use Rattle.fp_audit.specs.Judging.{Finds, IsRequest, Keeps, NamesScript, Stands, rules_by};
 ghost use Rattle.fp_audit.specs.Setup.{AreReady};
 ghost use Rattle.fp_audit.specs.declared.requests.Request.TheVariants as Request;
-ghost use Rattle.fp_model.specs.Entries.{MayStandAt};
 ghost use Rattle.fp_model.specs.History.{Accepts, History, with_entry};
 ghost use Rattle.fp_model.specs.SerialHistory.{AsksNothing, Comes, EndsAlone, Leads, NeverFalls, WasRefused};
 ghost use Rattle.fp_model.specs.declared.database.Db.{Db};
 ghost use Rattle.past_replay.specs.Setup.{IsSetup};
 ghost use Rattle.past_replay.specs.States.{state_at};
-ghost use Rattle.past_segments.specs.Pasts.{databases_at};
-ghost use Rattle.std.specs.Prelude.{◌↔◌, IsTrue, ◌≡◌, ◌+◌, ◌<◌, ◌≤◌, ◌^◌, IfOk, false, true, ℕ};
+ghost use Rattle.std.specs.Prelude.{◌↔◌, IsTrue, ◌≡◌, ◌+◌, ◌<◌, ◌^◌, IfOk, false, true};
 
 use crate::form::{may_stand, never_falls};
 use crate::requests::{Request, Requests};
@@ -20,8 +18,8 @@ use past_segments::PastSegments;
 use std::alloc::{AllocError, Global};
 use txn_lang::Scripts;
 
-/// What the entries so far leave: what lines ask for behind them, the place of the next one, and the main storage databases
-/// at every place up to it.
+/// What the entries so far leave: what lines ask for behind them, the place of the next one, and the main storage
+/// databases at every place up to it.
 #[derive(Drop)]
 pub(crate) struct SoFar<'a> {
     pub(crate) alloc: Global,
@@ -60,8 +58,8 @@ impl SoFar<'_> {
             .of(self.alloc, self.scripts, e.line.as_slice())
     }
 
-    // Runs the script of a number for a message again, and says whether it ends as the entry says. It fails only for want
-    // of memory.
+    // Runs the script of a number for a message again, and says whether it ends as the entry says. It fails only for
+    // want of memory.
     fn run(&mut self, e: &Entry, message: &Message, script: u32) -> Result<bool, AllocError>
         requires setup { IsSetup self.old.defs.now self.old.scripts.now.scripts }
         requires ready { AreReady self.old.defs.now.msdbs self.old.place self.old.pasts.items }
@@ -69,7 +67,8 @@ impl SoFar<'_> {
         requires script { NamesScript self.old.scripts.now.scripts (Request.Run message.now script) }
         requires order { NeverFalls e.now.from e.now.notes self.old.place }
 
-        ensures found { (h : History) → Stands self.old h → (rules_by self.old).request_of h e.now.line ≡ Accepts message.now
+        ensures found { (h : History) → Stands self.old h
+            → (rules_by self.old).request_of h e.now.line ≡ Accepts message.now
             → IfOk result (Finds (EndsAlone (rules_by self.old) h e.now)
             (state_at (self.old.place + 1) self.new.pasts.items)) }
         ensures keeps { Keeps self.old self.new }
@@ -135,8 +134,8 @@ impl SoFar<'_> {
         }
     }
 
-    // Whether the entry's outcome may come behind the entries so far; then the databases at the next place are those behind
-    // it. It fails only for want of memory.
+    // Whether the entry's outcome may come behind the entries so far; then the databases at the next place are those
+    // behind it. It fails only for want of memory.
     fn leads(&mut self, e: &Entry) -> Result<bool, AllocError>
         requires setup { IsSetup self.old.defs.now self.old.scripts.now.scripts }
         requires ready { AreReady self.old.defs.now.msdbs self.old.place self.old.pasts.items }
@@ -158,7 +157,8 @@ impl SoFar<'_> {
         }
     }
 
-    /// Takes the next entry, if it may come behind those so far, and says whether it may. It fails only for want of memory.
+    /// Takes the next entry, if it may come behind those so far, and says whether it may. It fails only for want of
+    /// memory.
     pub(crate) fn take(&mut self, e: &Entry) -> Result<bool, AllocError>
         requires setup { IsSetup self.old.defs.now self.old.scripts.now.scripts }
         requires ready { AreReady self.old.defs.now.msdbs self.old.place self.old.pasts.items }

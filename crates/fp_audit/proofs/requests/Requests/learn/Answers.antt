@@ -1,7 +1,6 @@
-use Rattle.std.proofs.Common.{◌≡◌, ap, sym, subst, ℕ, List}
-use Rattle.fp_model.specs.declared.database.Db.{Db}
+use Rattle.std.proofs.Common.{sym, subst, ℕ}
 use Rattle.fp_model.specs.History.{with_entry}
-use Rattle.fp_model.specs.Lasts.{Last, format_behind}
+use Rattle.fp_model.specs.Lasts.{Last}
 use Rattle.std.specs.Prelude.{Option}
 use Rattle.fp_audit.specs.Numbers.{AreKept, KnowsLines, with_used}
 use Rattle.fp_audit.proofs.NumberLemmas.{knows_more}

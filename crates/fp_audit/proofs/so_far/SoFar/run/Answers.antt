@@ -1,4 +1,4 @@
-use Rattle.std.proofs.Common.{◌≡◌, ◌∙◌, ◌+◌, ap, sym, subst, length, take, drop, ◌++◌, List}
+use Rattle.std.proofs.Common.{◌∙◌, ◌+◌, ap, sym, subst, length, take, drop, ◌++◌, List}
 use Rattle.fp_model.specs.History.{states_of}
 use Rattle.fp_model.specs.SerialHistory.{NeverFalls}
 use Rattle.past_segments.specs.Times.{Past}

@@ -1,4 +1,4 @@
-use Rattle.std.proofs.Common.{◌≡◌, ◌∙◌, ◌+◌, ap, sym, subst, refl}
+use Rattle.std.proofs.Common.{◌∙◌, ◌+◌, ap, sym, subst, refl}
 use Rattle.fp_model.specs.Entries.{MayStandAt}
 use Rattle.fp_model.specs.History.{states_of, with_entry}
 use Rattle.fp_model.specs.SerialHistory.{Leads}

@@ -1,0 +1,234 @@
+//! Logs of a few entries, worked out by hand, and the first of them that isn't legal.
+
+use crate::sample::{definitions, scripts};
+use fp_audit::Auditor;
+use fp_model::{Bytes, Entry, List, Outcome};
+use std::alloc::{AllocError, Global};
+use std::test::Fail;
+
+/// How an entry ended, as its outcome and its reply.
+#[derive(Clone, Copy)]
+enum Ended {
+    Done(&'static [u8]),
+    Verify(u32, u16, &'static [u8]),
+    Roll(u16),
+    Deadlock,
+    Device,
+    Unknown,
+    Old(u64),
+    Repeat(&'static [u8]),
+    Purge,
+    Format,
+}
+
+/// An entry: where it began, its notes, its line and its end.
+type Row = (u64, &'static [u64], &'static [u8], Ended);
+
+/// A log of the system. Entry 1 looks at the account as it was at the start, entry 2 as its own region saw it later. The
+/// withdrawal of entry 4 was good where it looked, and fails where it commits: 110 less 60 leaves 50.
+const LEGAL: [Row; 11] = [
+    (0, &[0], b"T1 DEPOSIT A001 10", Ended::Done(b"NEW")),
+    (0, &[0], b"T2 ASK A001", Ended::Done(b"100")),
+    (1, &[1], b"T2 ASK A001", Ended::Done(b"110")),
+    (1, &[3], b"T3 WDRAW A001 60", Ended::Done(b"PAID 60")),
+    (
+        3,
+        &[3],
+        b"T4 WDRAW A001 60",
+        Ended::Verify(0, 0, b"\x00\x00\x05\x0C"),
+    ),
+    (5, &[5], b"T5 WDRAW A009 1", Ended::Roll(7)),
+    (6, &[], b"T6 NOPE A001", Ended::Unknown),
+    (2, &[], b"T1 DEPOSIT A001 1", Ended::Deadlock),
+    (8, &[], b"T1 DEPOSIT A001 1", Ended::Device),
+    (9, &[], b"T1 HIRE T002", Ended::Done(b"HIRED")),
+    (4, &[], b"T1 COUNT T002", Ended::Done(b"0")),
+];
+
+/// Entries that aren't legal behind so many of that log.
+const ILLEGAL: [(usize, Row); 20] = [
+    // Another reply, another outcome, another detail.
+    (0, (0, &[0], b"T1 DEPOSIT A001 10", Ended::Done(b"OLD"))),
+    (0, (0, &[0], b"T1 DEPOSIT A001 10", Ended::Roll(1))),
+    (4, (3, &[3], b"T4 WDRAW A001 60", Ended::Done(b"PAID 60"))),
+    (
+        4,
+        (
+            3,
+            &[3],
+            b"T4 WDRAW A001 60",
+            Ended::Verify(0, 0, b"\x00\x00\x04\x0C"),
+        ),
+    ),
+    (
+        4,
+        (
+            3,
+            &[3],
+            b"T4 WDRAW A001 60",
+            Ended::Verify(0, 1, b"\x00\x00\x05\x0C"),
+        ),
+    ),
+    (5, (5, &[5], b"T5 WDRAW A009 1", Ended::Roll(8))),
+    // Looks at another state, too few and too many of them, and notes that fall or lie behind.
+    (1, (0, &[1], b"T2 ASK A001", Ended::Done(b"100"))),
+    (2, (1, &[0], b"T2 ASK A001", Ended::Done(b"100"))),
+    (1, (0, &[], b"T2 ASK A001", Ended::Done(b"100"))),
+    (1, (0, &[0, 0], b"T2 ASK A001", Ended::Done(b"100"))),
+    (1, (0, &[2], b"T2 ASK A001", Ended::Done(b"110"))),
+    (10, (4, &[4], b"T1 COUNT T002", Ended::Done(b"0"))),
+    // What is refused names a script, and didn't begin later.
+    (7, (2, &[], b"T1 NOPE A001", Ended::Deadlock)),
+    (7, (8, &[], b"T1 DEPOSIT A001 1", Ended::Deadlock)),
+    (7, (2, &[2], b"T1 DEPOSIT A001 1", Ended::Deadlock)),
+    // What names a script isn't unknown, and an unknown line begins at its own place.
+    (6, (6, &[], b"T6 ASK A001", Ended::Unknown)),
+    (6, (5, &[], b"T6 NOPE A001", Ended::Unknown)),
+    (6, (6, &[], b"T6 NOPE A001", Ended::Done(b""))),
+    // No area can be purged, and no line has a number yet.
+    (3, (3, &[], b"", Ended::Purge)),
+    (3, (3, &[], b"T1 1 ASK A001", Ended::Old(1))),
+];
+
+/// A log whose messages have numbers from entry 1 on.
+const NUMBERED: [Row; 8] = [
+    (0, &[], b"T1 1 ASK A001", Ended::Unknown),
+    (1, &[], b"", Ended::Format),
+    (2, &[2], b"T1 3 DEPOSIT A001 10", Ended::Done(b"NEW")),
+    (3, &[], b"T1 3 DEPOSIT A001 10", Ended::Repeat(b"T1 OK NEW")),
+    (4, &[], b"T1 2 ASK A001", Ended::Old(3)),
+    (5, &[], b"T1 4 NOPE", Ended::Unknown),
+    (6, &[], b"T1 4 ASK A001", Ended::Repeat(b"T1 NO UNKNOWN")),
+    (7, &[7], b"T2 1 ASK A001", Ended::Done(b"110")),
+];
+
+/// Entries that aren't legal behind so many of that log.
+const MISNUMBERED: [(usize, Row); 7] = [
+    (2, (2, &[], b"", Ended::Format)),
+    (3, (3, &[3], b"T1 3 DEPOSIT A001 10", Ended::Done(b"NEW"))),
+    (
+        3,
+        (3, &[], b"T1 3 DEPOSIT A001 10", Ended::Repeat(b"T1 OK OLD")),
+    ),
+    (3, (3, &[], b"T1 3 DEPOSIT A001 10", Ended::Old(3))),
+    (4, (4, &[], b"T1 2 ASK A001", Ended::Old(2))),
+    (4, (4, &[], b"T1 4 ASK A001", Ended::Old(3))),
+    (
+        7,
+        (7, &[], b"T2 1 ASK A001", Ended::Repeat(b"T1 NO UNKNOWN")),
+    ),
+];
+
+fn outcome(alloc: Global, ended: Ended) -> Result<Outcome, AllocError> {
+    Ok(match ended {
+        Ended::Done(_) => Outcome::Done,
+        Ended::Verify(call, fsa, found) => Outcome::Verify {
+            call,
+            fsa,
+            found: Bytes::from_slice(alloc, found)?,
+        },
+        Ended::Roll(code) => Outcome::Roll(code),
+        Ended::Deadlock => Outcome::Deadlock(Bytes::from_slice(alloc, &[2, 1])?),
+        Ended::Device => Outcome::Device,
+        Ended::Unknown => Outcome::Unknown,
+        Ended::Old(last) => Outcome::Old(last),
+        Ended::Repeat(line) => Outcome::Repeat(Bytes::from_slice(alloc, line)?),
+        Ended::Purge => Outcome::Purge { set: 3, n: 1 },
+        Ended::Format => Outcome::Format,
+    })
+}
+
+fn reply(ended: Ended) -> &'static [u8] {
+    match ended {
+        Ended::Done(reply) => reply,
+        _ => &[],
+    }
+}
+
+fn entry(alloc: Global, row: Row) -> Result<Entry, AllocError> {
+    let (from, notes, line, ended) = row;
+    Ok(Entry {
+        from,
+        outcome: outcome(alloc, ended)?,
+        line: Bytes::from_slice(alloc, line)?,
+        reply: Bytes::from_slice(alloc, reply(ended))?,
+        notes: List::from_vec(Vec::from_slice(alloc, notes)?),
+        items: List::new(alloc),
+    })
+}
+
+// Hands rows to an auditor one after another. The place of the first that isn't legal.
+fn first_illegal(
+    alloc: Global,
+    auditor: &mut Auditor,
+    rows: &[Row],
+) -> Result<Option<usize>, AllocError> {
+    for (place, row) in rows.iter().enumerate() {
+        let entry = entry(alloc, *row)?;
+        if !auditor.next(&entry)? {
+            return Ok(Some(place));
+        }
+    }
+    Ok(None)
+}
+
+// The place of the first row that isn't legal, of so many of a log and one more.
+fn illegal_behind(
+    rt: &HostRuntime,
+    log: &[Row],
+    front: usize,
+    row: Option<Row>,
+) -> Result<Option<usize>, Fail> {
+    let alloc = rt.alloc();
+    let defs = definitions(alloc)?;
+    if !defs.dedbs.is_empty() {
+        return Err(Fail::from("a data entry database"));
+    }
+    let scripts = scripts(alloc, &defs)?;
+    let mut auditor = Auditor::new(alloc, &defs, &scripts, 1)?;
+    let found = first_illegal(alloc, &mut auditor, &log[..front.min(log.len())])?;
+    let Some(row) = row else {
+        return Ok(found);
+    };
+    let last = first_illegal(alloc, &mut auditor, &[row])?;
+    Ok(found.or(last.map(|_| front)))
+}
+
+#[test]
+fn each_entry_of_a_log_is_legal(rt: HostRuntime) -> Result<(), Fail> {
+    assert_eq!(rt; illegal_behind(&rt, &LEGAL, LEGAL.len(), None)?, None);
+    assert_eq!(rt; illegal_behind(&rt, &NUMBERED, NUMBERED.len(), None)?, None);
+    Ok(())
+}
+
+#[test]
+fn an_entry_that_the_rules_do_not_let_come_is_illegal(rt: HostRuntime) -> Result<(), Fail> {
+    for (at, (front, row)) in ILLEGAL.into_iter().enumerate() {
+        assert_eq!(rt;
+            illegal_behind(&rt, &LEGAL, front, Some(row))?,
+            Some(front),
+            "row {at}"
+        );
+    }
+    Ok(())
+}
+
+#[test]
+fn a_number_counts_once(rt: HostRuntime) -> Result<(), Fail> {
+    for (at, (front, row)) in MISNUMBERED.into_iter().enumerate() {
+        assert_eq!(rt;
+            illegal_behind(&rt, &NUMBERED, front, Some(row))?,
+            Some(front),
+            "row {at}"
+        );
+    }
+    Ok(())
+}
+
+/// Behind an entry that isn't legal, one that would be legal isn't.
+#[test]
+fn an_auditor_stops_for_good(rt: HostRuntime) -> Result<(), Fail> {
+    let rows = [LEGAL[0], ILLEGAL[0].1, LEGAL[1]];
+    assert_eq!(rt; illegal_behind(&rt, &rows, 2, Some(rows[2]))?, Some(1));
+    Ok(())
+}
