@@ -6,3 +6,4 @@ pub mod Looks
 pub mod Newest
 pub mod Everything
 pub mod Applied
+pub mod Formatted

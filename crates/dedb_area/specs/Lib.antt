@@ -4,3 +4,4 @@ pub mod Keeping
 pub mod Control
 pub mod Looking
 pub mod Applying
+pub mod Formatting

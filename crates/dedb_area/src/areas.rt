@@ -21,7 +21,7 @@ ghost use Rattle.dedb_area.specs.Keeping.{KeepsAreas, OnlyAreas, IsWritten, None
 ghost use Rattle.ci_pool.specs.Cells.{pending_number};
 
 use crate::AreaFault;
-use crate::opening::add_places;
+use crate::opening::places_of;
 use crate::place::Place;
 use crate::reading::{control, ends_in, place_in};
 use crate::syncing::{clear, note_write, sync_all};
@@ -63,12 +63,7 @@ impl Areas {
         ensures count { IfOk result (λ areas. length areas.unsynced ≡ length areas.places) }
         ensures synced { IfOk result (λ areas. (number : ℕ) → slice_get areas.unsynced number ≢ Some true) }
     {
-        let mut places = Vec::new(alloc);
-        let mut dedb: u8 = 0;
-        for def in defs.dedbs.as_slice() {
-            add_places(&mut places, def, dedb)?;
-            dedb += 1;
-        }
+        let places = places_of(alloc, defs)?;
         let unsynced = vec![in alloc; false; places.len()]?;
         Ok(Areas {
             alloc,

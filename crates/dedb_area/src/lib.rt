@@ -4,6 +4,7 @@
 mod applying;
 mod areas;
 mod fault;
+mod formatting;
 mod looking;
 mod opening;
 mod place;

@@ -2,13 +2,13 @@
 
 ghost use Rattle.std.specs.Prelude.{◌≡◌, ◌≤◌, ◌<◌, ◌+◌, ◌-◌, ◌/◌, ◌++◌, IfOk, OnOk, length, map};
 ghost use Rattle.fp_model.specs.State.{areas_from};
-ghost use Rattle.fp_model.specs.WellFormed.{IsDedbDef, sequential_intervals};
-ghost use Rattle.dedb_area.specs.Places.{place_of, ArePlaces};
+ghost use Rattle.fp_model.specs.WellFormed.{IsDedbDef, AreDefs, sequential_intervals};
+ghost use Rattle.dedb_area.specs.Places.{place_of, places_of, ArePlaces};
 
 use crate::place::Place;
 use ci_space::Shape;
-use fp_model::{AreaDef, DedbDef, SegDef};
-use std::alloc::AllocError;
+use fp_model::{AreaDef, DedbDef, Defs, SegDef};
+use std::alloc::{AllocError, Global};
 
 /// The bytes of an interval before its slots.
 const HEAD: u32 = 32;
@@ -74,7 +74,7 @@ fn place(
 }
 
 /// Adds the areas of a database.
-pub(crate) fn add_places(places: &mut Vec<Place>, def: &DedbDef, dedb: u8) -> Result<(), AllocError>
+fn add_places(places: &mut Vec<Place>, def: &DedbDef, dedb: u8) -> Result<(), AllocError>
     requires { IsDedbDef def.now }
     ensures added { OnOk result (places.new.items
         ≡ places.old.items ++ map (place_of def.now) (areas_from dedb 0 0 def.now.areas)) }
@@ -89,4 +89,20 @@ pub(crate) fn add_places(places: &mut Vec<Place>, def: &DedbDef, dedb: u8) -> Re
         first_anchor += area.uows * u32::from(area.base);
     }
     Ok(())
+}
+
+/// The areas of an installation, in order of definition.
+pub(crate) fn places_of(alloc: Global, defs: &Defs) -> Result<Vec<Place>, AllocError>
+    requires { AreDefs defs.now }
+    ensures places { IfOk result (λ places. places.items ≡ places_of defs.now) }
+    ensures are { IfOk result (λ places. ArePlaces places.items) }
+    ensures few { IfOk result (λ places. length places.items ≤ 256) }
+{
+    let mut places = Vec::new(alloc);
+    let mut dedb: u8 = 0;
+    for def in defs.dedbs.as_slice() {
+        add_places(&mut places, def, dedb)?;
+        dedb += 1;
+    }
+    Ok(places)
 }

@@ -2,7 +2,7 @@ use Rattle.std.proofs.Common.{◌≡◌, ◌*◌, ◌≤◌, ◌++◌, length, d
 use Rattle.std.specs.List.{AllByRecursion}
 use Rattle.fp_model.specs.WellFormed.{IsDedbDef}
 use Rattle.dedb_area.specs.Places.{places_from, places_of, ArePlaces}
-use Rattle.dedb_area.proofs.areas.Areas.open.Given as goal
+use Rattle.dedb_area.proofs.opening.places_of.Given as goal
 
 abbrev pub invariant-loop-def : goal.invariant-loop-def
 invariant-loop-def l = record {

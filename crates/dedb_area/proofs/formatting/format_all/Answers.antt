@@ -1,0 +1,44 @@
+use Rattle.std.proofs.Common.{◌≡◌, ◌≢◌, inl, inr, ◌+◌, ◌<◌, ◌≤◌, ◌∙◌, ℕ, ap, sym, get_or, subst, arith}
+use Rattle.std.specs.Prelude.{slice_get, Some}
+use Rattle.std.proofs.lemmas.Bool.{cases_eq}
+use Rattle.std.proofs.lemmas.Option.{slice_get-get_or, slice_get_within}
+use Rattle.fp_model.specs.State.{first_area_set}
+use Rattle.dedb_area.specs.declared.place.Place.{Place}
+use Rattle.dedb_area.specs.Formatting.{IsFormatted}
+use Rattle.dedb_area.proofs.Formatted.{formatted_here, formatted_still}
+use Rattle.dedb_area.proofs.formatting.format_all.Goals as goal
+
+pub loop-number-preserved : goal.loop-number-preserved
+loop-number-preserved g c =
+    let inv = c.loop-number.invariant in
+    let e = c.format_area.ensures in
+    let n = c.loop-number.number in
+    let other = get_or c.args.places.now n c.index-places-number.result in
+    let here : slice_get c.args.places.now n ≡ Some other =
+    slice_get-get_or c.args.places.now n c.index-places-number.result c.loop-number-test.true in
+    record {
+      formatted = λ t k place lt is. elim (cases_eq k n) [
+        | inl eq ↦
+            formatted_here c.args.places.now n k place other (g.T.Site.disk c.format_area.new.site)
+            eq is here (c.in_ok-format_area.ensures.started (inv.told t)) (c.in_ok-format_area.ensures.durable (inv.told t))
+        | inr ne ↦
+            let apart : first_area_set + k ≢ first_area_set + n = λ same. ne (omega (arith, same)) in
+            formatted_still place.shape (first_area_set + k) (first_area_set + n) (g.T.Site.disk c.loop-number.site)
+            (g.T.Site.disk c.format_area.new.site) apart (e.leaves (inv.told t))
+            (e.aside (inv.told t) (first_area_set + k) apart) (inv.formatted t k place (omega (arith, lt, ne)) is)
+      ];
+      only = λ t k lt.
+          let ne : k ≢ first_area_set + n = λ same. omega (arith, same, lt) in
+          (e.leaves (inv.told t)).contents k ne ∙ inv.only t k lt;
+      sent = λ t. (e.leaves (inv.told t)).sent ∙ inv.sent t;
+      later = omega (arith, inv.later, e.later);
+      told = λ t. e.told (inv.told t);
+      holds = e.holds ∙ inv.holds;
+      keeps = λ first k. e.keeps first (inv.keeps first k);
+      reads = λ set t. let later = e.reads set t in let was = inv.reads set later.0 in (was.0, later.1 ∙ was.1);
+    }
+
+pub returns-clause-formatted : goal.returns-clause-formatted
+returns-clause-formatted g c told number place is =
+    let within = slice_get_within c.args.places.now number place is in
+    c.loop-number.invariant.formatted told number place (omega (arith, within, c.loop-number-test.false)) is
