@@ -26,7 +26,7 @@ ghost use Rattle.held_intervals.specs.Holding.{overlaid, Fit};
 ghost use Rattle.ci_space.specs.Calls.{Rose, GoesOn};
 ghost use Rattle.ci_space.specs.Interval.{IsInterval, kind_of};
 ghost use Rattle.ci_overflow.specs.Lists.{bytes_at};
-ghost use Rattle.seq_dependents.specs.Control.{AreEnds, begin_of, end_of};
+ghost use Rattle.seq_dependents.specs.Control.{AreEnds, IsControlOf, begin_of, end_of};
 ghost use Rattle.seq_dependents.specs.Faults.{IsAtFault};
 ghost use Rattle.seq_dependents.specs.Puts.{Appends, IsTooMany, IsFullOf, segment_size};
 ghost use Rattle.seq_dependents.specs.Slots.{HoldsCapacity, part_of};
@@ -219,7 +219,11 @@ pub fn append<I: Intervals>(
     ensures unchanged { I.told i.old → (begin end n : ℕ) → result ≡ Err (SeqFault.Full begin end n)
         → I.intervals i.new ≡ I.intervals i.old }
 
-    // The interval that it names is at fault, or what holds the intervals failed.
+    // The interval that it names is at fault, or what holds the intervals failed; where control is damaged, it is
+    // neither done nor full.
+    ensures sound { I.told i.old → OnOk result (IsControlOf capacity (I.intervals i.old)) }
+    ensures full_sound { I.told i.old → (begin end n : ℕ) → result ≡ Err (SeqFault.Full begin end n)
+        → IsControlOf capacity (I.intervals i.old) }
     ensures damaged { I.told i.old → (n : ℕ) → result ≡ Err (SeqFault.Damaged n)
         → IsAtFault (part_of shape.now capacity (segment_size items.now)) (I.intervals i.old) n }
     ensures failed { IsErrOf result SeqFault.Failed → Rose (I.faults i.old) (I.faults i.new) }

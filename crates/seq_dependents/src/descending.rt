@@ -3,7 +3,7 @@
 ghost use Rattle.std.specs.Prelude.{◌≡◌, ◌≢◌, ◌<◌, ◌++◌, ◌∷◌, [], ℕ, length, Err, IfOk, IfSome, OnOk, IsErrOf};
 ghost use Rattle.ci_space.specs.Calls.{Rose, GoesOn};
 ghost use Rattle.ci_space.specs.Interval.{kind_of};
-ghost use Rattle.seq_dependents.specs.Control.{IsKept};
+ghost use Rattle.seq_dependents.specs.Control.{IsKept, IsControlOf};
 ghost use Rattle.seq_dependents.specs.Down.{IsDown, IsRead};
 ghost use Rattle.seq_dependents.specs.Faults.{IsAtFault};
 ghost use Rattle.seq_dependents.specs.declared.fault.SeqFault.{SeqFault};
@@ -130,7 +130,8 @@ pub fn read_down<I: Intervals>(
     requires { HoldsCapacity (part_of shape.now capacity length) }
     ensures down { I.told i.old → IfOk result (IsDown (part_of shape.now capacity length) (I.intervals i.old) newest) }
 
-    // The interval that it names is at fault, or what holds the intervals failed.
+    // The interval that it names is at fault, or what holds the intervals failed; where control is damaged, it fails.
+    ensures sound { I.told i.old → OnOk result (IsControlOf capacity (I.intervals i.old)) }
     ensures damaged { I.told i.old → (n : ℕ) → result ≡ Err (SeqFault.Damaged n)
         → IsAtFault (part_of shape.now capacity length) (I.intervals i.old) n }
     ensures failed { IsErrOf result SeqFault.Failed → Rose (I.faults i.old) (I.faults i.new) }

@@ -2,7 +2,7 @@
 
 ghost use Rattle.std.specs.Prelude.{◌≡◌, ◌≢◌, ◌↔◌, ℕ, Err, IfOk, OnOk, IsErrOf, IfSome, IsSome};
 ghost use Rattle.ci_space.specs.Calls.{Rose, GoesOn};
-ghost use Rattle.seq_dependents.specs.Control.{IsKept};
+ghost use Rattle.seq_dependents.specs.Control.{IsKept, IsControlOf};
 ghost use Rattle.seq_dependents.specs.Faults.{IsAtFault};
 ghost use Rattle.seq_dependents.specs.Slots.{HoldsCapacity, IsHeld, part_of};
 
@@ -32,7 +32,9 @@ pub fn read<I: Intervals>(
         (I.intervals i.old) serial found.0 found.1)) }
     ensures some { I.told i.old → IfOk result (λ read. IsSome read ↔ IsKept (I.intervals i.old) serial) }
 
-    // Where it gives none, the interval that it names is at fault, or what holds the intervals failed.
+    // Where it fails, the interval that it names is at fault, or what holds the intervals failed; where control is
+    // damaged, it fails.
+    ensures sound { I.told i.old → OnOk result (IsControlOf capacity (I.intervals i.old)) }
     ensures damaged { I.told i.old → (n : ℕ) → result ≡ Err (SeqFault.Damaged n)
         → IsAtFault (part_of shape.now capacity length) (I.intervals i.old) n }
     ensures failed { IsErrOf result SeqFault.Failed → Rose (I.faults i.old) (I.faults i.new) }
