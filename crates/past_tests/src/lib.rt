@@ -1,4 +1,4 @@
-//! Tests of the segments of a database at every place, and of the auditor over them.
+//! Tests of the segments of a database at every place, of transactions that are run again on them, and of the auditor.
 //!
 //! They stand here and not in the crates that they test, since a crate with tests is proved twice.
 #![tactic(auto)]
@@ -6,8 +6,14 @@
 #[cfg(test)]
 mod audits;
 #[cfg(test)]
+mod entries;
+#[cfg(test)]
+mod logs;
+#[cfg(test)]
 mod places;
 #[cfg(test)]
 mod sample;
+#[cfg(test)]
+mod setup;
 #[cfg(test)]
 mod steps;

@@ -1,0 +1,126 @@
+//! Entries, each with what it comes to.
+ghost use Rattle.past_replay.specs.Setup.{IsSetup};
+ghost use Rattle.past_segments.specs.Pasts.{ArePastsOf};
+ghost use Rattle.past_segments.specs.Times.{IsSettledBy};
+ghost use Rattle.std.specs.List.{AllByRecursion};
+ghost use Rattle.std.specs.Prelude.{◌≡◌, ◌+◌, ◌<◌, ◌≤◌, ◌^◌, IfOk, IfSome};
+
+use crate::setup::{definitions, empty, scripts};
+use fp_model::{Bytes, Defs, List, Message, Name, Outcome};
+use past_replay::{Alone, replay};
+use past_segments::PastSegments;
+use std::alloc::{AllocError, Global};
+use std::test::Fail;
+use txn_lang::Scripts;
+
+/// What running an entry alone comes to.
+#[derive(Clone, Copy)]
+pub(crate) enum Ended {
+    /// Done, with this reply.
+    Done(&'static [u8]),
+    /// A verify fails: the call, its search argument, and the bytes found.
+    Verify(u32, u16, &'static [u8]),
+    Roll(u16),
+    Stuck,
+}
+
+/// The transaction, the text of its message, its notes, and what it comes to.
+#[derive(Clone, Copy)]
+pub(crate) struct Entry(
+    pub(crate) &'static [u8; 8],
+    pub(crate) &'static [u8],
+    pub(crate) &'static [u64],
+    pub(crate) Ended,
+);
+
+// Whether it came to this.
+fn is_so(alone: &Alone, ended: Ended) -> bool {
+    match (alone, ended) {
+        (Alone::Ends { outcome, reply }, Ended::Done(wanted)) => {
+            matches!(outcome, Outcome::Done) && reply.as_slice() == wanted
+        }
+        (Alone::Ends { outcome, reply }, Ended::Verify(call, fsa, found)) => {
+            is_verify(outcome, call, fsa, found) && reply.is_empty()
+        }
+        (Alone::Ends { outcome, reply }, Ended::Roll(code)) => {
+            matches!(outcome, Outcome::Roll(n) if *n == code) && reply.is_empty()
+        }
+        (Alone::Stuck, Ended::Stuck) => true,
+        _ => false,
+    }
+}
+
+fn is_verify(outcome: &Outcome, call: u32, fsa: u16, found: &[u8]) -> bool {
+    match outcome {
+        Outcome::Verify {
+            call: c,
+            fsa: f,
+            found: bytes,
+        } => *c == call && *f == fsa && bytes.as_slice() == found,
+        _ => false,
+    }
+}
+
+fn message(alloc: Global, entry: &Entry) -> Result<Message, AllocError> {
+    Ok(Message {
+        lterm: Name(*b"T1      "),
+        tran: Name(*entry.0),
+        text: Bytes::from_slice(alloc, entry.1)?,
+        line: Bytes::new(alloc),
+        number: None,
+    })
+}
+
+// The notes of an entry. None where one is of a later place.
+fn notes(alloc: Global, entry: &Entry, place: u64) -> Result<Option<List<u64>>, AllocError>
+    ensures { IfOk result (λ notes. IfSome notes (AllByRecursion (λ note. note ≤ place))) }
+{
+    let mut notes = List::new(alloc);
+    for note in entry.2 {
+        if *note > place {
+            return Ok(None);
+        }
+        notes.push(*note)?;
+    }
+    Ok(Some(notes))
+}
+
+// Runs an entry again at a place. Whether it comes to what it says.
+fn rerun(
+    alloc: Global,
+    pasts: &mut [PastSegments],
+    defs: &Defs,
+    scripts: &Scripts,
+    place: u64,
+    entry: &Entry,
+) -> Result<bool, AllocError>
+    requires setup { IsSetup defs.now scripts.now.scripts }
+    requires are { ArePastsOf defs.now.msdbs pasts.old }
+    requires settled { AllByRecursion (IsSettledBy place) pasts.old }
+    requires place { place + 1 < 2 ^ 64 }
+    ensures are { ArePastsOf defs.now.msdbs pasts.new }
+    ensures settled { AllByRecursion (IsSettledBy (place + 1)) pasts.new }
+{
+    let message = message(alloc, entry)?;
+    let Some(notes) = notes(alloc, entry, place)? else {
+        return Ok(false);
+    };
+    let Some(number) = scripts.find(&message.tran) else {
+        return Ok(false);
+    };
+    let alone = replay(alloc, pasts, defs, scripts, place, &message, number, &notes)?;
+    Ok(is_so(&alone, entry.3))
+}
+
+/// Runs entries again, each at its place in the list. The first that comes to something else.
+pub(crate) fn run_entries(alloc: Global, entries: &[Entry]) -> Result<Option<usize>, Fail> {
+    let defs = definitions(alloc)?;
+    let scripts = scripts(alloc, &defs)?;
+    let mut pasts = empty(alloc, &defs)?;
+    for at in 0..entries.len() {
+        if !rerun(alloc, &mut pasts, &defs, &scripts, at as u64, &entries[at])? {
+            return Ok(Some(at));
+        }
+    }
+    Ok(None)
+}
