@@ -80,7 +80,7 @@ torn_reads job log at bad = (bad.groups, bad.holds, bad.damaged)
 
 torn_or_whole : {P : Type 0} (job : Job) (log : List ℕ) (at : ℕ) (groups : List (List Entry)) (gate : ℕ)
     → IsBrokenAt (front_for job) log at → HoldsFor (front_for job) log groups gate → P
-torn_or_whole job log at groups gate bad holds =
+torn_or_whole {P = P} job log at groups gate bad holds =
     not_both (places_are_one job log (Damage at) (Groups groups gate) (torn_reads job log at bad) holds.reads)
   where
     not_both : Damage at ≡ Groups groups gate → P
