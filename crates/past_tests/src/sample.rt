@@ -24,7 +24,7 @@ fields = [[\"TNO\", \"C\", 4], [\"CASH\", \"F\", 4]]
 load = [[\"T001\", \"0\"]]
 ";
 
-const SCRIPTS: &str = "TRAN DEPOSIT
+const SCRIPTS: &[u8] = b"TRAN DEPOSIT
 FLD ACCTS KEY(#1) BAL + #2
 IF STATUS NE ''
 ROLB 1
@@ -88,5 +88,5 @@ pub(crate) fn scripts(alloc: Global, defs: &Defs) -> Result<Scripts, ScriptFault
 {
     definitions_have_byte_numbers();
     what_was_read_fits();
-    parse(alloc, SCRIPTS.as_bytes(), defs)
+    Ok(parse(alloc, SCRIPTS, defs)?)
 }
