@@ -113,7 +113,7 @@ fn site_of(alloc: Global, row: &Row) -> Result<MemorySite, AllocError> {
     let mut site = run_on_new(alloc, row.schedule, row.messages)?;
     let length = site.contents(0).len();
     let at = length.saturating_sub(row.back) as u64;
-    if at < 1 << 20 {
+    if at < 1 << 20 && row.bytes.len() < 1 << 20 {
         let _ = site.write_at(0, at, row.bytes);
     }
     Ok(site)
