@@ -82,6 +82,9 @@ impl Areas {
         ensures ends { T.told site.old → (way : Way) (bytes : AreaBytes)
             → AreasStand way bytes (T.disk site.old) self.old
             → IfOk result (λ ends. ends ≡ ends_in (behind way.unsealed bytes set 0)) }
+        ensures sound { T.told site.old → (way : Way) (bytes : AreaBytes) (place : PlaceOf)
+            → AreasStand way bytes (T.disk site.old) self.old → place_at self.old.places set ≡ Some place
+            → IfOk result (λ ends. IsControlOf place.capacity (behind way.unsealed bytes set 0)) }
         ensures damaged { T.told site.old → (way : Way) (bytes : AreaBytes) (place : PlaceOf) (s at : ℕ)
             → AreasStand way bytes (T.disk site.old) self.old → place_at self.old.places set ≡ Some place
             → result ≡ Err (fault.Damaged s at)

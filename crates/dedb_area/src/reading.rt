@@ -74,6 +74,7 @@ pub(crate) fn ends_in(control: &Interval, capacity: u32) -> Option<AreaEnds>
     requires { kind_of control.now ≡ 1 }
     ensures begin { IfSome result (λ ends. ends.begin ≡ slice_index (ends_of control.now) 0) }
     ensures end { IfSome result (λ ends. ends.end ≡ slice_index (ends_of control.now) 1) }
+    ensures some { IfSome result (λ ends. AreEnds capacity control.now) }
     ensures none { IfNone result (¬ AreEnds capacity control.now) }
 {
     let [begin, end, _, _] = control.ends();

@@ -93,3 +93,24 @@ returns-clause-damaged g c told way bytes place s at stands there e = λ is_cont
     let same : place ≡ c.place_in-place.result.now = cc in
     c.in-None.ensures.none (subst (λ b. AreEnds c.place_in-place.result.now.capacity b) (sym newest)
     (subst (λ (q : Place). AreEnds q.capacity (behind way.unsealed bytes c.args.set 0)) same is_control.are_ends))
+
+pub returns-in-Some-clause-sound : goal.returns-in-Some-clause-sound
+returns-in-Some-clause-sound g c told way bytes place stands there =
+    let is = subst (λ l. place_at l c.args.set ≡ Some c.place_in-place.result.now) c.deref.ensures.value
+    c.place_in-place.ensures in
+    let now = subst (λ (h : Holding). AreasStand way bytes (g.T.Site.disk c.args.site.now) h) (sym c.self.view_is) stands in
+    let newest = c.in_ok-control.ensures.newest told now.pool.clean
+    (now.fit.sizes c.args.set c.place_in-place.result.now is)
+    ∙ control_newest c.self.inside.places.items way bytes (g.T.Site.disk c.args.site.now) c.self.inside.pool c.args.set
+    c.place_in-place.result.now now.pool is in
+    let there2 = subst (λ (h : Holding). place_at h.places c.args.set ≡ Some place) (sym c.self.view_is) there in
+    let both : Some place ≡ Some c.place_in-place.result.now = sym there2 ∙ is in
+    let same : place ≡ c.place_in-place.result.now = cc in
+    record {
+      is_control = subst IsControl newest (record {
+        is_interval = c.in_ok-control.ensures.interval;
+        is_kind = c.in_ok-control.ensures.kind;
+      });
+      are_ends = subst (λ (q : Place). AreEnds q.capacity (behind way.unsealed bytes c.args.set 0)) (sym same)
+          (subst (λ b. AreEnds c.place_in-place.result.now.capacity b) newest c.in-Some.ensures.some);
+    }
