@@ -8,7 +8,7 @@ use Rattle.fp_model.specs.declared.calls.Deferred.{Deferred}
 use Rattle.fp_model.specs.declared.definitions.MsdbDef.{MsdbDef}
 use Rattle.fp_model.specs.CheckpointText.{IsMsdbOf}
 use Rattle.fp_model.specs.declared.database.Msdb.{Msdb}
-use Rattle.std.specs.Prelude.{nat_le, nat_lt}
+use Rattle.std.specs.Prelude.{Err, Ok, Result, nat_le, nat_lt}
 use Rattle.std.proofs.lemmas.Bool.{lt-leb}
 use Rattle.past_segments.specs.Pasts.{ArePastsOf, databases_at}
 use Rattle.past_segments.specs.Times.{EndsBy, IsSettledBy, Past, database_at, is_late}
@@ -16,7 +16,9 @@ use Rattle.past_segments.specs.declared.slot.Slot.{Slot}
 use Rattle.past_segments.specs.declared.slot.Version.{Version}
 use Rattle.past_segments.proofs.PastLaws.{settled, shows_on}
 use Rattle.key_order.proofs.Ascending.{same_is, stands_there}
-use Rattle.past_settling.specs.Queues.{LeavesAll, TakesBack, any_names, is_it, late_at, names}
+use Rattle.past_settling.specs.Queues.{LeavesAll, OnFound, TakesBack, any_names, is_it, late_at, names}
+use Rattle.past_settling.specs.declared.fault.QueueFault.{QueueFault}
+use Rattle.past_settling.specs.declared.fault.QueueFault.TheVariants as queue
 use Rattle.past_settling.proofs.QueueLemmas.{get_other, get_set, map_same}
 
 module _ (pasts : List Past) (place n j : ℕ) (d : Past) (same : j ≡ n) (less : j < length pasts) where
@@ -267,3 +269,10 @@ same_counts (d ∷ ds) (p ∷ ps) [] one other = absurd other
 same_counts (d ∷ ds) (p ∷ ps) (q ∷ qs) one other =
     ap (λ n. n ∷ map (λ (past : Past). past.count) qs) (sym other.0.keys ∙ one.0.keys)
     ∙ ap (λ ns. p.count ∷ ns) (same_counts ds ps qs one.1 other.1)
+
+-- ---- whatever a queue comes to
+
+pub found_so : {P : Type 0} (r : Result (Unit {0}) QueueFault) → P → OnFound r P
+found_so (Ok done) p = p
+found_so (Err (queue.Verify call fsa found)) p = p
+found_so (Err queue.Memory) p = tt

@@ -85,3 +85,9 @@ abbrev pub IfVerify : Result ⊤ QueueFault → Type 0 → Type 0
 IfVerify (Ok done) P = ⊤
 IfVerify (Err (queue.Verify call fsa found)) P = P
 IfVerify (Err queue.Memory) P = ⊤
+
+-- whatever a queue comes to, but want of memory
+abbrev pub OnFound : Result ⊤ QueueFault → Type 0 → Type 0
+OnFound (Ok done) P = P
+OnFound (Err (queue.Verify call fsa found)) P = P
+OnFound (Err queue.Memory) P = ⊤

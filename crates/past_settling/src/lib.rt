@@ -10,4 +10,4 @@ mod queue;
 mod settling;
 
 pub use fault::QueueFault;
-pub use settling::settle;
+pub use settling::{settle, try_settle};
