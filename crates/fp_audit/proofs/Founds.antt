@@ -1,5 +1,5 @@
 -- Whether an entry may come: what running its message alone says of it, and what its line does.
-use Rattle.std.proofs.Common.{◌≡◌, ◌∙◌, refl, sym, ap, subst, ℕ, List, Bool, true, false, Some, None, ◌⊎◌, inl, inr}
+use Rattle.std.proofs.Common.{◌≡◌, ◌∙◌, refl, sym, ap, subst, ℕ, List, Bool, true, false, Some, ◌⊎◌, inl, inr}
 use Rattle.std.specs.Prelude.{◌↔◌, ◌==◌, ⊤, IfOk, IsTrue, Result, Ok, Err}
 use Rattle.fp_model.specs.declared.calls.Message.{Message}
 use Rattle.fp_model.specs.declared.database.Db.{Db}
@@ -119,14 +119,16 @@ module _ (rules : Rules) (h : History) (e : Entry) where
   asks_leads r next is found = if_so r (Finds (AsksNothing rules h e e.outcome) next)
       (Finds (Leads rules h e e.outcome) next) (λ b. leads_asks e.outcome is next b) found
 
-  -- a purge, where no data set can be purged
-  pub purge_never : (next : Db) (set n : ℕ) → e.outcome ≡ outcome.Purge set n → rules.purged set n h.now ≡ None
-      → Finds (Leads rules h e e.outcome) next false
-  purge_never next set n is none = λ other leads.
-      none_is (sym none ∙ subst (λ (o : Outcome). Leads rules h e o other) is leads)
+  -- a purge leads where it is one of an area with a sequential part
+  pub purge_leads : (next : Db) (set n : ℕ) (b : Bool) → e.outcome ≡ outcome.Purge set n
+      → Finds (λ next. rules.purged set n h.now ≡ Some next) next b → Finds (Leads rules h e e.outcome) next b
+  purge_leads next set n b is found =
+      subst (λ (o : Outcome). Finds (Leads rules h e o) next b) (sym is) (by b found)
     where
-      none_is : {x : Db} → None ≡ Some x → ⊥
-      none_is e = cc
+      by : (b : Bool) → Finds (λ next. rules.purged set n h.now ≡ Some next) next b
+          → Finds (Leads rules h e (outcome.Purge set n)) next b
+      by true so = so
+      by false so = so
 
   -- a format, behind entries that are read in the first
   pub format_found : (next : Db) (format : ℕ) → e.outcome ≡ outcome.Format → format ≡ format_at h.format h.entries

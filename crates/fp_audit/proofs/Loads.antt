@@ -14,7 +14,6 @@ use Rattle.fp_model.specs.declared.definitions.MsdbDef.{MsdbDef}
 use Rattle.past_segments.specs.Pasts.{IsPastOf, databases_at}
 use Rattle.past_segments.specs.Times.{IsSettledBy, Past, database_at}
 use Rattle.key_order.proofs.Ascending.{all_but, all_put, with_one_ascends}
-use Rattle.fp_audit.specs.Setup.{AreReady}
 
 with_good : (def : MsdbDef) (bytes : List ℕ) (msdb : Msdb) → length bytes ≡ def.length → IsMsdbOf def msdb
     → IsMsdbOf def (with_segment def bytes msdb)

@@ -1,17 +1,16 @@
 -- The states of a history, one more of them, and those where nothing changed.
-use Rattle.std.proofs.Common.{◌≡◌, ◌∙◌, refl, sym, ap, ℕ, zero, suc, ◌+◌, ◌<◌, ◌≤◌, List, [], ◌∷◌, ◌++◌, length, take, drop, Some, None, Bool, true, false, arith, ◌⊎◌, inl, inr, length-append, ◌-◌}
-use Rattle.std.specs.Option.{option_map_or}
+use Rattle.std.proofs.Common.{◌≡◌, ◌∙◌, refl, sym, ap, ℕ, zero, suc, ◌+◌, ◌<◌, ◌≤◌, List, [], ◌∷◌, ◌++◌, length, take, drop, Some, None, Bool, true, false, arith, ◌⊎◌, inl, inr, length-append}
 use Rattle.std.proofs.lemmas.Bool.{ltb-true, ltb-false}
 use Rattle.std.specs.Prelude.{slice_get, nat_lt, if◌then◌else◌}
 use Rattle.std.specs.List.{AllByRecursion}
 use Rattle.fp_model.specs.declared.database.Db.{Db}
+use Rattle.fp_model.specs.declared.database.Dedb.{Dedb}
 use Rattle.fp_model.specs.declared.database.Msdb.{Msdb}
 use Rattle.fp_model.specs.declared.definitions.Defs.{Defs}
-use Rattle.fp_model.specs.declared.definitions.MsdbDef.{MsdbDef}
 use Rattle.fp_model.specs.declared.log.Entry.{Entry}
-use Rattle.fp_model.specs.Commit.{purged, purged_area}
+use Rattle.fp_model.specs.Commit.{purged}
 use Rattle.fp_model.specs.History.{History, place_of, states_of, with_entry}
-use Rattle.fp_model.specs.State.{Area, areas_of_all, first_area_set}
+use Rattle.past_anchors.specs.Databases.{AreDedbsOf, state_of}
 use Rattle.past_replay.specs.States.{AreStatesOf, state_at}
 use Rattle.past_segments.specs.Pasts.{databases_at}
 use Rattle.past_segments.specs.Times.{EndsBy, IsSettledBy, Past, database_at}
@@ -19,7 +18,7 @@ use Rattle.past_segments.specs.declared.slot.Slot.{Slot}
 use Rattle.past_segments.specs.declared.slot.Version.{Version}
 use Rattle.past_segments.proofs.PastLaws.{shows_on}
 use Rattle.fp_model.specs.SerialHistory.{NeverFalls}
-use Rattle.fp_audit.specs.Judging.{Keeps, Stands}
+use Rattle.fp_audit.specs.Judging.{Finds, Keeps, Stands}
 use Rattle.fp_audit.specs.Setup.{AreReady}
 use Rattle.fp_audit.specs.declared.so_far.SoFar.{SoFar}
 use Rattle.std.proofs.Math.ListN.{drop_of_length-le}
@@ -53,32 +52,29 @@ ends_later place (past ∷ pasts) all = (slots_later past.slots all.0, ends_late
     slots_later (slot ∷ slots) all = (versions_later slot.versions all.0, slots_later slots all.1)
 
 -- where nothing stands from behind a place, the state of the next one is the same
-pub same_state : (place : ℕ) (pasts : List Past) → AllByRecursion (IsSettledBy place) pasts
-    → state_at (place + 1) pasts ≡ state_at place pasts
-same_state place pasts all =
-    ap (λ (ms : List Msdb). let db : Db = record { msdbs = ms; dedbs = [] } in db)
-    (shows_on_all place pasts all)
+same_state : (place : ℕ) (pasts : List Past) (dedbs : List Dedb) → AllByRecursion (IsSettledBy place) pasts
+    → state_at (place + 1) pasts dedbs ≡ state_at place pasts dedbs
+same_state place pasts dedbs all = ap (λ (ms : List Msdb). state_of ms dedbs) (shows_on_all place pasts all)
 
--- and the next entry may be judged there
-pub ready_later : (defs : List MsdbDef) (place : ℕ) (pasts : List Past) → AreReady defs place pasts
-    → AreReady defs (place + 1) pasts
-ready_later defs place pasts ready = record { are = ready.are; settled = ends_later place pasts ready.settled }
+-- and the next entry may be judged there, with data entry databases in shape
+pub ready_later : (defs : Defs) (place : ℕ) (pasts : List Past) (dedbs others : List Dedb)
+    → AreReady defs place pasts dedbs → AreDedbsOf defs others → AreReady defs (place + 1) pasts others
+ready_later defs place pasts dedbs others ready shape =
+    record { are = ready.are; settled = ends_later place pasts ready.settled; shape = shape }
 
 -- an entry that changes nothing keeps all
-pub keeps_same : (it : SoFar) → AreReady it.defs.now.msdbs it.place it.pasts.items → Keeps it it
-keeps_same it ready = record {
-  requests = refl;
-  place = refl;
-  defs = refl;
-  scripts = refl;
-  before = λ p le. refl;
-  ready = ready_later it.defs.now.msdbs it.place it.pasts.items ready;
-}
+pub keeps_same : (it : SoFar) → Keeps it it
+keeps_same it =
+    record { requests = refl; place = refl; defs = refl; scripts = refl; before = λ p le. refl }
+
+pub next_ready : (it : SoFar) → AreReady it.defs.now it.place it.pasts.items it.anchors
+    → AreReady it.defs.now (it.place + 1) it.pasts.items it.anchors
+next_ready it ready = ready_later it.defs.now it.place it.pasts.items it.anchors it.anchors ready ready.shape
 
 -- the state of the next place is the one now
-pub stays_now : (it : SoFar) (h : History) → AreReady it.defs.now.msdbs it.place it.pasts.items → Stands it h
-    → state_at (it.place + 1) it.pasts.items ≡ h.now
-stays_now it h ready stands = same_state it.place it.pasts.items ready.settled ∙ sym stands.states.here
+pub stays_now : (it : SoFar) (h : History) → AreReady it.defs.now it.place it.pasts.items it.anchors → Stands it h
+    → state_at (it.place + 1) it.pasts.items it.anchors ≡ h.now
+stays_now it h ready stands = same_state it.place it.pasts.items it.anchors ready.settled ∙ sym stands.states.here
 
 -- ---- notes
 
@@ -132,41 +128,39 @@ before_or p n = by (nat_lt p n) refl
     by false e = inr (ltb-false p n e)
 
 -- the states with the next one
-pub states_more : (old new : List Past) (place : ℕ) (h : History) (e : Entry) (next : Db)
-    → AreStatesOf old place h.now (states_of h)
+pub states_more : (old new : List Past) (dedbs others : List Dedb) (place : ℕ) (h : History) (e : Entry) (next : Db)
+    → AreStatesOf old dedbs place h.now (states_of h)
     → ((p : ℕ) → p ≤ place → databases_at p new ≡ databases_at p old)
-    → next ≡ state_at (place + 1) new
-    → AreStatesOf new (place + 1) next (states_of (with_entry e next h))
-states_more old new place h e next are before is = record {
+    → next ≡ state_at (place + 1) new others
+    → AreStatesOf new others (place + 1) next (states_of (with_entry e next h))
+states_more old new dedbs others place h e next are before is = record {
   here = is;
   count = length-append (states_of h) (next ∷ []) ∙ ap (λ n. n + 1) are.count;
   each = λ p state at. by p state at (before_or p (length (states_of h)));
 }
   where
-    same : (p : ℕ) → p ≤ place → state_at p old ≡ state_at p new
-    same p le = ap (λ (ms : List Msdb). let db : Db = record { msdbs = ms; dedbs = [] } in db) (sym (before p le))
-
     by : (p : ℕ) (state : Db) → slice_get (states_of h ++ next ∷ []) p ≡ Some state
-        → (p < length (states_of h)) ⊎ (length (states_of h) ≤ p) → state ≡ state_at p new
+        → (p < length (states_of h)) ⊎ (length (states_of h) ≤ p) → state.msdbs ≡ databases_at p new
     by p state at (inl lt) =
-        are.each p state (sym (at_front (states_of h) next p lt) ∙ at) ∙ same p (omega (arith, lt, are.count))
+        are.each p state (sym (at_front (states_of h) next p lt) ∙ at) ∙ sym (before p (omega (arith, lt, are.count)))
     by p state at (inr le) =
         let r = at_end (states_of h) next state p le at in
         let same_place : place + 1 ≡ p = omega (arith, r.0, are.count) in
-        r.1 ∙ is ∙ ap (λ (q : ℕ). state_at q new) same_place
+        ap (λ (db : Db). db.msdbs) (r.1 ∙ is) ∙ ap (λ (q : ℕ). databases_at q new) same_place
 
--- ---- no purge
+-- ---- a purge
 
--- without data entry databases no data set is an area
-pub none_purged : (defs : Defs) (set n : ℕ) (db : Db) → defs.dedbs ≡ [] → purged defs set n db ≡ None
-unfolding purged
-none_purged defs set n db none =
-    ap (λ (areas : List Area). option_map_or (λ area. if nat_lt 0 area.def.capacity then Some (purged_area area n db) else None)
-    (if nat_lt set first_area_set then None else slice_get areas (set - first_area_set)) None)
-    (ap (areas_of_all 0) none)
-    ∙ by (nat_lt set first_area_set)
-  where
-    by : (b : Bool) → option_map_or (λ (area : Area). if nat_lt 0 area.def.capacity then Some (purged_area area n db) else None)
-        (if b then None else slice_get [] (set - first_area_set)) None ≡ None
-    by true = refl
-    by false = refl
+none_is : (x : Db) → None ≡ Some x → ⊥
+none_is x e = cc
+
+-- what it makes of the state at a place
+pub purge_found : (defs : Defs) (set n place : ℕ) (pasts : List Past) (old new : List Dedb) (now : Db) (b : Bool)
+    → AllByRecursion (IsSettledBy place) pasts
+    → now ≡ state_at place pasts old
+    → purged defs set n (state_of (databases_at place pasts) old)
+    ≡ (if b then Some (state_of (databases_at place pasts) new) else None)
+    → Finds (λ next. purged defs set n now ≡ Some next) (state_at (place + 1) pasts new) b
+purge_found defs set n place pasts old new now true settled here is =
+    ap (purged defs set n) here ∙ is ∙ ap Some (sym (same_state place pasts new settled))
+purge_found defs set n place pasts old new now false settled here is = λ other so.
+    none_is other (sym is ∙ sym (ap (purged defs set n) here) ∙ so)

@@ -11,7 +11,6 @@ use Rattle.fp_model.specs.Rules.{Rules}
 use Rattle.past_replay.specs.States.{AreStatesOf}
 use Rattle.past_segments.specs.Pasts.{databases_at}
 use Rattle.fp_audit.specs.Numbers.{KnowsLines}
-use Rattle.fp_audit.specs.Setup.{AreReady}
 use Rattle.fp_audit.specs.declared.requests.Request.{Request}
 use Rattle.fp_audit.specs.declared.requests.Request.TheVariants as request
 use Rattle.fp_audit.specs.declared.so_far.SoFar.{SoFar}
@@ -23,7 +22,7 @@ rules_by it = rules_of it.defs.now it.scripts.now.scripts
 pub record Stands (it : SoFar) (h : History) : Type 0 where
   pub lines : KnowsLines it.requests.format it.requests.lasts.entries h
   pub place : it.place ≡ place_of h
-  pub states : AreStatesOf it.pasts.items it.place h.now (states_of h)
+  pub states : AreStatesOf it.pasts.items it.anchors it.place h.now (states_of h)
 
 -- ---- requests
 
@@ -45,15 +44,13 @@ refused_or (Some outcome) otherwise = history.Refuses outcome
 
 -- ---- one entry
 
--- What judging an entry keeps: all but the segments, and those up to the place; the next entry may be judged at the
--- next place.
+-- What judging an entry keeps: all but the databases, and those of main storage up to the place.
 pub record Keeps (old new : SoFar) : Type 0 where
   pub requests : new.requests ≡ old.requests
   pub place : new.place ≡ old.place
   pub defs : new.defs ≡ old.defs
   pub scripts : new.scripts ≡ old.scripts
   pub before : (p : ℕ) → p ≤ old.place → databases_at p new.pasts.items ≡ databases_at p old.pasts.items
-  pub ready : AreReady old.defs.now.msdbs (old.place + 1) new.pasts.items
 
 -- whether an entry may lead on, and then to this state
 abbrev pub Finds : (Db → Type 0) → Db → Bool → Type 0

@@ -20,7 +20,7 @@ pub record IsAt (audit : Audit) (h : History) : Type 0 where
   pub legal : audit.verdict ≡ verdict.Legal
   pub lines : KnowsLines audit.format audit.lasts h
   pub place : audit.place ≡ place_of h
-  pub states : AreStatesOf audit.pasts audit.place h.now (states_of h)
+  pub states : AreStatesOf audit.pasts audit.dedbs audit.place h.now (states_of h)
 
 -- The entry comes behind the history, and the auditor stands behind it.
 pub record StandsBehind (audit : Audit) (e : Entry) (h : History) : Type 0 where

@@ -1,4 +1,5 @@
 //! The auditor: one entry of the log after another.
+ghost use Rattle.fp_exits.specs.Kinds.{kinds_of};
 ghost use Rattle.fp_model.specs.History.{History, beginning};
 ghost use Rattle.fp_model.specs.Product.{rules_of};
 ghost use Rattle.fp_model.specs.State.{start};
@@ -9,7 +10,9 @@ use crate::loading::first_pasts;
 use crate::requests::Requests;
 use crate::so_far::SoFar;
 use crate::verdict::Verdict;
+use fp_exits::Exits;
 use fp_model::{Defs, Entry};
+use past_anchors::Anchors;
 use std::alloc::{AllocError, Global};
 use std::marker::Model;
 use txn_lang::Scripts;
@@ -18,6 +21,7 @@ use txn_lang::Scripts;
 /// before it. Contracts see an `Audit`, which stands at the history that the entries make (`IsAt`).
 #[derive(Drop)]
 pub struct Auditor<'a> {
+    exits: &'a Exits,
     so_far: SoFar<'a>,
     verdict: Verdict,
 }
@@ -25,13 +29,15 @@ pub struct Auditor<'a> {
 impl<'a> Model for Auditor<'a> {
     ghost use Rattle.fp_audit.specs.Audit.{Audit};
     ghost use Rattle.fp_audit.specs.Setup.{AreReady, IfLegal};
+    ghost use Rattle.fp_exits.specs.Kinds.{kinds_of};
+    ghost use Rattle.fp_model.specs.contracts.database.Node as node;
     ghost use Rattle.fp_model.specs.contracts.scripts.Statement as statement;
     ghost use Rattle.past_replay.specs.Setup.{IsSetup};
     ghost use Rattle.std.specs.Coded.{codes};
 
     ghost Value = { Audit };
 
-    ghost coded = { Prim.hlevel (codes, statement.the_row.coded) };
+    ghost coded = { Prim.hlevel (codes, statement.the_row.coded, node.the_row.coded) };
 
     ghost view = { λ a. record {
       defs = a.so_far.defs.now;
@@ -40,11 +46,12 @@ impl<'a> Model for Auditor<'a> {
       lasts = a.so_far.requests.lasts.entries;
       place = a.so_far.place;
       pasts = a.so_far.pasts.items;
+      dedbs = a.so_far.anchors;
       verdict = a.verdict;
     } };
 
-    ghost invariant = { λ a. IsSetup a.so_far.defs.now a.so_far.scripts.now.scripts
-        × IfLegal a.verdict (AreReady a.so_far.defs.now.msdbs a.so_far.place a.so_far.pasts.items) };
+    ghost invariant = { λ a. IsSetup a.so_far.defs.now (kinds_of a.exits.now) a.so_far.scripts.now.scripts
+        × IfLegal a.verdict (AreReady a.so_far.defs.now a.so_far.place a.so_far.pasts.items a.so_far.anchors) };
 }
 
 impl<'a> Auditor<'a> {
@@ -52,20 +59,22 @@ impl<'a> Auditor<'a> {
 
     /// Before the first entry of a log whose front has this format. It fails only for want of memory.
     ///
-    /// Condition: definitions of main storage databases alone, and scripts that were read under them.
+    /// Condition: definitions that were read, with the exits that they name, and scripts that were read under them.
     pub fn new(
         alloc: Global,
         defs: &'a Defs,
         scripts: &'a Scripts,
+        exits: &'a Exits,
         format: u8,
     ) -> Result<Auditor<'a>, AllocError>
-        requires setup { IsSetup defs.now scripts.now.scripts }
+        requires setup { IsSetup defs.now (kinds_of exits.now) scripts.now.scripts }
 
         // It stands where no entry came, by the rules of these.
         ensures begins { IfOk result (λ auditor. IsAt auditor (beginning format (start defs.now))) }
         ensures rules { IfOk result (λ auditor. rules_in auditor ≡ rules_of defs.now scripts.now.scripts) }
     {
         Ok(Auditor {
+            exits,
             so_far: SoFar {
                 alloc,
                 defs,
@@ -73,6 +82,7 @@ impl<'a> Auditor<'a> {
                 requests: Requests::new(alloc, format),
                 place: 0,
                 pasts: first_pasts(alloc, defs)?,
+                anchors: Anchors::new(alloc, defs)?,
             },
             verdict: Verdict::Legal,
         })
@@ -101,7 +111,7 @@ impl<'a> Auditor<'a> {
             Verdict::Illegal => return Ok(false),
             Verdict::Spent => return Err(AllocError),
         }
-        match self.so_far.take(e) {
+        match self.so_far.take(self.exits, e) {
             Ok(true) => Ok(true),
             Ok(false) => {
                 self.verdict = Verdict::Illegal;

@@ -1,8 +1,7 @@
 //! The databases before the first entry.
-ghost use Rattle.fp_audit.specs.Setup.{AreReady};
 ghost use Rattle.fp_model.specs.State.{loaded, start};
 ghost use Rattle.fp_model.specs.WellFormed.{IsMsdbDef};
-ghost use Rattle.past_segments.specs.Pasts.{IsPastOf, databases_at};
+ghost use Rattle.past_segments.specs.Pasts.{ArePastsOf, IsPastOf, databases_at};
 ghost use Rattle.past_segments.specs.Times.{IsSettledBy, database_at};
 ghost use Rattle.std.specs.List.{AllByRecursion};
 ghost use Rattle.std.specs.Prelude.{◌≡◌, IfOk, ℕ};
@@ -28,7 +27,8 @@ fn loaded(alloc: Global, def: &MsdbDef) -> Result<PastSegments, AllocError>
 /// The main storage databases before the first entry, at every place. It fails only for want of memory.
 pub(crate) fn first_pasts(alloc: Global, defs: &Defs) -> Result<Vec<PastSegments>, AllocError>
     requires { AllByRecursion IsMsdbDef defs.now.msdbs }
-    ensures ready { IfOk result (λ pasts. AreReady defs.now.msdbs 0 pasts.items) }
+    ensures are { IfOk result (λ pasts. ArePastsOf defs.now.msdbs pasts.items) }
+    ensures settled { IfOk result (λ pasts. AllByRecursion (IsSettledBy 0) pasts.items) }
     ensures start { (p : ℕ) → IfOk result (λ pasts. databases_at p pasts.items ≡ (start defs.now).msdbs) }
 {
     let mut pasts = Vec::with_capacity(alloc, defs.msdbs.len())?;

@@ -164,7 +164,12 @@ fn audit_status(fault: AuditFault) -> Status
 }
 
 /// Runs the log's entries again by their meaning alone, and sends how many they are where all are legal.
-pub(crate) fn audit_on<T: Site>(alloc: Global, site: &mut T, setup: &Setup) -> Status
+pub(crate) fn audit_on<T: Site>(
+    alloc: Global,
+    site: &mut T,
+    exits: &Exits,
+    setup: &Setup,
+) -> Status
     requires { IsSetup setup.now }
     ensures due { T.told site.old → ByEntries (job_of setup.now) ((T.disk site.old).contents 0) result
         ⊎ MayStandIn result }
@@ -181,7 +186,14 @@ pub(crate) fn audit_on<T: Site>(alloc: Global, site: &mut T, setup: &Setup) -> S
         (T.bytes_read site.old) (T.bytes_read site.new) }
     ensures site { IsContinued T.told T.faults T.holds T.keeps site.old site.new }
 {
-    match audit(alloc, &setup.defs, &setup.scripts, &setup.front, site) {
+    match audit(
+        alloc,
+        &setup.defs,
+        &setup.scripts,
+        exits,
+        &setup.front,
+        site,
+    ) {
         Ok(_) => Status::Done,
         Err(why) => audit_status(why),
     }

@@ -108,7 +108,7 @@ pub fn ims<S: Source, T: Site>(
             Command::Show => show_on(alloc, site, &task.setup),
             Command::Log => log_on(alloc, site, &task.setup),
             Command::Migrate => migrate_on(alloc, site, &task.setup),
-            Command::Audit => audit_on(alloc, site, &task.setup),
+            Command::Audit => audit_on(alloc, site, exits, &task.setup),
         },
         Err(answer) => answer,
     }

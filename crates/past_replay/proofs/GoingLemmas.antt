@@ -9,25 +9,32 @@ use Rattle.fp_model.specs.declared.calls.Call.{Call}
 use Rattle.fp_model.specs.declared.database.Db.{Db}
 use Rattle.fp_model.specs.declared.log.Outcome.TheVariants as outcome
 use Rattle.fp_model.specs.declared.scripts.Script.{Script}
+use Rattle.fp_model.specs.Workspace.{Workspace}
 use Rattle.fp_model.specs.Asking.{Ask, Asks, Replies, Rolls, ask, full_cost}
-use Rattle.fp_model.specs.Calls.{looks_unheld, reply_to}
+use Rattle.fp_model.specs.Answers.{Replied}
+use Rattle.fp_model.specs.Calls.{database_of, looks_unheld, reply_to, target_of}
 use Rattle.fp_model.specs.Commit.{settlement}
-use Rattle.fp_model.specs.FitCalls.{IsMsdbCall}
+use Rattle.fp_model.specs.FitCalls.{FitsTarget, IsTied, shown_behind}
+use Rattle.fp_model.specs.Shape.{IsDbOf}
+use Rattle.fp_model.specs.WellFormed.{AreDefs}
 use Rattle.fp_model.specs.Serial.{Alone, Ending, Ends, Point, Stuck, asked, called, goes, with_all, with_reply}
 use Rattle.fp_model.specs.Serial as serial
 use Rattle.fp_model.proofs.ProgramLemmas.{calls_below_cost}
 use Rattle.past_segments.specs.Pasts.{databases_at}
+use Rattle.dedb_calls.specs.Anchors.{Sees}
 use Rattle.past_calls.specs.Progress.{IsWorkOf, Progress}
-use Rattle.txn_machine.specs.Running.{IsAt, IsFit, WaitsFor}
+use Rattle.state_laws.specs.Workspaces.{FitsWorkspace}
+use Rattle.state_laws.proofs.Answering.{answer_keeps}
+use Rattle.state_laws.proofs.Ties.{answer_tied}
+use Rattle.txn_machine.specs.Running.{IsAt, IsFit, WaitsFor, types_shown}
 use Rattle.txn_machine.specs.declared.program.Program.{Program}
 use Rattle.past_replay.specs.declared.running.End.{End}
 use Rattle.past_replay.specs.declared.running.End.TheVariants as ends
 use Rattle.past_replay.specs.declared.running.Look.{Look}
 use Rattle.past_replay.specs.declared.running.Rerun.{Rerun}
 use Rattle.past_replay.specs.declared.running.Running.{Running}
-use Rattle.past_replay.specs.Running.{IsAsking, IsEnd, IsKept, IsUnderWay, alone_on, end_with, ended, look_of, rules_in}
-use Rattle.past_replay.specs.States.{AreStatesOf, state_at}
-use Rattle.past_replay.proofs.Keeping.{Keeps, call_keeps}
+use Rattle.past_replay.specs.Running.{IsAsking, IsEnd, IsKept, IsUnderWay, alone_on, end_with, ended, look_of, now_of, rules_in}
+use Rattle.past_replay.specs.States.{AreStatesOf}
 use Rattle.past_replay.proofs.ListLemmas.{drop_at, drop_none, drop_whole, each_has, is_within, stands}
 
 -- ---- its end
@@ -46,12 +53,19 @@ all_used notes used ending = by (nat_lt used (length notes)) refl
 
 -- ---- states
 
--- the state that a note names
-noted : (it : Rerun) (now : Db) (states : List Db) (start : Db) (note : ℕ) → AreStatesOf it.pasts.now it.place now states
-    → note ≤ it.place → serial.state_at start states note ≡ state_at note it.pasts.now
+-- the main storage databases of the state that a note names
+noted : (it : Rerun) (now : Db) (states : List Db) (start : Db) (note : ℕ)
+    → AreStatesOf it.pasts.now it.anchors.now it.place now states → note ≤ it.place
+    → (serial.state_at start states note).msdbs ≡ databases_at note it.pasts.now
 noted it now states start note are le =
     let there = stands states note (omega (arith, are.count, le)) in
-    ap (λ o. unwrap_or o start) there.1 ∙ are.each note there.0 there.1
+    ap (λ o. (unwrap_or o start).msdbs) there.1 ∙ are.each note there.0 there.1
+
+-- types as they were shown
+tied_so : (it : Rerun) (shown other : ℕ → Option ℕ) (own : Workspace) → ((db : ℕ) → other db ≡ shown db)
+    → IsTied it.defs.now shown own → IsTied it.defs.now other own
+tied_so it shown other own same tied dedb def place at held =
+    same (length it.defs.now.msdbs + dedb) ∙ tied dedb def place at held
 
 module _ (it : Rerun) (count : ℕ) (running : Running) (s : IsUnderWay it count running) where
   -- the point that it has come to, and the notes that are left
@@ -70,7 +84,7 @@ module _ (it : Rerun) (count : ℕ) (running : Running) (s : IsUnderWay it count
 
   -- running alone does this next
   does : (a : Ask) → ask it.defs.now s.script.statements it.message.now s.answers ≡ a
-      → (now : Db) (states : List Db) → AreStatesOf it.pasts.now it.place now states
+      → (now : Db) (states : List Db) → AreStatesOf it.pasts.now it.anchors.now it.place now states
       → alone_on it now states ≡ asked (rules_in it) now states it.message.now a here rest
       (goes (rules_in it) now states it.message.now s.left)
   does a e now states are =
@@ -81,11 +95,14 @@ module _ (it : Rerun) (count : ℕ) (running : Running) (s : IsUnderWay it count
   -- The program moves on to its next call.
   abbrev pub moves : (program : Program) → program.number ≡ running.program.number
       → IsAt it.defs.now s.script.statements it.message.now s.answers program → IsFit it.defs.now program
+      → ((db : ℕ) → types_shown program db ≡ types_shown running.program db)
       → IsUnderWay it count (record running { program = program })
-  moves program number at fit = record {
+  moves program number at fit types = record {
     answers = s.answers;
     counted = s.counted;
-    kept = s.kept;
+    kept = record s.kept {
+      tied = tied_so it (types_shown running.program) (types_shown program) running.work.own types s.kept.tied;
+    };
     used = s.used;
     script = s.script;
     named = s.named;
@@ -100,19 +117,23 @@ module _ (it : Rerun) (count : ℕ) (running : Running) (s : IsUnderWay it count
   -- It asks a call.
   pub asks : (program : Program) → program.number ≡ running.program.number
       → IsAt it.defs.now s.script.statements it.message.now s.answers program → IsFit it.defs.now program
+      → ((db : ℕ) → types_shown program db ≡ types_shown running.program db)
       → (call : Call) → ask it.defs.now s.script.statements it.message.now s.answers ≡ Asks call
-      → WaitsFor call program → IsMsdbCall it.defs.now.msdbs call
+      → WaitsFor call program
+      → FitsTarget (target_of it.defs.now (database_of call)) (types_shown running.program (database_of call)) call
       → IsAsking it count call (record running { program = program })
-  asks program number at fit call asked waits fits =
-      record { under = moves program number at fit; asked = asked; waits = waits; fits = fits }
+  asks program number at fit types call asked waits fits = record {
+    under = moves program number at fit types;
+    asked = asked;
+    waits = waits;
+    fits =
+        subst (λ shown. FitsTarget (target_of it.defs.now (database_of call)) shown call)
+        (sym (types (database_of call))) fits;
+  }
 
   -- It keeps no more than a transaction that ended.
-  kept_by : full_cost s.script.statements ≤ 10000 → IsKept it 10000 running.work
-  kept_by cheap = record {
-    of = s.kept.of;
-    alone = s.kept.alone;
-    few = omega (arith, s.kept.few, s.budget, cheap);
-  }
+  kept_by : full_cost s.script.statements ≤ 10000 → IsKept it 10000 (types_shown running.program) running.work
+  kept_by cheap = record s.kept { few = omega (arith, s.kept.few, s.budget, cheap) }
 
   end_in : (now : Db) (end : End) (b : Bool) → ended it now running.work.own (if b then ends.Stuck else end)
       ≡ (if b then Stuck else ended it now running.work.own end)
@@ -193,24 +214,24 @@ module _ (it : Rerun) (count : ℕ) (running : Running) (call : Call) (a : IsAsk
 
   module _ (look : Look) (given : Answer) (work : Progress)
       (notes : AllByRecursion (λ note. note ≤ it.place) it.notes.now)
-      (reply : (now visible : Db) → now.msdbs ≡ databases_at it.place it.pasts.now
-      → visible.msdbs ≡ databases_at look.place it.pasts.now
-      → reply_to it.defs.now now visible running.work.own call ≡ record { answer = given; own = work.own }) where
+      (reply : (visible : Db) → visible.msdbs ≡ databases_at look.place it.pasts.now
+      → reply_to it.defs.now (now_of it) visible running.work.own call
+      ≡ record { answer = given; own = work.own }) where
     -- the point behind the call
     abbrev behind : Point
     behind = record { answers = a.under.answers ++ given ∷ []; own = work.own }
 
-    -- The answer looks at the states of the place and of the look.
-    replied : (now visible : Db) → now ≡ state_at it.place it.pasts.now → (place : ℕ)
-        → visible ≡ state_at place it.pasts.now → place ≡ look.place
+    -- The answer looks at the state of the place, and at that of the look.
+    replied : (now visible : Db) → now ≡ now_of it → (place : ℕ)
+        → visible.msdbs ≡ databases_at place it.pasts.now → place ≡ look.place
         → with_reply point (reply_to it.defs.now now visible running.work.own call) ≡ behind
     replied now visible here place there same =
-        ap (with_reply point) (reply now visible (ap (λ (db : Db). db.msdbs) here)
-        (ap (λ (db : Db). db.msdbs) there ∙ ap (λ p. databases_at p it.pasts.now) same))
+        ap (λ (db : Db). with_reply point (reply_to it.defs.now db visible running.work.own call)) here
+        ∙ ap (with_reply point) (reply visible (there ∙ ap (λ p. databases_at p it.pasts.now) same))
 
     -- A call is answered, and uses its note if it looks.
     looked : (looks : Bool) → look_of it running.used looks ≡ Some look → (now : Db) (states : List Db)
-        → AreStatesOf it.pasts.now it.place now states → (go : Point → List ℕ → Alone)
+        → AreStatesOf it.pasts.now it.anchors.now it.place now states → (go : Point → List ℕ → Alone)
         → called (rules_in it) now states it.message.now looks point call notes_left go
         ≡ go behind (drop look.used it.notes.now)
     looked true seen now states are go = by (slice_get it.notes.now running.used) refl seen
@@ -233,7 +254,8 @@ module _ (it : Rerun) (count : ℕ) (running : Running) (call : Call) (a : IsAsk
     looked false seen now states are go =
         let first : Look = record { place = it.place; used = running.used } in
         let same : first ≡ look = some_same first look seen in
-        ap (λ p. go p notes_left) (replied now now are.here it.place are.here (ap (λ (l : Look). l.place) same))
+        ap (λ p. go p notes_left)
+        (replied now now are.here it.place (ap (λ (db : Db). db.msdbs) are.here) (ap (λ (l : Look). l.place) same))
         ∙ ap (λ (l : Look). go behind (drop l.used it.notes.now)) same
 
     -- so many notes are used behind it
@@ -252,33 +274,51 @@ module _ (it : Rerun) (count : ℕ) (running : Running) (call : Call) (a : IsAsk
         let used : running.used ≡ look.used = ap (λ (l : Look). l.used) (some_same first look seen) in
         omega (arith, used, a.under.used)
 
+    -- What it keeps behind the call.
+    kept_behind : AreDefs it.defs.now → IsDbOf it.defs.now (now_of it)
+        → IsWorkOf it.defs.now work → Sees (now_of it) work.anchors
+        → length work.own.deferred ≤ length running.work.own.deferred + 1
+        → (program : Program)
+        → ((db : ℕ) → types_shown program db ≡ shown_behind call given (types_shown running.program) db)
+        → IsKept it (count + 1) (types_shown program) work
+    kept_behind are good of sees few program types =
+        let kept = a.under.kept in
+        let shown : ℕ → Option ℕ = types_shown running.program in
+        let visible : Db = record (now_of it) { msdbs = databases_at look.place it.pasts.now } in
+        let is = reply visible refl in
+        record {
+          of = of;
+          sees = sees;
+          fits =
+              subst (λ (r : Replied). FitsWorkspace it.defs.now (now_of it) r.own) is
+              (answer_keeps it.defs.now (now_of it) visible shown running.work.own call are good kept.fits kept.tied
+              a.fits);
+          tied =
+              tied_so it (shown_behind call given shown) (types_shown program) work.own types
+              (subst (λ (r : Replied). IsTied it.defs.now (shown_behind call r.answer shown) r.own) is
+              (answer_tied it.defs.now (now_of it) visible shown running.work.own call kept.tied));
+          few = omega (arith, few, kept.few);
+        }
+
     -- With its answer the transaction goes on.
     pub goes_on : (looks : Bool) → looks ≡ unheld → look_of it running.used looks ≡ Some look
-        → IsWorkOf it.defs.now work → (program : Program) → program.number ≡ running.program.number
+        → AreDefs it.defs.now → IsDbOf it.defs.now (now_of it)
+        → IsWorkOf it.defs.now work → Sees (now_of it) work.anchors
+        → length work.own.deferred ≤ length running.work.own.deferred + 1
+        → (program : Program) → program.number ≡ running.program.number
         → IsAt it.defs.now a.under.script.statements it.message.now (a.under.answers ++ given ∷ []) program
         → IsFit it.defs.now program
+        → ((db : ℕ) → types_shown program db ≡ shown_behind call given (types_shown running.program) db)
         → IsUnderWay it (count + 1) (record { program = program; work = work; used = look.used })
-    goes_on looks is seen of program number at fit =
+    goes_on looks is seen are good of sees few program number at fit types =
         let s : IsUnderWay it count running = a.under in
         let less : length s.answers < full_cost s.script.statements
         = calls_below_cost it.defs.now s.script.statements it.message.now s.answers call a.asked in
         let more : s.left ≡ suc (s.left - 1) = omega (arith, less, s.counted, s.budget) in
-        let kept : Keeps running.work.own work.own
-        = call_keeps it.defs.now (state_at it.place it.pasts.now) (state_at look.place it.pasts.now) running.work.own
-        call (record { answer = given; own = work.own }) a.fits
-        (reply (state_at it.place it.pasts.now) (state_at look.place it.pasts.now) refl refl) in
         record {
           answers = s.answers ++ given ∷ [];
           counted = length-append s.answers (given ∷ []) ∙ ap (λ n. n + 1) s.counted;
-          kept = record {
-            of = of;
-            alone = record {
-              queue = refl;
-              changes = kept.changes ∙ s.kept.alone.changes;
-              inserts = kept.inserts ∙ s.kept.alone.inserts;
-            };
-            few = omega (arith, kept.deferred, s.kept.few);
-          };
+          kept = kept_behind are good of sees few program types;
           used = used_within looks seen;
           script = s.script;
           named = s.named;

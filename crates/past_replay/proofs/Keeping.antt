@@ -1,4 +1,4 @@
--- A call to a main storage database changes no anchor, inserts no sequential dependent, and defers at most one call.
+-- A call to a main storage database defers at most one call.
 use Rattle.std.proofs.Common.{◌≡◌, ◌∙◌, refl, sym, ap, subst, arith, length-append, ◌+◌, ◌≤◌, ℕ, ◌-◌, List, ◌++◌, ◌∷◌, [], length, Bool, true, false, Option, Some, None, if◌then◌else◌}
 use Rattle.std.specs.Prelude.{not, is_some, codes}
 use Rattle.std.specs.Option.{option_map_or}
@@ -22,46 +22,33 @@ use Rattle.fp_model.specs.State.{key_of, segment_of, segment_after}
 use Rattle.fp_model.specs.Texts.{same_text}
 use Rattle.fp_model.specs.Workspace.{Workspace}
 
--- what it leaves: the changes and inserts that there were, and at most one deferred call more
-pub record Keeps (own new : Workspace) : Type 0 where
-  pub changes : new.changes ≡ own.changes
-  pub inserts : new.inserts ≡ own.inserts
-  pub deferred : length new.deferred ≤ length own.deferred + 1
+-- what it leaves: at most one deferred call more
+abbrev DefersOne : Workspace → Workspace → Type 0
+DefersOne own new = length new.deferred ≤ length own.deferred + 1
 
 module _ (def : MsdbDef) (msdb : ℕ) (own : Workspace) where
   abbrev KeepsReply : Replied → Type 0
-  KeepsReply r = Keeps own r.own
+  KeepsReply r = DefersOne own r.own
 
-  none : (r : Replied) → r.own.changes ≡ own.changes → r.own.inserts ≡ own.inserts
-      → r.own.deferred ≡ own.deferred → KeepsReply r
-  none r changes inserts same = record {
-    changes = changes;
-    inserts = inserts;
-    deferred = let e : length r.own.deferred ≡ length own.deferred = ap length same in omega (arith, e);
-  }
+  none : (r : Replied) → r.own.deferred ≡ own.deferred → KeepsReply r
+  none r same = let e : length r.own.deferred ≡ length own.deferred = ap length same in omega (arith, e)
 
-  one : (r : Replied) (d : Deferred) → r.own.changes ≡ own.changes → r.own.inserts ≡ own.inserts
-      → r.own.deferred ≡ own.deferred ++ d ∷ [] → KeepsReply r
-  one r d changes inserts more = record {
-    changes = changes;
-    inserts = inserts;
-    deferred =
-        let e : length r.own.deferred ≡ length own.deferred + 1
-        = ap length more ∙ length-append own.deferred (d ∷ []) in
-        omega (arith, e);
-  }
+  one : (r : Replied) (d : Deferred) → r.own.deferred ≡ own.deferred ++ d ∷ [] → KeepsReply r
+  one r d more =
+      let e : length r.own.deferred ≡ length own.deferred + 1 = ap length more ∙ length-append own.deferred (d ∷ []) in
+      omega (arith, e)
 
   either : (b : Bool) (x y : Replied) → KeepsReply x → KeepsReply y → KeepsReply (if b then x else y)
   either true x y h g = h
   either false x y h g = g
 
   refused_keeps : (status : List ℕ) → KeepsReply (msdbs.refused def msdb own status)
-  refused_keeps status = none (msdbs.refused def msdb own status) refl refl refl
+  refused_keeps status = none (msdbs.refused def msdb own status) refl
 
   found_keeps : (status : List ℕ) (hold : Bool) (o : Option (List ℕ))
       → KeepsReply (msdbs.found_or def msdb status hold own o)
   found_keeps status hold None = refused_keeps status
-  found_keeps status hold (Some segment) = none (msdbs.found_or def msdb status hold own (Some segment)) refl refl refl
+  found_keeps status hold (Some segment) = none (msdbs.found_or def msdb status hold own (Some segment)) refl
 
   get_keeps : (now shown : Msdb) (g : Get) (hold : Bool) (key : Option (List ℕ))
       → KeepsReply (msdbs.get_reply def msdb now shown own g hold key)
@@ -75,7 +62,7 @@ module _ (def : MsdbDef) (msdb : ℕ) (own : Workspace) where
   get_keeps now shown get.NextInParent hold key = refused_keeps (codes "AM")
 
   queued_keeps : (answer : Answer) (d : Deferred) → KeepsReply (msdbs.queued def msdb own answer d)
-  queued_keeps answer d = one (msdbs.queued def msdb own answer d) d refl refl refl
+  queued_keeps answer d = one (msdbs.queued def msdb own answer d) d refl
 
   fld_keeps : (key fsas : List ℕ) (o : Option (List ℕ)) → KeepsReply (msdbs.fld_reply def msdb own key fsas o)
   fld_keeps key fsas None = refused_keeps (codes "GE")
@@ -83,7 +70,7 @@ module _ (def : MsdbDef) (msdb : ℕ) (own : Workspace) where
       let letters : List ℕ = (list_on def (fsas_in fsas) segment).letters in
       let tried : Replied = record { answer = lettered (codes "FE") letters; own = msdbs.hold_ended def msdb own } in
       either (all_blank letters) (msdbs.queued def msdb own (lettered blank letters) (deferred.Fld msdb key fsas)) tried
-      (queued_keeps (lettered blank letters) (deferred.Fld msdb key fsas)) (none tried refl refl refl)
+      (queued_keeps (lettered blank letters) (deferred.Fld msdb key fsas)) (none tried refl)
 
   repl_keeps : (bytes : List ℕ) (o : Option (List ℕ))
       → KeepsReply (msdbs.if_held def msdb own (msdbs.repl_reply def msdb own bytes) o)
@@ -106,28 +93,12 @@ module _ (def : MsdbDef) (msdb : ℕ) (own : Workspace) where
       (either (is_some (segment_of def now (key_of def.fields bytes))) _ _ (refused_keeps (codes "II"))
       (queued_keeps (answered blank) (deferred.Isrt msdb bytes))))
 
-  msdb_keeps : (now shown : Msdb) (c : Call) → KeepsReply (msdbs.msdb_reply def msdb now shown own c)
-  msdb_keeps now shown (call.Get g hold db ssas) = get_keeps now shown g hold (msdbs.key_named ssas)
-  msdb_keeps now shown (call.Fld db key fsas) =
+  pub msdb_defers : (now shown : Msdb) (c : Call) → KeepsReply (msdbs.msdb_reply def msdb now shown own c)
+  msdb_defers now shown (call.Get g hold db ssas) = get_keeps now shown g hold (msdbs.key_named ssas)
+  msdb_defers now shown (call.Fld db key fsas) =
       either (msdbs.is_put_or_dropped def msdb own key) _ _ (refused_keeps (codes "XP"))
       (fld_keeps key fsas (segment_of def shown key))
-  msdb_keeps now shown (call.Repl db bytes) = repl_keeps bytes (msdbs.held_key def msdb own)
-  msdb_keeps now shown (call.Isrt db ssas bytes) = isrt_keeps now bytes
-  msdb_keeps now shown (call.Dlet db) =
+  msdb_defers now shown (call.Repl db bytes) = repl_keeps bytes (msdbs.held_key def msdb own)
+  msdb_defers now shown (call.Isrt db ssas bytes) = isrt_keeps now bytes
+  msdb_defers now shown (call.Dlet db) =
       either (not def.dynamic) _ _ (refused_keeps (codes "AM")) (dlet_keeps (msdbs.held_key def msdb own))
-
--- the reply is the main storage database's
-reply_is : (defs : Defs) (now visible : Db) (own : Workspace) (c : Call) (fits : IsMsdbCall defs.msdbs c)
-    → reply_to defs now visible own c ≡ msdbs.msdb_reply fits.0 (database_of c) (msdb_at now (database_of c))
-    (msdb_at visible (database_of c)) own c
-unfolding reply_to
-reply_is defs now visible own c fits =
-    ap (λ (o : Option MsdbDef). reply_on (option_map_or (λ (def : MsdbDef). OnMsdb def (database_of c)) o
-    (dedb_target defs (database_of c - length defs.msdbs))) now visible own c) fits.1
-
-pub call_keeps : (defs : Defs) (now visible : Db) (own : Workspace) (c : Call) (r : Replied) → IsMsdbCall defs.msdbs c
-    → reply_to defs now visible own c ≡ r → Keeps own r.own
-call_keeps defs now visible own c r fits e =
-    let place : ℕ = database_of c in
-    subst (λ (x : Replied). Keeps own x.own) (sym (reply_is defs now visible own c fits) ∙ e)
-    (msdb_keeps fits.0 place own (msdb_at now place) (msdb_at visible place) c)

@@ -1,5 +1,7 @@
 mod EndLemmas
 mod GoingLemmas
+mod HoldingLemmas
 mod Keeping
 mod ListLemmas
 mod SettledLemmas
+mod ShapeLemmas

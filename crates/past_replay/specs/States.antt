@@ -1,16 +1,17 @@
--- The states that the segments of every place show.
-use Rattle.std.specs.Prelude.{◌≡◌, ℕ, ◌+◌, List, [], length, Some, slice_get}
+-- The states that the segments of every place and the data entry databases of the present one show.
+use Rattle.std.specs.Prelude.{◌≡◌, ℕ, ◌+◌, List, length, Some, slice_get}
 use Rattle.fp_model.specs.declared.database.Db.{Db}
+use Rattle.fp_model.specs.declared.database.Dedb.{Dedb}
 use Rattle.past_segments.specs.Pasts.{databases_at}
 use Rattle.past_segments.specs.Times.{Past}
 
--- the state at a place, without data entry databases
-abbrev pub state_at : ℕ → List Past → Db
-state_at place pasts = record { msdbs = databases_at place pasts; dedbs = [] }
+-- the main storage databases of a place, with these data entry databases
+abbrev pub state_at : ℕ → List Past → List Dedb → Db
+state_at place pasts dedbs = record { msdbs = databases_at place pasts; dedbs = dedbs }
 
--- The state now, and the states up to it, oldest first, are those that the segments show: now is that of the place, and
--- the states are those of the places from 0 to this one.
-pub record AreStatesOf (pasts : List Past) (place : ℕ) (now : Db) (states : List Db) : Type 0 where
-  pub here : now ≡ state_at place pasts
+-- The state now is that of the place, with these data entry databases. The states up to it, oldest first, are those of
+-- the places from 0 to this one, as far as main storage databases go: nothing looks back at the others.
+pub record AreStatesOf (pasts : List Past) (dedbs : List Dedb) (place : ℕ) (now : Db) (states : List Db) : Type 0 where
+  pub here : now ≡ state_at place pasts dedbs
   pub count : length states ≡ place + 1
-  pub each : (p : ℕ) (state : Db) → slice_get states p ≡ Some state → state ≡ state_at p pasts
+  pub each : (p : ℕ) (state : Db) → slice_get states p ≡ Some state → state.msdbs ≡ databases_at p pasts

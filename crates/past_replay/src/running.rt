@@ -1,10 +1,23 @@
 //! The script and its calls.
+ghost use Rattle.dedb_calls.specs.Anchors.{Sees, held_at};
+ghost use Rattle.fp_exits.specs.Kinds.{kinds_of};
 ghost use Rattle.fp_model.specs.Asking.{script_of};
-ghost use Rattle.past_replay.specs.Running.{CanRerun, IsAsking, IsEnd, IsUnderWay, end_with, look_of};
-ghost use Rattle.std.specs.Prelude.{◌≡◌, ◌+◌, ◌<◌, [], IfNone, IfOk, IfSome, length, slice_get, ℕ};
+ghost use Rattle.fp_model.specs.Calls.{database_of, reply_to, target_of};
+ghost use Rattle.fp_model.specs.FitCalls.{FitsAnswerOf};
+ghost use Rattle.fp_model.specs.declared.database.Db.{Db as DbOf};
+ghost use Rattle.past_anchors.specs.Databases.{AreDedbsOf};
+ghost use Rattle.past_calls.specs.Needs.{lacking_on};
+ghost use Rattle.past_calls.specs.Progress.{IsWorkOf};
+ghost use Rattle.past_calls.specs.Targets.{FitsWork};
+ghost use Rattle.past_replay.specs.Running.{CanRerun, IsAsking, IsEnd, IsKept, IsUnderWay, end_with, look_of, now_of};
+ghost use Rattle.past_segments.specs.Pasts.{databases_at};
+ghost use Rattle.std.specs.Prelude.{◌≡◌, ◌+◌, ◌<◌, ◌≤◌, ◌&&◌, ◌==◌, IfNone, IfOk, IfSome, OnOk, false, is_some, length, slice_get, true, ℕ};
+ghost use Rattle.txn_machine.specs.Running.{types_shown};
 
-use fp_model::{Bytes, Call, Deferred, Defs, List, Message};
-use past_calls::{Work, answer, looks};
+use fp_exits::Exits;
+use fp_model::{Answer, Bytes, Call, Defs, List, Message};
+use past_anchors::Anchors;
+use past_calls::{Parts, Ready, Work, answer, looks};
 use past_segments::PastSegments;
 use std::alloc::{AllocError, Global};
 use txn_lang::Scripts;
@@ -13,13 +26,14 @@ use txn_machine::{Next, Program};
 // A script makes at most 10,000 calls, and ends in one step more.
 const MOST_STEPS: u32 = 10_001;
 
-/// What a transaction is run again on: definitions and scripts, the segments at every place, its place, its message and
-/// its notes.
+/// What a transaction is run again on: definitions and scripts, the segments at every place, the data entry databases of
+/// the present one, its place, its message and its notes.
 #[derive(Drop)]
 pub(crate) struct Rerun<'a> {
     pub(crate) defs: &'a Defs,
     pub(crate) scripts: &'a Scripts,
     pub(crate) pasts: &'a [PastSegments],
+    pub(crate) anchors: &'a Anchors,
     pub(crate) place: u64,
     pub(crate) message: &'a Message,
     pub(crate) notes: &'a List<u64>,
@@ -83,10 +97,59 @@ impl Rerun<'_> {
     }
 }
 
+impl Rerun<'_> {
+    // Brings a transaction the roots of an anchor of which it has none. It fails only for want of memory.
+    fn bring(&self, work: &mut Work, dedb: u8, anchor: u32) -> Result<(), AllocError>
+        requires can { AreDedbsOf self.now.defs.now self.now.anchors.now }
+        requires of { IsWorkOf self.now.defs.now work.old }
+        requires sees { Sees (now_of self.now) work.old.anchors }
+        ensures has { OnOk result (is_some (held_at work.new.anchors dedb anchor) ≡ true) }
+        ensures others { (d a : ℕ) → (d == dedb && a == anchor) ≡ false
+            → held_at work.new.anchors d a ≡ held_at work.old.anchors d a }
+        ensures same { work.new ≡ record work.old { anchors = work.new.anchors } }
+        ensures of { IsWorkOf self.now.defs.now work.new }
+        ensures sees { Sees (now_of self.now) work.new.anchors }
+    {
+        let roots = self.anchors.copy_roots(dedb, anchor)?;
+        work.hold_anchor(dedb, anchor, roots)
+    }
+
+    // Answers a call as at the place, with unheld looks at that of a note. A transaction is brought each anchor that it
+    // needs and has none of. It fails only for want of memory.
+    fn reply(
+        &self,
+        alloc: Global,
+        exits: &Exits,
+        work: &mut Work,
+        call: &Call,
+        note: u64,
+    ) -> Result<Answer, AllocError>
+        requires can { CanRerun self.now (kinds_of exits.now) }
+        requires of { IsWorkOf self.now.defs.now work.old }
+        requires sees { Sees (now_of self.now) work.old.anchors }
+        requires call { FitsWork (target_of self.now.defs.now (database_of call.now)) work.old call.now }
+        ensures answer { (visible : DbOf) → visible.msdbs ≡ databases_at note self.now.pasts.now
+            → IfOk result (λ answer. reply_to self.now.defs.now (now_of self.now) visible work.old.own call.now
+            ≡ record { answer = answer; own = work.new.own }) }
+        ensures shown { IfOk result (FitsAnswerOf (target_of self.now.defs.now (database_of call.now)) call.now) }
+        ensures of { IsWorkOf self.now.defs.now work.new }
+        ensures sees { OnOk result (Sees (now_of self.now) work.new.anchors) }
+        ensures few { OnOk result (length work.new.own.deferred ≤ length work.old.own.deferred + 1) }
+    {
+        loop {
+            match answer(
+                alloc, work, call, self.pasts, self.defs, exits, self.place, note,
+            )? {
+                Ready::Answer(answer) => return Ok(answer),
+                Ready::Need { dedb, anchor } => self.bring(work, dedb, anchor)?,
+            }
+        }
+    }
+}
+
 impl Running {
     /// A transaction as it begins, with the script of this number. It fails only for want of memory.
     pub(crate) fn start(alloc: Global, it: &Rerun, number: u32) -> Result<Running, AllocError>
-        requires no_dedbs { it.now.defs.now.dedbs ≡ [] }
         requires number { number < length it.now.scripts.now.scripts }
         requires named { slice_get it.now.scripts.now.scripts number
             ≡ script_of it.now.scripts.now.scripts it.now.message.now.tran }
@@ -101,16 +164,24 @@ impl Running {
         })
     }
 
-    /// The deferred calls, in call order.
-    pub(crate) fn deferred(&self) -> &List<Deferred>
-        ensures { result.now ≡ self.now.work.own.deferred }
+    /// What its sync point is to settle. It fails only for want of memory.
+    pub(crate) fn into_parts(self, alloc: Global) -> Result<Parts, AllocError>
+        ensures deferred { IfOk result (λ parts. parts.deferred ≡ self.work.own.deferred) }
+        ensures changes { IfOk result (λ parts. parts.changes ≡ self.work.own.changes) }
+        ensures inserts { IfOk result (λ parts. parts.inserts ≡ self.work.own.inserts) }
     {
-        self.work.deferred()
+        self.work.into_parts(alloc)
     }
 
     // Answers its call. It ends where the call looks and no note is left. It fails only for want of memory.
-    fn answer(&mut self, alloc: Global, it: &Rerun, call: &Call) -> Result<Option<End>, AllocError>
-        requires can { CanRerun it.now }
+    fn answer(
+        &mut self,
+        alloc: Global,
+        it: &Rerun,
+        exits: &Exits,
+        call: &Call,
+    ) -> Result<Option<End>, AllocError>
+        requires can { CanRerun it.now (kinds_of exits.now) }
         requires asking { (count : ℕ) × IsAsking it.now count call.now self.old }
         ensures goes { (count : ℕ) → IsAsking it.now count call.now self.old
             → IfOk result (λ end. IfNone end (IsUnderWay it.now (count + 1) self.new)) }
@@ -121,23 +192,20 @@ impl Running {
         let Some(look) = it.look(self.used, looks) else {
             return Ok(Some(End::Stuck));
         };
-        let given = answer(
-            alloc,
-            &mut self.work,
-            call,
-            it.pasts,
-            it.defs,
-            it.place,
-            look.place,
-        )?;
+        let given = it.reply(alloc, exits, &mut self.work, call, look.place)?;
         self.program.give(given);
         self.used = look.used;
         Ok(None)
     }
 
     // Runs to its next call, and answers it, or to its end. It fails only for want of memory.
-    fn step(&mut self, alloc: Global, it: &Rerun) -> Result<Option<End>, AllocError>
-        requires can { CanRerun it.now }
+    fn step(
+        &mut self,
+        alloc: Global,
+        it: &Rerun,
+        exits: &Exits,
+    ) -> Result<Option<End>, AllocError>
+        requires can { CanRerun it.now (kinds_of exits.now) }
         requires under { (count : ℕ) × IsUnderWay it.now count self.old }
         ensures goes { (count : ℕ) → IsUnderWay it.now count self.old
             → IfOk result (λ end. IfNone end (IsUnderWay it.now (count + 1) self.new)) }
@@ -145,20 +213,25 @@ impl Running {
             → IfOk result (λ end. IfSome end (IsEnd it.now self.new)) }
     {
         match self.program.next(it.scripts, it.defs, it.message)? {
-            Next::Call(call) => self.answer(alloc, it, &call),
+            Next::Call(call) => self.answer(alloc, it, exits, &call),
             Next::Reply(reply) => Ok(Some(it.end(self.used, End::Replies(reply)))),
             Next::Roll(code) => Ok(Some(it.end(self.used, End::Rolls(code)))),
         }
     }
 
     /// Runs to its end. It fails only for want of memory.
-    pub(crate) fn run(&mut self, alloc: Global, it: &Rerun) -> Result<End, AllocError>
-        requires can { CanRerun it.now }
+    pub(crate) fn run(
+        &mut self,
+        alloc: Global,
+        it: &Rerun,
+        exits: &Exits,
+    ) -> Result<End, AllocError>
+        requires can { CanRerun it.now (kinds_of exits.now) }
         requires under { IsUnderWay it.now 0 self.old }
         ensures { IfOk result (IsEnd it.now self.new) }
     {
         for _ in 0..MOST_STEPS {
-            if let Some(end) = self.step(alloc, it)? {
+            if let Some(end) = self.step(alloc, it, exits)? {
                 return Ok(end);
             }
         }

@@ -1,6 +1,6 @@
 //! Logs of a few entries, worked out by hand, and the first of them that isn't legal.
 
-use crate::sample::{definitions, scripts};
+use crate::sample::{ACCOUNTS, CUSTOMERS, System, exits};
 use fp_audit::Auditor;
 use fp_model::{Bytes, Entry, List, Outcome};
 use std::alloc::{AllocError, Global};
@@ -17,7 +17,10 @@ enum Ended {
     Unknown,
     Old(u64),
     Repeat(&'static [u8]),
-    Purge,
+    // A sequential part that is full: its data set, its ends, and how many were to go there.
+    Full(u16, u64, u64, u64),
+    // A Purge of a data set by so many serials.
+    Purge(u16, u64),
     Format,
 }
 
@@ -86,7 +89,7 @@ const ILLEGAL: [(usize, Row); 20] = [
     (6, (5, &[], b"T6 NOPE A001", Ended::Unknown)),
     (6, (6, &[], b"T6 NOPE A001", Ended::Done(b""))),
     // No area can be purged, and no line has a number yet.
-    (3, (3, &[], b"", Ended::Purge)),
+    (3, (3, &[], b"", Ended::Purge(3, 1))),
     (3, (3, &[], b"T1 1 ASK A001", Ended::Old(1))),
 ];
 
@@ -119,6 +122,63 @@ const MISNUMBERED: [(usize, Row); 7] = [
     ),
 ];
 
+/// A log of customers. Four notes fill the part of an area, a fifth has no room until two are purged, and a customer of
+/// the other area has room all the time. C009 stands behind C001 at their anchor; LISTC goes through the anchors in turn.
+const OF_CUSTOMERS: [Row; 18] = [
+    (0, &[], b"S1 NEWCUST C001 ANN", Ended::Done(b"ADDED")),
+    (1, &[], b"T1 NOTE C001 N1", Ended::Done(b"NOTED")),
+    (2, &[], b"T2 NOTE C001 N2", Ended::Done(b"NOTED")),
+    (2, &[], b"T3 NOTE C001 N3", Ended::Done(b"NOTED")),
+    (4, &[], b"T4 NOTE C001 N4", Ended::Done(b"NOTED")),
+    (5, &[], b"T5 NOTE C001 N5", Ended::Full(4, 1, 5, 1)),
+    (6, &[], b"S1 NEWCUST C003 BOB", Ended::Done(b"ADDED")),
+    (7, &[], b"T5 NOTE C003 M1", Ended::Done(b"NOTED")),
+    (8, &[], b"", Ended::Purge(4, 2)),
+    (9, &[], b"T6 NOTE C001 N6", Ended::Done(b"NOTED")),
+    (10, &[], b"T7 SHOWC C001", Ended::Done(b"ANN N6 N4 N3")),
+    (11, &[11], b"T1 LEND C001 L1 60", Ended::Done(b"LENT")),
+    (
+        11,
+        &[11],
+        b"T1 LEND C003 L1 60",
+        Ended::Verify(0, 0, b"\x00\x00\x04\x0C"),
+    ),
+    (13, &[], b"T2 OWES C001 L1", Ended::Done(b"60")),
+    (14, &[], b"T3 NEWCUST C009 CY", Ended::Done(b"ADDED")),
+    (15, &[], b"T4 LISTC", Ended::Done(b"C003C001C009")),
+    (16, &[], b"T5 LEAVES C001", Ended::Done(b"GONE")),
+    (17, &[], b"T6 SHOWC C001", Ended::Roll(4)),
+];
+
+/// Entries that aren't legal behind so many of that log.
+const NOT_OF_CUSTOMERS: [(usize, Row); 13] = [
+    // A customer who is there, or isn't.
+    (1, (1, &[], b"T1 NEWCUST C001 ANN", Ended::Done(b"ADDED"))),
+    (0, (0, &[], b"T1 NOTE C001 N1", Ended::Done(b"NOTED"))),
+    (0, (0, &[], b"T1 SHOWC C001", Ended::Roll(3))),
+    // A part that has no room, and one that has.
+    (5, (5, &[], b"T5 NOTE C001 N5", Ended::Done(b"NOTED"))),
+    (5, (5, &[], b"T5 NOTE C001 N5", Ended::Full(4, 1, 5, 2))),
+    (5, (5, &[], b"T5 NOTE C001 N5", Ended::Full(3, 1, 5, 1))),
+    (4, (4, &[], b"T4 NOTE C001 N4", Ended::Full(4, 1, 4, 1))),
+    // No area has these data sets.
+    (8, (8, &[], b"", Ended::Purge(2, 1))),
+    (8, (8, &[], b"", Ended::Purge(5, 1))),
+    // What was purged is gone, and what wasn't is there.
+    (
+        10,
+        (10, &[], b"T7 SHOWC C001", Ended::Done(b"ANN N6 N4 N3 N2")),
+    ),
+    (10, (10, &[], b"T7 SHOWC C001", Ended::Done(b"ANN N6 N4"))),
+    // A call to a data entry database makes no unheld look.
+    (
+        10,
+        (10, &[10], b"T7 SHOWC C001", Ended::Done(b"ANN N6 N4 N3")),
+    ),
+    // The loan of a transaction whose verify failed isn't there.
+    (13, (13, &[], b"T2 OWES C003 L1", Ended::Done(b"60"))),
+];
+
 fn outcome(alloc: Global, ended: Ended) -> Result<Outcome, AllocError> {
     Ok(match ended {
         Ended::Done(_) => Outcome::Done,
@@ -133,7 +193,8 @@ fn outcome(alloc: Global, ended: Ended) -> Result<Outcome, AllocError> {
         Ended::Unknown => Outcome::Unknown,
         Ended::Old(last) => Outcome::Old(last),
         Ended::Repeat(line) => Outcome::Repeat(Bytes::from_slice(alloc, line)?),
-        Ended::Purge => Outcome::Purge { set: 3, n: 1 },
+        Ended::Full(set, begin, end, n) => Outcome::SeqFull { set, begin, end, n },
+        Ended::Purge(set, n) => Outcome::Purge { set, n },
         Ended::Format => Outcome::Format,
     })
 }
@@ -175,17 +236,16 @@ fn first_illegal(
 // The place of the first row that isn't legal, of so many of a log and one more.
 fn illegal_behind(
     rt: &HostRuntime,
+    system: System,
     log: &[Row],
     front: usize,
     row: Option<Row>,
 ) -> Result<Option<usize>, Fail> {
     let alloc = rt.alloc();
-    let defs = definitions(alloc)?;
-    if !defs.dedbs.is_empty() {
-        return Err(Fail::from("a data entry database"));
-    }
-    let scripts = scripts(alloc, &defs)?;
-    let mut auditor = Auditor::new(alloc, &defs, &scripts, 1)?;
+    let exits = exits(alloc)?;
+    let defs = system.definitions(alloc, &exits)?;
+    let scripts = system.scripts(alloc, &defs, &exits)?;
+    let mut auditor = Auditor::new(alloc, &defs, &scripts, &exits, 1)?;
     let found = first_illegal(alloc, &mut auditor, &log[..front.min(log.len())])?;
     let Some(row) = row else {
         return Ok(found);
@@ -196,8 +256,16 @@ fn illegal_behind(
 
 #[test]
 fn each_entry_of_a_log_is_legal(rt: HostRuntime) -> Result<(), Fail> {
-    assert_eq!(rt; illegal_behind(&rt, &LEGAL, LEGAL.len(), None)?, None);
-    assert_eq!(rt; illegal_behind(&rt, &NUMBERED, NUMBERED.len(), None)?, None);
+    assert_eq!(rt;
+        illegal_behind(&rt, ACCOUNTS, &LEGAL, LEGAL.len(), None)?,
+        None
+    );
+    assert_eq!(rt;
+        illegal_behind(&rt, ACCOUNTS, &NUMBERED, NUMBERED.len(), None)?,
+        None
+    );
+    let customers = illegal_behind(&rt, CUSTOMERS, &OF_CUSTOMERS, OF_CUSTOMERS.len(), None)?;
+    assert_eq!(rt; customers, None);
     Ok(())
 }
 
@@ -205,7 +273,19 @@ fn each_entry_of_a_log_is_legal(rt: HostRuntime) -> Result<(), Fail> {
 fn an_entry_that_the_rules_do_not_let_come_is_illegal(rt: HostRuntime) -> Result<(), Fail> {
     for (at, (front, row)) in ILLEGAL.into_iter().enumerate() {
         assert_eq!(rt;
-            illegal_behind(&rt, &LEGAL, front, Some(row))?,
+            illegal_behind(&rt, ACCOUNTS, &LEGAL, front, Some(row))?,
+            Some(front),
+            "row {at}"
+        );
+    }
+    Ok(())
+}
+
+#[test]
+fn an_entry_of_a_data_entry_database_is_judged(rt: HostRuntime) -> Result<(), Fail> {
+    for (at, (front, row)) in NOT_OF_CUSTOMERS.into_iter().enumerate() {
+        assert_eq!(rt;
+            illegal_behind(&rt, CUSTOMERS, &OF_CUSTOMERS, front, Some(row))?,
             Some(front),
             "row {at}"
         );
@@ -217,7 +297,7 @@ fn an_entry_that_the_rules_do_not_let_come_is_illegal(rt: HostRuntime) -> Result
 fn a_number_counts_once(rt: HostRuntime) -> Result<(), Fail> {
     for (at, (front, row)) in MISNUMBERED.into_iter().enumerate() {
         assert_eq!(rt;
-            illegal_behind(&rt, &NUMBERED, front, Some(row))?,
+            illegal_behind(&rt, ACCOUNTS, &NUMBERED, front, Some(row))?,
             Some(front),
             "row {at}"
         );
@@ -229,6 +309,9 @@ fn a_number_counts_once(rt: HostRuntime) -> Result<(), Fail> {
 #[test]
 fn an_auditor_stops_for_good(rt: HostRuntime) -> Result<(), Fail> {
     let rows = [LEGAL[0], ILLEGAL[0].1, LEGAL[1]];
-    assert_eq!(rt; illegal_behind(&rt, &rows, 2, Some(rows[2]))?, Some(1));
+    assert_eq!(rt;
+        illegal_behind(&rt, ACCOUNTS, &rows, 2, Some(rows[2]))?,
+        Some(1)
+    );
     Ok(())
 }

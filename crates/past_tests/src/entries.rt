@@ -1,12 +1,16 @@
 //! Entries, each with what it comes to.
+ghost use Rattle.fp_exits.specs.Kinds.{kinds_of};
+ghost use Rattle.past_anchors.specs.Databases.{AreDedbsOf};
 ghost use Rattle.past_replay.specs.Setup.{IsSetup};
 ghost use Rattle.past_segments.specs.Pasts.{ArePastsOf};
 ghost use Rattle.past_segments.specs.Times.{IsSettledBy};
 ghost use Rattle.std.specs.List.{AllByRecursion};
-ghost use Rattle.std.specs.Prelude.{◌≡◌, ◌+◌, ◌<◌, ◌≤◌, ◌^◌, IfOk, IfSome};
+ghost use Rattle.std.specs.Prelude.{◌≡◌, ◌+◌, ◌<◌, ◌≤◌, ◌^◌, IfOk, IfSome, OnOk};
 
-use crate::setup::{definitions, empty, scripts};
-use fp_model::{Bytes, Defs, List, Message, Name, Outcome};
+use crate::sample::{TELLERS, exits};
+use fp_exits::Exits;
+use fp_model::{Bytes, Defs, List, Message, Name, Outcome, key_length};
+use past_anchors::Anchors;
 use past_replay::{Alone, replay};
 use past_segments::PastSegments;
 use std::alloc::{AllocError, Global};
@@ -89,17 +93,21 @@ fn notes(alloc: Global, entry: &Entry, place: u64) -> Result<Option<List<u64>>, 
 fn rerun(
     alloc: Global,
     pasts: &mut [PastSegments],
+    anchors: &mut Anchors,
     defs: &Defs,
     scripts: &Scripts,
+    exits: &Exits,
     place: u64,
     entry: &Entry,
 ) -> Result<bool, AllocError>
-    requires setup { IsSetup defs.now scripts.now.scripts }
+    requires setup { IsSetup defs.now (kinds_of exits.now) scripts.now.scripts }
     requires are { ArePastsOf defs.now.msdbs pasts.old }
     requires settled { AllByRecursion (IsSettledBy place) pasts.old }
+    requires shape { AreDedbsOf defs.now anchors.old }
     requires place { place + 1 < 2 ^ 64 }
     ensures are { ArePastsOf defs.now.msdbs pasts.new }
     ensures settled { AllByRecursion (IsSettledBy (place + 1)) pasts.new }
+    ensures shape { OnOk result (AreDedbsOf defs.now anchors.new) }
 {
     let message = message(alloc, entry)?;
     let Some(notes) = notes(alloc, entry, place)? else {
@@ -108,17 +116,46 @@ fn rerun(
     let Some(number) = scripts.find(&message.tran) else {
         return Ok(false);
     };
-    let alone = replay(alloc, pasts, defs, scripts, place, &message, number, &notes)?;
+    let alone = replay(
+        alloc, pasts, anchors, defs, scripts, exits, place, &message, number, &notes,
+    )?;
     Ok(is_so(&alone, entry.3))
+}
+
+// The one main storage database, without segments.
+fn empty(alloc: Global, defs: &Defs) -> Result<Vec<PastSegments>, Fail>
+    ensures are { IfOk result (λ pasts. ArePastsOf defs.now.msdbs pasts.items) }
+    ensures settled { IfOk result (λ pasts. AllByRecursion (IsSettledBy 0) pasts.items) }
+{
+    if defs.msdbs.len() != 1 {
+        return Err(Fail::from("not one database"));
+    }
+    let count = key_length(defs.msdbs.as_slice()[0].fields.as_slice());
+    let past = PastSegments::new(alloc, count);
+    let mut pasts = Vec::new(alloc);
+    pasts.push(past)?;
+    Ok(pasts)
 }
 
 /// Runs entries again, each at its place in the list. The first that comes to something else.
 pub(crate) fn run_entries(alloc: Global, entries: &[Entry]) -> Result<Option<usize>, Fail> {
-    let defs = definitions(alloc)?;
-    let scripts = scripts(alloc, &defs)?;
+    let exits = exits(alloc)?;
+    let defs = TELLERS.definitions(alloc, &exits)?;
+    let scripts = TELLERS.scripts(alloc, &defs, &exits)?;
     let mut pasts = empty(alloc, &defs)?;
+    let mut anchors = Anchors::new(alloc, &defs)?;
     for at in 0..entries.len() {
-        if !rerun(alloc, &mut pasts, &defs, &scripts, at as u64, &entries[at])? {
+        let entry = &entries[at];
+        if !rerun(
+            alloc,
+            &mut pasts,
+            &mut anchors,
+            &defs,
+            &scripts,
+            &exits,
+            at as u64,
+            entry,
+        )? {
             return Ok(Some(at));
         }
     }

@@ -14,6 +14,4 @@ mod places;
 #[cfg(test)]
 mod sample;
 #[cfg(test)]
-mod setup;
-#[cfg(test)]
 mod steps;

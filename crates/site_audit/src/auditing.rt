@@ -1,5 +1,6 @@
 //! The audit of a log's groups.
 ghost use Rattle.fp_audit.specs.Standing.{IsAt, rules_in};
+ghost use Rattle.fp_exits.specs.Kinds.{kinds_of};
 ghost use Rattle.fp_model.specs.Groups.{Groups, IsDamaged, Reads};
 ghost use Rattle.fp_model.specs.History.{History, beginning};
 ghost use Rattle.fp_model.specs.LogText.{FitsFront};
@@ -20,6 +21,7 @@ ghost use Rattle.std.specs.Prelude.{◌≡◌, ◌≢◌, ◌⊎◌, ◌+◌, �
 
 use crate::AuditFault;
 use fp_audit::Auditor;
+use fp_exits::Exits;
 use fp_model::{Bytes, Defs, Entry};
 use fp_site::Site;
 use log_groups::{Front, Group, Log};
@@ -41,11 +43,12 @@ pub fn audit<T: Site>(
     alloc: Global,
     defs: &Defs,
     scripts: &Scripts,
+    exits: &Exits,
     front: &Front,
     site: &mut T,
 ) -> Result<u64, AuditFault>
     requires fits { FitsFront (as_front front.now) }
-    requires setup { IsSetup defs.now scripts.now.scripts }
+    requires setup { IsSetup defs.now (kinds_of exits.now) scripts.now.scripts }
 
     // At Ok all entries are legal, and their number is sent.
     ensures legal { T.told site.old → IfOk result
@@ -82,7 +85,7 @@ pub fn audit<T: Site>(
         (T.bytes_read site.new) }
     ensures site { GoesOn T.told T.faults T.holds T.keeps site.old site.new }
 {
-    let end = read_log(alloc, defs, scripts, front, site)?;
+    let end = read_log(alloc, defs, scripts, exits, front, site)?;
     match end.illegal {
         Some(entry) => Err(AuditFault::Illegal(entry)),
         None => {
@@ -105,11 +108,12 @@ fn read_log<T: Site>(
     alloc: Global,
     defs: &Defs,
     scripts: &Scripts,
+    exits: &Exits,
     front: &Front,
     site: &mut T,
 ) -> Result<Place, AuditFault>
     requires fits { FitsFront (as_front front.now) }
-    requires setup { IsSetup defs.now scripts.now.scripts }
+    requires setup { IsSetup defs.now (kinds_of exits.now) scripts.now.scripts }
     ensures legal { T.told site.old → IfOk result (λ end. end.illegal ≡ None →
         IsLegalLog defs.now scripts.now.scripts (as_front front.now) ((T.disk site.old).contents 0) end.entries) }
     ensures illegal { (entry : ℕ) → T.told site.old → IfOk result (λ end. end.illegal ≡ Some entry →
@@ -132,7 +136,7 @@ fn read_log<T: Site>(
     ensures site { GoesOn T.told T.faults T.holds T.keeps site.old site.new }
 {
     let mut log = Log::open(alloc, site, front)?;
-    let mut auditor = Auditor::new(alloc, defs, scripts, log.format())?;
+    let mut auditor = Auditor::new(alloc, defs, scripts, exits, log.format())?;
     audit_groups(&mut log, &mut auditor, site)
 }
 

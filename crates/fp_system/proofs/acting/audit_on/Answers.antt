@@ -1,5 +1,8 @@
-use Rattle.std.proofs.Common.{◌≡◌, ◌∙◌, ◌++◌, ap, inl, refl, sym, subst, ℕ}
+use Rattle.std.proofs.Common.{◌≡◌, ◌∙◌, ◌++◌, ap, inl, refl, sym, subst, true, List, ℕ}
 use Rattle.std.specs.Prelude.{◌⊎◌, Err}
+use Rattle.std.specs.List.{AllByRecursion}
+use Rattle.fp_exits.specs.Kinds.{has_kind, kinds_of}
+use Rattle.fp_model.specs.declared.definitions.DedbDef.{DedbDef}
 use Rattle.fp_model.specs.LogText.{Front}
 use Rattle.log_groups.specs.Images.{BeginsFor, in_format}
 use Rattle.log_groups.specs.Kept.{IsSound}
@@ -13,15 +16,20 @@ use Rattle.fp_system.specs.Table.{ByEntries, legal}
 use Rattle.fp_system.specs.declared.status.Status.{Status}
 use Rattle.fp_system.proofs.Audits.{audit_not_done, due_by_entries, illegal_is}
 use Rattle.fp_system.proofs.CauseLemmas.{audit_by_site, one_err}
+use Rattle.txn_lang.proofs.Fitting.{what_was_read_suits}
 use Rattle.fp_system.proofs.acting.audit_on.Goals as goal
 
 pub audit-requires : goal.audit-requires
 audit-requires g c = record {
   fits = c.requires.fits;
   setup = record {
-    good = c.requires.are.each_msdb;
-    no_dedbs = c.requires.no_dedbs;
-    fit = c.requires.runs.fit;
+    good = c.requires.are;
+    spread =
+        subst (λ (dedbs : List DedbDef).
+        AllByRecursion (λ (dedb : DedbDef). has_kind (kinds_of c.args.exits.now).spreaders dedb.randomizer ≡ true) dedbs)
+        (sym c.requires.no_dedbs) tt;
+    suit = what_was_read_suits c.args.setup.now.defs c.args.setup.now.scripts.text c.args.setup.now.scripts.scripts
+        c.requires.scripts;
     cheap = c.requires.runs.cheap;
   };
 }

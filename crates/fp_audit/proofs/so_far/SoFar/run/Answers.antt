@@ -23,9 +23,9 @@ returns-clause-found c = λ h stands asks.
     (sym c.deref_mut.ensures.len ∙ ap length c.deref_mut.ensures.value) in
     let alone = c.in_ok-alone.alone in
     found_run (rules_by it) h e c.args.message.now
-    (state_at (place + 1) (take it.pasts.len (new ++ drop (length new) old))) alone c.ends_as.result asks
+    (state_at (place + 1) (take it.pasts.len (new ++ drop (length new) old)) c.replay.new.anchors) alone c.ends_as.result asks
     (subst (λ p. NeverFalls e.from e.notes p) stands.place c.requires.order)
     (c.in_ok-alone.ensures.alone h.now (states_of h)
-    (subst (λ ps. AreStatesOf ps place h.now (states_of h)) (sym c.deref_mut.ensures.value) stands.states)
-    ∙ ap (λ (ps : List Past). with_next (state_at (place + 1) ps) alone) (sym kept))
+    (subst (λ ps. AreStatesOf ps it.anchors place h.now (states_of h)) (sym c.deref_mut.ensures.value) stands.states)
+    ∙ ap (λ (ps : List Past). with_next (state_at (place + 1) ps c.replay.new.anchors) alone) (sym kept))
     c.ends_as.ensures

@@ -14,7 +14,7 @@ returns-clause-legal c = λ h stands is.
     let e = c.args.e.now in
     let new = c.leads.new.self in
     let keeps = c.leads.ensures.keeps in
-    let next = state_at (it.place + 1) new.pasts.items in (
+    let next = state_at (it.place + 1) new.pasts.items new.anchors in (
       next,
       (
         record {
@@ -26,8 +26,8 @@ returns-clause-legal c = λ h stands is.
           lines = c.in_ok-learn.ensures h next
               (subst (λ r. KnowsLines r.format r.lasts.entries h) (sym keeps.requests) stands.lines);
           place = c.in-Some.ensures.1 ∙ ap (λ p. p + 1) stands.place ∙ sym (place_more h e next);
-          states = subst (λ p. AreStatesOf new.pasts.items p next (states_of (with_entry e next h))) (sym c.in-Some.ensures.1)
-              (states_more it.pasts.items new.pasts.items it.place h e next stands.states keeps.before refl);
+          states = subst (λ p. AreStatesOf new.pasts.items new.anchors p next (states_of (with_entry e next h))) (sym c.in-Some.ensures.1)
+              (states_more it.pasts.items new.pasts.items it.anchors new.anchors it.place h e next stands.states keeps.before refl);
         },
       ),
     )
