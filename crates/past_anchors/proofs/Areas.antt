@@ -1,5 +1,5 @@
 -- Areas of definitions: a walk over those of a database, and over those of all.
-use Rattle.std.proofs.Common.{◌≡◌, ℕ, zero, suc, ◌+◌, ◌-◌, ◌<◌, ◌≤◌, List, [], ◌∷◌, ◌++◌, map, length, take, drop, get_or, Option, Some, None, refl, sym, ◌∙◌, ap, subst, Bool, true, false, ◌&&◌, ◌==◌, nat_le, nat_lt, slice_get, arith, cc}
+use Rattle.std.proofs.Common.{◌≡◌, ℕ, zero, suc, ◌+◌, ◌-◌, ◌<◌, ◌≤◌, List, [], ◌∷◌, ◌++◌, map, length, take, drop, get_or, Option, Some, None, refl, sym, ◌∙◌, ap, subst, Bool, true, false, ◌&&◌, ◌==◌, nat_le, nat_lt, slice_get, arith}
 use Rattle.std.specs.Prelude.{find, if◌then◌else◌, sum_by}
 use Rattle.std.specs.List.{AllByRecursion}
 use Rattle.std.specs.Option.{option_map_or, option_or}
@@ -82,6 +82,28 @@ in_later dedb defs i k d less past =
     ap (λ (xs : List Area). slice_get xs k) (all_step dedb defs i d less)
     ∙ get_right (areas_from dedb 0 0 (get_or defs i d).areas) (areas_of_all (dedb + 1) (drop (i + 1) defs)) k
     (length (get_or defs i d).areas) (sym (length_areas dedb 0 0 (get_or defs i d).areas)) past
+
+-- the area of a data set
+module _ (defs : Defs) (dedb i k set : ℕ) (d : DedbDef) (areas : List AreaDef) (from : 3 ≤ set)
+    (less : i < length defs.dedbs) (its : areas ≡ (get_or defs.dedbs i d).areas)
+    (inv : slice_get (areas_of_all dedb (drop i defs.dedbs)) k ≡ slice_get (areas_of defs) (set - 3)) where
+  there_is : slice_get (areas_of defs) (set - 3) ≡ area_of_set defs set
+  there_is = let not : nat_lt set 3 ≡ false = grind (arith, nat_tests) in rw not refl
+
+  pub set_found : (a : Area) (n : ℕ) → n ≡ k → k < length areas → slice_get (areas_from dedb 0 0 areas) n ≡ Some a
+      → Some a ≡ area_of_set defs set
+  set_found a n is within at =
+      sym at ∙ ap (λ (m : ℕ). slice_get (areas_from dedb 0 0 areas) m) is
+      ∙ ap (λ (xs : List AreaDef). slice_get (areas_from dedb 0 0 xs) k) its
+      ∙ sym (in_first dedb defs.dedbs i k d less
+      (subst (λ (xs : List AreaDef). k < length xs) its within)) ∙ inv ∙ there_is
+
+  pub set_later : (n : ℕ) → n ≡ length areas → n ≤ k
+      → slice_get (areas_of_all (dedb + 1) (drop (i + 1) defs.dedbs)) (k - n) ≡ slice_get (areas_of defs) (set - 3)
+  set_later n is past =
+      let long : n ≡ length (get_or defs.dedbs i d).areas = is ∙ ap length its in
+      ap (λ (m : ℕ). slice_get (areas_of_all (dedb + 1) (drop (i + 1) defs.dedbs)) (k - m)) long
+      ∙ sym (in_later dedb defs.dedbs i k d less (omega (arith, long, past))) ∙ inv
 
 -- ---- definitions that were read
 

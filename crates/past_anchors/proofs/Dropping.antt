@@ -1,5 +1,5 @@
 -- A Purge: dependents that are dropped from behind, and what it needs of a database and makes of the state.
-use Rattle.std.proofs.Common.{◌≡◌, ℕ, zero, suc, ◌+◌, ◌-◌, ◌<◌, ◌≤◌, List, [], ◌∷◌, ◌++◌, map, length, min, Option, Some, None, refl, sym, ◌∙◌, ap, subst, Bool, true, false, ◌&&◌, ◌==◌, nat_le, nat_lt, slice_get, slice_set, arith, cc, inl, inr}
+use Rattle.std.proofs.Common.{◌≡◌, ℕ, zero, suc, ◌+◌, ◌-◌, ◌<◌, ◌≤◌, List, [], ◌∷◌, ◌++◌, map, length, min, Option, Some, None, refl, sym, ◌∙◌, ap, subst, Bool, true, false, ◌&&◌, ◌==◌, nat_le, nat_lt, slice_get, slice_set, arith}
 use Rattle.std.specs.Prelude.{Contains, MatchOption, filter, if◌then◌else◌}
 use Rattle.std.specs.List.{AllByRecursion, list_all}
 use Rattle.std.specs.Option.{option_map_or}
@@ -125,10 +125,11 @@ late_ones begin low end x (y ∷ ys) fall late =
     let less : y.serial < x.serial =
     lt_is y.serial x.serial (second_true (nat_le low y.serial) (nat_lt y.serial x.serial)
     (first_true (nat_le low y.serial && nat_lt y.serial x.serial) (are_newest_first low y.serial ys) rest)) in
-    let at : length (y ∷ ys) ≡ suc (length (y ∷ ys) - 1) = omega arith in
+    let at : length (x ∷ y ∷ ys) - 1 ≡ suc (length (y ∷ ys) - 1) = omega arith in
     let last : ends_below begin (y ∷ ys) ≡ false =
-    subst (λ (k : ℕ). option_map_or (λ (item : SeqItem). nat_lt item.serial begin) (slice_get (x ∷ y ∷ ys) k) false ≡
-    false) at late in
+    subst
+    (λ (k : ℕ). option_map_or (λ (item : SeqItem). nat_lt item.serial begin) (slice_get (x ∷ y ∷ ys) k) false
+    ≡ false) at late in
     let later = late_ones begin low x.serial y ys rest last in
     let le : begin ≤ x.serial = omega (arith, less, later.0) in
     (le, rw (is_le begin x.serial le) (ap (λ (zs : List SeqItem). x ∷ zs) later.1))

@@ -3,7 +3,7 @@ ghost use Rattle.fp_model.specs.Commit.{area_of_set, takes};
 ghost use Rattle.fp_model.specs.State.{anchors_in, areas_from, has_anchor};
 ghost use Rattle.fp_model.specs.WellFormed.{AreDefs};
 ghost use Rattle.past_anchors.specs.Places.{AreFew, area_of};
-ghost use Rattle.std.specs.Prelude.{◌≡◌, ◌<◌, Some, find, length, option_map, slice_get};
+ghost use Rattle.std.specs.Prelude.{◌≡◌, ◌<◌, ◌^◌, Some, find, length, option_map, slice_get};
 
 use fp_model::{AreaDef, Defs, SeqInsert};
 
@@ -21,7 +21,8 @@ pub(crate) struct AreaPlace<'a> {
 
 /// How many anchors an area has.
 pub(crate) fn anchors_in(def: &AreaDef) -> u64
-    ensures { result ≡ anchors_in def.now }
+    ensures count { result ≡ anchors_in def.now }
+    ensures few { result < 2 ^ 48 }
 {
     u64::from(def.uows) * u64::from(def.base)
 }

@@ -6,7 +6,7 @@ ghost use Rattle.fp_model.specs.declared.database.Msdb.{Msdb as MsdbOf};
 ghost use Rattle.past_anchors.specs.Databases.{state_of};
 ghost use Rattle.past_anchors.specs.Places.{area_of};
 ghost use Rattle.past_anchors.specs.Purges.{AllFall, AreFalling, FallFrom, IsAreaIn, changed_from, ends_below, moved_up, with_purged};
-ghost use Rattle.std.specs.Prelude.{◌≡◌, ◌+◌, ◌<◌, ◌≤◌, List as ListOf, Some, filter, length, map, nat_le, slice_get};
+ghost use Rattle.std.specs.Prelude.{◌≡◌, ◌+◌, ◌<◌, ◌≤◌, ◌^◌, List as ListOf, Some, filter, length, map, nat_le, slice_get};
 
 use crate::area::{AreaPlace, anchors_in};
 use fp_model::{AreaEnds, Dedb, List, Root, SeqItem};
@@ -44,6 +44,7 @@ fn keep_at(roots: &mut List<Root>, begin: u64)
 /// Drops older dependents of the roots of so many anchors, from one on.
 fn keep_in(anchors: &mut List<List<Root>>, first: usize, count: usize, begin: u64)
     requires within { first + count ≤ length anchors.old }
+    requires few { first + count < 2 ^ 63 }
     requires fall { FallFrom first count anchors.old }
     ensures { anchors.new ≡ changed_from first count (map (kept_from begin)) anchors.old }
 {

@@ -7,7 +7,6 @@ abbrev pub invariant-loop-seqs : goal.invariant-loop-seqs
 invariant-loop-seqs l = record {
   kept : filter (λ item. nat_le l.begin item.serial) l.seqs ≡ filter (λ item. nat_le l.begin item.serial) l.fn.seqs;
   falling : AreFalling l.seqs;
-  begin : l.begin ≡ l.fn.begin;
 }
 
 abbrev pub decreases-loop-seqs : goal.decreases-loop-seqs
