@@ -1,5 +1,5 @@
 -- Sequential inserts: what one needs of its database, and what it makes of the state.
-use Rattle.std.proofs.Common.{◌≡◌, ℕ, ◌+◌, ◌<◌, ◌≤◌, ◌^◌, List, [], ◌∷◌, map, length, Option, Some, None, refl, sym, ◌∙◌, ap, subst, Bool, true, false, ◌&&◌, ◌==◌, nat_le, nat_lt, slice_get, slice_set, arith}
+use Rattle.std.proofs.Common.{◌≡◌, ℕ, ◌+◌, ◌<◌, ◌≤◌, ◌^◌, List, [], ◌∷◌, map, length, get_or, Option, Some, None, refl, sym, ◌∙◌, ap, subst, Bool, true, false, ◌&&◌, ◌==◌, nat_le, nat_lt, slice_get, slice_set, arith}
 use Rattle.std.specs.Prelude.{Contains, filter, find, if◌then◌else◌}
 use Rattle.std.specs.List.{AllByRecursion, AllZip, list_all}
 use Rattle.std.specs.Option.{option_map_or}
@@ -16,12 +16,14 @@ use Rattle.fp_model.specs.declared.database.Db.{Db}
 use Rattle.fp_model.specs.declared.database.Dedb.{Dedb}
 use Rattle.fp_model.specs.declared.database.Msdb.{Msdb}
 use Rattle.fp_model.specs.declared.database.Root.{Root}
+use Rattle.fp_model.specs.declared.definitions.AreaDef.{AreaDef}
 use Rattle.fp_model.specs.declared.definitions.DedbDef.{DedbDef}
 use Rattle.fp_model.specs.declared.definitions.Defs.{Defs}
 use Rattle.fp_model.specs.declared.definitions.SegDef.{SegDef}
 use Rattle.past_anchors.specs.Databases.{AreDedbsOf, FitsCommit, HasRoom, state_of}
 use Rattle.past_anchors.specs.Inserts.{one_later, with_numbered}
 use Rattle.past_anchors.proofs.Areas.{found_in, found_nowhere}
+use Rattle.past_anchors.proofs.Lists.{get_as}
 use Rattle.state_laws.specs.Parts.{FitsAnchorChange, FitsSeqInsert}
 use Rattle.state_laws.proofs.Areas.{alone, alone_there, lies_in, placed}
 use Rattle.state_laws.proofs.Committing.{anchors_good, anchors_leave_ends}
@@ -29,7 +31,7 @@ use Rattle.state_laws.proofs.Lists.{both_true, each_at, first_true, second_true}
 use Rattle.state_laws.proofs.Numbering.{HasShapeAndRoom, one_insert, room_left}
 use Rattle.state_laws.proofs.Purging.{dedb_changed, ends_are, partner, set_set}
 use Rattle.state_laws.proofs.Ranges.{get_set_same}
-use Rattle.state_laws.proofs.Stands.{all_contained, ends_in, ends_within, found_passes, found_there, get_below}
+use Rattle.state_laws.proofs.Stands.{all_contained, ends_in, ends_within, found_passes, found_there, get_below, get_there}
 use Rattle.state_laws.proofs.Start.{start_good}
 
 -- ---- the whole state
@@ -52,6 +54,20 @@ dedb_within defs dedbs n def shape defined =
 pub dedb_good : (defs : Defs) (dedbs : List Dedb) (n : ℕ) (def : DedbDef) (d : Dedb) → AreDedbsOf defs dedbs
     → slice_get defs.dedbs n ≡ Some def → slice_get dedbs n ≡ Some d → IsDedbOf def d
 dedb_good defs dedbs n def d shape defined now = each_at IsDedbOf defs.dedbs dedbs n def d shape defined now
+
+-- its definition, as it was read
+pub its_def : (defs items : List DedbDef) (n k : ℕ) (def : DedbDef) → items ≡ defs → n ≡ k → n < length defs
+    → def ≡ get_or items n def → slice_get defs k ≡ Some def
+its_def defs items n k def same is less at =
+    subst (λ (m : ℕ). slice_get defs m ≡ Some def) is
+    (get_as defs n def less (at ∙ ap (λ (xs : List DedbDef). get_or xs n def) same))
+
+-- its area that has an anchor, as it was found
+pub its_area : (dedb anchor : ℕ) (areas others : List AreaDef) (o : Option Area)
+    → o ≡ find (λ a. has_anchor a dedb anchor) (areas_from dedb 0 0 areas) → areas ≡ others
+    → find (λ a. has_anchor a dedb anchor) (areas_from dedb 0 0 others) ≡ o
+its_area dedb anchor areas others o found same =
+    sym (found ∙ ap (λ (xs : List AreaDef). find (λ a. has_anchor a dedb anchor) (areas_from dedb 0 0 xs)) same)
 
 -- an area of it that has an anchor
 module _ (def : DedbDef) (d : Dedb) (good : IsDedbOf def d) (n anchor : ℕ) (area : Area)
@@ -78,7 +94,7 @@ module _ (def : DedbDef) (d : Dedb) (good : IsDedbOf def d) (n anchor : ℕ) (ar
       let place : p.place ≡ area.number = omega (arith, p.its_number) in
       subst (λ (k : ℕ). slice_get def.areas k ≡ Some area.def) place p.its_def
 
-  ends_there : (e : AreaEnds) × (slice_get d.areas area.number ≡ Some e)
+  pub ends_there : (e : AreaEnds) × (slice_get d.areas area.number ≡ Some e)
   ends_there = partner (λ area ends. are_ends area.capacity ends ≡ true) def.areas d.areas area.number area.def
       good.areas area_at
 
@@ -91,6 +107,9 @@ module _ (def : DedbDef) (d : Dedb) (good : IsDedbOf def d) (n anchor : ℕ) (ar
       let within = ends_within 0 0 0 def.areas (alone area) there in
       let long : length d.anchors ≡ anchor_count def = good.anchors in
       omega (arith, inside.high, within, long)
+
+  pub roots_there : (roots : List Root) × (slice_get d.anchors anchor ≡ Some roots)
+  roots_there = get_there d.anchors anchor anchor_within
 
   pub last_is : (ends : AreaEnds) → slice_get d.areas area.number ≡ Some ends → ends.end < 2 ^ 63
   last_is ends at =

@@ -22,6 +22,12 @@ empty_of (x ∷ xs) e = absurd (is_not (length xs) e)
     is_not : (n : ℕ) → (suc n == 0) ≡ true → ⊥
     is_not n e = grind arith
 
+pub take_whole : {X : Type 0} (xs : List X) (i : ℕ) → length xs ≤ i → take i xs ≡ xs
+take_whole [] zero le = refl
+take_whole [] (suc i) le = refl
+take_whole (x ∷ xs) zero le = absurd (omega (arith, le))
+take_whole {X} (x ∷ xs) (suc i) le = ap (λ (ys : List X). x ∷ ys) (take_whole xs i (omega (arith, le)))
+
 -- ---- two lists
 
 pub get_left : {X : Type 0} (xs ys : List X) (k : ℕ) → k < length xs → slice_get (xs ++ ys) k ≡ slice_get xs k
