@@ -1,14 +1,14 @@
 -- Areas of definitions: a walk over those of a database, and over those of all.
-use Rattle.std.proofs.Common.{◌≡◌, ℕ, zero, suc, ◌+◌, ◌-◌, ◌<◌, ◌≤◌, List, [], ◌∷◌, ◌++◌, map, length, take, drop, get_or, Option, Some, None, refl, sym, ◌∙◌, ap, subst, Bool, true, false, ◌&&◌, ◌==◌, nat_le, nat_lt, slice_get, arith}
-use Rattle.std.specs.Prelude.{find, if◌then◌else◌, sum_by}
+use Rattle.std.proofs.Common.{◌≡◌, ℕ, zero, suc, ◌+◌, ◌-◌, ◌<◌, ◌≤◌, List, [], ◌∷◌, ◌++◌, length, take, drop, get_or, Option, Some, None, refl, sym, ◌∙◌, ap, subst, Bool, true, false, ◌==◌, nat_lt, slice_get, arith}
+use Rattle.std.specs.Prelude.{find, sum_by}
 use Rattle.std.specs.List.{AllByRecursion}
-use Rattle.std.specs.Option.{option_map_or, option_or}
+use Rattle.std.specs.Option.{option_or}
 use Rattle.std.proofs.lemmas.Bool.Decides.{nat_tests}
 use Rattle.std.proofs.lemmas.List.Folds.{find-append}
 use Rattle.std.proofs.lemmas.List.Sums.{sum_by-cons}
 use Rattle.fp_model.specs.Commit.{area_of_set}
-use Rattle.fp_model.specs.State.{Area, anchors_in, areas_from, areas_of, areas_of_all, first_area_set, has_anchor}
-use Rattle.fp_model.specs.WellFormed.{AreDefs, IsDedbDef}
+use Rattle.fp_model.specs.State.{Area, anchors_in, areas_from, areas_of, areas_of_all, has_anchor}
+use Rattle.fp_model.specs.WellFormed.{IsDedbDef}
 use Rattle.fp_model.specs.declared.definitions.AreaDef.{AreaDef}
 use Rattle.fp_model.specs.declared.definitions.DedbDef.{DedbDef}
 use Rattle.fp_model.specs.declared.definitions.Defs.{Defs}

@@ -1,14 +1,14 @@
 -- A Purge: dependents that are dropped from behind, and what it needs of a database and makes of the state.
-use Rattle.std.proofs.Common.{◌≡◌, ℕ, zero, suc, ◌+◌, ◌-◌, ◌<◌, ◌≤◌, List, [], ◌∷◌, ◌++◌, map, length, min, Option, Some, None, refl, sym, ◌∙◌, ap, subst, Bool, true, false, ◌&&◌, ◌==◌, nat_le, nat_lt, slice_get, slice_set, arith}
+use Rattle.std.proofs.Common.{◌≡◌, ℕ, suc, ◌+◌, ◌-◌, ◌<◌, ◌≤◌, List, [], ◌∷◌, ◌++◌, map, length, Option, Some, None, refl, sym, ◌∙◌, ap, subst, Bool, true, false, ◌&&◌, ◌==◌, nat_le, nat_lt, slice_get, slice_set, arith}
 use Rattle.std.specs.Prelude.{Contains, MatchOption, filter, if◌then◌else◌}
-use Rattle.std.specs.List.{AllByRecursion, list_all}
+use Rattle.std.specs.List.{list_all}
 use Rattle.std.specs.Option.{option_map_or}
 use Rattle.std.proofs.lemmas.Bool.Decides.{nat_tests}
 use Rattle.fp_model.specs.Commit.{area_of_set, ends_at, in_anchors, kept_from, purged, purged_area, with_dedb}
 use Rattle.fp_model.specs.Exits.{anchor_of}
 use Rattle.fp_model.specs.Order.{child_types, root_key}
-use Rattle.fp_model.specs.Shape.{IsDbOf, IsDedbOf, are_newest_first, are_rows, has_length, have_lengths, is_anchor, is_root, seen_as}
-use Rattle.fp_model.specs.State.{Area, anchors_in, anchor_count, areas_of, ascend, first_area_set, has_anchor, loaded}
+use Rattle.fp_model.specs.Shape.{IsDedbOf, are_newest_first, are_rows, has_length, have_lengths, is_anchor, is_root, seen_as}
+use Rattle.fp_model.specs.State.{Area, anchors_in, anchor_count, areas_of, ascend, first_area_set, has_anchor}
 use Rattle.fp_model.specs.WellFormed.{AreDefs}
 use Rattle.fp_model.specs.declared.database.AreaEnds.{AreaEnds}
 use Rattle.fp_model.specs.declared.database.Db.{Db}
@@ -231,11 +231,8 @@ module _ (dedbs : List Dedb) (area : Area) (is : IsAreaIn dedbs area) where
 
 -- ---- a data set
 
-not_zero : (n : ℕ) → (n == 0) ≡ false → nat_lt 0 n ≡ true
-not_zero n e = grind (arith, nat_tests)
-
-zero_is : (n : ℕ) → (n == 0) ≡ true → nat_lt 0 n ≡ false
-zero_is n e = grind (arith, nat_tests)
+pub above_zero : (n : ℕ) → (n ≡ 0 → ⊥) → nat_lt 0 n ≡ true
+above_zero n not = grind (arith, nat_tests)
 
 module _ (defs : Defs) (set n : ℕ) where
   pub purge_none : (db : Db) → area_of_set defs set ≡ None → purged defs set n db ≡ None

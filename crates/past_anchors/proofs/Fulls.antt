@@ -1,5 +1,5 @@
 -- Areas that are too full, one after another.
-use Rattle.std.proofs.Common.{◌≡◌, ℕ, zero, suc, ◌+◌, ◌<◌, ◌≤◌, List, [], ◌∷◌, ◌++◌, length, drop, get_or, Option, Some, None, refl, sym, ◌∙◌, ap, Bool, true, false, ◌&&◌, nat_lt, slice_get, arith}
+use Rattle.std.proofs.Common.{◌≡◌, ℕ, ◌+◌, ◌<◌, List, [], ◌∷◌, ◌++◌, length, drop, get_or, Option, Some, None, refl, sym, ◌∙◌, ap, Bool, true, false, ◌&&◌, nat_lt, slice_get, arith}
 use Rattle.std.specs.Prelude.{filter, if◌then◌else◌, is_some, option_map}
 use Rattle.std.proofs.lemmas.Bool.Decides.{nat_tests}
 use Rattle.fp_model.specs.Commit.{FillsPart, Settlement, ends_at, first_full, is_too_full, takes}

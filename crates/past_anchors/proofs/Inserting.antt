@@ -1,13 +1,13 @@
 -- Sequential inserts: what one needs of its database, and what it makes of the state.
-use Rattle.std.proofs.Common.{◌≡◌, ℕ, ◌+◌, ◌<◌, ◌≤◌, ◌^◌, List, [], ◌∷◌, map, length, get_or, Option, Some, None, refl, sym, ◌∙◌, ap, subst, Bool, true, false, ◌&&◌, ◌==◌, nat_le, nat_lt, slice_get, slice_set, arith}
+use Rattle.std.proofs.Common.{◌≡◌, ℕ, ◌+◌, ◌<◌, ◌≤◌, ◌^◌, List, [], ◌∷◌, map, length, get_or, Option, Some, None, refl, sym, ◌∙◌, ap, subst, Bool, true, ◌&&◌, ◌==◌, nat_le, nat_lt, slice_get, slice_set, arith}
 use Rattle.std.specs.Prelude.{Contains, filter, find, if◌then◌else◌}
-use Rattle.std.specs.List.{AllByRecursion, AllZip, list_all}
+use Rattle.std.specs.List.{AllByRecursion, list_all}
 use Rattle.std.specs.Option.{option_map_or}
 use Rattle.fp_model.specs.Commit.{FillsPart, ends_at, first_full, is_too_full, numbered_at, takes, types_of, with_anchors, with_dedb, with_insert, with_newest}
 use Rattle.fp_model.specs.Exits.{anchor_of}
 use Rattle.fp_model.specs.Order.{root_key}
 use Rattle.fp_model.specs.Shape.{IsDbOf, IsDedbOf, are_ends, is_anchor, is_root}
-use Rattle.fp_model.specs.State.{Area, anchors_in, anchor_count, areas_from, areas_of, areas_of_all, ascend, change_key, first_area_set, has_anchor, loaded}
+use Rattle.fp_model.specs.State.{Area, anchors_in, anchor_count, areas_from, areas_of, ascend, change_key, first_area_set, has_anchor, loaded}
 use Rattle.fp_model.specs.WellFormed.{AreDefs}
 use Rattle.fp_model.specs.declared.calls.AnchorChange.{AnchorChange}
 use Rattle.fp_model.specs.declared.calls.SeqInsert.{SeqInsert}

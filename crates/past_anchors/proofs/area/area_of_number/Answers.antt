@@ -1,4 +1,4 @@
-use Rattle.std.proofs.Common.{◌≡◌, ◌∙◌, ◌+◌, ℕ, ap, sym, slice_get, arith, take, sum_by}
+use Rattle.std.proofs.Common.{◌≡◌, ◌∙◌, ℕ, ap, sym, slice_get, arith, take, sum_by}
 use Rattle.fp_model.specs.State.{anchors_in, areas_from}
 use Rattle.past_anchors.proofs.Areas.{get_area}
 use Rattle.past_anchors.proofs.area.area_of_number.Goals as goal

@@ -1,4 +1,4 @@
-use Rattle.std.proofs.Common.{◌≡◌, ◌<◌, ◌≤◌, ◌∙◌, ap, sym, length, arith, get_or}
+use Rattle.std.proofs.Common.{◌≡◌, ◌<◌, ◌∙◌, ap, sym, length, arith, get_or}
 use Rattle.fp_model.specs.State.{areas_of_all, first_area_set}
 use Rattle.past_anchors.specs.Databases.{state_of}
 use Rattle.past_anchors.proofs.Areas.{are_few}

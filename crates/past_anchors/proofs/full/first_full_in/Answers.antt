@@ -1,4 +1,4 @@
-use Rattle.std.proofs.Common.{◌≡◌, ◌<◌, ◌∙◌, [], length, arith, get_or}
+use Rattle.std.proofs.Common.{◌<◌, ◌∙◌, [], length, arith}
 use Rattle.fp_model.specs.declared.definitions.AreaDef.{AreaDef}
 use Rattle.past_anchors.specs.Databases.{state_of}
 use Rattle.past_anchors.specs.Fullness.{full_as}

@@ -1,4 +1,4 @@
-use Rattle.std.proofs.Common.{◌≡◌, ◌<◌, ◌≤◌, ◌∙◌, ℕ, Some, None, ap, sym, subst, length, arith, refl, slice_get, slice_set}
+use Rattle.std.proofs.Common.{◌≡◌, ◌<◌, ◌∙◌, ℕ, Some, None, ap, sym, subst, length, arith, refl, slice_get, slice_set}
 use Rattle.fp_model.specs.declared.database.Dedb.{Dedb}
 use Rattle.past_anchors.specs.Databases.{state_of}
 use Rattle.past_anchors.specs.Inserts.{with_numbered}

@@ -1,4 +1,4 @@
-use Rattle.std.proofs.Common.{◌≡◌, ◌<◌, ◌∙◌, ℕ, List, ap, sym, length, arith, subst, Some, true, slice_get}
+use Rattle.std.proofs.Common.{◌≡◌, ◌<◌, ◌∙◌, ℕ, List, ap, sym, length, arith, subst, true}
 use Rattle.fp_model.specs.Order.{root_key}
 use Rattle.fp_model.specs.Texts.{same_text}
 use Rattle.fp_model.specs.declared.database.Root.{Root}
