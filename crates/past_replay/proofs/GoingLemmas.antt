@@ -1,5 +1,5 @@
 -- A transaction goes on to its next call, or ends.
-use Rattle.std.proofs.Common.{refl, ◌≡◌, ◌∙◌, sym, ap, ℕ, suc, ◌+◌, ◌-◌, ◌<◌, ◌≤◌, List, [], ◌∷◌, ◌++◌, length, drop, Bool, true, false, Option, Some, None, slice_get, length-append, arith}
+use Rattle.std.proofs.Common.{refl, ◌≡◌, ◌∙◌, sym, ap, ℕ, suc, ◌+◌, ◌-◌, ◌<◌, ◌≤◌, List, [], ◌∷◌, ◌++◌, length, drop, Bool, true, false, Option, Some, None, slice_get, length-append, arith, subst}
 use Rattle.std.specs.Prelude.{nat_lt, option_map, if◌then◌else◌, unwrap_or}
 use Rattle.std.specs.List.{AllByRecursion}
 use Rattle.std.specs.Option.{option_map_or}
@@ -62,7 +62,7 @@ noted it now states start note are le =
     ap (λ o. (unwrap_or o start).msdbs) there.1 ∙ are.each note there.0 there.1
 
 -- types as they were shown
-tied_so : (it : Rerun) (shown other : ℕ → Option ℕ) (own : Workspace) → ((db : ℕ) → other db ≡ shown db)
+pub tied_so : (it : Rerun) (shown other : ℕ → Option ℕ) (own : Workspace) → ((db : ℕ) → other db ≡ shown db)
     → IsTied it.defs.now shown own → IsTied it.defs.now other own
 tied_so it shown other own same tied dedb def place at held =
     same (length it.defs.now.msdbs + dedb) ∙ tied dedb def place at held
@@ -133,7 +133,13 @@ module _ (it : Rerun) (count : ℕ) (running : Running) (s : IsUnderWay it count
 
   -- It keeps no more than a transaction that ended.
   kept_by : full_cost s.script.statements ≤ 10000 → IsKept it 10000 (types_shown running.program) running.work
-  kept_by cheap = record s.kept { few = omega (arith, s.kept.few, s.budget, cheap) }
+  kept_by cheap = record {
+    of = s.kept.of;
+    sees = s.kept.sees;
+    fits = s.kept.fits;
+    tied = s.kept.tied;
+    few = omega (arith, s.kept.few, s.budget, cheap);
+  }
 
   end_in : (now : Db) (end : End) (b : Bool) → ended it now running.work.own (if b then ends.Stuck else end)
       ≡ (if b then Stuck else ended it now running.work.own end)

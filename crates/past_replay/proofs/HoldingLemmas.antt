@@ -2,7 +2,7 @@
 use Rattle.std.proofs.Common.{◌≡◌, refl, sym, ◌∙◌, ap, subst, arith, inl, inr, ℕ, suc, ◌+◌, ◌<◌, ◌≤◌, List, [], ◌∷◌, length, Bool, true, false, ◌&&◌, ◌==◌, Option, Some, None}
 use Rattle.std.specs.Prelude.{if◌then◌else◌, is_some}
 use Rattle.std.proofs.lemmas.Bool.Decides.{nat_tests}
-use Rattle.dedb_calls.specs.Anchors.{held_at}
+use Rattle.dedb_calls.specs.Anchors.{Sees, held_at}
 use Rattle.dedb_calls.specs.declared.anchors.HeldAnchor.{HeldAnchor}
 use Rattle.fp_model.specs.declared.calls.Answer.{Answer}
 use Rattle.fp_model.specs.declared.calls.Call.{Call}
@@ -16,6 +16,10 @@ use Rattle.past_calls.specs.Progress.{Progress}
 use Rattle.past_calls.specs.Targets.{FitsWork, LeavesOthers, anchor_needed}
 use Rattle.past_calls.proofs.NeedLemmas.{Among, called}
 use Rattle.past_replay.proofs.Keeping.{msdb_defers}
+
+-- without anchors nothing is seen otherwise
+pub sees_none : (db : Db) → Sees db []
+sees_none db dedb anchor a e = absurd (cc)
 
 -- ---- one more anchor
 

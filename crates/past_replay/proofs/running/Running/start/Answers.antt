@@ -1,12 +1,20 @@
-use Rattle.std.proofs.Common.{refl, ◌≡◌, ◌∙◌, sym, ap, [], suc, length, Some, Option, arith}
+use Rattle.std.proofs.Common.{refl, ◌≡◌, ◌∙◌, sym, ap, subst, ℕ, [], suc, length, List, Some, None, Option, arith}
 use Rattle.std.specs.Option.{option_map_or}
+use Rattle.dedb_calls.specs.Anchors.{Sees}
+use Rattle.dedb_calls.specs.declared.anchors.HeldAnchor.{HeldAnchor}
 use Rattle.fp_model.specs.declared.scripts.Script.{Script}
 use Rattle.fp_model.specs.Asking.{full_cost, script_of}
+use Rattle.fp_model.specs.FitCalls.{IsTied}
 use Rattle.fp_model.specs.Serial.{goes}
 use Rattle.fp_model.specs.Workspace.{Workspace, fresh}
-use Rattle.past_replay.specs.Running.{rules_in}
+use Rattle.past_replay.specs.Running.{now_of, rules_in}
+use Rattle.past_replay.proofs.GoingLemmas.{tied_so}
+use Rattle.past_replay.proofs.HoldingLemmas.{sees_none}
 use Rattle.past_replay.proofs.ListLemmas.{stands}
 use Rattle.past_replay.proofs.running.Running.start.Goals as goal
+use Rattle.state_laws.specs.Workspaces.{FitsWorkspace}
+use Rattle.state_laws.proofs.Alone.{fresh_fits, fresh_tied}
+use Rattle.txn_machine.specs.Running.{types_shown}
 
 pub returns : goal.returns
 returns c =
@@ -15,18 +23,21 @@ returns c =
     let there = stands scripts c.args.number c.requires.number in
     let script : Script = there.0 in
     let named : script_of scripts it.message.now.tran ≡ Some script = sym c.requires.named ∙ there.1 in
-    let own : c.in_ok-work.work.own ≡ fresh it.defs.now = c.in_ok-work.ensures.own c.requires.no_dedbs in
+    let work = c.in_ok-work.work in
+    let own : work.own ≡ fresh it.defs.now = c.in_ok-work.ensures.own in
     record {
       answers = [];
       counted = refl;
       kept = record {
         of = c.in_ok-work.ensures.of;
-        alone = record {
-          queue = refl;
-          changes = ap (λ (w : Workspace). w.changes) own;
-          inserts = ap (λ (w : Workspace). w.inserts) own;
-        };
-        few = let none : length c.in_ok-work.work.own.deferred ≡ 0
+        sees = subst (λ (anchors : List HeldAnchor). Sees (now_of it) anchors) (sym c.in_ok-work.ensures.anchors)
+            (sees_none (now_of it));
+        fits = subst (λ (w : Workspace). FitsWorkspace it.defs.now (now_of it) w) (sym own)
+            (fresh_fits it.defs.now (now_of it));
+        tied = subst (λ (w : Workspace). IsTied it.defs.now (types_shown c.start-program.result) w) (sym own)
+            (tied_so it (λ db. None) (types_shown c.start-program.result) (fresh it.defs.now)
+            c.start-program.ensures.types (fresh_tied it.defs.now));
+        few = let none : length work.own.deferred ≡ 0
             = ap (λ (w : Workspace). length w.deferred) own in omega (arith, none);
       };
       used = omega arith;
