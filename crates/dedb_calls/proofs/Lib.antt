@@ -9,4 +9,4 @@ pub mod EditLemmas
 pub mod InsertLemmas
 pub mod HeldLemmas
 pub mod CallLemmas
-pub mod KnowLemmas
+pub mod TargetLemmas

@@ -1,5 +1,4 @@
 //! Replacements and deletions of the segment that is held.
-ghost use Rattle.ci_locks.specs.Table.{standing};
 ghost use Rattle.dedb_calls.specs.Anchors.{Ascend, held_at};
 ghost use Rattle.dedb_calls.specs.Calls.{is_locked};
 ghost use Rattle.dedb_calls.specs.Edits.{HasChosen, fits_key};
@@ -20,12 +19,12 @@ ghost use Rattle.fp_model.specs.declared.calls.Mode.TheVariants.{Exclusive};
 ghost use Rattle.fp_model.specs.declared.definitions.DedbDef.{DedbDef as DefOf};
 ghost use Rattle.std.specs.Prelude.{◌≡◌, ◌<◌, ◌≤◌, IfOk, None, OnErr, OnOk, Some, false, filter, length, not, true, ℕ};
 
+use crate::anchor_locks::AnchorLocks;
 use crate::arguments::is_sequential;
 use crate::get::{Database, refused, type_of_path};
 use crate::ready::{DedbReady, answered};
 use crate::search::Reach;
 use crate::work::DedbWork;
-use ci_locks::Locks;
 use dli_tree::{Change, Step, key_in};
 use fp_model::{Bytes, Mode, SegDef};
 use std::alloc::{AllocError, Global};
@@ -63,13 +62,12 @@ fn fits_key(segments: &[SegDef], steps: &[Step], bytes: &[u8]) -> bool
 
 impl Database<'_> {
     /// What is to become of a replacement or a deletion.
-    fn choose(self, work: &DedbWork, locks: &Locks, region: u8) -> Chosen
+    fn choose<L: AnchorLocks>(self, work: &DedbWork, locks: &L) -> Chosen
         requires counted { self.number < length work.now.positions }
-        requires some { 1 ≤ region }
-        requires within { region ≤ length locks.now }
+        requires order { Ascend work.now.anchors }
 
         ensures { HasChosen result (held_in work.now self.entry.number)
-            (is_locked ((standing locks.now).holds region) self.entry.number Exclusive)
+            (is_locked (L.modes locks.now work.now) self.entry.number Exclusive)
             (λ path. is_sequential self.entry.def.now.segments (type_of_path self.entry.def.now self.entry.number
             path)) }
     {
@@ -78,7 +76,7 @@ impl Database<'_> {
         };
         let reach = Reach {
             locks,
-            region,
+            work,
             dedb: self.number,
             mode: Mode::Exclusive,
         };
@@ -160,25 +158,22 @@ impl Database<'_> {
 
     /// What a replacement comes to. It fails only for want of memory; then, and where a lock is needed, nothing
     /// changes.
-    pub(crate) fn repl(
+    pub(crate) fn repl<L: AnchorLocks>(
         self,
         alloc: Global,
         work: &mut DedbWork,
         bytes: &Bytes,
-        locks: &Locks,
-        region: u8,
+        locks: &L,
     ) -> Result<DedbReady, AllocError>
         requires good { IsDedbDef self.def.now }
         requires fits { FitsDedb self.def.now self.number work.old }
         requires order { Ascend work.old.anchors }
-        requires some { 1 ≤ region }
-        requires within { region ≤ length locks.now }
-        requires known { Knows ((standing locks.now).holds region) work.old.anchors }
+        requires known { Knows (L.modes locks.now work.old) work.old.anchors }
         requires long { (place : PlaceOf) → held_in work.old self.number ≡ Some place
             → has_length self.def.now.segments (type_of_path self.def.now self.number place.path) bytes.now ≡ true }
 
         ensures comes { (n : ℕ) → IfOk result (λ came. ComesTo self.entry.number
-            (λ db own. dedb_need self.entry.def.now self.entry.number db own ((standing locks.now).holds region)
+            (λ db own. dedb_need self.entry.def.now self.entry.number db own (L.modes locks.now work.old)
             (call.Repl n bytes.now))
             (λ db own. repl_reply self.entry.def.now self.entry.number db own bytes.now
             (held_place self.entry.def.now self.entry.number own))
@@ -188,7 +183,7 @@ impl Database<'_> {
         ensures needing { IfOk result (λ came. OnNeed came (work.new ≡ work.old)) }
         ensures err { OnErr result (work.new ≡ work.old) }
     {
-        match self.choose(work, locks, region) {
+        match self.choose(work, locks) {
             Chosen::NotHeld => Ok(refused(alloc, self.number, work, *b"DJ")),
             Chosen::Unlocked(anchor) => Ok(DedbReady::Need {
                 anchor,
@@ -205,22 +200,19 @@ impl Database<'_> {
     }
 
     /// What a deletion comes to. It fails only for want of memory; then, and where a lock is needed, nothing changes.
-    pub(crate) fn dlet(
+    pub(crate) fn dlet<L: AnchorLocks>(
         self,
         alloc: Global,
         work: &mut DedbWork,
-        locks: &Locks,
-        region: u8,
+        locks: &L,
     ) -> Result<DedbReady, AllocError>
         requires good { IsDedbDef self.def.now }
         requires fits { FitsDedb self.def.now self.number work.old }
         requires order { Ascend work.old.anchors }
-        requires some { 1 ≤ region }
-        requires within { region ≤ length locks.now }
-        requires known { Knows ((standing locks.now).holds region) work.old.anchors }
+        requires known { Knows (L.modes locks.now work.old) work.old.anchors }
 
         ensures comes { (n : ℕ) → IfOk result (λ came. ComesTo self.entry.number
-            (λ db own. dedb_need self.entry.def.now self.entry.number db own ((standing locks.now).holds region)
+            (λ db own. dedb_need self.entry.def.now self.entry.number db own (L.modes locks.now work.old)
             (call.Dlet n))
             (λ db own. dlet_reply self.entry.def.now self.entry.number db own
             (held_place self.entry.def.now self.entry.number own))
@@ -230,7 +222,7 @@ impl Database<'_> {
         ensures needing { IfOk result (λ came. OnNeed came (work.new ≡ work.old)) }
         ensures err { OnErr result (work.new ≡ work.old) }
     {
-        match self.choose(work, locks, region) {
+        match self.choose(work, locks) {
             Chosen::NotHeld => Ok(refused(alloc, self.number, work, *b"DJ")),
             Chosen::Unlocked(anchor) => Ok(DedbReady::Need {
                 anchor,

@@ -1,5 +1,4 @@
 //! Gets: the search, and what becomes of the transaction.
-ghost use Rattle.ci_locks.specs.Table.{standing};
 ghost use Rattle.dedb_calls.specs.Anchors.{Ascend};
 ghost use Rattle.dedb_calls.specs.Calls.{SaysNot, ShowsWhole, is_locked, lacks_parent_at, place_found, refusal_of};
 ghost use Rattle.dedb_calls.specs.Progress.{FitsDedb, GoesOn, Knows, position_in, with_position_at};
@@ -17,13 +16,13 @@ ghost use Rattle.fp_model.specs.declared.definitions.DedbDef.{DedbDef as DefOf};
 ghost use Rattle.std.specs.Option.{option_copied};
 ghost use Rattle.std.specs.Prelude.{◌≡◌, ◌<◌, ◌≤◌, ◌∷◌, [], IfOk, IfSome, List as ListOf, None, OnErr, OnOk, Option as OptionOf, Some, false, if◌then◌else◌, length, option_map, ℕ};
 
+use crate::anchor_locks::AnchorLocks;
 use crate::arguments::{are_get_arguments, not_found};
 use crate::place::{Place, Position};
 use crate::randomizer::anchor_count;
 use crate::ready::{DedbReady, answered};
 use crate::search::{Found, Looked, Quest, Reach, Stretch, search};
 use crate::work::DedbWork;
-use ci_locks::Locks;
 use dli_tree::Step;
 use fp_model::{Answer, Bytes, DedbDef, Get, List, Mode, Ssa};
 use std::alloc::{AllocError, Global};
@@ -255,26 +254,23 @@ impl Database<'_> {
 
     /// What a get finds. `root` is the anchor of the root's key, where the arguments give it. It fails only for want of
     /// memory.
-    fn look(
+    fn look<L: AnchorLocks>(
         self,
         alloc: Global,
         work: &DedbWork,
         asked: Asked<'_>,
         root: Option<u32>,
-        locks: &Locks,
-        region: u8,
+        locks: &L,
     ) -> Result<Looked, AllocError>
         requires good { IsDedbDef self.def.now }
         requires fits { FitsDedb self.def.now self.number work.now }
         requires order { Ascend work.now.anchors }
-        requires some { 1 ≤ region }
-        requires within { region ≤ length locks.now }
-        requires known { Knows ((standing locks.now).holds region) work.now.anchors }
+        requires known { Knows (L.modes locks.now work.now) work.now.anchors }
         requires root { root ≡ option_map (anchor_of self.def.now)
             (root_named self.def.now self.number asked.ssas.now) }
 
         ensures { IfOk result (λ looked. HasLooked looked
-            (is_locked ((standing locks.now).holds region) self.entry.number
+            (is_locked (L.modes locks.now work.now) self.entry.number
             (lock_of self.entry.def.now self.entry.number asked.entry.hold))
             (look_in self.entry.def.now self.entry.number work.now asked.entry.get asked.entry.ssas.now)
             (anchors_searched self.entry.def.now self.entry.number (position_in work.now self.entry.number)
@@ -285,36 +281,32 @@ impl Database<'_> {
         let stretch = stretch(self.def, position, asked.get, root);
         let reach = Reach {
             locks,
-            region,
+            work,
             dedb: self.number,
             mode: lock_of(asked.hold),
         };
-        let held = work.held();
-        search(alloc, &self.def.segments, held, reach, quest, stretch)
+        search(alloc, &self.def.segments, &reach, quest, stretch)
     }
 
     /// What a get comes to. `root` is the anchor of the root's key, where the arguments give it. It fails only for want
     /// of memory; then, and where a lock is needed, nothing changes.
-    pub(crate) fn get(
+    pub(crate) fn get<L: AnchorLocks>(
         self,
         alloc: Global,
         work: &mut DedbWork,
         asked: Asked<'_>,
         root: Option<u32>,
-        locks: &Locks,
-        region: u8,
+        locks: &L,
     ) -> Result<DedbReady, AllocError>
         requires good { IsDedbDef self.def.now }
         requires fits { FitsDedb self.def.now self.number work.old }
         requires order { Ascend work.old.anchors }
-        requires some { 1 ≤ region }
-        requires within { region ≤ length locks.now }
-        requires known { Knows ((standing locks.now).holds region) work.old.anchors }
+        requires known { Knows (L.modes locks.now work.old) work.old.anchors }
         requires root { root ≡ option_map (anchor_of self.def.now)
             (root_named self.def.now self.number asked.ssas.now) }
 
         ensures comes { IfOk result (λ came. ComesTo self.entry.number
-            (λ db own. get_need self.entry.def.now self.entry.number db own ((standing locks.now).holds region)
+            (λ db own. get_need self.entry.def.now self.entry.number db own (L.modes locks.now work.old)
             asked.entry.get asked.entry.hold asked.entry.ssas.now)
             (λ db own. get_reply self.entry.def.now self.entry.number db own asked.entry.get asked.entry.hold
             asked.entry.ssas.now) work.old work.new came) }
@@ -327,7 +319,7 @@ impl Database<'_> {
         if let Some(status) = self.refusal(work, asked) {
             return Ok(refused(alloc, self.number, work, status));
         }
-        match self.look(alloc, work, asked, root, locks, region)? {
+        match self.look(alloc, work, asked, root, locks)? {
             Looked::Unlocked(anchor) => Ok(DedbReady::Need {
                 anchor,
                 mode: lock_of(asked.hold),

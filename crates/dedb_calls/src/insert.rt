@@ -1,5 +1,4 @@
 //! Inserts: of a direct segment among its twins, and of a sequential one into the queue.
-ghost use Rattle.ci_locks.specs.Table.{standing};
 ghost use Rattle.dedb_calls.specs.Anchors.{Ascend, held_at};
 ghost use Rattle.dedb_calls.specs.Calls.{is_locked};
 ghost use Rattle.dedb_calls.specs.Inserts.{AreDirectOrNone, HasJudged, IsEditedTo, IsInsert, IsNewOf, with_queued};
@@ -22,6 +21,7 @@ ghost use Rattle.fp_model.specs.declared.calls.Ssa.{Ssa as SsaOf};
 ghost use Rattle.fp_model.specs.declared.definitions.DedbDef.{DedbDef as DefOf};
 ghost use Rattle.std.specs.Prelude.{◌≡◌, ◌<◌, ◌≤◌, IfOk, List as ListOf, OnErr, OnOk, Some, false, length, true, ℕ};
 
+use crate::anchor_locks::AnchorLocks;
 use crate::arguments::{are_insert_arguments, insert_path, is_sequential, type_of_last};
 use crate::get::{Database, refused};
 use crate::place::Place;
@@ -29,7 +29,6 @@ use crate::randomizer::anchor_of;
 use crate::ready::{DedbReady, answered};
 use crate::search::Reach;
 use crate::work::DedbWork;
-use ci_locks::Locks;
 use dli_tree::{Change, Path, Step, leads_to};
 use fp_exits::Exits;
 use fp_model::{Bytes, List, Mode, Root, SegDef, SeqInsert, Ssa};
@@ -84,17 +83,15 @@ fn root_key(alloc: Global, path: &Path) -> Result<Bytes, AllocError>
 
 impl Database<'_> {
     /// What is to become of an insert.
-    fn judge(self, work: &DedbWork, new: &NewSegment, locks: &Locks, region: u8) -> Judged
+    fn judge<L: AnchorLocks>(self, work: &DedbWork, new: &NewSegment, locks: &L) -> Judged
         requires good { IsDedbDef self.def.now }
         requires fits { FitsDedb self.def.now self.number work.now }
         requires order { Ascend work.now.anchors }
-        requires some { 1 ≤ region }
-        requires within { region ≤ length locks.now }
-        requires known { Knows ((standing locks.now).holds region) work.now.anchors }
+        requires known { Knows (L.modes locks.now work.now) work.now.anchors }
         requires insert { (ssas : ListOf SsaOf) × IsNewOf self.def.now self.number ssas new.now }
 
         ensures { HasJudged result
-            (is_locked ((standing locks.now).holds region) self.entry.number Exclusive new.now.anchor)
+            (is_locked (L.modes locks.now work.now) self.entry.number Exclusive new.now.anchor)
             (stands_at self.entry.def.now self.entry.number (roots_in work.now.anchors self.entry.number
             new.now.anchor) (parents_in (steps_of new.now.path.steps)))
             (is_sequential self.entry.def.now.segments new.now.segment)
@@ -103,11 +100,11 @@ impl Database<'_> {
     {
         let reach = Reach {
             locks,
-            region,
+            work,
             dedb: self.number,
             mode: Mode::Exclusive,
         };
-        let Some(roots) = reach.roots(work.held(), new.anchor) else {
+        let Some(roots) = reach.roots(new.anchor) else {
             return Judged::Unlocked;
         };
         let segments = self.def.segments.as_slice();
@@ -227,25 +224,22 @@ impl Database<'_> {
 
     /// What an insert of a new segment comes to. It fails only for want of memory; then, and where a lock is needed,
     /// nothing changes.
-    fn isrt_new(
+    fn isrt_new<L: AnchorLocks>(
         self,
         alloc: Global,
         work: &mut DedbWork,
         new: NewSegment,
-        locks: &Locks,
-        region: u8,
+        locks: &L,
     ) -> Result<DedbReady, AllocError>
         requires good { IsDedbDef self.def.now }
         requires fits { FitsDedb self.def.now self.number work.old }
         requires order { Ascend work.old.anchors }
-        requires some { 1 ≤ region }
-        requires within { region ≤ length locks.now }
-        requires known { Knows ((standing locks.now).holds region) work.old.anchors }
+        requires known { Knows (L.modes locks.now work.old) work.old.anchors }
         requires insert { (ssas : ListOf SsaOf) × IsNewOf self.def.now self.number ssas new }
 
         ensures comes { (ssas : ListOf SsaOf) (n : ℕ) → IsNewOf self.entry.def.now self.entry.number ssas new
             → IfOk result (λ came. ComesTo self.entry.number
-            (λ db own. dedb_need self.entry.def.now self.entry.number db own ((standing locks.now).holds region)
+            (λ db own. dedb_need self.entry.def.now self.entry.number db own (L.modes locks.now work.old)
             (call.Isrt n ssas new.bytes))
             (λ db own. isrt_reply self.entry.def.now self.entry.number db own ssas new.bytes)
             work.old work.new came) }
@@ -254,7 +248,7 @@ impl Database<'_> {
         ensures needing { IfOk result (λ came. OnNeed came (work.new ≡ work.old)) }
         ensures err { OnErr result (work.new ≡ work.old) }
     {
-        match self.judge(work, &new, locks, region) {
+        match self.judge(work, &new, locks) {
             Judged::Unlocked => Ok(DedbReady::Need {
                 anchor: new.anchor,
                 mode: Mode::Exclusive,
@@ -267,28 +261,25 @@ impl Database<'_> {
     }
 
     /// What an insert comes to. It fails only for want of memory; then, and where a lock is needed, nothing changes.
-    pub(crate) fn isrt(
+    pub(crate) fn isrt<L: AnchorLocks>(
         self,
         alloc: Global,
         work: &mut DedbWork,
         ssas: &[Ssa],
         bytes: &Bytes,
         exits: &Exits,
-        locks: &Locks,
-        region: u8,
+        locks: &L,
     ) -> Result<DedbReady, AllocError>
         requires good { IsDedbDef self.def.now }
         requires exit { has_kind (kinds_of exits.now).spreaders self.def.now.randomizer ≡ true }
         requires fits { FitsDedb self.def.now self.number work.old }
         requires order { Ascend work.old.anchors }
-        requires some { 1 ≤ region }
-        requires within { region ≤ length locks.now }
-        requires known { Knows ((standing locks.now).holds region) work.old.anchors }
+        requires known { Knows (L.modes locks.now work.old) work.old.anchors }
         requires ssas { AreFitSsas self.def.now.segments ssas.now }
         requires long { has_length self.def.now.segments (last_type 0 ssas.now) bytes.now ≡ true }
 
         ensures comes { (n : ℕ) → IfOk result (λ came. ComesTo self.entry.number
-            (λ db own. dedb_need self.entry.def.now self.entry.number db own ((standing locks.now).holds region)
+            (λ db own. dedb_need self.entry.def.now self.entry.number db own (L.modes locks.now work.old)
             (call.Isrt n ssas.now bytes.now))
             (λ db own. isrt_reply self.entry.def.now self.entry.number db own ssas.now bytes.now)
             work.old work.new came) }
@@ -301,6 +292,6 @@ impl Database<'_> {
             return Ok(refused(alloc, self.number, work, *b"AM"));
         }
         let new = self.new_segment(alloc, ssas, bytes, exits)?;
-        Ok(self.isrt_new(alloc, work, new, locks, region)?)
+        Ok(self.isrt_new(alloc, work, new, locks)?)
     }
 }

@@ -2,6 +2,7 @@
 //! the transaction keeps to itself until it commits.
 #![tactic(auto)]
 
+mod anchor_locks;
 mod anchors;
 mod arguments;
 mod calls;
@@ -14,6 +15,7 @@ mod ready;
 mod search;
 mod work;
 
+pub use anchor_locks::AnchorLocks;
 pub use calls::answer;
 pub use ready::DedbReady;
 pub use work::DedbWork;

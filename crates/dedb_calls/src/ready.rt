@@ -10,7 +10,7 @@ use std::alloc::Global;
 pub enum DedbReady {
     /// It is answered.
     Answer(Answer),
-    /// The lock of an anchor that it needs first, and that its region doesn't hold.
+    /// The lock of an anchor that it needs first, and doesn't hold so.
     Need { anchor: u32, mode: Mode },
 }
 

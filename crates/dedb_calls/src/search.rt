@@ -1,5 +1,4 @@
 //! The search of a get over the anchors of a database.
-ghost use Rattle.ci_locks.specs.Table.{standing};
 ghost use Rattle.dedb_calls.specs.Anchors.{Ascend, held_at};
 ghost use Rattle.dedb_calls.specs.Progress.{Knows, roots_in};
 ghost use Rattle.dedb_calls.specs.Searches.{HasLooked, HasRoots, behind_here, numbers_in, within_here};
@@ -12,11 +11,12 @@ ghost use Rattle.fp_model.specs.declared.calls.Resource.TheVariants.{Anchor};
 ghost use Rattle.std.specs.Option.{option_copied};
 ghost use Rattle.std.specs.Prelude.{◌≡◌, ◌≤◌, IfOk, MatchOption, Some, false, length, option_map, true, ℕ};
 
-use crate::anchors::{HeldAnchor, held_at};
+use crate::anchor_locks::AnchorLocks;
+use crate::anchors::held_at;
 use crate::place::Place;
-use ci_locks::Locks;
+use crate::work::DedbWork;
 use dli_tree::{Path, first_after};
-use fp_model::{Bytes, List, Mode, Resource, Root, SegDef, Ssa};
+use fp_model::{Bytes, List, Mode, Root, SegDef, Ssa};
 use std::alloc::{AllocError, Global};
 
 /// The anchors from one on up to another, which isn't among them.
@@ -51,52 +51,42 @@ pub(crate) enum Looked {
     Unlocked(u32),
 }
 
-/// The locks of a region on the anchors of a database, as strong as a search needs them.
-#[derive(Clone, Copy)]
-pub(crate) struct Reach<'a> {
-    pub(crate) locks: &'a Locks,
-    pub(crate) region: u8,
+/// The anchors of a database, held by a transaction as strongly as a search needs them.
+#[derive(Drop)]
+pub(crate) struct Reach<'a, L> {
+    pub(crate) locks: &'a L,
+    pub(crate) work: &'a DedbWork,
     pub(crate) dedb: u8,
     pub(crate) mode: Mode,
 }
 
-impl Reach<'_> {
-    /// Whether the region holds an anchor so.
-    pub(crate) fn has(self, anchor: u32) -> bool
-        requires some { 1 ≤ self.region }
-        requires within { self.region ≤ length self.locks.now }
-
-        ensures { result ≡ serves ((standing self.entry.locks.now).holds self.entry.region (Anchor self.entry.dedb
-            anchor)) self.entry.mode }
+impl<L: AnchorLocks> Reach<'_, L> {
+    /// Whether the transaction holds an anchor so.
+    pub(crate) fn has(&self, anchor: u32) -> bool
+        requires { Ascend self.now.work.now.anchors }
+        ensures { result ≡ serves (L.modes self.now.locks.now self.now.work.now (Anchor self.now.dedb anchor))
+            self.now.mode }
     {
-        let resource = Resource::Anchor {
-            dedb: self.dedb,
-            anchor,
-        };
-        match (self.locks.holds(self.region, &resource), self.mode) {
+        match (self.locks.mode_of(self.work, self.dedb, anchor), self.mode) {
             (Some(Mode::Exclusive), _) | (Some(Mode::Share), Mode::Share) => true,
             (Some(Mode::Share), Mode::Exclusive) | (None, _) => false,
         }
     }
 
-    /// The roots of an anchor that the region holds so.
-    pub(crate) fn roots(self, held: &[HeldAnchor], anchor: u32) -> Option<&List<Root>>
-        requires some { 1 ≤ self.region }
-        requires within { self.region ≤ length self.locks.now }
-        requires order { Ascend held.now }
-        requires known { Knows ((standing self.locks.now).holds self.region) held.now }
+    /// The roots of an anchor that the transaction holds so.
+    pub(crate) fn roots(&self, anchor: u32) -> Option<&List<Root>>
+        requires order { Ascend self.now.work.now.anchors }
+        requires known { Knows (L.modes self.now.locks.now self.now.work.now) self.now.work.now.anchors }
 
         ensures { MatchOption result
-            (serves ((standing self.entry.locks.now).holds self.entry.region (Anchor self.entry.dedb anchor))
-            self.entry.mode ≡ false)
-            (λ roots. HasRoots self.entry.dedb anchor held.now roots.now
-            (serves ((standing self.entry.locks.now).holds self.entry.region (Anchor self.entry.dedb anchor))
-            self.entry.mode)) }
+            (serves (L.modes self.now.locks.now self.now.work.now (Anchor self.now.dedb anchor)) self.now.mode ≡ false)
+            (λ roots. HasRoots self.now.dedb anchor self.now.work.now.anchors roots.now
+            (serves (L.modes self.now.locks.now self.now.work.now (Anchor self.now.dedb anchor)) self.now.mode)) }
     {
         if !self.has(anchor) {
             return None;
         }
-        match held_at(held, self.dedb, anchor) {
+        match held_at(self.work.held(), self.dedb, anchor) {
             Some(one) => Some(&one.roots),
             None => None,
         }
@@ -151,35 +141,32 @@ fn look(
     first_after(alloc, roots, segments, behind, within, quest.ssas)
 }
 
-/// Searches anchors in turn, up to the first that the region doesn't hold or at which something is found. It fails only
-/// for want of memory.
-pub(crate) fn search(
+/// Searches anchors in turn, up to the first that isn't held so or at which something is found. It fails only for want
+/// of memory.
+pub(crate) fn search<L: AnchorLocks>(
     alloc: Global,
     segments: &List<SegDef>,
-    held: &[HeldAnchor],
-    reach: Reach<'_>,
+    reach: &Reach<'_, L>,
     quest: Quest<'_>,
     stretch: Stretch,
 ) -> Result<Looked, AllocError>
     requires types { AreTypes segments.now }
-    requires some { 1 ≤ reach.region }
-    requires within { reach.region ≤ length reach.locks.now }
-    requires order { Ascend held.now }
-    requires known { Knows ((standing reach.locks.now).holds reach.region) held.now }
+    requires order { Ascend reach.now.work.now.anchors }
+    requires known { Knows (L.modes reach.now.locks.now reach.now.work.now) reach.now.work.now.anchors }
     requires numbers { stretch.to ≤ 4294967296 }
-    requires shapes { (anchor : ℕ) (a : HeldOf) → held_at held.now reach.dedb anchor ≡ Some a
+    requires shapes { (anchor : ℕ) (a : HeldOf) → held_at reach.now.work.now.anchors reach.now.dedb anchor ≡ Some a
         → are_in_order segments.now a.roots ≡ true }
 
     ensures { IfOk result (λ looked. HasLooked looked
-        (λ anchor. serves ((standing reach.entry.locks.now).holds reach.entry.region (Anchor reach.entry.dedb anchor))
-        reach.entry.mode)
-        (λ anchor. first_admitted segments.now anchor (roots_in held.now reach.entry.dedb anchor)
+        (λ anchor. serves (L.modes reach.now.locks.now reach.now.work.now (Anchor reach.now.dedb anchor))
+        reach.now.mode)
+        (λ anchor. first_admitted segments.now anchor (roots_in reach.now.work.now.anchors reach.now.dedb anchor)
         (option_copied quest.entry.behind) (option_copied quest.entry.within) quest.entry.ssas.now)
         (numbers_in stretch)) }
 {
     for number in stretch.from..stretch.to {
         let anchor = number as u32;
-        let Some(roots) = reach.roots(held, anchor) else {
+        let Some(roots) = reach.roots(anchor) else {
             return Ok(Looked::Unlocked(anchor));
         };
         if let Some((path, bytes)) = look(alloc, segments, quest, anchor, roots)? {

@@ -17,7 +17,7 @@ ghost use Rattle.fp_model.specs.declared.definitions.Defs.{Defs as DefsOf};
 ghost use Rattle.std.specs.Option.{option_copied};
 ghost use Rattle.std.specs.Prelude.{◌≡◌, ◌<◌, ◌++◌, ◌∷◌, ◌==◌, ◌&&◌, [], IfOk, IsOk, List as ListOf, None, OnErr, OnOk, Some, false, filter, is_some, length, map, not, option_map, slice_get, true, unwrap_or, ℕ};
 
-use crate::anchors::{HeldAnchor, edit, hold, into_changes};
+use crate::anchors::{HeldAnchor, edit, held_at, hold, into_changes};
 use crate::get::type_of_path;
 use crate::place::{Place, Position};
 use dli_tree::{Change, Step};
@@ -26,7 +26,7 @@ use std::alloc::{AllocError, Global};
 use std::marker::Model;
 
 /// What one transaction keeps of data entry databases until it commits: its positions, the anchors that it holds with
-/// their roots as it sees them, and its sequential inserts. Its region's locks stand elsewhere.
+/// their roots as it sees them, and its sequential inserts. How it holds them is asked elsewhere (`AnchorLocks`).
 #[derive(Debug, Drop)]
 pub struct DedbWork {
     pub(crate) positions: Vec<Position>,
@@ -111,6 +111,14 @@ impl DedbWork {
         ensures err { OnErr result (self.new ≡ self.old) }
     {
         hold(&mut self.anchors, dedb, anchor, roots)
+    }
+
+    /// Whether it has roots of an anchor of the data entry database of this number among its kind.
+    pub fn has_roots(&self, dedb: u8, anchor: u32) -> bool
+        requires { Ascend self.now.anchors }
+        ensures { result ≡ is_some (held_at self.now.anchors dedb anchor) }
+    {
+        held_at(self.held(), dedb, anchor).is_some()
     }
 
     /// The type of the segment that is held in a database, if one is.

@@ -6,3 +6,4 @@ pub mod ReadyLemmas
 pub mod StoreLemmas
 pub mod TargetLemmas
 pub mod WorkLemmas
+pub mod KnowLemmas

@@ -28,6 +28,7 @@ ghost use Rattle.std.specs.Option.{option_copied, option_map, option_map_or};
 ghost use Rattle.std.specs.Prelude.{◌≡◌, ◌-◌, ◌<◌, ◌≤◌, ◌++◌, ◌∷◌, [], IfOk, List as ListOf, OnErr, Some, if◌then◌else◌, length, option_and_then, slice_get, true, ℕ};
 
 use crate::database::{Database, key_in};
+use crate::region_locks::RegionLocks;
 use crate::reply::Reply;
 use crate::replying::key_named;
 use crate::work::Work;
@@ -331,8 +332,7 @@ fn answer_dedb(
         number,
         defs,
         exits,
-        locks,
-        region,
+        &RegionLocks { locks, region },
     )?;
     Ok(ready_in(number, came))
 }

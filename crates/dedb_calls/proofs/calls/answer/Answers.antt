@@ -1,5 +1,4 @@
 use Rattle.std.proofs.Common.{◌∙◌, sym}
-use Rattle.ci_locks.specs.Table.{standing}
 use Rattle.dedb_calls.proofs.AnchorLemmas.{some_is}
 use Rattle.dedb_calls.proofs.CallLemmas.{comes_at, fits_at, fits_call_at, goes_at, shows_at, stays_work}
 use Rattle.dedb_calls.proofs.calls.answer.Goals as goal
@@ -19,7 +18,8 @@ answer-requires-clause-call g c =
 pub returns-clause-comes : goal.returns-clause-comes
 returns-clause-comes g c def at =
     comes_at c.answer.result c.database_of-database.result.def.now def c.database_of-database.result.number
-    c.args.number ((standing c.args.locks.now).holds c.args.region) c.args.call.now c.args.work.now c.answer.new.work
+    c.args.number (g.L.AnchorLocks.modes c.args.locks.now c.args.work.now) c.args.call.now c.args.work.now
+    c.answer.new.work
     (some_is c.database_of-database.result.def.now def (sym c.database_of-database.ensures.there ∙ at))
     c.database_of-database.ensures.number c.answer.ensures.comes
 

@@ -9,14 +9,15 @@ use Rattle.dedb_calls.proofs.SearchLemmas.{goes_on, held_roots, stops_found, sto
 use Rattle.dedb_calls.proofs.search.search.Goals as goal
 
 pub returns-in_default : goal.returns-in_default
-returns-in_default c =
+returns-in_default g c =
     stops_unlocked _ _ c.args.stretch.from c.args.stretch.to c.loop-number.number c.loop-number.invariant.locked
     c.loop-number.invariant.found c.loop-number-test.true c.in_default.ensures
 
 pub returns-in-Some-2 : goal.returns-in-Some-2
-returns-in-Some-2 c =
+returns-in-Some-2 g c =
     let has = c.in-Some.ensures in
-    let roots = held_roots c.args.held.now c.args.reach.dedb c.loop-number.number has.one c.in-Some.roots.now has.there
+    let roots = held_roots c.args.reach.now.work.now.anchors c.args.reach.now.dedb c.loop-number.number has.one
+    c.in-Some.roots.now has.there
     has.its in
     let order : are_in_order c.args.segments.now c.in-Some.roots.now ≡ true =
     subst (λ (rs : List Root). are_in_order c.args.segments.now rs ≡ true) (sym has.its)
@@ -30,9 +31,10 @@ returns-in-Some-2 c =
     ∙ ap (λ found. option_map occurrence_of found) c.in-Some-2.is)
 
 pub loop-number-preserved : goal.loop-number-preserved
-loop-number-preserved c =
+loop-number-preserved g c =
     let has = c.in-Some.ensures in
-    let roots = held_roots c.args.held.now c.args.reach.dedb c.loop-number.number has.one c.in-Some.roots.now has.there
+    let roots = held_roots c.args.reach.now.work.now.anchors c.args.reach.now.dedb c.loop-number.number has.one
+    c.in-Some.roots.now has.there
     has.its in
     let order : are_in_order c.args.segments.now c.in-Some.roots.now ≡ true =
     subst (λ (rs : List Root). are_in_order c.args.segments.now rs ≡ true) (sym has.its)

@@ -9,7 +9,8 @@ use Rattle.dli_calls.specs.Readiness.{IfAnswer}
 use Rattle.dli_calls.specs.Targets.{IfDedb, LeavesOthers}
 use Rattle.dli_calls.proofs.AnswerLemmas.{any_answer, if_answer}
 use Rattle.dli_calls.proofs.BeginLemmas.{if_ok}
-use Rattle.dli_calls.proofs.TargetLemmas.{dedb_fits, dedb_looks, dedb_needs, dedb_replies, names_dedb, within_at}
+use Rattle.dedb_calls.proofs.TargetLemmas.{dedb_looks, dedb_needs, dedb_replies, within_at}
+use Rattle.dli_calls.proofs.TargetLemmas.{dedb_fits, names_dedb}
 use Rattle.dli_calls.proofs.answering.answer.Goals as goal
 
 pub returns-then-at-msdb_count-clause-answer : goal.returns-then-at-msdb_count-clause-answer
@@ -55,7 +56,7 @@ returns-else-at-msdb_count-clause-answer g c db same sees =
     let has = subst (λ (t : Target). IfDedb t (Sees db c.args.work.now.anchors)) it.target sees in
     if_ok c.answer_dedb.result (c.answer_dedb.ensures.answer it.def db it.there has)
     (λ came is. if_answer _ _ came is
-    (λ answer so. dedb_replies c.args.defs.now c.args.call.now _ it db c.args.work.now.own ∙ so))
+    (λ answer so. dedb_replies c.args.defs.now c.args.call.now _ it db db c.args.work.now.own ∙ so))
 
 pub returns-else-at-msdb_count-clause-notes : goal.returns-else-at-msdb_count-clause-notes
 returns-else-at-msdb_count-clause-notes g c =

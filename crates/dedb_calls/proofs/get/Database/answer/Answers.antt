@@ -1,6 +1,5 @@
 use Rattle.std.proofs.Common.{◌≡◌, ◌∙◌, List, ap, sym, subst, true, false}
 use Rattle.std.specs.Prelude.{option_map, IfOk}
-use Rattle.ci_locks.specs.Table.{standing}
 use Rattle.fp_model.specs.DedbCalls.{root_named}
 use Rattle.fp_model.specs.Exits.{anchor_of}
 use Rattle.fp_model.specs.declared.calls.Call.{Call}
@@ -24,7 +23,8 @@ get-requires-clause-root g c =
 
 pub returns-in-Get-clause-comes : goal.returns-in-Get-clause-comes
 returns-in-Get-clause-comes g c =
-    comes_as c.get.result c.args.self.def.now c.args.self.number ((standing c.args.locks.now).holds c.args.region)
+    comes_as c.get.result c.args.self.def.now c.args.self.number (g.L.AnchorLocks.modes c.args.locks.now
+    c.args.work.now)
     c.args.call.now
     (call.Get c.in-Get.get c.in-Get.hold c.in-Get.db c.in-Get.ssas) c.args.work.now c.get.new.work c.in-Get.is
     c.get.ensures.comes
@@ -40,23 +40,27 @@ returns-in-Fld-clause-fits g c =
 
 pub returns-in-Isrt-clause-comes : goal.returns-in-Isrt-clause-comes
 returns-in-Isrt-clause-comes g c =
-    comes_as c.isrt.result c.args.self.def.now c.args.self.number ((standing c.args.locks.now).holds c.args.region)
+    comes_as c.isrt.result c.args.self.def.now c.args.self.number (g.L.AnchorLocks.modes c.args.locks.now
+    c.args.work.now)
     c.args.call.now
     (call.Isrt c.in-Isrt.db c.in-Isrt.ssas c.in-Isrt.bytes) c.args.work.now c.isrt.new.work c.in-Isrt.is
     (subst (λ (ssas : List Ssa). ComesBy c.isrt.result c.args.self.def.now c.args.self.number
-    ((standing c.args.locks.now).holds c.args.region) (call.Isrt c.in-Isrt.db ssas c.in-Isrt.bytes) c.args.work.now
+    (g.L.AnchorLocks.modes c.args.locks.now c.args.work.now) (call.Isrt c.in-Isrt.db ssas c.in-Isrt.bytes)
+    c.args.work.now
     c.isrt.new.work) c.as_slice-ssas.ensures (c.isrt.ensures.comes c.in-Isrt.db))
 
 pub returns-in-Repl-clause-comes : goal.returns-in-Repl-clause-comes
 returns-in-Repl-clause-comes g c =
-    comes_as c.repl.result c.args.self.def.now c.args.self.number ((standing c.args.locks.now).holds c.args.region)
+    comes_as c.repl.result c.args.self.def.now c.args.self.number (g.L.AnchorLocks.modes c.args.locks.now
+    c.args.work.now)
     c.args.call.now
     (call.Repl c.in-Repl.db c.in-Repl.bytes) c.args.work.now c.repl.new.work c.in-Repl.is
     (c.repl.ensures.comes c.in-Repl.db)
 
 pub returns-in-Dlet-clause-comes : goal.returns-in-Dlet-clause-comes
 returns-in-Dlet-clause-comes g c =
-    comes_as c.dlet.result c.args.self.def.now c.args.self.number ((standing c.args.locks.now).holds c.args.region)
+    comes_as c.dlet.result c.args.self.def.now c.args.self.number (g.L.AnchorLocks.modes c.args.locks.now
+    c.args.work.now)
     c.args.call.now
     (call.Dlet c.in-Dlet.db) c.args.work.now c.dlet.new.work c.in-Dlet.is
     (c.dlet.ensures.comes c.in-Dlet.db)

@@ -1,5 +1,4 @@
 use Rattle.std.proofs.Common.{◌∙◌, List, sym, ap, true}
-use Rattle.ci_locks.specs.Table.{standing}
 use Rattle.fp_model.specs.DedbCalls.{type_of_path}
 use Rattle.fp_model.specs.Order.{is_sequential}
 use Rattle.fp_model.specs.declared.calls.Mode.TheVariants.{Exclusive}
@@ -10,13 +9,14 @@ use Rattle.dedb_calls.specs.Progress.{held_in}
 use Rattle.dedb_calls.proofs.get.Database.choose.Goals as goal
 
 pub returns-then-is_sequential : goal.returns-then-is_sequential
-returns-then-is_sequential c =
+returns-then-is_sequential g c =
     let place = c.in-Some.place.now in
     let so : IsHeldSo (held_in c.args.work.now c.args.self.number)
-    (is_locked ((standing c.args.locks.now).holds c.args.region) c.args.self.number Exclusive) true place = record {
+    (is_locked (g.L.AnchorLocks.modes c.args.locks.now c.args.work.now) c.args.self.number Exclusive) true place =
+    record {
       its = sym c.in-Some.ensures;
       lock =
-          ap (is_locked ((standing c.args.locks.now).holds c.args.region) c.args.self.number Exclusive) (sym
+          ap (is_locked (g.L.AnchorLocks.modes c.args.locks.now c.args.work.now) c.args.self.number Exclusive) (sym
           c.anchor-anchor.ensures)
           ∙ sym c.has.ensures ∙ c.if-not-has.false;
     } in
@@ -26,13 +26,14 @@ returns-then-is_sequential c =
     (place, so, sym (c.if-is_sequential.ensures ∙ type))
 
 pub returns : goal.returns
-returns c =
+returns g c =
     let place = c.in-Some.place.now in
     let so : IsHeldSo (held_in c.args.work.now c.args.self.number)
-    (is_locked ((standing c.args.locks.now).holds c.args.region) c.args.self.number Exclusive) true place = record {
+    (is_locked (g.L.AnchorLocks.modes c.args.locks.now c.args.work.now) c.args.self.number Exclusive) true place =
+    record {
       its = sym c.in-Some.ensures;
       lock =
-          ap (is_locked ((standing c.args.locks.now).holds c.args.region) c.args.self.number Exclusive) (sym
+          ap (is_locked (g.L.AnchorLocks.modes c.args.locks.now c.args.work.now) c.args.self.number Exclusive) (sym
           c.anchor-anchor.ensures)
           ∙ sym c.has.ensures ∙ c.if-not-has.false;
     } in

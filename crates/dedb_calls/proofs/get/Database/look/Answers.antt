@@ -1,38 +1,34 @@
-use Rattle.std.proofs.Common.{◌≡◌, ◌∙◌, List, Some, subst, ap}
+use Rattle.std.proofs.Common.{◌∙◌, refl, ap}
 use Rattle.std.specs.Option.{option_copied}
-use Rattle.ci_locks.specs.Table.{standing}
 use Rattle.fp_model.specs.DedbCalls.{anchors_searched, begins_behind, lock_of, root_named, stays_below}
 use Rattle.fp_model.specs.declared.calls.Resource.TheVariants.{Anchor}
 use Rattle.fp_model.specs.Workspace.{DedbPosition}
-use Rattle.dedb_calls.specs.Anchors.{held_at}
 use Rattle.dedb_calls.specs.Progress.{position_in}
 use Rattle.dedb_calls.specs.Searches.{numbers_in}
-use Rattle.dedb_calls.specs.declared.anchors.HeldAnchor.{HeldAnchor}
 use Rattle.dedb_calls.proofs.SearchLemmas.{if_ok}
 use Rattle.dedb_calls.proofs.SeenLemmas.{in_order}
 use Rattle.dedb_calls.proofs.GetLemmas.{renamed}
 use Rattle.dedb_calls.proofs.get.Database.look.Goals as goal
 
 pub search-requires-clause-shapes : goal.search-requires-clause-shapes
-search-requires-clause-shapes c anchor a at =
-    in_order c.args.self.def.now anchor a.roots (c.requires.fits.shapes anchor a
-    (subst (λ (xs : List HeldAnchor). held_at xs c.args.self.number anchor ≡ Some a) c.held-held.ensures at))
+search-requires-clause-shapes g c anchor a at =
+    in_order c.args.self.def.now anchor a.roots (c.requires.fits.shapes anchor a at)
 
 pub returns : goal.returns
-returns c =
+returns g c =
     let def = c.args.self.def.now in
     let number = c.args.self.number in
     let p = c.position-position.ensures in
     if_ok c.search.result c.search.ensures (λ l h.
-    renamed l (λ a. (standing c.args.locks.now).holds c.args.region (Anchor number a)) def.segments number
-    c.held-held.result.now c.args.work.now.anchors c.lock_of.result (lock_of def number c.args.asked.hold)
+    renamed l (λ a. g.L.AnchorLocks.modes c.args.locks.now c.args.work.now (Anchor number a)) def.segments number
+    c.args.work.now.anchors c.args.work.now.anchors c.lock_of.result (lock_of def number c.args.asked.hold)
     (option_copied c.quest_of-quest.result.behind)
     (begins_behind def number (position_in c.args.work.now number) c.args.asked.get)
     (option_copied c.quest_of-quest.result.within)
     (stays_below def number (position_in c.args.work.now number) c.args.asked.get)
     c.quest_of-quest.result.ssas.now c.args.asked.ssas.now (numbers_in c.stretch-stretch.result)
     (anchors_searched def number (position_in c.args.work.now number) c.args.asked.get
-    (root_named def number c.args.asked.ssas.now)) c.held-held.ensures (c.lock_of.ensures def number)
+    (root_named def number c.args.asked.ssas.now)) refl (c.lock_of.ensures def number)
     (c.quest_of-quest.ensures.behind def number
     ∙ ap (λ (q : DedbPosition). begins_behind def number q c.args.asked.get) p)
     (c.quest_of-quest.ensures.within def number

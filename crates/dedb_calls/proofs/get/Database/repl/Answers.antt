@@ -1,6 +1,5 @@
 use Rattle.std.proofs.Common.{refl, sym}
 use Rattle.std.specs.Prelude.{codes}
-use Rattle.ci_locks.specs.Table.{standing}
 use Rattle.dedb_calls.specs.Progress.{position_in}
 use Rattle.dedb_calls.proofs.EditLemmas.{edited_fits, edited_goes}
 use Rattle.dedb_calls.proofs.HeldLemmas.{anchor_there, held_done, held_none, held_refused, held_unlocked, place_is, repl_done, repl_other_key, repl_sequential, repl_shape, replaced}
@@ -8,98 +7,101 @@ use Rattle.dedb_calls.proofs.SeenLemmas.{in_order, let_go_fits, lets_go}
 use Rattle.dedb_calls.proofs.get.Database.repl.Goals as goal
 
 pub returns-in-NotHeld-clause-comes : goal.returns-in-NotHeld-clause-comes
-returns-in-NotHeld-clause-comes c n =
-    held_none c.args.self.def.now c.args.self.number ((standing c.args.locks.now).holds c.args.region) c.args.work.now
+returns-in-NotHeld-clause-comes g c n =
+    held_none c.args.self.def.now c.args.self.number (g.L.AnchorLocks.modes c.args.locks.now c.args.work.now)
+    c.args.work.now
     c.requires.order c.requires.known (replaced c.args.self.def.now c.args.self.number
-    ((standing c.args.locks.now).holds c.args.region) c.args.work.now c.requires.order c.requires.known
+    (g.L.AnchorLocks.modes c.args.locks.now c.args.work.now) c.args.work.now c.requires.order c.requires.known
     c.args.bytes.now) c.refused.new.work c.refused.result (λ db own. refl)
     c.in-NotHeld.ensures c.refused.ensures.work c.refused.ensures.answer
 
 pub returns-in-NotHeld-clause-goes : goal.returns-in-NotHeld-clause-goes
-returns-in-NotHeld-clause-goes c =
+returns-in-NotHeld-clause-goes g c =
     lets_go c.args.self.number c.args.work.now c.refused.new.work c.refused.ensures.work
 
 pub returns-in-NotHeld-clause-fits : goal.returns-in-NotHeld-clause-fits
-returns-in-NotHeld-clause-fits c =
+returns-in-NotHeld-clause-fits g c =
     let_go_fits c.args.self.def.now c.args.self.number c.args.work.now c.refused.new.work c.requires.fits
     c.refused.ensures.work
 
 pub returns-in-Unlocked-clause-comes : goal.returns-in-Unlocked-clause-comes
-returns-in-Unlocked-clause-comes c n =
-    held_unlocked c.args.self.def.now c.args.self.number ((standing c.args.locks.now).holds c.args.region)
+returns-in-Unlocked-clause-comes g c n =
+    held_unlocked c.args.self.def.now c.args.self.number (g.L.AnchorLocks.modes c.args.locks.now c.args.work.now)
     c.args.work.now c.requires.order c.requires.known (replaced c.args.self.def.now c.args.self.number
-    ((standing c.args.locks.now).holds c.args.region) c.args.work.now c.requires.order c.requires.known
+    (g.L.AnchorLocks.modes c.args.locks.now c.args.work.now) c.args.work.now c.requires.order c.requires.known
     c.args.bytes.now) c.in-Unlocked.anchor c.in-Unlocked.ensures.0
     c.in-Unlocked.ensures.1 c.in-Unlocked.ensures.2
 
 pub returns-in-Sequential-clause-comes : goal.returns-in-Sequential-clause-comes
-returns-in-Sequential-clause-comes c n =
-    held_refused c.args.self.def.now c.args.self.number ((standing c.args.locks.now).holds c.args.region)
+returns-in-Sequential-clause-comes g c n =
+    held_refused c.args.self.def.now c.args.self.number (g.L.AnchorLocks.modes c.args.locks.now c.args.work.now)
     c.args.work.now c.requires.order c.requires.known (replaced c.args.self.def.now c.args.self.number
-    ((standing c.args.locks.now).holds c.args.region) c.args.work.now c.requires.order c.requires.known
+    (g.L.AnchorLocks.modes c.args.locks.now c.args.work.now) c.args.work.now c.requires.order c.requires.known
     c.args.bytes.now) c.in-Sequential.ensures.0 (codes "AM")
     c.refused-in-Sequential.new.work c.refused-in-Sequential.result
-    (repl_sequential c.args.self.def.now c.args.self.number ((standing c.args.locks.now).holds c.args.region)
+    (repl_sequential c.args.self.def.now c.args.self.number (g.L.AnchorLocks.modes c.args.locks.now c.args.work.now)
     c.args.work.now c.requires.order c.requires.known c.args.bytes.now c.in-Sequential.ensures.0
     c.in-Sequential.ensures.2)
     c.in-Sequential.ensures.1 c.refused-in-Sequential.ensures.work c.refused-in-Sequential.ensures.answer
 
 pub returns-in-Sequential-clause-goes : goal.returns-in-Sequential-clause-goes
-returns-in-Sequential-clause-goes c =
+returns-in-Sequential-clause-goes g c =
     lets_go c.args.self.number c.args.work.now c.refused-in-Sequential.new.work c.refused-in-Sequential.ensures.work
 
 pub returns-in-Sequential-clause-fits : goal.returns-in-Sequential-clause-fits
-returns-in-Sequential-clause-fits c =
+returns-in-Sequential-clause-fits g c =
     let_go_fits c.args.self.def.now c.args.self.number c.args.work.now c.refused-in-Sequential.new.work c.requires.fits
     c.refused-in-Sequential.ensures.work
 
 pub returns-then-not-keeps_key-clause-comes : goal.returns-then-not-keeps_key-clause-comes
-returns-then-not-keeps_key-clause-comes c n =
+returns-then-not-keeps_key-clause-comes g c n =
     let key = sym (c.if-not-keeps_key.ensures c.in-Direct.ensures.0 c.in-Direct.ensures.1.its) in
-    held_refused c.args.self.def.now c.args.self.number ((standing c.args.locks.now).holds c.args.region)
+    held_refused c.args.self.def.now c.args.self.number (g.L.AnchorLocks.modes c.args.locks.now c.args.work.now)
     c.args.work.now c.requires.order c.requires.known (replaced c.args.self.def.now c.args.self.number
-    ((standing c.args.locks.now).holds c.args.region) c.args.work.now c.requires.order c.requires.known
+    (g.L.AnchorLocks.modes c.args.locks.now c.args.work.now) c.args.work.now c.requires.order c.requires.known
     c.args.bytes.now) c.in-Direct.ensures.0 (codes "DA")
     c.refused-then-not-keeps_key.new.work c.refused-then-not-keeps_key.result
-    (repl_other_key c.args.self.def.now c.args.self.number ((standing c.args.locks.now).holds c.args.region)
+    (repl_other_key c.args.self.def.now c.args.self.number (g.L.AnchorLocks.modes c.args.locks.now c.args.work.now)
     c.args.work.now c.requires.order c.requires.known c.args.bytes.now c.in-Direct.ensures.0 c.in-Direct.ensures.2
     key)
     c.in-Direct.ensures.1 c.refused-then-not-keeps_key.ensures.work c.refused-then-not-keeps_key.ensures.answer
 
 pub returns-then-not-keeps_key-clause-goes : goal.returns-then-not-keeps_key-clause-goes
-returns-then-not-keeps_key-clause-goes c =
+returns-then-not-keeps_key-clause-goes g c =
     lets_go c.args.self.number c.args.work.now c.refused-then-not-keeps_key.new.work
     c.refused-then-not-keeps_key.ensures.work
 
 pub returns-then-not-keeps_key-clause-fits : goal.returns-then-not-keeps_key-clause-fits
-returns-then-not-keeps_key-clause-fits c =
+returns-then-not-keeps_key-clause-fits g c =
     let_go_fits c.args.self.def.now c.args.self.number c.args.work.now c.refused-then-not-keeps_key.new.work
     c.requires.fits c.refused-then-not-keeps_key.ensures.work
 
 pub returns-in_ok-replace-in-Direct-clause-comes : goal.returns-in_ok-replace-in-Direct-clause-comes
-returns-in_ok-replace-in-Direct-clause-comes c n =
+returns-in_ok-replace-in-Direct-clause-comes g c n =
     let place = c.in-Direct.ensures.0 in
     let so = c.in-Direct.ensures.1 in
-    let a = anchor_there c.args.self.def.now c.args.self.number ((standing c.args.locks.now).holds c.args.region)
+    let a = anchor_there c.args.self.def.now c.args.self.number (g.L.AnchorLocks.modes c.args.locks.now c.args.work.now)
     c.args.work.now c.requires.order c.requires.known place so.lock in
     let order = in_order c.args.self.def.now place.anchor a.0.roots (c.requires.fits.shapes place.anchor a.0 a.1) in
     let its = place_is (position_in c.args.work.now c.args.self.number) place so.its in
     let key = sym (c.if-not-keeps_key.ensures place so.its) in
     let edit = c.in_ok-replace-in-Direct.ensures.work c.requires.order place a.0 its a.1 order in
-    held_done c.args.self.def.now c.args.self.number ((standing c.args.locks.now).holds c.args.region) c.args.work.now
+    held_done c.args.self.def.now c.args.self.number (g.L.AnchorLocks.modes c.args.locks.now c.args.work.now)
+    c.args.work.now
     c.requires.order c.requires.known (replaced c.args.self.def.now c.args.self.number
-    ((standing c.args.locks.now).holds c.args.region) c.args.work.now c.requires.order c.requires.known
+    (g.L.AnchorLocks.modes c.args.locks.now c.args.work.now) c.args.work.now c.requires.order c.requires.known
     c.args.bytes.now) place c.replace.new.work c.in_ok-replace-in-Direct.field-0
-    (repl_done c.args.self.def.now c.args.self.number ((standing c.args.locks.now).holds c.args.region) c.args.work.now
+    (repl_done c.args.self.def.now c.args.self.number (g.L.AnchorLocks.modes c.args.locks.now c.args.work.now)
+    c.args.work.now
     c.requires.order c.requires.known c.args.bytes.now place a.0 c.replace.new.work c.in-Direct.ensures.2 key a.1
     edit)
     so c.in_ok-replace-in-Direct.ensures.answer
 
 pub returns-in_ok-replace-in-Direct-clause-goes : goal.returns-in_ok-replace-in-Direct-clause-goes
-returns-in_ok-replace-in-Direct-clause-goes c =
+returns-in_ok-replace-in-Direct-clause-goes g c =
     let place = c.in-Direct.ensures.0 in
     let so = c.in-Direct.ensures.1 in
-    let a = anchor_there c.args.self.def.now c.args.self.number ((standing c.args.locks.now).holds c.args.region)
+    let a = anchor_there c.args.self.def.now c.args.self.number (g.L.AnchorLocks.modes c.args.locks.now c.args.work.now)
     c.args.work.now c.requires.order c.requires.known place so.lock in
     let order = in_order c.args.self.def.now place.anchor a.0.roots (c.requires.fits.shapes place.anchor a.0 a.1) in
     let its = place_is (position_in c.args.work.now c.args.self.number) place so.its in
@@ -107,10 +109,10 @@ returns-in_ok-replace-in-Direct-clause-goes c =
     (c.in_ok-replace-in-Direct.ensures.work c.requires.order place a.0 its a.1 order) a.0 a.1
 
 pub returns-in_ok-replace-in-Direct-clause-fits : goal.returns-in_ok-replace-in-Direct-clause-fits
-returns-in_ok-replace-in-Direct-clause-fits c =
+returns-in_ok-replace-in-Direct-clause-fits g c =
     let place = c.in-Direct.ensures.0 in
     let so = c.in-Direct.ensures.1 in
-    let a = anchor_there c.args.self.def.now c.args.self.number ((standing c.args.locks.now).holds c.args.region)
+    let a = anchor_there c.args.self.def.now c.args.self.number (g.L.AnchorLocks.modes c.args.locks.now c.args.work.now)
     c.args.work.now c.requires.order c.requires.known place so.lock in
     let order = in_order c.args.self.def.now place.anchor a.0.roots (c.requires.fits.shapes place.anchor a.0 a.1) in
     let its = place_is (position_in c.args.work.now c.args.self.number) place so.its in
@@ -118,6 +120,7 @@ returns-in_ok-replace-in-Direct-clause-fits c =
     edited_fits c.args.self.number place.anchor _ _ _ c.args.work.now c.replace.new.work
     (c.in_ok-replace-in-Direct.ensures.work c.requires.order place a.0 its a.1 order) c.args.self.def.now
     c.requires.fits
-    (repl_shape c.args.self.def.now c.args.self.number ((standing c.args.locks.now).holds c.args.region) c.args.work.now
+    (repl_shape c.args.self.def.now c.args.self.number (g.L.AnchorLocks.modes c.args.locks.now c.args.work.now)
+    c.args.work.now
     c.requires.order c.requires.known c.requires.fits place so.its a.0 a.1 c.in-Direct.ensures.2 c.args.bytes.now
     (c.requires.long place so.its) key) refl
