@@ -1,5 +1,10 @@
+mod AloneLemmas
 mod AnswerLemmas
 mod BeginLemmas
 mod FitLemmas
+pub mod HandLemmas
+mod NeedLemmas
 mod PastLemmas
+mod ReadyLemmas
+pub mod TargetLemmas
 mod WorkLemmas

@@ -13,10 +13,15 @@ use Rattle.fp_model.specs.FitCalls.{FitsKey, FitsSegment, IsFitDeferred, OfMsdb}
 use Rattle.fp_model.specs.MsdbCalls.{puts_or_drops}
 use Rattle.fp_model.specs.State.{key_of}
 use Rattle.fp_model.specs.Texts.{same_text}
-use Rattle.fp_model.specs.Workspace.{MsdbPosition, no_msdb_position}
+use Rattle.fp_model.specs.Workspace.{DedbPosition, MsdbPosition, Workspace, no_msdb_position}
+use Rattle.fp_model.specs.declared.calls.SeqInsert.{SeqInsert}
+use Rattle.dedb_calls.specs.Anchors.{changes_in}
+use Rattle.dedb_calls.specs.Progress.{DedbProgress, IsDedbWorkOf}
+use Rattle.dedb_calls.specs.declared.anchors.HeldAnchor.{HeldAnchor}
 use Rattle.past_calls.specs.declared.reply.Change.{Change}
 use Rattle.past_calls.specs.declared.reply.Change.TheVariants as change
-use Rattle.past_calls.specs.Progress.{FitsPosition, IsWorkOf, Progress}
+use Rattle.past_calls.specs.Progress.{FitsPosition, IsWorkOf, Progress, dedbs_in}
+use Rattle.past_calls.specs.Targets.{LeavesDedbs}
 use Rattle.segment_keys.specs.Keys.{is_among}
 use Rattle.past_calls.specs.Replies.{FitsChange, FitsQueue, mark_in, mark_of, own_behind}
 use Rattle.segment_keys.specs.Keys.{is_marked}
@@ -99,28 +104,69 @@ swapped false false = refl
 
 -- ---- settling
 
+-- nothing of data entry databases changes
+no_area : (def : MsdbDef) (n : ℕ) (c : Change) (own : Workspace) → ((own_behind def n c own).dedbs ≡ own.dedbs)
+    × ((own_behind def n c own).changes ≡ own.changes)
+    × ((own_behind def n c own).inserts ≡ own.inserts)
+no_area def n change.Nothing own = (refl, refl, refl)
+no_area def n (change.Found key hold) own = (refl, refl, refl)
+no_area def n (change.Queued d) own = (refl, refl, refl)
+
+pub leaves_dedbs : (def : MsdbDef) (n : ℕ) (c : Change) (old new : Progress) → new.own ≡ own_behind def n c old.own
+    → new.anchors ≡ old.anchors → LeavesDedbs old new
+leaves_dedbs def n c old new own anchors =
+    let same = no_area def n c old.own in
+    record {
+      positions = ap (λ (one : Workspace). one.dedbs) own ∙ same.0;
+      anchors = anchors;
+      changes = ap (λ (one : Workspace). one.changes) own ∙ same.1;
+      inserts = ap (λ (one : Workspace). one.inserts) own ∙ same.2;
+    }
+
+abbrev made : List DedbPosition → List HeldAnchor → List SeqInsert → DedbProgress
+made positions anchors inserts = record { positions = positions; anchors = anchors; inserts = inserts }
+
+-- and so it stays a transaction's
+dedbs_stay : (defs : Defs) (old new : Progress) → IsWorkOf defs old → LeavesDedbs old new
+    → IsDedbWorkOf defs.dedbs (dedbs_in new) × (new.own.changes ≡ changes_in new.anchors)
+dedbs_stay defs old new is leaves = (
+  subst (λ (one : DedbProgress). IsDedbWorkOf defs.dedbs one) (sym same) is.dedbs,
+  leaves.changes ∙ is.edits ∙ ap changes_in (sym leaves.anchors),
+)
+  where
+    same : dedbs_in new ≡ dedbs_in old
+    same =
+        ap (λ (ps : List DedbPosition). made ps new.anchors new.own.inserts) leaves.positions
+        ∙ ap (λ (xs : List HeldAnchor). made old.own.dedbs xs new.own.inserts) leaves.anchors
+        ∙ ap (λ (xs : List SeqInsert). made old.own.dedbs old.anchors xs) leaves.inserts
+
 pub keeps : (defs : Defs) (def : MsdbDef) (n : ℕ) (c : Change) (old new : Progress) → IsWorkOf defs old
     → slice_get defs.msdbs n ≡ Some def → FitsChange def n c
     → new.own ≡ own_behind def n c old.own
+    → new.anchors ≡ old.anchors
     → ((resource : Resource) → is_among new.changed resource ≡
     (is_marked (mark_in def c) resource || is_among old.changed resource))
     → IsWorkOf defs new
-keeps defs def n change.Nothing old new is there fits own changed = record {
+keeps defs def n change.Nothing old new is there fits own anchors changed = record {
   positions = subst (λ one. AllZip FitsPosition defs.msdbs one.msdbs) (sym own)
       (positions_with defs.msdbs old.own.msdbs n def _ is.positions there
       (position_fits defs.msdbs old.own.msdbs n def is.positions there));
   deferred = subst (λ one. AllByRecursion (IsFitDeferred defs.msdbs) one.deferred) (sym own) is.deferred;
   changes = λ m other at key. changed (Segment m key) ∙ is.changes m other at key ∙ ap
       (λ one. list_any (puts_or_drops other m key) one.deferred) (sym own);
+  dedbs = (dedbs_stay defs old new is (leaves_dedbs def n change.Nothing old new own anchors)).0;
+  edits = (dedbs_stay defs old new is (leaves_dedbs def n change.Nothing old new own anchors)).1;
 }
-keeps defs def n (change.Found key hold) old new is there fits own changed = record {
+keeps defs def n (change.Found key hold) old new is there fits own anchors changed = record {
   positions = subst (λ one. AllZip FitsPosition defs.msdbs one.msdbs) (sym own)
       (positions_with defs.msdbs old.own.msdbs n def _ is.positions there fits);
   deferred = subst (λ one. AllByRecursion (IsFitDeferred defs.msdbs) one.deferred) (sym own) is.deferred;
   changes = λ m other at k. changed (Segment m k) ∙ is.changes m other at k ∙ ap
       (λ one. list_any (puts_or_drops other m k) one.deferred) (sym own);
+  dedbs = (dedbs_stay defs old new is (leaves_dedbs def n (change.Found key hold) old new own anchors)).0;
+  edits = (dedbs_stay defs old new is (leaves_dedbs def n (change.Found key hold) old new own anchors)).1;
 }
-keeps defs def n (change.Queued d) old new is there fits own changed = record {
+keeps defs def n (change.Queued d) old new is there fits own anchors changed = record {
   positions = subst (λ one. AllZip FitsPosition defs.msdbs one.msdbs) (sym own)
       (positions_with defs.msdbs old.own.msdbs n def _ is.positions there
       (position_fits defs.msdbs old.own.msdbs n def is.positions there));
@@ -134,4 +180,6 @@ keeps defs def n (change.Queued d) old new is there fits own changed = record {
       ∙ swapped (list_any (puts_or_drops other m key) old.own.deferred) (puts_or_drops other m key d)
       ∙ sym (list_any-append (puts_or_drops other m key) old.own.deferred (d ∷ []))
       ∙ ap (λ one. list_any (puts_or_drops other m key) one.deferred) (sym own);
+  dedbs = (dedbs_stay defs old new is (leaves_dedbs def n (change.Queued d) old new own anchors)).0;
+  edits = (dedbs_stay defs old new is (leaves_dedbs def n (change.Queued d) old new own anchors)).1;
 }

@@ -9,20 +9,32 @@ use Rattle.fp_model.specs.FitCalls.{FitsKey, IsFitDeferred}
 use Rattle.fp_model.specs.MsdbCalls.{is_put_or_dropped}
 use Rattle.fp_model.specs.Workspace.{MsdbPosition, Workspace}
 use Rattle.segment_keys.specs.Keys.{is_among}
+use Rattle.dedb_calls.specs.Anchors.{changes_in}
+use Rattle.dedb_calls.specs.Progress.{DedbProgress, IsDedbWorkOf}
+use Rattle.dedb_calls.specs.declared.anchors.HeldAnchor.{HeldAnchor}
 
--- What it keeps to itself, and the keys whose segments its queue inserts or deletes.
+-- What it keeps to itself, the anchors whose roots it has, as it sees them, and the keys of main storage databases
+-- whose segments its queue inserts or deletes.
 pub record Progress : Type 0 where
   pub own : Workspace
+  pub anchors : List HeldAnchor
   pub changed : List Resource
+
+-- as far as it has to do with data entry databases
+abbrev pub dedbs_in : Progress → DedbProgress
+dedbs_in work = record { positions = work.own.dedbs; anchors = work.anchors; inserts = work.own.inserts }
 
 -- the segment found last has a key of the database's length
 abbrev pub FitsPosition : MsdbDef → MsdbPosition → Type 0
 FitsPosition def position = IfSome position.key (λ key. FitsKey key def)
 
 -- It is a transaction's under these definitions: a position for each main storage database, deferred calls as fit calls
--- leave them, and the keys that those insert or delete.
+-- leave them, the keys that those insert or delete, what it keeps of data entry databases, and the changes of the
+-- anchors whose roots it has.
 pub record IsWorkOf (defs : Defs) (work : Progress) : Type 0 where
   pub positions : AllZip FitsPosition defs.msdbs work.own.msdbs
   pub deferred : AllByRecursion (IsFitDeferred defs.msdbs) work.own.deferred
   pub changes : (msdb : ℕ) (def : MsdbDef) → slice_get defs.msdbs msdb ≡ Some def → (key : List ℕ)
       → is_among work.changed (Segment msdb key) ≡ is_put_or_dropped def msdb work.own key
+  pub dedbs : IsDedbWorkOf defs.dedbs (dedbs_in work)
+  pub edits : work.own.changes ≡ changes_in work.anchors

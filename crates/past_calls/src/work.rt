@@ -1,17 +1,27 @@
 //! What a transaction keeps until it commits.
 ghost use Rattle.std.specs.Option.{option_copied, option_map};
-ghost use Rattle.std.specs.Prelude.{◌≡◌, ◌<◌, ◌++◌, ◌∷◌, ◌||◌, ◌&&◌, ◌==◌, [], IfOk, IsTrue, List as ListOf, None, OnErr, OnOk, if◌then◌else◌, is_some, length, slice_get, slice_set, true, unwrap_or, ℕ, false, Some};
+ghost use Rattle.std.specs.Prelude.{◌≡◌, ◌<◌, ◌++◌, ◌∷◌, ◌||◌, ◌&&◌, ◌==◌, [], IfOk, IsOk, IsTrue, List as ListOf, None, OnErr, OnOk, if◌then◌else◌, is_some, length, slice_get, slice_set, true, unwrap_or, ℕ, false, Some};
+ghost use Rattle.dedb_calls.specs.Anchors.{Ascend, Sees, held_at};
+ghost use Rattle.dedb_calls.specs.Progress.{held_in};
+ghost use Rattle.dli_tree.specs.InOrder.{any_ends};
+ghost use Rattle.fp_model.specs.DedbCalls.{type_of_path};
+ghost use Rattle.fp_model.specs.Shape.{is_anchor};
+ghost use Rattle.fp_model.specs.State.{roots_at};
 ghost use Rattle.fp_model.specs.Workspace.{fresh, no_msdb_position};
 ghost use Rattle.fp_model.specs.declared.calls.Resource.{Resource as ResourceOf};
+ghost use Rattle.fp_model.specs.declared.database.Db.{Db as DbOf};
+ghost use Rattle.fp_model.specs.declared.definitions.DedbDef.{DedbDef as DedbOf};
+ghost use Rattle.fp_model.specs.declared.definitions.Defs.{Defs as DefsOf};
 ghost use Rattle.segment_keys.specs.Keys.{resource_of};
-ghost use Rattle.past_calls.specs.Progress.{IsWorkOf};
+ghost use Rattle.past_calls.specs.Progress.{IsWorkOf, dedbs_in};
 ghost use Rattle.segment_keys.specs.Keys.{is_among};
 ghost use Rattle.past_calls.specs.Replies.{mark_in, mark_of, own_behind};
 ghost use Rattle.segment_keys.specs.Keys.{is_marked};
 
 use crate::database::key_in;
 use crate::reply::Change;
-use fp_model::{Bytes, Deferred, Defs, List, MsdbDef};
+use dedb_calls::DedbWork;
+use fp_model::{AnchorChange, Bytes, Deferred, Defs, List, MsdbDef, Root, SeqInsert};
 use segment_keys::{Keys, SegmentKey};
 use std::alloc::{AllocError, Global};
 use std::marker::Model;
@@ -66,19 +76,32 @@ fn drop_last<T: Drop>(list: &mut List<T>)
     let _ = list.pop();
 }
 
-/// What one transaction keeps to itself until its end: its positions, and its deferred calls.
+/// What one transaction keeps to itself until its end: its positions, its deferred calls, the anchors whose roots it
+/// has, as it sees them, and its sequential inserts.
 #[derive(Debug, Drop)]
 pub struct Work {
     positions: Vec<Position>,
     // Those whose segments the queue inserts or deletes.
     changed: Keys,
     deferred: List<Deferred>,
+    pub(crate) dedbs: DedbWork,
+}
+
+/// What a transaction hands to its sync point.
+#[derive(Debug, Drop)]
+pub struct Parts {
+    /// The deferred calls, in call order.
+    pub deferred: List<Deferred>,
+    /// The anchors that were changed, ascending by database and number.
+    pub changes: List<AnchorChange>,
+    /// The sequential inserts, in call order.
+    pub inserts: List<SeqInsert>,
 }
 
 impl Model for Work {
     ghost use Rattle.std.specs.Coded.{codes};
-    ghost use Rattle.std.specs.Prelude.{[]};
     ghost use Rattle.fp_model.specs.contracts.database.Node as node;
+    ghost use Rattle.dedb_calls.specs.Anchors.{changes_in};
     ghost use Rattle.past_calls.specs.Progress.{Progress};
 
     ghost Value = { Progress };
@@ -88,21 +111,24 @@ impl Model for Work {
     ghost view = { λ w. record {
       own = record {
         msdbs = w.positions.items;
-        dedbs = [];
-        changes = [];
+        dedbs = w.dedbs.positions;
+        changes = changes_in w.dedbs.anchors;
         deferred = w.deferred;
-        inserts = [];
+        inserts = w.dedbs.inserts;
       };
+      anchors = w.dedbs.anchors;
       changed = w.changed;
     } };
 }
 
 impl Work {
-    /// As a transaction begins: no positions, nothing deferred. It fails only for want of memory.
+    /// As a transaction begins: no positions, nothing deferred, no anchors. It fails only for want of memory.
     pub fn new(alloc: Global, defs: &Defs) -> Result<Work, AllocError>
         ensures of { IfOk result (IsWorkOf defs.now) }
-        ensures own { defs.now.dedbs ≡ [] → IfOk result (λ work. work.own ≡ fresh defs.now) }
+        ensures own { IfOk result (λ work. work.own ≡ fresh defs.now) }
+        ensures anchors { IfOk result (λ work. work.anchors ≡ []) }
     {
+        let dedbs = DedbWork::new(alloc, defs)?;
         let mut positions = Vec::new(alloc);
         for _ in 0..defs.msdbs.len() {
             positions.push(Position::new())?;
@@ -111,7 +137,55 @@ impl Work {
             positions,
             changed: Keys::new(alloc),
             deferred: List::new(alloc),
+            dedbs,
         })
+    }
+
+    /// Hands it the roots of an anchor that it lacks, as they stand in the database. Where it has roots of the anchor
+    /// already these stay, and no memory is taken. It fails only for want of memory, and then nothing changes.
+    pub fn hold_anchor(
+        &mut self,
+        dedb: u8,
+        anchor: u32,
+        roots: List<Root>,
+    ) -> Result<(), AllocError>
+        requires { Ascend self.old.anchors }
+
+        // The transaction has these roots then, and of other anchors what it had.
+        ensures there { held_at self.old.anchors dedb anchor ≡ None
+            → OnOk result (held_at self.new.anchors dedb anchor
+            ≡ Some (record { dedb = dedb; anchor = anchor; roots = roots; is_changed = false })) }
+        ensures others { (d a : ℕ) → (d == dedb && a == anchor) ≡ false
+            → held_at self.new.anchors d a ≡ held_at self.old.anchors d a }
+        ensures again { is_some (held_at self.old.anchors dedb anchor) ≡ true → self.new ≡ self.old }
+        ensures at_once { is_some (held_at self.old.anchors dedb anchor) ≡ true → IsOk result }
+        ensures has { OnOk result (is_some (held_at self.new.anchors dedb anchor) ≡ true) }
+        ensures sees { (db : DbOf) → roots_at db dedb anchor ≡ roots → Sees db self.old.anchors
+            → Sees db self.new.anchors }
+
+        // The anchors ascend, whatever the roots are.
+        ensures order { Ascend self.new.anchors }
+
+        // It stays a transaction's, where the roots have the anchor's shape.
+        ensures of { (defs : DefsOf)
+            → ((def : DedbOf) → slice_get defs.dedbs dedb ≡ Some def → is_anchor def anchor any_ends roots ≡ true)
+            → IsWorkOf defs self.old → IsWorkOf defs self.new }
+
+        // All else stays: what it would do to the databases.
+        ensures same { self.new ≡ record self.old { anchors = self.new.anchors } }
+        ensures err { OnErr result (self.new ≡ self.old) }
+    {
+        self.dedbs.hold_anchor(dedb, anchor, roots)
+    }
+
+    /// The type of the segment that is held in the data entry database of this number among its kind, if one is. A
+    /// replacement is to have that type's length.
+    pub fn held_type(&self, dedb: u8) -> Option<u8>
+        requires { dedb < length self.now.own.dedbs }
+        ensures { (def : DedbOf) → result
+            ≡ option_map (λ place. type_of_path def dedb place.path) (held_in (dedbs_in self.now) dedb) }
+    {
+        self.dedbs.held_type(dedb)
     }
 
     /// The deferred calls, in call order.
@@ -119,6 +193,26 @@ impl Work {
         ensures { result.now ≡ self.now.own.deferred }
     {
         &self.deferred
+    }
+
+    /// What its sync point is to settle. It is handed on, and not copied. It fails only for want of memory.
+    pub fn into_parts(self, alloc: Global) -> Result<Parts, AllocError>
+        ensures deferred { IfOk result (λ parts. parts.deferred ≡ self.own.deferred) }
+        ensures changes { IfOk result (λ parts. parts.changes ≡ self.own.changes) }
+        ensures inserts { IfOk result (λ parts. parts.inserts ≡ self.own.inserts) }
+    {
+        let Work {
+            positions: _,
+            changed: _,
+            deferred,
+            dedbs,
+        } = self;
+        let (changes, inserts) = dedbs.into_parts(alloc)?;
+        Ok(Parts {
+            deferred,
+            changes,
+            inserts,
+        })
     }
 
     // The position in a database.
@@ -152,6 +246,7 @@ impl Work {
     ) -> Result<(), AllocError>
         requires { msdb < length self.old.own.msdbs }
         ensures own { OnOk result (self.new.own ≡ own_behind def.now msdb change self.old.own) }
+        ensures anchors { self.new.anchors ≡ self.old.anchors }
         ensures changed { OnOk result ((resource : ResourceOf)
             → is_among self.new.changed resource ≡ (is_marked (mark_in def.now change) resource || is_among
             self.old.changed resource)) }
@@ -202,6 +297,7 @@ impl Work {
     fn queue(&mut self, def: &MsdbDef, deferred: Deferred) -> Result<(), AllocError>
         ensures own { OnOk result (self.new.own ≡ record self.old.own
             { deferred = self.old.own.deferred ++ deferred ∷ [] }) }
+        ensures anchors { self.new.anchors ≡ self.old.anchors }
         ensures changed { OnOk result ((resource : ResourceOf)
             → is_among self.new.changed resource ≡ (is_marked (mark_of def.now deferred) resource || is_among
             self.old.changed resource)) }

@@ -4,7 +4,7 @@ ghost use Rattle.past_replay.specs.Running.{CanRerun, IsAsking, IsEnd, IsUnderWa
 ghost use Rattle.std.specs.Prelude.{◌≡◌, ◌+◌, ◌<◌, [], IfNone, IfOk, IfSome, length, slice_get, ℕ};
 
 use fp_model::{Bytes, Call, Deferred, Defs, List, Message};
-use past_calls::{Work, answer, looks};
+use past_calls::{Work, answer_msdb, looks};
 use past_segments::PastSegments;
 use std::alloc::{AllocError, Global};
 use txn_lang::Scripts;
@@ -86,7 +86,6 @@ impl Rerun<'_> {
 impl Running {
     /// A transaction as it begins, with the script of this number. It fails only for want of memory.
     pub(crate) fn start(alloc: Global, it: &Rerun, number: u32) -> Result<Running, AllocError>
-        requires no_dedbs { it.now.defs.now.dedbs ≡ [] }
         requires number { number < length it.now.scripts.now.scripts }
         requires named { slice_get it.now.scripts.now.scripts number
             ≡ script_of it.now.scripts.now.scripts it.now.message.now.tran }
@@ -121,7 +120,7 @@ impl Running {
         let Some(look) = it.look(self.used, looks) else {
             return Ok(Some(End::Stuck));
         };
-        let given = answer(
+        let given = answer_msdb(
             alloc,
             &mut self.work,
             call,

@@ -1,46 +1,80 @@
-use Rattle.std.proofs.Common.{◌≡◌, ap, sym, subst, ◌∙◌, Some, slice_get, unwrap_or, []}
-use Rattle.fp_model.specs.declared.database.Msdb.{Msdb}
-use Rattle.fp_model.specs.MsdbCalls.{msdb_reply}
-use Rattle.past_segments.specs.Times.{database_at}
-use Rattle.past_segments.specs.Pasts.{databases_at}
-use Rattle.past_calls.specs.Replies.{segments_in}
-use Rattle.past_calls.proofs.AnswerLemmas.{names_it, replies}
+use Rattle.std.proofs.Common.{◌∙◌, refl, ap, sym, subst}
+use Rattle.std.specs.Prelude.{IfOk}
+use Rattle.dedb_calls.specs.Anchors.{Sees}
+use Rattle.dedb_calls.proofs.TargetLemmas.{dedb_has, dedb_replies, named_dedb, named_msdb, within_at}
+use Rattle.fp_model.specs.Calls.{Target}
+use Rattle.fp_model.specs.FitCalls.{FitsAnswerOf}
+use Rattle.past_calls.specs.Readiness.{IfAnswer}
+use Rattle.past_calls.specs.Targets.{FitsWork, IfDedb, LeavesOthers, anchor_needed}
 use Rattle.past_calls.proofs.BeginLemmas.{if_ok}
-use Rattle.past_calls.proofs.PastLemmas.{shown_at}
-use Rattle.past_calls.proofs.WorkLemmas.{position_fits, positions_within}
+use Rattle.past_calls.proofs.NeedLemmas.{lacks}
+use Rattle.past_calls.proofs.ReadyLemmas.{if_answer}
 use Rattle.past_calls.proofs.answering.answer.Goals as goal
 
-pub answer-requires-clause-positions : goal.answer-requires-clause-positions
-answer-requires-clause-positions c =
-    positions_within c.args.defs.now.msdbs c.args.work.now.own.msdbs _ _ c.requires.work.positions
-    (subst (λ n. slice_get c.args.defs.now.msdbs n ≡ Some c.database_for-database.result.def.now)
-    (sym c.database_for-database.ensures.number) c.database_for-database.ensures.def)
+-- ---- a main storage database
 
-pub answer-requires-clause-position : goal.answer-requires-clause-position
-answer-requires-clause-position c =
-    position_fits c.args.defs.now.msdbs c.args.work.now.own.msdbs _ _ c.requires.work.positions
-    (subst (λ n. slice_get c.args.defs.now.msdbs n ≡ Some c.database_for-database.result.def.now)
-    (sym c.database_for-database.ensures.number) c.database_for-database.ensures.def)
+pub answer_msdb-requires-clause-call : goal.answer_msdb-requires-clause-call
+answer_msdb-requires-clause-call g c =
+    named_msdb c.args.defs.now c.args.call.now (λ t. FitsWork t c.args.work.now c.args.call.now) (λ p. p)
+    c.requires.call c.database_of-number.result c.from-at.result c.len-msdb_count.result c.database_of-number.ensures
+    c.from-at.ensures c.len-msdb_count.ensures c.if-at-msdb_count.true
 
-pub returns-clause-answer : goal.returns-clause-answer
-returns-clause-answer c now visible same other =
-    let database = c.database_for-database.result in
-    let is = c.database_for-database.ensures in
-    let n = database.number in
-    let def = database.def.now in
-    let own = c.args.work.now.own in
-    let there : slice_get c.args.defs.now.msdbs n ≡ Some def =
-    subst (λ m. slice_get c.args.defs.now.msdbs m ≡ Some def) (sym is.number) is.def in
-    let past : slice_get c.args.pasts.now n ≡ Some database.past.now =
-    subst (λ m. slice_get c.args.pasts.now m ≡ Some database.past.now) (sym is.number) is.past in
-    let segments = shown_at c.args.place c.args.pasts.now n database.past.now past
-    ∙ ap (λ place. database_at place database.past.now) (sym is.place) in
-    let noted = shown_at c.args.note c.args.pasts.now n database.past.now past
-    ∙ ap (λ place. database_at place database.past.now) (sym is.note) in
-    let found : Msdb = unwrap_or (slice_get (databases_at c.args.note c.args.pasts.now) n) (record { segments = [] }) in
-    if_ok c.answer.result c.answer.ensures.answer (λ answer so.
-    replies c.args.defs.now c.args.call.now n def (names_it _ _ _ _ (is.number ∙ c.database_of.ensures) there) now
-    visible (databases_at c.args.place c.args.pasts.now) (databases_at c.args.note c.args.pasts.now) own same other
-    ∙ ap (λ msdb. msdb_reply def n msdb found own c.args.call.now) segments
-    ∙ ap (λ msdb. msdb_reply def n (segments_in database) msdb own c.args.call.now) noted
-    ∙ so)
+-- ---- a data entry database
+
+pub answer_dedb-requires-clause-number : goal.answer_dedb-requires-clause-number
+answer_dedb-requires-clause-number g c =
+    let it = (named_dedb c.args.defs.now c.args.call.now (λ t. FitsWork t c.args.work.now c.args.call.now) (λ p. p)
+    c.requires.call c.database_of-number.result c.from-at.result c.len-msdb_count.result _ c.database_of-number.ensures
+    c.from-at.ensures c.len-msdb_count.ensures c.if-at-msdb_count.false refl) in
+    within_at c.args.defs.now.dedbs _ it.def it.there
+
+pub answer_dedb-requires-clause-call : goal.answer_dedb-requires-clause-call
+answer_dedb-requires-clause-call g c =
+    let it = (named_dedb c.args.defs.now c.args.call.now (λ t. FitsWork t c.args.work.now c.args.call.now) (λ p. p)
+    c.requires.call c.database_of-number.result c.from-at.result c.len-msdb_count.result _ c.database_of-number.ensures
+    c.from-at.ensures c.len-msdb_count.ensures c.if-at-msdb_count.false refl) in
+    dedb_has c.args.defs.now c.args.call.now _ it (λ t. FitsWork t c.args.work.now c.args.call.now) c.requires.call
+
+pub returns-else-at-msdb_count-clause-answer : goal.returns-else-at-msdb_count-clause-answer
+returns-else-at-msdb_count-clause-answer g c now visible same other sees =
+    let it = (named_dedb c.args.defs.now c.args.call.now (λ t. FitsWork t c.args.work.now c.args.call.now) (λ p. p)
+    c.requires.call c.database_of-number.result c.from-at.result c.len-msdb_count.result _ c.database_of-number.ensures
+    c.from-at.ensures c.len-msdb_count.ensures c.if-at-msdb_count.false refl) in
+    let has = subst (λ (t : Target). IfDedb t (Sees now c.args.work.now.anchors)) it.target sees in
+    if_ok c.answer_dedb.result (c.answer_dedb.ensures.answer it.def now it.there has)
+    (λ came is. if_answer _ _ came is
+    (λ answer so. dedb_replies c.args.defs.now c.args.call.now _ it now visible c.args.work.now.own ∙ so))
+
+pub returns-else-at-msdb_count-clause-need : goal.returns-else-at-msdb_count-clause-need
+returns-else-at-msdb_count-clause-need g c now sees =
+    let it = (named_dedb c.args.defs.now c.args.call.now (λ t. FitsWork t c.args.work.now c.args.call.now) (λ p. p)
+    c.requires.call c.database_of-number.result c.from-at.result c.len-msdb_count.result _ c.database_of-number.ensures
+    c.from-at.ensures c.len-msdb_count.ensures c.if-at-msdb_count.false refl) in
+    let has = subst (λ (t : Target). IfDedb t (Sees now c.args.work.now.anchors)) it.target sees in
+    if_ok c.answer_dedb.result (c.answer_dedb.ensures.need it.def now it.there has)
+    (λ came is. is ∙ ap (λ t. anchor_needed t now c.args.work.now c.args.call.now) (sym it.target))
+
+pub returns-else-at-msdb_count-clause-lacks : goal.returns-else-at-msdb_count-clause-lacks
+returns-else-at-msdb_count-clause-lacks g c now sees =
+    let it = (named_dedb c.args.defs.now c.args.call.now (λ t. FitsWork t c.args.work.now c.args.call.now) (λ p. p)
+    c.requires.call c.database_of-number.result c.from-at.result c.len-msdb_count.result _ c.database_of-number.ensures
+    c.from-at.ensures c.len-msdb_count.ensures c.if-at-msdb_count.false refl) in
+    let has = subst (λ (t : Target). IfDedb t (Sees now c.args.work.now.anchors)) it.target sees in
+    if_ok c.answer_dedb.result (c.answer_dedb.ensures.need it.def now it.there has)
+    (λ came is. lacks it.def _ now c.args.work.now c.args.call.now came is)
+
+pub returns-else-at-msdb_count-clause-shown : goal.returns-else-at-msdb_count-clause-shown
+returns-else-at-msdb_count-clause-shown g c =
+    let it = (named_dedb c.args.defs.now c.args.call.now (λ t. FitsWork t c.args.work.now c.args.call.now) (λ p. p)
+    c.requires.call c.database_of-number.result c.from-at.result c.len-msdb_count.result _ c.database_of-number.ensures
+    c.from-at.ensures c.len-msdb_count.ensures c.if-at-msdb_count.false refl) in
+    subst (λ (t : Target). IfOk c.answer_dedb.result (λ came. IfAnswer came (FitsAnswerOf t c.args.call.now)))
+    (sym it.target) (c.answer_dedb.ensures.shown it.def it.there)
+
+pub returns-else-at-msdb_count-clause-others : goal.returns-else-at-msdb_count-clause-others
+returns-else-at-msdb_count-clause-others g c =
+    let it = (named_dedb c.args.defs.now c.args.call.now (λ t. FitsWork t c.args.work.now c.args.call.now) (λ p. p)
+    c.requires.call c.database_of-number.result c.from-at.result c.len-msdb_count.result _ c.database_of-number.ensures
+    c.from-at.ensures c.len-msdb_count.ensures c.if-at-msdb_count.false refl) in
+    subst (λ (t : Target). LeavesOthers t c.args.work.now c.answer_dedb.new.work) (sym it.target)
+    (c.answer_dedb.ensures.leaves, c.answer_dedb.ensures.goes)

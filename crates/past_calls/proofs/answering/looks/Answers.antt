@@ -1,17 +1,17 @@
-use Rattle.std.proofs.Common.{◌∙◌, sym}
-use Rattle.past_calls.proofs.AnswerLemmas.{looks, names_it}
-use Rattle.past_calls.proofs.WorkLemmas.{positions_within}
+use Rattle.std.proofs.Common.{refl, sym}
+use Rattle.dedb_calls.proofs.TargetLemmas.{dedb_looks, named_dedb, named_msdb}
+use Rattle.past_calls.specs.Targets.{FitsWork}
 use Rattle.past_calls.proofs.answering.looks.Goals as goal
 
-pub is_changed-requires-clause-positions : goal.is_changed-requires-clause-positions
-is_changed-requires-clause-positions c =
-    positions_within c.args.defs.now.msdbs c.args.work.now.own.msdbs _ _ c.requires.work.positions c.def_of-def.ensures
+pub looks_msdb-requires-clause-call : goal.looks_msdb-requires-clause-call
+looks_msdb-requires-clause-call c =
+    named_msdb c.args.defs.now c.args.call.now (λ t. FitsWork t c.args.work.now c.args.call.now) (λ p. p)
+    c.requires.call c.database_of-number.result c.from-at.result c.len-msdb_count.result c.database_of-number.ensures
+    c.from-at.ensures c.len-msdb_count.ensures c.if-at-msdb_count.true
 
-pub is_changed-requires-clause-changes : goal.is_changed-requires-clause-changes
-is_changed-requires-clause-changes c = c.requires.work.changes _ _ c.def_of-def.ensures
-
-pub returns : goal.returns
-returns c =
-    c.looks_so.ensures c.def_of-def.result.now c.database_of-number.result c.args.work.now.own c.in_ok-changed.ensures
-    ∙ sym (looks c.args.defs.now c.args.call.now c.database_of-number.result c.def_of-def.result.now
-    (names_it _ _ _ _ c.database_of-number.ensures c.def_of-def.ensures) c.args.work.now.own)
+pub returns-else-at-msdb_count : goal.returns-else-at-msdb_count
+returns-else-at-msdb_count c =
+    let it = (named_dedb c.args.defs.now c.args.call.now (λ t. FitsWork t c.args.work.now c.args.call.now) (λ p. p)
+    c.requires.call c.database_of-number.result c.from-at.result c.len-msdb_count.result _ c.database_of-number.ensures
+    c.from-at.ensures c.len-msdb_count.ensures c.if-at-msdb_count.false refl) in
+    sym (dedb_looks c.args.defs.now c.args.call.now _ it c.args.work.now.own)

@@ -15,7 +15,7 @@ returns c =
     let there = stands scripts c.args.number c.requires.number in
     let script : Script = there.0 in
     let named : script_of scripts it.message.now.tran ≡ Some script = sym c.requires.named ∙ there.1 in
-    let own : c.in_ok-work.work.own ≡ fresh it.defs.now = c.in_ok-work.ensures.own c.requires.no_dedbs in
+    let own : c.in_ok-work.work.own ≡ fresh it.defs.now = c.in_ok-work.ensures.own in
     record {
       answers = [];
       counted = refl;
