@@ -20,6 +20,7 @@ impl AnchorLocks for RegionLocks<'_> {
     ghost modes = { λ held work. (standing held.locks.now).holds held.region };
 
     fn mode_of(&self, _: &DedbWork, dedb: u8, anchor: u32) -> Option<Mode> {
-        self.locks.holds(self.region, &Resource::Anchor { dedb, anchor })
+        self.locks
+            .holds(self.region, &Resource::Anchor { dedb, anchor })
     }
 }

@@ -2,7 +2,7 @@ mod AloneLemmas
 mod AnswerLemmas
 mod BeginLemmas
 mod FitLemmas
-mod HandLemmas
+pub mod HandLemmas
 mod NeedLemmas
 mod PastLemmas
 mod ReadyLemmas
