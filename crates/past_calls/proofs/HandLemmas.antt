@@ -24,7 +24,7 @@ use Rattle.dedb_calls.specs.declared.anchors.HeldAnchor.{HeldAnchor}
 use Rattle.dedb_calls.proofs.AnchorLemmas.{same_numbers}
 use Rattle.past_calls.specs.Needs.{anchors_at, lacking, lacking_on, may_need}
 use Rattle.past_calls.specs.Progress.{Progress}
-use Rattle.past_calls.specs.Targets.{FitsWork, IfDedb, LeavesOthers, anchor_needed}
+use Rattle.past_calls.specs.Targets.{FitsWork, IfDedb, LeavesMsdbs, LeavesOthers, anchor_needed}
 use Rattle.past_calls.proofs.NeedLemmas.{Among, called}
 
 -- ---- counts
@@ -181,3 +181,14 @@ still_sees (OnMsdb def msdb) old new now leaves sees =
     subst (λ (xs : List HeldAnchor). Sees now xs) (sym leaves.anchors) sees
 still_sees (OnDedb def dedb) old new now leaves sees = leaves.1.sees now sees
 still_sees Nowhere old new now leaves sees = subst (λ (w : Progress). Sees now w.anchors) leaves sees
+
+-- and what has to do with main storage databases, where it names a data entry database
+pub leaves_on : (t : Target) (first old new : Progress) → old.own ≡ first.own → old.changed ≡ first.changed
+    → LeavesOthers t old new → IfDedb t (LeavesMsdbs first new)
+leaves_on (OnMsdb def msdb) first old new own changed leaves = tt
+leaves_on (OnDedb def dedb) first old new own changed leaves = record {
+  positions = leaves.0.positions ∙ ap (λ (o : Workspace). o.msdbs) own;
+  deferred = leaves.0.deferred ∙ ap (λ (o : Workspace). o.deferred) own;
+  changed = leaves.0.changed ∙ changed;
+}
+leaves_on Nowhere first old new own changed leaves = tt

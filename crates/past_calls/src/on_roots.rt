@@ -7,10 +7,10 @@ ghost use Rattle.fp_model.specs.WellFormed.{IsDedbDef, IsMsdbDef};
 ghost use Rattle.fp_model.specs.declared.database.Db.{Db as DbOf};
 ghost use Rattle.past_calls.specs.Progress.{IsWorkOf};
 ghost use Rattle.past_calls.specs.Roots.{AreRootsOf, HaveShapes};
-ghost use Rattle.past_calls.specs.Targets.{FitsWork};
+ghost use Rattle.past_calls.specs.Targets.{FitsWork, IfDedb, LeavesMsdbs};
 ghost use Rattle.past_segments.specs.Pasts.{ArePastsOf, databases_at};
 ghost use Rattle.std.specs.List.{AllByRecursion};
-ghost use Rattle.std.specs.Prelude.{◌≡◌, IfOk, OnErr, true};
+ghost use Rattle.std.specs.Prelude.{◌≡◌, IfOk, OnErr, OnOk, true};
 
 use crate::anchor_roots::AnchorRoots;
 use crate::answering::{Ready, answer};
@@ -63,6 +63,9 @@ pub fn answer_on<R: AnchorRoots>(
     // A get that found shows a whole segment, and it stays a transaction's.
     ensures shown { IfOk result (FitsAnswerOf (target_of defs.now (database_of call.now)) call.now) }
     ensures of { IsWorkOf defs.now work.new }
+
+    // A call to a data entry database leaves what has to do with the others.
+    ensures leaves { OnOk result (IfDedb (target_of defs.now (database_of call.now)) (LeavesMsdbs work.old work.new)) }
     ensures err { OnErr result (work.new.own ≡ work.old.own) }
 {
     for _ in 0..MOST_TURNS {

@@ -1,5 +1,5 @@
 -- The sync point, and what it comes to.
-use Rattle.std.proofs.Common.{◌≡◌, ◌∙◌, ap, ℕ, List, [], Some, None}
+use Rattle.std.proofs.Common.{◌≡◌, ◌∙◌, ap, sym, ℕ, List, [], Option, Some, None}
 use Rattle.std.specs.Prelude.{unwrap_or}
 use Rattle.fp_model.specs.declared.database.Db.{Db}
 use Rattle.fp_model.specs.declared.database.Dedb.{Dedb}
@@ -57,3 +57,11 @@ committed_is defs now own msdbs changes inserts next same also is =
     ap (λ (i : List SeqInsert). with_inserts defs i (with_anchors own.changes (record now { msdbs = msdbs }))) also
     ∙ ap (λ (c : List AnchorChange). with_inserts defs inserts (with_anchors c (record now { msdbs = msdbs }))) same
     ∙ is
+
+-- the first area that is too full for what is handed in
+pub first_is : (defs : Defs) (now : Db) (own : Workspace) (inserts : List SeqInsert) (first : Option Settlement)
+    → own.inserts ≡ inserts
+    → first ≡ first_full now inserts first_area_set (areas_of defs)
+    → first_full now own.inserts first_area_set (areas_of defs) ≡ first
+first_is defs now own inserts first same is =
+    ap (λ (i : List SeqInsert). first_full now i first_area_set (areas_of defs)) same ∙ sym is

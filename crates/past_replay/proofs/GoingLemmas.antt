@@ -100,8 +100,12 @@ module _ (it : Rerun) (count : ℕ) (running : Running) (s : IsUnderWay it count
   moves program number at fit types = record {
     answers = s.answers;
     counted = s.counted;
-    kept = record s.kept {
+    kept = record {
+      of = s.kept.of;
+      sees = s.kept.sees;
+      fits = s.kept.fits;
       tied = tied_so it (types_shown running.program) (types_shown program) running.work.own types s.kept.tied;
+      few = s.kept.few;
     };
     used = s.used;
     script = s.script;

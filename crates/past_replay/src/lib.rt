@@ -4,6 +4,7 @@
 
 mod alone;
 mod replaying;
+mod roots;
 mod running;
 mod settling;
 

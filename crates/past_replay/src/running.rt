@@ -1,23 +1,21 @@
 //! The script and its calls.
-ghost use Rattle.dedb_calls.specs.Anchors.{Sees, held_at};
+ghost use Rattle.dedb_calls.specs.Anchors.{Sees};
 ghost use Rattle.fp_exits.specs.Kinds.{kinds_of};
 ghost use Rattle.fp_model.specs.Asking.{script_of};
 ghost use Rattle.fp_model.specs.Calls.{database_of, reply_to, target_of};
 ghost use Rattle.fp_model.specs.FitCalls.{FitsAnswerOf};
 ghost use Rattle.fp_model.specs.declared.database.Db.{Db as DbOf};
-ghost use Rattle.past_anchors.specs.Databases.{AreDedbsOf};
-ghost use Rattle.past_calls.specs.Needs.{lacking_on};
 ghost use Rattle.past_calls.specs.Progress.{IsWorkOf};
 ghost use Rattle.past_calls.specs.Targets.{FitsWork};
-ghost use Rattle.past_replay.specs.Running.{CanRerun, IsAsking, IsEnd, IsKept, IsUnderWay, end_with, look_of, now_of};
+ghost use Rattle.past_replay.specs.Running.{CanRerun, IsAsking, IsEnd, IsUnderWay, end_with, look_of, now_of};
 ghost use Rattle.past_segments.specs.Pasts.{databases_at};
-ghost use Rattle.std.specs.Prelude.{◌≡◌, ◌+◌, ◌<◌, ◌≤◌, ◌&&◌, ◌==◌, IfNone, IfOk, IfSome, OnOk, false, is_some, length, slice_get, true, ℕ};
-ghost use Rattle.txn_machine.specs.Running.{types_shown};
+ghost use Rattle.std.specs.Prelude.{◌≡◌, ◌+◌, ◌<◌, ◌≤◌, IfNone, IfOk, IfSome, OnOk, length, slice_get, ℕ};
 
+use crate::roots::StateRoots;
 use fp_exits::Exits;
 use fp_model::{Answer, Bytes, Call, Defs, List, Message};
 use past_anchors::Anchors;
-use past_calls::{Parts, Ready, Work, answer, looks};
+use past_calls::{Parts, Work, answer_on, looks};
 use past_segments::PastSegments;
 use std::alloc::{AllocError, Global};
 use txn_lang::Scripts;
@@ -98,24 +96,7 @@ impl Rerun<'_> {
 }
 
 impl Rerun<'_> {
-    // Brings a transaction the roots of an anchor of which it has none. It fails only for want of memory.
-    fn bring(&self, work: &mut Work, dedb: u8, anchor: u32) -> Result<(), AllocError>
-        requires can { AreDedbsOf self.now.defs.now self.now.anchors.now }
-        requires of { IsWorkOf self.now.defs.now work.old }
-        requires sees { Sees (now_of self.now) work.old.anchors }
-        ensures has { OnOk result (is_some (held_at work.new.anchors dedb anchor) ≡ true) }
-        ensures others { (d a : ℕ) → (d == dedb && a == anchor) ≡ false
-            → held_at work.new.anchors d a ≡ held_at work.old.anchors d a }
-        ensures same { work.new ≡ record work.old { anchors = work.new.anchors } }
-        ensures of { IsWorkOf self.now.defs.now work.new }
-        ensures sees { Sees (now_of self.now) work.new.anchors }
-    {
-        let roots = self.anchors.copy_roots(dedb, anchor)?;
-        work.hold_anchor(dedb, anchor, roots)
-    }
-
-    // Answers a call as at the place, with unheld looks at that of a note. A transaction is brought each anchor that it
-    // needs and has none of. It fails only for want of memory.
+    // Answers a call as at the place, with unheld looks at that of a note. It fails only for want of memory.
     fn reply(
         &self,
         alloc: Global,
@@ -133,17 +114,15 @@ impl Rerun<'_> {
             ≡ record { answer = answer; own = work.new.own }) }
         ensures shown { IfOk result (FitsAnswerOf (target_of self.now.defs.now (database_of call.now)) call.now) }
         ensures of { IsWorkOf self.now.defs.now work.new }
-        ensures sees { OnOk result (Sees (now_of self.now) work.new.anchors) }
+        ensures sees { Sees (now_of self.now) work.new.anchors }
         ensures few { OnOk result (length work.new.own.deferred ≤ length work.old.own.deferred + 1) }
     {
-        loop {
-            match answer(
-                alloc, work, call, self.pasts, self.defs, exits, self.place, note,
-            )? {
-                Ready::Answer(answer) => return Ok(answer),
-                Ready::Need { dedb, anchor } => self.bring(work, dedb, anchor)?,
-            }
-        }
+        let roots = StateRoots {
+            anchors: self.anchors,
+        };
+        answer_on(
+            alloc, work, call, self.pasts, &roots, self.defs, exits, self.place, note,
+        )
     }
 }
 

@@ -9,13 +9,14 @@ use Rattle.fp_model.specs.Workspace.{Workspace}
 use Rattle.past_calls.specs.Needs.{lacking_on}
 use Rattle.past_calls.specs.Progress.{Progress}
 use Rattle.past_calls.specs.Targets.{anchor_needed}
-use Rattle.past_calls.proofs.HandLemmas.{any_target, few_on, fewer_on, fits_still, still_sees}
+use Rattle.past_calls.proofs.HandLemmas.{any_target, few_on, fewer_on, fits_still, leaves_on, still_sees}
 use Rattle.past_calls.proofs.on_roots.answer_on.Goals as goal
 
 pub loop-init : goal.loop-init
 loop-init g c = record {
   of = c.requires.work;
   own = refl;
+  changed = refl;
   sees = λ now roots sees. sees;
   few = let few = few_on c.args.defs.now (database_of c.args.call.now) c.args.work.now c.args.call.now c.requires.dedbs in
       omega (arith, few);
@@ -38,6 +39,11 @@ pub returns-in-Answer-clause-sees : goal.returns-in-Answer-clause-sees
 returns-in-Answer-clause-sees g c now roots sees =
     still_sees (target_of c.args.defs.now (database_of c.args.call.now)) c.loop.work c.answer.new.work now
     c.answer.ensures.others (c.loop.invariant.sees now roots sees)
+
+pub returns-in-Answer-clause-leaves : goal.returns-in-Answer-clause-leaves
+returns-in-Answer-clause-leaves g c =
+    leaves_on (target_of c.args.defs.now (database_of c.args.call.now)) c.args.work.now c.loop.work c.answer.new.work
+    c.loop.invariant.own c.loop.invariant.changed c.answer.ensures.others
 
 -- the anchor is handed in
 pub loop-preserved : goal.loop-preserved
@@ -66,6 +72,9 @@ loop-preserved g c =
           (sym c.in_ok-roots-in-Need.ensures) (c.requires.shapes dedb anchor def at))
           c.answer.ensures.of;
       own = own ∙ ap (λ (w : Progress). w.own) still ∙ c.loop.invariant.own;
+      changed =
+          ap (λ (w : Progress). w.changed) c.hold_anchor.ensures.same ∙ ap (λ (w : Progress). w.changed) still
+          ∙ c.loop.invariant.changed;
       sees = λ at its seen.
           c.hold_anchor.ensures.sees at (its dedb anchor ∙ sym c.in_ok-roots-in-Need.ensures)
           (subst (λ (w : Progress). Sees at w.anchors) (sym still) (c.loop.invariant.sees at its seen));

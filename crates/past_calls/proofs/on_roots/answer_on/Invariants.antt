@@ -12,6 +12,7 @@ abbrev pub invariant-loop : goal.invariant-loop
 invariant-loop g l = record {
   of : IsWorkOf l.defs l.work;
   own : l.work.own ≡ l.initial.work.own;
+  changed : l.work.changed ≡ l.initial.work.changed;
   sees :
       (now : Db) → AreRootsOf now (g.R.AnchorRoots.roots l.state) → Sees now l.initial.work.anchors
       → Sees now l.work.anchors;

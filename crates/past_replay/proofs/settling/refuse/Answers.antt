@@ -48,6 +48,8 @@ returns-in-Err-Verify-clause-alone c dedbs own reply hands full =
     let place = c.args.place in
     let now : Db = state_at place c.args.pasts.now dedbs in
     let fails = c.in-Err-Verify in
+    let said : c.verify.result ≡ alone.Ends (Verify fails.call fails.fsa fails.found) []
+    = rw fails.field-0-is at c.verify.ensures in
     let is : c.try_settle.result ≡ Err (fault.Verify fails.call fails.fsa fails.found)
     = fails.is ∙ ap Err fails.field-0-is in
     let next = databases_at (place + 1) c.try_settle.new.pasts in
@@ -62,4 +64,4 @@ returns-in-Err-Verify-clause-alone c dedbs own reply hands full =
     ∙ subst (λ (r : Result (Unit {0}) QueueFault). IsQueue defs.msdbs c.args.parts.now.deferred now.msdbs r queue.0) is
     queue.1))
     ∙ refused_same (Verify fails.call fails.fsa fails.found) now.msdbs next dedbs (sym same)
-    ∙ ap (with_next (state_at (place + 1) c.try_settle.new.pasts dedbs)) (sym c.verify.ensures)
+    ∙ ap (with_next (state_at (place + 1) c.try_settle.new.pasts dedbs)) (sym said)

@@ -4,10 +4,10 @@ use Rattle.past_replay.proofs.ListLemmas.{each_has}
 use Rattle.past_replay.proofs.running.Running.run.Goals as goal
 
 pub returns-in-Some : goal.returns-in-Some
-returns-in-Some c = rw c.in-Some.is at (c.in_ok-end.ensures.ends c.loop.counter c.loop.invariant)
+returns-in-Some g c = rw c.in-Some.is at (c.in_ok-end.ensures.ends c.loop.counter c.loop.invariant)
 
 pub unreachable-requires : goal.unreachable-requires
-unreachable-requires c =
+unreachable-requires g c =
     let s = c.loop.invariant in
     let cheap : full_cost s.script.statements ≤ 10000
     = each_has (λ script. full_cost script.statements ≤ 10000) c.args.it.now.scripts.now.scripts

@@ -2,4 +2,4 @@ use Rattle.past_replay.specs.Running.{IsUnderWay}
 use Rattle.past_replay.proofs.running.Running.run.Given as goal
 
 abbrev pub invariant-loop : goal.invariant-loop
-invariant-loop l = IsUnderWay l.it l.counter l.self
+invariant-loop g l = IsUnderWay l.it l.counter l.self
