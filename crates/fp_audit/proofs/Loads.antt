@@ -11,7 +11,7 @@ use Rattle.fp_model.specs.Texts.{same_text}
 use Rattle.fp_model.specs.WellFormed.{IsLoaded, IsMsdbDef}
 use Rattle.fp_model.specs.declared.database.Msdb.{Msdb}
 use Rattle.fp_model.specs.declared.definitions.MsdbDef.{MsdbDef}
-use Rattle.past_segments.specs.Pasts.{IsPastOf, databases_at}
+use Rattle.past_segments.specs.Pasts.{ArePastsOf, IsPastOf, databases_at}
 use Rattle.past_segments.specs.Times.{IsSettledBy, Past, database_at}
 use Rattle.key_order.proofs.Ascending.{all_but, all_put, with_one_ascends}
 
@@ -136,7 +136,8 @@ past_is def past is = record {
 
 -- the databases of the definitions so far
 pub record AreLoaded (defs : List MsdbDef) (pasts : List Past) : Type 0 where
-  pub ready : AreReady defs 0 pasts
+  pub are : ArePastsOf defs pasts
+  pub settled : AllByRecursion (IsSettledBy 0) pasts
   pub start : (p : ℕ) → databases_at p pasts ≡ map loaded defs
 
 each_more : {A B : Type 0} (R : A → B → Type 0) (xs : List A) (ys : List B) (x : A) (y : B) → AllZip R xs ys → R x y
@@ -159,10 +160,8 @@ loaded_more defs i d old new past within d_is are new_is is settled shows =
     take_more defs i d within ∙ ap (λ e. take i defs ++ e ∷ []) (sym d_is) in
     subst (λ ds. AreLoaded ds new) (sym front)
     (subst (AreLoaded (take i defs ++ d ∷ [])) (sym new_is) (record {
-      ready = record {
-        are = each_more IsPastOf (take i defs) old d past are.ready.are is;
-        settled = all_more (IsSettledBy 0) old past are.ready.settled settled;
-      };
+      are = each_more IsPastOf (take i defs) old d past are.are is;
+      settled = all_more (IsSettledBy 0) old past are.settled settled;
       start = λ p. map-append (database_at p) old (past ∷ []) ∙ ap (λ ms. ms ++ database_at p past ∷ []) (are.start p)
           ∙ ap (λ m. map loaded (take i defs) ++ m ∷ []) (shows p) ∙ sym (map-append loaded (take i defs) (d ∷ []));
     }))

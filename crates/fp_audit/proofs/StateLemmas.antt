@@ -1,7 +1,7 @@
 -- The states of a history, one more of them, and those where nothing changed.
 use Rattle.std.proofs.Common.{◌≡◌, ◌∙◌, refl, sym, ap, ℕ, zero, suc, ◌+◌, ◌<◌, ◌≤◌, List, [], ◌∷◌, ◌++◌, length, take, drop, Some, None, Bool, true, false, arith, ◌⊎◌, inl, inr, length-append}
 use Rattle.std.proofs.lemmas.Bool.{ltb-true, ltb-false}
-use Rattle.std.specs.Prelude.{slice_get, nat_lt, if◌then◌else◌}
+use Rattle.std.specs.Prelude.{OnOk, Result, Ok, Err, slice_get, nat_lt, if◌then◌else◌}
 use Rattle.std.specs.List.{AllByRecursion}
 use Rattle.fp_model.specs.declared.database.Db.{Db}
 use Rattle.fp_model.specs.declared.database.Dedb.{Dedb}
@@ -70,6 +70,11 @@ keeps_same it =
 pub next_ready : (it : SoFar) → AreReady it.defs.now it.place it.pasts.items it.anchors
     → AreReady it.defs.now (it.place + 1) it.pasts.items it.anchors
 next_ready it ready = ready_later it.defs.now it.place it.pasts.items it.anchors it.anchors ready ready.shape
+
+-- what holds whatever the answer is
+pub on_any : {A E : Type 0} {P : Type 0} (r : Result A E) → P → OnOk r P
+on_any (Ok a) p = p
+on_any (Err e) p = tt
 
 -- the state of the next place is the one now
 pub stays_now : (it : SoFar) (h : History) → AreReady it.defs.now it.place it.pasts.items it.anchors → Stands it h

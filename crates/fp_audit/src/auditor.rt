@@ -3,7 +3,7 @@ ghost use Rattle.fp_exits.specs.Kinds.{kinds_of};
 ghost use Rattle.fp_model.specs.History.{History, beginning};
 ghost use Rattle.fp_model.specs.Product.{rules_of};
 ghost use Rattle.fp_model.specs.State.{start};
-ghost use Rattle.past_replay.specs.Setup.{IsSetup};
+ghost use Rattle.fp_audit.specs.Setup.{AreRead, AreSpread};
 ghost use Rattle.std.specs.Prelude.{◌≡◌, IfOk, IsErr, Ok, OnErr, false, true};
 
 use crate::loading::first_pasts;
@@ -21,18 +21,15 @@ use txn_lang::Scripts;
 /// before it. Contracts see an `Audit`, which stands at the history that the entries make (`IsAt`).
 #[derive(Drop)]
 pub struct Auditor<'a> {
-    exits: &'a Exits,
     so_far: SoFar<'a>,
     verdict: Verdict,
 }
 
 impl<'a> Model for Auditor<'a> {
     ghost use Rattle.fp_audit.specs.Audit.{Audit};
-    ghost use Rattle.fp_audit.specs.Setup.{AreReady, IfLegal};
-    ghost use Rattle.fp_exits.specs.Kinds.{kinds_of};
+    ghost use Rattle.fp_audit.specs.Setup.{AreRead, AreReady, IfLegal};
     ghost use Rattle.fp_model.specs.contracts.database.Node as node;
     ghost use Rattle.fp_model.specs.contracts.scripts.Statement as statement;
-    ghost use Rattle.past_replay.specs.Setup.{IsSetup};
     ghost use Rattle.std.specs.Coded.{codes};
 
     ghost Value = { Audit };
@@ -50,7 +47,7 @@ impl<'a> Model for Auditor<'a> {
       verdict = a.verdict;
     } };
 
-    ghost invariant = { λ a. IsSetup a.so_far.defs.now (kinds_of a.exits.now) a.so_far.scripts.now.scripts
+    ghost invariant = { λ a. AreRead a.so_far.defs.now a.so_far.scripts.now.scripts
         × IfLegal a.verdict (AreReady a.so_far.defs.now a.so_far.place a.so_far.pasts.items a.so_far.anchors) };
 }
 
@@ -59,22 +56,21 @@ impl<'a> Auditor<'a> {
 
     /// Before the first entry of a log whose front has this format. It fails only for want of memory.
     ///
-    /// Condition: definitions that were read, with the exits that they name, and scripts that were read under them.
+    /// Condition: definitions that were read, and scripts that were read under them.
     pub fn new(
         alloc: Global,
         defs: &'a Defs,
         scripts: &'a Scripts,
-        exits: &'a Exits,
         format: u8,
     ) -> Result<Auditor<'a>, AllocError>
-        requires setup { IsSetup defs.now (kinds_of exits.now) scripts.now.scripts }
+        requires read { AreRead defs.now scripts.now.scripts }
 
         // It stands where no entry came, by the rules of these.
         ensures begins { IfOk result (λ auditor. IsAt auditor (beginning format (start defs.now))) }
         ensures rules { IfOk result (λ auditor. rules_in auditor ≡ rules_of defs.now scripts.now.scripts) }
+        ensures defs { IfOk result (λ auditor. auditor.defs ≡ defs.now) }
     {
         Ok(Auditor {
-            exits,
             so_far: SoFar {
                 alloc,
                 defs,
@@ -89,8 +85,12 @@ impl<'a> Auditor<'a> {
     }
 
     /// Whether the entry is legal behind those before it. Behind one that isn't it answers false for good. It fails
-    /// only for want of memory, and then for good.
-    pub fn next(&mut self, e: &Entry) -> Result<bool, AllocError>
+    /// only for want of memory, and then for good. The exits spread the keys of data entry databases.
+    ///
+    /// Condition: the exits that the definitions name.
+    pub fn next(&mut self, exits: &Exits, e: &Entry) -> Result<bool, AllocError>
+        requires spread { AreSpread self.old.defs (kinds_of exits.now) }
+
         // True comes where the entry may come, and false exactly where it may not.
         ensures legal { (h : History) → IsAt self.old h
             → IfOk result (λ legal. legal ≡ true → StandsBehind self.new e.now h) }
@@ -103,15 +103,16 @@ impl<'a> Auditor<'a> {
         ensures spends { OnErr result (IsSpent self.new) }
         ensures spent { IsSpent self.old → IsErr result }
 
-        // The rules stay.
+        // The rules stay, and the definitions.
         ensures rules { rules_in self.new ≡ rules_in self.old }
+        ensures defs { self.new.defs ≡ self.old.defs }
     {
         match self.verdict {
             Verdict::Legal => {}
             Verdict::Illegal => return Ok(false),
             Verdict::Spent => return Err(AllocError),
         }
-        match self.so_far.take(self.exits, e) {
+        match self.so_far.take(exits, e) {
             Ok(true) => Ok(true),
             Ok(false) => {
                 self.verdict = Verdict::Illegal;

@@ -10,10 +10,10 @@ use Rattle.fp_audit.proofs.StateLemmas.{all_changed, notes_within}
 use Rattle.fp_audit.proofs.so_far.SoFar.run.Goals as goal
 
 pub replay-requires-clause-notes : goal.replay-requires-clause-notes
-replay-requires-clause-notes c = notes_within c.args.e.now.from c.args.self.now.place c.args.e.now.notes c.requires.order
+replay-requires-clause-notes g c = notes_within c.args.e.now.from c.args.self.now.place c.args.e.now.notes c.requires.order
 
 pub returns-clause-found : goal.returns-clause-found
-returns-clause-found c = λ h stands asks.
+returns-clause-found g c = λ h stands asks.
     let it = c.args.self.now in
     let e = c.args.e.now in
     let old = it.pasts.items in

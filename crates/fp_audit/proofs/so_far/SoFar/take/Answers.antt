@@ -9,7 +9,7 @@ use Rattle.fp_audit.proofs.StateLemmas.{place_more, states_more}
 use Rattle.fp_audit.proofs.so_far.SoFar.take.Goals as goal
 
 pub returns-clause-legal : goal.returns-clause-legal
-returns-clause-legal c = λ h stands is.
+returns-clause-legal g c = λ h stands is.
     let it = c.args.self.now in
     let e = c.args.e.now in
     let new = c.leads.new.self in
