@@ -17,7 +17,7 @@ use Rattle.fp_audit.specs.declared.verdict.Verdict.TheVariants as verdict
 
 -- Definitions that were read, and scripts that were read under them: their calls fit the databases that they name, and
 -- none makes more than 10,000 of them.
-pub record AreRead (defs : Defs) (scripts : List Script) : Type 0 where
+pub record CanAudit (defs : Defs) (scripts : List Script) : Type 0 where
   pub good : AreDefs defs
   pub suit : AllByRecursion (λ script. all_suit defs script.statements ≡ true) scripts
   pub cheap : AllByRecursion (λ script. full_cost script.statements ≤ 10000) scripts

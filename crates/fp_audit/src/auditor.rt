@@ -3,7 +3,7 @@ ghost use Rattle.fp_exits.specs.Kinds.{kinds_of};
 ghost use Rattle.fp_model.specs.History.{History, beginning};
 ghost use Rattle.fp_model.specs.Product.{rules_of};
 ghost use Rattle.fp_model.specs.State.{start};
-ghost use Rattle.fp_audit.specs.Setup.{AreRead, AreSpread};
+ghost use Rattle.fp_audit.specs.Setup.{CanAudit, AreSpread};
 ghost use Rattle.std.specs.Prelude.{◌≡◌, IfOk, IsErr, Ok, OnErr, false, true};
 
 use crate::loading::first_pasts;
@@ -27,7 +27,7 @@ pub struct Auditor<'a> {
 
 impl<'a> Model for Auditor<'a> {
     ghost use Rattle.fp_audit.specs.Audit.{Audit};
-    ghost use Rattle.fp_audit.specs.Setup.{AreRead, AreReady, IfLegal};
+    ghost use Rattle.fp_audit.specs.Setup.{CanAudit, AreReady, IfLegal};
     ghost use Rattle.fp_model.specs.contracts.database.Node as node;
     ghost use Rattle.fp_model.specs.contracts.scripts.Statement as statement;
     ghost use Rattle.std.specs.Coded.{codes};
@@ -47,7 +47,7 @@ impl<'a> Model for Auditor<'a> {
       verdict = a.verdict;
     } };
 
-    ghost invariant = { λ a. AreRead a.so_far.defs.now a.so_far.scripts.now.scripts
+    ghost invariant = { λ a. CanAudit a.so_far.defs.now a.so_far.scripts.now.scripts
         × IfLegal a.verdict (AreReady a.so_far.defs.now a.so_far.place a.so_far.pasts.items a.so_far.anchors) };
 }
 
@@ -63,7 +63,7 @@ impl<'a> Auditor<'a> {
         scripts: &'a Scripts,
         format: u8,
     ) -> Result<Auditor<'a>, AllocError>
-        requires read { AreRead defs.now scripts.now.scripts }
+        requires can { CanAudit defs.now scripts.now.scripts }
 
         // It stands where no entry came, by the rules of these.
         ensures begins { IfOk result (λ auditor. IsAt auditor (beginning format (start defs.now))) }

@@ -2,6 +2,7 @@
 
 use crate::sample::{ACCOUNTS, CUSTOMERS, System, exits};
 use fp_audit::Auditor;
+use fp_exits::Exits;
 use fp_model::{Bytes, Entry, List, Outcome};
 use std::alloc::{AllocError, Global};
 use std::test::Fail;
@@ -222,11 +223,12 @@ fn entry(alloc: Global, row: Row) -> Result<Entry, AllocError> {
 fn first_illegal(
     alloc: Global,
     auditor: &mut Auditor,
+    exits: &Exits,
     rows: &[Row],
 ) -> Result<Option<usize>, AllocError> {
     for (place, row) in rows.iter().enumerate() {
         let entry = entry(alloc, *row)?;
-        if !auditor.next(&entry)? {
+        if !auditor.next(exits, &entry)? {
             return Ok(Some(place));
         }
     }
@@ -245,12 +247,12 @@ fn illegal_behind(
     let exits = exits(alloc)?;
     let defs = system.definitions(alloc, &exits)?;
     let scripts = system.scripts(alloc, &defs, &exits)?;
-    let mut auditor = Auditor::new(alloc, &defs, &scripts, &exits, 1)?;
-    let found = first_illegal(alloc, &mut auditor, &log[..front.min(log.len())])?;
+    let mut auditor = Auditor::new(alloc, &defs, &scripts, 1)?;
+    let found = first_illegal(alloc, &mut auditor, &exits, &log[..front.min(log.len())])?;
     let Some(row) = row else {
         return Ok(found);
     };
-    let last = first_illegal(alloc, &mut auditor, &[row])?;
+    let last = first_illegal(alloc, &mut auditor, &exits, &[row])?;
     Ok(found.or(last.map(|_| front)))
 }
 

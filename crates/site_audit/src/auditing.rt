@@ -1,4 +1,5 @@
 //! The audit of a log's groups.
+ghost use Rattle.fp_audit.specs.Setup.{AreSpread, CanAudit};
 ghost use Rattle.fp_audit.specs.Standing.{IsAt, rules_in};
 ghost use Rattle.fp_exits.specs.Kinds.{kinds_of};
 ghost use Rattle.fp_model.specs.Groups.{Groups, IsDamaged, Reads};
@@ -10,7 +11,6 @@ ghost use Rattle.fp_site.specs.Site.{ReadsNothing};
 ghost use Rattle.log_groups.specs.Images.{BeginsFor, as_front, in_format};
 ghost use Rattle.log_groups.specs.Kept.{IsSound};
 ghost use Rattle.log_groups.specs.Reads.{HasGroup, ReadsOnlyLog};
-ghost use Rattle.past_replay.specs.Setup.{IsSetup};
 ghost use Rattle.site_audit.specs.Judged.{AreBroken, AreRead, ComesTo, GoesOnTo, IsOneRead};
 ghost use Rattle.site_audit.specs.Legal.{IsBrokenAt, IsIllegalLog, IsLegalLog};
 ghost use Rattle.site_audit.specs.Verdicts.{SendsVerdict, legal_text};
@@ -48,7 +48,8 @@ pub fn audit<T: Site>(
     site: &mut T,
 ) -> Result<u64, AuditFault>
     requires fits { FitsFront (as_front front.now) }
-    requires setup { IsSetup defs.now (kinds_of exits.now) scripts.now.scripts }
+    requires can { CanAudit defs.now scripts.now.scripts }
+    requires spread { AreSpread defs.now (kinds_of exits.now) }
 
     // At Ok all entries are legal, and their number is sent.
     ensures legal { T.told site.old → IfOk result
@@ -113,7 +114,8 @@ fn read_log<T: Site>(
     site: &mut T,
 ) -> Result<Place, AuditFault>
     requires fits { FitsFront (as_front front.now) }
-    requires setup { IsSetup defs.now (kinds_of exits.now) scripts.now.scripts }
+    requires can { CanAudit defs.now scripts.now.scripts }
+    requires spread { AreSpread defs.now (kinds_of exits.now) }
     ensures legal { T.told site.old → IfOk result (λ end. end.illegal ≡ None →
         IsLegalLog defs.now scripts.now.scripts (as_front front.now) ((T.disk site.old).contents 0) end.entries) }
     ensures illegal { (entry : ℕ) → T.told site.old → IfOk result (λ end. end.illegal ≡ Some entry →
@@ -136,17 +138,19 @@ fn read_log<T: Site>(
     ensures site { GoesOn T.told T.faults T.holds T.keeps site.old site.new }
 {
     let mut log = Log::open(alloc, site, front)?;
-    let mut auditor = Auditor::new(alloc, defs, scripts, exits, log.format())?;
-    audit_groups(&mut log, &mut auditor, site)
+    let mut auditor = Auditor::new(alloc, defs, scripts, log.format())?;
+    audit_groups(&mut log, &mut auditor, exits, site)
 }
 
 // Reads and judges all groups from a log's gate on, up to the first gate that isn't open.
 fn audit_groups<T: Site>(
     log: &mut Log,
     auditor: &mut Auditor,
+    exits: &Exits,
     site: &mut T,
 ) -> Result<Place, AuditFault>
     requires gate { log.old.gate ≤ 2 ^ 62 }
+    requires spread { AreSpread auditor.old.defs (kinds_of exits.now) }
     ensures whole { (format : ℕ) → IsAt auditor.old (beginning format (rules_in auditor.old).start) → T.told site.old
         → IfOk result (λ end. AreRead (rules_in auditor.old) format (IsAt auditor.new) ((T.disk site.old).contents 0)
         log.old.gate end) }
@@ -176,7 +180,7 @@ fn audit_groups<T: Site>(
         illegal: None,
     };
     loop {
-        let Some(next) = audit_group(log, auditor, site, place)? else {
+        let Some(next) = audit_group(log, auditor, exits, site, place)? else {
             return Ok(place);
         };
         place = next;
@@ -188,11 +192,13 @@ fn audit_groups<T: Site>(
 fn audit_group<T: Site>(
     log: &mut Log,
     auditor: &mut Auditor,
+    exits: &Exits,
     site: &mut T,
     place: Place,
 ) -> Result<Option<Place>, AuditFault>
     requires at { place.at ≤ 2 ^ 62 }
     requires entries { place.entries ≤ place.at }
+    requires spread { AreSpread auditor.old.defs (kinds_of exits.now) }
     ensures goes_on { IfOk result (λ next. IfSome next
         (λ n. (place.at < n.at) × (n.at ≤ 2 ^ 62) × (n.entries ≤ n.at))) }
     ensures some { T.told site.old → IfOk result (λ next. IfSome next (λ n. IsOneRead (rules_in auditor.old)
@@ -201,6 +207,7 @@ fn audit_group<T: Site>(
         (slice_index ((T.disk site.old).contents 0) place.at ≢ 1)) }
     ensures kept { IfOk result (λ next. IfNone next (auditor.new ≡ auditor.old)) }
     ensures rules { rules_in auditor.new ≡ rules_in auditor.old }
+    ensures defs { auditor.new.defs ≡ auditor.old.defs }
     ensures damaged { (at : ℕ) → T.told site.old → IsErrOf result (faults.Damaged at)
         → (at ≡ place.at) × IsDamaged ((T.disk site.old).contents 0) at }
     ensures never { (IsErrOf result faults.Foreign → ⊥) × ((entry : ℕ) → IsErrOf result (faults.Illegal entry) → ⊥) }
@@ -232,7 +239,7 @@ fn audit_group<T: Site>(
         // A site that tells what it holds never comes here.
         return Err(AuditFault::Damaged(place.at));
     }
-    let illegal = first_illegal(auditor, group.entries.as_slice(), place)?;
+    let illegal = first_illegal(auditor, exits, group.entries.as_slice(), place)?;
     Ok(Some(Place {
         at: group.next,
         entries: place.entries + group.entries.len() as u64,
@@ -243,30 +250,40 @@ fn audit_group<T: Site>(
 // The place of the first entry that isn't legal, of those before a place and these behind it.
 fn first_illegal(
     auditor: &mut Auditor,
+    exits: &Exits,
     entries: &[Entry],
     place: Place,
 ) -> Result<Option<u64>, AllocError>
-    requires { place.entries + length entries.now ≤ 2 ^ 62 }
+    requires few { place.entries + length entries.now ≤ 2 ^ 62 }
+    requires spread { AreSpread auditor.old.defs (kinds_of exits.now) }
     ensures found { IfOk result (GoesOnTo (rules_in auditor.old) (IsAt auditor.old) (IsAt auditor.new) entries.now
         place.entries place.illegal) }
     ensures rules { rules_in auditor.new ≡ rules_in auditor.old }
+    ensures defs { auditor.new.defs ≡ auditor.old.defs }
 {
     match place.illegal {
         Some(entry) => Ok(Some(entry)),
-        None => judge(auditor, entries, place.entries),
+        None => judge(auditor, exits, entries, place.entries),
     }
 }
 
 // Hands entries to an auditor up to the first that isn't legal, and tells the place of that one. The first of them has
 // this place in the log.
-fn judge(auditor: &mut Auditor, entries: &[Entry], first: u64) -> Result<Option<u64>, AllocError>
-    requires { first + length entries.now ≤ 2 ^ 62 }
+fn judge(
+    auditor: &mut Auditor,
+    exits: &Exits,
+    entries: &[Entry],
+    first: u64,
+) -> Result<Option<u64>, AllocError>
+    requires few { first + length entries.now ≤ 2 ^ 62 }
+    requires spread { AreSpread auditor.old.defs (kinds_of exits.now) }
     ensures found { (h : History) → IsAt auditor.old h
         → IfOk result (ComesTo (rules_in auditor.old) (IsAt auditor.new) h entries.now first) }
     ensures rules { rules_in auditor.new ≡ rules_in auditor.old }
+    ensures defs { auditor.new.defs ≡ auditor.old.defs }
 {
     for (number, entry) in entries.iter().enumerate() {
-        if !auditor.next(entry)? {
+        if !auditor.next(exits, entry)? {
             return Ok(Some(first + number as u64));
         }
     }

@@ -22,12 +22,12 @@ use Rattle.fp_system.proofs.acting.audit_on.Goals as goal
 pub audit-requires : goal.audit-requires
 audit-requires g c = record {
   fits = c.requires.fits;
-  setup = record {
+  spread =
+      subst (λ (dedbs : List DedbDef).
+      AllByRecursion (λ (dedb : DedbDef). has_kind (kinds_of c.args.exits.now).spreaders dedb.randomizer ≡ true) dedbs)
+      (sym c.requires.no_dedbs) tt;
+  can = record {
     good = c.requires.are;
-    spread =
-        subst (λ (dedbs : List DedbDef).
-        AllByRecursion (λ (dedb : DedbDef). has_kind (kinds_of c.args.exits.now).spreaders dedb.randomizer ≡ true) dedbs)
-        (sym c.requires.no_dedbs) tt;
     suit = what_was_read_suits c.args.setup.now.defs c.args.setup.now.scripts.text c.args.setup.now.scripts.scripts
         c.requires.scripts;
     cheap = c.requires.runs.cheap;

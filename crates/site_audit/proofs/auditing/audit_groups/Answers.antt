@@ -32,6 +32,7 @@ loop-next-init g c =
       within = search rules;
       entries = search rules;
       rules = refl;
+      defs = refl;
       same = refl;
       read_so_far = λ format begins t.
           are_read_none its format (IsAt c.args.auditor.now) (old.contents 0) first c.gate.result (search rules) begins;
@@ -65,6 +66,7 @@ loop-next-preserved g c =
       within = search rules;
       entries = search rules;
       rules = call.rules ∙ it.rules;
+      defs = call.defs ∙ it.defs;
       same = call.same ∙ it.same;
       read_so_far = λ format begins t.
           are_read_more its format (IsAt before) stands bytes _ c.loop-next.place next (it.read_so_far format begins t)

@@ -13,6 +13,7 @@ invariant-loop-next g l = record {
   within : l.place.at ≤ 2 ^ 62;
   entries : l.place.entries ≤ l.place.at;
   rules : rules_in l.auditor ≡ rules_in l.initial.auditor;
+  defs : l.auditor.defs ≡ l.initial.auditor.defs;
   same : l.log ≡ l.initial.log;
   read_so_far : (format : ℕ) → IsAt l.initial.auditor (beginning format (rules_in l.initial.auditor).start)
       → g.T.Site.told l.initial.site → AreRead (rules_in l.initial.auditor) format (IsAt l.auditor)

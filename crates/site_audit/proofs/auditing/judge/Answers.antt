@@ -9,7 +9,7 @@ use Rattle.site_audit.proofs.Judging.{leads_more, leads_no_more}
 use Rattle.site_audit.proofs.auditing.judge.Goals as goal
 
 pub loop-number-preserved : goal.loop-number-preserved
-loop-number-preserved c =
+loop-number-preserved g c =
     let it = c.loop-number.invariant in
     let its = rules_in c.args.auditor.now in
     let es = c.args.entries.now in
@@ -27,10 +27,11 @@ loop-number-preserved c =
             ),
           );
       rules = c.next.ensures.rules ∙ it.rules;
+      defs = c.next.ensures.defs ∙ it.defs;
     }
 
 pub returns-then-not-branch-clause-found : goal.returns-then-not-branch-clause-found
-returns-then-not-branch-clause-found c h at =
+returns-then-not-branch-clause-found g c h at =
     let it = c.loop-number.invariant in
     let its = rules_in c.args.auditor.now in
     let es = c.args.entries.now in
@@ -49,7 +50,7 @@ returns-then-not-branch-clause-found c h at =
     }
 
 pub returns-clause-found : goal.returns-clause-found
-returns-clause-found c h at =
+returns-clause-found g c h at =
     let mid = c.loop-number.invariant.stands h at in
     let es = c.args.entries.now in (
       mid.0,
