@@ -1,4 +1,7 @@
 //! Logs of a few entries, worked out by hand, and the first of them that isn't legal.
+ghost use Rattle.fp_audit.specs.Setup.{AreSpread};
+ghost use Rattle.fp_exits.specs.Kinds.{kinds_of};
+ghost use Rattle.std.specs.Prelude.{◌≡◌};
 
 use crate::sample::{ACCOUNTS, CUSTOMERS, System, exits};
 use fp_audit::Auditor;
@@ -225,7 +228,10 @@ fn first_illegal(
     auditor: &mut Auditor,
     exits: &Exits,
     rows: &[Row],
-) -> Result<Option<usize>, AllocError> {
+) -> Result<Option<usize>, AllocError>
+    requires { AreSpread auditor.old.defs (kinds_of exits.now) }
+    ensures { auditor.new.defs ≡ auditor.old.defs }
+{
     for (place, row) in rows.iter().enumerate() {
         let entry = entry(alloc, *row)?;
         if !auditor.next(exits, &entry)? {

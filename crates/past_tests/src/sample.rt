@@ -1,4 +1,5 @@
 //! Definitions and scripts that logs are run again and audited under.
+ghost use Rattle.fp_audit.specs.Setup.{CanAudit};
 ghost use Rattle.fp_exits.specs.Kinds.{has_kind, kinds_of};
 ghost use Rattle.fp_exits.specs.Ranges.{IsRoutable, IsSpreadable};
 ghost use Rattle.fp_model.specs.Exits.{route, spread};
@@ -245,7 +246,8 @@ impl System {
         requires defs { AreDefs defs.now }
         requires spread { AllByRecursion
             (λ dedb. has_kind (kinds_of exits.now).spreaders dedb.randomizer ≡ true) defs.now.dedbs }
-        ensures { IfOk result (λ scripts. IsSetup defs.now (kinds_of exits.now) scripts.scripts) }
+        ensures setup { IfOk result (λ scripts. IsSetup defs.now (kinds_of exits.now) scripts.scripts) }
+        ensures can { IfOk result (λ scripts. CanAudit defs.now scripts.scripts) }
     {
         definitions_have_byte_numbers();
         what_was_read_fits();
