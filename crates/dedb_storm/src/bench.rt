@@ -11,6 +11,7 @@ use crate::fault::Fault;
 use crate::fitting::fits_call;
 use ci_locks::Locks;
 use dedb_calls::{DedbReady, DedbWork, answer};
+use dli_calls::RegionLocks;
 use fp_exits::Exits;
 use fp_model::{Answer, Call, Defs, List, Mode, Resource};
 use std::alloc::Global;
@@ -80,7 +81,11 @@ fn ask_once(
     if !fits_at(defs, number, work, call) {
         return Err(Fault::Unfit);
     }
-    Ok(answer(alloc, work, call, number, defs, exits, locks, REGION)?)
+    let locks = RegionLocks {
+        locks,
+        region: REGION,
+    };
+    Ok(answer(alloc, work, call, number, defs, exits, &locks)?)
 }
 
 /// Asks a call once, and gains the lock that it needs.

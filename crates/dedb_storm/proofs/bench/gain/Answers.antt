@@ -6,7 +6,7 @@ use Rattle.fp_model.specs.Shape.{is_anchor}
 use Rattle.fp_model.specs.Waiting.{Lock}
 use Rattle.fp_model.specs.declared.calls.Resource.TheVariants.{Anchor}
 use Rattle.fp_model.specs.declared.database.Root.{Root}
-use Rattle.dedb_calls.proofs.KnowLemmas.{knows_more}
+use Rattle.dli_calls.proofs.KnowLemmas.{knows_more}
 use Rattle.dedb_storm.proofs.bench.gain.Goals as goal
 
 pub returns : goal.returns
@@ -25,7 +25,8 @@ returns c =
       shows = shows2;
       known =
           knows_more (standing c.args.locks.now) (standing c.ask.new.self) c.in_ok-ask.field-0 c.requires.all
-          c.requires.requests (requests_after c.in_ok-ask.field-0 wanted c.requires.requests) 1 c.args.number c.args.anchor
+          c.requires.requests (requests_after c.in_ok-ask.field-0 wanted c.requires.requests) 1 c.args.number
+          c.args.anchor
           c.args.mode c.args.work.now.anchors c.hold_anchor.new.self.anchors c.requires.shows shows2
           c.in_ok-hold_anchor.ensures.has c.hold_anchor.ensures.others c.requires.known;
     }
