@@ -25,7 +25,7 @@ use Rattle.dedb_calls.specs.declared.anchors.HeldAnchor.{HeldAnchor}
 use Rattle.dedb_calls.proofs.AnchorLemmas.{after_differs, turned}
 use Rattle.dli_calls.specs.Progress.{IsWorkOf, Progress, dedbs_in}
 use Rattle.dli_calls.specs.Targets.{FitsWork, IfDedb, LeavesOthers}
-use Rattle.dli_calls.proofs.TargetLemmas.{on_dedb}
+use Rattle.dedb_calls.proofs.TargetLemmas.{on_dedb}
 use Rattle.dedb_call_tests.specs.Bank.{AreFree, AreKept, IsGoing, IsKept, KeepsOthers, StartsAt}
 
 -- ---- as it begins

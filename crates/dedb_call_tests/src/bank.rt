@@ -140,7 +140,8 @@ pub(crate) fn roots_at(
     }
 }
 
-fn database_of(call: &Call) -> u8
+/// The database that a call names.
+pub(crate) fn database_of(call: &Call) -> u8
     ensures { result ≡ database_of call.now }
 {
     match call {

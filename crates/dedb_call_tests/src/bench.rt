@@ -12,6 +12,7 @@ ghost use Rattle.std.specs.Prelude.{◌≡◌, ◌<◌, IfOk, IsTrue, Some, leng
 use crate::fitting::fits_call;
 use ci_locks::Locks;
 use dedb_calls::{DedbReady, DedbWork, answer};
+use dli_calls::RegionLocks;
 use fp_exits::{Exits, Router, Routing, Spreader, Spreading, fold_group, fold_place};
 use fp_model::{Answer, Call, Defs, Kind, List, Mode, Name, Resource};
 use std::alloc::Global;
@@ -127,7 +128,11 @@ fn ask_once(
     if !fits_first(defs, work, call) {
         return Err(Fail::from("a call that doesn't fit"));
     }
-    Ok(answer(alloc, work, call, 0, defs, exits, locks, REGION)?)
+    let locks = RegionLocks {
+        locks,
+        region: REGION,
+    };
+    Ok(answer(alloc, work, call, 0, defs, exits, &locks)?)
 }
 
 /// Asks a call once, and gains the lock that it needs.

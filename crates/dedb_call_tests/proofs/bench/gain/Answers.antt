@@ -6,7 +6,7 @@ use Rattle.fp_model.specs.Shape.{is_anchor}
 use Rattle.fp_model.specs.Waiting.{Lock}
 use Rattle.fp_model.specs.declared.calls.Resource.TheVariants.{Anchor}
 use Rattle.fp_model.specs.declared.database.Root.{Root}
-use Rattle.dedb_calls.proofs.KnowLemmas.{knows_more}
+use Rattle.dli_calls.proofs.KnowLemmas.{knows_more}
 use Rattle.dedb_call_tests.proofs.bench.gain.Goals as goal
 
 pub returns : goal.returns
