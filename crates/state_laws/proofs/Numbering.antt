@@ -298,7 +298,7 @@ pub record HasShapeAndRoom (defs : Defs) (inserts : List SeqInsert) (db : Db) : 
   pub good : IsDbOf defs db
   pub room : (area : Area) → Contains (areas_of defs) area → HasRoom db inserts area
 
-one_insert : (defs : Defs) (db : Db) (i : SeqInsert) (others : List SeqInsert) → FitsSeqInsert defs i
+pub one_insert : (defs : Defs) (db : Db) (i : SeqInsert) (others : List SeqInsert) → FitsSeqInsert defs i
     → HasShapeAndRoom defs (i ∷ others) db → HasShapeAndRoom defs others (with_insert defs db i)
 one_insert defs db i others fit has = by (find (λ area. takes area i) (areas_of defs)) refl
   where

@@ -108,7 +108,7 @@ formatted_good def = record {
     no_serials (suc own) (suc first) zero = refl
     no_serials (suc own) (suc first) (suc n) = no_serials (suc own) first n
 
-all_formatted : (defs : List DedbDef) → AllZip IsDedbOf defs (map formatted defs)
+pub all_formatted : (defs : List DedbDef) → AllZip IsDedbOf defs (map formatted defs)
 all_formatted [] = tt
 all_formatted (def ∷ defs) = (formatted_good def, all_formatted defs)
 

@@ -1,0 +1,6 @@
+pub mod Areas
+pub mod Dropping
+pub mod Fulls
+pub mod Inserting
+pub mod Lists
+pub mod Standing

@@ -1,0 +1,5 @@
+pub mod Databases
+pub mod Fullness
+pub mod Inserts
+pub mod Places
+pub mod Purges
