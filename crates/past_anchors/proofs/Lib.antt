@@ -3,3 +3,4 @@ pub mod Dropping
 pub mod Fulls
 pub mod Inserting
 pub mod Lists
+pub mod Standing

@@ -3,7 +3,8 @@ ghost use Rattle.fp_model.specs.Commit.{first_full, purged, with_anchors, with_i
 ghost use Rattle.fp_model.specs.State.{areas_of, first_area_set, formatted, roots_at};
 ghost use Rattle.fp_model.specs.WellFormed.{AreDefs};
 ghost use Rattle.fp_model.specs.declared.database.Msdb.{Msdb as MsdbOf};
-ghost use Rattle.past_anchors.specs.Databases.{AreDedbsOf, FitsCommit, HasRoom, state_of};
+ghost use Rattle.fp_model.specs.declared.definitions.Defs.{Defs as DefsOf};
+ghost use Rattle.past_anchors.specs.Databases.{AreDedbsOf, FitsAnchor, FitsCommit, HasRoom, state_of};
 ghost use Rattle.past_anchors.specs.Fullness.{full_as};
 ghost use Rattle.std.specs.Prelude.{◌≡◌, IfOk, List as ListOf, OnOk, Some, None, false, if◌then◌else◌, map, option_map};
 
@@ -59,8 +60,9 @@ impl Anchors {
 
     /// A copy of the roots of an anchor, for a transaction that locks it. It fails only for want of memory.
     pub fn copy_roots(&self, dedb: u8, anchor: u32) -> Result<List<Root>, AllocError>
-        ensures { (msdbs : ListOf MsdbOf)
+        ensures copy { (msdbs : ListOf MsdbOf)
             → IfOk result (λ roots. roots ≡ roots_at (state_of msdbs self.now) dedb anchor) }
+        ensures shape { (defs : DefsOf) → AreDedbsOf defs self.now → IfOk result (FitsAnchor defs dedb anchor) }
     {
         let mut copies = self.dedbs.empty_like();
         for root in self.roots(dedb, anchor) {

@@ -1,2 +1,3 @@
 mod Settled
 mod Reruns
+mod Fitting

@@ -4,7 +4,11 @@
 #![tactic(auto)]
 
 #[cfg(test)]
+mod anchors;
+#[cfg(test)]
 mod audits;
+#[cfg(test)]
+mod customers;
 #[cfg(test)]
 mod entries;
 #[cfg(test)]
