@@ -1,14 +1,14 @@
-use Rattle.std.proofs.Common.{refl}
+use Rattle.std.proofs.Common.{refl, []}
+use Rattle.past_anchors.proofs.Standing.{roots_fit}
 use Rattle.past_segments.specs.Pasts.{databases_at}
 use Rattle.past_replay.specs.Running.{now_of}
 use Rattle.past_replay.proofs.HoldingLemmas.{defers_one}
-use Rattle.past_replay.proofs.ShapeLemmas.{roots_shape}
 use Rattle.past_replay.proofs.running.Rerun.reply.Goals as goal
 
 pub answer_on-requires-clause-shapes : goal.answer_on-requires-clause-shapes
 answer_on-requires-clause-shapes g c =
     let it = c.args.self.now in
-    λ dedb anchor def at. roots_shape it.defs.now (now_of it) c.requires.can.shape dedb anchor def at
+    λ dedb anchor def at. roots_fit it.defs.now [] it.anchors.now dedb anchor c.requires.can.shape def at
 
 pub answer_on-requires-clause-somewhere : goal.answer_on-requires-clause-somewhere
 answer_on-requires-clause-somewhere g c = (now_of c.args.self.now, (λ dedb anchor. refl), c.requires.sees)
