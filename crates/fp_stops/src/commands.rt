@@ -1,15 +1,11 @@
 //! The text and the number of each answer, and answers that come before the site is looked at.
-ghost use Rattle.std.specs.Prelude.{◌≡◌};
-ghost use Rattle.fp_exits.specs.Ranges.{IsRoutable};
-ghost use Rattle.fp_model.specs.Exits.{route};
-
+use crate::steps::status_over;
 use fp_defs::DefsFault;
-use fp_exits::{Exits, Router, Routing, fold_group};
 use fp_model::{Bytes, Kind, Name};
 use fp_schedule::ScheduleFault;
-use fp_site::MemorySite;
+use fp_site::{MemorySite, Site};
 use fp_source::{MemorySource, Part};
-use fp_system::{Status, fault_text, ims};
+use fp_system::{Status, fault_text};
 use std::alloc::{AllocError, Global};
 use std::test::Fail;
 use txn_lang::ScriptFault;
@@ -22,30 +18,6 @@ fn said(alloc: Global, status: &Status) -> Result<String, AllocError> {
     let number = status.number();
     let text = str::from_utf8(text.as_slice()).unwrap_or("no text");
     format!(in alloc; "{text}|{number}")
-}
-
-// What a command answers over parts and a site, where the exits are one router, FOLD.
-pub(crate) fn answer(
-    alloc: Global,
-    words: &[&str],
-    source: &mut MemorySource,
-    site: &mut MemorySite,
-) -> Result<Status, AllocError> {
-    let fold: Routing = Box::new(
-        alloc,
-        |tran: &Name, n: u64| -> u64
-            requires { IsRoutable tran.now n }
-            ensures { result ≡ route Kind.Fold n tran.now }
-        { fold_group(tran, n) },
-    )?;
-    let mut routers = Vec::new(alloc);
-    routers.push(Router::new(Kind::Fold, fold))?;
-    let exits = Exits::new(Vec::new(alloc), routers);
-    let mut texts = Vec::new(alloc);
-    for word in words {
-        texts.push(word.to_string(alloc)?)?;
-    }
-    Ok(ims(alloc, &texts, source, site, &exits))
 }
 
 // What a command says over these parts and a new site, and whether it left the site as it was.
@@ -64,7 +36,7 @@ fn refused(
     ];
     let mut source = MemorySource::new(alloc, parts, &[])?;
     let mut site = MemorySite::new(alloc, &[])?;
-    let status = answer(alloc, words, &mut source, &mut site)?;
+    let status = status_over(alloc, words, &mut source, &mut site)?;
     Ok((said(alloc, &status)?, site.contents(0).is_empty()))
 }
 

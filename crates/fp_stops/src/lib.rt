@@ -2,20 +2,20 @@
 #![tactic(auto)]
 
 #[cfg(test)]
-mod audits;
-#[cfg(test)]
 mod commands;
 #[cfg(test)]
-mod logs;
+mod formats;
 #[cfg(test)]
-mod numbers;
+mod logs;
 #[cfg(test)]
 mod restarts;
 #[cfg(test)]
 mod runs;
 #[cfg(test)]
-mod schedules;
+mod steps;
 #[cfg(test)]
-mod stopped_runs;
+mod stops;
+#[cfg(test)]
+mod systems;
 #[cfg(test)]
 mod texts;

@@ -1,107 +1,11 @@
-//! Whole runs over a site in memory: what is sent, and what the log holds.
-use crate::commands::answer;
-use fp_model::Bytes;
-use fp_site::{MemorySite, Site};
-use fp_source::MemorySource;
-use fp_system::Status;
-use std::alloc::{AllocError, Global};
+//! Whole runs: their reply lines, the bytes of a group, a second run, another's log, a damaged gate, a line that is too
+//! long, a read that fails; and regions that take turns by a schedule.
+use crate::steps::{Answer, Folder, Row, Step, first_wrong};
+use crate::systems::{EACH_SEALED, ONE_REGION, PAIRS};
 use std::test::Fail;
 
-pub(crate) const DEFINITIONS: &str = "regions = [1]
-router = \"FOLD\"
-[[msdb]]
-name = \"ACCTS\"
-fields = [[\"ACCT\", \"C\", 4], [\"BAL\", \"P\", 4]]
-load = [[\"A001\", \"100\"], [\"A002\", \"50\"]]
-[[msdb]]
-name = \"TELLERS\"
-dynamic = true
-fields = [[\"TNO\", \"C\", 4], [\"CASH\", \"F\", 4]]
-load = [[\"T001\", \"0\"]]
-";
-
-pub(crate) const SCRIPTS: &str = "TRAN DEPOSIT
-FLD ACCTS KEY(#1) BAL + #2
-IF STATUS NE ''
-ROLB 1
-END
-REPLY 'NEW'
-TRAN WDRAW
-FLD ACCTS KEY(#1) BAL H #2 BAL - #2
-IF STATUS NE ''
-ROLB 7
-END
-REPLY 'PAID ' #2
-TRAN ASK
-GU ACCTS KEY(#1)
-IF STATUS NE ''
-REPLY 'NONE'
-END
-REPLY IO.BAL
-TRAN SETBAL
-GHU ACCTS KEY(#1)
-REPL ACCTS BAL=#2
-REPLY 'SET'
-TRAN TWICE
-FLD ACCTS KEY(#1) BAL + #2
-IF STATUS NE ''
-ROLB 2
-END
-FLD ACCTS KEY(#1) BAL + #2
-REPLY 'TWO'
-TRAN HIRE
-ISRT TELLERS TNO=#1 CASH=0
-SET A STATUS
-ISRT TELLERS TNO=#1 CASH=0
-REPLY A '/ ' STATUS
-";
-
-// Eight messages one after another: each is read, run to its end, and sealed before the next.
-const SCHEDULE: &str = "IN R1 R1 R1 R1 R1 R1 R1 R1 LOG
-IN R1 R1 R1 R1 R1 R1 R1 R1 LOG
-IN R1 R1 R1 R1 R1 R1 R1 R1 LOG
-IN R1 R1 R1 R1 R1 R1 R1 R1 LOG
-IN R1 R1 R1 R1 R1 R1 R1 R1 LOG
-IN R1 R1 R1 R1 R1 R1 R1 R1 LOG
-IN R1 R1 R1 R1 R1 R1 R1 R1 LOG
-IN R1 R1 R1 R1 R1 R1 R1 R1 LOG
-";
-
-// What a command answers over the definitions, these scripts, the schedule, these messages, and a site; the reads with
-// these numbers fail.
-pub(crate) fn run(
-    alloc: Global,
-    command: &str,
-    scripts: &str,
-    messages: &[u8],
-    failing: &[u64],
-    site: &mut MemorySite,
-) -> Result<Status, AllocError> {
-    let parts = [
-        Bytes::from_slice(alloc, DEFINITIONS.as_bytes())?,
-        Bytes::from_slice(alloc, scripts.as_bytes())?,
-        Bytes::from_slice(alloc, SCHEDULE.as_bytes())?,
-        Bytes::from_slice(alloc, messages)?,
-    ];
-    let mut source = MemorySource::new(alloc, parts, failing)?;
-    answer(alloc, &[command, "D"], &mut source, site)
-}
-
-// A new site, and the answer of a run on it.
-pub(crate) fn new_run(alloc: Global, messages: &[u8]) -> Result<(Status, MemorySite), AllocError> {
-    let mut site = MemorySite::new(alloc, &[])?;
-    let _ = run(alloc, "define", SCRIPTS, b"", &[], &mut site)?;
-    let status = run(alloc, "run", SCRIPTS, messages, &[], &mut site)?;
-    Ok((status, site))
-}
-
-// Where the first gate of the log stands.
-fn first_gate() -> usize {
-    17 + DEFINITIONS.len() + SCRIPTS.len()
-}
-
-// Messages, and the reply lines that are sent.
-const REPLIES: [(&str, &str); 9] = [
+// Messages one after another, and the lines that they are answered.
+const REPLIES: [(&str, &str); 15] = [
     ("", ""),
     ("T1 DEPOSIT A001 10\n", "T1 OK NEW\n"),
     ("T1 DEPOSIT A009 10\n", "T1 NO ROLB 1\n"),
@@ -123,101 +27,288 @@ const REPLIES: [(&str, &str); 9] = [
         "T1 NO UNKNOWN\n? NO UNKNOWN\nT2 OK NONE\n",
     ),
     ("T1 HIRE T009\nT2 HIRE T001\n", "T1 OK / XP\nT2 OK II/ II\n"),
+    // With numbers.
+    ("T1 1 ASK A001\nT1 1 ASK A001\n", "T1 OK 100\nT1 OK 100\n"),
+    (
+        "T1 7 NOSUCH\nT1 7 ASK A001\n",
+        "T1 NO UNKNOWN\nT1 NO UNKNOWN\n",
+    ),
+    (
+        "T1 2 DEPOSIT A009 1\nT1 2 DEPOSIT A001 1\nT1 ASK A001\n",
+        "T1 NO ROLB 1\nT1 NO ROLB 1\nT1 OK 100\n",
+    ),
+    ("T1 5 ASK A001\nT2 1 ASK A002\n", "T1 OK 100\nT2 OK 50\n"),
+    ("T1 01 ASK A001\n", "T1 NO UNKNOWN\n"),
+    ("T1 5 ASK A001\nT1 4 NOSUCH\n", "T1 OK 100\nT1 NO OLD 5\n"),
 ];
 
 #[test]
 fn messages_have_their_replies(rt: HostRuntime) -> Result<(), Fail> {
-    for (messages, wanted) in REPLIES {
-        let (status, site) = new_run(rt.alloc(), messages.as_bytes())?;
-        assert_eq!(rt; status, Status::Done, "at {messages:?}");
-        assert_eq!(rt; site.sent(), wanted.as_bytes(), "at {messages:?}");
+    for (messages, sent) in REPLIES {
+        let mut folder = Folder::new(rt.alloc(), ONE_REGION)?;
+        let made = folder.take(Step::Define)?;
+        let ran = folder.take(Step::Run {
+            schedule: EACH_SEALED,
+            messages,
+            sent,
+        })?;
+        assert!(rt; made && ran, "at {messages:?}");
     }
     Ok(())
 }
 
-// The bytes of a log of one run behind its front.
-fn groups_behind(alloc: Global, message: &[u8]) -> Result<Bytes, AllocError> {
-    let (_, site) = new_run(alloc, message)?;
-    let log = site.contents(0);
-    Bytes::from_slice(alloc, log.get(first_gate()..).unwrap_or(b""))
-}
-
-#[test]
-fn a_deposit_is_this_group(rt: HostRuntime) -> Result<(), Fail> {
-    let group = groups_behind(rt.alloc(), b"T1 DEPOSIT A001 10\n")?;
-    let wanted = b"\x01\x00\x00\x00\x00\x00\x00\x00\x4b\x00\x00\x00\x00\x00\x00\x00\x43\
+const RUNS: [Row; 9] = [
+    // A deposit and a rollback are these groups.
+    Row {
+        system: ONE_REGION,
+        steps: &[
+            Step::Define,
+            Step::Run {
+                schedule: EACH_SEALED,
+                messages: "T1 DEPOSIT A001 10\n",
+                sent: "T1 OK NEW\n",
+            },
+            Step::Groups(
+                b"\x01\x00\x00\x00\x00\x00\x00\x00\x4b\x00\x00\x00\x00\x00\x00\x00\x43\
 \x00\x00\x00\x00\x00\x00\x00\x00\x00\x00\x12T1 DEPOSIT A001 10\x00\x03NEW\x00\x00\x00\x01\
-\x00\x00\x00\x00\x00\x00\x00\x00\x00\x00\x00\x01\x01\x00\x04A001\x00\x08A001\x00\x00\x11\x0c\x00";
-    assert_eq!(rt; group.as_slice(), wanted.as_slice());
-    Ok(())
-}
-
-#[test]
-fn a_rollback_is_this_group(rt: HostRuntime) -> Result<(), Fail> {
-    let group = groups_behind(rt.alloc(), b"T1 DEPOSIT A009 10\n")?;
-    let wanted = b"\x01\x00\x00\x00\x00\x00\x00\x00\x39\x00\x00\x00\x00\x00\x00\x00\x31\
+\x00\x00\x00\x00\x00\x00\x00\x00\x00\x00\x00\x01\x01\x00\x04A001\x00\x08A001\x00\x00\x11\x0c\x00",
+            ),
+        ],
+    },
+    Row {
+        system: ONE_REGION,
+        steps: &[
+            Step::Define,
+            Step::Run {
+                schedule: EACH_SEALED,
+                messages: "T1 DEPOSIT A009 10\n",
+                sent: "T1 NO ROLB 1\n",
+            },
+            Step::Groups(
+                b"\x01\x00\x00\x00\x00\x00\x00\x00\x39\x00\x00\x00\x00\x00\x00\x00\x31\
 \x00\x00\x00\x00\x00\x00\x00\x00\x02\x00\x01\x00\x12T1 DEPOSIT A009 10\x00\x00\x00\x00\x00\x01\
-\x00\x00\x00\x00\x00\x00\x00\x00\x00\x00\x00\x00\x00";
-    assert_eq!(rt; group.as_slice(), wanted.as_slice());
+\x00\x00\x00\x00\x00\x00\x00\x00\x00\x00\x00\x00\x00",
+            ),
+        ],
+    },
+    // A second run goes on.
+    Row {
+        system: ONE_REGION,
+        steps: &[
+            Step::Define,
+            Step::Run {
+                schedule: EACH_SEALED,
+                messages: "T1 DEPOSIT A001 10\n",
+                sent: "T1 OK NEW\n",
+            },
+            Step::Run {
+                schedule: EACH_SEALED,
+                messages: "T1 DEPOSIT A001 5\nT2 ASK A001\n",
+                sent: "T1 OK NEW\nT2 OK 115\n",
+            },
+        ],
+    },
+    // A number is used once.
+    Row {
+        system: ONE_REGION,
+        steps: &[
+            Step::Define,
+            Step::Run {
+                schedule: EACH_SEALED,
+                messages: "T1 1 DEPOSIT A001 10\n",
+                sent: "T1 OK NEW\n",
+            },
+            Step::Run {
+                schedule: EACH_SEALED,
+                messages: "T1 1 DEPOSIT A001 10\nT1 3 ASK A001\nT1 2 ASK A001\n",
+                sent: "T1 OK NEW\nT1 OK 110\nT1 NO OLD 3\n",
+            },
+        ],
+    },
+    // Another's log stays as it is.
+    Row {
+        system: ONE_REGION,
+        steps: &[
+            Step::Define,
+            Step::Foreign { command: "run" },
+            Step::Run {
+                schedule: EACH_SEALED,
+                messages: "T1 DEPOSIT A001 10\n",
+                sent: "T1 OK NEW\n",
+            },
+            Step::Foreign { command: "show" },
+            Step::Foreign { command: "log" },
+            Step::Foreign { command: "audit" },
+        ],
+    },
+    // An open gate before zeros is damage.
+    Row {
+        system: ONE_REGION,
+        steps: &[
+            Step::Define,
+            Step::Put {
+                back: 1,
+                bytes: b"\x01\0\0\0\0\0\0\0\0\0\0\0",
+            },
+            Step::End {
+                command: "run",
+                failing: &[],
+                answer: Answer::Damaged { back: 12 },
+                sent: "",
+            },
+        ],
+    },
+    // A line that is too long ends the run.
+    Row {
+        system: ONE_REGION,
+        steps: &[
+            Step::Define,
+            Step::RunTooLong {
+                schedule: EACH_SEALED,
+                messages: "T1 DEPOSIT A001 10\n",
+                number: 2,
+                sent: "T1 OK NEW\n",
+            },
+        ],
+    },
+    // A read may fail in the middle.
+    Row {
+        system: ONE_REGION,
+        steps: &[
+            Step::Define,
+            Step::End {
+                command: "run",
+                failing: &[7],
+                answer: Answer::ReadFault,
+                sent: "T1 OK NEW\n",
+            },
+        ],
+    },
+    // The first read of the schedule, behind two of the definitions and two of the scripts: a making doesn't read it.
+    Row {
+        system: PAIRS,
+        steps: &[
+            Step::End {
+                command: "define",
+                failing: &[4],
+                answer: Answer::Done,
+                sent: "",
+            },
+            Step::End {
+                command: "run",
+                failing: &[4],
+                answer: Answer::ReadFault,
+                sent: "",
+            },
+            Step::GroupsLength(0),
+        ],
+    },
+];
+
+#[test]
+fn each_run_comes_to_what_is_wanted(rt: HostRuntime) -> Result<(), Fail> {
+    assert_eq!(rt; first_wrong(rt.alloc(), &RUNS)?, None);
     Ok(())
 }
 
+// A schedule of two regions, messages, what is sent, and how many bytes the groups of the log have.
+const SCHEDULES: [(&str, &str, &str, usize); 8] = [
+    (
+        "",
+        "T1 DEPOSIT A001 5\nT2 WDRAW A001 105\nT3 ASK A001\n",
+        "T1 OK NEW\nT2 NO ROLB 7\nT3 OK 105\n",
+        199,
+    ),
+    (
+        "IN IN R1 R2 R1 R2 R1 R2 R1 R2 R2 LOG",
+        "T1 WDRAW A001 60\nT2 WDRAW A001 60\nT3 ASK A001\n",
+        "T1 OK PAID 60\nT2 NO VERIFY\nT3 OK 40\n",
+        210,
+    ),
+    (
+        "IN IN R1 R2 R1 R2 R1 R2 R1 R2 R2 LOG",
+        "T1 WDRAW A001 60\nT2 WDRAW A001 40\nT3 ASK A001\n",
+        "T1 OK PAID 60\nT2 OK PAID 40\nT3 OK 0\n",
+        221,
+    ),
+    (
+        "IN IN R1 R2 R1 R2 R1 R1 R2 R2 R1 R1 CKPT",
+        "T1 BOTH A001 A002\nT2 BOTH A002 A001\n",
+        "T2 NO DEADLOCK\nT1 OK 100+50\n",
+        119,
+    ),
+    (
+        "IN IN R1 R2 R1 R1 R1 R1 R1 R2 R2",
+        "T1 BOTH A001 A002\nT2 BOTH A002 A001\n",
+        "T1 OK 100+50\nT2 OK 50+100\n",
+        122,
+    ),
+    (
+        "IN IN R1 R1 R1 R1 R1 IN OUT LOG IN R2 R2",
+        "T1 DEPOSIT A001 5\nT1 ASK A001\nT2 NOSUCH\n",
+        "T1 OK NEW\nT2 NO UNKNOWN\nT1 OK 105\n",
+        181,
+    ),
+    (
+        "IN IN IN R2 R2 R1 R1 R1 R1 LOG",
+        "T1 ASK A001\nT2 DEPOSIT A001 5\nT3 NOSUCH\n",
+        "T3 NO UNKNOWN\nT2 OK NEW\nT1 OK 100\n",
+        181,
+    ),
+    (
+        "IN\tIN\r\n\r\n LOG",
+        "T1 NOSUCH\n\nT2 ASK A002\n",
+        "T1 NO UNKNOWN\n? NO UNKNOWN\nT2 OK 50\n",
+        135,
+    ),
+];
+
 #[test]
-fn a_second_run_goes_on(rt: HostRuntime) -> Result<(), Fail> {
-    let alloc = rt.alloc();
-    let (_, mut site) = new_run(alloc, b"T1 DEPOSIT A001 10\n")?;
-    let messages = b"T1 DEPOSIT A001 5\nT2 ASK A001\n";
-    let status = run(alloc, "run", SCRIPTS, messages, &[], &mut site)?;
-    assert_eq!(rt; status, Status::Done);
-    assert_eq!(rt;
-        site.sent(),
-        b"T1 OK NEW\nT1 OK NEW\nT2 OK 115\n".as_slice()
-    );
+fn a_schedule_says_whose_turn_it_is(rt: HostRuntime) -> Result<(), Fail> {
+    for (schedule, messages, sent, length) in SCHEDULES {
+        let mut folder = Folder::new(rt.alloc(), PAIRS)?;
+        let made = folder.take(Step::Define)?;
+        let ran = folder.take(Step::Run {
+            schedule,
+            messages,
+            sent,
+        })?;
+        let long = folder.take(Step::GroupsLength(length))?;
+        assert!(rt; made && ran && long, "at {schedule:?} {messages:?}");
+    }
     Ok(())
 }
 
-#[test]
-fn other_scripts_are_foreign(rt: HostRuntime) -> Result<(), Fail> {
-    let alloc = rt.alloc();
-    let (_, mut site) = new_run(alloc, b"")?;
-    let length = site.contents(0).len();
-    let status = run(alloc, "run", "TRAN A\n", b"T1 A\n", &[], &mut site)?;
-    assert_eq!(rt; status, Status::Foreign);
-    assert_eq!(rt; (site.contents(0).len(), site.sent().len()), (length, 0));
-    Ok(())
-}
+// Schedules of two deposits before a line that is too long, and what was sent by then: what a LOG sealed, and nothing
+// else. A question behind it is answered by what is left.
+const CUT_SHORT: [(&str, &str, &str); 4] = [
+    ("", "", "T3 OK 100\n"),
+    ("IN IN IN", "", "T3 OK 100\n"),
+    ("IN R1 R1 R1 R1 IN R1 R1 R1 R1", "", "T3 OK 100\n"),
+    (
+        "IN R1 R1 R1 R1 LOG IN R2 R2 R2 R2 IN",
+        "T1 OK NEW\n",
+        "T3 OK 110\n",
+    ),
+];
 
 #[test]
-fn an_open_gate_before_zeros_is_damage(rt: HostRuntime) -> Result<(), Fail> {
-    let alloc = rt.alloc();
-    let (_, mut site) = new_run(alloc, b"")?;
-    let at = first_gate() as u64;
-    assert!(rt; at < 1 << 20);
-    let _ = site.write_at(0, at, b"\x01\0\0\0\0\0\0\0\0\0\0\0");
-    let status = run(alloc, "run", SCRIPTS, b"", &[], &mut site)?;
-    assert_eq!(rt; status, Status::Damaged { set: 0, at });
-    Ok(())
-}
-
-#[test]
-fn a_line_that_is_too_long_ends_the_run(rt: HostRuntime) -> Result<(), Fail> {
-    let alloc = rt.alloc();
-    let mut messages = b"T1 DEPOSIT A001 10\n".to_vec(alloc)?;
-    messages.resize(19 + 2101, b'A')?;
-    messages.push(b'\n')?;
-    let (status, site) = new_run(alloc, &messages)?;
-    assert_eq!(rt; status, Status::Line { number: 2 });
-    assert_eq!(rt; site.sent(), b"T1 OK NEW\n".as_slice());
-    Ok(())
-}
-
-#[test]
-fn a_read_may_fail_in_the_middle(rt: HostRuntime) -> Result<(), Fail> {
-    let alloc = rt.alloc();
-    let (_, mut site) = new_run(alloc, b"")?;
-    let messages = b"T1 DEPOSIT A001 10\n";
-    let status = run(alloc, "run", SCRIPTS, messages, &[7], &mut site)?;
-    assert_eq!(rt; status, Status::ReadFault);
-    assert_eq!(rt; site.sent(), b"T1 OK NEW\n".as_slice());
+fn what_is_not_sealed_is_lost_at_a_line_that_is_too_long(rt: HostRuntime) -> Result<(), Fail> {
+    for (schedule, sent, asked) in CUT_SHORT {
+        let mut folder = Folder::new(rt.alloc(), PAIRS)?;
+        let made = folder.take(Step::Define)?;
+        let ended = folder.take(Step::RunTooLong {
+            schedule,
+            messages: "T1 DEPOSIT A001 10\nT2 DEPOSIT A001 20\n",
+            number: 3,
+            sent,
+        })?;
+        let left = folder.take(Step::Run {
+            schedule: "",
+            messages: "T3 ASK A001\n",
+            sent: asked,
+        })?;
+        assert!(rt; made && ended && left, "at {schedule:?}");
+    }
     Ok(())
 }

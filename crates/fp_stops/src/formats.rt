@@ -1,0 +1,171 @@
+//! Sites of format 1, which are migrated before they take messages with numbers.
+ghost use Rattle.fp_model.specs.LogText.{FitsEntry, FitsFront, KeepsRules};
+ghost use Rattle.log_groups.specs.Images.{as_front};
+ghost use Rattle.std.specs.Prelude.{◌<◌, ◌^◌, IfOk, length};
+
+use crate::steps::{Input, NOTHING, run};
+use crate::systems::ONE_REGION;
+use fp_model::{Bytes, Entry, List, Outcome};
+use fp_site::{MemorySite, Site, Snapshot};
+use fp_system::Status;
+use log_groups::{Front, Log};
+use std::alloc::{AllocError, Global};
+use std::test::Fail;
+
+// A part of a run, as a front has it.
+fn part(alloc: Global, text: &str) -> Result<Bytes, AllocError>
+    ensures { IfOk result (λ bytes. length bytes < 2 ^ 32) }
+{
+    let bytes = Bytes::from_slice(alloc, text.as_bytes())?;
+    if bytes.len() > 1_000_000 {
+        return Err(AllocError);
+    }
+    Ok(bytes)
+}
+
+// The front of a log of format 1 for the parts of a run.
+fn old_front(alloc: Global) -> Result<Front, AllocError>
+    ensures { IfOk result (λ front. FitsFront (as_front front)) }
+{
+    Ok(Front {
+        format: 1,
+        defs: part(alloc, ONE_REGION.definitions)?,
+        scripts: part(alloc, ONE_REGION.scripts)?,
+    })
+}
+
+// The entry that a run in format 1 made of a line that looks numbered.
+fn old_entry(alloc: Global) -> Result<Entry, AllocError>
+    ensures rules { IfOk result KeepsRules }
+    ensures fits { IfOk result FitsEntry }
+{
+    let line = Bytes::from_slice(alloc, b"T1 1 ASK A001")?;
+    Ok(Entry {
+        from: 0,
+        outcome: Outcome::Unknown,
+        line,
+        reply: Bytes::new(alloc),
+        notes: List::new(alloc),
+        items: List::new(alloc),
+    })
+}
+
+// Makes a log of format 1 with that entry, and answers whether no call failed.
+fn write_old(alloc: Global, site: &mut MemorySite) -> Result<bool, AllocError> {
+    let front = old_front(alloc)?;
+    if Log::make(alloc, site, &front).is_err() {
+        return Ok(false);
+    }
+    let Ok(mut log) = Log::open(alloc, site, &front) else {
+        return Ok(false);
+    };
+    log.append(&old_entry(alloc)?)?;
+    Ok(log.seal(site, 1).is_ok())
+}
+
+// A site of format 1.
+fn old_site(alloc: Global) -> Result<MemorySite, AllocError> {
+    let mut site = MemorySite::new(alloc, &[])?;
+    let _ = write_old(alloc, &mut site)?;
+    Ok(site)
+}
+
+// What a command over no messages answers, and how long the log is then.
+fn done(
+    alloc: Global,
+    command: &str,
+    site: &mut MemorySite,
+) -> Result<(Status, usize), AllocError> {
+    let (status, _) = run(alloc, command, ONE_REGION, NOTHING, site)?;
+    Ok((status, site.contents(0).len()))
+}
+
+// A line that looked like one without a number in format 1.
+const LINE: Input<'static> = Input {
+    schedule: "",
+    messages: b"T1 1 ASK A001\n",
+    failing: &[],
+};
+
+// Whether it is answered, as where no number was used.
+fn is_answered(alloc: Global, site: &mut MemorySite) -> Result<bool, AllocError> {
+    let (status, sent) = run(alloc, "run", ONE_REGION, LINE, site)?;
+    Ok(status == Status::Done && sent.as_slice() == b"T1 OK 100\n".as_slice())
+}
+
+// The entry of a migration with its length, the length of its group, and the gate.
+const FORMAT_GROUP: usize = 1 + 8 + (8 + 8 + 1 + 2 + 2 + 4 + 4);
+
+#[test]
+fn a_site_of_format_1_is_migrated_before_a_run(rt: HostRuntime) -> Result<(), Fail> {
+    let alloc = rt.alloc();
+    let mut site = old_site(alloc)?;
+    let long = site.contents(0).len();
+    assert_eq!(rt; done(alloc, "run", &mut site)?, (Status::OldFormat, long));
+    let behind = long + FORMAT_GROUP;
+    for time in 1..3 {
+        assert_eq!(rt;
+            done(alloc, "migrate", &mut site)?,
+            (Status::Done, behind),
+            "time {time}"
+        );
+    }
+    assert!(rt; is_answered(alloc, &mut site)?);
+    Ok(())
+}
+
+#[test]
+fn a_new_site_is_left_by_a_migration(rt: HostRuntime) -> Result<(), Fail> {
+    let alloc = rt.alloc();
+    let mut site = MemorySite::new(alloc, &[])?;
+    let (made, long) = done(alloc, "define", &mut site)?;
+    let calls = site.faults();
+    assert_eq!(rt; made, Status::Done);
+    assert_eq!(rt; done(alloc, "migrate", &mut site)?, (Status::Done, long));
+    assert_eq!(rt; site.faults(), calls);
+    Ok(())
+}
+
+// Whether a site that begins as a snapshot is migrated, and then answers the line.
+fn goes_on(alloc: Global, snapshot: Snapshot) -> Result<bool, AllocError> {
+    let mut site = MemorySite::from_snapshot(alloc, snapshot, &[])?;
+    let (moved, _) = done(alloc, "migrate", &mut site)?;
+    Ok(moved == Status::Done && is_answered(alloc, &mut site)?)
+}
+
+// Whether each of eight snapshots does.
+fn all_go_on(alloc: Global, site: &MemorySite) -> Result<bool, AllocError> {
+    let mut all = true;
+    for choice in 0..8 {
+        all &= goes_on(alloc, site.snapshot_as(choice)?)?;
+    }
+    Ok(all)
+}
+
+#[test]
+fn each_call_of_a_migration_may_fail(rt: HostRuntime) -> Result<(), Fail> {
+    let alloc = rt.alloc();
+    let old = old_site(alloc)?;
+    for failing in 0..20 {
+        let mut site = MemorySite::from_snapshot(alloc, old.snapshot_as(0)?, &[failing])?;
+        let _ = done(alloc, "migrate", &mut site)?;
+        assert!(rt; all_go_on(alloc, &site)?, "call {failing}");
+    }
+    Ok(())
+}
+
+#[test]
+fn a_migration_may_be_stopped_at_each_call(rt: HostRuntime) -> Result<(), Fail> {
+    let alloc = rt.alloc();
+    let mut stops: u32 = 0;
+    for after in 0..50 {
+        let mut site = MemorySite::stopping(alloc, after)?;
+        if write_old(alloc, &mut site)? {
+            let _ = done(alloc, "migrate", &mut site)?;
+            assert!(rt; all_go_on(alloc, &site)?, "stopped at {after}");
+            stops = stops.saturating_add(1);
+        }
+    }
+    assert!(rt; stops > 20);
+    Ok(())
+}
