@@ -1,11 +1,11 @@
 -- Segments that are put behind the serials that are kept.
-use Rattle.std.proofs.Common.{◌≡◌, ◌≢◌, ℕ, ◌+◌, ◌-◌, ◌/◌, ◌<◌, ◌≤◌, inl, List, length, refl, sym, ap, ◌∙◌, arith}
+use Rattle.std.proofs.Common.{◌≡◌, ◌≢◌, ℕ, ◌+◌, ◌-◌, ◌/◌, ◌<◌, ◌≤◌, inl, List, length, refl, sym, ap, ◌∙◌, subst, arith}
 use Rattle.ci_space.specs.declared.intervals.Shape.{Shape}
 use Rattle.ci_space.specs.Interval.{kind_of}
 use Rattle.ci_overflow.specs.Lists.{bytes_at}
 use Rattle.seq_dependents.specs.declared.part.Part.{Part}
 use Rattle.seq_dependents.specs.Control.{begin_of, end_of, PutsEnds}
-use Rattle.seq_dependents.specs.Slots.{HoldsCapacity, IsSequential, slots_each, interval_of, slot_in, slot_of, part_of}
+use Rattle.seq_dependents.specs.Slots.{HoldsCapacity, IsSequential, slots_each, slot_number, interval_of, slot_in, slot_of, part_of}
 use Rattle.seq_dependents.specs.Puts.{Fills, Appends, segment_size}
 use Rattle.seq_dependents.proofs.Placing.{numbers_apart, slot_ends}
 use Rattle.seq_dependents.proofs.Fillings.{interval_behind, each_some}
@@ -57,6 +57,8 @@ appends part old mid new begin end next previous segments h kind eb ee few en f 
       holds = λ k l. rw (← ee, slot (end + k)) (f.holds k l);
       kept = λ serial s. slot serial ∙ f.others serial (λ k l. numbers_apart part serial (end + k)
           (omega (arith, ee, s.before_end)) (omega (arith, eb, ee, s.from_begin, few, l)));
+      slots = λ serial n. slot serial ∙ f.others serial
+          (λ k l. subst (λ e. slot_number part serial ≢ slot_number part (e + k)) (sym ee) (n k l));
       control = rw (← eb, ← ee, ← en, ← first) p.control;
       is_control = p.is_interval;
       others = λ ci n d. p.others ci n ∙ f.elsewhere ci d;

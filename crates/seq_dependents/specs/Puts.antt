@@ -65,6 +65,9 @@ pub record Appends (part : Part) (old new : List (List ℕ)) (previous : ℕ) (s
       (linked_to (end_of old) previous k) (get_or segments k [])
   -- every serial that is kept stays as it is in its slot
   pub kept : (serial : ℕ) → IsKept old serial → slot_of part new serial ≡ slot_of part old serial
+  -- and so does every other slot but those of the new serials
+  pub slots : (serial : ℕ) → ((k : ℕ) → k < length segments → slot_number part serial ≢ slot_number part (end_of old +
+      k)) → slot_of part new serial ≡ slot_of part old serial
   -- control's end moves, and no more in it
   pub control : ChangesEnds (bytes_at old 0) (bytes_at new 0) (begin_of old) (end_of old + length segments)
   pub is_control : IsInterval (bytes_at new 0)
