@@ -251,7 +251,8 @@ impl Folder {
 
     // The log behind its front, and behind the gate of a log without groups.
     fn groups(&self) -> &[u8] {
-        let front = 17 + self.system.definitions.len() + self.system.scripts.len();
+        let texts = self.system.definitions.len().saturating_add(self.system.scripts.len());
+        let front = texts.saturating_add(17);
         self.site.contents(0).get(front..).unwrap_or(b"")
     }
 
@@ -284,7 +285,7 @@ impl Folder {
             } => self.ends(command, one_deposit(failing), answer, sent),
             Step::Foreign { command } => self.is_foreign(command),
             Step::Put { back, bytes } => Ok(self.put(back, bytes)),
-            Step::GroupsLength(length) => Ok(self.groups().len() == length + 1),
+            Step::GroupsLength(length) => Ok(self.groups().len() == length.saturating_add(1)),
             Step::Groups(groups) => Ok(self.groups() == groups),
         }
     }

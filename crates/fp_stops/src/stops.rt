@@ -103,7 +103,7 @@ fn is_kept(
     snapshot: Snapshot,
     made: bool,
 ) -> Result<bool, AllocError> {
-    let answered = snapshot.sent.len().div_ceil(row.group);
+    let answered = snapshot.sent.len().div_ceil(row.group.max(1));
     let (status, text) = asked(alloc, row, snapshot)?;
     if status == Status::Foreign {
         return Ok(!made && answered == 0 && text.is_empty());
