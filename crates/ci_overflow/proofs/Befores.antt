@@ -1,5 +1,5 @@
 -- Intervals from which a list goes on, and the one whose link leads to another.
-use Rattle.std.proofs.Common.{◌≡◌, ◌≢◌, ℕ, ◌+◌, ◌<◌, ◌≤◌, ◌⊎◌, inl, inr, List, [], length, refl, sym, ap, ◌∙◌, subst, arith}
+use Rattle.std.proofs.Common.{◌≡◌, ◌≢◌, ℕ, ◌+◌, ◌<◌, ◌≤◌, inl, inr, List, [], length, refl, sym, ap, ◌∙◌, subst, arith}
 use Rattle.ci_space.specs.declared.intervals.Shape.{Shape}
 use Rattle.ci_space.specs.Interval.{kind_of}
 use Rattle.ci_overflow.specs.Places.{first_base, first_independent}
@@ -7,7 +7,7 @@ use Rattle.ci_overflow.specs.Lists.{bytes_at, link_of, owner_of, IsOwned}
 use Rattle.ci_overflow.specs.Faults.{HoldsLink, in_base, in_list, IsAtFault, unlisted}
 use Rattle.ci_overflow.specs.Moves.{IsBefore, IsInList, LeadsTo, EndsWithout}
 use Rattle.ci_overflow.specs.declared.before.Numbered.{Numbered}
-use Rattle.ci_overflow.proofs.Circles.{IsWalked, walk-begins, walk-on}
+use Rattle.ci_overflow.proofs.Circles.{IsWalked, walk-begins}
 use Rattle.ci_overflow.proofs.FaultLemmas.{IsBuilt}
 
 -- the link of such an interval is one of the list
