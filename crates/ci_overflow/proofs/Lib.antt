@@ -4,6 +4,7 @@ pub mod Joins
 pub mod Finds
 pub mod Orders
 pub mod Circles
+pub mod Befores
 pub mod Moving
 pub mod FaultLemmas
 pub mod Givings

@@ -9,7 +9,7 @@ use Rattle.ci_overflow.specs.Places.{first_base, first_independent}
 use Rattle.ci_overflow.specs.Lists.{bytes_at, link_of, owner_of, counted, first_free, IsOwned}
 use Rattle.ci_overflow.specs.Rooms.{IsPut, ChangesLink, ChangesEnds, PutsEnds}
 use Rattle.ci_overflow.specs.Moves.{IsBefore, PutsLink, PutsFree, Moves}
-use Rattle.ci_overflow.specs.declared.freed.Numbered.{Numbered}
+use Rattle.ci_overflow.specs.declared.before.Numbered.{Numbered}
 use Rattle.ci_overflow.proofs.Joins.{tiles-used, changes-link, first_free_is, counted_is, link_is_number}
 
 -- a link is put

@@ -4,15 +4,32 @@ use Rattle.ci_space.specs.declared.intervals.Shape.{Shape}
 use Rattle.ci_space.specs.Interval.{IsEmpty, kind_of}
 use Rattle.ci_space.specs.Head.{head_of, ends_of}
 use Rattle.ci_overflow.specs.Places.{first_base, first_independent}
-use Rattle.ci_overflow.specs.Lists.{bytes_at, link_of, owner_of, counted, first_free, IsOwned}
+use Rattle.ci_overflow.specs.Lists.{bytes_at, link_of, owner_of, counted, first_free, IsChain, Holds, IsOwned}
 use Rattle.ci_overflow.specs.Rooms.{KeepsUsed, IsPut, ChangesLink, ChangesEnds, PutsEnds}
-use Rattle.ci_overflow.specs.declared.freed.Numbered.{Numbered}
+use Rattle.ci_overflow.specs.declared.before.Numbered.{Numbered}
 
 -- an independent overflow interval of these bytes stands too far in front, or its owner is no unit of
 -- work that has base intervals
 abbrev pub HasNoUnit : Shape → ℕ → List ℕ → Type 0
 HasNoUnit shape ci bytes = (ci < first_independent shape)
     ⊎ ((owner_of bytes ≡ 0) ⊎ ((shape.uows < owner_of bytes) ⊎ (shape.base ≡ 0)))
+
+-- an interval from which a unit of work's list goes on: its first base interval, or one of the list
+pub record IsInList (shape : Shape) (area : List (List ℕ)) (uow : ℕ) (one : Numbered) : Type 0 where
+  pub is_bytes : one.interval ≡ bytes_at area one.ci
+  pub stands : (one.ci ≡ first_base shape uow) ⊎ IsOwned shape area (uow + 1) one.ci
+
+-- such a one whose link leads to `ci`, another one
+pub record LeadsTo (shape : Shape) (area : List (List ℕ)) (uow ci : ℕ) (before : Numbered) : Type 0 where
+  pub in_list : IsInList shape area uow before
+  pub leads : link_of (bytes_at area before.ci) ≡ ci
+  pub apart : before.ci ≢ ci
+
+-- the links from `first` on end, and `ci` isn't among their intervals
+pub record EndsWithout (area : List (List ℕ)) (first ci : ℕ) : Type 0 where
+  pub list : List ℕ
+  pub is_chain : IsChain area first list
+  pub without : ¬ Holds list ci
 
 -- the link of `before` leads to `ci` in a unit of work's list: of its first base interval, or of one of
 -- the list

@@ -7,13 +7,15 @@ ghost use Rattle.ci_space.specs.Interval.{IsInterval, IsUsed, IsEmpty, Keeps, ki
 ghost use Rattle.ci_overflow.specs.Places.{first_independent};
 ghost use Rattle.ci_overflow.specs.Lists.{bytes_at, owner_of, IsInOrder};
 ghost use Rattle.ci_overflow.specs.Freed.{GivesBack, TakesBack};
-ghost use Rattle.ci_overflow.specs.Moves.{Moves, IsBefore, PutsLink, PutsFree, HasNoUnit};
+ghost use Rattle.ci_overflow.specs.Moves.{Moves, PutsLink, PutsFree, HasNoUnit};
 ghost use Rattle.ci_overflow.specs.Faults.{IsAtFault};
 
 use crate::SpaceFault;
+use crate::before::{Numbered, find_before};
 use crate::joined::put_counts;
-use crate::places::{BASE, CONTROL, INDEPENDENT, NO_UOW, first_base, first_independent};
+use crate::places::{CONTROL, INDEPENDENT, NO_UOW, first_independent};
 use crate::reading::{Place, get, read, write};
+use crate::seen::SeenLinks;
 use ci_space::{Head, Interval, Intervals, Shape};
 
 /// Frees the used element at the place `at` of the base or overflow interval `ci`. An independent
@@ -51,10 +53,53 @@ pub fn give_back<I: Intervals>(i: &mut I, shape: &Shape, ci: u64, at: u16) -> Re
     ensures number { I.number i.new ≡ I.number i.old }
     ensures goes_on { GoesOn I.told I.size I.faults I.keeps i.old i.new }
 {
+    give_back_seen(i, shape, ci, at, &mut SeenLinks::none())
+}
+
+/// Frees an element as `give_back` does. The way to the interval whose link leads to an emptied one is looked up among
+/// the links that calls before saw; where it isn't there, the last walk goes on, or else a new one begins. So a call for
+/// each element of a chain goes over its list once, in whatever order they are given back.
+///
+/// A link that was seen is read again before it is relied on: where the list has changed since, a call costs a walk,
+/// and nothing else.
+pub fn give_back_seen<I: Intervals>(
+    i: &mut I,
+    shape: &Shape,
+    ci: u64,
+    at: u16,
+    seen: &mut SeenLinks,
+) -> Result<(), SpaceFault>
+    // At `Ok` the element is gone and all else stays, in whatever order the lists were. Where they were
+    // in order, they are so again.
+    ensures takes_back { I.told i.old → OnOk result
+        (TakesBack shape.now (I.intervals i.old) (I.intervals i.new) ci at) }
+    ensures given { I.told i.old → IsInOrder shape.now (I.intervals i.old)
+        → OnOk result (GivesBack shape.now (I.intervals i.old) (I.intervals i.new) ci at) }
+    ensures lists { I.told i.old → IsInOrder shape.now (I.intervals i.old)
+        → OnOk result (IsInOrder shape.now (I.intervals i.new)) }
+
+    // Where no element is used there, `Ok` doesn't come, and `Damaged` names this interval.
+    ensures used { I.told i.old → OnOk result (IsUsed (bytes_at (I.intervals i.old) ci) at) }
+    ensures unused { I.told i.old → ¬ IsUsed (bytes_at (I.intervals i.old) ci) at → (n : ℕ)
+        → result ≡ Err (SpaceFault.Damaged n) → n ≡ ci }
+
+    // Where an element is used there, `Damaged` names an interval at fault. An area in order has none.
+    ensures damaged { I.told i.old → IsUsed (bytes_at (I.intervals i.old) ci) at → (n : ℕ)
+        → result ≡ Err (SpaceFault.Damaged n) → IsAtFault shape.now (I.intervals i.old) n }
+    ensures sound { I.told i.old → IsInOrder shape.now (I.intervals i.old) → IsUsed (bytes_at (I.intervals i.old) ci) at
+        → (n : ℕ) → result ≢ Err (SpaceFault.Damaged n) }
+
+    // It fails only with what holds the intervals.
+    ensures failed { IsErrOf result SpaceFault.Failed → Rose (I.faults i.old) (I.faults i.new) }
+
+    // What stays, whatever the answer is.
+    ensures number { I.number i.new ≡ I.number i.old }
+    ensures goes_on { GoesOn I.told I.size I.faults I.keeps i.old i.new }
+{
     let mut interval = read_used(i, ci, at)?;
     interval.free(at);
     if interval.head().kind == INDEPENDENT && interval.is_empty() {
-        move_to_free(i, shape, ci, interval)
+        move_to_free(i, shape, ci, interval, seen)
     } else {
         write(i, ci, interval)
     }
@@ -88,6 +133,7 @@ fn move_to_free<I: Intervals>(
     shape: &Shape,
     ci: u64,
     interval: Interval,
+    seen: &mut SeenLinks,
 ) -> Result<(), SpaceFault>
     requires in_range { ci < I.number i.old }
     requires size { length interval ≡ I.size i.old }
@@ -103,7 +149,7 @@ fn move_to_free<I: Intervals>(
     ensures goes_on { GoesOn I.told I.size I.faults I.keeps i.old i.new }
 {
     let uow = unit_of(shape, ci, &interval)?;
-    let before = find_before(i, shape, uow, ci)?;
+    let before = find_before(i, shape, uow, ci, seen)?;
     let place = Place {
         ci: 0,
         kind: CONTROL,
@@ -111,7 +157,9 @@ fn move_to_free<I: Intervals>(
         from: 0,
     };
     let control = read(i, place)?;
-    put_link(i, before, interval.head().link)?;
+    let link = interval.head().link;
+    seen.forget(ci, before.ci, link)?;
+    put_link(i, before, link)?;
     put_free(i, ci, interval, control)
 }
 
@@ -131,72 +179,6 @@ fn unit_of(shape: &Shape, ci: u64, interval: &Interval) -> Result<u32, SpaceFaul
         return Err(SpaceFault::Damaged(ci));
     }
     Ok((owner - 1) as u32)
-}
-
-/// An interval with its number.
-#[derive(Drop)]
-pub struct Numbered {
-    pub ci: u64,
-    pub interval: Interval,
-}
-
-/// The interval whose link leads to `ci` in the list of a unit of work: the first base interval, or one
-/// of the list.
-fn find_before<I: Intervals>(
-    i: &mut I,
-    shape: &Shape,
-    uow: u32,
-    ci: u64,
-) -> Result<Numbered, SpaceFault>
-    requires { first_independent shape.now ≤ ci }
-    ensures before { I.told i.old → kind_of (bytes_at (I.intervals i.old) ci) ≡ 5
-        → IfOk result (IsBefore shape.now (I.intervals i.old) uow ci) }
-    ensures below { IfOk result (λ before. before.ci < I.number i.old) }
-    ensures interval { IfOk result (λ before. IsInterval before.interval) }
-    ensures kind { IfOk result (λ before. (kind_of before.interval ≡ 2) ⊎ (kind_of before.interval ≡ 5)) }
-    ensures size { IfOk result (λ before. length before.interval ≡ I.size i.old) }
-    ensures damaged { I.told i.old → 0 < shape.now.base → uow < shape.now.uows
-        → owner_of (bytes_at (I.intervals i.old) ci) ≡ uow + 1 → ci < I.number i.old
-        → (n : ℕ) → result ≡ Err (SpaceFault.Damaged n) → IsAtFault shape.now (I.intervals i.old) n }
-    ensures failed { IsErrOf result SpaceFault.Failed → Rose (I.faults i.old) (I.faults i.new) }
-    ensures same { I.told i.old → I.intervals i.new ≡ I.intervals i.old }
-    ensures number { I.number i.new ≡ I.number i.old }
-    ensures goes_on { GoesOn I.told I.size I.faults I.keeps i.old i.new }
-{
-    let first = first_base(shape, uow);
-    let place = Place {
-        ci: first,
-        kind: BASE,
-        owner: 0,
-        from: first,
-    };
-    let interval = read(i, place)?;
-    let mut next = interval.head().link;
-    let mut before = Numbered {
-        ci: first,
-        interval,
-    };
-    let mut turns = i.count();
-    while next != ci {
-        if next == 0 {
-            return Err(SpaceFault::Damaged(ci));
-        }
-        if turns == 0 || next < first_independent(shape) {
-            return Err(SpaceFault::Damaged(before.ci));
-        }
-        turns -= 1;
-        let place = Place {
-            ci: next,
-            kind: INDEPENDENT,
-            owner: u64::from(uow) + 1,
-            from: before.ci,
-        };
-        let interval = read(i, place)?;
-        let link = interval.head().link;
-        before = Numbered { ci: next, interval };
-        next = link;
-    }
-    Ok(before)
 }
 
 /// Puts an interval with this link.

@@ -13,15 +13,18 @@
 //! area is thrown away.
 #![tactic(auto)]
 
+mod before;
 mod freed;
 mod joined;
 mod places;
 mod reading;
 mod room;
+mod seen;
 mod tried;
 
-pub use freed::give_back;
+pub use freed::{give_back, give_back_seen};
 pub use room::find_room;
+pub use seen::SeenLinks;
 
 /// Why a call on an area's elements gives none. The object that holds the area is then thrown away.
 #[derive(Clone, Copy, Debug, PartialEq, Eq)]

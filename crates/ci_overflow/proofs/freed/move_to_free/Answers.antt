@@ -1,12 +1,11 @@
 use Rattle.std.proofs.Common.{◌≡◌, ◌+◌, ◌<◌, length, sym, ap, ◌∙◌, arith}
 use Rattle.std.proofs.lemmas.Result.{err_from_is_err_and}
-use Rattle.ci_space.specs.Interval.{kind_of}
 use Rattle.ci_overflow.specs.Lists.{bytes_at, owner_of}
-use Rattle.ci_overflow.proofs.Going.{same_fault}
+use Rattle.ci_overflow.proofs.Going.{goes_on_joined, same_fault}
 use Rattle.ci_overflow.proofs.Tries.{keeps-owner}
-use Rattle.ci_overflow.proofs.Joins.{on_ok-map}
+use Rattle.ci_overflow.proofs.Joins.{on_ok-map, base-before}
 use Rattle.ci_overflow.proofs.Moving.{moves}
-use Rattle.ci_overflow.proofs.FaultLemmas.{unit-fault, control-fault, keeps-kind}
+use Rattle.ci_overflow.proofs.FaultLemmas.{unit-fault, control-fault}
 use Rattle.ci_overflow.proofs.freed.move_to_free.Goals as goal
 
 pub returns-in_err-uow-clause-damaged : goal.returns-in_err-uow-clause-damaged
@@ -16,6 +15,11 @@ returns-in_err-uow-clause-damaged g c = λ t k m n e.
     let below : c.args.ci < length (g.I.Intervals.intervals c.args.i.now) =
     omega (arith, g.met.I.Intervals.numbered c.args.i.now t, c.requires.in_range) in
     rw h.0 (unit-fault c.args.shape.now _ c.args.ci _ k below c.requires.kind m h.1)
+
+pub find_before-requires : goal.find_before-requires
+find_before-requires g c =
+    let before = base-before c.args.shape.now c.in_ok-uow.uow c.in_ok-uow.ensures.bound c.in_ok-uow.ensures.has_base in
+    record { independent = c.in_ok-uow.ensures.from; behind = omega (arith, before, c.in_ok-uow.ensures.from) }
 
 pub returns-in_err-before-clause-damaged : goal.returns-in_err-before-clause-damaged
 returns-in_err-before-clause-damaged g c = λ t k m n e.
@@ -46,10 +50,23 @@ returns-clause-moved g c = λ t k.
     let t1 = c.find_before.ensures.goes_on.tells t in
     let t2 = c.read.ensures.goes_on.tells t1 in
     let t3 = c.put_link.ensures.goes_on.tells t2 in
-    let five : kind_of (bytes_at (g.I.Intervals.intervals c.args.i.now) c.args.ci) ≡ 5 =
-    keeps-kind _ _ k ∙ c.requires.kind in
     on_ok-map _ _ _ (λ q. moves _ _ _ _ _ _ _ _ _ _ _ c.in_ok-before.before c.in_ok-uow.ensures.bound
     c.in_ok-uow.ensures.has_base c.in_ok-uow.ensures.from c.in_ok-uow.ensures.unit
-    (c.in_ok-before.ensures.before t five)
+    (c.in_ok-before.ensures.before t)
     (c.in_ok-before.ensures.same t) (c.in_ok-control.ensures.bytes t1) (c.in_ok-control.ensures.same t1)
-    (ap (λ h. h.link) c.head.ensures.head) (c.in_ok-put_link.ensures.put t2) q) (c.put_free.ensures.put t3)
+    (ap (λ h. h.link) c.head-link.ensures.head) (c.in_ok-put_link.ensures.put t2) q) (c.put_free.ensures.put t3)
+
+pub returns-in_err-forget-clause-damaged : goal.returns-in_err-forget-clause-damaged
+returns-in_err-forget-clause-damaged g c = λ t k m n e.
+    let p = err_from_is_err_and c.from_residual-in_err-forget.result c.from_residual-in_err-forget.ensures.1 in
+    absurd (c.in_err-forget.ensures.never_damaged n (same_fault _ _ _ _ p.1 p.2 e))
+
+pub returns-in_err-put_link-clause-goes_on : goal.returns-in_err-put_link-clause-goes_on
+returns-in_err-put_link-clause-goes_on g c = goes_on_joined _ _ _ _ _ _ _
+    (goes_on_joined _ _ _ _ _ _ _ c.find_before.ensures.goes_on c.read.ensures.goes_on) c.put_link.ensures.goes_on
+
+pub returns-clause-goes_on : goal.returns-clause-goes_on
+returns-clause-goes_on g c = goes_on_joined _ _ _ _ _ _ _
+    (goes_on_joined _ _ _ _ _ _ _
+    (goes_on_joined _ _ _ _ _ _ _ c.find_before.ensures.goes_on c.read.ensures.goes_on) c.put_link.ensures.goes_on)
+    c.put_free.ensures.goes_on

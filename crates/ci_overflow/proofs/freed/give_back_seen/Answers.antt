@@ -6,8 +6,8 @@ use Rattle.ci_overflow.proofs.Joins.{on_ok-map}
 use Rattle.ci_overflow.proofs.FaultLemmas.{in-order-sound, keeps-kind}
 use Rattle.ci_overflow.proofs.Givings.{FreesAt, frees, given-back, order-alone, taken-alone, taken-moved, used-not_empty}
 use Rattle.ci_overflow.proofs.MoveOrders.{order-moved}
-use Rattle.ci_overflow.proofs.freed.give_back.Goals as goal
-use Rattle.ci_overflow.proofs.freed.give_back.Goals.{else-head-eq-INDEPENDENT-via-then-head-eq-INDEPENDENT+else-is_empty, else-head-eq-INDEPENDENT-via-else-head-eq-INDEPENDENT}
+use Rattle.ci_overflow.proofs.freed.give_back_seen.Goals as goal
+use Rattle.ci_overflow.proofs.freed.give_back_seen.Goals.{else-head-eq-INDEPENDENT-via-then-head-eq-INDEPENDENT+else-is_empty, else-head-eq-INDEPENDENT-via-else-head-eq-INDEPENDENT}
 
 pub returns-then-is_empty-clause-takes_back : goal.returns-then-is_empty-clause-takes_back
 returns-then-is_empty-clause-takes_back g c = λ t.
