@@ -251,7 +251,11 @@ impl Folder {
 
     // The log behind its front, and behind the gate of a log without groups.
     fn groups(&self) -> &[u8] {
-        let texts = self.system.definitions.len().saturating_add(self.system.scripts.len());
+        let texts = self
+            .system
+            .definitions
+            .len()
+            .saturating_add(self.system.scripts.len());
         let front = texts.saturating_add(17);
         self.site.contents(0).get(front..).unwrap_or(b"")
     }

@@ -164,12 +164,7 @@ fn audit_status(fault: AuditFault) -> Status
 }
 
 /// Runs the log's entries again by their meaning alone, and sends how many they are where all are legal.
-pub(crate) fn audit_on<T: Site>(
-    alloc: Global,
-    site: &mut T,
-    exits: &Exits,
-    setup: &Setup,
-) -> Status
+pub(crate) fn audit_on<T: Site>(alloc: Global, site: &mut T, exits: &Exits, setup: &Setup) -> Status
     requires { IsSetup setup.now }
     ensures due { T.told site.old → ByEntries (job_of setup.now) ((T.disk site.old).contents 0) result
         ⊎ MayStandIn result }

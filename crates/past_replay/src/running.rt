@@ -178,12 +178,7 @@ impl Running {
     }
 
     // Runs to its next call, and answers it, or to its end. It fails only for want of memory.
-    fn step(
-        &mut self,
-        alloc: Global,
-        it: &Rerun,
-        exits: &Exits,
-    ) -> Result<Option<End>, AllocError>
+    fn step(&mut self, alloc: Global, it: &Rerun, exits: &Exits) -> Result<Option<End>, AllocError>
         requires can { CanRerun it.now (kinds_of exits.now) }
         requires under { (count : ℕ) × IsUnderWay it.now count self.old }
         ensures goes { (count : ℕ) → IsUnderWay it.now count self.old

@@ -20,7 +20,7 @@ answer-requires-clause-asking g c =
           (rw c.in-Call.is at (c.in_ok-call.ensures.exact s.script s.answers s.numbered s.at))
           (rw c.in-Call.is at c.in_ok-call.ensures.waits)
           (rw c.in-Call.is at (c.in_ok-call.ensures.suits_call s.script s.numbered c.requires.can.setup.good.each_msdb
-    c.requires.can.setup.good.each_dedb fits s.fit)),
+          c.requires.can.setup.good.each_dedb fits s.fit)),
     )
 
 pub returns-in-Call-clause-goes : goal.returns-in-Call-clause-goes
