@@ -241,6 +241,26 @@ fn first_illegal(
     Ok(None)
 }
 
+// Whether so many deposits to one account, one after another, are all legal.
+fn deposits_are_legal(
+    alloc: Global,
+    auditor: &mut Auditor,
+    exits: &Exits,
+    count: u64,
+) -> Result<bool, AllocError>
+    requires { AreSpread auditor.old.defs (kinds_of exits.now) }
+{
+    for place in 0..count {
+        let mut deposit = entry(alloc, LEGAL[0])?;
+        deposit.from = place;
+        deposit.notes = List::from_vec(Vec::from_slice(alloc, &[place])?);
+        if !auditor.next(exits, &deposit)? {
+            return Ok(false);
+        }
+    }
+    Ok(true)
+}
+
 // The place of the first row that isn't legal, of so many of a log and one more.
 fn illegal_behind(
     rt: &HostRuntime,
@@ -321,5 +341,18 @@ fn an_auditor_stops_for_good(rt: HostRuntime) -> Result<(), Fail> {
         illegal_behind(&rt, ACCOUNTS, &rows, 2, Some(rows[2]))?,
         Some(1)
     );
+    Ok(())
+}
+
+/// Memory suffices for a log of some thousand entries.
+#[test]
+fn each_entry_of_a_long_log_is_legal(rt: HostRuntime) -> Result<(), Fail> {
+    let alloc = rt.alloc();
+    let exits = exits(alloc)?;
+    let defs = ACCOUNTS.definitions(alloc, &exits)?;
+    let scripts = ACCOUNTS.scripts(alloc, &defs, &exits)?;
+    let mut auditor = Auditor::new(alloc, &defs, &scripts, 1)?;
+    let legal = deposits_are_legal(alloc, &mut auditor, &exits, 5_000)?;
+    assert_eq!(rt; legal, true);
     Ok(())
 }
