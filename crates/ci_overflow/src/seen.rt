@@ -26,7 +26,7 @@ impl SeenLinks {
     }
 
     /// No links, and none that come are kept: each walk begins at the front of its list.
-    pub fn none() -> SeenLinks {
+    pub(crate) fn none() -> SeenLinks {
         SeenLinks {
             before: None,
             reached: 0,
