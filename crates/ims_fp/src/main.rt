@@ -8,31 +8,15 @@ ghost use Rattle.std.specs.Prelude.{◌≡◌, ◌≢◌, IsErr, IsOk, None, tru
 ghost use Rattle.fp_exits.specs.Ranges.{IsRoutable, IsSpreadable};
 ghost use Rattle.fp_model.specs.Exits.{route, spread};
 ghost use Rattle.fp_system.specs.declared.status.Status.{Status};
-ghost use Rattle.ims_fp.specs.Calls.{is_written_out};
+ghost use Rattle.fp_files.specs.Calls.{is_written_out};
 
-mod ahead;
-mod cause;
-mod data_set;
-mod faults;
-mod file_site;
-mod file_source;
-mod folder;
-mod host;
-mod record;
-#[cfg(test)]
-mod tests;
-
-use cause::Cause;
-use file_site::FileSite;
-use file_source::FileSource;
-use folder::{Access, Folder};
 use fp_exits::{
     Exits, Router, Routing, Spreader, Spreading, fold_group, fold_place, range_group, range_place,
 };
+use fp_files::{Access, Cause, FileSite, FileSource, Folder, Record};
 use fp_model::{Kind, Name};
 use fp_site::Failed;
 use fp_system::{Status, fault_text, ims};
-use record::Record;
 use std::alloc::AllocError;
 use std::fs::File;
 use std::os::fd::AsRawFd;

@@ -1,0 +1,139 @@
+-- The calls of the system that were made of a data set, of the parts of a source, or of the output, the newest first.
+use Rattle.std.specs.Prelude.{ℕ, Bool, true, false, List, [], ◌∷◌, Option, Some, None, ◌≡◌, ◌==◌, ◌||◌, if◌then◌else◌, slice_index}
+use Rattle.fp_source.specs.declared.part.Part.{Part}
+use Rattle.fp_files.specs.declared.folder.Access.{Access}
+use Rattle.fp_files.specs.declared.folder.Access.TheVariants.{Change, Look}
+use Rattle.fp_source.specs.declared.part.Part.TheVariants.{Definitions, Scripts, Schedule, Messages}
+
+pub data HostCall : Type 0 where
+  -- these bytes were written to the file at this offset, all of them or some
+  Wrote : ℕ → List ℕ → HostCall
+  -- the file was synced, and the system answered Ok
+  Synced : HostCall
+  -- the file was asked for its length, and had this many bytes
+  Measured : ℕ → HostCall
+  -- each of so many bytes of the file was read and written back where it was
+  Rewrote : ℕ → HostCall
+  -- some bytes of the file, or none, were read and written back where they were, and then that failed
+  RewroteSome : HostCall
+  -- the folder was synced, and the system answered Ok
+  FolderSynced : HostCall
+  -- the file was made
+  Made : HostCall
+  -- the folder was locked, for this access, and stays so
+  Locked : Access → HostCall
+  -- bytes were read from the file, or could not be
+  Read : HostCall
+  -- the file of this part was read, and gave this many bytes
+  PartRead : Part → ℕ → HostCall
+  -- text was taken in for the output
+  Sent : HostCall
+  -- all text that was taken in was written to the output
+  WroteOut : HostCall
+
+-- the part of a number
+abbrev pub part_of : ℕ → Part
+part_of n =
+    if n == 0 then Definitions else
+    if n == 1 then Scripts else
+    if n == 2 then Schedule else
+    Messages
+
+-- the access of a number
+abbrev pub access_of : ℕ → Access
+access_of n =
+    if n == 0 then Change else
+    Look
+
+-- the call of some numbers and bytes
+abbrev pub call_of : List ℕ → List ℕ → HostCall
+call_of numbers bytes =
+    if slice_index numbers 0 == 0 then Wrote (slice_index numbers 1) bytes else
+    if slice_index numbers 0 == 1 then Synced else
+    if slice_index numbers 0 == 2 then Rewrote (slice_index numbers 1) else
+    if slice_index numbers 0 == 3 then FolderSynced else
+    if slice_index numbers 0 == 4 then Made else
+    if slice_index numbers 0 == 5 then Locked (access_of (slice_index numbers 1)) else
+    if slice_index numbers 0 == 6 then Read else
+    if slice_index numbers 0 == 7 then PartRead (part_of (slice_index numbers 1)) (slice_index numbers 2) else
+    if slice_index numbers 0 == 8 then Sent else
+    if slice_index numbers 0 == 9 then WroteOut else
+    if slice_index numbers 0 == 10 then RewroteSome else
+    Measured (slice_index numbers 1)
+
+-- the newest call
+abbrev pub newest : List HostCall → Option HostCall
+newest [] = None
+newest (call ∷ earlier) = Some call
+
+-- whether the file was synced since it was last written
+abbrev pub is_synced : List HostCall → Bool
+is_synced [] = false
+is_synced (Synced ∷ earlier) = true
+is_synced (Wrote at bytes ∷ earlier) = false
+is_synced (Rewrote count ∷ earlier) = false
+is_synced (RewroteSome ∷ earlier) = false
+is_synced (call ∷ earlier) = is_synced earlier
+
+-- whether the folder was synced since the file was made
+abbrev pub is_named : List HostCall → Bool
+is_named [] = false
+is_named (FolderSynced ∷ earlier) = true
+is_named (Made ∷ earlier) = false
+is_named (call ∷ earlier) = is_named earlier
+
+-- whether the newest of some calls asked for the length of the file, and it was this
+abbrev pub begins_measured : ℕ → List HostCall → Bool
+begins_measured length (Measured n ∷ earlier) = n == length
+begins_measured length calls = false
+
+-- whether the newest of some calls rewrote the file, as long as it was found to be
+abbrev pub begins_rewritten : List HostCall → Bool
+begins_rewritten (Rewrote count ∷ earlier) = begins_measured count earlier
+begins_rewritten calls = false
+
+-- whether the file was made here, or was rewritten and directly behind that synced
+abbrev pub is_settled : List HostCall → Bool
+is_settled [] = false
+is_settled (Made ∷ earlier) = true
+is_settled (Synced ∷ earlier) = begins_rewritten earlier || is_settled earlier
+is_settled (call ∷ earlier) = is_settled earlier
+
+-- whether the folder was locked
+abbrev pub is_locked : List HostCall → Bool
+is_locked [] = false
+is_locked (Locked access ∷ earlier) = true
+is_locked (call ∷ earlier) = is_locked earlier
+
+-- whether the folder was locked so that no other program uses it
+abbrev pub is_alone : List HostCall → Bool
+is_alone [] = false
+is_alone (Locked Change ∷ earlier) = true
+is_alone (Locked Look ∷ earlier) = false
+is_alone (call ∷ earlier) = is_alone earlier
+
+-- the length that the file was found to have, if nothing was written since
+abbrev pub known_length : List HostCall → Option ℕ
+known_length [] = None
+known_length (Measured length ∷ earlier) = Some length
+known_length (Wrote at bytes ∷ earlier) = None
+known_length (Rewrote count ∷ earlier) = None
+known_length (RewroteSome ∷ earlier) = None
+known_length (Made ∷ earlier) = None
+known_length (call ∷ earlier) = known_length earlier
+
+-- whether all was written to the output, and no text was taken in since
+abbrev pub is_written_out : List HostCall → Bool
+is_written_out [] = false
+is_written_out (Sent ∷ earlier) = false
+is_written_out (WroteOut ∷ earlier) = true
+is_written_out (call ∷ earlier) = is_written_out earlier
+
+-- what reads of a file leave of what was known of the calls before
+pub record OnlyReads (old new : List HostCall) : Type 0 where
+  pub synced : is_synced new ≡ is_synced old
+  pub named : is_named new ≡ is_named old
+  pub settled : is_settled new ≡ is_settled old
+  pub locked : is_locked new ≡ is_locked old
+  pub alone : is_alone new ≡ is_alone old
+  pub length : known_length new ≡ known_length old
