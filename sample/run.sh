@@ -1,6 +1,7 @@
 #!/bin/sh
 # Makes the small sample's databases in a folder of its own, runs its messages with a stop in the middle, sends the same
 # messages again, and prints the replies of both runs, the databases, the log, and how many of its entries are legal.
+# Then it runs the examples of the guide, and fails where one prints anything else than stands there.
 # The first time it proves the program and builds it. sample/try.sh runs the same
 # messages in about a minute, with no proof.
 set -e
@@ -75,3 +76,9 @@ say "the log"
 out/ims_fp log "$room"
 say "an audit, which runs each transaction of the log again"
 out/ims_fp audit "$room"
+if command -v python3 >/dev/null; then
+    say "the examples of docs/GUIDE.md: each is run, and must print what stands there"
+    python3 ../../scripts/examples out/ims_fp docs/GUIDE.md >&2
+else
+    say "there is no python3, which would run the examples of docs/GUIDE.md"
+fi
