@@ -1,15 +1,10 @@
-//! Tests of areas: elements in intervals, room in a unit of work, roots of an anchor.
+//! Tests of areas: roots of an anchor.
 //!
-//! They stand here and not in the crates that they test, since a crate with tests is proved twice. Which bytes are an
-//! interval is data of a program above.
+//! They stand here and not in the crates that they test, since a crate with tests is proved twice.
 #![tactic(auto)]
 
 #[cfg(test)]
-mod elements;
-#[cfg(test)]
 mod hand_written;
-#[cfg(test)]
-mod overflow;
 #[cfg(test)]
 mod reading;
 #[cfg(test)]

@@ -1,19 +1,10 @@
-//! Tests of the crates that read definitions, schedules and scripts, run scripts, answer their
-//! calls and commit them.
+//! Tests of the crates that answer calls, keep segments and commit queues of calls.
 #![tactic(auto)]
 
 #[cfg(test)]
 mod accounts;
 #[cfg(test)]
-mod definitions;
-#[cfg(test)]
-mod programs;
-#[cfg(test)]
 mod queues;
-#[cfg(test)]
-mod schedules;
-#[cfg(test)]
-mod scripts;
 #[cfg(test)]
 mod stores;
 #[cfg(test)]

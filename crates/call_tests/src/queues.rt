@@ -12,7 +12,6 @@ use crate::accounts::{defs, delete, field_call, insert};
 use fp_model::{Bytes, Deferred, List};
 use msdb_store::{MsdbStore, VerifyFault};
 use std::alloc::{AllocError, Global};
-use std::process::Abort;
 use std::test::Fail;
 
 // The keys that the calls are about, ascending.
@@ -51,7 +50,7 @@ impl Random {
     }
 }
 
-#[derive(Clone, Copy, Debug)]
+#[derive(Clone, Copy)]
 pub(crate) enum Action {
     Insert,
     Replace,
@@ -63,7 +62,7 @@ pub(crate) enum Action {
 }
 
 /// A call: what it does to the account of a key, with which amount.
-#[derive(Clone, Copy, Debug)]
+#[derive(Clone, Copy)]
 pub(crate) struct Step {
     pub(crate) action: Action,
     pub(crate) key: [u8; 4],
@@ -197,7 +196,7 @@ fn settle(store: &mut MsdbStore, queue: &List<Deferred>) -> Result<usize, Verify
 
 // ---- the plain list
 
-#[derive(Clone, Copy, Debug)]
+#[derive(Clone, Copy)]
 struct Account {
     key: [u8; 4],
     amount: u32,
@@ -311,8 +310,8 @@ fn is_held(store: &MsdbStore, accounts: &[Account], key: [u8; 4]) -> bool
 fn are_held(store: &MsdbStore, accounts: &[Account]) -> bool
     requires { 0 < length store.now.msdbs }
 {
-    for key in KEYS {
-        if !is_held(store, accounts, key) {
+    for key in &KEYS {
+        if !is_held(store, accounts, *key) {
             return false;
         }
     }
@@ -359,14 +358,13 @@ fn settled(
     told(settle(store, &queue))
 }
 
-// One queue, settled by both.
-fn round(
-    rt: &impl Abort,
+// Settles one queue by both. Whether they answer alike, and have the same accounts then.
+fn agree(
     alloc: Global,
     store: &mut MsdbStore,
     accounts: &mut Vec<Account>,
     random: &mut Random,
-) -> Result<(), VerifyFault>
+) -> Result<bool, VerifyFault>
     requires { (defs : ListOf DefOf) × (def : DefOf) × (defs ≡ def ∷ []) × IsMsdbDef def × (def.length ≡ 8)
         × (key_length def.fields ≡ 4) × IsOf defs store.old }
     ensures { (defs : ListOf DefOf) → (def : DefOf) → defs ≡ def ∷ [] → IsMsdbDef def → def.length ≡ 8
@@ -376,10 +374,7 @@ fn round(
     let second = random.perhaps_step();
     let outcome = settled(alloc, store, first, second)?;
     let expected = told(settle_plainly(alloc, accounts, first, second))?;
-    assert_eq!(rt; outcome.err(), expected.err(), "{first:?} {second:?}");
-    assert!(rt; are_held(store, accounts), "{first:?} {second:?}");
-    assert!(rt; are_met(store, accounts), "{first:?} {second:?}");
-    Ok(())
+    Ok(outcome.err() == expected.err() && are_held(store, accounts) && are_met(store, accounts))
 }
 
 #[test]
@@ -389,8 +384,9 @@ fn mixed_calls_meet_a_plain_list(rt: HostRuntime) -> Result<(), Fail> {
     let mut store = MsdbStore::start(alloc, &defs)?;
     let mut accounts = Vec::new(alloc);
     let mut random = Random(1);
-    for _ in 0..1000 {
-        round(&rt, alloc, &mut store, &mut accounts, &mut random)?;
+    for round in 0..1000u32 {
+        let alike = agree(alloc, &mut store, &mut accounts, &mut random)?;
+        assert!(rt; alike, "round {round}");
     }
     Ok(())
 }
@@ -398,7 +394,7 @@ fn mixed_calls_meet_a_plain_list(rt: HostRuntime) -> Result<(), Fail> {
 // ---- queues by hand
 
 // A queue of two calls, how many items it has or which call fails with which bytes found, and all segments behind it.
-#[derive(Clone, Copy, Debug)]
+#[derive(Clone, Copy)]
 struct Row {
     first: Step,
     second: Step,
@@ -412,7 +408,7 @@ pub(crate) const B: [u8; 4] = *b"B002";
 
 pub(crate) const C: [u8; 4] = *b"C003";
 
-const ROWS: [Row; 5] = [
+static ROWS: [Row; 5] = [
     Row {
         first: Step {
             action: Action::Insert,
@@ -522,8 +518,8 @@ fn queues_come_to_what_is_wanted(rt: HostRuntime) -> Result<(), Fail> {
     let alloc = rt.alloc();
     let defs = defs(alloc, true)?;
     let mut store = MsdbStore::start(alloc, &defs)?;
-    for row in ROWS {
-        assert!(rt; goes(alloc, &mut store, row)?, "{row:?}");
+    for (place, row) in ROWS.iter().enumerate() {
+        assert!(rt; goes(alloc, &mut store, *row)?, "row {place}");
     }
     Ok(())
 }

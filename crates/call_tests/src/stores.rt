@@ -21,7 +21,7 @@ fn empty(alloc: Global, defs: &Defs) -> Result<MsdbStore, AllocError>
 }
 
 // Segments in any order, one of them twice, one taken away again, and one that isn't there taken away.
-const SEGMENTS: [(&[u8], &[u8]); 6] = [
+static SEGMENTS: [(&[u8], &[u8]); 6] = [
     (b"C003", b"C003dddd"),
     (b"A001", b"A001aaaa"),
     (b"B002", b"B002bbbb"),
@@ -32,7 +32,7 @@ const SEGMENTS: [(&[u8], &[u8]); 6] = [
 
 fn items(alloc: Global) -> Result<List<Item>, AllocError> {
     let mut items = List::new(alloc);
-    for (key, bytes) in SEGMENTS {
+    for (key, bytes) in &SEGMENTS {
         items.push(Item::Segment {
             msdb: 0,
             key: Bytes::from_slice(alloc, key)?,
@@ -43,7 +43,7 @@ fn items(alloc: Global) -> Result<List<Item>, AllocError> {
 }
 
 // A key, and the segment that stands there.
-const AT: [(&[u8], Option<&[u8]>); 4] = [
+static AT: [(&[u8], Option<&[u8]>); 4] = [
     (b"A001", Some(b"A001cccc")),
     (b"B002", None),
     (b"C003", Some(b"C003dddd")),
@@ -51,7 +51,7 @@ const AT: [(&[u8], Option<&[u8]>); 4] = [
 ];
 
 // A key or none, and the segment that is the first behind it.
-const AFTER: [(Option<&[u8]>, Option<&[u8]>); 4] = [
+static AFTER: [(Option<&[u8]>, Option<&[u8]>); 4] = [
     (None, Some(b"A001cccc")),
     (Some(b"A000"), Some(b"A001cccc")),
     (Some(b"A001"), Some(b"C003dddd")),
@@ -71,11 +71,11 @@ fn filled(alloc: Global) -> Result<MsdbStore, AllocError>
 #[test]
 fn segments_stand_by_key(rt: HostRuntime) -> Result<(), Fail> {
     let store = filled(rt.alloc())?;
-    for (key, wanted) in AT {
-        assert_eq!(rt; store.look(0, key), wanted, "at {key:?}");
+    for (place, (key, wanted)) in AT.iter().enumerate() {
+        assert!(rt; store.look(0, key) == *wanted, "at {place}");
     }
-    for (key, wanted) in AFTER {
-        assert_eq!(rt; store.after(0, key), wanted, "behind {key:?}");
+    for (place, (key, wanted)) in AFTER.iter().enumerate() {
+        assert!(rt; store.after(0, *key) == *wanted, "behind {place}");
     }
     Ok(())
 }

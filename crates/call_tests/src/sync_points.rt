@@ -44,7 +44,7 @@ fn empty_log(alloc: Global) -> Result<Log, LogFault> {
 
 // A draft of two calls, how many items its entry has or which call fails with which bytes found, and behind it how many
 // entries the log has, and all segments.
-#[derive(Clone, Copy, Debug)]
+#[derive(Clone, Copy)]
 struct Row {
     first: Step,
     second: Step,
@@ -56,7 +56,7 @@ struct Row {
 // What the log keeps free.
 const ROOM: u64 = 500;
 
-const ROWS: [Row; 4] = [
+static ROWS: [Row; 4] = [
     Row {
         first: Step {
             action: Action::Insert,
@@ -189,8 +189,8 @@ fn drafts_come_to_what_is_wanted(rt: HostRuntime) -> Result<(), Fail> {
     let mut store = MsdbStore::start(alloc, &defs)?;
     let mut log = empty_log(alloc)?;
     log.reserve(ROOM)?;
-    for row in ROWS {
-        assert!(rt; goes(alloc, &mut store, &mut log, row)?, "{row:?}");
+    for (place, row) in ROWS.iter().enumerate() {
+        assert!(rt; goes(alloc, &mut store, &mut log, *row)?, "row {place}");
     }
     Ok(())
 }
@@ -225,7 +225,7 @@ fn a_queue_names_each_segment_once(rt: HostRuntime) -> Result<(), Fail> {
     let calls = field_calls(alloc, [B, A, C, A])?;
     let named = resources(alloc, &calls)?;
     let text = text_of(alloc, &named)?;
-    assert_eq!(rt; text.as_slice(), b"\x00A001\x00B002\x00C003".as_slice());
+    assert!(rt; text.as_slice() == b"\x00A001\x00B002\x00C003".as_slice());
     Ok(())
 }
 
@@ -255,6 +255,6 @@ fn a_refusal_fills_its_room(rt: HostRuntime) -> Result<(), Fail> {
     let mut log = empty_log(alloc)?;
     log.reserve(room)?;
     append_beside(&mut log, &refusal(alloc, line), 0)?;
-    assert_eq!(rt; [room, log.count(), log.spare()], [36, 1, 0]);
+    assert!(rt; [room, log.count(), log.spare()] == [36, 1, 0]);
     Ok(())
 }

@@ -7,7 +7,7 @@ use std::alloc::{AllocError, Global};
 use std::test::Fail;
 
 /// A run and what comes of it.
-#[derive(Clone, Copy, Debug)]
+#[derive(Clone, Copy)]
 pub struct Row {
     pub setting: Setting,
     pub schedule: &'static str,
@@ -417,7 +417,7 @@ group 1 entries 1\n\
     databases: "msdb ACCTS 2\n\x20 ACCT=A001 BAL=100\n\x20 ACCT=A002 BAL=50\nmsdb TELLERS 1\n\x20 TNO=T001 CASH=0\n",
 };
 
-const ROWS: [Row; 20] = [
+static ROWS: [Row; 20] = [
     OVERDRAWN,
     OVERDRAWN_AGAIN,
     BOTH_ADD,
@@ -476,13 +476,10 @@ fn first_difference(alloc: Global, found: &Found, row: &Row) -> Result<&'static 
 
 #[test]
 fn each_run_comes_to_what_is_wanted(rt: HostRuntime) -> Result<(), Fail> {
-    for row in ROWS {
-        let found = found_of(rt.alloc(), &row)?;
-        assert_eq!(rt;
-            first_difference(rt.alloc(), &found, &row)?,
-            "none",
-            "{row:?}"
-        );
+    for (place, row) in ROWS.iter().enumerate() {
+        let found = found_of(rt.alloc(), row)?;
+        let difference = first_difference(rt.alloc(), &found, row)?;
+        assert!(rt; difference == "none", "row {place}: {difference}");
     }
     Ok(())
 }

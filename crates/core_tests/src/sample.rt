@@ -8,7 +8,7 @@ use fp_model::{Kind, Name};
 use std::alloc::{AllocError, Global};
 
 /// What the definitions of a run say besides its databases.
-#[derive(Clone, Copy, Debug)]
+#[derive(Clone, Copy)]
 pub struct Setting {
     /// The groups of the regions, with commas between them.
     pub regions: &'static str,

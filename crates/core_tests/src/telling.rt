@@ -16,17 +16,26 @@ fn tell_did(alloc: Global, text: &mut String, did: Did) -> Result<(), AllocError
     if !text.is_empty() {
         text.push(' ')?;
     }
+    text.push_str(word(did))?;
+    if let Did::Sealed(count) = did {
+        text.push_str(format!(in alloc; "/{count}")?.as_str())?;
+    }
+    Ok(())
+}
+
+// A word for what a step did.
+fn word(did: Did) -> &'static str {
     match did {
-        Did::Nothing => text.push_str("nothing"),
-        Did::Took => text.push_str("took"),
-        Did::Answered => text.push_str("answered"),
-        Did::Gained => text.push_str("gained"),
-        Did::Waited => text.push_str("waited"),
-        Did::Committed => text.push_str("committed"),
-        Did::Refused => text.push_str("refused"),
-        Did::Retried => text.push_str("retried"),
-        Did::Queued => text.push_str("queued"),
-        Did::Held => text.push_str("held"),
-        Did::Sealed(count) => text.push_str(format!(in alloc; "sealed/{count}")?.as_str()),
+        Did::Nothing => "nothing",
+        Did::Took => "took",
+        Did::Answered => "answered",
+        Did::Gained => "gained",
+        Did::Waited => "waited",
+        Did::Committed => "committed",
+        Did::Refused => "refused",
+        Did::Retried => "retried",
+        Did::Queued => "queued",
+        Did::Held => "held",
+        Did::Sealed(_) => "sealed",
     }
 }

@@ -71,7 +71,7 @@ pub(crate) fn run(
 }
 
 // What a command answers.
-#[derive(Clone, Copy, Debug)]
+#[derive(Clone, Copy)]
 pub(crate) enum Answer {
     Done,
     ReadFault,
@@ -102,7 +102,7 @@ impl Answer {
 }
 
 // A step, and what is wanted of it.
-#[derive(Clone, Copy, Debug)]
+#[derive(Clone, Copy)]
 pub(crate) enum Step {
     // The databases are made.
     Define,

@@ -26,7 +26,7 @@ enum Deed {
 
 /// C001 and C002 are in the first area, at anchors 2 and 3, and C007 is in the second, at 8. An area has 3 dependents at
 /// most, and the second 2.
-const DEEDS: [Deed; 20] = [
+static DEEDS: [Deed; 20] = [
     Deed::Put(b"C001"),
     Deed::Put(b"C007"),
     Deed::Serials(b"C001", &[]),
@@ -147,6 +147,6 @@ fn first_wrong(alloc: Global, deeds: &[Deed]) -> Result<usize, Fail> {
 
 #[test]
 fn each_deed_comes_out(rt: HostRuntime) -> Result<(), Fail> {
-    assert_eq!(rt; first_wrong(rt.alloc(), &DEEDS)?, DEEDS.len());
+    assert!(rt; first_wrong(rt.alloc(), &DEEDS)? == DEEDS.len());
     Ok(())
 }

@@ -33,7 +33,7 @@ type Row = (u64, &'static [u64], &'static [u8], Ended);
 
 /// A log of the system. Entry 1 looks at the account as it was at the start, entry 2 as its own region saw it later. The
 /// withdrawal of entry 4 was good where it looked, and fails where it commits: 110 less 60 leaves 50.
-const LEGAL: [Row; 11] = [
+static LEGAL: [Row; 11] = [
     (0, &[0], b"T1 DEPOSIT A001 10", Ended::Done(b"NEW")),
     (0, &[0], b"T2 ASK A001", Ended::Done(b"100")),
     (1, &[1], b"T2 ASK A001", Ended::Done(b"110")),
@@ -53,7 +53,7 @@ const LEGAL: [Row; 11] = [
 ];
 
 /// Entries that aren't legal behind so many of that log.
-const ILLEGAL: [(usize, Row); 20] = [
+static ILLEGAL: [(usize, Row); 20] = [
     // Another reply, another outcome, another detail.
     (0, (0, &[0], b"T1 DEPOSIT A001 10", Ended::Done(b"OLD"))),
     (0, (0, &[0], b"T1 DEPOSIT A001 10", Ended::Roll(1))),
@@ -98,7 +98,7 @@ const ILLEGAL: [(usize, Row); 20] = [
 ];
 
 /// A log whose messages have numbers from entry 1 on.
-const NUMBERED: [Row; 8] = [
+static NUMBERED: [Row; 8] = [
     (0, &[], b"T1 1 ASK A001", Ended::Unknown),
     (1, &[], b"", Ended::Format),
     (2, &[2], b"T1 3 DEPOSIT A001 10", Ended::Done(b"NEW")),
@@ -110,7 +110,7 @@ const NUMBERED: [Row; 8] = [
 ];
 
 /// Entries that aren't legal behind so many of that log.
-const MISNUMBERED: [(usize, Row); 7] = [
+static MISNUMBERED: [(usize, Row); 7] = [
     (2, (2, &[], b"", Ended::Format)),
     (3, (3, &[3], b"T1 3 DEPOSIT A001 10", Ended::Done(b"NEW"))),
     (
@@ -128,7 +128,7 @@ const MISNUMBERED: [(usize, Row); 7] = [
 
 /// A log of customers. Four notes fill the part of an area, a fifth has no room until two are purged, and a customer of
 /// the other area has room all the time. C009 stands behind C001 at their anchor; LISTC goes through the anchors in turn.
-const OF_CUSTOMERS: [Row; 18] = [
+static OF_CUSTOMERS: [Row; 18] = [
     (0, &[], b"S1 NEWCUST C001 ANN", Ended::Done(b"ADDED")),
     (1, &[], b"T1 NOTE C001 N1", Ended::Done(b"NOTED")),
     (2, &[], b"T2 NOTE C001 N2", Ended::Done(b"NOTED")),
@@ -155,7 +155,7 @@ const OF_CUSTOMERS: [Row; 18] = [
 ];
 
 /// Entries that aren't legal behind so many of that log.
-const NOT_OF_CUSTOMERS: [(usize, Row); 13] = [
+static NOT_OF_CUSTOMERS: [(usize, Row); 13] = [
     // A customer who is there, or isn't.
     (1, (1, &[], b"T1 NEWCUST C001 ANN", Ended::Done(b"ADDED"))),
     (0, (0, &[], b"T1 NOTE C001 N1", Ended::Done(b"NOTED"))),
@@ -284,51 +284,36 @@ fn illegal_behind(
 
 #[test]
 fn each_entry_of_a_log_is_legal(rt: HostRuntime) -> Result<(), Fail> {
-    assert_eq!(rt;
-        illegal_behind(&rt, ACCOUNTS, &LEGAL, LEGAL.len(), None)?,
-        None
-    );
-    assert_eq!(rt;
-        illegal_behind(&rt, ACCOUNTS, &NUMBERED, NUMBERED.len(), None)?,
-        None
-    );
+    assert!(rt; illegal_behind(&rt, ACCOUNTS, &LEGAL, LEGAL.len(), None)?.is_none());
+    assert!(rt; illegal_behind(&rt, ACCOUNTS, &NUMBERED, NUMBERED.len(), None)?.is_none());
     let customers = illegal_behind(&rt, CUSTOMERS, &OF_CUSTOMERS, OF_CUSTOMERS.len(), None)?;
-    assert_eq!(rt; customers, None);
+    assert!(rt; customers.is_none());
     Ok(())
 }
 
 #[test]
 fn an_entry_that_the_rules_do_not_let_come_is_illegal(rt: HostRuntime) -> Result<(), Fail> {
-    for (at, (front, row)) in ILLEGAL.into_iter().enumerate() {
-        assert_eq!(rt;
-            illegal_behind(&rt, ACCOUNTS, &LEGAL, front, Some(row))?,
-            Some(front),
-            "row {at}"
-        );
+    for (at, (front, row)) in ILLEGAL.iter().enumerate() {
+        let found = illegal_behind(&rt, ACCOUNTS, &LEGAL, *front, Some(*row))?;
+        assert!(rt; found == Some(*front), "row {at}");
     }
     Ok(())
 }
 
 #[test]
 fn an_entry_of_a_data_entry_database_is_judged(rt: HostRuntime) -> Result<(), Fail> {
-    for (at, (front, row)) in NOT_OF_CUSTOMERS.into_iter().enumerate() {
-        assert_eq!(rt;
-            illegal_behind(&rt, CUSTOMERS, &OF_CUSTOMERS, front, Some(row))?,
-            Some(front),
-            "row {at}"
-        );
+    for (at, (front, row)) in NOT_OF_CUSTOMERS.iter().enumerate() {
+        let found = illegal_behind(&rt, CUSTOMERS, &OF_CUSTOMERS, *front, Some(*row))?;
+        assert!(rt; found == Some(*front), "row {at}");
     }
     Ok(())
 }
 
 #[test]
 fn a_number_counts_once(rt: HostRuntime) -> Result<(), Fail> {
-    for (at, (front, row)) in MISNUMBERED.into_iter().enumerate() {
-        assert_eq!(rt;
-            illegal_behind(&rt, ACCOUNTS, &NUMBERED, front, Some(row))?,
-            Some(front),
-            "row {at}"
-        );
+    for (at, (front, row)) in MISNUMBERED.iter().enumerate() {
+        let found = illegal_behind(&rt, ACCOUNTS, &NUMBERED, *front, Some(*row))?;
+        assert!(rt; found == Some(*front), "row {at}");
     }
     Ok(())
 }
@@ -337,10 +322,7 @@ fn a_number_counts_once(rt: HostRuntime) -> Result<(), Fail> {
 #[test]
 fn an_auditor_stops_for_good(rt: HostRuntime) -> Result<(), Fail> {
     let rows = [LEGAL[0], ILLEGAL[0].1, LEGAL[1]];
-    assert_eq!(rt;
-        illegal_behind(&rt, ACCOUNTS, &rows, 2, Some(rows[2]))?,
-        Some(1)
-    );
+    assert!(rt; illegal_behind(&rt, ACCOUNTS, &rows, 2, Some(rows[2]))? == Some(1));
     Ok(())
 }
 
@@ -353,6 +335,6 @@ fn each_entry_of_a_long_log_is_legal(rt: HostRuntime) -> Result<(), Fail> {
     let scripts = ACCOUNTS.scripts(alloc, &defs, &exits)?;
     let mut auditor = Auditor::new(alloc, &defs, &scripts, 1)?;
     let legal = deposits_are_legal(alloc, &mut auditor, &exits, 5_000)?;
-    assert_eq!(rt; legal, true);
+    assert!(rt; legal);
     Ok(())
 }

@@ -1,6 +1,5 @@
 //! Customers with sequential dependents in two areas, and what may be committed of them.
-ghost use Rattle.fp_exits.specs.Ranges.{IsRoutable, IsSpreadable};
-ghost use Rattle.fp_model.specs.Exits.{anchor_of, route, spread};
+ghost use Rattle.fp_model.specs.Exits.{anchor_of};
 ghost use Rattle.fp_model.specs.Order.{new_root, sequential_type};
 ghost use Rattle.fp_model.specs.Shape.{has_length};
 ghost use Rattle.fp_model.specs.State.{anchor_count};
@@ -11,10 +10,11 @@ ghost use Rattle.state_laws.specs.Parts.{FitsAnchorChange, FitsSeqInsert};
 ghost use Rattle.std.specs.List.{AllByRecursion};
 ghost use Rattle.std.specs.Prelude.{◌≡◌, ◌∷◌, [], IfOk, IfSome, List as ListOf};
 
+use crate::sample::exits;
 use dli_tree::{Path, Step, insert, key_in};
 use fp_defs::read_defs;
-use fp_exits::{Exits, Router, Routing, Spreader, Spreading, fold_group, fold_place, range_place};
-use fp_model::{AnchorChange, Bytes, DedbDef, Defs, Kind, List, Name, Root, SegDef, SeqInsert};
+use fp_exits::{fold_place, range_place};
+use fp_model::{AnchorChange, Bytes, DedbDef, Defs, Kind, List, Root, SegDef, SeqInsert};
 use std::alloc::Global;
 use std::test::Fail;
 
@@ -65,29 +65,6 @@ overflow = 1
 
 /// What a sequential dependent holds.
 const WHAT: &[u8] = b"DEPOSIT ";
-
-// Exits that fold.
-fn exits(alloc: Global) -> Result<Exits, Fail> {
-    let f: Spreading = Box::new(
-        alloc,
-        |key: &[u8], n: u64| -> u64
-            requires { IsSpreadable key.now n }
-            ensures { result ≡ spread Kind.Fold n key.now }
-        { fold_place(key, n) },
-    )?;
-    let g: Routing = Box::new(
-        alloc,
-        |tran: &Name, n: u64| -> u64
-            requires { IsRoutable tran.now n }
-            ensures { result ≡ route Kind.Fold n tran.now }
-        { fold_group(tran, n) },
-    )?;
-    let mut spreaders = Vec::new(alloc);
-    spreaders.push(Spreader::new(Kind::Fold, f))?;
-    let mut routers = Vec::new(alloc);
-    routers.push(Router::new(Kind::Fold, g))?;
-    Ok(Exits::new(spreaders, routers))
-}
 
 /// The definitions.
 pub(crate) fn definitions(alloc: Global) -> Result<Defs, Fail>

@@ -4,7 +4,7 @@ use crate::entries::{Ended, Entry, run_entries};
 use std::test::Fail;
 
 /// Tellers are hired and paid. Notes name older states, and a second withdrawal fails at the sync point.
-const TELLERS: [Entry; 11] = [
+static TELLERS: [Entry; 11] = [
     Entry(b"HIRE    ", b"T001 100", &[], Ended::Done(b"HIRED")),
     Entry(b"DEPOSIT ", b"T001 50", &[1], Ended::Done(b"NEW")),
     Entry(b"ASK     ", b"T001", &[1], Ended::Done(b"100")),
@@ -24,7 +24,7 @@ const TELLERS: [Entry; 11] = [
 ];
 
 /// A hold shows the state of the place, whatever its transaction noted, and a teller who is fired is gone from there on.
-const HOLDS: [Entry; 6] = [
+static HOLDS: [Entry; 6] = [
     Entry(b"HIRE    ", b"T001 7", &[], Ended::Done(b"HIRED")),
     Entry(b"SET     ", b"T001 9", &[], Ended::Done(b"7")),
     Entry(b"ASK     ", b"T001", &[1], Ended::Done(b"7")),
@@ -35,12 +35,14 @@ const HOLDS: [Entry; 6] = [
 
 #[test]
 fn tellers_are_paid(rt: HostRuntime) -> Result<(), Fail> {
-    assert_eq!(rt; run_entries(rt.alloc(), &TELLERS)?, None);
+    let wrong = run_entries(rt.alloc(), &TELLERS)?;
+    assert!(rt; wrong.is_none(), "at {wrong:?}");
     Ok(())
 }
 
 #[test]
 fn holds_see_the_place(rt: HostRuntime) -> Result<(), Fail> {
-    assert_eq!(rt; run_entries(rt.alloc(), &HOLDS)?, None);
+    let wrong = run_entries(rt.alloc(), &HOLDS)?;
+    assert!(rt; wrong.is_none(), "at {wrong:?}");
     Ok(())
 }

@@ -4,7 +4,7 @@ use crate::steps::{Step, run_steps};
 use std::test::Fail;
 
 /// Each place shows what stood there, whatever came behind it.
-const OLDER: [Step; 12] = [
+static OLDER: [Step; 12] = [
     Step::Put(0, b"B1zero"),
     Step::Put(3, b"B1three"),
     Step::Put(5, b"A1five"),
@@ -20,7 +20,7 @@ const OLDER: [Step; 12] = [
 ];
 
 /// Searches in the order of keys pass what isn't there at the place.
-const IN_ORDER: [Step; 10] = [
+static IN_ORDER: [Step; 10] = [
     Step::Put(0, b"C1"),
     Step::Put(1, b"A1"),
     Step::Put(2, b"B1"),
@@ -34,7 +34,7 @@ const IN_ORDER: [Step; 10] = [
 ];
 
 /// A change at the same place goes over the first, and what is taken back leaves the earlier value.
-const BACK: [Step; 10] = [
+static BACK: [Step; 10] = [
     Step::Put(0, b"A1old"),
     Step::Put(6, b"A1new"),
     Step::Put(6, b"A1newer"),

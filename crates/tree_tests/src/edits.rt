@@ -8,7 +8,7 @@ use std::test::Fail;
 const A9: Steps = &[(0, b"A9", 0)];
 
 /// A segment goes with all below it; its twins stay.
-const DELETED: [Call; 9] = [
+static DELETED: [Call; 9] = [
     Call::Delete(A1_L1, true),
     Call::Delete(A1_L1, false),
     Call::Delete(A1_L1_Y1_N1, false),
@@ -21,7 +21,7 @@ const DELETED: [Call; 9] = [
 ];
 
 /// A segment has other bytes; what is below it stays.
-const REPLACED: [Call; 9] = [
+static REPLACED: [Call; 9] = [
     Call::Shows(&[(3, None)], b"D1."),
     Call::Replace(A1_D1, b"D1!", true),
     Call::Shows(&[(3, None)], b"D1!"),
@@ -34,7 +34,7 @@ const REPLACED: [Call; 9] = [
 ];
 
 /// Roots in front, between and behind, and the last one gone.
-const ROOTS: [Call; 6] = [
+static ROOTS: [Call; 6] = [
     Call::Insert(A9, true),
     Call::Find(Some(A3), None, &[(0, None)], Some(A9)),
     Call::Delete(A9, true),

@@ -221,7 +221,7 @@ pub const A3_D9: Steps = &[(0, b"A3", 0), (3, b"D9", 0)];
 
 /// Three roots, one with descendants on four levels. Each row has new ones in front, between and behind, and one that
 /// stands already.
-pub const MADE: [Call; 20] = [
+pub static MADE: [Call; 20] = [
     Call::Insert(A2, true),
     Call::Insert(A1, true),
     Call::Insert(A3, true),

@@ -7,7 +7,7 @@ use crate::samples::{
 use std::test::Fail;
 
 /// The whole anchor in hierarchical order, each found behind the one before.
-const ORDER: [Call; 17] = [
+static ORDER: [Call; 17] = [
     Call::Find(None, None, &[], Some(A1)),
     Call::Find(Some(A1), None, &[], Some(A1_AUDIT_9)),
     Call::Find(Some(A1_AUDIT_9), None, &[], Some(A1_AUDIT_4)),
@@ -28,7 +28,7 @@ const ORDER: [Call; 17] = [
 ];
 
 /// Below a parent, and no further.
-const WITHIN: [Call; 9] = [
+static WITHIN: [Call; 9] = [
     Call::Find(None, Some(A1), &[], Some(A1_AUDIT_9)),
     Call::Find(Some(A1), Some(A1), &[], Some(A1_AUDIT_9)),
     Call::Find(Some(A1_P2), Some(A1), &[], None),
@@ -41,7 +41,7 @@ const WITHIN: [Call; 9] = [
 ];
 
 /// Types and keys.
-const ARGUMENTS: [Call; 16] = [
+static ARGUMENTS: [Call; 16] = [
     Call::Find(Some(A1), None, &[(0, None)], Some(A2)),
     Call::Find(Some(A3), None, &[(0, None)], None),
     Call::Find(None, None, &[(6, None)], Some(A1_L1_Y1_N1)),
@@ -74,7 +74,7 @@ const A0: Steps = &[(0, b"A0", 0)];
 const A2_D1: Steps = &[(0, b"A2", 0), (3, b"D1", 0)];
 
 /// Positions at which nothing stands any more.
-const GONE: [Call; 4] = [
+static GONE: [Call; 4] = [
     Call::Find(Some(A1_AUDIT_5), None, &[], Some(A1_AUDIT_4)),
     Call::Find(Some(A1_L2_Y5), None, &[], Some(A1_L3)),
     Call::Find(Some(A0), None, &[], Some(A1)),

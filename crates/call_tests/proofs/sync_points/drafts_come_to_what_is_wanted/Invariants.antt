@@ -2,5 +2,5 @@ use Rattle.msdb_store.specs.Store.{IsOf}
 use Rattle.call_tests.proofs.sync_points.drafts_come_to_what_is_wanted.Given as goal
 
 -- the store stays one of the definitions
-abbrev pub invariant-loop-row : goal.invariant-loop-row
-invariant-loop-row g l = IsOf l.defs.msdbs l.store
+abbrev pub invariant-loop-place : goal.invariant-loop-place
+invariant-loop-place g l = IsOf l.defs.msdbs l.store

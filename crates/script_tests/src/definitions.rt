@@ -9,23 +9,9 @@ use fp_defs::{DefsFault, read_defs};
 use fp_exits::{
     Exits, Router, Routing, Spreader, Spreading, fold_group, fold_place, range_group, range_place,
 };
-use fp_model::{Bytes, Defs, FieldKind, Kind, Name};
+use fp_model::{Defs, FieldKind, Kind, Name};
 use std::alloc::{AllocError, Global};
 use std::test::Fail;
-
-// The text of a key or name.
-fn text_of(bytes: &Bytes) -> &str {
-    std::str::from_utf8(bytes.as_slice()).unwrap_or("?")
-}
-
-fn has(kinds: &[Kind], kind: Kind) -> bool {
-    for one in kinds {
-        if *one == kind {
-            return true;
-        }
-    }
-    false
-}
 
 fn folding_router(alloc: Global) -> Result<Router, AllocError> {
     let f: Routing = Box::new(
@@ -71,23 +57,31 @@ fn range_spreader(alloc: Global) -> Result<Spreader, AllocError> {
     Ok(Spreader::new(Kind::Range, f))
 }
 
+fn routers(alloc: Global, kinds: &[Kind]) -> Result<Vec<Router>, AllocError> {
+    let mut routers = Vec::new(alloc);
+    for kind in kinds {
+        routers.push(match kind {
+            Kind::Fold => folding_router(alloc)?,
+            Kind::Range => range_router(alloc)?,
+        })?;
+    }
+    Ok(routers)
+}
+
+fn spreaders(alloc: Global, kinds: &[Kind]) -> Result<Vec<Spreader>, AllocError> {
+    let mut spreaders = Vec::new(alloc);
+    for kind in kinds {
+        spreaders.push(match kind {
+            Kind::Fold => folding_spreader(alloc)?,
+            Kind::Range => range_spreader(alloc)?,
+        })?;
+    }
+    Ok(spreaders)
+}
+
 // Routers and spreaders of these kinds.
 fn exits(alloc: Global, routing: &[Kind], spreading: &[Kind]) -> Result<Exits, AllocError> {
-    let mut routers = Vec::new(alloc);
-    if has(routing, Kind::Fold) {
-        routers.push(folding_router(alloc)?)?;
-    }
-    if has(routing, Kind::Range) {
-        routers.push(range_router(alloc)?)?;
-    }
-    let mut spreaders = Vec::new(alloc);
-    if has(spreading, Kind::Fold) {
-        spreaders.push(folding_spreader(alloc)?)?;
-    }
-    if has(spreading, Kind::Range) {
-        spreaders.push(range_spreader(alloc)?)?;
-    }
-    Ok(Exits::new(spreaders, routers))
+    Ok(Exits::new(spreaders(alloc, spreading)?, routers(alloc, routing)?))
 }
 
 // What is read where there are routers and spreaders of these kinds.
@@ -114,23 +108,26 @@ pub(crate) fn sample(alloc: Global) -> Result<Defs, DefsFault>
     read_with(alloc, SAMPLE.as_bytes(), BOTH, BOTH)
 }
 
-// What is said of a text that was read.
-fn said(alloc: Global, found: Result<Defs, DefsFault>) -> Result<String, AllocError> {
-    match found {
-        Ok(_) => format!(in alloc; "ok"),
-        Err(DefsFault::NotToml) => format!(in alloc; "not TOML"),
-        Err(DefsFault::Missing(key)) => format!(in alloc; "missing {}", text_of(&key)),
-        Err(DefsFault::Unknown(key)) => format!(in alloc; "unknown {}", text_of(&key)),
-        Err(DefsFault::OutOfLimit(key, n)) => format!(in alloc;
-            "{} out of limit: {n}",
-            text_of(&key)
-        ),
-        Err(DefsFault::Twice(name)) => format!(in alloc; "twice {}", text_of(&name)),
-        Err(DefsFault::BadField(key)) => format!(in alloc; "bad field {}", text_of(&key)),
-        Err(DefsFault::NoExit(Kind::Fold)) => format!(in alloc; "no exit FOLD"),
-        Err(DefsFault::NoExit(Kind::Range)) => format!(in alloc; "no exit RANGE"),
-        Err(DefsFault::TooLong) => format!(in alloc; "too long"),
-        Err(DefsFault::Memory) => format!(in alloc; "no memory"),
+// What is wanted of a text.
+#[derive(Clone, Copy)]
+enum Reading {
+    Good,
+    NotToml,
+    // A key is missing.
+    Missing(&'static [u8]),
+    NoExit(Kind),
+    TooLong,
+}
+
+// Whether a text was read so.
+fn is_read(found: &Result<Defs, DefsFault>, wanted: Reading) -> bool {
+    match (found, wanted) {
+        (Ok(_), Reading::Good)
+        | (Err(DefsFault::NotToml), Reading::NotToml)
+        | (Err(DefsFault::TooLong), Reading::TooLong) => true,
+        (Err(DefsFault::Missing(key)), Reading::Missing(wanted)) => key.as_slice() == wanted,
+        (Err(DefsFault::NoExit(kind)), Reading::NoExit(wanted)) => *kind == wanted,
+        _ => false,
     }
 }
 
@@ -247,20 +244,29 @@ overflow = 1
 capacity = 4
 "#;
 
-// What is said of this many lines of 10 bytes each with a comment, and a text behind them.
-fn long(alloc: Global, lines: u32, text: &str) -> Result<String, AllocError> {
+// Whether so many lines of 10 bytes each with a comment, and a text behind them, are read so.
+fn is_long_read(
+    alloc: Global,
+    lines: u32,
+    text: &str,
+    wanted: Reading,
+) -> Result<bool, AllocError> {
     let mut whole = String::new(alloc);
     for _ in 0..lines {
         whole.push_str("#########\n")?;
     }
     whole.push_str(text)?;
-    said(alloc, read_with(alloc, whole.as_bytes(), BOTH, BOTH))
+    let found = read_with(alloc, whole.as_bytes(), BOTH, BOTH);
+    Ok(is_read(&found, wanted))
 }
+
+// What stands behind 1,000,000 bytes, and what is said.
+static LONG: [(&str, Reading); 2] = [("", Reading::Missing(b"regions")), ("#", Reading::TooLong)];
 
 #[test]
 fn a_text_has_at_most_1000000_bytes(rt: HostRuntime) -> Result<(), Fail> {
-    for (text, wanted) in [("", "missing regions"), ("#", "too long")] {
-        assert_eq!(rt; long(rt.alloc(), 100_000, text)?.as_str(), wanted);
+    for (text, wanted) in &LONG {
+        assert!(rt; is_long_read(rt.alloc(), 100_000, text, *wanted)?);
     }
     Ok(())
 }
@@ -299,43 +305,43 @@ const FOLD: &[Kind] = &[Kind::Fold];
 const RANGE: &[Kind] = &[Kind::Range];
 
 // A text, the kinds of the routers and of the spreaders that are there, and what is said.
-const TEXTS: [(&[u8], &[Kind], &[Kind], &str); 12] = [
-    (OF_BOTH_KINDS, &[], BOTH, "no exit FOLD"),
-    (OF_BOTH_KINDS, RANGE, &[], "no exit FOLD"),
-    (OF_BOTH_KINDS, FOLD, &[], "no exit RANGE"),
-    (OF_BOTH_KINDS, BOTH, FOLD, "no exit RANGE"),
-    (OF_BOTH_KINDS, BOTH, RANGE, "no exit FOLD"),
-    (OF_BOTH_KINDS, FOLD, BOTH, "ok"),
-    (OF_BOTH_KINDS, BOTH, BOTH, "ok"),
+static TEXTS: [(&[u8], &[Kind], &[Kind], Reading); 12] = [
+    (OF_BOTH_KINDS, &[], BOTH, Reading::NoExit(Kind::Fold)),
+    (OF_BOTH_KINDS, RANGE, &[], Reading::NoExit(Kind::Fold)),
+    (OF_BOTH_KINDS, FOLD, &[], Reading::NoExit(Kind::Range)),
+    (OF_BOTH_KINDS, BOTH, FOLD, Reading::NoExit(Kind::Range)),
+    (OF_BOTH_KINDS, BOTH, RANGE, Reading::NoExit(Kind::Fold)),
+    (OF_BOTH_KINDS, FOLD, BOTH, Reading::Good),
+    (OF_BOTH_KINDS, BOTH, BOTH, Reading::Good),
     // A lacking exit is said behind all else.
-    (b"regions = ", &[], &[], "not TOML"),
+    (b"regions = ", &[], &[], Reading::NotToml),
     (
         b"regions = [1]\nrouter = \"FOLD\"\n[[msdb]]\n",
         &[],
         &[],
-        "missing name",
+        Reading::Missing(b"name"),
     ),
     (
         b"regions = [1]\nrouter = \"FOLD\"\n[[dedb]]\n",
         &[],
         &[],
-        "missing name",
+        Reading::Missing(b"name"),
     ),
     (
         b"regions = [1]\nrouter = \"FOLD\"\n",
         &[],
         &[],
-        "no exit FOLD",
+        Reading::NoExit(Kind::Fold),
     ),
     // Bytes that are no text.
-    (b"a = '\xff'\n", BOTH, BOTH, "not TOML"),
+    (b"a = '\xff'\n", BOTH, BOTH, Reading::NotToml),
 ];
 
 #[test]
 fn texts_have_their_first_fault(rt: HostRuntime) -> Result<(), Fail> {
-    for (text, routing, spreading, wanted) in TEXTS {
-        let found = said(rt.alloc(), read_with(rt.alloc(), text, routing, spreading))?;
-        assert_eq!(rt; found.as_str(), wanted);
+    for (place, (text, routing, spreading, wanted)) in TEXTS.iter().enumerate() {
+        let found = read_with(rt.alloc(), text, routing, spreading);
+        assert!(rt; is_read(&found, *wanted), "text {place}");
     }
     Ok(())
 }

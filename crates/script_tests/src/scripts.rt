@@ -104,7 +104,7 @@ REPLY STATUS
 ";
 
 // Its transactions in their order, and a name that it lacks.
-const NAMES: [(&[u8; 8], Option<u32>); 16] = [
+static NAMES: [(&[u8; 8], Option<u32>); 16] = [
     (b"DEPOSIT ", Some(0)),
     (b"WDRAW   ", Some(1)),
     (b"ASK     ", Some(2)),
@@ -134,9 +134,9 @@ pub(crate) fn read(alloc: Global, text: &[u8], defs: &Defs) -> Result<Scripts, S
 fn the_sample_is_read(rt: HostRuntime) -> Result<(), Fail> {
     let defs = sample(rt.alloc())?;
     let scripts = read(rt.alloc(), SAMPLE, &defs)?;
-    assert_eq!(rt; scripts.text(), SAMPLE);
-    for (name, wanted) in NAMES {
-        assert_eq!(rt; scripts.find(&Name(*name)), wanted, "at {name:?}");
+    assert!(rt; scripts.text() == SAMPLE);
+    for (place, (name, wanted)) in NAMES.iter().enumerate() {
+        assert!(rt; scripts.find(&Name(**name)) == *wanted, "name {place}");
     }
     Ok(())
 }
@@ -248,7 +248,7 @@ fn statement(alloc: Global, place: usize) -> Result<Statement, AllocError> {
     }
 }
 
-const STATEMENTS: [&[u8]; 5] = [
+static STATEMENTS: [&[u8]; 5] = [
     b"TRAN T\nFLD ACCTS KEY(#1) BAL H #2 BAL - -007\n",
     b"TRAN T\nISRT CUST CUSTOMER(#1) AUDIT WHAT=#2\n",
     b"TRAN T\nGHNP TELLERS KEY(STATUS)\n",

@@ -28,7 +28,7 @@ enum Step {
 }
 
 /// The list comes behind the dependent overflow, and then new intervals at its front.
-const NEW_ONES: [Step; 12] = [
+static NEW_ONES: [Step; 12] = [
     Step::Room(400, 1, 32),
     Step::Room(400, 2, 32),
     Step::Room(400, 3, 32),
@@ -48,7 +48,7 @@ const NEW_ONES: [Step; 12] = [
 ];
 
 /// The free chain comes before a new interval.
-const FREE_ONES: [Step; 9] = [
+static FREE_ONES: [Step; 9] = [
     Step::Room(400, 1, 32),
     Step::Room(400, 2, 32),
     Step::Room(400, 3, 32),
@@ -65,7 +65,7 @@ const FREE_ONES: [Step; 9] = [
 
 /// An element goes and the others stay. Then places where no element is used, an interval of another kind, and one that
 /// the area hasn't.
-const GIVEN_BACK: [Step; 15] = [
+static GIVEN_BACK: [Step; 15] = [
     Step::Room(100, 1, 32),
     Step::Room(100, 1, 136),
     Step::Room(100, 1, 240),
@@ -84,7 +84,7 @@ const GIVEN_BACK: [Step; 15] = [
 ];
 
 /// The list 5, 4, 3 with an element in each interval.
-const FULL: [Step; 5] = [
+static FULL: [Step; 5] = [
     Step::Room(400, 1, 32),
     Step::Room(400, 2, 32),
     Step::Room(400, 3, 32),
@@ -93,7 +93,7 @@ const FULL: [Step; 5] = [
 ];
 
 /// The first of the list becomes empty, then the next.
-const FIRST_EMPTIED: [Step; 11] = [
+static FIRST_EMPTIED: [Step; 11] = [
     Step::Back(5, 32),
     Step::Count(6),
     Step::Link(1, 4),
@@ -111,7 +111,7 @@ const FIRST_EMPTIED: [Step; 11] = [
 ];
 
 /// The one in the middle becomes empty, then the last.
-const MIDDLE_EMPTIED: [Step; 11] = [
+static MIDDLE_EMPTIED: [Step; 11] = [
     Step::Back(4, 32),
     Step::Count(6),
     Step::Link(1, 5),
@@ -129,7 +129,7 @@ const MIDDLE_EMPTIED: [Step; 11] = [
 ];
 
 /// The last becomes empty, then the first.
-const LAST_EMPTIED: [Step; 11] = [
+static LAST_EMPTIED: [Step; 11] = [
     Step::Back(3, 32),
     Step::Count(6),
     Step::Link(1, 5),
@@ -304,21 +304,24 @@ fn two_shared(
 #[test]
 fn the_list_comes_behind_the_dependent_overflow(rt: HostRuntime) -> Result<(), Fail> {
     let mut memory = area(&rt, 3, 0, 0, 1)?;
-    assert_eq!(rt; first_wrong(&mut memory, &NEW_ONES), None);
+    let wrong = first_wrong(&mut memory, &NEW_ONES);
+    assert!(rt; wrong.is_none(), "at {wrong:?}");
     Ok(())
 }
 
 #[test]
 fn the_free_chain_comes_before_a_new_interval(rt: HostRuntime) -> Result<(), Fail> {
     let mut memory = area(&rt, 0, 3, 0, 0)?;
-    assert_eq!(rt; first_wrong(&mut memory, &FREE_ONES), None);
+    let wrong = first_wrong(&mut memory, &FREE_ONES);
+    assert!(rt; wrong.is_none(), "at {wrong:?}");
     Ok(())
 }
 
 #[test]
 fn an_element_goes_and_the_others_stay(rt: HostRuntime) -> Result<(), Fail> {
     let mut memory = area(&rt, 3, 0, 0, 1)?;
-    assert_eq!(rt; first_wrong(&mut memory, &GIVEN_BACK), None);
+    let wrong = first_wrong(&mut memory, &GIVEN_BACK);
+    assert!(rt; wrong.is_none(), "at {wrong:?}");
     Ok(())
 }
 
@@ -326,8 +329,10 @@ fn an_element_goes_and_the_others_stay(rt: HostRuntime) -> Result<(), Fail> {
 fn an_emptied_interval_is_the_first_of_the_free_chain(rt: HostRuntime) -> Result<(), Fail> {
     for steps in [&FIRST_EMPTIED, &MIDDLE_EMPTIED, &LAST_EMPTIED] {
         let mut memory = area(&rt, 3, 0, 0, 1)?;
-        assert_eq!(rt; first_wrong(&mut memory, &FULL), None);
-        assert_eq!(rt; first_wrong(&mut memory, steps), None);
+        let wrong = first_wrong(&mut memory, &FULL);
+        assert!(rt; wrong.is_none(), "at {wrong:?}");
+        let wrong = first_wrong(&mut memory, steps);
+        assert!(rt; wrong.is_none(), "at {wrong:?}");
     }
     Ok(())
 }
@@ -335,7 +340,7 @@ fn an_emptied_interval_is_the_first_of_the_free_chain(rt: HostRuntime) -> Result
 /// The base interval's link, the first of the free chain, the independent overflow interval's link and owner, and the
 /// interval that is damaged: a circle, a link outside the area, one to no independent overflow interval, another owner,
 /// and an interval of a unit of work in the free chain.
-const BROKEN_LISTS: [(u64, u64, u64, u64, u64); 5] = [
+static BROKEN_LISTS: [(u64, u64, u64, u64, u64); 5] = [
     (3, 0, 3, 1, 3),
     (3, 0, 9, 1, 3),
     (2, 0, 0, 1, 1),
@@ -345,15 +350,15 @@ const BROKEN_LISTS: [(u64, u64, u64, u64, u64); 5] = [
 
 #[test]
 fn damage_is_found(rt: HostRuntime) -> Result<(), Fail> {
-    for (first, free, link, owner, damaged) in BROKEN_LISTS {
-        let mut memory = area(&rt, first, free, link, owner)?;
+    for (first, free, link, owner, damaged) in &BROKEN_LISTS {
+        let mut memory = area(&rt, *first, *free, *link, *owner)?;
         for _ in 0..3 {
             if let Ok((ci, _)) = find_room(&mut memory, &shape(), 0, 400) {
                 assert!(rt; ci <= 3);
             }
         }
         let found = find_room(&mut memory, &shape(), 0, 400);
-        assert_eq!(rt; found.err(), Some(SpaceFault::Damaged(damaged)));
+        assert!(rt; found.err() == Some(SpaceFault::Damaged(*damaged)));
     }
     Ok(())
 }
@@ -361,7 +366,7 @@ fn damage_is_found(rt: HostRuntime) -> Result<(), Fail> {
 /// The base interval's link, the link and the owner of interval 3, and the interval that is damaged where 4 leaves its
 /// list: a circle, a list that doesn't hold it, a link outside the area, one to no independent overflow interval, and
 /// another owner.
-const BROKEN_FOR_FOUR: [(u64, u64, u64, u64); 5] = [
+static BROKEN_FOR_FOUR: [(u64, u64, u64, u64); 5] = [
     (3, 3, 1, 3),
     (3, 0, 1, 4),
     (3, 9, 1, 3),
@@ -371,10 +376,10 @@ const BROKEN_FOR_FOUR: [(u64, u64, u64, u64); 5] = [
 
 #[test]
 fn damage_is_found_where_an_interval_leaves_its_list(rt: HostRuntime) -> Result<(), Fail> {
-    for (first, link, owner, damaged) in BROKEN_FOR_FOUR {
-        let mut memory = two_shared(&rt, first, link, owner)?;
+    for (first, link, owner, damaged) in &BROKEN_FOR_FOUR {
+        let mut memory = two_shared(&rt, *first, *link, *owner)?;
         let found = give_back(&mut memory, &shape(), 4, 32);
-        assert_eq!(rt; found.err(), Some(SpaceFault::Damaged(damaged)));
+        assert!(rt; found.err() == Some(SpaceFault::Damaged(*damaged)));
     }
     Ok(())
 }

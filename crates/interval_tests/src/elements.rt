@@ -24,14 +24,14 @@ enum Step {
 }
 
 /// An empty interval is one free element.
-const EMPTY: [Step; 3] = [
+static EMPTY: [Step; 3] = [
     Step::IsEmpty(true),
     Step::Bytes(0, &[2, 0, 0, 0]),
     Step::Bytes(32, &[1, 224, 0, 0]),
 ];
 
 /// Elements are taken from the front.
-const TAKEN: [Step; 8] = [
+static TAKEN: [Step; 8] = [
     Step::Take(10, Some(32)),
     Step::Take(20, Some(48)),
     Step::Take(437, None),
@@ -43,7 +43,7 @@ const TAKEN: [Step; 8] = [
 ];
 
 /// A type and a content are written and read.
-const WRITTEN: [Step; 12] = [
+static WRITTEN: [Step; 12] = [
     Step::Take(5, Some(32)),
     Step::IsUsed(32, true),
     Step::Used(32, 0, 8),
@@ -59,7 +59,7 @@ const WRITTEN: [Step; 12] = [
 ];
 
 /// Free neighbours merge.
-const MERGED: [Step; 8] = [
+static MERGED: [Step; 8] = [
     Step::Take(4, Some(32)),
     Step::Take(4, Some(40)),
     Step::Take(4, Some(48)),
@@ -136,8 +136,11 @@ fn steps_on_a_base_interval(rt: HostRuntime) -> Result<(), Fail> {
     let runs: [&[Step]; 4] = [&EMPTY, &TAKEN, &WRITTEN, &MERGED];
     for (number, steps) in runs.iter().enumerate() {
         let mut interval = Interval::empty(rt.alloc(), 512, 2)?;
-        assert_eq!(rt; interval.size(), 512);
-        assert_eq!(rt; first_wrong(&mut interval, steps), None, "in run {number}");
+        assert!(rt; interval.size() == 512);
+        assert!(rt;
+            first_wrong(&mut interval, steps).is_none(),
+            "in run {number}"
+        );
     }
     Ok(())
 }
@@ -146,9 +149,9 @@ fn steps_on_a_base_interval(rt: HostRuntime) -> Result<(), Fail> {
 fn an_interval_is_read_and_copied(rt: HostRuntime) -> Result<(), Fail> {
     let interval = Interval::empty(rt.alloc(), 512, 2)?;
     let copied = interval.copied(rt.alloc())?;
-    assert_eq!(rt; copied.whole(), interval.whole());
+    assert!(rt; copied.whole() == interval.whole());
     match Interval::read(rt.alloc(), interval.whole())? {
-        Some(read) => assert_eq!(rt; read.whole(), interval.whole()),
+        Some(read) => assert!(rt; read.whole() == interval.whole()),
         None => assert!(rt; false),
     }
     Ok(())
@@ -173,7 +176,7 @@ fn a_head_is_set_and_read(rt: HostRuntime) -> Result<(), Fail> {
         owner: 3,
     };
     interval.set_head(head);
-    assert_eq!(rt; interval.head(), head);
+    assert!(rt; interval.head() == head);
     let numbers = [0, 0, 0, 0, 0, 0, 0, 8, 0, 0, 0, 0, 0, 0, 0, 3];
     assert!(rt; has_bytes(&interval, 16, &numbers));
     Ok(())
@@ -184,7 +187,7 @@ fn the_ends_are_set_and_read(rt: HostRuntime) -> Result<(), Fail> {
     let mut control = Interval::empty(rt.alloc(), 2048, 1)?;
     control.set_ends([1, 258, 0, 7]);
     assert!(rt; control.head().kind == 1);
-    assert_eq!(rt; control.ends(), [1, 258, 0, 7]);
+    assert!(rt; control.ends() == [1, 258, 0, 7]);
     assert!(rt; has_bytes(&control, 46, &[1, 2]));
     Ok(())
 }
@@ -194,8 +197,8 @@ fn a_slot_is_set_and_read(rt: HostRuntime) -> Result<(), Fail> {
     let mut sequential = Interval::empty(rt.alloc(), 4096, 4)?;
     sequential.set_slot(4092, b"slot");
     assert!(rt; sequential.head().kind == 4);
-    assert_eq!(rt; sequential.slot(4092, 4), b"slot".as_slice());
-    assert_eq!(rt; sequential.take(0), None);
+    assert!(rt; sequential.slot(4092, 4) == b"slot".as_slice());
+    assert!(rt; sequential.take(0).is_none());
     Ok(())
 }
 
@@ -213,7 +216,7 @@ enum Call {
 }
 
 /// The calls of `get` and `extend` number 1 and 3 fail.
-const CALLS: [Call; 11] = [
+static CALLS: [Call; 11] = [
     Call::Count(1),
     Call::Extend(Some(1)),
     Call::Extend(None),

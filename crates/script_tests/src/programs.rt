@@ -11,7 +11,7 @@ use txn_lang::Scripts;
 use txn_machine::{Next, Program};
 
 // A call that is wanted, as `spelled` spells it, and what it is answered.
-#[derive(Clone, Copy, Debug)]
+#[derive(Clone, Copy)]
 enum Turn {
     // A status alone.
     Told(&'static [u8], [u8; 2]),
@@ -30,7 +30,7 @@ impl Turn {
 }
 
 // How a script ends.
-#[derive(Clone, Copy, Debug)]
+#[derive(Clone, Copy)]
 enum End {
     Reply(&'static [u8]),
     Roll(u16),
@@ -200,7 +200,7 @@ fn message(alloc: Global, tran: Name, text: &[u8]) -> Result<Message, AllocError
 }
 
 // A transaction, the text of its message, the turns that it makes, and how it ends.
-#[derive(Clone, Copy, Debug)]
+#[derive(Clone, Copy)]
 struct Case {
     tran: Name,
     text: &'static [u8],
@@ -235,7 +235,7 @@ const TEN_NOTES: &[Turn] = &[
     Turn::Shows(b"GNP 2 1,", 1, b"N       "),
 ];
 
-const CASES: [Case; 30] = [
+static CASES: [Case; 30] = [
     Case {
         tran: Name(*b"DEPOSIT "),
         text: b"A001 10",
@@ -463,8 +463,8 @@ const CASES: [Case; 30] = [
 
 #[test]
 fn scripts_ask_their_calls_and_end(rt: HostRuntime) -> Result<(), Fail> {
-    for case in &CASES {
-        assert!(rt; goes(rt.alloc(), SAMPLE, case)?, "{case:?}");
+    for (place, case) in CASES.iter().enumerate() {
+        assert!(rt; goes(rt.alloc(), SAMPLE, case)?, "case {place}");
     }
     Ok(())
 }
@@ -485,7 +485,7 @@ fn ends(alloc: Global, lines: &str, end: End) -> Result<bool, Fail> {
     goes(alloc, text.as_bytes(), &case)
 }
 
-const LINES: [(&str, End); 27] = [
+static LINES: [(&str, End); 27] = [
     // Values.
     ("REPLY 007", End::Reply(b"7")),
     ("REPLY -0", End::Reply(b"0")),
@@ -554,8 +554,8 @@ const LINES: [(&str, End); 27] = [
 
 #[test]
 fn lines_without_calls_end(rt: HostRuntime) -> Result<(), Fail> {
-    for (lines, end) in LINES {
-        assert!(rt; ends(rt.alloc(), lines, end)?, "{lines}");
+    for (lines, end) in &LINES {
+        assert!(rt; ends(rt.alloc(), lines, *end)?, "{lines}");
     }
     Ok(())
 }

@@ -1,4 +1,4 @@
-use Rattle.area_tests.proofs.overflow.area.Goals as goal
+use Rattle.interval_tests.proofs.overflow.area.Goals as goal
 
 pub new-requires : goal.new-requires
 new-requires c =

@@ -1,0 +1,10 @@
+//! Tests of elements in intervals, and of room in a unit of work.
+//!
+//! They stand here and not in the crates that they test, since a crate with tests is proved twice. Which bytes are an
+//! interval is data of a program above.
+#![tactic(auto)]
+
+#[cfg(test)]
+mod elements;
+#[cfg(test)]
+mod overflow;

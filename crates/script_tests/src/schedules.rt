@@ -1,0 +1,156 @@
+//! Schedules over the definitions of the sample: two regions, and the areas AREA1 and AREA2 in the data sets 3 and 4.
+ghost use Rattle.fp_model.specs.WellFormed.{AreDefs};
+
+use crate::definitions::sample;
+use fp_model::{Defs, Event};
+use fp_schedule::{ScheduleFault, read_events};
+use std::alloc::{AllocError, Global};
+use std::test::Fail;
+
+// Whether a text is read so, where these are the definitions.
+fn is_read(alloc: Global, text: &[u8], defs: &Defs, wanted: Result<&[Event], ScheduleFault>) -> bool
+    requires { AreDefs defs.now }
+{
+    match read_events(alloc, text, defs) {
+        Ok(events) => wanted == Ok(events.as_slice()),
+        Err(fault) => wanted == Err(fault),
+    }
+}
+
+// The first token is no event.
+const BAD: Result<&[Event], ScheduleFault> = Err(ScheduleFault::BadToken(1));
+
+// The second isn't.
+const SECOND_BAD: Result<&[Event], ScheduleFault> = Err(ScheduleFault::BadToken(2));
+
+// A text, and its events or its first fault.
+static TEXTS: [(&[u8], Result<&[Event], ScheduleFault>); 40] = [
+    (b"", Ok(&[])),
+    (b" \t\r\n", Ok(&[])),
+    (b"IN", Ok(&[Event::In])),
+    (b"\r\n\t IN \n", Ok(&[Event::In])),
+    (
+        b"IN IN R1 R1 R2 LOG",
+        Ok(&[
+            Event::In,
+            Event::In,
+            Event::Region(1),
+            Event::Region(1),
+            Event::Region(2),
+            Event::Log,
+        ]),
+    ),
+    (
+        b"OUT\tCKPT\r\nOUT",
+        Ok(&[Event::Out, Event::Ckpt, Event::Out]),
+    ),
+    (b"PURGE/AREA1/1", Ok(&[Event::Purge { set: 3, n: 1 }])),
+    (
+        b"IN PURGE/AREA2/2 LOG",
+        Ok(&[Event::In, Event::Purge { set: 4, n: 2 }, Event::Log]),
+    ),
+    (
+        b"PURGE/AREA1/1000000000",
+        Ok(&[Event::Purge {
+            set: 3,
+            n: 1_000_000_000,
+        }]),
+    ),
+    (b"PURGE/AREA1/1000000001", BAD),
+    (b"PURGE/AREA1/18446744073709551617", BAD),
+    (b"PURGE/AREA1/0", BAD),
+    (b"PURGE/AREA1/01", BAD),
+    (b"PURGE/AREA1/", BAD),
+    (b"PURGE/AREA1", BAD),
+    (b"PURGE/AREA1/1/", BAD),
+    (b"PURGE/AREA1/+1", BAD),
+    (b"PURGE/AREA3/1", BAD),
+    (b"PURGE/AREA10/1", BAD),
+    (b"PURGE/AREA/1", BAD),
+    (b"PURGE/CUST/1", BAD),
+    (b"PURGE//1", BAD),
+    (b"PURGE/1", BAD),
+    (b"PURGE", BAD),
+    (b"PURGE /AREA1/1", BAD),
+    (b"R0", BAD),
+    (b"IN R3", SECOND_BAD),
+    (b"R01", BAD),
+    (b"R", BAD),
+    (b"R 1", BAD),
+    (b"R1R2", BAD),
+    (b"R257", BAD),
+    (b"R340282366920938463463374607431768211457", BAD),
+    (b"INN", BAD),
+    (b"I N", BAD),
+    (b"in", BAD),
+    (b"LOG,LOG", BAD),
+    (b"LOG LO", SECOND_BAD),
+    (b"IN\x0bIN", BAD),
+    (b"OUT \xff OUTT", SECOND_BAD),
+];
+
+#[test]
+fn texts_have_their_events_or_their_first_fault(rt: HostRuntime) -> Result<(), Fail> {
+    let defs = sample(rt.alloc())?;
+    for (place, (text, wanted)) in TEXTS.iter().enumerate() {
+        assert!(rt; is_read(rt.alloc(), text, &defs, *wanted), "text {place}");
+    }
+    Ok(())
+}
+
+// A piece so many times, and a text behind it.
+fn repeated(alloc: Global, piece: &[u8], count: u32, behind: &[u8]) -> Result<Vec<u8>, AllocError> {
+    let mut bytes = Vec::new(alloc);
+    for _ in 0..count {
+        bytes.extend_from_slice(piece)?;
+    }
+    bytes.extend_from_slice(behind)?;
+    Ok(bytes)
+}
+
+// So many tokens, what stands behind them, and the fault.
+static MANY: [(u32, &[u8], ScheduleFault); 2] = [
+    (1_000_000, b"INN", ScheduleFault::TooMany),
+    (999_999, b"INN INN", ScheduleFault::BadToken(1_000_000)),
+];
+
+#[test]
+fn a_schedule_has_at_most_1000000_tokens(rt: HostRuntime) -> Result<(), Fail> {
+    let defs = sample(rt.alloc())?;
+    for (count, behind, wanted) in &MANY {
+        let bytes = repeated(rt.alloc(), b"IN ", *count, behind)?;
+        assert!(rt; is_read(rt.alloc(), &bytes, &defs, Err(*wanted)));
+    }
+    Ok(())
+}
+
+// How many events a text has.
+fn count_events(alloc: Global, text: &[u8], defs: &Defs) -> Result<usize, ScheduleFault>
+    requires { AreDefs defs.now }
+{
+    Ok(read_events(alloc, text, defs)?.len())
+}
+
+#[test]
+fn a_million_tokens_are_taken(rt: HostRuntime) -> Result<(), Fail> {
+    let defs = sample(rt.alloc())?;
+    let bytes = repeated(rt.alloc(), b"R2 ", 1_000_000, b"\n")?;
+    assert!(rt; count_events(rt.alloc(), &bytes, &defs)? == 1_000_000);
+    Ok(())
+}
+
+// So many blanks, and what is wanted of them.
+static BLANKS: [(usize, Result<&[Event], ScheduleFault>); 2] = [
+    (32_000_000, Ok(&[])),
+    (32_000_001, Err(ScheduleFault::TooLong)),
+];
+
+#[test]
+fn a_schedule_has_at_most_32000000_bytes(rt: HostRuntime) -> Result<(), Fail> {
+    let defs = sample(rt.alloc())?;
+    for (count, wanted) in &BLANKS {
+        let bytes = vec![in rt.alloc(); b' '; *count]?;
+        assert!(rt; is_read(rt.alloc(), &bytes, &defs, *wanted));
+    }
+    Ok(())
+}
