@@ -11,6 +11,7 @@
 #![tactic(auto)]
 
 mod appending;
+mod bounds;
 mod control;
 mod descending;
 mod fault;
@@ -22,6 +23,7 @@ mod slot;
 mod writing;
 
 pub use appending::append;
+pub use bounds::read_ends;
 pub use descending::read_down;
 pub use fault::SeqFault;
 pub use laws::{

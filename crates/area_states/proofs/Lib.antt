@@ -1,0 +1,14 @@
+pub mod Frames
+pub mod Lists
+pub mod Readings
+pub mod StateLemmas
+pub mod Behind
+pub mod Purging
+pub mod NewSerials
+pub mod KeyLemmas
+pub mod Numbering
+pub mod Loops
+pub mod Rooms
+pub mod Changing
+pub mod DbLemmas
+pub mod Storables

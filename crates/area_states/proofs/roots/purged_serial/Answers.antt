@@ -1,0 +1,21 @@
+use Rattle.std.proofs.Common.{◌≡◌, ◌<◌, ◌∙◌, ap, sym, subst, length, true}
+use Rattle.fp_model.specs.declared.database.Root.{Root}
+use Rattle.root_anchor.specs.Chains.{newest}
+use Rattle.root_anchor.specs.Stored.{is_newest}
+use Rattle.area_states.specs.States.{newest_serial}
+use Rattle.area_states.proofs.KeyLemmas.{got_within}
+use Rattle.area_states.proofs.Storables.{stored_newest}
+use Rattle.area_states.proofs.roots.purged_serial.Goals as goal
+
+pub returns-then-serial-begin-clause-form : goal.returns-then-serial-begin-clause-form
+returns-then-serial-begin-clause-form c all =
+    let types = c.args.segments.now in
+    let found = c.in-Some.ensures.found in
+    let lt : c.in-Some.number < length c.args.before.now =
+    got_within c.args.before.now c.in-Some.number found.root found.is_there in
+    let form = stored_newest types c.args.before.now c.in-Some.number c.index-before-number.result all lt
+    c.index-before-number.is in
+    let same : c.newest_serial-serial.result ≡ newest_serial c.index-before-number.result.seqs =
+    c.newest_serial-serial.ensures ∙ ap newest_serial c.as_slice.ensures
+    ∙ ap (λ (r : Root). newest_serial r.seqs) (sym c.index-before-number.is) in
+    subst (λ n. is_newest types (newest n) ≡ true) (sym same) form
