@@ -7,3 +7,4 @@ pub mod Newest
 pub mod Everything
 pub mod Applied
 pub mod Formatted
+pub mod Staged

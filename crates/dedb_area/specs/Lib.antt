@@ -5,3 +5,4 @@ pub mod Control
 pub mod Looking
 pub mod Applying
 pub mod Formatting
+pub mod Staging

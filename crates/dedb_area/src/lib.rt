@@ -9,9 +9,11 @@ mod looking;
 mod opening;
 mod place;
 mod reading;
+mod staging;
 mod syncing;
 
 pub use applying::ApplyFault;
 pub use areas::Areas;
 pub use fault::AreaFault;
 pub use place::Place;
+pub use staging::Staging;
