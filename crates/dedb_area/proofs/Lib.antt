@@ -8,3 +8,5 @@ pub mod Everything
 pub mod Applied
 pub mod Formatted
 pub mod Staged
+pub mod Flags
+pub mod Marks

@@ -67,13 +67,13 @@ same_owed pool after same = fun_ext (λ s. fun_ext (λ k. ap due_of (same_pendin
 
 module _ {S : Type 0} (told : S → Type 0) (disk : S → Disk) (faults holds : S → ℕ) (keeps : S → S → Type 0)
     (lawful : (s : S) → told s → IsLawful (disk s)) (set : ℕ) (place : Place) (places : List Place) (flags : List Bool)
-    (old new : S) (pool after : Held) (is : place_at places set ≡ Some place)
+    (imaged : List (List Bool)) (old new : S) (pool after : Held) (is : place_at places set ≡ Some place)
     (looks : LooksAt told disk faults holds keeps set place.shape.ci old new pool after) where
   abbrev was : Holding
-  was = record { places = places; unsynced = flags; pool = pool }
+  was = record { places = places; unsynced = flags; imaged = imaged; pool = pool }
 
   abbrev now : Holding
-  now = record { places = places; unsynced = flags; pool = after }
+  now = record { places = places; unsynced = flags; imaged = imaged; pool = after }
 
   same_place : (s : ℕ) (p : Place) → place_at places s ≡ Some p → s ≡ set → p.shape.ci ≡ place.shape.ci
   same_place s p there e =
@@ -115,6 +115,7 @@ module _ {S : Type 0} (told : S → Type 0) (disk : S → Disk) (faults holds : 
         };
         synced = λ number h. durable_stays (disk old) (disk new) (first_area_set + number) law law2 (looks.stays t)
             (s.synced number h);
+        imaged = s.imaged;
       };
       moments = λ s. spared_through layout (items_of way.tail) bytes (disk old) (disk new) spares s.pool.stands.redoes;
       opening = λ s may. subst (λ o. MayOpen layout way o bytes (disk new)) (sym (same_owed pool after looks.cells))
@@ -132,6 +133,7 @@ module _ {S : Type 0} (told : S → Type 0) (disk : S → Disk) (faults holds : 
     known = looks.known;
     places = refl;
     unsynced = refl;
+    imaged = refl;
     cells = looks.cells;
     fit = fit_looked;
     areas = keeps_looked;

@@ -141,8 +141,8 @@ cleared_synced flags after old new same these syncs was number is =
     all_synced flags after old new same these syncs.durable was number (slice_get_within after number false is)
 
 -- the pool has what it had
-module _ (way : Way) (bytes : AreaBytes) (places : List Place) (flags flags2 : List Bool) (pool : Held) (old new : Disk)
-    (syncs : SyncsAreas old new)
+module _ (way : Way) (bytes : AreaBytes) (places : List Place) (flags flags2 : List Bool)
+    (imaged : List (List Bool)) (pool : Held) (old new : Disk) (syncs : SyncsAreas old new)
     (synced_still : AreSynced flags old → AreSynced flags2 new) where
   keeps : KeepsStanding (layout_of places) way (owed_of pool) bytes old new
   keeps = syncs.standing (layout_of places) way (owed_of pool) bytes
@@ -151,8 +151,9 @@ module _ (way : Way) (bytes : AreaBytes) (places : List Place) (flags flags2 : L
   clean_still clean set ci b has =
       clean set ci b has ∙ ap (λ xs. read_range xs (ci * length b) (length b)) (sym (syncs.contents set))
 
-  pub areas_synced : KeepsAreas way bytes old new (record { places = places; unsynced = flags; pool = pool })
-      (record { places = places; unsynced = flags2; pool = pool })
+  pub areas_synced : KeepsAreas way bytes old new
+      (record { places = places; unsynced = flags; imaged = imaged; pool = pool })
+      (record { places = places; unsynced = flags2; imaged = imaged; pool = pool })
   areas_synced = record {
     places = refl;
     stands = λ s. record {
@@ -163,6 +164,7 @@ module _ (way : Way) (bytes : AreaBytes) (places : List Place) (flags flags2 : L
         clean = clean_still s.pool.clean;
       };
       synced = synced_still s.synced;
+      imaged = s.imaged;
     };
     moments = λ s. keeps.moments s.pool.stands;
     opening = λ s may. keeps.opening s.pool.stands may;

@@ -115,12 +115,6 @@ module _ (places : List Place) (flags flags2 : List Bool) (pool after : Held) (s
     (clean : (size : ℕ) → HasSize set size pool → IsClean old.contents pool → IsClean new.contents after)
     (sizes : (s n : ℕ) → HasSize s n pool → HasSize s n after)
     (staged : (s k : ℕ) → staged_at after s k ≡ staged_at pool s k) (how : Wrote pool after set ci w old new) where
-  abbrev was : Holding
-  was = record { places = places; unsynced = flags; pool = pool }
-
-  abbrev now : Holding
-  now = record { places = places; unsynced = flags2; pool = after }
-
   module _ (fit : IsFitPool places pool) where
     place : (p : Place) × (place_at places set ≡ Some p)
     place = there (place_at places set) (fit.areas set ci w is)
@@ -149,7 +143,13 @@ module _ (places : List Place) (flags flags2 : List Bool) (pool after : Held) (s
   pub fits : IsFitPool places pool → IsFitPool places after
   fits fit = fit_still places pool after (still_waits pool after set ci w old new how) sizes staged fit
 
-  module _ (way : Way) (bytes : AreaBytes) (below : w.newest < sealed_of way) where
+  module _ (imaged : List (List Bool)) (way : Way) (bytes : AreaBytes) (below : w.newest < sealed_of way) where
+    abbrev was : Holding
+    was = record { places = places; unsynced = flags; imaged = imaged; pool = pool }
+
+    abbrev now : Holding
+    now = record { places = places; unsynced = flags2; imaged = imaged; pool = after }
+
     pub keeps_written : KeepsAreas way bytes old new was now
     keeps_written = record {
       places = refl;
@@ -159,6 +159,7 @@ module _ (places : List Place) (flags flags2 : List Bool) (pool after : Held) (s
             law2 s.pool more leaves (clean (place s.fit).0.shape.ci (sized s.fit) s.pool.clean) how;
         synced = synced_aside set (ci * length w.bytes) (length w.bytes) flags flags2 old new law law2 noted leaves more
             s.synced;
+        imaged = s.imaged;
       };
       moments = λ s. moments_wrote (layout_of places) way bytes pool after set ci w old new is (long s.fit) (some s.fit)
           below law law2 s.pool more leaves;

@@ -8,6 +8,7 @@ use Rattle.ci_pool.specs.declared.cell.Waiting.{Waiting}
 use Rattle.ci_pool.specs.Held.{Held, pending_at}
 use Rattle.area_redo.specs.Redo.{AreaBytes, Layout, RedoesThrough}
 use Rattle.area_redo.specs.Standing.{Way, since_mark, Owed, Stands, MayOpen}
+use Rattle.dedb_area.specs.Items.{is_imaged}
 use Rattle.dedb_area.specs.Places.{layout_of}
 use Rattle.dedb_area.specs.Standing.{Holding, AreasStand, AreasMayOpen}
 
@@ -43,6 +44,13 @@ pub record SyncsAreas (old new : Disk) : Type 0 where
   pub only : OnlyAreas old new
   pub standing : (layout : Layout) (way : Way) (owed : Owed) (bytes : AreaBytes)
       → KeepsStanding layout way owed bytes old new
+
+-- no interval has an item since the mark, and all else stays
+pub record IsMarked (before after : Holding) : Type 0 where
+  pub none : (set ci : ℕ) → is_imaged after.imaged set ci ≡ false
+  pub places : after.places ≡ before.places
+  pub unsynced : after.unsynced ≡ before.unsynced
+  pub pool : after.pool ≡ before.pool
 
 -- of all that is pending, this interval no more is
 abbrev pub IsWritten : Held → Held → ℕ → ℕ → Type 0

@@ -6,3 +6,4 @@ pub mod Looking
 pub mod Applying
 pub mod Formatting
 pub mod Staging
+pub mod Items

@@ -49,6 +49,7 @@ pub record LooksAtAreas {S : Type 0} (told : S → Type 0) (disk : S → Disk) (
   pub known : (first : S) → keeps first old → keeps first new
   pub places : after.places ≡ before.places
   pub unsynced : after.unsynced ≡ before.unsynced
+  pub imaged : after.imaged ≡ before.imaged
   pub cells : after.pool.cells ≡ before.pool.cells
   pub fit : IsFitPool before.places before.pool → IsFitPool after.places after.pool
   pub areas : told old → (way : Way) (bytes : AreaBytes) → KeepsAreas way bytes (disk old) (disk new) before after

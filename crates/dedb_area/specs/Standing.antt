@@ -6,7 +6,9 @@ use Rattle.ci_pool.specs.declared.cell.Waiting.{Waiting}
 use Rattle.ci_pool.specs.Held.{Held, pending_at, staged_at, IsClean, HasSize}
 use Rattle.area_redo.specs.Redo.{AreaBytes, Layout}
 use Rattle.area_redo.specs.Standing.{behind, Way, Due, Owed, Stands, MayOpen}
+use Rattle.area_redo.specs.Steps.{AreImaged}
 use Rattle.dedb_area.specs.declared.place.Place.{Place}
+use Rattle.dedb_area.specs.Items.{is_imaged}
 use Rattle.dedb_area.specs.Places.{place_at, layout_of}
 
 -- what contracts see of areas
@@ -15,6 +17,8 @@ pub record Holding : Type 0 where
   pub places : List Place
   -- in the same order, which of them were written to since they were synced
   pub unsynced : List Bool
+  -- in the same order, flags of their intervals: those that have an item since the mark
+  pub imaged : List (List Bool)
   -- their intervals at hand
   pub pool : Held
 
@@ -61,6 +65,7 @@ pub record AreasStand (way : Way) (bytes : AreaBytes) (disk : Disk) (areas : Hol
   pub fit : IsFitPool areas.places areas.pool
   pub pool : PoolStands (layout_of areas.places) way bytes disk areas.pool
   pub synced : AreSynced areas.unsynced disk
+  pub imaged : AreImaged way (is_imaged areas.imaged)
 
 -- and that the checkpoint under way may open
 abbrev pub AreasMayOpen : Way → AreaBytes → Disk → Holding → Type 0

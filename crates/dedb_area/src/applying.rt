@@ -163,6 +163,7 @@ impl Areas {
         ensures fit { IsFitPool self.old.places self.old.pool → IsFitPool self.new.places self.new.pool }
         ensures clean { (contents : ℕ → List ℕ) → IsClean contents self.old.pool → IsClean contents self.new.pool }
         ensures places { self.new.places ≡ self.old.places }
+        ensures imaged { self.new.imaged ≡ self.old.imaged }
         ensures unsynced { self.new.unsynced ≡ self.old.unsynced }
     {
         apply_items(self.alloc, &mut self.pool, items.as_slice(), place)

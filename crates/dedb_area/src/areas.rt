@@ -12,6 +12,7 @@ ghost use Rattle.ci_pool.specs.declared.pool.Owed.TheVariants as owed;
 ghost use Rattle.area_redo.specs.Redo.{AreaBytes};
 ghost use Rattle.area_redo.specs.Standing.{Way, sealed_of, behind};
 ghost use Rattle.dedb_area.specs.Control.{ends_in, IsControlOf};
+ghost use Rattle.dedb_area.specs.Items.{is_imaged};
 ghost use Rattle.dedb_area.specs.Looking.{LooksAtAreas};
 ghost use Rattle.dedb_area.specs.Places.{places_of, place_at};
 ghost use Rattle.dedb_area.specs.declared.place.Place.{Place as PlaceOf};
@@ -21,54 +22,65 @@ ghost use Rattle.dedb_area.specs.Keeping.{KeepsAreas, OnlyAreas, IsWritten, None
 ghost use Rattle.ci_pool.specs.Cells.{pending_number};
 
 use crate::AreaFault;
+use crate::imaging::none_imaged;
 use crate::opening::places_of;
 use crate::place::Place;
 use crate::reading::{control, ends_in, place_in};
 use crate::syncing::{clear, note_write, sync_all};
 use ci_pool::{Owed, Pool};
-use fp_model::{AreaEnds, Defs};
+use fp_model::{AreaEnds, Defs, List};
 use fp_site::{Failed, Site};
 use std::alloc::{AllocError, Global};
 use std::marker::Model;
 
-/// The areas of a site. Contracts see them with their definitions, the pool of their intervals, and which of them were
-/// written to since they were synced.
+/// The areas of a site. Contracts see them with their definitions, the pool of their intervals, which of them were
+/// written to since they were synced, and which intervals have an item since the mark.
 #[derive(Drop)]
 pub struct Areas {
     pub(crate) alloc: Global,
     pub(crate) places: Vec<Place>,
     pub(crate) unsynced: Vec<bool>,
+    pub(crate) imaged: Vec<List<bool>>,
     pub(crate) pool: Pool,
 }
 
 impl Model for Areas {
-    ghost use Rattle.std.specs.Prelude.{◌≤◌, length};
+    ghost use Rattle.std.specs.Prelude.{◌≡◌, ◌≤◌, length};
     ghost use Rattle.dedb_area.specs.Places.{ArePlaces};
     ghost use Rattle.dedb_area.specs.Standing.{Holding};
 
     ghost Value = { Holding };
 
-    ghost view = { λ a. record { places = a.places.items; unsynced = a.unsynced.items; pool = a.pool } };
+    ghost view = { λ a. record {
+      places = a.places.items;
+      unsynced = a.unsynced.items;
+      imaged = a.imaged.items;
+      pool = a.pool;
+    } };
 
-    ghost invariant = { λ a. (length a.unsynced.items ≤ 256) × ArePlaces a.places.items };
+    ghost invariant = { λ a. (length a.unsynced.items ≤ 256) × ArePlaces a.places.items
+        × (length a.imaged.items ≡ length a.places.items) };
 }
 
 impl Areas {
-    /// The areas of an installation, with this pool of their intervals. They count as synced. Fails only for want of
-    /// memory.
+    /// The areas of an installation, with this pool of their intervals. They count as synced, and no interval has an
+    /// item since the mark. Fails only for want of memory.
     pub fn open(alloc: Global, defs: &Defs, pool: Pool) -> Result<Areas, AllocError>
         requires { AreDefs defs.now }
         ensures places { IfOk result (λ areas. areas.places ≡ places_of defs.now) }
         ensures pool { IfOk result (λ areas. areas.pool ≡ pool) }
         ensures count { IfOk result (λ areas. length areas.unsynced ≡ length areas.places) }
         ensures synced { IfOk result (λ areas. (number : ℕ) → slice_get areas.unsynced number ≢ Some true) }
+        ensures unimaged { IfOk result (λ areas. (set ci : ℕ) → is_imaged areas.imaged set ci ≡ false) }
     {
         let places = places_of(alloc, defs)?;
         let unsynced = vec![in alloc; false; places.len()]?;
+        let imaged = none_imaged(alloc, places.len())?;
         Ok(Areas {
             alloc,
             places,
             unsynced,
+            imaged,
             pool,
         })
     }
@@ -114,6 +126,7 @@ impl Areas {
         ensures fewer { OnOk result (pending_number self.new.pool.cells < pending_number self.old.pool.cells) }
         ensures fit { IsFitPool self.old.places self.old.pool → IsFitPool self.new.places self.new.pool }
         ensures places { self.new.places ≡ self.old.places }
+        ensures imaged { self.new.imaged ≡ self.old.imaged }
         ensures count { length self.new.unsynced ≡ length self.old.unsynced }
 
         // Where its newest change is sealed the areas stand as before, at each moment.
@@ -147,6 +160,7 @@ impl Areas {
         ensures err { OnErr result (self.new.pool ≡ self.old.pool) }
         ensures fit { IsFitPool self.old.places self.old.pool → IsFitPool self.new.places self.new.pool }
         ensures places { self.new.places ≡ self.old.places }
+        ensures imaged { self.new.imaged ≡ self.old.imaged }
 
         // The areas stand as before, whatever it answers and at each moment.
         ensures keeps_areas { T.told site.old → (way : Way) (bytes : AreaBytes) → sealed ≤ sealed_of way
@@ -189,6 +203,7 @@ impl Areas {
         ensures err { OnErr result (self.new.pool ≡ self.old.pool) }
         ensures fit { IsFitPool self.old.places self.old.pool → IsFitPool self.new.places self.new.pool }
         ensures places { self.new.places ≡ self.old.places }
+        ensures imaged { self.new.imaged ≡ self.old.imaged }
 
         // The areas stand as before, whatever it answers and at each moment.
         ensures keeps_areas { T.told site.old → (way : Way) (bytes : AreaBytes) → sealed ≤ sealed_of way
@@ -220,6 +235,7 @@ impl Areas {
         ensures rest { StillWaits self.old.pool self.new.pool }
         ensures fit { IsFitPool self.old.places self.old.pool → IsFitPool self.new.places self.new.pool }
         ensures places { self.new.places ≡ self.old.places }
+        ensures imaged { self.new.imaged ≡ self.old.imaged }
         ensures count { length self.new.unsynced ≡ length self.old.unsynced }
 
         // Where every entry is sealed the areas stand as before, whatever it answers and at each moment.
@@ -261,6 +277,7 @@ impl Areas {
         ensures rest { StillWaits self.old.pool self.new.pool }
         ensures fit { IsFitPool self.old.places self.old.pool → IsFitPool self.new.places self.new.pool }
         ensures places { self.new.places ≡ self.old.places }
+        ensures imaged { self.new.imaged ≡ self.old.imaged }
         ensures count { length self.new.unsynced ≡ length self.old.unsynced }
 
         // Where every entry is sealed the areas stand as before, whatever it answers and at each moment.
@@ -292,6 +309,7 @@ impl Areas {
         ensures count { length self.new.unsynced ≡ length self.old.unsynced }
         ensures err { OnErr result (self.new ≡ self.old) }
         ensures places { self.new.places ≡ self.old.places }
+        ensures imaged { self.new.imaged ≡ self.old.imaged }
         ensures pool { self.new.pool ≡ self.old.pool }
 
         // The areas stand as before, whatever it answers and at each moment.

@@ -19,11 +19,12 @@ returns-in_err-control-clause-looks g c =
     c.args.site.now c.control.new.site h (record {
       places = c.self.inside.places.items;
       unsynced = c.self.inside.unsynced.items;
+      imaged = c.self.inside.imaged.items;
       pool = c.control.new.pool;
     })) c.self.view_is
     (areas_looked g.T.Site.told g.T.Site.disk g.T.Site.faults g.T.Site.holds g.T.Site.keeps
     (λ s t. g.met.T.Site.lawful s t) c.args.set c.place_in-place.result.now c.self.inside.places.items
-    c.self.inside.unsynced.items c.args.site.now c.control.new.site c.self.inside.pool c.control.new.pool is
+    c.self.inside.unsynced.items c.self.inside.imaged.items c.args.site.now c.control.new.site c.self.inside.pool c.control.new.pool is
     c.control.ensures.looks)
 
 pub returns-in-Some-clause-looks : goal.returns-in-Some-clause-looks
@@ -34,11 +35,12 @@ returns-in-Some-clause-looks g c =
     c.args.site.now c.control.new.site h (record {
       places = c.self.inside.places.items;
       unsynced = c.self.inside.unsynced.items;
+      imaged = c.self.inside.imaged.items;
       pool = c.control.new.pool;
     })) c.self.view_is
     (areas_looked g.T.Site.told g.T.Site.disk g.T.Site.faults g.T.Site.holds g.T.Site.keeps
     (λ s t. g.met.T.Site.lawful s t) c.args.set c.place_in-place.result.now c.self.inside.places.items
-    c.self.inside.unsynced.items c.args.site.now c.control.new.site c.self.inside.pool c.control.new.pool is
+    c.self.inside.unsynced.items c.self.inside.imaged.items c.args.site.now c.control.new.site c.self.inside.pool c.control.new.pool is
     c.control.ensures.looks)
 
 pub returns-clause-looks : goal.returns-clause-looks
@@ -49,11 +51,12 @@ returns-clause-looks g c =
     c.args.site.now c.control.new.site h (record {
       places = c.self.inside.places.items;
       unsynced = c.self.inside.unsynced.items;
+      imaged = c.self.inside.imaged.items;
       pool = c.control.new.pool;
     })) c.self.view_is
     (areas_looked g.T.Site.told g.T.Site.disk g.T.Site.faults g.T.Site.holds g.T.Site.keeps
     (λ s t. g.met.T.Site.lawful s t) c.args.set c.place_in-place.result.now c.self.inside.places.items
-    c.self.inside.unsynced.items c.args.site.now c.control.new.site c.self.inside.pool c.control.new.pool is
+    c.self.inside.unsynced.items c.self.inside.imaged.items c.args.site.now c.control.new.site c.self.inside.pool c.control.new.pool is
     c.control.ensures.looks)
 
 pub returns-in-Some-clause-ends : goal.returns-in-Some-clause-ends

@@ -14,7 +14,7 @@ returns-in_err-sync_all-clause-keeps_areas g c told way bytes =
     let syncs = c.sync_all.ensures.syncs told in
     subst (λ (h : Holding). KeepsAreas way bytes old new h h) c.self.view_is
     (areas_synced way bytes c.self.inside.places.items c.self.inside.unsynced.items c.self.inside.unsynced.items
-    c.self.inside.pool old new syncs (λ was number is. syncs.durable _ (was number is)))
+    c.self.inside.imaged.items c.self.inside.pool old new syncs (λ was number is. syncs.durable _ (was number is)))
 
 pub returns-clause-keeps_areas : goal.returns-clause-keeps_areas
 returns-clause-keeps_areas g c told way bytes =
@@ -27,7 +27,19 @@ returns-clause-keeps_areas g c told way bytes =
     subst (λ (h : Holding). KeepsAreas way bytes old new h (record {
       places = c.self.inside.places.items;
       unsynced = c.clear.new.unsynced.items;
+      imaged = c.self.inside.imaged.items;
       pool = c.self.inside.pool;
     })) c.self.view_is
-    (areas_synced way bytes c.self.inside.places.items flags c.clear.new.unsynced.items c.self.inside.pool old new syncs
-    (cleared_synced flags c.clear.new.unsynced.items old new c.clear.ensures.count these syncs))
+    (areas_synced way bytes c.self.inside.places.items flags c.clear.new.unsynced.items c.self.inside.imaged.items
+    c.self.inside.pool old new syncs (cleared_synced flags c.clear.new.unsynced.items old new c.clear.ensures.count these syncs))
+
+pub returns-clause-durable : goal.returns-clause-durable
+returns-clause-durable g c told synced number below =
+    let old = g.T.Site.disk c.args.site.now in
+    let new = g.T.Site.disk c.sync_all.new.site in
+    let flags = c.self.inside.unsynced.items in
+    let these = subst (λ l. (number : ℕ) → slice_get l number ≡ Some true → IsDurable new (first_area_set + number))
+    c.deref.ensures.value (c.in_ok-sync_all.ensures.synced told) in
+    let was = subst (λ (h : Holding). AreSynced h.unsynced old) (sym c.self.view_is) synced in
+    all_synced flags c.clear.new.unsynced.items old new c.clear.ensures.count these
+    (c.sync_all.ensures.syncs told).durable was number below

@@ -25,10 +25,11 @@ returns-clause-keeps_areas g c told way bytes sealed =
     subst (λ (h : Holding). KeepsAreas way bytes old new h (record {
       places = c.self.inside.places.items;
       unsynced = c.note_write.new.unsynced.items;
+      imaged = c.self.inside.imaged.items;
       pool = after;
     })) c.self.view_is
     (keeps_written c.self.inside.places.items c.self.inside.unsynced.items c.note_write.new.unsynced.items pool after c.args.set
     c.args.ci w.0 old new w.1 c.self.invariant.1 (g.met.T.Site.lawful c.args.site.now told)
     (g.met.T.Site.lawful c.write_one.new.site (c.write_one.ensures.told told)) c.note_write.ensures.noted
     (c.write_one.ensures.crash told w.0 w.1) (c.write_one.ensures.leaves told) (c.write_one.ensures.clean told)
-    c.write_one.ensures.sizes c.write_one.ensures.staged how way bytes below)
+    c.write_one.ensures.sizes c.write_one.ensures.staged how c.self.inside.imaged.items way bytes below)

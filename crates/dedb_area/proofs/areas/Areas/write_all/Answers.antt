@@ -15,6 +15,7 @@ writes-init g c = record {
   rest = λ s k w is. is;
   fit = λ f. f;
   places = refl;
+  imaged = refl;
   count = refl;
   keeps_areas = λ t way bytes none. areas_none way bytes (g.T.Site.disk c.args.site.now) c.args.self.now
       (g.met.T.Site.lawful c.args.site.now t);
@@ -49,6 +50,7 @@ writes-preserved g c =
       rest = λ s k w is. inv.rest s k w (e.rest s k w is);
       fit = λ f. e.fit (inv.fit f);
       places = e.places ∙ inv.places;
+      imaged = e.imaged ∙ inv.imaged;
       count = e.count ∙ inv.count;
       keeps_areas = λ told way bytes none. areas_then way bytes (g.T.Site.disk c.args.site.now) (g.T.Site.disk c.writes.site)
           (g.T.Site.disk c.write_next.new.site) c.args.self.now c.writes.self c.write_next.new.self

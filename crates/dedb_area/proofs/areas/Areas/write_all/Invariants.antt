@@ -18,6 +18,7 @@ invariant-writes g l = record {
   rest : StillWaits l.initial.self.pool l.self.pool;
   fit : IsFitPool l.initial.self.places l.initial.self.pool → IsFitPool l.self.places l.self.pool;
   places : l.self.places ≡ l.initial.self.places;
+  imaged : l.self.imaged ≡ l.initial.self.imaged;
   count : length l.self.unsynced ≡ length l.initial.self.unsynced;
   keeps_areas : g.T.Site.told l.initial.site → (way : Way) (bytes : AreaBytes) → way.unsealed ≡ []
       → KeepsAreas way bytes (g.T.Site.disk l.initial.site) (g.T.Site.disk l.site) l.initial.self l.self;

@@ -1,0 +1,78 @@
+//! Which intervals have an item since the mark: a flag for each, up to the last that has one.
+
+ghost use Rattle.std.specs.Prelude.{◌≡◌, ◌<◌, ◌≤◌, ◌-◌, ◌||◌, ◌&&◌, ◌==◌, ℕ, false, length, Some, OnOk, IfOk};
+ghost use Rattle.fp_model.specs.State.{first_area_set};
+ghost use Rattle.dedb_area.specs.Items.{flag_at, is_imaged, HasFlag};
+
+use crate::syncing::FIRST_AREA;
+use fp_model::List;
+use std::alloc::{AllocError, Global};
+
+/// So many areas, none of whose intervals has an item.
+pub(crate) fn none_imaged(alloc: Global, count: usize) -> Result<Vec<List<bool>>, AllocError>
+    ensures none { IfOk result (λ imaged. (set ci : ℕ) → is_imaged imaged.items set ci ≡ false) }
+    ensures count { IfOk result (λ imaged. length imaged.items ≡ count) }
+{
+    let mut imaged = Vec::new(alloc);
+    while imaged.len() < count {
+        imaged.push(List::new(alloc))?;
+    }
+    Ok(imaged)
+}
+
+/// The flag of an interval.
+fn flag_at(flags: &List<bool>, ci: u64) -> bool
+    ensures { result ≡ flag_at (Some flags.now) ci }
+{
+    match flags.get(ci as usize) {
+        Some(flag) => *flag,
+        None => false,
+    }
+}
+
+/// Whether an interval of an area has an item since the mark.
+pub(crate) fn is_imaged(imaged: &[List<bool>], set: u16, ci: u64) -> bool
+    requires { first_area_set ≤ set }
+    ensures { result ≡ is_imaged imaged.now set ci }
+{
+    let number = usize::from(set - FIRST_AREA);
+    if number < imaged.len() {
+        flag_at(&imaged[number], ci)
+    } else {
+        false
+    }
+}
+
+/// Makes room for the flag of an interval.
+fn grow(flags: &mut List<bool>, ci: u64) -> Result<(), AllocError>
+    ensures same { (k : ℕ) → flag_at (Some flags.new) k ≡ flag_at (Some flags.old) k }
+    ensures room { OnOk result (ci < length flags.new) }
+{
+    let count = ci as usize;
+    while flags.len() <= count {
+        flags.push(false)?;
+    }
+    Ok(())
+}
+
+/// Makes room for the flag of an interval of an area. Which intervals have an item stays.
+pub(crate) fn make_room(imaged: &mut Vec<List<bool>>, set: u16, ci: u64) -> Result<(), AllocError>
+    requires area { first_area_set ≤ set }
+    requires within { set - first_area_set < length imaged.old.items }
+    ensures same { (s k : ℕ) → is_imaged imaged.new.items s k ≡ is_imaged imaged.old.items s k }
+    ensures room { OnOk result (HasFlag imaged.new.items set ci) }
+    ensures count { length imaged.new.items ≡ length imaged.old.items }
+{
+    grow(&mut imaged[usize::from(set - FIRST_AREA)], ci)
+}
+
+/// No interval has an item.
+pub(crate) fn clear(imaged: &mut Vec<List<bool>>)
+    ensures none { (set ci : ℕ) → is_imaged imaged.new.items set ci ≡ false }
+    ensures count { length imaged.new.items ≡ length imaged.old.items }
+{
+    for number in 0..imaged.len() {
+        let none = imaged[number].empty_like();
+        imaged[number] = none;
+    }
+}
