@@ -21,10 +21,10 @@ ghost use Rattle.root_anchor.specs.Walking.{IsLook};
 
 use crate::anchor::{base_of, root_anchor_point};
 use crate::building::newest_of;
-use root_changes::{Difference, compare_nodes, compare_root, compare_roots, compare_row};
 use anchor_elements::{AnchorFault, First, Pointer, Said, read_element};
 use ci_space::{Intervals, Shape};
 use fp_model::{Bytes, List, Node, Root, SegDef};
+use root_changes::{Difference, compare_nodes, compare_root, compare_roots, compare_row};
 use std::alloc::Global;
 
 /// The element of a segment that changes.

@@ -346,26 +346,34 @@ pub row_gains_so : (row other : List Node) → RowGains row other → ((k : ℕ)
     ⊎ ((k : ℕ) × (j : ℕ) × GainWithin IsOwnNode node_rows row other k j)
 row_gains_so row other (new_segment {k = k} {n = n} m bare) = inl (k, record { item = n; more = m; bare = bare })
 row_gains_so row other (lower_segment {lower = lower} {more = more} {k = k} {j = j} {x = x} {y = y} at own below gains) =
-    inr (k, j, record {
-      x = x;
-      y = y;
-      at = at;
-      own = own;
-      below = record { lower = lower; more = more; at = below; gains = gains };
-    })
+    inr (
+      k,
+      j,
+      record {
+        x = x;
+        y = y;
+        at = at;
+        own = own;
+        below = record { lower = lower; more = more; at = below; gains = gains };
+      },
+    )
 
 pub roots_gain_so : (roots others : List Root) → RootsGain roots others → ((k : ℕ) × HasNew root_rows roots others k)
     ⊎ ((k : ℕ) × (j : ℕ) × GainWithin HaveSameOwn root_rows roots others k j)
 roots_gain_so roots others (new_root {k = k} {root = root} m bare) =
     inl (k, record { item = root; more = m; bare = bare })
 roots_gain_so roots others (below_root {lower = lower} {more = more} {k = k} {j = j} {x = x} {y = y} at own below gains) =
-    inr (k, j, record {
-      x = x;
-      y = y;
-      at = at;
-      own = own;
-      below = record { lower = lower; more = more; at = below; gains = gains };
-    })
+    inr (
+      k,
+      j,
+      record {
+        x = x;
+        y = y;
+        at = at;
+        own = own;
+        below = record { lower = lower; more = more; at = below; gains = gains };
+      },
+    )
 
 -- ---- of two rows of rows
 

@@ -9,7 +9,9 @@ ghost use Rattle.root_changes.specs.Differing.{HaveSameOwn};
 ghost use Rattle.root_changes.specs.Gaining.{AreBare};
 ghost use Rattle.root_changes.specs.Telling.{BeginAlike, TellsRowGain, TellsRootGain, TellsWithin, TellsNew};
 
-use crate::differing::{Difference, compare_nodes, compare_root, compare_row, same_bytes, same_own};
+use crate::differing::{
+    Difference, compare_nodes, compare_root, compare_row, same_bytes, same_own,
+};
 use fp_model::{List, Node, Root};
 
 /// How a list has one segment more than another.

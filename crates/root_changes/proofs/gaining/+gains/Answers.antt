@@ -73,8 +73,12 @@ gain_within-returns-then-not-same t c = in_not _ c.args.place c.args.rows.now c.
 
 pub gain_within-returns-then-rows-others : goal.gain_within-returns-then-rows-others
 gain_within-returns-then-rows-others t c = in_not _ c.args.place c.args.rows.now c.args.others.now
-    (λ own j g. absurd (omega (arith, c.if-rows-others.true, same_lengths c.args.rows.now c.args.others.now j g.lower
-    g.more g.at)))
+    (λ own j g. absurd (omega (
+      arith,
+      c.if-rows-others.true,
+      same_lengths c.args.rows.now c.args.others.now j g.lower
+          g.more g.at,
+    )))
 
 pub gain_within-returns-then-number-rows : goal.gain_within-returns-then-number-rows
 gain_within-returns-then-number-rows t c = in_not _ c.args.place c.args.rows.now c.args.others.now

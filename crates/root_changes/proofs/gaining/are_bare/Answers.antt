@@ -15,5 +15,5 @@ loop-place-preserved c = record {
   within = omega (arith, c.loop-place-test.true);
   bare = bare_on c.args.rows.now c.loop-place.place c.index-rows-place.result c.loop-place.invariant.bare
       (omega (arith, c.loop-place-test.true)) c.index-rows-place.is
-      (empty_list c.index-rows-place.result (λ n. (let f = c.if-not-is_empty.false in let h = c.is_empty.ensures.0 in n (h (cc))))); 
+      (empty_list c.index-rows-place.result (λ n. (let f = c.if-not-is_empty.false in let h = c.is_empty.ensures.0 in n (h (cc)))));
 }
