@@ -17,7 +17,8 @@ use Rattle.anchor_elements.specs.Puts.{PutsSegment}
 use Rattle.anchor_elements.proofs.Pointers.{pointer_or}
 use Rattle.root_anchor.specs.Chains.{AreRows, no_row, row_end, segment, AreRoots, no_root, root, newest, root_of, IsChain, anchor_count}
 use Rattle.root_anchor.specs.Formed.{HasRoots, Meets, IsFormed}
-use Rattle.root_anchor.specs.Differing.{HaveSameOwn, RowsDifferIn, this_segment, below_segment, behind_twin, behind_row, RootsDifferIn, this_root, below_root, behind_root, ChangesAlone}
+use Rattle.root_changes.specs.Differing.{HaveSameOwn}
+use Rattle.root_anchor.specs.Differing.{RowsDifferIn, this_segment, below_segment, behind_twin, behind_row, RootsDifferIn, this_root, below_root, behind_root, ChangesAlone}
 use Rattle.root_anchor.specs.Stored.{OthersKeep, ApartKeep, KeepsSequential}
 use Rattle.root_anchor.proofs.Framing.{Stay, rows_keep, rows_stay, roots_keep, roots_stay}
 use Rattle.root_anchor.proofs.Members.{front_in, behind_in}

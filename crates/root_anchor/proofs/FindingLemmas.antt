@@ -16,10 +16,11 @@ use Rattle.fp_model.specs.Order.{child_types}
 use Rattle.anchor_elements.specs.Elements.{Pointer, Segment, HasSegment}
 use Rattle.anchor_elements.specs.Wrong.{IsWrong}
 use Rattle.root_anchor.specs.Chains.{AreRows, no_row, row_end, segment, AreRoots, no_root, root, newest}
-use Rattle.root_anchor.specs.Differing.{HaveSameOwn, DifferAt, DifferIn, RowDiffers, RowsDifferIn, this_segment, below_segment, behind_twin, behind_row, RootsDifferIn, this_root, below_root, behind_root}
+use Rattle.root_changes.specs.Differing.{HaveSameOwn, DifferAt, DifferIn, RowDiffers}
+use Rattle.root_anchor.specs.Differing.{RowsDifferIn, this_segment, below_segment, behind_twin, behind_row, RootsDifferIn, this_root, below_root, behind_root}
 use Rattle.root_anchor.specs.Finding.{IsTwinAt, this_twin, twin_behind, GiveRows, GivesRow, RowDiffersIn}
 use Rattle.root_anchor.proofs.AloneLemmas.{rolled_below}
-use Rattle.root_anchor.proofs.ComparingLemmas.{shifted, front_same, rest_same, front_first, front_second}
+use Rattle.root_changes.proofs.ComparingLemmas.{shifted, front_same, rest_same, front_first, front_second}
 use Rattle.root_anchor.proofs.Members.{none_in}
 use Rattle.root_anchor.proofs.OneChain.{one_segment}
 use Rattle.root_anchor.proofs.Sound.{right}

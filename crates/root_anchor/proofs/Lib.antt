@@ -23,7 +23,6 @@ pub mod TypeLemmas
 pub mod Exits
 pub mod Sharing
 pub mod Giving
-pub mod ComparingLemmas
 pub mod AloneLemmas
 pub mod FindingLemmas
 pub mod HeldLemmas

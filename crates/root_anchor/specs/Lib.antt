@@ -9,5 +9,4 @@ pub mod Puts
 pub mod Standing
 pub mod Rebuilding
 pub mod Walking
-pub mod Comparing
 pub mod Finding

@@ -11,7 +11,8 @@ ghost use Rattle.anchor_elements.specs.Elements.{AreTypes, Segment, has_serial};
 ghost use Rattle.anchor_elements.specs.Elements.{Pointer as PointerOf};
 ghost use Rattle.anchor_elements.specs.Reading.{types_of, pointers_of, segment_of};
 ghost use Rattle.root_anchor.specs.Chains.{anchor_count, root_of};
-ghost use Rattle.root_anchor.specs.Differing.{DifferIn, RowDiffers, RowsDifferIn, RootsDiffer, RootsDifferIn};
+ghost use Rattle.root_changes.specs.Differing.{DifferIn, RowDiffers, RootsDiffer};
+ghost use Rattle.root_anchor.specs.Differing.{RowsDifferIn, RootsDifferIn};
 ghost use Rattle.root_anchor.specs.Finding.{IsTwinAt, GiveRows, GivesRow, GivesRoots, RowDiffersIn, FitsType, says_of};
 ghost use Rattle.root_anchor.specs.Formed.{HasRoots};
 ghost use Rattle.root_anchor.specs.Rebuilding.{IsDirect};
@@ -20,10 +21,10 @@ ghost use Rattle.root_anchor.specs.Walking.{IsLook};
 
 use crate::anchor::{base_of, root_anchor_point};
 use crate::building::newest_of;
-use crate::differing::{Difference, compare_nodes, compare_root, compare_roots, compare_row};
 use anchor_elements::{AnchorFault, First, Pointer, Said, read_element};
 use ci_space::{Intervals, Shape};
 use fp_model::{Bytes, List, Node, Root, SegDef};
+use root_changes::{Difference, compare_nodes, compare_root, compare_roots, compare_row};
 use std::alloc::Global;
 
 /// The element of a segment that changes.

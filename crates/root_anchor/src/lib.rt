@@ -10,7 +10,6 @@
 
 mod anchor;
 mod building;
-mod differing;
 mod finding;
 mod holding;
 mod laws;

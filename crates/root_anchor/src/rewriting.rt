@@ -10,12 +10,12 @@ ghost use Rattle.anchor_elements.specs.Elements.{AreTypes, Segment, HasSegment};
 ghost use Rattle.anchor_elements.specs.Puts.{PutsSegment};
 ghost use Rattle.root_anchor.specs.Chains.{anchor_count};
 ghost use Rattle.root_anchor.specs.Damage.{ChainFails};
-ghost use Rattle.root_anchor.specs.Differing.{RootsDiffer, ChangesAlone};
+ghost use Rattle.root_changes.specs.Differing.{RootsDiffer};
+ghost use Rattle.root_anchor.specs.Differing.{ChangesAlone};
 ghost use Rattle.root_anchor.specs.Finding.{FitsType, says_of};
 ghost use Rattle.root_anchor.specs.Formed.{IsFormed, HasChain, HasRoots};
 ghost use Rattle.root_anchor.specs.Stored.{are_storable, ApartKeep, OthersKeep, KeepsSequential};
 
-use crate::differing::{Difference, compare_roots};
 use crate::finding::{Found, find_change};
 use crate::holding::{Begun, begin, rest, settle};
 use crate::newest::pointers_of;
@@ -24,6 +24,7 @@ use anchor_elements::{AnchorFault, Saying, put_segment};
 use ci_space::{Intervals, Shape};
 use fp_model::{List, Root, SegDef};
 use held_intervals::Held;
+use root_changes::{Difference, compare_roots};
 use std::alloc::Global;
 
 /// Lets an element say what it is to say.

@@ -21,7 +21,7 @@ use crate::plan::{Planned, plan_roots};
 use crate::putting::put_root;
 use crate::standing::{Standing, elements_of};
 use anchor_elements::AnchorFault;
-use ci_overflow::give_back;
+use ci_overflow::{SeenLinks, give_back_seen};
 use ci_space::{Intervals, Shape};
 use fp_model::{List, Root, SegDef};
 use held_intervals::Held;
@@ -29,8 +29,9 @@ use std::alloc::Global;
 use std::collections::VecDeque;
 
 /// Gives these elements back, in this order: the intervals in front of an overflow list, in which a chain begins,
-/// become empty first.
+/// become empty first. The list is gone over once, in whatever order they become empty.
 fn give_back_all<I: Intervals>(
+    alloc: Global,
     i: &mut I,
     shape: &Shape,
     elements: &[Standing],
@@ -44,8 +45,9 @@ fn give_back_all<I: Intervals>(
     ensures number { I.number i.new ≡ I.number i.old }
     ensures goes_on { GoesOn I.told I.size I.faults I.keeps i.old i.new }
 {
+    let mut seen = SeenLinks::new(alloc);
     for element in elements {
-        match give_back(i, shape, element.at.0, element.at.1) {
+        match give_back_seen(i, shape, element.at.0, element.at.1, &mut seen) {
             Ok(()) => {}
             Err(fault) => return Err(fault_of(fault)),
         }
@@ -76,7 +78,7 @@ fn rebuild<I: Intervals>(
     ensures number { I.number i.old ≤ I.number i.new }
     ensures goes_on { GoesOn I.told I.size I.faults I.keeps i.old i.new }
 {
-    give_back_all(i, home.shape, rest)?;
+    give_back_all(alloc, i, home.shape, rest)?;
     let first = build_roots(alloc, i, home, plan, roots)?;
     put_root(i, home.shape, home.anchor, first)
 }

@@ -1,6 +1,6 @@
 use Rattle.std.proofs.Common.{◌∙◌, sym}
-use Rattle.root_anchor.specs.Differing.{RootDiffers}
-use Rattle.root_anchor.proofs.ComparingLemmas.{place_apart, roots_apart}
+use Rattle.root_changes.specs.Differing.{RootDiffers}
+use Rattle.root_changes.proofs.ComparingLemmas.{place_apart, roots_apart}
 use Rattle.root_anchor.proofs.rewriting.are_same.Goals as goal
 
 pub returns-in_default : goal.returns-in_default

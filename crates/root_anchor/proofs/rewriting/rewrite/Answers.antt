@@ -11,7 +11,7 @@ use Rattle.root_anchor.specs.Damage.{ChainFails}
 use Rattle.root_anchor.specs.Differing.{ChangesAlone}
 use Rattle.root_anchor.specs.Formed.{IsFormed, HasChain, HasRoots}
 use Rattle.root_anchor.specs.Stored.{ApartKeep, OthersKeep, KeepsSequential}
-use Rattle.root_anchor.proofs.ComparingLemmas.{roots_apart, same_there}
+use Rattle.root_changes.proofs.ComparingLemmas.{roots_apart, same_there}
 use Rattle.root_anchor.proofs.HeldLemmas.{starts}
 use Rattle.root_anchor.proofs.Sound.{chain_sound}
 use Rattle.root_anchor.proofs.rewriting.rewrite.Goals as goal

@@ -12,7 +12,7 @@ returns-in-Err-clause-sound g c = λ told o a ci e.
     let x = c.loop-element.invariant.given told o a in
     let used = given-used _ _ _ c.args.elements.now c.loop-element.element-index c.element-item.result a
     c.loop-element-test.true c.element-item.is x in
-    c.give_back.ensures.sound (c.loop-element.invariant.goes_on.tells told) x.in_order used ci
+    c.give_back_seen.ensures.sound (c.loop-element.invariant.goes_on.tells told) x.in_order used ci
     (c.in-Err.is ∙ ap Err was)
 
 pub loop-element-init : goal.loop-element-init
@@ -24,8 +24,8 @@ loop-element-init g c = record {
 
 pub loop-element-preserved : goal.loop-element-preserved
 loop-element-preserved g c = record {
-  number = c.give_back.ensures.number ∙ c.loop-element.invariant.number;
-  goes_on = goes_on_joined _ _ _ _ _ _ _ c.loop-element.invariant.goes_on c.give_back.ensures.goes_on;
+  number = c.give_back_seen.ensures.number ∙ c.loop-element.invariant.number;
+  goes_on = goes_on_joined _ _ _ _ _ _ _ c.loop-element.invariant.goes_on c.give_back_seen.ensures.goes_on;
   given = λ told o a.
       let x = c.loop-element.invariant.given told o a in
       let now = c.loop-element.invariant.goes_on.tells told in

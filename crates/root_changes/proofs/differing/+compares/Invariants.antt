@@ -1,7 +1,7 @@
 use Rattle.std.proofs.Common.{◌≤◌, ◌-◌, ◌+◌, ◌*◌, length}
-use Rattle.root_anchor.specs.Comparing.{TellsSoFar}
-use Rattle.root_anchor.specs.Differing.{NodesDiffer, RowDiffers}
-use Rattle.root_anchor.proofs.differing.+compares.Given as goal
+use Rattle.root_changes.specs.Comparing.{TellsSoFar}
+use Rattle.root_changes.specs.Differing.{NodesDiffer, RowDiffers}
+use Rattle.root_changes.proofs.differing.+compares.Given as goal
 
 -- the dependents in front of the place are compared
 abbrev pub invariant-compare_row-loop-place : goal.invariant-compare_row-loop-place

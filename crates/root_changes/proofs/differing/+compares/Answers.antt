@@ -1,7 +1,7 @@
 use Rattle.std.proofs.Common.{◌∙◌, get_or, ap, arith}
-use Rattle.root_anchor.specs.Differing.{NodesDiffer, RowDiffers}
-use Rattle.root_anchor.proofs.ComparingLemmas.{same_below, more_below, own_is, own_below, place_apart, rows_apart, nodes_apart, other_lengths, told_next, all_told, node_told, row_told, inside}
-use Rattle.root_anchor.proofs.differing.+compares.Goals as goal
+use Rattle.root_changes.specs.Differing.{NodesDiffer, RowDiffers}
+use Rattle.root_changes.proofs.ComparingLemmas.{same_below, more_below, own_is, own_below, place_apart, rows_apart, nodes_apart, other_lengths, told_next, all_told, node_told, row_told, inside}
+use Rattle.root_changes.proofs.differing.+compares.Goals as goal
 
 pub compare_below-returns-then-same : goal.compare_below-returns-then-same
 compare_below-returns-then-same t c = same_below _ c.args.rows.now c.args.others.now _ c.if-same.true

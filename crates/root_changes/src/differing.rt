@@ -2,14 +2,14 @@
 
 ghost use Rattle.std.specs.Prelude.{◌≡◌, ◌↔◌, ◌<◌, ℕ, IsTrue, length};
 ghost use Rattle.fp_model.specs.declared.database.Node.{out-Node};
-ghost use Rattle.root_anchor.specs.Comparing.{TellsPlace, TellsBelow, joined, one_more};
-ghost use Rattle.root_anchor.specs.Differing.{NodesDiffer, RowDiffers, RootDiffers, HaveSameOwn};
+ghost use Rattle.root_changes.specs.Comparing.{TellsPlace, TellsBelow, joined, one_more};
+ghost use Rattle.root_changes.specs.Differing.{NodesDiffer, RowDiffers, RootDiffers, HaveSameOwn};
 
 use fp_model::{Bytes, List, Node, Root, SeqItem};
 
 /// Where two things differ, of which each is a list, or a segment with all below it.
 #[derive(Clone, Copy, Debug)]
-pub(crate) enum Difference {
+pub enum Difference {
     /// They are the same.
     Nowhere,
     /// The segments differ themselves, and what is below them is the same.
@@ -43,7 +43,7 @@ fn one_more(so_far: Difference, place: usize) -> Difference
 }
 
 /// Whether these are the same bytes.
-fn same_bytes(bytes: &Bytes, others: &Bytes) -> bool
+pub(crate) fn same_bytes(bytes: &Bytes, others: &Bytes) -> bool
     ensures { IsTrue result ↔ (bytes.now ≡ others.now) }
 {
     bytes == others
@@ -90,7 +90,7 @@ fn compare_below(same: bool, rows: &[List<Node>], others: &[List<Node>]) -> Diff
 
 /// Where two dependents differ, each with all below it.
 #[cycle(compares)]
-pub(crate) fn compare_nodes(node: &Node, other: &Node) -> Difference
+pub fn compare_nodes(node: &Node, other: &Node) -> Difference
     ensures { TellsBelow ((out-Node node.now).bytes ≡ (out-Node other.now).bytes) (out-Node node.now).children
         (out-Node other.now).children result }
 {
@@ -103,7 +103,7 @@ pub(crate) fn compare_nodes(node: &Node, other: &Node) -> Difference
 
 /// Where two rows of dependents differ.
 #[cycle(compares)]
-pub(crate) fn compare_row(row: &List<Node>, other: &List<Node>) -> Difference
+pub fn compare_row(row: &List<Node>, other: &List<Node>) -> Difference
     ensures tells { TellsPlace NodesDiffer row.now other.now result }
     ensures inside { (k : ℕ) → result ≡ Difference.At k → (k < length row.now) × (k < length other.now) }
 {
@@ -139,14 +139,14 @@ fn compare_rows(rows: &[List<Node>], others: &[List<Node>]) -> Difference
 }
 
 /// Whether two roots have the same bytes and the same sequential dependents.
-fn same_own(root: &Root, other: &Root) -> bool
+pub(crate) fn same_own(root: &Root, other: &Root) -> bool
     ensures { IsTrue result ↔ HaveSameOwn root.now other.now }
 {
     same_bytes(&root.bytes, &other.bytes) && same_items(root.seqs.as_slice(), other.seqs.as_slice())
 }
 
 /// Where two roots differ, each with all below it.
-pub(crate) fn compare_root(root: &Root, other: &Root) -> Difference
+pub fn compare_root(root: &Root, other: &Root) -> Difference
     ensures { TellsBelow (HaveSameOwn root.now other.now) root.now.children other.now.children result }
 {
     compare_below(
@@ -157,7 +157,7 @@ pub(crate) fn compare_root(root: &Root, other: &Root) -> Difference
 }
 
 /// Where two lists of roots differ.
-pub(crate) fn compare_roots(roots: &[Root], others: &[Root]) -> Difference
+pub fn compare_roots(roots: &[Root], others: &[Root]) -> Difference
     ensures tells { TellsPlace RootDiffers roots.now others.now result }
     ensures inside { (k : ℕ) → result ≡ Difference.At k → (k < length roots.now) × (k < length others.now) }
 {

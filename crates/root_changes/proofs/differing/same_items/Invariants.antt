@@ -1,5 +1,5 @@
 use Rattle.std.proofs.Common.{◌≡◌, ◌≤◌, ◌<◌, ◌-◌, ℕ, length, slice_get}
-use Rattle.root_anchor.proofs.differing.same_items.Given as goal
+use Rattle.root_changes.proofs.differing.same_items.Given as goal
 
 -- the items in front of the place are the same
 abbrev pub invariant-loop-place : goal.invariant-loop-place

@@ -1,7 +1,7 @@
 use Rattle.std.proofs.Common.{◌≤◌, ◌-◌, length}
-use Rattle.root_anchor.specs.Comparing.{TellsSoFar}
-use Rattle.root_anchor.specs.Differing.{RootDiffers}
-use Rattle.root_anchor.proofs.differing.compare_roots.Given as goal
+use Rattle.root_changes.specs.Comparing.{TellsSoFar}
+use Rattle.root_changes.specs.Differing.{RootDiffers}
+use Rattle.root_changes.proofs.differing.compare_roots.Given as goal
 
 -- the roots in front of the place are compared
 abbrev pub invariant-loop-place : goal.invariant-loop-place

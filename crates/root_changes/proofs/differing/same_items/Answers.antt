@@ -1,6 +1,6 @@
 use Rattle.std.proofs.Common.{refl, arith}
-use Rattle.root_anchor.proofs.ComparingLemmas.{all_same}
-use Rattle.root_anchor.proofs.differing.same_items.Goals as goal
+use Rattle.root_changes.proofs.ComparingLemmas.{all_same}
+use Rattle.root_changes.proofs.differing.same_items.Goals as goal
 
 pub returns : goal.returns
 returns c = (

@@ -1,9 +1,9 @@
 -- What a comparison of two lists tells.
 use Rattle.std.specs.Prelude.{◌≡◌, ◌≢◌, ℕ, ◌<◌, List, slice_get, Some}
 use Rattle.fp_model.specs.declared.database.Node.{Node}
-use Rattle.root_anchor.specs.declared.differing.Difference.{Difference}
-use Rattle.root_anchor.specs.declared.differing.Difference.TheVariants.{Nowhere, Itself, At, More}
-use Rattle.root_anchor.specs.Differing.{DifferIn, RowDiffers}
+use Rattle.root_changes.specs.declared.differing.Difference.{Difference}
+use Rattle.root_changes.specs.declared.differing.Difference.TheVariants.{Nowhere, Itself, At, More}
+use Rattle.root_changes.specs.Differing.{DifferIn, RowDiffers}
 
 -- of two things: they are the same, differ so, or otherwise
 pub record Tells {A : Type 0} (Differ : A → A → Type 0) (x y : A) (d : Difference) : Type 0 where

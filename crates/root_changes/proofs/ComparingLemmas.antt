@@ -1,14 +1,21 @@
 -- What is told of two lists, item by item.
 use Rattle.std.proofs.Common.{◌≡◌, ◌≢◌, ◌↔◌, ◌⊎◌, inl, inr, ℕ, zero, suc, ◌+◌, ◌<◌, ◌≤◌, List, [], ◌∷◌, length, slice_get, get_or, Some, refl, sym, ap, subst, ◌∙◌, arith}
 use Rattle.std.proofs.lemmas.Option.{slice_get_past, slice_get_read, slice_get_within}
-use Rattle.ci_overflow.proofs.Finds.{same_or}
+use Rattle.std.proofs.lemmas.Bool.{cases_lt}
 use Rattle.fp_model.specs.declared.database.Node.{Node, out-Node, roll-Node}
 use Rattle.fp_model.specs.declared.database.Node.TheViews.{roll-out-Node}
 use Rattle.fp_model.specs.declared.database.Root.{Root}
-use Rattle.root_anchor.specs.declared.differing.Difference.{Difference}
-use Rattle.root_anchor.specs.declared.differing.Difference.TheVariants.{Nowhere, Itself, At, More}
-use Rattle.root_anchor.specs.Differing.{DifferAt, DifferIn, NodesDiffer, own, lower, RowDiffers, RootDiffers, own_root, lower_root, HaveSameOwn}
-use Rattle.root_anchor.specs.Comparing.{Tells, TellsPlace, TellsBelow, DifferSoFar, TellsSoFar, joined}
+use Rattle.root_changes.specs.declared.differing.Difference.{Difference}
+use Rattle.root_changes.specs.declared.differing.Difference.TheVariants.{Nowhere, Itself, At, More}
+use Rattle.root_changes.specs.Differing.{DifferAt, DifferIn, NodesDiffer, own, lower, RowDiffers, RootDiffers, own_root, lower_root, HaveSameOwn}
+use Rattle.root_changes.specs.Comparing.{Tells, TellsPlace, TellsBelow, DifferSoFar, TellsSoFar, joined}
+
+pub same_or : (a b : ℕ) → (a ≡ b) ⊎ (a ≢ b)
+same_or a b = elim (cases_lt a b) as (λ _. (a ≡ b) ⊎ (a ≢ b)) [
+  | inl l ↦ inr (λ e. omega (arith, l, e))
+  | inr l ↦ elim (cases_lt b a) as (λ _. (a ≡ b) ⊎ (a ≢ b))
+      [ inl m ↦ inr (λ e. omega (arith, m, e)) | inr m ↦ inl (omega (arith, l, m)) ]
+]
 
 -- ---- two lists that differ at one place
 
@@ -76,7 +83,7 @@ none_so_far Differ xs ys = record {
   more = λ e. absurd (let h = e in cc);
 }
 
-below_or : (j n : ℕ) → j < suc n → (j < n) ⊎ (j ≡ n)
+pub below_or : (j n : ℕ) → j < suc n → (j < n) ⊎ (j ≡ n)
 below_or j n b = elim (same_or j n) as (λ _. (j < n) ⊎ (j ≡ n)) [ inl e ↦ inr e | inr m ↦ inl (omega (arith, b, m)) ]
 
 module _ {A : Type 0} (Differ : A → A → Type 0) (apart : (x y : A) → Differ x y → x ≢ y) (xs ys : List A) (n : ℕ)

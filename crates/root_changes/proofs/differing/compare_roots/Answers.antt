@@ -1,7 +1,7 @@
 use Rattle.std.proofs.Common.{arith}
-use Rattle.root_anchor.specs.Differing.{RootDiffers}
-use Rattle.root_anchor.proofs.ComparingLemmas.{roots_apart, other_lengths, told_next, all_told, root_told, inside}
-use Rattle.root_anchor.proofs.differing.compare_roots.Goals as goal
+use Rattle.root_changes.specs.Differing.{RootDiffers}
+use Rattle.root_changes.proofs.ComparingLemmas.{roots_apart, other_lengths, told_next, all_told, root_told, inside}
+use Rattle.root_changes.proofs.differing.compare_roots.Goals as goal
 
 pub returns-then-roots-others-clause-tells : goal.returns-then-roots-others-clause-tells
 returns-then-roots-others-clause-tells c =

@@ -1,5 +1,5 @@
-use Rattle.root_anchor.proofs.ComparingLemmas.{own_is, own_below}
-use Rattle.root_anchor.proofs.differing.compare_root.Goals as goal
+use Rattle.root_changes.proofs.ComparingLemmas.{own_is, own_below}
+use Rattle.root_changes.proofs.differing.compare_root.Goals as goal
 
 pub returns : goal.returns
 returns c = own_below _ _ _ _ _ c.as_slice.ensures c.as_slice-2.ensures

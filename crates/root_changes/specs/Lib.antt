@@ -1,0 +1,4 @@
+pub mod Differing
+pub mod Comparing
+pub mod Gaining
+pub mod Telling
