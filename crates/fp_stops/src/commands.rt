@@ -79,7 +79,7 @@ const ANSWERS: [(Status, &str); 14] = [
 #[test]
 fn answers_of_the_run_have_their_texts(rt: HostRuntime) -> Result<(), Fail> {
     for (status, wanted) in ANSWERS {
-        assert!(rt; said(rt.alloc(), &status)?.as_str() == wanted);
+        assert_eq!(rt; said(rt.alloc(), &status)?.as_str(), wanted);
     }
     Ok(())
 }
@@ -106,13 +106,13 @@ const SCRIPTS_FAULTS: [(ScriptFault, &str); 5] = [
 #[test]
 fn faults_of_scripts_have_their_texts(rt: HostRuntime) -> Result<(), Fail> {
     for (fault, wanted) in SCRIPTS_FAULTS {
-        assert!(rt; said(rt.alloc(), &Status::Scripts(fault))?.as_str() == wanted);
+        assert_eq!(rt; said(rt.alloc(), &Status::Scripts(fault))?.as_str(), wanted);
     }
     Ok(())
 }
 
 // What is said of each fault of the definitions, by its place below.
-static DEFINITIONS_FAULTS: [&str; 8] = [
+const DEFINITIONS_FAULTS: [&str; 8] = [
     "definitions: not TOML|2",
     "definitions: missing pool|2",
     "definitions: unknown pool|2",
@@ -142,15 +142,12 @@ fn faults_of_definitions_have_their_texts(rt: HostRuntime) -> Result<(), Fail> {
     for (place, wanted) in DEFINITIONS_FAULTS.iter().enumerate() {
         let fault = definitions_fault(rt.alloc(), place)?;
         let said = said(rt.alloc(), &Status::Definitions(fault))?;
-        assert!(rt; said.as_str() == *wanted);
+        assert_eq!(rt; said.as_str(), *wanted);
     }
     Ok(())
 }
 
-const USAGE: &str =
-    "usage: ims_fp define DIR | run DIR | show DIR | log DIR | migrate DIR | audit DIR|1";
-
-static NO_FORMS: [&[&str]; 11] = [
+const NO_FORMS: [&[&str]; 11] = [
     &[],
     &["run"],
     &["run", ""],
@@ -166,15 +163,20 @@ static NO_FORMS: [&[&str]; 11] = [
 
 #[test]
 fn words_in_no_form_are_usage(rt: HostRuntime) -> Result<(), Fail> {
-    for (place, form) in NO_FORMS.iter().enumerate() {
+    for form in NO_FORMS {
         let (said, same) = refused(rt.alloc(), form, GOOD, "", "")?;
-        assert!(rt; same && said.as_str() == USAGE, "form {place}");
+        assert_eq!(rt;
+            said.as_str(),
+            "usage: ims_fp define DIR | run DIR | show DIR | log DIR | migrate DIR | audit DIR|1",
+            "at {form:?}"
+        );
+        assert!(rt; same);
     }
     Ok(())
 }
 
 // A command, definitions, scripts and a schedule, and what is said.
-static REFUSALS: [(&str, &str, &str, &str, &str); 8] = [
+const REFUSALS: [(&str, &str, &str, &str, &str); 8] = [
     (
         "run",
         "",
@@ -223,9 +225,10 @@ static REFUSALS: [(&str, &str, &str, &str, &str); 8] = [
 
 #[test]
 fn the_first_fault_of_the_parts_is_told(rt: HostRuntime) -> Result<(), Fail> {
-    for (command, definitions, scripts, schedule, wanted) in &REFUSALS {
+    for (command, definitions, scripts, schedule, wanted) in REFUSALS {
         let (said, same) = refused(rt.alloc(), &[command, "D"], definitions, scripts, schedule)?;
-        assert!(rt; same && said.as_str() == *wanted);
+        assert_eq!(rt; said.as_str(), wanted);
+        assert!(rt; same);
     }
     Ok(())
 }

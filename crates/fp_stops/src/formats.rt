@@ -96,37 +96,33 @@ fn is_answered(alloc: Global, site: &mut MemorySite) -> Result<bool, AllocError>
 // The entry of a migration with its length, the length of its group, and the gate.
 const FORMAT_GROUP: usize = 1 + 8 + (8 + 8 + 1 + 2 + 2 + 4 + 4);
 
-// Whether a site of format 1 gets one group more by a migration, and nothing by another.
-fn is_migrated_once(alloc: Global, site: &mut MemorySite) -> Result<bool, AllocError> {
-    let behind = site.contents(0).len().saturating_add(FORMAT_GROUP);
-    let first = done(alloc, "migrate", site)?;
-    let second = done(alloc, "migrate", site)?;
-    Ok(first == (Status::Done, behind) && second == (Status::Done, behind))
-}
-
 #[test]
 fn a_site_of_format_1_is_migrated_before_a_run(rt: HostRuntime) -> Result<(), Fail> {
     let alloc = rt.alloc();
     let mut site = old_site(alloc)?;
     let long = site.contents(0).len();
-    assert!(rt; done(alloc, "run", &mut site)? == (Status::OldFormat, long));
-    assert!(rt; is_migrated_once(alloc, &mut site)?);
+    assert_eq!(rt; done(alloc, "run", &mut site)?, (Status::OldFormat, long));
+    let behind = long + FORMAT_GROUP;
+    for time in 1..3 {
+        assert_eq!(rt;
+            done(alloc, "migrate", &mut site)?,
+            (Status::Done, behind),
+            "time {time}"
+        );
+    }
     assert!(rt; is_answered(alloc, &mut site)?);
     Ok(())
 }
 
-// Whether a migration of a new site is done, and leaves it as it is.
-fn is_left(alloc: Global) -> Result<bool, AllocError> {
-    let mut site = MemorySite::new(alloc, &[])?;
-    let made = done(alloc, "define", &mut site)?;
-    let faults = site.faults();
-    let behind = done(alloc, "migrate", &mut site)?;
-    Ok(made.0 == Status::Done && behind == made && site.faults() == faults)
-}
-
 #[test]
 fn a_new_site_is_left_by_a_migration(rt: HostRuntime) -> Result<(), Fail> {
-    assert!(rt; is_left(rt.alloc())?);
+    let alloc = rt.alloc();
+    let mut site = MemorySite::new(alloc, &[])?;
+    let (made, long) = done(alloc, "define", &mut site)?;
+    let calls = site.faults();
+    assert_eq!(rt; made, Status::Done);
+    assert_eq!(rt; done(alloc, "migrate", &mut site)?, (Status::Done, long));
+    assert_eq!(rt; site.faults(), calls);
     Ok(())
 }
 
@@ -146,41 +142,27 @@ fn all_go_on(alloc: Global, site: &MemorySite) -> Result<bool, AllocError> {
     Ok(all)
 }
 
-// Whether all is well behind a migration of a site whose call of this number fails.
-fn goes_on_behind_fault(alloc: Global, old: &MemorySite, call: u64) -> Result<bool, AllocError> {
-    let mut site = MemorySite::from_snapshot(alloc, old.snapshot_as(0)?, &[call])?;
-    let _ = done(alloc, "migrate", &mut site)?;
-    all_go_on(alloc, &site)
-}
-
 #[test]
 fn each_call_of_a_migration_may_fail(rt: HostRuntime) -> Result<(), Fail> {
-    let old = old_site(rt.alloc())?;
-    for call in 0..20 {
-        assert!(rt;
-            goes_on_behind_fault(rt.alloc(), &old, call)?,
-            "call {call}"
-        );
+    let alloc = rt.alloc();
+    let old = old_site(alloc)?;
+    for failing in 0..20 {
+        let mut site = MemorySite::from_snapshot(alloc, old.snapshot_as(0)?, &[failing])?;
+        let _ = done(alloc, "migrate", &mut site)?;
+        assert!(rt; all_go_on(alloc, &site)?, "call {failing}");
     }
     Ok(())
 }
 
-// Whether all is well behind a migration whose site stops at this call; None where it stops before it was made.
-fn goes_on_behind_stop(alloc: Global, call: u64) -> Result<Option<bool>, AllocError> {
-    let mut site = MemorySite::stopping(alloc, call)?;
-    if !write_old(alloc, &mut site)? {
-        return Ok(None);
-    }
-    let _ = done(alloc, "migrate", &mut site)?;
-    Ok(Some(all_go_on(alloc, &site)?))
-}
-
 #[test]
 fn a_migration_may_be_stopped_at_each_call(rt: HostRuntime) -> Result<(), Fail> {
+    let alloc = rt.alloc();
     let mut stops: u32 = 0;
-    for call in 0..50 {
-        if let Some(good) = goes_on_behind_stop(rt.alloc(), call)? {
-            assert!(rt; good, "stopped at {call}");
+    for after in 0..50 {
+        let mut site = MemorySite::stopping(alloc, after)?;
+        if write_old(alloc, &mut site)? {
+            let _ = done(alloc, "migrate", &mut site)?;
+            assert!(rt; all_go_on(alloc, &site)?, "stopped at {after}");
             stops = stops.saturating_add(1);
         }
     }

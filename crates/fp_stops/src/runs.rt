@@ -1,187 +1,63 @@
 //! Whole runs: their reply lines, the bytes of a group, a second run, another's log, a damaged gate, a line that is too
 //! long, a read that fails; and regions that take turns by a schedule.
-use crate::steps::{Answer, Row, Step, first_wrong};
+use crate::steps::{Answer, Folder, Row, Step, first_wrong};
 use crate::systems::{EACH_SEALED, ONE_REGION, PAIRS};
 use std::test::Fail;
 
 // Messages one after another, and the lines that they are answered.
-static REPLIES: [Row; 15] = [
-    Row {
-        system: ONE_REGION,
-        steps: &[
-            Step::Define,
-            Step::Run {
-                schedule: EACH_SEALED,
-                messages: "",
-                sent: "",
-            },
-        ],
-    },
-    Row {
-        system: ONE_REGION,
-        steps: &[
-            Step::Define,
-            Step::Run {
-                schedule: EACH_SEALED,
-                messages: "T1 DEPOSIT A001 10\n",
-                sent: "T1 OK NEW\n",
-            },
-        ],
-    },
-    Row {
-        system: ONE_REGION,
-        steps: &[
-            Step::Define,
-            Step::Run {
-                schedule: EACH_SEALED,
-                messages: "T1 DEPOSIT A009 10\n",
-                sent: "T1 NO ROLB 1\n",
-            },
-        ],
-    },
-    Row {
-        system: ONE_REGION,
-        steps: &[
-            Step::Define,
-            Step::Run {
-                schedule: EACH_SEALED,
-                messages: "T1 WDRAW A001 100\nT1 ASK A001",
-                sent: "T1 OK PAID 100\nT1 OK 0\n",
-            },
-        ],
-    },
-    Row {
-        system: ONE_REGION,
-        steps: &[
-            Step::Define,
-            Step::Run {
-                schedule: EACH_SEALED,
-                messages: "T1 WDRAW A002 60\n",
-                sent: "T1 NO ROLB 7\n",
-            },
-        ],
-    },
-    Row {
-        system: ONE_REGION,
-        steps: &[
-            Step::Define,
-            Step::Run {
-                schedule: EACH_SEALED,
-                messages: "T1 SETBAL A001 9999999\nT2 DEPOSIT A001 1\nT3 TWICE A001 9\nT3 TWICE A002 9\nT4 ASK A002\n",
-                sent: "T1 OK SET\nT2 NO ROLB 1\nT3 NO ROLB 2\nT3 OK TWO\nT4 OK 68\n",
-            },
-        ],
-    },
-    Row {
-        system: ONE_REGION,
-        steps: &[
-            Step::Define,
-            Step::Run {
-                schedule: EACH_SEALED,
-                messages: "T1 SETBAL A001 9999990\nT3 TWICE A001 9\nT4 ASK A001\n",
-                sent: "T1 OK SET\nT3 NO VERIFY\nT4 OK 9999990\n",
-            },
-        ],
-    },
-    Row {
-        system: ONE_REGION,
-        steps: &[
-            Step::Define,
-            Step::Run {
-                schedule: EACH_SEALED,
-                messages: "T1 NOSUCH\n\nT2 ASK A009\n",
-                sent: "T1 NO UNKNOWN\n? NO UNKNOWN\nT2 OK NONE\n",
-            },
-        ],
-    },
-    Row {
-        system: ONE_REGION,
-        steps: &[
-            Step::Define,
-            Step::Run {
-                schedule: EACH_SEALED,
-                messages: "T1 HIRE T009\nT2 HIRE T001\n",
-                sent: "T1 OK / XP\nT2 OK II/ II\n",
-            },
-        ],
-    },
+const REPLIES: [(&str, &str); 15] = [
+    ("", ""),
+    ("T1 DEPOSIT A001 10\n", "T1 OK NEW\n"),
+    ("T1 DEPOSIT A009 10\n", "T1 NO ROLB 1\n"),
+    (
+        "T1 WDRAW A001 100\nT1 ASK A001",
+        "T1 OK PAID 100\nT1 OK 0\n",
+    ),
+    ("T1 WDRAW A002 60\n", "T1 NO ROLB 7\n"),
+    (
+        "T1 SETBAL A001 9999999\nT2 DEPOSIT A001 1\nT3 TWICE A001 9\nT3 TWICE A002 9\nT4 ASK A002\n",
+        "T1 OK SET\nT2 NO ROLB 1\nT3 NO ROLB 2\nT3 OK TWO\nT4 OK 68\n",
+    ),
+    (
+        "T1 SETBAL A001 9999990\nT3 TWICE A001 9\nT4 ASK A001\n",
+        "T1 OK SET\nT3 NO VERIFY\nT4 OK 9999990\n",
+    ),
+    (
+        "T1 NOSUCH\n\nT2 ASK A009\n",
+        "T1 NO UNKNOWN\n? NO UNKNOWN\nT2 OK NONE\n",
+    ),
+    ("T1 HIRE T009\nT2 HIRE T001\n", "T1 OK / XP\nT2 OK II/ II\n"),
     // With numbers.
-    Row {
-        system: ONE_REGION,
-        steps: &[
-            Step::Define,
-            Step::Run {
-                schedule: EACH_SEALED,
-                messages: "T1 1 ASK A001\nT1 1 ASK A001\n",
-                sent: "T1 OK 100\nT1 OK 100\n",
-            },
-        ],
-    },
-    Row {
-        system: ONE_REGION,
-        steps: &[
-            Step::Define,
-            Step::Run {
-                schedule: EACH_SEALED,
-                messages: "T1 7 NOSUCH\nT1 7 ASK A001\n",
-                sent: "T1 NO UNKNOWN\nT1 NO UNKNOWN\n",
-            },
-        ],
-    },
-    Row {
-        system: ONE_REGION,
-        steps: &[
-            Step::Define,
-            Step::Run {
-                schedule: EACH_SEALED,
-                messages: "T1 2 DEPOSIT A009 1\nT1 2 DEPOSIT A001 1\nT1 ASK A001\n",
-                sent: "T1 NO ROLB 1\nT1 NO ROLB 1\nT1 OK 100\n",
-            },
-        ],
-    },
-    Row {
-        system: ONE_REGION,
-        steps: &[
-            Step::Define,
-            Step::Run {
-                schedule: EACH_SEALED,
-                messages: "T1 5 ASK A001\nT2 1 ASK A002\n",
-                sent: "T1 OK 100\nT2 OK 50\n",
-            },
-        ],
-    },
-    Row {
-        system: ONE_REGION,
-        steps: &[
-            Step::Define,
-            Step::Run {
-                schedule: EACH_SEALED,
-                messages: "T1 01 ASK A001\n",
-                sent: "T1 NO UNKNOWN\n",
-            },
-        ],
-    },
-    Row {
-        system: ONE_REGION,
-        steps: &[
-            Step::Define,
-            Step::Run {
-                schedule: EACH_SEALED,
-                messages: "T1 5 ASK A001\nT1 4 NOSUCH\n",
-                sent: "T1 OK 100\nT1 NO OLD 5\n",
-            },
-        ],
-    },
+    ("T1 1 ASK A001\nT1 1 ASK A001\n", "T1 OK 100\nT1 OK 100\n"),
+    (
+        "T1 7 NOSUCH\nT1 7 ASK A001\n",
+        "T1 NO UNKNOWN\nT1 NO UNKNOWN\n",
+    ),
+    (
+        "T1 2 DEPOSIT A009 1\nT1 2 DEPOSIT A001 1\nT1 ASK A001\n",
+        "T1 NO ROLB 1\nT1 NO ROLB 1\nT1 OK 100\n",
+    ),
+    ("T1 5 ASK A001\nT2 1 ASK A002\n", "T1 OK 100\nT2 OK 50\n"),
+    ("T1 01 ASK A001\n", "T1 NO UNKNOWN\n"),
+    ("T1 5 ASK A001\nT1 4 NOSUCH\n", "T1 OK 100\nT1 NO OLD 5\n"),
 ];
 
 #[test]
 fn messages_have_their_replies(rt: HostRuntime) -> Result<(), Fail> {
-    let wrong = first_wrong(rt.alloc(), &REPLIES)?;
-    assert!(rt; wrong.is_none(), "at {wrong:?}");
+    for (messages, sent) in REPLIES {
+        let mut folder = Folder::new(rt.alloc(), ONE_REGION)?;
+        let made = folder.take(Step::Define)?;
+        let ran = folder.take(Step::Run {
+            schedule: EACH_SEALED,
+            messages,
+            sent,
+        })?;
+        assert!(rt; made && ran, "at {messages:?}");
+    }
     Ok(())
 }
 
-static RUNS: [Row; 9] = [
+const RUNS: [Row; 9] = [
     // A deposit and a rollback are these groups.
     Row {
         system: ONE_REGION,
@@ -331,196 +207,108 @@ static RUNS: [Row; 9] = [
 
 #[test]
 fn each_run_comes_to_what_is_wanted(rt: HostRuntime) -> Result<(), Fail> {
-    let wrong = first_wrong(rt.alloc(), &RUNS)?;
-    assert!(rt; wrong.is_none(), "at {wrong:?}");
+    assert_eq!(rt; first_wrong(rt.alloc(), &RUNS)?, None);
     Ok(())
 }
 
 // A schedule of two regions, messages, what is sent, and how many bytes the groups of the log have.
-static SCHEDULES: [Row; 8] = [
-    Row {
-        system: PAIRS,
-        steps: &[
-            Step::Define,
-            Step::Run {
-                schedule: "",
-                messages: "T1 DEPOSIT A001 5\nT2 WDRAW A001 105\nT3 ASK A001\n",
-                sent: "T1 OK NEW\nT2 NO ROLB 7\nT3 OK 105\n",
-            },
-            Step::GroupsLength(199),
-        ],
-    },
-    Row {
-        system: PAIRS,
-        steps: &[
-            Step::Define,
-            Step::Run {
-                schedule: "IN IN R1 R2 R1 R2 R1 R2 R1 R2 R2 LOG",
-                messages: "T1 WDRAW A001 60\nT2 WDRAW A001 60\nT3 ASK A001\n",
-                sent: "T1 OK PAID 60\nT2 NO VERIFY\nT3 OK 40\n",
-            },
-            Step::GroupsLength(210),
-        ],
-    },
-    Row {
-        system: PAIRS,
-        steps: &[
-            Step::Define,
-            Step::Run {
-                schedule: "IN IN R1 R2 R1 R2 R1 R2 R1 R2 R2 LOG",
-                messages: "T1 WDRAW A001 60\nT2 WDRAW A001 40\nT3 ASK A001\n",
-                sent: "T1 OK PAID 60\nT2 OK PAID 40\nT3 OK 0\n",
-            },
-            Step::GroupsLength(221),
-        ],
-    },
-    Row {
-        system: PAIRS,
-        steps: &[
-            Step::Define,
-            Step::Run {
-                schedule: "IN IN R1 R2 R1 R2 R1 R1 R2 R2 R1 R1 CKPT",
-                messages: "T1 BOTH A001 A002\nT2 BOTH A002 A001\n",
-                sent: "T2 NO DEADLOCK\nT1 OK 100+50\n",
-            },
-            Step::GroupsLength(119),
-        ],
-    },
-    Row {
-        system: PAIRS,
-        steps: &[
-            Step::Define,
-            Step::Run {
-                schedule: "IN IN R1 R2 R1 R1 R1 R1 R1 R2 R2",
-                messages: "T1 BOTH A001 A002\nT2 BOTH A002 A001\n",
-                sent: "T1 OK 100+50\nT2 OK 50+100\n",
-            },
-            Step::GroupsLength(122),
-        ],
-    },
-    Row {
-        system: PAIRS,
-        steps: &[
-            Step::Define,
-            Step::Run {
-                schedule: "IN IN R1 R1 R1 R1 R1 IN OUT LOG IN R2 R2",
-                messages: "T1 DEPOSIT A001 5\nT1 ASK A001\nT2 NOSUCH\n",
-                sent: "T1 OK NEW\nT2 NO UNKNOWN\nT1 OK 105\n",
-            },
-            Step::GroupsLength(181),
-        ],
-    },
-    Row {
-        system: PAIRS,
-        steps: &[
-            Step::Define,
-            Step::Run {
-                schedule: "IN IN IN R2 R2 R1 R1 R1 R1 LOG",
-                messages: "T1 ASK A001\nT2 DEPOSIT A001 5\nT3 NOSUCH\n",
-                sent: "T3 NO UNKNOWN\nT2 OK NEW\nT1 OK 100\n",
-            },
-            Step::GroupsLength(181),
-        ],
-    },
-    Row {
-        system: PAIRS,
-        steps: &[
-            Step::Define,
-            Step::Run {
-                schedule: "IN\tIN\r\n\r\n LOG",
-                messages: "T1 NOSUCH\n\nT2 ASK A002\n",
-                sent: "T1 NO UNKNOWN\n? NO UNKNOWN\nT2 OK 50\n",
-            },
-            Step::GroupsLength(135),
-        ],
-    },
+const SCHEDULES: [(&str, &str, &str, usize); 8] = [
+    (
+        "",
+        "T1 DEPOSIT A001 5\nT2 WDRAW A001 105\nT3 ASK A001\n",
+        "T1 OK NEW\nT2 NO ROLB 7\nT3 OK 105\n",
+        199,
+    ),
+    (
+        "IN IN R1 R2 R1 R2 R1 R2 R1 R2 R2 LOG",
+        "T1 WDRAW A001 60\nT2 WDRAW A001 60\nT3 ASK A001\n",
+        "T1 OK PAID 60\nT2 NO VERIFY\nT3 OK 40\n",
+        210,
+    ),
+    (
+        "IN IN R1 R2 R1 R2 R1 R2 R1 R2 R2 LOG",
+        "T1 WDRAW A001 60\nT2 WDRAW A001 40\nT3 ASK A001\n",
+        "T1 OK PAID 60\nT2 OK PAID 40\nT3 OK 0\n",
+        221,
+    ),
+    (
+        "IN IN R1 R2 R1 R2 R1 R1 R2 R2 R1 R1 CKPT",
+        "T1 BOTH A001 A002\nT2 BOTH A002 A001\n",
+        "T2 NO DEADLOCK\nT1 OK 100+50\n",
+        119,
+    ),
+    (
+        "IN IN R1 R2 R1 R1 R1 R1 R1 R2 R2",
+        "T1 BOTH A001 A002\nT2 BOTH A002 A001\n",
+        "T1 OK 100+50\nT2 OK 50+100\n",
+        122,
+    ),
+    (
+        "IN IN R1 R1 R1 R1 R1 IN OUT LOG IN R2 R2",
+        "T1 DEPOSIT A001 5\nT1 ASK A001\nT2 NOSUCH\n",
+        "T1 OK NEW\nT2 NO UNKNOWN\nT1 OK 105\n",
+        181,
+    ),
+    (
+        "IN IN IN R2 R2 R1 R1 R1 R1 LOG",
+        "T1 ASK A001\nT2 DEPOSIT A001 5\nT3 NOSUCH\n",
+        "T3 NO UNKNOWN\nT2 OK NEW\nT1 OK 100\n",
+        181,
+    ),
+    (
+        "IN\tIN\r\n\r\n LOG",
+        "T1 NOSUCH\n\nT2 ASK A002\n",
+        "T1 NO UNKNOWN\n? NO UNKNOWN\nT2 OK 50\n",
+        135,
+    ),
 ];
 
 #[test]
 fn a_schedule_says_whose_turn_it_is(rt: HostRuntime) -> Result<(), Fail> {
-    let wrong = first_wrong(rt.alloc(), &SCHEDULES)?;
-    assert!(rt; wrong.is_none(), "at {wrong:?}");
+    for (schedule, messages, sent, length) in SCHEDULES {
+        let mut folder = Folder::new(rt.alloc(), PAIRS)?;
+        let made = folder.take(Step::Define)?;
+        let ran = folder.take(Step::Run {
+            schedule,
+            messages,
+            sent,
+        })?;
+        let long = folder.take(Step::GroupsLength(length))?;
+        assert!(rt; made && ran && long, "at {schedule:?} {messages:?}");
+    }
     Ok(())
 }
 
-const TWO_DEPOSITS: &str = "T1 DEPOSIT A001 10\nT2 DEPOSIT A001 20\n";
-
 // Schedules of two deposits before a line that is too long, and what was sent by then: what a LOG sealed, and nothing
 // else. A question behind it is answered by what is left.
-static CUT_SHORT: [Row; 4] = [
-    Row {
-        system: PAIRS,
-        steps: &[
-            Step::Define,
-            Step::RunTooLong {
-                schedule: "",
-                messages: TWO_DEPOSITS,
-                number: 3,
-                sent: "",
-            },
-            Step::Run {
-                schedule: "",
-                messages: "T3 ASK A001\n",
-                sent: "T3 OK 100\n",
-            },
-        ],
-    },
-    Row {
-        system: PAIRS,
-        steps: &[
-            Step::Define,
-            Step::RunTooLong {
-                schedule: "IN IN IN",
-                messages: TWO_DEPOSITS,
-                number: 3,
-                sent: "",
-            },
-            Step::Run {
-                schedule: "",
-                messages: "T3 ASK A001\n",
-                sent: "T3 OK 100\n",
-            },
-        ],
-    },
-    Row {
-        system: PAIRS,
-        steps: &[
-            Step::Define,
-            Step::RunTooLong {
-                schedule: "IN R1 R1 R1 R1 IN R1 R1 R1 R1",
-                messages: TWO_DEPOSITS,
-                number: 3,
-                sent: "",
-            },
-            Step::Run {
-                schedule: "",
-                messages: "T3 ASK A001\n",
-                sent: "T3 OK 100\n",
-            },
-        ],
-    },
-    Row {
-        system: PAIRS,
-        steps: &[
-            Step::Define,
-            Step::RunTooLong {
-                schedule: "IN R1 R1 R1 R1 LOG IN R2 R2 R2 R2 IN",
-                messages: TWO_DEPOSITS,
-                number: 3,
-                sent: "T1 OK NEW\n",
-            },
-            Step::Run {
-                schedule: "",
-                messages: "T3 ASK A001\n",
-                sent: "T3 OK 110\n",
-            },
-        ],
-    },
+const CUT_SHORT: [(&str, &str, &str); 4] = [
+    ("", "", "T3 OK 100\n"),
+    ("IN IN IN", "", "T3 OK 100\n"),
+    ("IN R1 R1 R1 R1 IN R1 R1 R1 R1", "", "T3 OK 100\n"),
+    (
+        "IN R1 R1 R1 R1 LOG IN R2 R2 R2 R2 IN",
+        "T1 OK NEW\n",
+        "T3 OK 110\n",
+    ),
 ];
 
 #[test]
 fn what_is_not_sealed_is_lost_at_a_line_that_is_too_long(rt: HostRuntime) -> Result<(), Fail> {
-    let wrong = first_wrong(rt.alloc(), &CUT_SHORT)?;
-    assert!(rt; wrong.is_none(), "at {wrong:?}");
+    for (schedule, sent, asked) in CUT_SHORT {
+        let mut folder = Folder::new(rt.alloc(), PAIRS)?;
+        let made = folder.take(Step::Define)?;
+        let ended = folder.take(Step::RunTooLong {
+            schedule,
+            messages: "T1 DEPOSIT A001 10\nT2 DEPOSIT A001 20\n",
+            number: 3,
+            sent,
+        })?;
+        let left = folder.take(Step::Run {
+            schedule: "",
+            messages: "T3 ASK A001\n",
+            sent: asked,
+        })?;
+        assert!(rt; made && ended && left, "at {schedule:?}");
+    }
     Ok(())
 }

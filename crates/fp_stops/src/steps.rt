@@ -71,7 +71,7 @@ pub(crate) fn run(
 }
 
 // What a command answers.
-#[derive(Clone, Copy)]
+#[derive(Clone, Copy, Debug)]
 pub(crate) enum Answer {
     Done,
     ReadFault,
@@ -102,7 +102,7 @@ impl Answer {
 }
 
 // A step, and what is wanted of it.
-#[derive(Clone, Copy)]
+#[derive(Clone, Copy, Debug)]
 pub(crate) enum Step {
     // The databases are made.
     Define,

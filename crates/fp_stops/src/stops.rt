@@ -23,7 +23,7 @@ struct Stopped {
     answers: &'static [&'static str],
 }
 
-static STOPPED: [Stopped; 4] = [
+const STOPPED: [Stopped; 4] = [
     Stopped {
         system: ONE_REGION,
         schedule: "IN R1 R1 R1 R1 LOG IN R1 R1 R1 R1 LOG",
@@ -138,8 +138,8 @@ fn a_run_that_is_not_stopped_has_all(rt: HostRuntime) -> Result<(), Fail> {
             .map_or(b"".as_slice(), |answer: &&str| -> &[u8] {
                 answer.as_bytes()
             });
-        assert!(rt; (made, status) == (true, Status::Done), "row {number}");
-        assert!(rt; text.as_slice() == last, "row {number}");
+        assert_eq!(rt; (made, status), (true, Status::Done), "row {number}");
+        assert_eq!(rt; text.as_slice(), last, "row {number}");
     }
     Ok(())
 }

@@ -1,150 +1,103 @@
 //! What `show`, `log` and `audit` send behind a run, also where bytes of the log were changed.
-use crate::steps::{Answer, Row, Step, first_wrong};
+use crate::steps::{Answer, Folder, Row, Step, first_wrong};
 use crate::systems::{FOUR_REGIONS, TWO_REGIONS};
 use std::test::Fail;
 
-// Runs, and what `show` and `log` send behind them.
-static TEXTS: [Row; 6] = [
-    Row {
-        system: TWO_REGIONS,
-        steps: &[
-            Step::Define,
-            Step::Run {
-                schedule: "",
-                messages: "",
-                sent: "",
-            },
-            Step::Tell {
-                command: "show",
-                sent: "msdb ACCTS 2\n  ACCT=A001 BAL=100\n  ACCT=A002 BAL=50\nmsdb TELLERS 1\n  TNO=T001 CASH=0\n",
-            },
-            Step::Tell {
-                command: "log",
-                sent: "",
-            },
-        ],
+// A run, and what `show` and `log` send behind it.
+struct Text {
+    schedule: &'static str,
+    messages: &'static str,
+    sent: &'static str,
+    shown: &'static str,
+    logged: &'static str,
+}
+
+const TEXTS: [Text; 6] = [
+    Text {
+        schedule: "",
+        messages: "",
+        sent: "",
+        shown: "msdb ACCTS 2\n  ACCT=A001 BAL=100\n  ACCT=A002 BAL=50\nmsdb TELLERS 1\n  TNO=T001 CASH=0\n",
+        logged: "",
     },
-    Row {
-        system: TWO_REGIONS,
-        steps: &[
-            Step::Define,
-            Step::Run {
-                schedule: "IN R1 R1 R1 R1 IN R2 R2 IN R1 R1 R1 R1 R2 LOG",
-                messages: "T1 DEPOSIT A001 10\nT2 ASK A001\nT3 DEPOSIT A001 20\n",
-                sent: "T1 OK NEW\nT3 OK NEW\nT2 OK 110\n",
-            },
-            Step::Tell {
-                command: "show",
-                sent: "msdb ACCTS 2\n  ACCT=A001 BAL=130\n  ACCT=A002 BAL=50\nmsdb TELLERS 1\n  TNO=T001 CASH=0\n",
-            },
-            Step::Tell {
-                command: "log",
-                sent: "group 0 entries 3
+    Text {
+        schedule: "IN R1 R1 R1 R1 IN R2 R2 IN R1 R1 R1 R1 R2 LOG",
+        messages: "T1 DEPOSIT A001 10\nT2 ASK A001\nT3 DEPOSIT A001 20\n",
+        sent: "T1 OK NEW\nT3 OK NEW\nT2 OK 110\n",
+        shown: "msdb ACCTS 2\n  ACCT=A001 BAL=130\n  ACCT=A002 BAL=50\nmsdb TELLERS 1\n  TNO=T001 CASH=0\n",
+        logged: "group 0 entries 3
 0 from 0 notes 0 DONE T1 DEPOSIT A001 10 => NEW
 1 from 1 notes 1 DONE T3 DEPOSIT A001 20 => NEW
 2 from 1 notes 1 DONE T2 ASK A001 => 110
 ",
-            },
-        ],
     },
-    Row {
-        system: TWO_REGIONS,
-        steps: &[
-            Step::Define,
-            Step::Run {
-                schedule: "IN R1 R1 R1 R1 IN R1 R1 R1 R1 IN R1 R1 R1 R1 IN R1 R1 R1 R1 LOG",
-                messages: "T1 DEPOSIT A001 1\nT2 DEPOSIT A001 2\nT3 DEPOSIT A001 3\nT4 DEPOSIT A002 -60\n",
-                sent: "T1 OK NEW\nT2 OK NEW\nT3 OK NEW\nT4 OK NEW\n",
-            },
-            Step::Tell {
-                command: "show",
-                sent: "msdb ACCTS 2\n  ACCT=A001 BAL=106\n  ACCT=A002 BAL=-10\nmsdb TELLERS 1\n  TNO=T001 CASH=0\n",
-            },
-            Step::Tell {
-                command: "log",
-                sent: "group 0 entries 4
+    Text {
+        schedule: "IN R1 R1 R1 R1 IN R1 R1 R1 R1 IN R1 R1 R1 R1 IN R1 R1 R1 R1 LOG",
+        messages: "T1 DEPOSIT A001 1\nT2 DEPOSIT A001 2\nT3 DEPOSIT A001 3\nT4 DEPOSIT A002 -60\n",
+        sent: "T1 OK NEW\nT2 OK NEW\nT3 OK NEW\nT4 OK NEW\n",
+        shown: "msdb ACCTS 2\n  ACCT=A001 BAL=106\n  ACCT=A002 BAL=-10\nmsdb TELLERS 1\n  TNO=T001 CASH=0\n",
+        logged: "group 0 entries 4
 0 from 0 notes 0 DONE T1 DEPOSIT A001 1 => NEW
 1 from 1 notes 1 DONE T2 DEPOSIT A001 2 => NEW
 2 from 2 notes 2 DONE T3 DEPOSIT A001 3 => NEW
 3 from 3 notes 3 DONE T4 DEPOSIT A002 -60 => NEW
 ",
-            },
-        ],
     },
-    Row {
-        system: TWO_REGIONS,
-        steps: &[
-            Step::Define,
-            Step::Run {
-                schedule: "IN R1 R1 R1 LOG IN LOG",
-                messages: "T1 WDRAW A002 60\nT2 NOSUCH\n",
-                sent: "T1 NO ROLB 7\nT2 NO UNKNOWN\n",
-            },
-            Step::Tell {
-                command: "show",
-                sent: "msdb ACCTS 2\n  ACCT=A001 BAL=100\n  ACCT=A002 BAL=50\nmsdb TELLERS 1\n  TNO=T001 CASH=0\n",
-            },
-            Step::Tell {
-                command: "log",
-                sent: "group 0 entries 1
+    Text {
+        schedule: "IN R1 R1 R1 LOG IN LOG",
+        messages: "T1 WDRAW A002 60\nT2 NOSUCH\n",
+        sent: "T1 NO ROLB 7\nT2 NO UNKNOWN\n",
+        shown: "msdb ACCTS 2\n  ACCT=A001 BAL=100\n  ACCT=A002 BAL=50\nmsdb TELLERS 1\n  TNO=T001 CASH=0\n",
+        logged: "group 0 entries 1
 0 from 0 notes 0 ROLB 7 T1 WDRAW A002 60 => -
 group 1 entries 1
 1 from 1 notes - UNKNOWN T2 NOSUCH => -
 ",
-            },
-        ],
     },
-    Row {
-        system: TWO_REGIONS,
-        steps: &[
-            Step::Define,
-            Step::Run {
-                schedule: "IN IN R1 R2 R1 R2 R1 R2 R1 R2 R2 LOG",
-                messages: "T1 WDRAW A001 60\nT2 WDRAW A001 60\n",
-                sent: "T1 OK PAID 60\nT2 NO VERIFY\n",
-            },
-            Step::Tell {
-                command: "show",
-                sent: "msdb ACCTS 2\n  ACCT=A001 BAL=40\n  ACCT=A002 BAL=50\nmsdb TELLERS 1\n  TNO=T001 CASH=0\n",
-            },
-            Step::Tell {
-                command: "log",
-                sent: "group 0 entries 2
+    Text {
+        schedule: "IN IN R1 R2 R1 R2 R1 R2 R1 R2 R2 LOG",
+        messages: "T1 WDRAW A001 60\nT2 WDRAW A001 60\n",
+        sent: "T1 OK PAID 60\nT2 NO VERIFY\n",
+        shown: "msdb ACCTS 2\n  ACCT=A001 BAL=40\n  ACCT=A002 BAL=50\nmsdb TELLERS 1\n  TNO=T001 CASH=0\n",
+        logged: "group 0 entries 2
 0 from 0 notes 0 DONE T1 WDRAW A001 60 => PAID 60
 1 from 0 notes 0 VERIFY 0.0 0000040c T2 WDRAW A001 60 => -
 ",
-            },
-        ],
     },
-    Row {
-        system: TWO_REGIONS,
-        steps: &[
-            Step::Define,
-            Step::Run {
-                schedule: "IN R1 R1 R1 R1 R1 R1 LOG IN LOG",
-                messages: "T1 HIRE T009\n\n",
-                sent: "T1 OK / XP\n? NO UNKNOWN\n",
-            },
-            Step::Tell {
-                command: "show",
-                sent: "msdb ACCTS 2\n  ACCT=A001 BAL=100\n  ACCT=A002 BAL=50\nmsdb TELLERS 2\n  TNO=T001 CASH=0\n  TNO=T009 CASH=0\n",
-            },
-            Step::Tell {
-                command: "log",
-                sent: "group 0 entries 1
+    Text {
+        schedule: "IN R1 R1 R1 R1 R1 R1 LOG IN LOG",
+        messages: "T1 HIRE T009\n\n",
+        sent: "T1 OK / XP\n? NO UNKNOWN\n",
+        shown: "msdb ACCTS 2\n  ACCT=A001 BAL=100\n  ACCT=A002 BAL=50\nmsdb TELLERS 2\n  TNO=T001 CASH=0\n  TNO=T009 CASH=0\n",
+        logged: "group 0 entries 1
 0 from 0 notes - DONE T1 HIRE T009 => / XP
 group 1 entries 1
 1 from 1 notes - UNKNOWN - => -
 ",
-            },
-        ],
     },
 ];
 
 #[test]
 fn databases_and_log_are_these_texts(rt: HostRuntime) -> Result<(), Fail> {
-    let wrong = first_wrong(rt.alloc(), &TEXTS)?;
-    assert!(rt; wrong.is_none(), "at {wrong:?}");
+    for text in &TEXTS {
+        let mut folder = Folder::new(rt.alloc(), TWO_REGIONS)?;
+        let run = Step::Run {
+            schedule: text.schedule,
+            messages: text.messages,
+            sent: text.sent,
+        };
+        let show = Step::Tell {
+            command: "show",
+            sent: text.shown,
+        };
+        let log = Step::Tell {
+            command: "log",
+            sent: text.logged,
+        };
+        for step in [Step::Define, run, show, log] {
+            assert!(rt; folder.take(step)?, "at {step:?}");
+        }
+    }
     Ok(())
 }
 
@@ -161,7 +114,7 @@ const THREE_LINES: Step = Step::Run {
     sent: "T1 OK NEW\nT3 OK NEW\nT2 OK 110\n",
 };
 
-static TOLD: [Row; 7] = [
+const TOLD: [Row; 7] = [
     // Where the last gate is open and has nothing behind it, the groups before it are sent by `log` alone.
     Row {
         system: TWO_REGIONS,
@@ -288,8 +241,7 @@ static TOLD: [Row; 7] = [
 
 #[test]
 fn each_command_tells_what_is_wanted(rt: HostRuntime) -> Result<(), Fail> {
-    let wrong = first_wrong(rt.alloc(), &TOLD)?;
-    assert!(rt; wrong.is_none(), "at {wrong:?}");
+    assert_eq!(rt; first_wrong(rt.alloc(), &TOLD)?, None);
     Ok(())
 }
 
@@ -327,43 +279,10 @@ T10 ASK A001
 ";
 
 // Schedules of four regions.
-static MIXED_SCHEDULES: [Row; 3] = [
-    Row {
-        system: FOUR_REGIONS,
-        steps: &[
-            Step::Define,
-            Step::RunLines {
-                schedule: "",
-                messages: MIXED,
-                lines: 30,
-            },
-            Step::Tell {
-                command: "show",
-                sent: MIXED_SHOWN,
-            },
-        ],
-    },
-    Row {
-        system: FOUR_REGIONS,
-        steps: &[
-            Step::Define,
-            Step::RunLines {
-                schedule: "IN IN IN IN IN IN IN IN IN IN IN IN IN IN IN IN IN IN IN IN IN IN IN IN IN IN IN IN IN IN IN IN IN IN IN IN IN IN IN IN",
-                messages: MIXED,
-                lines: 30,
-            },
-            Step::Tell {
-                command: "show",
-                sent: MIXED_SHOWN,
-            },
-        ],
-    },
-    Row {
-        system: FOUR_REGIONS,
-        steps: &[
-            Step::Define,
-            Step::RunLines {
-                schedule: "IN R1 R2 R3 R4
+const MIXED_SCHEDULES: [&str; 3] = [
+    "",
+    "IN IN IN IN IN IN IN IN IN IN IN IN IN IN IN IN IN IN IN IN IN IN IN IN IN IN IN IN IN IN IN IN IN IN IN IN IN IN IN IN",
+    "IN R1 R2 R3 R4
 IN R1 R2 R3 R4
 IN R1 R2 R3 R4
 IN R1 R2 R3 R4
@@ -373,15 +292,6 @@ IN R1 R2 R3 R4
 IN R1 R2 R3 R4
 IN R1 R2 R3 R4
 IN R1 R2 R3 R4",
-                messages: MIXED,
-                lines: 30,
-            },
-            Step::Tell {
-                command: "show",
-                sent: MIXED_SHOWN,
-            },
-        ],
-    },
 ];
 
 const MIXED_SHOWN: &str =
@@ -389,7 +299,20 @@ const MIXED_SHOWN: &str =
 
 #[test]
 fn a_mix_comes_to_one_text_by_each_schedule(rt: HostRuntime) -> Result<(), Fail> {
-    let wrong = first_wrong(rt.alloc(), &MIXED_SCHEDULES)?;
-    assert!(rt; wrong.is_none(), "at {wrong:?}");
+    for schedule in MIXED_SCHEDULES {
+        let mut folder = Folder::new(rt.alloc(), FOUR_REGIONS)?;
+        let run = Step::RunLines {
+            schedule,
+            messages: MIXED,
+            lines: 30,
+        };
+        let show = Step::Tell {
+            command: "show",
+            sent: MIXED_SHOWN,
+        };
+        for step in [Step::Define, run, show] {
+            assert!(rt; folder.take(step)?, "at {step:?}");
+        }
+    }
     Ok(())
 }

@@ -117,10 +117,10 @@ fn after_each_stop_every_sealed_group_is_read_back(rt: HostRuntime) -> Result<()
 fn before_its_gate_is_written_no_group_is_read_back(rt: HostRuntime) -> Result<(), Fail> {
     let alloc = rt.alloc();
     let mut site = MemorySite::stopping(alloc, 12)?;
-    assert!(rt; seal_three(alloc, &mut site)? == 0);
+    assert_eq!(rt; seal_three(alloc, &mut site)?, 0);
     for choice in 0..2 {
         let snapshot = site.snapshot_as(choice)?;
-        assert!(rt; read_back(alloc, snapshot) == Ok(Some(0)));
+        assert_eq!(rt; read_back(alloc, snapshot), Ok(Some(0)));
     }
     Ok(())
 }
@@ -141,7 +141,7 @@ fn write_third_body(alloc: Global, site: &mut MemorySite) -> Result<bool, AllocE
 fn a_body_behind_a_closed_gate_is_not_read_back(rt: HostRuntime) -> Result<(), Fail> {
     let alloc = rt.alloc();
     let (mut site, sealed) = three_sealed(alloc)?;
-    assert!(rt; sealed == 3);
+    assert_eq!(rt; sealed, 3);
     assert!(rt; write_third_body(alloc, &mut site)?);
     assert!(rt; is_read_back(alloc, &site, Some(3))?);
     Ok(())
@@ -175,10 +175,10 @@ fn may_be_left(after: u64, found: Result<Option<u64>, LogFault>) -> bool {
 fn a_log_made_anew_is_the_old_one_or_none_or_the_new_one(rt: HostRuntime) -> Result<(), Fail> {
     let alloc = rt.alloc();
     let (old, sealed) = three_sealed(alloc)?;
-    assert!(rt; sealed == 3);
+    assert_eq!(rt; sealed, 3);
     for after in 0..10 {
         let (site, made) = made_anew(alloc, &old, after)?;
-        assert!(rt; made == (after == 9));
+        assert_eq!(rt; made, after == 9);
         for choice in 0..8 {
             let snapshot = site.snapshot_as(choice)?;
             assert!(rt; may_be_left(after, read_back(alloc, snapshot)));
@@ -191,9 +191,9 @@ fn a_log_made_anew_is_the_old_one_or_none_or_the_new_one(rt: HostRuntime) -> Res
 fn a_log_that_is_shut_is_not_opened(rt: HostRuntime) -> Result<(), Fail> {
     let alloc = rt.alloc();
     let (mut site, sealed) = three_sealed(alloc)?;
-    assert!(rt; sealed == 3);
+    assert_eq!(rt; sealed, 3);
     for _ in 0..2 {
-        assert!(rt; Log::shut(&mut site) == Ok(()));
+        assert_eq!(rt; Log::shut(&mut site), Ok(()));
         assert!(rt; is_read_back(alloc, &site, None)?);
     }
     Ok(())
@@ -203,9 +203,9 @@ fn a_log_that_is_shut_is_not_opened(rt: HostRuntime) -> Result<(), Fail> {
 fn a_log_that_is_shut_is_made_anew(rt: HostRuntime) -> Result<(), Fail> {
     let alloc = rt.alloc();
     let (mut site, _) = three_sealed(alloc)?;
-    assert!(rt; Log::shut(&mut site) == Ok(()));
+    assert_eq!(rt; Log::shut(&mut site), Ok(()));
     let front = front(alloc)?;
-    assert!(rt; Log::make(alloc, &mut site, &front) == Ok(()));
+    assert_eq!(rt; Log::make(alloc, &mut site, &front), Ok(()));
     assert!(rt; is_read_back(alloc, &site, Some(0))?);
     Ok(())
 }
@@ -213,7 +213,7 @@ fn a_log_that_is_shut_is_made_anew(rt: HostRuntime) -> Result<(), Fail> {
 // ---- logs in use
 
 // A step of a log in use, with what is wanted of it.
-#[derive(Clone, Copy)]
+#[derive(Clone, Copy, Debug)]
 enum Step {
     // Room for so many bytes.
     Reserve(u64),
@@ -279,7 +279,7 @@ impl InUse {
 }
 
 // Each entry has 29 bytes, and a group 9 more. The last append of the first log has 2 bytes to spare.
-static LOGS_IN_USE: [&[Step]; 2] = [
+const LOGS_IN_USE: [&[Step]; 2] = [
     &[
         Step::Uses(0),
         Step::Reserve(60),
@@ -312,10 +312,10 @@ static LOGS_IN_USE: [&[Step]; 2] = [
 
 #[test]
 fn each_step_of_a_log_in_use_comes_to_what_is_wanted(rt: HostRuntime) -> Result<(), Fail> {
-    for steps in &LOGS_IN_USE {
+    for steps in LOGS_IN_USE {
         let mut log = InUse::new(rt.alloc())?;
-        for (place, step) in steps.iter().enumerate() {
-            assert!(rt; log.take(rt.alloc(), *step)?, "step {place}");
+        for step in steps {
+            assert!(rt; log.take(rt.alloc(), *step)?, "{step:?}");
         }
     }
     Ok(())

@@ -261,7 +261,7 @@ fn a_restart_reads_each_byte_once(rt: HostRuntime) -> Result<(), Fail> {
     let defs = defs(alloc, List::new(alloc))?;
     let mut site = two_written(alloc, &defs)?;
     let gate = FIRST + 2 * (1 + 8 + 29 + 17);
-    assert!(rt; read_once(alloc, &defs, b'S', &mut site) == Ok(gate));
+    assert_eq!(rt; read_once(alloc, &defs, b'S', &mut site), Ok(gate));
     Ok(())
 }
 
@@ -275,7 +275,7 @@ fn a_restart_gives_the_segments_of_the_last_group(rt: HostRuntime) -> Result<(),
     let defs = defs(alloc, List::new(alloc))?;
     let mut site = two_written(alloc, &defs)?;
     let answer = read(alloc, &defs, b'S', &mut site);
-    assert!(rt; answer == Ok(found(alloc, 2, b"A001paidB002open")?));
+    assert_eq!(rt; answer, Ok(found(alloc, 2, b"A001paidB002open")?));
     Ok(())
 }
 
@@ -295,9 +295,9 @@ fn a_log_goes_on_behind_what_a_restart_found(rt: HostRuntime) -> Result<(), Fail
     let alloc = rt.alloc();
     let defs = defs(alloc, List::new(alloc))?;
     let mut site = two_written(alloc, &defs)?;
-    assert!(rt; go_on(alloc, &defs, &mut site) == Ok(()));
+    assert_eq!(rt; go_on(alloc, &defs, &mut site), Ok(()));
     let answer = read(alloc, &defs, b'S', &mut site);
-    assert!(rt; answer == Ok(found(alloc, 3, b"A001paidB002shut")?));
+    assert_eq!(rt; answer, Ok(found(alloc, 3, b"A001paidB002shut")?));
     Ok(())
 }
 
@@ -363,8 +363,8 @@ fn after_each_stop_of_define_the_old_state_stands_or_none_or_the_start(
         let snapshot = old.snapshot_as(0)?;
         let mut site = MemorySite::from_snapshot(alloc, snapshot, &failing)?;
         let made = make(alloc, &defs, &mut site).is_ok();
-        assert!(rt; made == (after == 9));
-        assert!(rt; is_left_well(alloc, &defs, &site, after) == Ok(true));
+        assert_eq!(rt; made, after == 9);
+        assert_eq!(rt; is_left_well(alloc, &defs, &site, after), Ok(true));
     }
     Ok(())
 }
@@ -387,7 +387,7 @@ fn with_bytes(
 
 // Bytes at the first gate, how many of them are written, and whether they are damage: behind an open gate stand
 // nothing, a length of 0, one that passes the end, and a body that is no entry.
-static GATES: [([u8; 12], usize, bool); 6] = [
+const GATES: [([u8; 12], usize, bool); 6] = [
     ([0, 0, 0, 0, 0, 0, 0, 0, 0, 0, 0, 0], 12, false),
     ([7, 0, 0, 0, 0, 0, 0, 0, 3, 0, 0, 0], 12, false),
     ([1, 0, 0, 0, 0, 0, 0, 0, 0, 0, 0, 0], 1, true),
@@ -400,11 +400,11 @@ static GATES: [([u8; 12], usize, bool); 6] = [
 fn an_open_gate_without_a_group_is_damaged_at_its_place(rt: HostRuntime) -> Result<(), Fail> {
     let alloc = rt.alloc();
     let defs = defs(alloc, List::new(alloc))?;
-    for (bytes, count, is_damage) in &GATES {
-        let answer = with_bytes(alloc, &defs, bytes, *count);
+    for (bytes, count, is_damage) in GATES {
+        let answer = with_bytes(alloc, &defs, &bytes, count);
         let damaged = answer == Err(RestartFault::Damaged { set: 0, at: FIRST });
-        assert!(rt; damaged == *is_damage);
-        assert!(rt; (left_of(&answer) == Left::Start) == !*is_damage);
+        assert_eq!(rt; damaged, is_damage);
+        assert_eq!(rt; left_of(&answer) == Left::Start, !is_damage);
     }
     Ok(())
 }
@@ -427,7 +427,7 @@ fn another_front_is_foreign_and_stays(rt: HostRuntime) -> Result<(), Fail> {
     let before = Vec::from_slice(alloc, site.contents(0))?;
     let other = read(alloc, &defs, b'X', &mut site);
     assert!(rt; left_of(&other) == Left::NoFront);
-    assert!(rt; site.contents(0) == before.as_slice());
+    assert_eq!(rt; site.contents(0), before.as_slice());
     Ok(())
 }
 
@@ -477,8 +477,8 @@ fn an_item_that_does_not_fit_is_damage_at_its_group(rt: HostRuntime) -> Result<(
         let at = gate.unwrap_or(0);
         let answer = read(alloc, &defs, b'S', &mut site);
         let damaged = answer == Err(RestartFault::Damaged { set: 0, at });
-        assert!(rt; damaged == (case < 5));
-        assert!(rt; answer.is_ok() == (case >= 5));
+        assert_eq!(rt; damaged, case < 5);
+        assert_eq!(rt; answer.is_ok(), case >= 5);
     }
     Ok(())
 }
@@ -504,21 +504,21 @@ fn write_range(
 }
 
 // Intervals, and whether a range of one is damage there.
-static RANGES: [(u16, u64, bool); 3] = [(3, 1, false), (3, 2, true), (4, 1, true)];
+const RANGES: [(u16, u64, bool); 3] = [(3, 1, false), (3, 2, true), (4, 1, true)];
 
 #[test]
 fn a_range_without_its_image_is_damage_at_its_group(rt: HostRuntime) -> Result<(), Fail> {
     let alloc = rt.alloc();
     let defs = defs(alloc, orders(alloc)?)?;
-    for (set, ci, is_damage) in &RANGES {
+    for (set, ci, is_damage) in RANGES {
         let mut site = MemorySite::new(alloc, &[])?;
-        let gate = write_range(alloc, &defs, &mut site, *set, *ci);
+        let gate = write_range(alloc, &defs, &mut site, set, ci);
         assert!(rt; gate.is_ok());
         let at = gate.unwrap_or(0);
         let answer = read(alloc, &defs, b'S', &mut site);
         let damaged = answer == Err(RestartFault::Damaged { set: 0, at });
-        assert!(rt; damaged == *is_damage);
-        assert!(rt; answer.is_ok() == !*is_damage);
+        assert_eq!(rt; damaged, is_damage);
+        assert_eq!(rt; answer.is_ok(), !is_damage);
     }
     Ok(())
 }
