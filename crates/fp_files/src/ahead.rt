@@ -91,9 +91,10 @@ impl Ahead {
     {
         let count = length.saturating_sub(at).min(BLOCK as u64) as usize;
         self.bytes.clear();
-        if self.bytes.resize(count, 0).is_err() {
+        let Ok(block) = vec![in *self.bytes.allocator(); 0u8; count] else {
             return Ok(());
-        }
+        };
+        self.bytes = block;
         self.at = at;
         let answer = host::read(file, calls, at, &mut self.bytes);
         if answer.is_err() {
