@@ -140,29 +140,16 @@ fn every_stop_keeps_the_newest(rt: HostRuntime) -> Result<(), Fail> {
     Ok(())
 }
 
-/// A call that fails: whether what is read of the site then, by calls that don't fail, keeps what was sure.
-fn keeps_behind_fault(
-    alloc: Global,
-    call: u64,
-    first: &Defs,
-    second: &Defs,
-) -> Result<bool, AllocError>
-    requires first { AreDefs first.now }
-    requires second { AreDefs second.now }
-{
-    let mut site = MemorySite::new(alloc, &[call])?;
-    let sure = write_two(alloc, &mut site, first, second)?;
-    let mut left = MemorySite::from_snapshot(alloc, site.snapshot_as(1)?, &[])?;
-    Ok(keeps(alloc, &mut left, first, sure))
-}
-
 #[test]
 fn every_failed_call_keeps_the_newest(rt: HostRuntime) -> Result<(), Fail> {
     let first = defs_of(rt.alloc(), FIRST)?;
     let second = defs_of(rt.alloc(), SECOND)?;
     for call in 0..CALLS {
-        let kept = keeps_behind_fault(rt.alloc(), call, &first, &second)?;
-        assert!(rt; kept, "call {call}");
+        let mut site = MemorySite::new(rt.alloc(), &[call])?;
+        let sure = write_two(rt.alloc(), &mut site, &first, &second)?;
+        // What is read of it, by a site whose calls don't fail.
+        let mut left = MemorySite::from_snapshot(rt.alloc(), site.snapshot_as(1)?, &[])?;
+        assert!(rt; keeps(rt.alloc(), &mut left, &first, sure), "call {call}");
     }
     Ok(())
 }

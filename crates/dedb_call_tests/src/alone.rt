@@ -105,18 +105,20 @@ fn first_wrong(alloc: Global, steps: &[Step]) -> Result<Option<usize>, Fail> {
 
 /// The same of these behind the three customers.
 fn wrong_behind(alloc: Global, steps: &[Step]) -> Result<Option<usize>, Fail> {
-    let mut all = Vec::from_slice(alloc, &FILLED)?;
-    all.extend_from_slice(steps)?;
+    let mut all = Vec::new(alloc);
+    for step in FILLED {
+        all.push(step)?;
+    }
+    for step in steps {
+        all.push(*step)?;
+    }
     first_wrong(alloc, all.as_slice())
 }
 
 #[test]
 fn it_is_answered_alone_as_beside_others(rt: HostRuntime) -> Result<(), Fail> {
-    let wrong = wrong_behind(rt.alloc(), &GETS)?;
-    assert!(rt; wrong.is_none(), "at {wrong:?}");
-    let wrong = wrong_behind(rt.alloc(), &EDITS)?;
-    assert!(rt; wrong.is_none(), "at {wrong:?}");
-    let wrong = wrong_behind(rt.alloc(), &REFUSED)?;
-    assert!(rt; wrong.is_none(), "at {wrong:?}");
+    assert_eq!(rt; wrong_behind(rt.alloc(), &GETS)?, None);
+    assert_eq!(rt; wrong_behind(rt.alloc(), &EDITS)?, None);
+    assert_eq!(rt; wrong_behind(rt.alloc(), &REFUSED)?, None);
     Ok(())
 }

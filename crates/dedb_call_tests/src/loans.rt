@@ -65,7 +65,7 @@ const LIST: [Step; 4] = [
 const FIELD_CALL: [Step; 1] = [(Asked::Fld, *b"AM", b"")];
 
 /// A loan, the same once more, one of nobody; then the one that stands.
-static LOANS: [Transaction; 5] = [
+const LOANS: [Transaction; 5] = [
     Transaction {
         beside: Beside::Nothing,
         steps: &ADD_ANN,
@@ -93,7 +93,7 @@ static LOANS: [Transaction; 5] = [
     },
 ];
 
-static CUSTOMERS: [Transaction; 4] = [
+const CUSTOMERS: [Transaction; 4] = [
     Transaction {
         beside: Beside::Nothing,
         steps: &ADD_CY,
@@ -116,7 +116,7 @@ static CUSTOMERS: [Transaction; 4] = [
     },
 ];
 
-static FIELDS: [Transaction; 1] = [Transaction {
+const FIELDS: [Transaction; 1] = [Transaction {
     beside: Beside::Nothing,
     steps: &FIELD_CALL,
     queued: 0,
@@ -124,21 +124,18 @@ static FIELDS: [Transaction; 1] = [Transaction {
 
 #[test]
 fn a_loan_is_made_once_and_to_a_customer(rt: HostRuntime) -> Result<(), Fail> {
-    let wrong = first_wrong(rt.alloc(), &LOANS)?;
-    assert!(rt; wrong.is_none(), "at {wrong:?}");
+    assert_eq!(rt; first_wrong(rt.alloc(), &LOANS)?, None);
     Ok(())
 }
 
 #[test]
 fn customers_are_listed_by_anchor_and_key(rt: HostRuntime) -> Result<(), Fail> {
-    let wrong = first_wrong(rt.alloc(), &CUSTOMERS)?;
-    assert!(rt; wrong.is_none(), "at {wrong:?}");
+    assert_eq!(rt; first_wrong(rt.alloc(), &CUSTOMERS)?, None);
     Ok(())
 }
 
 #[test]
 fn a_field_call_has_no_place_here(rt: HostRuntime) -> Result<(), Fail> {
-    let wrong = first_wrong(rt.alloc(), &FIELDS)?;
-    assert!(rt; wrong.is_none(), "at {wrong:?}");
+    assert_eq!(rt; first_wrong(rt.alloc(), &FIELDS)?, None);
     Ok(())
 }

@@ -33,7 +33,7 @@ const TWO_NOTES: [Step; 4] = [
     ),
 ];
 
-static EACH: [Transaction; 6] = [
+const EACH: [Transaction; 6] = [
     Transaction {
         beside: Beside::Nothing,
         steps: &ADD_ANN,
@@ -66,7 +66,7 @@ static EACH: [Transaction; 6] = [
     },
 ];
 
-static UNSEEN: [Transaction; 2] = [
+const UNSEEN: [Transaction; 2] = [
     Transaction {
         beside: Beside::Nothing,
         steps: &ADD_ANN,
@@ -81,14 +81,12 @@ static UNSEEN: [Transaction; 2] = [
 
 #[test]
 fn each_note_is_queued(rt: HostRuntime) -> Result<(), Fail> {
-    let wrong = first_wrong(rt.alloc(), &EACH)?;
-    assert!(rt; wrong.is_none(), "at {wrong:?}");
+    assert_eq!(rt; first_wrong(rt.alloc(), &EACH)?, None);
     Ok(())
 }
 
 #[test]
 fn a_transaction_does_not_see_its_notes(rt: HostRuntime) -> Result<(), Fail> {
-    let wrong = first_wrong(rt.alloc(), &UNSEEN)?;
-    assert!(rt; wrong.is_none(), "at {wrong:?}");
+    assert_eq!(rt; first_wrong(rt.alloc(), &UNSEEN)?, None);
     Ok(())
 }
