@@ -102,7 +102,7 @@ fn letter(
 }
 
 /// A field's name, an operation, an operand, and the letter. None of them changes anything.
-const LETTERS: [([u8; 8], u8, &[u8], u8); 40] = [
+static LETTERS: [([u8; 8], u8, &[u8], u8); 40] = [
     // No such operation, before the field is looked for; and sums of characters, before the key.
     (*b"NONE    ", b'*', b"1", b'A'),
     (*b"BAL     ", b'e', b"100", b'A'),
@@ -164,17 +164,16 @@ const LETTERS: [([u8; 8], u8, &[u8], u8); 40] = [
 
 #[test]
 fn each_letter_once(rt: HostRuntime) -> Result<(), Fail> {
-    for (name, op, operand, wanted) in LETTERS {
+    for (place, (name, op, operand, wanted)) in LETTERS.iter().enumerate() {
         let mut segment = SEGMENT;
-        let found = letter(rt.alloc(), name, op, operand, &mut segment)?;
-        assert_eq!(rt; found, wanted, "at {name:?} {op} {operand:?}");
-        assert!(rt; segment == SEGMENT);
+        let found = letter(rt.alloc(), *name, *op, operand, &mut segment)?;
+        assert!(rt; found == *wanted && segment == SEGMENT, "at {place}");
     }
     Ok(())
 }
 
 /// A field's name, an operation, an operand, a place in the segment and the four bytes that stand there then.
-const CHANGES: [([u8; 8], u8, &[u8], usize, [u8; 4]); 7] = [
+static CHANGES: [([u8; 8], u8, &[u8], usize, [u8; 4]); 7] = [
     (*b"BAL     ", b'-', b"160", 4, *b"\x00\x00\x06\x0d"),
     (*b"BAL     ", b'-', b"100", 4, *b"\x00\x00\x00\x0c"),
     (*b"BAL     ", b'+', b"9999899", 4, *b"\x99\x99\x99\x9c"),
@@ -184,16 +183,24 @@ const CHANGES: [([u8; 8], u8, &[u8], usize, [u8; 4]); 7] = [
     (*b"HALF    ", b'+', b"258", 12, *b"\xff\x01\x00\x00"),
 ];
 
+/// The segment with other bytes at a place.
+fn changed(at: usize, bytes: &[u8; 4]) -> [u8; 35] {
+    let mut changed = SEGMENT;
+    if at <= 31 {
+        changed[at..at + 4].copy_from_slice(bytes);
+    }
+    changed
+}
+
 #[test]
 fn good_changes_are_made(rt: HostRuntime) -> Result<(), Fail> {
-    for (name, op, operand, at, wanted) in CHANGES {
+    for (place, (name, op, operand, at, wanted)) in CHANGES.iter().enumerate() {
         let mut segment = SEGMENT;
-        let found = letter(rt.alloc(), name, op, operand, &mut segment)?;
-        assert_eq!(rt; found, b' ', "at {name:?} {op} {operand:?}");
-        let mut changed = SEGMENT;
-        assert!(rt; at <= 31);
-        changed[at..at + 4].copy_from_slice(&wanted);
-        assert!(rt; segment == changed);
+        let found = letter(rt.alloc(), *name, *op, operand, &mut segment)?;
+        assert!(rt;
+            found == b' ' && segment == changed(*at, wanted),
+            "at {place}"
+        );
     }
     Ok(())
 }
@@ -206,7 +213,7 @@ fn broken() -> [u8; 35] {
 }
 
 /// On a field that is no number: an operation, an operand, the letter, and whether the field is put right.
-const ON_NO_NUMBER: [(u8, &[u8], u8, bool); 4] = [
+static ON_NO_NUMBER: [(u8, &[u8], u8, bool); 4] = [
     (b'+', b"1", b'E', false),
     (b'E', b"1", b'E', false),
     (b'+', b"x", b'B', false),
@@ -215,18 +222,17 @@ const ON_NO_NUMBER: [(u8, &[u8], u8, bool); 4] = [
 
 #[test]
 fn a_field_that_is_no_number(rt: HostRuntime) -> Result<(), Fail> {
-    for (op, operand, wanted, is_right) in ON_NO_NUMBER {
+    for (place, (op, operand, wanted, is_right)) in ON_NO_NUMBER.iter().enumerate() {
         let mut segment = broken();
-        let found = letter(rt.alloc(), *b"BAL     ", op, operand, &mut segment)?;
-        assert_eq!(rt; found, wanted, "at {op} {operand:?}");
-        let after = if is_right { SEGMENT } else { broken() };
-        assert!(rt; segment == after);
+        let found = letter(rt.alloc(), *b"BAL     ", *op, operand, &mut segment)?;
+        let after = if *is_right { SEGMENT } else { broken() };
+        assert!(rt; found == *wanted && segment == after, "at {place}");
     }
     Ok(())
 }
 
 /// Four arguments on BAL: the second is bad, the others are made all the same.
-const FOUR: [(u8, &[u8]); 4] = [
+static FOUR: [(u8, &[u8]); 4] = [
     (b'-', b"060"),
     (b'H', b"060"),
     (b'+', b"020"),
@@ -235,8 +241,8 @@ const FOUR: [(u8, &[u8]); 4] = [
 
 fn four(alloc: Global) -> Result<List<Fsa>, AllocError> {
     let mut fsas = List::new(alloc);
-    for (op, operand) in FOUR {
-        fsas.push(argument(alloc, *b"BAL     ", op, operand)?)?;
+    for (op, operand) in &FOUR {
+        fsas.push(argument(alloc, *b"BAL     ", *op, operand)?)?;
     }
     Ok(fsas)
 }
@@ -249,7 +255,7 @@ fn a_bad_argument_does_not_end_the_list(rt: HostRuntime) -> Result<(), Fail> {
     assert!(rt; !try_fsas(&def, &mut fsas, &mut segment));
     let letters = fsas.as_slice().iter().map(|fsa| fsa.status);
     assert!(rt; letters.eq(*b" D  "));
-    assert_eq!(rt; &segment[4..8], b"\x00\x00\x06\x0c".as_slice());
+    assert!(rt; &segment[4..8] == b"\x00\x00\x06\x0c".as_slice());
     Ok(())
 }
 
@@ -260,9 +266,9 @@ const WITHDRAWAL: [u8; 30] = *b"BAL      H\x00\x0260*BAL      -\x00\x0260 ";
 fn a_list_is_read_and_written(rt: HostRuntime) -> Result<(), Fail> {
     match read_list(rt.alloc(), &WITHDRAWAL) {
         Ok(fsas) => {
-            assert_eq!(rt; fsas.len(), 2);
+            assert!(rt; fsas.len() == 2);
             let text = write_list(rt.alloc(), &fsas)?;
-            assert_eq!(rt; text.as_slice(), WITHDRAWAL.as_slice());
+            assert!(rt; text.as_slice() == WITHDRAWAL.as_slice());
         }
         Err(_) => assert!(rt; false),
     }

@@ -7,12 +7,13 @@ use fp_exits::{
     Exits, Router, Routing, Spreader, Spreading, fold_group, fold_place, range_group, range_place,
 };
 use fp_model::{Kind, Name};
+use std::alloc::{AllocError, Global};
 use std::cell::Cell;
 use std::rc::Rc;
 use std::test::Fail;
 
 /// Keys, the number of places, the place by folding and the place by range.
-const KEYS: [(&[u8], u64, u64, u64); 12] = [
+static KEYS: [(&[u8], u64, u64, u64); 12] = [
     (b"C001", 8, 6, 2),
     (b"C003", 8, 0, 2),
     (b"C009", 8, 6, 2),
@@ -28,7 +29,7 @@ const KEYS: [(&[u8], u64, u64, u64); 12] = [
 ];
 
 /// Transactions, the number of groups, the group by folding and the group by range.
-const TRANSACTIONS: [([u8; 8], u64, u64, u64); 8] = [
+static TRANSACTIONS: [([u8; 8], u64, u64, u64); 8] = [
     (*b"DEPOSIT ", 2, 0, 0),
     (*b"WDRAW   ", 2, 1, 0),
     (*b"ASK     ", 2, 1, 0),
@@ -38,6 +39,76 @@ const TRANSACTIONS: [([u8; 8], u64, u64, u64); 8] = [
     (*b" A S K  ", 2, 1, 0),
     (*b"A       ", 16, 1, 4),
 ];
+
+/// A spreader that folds, and counts its calls.
+fn counting_spreader(alloc: Global, calls: Rc<Cell<u64>>) -> Result<Spreader, AllocError> {
+    let f: Spreading = Box::new(
+        alloc,
+        move |key: &[u8], n: u64| -> u64
+            requires { IsSpreadable key.now n }
+            ensures { result ≡ spread Kind.Fold n key.now }
+        {
+            calls.set(calls.get().wrapping_add(1));
+            fold_place(key, n)
+        },
+    )?;
+    Ok(Spreader::new(Kind::Fold, f))
+}
+
+/// One by range.
+fn range_spreader(alloc: Global) -> Result<Spreader, AllocError> {
+    let f: Spreading = Box::new(
+        alloc,
+        |key: &[u8], n: u64| -> u64
+            requires { IsSpreadable key.now n }
+            ensures { result ≡ spread Kind.Range n key.now }
+        { range_place(key, n) },
+    )?;
+    Ok(Spreader::new(Kind::Range, f))
+}
+
+/// Both, and no router.
+fn spreaders(alloc: Global, calls: Rc<Cell<u64>>) -> Result<Exits, AllocError> {
+    let mut spreaders = Vec::new(alloc);
+    spreaders.push(range_spreader(alloc)?)?;
+    spreaders.push(counting_spreader(alloc, calls)?)?;
+    Ok(Exits::new(spreaders, Vec::new(alloc)))
+}
+
+/// A router that folds, and counts its calls.
+fn counting_router(alloc: Global, calls: Rc<Cell<u64>>) -> Result<Router, AllocError> {
+    let f: Routing = Box::new(
+        alloc,
+        move |tran: &Name, n: u64| -> u64
+            requires { IsRoutable tran.now n }
+            ensures { result ≡ route Kind.Fold n tran.now }
+        {
+            calls.set(calls.get().wrapping_add(1));
+            fold_group(tran, n)
+        },
+    )?;
+    Ok(Router::new(Kind::Fold, f))
+}
+
+/// One by range.
+fn range_router(alloc: Global) -> Result<Router, AllocError> {
+    let f: Routing = Box::new(
+        alloc,
+        |tran: &Name, n: u64| -> u64
+            requires { IsRoutable tran.now n }
+            ensures { result ≡ route Kind.Range n tran.now }
+        { range_group(tran, n) },
+    )?;
+    Ok(Router::new(Kind::Range, f))
+}
+
+/// Both, and no spreader.
+fn routers(alloc: Global, calls: Rc<Cell<u64>>) -> Result<Exits, AllocError> {
+    let mut routers = Vec::new(alloc);
+    routers.push(range_router(alloc)?)?;
+    routers.push(counting_router(alloc, calls)?)?;
+    Ok(Exits::new(Vec::new(alloc), routers))
+}
 
 /// The place that the spreader of a kind gives a key; None where there is none, or it may not be asked.
 fn place_of(exits: &Exits, kind: Kind, key: &[u8], n: u64) -> Option<u64> {
@@ -64,68 +135,28 @@ fn group_of(exits: &Exits, kind: Kind, tran: [u8; 8], n: u64) -> Option<u64> {
 #[test]
 fn keys_have_the_places_of_the_kinds(rt: HostRuntime) -> Result<(), Fail> {
     let calls = Rc::new(rt.alloc(), Cell::new(0u64))?;
-    let counted = calls.clone()?;
-    let folds: Spreading = Box::new(
-        rt.alloc(),
-        move |key: &[u8], n: u64| -> u64
-            requires { IsSpreadable key.now n }
-            ensures { result ≡ spread Kind.Fold n key.now }
-        {
-            counted.set(counted.get().wrapping_add(1));
-            fold_place(key, n)
-        },
-    )?;
-    let ranges: Spreading = Box::new(
-        rt.alloc(),
-        |key: &[u8], n: u64| -> u64
-            requires { IsSpreadable key.now n }
-            ensures { result ≡ spread Kind.Range n key.now }
-        { range_place(key, n) },
-    )?;
-    let mut spreaders = Vec::new(rt.alloc());
-    spreaders.push(Spreader::new(Kind::Range, ranges))?;
-    spreaders.push(Spreader::new(Kind::Fold, folds))?;
-    let exits = Exits::new(spreaders, Vec::new(rt.alloc()));
-    for (key, n, folded, ranged) in KEYS {
-        assert_eq!(rt; place_of(&exits, Kind::Fold, key, n), Some(folded));
-        assert_eq!(rt; place_of(&exits, Kind::Range, key, n), Some(ranged));
+    let exits = spreaders(rt.alloc(), calls.clone()?)?;
+    for (place, (key, n, folded, ranged)) in KEYS.iter().enumerate() {
+        let found = place_of(&exits, Kind::Fold, key, *n) == Some(*folded);
+        let other = place_of(&exits, Kind::Range, key, *n) == Some(*ranged);
+        assert!(rt; found && other, "key {place}");
     }
     // The stored function is called for each key.
-    assert_eq!(rt; calls.get(), 12);
+    assert!(rt; calls.get() == 12);
     Ok(())
 }
 
 #[test]
 fn transactions_have_the_groups_of_the_kinds(rt: HostRuntime) -> Result<(), Fail> {
     let calls = Rc::new(rt.alloc(), Cell::new(0u64))?;
-    let counted = calls.clone()?;
-    let folds: Routing = Box::new(
-        rt.alloc(),
-        move |tran: &Name, n: u64| -> u64
-            requires { IsRoutable tran.now n }
-            ensures { result ≡ route Kind.Fold n tran.now }
-        {
-            counted.set(counted.get().wrapping_add(1));
-            fold_group(tran, n)
-        },
-    )?;
-    let ranges: Routing = Box::new(
-        rt.alloc(),
-        |tran: &Name, n: u64| -> u64
-            requires { IsRoutable tran.now n }
-            ensures { result ≡ route Kind.Range n tran.now }
-        { range_group(tran, n) },
-    )?;
-    let mut routers = Vec::new(rt.alloc());
-    routers.push(Router::new(Kind::Range, ranges))?;
-    routers.push(Router::new(Kind::Fold, folds))?;
-    let exits = Exits::new(Vec::new(rt.alloc()), routers);
-    for (tran, n, folded, ranged) in TRANSACTIONS {
-        assert_eq!(rt; group_of(&exits, Kind::Fold, tran, n), Some(folded));
-        assert_eq!(rt; group_of(&exits, Kind::Range, tran, n), Some(ranged));
+    let exits = routers(rt.alloc(), calls.clone()?)?;
+    for (place, (tran, n, folded, ranged)) in TRANSACTIONS.iter().enumerate() {
+        let found = group_of(&exits, Kind::Fold, *tran, *n) == Some(*folded);
+        let other = group_of(&exits, Kind::Range, *tran, *n) == Some(*ranged);
+        assert!(rt; found && other, "transaction {place}");
     }
     // The stored function is called for each transaction.
-    assert_eq!(rt; calls.get(), 8);
+    assert!(rt; calls.get() == 8);
     Ok(())
 }
 

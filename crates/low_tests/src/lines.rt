@@ -6,24 +6,26 @@ use std::test::Fail;
 /// A line.
 const LINE: &[u8] = b"Z9 DEPOSIT A001 10";
 
+/// Its terminal.
+const Z9: Name = Name(*b"Z9      ");
+
 #[test]
 fn a_message_has_its_words_and_its_text(rt: HostRuntime) -> Result<(), Fail> {
     let message = read_message(rt.alloc(), 1, LINE)?;
-    assert_eq!(rt; message.lterm, Name(*b"Z9      "));
-    assert_eq!(rt; message.tran, Name(*b"DEPOSIT "));
-    assert_eq!(rt; message.text.as_slice(), b"A001 10".as_slice());
-    assert_eq!(rt; message.line.as_slice(), LINE);
-    assert_eq!(rt; terminal_of(LINE), Some(Name(*b"Z9      ")));
+    assert!(rt; message.lterm == Z9 && message.tran == Name(*b"DEPOSIT "));
+    assert!(rt; message.text.as_slice() == b"A001 10".as_slice());
+    assert!(rt; message.line.as_slice() == LINE);
+    assert!(rt; terminal_of(LINE) == Some(Z9));
     Ok(())
 }
 
 #[test]
 fn a_message_of_format_2_may_have_a_number(rt: HostRuntime) -> Result<(), Fail> {
     let numbered = read_message(rt.alloc(), 2, b"Z9 17 ASK A001")?;
-    assert_eq!(rt; numbered.number, Some(17));
-    assert_eq!(rt; numbered.text.as_slice(), b"A001".as_slice());
+    assert!(rt; numbered.number == Some(17));
+    assert!(rt; numbered.text.as_slice() == b"A001".as_slice());
     let plain = read_message(rt.alloc(), 2, LINE)?;
-    assert_eq!(rt; plain.number, None);
+    assert!(rt; plain.number.is_none());
     Ok(())
 }
 
@@ -38,6 +40,6 @@ fn a_terminal_is_told(rt: HostRuntime) -> Result<(), Fail> {
         items: List::new(rt.alloc()),
     };
     let sent = reply_line(rt.alloc(), &entry)?;
-    assert_eq!(rt; sent.as_slice(), b"Z9 OK NEW\n".as_slice());
+    assert!(rt; sent.as_slice() == b"Z9 OK NEW\n".as_slice());
     Ok(())
 }

@@ -7,7 +7,7 @@ fn bytes_grow(rt: HostRuntime) -> Result<(), Fail> {
     let mut bytes = Bytes::new(rt.alloc());
     bytes.push(7)?;
     bytes.append(&[8, 9])?;
-    assert_eq!(rt; bytes.as_slice(), [7, 8, 9].as_slice());
+    assert!(rt; bytes.as_slice() == [7, 8, 9].as_slice());
     Ok(())
 }
 
@@ -16,7 +16,7 @@ fn bytes_are_copied(rt: HostRuntime) -> Result<(), Fail> {
     let bytes = Bytes::from_slice(rt.alloc(), &[7, 8, 9])?;
     let again = bytes.copy()?;
     assert!(rt; again == bytes);
-    assert_eq!(rt; again.into_vec().len(), 3);
+    assert!(rt; again.into_vec().len() == 3);
     Ok(())
 }
 
@@ -27,17 +27,16 @@ fn a_list_grows(rt: HostRuntime) -> Result<(), Fail> {
     let mut more = List::new(rt.alloc());
     more.push(6)?;
     list.append(more)?;
-    assert_eq!(rt; list.as_slice(), [1, 6].as_slice());
+    assert!(rt; list.as_slice() == [1, 6].as_slice());
     Ok(())
 }
 
 #[test]
 fn a_list_is_written_in_place(rt: HostRuntime) -> Result<(), Fail> {
     let mut list = List::from_vec(Vec::from_slice(rt.alloc(), &[1u64, 2])?);
-    assert_eq!(rt; list.len(), 2);
+    assert!(rt; list.len() == 2);
     *list.item_mut(1) = 5;
-    assert_eq!(rt; list.as_slice(), [1, 5].as_slice());
-    assert_eq!(rt; list.get(2), None);
-    assert_eq!(rt; list.pop(), Some(5));
+    assert!(rt; list.as_slice() == [1, 5].as_slice() && list.get(2).is_none());
+    assert!(rt; list.pop() == Some(5));
     Ok(())
 }

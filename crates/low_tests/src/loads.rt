@@ -11,7 +11,7 @@ struct Drawn {
     schedule: (&'static str, &'static str, usize),
 }
 
-const DRAWN: [Drawn; 3] = [
+static DRAWN: [Drawn; 3] = [
     Drawn {
         number: 1,
         messages: (

@@ -37,7 +37,7 @@ enum Answer {
 }
 
 /// Three regions want one anchor.
-const ONE_ANCHOR: [Step; 13] = [
+static ONE_ANCHOR: [Step; 13] = [
     Step::AnyIn(0, 0, 9, false),
     Step::Ask(1, Wanted::Anchor(5), Mode::Share, Answer::Held),
     Step::Ask(2, Wanted::Anchor(5), Mode::Share, Answer::Held),
@@ -59,7 +59,7 @@ const ONE_ANCHOR: [Step; 13] = [
 ];
 
 /// Two regions want two keys crosswise.
-const TWO_KEYS: [Step; 7] = [
+static TWO_KEYS: [Step; 7] = [
     Step::Ask(1, Wanted::Key(b"A1"), Mode::Exclusive, Answer::Held),
     Step::Ask(2, Wanted::Key(b"A2"), Mode::Exclusive, Answer::Held),
     Step::Ask(1, Wanted::Key(b"A2"), Mode::Share, Answer::Wait(&[2])),
@@ -130,12 +130,14 @@ fn first_wrong(alloc: Global, steps: &[Step]) -> Result<Option<usize>, AllocErro
 
 #[test]
 fn three_regions_want_one_anchor(rt: HostRuntime) -> Result<(), Fail> {
-    assert_eq!(rt; first_wrong(rt.alloc(), &ONE_ANCHOR)?, None);
+    let wrong = first_wrong(rt.alloc(), &ONE_ANCHOR)?;
+    assert!(rt; wrong.is_none(), "at {wrong:?}");
     Ok(())
 }
 
 #[test]
 fn two_keys_are_wanted_crosswise(rt: HostRuntime) -> Result<(), Fail> {
-    assert_eq!(rt; first_wrong(rt.alloc(), &TWO_KEYS)?, None);
+    let wrong = first_wrong(rt.alloc(), &TWO_KEYS)?;
+    assert!(rt; wrong.is_none(), "at {wrong:?}");
     Ok(())
 }

@@ -75,13 +75,10 @@ fn an_entry_is_read(rt: HostRuntime) -> Result<(), Fail> {
 
 #[test]
 fn an_entry_is_written(rt: HostRuntime) -> Result<(), Fail> {
-    assert_eq!(rt;
-        rewritten(rt.alloc(), &DEPOSIT)?.as_slice(),
-        DEPOSIT.as_slice()
-    );
+    assert!(rt; rewritten(rt.alloc(), &DEPOSIT)?.as_slice() == DEPOSIT.as_slice());
     let in_room = written_in_room(rt.alloc(), &DEPOSIT)?;
-    assert_eq!(rt; in_room.as_slice(), DEPOSIT.as_slice());
-    assert_eq!(rt; in_room.capacity(), 75);
+    assert!(rt; in_room.as_slice() == DEPOSIT.as_slice());
+    assert!(rt; in_room.capacity() == 75);
     Ok(())
 }
 
@@ -92,7 +89,7 @@ fn numbers_are_written_and_read(rt: HostRuntime) -> Result<(), Fail> {
     put_u32(&mut bytes, 0x03)?;
     put_u64(&mut bytes, 0x04)?;
     let wanted = [1, 2, 0, 0, 0, 3, 0, 0, 0, 0, 0, 0, 0, 4];
-    assert_eq!(rt; bytes.as_slice(), wanted.as_slice());
+    assert!(rt; bytes.as_slice() == wanted.as_slice());
     Ok(())
 }
 
@@ -107,10 +104,10 @@ fn three_numbers(bytes: &[u8]) -> Option<(u16, u32, u64)> {
 #[test]
 fn numbers_are_read(rt: HostRuntime) {
     let bytes = [1, 2, 0, 0, 0, 3, 0, 0, 0, 0, 0, 0, 0, 4];
-    assert_eq!(rt; three_numbers(&bytes), Some((258, 3, 4)));
-    assert_eq!(rt; number_of(&[0, 0, 0, 0, 0, 0, 1, 1]), 257);
+    assert!(rt; three_numbers(&bytes) == Some((258, 3, 4)));
+    assert!(rt; number_of(&[0, 0, 0, 0, 0, 0, 1, 1]) == 257);
     let first = byte_of(&[5, 6]).ok().map(|(byte, _)| byte);
-    assert_eq!(rt; first, Some(5));
+    assert!(rt; first == Some(5));
 }
 
 /// Texts behind their length: `ab` in one byte, in two, in four.
@@ -123,7 +120,7 @@ fn texts_are_written(rt: HostRuntime) -> Result<(), Fail> {
     put_short(&mut bytes, &text)?;
     put_long(&mut bytes, &text)?;
     put_part(&mut bytes, &text)?;
-    assert_eq!(rt; bytes.as_slice(), TEXTS.as_slice());
+    assert!(rt; bytes.as_slice() == TEXTS.as_slice());
     Ok(())
 }
 
@@ -151,7 +148,7 @@ fn numbers_behind_their_count(rt: HostRuntime) -> Result<(), Fail> {
     put_numbers(&mut bytes, &numbers)?;
     let wanted =
         *b"\x00\x00\x00\x02\x00\x00\x00\x00\x00\x00\x00\x07\x00\x00\x00\x00\x00\x00\x00\x08";
-    assert_eq!(rt; bytes.as_slice(), wanted.as_slice());
+    assert!(rt; bytes.as_slice() == wanted.as_slice());
     let read = numbers_of(rt.alloc(), &wanted).ok().map(|(read, _)| read);
     assert!(rt; read == Some(numbers));
     Ok(())

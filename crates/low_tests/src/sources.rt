@@ -115,14 +115,13 @@ fn a_read_gives_what_fits_and_then_the_rest(rt: HostRuntime) -> Result<(), Fail>
     let first = source.read(Part::Scripts, &mut into);
     let second = source.read(Part::Scripts, &mut into);
     let third = source.read(Part::Scripts, &mut into);
-    assert_eq!(rt; (first, second, third), (Ok(5), Err(Failed), Ok(2)));
-    assert_eq!(rt; into.first(), Some(&b't'));
-    assert_eq!(rt; source.faults(), 1);
+    assert!(rt; first == Ok(5) && second == Err(Failed) && third == Ok(2));
+    assert!(rt; into[0] == b't' && source.faults() == 1);
     Ok(())
 }
 
 // Behind three reads, of which the next fails: a part, its limit, and what is said of it.
-const PARTS: [(Part, u64, &[u8]); 2] = [
+static PARTS: [(Part, u64, &[u8]); 2] = [
     (Part::Definitions, 4, b"failed"),
     (Part::Scripts, 6, b"too long"),
 ];
@@ -133,15 +132,15 @@ fn a_part_is_whole_up_to_its_limit(rt: HostRuntime) -> Result<(), Fail> {
     let long = piece(alloc, (b'a', 70000, b""))?;
     let mut source = source_of(alloc, &long, &[3])?;
     assert!(rt; part_text(alloc, &mut source, Part::Messages, 70000)? == long);
-    for (part, limit, wanted) in PARTS {
-        let text = part_text(alloc, &mut source, part, limit)?;
-        assert_eq!(rt; text.as_slice(), wanted);
+    for (part, limit, wanted) in &PARTS {
+        let text = part_text(alloc, &mut source, *part, *limit)?;
+        assert!(rt; text.as_slice() == *wanted);
     }
     Ok(())
 }
 
 // Messages, the reads that fail, and the lines as a text.
-const LINES: [(Piece, &[u64], Piece); 4] = [
+static LINES: [(Piece, &[u64], Piece); 4] = [
     // Lines lose their ends.
     (
         (b'a', 0, b"one\n\r\n\ntwo\r\r\nl\rast\r"),
@@ -164,9 +163,9 @@ fn lines_of(alloc: Global, messages: Piece, failing: &[u64]) -> Result<Vec<u8>, 
 
 #[test]
 fn messages_have_their_lines_or_a_fault(rt: HostRuntime) -> Result<(), Fail> {
-    for (messages, failing, wanted) in LINES {
-        let text = lines_of(rt.alloc(), messages, failing)?;
-        assert!(rt; text == piece(rt.alloc(), wanted)?, "{messages:?}");
+    for (place, (messages, failing, wanted)) in LINES.iter().enumerate() {
+        let text = lines_of(rt.alloc(), *messages, failing)?;
+        assert!(rt; text == piece(rt.alloc(), *wanted)?, "messages {place}");
     }
     Ok(())
 }
@@ -177,10 +176,10 @@ fn one_byte_a_read_gives_the_same(rt: HostRuntime) -> Result<(), Fail> {
     let bytes = Bytes::from_slice(alloc, b"one\r\ntwo\n\nlast")?;
     let mut source = Slow { bytes, at: 0 };
     let text = lines_text(alloc, &mut source)?;
-    assert_eq!(rt; text.as_slice(), b"one|two||last|end".as_slice());
+    assert!(rt; text.as_slice() == b"one|two||last|end".as_slice());
     let bytes = Bytes::from_slice(alloc, b"a byte a read")?;
     let mut source = Slow { bytes, at: 0 };
     let all = part_text(alloc, &mut source, Part::Messages, 13)?;
-    assert_eq!(rt; all.as_slice(), b"a byte a read".as_slice());
+    assert!(rt; all.as_slice() == b"a byte a read".as_slice());
     Ok(())
 }

@@ -1,7 +1,7 @@
 //! Each call with ample memory, and what calls told to fail, stops and crashes leave.
 use super::steps::Answer::{Bytes as Four, Done, Length};
 use super::steps::Step::{Reach, Read, Send, Size, Sync, Write};
-use super::steps::{Answer, Step, goes, take};
+use super::steps::{Answer, Step, first_wrong, take};
 use fp_lists::{Bytes, List};
 use fp_site::{Failed, MemorySite, Site, Snapshot};
 use std::alloc::Global;
@@ -23,7 +23,7 @@ fn log_of(snapshot: &Snapshot) -> &[u8] {
     }
 }
 
-const EACH: [(Step, Answer); 9] = [
+static EACH: [(Step, Answer); 9] = [
     (Size, Length(0)),
     (Reach, Done),
     (Write(2, [7, 8]), Done),
@@ -39,26 +39,26 @@ const EACH: [(Step, Answer); 9] = [
 fn each_call_answers(rt: HostRuntime) -> Result<(), Fail> {
     let mut site = MemorySite::new(rt.alloc(), &[])?;
     site.prepare(100)?;
-    goes(&rt, &mut site, 3, &EACH);
-    assert_eq!(rt; site.contents(3), [1, 2, 7, 8].as_slice());
-    assert_eq!(rt; site.contents(4), [].as_slice());
-    assert_eq!(rt; site.sent(), b"T1 OK\n".as_slice());
-    assert_eq!(rt; (site.faults(), site.shorts()), (0, 0));
+    let wrong = first_wrong(&mut site, 3, &EACH);
+    assert!(rt; wrong.is_none(), "at {wrong:?}");
+    assert!(rt; site.contents(3) == [1, 2, 7, 8].as_slice() && site.contents(4).is_empty());
+    assert!(rt; site.sent() == b"T1 OK\n".as_slice());
+    assert!(rt; site.faults() == 0 && site.shorts() == 0);
     Ok(())
 }
 
-const CALLS: [Step; 6] = [Size, Reach, Read(0), Write(0, [5, 6]), Sync, Send];
+static CALLS: [Step; 6] = [Size, Reach, Read(0), Write(0, [5, 6]), Sync, Send];
 
 #[test]
 fn each_call_told_to_fail_fails_and_is_counted(rt: HostRuntime) -> Result<(), Fail> {
     let alloc = rt.alloc();
     for told in 0..6 {
         let mut site = site_of(alloc, &[1, 2, 3, 4], &[told])?;
-        for which in 0..6 {
-            let fails = take(&mut site, 0, CALLS[which]) == Answer::Failed;
-            assert_eq!(rt; fails, which as u64 == told, "at {which}");
+        for (which, call) in CALLS.iter().enumerate() {
+            let fails = take(&mut site, 0, *call) == Answer::Failed;
+            assert!(rt; fails == (which as u64 == told), "at {which}");
         }
-        assert_eq!(rt; (site.faults(), site.shorts()), (1, 0));
+        assert!(rt; site.faults() == 1 && site.shorts() == 0);
     }
     Ok(())
 }
@@ -67,9 +67,9 @@ fn each_call_told_to_fail_fails_and_is_counted(rt: HostRuntime) -> Result<(), Fa
 fn a_failed_write_leaves_mixed_bytes_in_its_range(rt: HostRuntime) -> Result<(), Fail> {
     let alloc = rt.alloc();
     let mut site = site_of(alloc, &[1; 40], &[0])?;
-    assert_eq!(rt; site.write_at(0, 4, &[2; 32]), Err(Failed));
+    assert!(rt; site.write_at(0, 4, &[2; 32]) == Err(Failed));
     let left = site.contents(0);
-    assert_eq!(rt; left.len(), 40);
+    assert!(rt; left.len() == 40);
     let (mut old, mut new, mut other) = (false, false, false);
     for i in 0..40 {
         match left[i] {
@@ -82,7 +82,7 @@ fn a_failed_write_leaves_mixed_bytes_in_its_range(rt: HostRuntime) -> Result<(),
             "byte {i} is outside the range"
         );
     }
-    assert!(rt; old && new && other, "{left:?}");
+    assert!(rt; old && new && other);
     Ok(())
 }
 
@@ -90,8 +90,8 @@ fn a_failed_write_leaves_mixed_bytes_in_its_range(rt: HostRuntime) -> Result<(),
 fn a_failed_send_leaves_a_prefix(rt: HostRuntime) -> Result<(), Fail> {
     let alloc = rt.alloc();
     let mut site = site_of(alloc, &[], &[0])?;
-    assert_eq!(rt; site.send(b"T1 OK\n"), Err(Failed));
-    assert_eq!(rt; site.sent(), b"line\nT1 ".as_slice());
+    assert!(rt; site.send(b"T1 OK\n") == Err(Failed));
+    assert!(rt; site.sent() == b"line\nT1 ".as_slice());
     Ok(())
 }
 
@@ -99,17 +99,17 @@ fn a_failed_send_leaves_a_prefix(rt: HostRuntime) -> Result<(), Fail> {
 fn a_failed_read_gives_bytes_that_stand_nowhere(rt: HostRuntime) -> Result<(), Fail> {
     let mut site = site_of(rt.alloc(), &[1, 2], &[0])?;
     let mut into = [0u8; 2];
-    assert_eq!(rt; site.read_at(0, 0, &mut into), Err(Failed));
-    assert_eq!(rt; into.as_slice(), [0xA5, 0xA5].as_slice());
+    assert!(rt; site.read_at(0, 0, &mut into) == Err(Failed));
+    assert!(rt; into.as_slice() == [0xA5, 0xA5].as_slice());
     Ok(())
 }
 
 #[test]
 fn a_call_that_finds_no_memory_is_short(rt: HostRuntime) -> Result<(), Fail> {
     let mut site = site_of(rt.alloc(), &[1, 2], &[])?;
-    assert_eq!(rt; site.write_at(0, 1 << 61, &[7]), Err(Failed));
-    assert_eq!(rt; site.contents(0), [1, 2].as_slice());
-    assert_eq!(rt; (site.faults(), site.shorts()), (1, 1));
+    assert!(rt; site.write_at(0, 1 << 61, &[7]) == Err(Failed));
+    assert!(rt; site.contents(0) == [1, 2].as_slice());
+    assert!(rt; site.faults() == 1 && site.shorts() == 1);
     Ok(())
 }
 
@@ -172,7 +172,7 @@ const ENDED: Stop = Stop {
 };
 
 // The stops at each call of `run`, and behind it.
-const STOPS: [Stop; 5] = [EMPTY, EMPTY, SYNCED, SENT, ENDED];
+static STOPS: [Stop; 5] = [EMPTY, EMPTY, SYNCED, SENT, ENDED];
 
 // Whether a log begins with the bytes that stay.
 fn keeps(log: &[u8], stop: &Stop) -> bool {
@@ -229,7 +229,7 @@ fn each_stop_leaves_what_the_disk_model_allows(rt: HostRuntime) -> Result<(), Fa
 fn choices_tear_and_lengthen(rt: HostRuntime) -> Result<(), Fail> {
     let alloc = rt.alloc();
     let mut site = MemorySite::new(alloc, &[])?;
-    assert_eq!(rt; run(&mut site), Ok(()));
+    assert!(rt; run(&mut site) == Ok(()));
     let (mut torn, mut longer) = (false, false);
     for choice in 2..8 {
         let snapshot = site.snapshot_as(choice)?;

@@ -1,9 +1,8 @@
 //! Steps on one data set of any site, and what each must answer.
 use fp_site::{Failed, Site};
-use std::process::Abort;
 
 /// A call of a site.
-#[derive(Clone, Copy, Debug)]
+#[derive(Clone, Copy)]
 pub(super) enum Step {
     Size,
     Reach,
@@ -16,7 +15,7 @@ pub(super) enum Step {
 }
 
 /// What it answers.
-#[derive(Clone, Copy, Debug, PartialEq, Eq)]
+#[derive(Clone, Copy, PartialEq, Eq)]
 pub(super) enum Answer {
     Done,
     Failed,
@@ -24,11 +23,18 @@ pub(super) enum Answer {
     Bytes([u8; 4]),
 }
 
-/// Takes the steps on a data set.
-pub(super) fn goes<T: Site>(rt: &impl Abort, site: &mut T, set: u16, rows: &[(Step, Answer)]) {
-    for (step, want) in rows {
-        assert_eq!(rt; take(site, set, *step), *want, "data set {set}: {step:?}");
+/// Takes the steps on a data set. The place of the first that answers something else.
+pub(super) fn first_wrong<T: Site>(
+    site: &mut T,
+    set: u16,
+    rows: &[(Step, Answer)],
+) -> Option<usize> {
+    for (place, (step, wanted)) in rows.iter().enumerate() {
+        if take(site, set, *step) != *wanted {
+            return Some(place);
+        }
     }
+    None
 }
 
 /// Takes one step on a data set.
