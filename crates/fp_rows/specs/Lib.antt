@@ -1,7 +1,5 @@
-pub mod Checkpoints
 pub mod Customers
 pub mod Hex
-pub mod LogRows
 pub mod Numbered
 pub mod Retries
 pub mod Sample

@@ -19,7 +19,7 @@ ghost use Rattle.fp_model.specs.declared.log.Outcome.TheVariants.{Done, Verify, 
 ghost use Rattle.fp_model.specs.declared.definitions.FieldKind.TheVariants.{C, X, H, F, P};
 ghost use Rattle.fp_model.specs.declared.definitions.Kind.TheVariants.{Fold, Range};
 ghost use Rattle.fp_rows.specs.Hex.{hex, with_newline, named};
-ghost use Rattle.fp_rows.specs.LogRows.{customers, ended, changed, image};
+ghost use Rattle.byte_rows.specs.LogRows.{customers, ended, changed, image};
 ghost use Rattle.fp_rows.specs.Sample.{accts, tellers, deposit, refusal, unknown, sample_defs};
 
 /// The sign F is a plus.

@@ -3,7 +3,7 @@ use Rattle.std.proofs.lemmas.List.{get_or_past}
 use Rattle.std.specs.Prelude.{slice_index}
 use Rattle.fp_model.specs.LogText.{front_text}
 use Rattle.fp_model.specs.Groups.{Reads, Groups}
-use Rattle.fp_rows.proofs.bytes.a_front_alone_has_no_groups.Goals as goal
+use Rattle.byte_rows.proofs.bytes.a_front_alone_has_no_groups.Goals as goal
 
 zero_is_not_one : ◌≢◌ {A = ℕ} 0 1
 zero_is_not_one e = grind arith

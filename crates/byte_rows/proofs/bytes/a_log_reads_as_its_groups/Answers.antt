@@ -5,7 +5,7 @@ use Rattle.std.specs.List.{AllByRecursion}
 use Rattle.fp_model.specs.LogText.{front_text, groups_text}
 use Rattle.fp_model.specs.Groups.{IsGroup, Reads, Groups}
 use Rattle.fp_model.specs.declared.log.Entry.{Entry}
-use Rattle.fp_rows.proofs.bytes.a_log_reads_as_its_groups.Goals as goal
+use Rattle.byte_rows.proofs.bytes.a_log_reads_as_its_groups.Goals as goal
 
 -- the bytes from the closed gate on
 at_gate : (front groups : List ℕ) → drop (length front + length groups) (front ++ groups ++ 0 ∷ []) ≡ 0 ∷ []

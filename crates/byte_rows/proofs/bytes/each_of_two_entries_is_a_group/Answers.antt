@@ -2,7 +2,7 @@ use Rattle.std.proofs.Common.{◌<◌, ◌^◌, [], ◌∷◌, length, refl, rul
 use Rattle.fp_model.specs.Spellings.{be16, be32, be64}
 use Rattle.fp_model.specs.LogText.{IsEntry, FitsEntry, KeepsRules, HasSpelling, rest_text, body_text}
 use Rattle.fp_rows.specs.Sample.{deposit, refusal}
-use Rattle.fp_rows.proofs.bytes.each_of_two_entries_is_a_group.Goals as goal
+use Rattle.byte_rows.proofs.bytes.each_of_two_entries_is_a_group.Goals as goal
 
 deposit_is_entry : IsEntry deposit
 deposit_is_entry = record {

@@ -2,7 +2,7 @@ use Rattle.std.proofs.Common.{refl, rules, codes}
 use Rattle.fp_model.specs.Items.{FitsMsdb}
 use Rattle.fp_rows.specs.Hex.{hex}
 use Rattle.fp_rows.specs.Sample.{accts}
-use Rattle.fp_rows.proofs.bytes.which_segments_are_fit.Goals as goal
+use Rattle.byte_rows.proofs.bytes.which_segments_are_fit.Goals as goal
 
 pub returns-clause-deposit : goal.returns-clause-deposit
 returns-clause-deposit c =

@@ -1,7 +1,7 @@
 use Rattle.std.proofs.Common.{rules}
 use Rattle.fp_model.specs.Items.{IsAreaInterval}
 use Rattle.fp_rows.specs.Sample.{sample_defs}
-use Rattle.fp_rows.proofs.entries.which_ranges_are_fit.Goals as goal
+use Rattle.byte_rows.proofs.entries.which_ranges_are_fit.Goals as goal
 
 -- the interval that both ranges are of
 is_interval : IsAreaInterval sample_defs 4 4 512

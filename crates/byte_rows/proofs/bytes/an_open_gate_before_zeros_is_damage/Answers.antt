@@ -7,7 +7,7 @@ use Rattle.fp_model.specs.Spellings.{be64}
 use Rattle.fp_model.specs.LogText.{front_text, body_text, group_text}
 use Rattle.fp_model.specs.Groups.{IsGroup, Reads, Damage}
 use Rattle.fp_model.specs.declared.log.Entry.{Entry}
-use Rattle.fp_rows.proofs.bytes.an_open_gate_before_zeros_is_damage.Goals as goal
+use Rattle.byte_rows.proofs.bytes.an_open_gate_before_zeros_is_damage.Goals as goal
 
 zero_at : (n i : ℕ) → slice_index (replicate n 0) i ≡ 0
 zero_at zero i = refl

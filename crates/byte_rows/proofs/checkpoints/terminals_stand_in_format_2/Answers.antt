@@ -1,8 +1,8 @@
 use Rattle.std.proofs.Common.{◌≡◌, ℕ, [], ◌∷◌, codes, refl, rules, arith}
 use Rattle.fp_model.specs.Names.{IsName}
 use Rattle.fp_model.specs.CheckpointText.{AreLasts}
-use Rattle.fp_rows.specs.Checkpoints.{last_of_T1}
-use Rattle.fp_rows.proofs.checkpoints.terminals_stand_in_format_2.Goals as goal
+use Rattle.byte_rows.specs.Checkpoints.{last_of_T1}
+use Rattle.byte_rows.proofs.checkpoints.terminals_stand_in_format_2.Goals as goal
 
 is_name : IsName last_of_T1.lterm
 is_name = (codes "T1", search rules, refl)

@@ -3,7 +3,7 @@
 
 ghost use Rattle.std.specs.Prelude.{◌≡◌, [], ◌∷◌, Some, None};
 ghost use Rattle.fp_model.specs.Pending.{oldest_sealed, pending_from, with_added};
-ghost use Rattle.fp_rows.specs.Checkpoints.{an_interval, another_interval, writing, with_images, three_images};
+ghost use Rattle.byte_rows.specs.Checkpoints.{an_interval, another_interval, writing, with_images, three_images};
 
 /// Of the intervals that may be written the one whose newest entry is oldest comes first, wherever it stands.
 pub fn the_one_that_waits_longest()

@@ -11,9 +11,9 @@ ghost use Rattle.fp_model.specs.Pending.{Pending, Nothing, Lengths, UnderWay, ow
 ghost use Rattle.fp_model.specs.Pending.{begun_at, lengths_of, after_out, after_checkpoint, after_event};
 ghost use Rattle.fp_rows.specs.Hex.{hex};
 ghost use Rattle.fp_rows.specs.Sample.{accts, tellers, sample_defs};
-ghost use Rattle.fp_rows.specs.Checkpoints.{deposit_checkpoint, numbered_checkpoint, at_rest_in_two};
-ghost use Rattle.fp_rows.specs.Checkpoints.{under_way, waiting_with, an_interval, sample_unwritten, after_outs};
-ghost use Rattle.fp_rows.specs.Checkpoints.{writing, with_images, by_counts};
+ghost use Rattle.byte_rows.specs.Checkpoints.{deposit_checkpoint, numbered_checkpoint, at_rest_in_two};
+ghost use Rattle.byte_rows.specs.Checkpoints.{under_way, waiting_with, an_interval, sample_unwritten, after_outs};
+ghost use Rattle.byte_rows.specs.Checkpoints.{writing, with_images, by_counts};
 ghost use Rattle.fp_rows.specs.States.{sample_rules};
 
 /// The first checkpoint after the deposit, at any gate.

@@ -1,6 +1,6 @@
 use Rattle.std.proofs.Common.{refl}
 use Rattle.std.specs.Fmt.{digits}
-use Rattle.fp_rows.proofs.bytes.the_reply_lines_of_two_deposits.Goals as goal
+use Rattle.byte_rows.proofs.bytes.the_reply_lines_of_two_deposits.Goals as goal
 
 pub returns-clause-refused : goal.returns-clause-refused
 unfolding digits
