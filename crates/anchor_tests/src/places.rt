@@ -6,6 +6,7 @@ ghost use Rattle.anchor_elements.specs.Elements.{AreTypes};
 ghost use Rattle.root_anchor.specs.Stored.{are_storable, is_newest, is_storable};
 ghost use Rattle.anchor_tests.specs.Families.{AreNoteTypes};
 
+use crate::counted::CountedArea;
 use crate::families::{area, segment, shape};
 use ci_space::Intervals;
 use fp_model::{Bytes, List, Root, SegDef, SeqItem};
@@ -93,24 +94,31 @@ fn are_placed<I: Intervals>(rt: &HostRuntime, i: &mut I) -> Result<bool, Fail>
 /// The number of a root, a newest serial that it is given, and whether there is such a root.
 const SETS: [(usize, u64, bool); 2] = [(1, 77, true), (3, 78, false)];
 
+/// Stores three clients. Whether each stands in its place then.
+fn are_told(rt: &HostRuntime, area: &mut CountedArea) -> Result<bool, Fail> {
+    let types = types(rt.alloc())?;
+    let roots = clients(rt, 6)?;
+    let stored = store(rt.alloc(), area, &shape(), &types, 0, &roots);
+    Ok(stored.is_ok() && are_placed(rt, area)?)
+}
+
+/// Sets newest serials. Whether the second client alone has another one then.
+fn are_set(rt: &HostRuntime, area: &mut CountedArea) -> Result<bool, Fail> {
+    let types = types(rt.alloc())?;
+    for (number, newest, there) in SETS {
+        let set = set_newest(rt.alloc(), area, &shape(), &types, 0, number, newest);
+        if set != Ok(there) {
+            return Ok(false);
+        }
+    }
+    let roots = clients(rt, 77)?;
+    Ok(load(rt.alloc(), area, &shape(), &types, 0) == Ok(roots))
+}
+
 #[test]
 fn a_newest_serial_is_told_and_set(rt: HostRuntime) -> Result<(), Fail> {
-    let types = types(rt.alloc())?;
     let mut area = area(&rt)?;
-    let stored = store(
-        rt.alloc(),
-        &mut area,
-        &shape(),
-        &types,
-        0,
-        &clients(&rt, 6)?,
-    );
-    assert!(rt; stored.is_ok() && are_placed(&rt, &mut area)?);
-    for (number, newest, there) in SETS {
-        let set = set_newest(rt.alloc(), &mut area, &shape(), &types, 0, number, newest);
-        assert_eq!(rt; set, Ok(there));
-    }
-    let roots = load(rt.alloc(), &mut area, &shape(), &types, 0);
-    assert!(rt; roots == Ok(clients(&rt, 77)?));
+    assert!(rt; are_told(&rt, &mut area)?);
+    assert!(rt; are_set(&rt, &mut area)?);
     Ok(())
 }

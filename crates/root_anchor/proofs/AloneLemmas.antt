@@ -252,7 +252,7 @@ met_roots {types} {area} (root {met = met} {at = at} s {after = after} has fresh
       ]
     ]
 
-made_root : (y : Root) (bytes : List ℕ) (below : List (List Node)) (seqs : List SeqItem) → bytes ≡ y.bytes
+pub made_root : (y : Root) (bytes : List ℕ) (below : List (List Node)) (seqs : List SeqItem) → bytes ≡ y.bytes
     → below ≡ y.children → seqs ≡ y.seqs → (record { bytes = bytes; children = below; seqs = seqs }) ≡ y
 made_root y bytes below seqs b c s =
     let P : List ℕ → Root = λ u. record { bytes = u; children = below; seqs = seqs } in

@@ -32,17 +32,17 @@ pub twin_has : {types : List SegDef} {area : List (List ℕ)} {type k : ℕ} {at
 twin_has {t = t} (this_twin has) = (t, has)
 twin_has (twin_behind s has twin) = (s, has)
 
-twin_first : {types : List SegDef} {area : List (List ℕ)} {type : ℕ} {at place : Pointer} {t : Segment}
+pub twin_first : {types : List SegDef} {area : List (List ℕ)} {type : ℕ} {at place : Pointer} {t : Segment}
     → IsTwinAt types area type at 0 place t → (place ≡ at) × HasSegment types area type at t
 twin_first (this_twin has) = (refl, has)
 
-record IsBehind (types : List SegDef) (area : List (List ℕ)) (type : ℕ) (at : Pointer) (k : ℕ) (place : Pointer)
+pub record IsBehind (types : List SegDef) (area : List (List ℕ)) (type : ℕ) (at : Pointer) (k : ℕ) (place : Pointer)
     (t : Segment) : Type 0 where
-  s : Segment
-  has : HasSegment types area type at s
-  twin : IsTwinAt types area type s.next k place t
+  pub s : Segment
+  pub has : HasSegment types area type at s
+  pub twin : IsTwinAt types area type s.next k place t
 
-twin_later : {types : List SegDef} {area : List (List ℕ)} {type : ℕ} {at place : Pointer} {t : Segment} (k : ℕ)
+pub twin_later : {types : List SegDef} {area : List (List ℕ)} {type : ℕ} {at place : Pointer} {t : Segment} (k : ℕ)
     → IsTwinAt types area type at (suc k) place t → IsBehind types area type at k place t
 twin_later k (twin_behind s has twin) = record { s = s; has = has; twin = twin }
 

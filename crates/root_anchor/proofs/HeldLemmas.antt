@@ -1,8 +1,6 @@
 -- A call that holds the intervals that it reads, as it begins.
-use Rattle.std.proofs.Common.{◌≡◌, ◌∙◌, ℕ, List, length, refl, sym, ap, subst}
-use Rattle.ci_space.specs.Calls.{GoesOn}
-use Rattle.ci_overflow.proofs.Going.{goes_on_joined}
-use Rattle.held_intervals.specs.Holding.{Changes, overlaid, AreRead, IsToldHeld, Keeps, keeps_itself}
+use Rattle.std.proofs.Common.{◌≡◌, ◌∙◌, ℕ, List, length, sym, ap, subst}
+use Rattle.held_intervals.specs.Holding.{Changes, overlaid, AreRead, IsToldHeld}
 use Rattle.held_intervals.proofs.Holds.{begun_told, none_changed}
 use Rattle.std.specs.Prelude.{None}
 use Rattle.root_anchor.specs.Walking.{IsLook}

@@ -26,3 +26,7 @@ pub mod Giving
 pub mod AloneLemmas
 pub mod FindingLemmas
 pub mod HeldLemmas
+pub mod GapLemmas
+pub mod FillLemmas
+pub mod GapPlaces
+pub mod ChangeLemmas

@@ -67,7 +67,7 @@ row-begins types area type at s below row xs ys node h f g a b c met d =
     subst Q (sym (met-append xs ys (at ∷ met))) (subst R n all)
 
 -- rows and others behind them
-rows_joined : {types : List SegDef} {area : List (List ℕ)} {met : List Pointer} {kinds : List ℕ} {firsts : List Pointer}
+pub rows_joined : {types : List SegDef} {area : List (List ℕ)} {met : List Pointer} {kinds : List ℕ} {firsts : List Pointer}
     {rows : List (List Node)} {between : List Pointer}
     → AreRows types area met kinds firsts rows between
     → {more : List ℕ} {others : List Pointer} {later : List (List Node)} {after : List Pointer}

@@ -282,23 +282,24 @@ pub record RootHasForm (types : List SegDef) (root : Root) : Type 0 where
   pub rows : rows_have_form types (child_types types 0) root.children ≡ true
   pub seqs : is_newest types root.seqs ≡ true
 
-root_at : (types : List SegDef) (roots : List Root) (k : ℕ) (d : Root) → are_storable types roots ≡ true
+pub root_at : (types : List SegDef) (roots : List Root) (k : ℕ) (d : Root) → are_storable types roots ≡ true
     → k < length roots → is_storable types (get_or roots k d) ≡ true
 root_at types [] k d e b = absurd (omega (arith, b))
 root_at types (r ∷ roots) zero d e b = and_left (is_storable types r) (are_storable types roots) e
 root_at types (r ∷ roots) (suc k) d e b = root_at types roots k d
     (and_right (is_storable types r) (are_storable types roots) e) (omega (arith, b))
 
-pub roots-root : (types : List SegDef) (roots : List Root) (k : ℕ) (root : Root) → are_storable types roots ≡ true
-    → k < length roots → root ≡ get_or roots k root → RootHasForm types root
-roots-root types roots k root e b r =
-    let here : is_storable types root ≡ true = ap (is_storable types) r ∙ root_at types roots k root e b in
+pub root_form : (types : List SegDef) (root : Root) → is_storable types root ≡ true → RootHasForm types root
+root_form types root here =
     let one : Bool = has_length types 0 root.bytes in
     let two : Bool = rows_have_form types (child_types types 0) root.children in
     let both : (one && two) ≡ true = and_left (one && two) (is_newest types root.seqs) here in
     record {
       bytes = length-is types 0 root.bytes (and_left one two both);
       rows = and_right one two both;
-      seqs =
-          and_right (one && two) (is_newest types root.seqs) here;
+      seqs = and_right (one && two) (is_newest types root.seqs) here;
     }
+
+pub roots-root : (types : List SegDef) (roots : List Root) (k : ℕ) (root : Root) → are_storable types roots ≡ true
+    → k < length roots → root ≡ get_or roots k root → RootHasForm types root
+roots-root types roots k root e b r = root_form types root (ap (is_storable types) r ∙ root_at types roots k root e b)

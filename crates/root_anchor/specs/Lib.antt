@@ -10,3 +10,4 @@ pub mod Standing
 pub mod Rebuilding
 pub mod Walking
 pub mod Finding
+pub mod Gaps

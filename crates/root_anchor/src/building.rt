@@ -3,11 +3,11 @@
 //! A row is built from its last segment to its first, and what is below a segment before the segment itself: so each
 //! pointer is known when it is written. The plan is in hierarchical order, and is used up from its end.
 
-ghost use Rattle.std.specs.Prelude.{◌≡◌, ◌≢◌, ◌<◌, ◌≤◌, ◌++◌, ◌∷◌, [], ℕ, List, Err, IfOk, IsErrOf, IsErr, length, map, true, false, Some};
+ghost use Rattle.std.specs.Prelude.{◌≡◌, ◌≢◌, ◌<◌, ◌≤◌, ◌++◌, ◌∷◌, [], ℕ, List, Err, IfOk, IsErrOf, IsErr, length, map, replicate, true, false, Some};
 ghost use Rattle.ci_space.specs.Calls.{Rose, GoesOn};
 ghost use Rattle.ci_overflow.specs.Lists.{IsInOrder};
 ghost use Rattle.fp_model.specs.Order.{child_types};
-ghost use Rattle.anchor_elements.specs.Elements.{content_length, has_serial, segment_length};
+ghost use Rattle.anchor_elements.specs.Elements.{content_length, has_serial, nothing, segment_length};
 ghost use Rattle.root_anchor.specs.Chains.{anchor_count, newest};
 ghost use Rattle.anchor_elements.specs.Elements.{AreTypes};
 ghost use Rattle.root_anchor.specs.Stored.{are_storable, is_newest, row_has_form, rows_have_form};
@@ -148,8 +148,9 @@ pub(crate) fn types_below(
 }
 
 /// As many pointers to nothing.
-fn no_pointers(alloc: Global, count: usize) -> Result<Vec<Pointer>, AnchorFault>
+pub(crate) fn no_pointers(alloc: Global, count: usize) -> Result<Vec<Pointer>, AnchorFault>
     ensures count { IfOk result (λ pointers. length pointers.items ≡ count) }
+    ensures nothing { IfOk result (λ pointers. pointers.items ≡ replicate count nothing) }
     ensures memory { IsErr result → result ≡ Err AnchorFault.Memory }
 {
     match vec![in alloc; (0, 0); count] {

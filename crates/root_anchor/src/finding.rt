@@ -6,6 +6,7 @@
 ghost use Rattle.std.specs.Prelude.{◌≡◌, ◌≢◌, ◌<◌, ◌≤◌, ℕ, List, Err, IfOk, IfSome, IsErrOf, IsSome, true, false, length};
 ghost use Rattle.ci_space.specs.Calls.{Rose, GoesOn};
 ghost use Rattle.fp_model.specs.Order.{child_types};
+ghost use Rattle.fp_model.specs.Shape.{has_length};
 ghost use Rattle.fp_model.specs.WellFormed.{HavePlaces};
 ghost use Rattle.anchor_elements.specs.Elements.{AreTypes, Segment, has_serial};
 ghost use Rattle.anchor_elements.specs.Elements.{Pointer as PointerOf};
@@ -43,13 +44,13 @@ pub(crate) struct Found<'a> {
 
 /// A segment's element, and what it says.
 #[derive(Drop)]
-struct Twin {
-    at: Pointer,
-    said: Said,
+pub(crate) struct Twin {
+    pub(crate) at: Pointer,
+    pub(crate) said: Said,
 }
 
 /// The twin of a number, counted from 0 from a pointer in the interval `home` on.
-fn twin_at<I: Intervals>(
+pub(crate) fn twin_at<I: Intervals>(
     alloc: Global,
     i: &mut I,
     segments: &List<SegDef>,
@@ -63,6 +64,7 @@ fn twin_at<I: Intervals>(
     ensures twin { I.told i.old → IfOk result (λ twin. IsTwinAt segments.now (I.intervals i.old) segment first number
         twin.at (segment_of twin.said)) }
     ensures types { IfOk result (λ twin. types_of twin.said.firsts.items ≡ child_types segments.now segment) }
+    ensures long { IfOk result (λ twin. has_length segments.now segment twin.said.bytes ≡ true) }
     ensures serial { IfOk result (λ twin. has_serial segments.now segment ≡ false → twin.said.serial ≡ 0) }
     ensures sound { I.told i.old → (place : PointerOf) (s : Segment)
         → IsTwinAt segments.now (I.intervals i.old) segment first number place s → (ci : ℕ)
@@ -200,6 +202,7 @@ fn find_in_roots<'a, I: Intervals>(
     ensures found { I.told i.old → IfOk result (λ found. IfSome found (λ f. RootsDifferIn segments.now
         (I.intervals i.old) first before.now after.now f.segment f.at (says_of f))) }
     ensures fits { IfOk result (λ found. IfSome found (FitsType segments.now)) }
+    ensures differ { IfOk result (λ found. IfSome found (λ f. RootsDiffer before.now after.now)) }
     ensures some { I.told i.old → GivesRoots segments.now (I.intervals i.old) first before.now
         → RootsDiffer before.now after.now → IfOk result IsSome }
     ensures sound { I.told i.old → GivesRoots segments.now (I.intervals i.old) first before.now → (ci : ℕ)
@@ -253,6 +256,7 @@ pub(crate) fn find_change<'a, I: Intervals>(
         (I.intervals i.old) (root_of shape.now (I.intervals i.old) anchor) before.now after.now f.segment f.at
         (says_of f))) }
     ensures fits { IfOk result (λ found. IfSome found (FitsType segments.now)) }
+    ensures differ { IfOk result (λ found. IfSome found (λ f. RootsDiffer before.now after.now)) }
     ensures some { I.told i.old → HasRoots shape.now segments.now (I.intervals i.old) anchor before.now
         → RootsDiffer before.now after.now → IfOk result IsSome }
     ensures sound { I.told i.old → HasRoots shape.now segments.now (I.intervals i.old) anchor before.now → (ci : ℕ)

@@ -5,12 +5,15 @@
 //!
 //! A pointer is the number of an interval and a place in it. `load` follows the pointers from an anchor's root anchor
 //! point, in hierarchical order, and meets no element twice. `store` gives an anchor other roots, in the elements that
-//! it had and in new ones; `rewrite` puts the one element in which these differ from those that it has.
+//! it had and in new ones; `rewrite` puts the one element in which these differ from those that it has, or the one that
+//! comes and the pointer to it.
 #![tactic(auto)]
 
 mod anchor;
 mod building;
+mod filling;
 mod finding;
+mod gaps;
 mod holding;
 mod laws;
 mod loading;

@@ -1,7 +1,7 @@
 //! Roots are changed in place.
 //!
-//! Where an anchor's old and new roots differ in one segment, that one's element alone is put. Else the anchor is
-//! stored.
+//! Where an anchor's old and new roots differ in one segment, that one's element alone is put. Where the new ones have
+//! one segment more, it is put into a new element, and the pointer to it. Else the anchor is stored.
 
 ghost use Rattle.std.specs.Prelude.{◌≡◌, ◌≢◌, ◌↔◌, ◌<◌, ◌≤◌, ℕ, List, Err, IfOk, OnOk, IsOk, IsErrOf, IsTrue, true, false};
 ghost use Rattle.ci_space.specs.Calls.{Rose, GoesOn};
@@ -11,11 +11,15 @@ ghost use Rattle.anchor_elements.specs.Puts.{PutsSegment};
 ghost use Rattle.root_anchor.specs.Chains.{anchor_count};
 ghost use Rattle.root_anchor.specs.Damage.{ChainFails};
 ghost use Rattle.root_changes.specs.Differing.{RootsDiffer};
+ghost use Rattle.root_changes.specs.Gaining.{RootsGain};
 ghost use Rattle.root_anchor.specs.Differing.{ChangesAlone};
 ghost use Rattle.root_anchor.specs.Finding.{FitsType, says_of};
 ghost use Rattle.root_anchor.specs.Formed.{IsFormed, HasChain, HasRoots};
+ghost use Rattle.root_anchor.specs.Gaps.{FewChange, SegmentsStay};
 ghost use Rattle.root_anchor.specs.Stored.{are_storable, ApartKeep, OthersKeep, KeepsSequential};
 
+use crate::building::Home;
+use crate::filling::set_more;
 use crate::finding::{Found, find_change};
 use crate::holding::{Begun, begin, rest, settle};
 use crate::newest::pointers_of;
@@ -74,6 +78,7 @@ pub(crate) fn set_alone<I: Intervals>(
     ensures set { I.told i.old → IfOk result (λ set. set ≡ true
         → ChangesAlone shape.now segments.now (I.intervals i.old) (I.intervals i.new) anchor before.now after.now) }
     ensures same { I.told i.old → IfOk result (λ set. set ≡ false → I.intervals i.new ≡ I.intervals i.old) }
+    ensures differ { IfOk result (λ set. set ≡ true → RootsDiffer before.now after.now) }
     ensures alone { I.told i.old → HasRoots shape.now segments.now (I.intervals i.old) anchor before.now
         → RootsDiffer before.now after.now → IfOk result (λ set. set ≡ true) }
     ensures sound { I.told i.old → (ci : ℕ) → result ≢ Err (AnchorFault.Damaged ci) }
@@ -127,6 +132,15 @@ fn rewrite_held<I: Intervals>(
         → OnOk result (ChangesAlone shape.now segments.now (I.intervals i.old) (I.intervals i.new) anchor before.now
         after.now) }
 
+    // And where the new list has one segment more, at most four intervals change, and each segment stays in its
+    // element.
+    ensures few { I.told i.old → HasRoots shape.now segments.now (I.intervals i.old) anchor before.now
+        → IsInOrder shape.now (I.intervals i.old) → RootsGain before.now after.now
+        → OnOk result (FewChange (I.intervals i.old) (I.intervals i.new)) }
+    ensures stay { I.told i.old → HasRoots shape.now segments.now (I.intervals i.old) anchor before.now
+        → IsInOrder shape.now (I.intervals i.old) → RootsGain before.now after.now
+        → OnOk result (SegmentsStay segments.now (I.intervals i.old) (I.intervals i.new)) }
+
     // Whatever roots it has.
     ensures sequential { I.told i.old → IsFormed shape.now segments.now (I.intervals i.old)
         → OnOk result (KeepsSequential shape.now (I.intervals i.old) (I.intervals i.new)) }
@@ -147,6 +161,15 @@ fn rewrite_held<I: Intervals>(
     if alone {
         return Ok(());
     }
+    let home = Home {
+        shape,
+        segments,
+        anchor,
+    };
+    let more = set_more(alloc, i, &home, before, after)?;
+    if more {
+        return Ok(());
+    }
     store_held(alloc, i, shape, segments, anchor, after)
 }
 
@@ -162,10 +185,13 @@ fn are_same(roots: &List<Root>, others: &List<Root>) -> bool
 
 /// Gives an anchor roots in the place of those that it has, as `store` does. Where the two lists differ in one
 /// segment's bytes, or in one root's newest serial, that one's element alone changes, and no interval is added. Where
-/// they are the same, nothing is read or put. An anchor is counted from 0 within its area.
+/// the new list has one segment more, with none below it, at most four intervals change: control, the first base
+/// interval of the unit of work, that of the new element and that of the pointer to it. Where the lists are the same,
+/// nothing is read or put. An anchor is counted from 0 within its area.
 ///
 /// An element that changes alone costs one `get` for the anchor's base interval, and one for each other interval that
-/// holds a root up to its own, or on a level below a twin up to the segment's own.
+/// holds a root up to its own, or on a level below a twin up to the segment's own. For one segment more each interval of
+/// the anchor is got once.
 ///
 /// `Damaged` and `Failed` as in `store`. After a fault what holds the intervals is thrown away.
 pub fn rewrite<I: Intervals>(
@@ -201,6 +227,15 @@ pub fn rewrite<I: Intervals>(
         → RootsDiffer before.now after.now
         → OnOk result (ChangesAlone shape.now segments.now (I.intervals i.old) (I.intervals i.new) anchor before.now
         after.now) }
+
+    // And where the new list has one segment more, at most four intervals change, and each segment stays in its
+    // element.
+    ensures few { I.told i.old → HasRoots shape.now segments.now (I.intervals i.old) anchor before.now
+        → IsInOrder shape.now (I.intervals i.old) → RootsGain before.now after.now
+        → OnOk result (FewChange (I.intervals i.old) (I.intervals i.new)) }
+    ensures stay { I.told i.old → HasRoots shape.now segments.now (I.intervals i.old) anchor before.now
+        → IsInOrder shape.now (I.intervals i.old) → RootsGain before.now after.now
+        → OnOk result (SegmentsStay segments.now (I.intervals i.old) (I.intervals i.new)) }
 
     // And where they are the same, nothing changes.
     ensures done { before.now ≡ after.now → IsOk result }

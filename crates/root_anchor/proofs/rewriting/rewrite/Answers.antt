@@ -10,13 +10,13 @@ use Rattle.held_intervals.proofs.Holds.{held_number, on_settled}
 use Rattle.root_anchor.specs.Damage.{ChainFails}
 use Rattle.root_anchor.specs.Differing.{ChangesAlone}
 use Rattle.root_anchor.specs.Formed.{IsFormed, HasChain, HasRoots}
+use Rattle.root_anchor.specs.Gaps.{FewChange, SegmentsStay}
 use Rattle.root_anchor.specs.Stored.{ApartKeep, OthersKeep, KeepsSequential}
 use Rattle.root_changes.proofs.ComparingLemmas.{roots_apart, same_there}
+use Rattle.root_anchor.proofs.FillLemmas.{none_changes, none_stays}
 use Rattle.root_anchor.proofs.HeldLemmas.{starts}
 use Rattle.root_anchor.proofs.Sound.{chain_sound}
 use Rattle.root_anchor.proofs.rewriting.rewrite.Goals as goal
-
--- ---- lists that are the same
 
 -- ---- lists that are the same
 
@@ -24,6 +24,12 @@ pub returns-then-are_same-clause-alone : goal.returns-then-are_same-clause-alone
 returns-then-are_same-clause-alone g c = λ told has differ.
     let same : c.args.before.now ≡ c.args.after.now = c.are_same.ensures.0 c.if-are_same.true in
     absurd (roots_apart differ.differ.x differ.differ.y differ.differ.differ (same_there differ.differ.at same))
+
+pub returns-then-are_same-clause-few : goal.returns-then-are_same-clause-few
+returns-then-are_same-clause-few g c = λ told has order gain. none_changes (g.I.Intervals.intervals c.args.i.now)
+
+pub returns-then-are_same-clause-stay : goal.returns-then-are_same-clause-stay
+returns-then-are_same-clause-stay g c = λ told has order gain. none_stays c.args.segments.now (g.I.Intervals.intervals c.args.i.now)
 
 -- ---- lists that differ
 
@@ -131,6 +137,46 @@ returns-clause-alone g c = λ told has differ.
     let made = subst (λ b. OnOk c.rewrite_held-rewritten.result (ChangesAlone c.args.shape.now c.args.segments.now b next c.args.anchor c.args.before.now c.args.after.now)) b.over
     (c.rewrite_held-rewritten.ensures.alone b.told_held (subst (λ a. HasRoots c.args.shape.now c.args.segments.now a c.args.anchor c.args.before.now) (sym b.over) has) differ) in
     let x = on_settled c.settle-result.result c.rewrite_held-rewritten.result _ _ (λ a. ChangesAlone c.args.shape.now c.args.segments.now (g.I.Intervals.intervals c.args.i.now) a c.args.anchor c.args.before.now c.args.after.now)
+    c.settle-result.ensures.done done made in
+    search rules
+
+pub returns-clause-few : goal.returns-clause-few
+returns-clause-few g c = λ told has order gain.
+    let q = c.new-held.result in
+    let n = c.rewrite_held-rewritten.new.i in
+    let b = starts c.begin.ensures.look c.new-held.ensures.under (c.new-held.ensures.size ∙ c.in_ok-size.ensures.size)
+    (subst (λ m. AreRead (get nat_cmp m) (g.I.Intervals.intervals c.args.i.now)) (sym c.new-held.ensures.read)
+    (c.in_ok-size.ensures.read told)) c.new-held.ensures.none_changed g.met.I.Intervals.numbered told in
+    let kept = c.rewrite_held-rewritten.ensures.goes_on.known q
+    (refl, keeps_itself _ _ _ _ _ _ q.under.now q.size (get nat_cmp q.changed)) in
+    let next : List (List ℕ) = overlaid (g.I.Intervals.number n.under.now) (get nat_cmp n.changed)
+    (g.I.Intervals.intervals n.under.now) in
+    let done = c.settle-result.ensures.put (kept.1.area.tells b.told_held.0) in
+    let name = kept.0 ∙ c.new-held.ensures.same_area in
+    let made = subst (λ b. OnOk c.rewrite_held-rewritten.result (FewChange b next)) b.over
+    (c.rewrite_held-rewritten.ensures.few b.told_held (subst (λ a. HasRoots c.args.shape.now c.args.segments.now a c.args.anchor c.args.before.now) (sym b.over) has)
+    (subst (λ a. IsInOrder c.args.shape.now a) (sym b.over) order) gain) in
+    let x = on_settled c.settle-result.result c.rewrite_held-rewritten.result _ _ (λ a. FewChange (g.I.Intervals.intervals c.args.i.now) a)
+    c.settle-result.ensures.done done made in
+    search rules
+
+pub returns-clause-stay : goal.returns-clause-stay
+returns-clause-stay g c = λ told has order gain.
+    let q = c.new-held.result in
+    let n = c.rewrite_held-rewritten.new.i in
+    let b = starts c.begin.ensures.look c.new-held.ensures.under (c.new-held.ensures.size ∙ c.in_ok-size.ensures.size)
+    (subst (λ m. AreRead (get nat_cmp m) (g.I.Intervals.intervals c.args.i.now)) (sym c.new-held.ensures.read)
+    (c.in_ok-size.ensures.read told)) c.new-held.ensures.none_changed g.met.I.Intervals.numbered told in
+    let kept = c.rewrite_held-rewritten.ensures.goes_on.known q
+    (refl, keeps_itself _ _ _ _ _ _ q.under.now q.size (get nat_cmp q.changed)) in
+    let next : List (List ℕ) = overlaid (g.I.Intervals.number n.under.now) (get nat_cmp n.changed)
+    (g.I.Intervals.intervals n.under.now) in
+    let done = c.settle-result.ensures.put (kept.1.area.tells b.told_held.0) in
+    let name = kept.0 ∙ c.new-held.ensures.same_area in
+    let made = subst (λ b. OnOk c.rewrite_held-rewritten.result (SegmentsStay c.args.segments.now b next)) b.over
+    (c.rewrite_held-rewritten.ensures.stay b.told_held (subst (λ a. HasRoots c.args.shape.now c.args.segments.now a c.args.anchor c.args.before.now) (sym b.over) has)
+    (subst (λ a. IsInOrder c.args.shape.now a) (sym b.over) order) gain) in
+    let x = on_settled c.settle-result.result c.rewrite_held-rewritten.result _ _ (λ a. SegmentsStay c.args.segments.now (g.I.Intervals.intervals c.args.i.now) a)
     c.settle-result.ensures.done done made in
     search rules
 

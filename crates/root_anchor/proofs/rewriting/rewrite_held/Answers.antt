@@ -1,10 +1,13 @@
-use Rattle.std.proofs.Common.{OnOk, sym, subst}
+use Rattle.std.proofs.Common.{OnOk, ◌∙◌, sym, subst}
 use Rattle.std.proofs.lemmas.Result.{err_from_is_err_and}
 use Rattle.ci_overflow.specs.Lists.{IsInOrder}
 use Rattle.root_anchor.specs.Damage.{ChainFails}
-use Rattle.root_anchor.specs.Formed.{IsFormed, HasChain}
+use Rattle.root_anchor.specs.Formed.{IsFormed, HasChain, HasRoots}
+use Rattle.root_anchor.specs.Gaps.{FewChange, SegmentsStay}
 use Rattle.root_anchor.specs.Stored.{ApartKeep, OthersKeep, KeepsSequential}
 use Rattle.root_anchor.proofs.AloneLemmas.{alone_stored, alone_others, alone_apart, alone_formed, alone_sequential}
+use Rattle.root_anchor.proofs.ChangeLemmas.{roots_exclusive}
+use Rattle.root_anchor.proofs.FillLemmas.{alone_few, refill_stores, refill_apart}
 use Rattle.root_anchor.proofs.rewriting.rewrite_held.Goals as goal
 
 pub returns-in_err-alone-clause-sound : goal.returns-in_err-alone-clause-sound
@@ -42,32 +45,130 @@ pub returns-then-alone-clause-sequential : goal.returns-then-alone-clause-sequen
 returns-then-alone-clause-sequential g c = λ told formed. alone_sequential c.args.shape.now c.args.segments.now _ _
     c.args.anchor c.args.before.now c.args.after.now (c.in_ok-alone.ensures.set told c.if-alone.true) formed.in_order
 
+pub returns-then-alone-clause-few : goal.returns-then-alone-clause-few
+returns-then-alone-clause-few g c = λ told has order gain. alone_few c.args.shape.now c.args.segments.now _ _
+    c.args.anchor c.args.before.now c.args.after.now (c.in_ok-alone.ensures.set told c.if-alone.true)
+
+pub returns-then-alone-clause-stay : goal.returns-then-alone-clause-stay
+returns-then-alone-clause-stay g c = λ told has order gain. absurd (roots_exclusive c.args.before.now c.args.after.now gain
+    (c.in_ok-alone.ensures.differ c.if-alone.true))
+
+-- ---- one segment more
+
+pub returns-in_err-more-clause-sound : goal.returns-in_err-more-clause-sound
+returns-in_err-more-clause-sound g c = λ told order chain ci e.
+    let p = err_from_is_err_and c.from_residual-in_err-more.result c.from_residual-in_err-more.ensures.1 in
+    let same = c.in_ok-alone.ensures.same told c.if-alone.false in
+    c.set_more.ensures.sound (c.set_alone.ensures.goes_on.tells told)
+    (subst (λ a. IsInOrder c.args.shape.now a) (sym same) order)
+    (subst (λ a. HasChain c.args.shape.now c.args.segments.now a c.args.anchor) (sym same) chain) ci
+    (cc (p.1, p.2, c.in_err-more.was))
+
+pub returns-in_err-more-clause-damaged : goal.returns-in_err-more-clause-damaged
+returns-in_err-more-clause-damaged g c = λ told none ci e.
+    let p = err_from_is_err_and c.from_residual-in_err-more.result c.from_residual-in_err-more.ensures.1 in
+    let same = c.in_ok-alone.ensures.same told c.if-alone.false in
+    subst (λ a. ChainFails c.args.shape.now c.args.segments.now a c.args.anchor ci) same
+    (c.set_more.ensures.damaged (c.set_alone.ensures.goes_on.tells told)
+    (subst (λ a. ¬ HasChain c.args.shape.now c.args.segments.now a c.args.anchor) (sym same) none) ci
+    (cc (p.1, p.2, c.in_err-more.was)))
+
+pub returns-then-more-clause-stored : goal.returns-then-more-clause-stored
+returns-then-more-clause-stored g c = λ told has formed.
+    let same = c.in_ok-alone.ensures.same told c.if-alone.false in
+    let told1 = c.set_alone.ensures.goes_on.tells told in
+    let r = c.in_ok-more.ensures.refills told1 (subst (λ a. IsInOrder c.args.shape.now a) (sym same) formed.in_order)
+    c.if-more.true in
+    (refill_stores c.args.shape.now c.args.segments.now _ _ _ c.args.anchor c.args.after.now same c.requires.anchor formed
+    r).stored
+
+pub returns-then-more-clause-others : goal.returns-then-more-clause-others
+returns-then-more-clause-others g c = λ told has formed.
+    let same = c.in_ok-alone.ensures.same told c.if-alone.false in
+    let told1 = c.set_alone.ensures.goes_on.tells told in
+    let r = c.in_ok-more.ensures.refills told1 (subst (λ a. IsInOrder c.args.shape.now a) (sym same) formed.in_order)
+    c.if-more.true in
+    (refill_stores c.args.shape.now c.args.segments.now _ _ _ c.args.anchor c.args.after.now same c.requires.anchor formed
+    r).others
+
+pub returns-then-more-clause-formed : goal.returns-then-more-clause-formed
+returns-then-more-clause-formed g c = λ told has formed.
+    let same = c.in_ok-alone.ensures.same told c.if-alone.false in
+    let told1 = c.set_alone.ensures.goes_on.tells told in
+    let r = c.in_ok-more.ensures.refills told1 (subst (λ a. IsInOrder c.args.shape.now a) (sym same) formed.in_order)
+    c.if-more.true in
+    (refill_stores c.args.shape.now c.args.segments.now _ _ _ c.args.anchor c.args.after.now same c.requires.anchor formed
+    r).formed
+
+pub returns-then-more-clause-sequential : goal.returns-then-more-clause-sequential
+returns-then-more-clause-sequential g c = λ told formed.
+    let same = c.in_ok-alone.ensures.same told c.if-alone.false in
+    let told1 = c.set_alone.ensures.goes_on.tells told in
+    let r = c.in_ok-more.ensures.refills told1 (subst (λ a. IsInOrder c.args.shape.now a) (sym same) formed.in_order)
+    c.if-more.true in
+    (refill_stores c.args.shape.now c.args.segments.now _ _ _ c.args.anchor c.args.after.now same c.requires.anchor formed
+    r).sequential
+
+pub returns-then-more-clause-apart : goal.returns-then-more-clause-apart
+returns-then-more-clause-apart g c = λ told has order.
+    let same = c.in_ok-alone.ensures.same told c.if-alone.false in
+    let told1 = c.set_alone.ensures.goes_on.tells told in
+    let r = c.in_ok-more.ensures.refills told1 (subst (λ a. IsInOrder c.args.shape.now a) (sym same) order)
+    c.if-more.true in
+    refill_apart c.args.shape.now c.args.segments.now _ _ _ c.args.anchor c.args.after.now same c.requires.anchor r
+
+pub returns-then-more-clause-alone : goal.returns-then-more-clause-alone
+returns-then-more-clause-alone g c = λ told has differ.
+    let yes = c.in_ok-alone.ensures.alone told has differ in
+    let no = c.if-alone.false in
+    absurd (cc)
+
+pub returns-then-more-clause-few : goal.returns-then-more-clause-few
+returns-then-more-clause-few g c = λ told has order gain.
+    let same = c.in_ok-alone.ensures.same told c.if-alone.false in
+    let told1 = c.set_alone.ensures.goes_on.tells told in
+    subst (λ a. FewChange a (g.I.Intervals.intervals c.set_more.new.i)) same
+    (c.in_ok-more.ensures.few told1 (subst (λ a. IsInOrder c.args.shape.now a) (sym same) order) c.if-more.true)
+
+pub returns-then-more-clause-stay : goal.returns-then-more-clause-stay
+returns-then-more-clause-stay g c = λ told has order gain.
+    let same = c.in_ok-alone.ensures.same told c.if-alone.false in
+    let told1 = c.set_alone.ensures.goes_on.tells told in
+    subst (λ a. SegmentsStay c.args.segments.now a (g.I.Intervals.intervals c.set_more.new.i)) same
+    (c.in_ok-more.ensures.stay told1 (subst (λ a. IsInOrder c.args.shape.now a) (sym same) order) c.if-more.true)
+
+-- ---- else
+
 pub returns-clause-stored : goal.returns-clause-stored
 returns-clause-stored g c = λ told has formed.
-    let same = c.in_ok-alone.ensures.same told c.if-alone.false in
-    c.store_held.ensures.stored (c.set_alone.ensures.goes_on.tells told)
+    let told1 = c.set_alone.ensures.goes_on.tells told in
+    let same = c.in_ok-more.ensures.same told1 c.if-more.false ∙ c.in_ok-alone.ensures.same told c.if-alone.false in
+    c.store_held.ensures.stored (c.set_more.ensures.goes_on.tells told1)
     (subst (λ a. IsFormed c.args.shape.now c.args.segments.now a) (sym same) formed)
 
 pub returns-clause-others : goal.returns-clause-others
 returns-clause-others g c = λ told has formed.
-    let same = c.in_ok-alone.ensures.same told c.if-alone.false in
+    let told1 = c.set_alone.ensures.goes_on.tells told in
+    let same = c.in_ok-more.ensures.same told1 c.if-more.false ∙ c.in_ok-alone.ensures.same told c.if-alone.false in
     subst (λ a. OnOk c.store_held.result (OthersKeep c.args.shape.now c.args.segments.now a
     (g.I.Intervals.intervals c.store_held.new.i) c.args.anchor)) same
-    (c.store_held.ensures.others (c.set_alone.ensures.goes_on.tells told)
+    (c.store_held.ensures.others (c.set_more.ensures.goes_on.tells told1)
     (subst (λ a. IsFormed c.args.shape.now c.args.segments.now a) (sym same) formed))
 
 pub returns-clause-apart : goal.returns-clause-apart
 returns-clause-apart g c = λ told has order.
-    let same = c.in_ok-alone.ensures.same told c.if-alone.false in
+    let told1 = c.set_alone.ensures.goes_on.tells told in
+    let same = c.in_ok-more.ensures.same told1 c.if-more.false ∙ c.in_ok-alone.ensures.same told c.if-alone.false in
     subst (λ a. OnOk c.store_held.result (ApartKeep c.args.shape.now c.args.segments.now a
     (g.I.Intervals.intervals c.store_held.new.i) c.args.anchor)) same
-    (c.store_held.ensures.apart (c.set_alone.ensures.goes_on.tells told)
+    (c.store_held.ensures.apart (c.set_more.ensures.goes_on.tells told1)
     (subst (λ a. IsInOrder c.args.shape.now a) (sym same) order))
 
 pub returns-clause-formed : goal.returns-clause-formed
 returns-clause-formed g c = λ told has formed.
-    let same = c.in_ok-alone.ensures.same told c.if-alone.false in
-    c.store_held.ensures.formed (c.set_alone.ensures.goes_on.tells told)
+    let told1 = c.set_alone.ensures.goes_on.tells told in
+    let same = c.in_ok-more.ensures.same told1 c.if-more.false ∙ c.in_ok-alone.ensures.same told c.if-alone.false in
+    c.store_held.ensures.formed (c.set_more.ensures.goes_on.tells told1)
     (subst (λ a. IsFormed c.args.shape.now c.args.segments.now a) (sym same) formed)
 
 pub returns-clause-alone : goal.returns-clause-alone
@@ -76,23 +177,44 @@ returns-clause-alone g c = λ told has differ.
     let no = c.if-alone.false in
     absurd (cc)
 
+pub returns-clause-few : goal.returns-clause-few
+returns-clause-few g c = λ told has order gain.
+    let same = c.in_ok-alone.ensures.same told c.if-alone.false in
+    let told1 = c.set_alone.ensures.goes_on.tells told in
+    let yes = c.in_ok-more.ensures.more told1
+    (subst (λ a. HasRoots c.args.shape.now c.args.segments.now a c.args.anchor c.args.before.now) (sym same) has) gain in
+    let no = c.if-more.false in
+    absurd (cc)
+
+pub returns-clause-stay : goal.returns-clause-stay
+returns-clause-stay g c = λ told has order gain.
+    let same = c.in_ok-alone.ensures.same told c.if-alone.false in
+    let told1 = c.set_alone.ensures.goes_on.tells told in
+    let yes = c.in_ok-more.ensures.more told1
+    (subst (λ a. HasRoots c.args.shape.now c.args.segments.now a c.args.anchor c.args.before.now) (sym same) has) gain in
+    let no = c.if-more.false in
+    absurd (cc)
+
 pub returns-clause-sequential : goal.returns-clause-sequential
 returns-clause-sequential g c = λ told formed.
-    let same = c.in_ok-alone.ensures.same told c.if-alone.false in
+    let told1 = c.set_alone.ensures.goes_on.tells told in
+    let same = c.in_ok-more.ensures.same told1 c.if-more.false ∙ c.in_ok-alone.ensures.same told c.if-alone.false in
     subst (λ a. OnOk c.store_held.result (KeepsSequential c.args.shape.now a (g.I.Intervals.intervals c.store_held.new.i))) same
-    (c.store_held.ensures.sequential (c.set_alone.ensures.goes_on.tells told)
+    (c.store_held.ensures.sequential (c.set_more.ensures.goes_on.tells told1)
     (subst (λ a. IsFormed c.args.shape.now c.args.segments.now a) (sym same) formed))
 
 pub returns-clause-sound : goal.returns-clause-sound
 returns-clause-sound g c = λ told order chain ci e.
-    let same = c.in_ok-alone.ensures.same told c.if-alone.false in
-    c.store_held.ensures.sound (c.set_alone.ensures.goes_on.tells told)
+    let told1 = c.set_alone.ensures.goes_on.tells told in
+    let same = c.in_ok-more.ensures.same told1 c.if-more.false ∙ c.in_ok-alone.ensures.same told c.if-alone.false in
+    c.store_held.ensures.sound (c.set_more.ensures.goes_on.tells told1)
     (subst (λ a. IsInOrder c.args.shape.now a) (sym same) order)
     (subst (λ a. HasChain c.args.shape.now c.args.segments.now a c.args.anchor) (sym same) chain) ci e
 
 pub returns-clause-damaged : goal.returns-clause-damaged
 returns-clause-damaged g c = λ told none ci e.
-    let same = c.in_ok-alone.ensures.same told c.if-alone.false in
+    let told1 = c.set_alone.ensures.goes_on.tells told in
+    let same = c.in_ok-more.ensures.same told1 c.if-more.false ∙ c.in_ok-alone.ensures.same told c.if-alone.false in
     subst (λ a. ChainFails c.args.shape.now c.args.segments.now a c.args.anchor ci) same
-    (c.store_held.ensures.damaged (c.set_alone.ensures.goes_on.tells told)
+    (c.store_held.ensures.damaged (c.set_more.ensures.goes_on.tells told1)
     (subst (λ a. ¬ HasChain c.args.shape.now c.args.segments.now a c.args.anchor) (sym same) none) ci e)

@@ -1,0 +1,11 @@
+use Rattle.std.proofs.Common.{◌≡◌, List, true}
+use Rattle.fp_model.specs.declared.definitions.SegDef.{SegDef}
+use Rattle.anchor_tests.specs.Families.{AreFamilyTypes}
+use Rattle.root_anchor.specs.Stored.{row_has_form}
+use Rattle.anchor_tests.proofs.gains.loans.Given as goal
+
+abbrev pub invariant-loop-key : goal.invariant-loop-key
+invariant-loop-key l = (types : List SegDef) → AreFamilyTypes types → row_has_form types 1 l.row ≡ true
+
+abbrev pub invariant-loop-key-2 : goal.invariant-loop-key-2
+invariant-loop-key-2 l = (types : List SegDef) → AreFamilyTypes types → row_has_form types 1 l.row ≡ true

@@ -1,0 +1,143 @@
+use Rattle.std.proofs.Common.{◌≡◌, ◌∙◌, ◌<◌, true, [], length, refl, sym, ap, subst, IfOk}
+use Rattle.std.proofs.lemmas.Option.{slice_get_within}
+use Rattle.std.proofs.lemmas.Result.{err_from_is_err_and}
+use Rattle.ci_overflow.specs.Lists.{IsInOrder}
+use Rattle.fp_model.specs.declared.database.Root.{Root}
+use Rattle.fp_model.specs.Order.{child_types}
+use Rattle.root_anchor.specs.Chains.{root_of}
+use Rattle.root_anchor.specs.Formed.{HasRoots}
+use Rattle.root_anchor.specs.Gaps.{AddsInFront, FewChange, SegmentsStay}
+use Rattle.root_anchor.specs.Rebuilding.{Rebuilds}
+use Rattle.root_anchor.specs.Standing.{AreStanding}
+use Rattle.root_anchor.specs.Stored.{is_storable}
+use Rattle.root_changes.proofs.GainingLemmas.{first_more, more_item}
+use Rattle.root_anchor.proofs.FillLemmas.{front_few, front_stay, front_rebuilds}
+use Rattle.root_anchor.proofs.GapPlaces.{root_new_read}
+use Rattle.root_anchor.proofs.TypeLemmas.{root_at, roots-root, rows-count}
+use Rattle.root_anchor.proofs.filling.add_missing.Goals as goal
+
+-- ---- a root in front of all others
+
+pub bounds-others-0 : goal.bounds-others-0
+bounds-others-0 g c =
+    let new = c.gain_of_roots-gain.ensures.tells.new 0 (c.is_in_front.ensures.0 c.if-is_in_front.true) in
+    let b : 0 < length c.args.others.now = slice_get_within c.args.others.now 0 new.item
+    (more_item c.args.roots.now c.args.others.now 0 new.item new.more) in
+    b
+
+pub add_in_front-requires-clause-root : goal.add_in_front-requires-clause-root
+add_in_front-requires-clause-root g c =
+    let new = c.gain_of_roots-gain.ensures.tells.new 0 (c.is_in_front.ensures.0 c.if-is_in_front.true) in
+    let b : 0 < length c.args.others.now = slice_get_within c.args.others.now 0 new.item
+    (more_item c.args.roots.now c.args.others.now 0 new.item new.more) in
+    ap (is_storable c.args.home.now.segments.now) c.index-others-0.is
+    ∙ root_at c.args.home.now.segments.now c.args.others.now 0 c.index-others-0.result c.requires.form b
+
+pub returns-in_err-add_in_front-clause-sound : goal.returns-in_err-add_in_front-clause-sound
+returns-in_err-add_in_front-clause-sound g c = λ told o has ci e.
+    let shape = c.args.home.now.shape.now in
+    let types = c.args.home.now.segments.now in
+    let anchor = c.args.home.now.anchor in
+    let told1 = c.root_anchor_point.ensures.look.goes_on.tells told in
+    let same = c.root_anchor_point.ensures.look.same told in
+    let order = subst (λ x. IsInOrder shape x) (sym same) o in
+    let p = err_from_is_err_and c.from_residual-in_err-add_in_front.result
+    c.from_residual-in_err-add_in_front.ensures.1 in
+    c.add_in_front.ensures.sound told1 order ci (cc (p.1, p.2, c.in_err-add_in_front.was))
+
+pub returns-then-is_in_front-clause-refills : goal.returns-then-is_in_front-clause-refills
+returns-then-is_in_front-clause-refills g c = λ told o all a has yes.
+    let shape = c.args.home.now.shape.now in
+    let types = c.args.home.now.segments.now in
+    let anchor = c.args.home.now.anchor in
+    let told1 = c.root_anchor_point.ensures.look.goes_on.tells told in
+    let same = c.root_anchor_point.ensures.look.same told in
+    let order = subst (λ x. IsInOrder shape x) (sym same) o in
+    let z : Root = c.index-others-0.result in
+    let new = root_new_read c.args.roots.now c.args.others.now 0 z
+    (c.gain_of_roots-gain.ensures.tells.new 0 (c.is_in_front.ensures.0 c.if-is_in_front.true)) c.index-others-0.is in
+    let adds = subst (λ x. AddsInFront shape types x (g.I.Intervals.intervals c.add_in_front.new.i) anchor
+    c.in_ok-first.first z) same (c.in_ok-add_in_front.ensures.filled told1 order) in
+    front_rebuilds shape types _ _ anchor all c.in_ok-first.first c.args.roots.now c.args.others.now z
+    (c.in_ok-first.ensures.root told) a has (first_more c.args.roots.now c.args.others.now 0 z new.more refl) new.bare
+    (rows-count types (child_types types 0) z.children
+    (roots-root types c.args.others.now 0 z c.requires.form new.within c.index-others-0.is).rows) adds
+
+pub returns-then-is_in_front-clause-few : goal.returns-then-is_in_front-clause-few
+returns-then-is_in_front-clause-few g c = λ told o yes.
+    let shape = c.args.home.now.shape.now in
+    let types = c.args.home.now.segments.now in
+    let anchor = c.args.home.now.anchor in
+    let told1 = c.root_anchor_point.ensures.look.goes_on.tells told in
+    let same = c.root_anchor_point.ensures.look.same told in
+    let order = subst (λ x. IsInOrder shape x) (sym same) o in
+    front_few shape types _ _ anchor c.in_ok-first.first c.index-others-0.result
+    (subst (λ x. AddsInFront shape types x (g.I.Intervals.intervals c.add_in_front.new.i) anchor
+    c.in_ok-first.first c.index-others-0.result) same (c.in_ok-add_in_front.ensures.filled told1 order))
+
+pub returns-then-is_in_front-clause-stay : goal.returns-then-is_in_front-clause-stay
+returns-then-is_in_front-clause-stay g c = λ told o yes.
+    let shape = c.args.home.now.shape.now in
+    let types = c.args.home.now.segments.now in
+    let anchor = c.args.home.now.anchor in
+    let told1 = c.root_anchor_point.ensures.look.goes_on.tells told in
+    let same = c.root_anchor_point.ensures.look.same told in
+    let order = subst (λ x. IsInOrder shape x) (sym same) o in
+    front_stay shape types _ _ anchor c.in_ok-first.first c.index-others-0.result
+    (subst (λ x. AddsInFront shape types x (g.I.Intervals.intervals c.add_in_front.new.i) anchor
+    c.in_ok-first.first c.index-others-0.result) same (c.in_ok-add_in_front.ensures.filled told1 order))
+
+-- ---- any other segment
+
+pub returns-clause-refills : goal.returns-clause-refills
+returns-clause-refills g c = λ told o all a has.
+    let shape = c.args.home.now.shape.now in
+    let types = c.args.home.now.segments.now in
+    let anchor = c.args.home.now.anchor in
+    let told1 = c.root_anchor_point.ensures.look.goes_on.tells told in
+    let same = c.root_anchor_point.ensures.look.same told in
+    let order = subst (λ x. IsInOrder shape x) (sym same) o in
+    let has1 = subst (λ x. HasRoots shape types x anchor c.args.roots.now) (sym same) has in
+    let first = c.in_ok-first.ensures.root told ∙ ap (λ x. root_of shape x anchor) (sym same) in
+    subst (λ x. IfOk c.add_behind.result (λ added. added ≡ true
+    → Rebuilds shape types x (g.I.Intervals.intervals c.add_behind.new.i) anchor [] all c.args.others.now)) same
+    (c.add_behind.ensures.refills told1 order all first (subst (λ x. AreStanding shape types x anchor all) (sym same) a)
+    has1)
+
+pub returns-clause-few : goal.returns-clause-few
+returns-clause-few g c = λ told o.
+    let shape = c.args.home.now.shape.now in
+    let types = c.args.home.now.segments.now in
+    let anchor = c.args.home.now.anchor in
+    let told1 = c.root_anchor_point.ensures.look.goes_on.tells told in
+    let same = c.root_anchor_point.ensures.look.same told in
+    let order = subst (λ x. IsInOrder shape x) (sym same) o in
+    subst (λ x. IfOk c.add_behind.result (λ added. added ≡ true → FewChange x
+    (g.I.Intervals.intervals c.add_behind.new.i))) same (c.add_behind.ensures.few told1 order)
+
+pub returns-clause-stay : goal.returns-clause-stay
+returns-clause-stay g c = λ told o.
+    let shape = c.args.home.now.shape.now in
+    let types = c.args.home.now.segments.now in
+    let anchor = c.args.home.now.anchor in
+    let told1 = c.root_anchor_point.ensures.look.goes_on.tells told in
+    let same = c.root_anchor_point.ensures.look.same told in
+    let order = subst (λ x. IsInOrder shape x) (sym same) o in
+    subst (λ x. IfOk c.add_behind.result (λ added. added ≡ true → SegmentsStay c.args.home.now.segments.now x
+    (g.I.Intervals.intervals c.add_behind.new.i))) same (c.add_behind.ensures.stay told1 order)
+
+pub returns-clause-some : goal.returns-clause-some
+returns-clause-some g c = λ gain. c.add_behind.ensures.some (λ e. c.gain_of_roots-gain.ensures.tells.none e gain)
+    (λ e. let yes = c.is_in_front.ensures.1 e in let no = c.if-is_in_front.false in absurd (cc))
+
+pub returns-clause-sound : goal.returns-clause-sound
+returns-clause-sound g c = λ told o has ci e.
+    let shape = c.args.home.now.shape.now in
+    let types = c.args.home.now.segments.now in
+    let anchor = c.args.home.now.anchor in
+    let told1 = c.root_anchor_point.ensures.look.goes_on.tells told in
+    let same = c.root_anchor_point.ensures.look.same told in
+    let order = subst (λ x. IsInOrder shape x) (sym same) o in
+    let has1 = subst (λ x. HasRoots shape types x anchor c.args.roots.now) (sym same) has in
+    let first = c.in_ok-first.ensures.root told ∙ ap (λ x. root_of shape x anchor) (sym same) in
+    c.add_behind.ensures.sound told1 order first has1 ci e

@@ -1,0 +1,29 @@
+use Rattle.ci_overflow.proofs.Joins.{on_ok-map}
+use Rattle.anchor_elements.specs.Reading.{segment_of}
+use Rattle.root_anchor.specs.Gaps.{AddsBehind}
+use Rattle.root_anchor.proofs.FillLemmas.{others_there}
+use Rattle.root_anchor.proofs.filling.fill.Goals as goal
+
+pub returns-clause-filled : goal.returns-clause-filled
+returns-clause-filled g c = λ told o h.
+    let adds = c.in_ok-at.ensures.adds told o in
+    let holder = c.args.gap.now.holder in
+    let there = others_there c.args.home.now.shape.now c.args.home.now.segments.now _ _ c.args.home.now.anchor
+    c.args.gap.now.added c.in_ok-at.at adds holder.segment holder.at (segment_of holder.said) h in
+    on_ok-map _ _ _ (λ put. (let made : AddsBehind c.args.home.now.shape.now c.args.home.now.segments.now
+    (g.I.Intervals.intervals c.args.i.now) (g.I.Intervals.intervals c.put_link.new.i) c.args.home.now.anchor
+    c.args.gap.now = record {
+      at = c.in_ok-at.at;
+      middle = g.I.Intervals.intervals c.add_segment.new.i;
+      adds = adds;
+      put = put;
+    } in made))
+    (c.put_link.ensures.put (c.add_segment.ensures.goes_on.tells told) there)
+
+pub returns-clause-sound : goal.returns-clause-sound
+returns-clause-sound g c = λ told o h ci e.
+    let adds = c.in_ok-at.ensures.adds told o in
+    let holder = c.args.gap.now.holder in
+    let there = others_there c.args.home.now.shape.now c.args.home.now.segments.now _ _ c.args.home.now.anchor
+    c.args.gap.now.added c.in_ok-at.at adds holder.segment holder.at (segment_of holder.said) h in
+    c.put_link.ensures.sound (c.add_segment.ensures.goes_on.tells told) there ci e
