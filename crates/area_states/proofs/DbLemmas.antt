@@ -1,6 +1,6 @@
 -- Changed anchors in the databases and in an area.
-use Rattle.std.proofs.Common.{◌≡◌, ◌≢◌, inl, inr, ℕ, zero, suc, ◌+◌, ◌-◌, ◌<◌, ◌≤◌, Bool, true, false, List, [], ◌∷◌, length, refl, sym, ◌∙◌, ap, subst, arith}
-use Rattle.std.specs.Prelude.{◌==◌, ◌&&◌, nat_le, nat_lt, Option, Some, None, fold, slice_get, slice_set, unwrap_or}
+use Rattle.std.proofs.Common.{◌≡◌, ◌≢◌, inl, inr, ℕ, zero, suc, ◌+◌, ◌-◌, ◌<◌, true, false, List, [], ◌∷◌, length, refl, sym, ◌∙◌, ap, subst, arith}
+use Rattle.std.specs.Prelude.{◌==◌, Option, Some, slice_get, slice_set, unwrap_or}
 use Rattle.std.specs.Option.{option_map_or}
 use Rattle.std.specs.List.{AllByRecursion}
 use Rattle.std.proofs.lemmas.Bool.{cases_Bool, cases_eq}
@@ -12,7 +12,6 @@ use Rattle.fp_model.specs.declared.database.Dedb.{Dedb}
 use Rattle.fp_model.specs.declared.database.Db.{Db}
 use Rattle.fp_model.specs.State.{first_ends, roots_at, with_roots}
 use Rattle.fp_model.specs.Commit.{with_anchors}
-use Rattle.root_anchor.specs.Chains.{anchor_count}
 use Rattle.area_states.specs.declared.place.Place.{Place}
 use Rattle.area_states.specs.Places.{has_anchor}
 use Rattle.area_states.specs.States.{AreaState, SameState}

@@ -1,5 +1,5 @@
 -- What stays where the sequential part of an area alone changes: its slots, and the two ends in control.
-use Rattle.std.proofs.Common.{◌≡◌, ◌≢◌, ◌⊎◌, inl, inr, ℕ, ◌+◌, ◌<◌, ◌≤◌, List, [], ◌∷◌, length, drop, Contains, refl, sym, ◌∙◌, ap, subst, arith}
+use Rattle.std.proofs.Common.{◌≡◌, ◌≢◌, ◌⊎◌, inl, inr, ℕ, ◌+◌, ◌<◌, ◌≤◌, List, length, drop, Contains, sym, ◌∙◌, ap, subst, arith}
 use Rattle.std.specs.Prelude.{slice_index}
 use Rattle.std.proofs.lemmas.Bool.{cases_lt}
 use Rattle.ci_space.specs.declared.intervals.Shape.{Shape}
@@ -15,10 +15,10 @@ use Rattle.ci_overflow.proofs.Orders.{list-stays}
 use Rattle.fp_model.specs.declared.definitions.SegDef.{SegDef}
 use Rattle.fp_model.specs.declared.database.Root.{Root}
 use Rattle.anchor_elements.specs.Elements.{Pointer, Segment, HasSegment}
-use Rattle.root_anchor.specs.Chains.{IsChain, anchor_count, root_of}
-use Rattle.root_anchor.specs.Formed.{IsFormed, HasChain, HasRoots, Meets}
+use Rattle.root_anchor.specs.Chains.{IsChain, anchor_count}
+use Rattle.root_anchor.specs.Formed.{IsFormed, HasRoots, Meets}
 use Rattle.root_anchor.proofs.LawLemmas.{chain_stays}
-use Rattle.root_anchor.proofs.OneChain.{one_chain, HasSome, chain_has}
+use Rattle.root_anchor.proofs.OneChain.{one_chain}
 use Rattle.root_anchor.proofs.PutLemmas.{base_kind, used_interval, within_area}
 
 -- Of control the two ends change, and of the other intervals at most the sequential ones, which stay in place.

@@ -1,12 +1,7 @@
 -- A serial is given: its slot is filled, and the end moves.
-use Rattle.std.proofs.Common.{◌≡◌, ◌≢◌, ◌⊎◌, inl, inr, ℕ, zero, suc, ◌+◌, ◌-◌, ◌^◌, ◌<◌, ◌≤◌, true, false, List, [], ◌∷◌, length, drop, get_or, All, refl, sym, ◌∙◌, ap, subst, arith}
-use Rattle.std.specs.Prelude.{◌==◌, slice_index}
+use Rattle.std.proofs.Common.{◌≡◌, ◌⊎◌, inl, inr, ℕ, ◌+◌, ◌-◌, ◌^◌, ◌<◌, ◌≤◌, List, [], length, drop, get_or, All, sym, ◌∙◌, ap, subst, arith}
+use Rattle.std.specs.Prelude.{slice_index}
 use Rattle.std.proofs.lemmas.Bool.{cases_lt}
-use Rattle.ci_space.specs.Interval.{IsInterval, kind_of}
-use Rattle.ci_space.specs.Head.{ends_of}
-use Rattle.ci_overflow.specs.Places.{first_sequential, first_independent, kind_at}
-use Rattle.ci_overflow.specs.Lists.{bytes_at, IsInPlace}
-use Rattle.fp_model.specs.declared.database.Root.{Root}
 use Rattle.seq_dependents.specs.declared.part.Part.{Part}
 use Rattle.seq_dependents.specs.Control.{IsKept, begin_in, end_in, begin_of, end_of}
 use Rattle.seq_dependents.specs.Puts.{Appends, IsTooMany, linked_to}

@@ -1,7 +1,7 @@
 -- A root's newest serial is set to one that was given.
-use Rattle.std.proofs.Common.{◌≡◌, ◌≢◌, ◌⊎◌, Option, inl, inr, ℕ, zero, suc, ◌+◌, ◌-◌, ◌<◌, ◌≤◌, Bool, true, false, List, [], ◌∷◌, length, map, get_or, All, Some, None, IfSome, IfNone, refl, sym, ◌∙◌, ap, subst, arith}
-use Rattle.std.specs.Prelude.{◌==◌, if◌then◌else◌, slice_get, slice_set}
-use Rattle.std.specs.List.{AllZip, AllByRecursion}
+use Rattle.std.proofs.Common.{◌≡◌, ◌⊎◌, Option, inl, inr, ℕ, zero, suc, ◌+◌, ◌-◌, ◌<◌, true, false, List, [], ◌∷◌, length, map, All, Some, None, IfSome, IfNone, refl, sym, ◌∙◌, ap, subst, arith}
+use Rattle.std.specs.Prelude.{◌==◌, slice_get, slice_set}
+use Rattle.std.specs.List.{AllZip}
 use Rattle.std.proofs.lemmas.Bool.{cases_Bool, cases_eq}
 use Rattle.std.proofs.lemmas.Bool.Decides.{nat_tests}
 use Rattle.std.proofs.lemmas.List.Elements.{All-cons}
@@ -21,18 +21,16 @@ use Rattle.root_anchor.specs.Chains.{AreRoots, no_root, root, anchor_count, newe
 use Rattle.root_anchor.specs.Formed.{HasChain, HasRoots}
 use Rattle.root_anchor.specs.Newest.{SetsNewest, with_newest as with_serial}
 use Rattle.root_anchor.specs.Roots.{AreSoMany, no_more, one_more, HasFewer}
-use Rattle.root_anchor.specs.Stored.{KeepsSequential, OthersKeep}
 use Rattle.root_anchor.proofs.NewestLemmas.{newest_chain, newest_formed, newest_others, root_has}
 use Rattle.root_anchor.proofs.OneChain.{none_at_nothing, one_chain, one_segment}
 use Rattle.root_anchor.proofs.PutLemmas.{put_keeps_sequential}
-use Rattle.seq_dependents.specs.declared.part.Part.{Part}
-use Rattle.seq_dependents.specs.Control.{IsKept, begin_of, end_of}
+use Rattle.seq_dependents.specs.Control.{begin_of, end_of}
 use Rattle.seq_dependents.specs.Down.{IsItem, IsDown}
 use Rattle.seq_dependents.specs.Puts.{Appends, IsTooMany}
 use Rattle.seq_dependents.specs.Slots.{IsHeld}
 use Rattle.area_states.specs.declared.finding.Found.{Found}
 use Rattle.area_states.specs.declared.place.Place.{Place}
-use Rattle.area_states.specs.Keys.{HasNewest, IsFound, IsRootOf, NoneHas}
+use Rattle.area_states.specs.Keys.{HasNewest, IsFound, NoneHas}
 use Rattle.area_states.specs.Places.{part_of, sequential_length, IsPlace, LiesIn}
 use Rattle.area_states.specs.States.{AreaState, HasAnchor, HasState, IsReadAs, newest_serial}
 use Rattle.area_states.specs.Changes.{AreOrdered, numbered_at, with_roots_at}
@@ -40,7 +38,7 @@ use Rattle.area_states.proofs.NewSerials.{Gives, ended_at, ends, given_held, giv
 use Rattle.area_states.proofs.Frames.{roots_on}
 use Rattle.area_states.proofs.KeyLemmas.{got_within, keys_same}
 use Rattle.area_states.proofs.Loops.{is_it, is_other}
-use Rattle.area_states.proofs.Lists.{GoesOnHolding, all_read_on, down_on, read_on}
+use Rattle.area_states.proofs.Lists.{GoesOnHolding, all_read_on, read_on}
 use Rattle.area_states.proofs.Readings.{newest_again}
 use Rattle.area_states.proofs.StateLemmas.{same_state, store_holds, store_whole, stored_end}
 
@@ -280,16 +278,17 @@ inserted place old mid new state i anchor found is below same was ordered at it 
         ap (λ b. key_in place.segments 0 b) r.1.1 in
         let has_key : same_text (root_key place.segments r.0) i.key ≡ true =
         subst (λ x. same_text x i.key ≡ true) (sym key) h.is_root.has_key in
-        let at_place = place_of_same (root_key place.segments) i.key roots n r.0 (ordered anchor) r.1.0 has_key in
-        let changed = changed_at (root_key place.segments) i.key change roots n r.0 (ordered anchor) at_place r.1.0
-        has_key in
+        let at_place = place_of_same (root_key place.segments) i.key roots n r.0 (ordered anchor below) r.1.0 has_key in
+        let changed = changed_at (root_key place.segments) i.key change roots n r.0 (ordered anchor below) at_place
+        r.1.0 has_key in
         done (slice_set roots n (change r.0)) (sym changed)
         (set_state place mid new (ended_at (state.end + 1) state) anchor n state.end found.newest (item_of state i)
-        at.kept k r.0 is below given (sets n e (not_fewer place mid anchor n at.kept k mid_kept h.is_root.is_there)) mid_kept h.is_root.is_there r.1.0 h.is_newest
+        at.kept k r.0 is below given (sets n e (not_fewer place mid anchor n at.kept k mid_kept h.is_root.is_there))
+        mid_kept h.is_root.is_there r.1.0 h.is_newest
         (given_item place old mid found.newest state i was it))
 
     kept_ascend : ascend (map (root_key place.segments) at.kept) ≡ true
-    kept_ascend = ap ascend (keys_same place old at.kept roots lists) ∙ ordered anchor
+    kept_ascend = ap ascend (keys_same place old at.kept roots lists) ∙ ordered anchor below
 
     without_root : found.number ≡ None → NoneHas place.segments i.key at.kept
         → HasState place new (numbered_at place i state)
@@ -410,10 +409,10 @@ same_keys types key item (r ∷ roots) = elim (cases_Bool (same_text (root_key t
 
 pub ordered_numbered : (place : Place) (i : SeqInsert) (state : AreaState) → AreOrdered place state
     → AreOrdered place (numbered_at place i state)
-ordered_numbered place i state ordered a = elim (cases_Bool (a == i.anchor - place.first_anchor)) [
+ordered_numbered place i state ordered a lt = elim (cases_Bool (a == i.anchor - place.first_anchor)) [
   | inl is ↦
       let e : a ≡ i.anchor - place.first_anchor = grind (arith, nat_tests) in
       rw is (ap ascend (same_keys place.segments i.key (item_of state i) (state.roots (i.anchor - place.first_anchor)))
-      ∙ ordered (i.anchor - place.first_anchor))
-  | inr other ↦ rw other (ordered a)
+      ∙ ordered (i.anchor - place.first_anchor) (omega (arith, e, lt)))
+  | inr other ↦ rw other (ordered a lt)
 ]

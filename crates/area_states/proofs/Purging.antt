@@ -1,25 +1,21 @@
 -- The begin of an area's sequential part moves.
-use Rattle.std.proofs.Common.{◌≡◌, ◌≢◌, inl, inr, ℕ, ◌+◌, ◌-◌, ◌<◌, ◌≤◌, Bool, true, false, List, [], ◌∷◌, length, drop, map, refl, sym, ◌∙◌, ap, subst, arith}
-use Rattle.std.specs.Prelude.{◌==◌, slice_index, filter, min, nat_le}
+use Rattle.std.proofs.Common.{◌≡◌, ◌≢◌, inl, inr, ℕ, ◌+◌, ◌<◌, ◌≤◌, false, List, [], ◌∷◌, length, drop, map, refl, sym, ◌∙◌, ap, subst, arith}
+use Rattle.std.specs.Prelude.{slice_index, filter, min, nat_le}
 use Rattle.std.specs.List.{AllZip}
 use Rattle.std.proofs.lemmas.Bool.{cases_Bool}
 use Rattle.std.proofs.lemmas.Bool.Decides.{nat_tests}
 use Rattle.ci_space.specs.Interval.{IsInterval, kind_of}
-use Rattle.ci_space.specs.Head.{ends_of}
-use Rattle.ci_overflow.specs.Places.{first_sequential, first_independent, kind_at}
-use Rattle.ci_overflow.specs.Lists.{bytes_at, IsInPlace}
 use Rattle.fp_model.specs.declared.database.Root.{Root}
 use Rattle.fp_model.specs.declared.database.SeqItem.{SeqItem}
 use Rattle.fp_model.specs.Commit.{kept_from}
-use Rattle.root_anchor.specs.Formed.{HasRoots}
 use Rattle.seq_dependents.specs.declared.part.Part.{Part}
-use Rattle.seq_dependents.specs.Control.{AreEnds, IsKept, PutsEnds, begin_in, end_in, begin_of, end_of}
+use Rattle.seq_dependents.specs.Control.{IsKept, PutsEnds, begin_in, end_in, begin_of, end_of}
 use Rattle.seq_dependents.specs.Slots.{IsHeld, IsSequential, interval_of, slot_in, slot_of}
 use Rattle.seq_dependents.specs.Down.{IsItem, IsDown}
 use Rattle.seq_dependents.proofs.Fillings.{interval_behind}
 use Rattle.area_states.specs.declared.place.Place.{Place}
 use Rattle.area_states.specs.Places.{part_of, IsPlace}
-use Rattle.area_states.specs.States.{AreaState, HasAnchor, HasState, IsReadAs, IsWholePart, newest_serial}
+use Rattle.area_states.specs.States.{AreaState, HasState, IsReadAs, IsWholePart, newest_serial}
 use Rattle.area_states.specs.Changes.{begun_at, purged}
 use Rattle.area_states.proofs.Frames.{PartAlone, formed_on, kind_bounds, roots_on}
 

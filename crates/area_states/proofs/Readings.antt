@@ -1,8 +1,8 @@
 -- A list, a root and an anchor are read in one way.
-use Rattle.std.proofs.Common.{◌≡◌, ◌⊎◌, inl, inr, ℕ, ◌+◌, ◌<◌, ◌≤◌, List, [], ◌∷◌, map, Contains, true, false, refl, sym, ◌∙◌, ap, subst, arith}
+use Rattle.std.proofs.Common.{◌≡◌, inl, inr, ℕ, ◌<◌, ◌≤◌, List, [], ◌∷◌, Contains, refl, sym, ◌∙◌, ap, subst, arith}
 use Rattle.std.specs.Prelude.{◌==◌}
 use Rattle.std.specs.List.{AllZip, AllByRecursion}
-use Rattle.std.proofs.lemmas.Bool.{cases_Bool, cases_eq}
+use Rattle.std.proofs.lemmas.Bool.{cases_Bool}
 use Rattle.std.proofs.lemmas.Bool.Decides.{nat_tests}
 use Rattle.fp_model.specs.declared.database.Node.{Node}
 use Rattle.fp_model.specs.declared.database.Root.{Root}
@@ -10,7 +10,6 @@ use Rattle.fp_model.specs.declared.database.SeqItem.{SeqItem}
 use Rattle.root_anchor.specs.Chains.{newest}
 use Rattle.seq_dependents.specs.declared.part.Part.{Part}
 use Rattle.seq_dependents.specs.Control.{IsKept, begin_of, end_of}
-use Rattle.seq_dependents.specs.Slots.{IsHeld, slot_of}
 use Rattle.seq_dependents.specs.Down.{IsItem, IsDown}
 use Rattle.area_states.specs.declared.place.Place.{Place}
 use Rattle.area_states.specs.Places.{part_of}

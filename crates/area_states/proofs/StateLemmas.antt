@@ -1,15 +1,12 @@
 -- The state of an area: that there is one, and what calls make of it.
-use Rattle.std.proofs.Common.{◌≡◌, ◌≢◌, inl, inr, ℕ, ◌+◌, ◌-◌, ◌<◌, ◌≤◌, Bool, true, false, List, [], ◌∷◌, length, map, refl, sym, ◌∙◌, ap, subst, arith}
-use Rattle.std.specs.Prelude.{◌==◌, slice_index}
+use Rattle.std.proofs.Common.{◌≡◌, inl, inr, ℕ, ◌<◌, ◌≤◌, true, false, List, length, sym, ◌∙◌, ap, subst, arith}
+use Rattle.std.specs.Prelude.{◌==◌}
 use Rattle.std.specs.List.{AllZip, AllByRecursion}
-use Rattle.std.proofs.lemmas.Bool.{cases_Bool, cases_eq}
-use Rattle.std.proofs.lemmas.Bool.Decides.{nat_tests}
+use Rattle.std.proofs.lemmas.Bool.{cases_eq}
 use Rattle.ci_space.specs.Interval.{IsInterval, kind_of}
-use Rattle.ci_space.specs.Head.{ends_of}
-use Rattle.ci_overflow.specs.Places.{first_sequential, first_independent, kind_at}
+use Rattle.ci_overflow.specs.Places.{first_sequential, first_independent}
 use Rattle.ci_overflow.specs.Lists.{bytes_at, IsInPlace}
 use Rattle.ci_overflow.specs.Rooms.{KeepsEnds}
-use Rattle.ci_overflow.proofs.Finds.{control-first}
 use Rattle.fp_model.specs.declared.database.Root.{Root}
 use Rattle.root_anchor.specs.Chains.{anchor_count}
 use Rattle.root_anchor.specs.Formed.{IsFormed, HasRoots}
@@ -17,8 +14,8 @@ use Rattle.root_anchor.specs.Stored.{OthersKeep, KeepsSequential}
 use Rattle.root_anchor.proofs.OneChain.{one_chain}
 use Rattle.seq_dependents.specs.declared.part.Part.{Part}
 use Rattle.seq_dependents.specs.Faults.{IsAtFault, in_control, misplaced, other_serial}
-use Rattle.seq_dependents.specs.Control.{AreEnds, IsControl, IsControlOf, IsKept, begin_in, end_in, begin_of, end_of}
-use Rattle.seq_dependents.specs.Slots.{HoldsCapacity, IsHeld, IsSequential, HasSerial, interval_of, slot_in, slot_of}
+use Rattle.seq_dependents.specs.Control.{AreEnds, IsKept, begin_in, end_in, begin_of, end_of}
+use Rattle.seq_dependents.specs.Slots.{HoldsCapacity, IsHeld, IsSequential, interval_of, slot_in, slot_of}
 use Rattle.seq_dependents.proofs.Fillings.{interval_behind, interval_before}
 use Rattle.area_states.specs.declared.place.Place.{Place}
 use Rattle.area_states.specs.Places.{part_of, IsPlace}

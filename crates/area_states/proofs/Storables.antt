@@ -1,8 +1,7 @@
 -- Roots that may be stored, as an anchor keeps them.
-use Rattle.std.proofs.Common.{◌≡◌, inl, inr, ℕ, zero, suc, ◌+◌, ◌<◌, Bool, true, false, List, [], ◌∷◌, ◌++◌, map, length, get_or, refl, sym, ◌∙◌, ap, subst, arith}
+use Rattle.std.proofs.Common.{◌≡◌, ℕ, zero, suc, ◌<◌, Bool, true, false, List, [], ◌∷◌, ◌++◌, map, length, get_or, refl, sym, subst, arith}
 use Rattle.std.specs.Prelude.{◌==◌, ◌&&◌, nat_lt}
 use Rattle.std.specs.List.{list_all}
-use Rattle.std.proofs.lemmas.Bool.{cases_Bool}
 use Rattle.std.proofs.lemmas.Bool.Decides.{nat_tests}
 use Rattle.fp_model.specs.declared.database.Root.{Root}
 use Rattle.fp_model.specs.declared.database.SeqItem.{SeqItem}
@@ -14,7 +13,6 @@ use Rattle.key_order.proofs.Ascending.{first_of, second_of}
 use Rattle.root_anchor.specs.Chains.{newest}
 use Rattle.root_anchor.specs.Stored.{are_storable, is_newest, is_storable, rows_have_form}
 use Rattle.area_states.specs.States.{newest_serial}
-use Rattle.area_states.specs.Changes.{kept_root}
 
 pub all_push : {X : Type 0} (test : X → Bool) (xs : List X) (x : X) → list_all test xs ≡ true → test x ≡ true
     → list_all test (xs ++ x ∷ []) ≡ true

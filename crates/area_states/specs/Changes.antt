@@ -1,5 +1,5 @@
 -- What a commit, and what a Purge, makes of the state of an area.
-use Rattle.std.specs.Prelude.{◌≡◌, ◌⊎◌, ⊤, ℕ, ◌+◌, ◌-◌, ◌<◌, Bool, true, false, ◌&&◌, ◌==◌, if◌then◌else◌, List, [], ◌∷◌, length, map, min, fold, filter, Contains}
+use Rattle.std.specs.Prelude.{◌≡◌, ◌⊎◌, ⊤, ℕ, ◌+◌, ◌-◌, ◌<◌, Bool, true, false, ◌==◌, if◌then◌else◌, List, [], ◌∷◌, length, map, min, fold, filter, Contains}
 use Rattle.std.specs.List.{AllByRecursion}
 use Rattle.fp_model.specs.declared.calls.AnchorChange.{AnchorChange}
 use Rattle.fp_model.specs.declared.calls.SeqInsert.{SeqInsert}
@@ -9,7 +9,7 @@ use Rattle.fp_model.specs.declared.database.SeqItem.{SeqItem}
 use Rattle.fp_model.specs.Commit.{is_too_full, with_newest, kept_from}
 use Rattle.fp_model.specs.Order.{root_key}
 use Rattle.fp_model.specs.State.{ascend, change_key}
-use Rattle.root_anchor.specs.Chains.{newest}
+use Rattle.root_anchor.specs.Chains.{anchor_count, newest}
 use Rattle.root_anchor.specs.Stored.{are_storable}
 use Rattle.area_states.specs.declared.place.Place.{Place}
 use Rattle.area_states.specs.Places.{has_anchor, sequential_length}
@@ -99,9 +99,11 @@ pub record IsTooFull (place : Place) (state : AreaState) (inserts : List SeqInse
   pub some : 0 < n
   pub too_full : is_too_full place.capacity (ends_of state) n ≡ true
 
--- the keys of an anchor's roots ascend
+-- the keys of the roots of each anchor ascend
 abbrev pub AreOrdered : Place → AreaState → Type 0
-AreOrdered place state = (anchor : ℕ) → ascend (map (root_key place.segments) (state.roots anchor)) ≡ true
+AreOrdered place state =
+    (anchor : ℕ) → anchor < anchor_count place.shape
+    → ascend (map (root_key place.segments) (state.roots anchor)) ≡ true
 
 -- ---- Purge
 

@@ -1,9 +1,8 @@
-use Rattle.std.proofs.Common.{◌≡◌, ◌∙◌, Err, ap, sym, subst}
+use Rattle.std.proofs.Common.{◌≡◌, ◌∙◌, Err, ap, subst}
 use Rattle.std.proofs.lemmas.Result.{err_from_is_err_and}
 use Rattle.anchor_elements.specs.declared.fault.AnchorFault.TheVariants.{Damaged as AnchorDamaged}
 use Rattle.root_anchor.proofs.Exits.{same_fault}
 use Rattle.seq_dependents.specs.declared.fault.SeqFault.TheVariants.{Damaged}
-use Rattle.seq_dependents.specs.Control.{begin_of, end_of}
 use Rattle.seq_dependents.specs.Puts.{IsTooMany}
 use Rattle.area_states.specs.Changes.{ends_of}
 use Rattle.area_states.specs.Keys.{IsFound}

@@ -1,4 +1,4 @@
-use Rattle.std.proofs.Common.{◌≡◌, ◌∙◌, ap, subst, length}
+use Rattle.std.proofs.Common.{◌∙◌, ap, subst, length}
 use Rattle.seq_dependents.specs.Faults.{IsAtFault}
 use Rattle.seq_dependents.specs.Puts.{IsFullOf, segment_size}
 use Rattle.seq_dependents.specs.Slots.{part_of as part_with}

@@ -1,4 +1,4 @@
-use Rattle.std.proofs.Common.{◌≡◌, ◌∙◌, sym, subst}
+use Rattle.std.proofs.Common.{◌∙◌, sym, subst}
 use Rattle.key_order.proofs.Ascending.{some_is}
 use Rattle.root_anchor.specs.Newest.{SetsNewest}
 use Rattle.root_anchor.specs.Roots.{HasFewer}

@@ -1,4 +1,4 @@
-use Rattle.std.proofs.Common.{◌≡◌, ◌<◌, ◌∙◌, Some, ap, sym, length, slice_get, arith}
+use Rattle.std.proofs.Common.{◌<◌, ◌∙◌, Some, ap, sym, length, arith}
 use Rattle.fp_model.specs.Order.{root_key}
 use Rattle.key_order.proofs.Ascending.{differs_there, past_none, stands_there}
 use Rattle.area_states.proofs.KeyLemmas.{none_of_key}

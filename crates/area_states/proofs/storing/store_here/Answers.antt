@@ -1,8 +1,7 @@
-use Rattle.std.proofs.Common.{rules, ◌∙◌, sym, subst, arith}
+use Rattle.std.proofs.Common.{◌∙◌, sym, subst}
 use Rattle.std.proofs.lemmas.Result.{err_from_is_err_and}
 use Rattle.anchor_elements.specs.Elements.{AreTypes}
 use Rattle.root_anchor.proofs.Exits.{same_fault}
-use Rattle.seq_dependents.specs.Control.{IsControlOf}
 use Rattle.area_states.proofs.Changing.{begin_stays, roots_stay, state_stays, stored_ok}
 use Rattle.area_states.proofs.storing.store_here.Goals as goal
 

@@ -1,0 +1,10 @@
+pub mod PlaceLemmas
+pub mod DedbLemmas
+pub mod InsertLemmas
+pub mod PurgeLemmas
+pub mod FullLemmas
+pub mod StartLemmas
+pub mod Areawise
+pub mod DefLemmas
+pub mod OrderLemmas
+pub mod FormLemmas
