@@ -1,5 +1,5 @@
 -- Items are applied to a pool, one after another.
-use Rattle.std.proofs.Common.{◌≡◌, inl, inr, ℕ, zero, suc, ◌+◌, ◌-◌, ◌*◌, ◌<◌, ◌≤◌, ◌^◌, Bool, true, false, ◌||◌, List, [], ◌∷◌, ◌++◌, length, take, drop, refl, sym, ◌∙◌, ap, subst, arith}
+use Rattle.std.proofs.Common.{◌≡◌, inl, inr, ℕ, zero, suc, ◌+◌, ◌-◌, ◌<◌, ◌^◌, Bool, true, false, ◌||◌, List, [], ◌∷◌, ◌++◌, length, take, drop, refl, sym, ◌∙◌, ap, subst, arith}
 use Rattle.std.specs.Prelude.{◌==◌, ◌&&◌, if◌then◌else◌, slice_get, Option, Some, None, IsSome}
 use Rattle.std.specs.List.{AllByRecursion}
 use Rattle.std.proofs.lemmas.Bool.{cases_Bool}
@@ -12,8 +12,8 @@ use Rattle.area_redo.proofs.Items.{redone_more, redone_none, names_more}
 use Rattle.ci_pool.specs.declared.cell.Waiting.{Waiting}
 use Rattle.ci_pool.specs.Cells.{renewed, renewed_by}
 use Rattle.ci_pool.specs.Held.{Held, pending_at, staged_at, HasSize}
-use Rattle.dedb_area.specs.declared.place.Place.{Place}
-use Rattle.dedb_area.specs.Places.{place_at}
+use Rattle.area_states.specs.declared.place.Place.{Place}
+use Rattle.area_states.specs.Places.{place_at}
 use Rattle.dedb_area.specs.Standing.{IsFitPool, IsUnstaged}
 use Rattle.dedb_area.specs.Applying.{pending_bytes, with_items_at, IsApplied, IsPended, EndsInTime, IsFitImage, LiesWithin, IsAppliable, IsWithoutImage, LacksImage}
 

@@ -1,6 +1,6 @@
 -- Data sets that are areas.
-use Rattle.std.proofs.Common.{◌≡◌, inl, inr, ℕ, ◌+◌, ◌-◌, ◌*◌, ◌<◌, ◌≤◌, zero, suc, length, Bool, true, false, List, [], ◌∷◌, subst, sym, ◌∙◌, ap, refl, arith}
-use Rattle.std.specs.Prelude.{nat_lt, if◌then◌else◌, slice_get, Option, Some, None, IsSome, IsTrue}
+use Rattle.std.proofs.Common.{◌≡◌, inl, inr, ℕ, ◌-◌, ◌*◌, ◌≤◌, zero, suc, length, List, [], ◌∷◌, subst, refl, arith}
+use Rattle.std.specs.Prelude.{nat_lt, slice_get, Option, Some, None, IsSome, IsTrue}
 use Rattle.std.proofs.lemmas.Bool.{cases_Bool}
 use Rattle.std.proofs.lemmas.Bool.Decides.{nat_tests}
 use Rattle.ci_space.specs.Interval.{is_size}
@@ -9,8 +9,8 @@ use Rattle.fp_model.specs.State.{first_area_set}
 use Rattle.ci_pool.specs.declared.cell.Waiting.{Waiting}
 use Rattle.ci_pool.specs.Held.{Held, pending_at, bytes_of, bytes_or, newest_in, HasSize}
 use Rattle.ci_pool.proofs.Ranges.{length_read}
-use Rattle.dedb_area.specs.declared.place.Place.{Place}
-use Rattle.dedb_area.specs.Places.{place_at, IsPlace, ArePlaces}
+use Rattle.area_states.specs.declared.place.Place.{Place}
+use Rattle.area_states.specs.Places.{place_at, IsPlace, ArePlaces}
 
 -- an area's data set is behind those of the log and the checkpoints
 pub area_behind : (places : List Place) (set : ℕ) → IsSome (place_at places set) → first_area_set ≤ set

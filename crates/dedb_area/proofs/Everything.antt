@@ -1,7 +1,7 @@
 -- Every pending interval is written, one after another.
-use Rattle.std.proofs.Common.{◌≡◌, ◌≢◌, ℕ, ◌+◌, ◌-◌, ◌^◌, ◌<◌, ◌≤◌, Bool, false, true, List, [], length, refl, sym, ◌∙◌, ap, subst, arith, length-append}
-use Rattle.std.specs.Prelude.{slice_get, Some, None, Option}
-use Rattle.fp_site.specs.Disk.{Disk, IsLawful, IsDurable}
+use Rattle.std.proofs.Common.{◌≡◌, ℕ, ◌+◌, ◌-◌, ◌^◌, ◌<◌, List, [], length, refl, ◌∙◌, ap, subst, arith, length-append}
+use Rattle.std.specs.Prelude.{Some, None, Option}
+use Rattle.fp_site.specs.Disk.{Disk}
 use Rattle.fp_site.proofs.Runs.{joined}
 use Rattle.fp_model.specs.Items.{items_of}
 use Rattle.area_redo.specs.Redo.{AreaBytes, AreRedone, RedoesThrough}
@@ -9,9 +9,9 @@ use Rattle.area_redo.specs.Standing.{Way, all_of, sealed_of, since_mark}
 use Rattle.area_redo.proofs.Dues.{names_within}
 use Rattle.ci_pool.specs.declared.cell.Waiting.{Waiting}
 use Rattle.ci_pool.specs.Held.{Held, pending_at, NoneSealed}
-use Rattle.dedb_area.specs.declared.place.Place.{Place}
-use Rattle.dedb_area.specs.Places.{layout_of}
-use Rattle.dedb_area.specs.Standing.{Holding, IsFitPool, due_of, AreasStand, AreasMayOpen}
+use Rattle.area_states.specs.declared.place.Place.{Place}
+use Rattle.area_states.specs.Places.{layout_of}
+use Rattle.dedb_area.specs.Standing.{Holding, IsFitPool, due_of, AreasStand}
 use Rattle.dedb_area.specs.Keeping.{KeepsAreas, NonePending}
 
 module _ (way : Way) (bytes : AreaBytes) where

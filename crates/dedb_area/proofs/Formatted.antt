@@ -1,6 +1,6 @@
 -- Areas are written as they start, one interval after another.
 use Rattle.std.proofs.Common.{◌≡◌, ◌≢◌, inl, inr, ℕ, zero, suc, ◌+◌, ◌*◌, ◌^◌, ◌<◌, ◌≤◌, List, [], ◌∷◌, length, refl, sym, ◌∙◌, ap, subst, arith}
-use Rattle.std.specs.Prelude.{◌-◌, nat_lt, if◌then◌else◌, slice_get, Option, Some, None, Result, Ok, Err, OnOk, IsTrue}
+use Rattle.std.specs.Prelude.{◌-◌, nat_lt, slice_get, Some, None, Result, Ok, Err, OnOk, IsTrue}
 use Rattle.std.proofs.lemmas.Bool.{cases_Bool, cases_eq}
 use Rattle.std.proofs.lemmas.Bool.Decides.{nat_tests}
 use Rattle.std.proofs.Math.Nat.{mul-le-mul_left}
@@ -12,9 +12,9 @@ use Rattle.ci_space.specs.Interval.{is_size}
 use Rattle.ci_overflow.specs.Places.{first_independent}
 use Rattle.area_redo.specs.Redo.{interval_in}
 use Rattle.area_redo.proofs.Places.{apart, interval_written, interval_other, written_reaches}
-use Rattle.dedb_area.specs.declared.place.Place.{Place}
+use Rattle.area_states.specs.declared.place.Place.{Place}
 use Rattle.fp_model.specs.State.{first_area_set}
-use Rattle.dedb_area.specs.Places.{place_at, IsPlace, ArePlaces}
+use Rattle.area_states.specs.Places.{place_at, IsPlace, ArePlaces}
 use Rattle.dedb_area.specs.Formatting.{StartsAs, IsStarted, IsFormatted}
 
 pub started_none : (shape : Shape) (contents : List ℕ) → IsStarted shape 0 contents

@@ -1,3 +1,5 @@
+pub mod Defined
+pub mod AnchorLemmas
 pub mod Owing
 pub mod Data
 pub mod Writes
@@ -10,3 +12,9 @@ pub mod Formatted
 pub mod Staged
 pub mod Flags
 pub mod Marks
+pub mod Published
+pub mod Entering
+pub mod Purges
+pub mod StagedPurge
+pub mod RangeLemmas
+pub mod PurgeEntry

@@ -1,8 +1,8 @@
 -- Calls that change no area, one after another.
-use Rattle.std.proofs.Common.{◌≡◌, ℕ, ◌+◌, ◌≤◌, Bool, List, refl, sym, ◌∙◌, ap, subst, arith}
+use Rattle.std.proofs.Common.{◌≡◌, ℕ, ◌+◌, Bool, List, refl, sym, ◌∙◌, ap, subst, arith}
 use Rattle.std.specs.Prelude.{Some}
 use mathlib.Core.Path.{fun_ext}
-use Rattle.fp_site.specs.Disk.{Disk, Stays, IsLawful}
+use Rattle.fp_site.specs.Disk.{Disk, IsLawful}
 use Rattle.fp_site.proofs.Runs.{stays_then}
 use Rattle.fp_site.proofs.Images.{durable_stays}
 use Rattle.fp_model.specs.Items.{items_of}
@@ -14,8 +14,8 @@ use Rattle.area_redo.proofs.Areas.{stays_spares, spared_through}
 use Rattle.area_redo.proofs.Opening.{spared, may_spared}
 use Rattle.ci_pool.specs.Cells.{cell_at}
 use Rattle.ci_pool.specs.Held.{Held, waiting_of, staged_of, pending_at, staged_at}
-use Rattle.dedb_area.specs.declared.place.Place.{Place}
-use Rattle.dedb_area.specs.Places.{place_at, layout_of}
+use Rattle.area_states.specs.declared.place.Place.{Place}
+use Rattle.area_states.specs.Places.{place_at, layout_of}
 use Rattle.dedb_area.specs.Standing.{Holding, IsFitPool, due_of, owed_of}
 use Rattle.dedb_area.specs.Keeping.{KeepsAreas}
 use Rattle.dedb_area.specs.Looking.{LooksAt, LooksAtAreas}
@@ -59,7 +59,7 @@ looks_as told disk faults holds keeps set set2 size size2 a b p q e e2 looks = r
 pub same_pending : (pool after : Held) → after.cells ≡ pool.cells → (s k : ℕ) → pending_at after s k ≡ pending_at pool s k
 same_pending pool after same s k = ap (λ cs. waiting_of (cell_at s k cs)) same
 
-same_staged : (pool after : Held) → after.cells ≡ pool.cells → (s k : ℕ) → staged_at after s k ≡ staged_at pool s k
+pub same_staged : (pool after : Held) → after.cells ≡ pool.cells → (s k : ℕ) → staged_at after s k ≡ staged_at pool s k
 same_staged pool after same s k = ap (λ cs. staged_of (cell_at s k cs)) same
 
 pub same_owed : (pool after : Held) → after.cells ≡ pool.cells → owed_of after ≡ owed_of pool

@@ -5,14 +5,11 @@ use Rattle.fp_site.specs.Disk.{Disk}
 use Rattle.fp_model.specs.declared.log.Entry.{Entry}
 use Rattle.fp_model.specs.Items.{items_of}
 use Rattle.area_redo.specs.Redo.{AreaBytes, names}
-use Rattle.area_redo.specs.Standing.{Way, behind, Stands}
-use Rattle.area_redo.specs.Steps.{with_mark, AreImaged}
+use Rattle.area_redo.specs.Standing.{Way}
+use Rattle.area_redo.specs.Steps.{with_mark}
 use Rattle.area_redo.proofs.Opening.{begun}
-use Rattle.ci_pool.specs.Held.{Held}
-use Rattle.dedb_area.specs.declared.place.Place.{Place}
-use Rattle.dedb_area.specs.Items.{is_imaged}
 use Rattle.dedb_area.specs.Keeping.{IsMarked}
-use Rattle.dedb_area.specs.Places.{layout_of}
+use Rattle.area_states.specs.Places.{layout_of}
 use Rattle.dedb_area.specs.Standing.{Holding, IsFitPool, PoolStands, AreSynced, AreasStand, owed_of}
 
 -- behind the mark there is no entry

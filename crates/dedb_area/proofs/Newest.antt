@@ -1,5 +1,5 @@
 -- What a pool and a site give of an interval are its newest bytes.
-use Rattle.std.proofs.Common.{◌≡◌, inl, inr, ℕ, ◌+◌, ◌<◌, ◌≤◌, true, false, List, length, refl, sym, ◌∙◌, ap, subst, arith}
+use Rattle.std.proofs.Common.{◌≡◌, inl, inr, ℕ, ◌+◌, ◌<◌, true, false, List, length, refl, sym, ◌∙◌, ap, subst, arith}
 use Rattle.std.specs.Prelude.{Option, Some, None, slice_index}
 use Rattle.std.proofs.lemmas.Bool.{cases_Bool, cases_lt}
 use Rattle.fp_site.specs.Disk.{Disk}
@@ -12,9 +12,9 @@ use Rattle.ci_pool.specs.declared.cell.Waiting.{Waiting}
 use Rattle.ci_pool.specs.Held.{Held, pending_at, bytes_of, bytes_or, interval_in, newest_in}
 use Rattle.ci_space.specs.Head.{ends_of}
 use Rattle.fp_model.specs.declared.database.AreaEnds.{AreaEnds}
-use Rattle.dedb_area.specs.declared.place.Place.{Place}
+use Rattle.area_states.specs.declared.place.Place.{Place}
 use Rattle.dedb_area.specs.Control.{ends_in}
-use Rattle.dedb_area.specs.Places.{place_at, size_of, counted_by, layout_of}
+use Rattle.area_states.specs.Places.{place_at, size_of, counted_by, layout_of}
 use Rattle.dedb_area.specs.Standing.{due_of, PoolStands}
 
 module _ (layout : Layout) (way : Way) (bytes : AreaBytes) (disk : Disk) (pool : Held)

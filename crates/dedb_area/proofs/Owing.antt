@@ -1,11 +1,11 @@
 -- What a pool owes, once an interval is written.
-use Rattle.std.proofs.Common.{◌≡◌, inl, inr, ℕ, Bool, true, false, List, length, sym, ◌∙◌, ap, refl}
+use Rattle.std.proofs.Common.{◌≡◌, ℕ, Bool, true, false, List, sym, ◌∙◌, ap, refl}
 use Rattle.std.specs.Prelude.{◌==◌, ◌&&◌, if◌then◌else◌, Option, Some, None, Result, Ok, Err, OnOk, OnErr}
 use mathlib.Core.Path.{fun_ext}
 use Rattle.area_redo.specs.Standing.{Due, without}
 use Rattle.ci_pool.specs.declared.cell.Waiting.{Waiting}
 use Rattle.ci_pool.specs.Held.{Held, pending_at, staged_at, HasSize}
-use Rattle.dedb_area.specs.declared.place.Place.{Place}
+use Rattle.area_states.specs.declared.place.Place.{Place}
 use Rattle.dedb_area.specs.Standing.{IsFitPool, due_of, owed_of}
 use Rattle.dedb_area.specs.Keeping.{IsWritten, StillWaits}
 

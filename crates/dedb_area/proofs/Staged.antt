@@ -1,5 +1,5 @@
 -- The intervals of an area under staged changes: read, put and added.
-use Rattle.std.proofs.Common.{inl, inr, ◌+◌, [], ◌∷◌, set, ◌++◌, ◌≡◌, ℕ, zero, suc, ◌<◌, ◌≤◌, List, length, refl, sym, ◌∙◌, ap, subst, arith}
+use Rattle.std.proofs.Common.{inl, inr, ◌+◌, [], ◌∷◌, set, ◌++◌, ◌≡◌, ℕ, zero, suc, ◌<◌, List, length, refl, sym, ◌∙◌, ap, subst, arith}
 use Rattle.std.specs.Prelude.{Option, Some, None, IsSome}
 use Rattle.std.proofs.lemmas.Bool.{cases_eq, cases_lt}
 use Rattle.fp_site.specs.Disk.{Disk, IsLawful}

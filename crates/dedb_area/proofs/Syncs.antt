@@ -1,23 +1,22 @@
 -- Syncs of areas, one after another.
-use Rattle.std.proofs.Common.{◌≡◌, ◌≢◌, inl, inr, ℕ, ◌+◌, ◌*◌, ◌<◌, ◌≤◌, Bool, true, false, List, length, refl, sym, ◌∙◌, ap, subst, arith}
-use Rattle.std.specs.Prelude.{slice_get, Option, Some, None}
+use Rattle.std.proofs.Common.{◌≡◌, inl, inr, ℕ, ◌+◌, ◌*◌, ◌<◌, ◌≤◌, Bool, true, false, List, length, refl, sym, ◌∙◌, ap, subst, arith}
+use Rattle.std.specs.Prelude.{slice_get, Some}
 use Rattle.std.proofs.lemmas.Bool.{cases_eq}
 use Rattle.std.proofs.lemmas.Option.{slice_get_cases, slice_get_within}
-use Rattle.fp_site.specs.Disk.{Snapshot, Disk, Differs, Elapses, Leaves, Settles, Syncs, IsLawful, IsDurable, read_range}
-use Rattle.fp_site.specs.Moments.{OnlyOn}
+use Rattle.fp_site.specs.Disk.{Disk, Differs, Elapses, Leaves, Settles, Syncs, IsLawful, IsDurable, read_range}
 use Rattle.fp_site.proofs.Runs.{now_one, started, joined, elapses_weaker}
 use Rattle.fp_site.proofs.Frames.{Anyhow, only_in_of, only_in_none, only_in_joined}
 use Rattle.fp_site.proofs.Images.{same_step, durable_aside, durable_settles, settles_left}
 use Rattle.fp_model.specs.Items.{items_of}
 use Rattle.fp_model.specs.State.{first_area_set}
 use Rattle.area_redo.specs.Redo.{AreaBytes, Layout, AreRedone}
-use Rattle.area_redo.specs.Standing.{Way, since_mark, Owed, Stands, MayOpen}
+use Rattle.area_redo.specs.Standing.{Way, since_mark, Owed}
 use Rattle.area_redo.proofs.Areas.{sync_through}
 use Rattle.area_redo.proofs.Opening.{tail_begins, since_begins, synced, may_synced}
 use Rattle.ci_pool.specs.Held.{Held, IsClean}
-use Rattle.dedb_area.specs.declared.place.Place.{Place}
-use Rattle.dedb_area.specs.Places.{layout_of}
-use Rattle.dedb_area.specs.Standing.{Holding, owed_of, AreSynced, AreasStand}
+use Rattle.area_states.specs.declared.place.Place.{Place}
+use Rattle.area_states.specs.Places.{layout_of}
+use Rattle.dedb_area.specs.Standing.{owed_of, AreSynced}
 use Rattle.dedb_area.specs.Keeping.{KeepsStanding, KeepsAreas, OnlyAreas, SyncsAreas}
 
 module _ (layout : Layout) (way : Way) (owed : Owed) (bytes : AreaBytes) where

@@ -1,9 +1,7 @@
 -- A pending interval is written, whatever is answered.
-use Rattle.std.proofs.Common.{◌≡◌, ◌≢◌, inl, inr, ℕ, ◌+◌, ◌*◌, ◌<◌, ◌≤◌, Bool, false, List, length, refl, sym, ◌∙◌, ap, subst, arith}
+use Rattle.std.proofs.Common.{◌≡◌, ◌≢◌, ℕ, ◌+◌, ◌*◌, ◌<◌, ◌≤◌, Bool, false, List, length, refl, sym, ◌∙◌, ap, subst, arith}
 use Rattle.std.specs.Prelude.{slice_get, Some}
-use Rattle.std.proofs.lemmas.Bool.{cases_eq}
-use Rattle.fp_site.specs.Disk.{Disk, Tears, Torn, Differs, Elapses, Leaves, Broken, IsLawful, IsDurable, written}
-use Rattle.fp_site.specs.Moments.{OnlyOn}
+use Rattle.fp_site.specs.Disk.{Disk, Tears, Torn, Differs, Elapses, Leaves, Broken, IsLawful, written}
 use Rattle.fp_site.proofs.Runs.{elapses_weaker, started}
 use Rattle.fp_site.proofs.Frames.{Anyhow, only_in_of}
 use Rattle.fp_site.proofs.Images.{durable_aside}
@@ -17,9 +15,9 @@ use Rattle.area_redo.proofs.Steps.{wrote, wrote_not, tail_named}
 use Rattle.area_redo.proofs.Opening.{tail_begins, may_wrote, may_write_through}
 use Rattle.ci_pool.specs.declared.cell.Waiting.{Waiting}
 use Rattle.ci_pool.specs.Held.{Held, pending_at, staged_at, IsClean, HasSize, IsOldestSealed, IsFirstOwed}
-use Rattle.dedb_area.specs.declared.place.Place.{Place}
-use Rattle.dedb_area.specs.Places.{place_at, size_of, ArePlaces, layout_of}
-use Rattle.dedb_area.specs.Standing.{Holding, IsFitPool, due_of, owed_of, PoolStands, AreSynced, AreasStand, AreasMayOpen}
+use Rattle.area_states.specs.declared.place.Place.{Place}
+use Rattle.area_states.specs.Places.{place_at, size_of, ArePlaces, layout_of}
+use Rattle.dedb_area.specs.Standing.{Holding, IsFitPool, due_of, owed_of, PoolStands, AreSynced}
 use Rattle.dedb_area.specs.Keeping.{KeepsAreas, OnlyAreas, IsWritten, StillWaits}
 use Rattle.dedb_area.proofs.Owing.{owed_less, written_waits, same_waits, still_owed, fit_still}
 use Rattle.dedb_area.proofs.Data.{area_behind, there, some_size, place_there}

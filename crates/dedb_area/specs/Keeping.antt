@@ -1,5 +1,5 @@
 -- What the calls on areas keep.
-use Rattle.std.specs.Prelude.{◌≡◌, ℕ, ◌≤◌, ◌<◌, false, true, ◌==◌, ◌&&◌, if◌then◌else◌, Option, Some, None}
+use Rattle.std.specs.Prelude.{◌≡◌, ℕ, ◌≤◌, false, ◌==◌, ◌&&◌, if◌then◌else◌, Some, None}
 use Rattle.fp_site.specs.Disk.{Disk, IsDurable}
 use Rattle.fp_site.specs.Moments.{OnlyIn}
 use Rattle.fp_model.specs.Items.{items_of}
@@ -9,7 +9,7 @@ use Rattle.ci_pool.specs.Held.{Held, pending_at}
 use Rattle.area_redo.specs.Redo.{AreaBytes, Layout, RedoesThrough}
 use Rattle.area_redo.specs.Standing.{Way, since_mark, Owed, Stands, MayOpen}
 use Rattle.dedb_area.specs.Items.{is_imaged}
-use Rattle.dedb_area.specs.Places.{layout_of}
+use Rattle.area_states.specs.Places.{layout_of}
 use Rattle.dedb_area.specs.Standing.{Holding, AreasStand, AreasMayOpen}
 
 -- Calls that write no interval: areas that stand do so behind them, and the tail's items make their bytes of what a

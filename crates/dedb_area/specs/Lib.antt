@@ -1,4 +1,3 @@
-pub mod Places
 pub mod Standing
 pub mod Keeping
 pub mod Control
@@ -7,3 +6,7 @@ pub mod Applying
 pub mod Formatting
 pub mod Staging
 pub mod Items
+pub mod Anchors
+pub mod Publishing
+pub mod Appending
+pub mod Purging

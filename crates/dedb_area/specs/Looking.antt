@@ -1,5 +1,5 @@
 -- What calls that change no area keep of a pool and a site.
-use Rattle.std.proofs.Common.{◌≡◌, ℕ, ◌≤◌, List, refl, arith}
+use Rattle.std.proofs.Common.{◌≡◌, ℕ, ◌≤◌, refl, arith}
 use Rattle.fp_site.specs.Disk.{Disk, Stays}
 use Rattle.fp_site.proofs.Runs.{elapses_none}
 use Rattle.ci_pool.specs.Held.{Held, IsClean, HasSize}

@@ -7,9 +7,9 @@ use Rattle.ci_pool.specs.Held.{Held, pending_at, staged_at, IsClean, HasSize}
 use Rattle.area_redo.specs.Redo.{AreaBytes, Layout}
 use Rattle.area_redo.specs.Standing.{behind, Way, Due, Owed, Stands, MayOpen}
 use Rattle.area_redo.specs.Steps.{AreImaged}
-use Rattle.dedb_area.specs.declared.place.Place.{Place}
+use Rattle.area_states.specs.declared.place.Place.{Place}
 use Rattle.dedb_area.specs.Items.{is_imaged}
-use Rattle.dedb_area.specs.Places.{place_at, layout_of}
+use Rattle.area_states.specs.Places.{place_at, layout_of}
 
 -- what contracts see of areas
 pub record Holding : Type 0 where

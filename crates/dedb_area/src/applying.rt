@@ -8,7 +8,7 @@ ghost use Rattle.fp_site.specs.Disk.{written};
 ghost use Rattle.dedb_area.specs.Applying.{IsApplied, IsPended, EndsInTime, IsFitImage, IsAppliable, IsWithoutImage, AreAppliable, LacksImage, LiesWithin};
 ghost use Rattle.dedb_area.specs.Standing.{IsFitPool, IsUnstaged};
 ghost use Rattle.dedb_area.specs.declared.applying.ApplyFault.TheVariants as fault;
-ghost use Rattle.dedb_area.specs.declared.place.Place.{Place as PlaceOf};
+ghost use Rattle.area_states.specs.declared.place.Place.{Place as PlaceOf};
 
 use crate::Areas;
 use ci_pool::Pool;

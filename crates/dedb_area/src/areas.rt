@@ -3,7 +3,7 @@
 ghost use Rattle.std.specs.Prelude.{Err, IsErrOf, ◌≡◌, ◌≢◌, ◌+◌, ◌-◌, ◌≤◌, ◌<◌, ℕ, Ok, Some, None, true, false, IsSome, IfOk, OnOk, OnErr, IsTrue, slice_get, [], length, is_some};
 ghost use Rattle.fp_site.specs.Disk.{IsDurable};
 ghost use Rattle.fp_site.specs.Site.{Counts, ReadsNothing};
-ghost use Rattle.fp_model.specs.State.{first_area_set};
+ghost use Rattle.fp_model.specs.State.{first_area_set, roots_at};
 ghost use Rattle.fp_model.specs.WellFormed.{AreDefs};
 ghost use Rattle.ci_space.specs.Calls.{Rose};
 ghost use Rattle.ci_pool.specs.Held.{pending_at, IsOldestSealed, NoneSealed, NoneOwes, IsFirstOwed, AreUnsealed};
@@ -11,24 +11,28 @@ ghost use Rattle.ci_pool.specs.declared.cell.Waiting.{Waiting as Pending};
 ghost use Rattle.ci_pool.specs.declared.pool.Owed.TheVariants as owed;
 ghost use Rattle.area_redo.specs.Redo.{AreaBytes};
 ghost use Rattle.area_redo.specs.Standing.{Way, sealed_of, behind};
+ghost use Rattle.fp_model.specs.declared.database.Db.{Db};
+ghost use Rattle.area_states.specs.Databases.{AreFor};
+ghost use Rattle.dedb_area.specs.Anchors.{AnchorIsPending, AreInTime, AreRootsOf, HasAnchorIn, IsDamagedFor};
 ghost use Rattle.dedb_area.specs.Control.{ends_in, IsControlOf};
 ghost use Rattle.dedb_area.specs.Items.{is_imaged};
 ghost use Rattle.dedb_area.specs.Looking.{LooksAtAreas};
-ghost use Rattle.dedb_area.specs.Places.{places_of, place_at};
-ghost use Rattle.dedb_area.specs.declared.place.Place.{Place as PlaceOf};
+ghost use Rattle.area_states.specs.Places.{places_of, place_at};
+ghost use Rattle.area_states.specs.declared.place.Place.{Place as PlaceOf};
 ghost use Rattle.dedb_area.specs.declared.fault.AreaFault.TheVariants as fault;
 ghost use Rattle.dedb_area.specs.Standing.{IsFitPool, AreSynced, AreasStand};
 ghost use Rattle.dedb_area.specs.Keeping.{KeepsAreas, OnlyAreas, IsWritten, NonePending, StillWaits};
 ghost use Rattle.ci_pool.specs.Cells.{pending_number};
 
 use crate::AreaFault;
+use crate::anchors::{area_of, roots_at, some_area};
 use crate::imaging::none_imaged;
 use crate::opening::places_of;
-use crate::place::Place;
 use crate::reading::{control, ends_in, place_in};
 use crate::syncing::{clear, note_write, sync_all};
+use area_states::Place;
 use ci_pool::{Owed, Pool};
-use fp_model::{AreaEnds, Defs, List};
+use fp_model::{AreaEnds, Defs, List, Root};
 use fp_site::{Failed, Site};
 use std::alloc::{AllocError, Global};
 use std::marker::Model;
@@ -46,7 +50,7 @@ pub struct Areas {
 
 impl Model for Areas {
     ghost use Rattle.std.specs.Prelude.{◌≡◌, ◌≤◌, length};
-    ghost use Rattle.dedb_area.specs.Places.{ArePlaces};
+    ghost use Rattle.area_states.specs.Places.{ArePlaces};
     ghost use Rattle.dedb_area.specs.Standing.{Holding};
 
     ghost Value = { Holding };
@@ -59,7 +63,7 @@ impl Model for Areas {
     } };
 
     ghost invariant = { λ a. (length a.unsynced.items ≤ 256) × ArePlaces a.places.items
-        × (length a.imaged.items ≡ length a.places.items) };
+        × (length a.imaged.items ≡ length a.places.items) × (length a.places.items ≤ 256) };
 }
 
 impl Areas {
@@ -114,6 +118,66 @@ impl Areas {
             Some(ends) => Ok(ends),
             None => Err(AreaFault::Damaged { set, at: 0 }),
         }
+    }
+
+    /// Whether some area has this anchor of the database.
+    pub fn has_anchor(&self, dedb: u8, anchor: u32) -> bool
+        ensures yes { result ≡ true → (set : ℕ) × HasAnchorIn self.now.places dedb anchor set }
+        ensures no { result ≡ false → (set : ℕ) → ¬ HasAnchorIn self.now.places dedb anchor set }
+    {
+        some_area(&self.places, dedb, anchor)
+    }
+
+    /// The roots of an anchor of a database, each with its whole sequential list, newest first. `Damaged` names the first
+    /// byte of the interval that is at fault.
+    ///
+    /// Costs one read of control more than `read_anchor` of `area_reading`. What is pending or clean isn't asked of the
+    /// site.
+    pub fn anchor<T: Site>(
+        &mut self,
+        site: &mut T,
+        dedb: u8,
+        anchor: u32,
+    ) -> Result<List<Root>, AreaFault>
+        requires { (set : ℕ) × HasAnchorIn self.old.places dedb anchor set }
+
+        // The answer, by the newest bytes. Where these stand for databases, it is what they have.
+        ensures roots { T.told site.old → (way : Way) (bytes : AreaBytes)
+            → AreasStand way bytes (T.disk site.old) self.old
+            → IfOk result (AreRootsOf self.old.places (behind way.unsealed bytes) dedb anchor) }
+        ensures database { T.told site.old → (way : Way) (bytes : AreaBytes) (db : Db)
+            → AreasStand way bytes (T.disk site.old) self.old
+            → AreFor self.old.places (behind way.unsealed bytes) db
+            → IfOk result (λ roots. roots ≡ roots_at db dedb anchor) }
+
+        // The interval that it names is at fault, and where the bytes stand for databases there is none.
+        ensures damaged { T.told site.old → (way : Way) (bytes : AreaBytes)
+            → AreasStand way bytes (T.disk site.old) self.old → (set at : ℕ)
+            → result ≡ Err (fault.Damaged set at)
+            → IsDamagedFor self.old.places (behind way.unsealed bytes) dedb anchor set at }
+        ensures sound { T.told site.old → (way : Way) (bytes : AreaBytes) (db : Db)
+            → AreasStand way bytes (T.disk site.old) self.old
+            → AreFor self.old.places (behind way.unsealed bytes) db
+            → AreInTime self.old.places (behind way.unsealed bytes) → (set at : ℕ)
+            → result ≢ Err (fault.Damaged set at) }
+        ensures failed { IsErrOf result fault.Device → Rose (T.faults site.old) (T.faults site.new) }
+        ensures never_full { (s begin end n : ℕ) → result ≢ Err (fault.SeqFull s begin end n) }
+
+        // Where each interval of the area is pending, no byte of the site is read.
+        ensures unread { T.told site.old → (way : Way) (bytes : AreaBytes)
+            → AreasStand way bytes (T.disk site.old) self.old
+            → AnchorIsPending self.old.places self.old.pool (behind way.unsealed bytes) dedb anchor
+            → ReadsNothing (T.tells_reads site.old) (T.tells_reads site.new) (T.bytes_read site.old)
+            (T.bytes_read site.new) }
+
+        // No area changes; the pool may have other clean intervals.
+        ensures looks { LooksAtAreas T.told T.disk T.faults T.holds T.keeps site.old site.new self.old self.new }
+    {
+        let places: &[Place] = &self.places;
+        let set = area_of(places, dedb, anchor);
+        let place = place_in(places, set);
+        let number = anchor - place.first_anchor;
+        roots_at(self.alloc, &mut self.pool, site, place, set, number)
     }
 
     /// Writes a pending interval to its data set.

@@ -10,14 +10,14 @@ ghost use Rattle.fp_model.specs.WellFormed.{AreDefs};
 ghost use Rattle.fp_site.specs.Disk.{IsDurable, Leaves};
 ghost use Rattle.fp_site.specs.Site.{ReadsNothing};
 ghost use Rattle.dedb_area.specs.Formatting.{IsStarted, IsFormatted};
-ghost use Rattle.dedb_area.specs.Places.{places_of, place_at, IsPlace, ArePlaces};
+ghost use Rattle.area_states.specs.Places.{places_of, place_at, IsPlace, ArePlaces};
 ghost use Rattle.dedb_area.specs.declared.fault.AreaFault.TheVariants as fault;
-ghost use Rattle.dedb_area.specs.declared.place.Place.{Place as PlaceOf};
+ghost use Rattle.area_states.specs.declared.place.Place.{Place as PlaceOf};
 
 use crate::opening::places_of;
-use crate::place::Place;
 use crate::syncing::FIRST_AREA;
 use crate::{AreaFault, Areas};
+use area_states::Place;
 use ci_space::{Interval, Shape};
 use fp_model::Defs;
 use fp_site::Site;
@@ -32,7 +32,7 @@ const DEPENDENT: u8 = 3;
 const SEQUENTIAL: u8 = 4;
 
 /// How many intervals an area starts with.
-fn first_independent(shape: &Shape) -> u64
+pub(crate) fn first_independent(shape: &Shape) -> u64
     ensures number { result ≡ first_independent shape.now }
     ensures bound { result < 2 ^ 50 }
 {

@@ -1,11 +1,13 @@
 //! Which intervals have an item since the mark: a flag for each, up to the last that has one.
 
-ghost use Rattle.std.specs.Prelude.{◌≡◌, ◌<◌, ◌≤◌, ◌-◌, ◌||◌, ◌&&◌, ◌==◌, ℕ, false, length, Some, OnOk, IfOk};
+ghost use Rattle.std.specs.Prelude.{◌≡◌, ◌<◌, ◌≤◌, ◌-◌, ◌||◌, ◌&&◌, ◌==◌, ◌∷◌, [], ℕ, List as ListOf, false, length, Some, OnOk, IfOk};
 ghost use Rattle.fp_model.specs.State.{first_area_set};
+ghost use Rattle.fp_model.specs.declared.log.Item.{Item as ItemOf};
 ghost use Rattle.dedb_area.specs.Items.{flag_at, is_imaged, HasFlag};
+ghost use Rattle.dedb_area.specs.Publishing.{AreFlagged, AreNoted, IsFlagged};
 
 use crate::syncing::FIRST_AREA;
-use fp_model::List;
+use fp_model::{Item, List};
 use std::alloc::{AllocError, Global};
 
 /// So many areas, none of whose intervals has an item.
@@ -64,6 +66,45 @@ pub(crate) fn make_room(imaged: &mut Vec<List<bool>>, set: u16, ci: u64) -> Resu
     ensures count { length imaged.new.items ≡ length imaged.old.items }
 {
     grow(&mut imaged[usize::from(set - FIRST_AREA)], ci)
+}
+
+/// An interval of an area has an item.
+#[tactic(auto, using(crate::proofs::Flags::flag_noted, crate::proofs::Flags::still_flagged))]
+fn note_image(imaged: &mut Vec<List<bool>>, set: u16, ci: u64)
+    requires area { first_area_set ≤ set }
+    requires room { HasFlag imaged.old.items set ci }
+    ensures noted { (s k : ℕ) → is_imaged imaged.new.items s k
+        ≡ ((s == set && k == ci) || is_imaged imaged.old.items s k) }
+    ensures room { (s k : ℕ) → HasFlag imaged.old.items s k → HasFlag imaged.new.items s k }
+    ensures count { length imaged.new.items ≡ length imaged.old.items }
+{
+    *imaged[usize::from(set - FIRST_AREA)].item_mut(ci as usize) = true;
+}
+
+/// The interval that an item names has one.
+#[tactic(auto, using(crate::proofs::Published::all_flagged))]
+fn note_item(imaged: &mut Vec<List<bool>>, item: &Item)
+    requires { IsFlagged imaged.old.items item.now }
+    ensures noted { AreNoted (item.now ∷ []) imaged.old.items imaged.new.items }
+    ensures room { (items : ListOf ItemOf) → AreFlagged imaged.old.items items → AreFlagged imaged.new.items items }
+    ensures count { length imaged.new.items ≡ length imaged.old.items }
+{
+    match item {
+        Item::Segment { .. } => {}
+        Item::Image { set, ci, .. } => note_image(imaged, *set, *ci),
+        Item::Range { set, ci, .. } => note_image(imaged, *set, *ci),
+    }
+}
+
+/// The intervals that these items name have one.
+pub(crate) fn note_all(imaged: &mut Vec<List<bool>>, items: &[Item])
+    requires { AreFlagged imaged.old.items items.now }
+    ensures noted { AreNoted items.now imaged.old.items imaged.new.items }
+    ensures count { length imaged.new.items ≡ length imaged.old.items }
+{
+    for item in items {
+        note_item(imaged, item);
+    }
 }
 
 /// No interval has an item.

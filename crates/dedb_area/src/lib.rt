@@ -1,8 +1,10 @@
 //! The areas of a site: the intervals that wait to be written, and what calls on areas make of them.
 #![tactic(auto)]
 
+mod anchors;
 mod applying;
 mod areas;
+mod counting;
 mod fault;
 mod formatting;
 mod imaging;
@@ -10,14 +12,17 @@ mod items;
 mod looking;
 mod marking;
 mod opening;
-mod place;
+mod publishing;
+mod purging;
 mod reading;
 mod staging;
 mod syncing;
 
 pub use applying::ApplyFault;
+pub use area_states::Place;
 pub use areas::Areas;
 pub use fault::AreaFault;
 pub use marking::a_mark_keeps_the_areas;
-pub use place::Place;
+pub use publishing::a_publish_keeps_the_areas;
+pub use purging::a_purged_area_has_the_purged_state;
 pub use staging::Staging;

@@ -1,11 +1,11 @@
 //! The areas that definitions give.
 
-ghost use Rattle.std.specs.Prelude.{◌≡◌, ◌≤◌, ◌<◌, ◌+◌, ◌-◌, ◌/◌, ◌++◌, IfOk, OnOk, length, map};
+ghost use Rattle.std.specs.Prelude.{◌≡◌, ◌≤◌, ◌<◌, ◌+◌, ◌-◌, ◌/◌, ◌++◌, ◌∷◌, [], IfOk, OnOk, length, map};
 ghost use Rattle.fp_model.specs.State.{areas_from};
-ghost use Rattle.fp_model.specs.WellFormed.{IsDedbDef, AreDefs, sequential_intervals};
-ghost use Rattle.dedb_area.specs.Places.{place_of, places_of, ArePlaces};
+ghost use Rattle.fp_model.specs.WellFormed.{IsAreaDef, IsDedbDef, AreDefs, sequential_intervals};
+ghost use Rattle.area_states.specs.Places.{place_of, places_of, ArePlaces};
 
-use crate::place::Place;
+use area_states::Place;
 use ci_space::Shape;
 use fp_model::{AreaDef, DedbDef, Defs, SegDef};
 use std::alloc::{AllocError, Global};
@@ -73,6 +73,26 @@ fn place(
     })
 }
 
+/// Adds an area of a database.
+fn add_place(
+    places: &mut Vec<Place>,
+    def: &DedbDef,
+    area: &AreaDef,
+    dedb: u8,
+    number: u8,
+    first_anchor: u32,
+) -> Result<(), AllocError>
+    requires def { IsDedbDef def.now }
+    requires area { IsAreaDef def.now.segments area.now }
+    ensures added { OnOk result (places.new.items ≡ places.old.items ++ place_of def.now
+        (record { dedb = dedb; number = number; first_anchor = first_anchor; def = area.now }) ∷ []) }
+    ensures sized { ArePlaces places.old.items → ArePlaces places.new.items }
+{
+    let place = place(def, area, dedb, number, first_anchor)?;
+    places.push(place)?;
+    Ok(())
+}
+
 /// Adds the areas of a database.
 fn add_places(places: &mut Vec<Place>, def: &DedbDef, dedb: u8) -> Result<(), AllocError>
     requires { IsDedbDef def.now }
@@ -84,7 +104,7 @@ fn add_places(places: &mut Vec<Place>, def: &DedbDef, dedb: u8) -> Result<(), Al
     let mut number: u8 = 0;
     let mut first_anchor: u32 = 0;
     for area in def.areas.as_slice() {
-        places.push(place(def, area, dedb, number, first_anchor)?)?;
+        add_place(places, def, area, dedb, number, first_anchor)?;
         number += 1;
         first_anchor += area.uows * u32::from(area.base);
     }

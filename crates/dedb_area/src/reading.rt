@@ -4,16 +4,17 @@ ghost use Rattle.std.specs.Prelude.{◌≡◌, ◌≢◌, ◌-◌, ◌<◌, ◌�
 ghost use Rattle.ci_space.specs.Calls.{Rose};
 ghost use Rattle.ci_space.specs.Interval.{is_size, kind_of, IsInterval};
 ghost use Rattle.ci_space.specs.Head.{ends_of};
-ghost use Rattle.ci_pool.specs.Held.{IsClean, HasSize, newest_in};
+ghost use Rattle.ci_pool.specs.Held.{IsClean, HasSize, newest_in, pending_at};
+ghost use Rattle.ci_pool.specs.declared.cell.Waiting.{Waiting as Pending};
 ghost use Rattle.dedb_area.specs.Control.{IsControl, AreEnds, IsControlOf};
 ghost use Rattle.dedb_area.specs.Looking.{LooksAt};
-ghost use Rattle.dedb_area.specs.Places.{place_at};
+ghost use Rattle.area_states.specs.Places.{place_at};
 ghost use Rattle.dedb_area.specs.declared.fault.AreaFault.TheVariants as fault;
 
 use crate::AreaFault;
 use crate::looking::interval_at;
-use crate::place::Place;
 use crate::syncing::FIRST_AREA;
+use area_states::Place;
 use ci_pool::Pool;
 use ci_space::{GetFault, Interval};
 use fp_model::AreaEnds;
@@ -46,12 +47,14 @@ pub(crate) fn control<T: Site>(
         → IfOk result (λ control. control ≡ newest_in pool.old (T.disk site.old).contents set 0 place.now.shape.ci) }
     ensures kind { IfOk result (λ control. kind_of control ≡ 1) }
     ensures interval { IfOk result IsInterval }
+    ensures size { IfOk result (λ control. length control ≡ place.now.shape.ci) }
     ensures damaged { T.told site.old → IsClean (T.disk site.old).contents pool.old
         → HasSize set place.now.shape.ci pool.old → (s at : ℕ) → result ≡ Err (fault.Damaged s at)
         → ¬ IsControl (newest_in pool.old (T.disk site.old).contents set 0 place.now.shape.ci) }
     ensures first { (s at : ℕ) → result ≡ Err (fault.Damaged s at) → (s ≡ set) × (at ≡ 0) }
     ensures failed { IsErrOf result fault.Device → Rose (T.faults site.old) (T.faults site.new) }
     ensures never_full { (s begin end n : ℕ) → result ≢ Err (fault.SeqFull s begin end n) }
+    ensures unread { (w : Pending) → pending_at pool.old set 0 ≡ Some w → site.new ≡ site.old }
     ensures looks { LooksAt T.told T.disk T.faults T.holds T.keeps set place.now.shape.ci site.old site.new pool.old
         pool.new }
 {

@@ -1,10 +1,8 @@
-use Rattle.std.proofs.Common.{◌≡◌, ◌≢◌, inl, inr, ◌+◌, ◌<◌, ◌≤◌, ◌∙◌, ℕ, ap, sym, get_or, subst, arith}
+use Rattle.std.proofs.Common.{◌≡◌, ◌≢◌, inl, inr, ◌+◌, ◌∙◌, get_or, arith}
 use Rattle.std.specs.Prelude.{slice_get, Some}
 use Rattle.std.proofs.lemmas.Bool.{cases_eq}
 use Rattle.std.proofs.lemmas.Option.{slice_get-get_or, slice_get_within}
 use Rattle.fp_model.specs.State.{first_area_set}
-use Rattle.dedb_area.specs.declared.place.Place.{Place}
-use Rattle.dedb_area.specs.Formatting.{IsFormatted}
 use Rattle.dedb_area.proofs.Formatted.{formatted_here, formatted_still}
 use Rattle.dedb_area.proofs.formatting.format_all.Goals as goal
 

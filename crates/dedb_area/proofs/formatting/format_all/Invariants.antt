@@ -2,7 +2,7 @@ use Rattle.std.proofs.Common.{◌≡◌, ◌+◌, ◌<◌, ◌≤◌, ℕ}
 use Rattle.std.specs.Prelude.{slice_get, Some}
 use Rattle.fp_site.specs.Site.{ReadsNothing}
 use Rattle.fp_model.specs.State.{first_area_set}
-use Rattle.dedb_area.specs.declared.place.Place.{Place}
+use Rattle.area_states.specs.declared.place.Place.{Place}
 use Rattle.dedb_area.specs.Formatting.{IsFormatted}
 use Rattle.dedb_area.proofs.formatting.format_all.Given as goal
 

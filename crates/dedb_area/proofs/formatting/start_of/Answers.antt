@@ -1,4 +1,4 @@
-use Rattle.std.proofs.Common.{◌≡◌, ◌∙◌, ap, sym, arith}
+use Rattle.std.proofs.Common.{◌∙◌, ap, arith}
 use Rattle.ci_space.specs.Head.{ends_of}
 use Rattle.ci_space.specs.Interval.{kind_of, empty_bytes}
 use Rattle.ci_overflow.specs.Places.{kind_at}

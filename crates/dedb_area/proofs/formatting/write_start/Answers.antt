@@ -1,6 +1,6 @@
-use Rattle.std.proofs.Common.{◌≡◌, ◌+◌, ◌*◌, ◌∙◌, ap, sym, subst, length}
+use Rattle.std.proofs.Common.{◌≡◌, ◌*◌, ◌∙◌, ap, sym, subst, length}
 use Rattle.fp_site.specs.Disk.{written}
-use Rattle.dedb_area.specs.Formatting.{StartsAs, StartsControl}
+use Rattle.dedb_area.specs.Formatting.{StartsAs}
 use Rattle.dedb_area.proofs.Data.{some_size}
 use Rattle.dedb_area.proofs.Formatted.{started_more, aside_torn}
 use Rattle.dedb_area.proofs.formatting.write_start.Goals as goal

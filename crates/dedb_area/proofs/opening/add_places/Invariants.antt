@@ -3,7 +3,7 @@ use Rattle.std.specs.Prelude.{map}
 use Rattle.std.specs.List.{AllByRecursion}
 use Rattle.fp_model.specs.State.{anchors_in, areas_from}
 use Rattle.fp_model.specs.WellFormed.{IsAreaDef}
-use Rattle.dedb_area.specs.Places.{place_of, ArePlaces}
+use Rattle.area_states.specs.Places.{place_of, ArePlaces}
 use Rattle.dedb_area.proofs.opening.add_places.Given as goal
 
 abbrev pub invariant-loop-area : goal.invariant-loop-area

@@ -1,7 +1,7 @@
 use Rattle.std.proofs.Common.{◌≡◌, ◌*◌, ◌≤◌, ◌++◌, length, drop}
 use Rattle.std.specs.List.{AllByRecursion}
 use Rattle.fp_model.specs.WellFormed.{IsDedbDef}
-use Rattle.dedb_area.specs.Places.{places_from, places_of, ArePlaces}
+use Rattle.area_states.specs.Places.{places_from, places_of, ArePlaces}
 use Rattle.dedb_area.proofs.opening.places_of.Given as goal
 
 abbrev pub invariant-loop-def : goal.invariant-loop-def

@@ -1,4 +1,4 @@
-use Rattle.std.proofs.Common.{◌≡◌, ◌+◌, ◌<◌, ℕ, true, length}
+use Rattle.std.proofs.Common.{◌≡◌, ◌+◌, ◌<◌, ℕ, true}
 use Rattle.std.specs.Prelude.{slice_get, Some}
 use Rattle.fp_site.specs.Disk.{IsDurable}
 use Rattle.fp_site.specs.Site.{ReadsNothing}

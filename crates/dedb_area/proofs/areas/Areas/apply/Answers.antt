@@ -1,4 +1,4 @@
-use Rattle.std.proofs.Common.{◌≡◌, subst, ap, sym}
+use Rattle.std.proofs.Common.{subst, sym}
 use Rattle.std.specs.List.{AllByRecursion}
 use Rattle.ci_pool.specs.Held.{IsClean}
 use Rattle.dedb_area.specs.Applying.{IsFitImage}

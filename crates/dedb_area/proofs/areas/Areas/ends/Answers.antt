@@ -1,10 +1,10 @@
-use Rattle.std.proofs.Common.{◌≡◌, ℕ, List, sym, subst, ◌∙◌, ap}
+use Rattle.std.proofs.Common.{◌≡◌, sym, subst, ◌∙◌, ap}
 use Rattle.std.specs.Prelude.{Some}
 use Rattle.std.proofs.lemmas.Result.{err_from_is_err_and}
 use Rattle.area_redo.specs.Standing.{behind}
-use Rattle.dedb_area.specs.declared.place.Place.{Place}
+use Rattle.area_states.specs.declared.place.Place.{Place}
 use Rattle.dedb_area.specs.Control.{ends_in, IsControl, AreEnds}
-use Rattle.dedb_area.specs.Places.{place_at}
+use Rattle.area_states.specs.Places.{place_at}
 use Rattle.dedb_area.specs.Standing.{Holding, AreasStand}
 use Rattle.dedb_area.specs.Looking.{LooksAtAreas}
 use Rattle.dedb_area.proofs.Looks.{areas_looked}

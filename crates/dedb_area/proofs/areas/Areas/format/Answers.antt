@@ -1,4 +1,4 @@
-use Rattle.std.proofs.Common.{◌≡◌, ◌∙◌, sym, subst, ap}
+use Rattle.std.proofs.Common.{◌∙◌}
 use Rattle.dedb_area.proofs.Formatted.{all_formatted}
 use Rattle.dedb_area.proofs.areas.Areas.format.Goals as goal
 

@@ -1,4 +1,4 @@
-use Rattle.std.proofs.Common.{◌≡◌, ℕ, zero, suc, Bool, true, false, sym, ◌∙◌, ap}
+use Rattle.std.proofs.Common.{◌≡◌, ℕ, zero, suc, true, false, sym, ◌∙◌, ap}
 use Rattle.std.specs.Prelude.{slice_get, Some, replicate}
 use Rattle.dedb_area.proofs.areas.Areas.open.Goals as goal
 

@@ -1,7 +1,7 @@
 use Rattle.std.specs.Prelude.{slice_get, Some}
 use Rattle.fp_site.specs.Disk.{IsDurable}
 use Rattle.fp_model.specs.State.{first_area_set}
-use Rattle.std.proofs.Common.{◌≡◌, ℕ, ◌+◌, true, sym, subst, ◌∙◌, ap, refl}
+use Rattle.std.proofs.Common.{◌≡◌, ℕ, ◌+◌, true, sym, subst}
 use Rattle.dedb_area.specs.Standing.{Holding, AreSynced}
 use Rattle.dedb_area.specs.Keeping.{KeepsAreas}
 use Rattle.dedb_area.proofs.Syncs.{all_synced, areas_synced, cleared_synced}

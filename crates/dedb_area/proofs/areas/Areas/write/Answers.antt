@@ -1,12 +1,11 @@
-use Rattle.std.proofs.Common.{◌≡◌, ◌*◌, length, sym, subst, ◌∙◌, ap}
+use Rattle.std.proofs.Common.{◌≡◌, sym, subst}
 use Rattle.std.specs.Prelude.{IsSome, Some}
-use Rattle.fp_site.specs.Disk.{Broken, written}
 use Rattle.ci_pool.specs.Held.{pending_at}
-use Rattle.dedb_area.specs.Standing.{Holding, IsFitPool}
-use Rattle.dedb_area.specs.Keeping.{KeepsAreas, IsWritten, OnlyAreas}
+use Rattle.dedb_area.specs.Standing.{Holding}
+use Rattle.dedb_area.specs.Keeping.{KeepsAreas}
 use Rattle.dedb_area.proofs.Data.{there}
 use Rattle.dedb_area.proofs.Owing.{by_both}
-use Rattle.dedb_area.proofs.Writes.{Wrote, keeps_written, only_areas, fits}
+use Rattle.dedb_area.proofs.Writes.{Wrote, keeps_written}
 use Rattle.dedb_area.proofs.areas.Areas.write.Goals as goal
 
 pub returns-clause-keeps_areas : goal.returns-clause-keeps_areas

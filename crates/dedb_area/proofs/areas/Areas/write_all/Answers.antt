@@ -1,4 +1,4 @@
-use Rattle.std.proofs.Common.{◌≡◌, ◌≤◌, ◌∙◌, sym, refl}
+use Rattle.std.proofs.Common.{◌≤◌, ◌∙◌, refl}
 use Rattle.fp_site.proofs.Frames.{only_in_joined, only_in_none}
 use Rattle.fp_model.specs.State.{first_area_set}
 use Rattle.dedb_area.proofs.Writes.{areas_none}

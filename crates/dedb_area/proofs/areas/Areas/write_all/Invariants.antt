@@ -1,4 +1,4 @@
-use Rattle.std.proofs.Common.{◌≡◌, ◌+◌, ℕ, [], length}
+use Rattle.std.proofs.Common.{◌≡◌, [], length}
 use Rattle.fp_site.specs.Site.{ReadsNothing}
 use Rattle.area_redo.specs.Redo.{AreaBytes}
 use Rattle.area_redo.specs.Standing.{Way}

@@ -1,7 +1,3 @@
-use Rattle.std.proofs.Common.{◌≡◌, sym, subst}
-use Rattle.ci_pool.specs.Held.{IsOldestSealed}
-use Rattle.dedb_area.specs.Standing.{Holding}
-use Rattle.dedb_area.proofs.Writes.{areas_none}
 use Rattle.dedb_area.proofs.Everything.{areas_when, sealed_waits}
 use Rattle.dedb_area.proofs.areas.Areas.write_next.Goals as goal
 

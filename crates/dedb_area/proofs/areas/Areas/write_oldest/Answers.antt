@@ -1,4 +1,4 @@
-use Rattle.std.proofs.Common.{◌≡◌, sym, subst, ◌∙◌, ap}
+use Rattle.std.proofs.Common.{subst}
 use Rattle.ci_pool.specs.Held.{IsOldestSealed}
 use Rattle.dedb_area.specs.Standing.{Holding}
 use Rattle.dedb_area.proofs.Writes.{areas_none, oldest_sealed_below}

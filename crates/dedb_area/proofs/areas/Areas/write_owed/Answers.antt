@@ -1,8 +1,8 @@
-use Rattle.std.proofs.Common.{◌≡◌, sym, subst, ◌∙◌, ap}
+use Rattle.std.proofs.Common.{subst, ap}
 use Rattle.std.specs.Prelude.{is_some}
 use Rattle.ci_pool.specs.Held.{IsFirstOwed}
 use Rattle.dedb_area.specs.Standing.{Holding}
-use Rattle.dedb_area.proofs.Writes.{areas_none, first_owed_below}
+use Rattle.dedb_area.proofs.Writes.{first_owed_below}
 use Rattle.dedb_area.proofs.areas.Areas.write_owed.Goals as goal
 
 pub write-requires : goal.write-requires

@@ -4,7 +4,6 @@ use Rattle.std.specs.Ordering.{nat_cmp}
 use Rattle.std.specs.BTreeMap.{get}
 use Rattle.std.proofs.lemmas.Bool.Decides.{nat_tests}
 use Rattle.ci_space.specs.Interval.{empty_bytes}
-use Rattle.held_intervals.specs.Holding.{listed}
 use Rattle.held_intervals.proofs.Holds.{fit_again, unchanged_get}
 use Rattle.dedb_area.proofs.Staged.{area_more, area_looked, fit_one_more, grows_more, grows_same, told_looked, looks_more, reads_then}
 use Rattle.dedb_area.proofs.staging.StagingIntervals.extend.Goals as goal

@@ -1,12 +1,11 @@
-use Rattle.std.proofs.Common.{rules, ◌≡◌, refl, arith}
-use Rattle.std.specs.Prelude.{Some}
+use Rattle.std.proofs.Common.{rules}
 use Rattle.std.specs.Ordering.{nat_cmp}
 use Rattle.std.specs.BTreeMap.{get}
 use Rattle.std.proofs.lemmas.Bool.Decides.{nat_tests}
 use Rattle.held_intervals.specs.Holding.{Fit}
 use Rattle.held_intervals.proofs.Holds.{fit_put, fit_again, unchanged_get}
 use Rattle.dedb_area.proofs.Owing.{by_answer}
-use Rattle.dedb_area.proofs.Staged.{area_put, grows_put, grows_same}
+use Rattle.dedb_area.proofs.Staged.{area_put}
 use Rattle.dedb_area.proofs.staging.StagingIntervals.put.Goals as goal
 
 pub invariant_of-self-clause-fit : goal.invariant_of-self-clause-fit

@@ -1,0 +1,78 @@
+use Rattle.std.proofs.Common.{refl, sym, subst}
+use Rattle.std.proofs.lemmas.Result.{err_from_is_err_and}
+use Rattle.root_anchor.proofs.Exits.{same_fault}
+use Rattle.area_states.specs.States.{HasAnchor}
+use Rattle.ci_pool.specs.Held.{pending_at}
+use Rattle.dedb_area.specs.Anchors.{intervals_of, uncounted, unreadable}
+use Rattle.dedb_area.specs.Staging.{AllPending}
+use Rattle.dedb_area.proofs.AnchorLemmas.{all_pending, begin_first, by_given, some_counted, still_shown}
+use Rattle.dedb_area.proofs.Data.{there}
+use Rattle.dedb_area.proofs.Looks.{looks_then}
+use Rattle.dedb_area.proofs.Staged.{reads_nothing, reads_then}
+use Rattle.dedb_area.proofs.anchors.roots_at.Goals as goal
+
+pub returns-in_err-count-clause-damaged : goal.returns-in_err-count-clause-damaged
+returns-in_err-count-clause-damaged g c = λ told bytes shown s at e.
+    let p = err_from_is_err_and c.from_residual.result c.from_residual.ensures.1 in
+    let is = same_fault _ _ _ _ p.1 p.2 e in (
+      0,
+      begin_first c.args.place.now at (c.in_err-count.ensures.first s at is).1,
+      uncounted refl (c.in_err-count.ensures.damaged told bytes shown s at is),
+    )
+
+pub returns-in_err-count-clause-here : goal.returns-in_err-count-clause-here
+returns-in_err-count-clause-here g c = λ s at e.
+    let p = err_from_is_err_and c.from_residual.result c.from_residual.ensures.1 in
+    (c.in_err-count.ensures.first s at (same_fault _ _ _ _ p.1 p.2 e)).0
+
+pub returns-in_err-count-clause-unread : goal.returns-in_err-count-clause-unread
+returns-in_err-count-clause-unread g c = λ told bytes shown all.
+    let w = there (pending_at c.args.pool.now c.args.set 0) (all 0 (some_counted c.args.place.now (bytes 0))) in
+    reads_nothing g.T.Site.tells_reads g.T.Site.bytes_read c.args.site.now c.counted.new.site
+    (c.counted.ensures.unread w.0 w.1)
+
+pub returns-clause-roots : goal.returns-clause-roots
+returns-clause-roots g c = λ told bytes shown.
+    let place = c.args.place.now in
+    let looks = c.counted.ensures.looks in
+    let shown1 = still_shown g.T.Site.told g.T.Site.disk g.T.Site.faults g.T.Site.holds g.T.Site.keeps place c.args.set
+    bytes c.args.site.now c.counted.new.site c.args.pool.now c.counted.new.pool looks told shown in
+    by_given c.given.result c.read_through-read.result (HasAnchor place (intervals_of place bytes) c.args.anchor)
+    c.given.ensures.same
+    (c.read_through-read.ensures.roots (looks.tells told) bytes shown1 (c.in_ok-count.ensures.count told bytes shown))
+
+pub returns-clause-damaged : goal.returns-clause-damaged
+returns-clause-damaged g c = λ told bytes shown s at e.
+    let place = c.args.place.now in
+    let looks = c.counted.ensures.looks in
+    let shown1 = still_shown g.T.Site.told g.T.Site.disk g.T.Site.faults g.T.Site.holds g.T.Site.keeps place c.args.set
+    bytes c.args.site.now c.counted.new.site c.args.pool.now c.counted.new.pool looks told shown in
+    let found = c.given.ensures.damaged s at e in (
+      found.0,
+      found.3,
+      unreadable (c.read_through-read.ensures.damaged (looks.tells told) bytes shown1
+          (c.in_ok-count.ensures.count told bytes shown) found.0 found.1),
+    )
+
+pub returns-clause-here : goal.returns-clause-here
+returns-clause-here g c = λ s at e. (c.given.ensures.damaged s at e).2
+
+pub returns-clause-unread : goal.returns-clause-unread
+returns-clause-unread g c = λ told bytes shown all.
+    let place = c.args.place.now in
+    let looks = c.counted.ensures.looks in
+    let w = there (pending_at c.args.pool.now c.args.set 0) (all 0 (some_counted place (bytes 0))) in
+    let all1 = all_pending g.T.Site.told g.T.Site.disk g.T.Site.faults g.T.Site.holds g.T.Site.keeps c.args.set
+    c.in_ok-count.count place.shape.ci c.args.site.now c.counted.new.site c.args.pool.now c.counted.new.pool looks
+    (subst (λ n. AllPending c.args.pool.now c.args.set n) (sym (c.in_ok-count.ensures.count told bytes shown)) all) in
+    reads_then g.T.Site.tells_reads g.T.Site.bytes_read c.args.site.now c.counted.new.site c.read_through-read.new.site
+    (reads_nothing g.T.Site.tells_reads g.T.Site.bytes_read c.args.site.now c.counted.new.site
+    (c.counted.ensures.unread w.0 w.1))
+    (c.read_through-read.ensures.unread all1)
+
+pub returns-clause-looks : goal.returns-clause-looks
+returns-clause-looks g c =
+    looks_then g.T.Site.told g.T.Site.disk g.T.Site.faults g.T.Site.holds g.T.Site.keeps c.args.set
+    c.args.place.now.shape.ci (λ s t. g.met.T.Site.lawful s t) c.args.site.now c.counted.new.site
+    c.read_through-read.new.site c.args.pool.now c.counted.new.pool c.read_through-read.new.pool
+    c.counted.ensures.looks c.read_through-read.ensures.looks

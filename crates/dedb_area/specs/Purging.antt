@@ -1,0 +1,51 @@
+-- Control of an area behind a Purge.
+use Rattle.std.specs.Prelude.{◌≡◌, ℕ, ◌+◌, ◌==◌, ◌&&◌, Bool, if◌then◌else◌, List, [], ◌∷◌, min, Option, Some, None}
+use Rattle.ci_space.specs.Interval.{IsInterval}
+use Rattle.fp_model.specs.declared.log.Item.{Item}
+use Rattle.ci_pool.specs.Held.{Held, pending_at, staged_at}
+use Rattle.seq_dependents.specs.Control.{AreEnds, ChangesEnds, begin_in, end_in}
+use Rattle.area_states.specs.declared.place.Place.{Place}
+use Rattle.dedb_area.specs.Anchors.{CountsIntervals}
+use Rattle.dedb_area.specs.Items.{HasFlag, IsChange}
+use Rattle.dedb_area.specs.Standing.{IsUnstaged}
+
+-- Begin moves up by n, at most to the end, and nothing else of control changes.
+pub record IsPurged (n : ℕ) (old new : List ℕ) : Type 0 where
+  pub ends : ChangesEnds old new (min (end_in old) (begin_in old + n)) (end_in old)
+  pub is_interval : IsInterval new
+
+-- Control that may be purged: it counts the intervals, and has two ends.
+pub record MayPurge (place : Place) (control : List ℕ) : Type 0 where
+  pub counts : CountsIntervals place control
+  pub are_ends : AreEnds (begin_in control) (end_in control)
+
+-- an area's intervals with other control
+abbrev pub with_control : List ℕ → (ℕ → List ℕ) → ℕ → List ℕ
+with_control control bytes ci = if ci == 0 then control else bytes ci
+
+-- Where control has an item it is staged with these bytes, and has a flag; all else of the pool stays.
+abbrev pub IsControlStaged : ℕ → List ℕ → List (List Bool) → Held → Held → Option Item → Type 0
+IsControlStaged set control imaged before after None = after ≡ before
+IsControlStaged set control imaged before after (Some item) =
+    ((s k : ℕ) → staged_at after s k ≡ (if s == set && k == 0 then Some control else staged_at before s k))
+    × ((s k : ℕ) → pending_at after s k ≡ pending_at before s k)
+    × (after.clean ≡ before.clean)
+    × HasFlag imaged set 0
+
+-- the items of a Purge
+abbrev pub items_in : Option Item → List Item
+items_in None = []
+items_in (Some item) = item ∷ []
+
+-- where control has an item just control is staged, with these bytes, and else nothing is
+abbrev pub IsJustStaged : ℕ → List ℕ → Held → Option Item → Type 0
+IsJustStaged set control pool None = IsUnstaged pool
+IsJustStaged set control pool (Some item) =
+    (s k : ℕ) → staged_at pool s k ≡ (if s == set && k == 0 then Some control else None)
+
+-- A Purge of an area that is staged: control has an item exactly where its bytes are other then.
+pub record IsPurgeStaged (n set : ℕ) (imaged : Bool) (control : List ℕ) (pool : Held) (item : Option Item) : Type 0 where
+  pub new : List ℕ
+  pub purged : IsPurged n control new
+  pub change : IsChange imaged set 0 control new item
+  pub staged : IsJustStaged set new pool item
