@@ -140,16 +140,31 @@ fn every_stop_keeps_the_newest(rt: HostRuntime) -> Result<(), Fail> {
     Ok(())
 }
 
+/// The call with this number fails alone: whether a site whose calls don't fail finds what was sure.
+fn keeps_at_failure(
+    alloc: Global,
+    call: u64,
+    first: &Defs,
+    second: &Defs,
+) -> Result<bool, AllocError>
+    requires first { AreDefs first.now }
+    requires second { AreDefs second.now }
+{
+    let mut site = MemorySite::new(alloc, &[call])?;
+    let sure = write_two(alloc, &mut site, first, second)?;
+    let mut left = MemorySite::from_snapshot(alloc, site.snapshot_as(1)?, &[])?;
+    Ok(keeps(alloc, &mut left, first, sure))
+}
+
 #[test]
 fn every_failed_call_keeps_the_newest(rt: HostRuntime) -> Result<(), Fail> {
     let first = defs_of(rt.alloc(), FIRST)?;
     let second = defs_of(rt.alloc(), SECOND)?;
     for call in 0..CALLS {
-        let mut site = MemorySite::new(rt.alloc(), &[call])?;
-        let sure = write_two(rt.alloc(), &mut site, &first, &second)?;
-        // What is read of it, by a site whose calls don't fail.
-        let mut left = MemorySite::from_snapshot(rt.alloc(), site.snapshot_as(1)?, &[])?;
-        assert!(rt; keeps(rt.alloc(), &mut left, &first, sure), "call {call}");
+        assert!(rt;
+            keeps_at_failure(rt.alloc(), call, &first, &second)?,
+            "call {call}"
+        );
     }
     Ok(())
 }
@@ -159,8 +174,8 @@ fn without_a_fault_both_are_sure(rt: HostRuntime) -> Result<(), Fail> {
     let first = defs_of(rt.alloc(), FIRST)?;
     let second = defs_of(rt.alloc(), SECOND)?;
     let mut site = MemorySite::new(rt.alloc(), &[])?;
-    assert_eq!(rt; write_two(rt.alloc(), &mut site, &first, &second)?, 2);
-    assert_eq!(rt; newest_number(rt.alloc(), &mut site, &second), Some(2));
+    assert!(rt; write_two(rt.alloc(), &mut site, &first, &second)? == 2);
+    assert!(rt; newest_number(rt.alloc(), &mut site, &second) == Some(2));
     Ok(())
 }
 

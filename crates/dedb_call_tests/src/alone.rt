@@ -106,8 +106,8 @@ fn first_wrong(alloc: Global, steps: &[Step]) -> Result<Option<usize>, Fail> {
 /// The same of these behind the three customers.
 fn wrong_behind(alloc: Global, steps: &[Step]) -> Result<Option<usize>, Fail> {
     let mut all = Vec::new(alloc);
-    for step in FILLED {
-        all.push(step)?;
+    for step in &FILLED {
+        all.push(*step)?;
     }
     for step in steps {
         all.push(*step)?;
@@ -117,8 +117,10 @@ fn wrong_behind(alloc: Global, steps: &[Step]) -> Result<Option<usize>, Fail> {
 
 #[test]
 fn it_is_answered_alone_as_beside_others(rt: HostRuntime) -> Result<(), Fail> {
-    assert_eq!(rt; wrong_behind(rt.alloc(), &GETS)?, None);
-    assert_eq!(rt; wrong_behind(rt.alloc(), &EDITS)?, None);
-    assert_eq!(rt; wrong_behind(rt.alloc(), &REFUSED)?, None);
+    let tables = [GETS.as_slice(), EDITS.as_slice(), REFUSED.as_slice()];
+    for (table, steps) in tables.iter().enumerate() {
+        let wrong = wrong_behind(rt.alloc(), steps)?;
+        assert!(rt; wrong.is_none(), "table {table} at {wrong:?}");
+    }
     Ok(())
 }

@@ -72,7 +72,7 @@ pub(crate) const REGION: u8 = 1;
 pub(crate) const OTHER: u8 = 2;
 
 /// What one turn of a region comes to.
-#[derive(Debug, Drop)]
+#[derive(Drop)]
 pub(crate) enum Turn {
     Answered(Answer),
     /// The lock that the call needs is gained.

@@ -43,7 +43,7 @@ const L1: &[u8] = b"L1\x00\x00\x05\x0c";
 const L2: &[u8] = b"L2\x00\x00\x07\x0c";
 
 /// Three customers, of whom one has two loans.
-pub(crate) const FILLED: [Step; 5] = [
+pub(crate) static FILLED: [Step; 5] = [
     (Asked::Isrt(&[(CUSTOMER, None)], CY), OK, b""),
     (Asked::Isrt(&[(CUSTOMER, None)], ANN), OK, b""),
     (Asked::Isrt(&[(CUSTOMER, None)], BOB), OK, b""),
@@ -52,7 +52,7 @@ pub(crate) const FILLED: [Step; 5] = [
 ];
 
 /// GN goes through the anchors and down, GNP stays below its parent.
-pub(crate) const GETS: [Step; 12] = [
+pub(crate) static GETS: [Step; 12] = [
     (Asked::Get(Get::Unique, false, &[]), OK, BOB),
     (Asked::Get(Get::Next, false, &[]), OK, ANN),
     (Asked::Get(Get::NextInParent, false, &[]), OK, L1),
@@ -84,7 +84,7 @@ pub(crate) const GETS: [Step; 12] = [
 ];
 
 /// A loan is held, replaced and deleted; its root goes with the other, and the parent is forgotten.
-pub(crate) const EDITS: [Step; 14] = [
+pub(crate) static EDITS: [Step; 14] = [
     (Asked::Repl(L1), *b"DJ", b""),
     (Asked::Get(Get::Unique, true, &[C001, (LOAN, None)]), OK, L1),
     (Asked::Repl(b"L3\x00\x00\x05\x0c"), *b"DA", b""),
@@ -106,7 +106,7 @@ pub(crate) const EDITS: [Step; 14] = [
 ];
 
 /// What is refused.
-pub(crate) const REFUSED: [Step; 7] = [
+pub(crate) static REFUSED: [Step; 7] = [
     (Asked::Get(Get::NextInParent, false, &[]), *b"GP", b""),
     (Asked::Fld, *b"AM", b""),
     (Asked::Dlet, *b"DJ", b""),
@@ -123,8 +123,8 @@ pub(crate) const REFUSED: [Step; 7] = [
 /// The same of these behind the three customers.
 fn wrong_behind(alloc: Global, steps: &[Step]) -> Result<Option<usize>, Fail> {
     let mut all = Vec::new(alloc);
-    for step in FILLED {
-        all.push(step)?;
+    for step in &FILLED {
+        all.push(*step)?;
     }
     for step in steps {
         all.push(*step)?;
@@ -134,18 +134,21 @@ fn wrong_behind(alloc: Global, steps: &[Step]) -> Result<Option<usize>, Fail> {
 
 #[test]
 fn gets_go_in_hierarchical_order(rt: HostRuntime) -> Result<(), Fail> {
-    assert_eq!(rt; wrong_behind(rt.alloc(), &GETS)?, None);
+    let wrong = wrong_behind(rt.alloc(), &GETS)?;
+    assert!(rt; wrong.is_none(), "at {wrong:?}");
     Ok(())
 }
 
 #[test]
 fn what_is_held_is_replaced_and_deleted(rt: HostRuntime) -> Result<(), Fail> {
-    assert_eq!(rt; wrong_behind(rt.alloc(), &EDITS)?, None);
+    let wrong = wrong_behind(rt.alloc(), &EDITS)?;
+    assert!(rt; wrong.is_none(), "at {wrong:?}");
     Ok(())
 }
 
 #[test]
 fn what_does_not_fit_is_refused(rt: HostRuntime) -> Result<(), Fail> {
-    assert_eq!(rt; wrong_behind(rt.alloc(), &REFUSED)?, None);
+    let wrong = wrong_behind(rt.alloc(), &REFUSED)?;
+    assert!(rt; wrong.is_none(), "at {wrong:?}");
     Ok(())
 }

@@ -25,14 +25,14 @@ const CAPACITY: u64 = 4;
 
 /// The anchors as they stand, those changed last first, and the ends of the sequential part. There is one for both
 /// areas, since no test puts dependents into more than one.
-#[derive(Debug, Drop)]
+#[derive(Drop)]
 pub(crate) struct Standing {
     pub(crate) anchors: Vec<AnchorChange>,
     pub(crate) ends: AreaEnds,
 }
 
 /// What one transaction leaves, and how many sequential inserts it had queued.
-#[derive(Debug, Drop)]
+#[derive(Drop)]
 pub(crate) struct Left {
     pub(crate) standing: Standing,
     pub(crate) queued: usize,

@@ -65,7 +65,7 @@ const LIST: [Step; 4] = [
 const FIELD_CALL: [Step; 1] = [(Asked::Fld, *b"AM", b"")];
 
 /// A loan, the same once more, one of nobody; then the one that stands.
-const LOANS: [Transaction; 5] = [
+static LOANS: [Transaction; 5] = [
     Transaction {
         beside: Beside::Nothing,
         steps: &ADD_ANN,
@@ -93,7 +93,7 @@ const LOANS: [Transaction; 5] = [
     },
 ];
 
-const CUSTOMERS: [Transaction; 4] = [
+static CUSTOMERS: [Transaction; 4] = [
     Transaction {
         beside: Beside::Nothing,
         steps: &ADD_CY,
@@ -116,7 +116,7 @@ const CUSTOMERS: [Transaction; 4] = [
     },
 ];
 
-const FIELDS: [Transaction; 1] = [Transaction {
+static FIELDS: [Transaction; 1] = [Transaction {
     beside: Beside::Nothing,
     steps: &FIELD_CALL,
     queued: 0,
@@ -124,18 +124,21 @@ const FIELDS: [Transaction; 1] = [Transaction {
 
 #[test]
 fn a_loan_is_made_once_and_to_a_customer(rt: HostRuntime) -> Result<(), Fail> {
-    assert_eq!(rt; first_wrong(rt.alloc(), &LOANS)?, None);
+    let wrong = first_wrong(rt.alloc(), &LOANS)?;
+    assert!(rt; wrong.is_none(), "at {wrong:?}");
     Ok(())
 }
 
 #[test]
 fn customers_are_listed_by_anchor_and_key(rt: HostRuntime) -> Result<(), Fail> {
-    assert_eq!(rt; first_wrong(rt.alloc(), &CUSTOMERS)?, None);
+    let wrong = first_wrong(rt.alloc(), &CUSTOMERS)?;
+    assert!(rt; wrong.is_none(), "at {wrong:?}");
     Ok(())
 }
 
 #[test]
 fn a_field_call_has_no_place_here(rt: HostRuntime) -> Result<(), Fail> {
-    assert_eq!(rt; first_wrong(rt.alloc(), &FIELDS)?, None);
+    let wrong = first_wrong(rt.alloc(), &FIELDS)?;
+    assert!(rt; wrong.is_none(), "at {wrong:?}");
     Ok(())
 }

@@ -6,7 +6,7 @@ use fp_model::Root;
 use std::test::Fail;
 
 /// The folding randomizer sends their keys to anchor 6.
-const MANY: [&[u8]; 21] = [
+static MANY: [&[u8]; 21] = [
     b"C001N1          ",
     b"C009N2          ",
     b"C012N3          ",

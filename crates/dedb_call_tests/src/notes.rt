@@ -33,7 +33,7 @@ const TWO_NOTES: [Step; 4] = [
     ),
 ];
 
-const EACH: [Transaction; 6] = [
+static EACH: [Transaction; 6] = [
     Transaction {
         beside: Beside::Nothing,
         steps: &ADD_ANN,
@@ -66,7 +66,7 @@ const EACH: [Transaction; 6] = [
     },
 ];
 
-const UNSEEN: [Transaction; 2] = [
+static UNSEEN: [Transaction; 2] = [
     Transaction {
         beside: Beside::Nothing,
         steps: &ADD_ANN,
@@ -81,12 +81,14 @@ const UNSEEN: [Transaction; 2] = [
 
 #[test]
 fn each_note_is_queued(rt: HostRuntime) -> Result<(), Fail> {
-    assert_eq!(rt; first_wrong(rt.alloc(), &EACH)?, None);
+    let wrong = first_wrong(rt.alloc(), &EACH)?;
+    assert!(rt; wrong.is_none(), "at {wrong:?}");
     Ok(())
 }
 
 #[test]
 fn a_transaction_does_not_see_its_notes(rt: HostRuntime) -> Result<(), Fail> {
-    assert_eq!(rt; first_wrong(rt.alloc(), &UNSEEN)?, None);
+    let wrong = first_wrong(rt.alloc(), &UNSEEN)?;
+    assert!(rt; wrong.is_none(), "at {wrong:?}");
     Ok(())
 }

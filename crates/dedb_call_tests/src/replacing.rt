@@ -66,7 +66,7 @@ const SEEN: [Step; 2] = [(SEE, OK, ANNA), (SEE_LOAN, OK, L1_MORE)];
 /// The other region holds the customer's anchor.
 const WAITING: [Step; 1] = [(HOLD, WAITS, b"")];
 
-const TRANSACTIONS: [Transaction; 7] = [
+static TRANSACTIONS: [Transaction; 7] = [
     Transaction {
         beside: Beside::Nothing,
         steps: &ADD,
@@ -106,6 +106,7 @@ const TRANSACTIONS: [Transaction; 7] = [
 
 #[test]
 fn what_is_replaced_is_what_the_next_transaction_gets(rt: HostRuntime) -> Result<(), Fail> {
-    assert_eq!(rt; first_wrong(rt.alloc(), &TRANSACTIONS)?, None);
+    let wrong = first_wrong(rt.alloc(), &TRANSACTIONS)?;
+    assert!(rt; wrong.is_none(), "at {wrong:?}");
     Ok(())
 }

@@ -69,7 +69,7 @@ const BELOW: Asked = Asked::Get(Get::NextInParent, false, &[]);
 const NOTE_BELOW: Asked = Asked::Get(Get::NextInParent, false, &[(AUDIT, None)]);
 
 /// Notes of two transactions, with a loan and another customer.
-const FILLED: [Transaction; 5] = [
+static FILLED: [Transaction; 5] = [
     Transaction {
         beside: Beside::Nothing,
         steps: &ADD_CY,
@@ -198,7 +198,7 @@ const ANEW: [Step; 4] = [
     (BELOW, *b"GE", b""),
 ];
 
-const SEEN: [Transaction; 6] = [
+static SEEN: [Transaction; 6] = [
     Transaction {
         beside: Beside::Nothing,
         steps: &SHOW,
@@ -231,7 +231,7 @@ const SEEN: [Transaction; 6] = [
     },
 ];
 
-const EDITED: [Transaction; 5] = [
+static EDITED: [Transaction; 5] = [
     Transaction {
         beside: Beside::Nothing,
         steps: &HELD,
@@ -268,7 +268,7 @@ const SHOW_LAST: [Step; 5] = [
 ];
 
 /// Of five notes the part has room for four. Behind a purge of two there is room for the sixth.
-const TOO_MANY: [Transaction; 8] = [
+static TOO_MANY: [Transaction; 8] = [
     Transaction {
         beside: Beside::Nothing,
         steps: &ADD_ANN,
@@ -314,8 +314,8 @@ const TOO_MANY: [Transaction; 8] = [
 /// These transactions behind those that fill the databases.
 fn wrong_behind(alloc: Global, transactions: &[Transaction]) -> Result<Option<usize>, Fail> {
     let mut all = Vec::new(alloc);
-    for one in FILLED {
-        all.push(one)?;
+    for one in &FILLED {
+        all.push(*one)?;
     }
     for one in transactions {
         all.push(*one)?;
@@ -325,18 +325,21 @@ fn wrong_behind(alloc: Global, transactions: &[Transaction]) -> Result<Option<us
 
 #[test]
 fn notes_are_got_newest_first(rt: HostRuntime) -> Result<(), Fail> {
-    assert_eq!(rt; wrong_behind(rt.alloc(), &SEEN)?, None);
+    let wrong = wrong_behind(rt.alloc(), &SEEN)?;
+    assert!(rt; wrong.is_none(), "at {wrong:?}");
     Ok(())
 }
 
 #[test]
 fn a_note_is_neither_replaced_nor_deleted(rt: HostRuntime) -> Result<(), Fail> {
-    assert_eq!(rt; wrong_behind(rt.alloc(), &EDITED)?, None);
+    let wrong = wrong_behind(rt.alloc(), &EDITED)?;
+    assert!(rt; wrong.is_none(), "at {wrong:?}");
     Ok(())
 }
 
 #[test]
 fn what_is_purged_is_not_got(rt: HostRuntime) -> Result<(), Fail> {
-    assert_eq!(rt; first_wrong(rt.alloc(), &TOO_MANY)?, None);
+    let wrong = first_wrong(rt.alloc(), &TOO_MANY)?;
+    assert!(rt; wrong.is_none(), "at {wrong:?}");
     Ok(())
 }

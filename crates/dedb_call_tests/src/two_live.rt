@@ -23,7 +23,7 @@ const ADD_BOB: Asked = Asked::Isrt(&[(CUSTOMER, None)], BOB);
 const DONE: Came = Came::Answers(OK, b"");
 
 /// Two customers, each added by a region of its own.
-const ADDED: [RegionTurn; 6] = [
+static ADDED: [RegionTurn; 6] = [
     (1, Doing::Call(ADD_ANN, Came::Gains)),
     (2, Doing::Call(ADD_BOB, Came::Gains)),
     (1, Doing::Call(ADD_ANN, DONE)),
@@ -37,7 +37,7 @@ const HOLD_ANN: Asked = Asked::Get(Get::Unique, true, &[C001]);
 const HOLD_BOB: Asked = Asked::Get(Get::Unique, true, &[C003]);
 
 /// Each gets one with a hold and asks for the other's. The second to ask is refused; the first then gets both.
-const EITHER_ORDER: [RegionTurn; 10] = [
+static EITHER_ORDER: [RegionTurn; 10] = [
     (1, Doing::Call(HOLD_ANN, Came::Gains)),
     (2, Doing::Call(HOLD_BOB, Came::Gains)),
     (1, Doing::Call(HOLD_ANN, Came::Answers(OK, ANN))),
@@ -64,7 +64,7 @@ const OWES_BOB: Asked = Asked::Get(Get::Unique, false, &[C003, (LOAN, None)]);
 /// Each lends to one and then asks for the other's anchor. The second to ask is refused, and what it lent isn't there.
 /// As long as the first waits for Bob's anchor, the second may see Bob and not ask for Ann's. Behind the first's commit
 /// both loans are there.
-const LENT: [RegionTurn; 19] = [
+static LENT: [RegionTurn; 19] = [
     (1, Doing::Call(LEND_ANN, Came::Gains)),
     (1, Doing::Call(LEND_ANN, DONE)),
     (2, Doing::Call(LEND_BOB, Came::Gains)),
@@ -89,7 +89,7 @@ const LENT: [RegionTurn; 19] = [
 const SEE_ANN: Asked = Asked::Get(Get::Unique, false, &[C001]);
 
 /// Both see a customer. The first that asks to hold it waits for the other, and the other may not wait for it.
-const RAISED: [RegionTurn; 9] = [
+static RAISED: [RegionTurn; 9] = [
     (1, Doing::Call(SEE_ANN, Came::Gains)),
     (2, Doing::Call(SEE_ANN, Came::Gains)),
     (1, Doing::Call(SEE_ANN, Came::Answers(OK, ANN))),
@@ -104,8 +104,8 @@ const RAISED: [RegionTurn; 9] = [
 /// These turns behind those that add the customers.
 fn other_behind(alloc: Global, turns: &[RegionTurn]) -> Result<Option<usize>, Fail> {
     let mut all = Vec::new(alloc);
-    for turn in ADDED {
-        all.push(turn)?;
+    for turn in &ADDED {
+        all.push(*turn)?;
     }
     for turn in turns {
         all.push(*turn)?;
@@ -115,18 +115,21 @@ fn other_behind(alloc: Global, turns: &[RegionTurn]) -> Result<Option<usize>, Fa
 
 #[test]
 fn of_two_that_come_in_either_order_one_is_refused(rt: HostRuntime) -> Result<(), Fail> {
-    assert_eq!(rt; other_behind(rt.alloc(), &EITHER_ORDER)?, None);
+    let wrong = other_behind(rt.alloc(), &EITHER_ORDER)?;
+    assert!(rt; wrong.is_none(), "at {wrong:?}");
     Ok(())
 }
 
 #[test]
 fn what_was_lent_is_seen_behind_the_commit(rt: HostRuntime) -> Result<(), Fail> {
-    assert_eq!(rt; other_behind(rt.alloc(), &LENT)?, None);
+    let wrong = other_behind(rt.alloc(), &LENT)?;
+    assert!(rt; wrong.is_none(), "at {wrong:?}");
     Ok(())
 }
 
 #[test]
 fn of_two_that_raise_a_lock_one_is_refused(rt: HostRuntime) -> Result<(), Fail> {
-    assert_eq!(rt; other_behind(rt.alloc(), &RAISED)?, None);
+    let wrong = other_behind(rt.alloc(), &RAISED)?;
+    assert!(rt; wrong.is_none(), "at {wrong:?}");
     Ok(())
 }

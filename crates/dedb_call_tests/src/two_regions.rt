@@ -36,7 +36,7 @@ const BOB_ALONE: [Step; 2] = [
     (Asked::Get(Get::Unique, true, &[C001]), WAITS, b""),
 ];
 
-const TRANSACTIONS: [Transaction; 5] = [
+static TRANSACTIONS: [Transaction; 5] = [
     Transaction {
         beside: Beside::Nothing,
         steps: &ADD_ANN,
@@ -66,6 +66,7 @@ const TRANSACTIONS: [Transaction; 5] = [
 
 #[test]
 fn a_second_anchor_that_another_holds_is_waited_for(rt: HostRuntime) -> Result<(), Fail> {
-    assert_eq!(rt; first_wrong(rt.alloc(), &TRANSACTIONS)?, None);
+    let wrong = first_wrong(rt.alloc(), &TRANSACTIONS)?;
+    assert!(rt; wrong.is_none(), "at {wrong:?}");
     Ok(())
 }

@@ -40,53 +40,58 @@ fn refused(
     Ok((said(alloc, &status)?, site.contents(0).is_empty()))
 }
 
-// Answers of a run, with what is said of each and its number.
-const ANSWERS: [(Status, &str); 14] = [
-    (Status::Done, "|0"),
-    (
-        Status::Usage,
-        "usage: ims_fp define DIR | run DIR | show DIR | log DIR | migrate DIR | audit DIR|1",
-    ),
-    (
-        Status::Schedule(ScheduleFault::BadToken(3)),
-        "schedule: bad token 3|4",
-    ),
-    (
-        Status::Schedule(ScheduleFault::TooMany),
-        "schedule: too many tokens|4",
-    ),
-    (
-        Status::Schedule(ScheduleFault::TooLong),
-        "schedule: too long|4",
-    ),
-    (Status::ReadFault, "read fault|5"),
-    (Status::SiteFault, "site fault|6"),
-    (Status::Foreign, "foreign log|7"),
-    (
-        Status::Damaged { set: 0, at: 208 },
-        "damaged: data set 0 at 208|8",
-    ),
-    (Status::Line { number: 12 }, "messages: line 12|9"),
-    (Status::NoMemory, "no memory|10"),
-    (
-        Status::NotBuilt(Part::Definitions),
-        "not built: definitions|11",
-    ),
-    (Status::OldFormat, "old format|12"),
-    (Status::Illegal { entry: 2 }, "illegal entry 2|13"),
+const USAGE: &str =
+    "usage: ims_fp define DIR | run DIR | show DIR | log DIR | migrate DIR | audit DIR|1";
+
+// What is said of each answer of a run, by its place below.
+static ANSWERS: [&str; 14] = [
+    "|0",
+    USAGE,
+    "schedule: bad token 3|4",
+    "schedule: too many tokens|4",
+    "schedule: too long|4",
+    "read fault|5",
+    "site fault|6",
+    "foreign log|7",
+    "damaged: data set 0 at 208|8",
+    "messages: line 12|9",
+    "no memory|10",
+    "not built: definitions|11",
+    "old format|12",
+    "illegal entry 2|13",
 ];
+
+fn answer(place: usize) -> Status {
+    match place {
+        0 => Status::Done,
+        1 => Status::Usage,
+        2 => Status::Schedule(ScheduleFault::BadToken(3)),
+        3 => Status::Schedule(ScheduleFault::TooMany),
+        4 => Status::Schedule(ScheduleFault::TooLong),
+        5 => Status::ReadFault,
+        6 => Status::SiteFault,
+        7 => Status::Foreign,
+        8 => Status::Damaged { set: 0, at: 208 },
+        9 => Status::Line { number: 12 },
+        10 => Status::NoMemory,
+        11 => Status::NotBuilt(Part::Definitions),
+        12 => Status::OldFormat,
+        _ => Status::Illegal { entry: 2 },
+    }
+}
 
 #[test]
 fn answers_of_the_run_have_their_texts(rt: HostRuntime) -> Result<(), Fail> {
-    for (status, wanted) in ANSWERS {
-        assert_eq!(rt; said(rt.alloc(), &status)?.as_str(), wanted);
+    for (place, wanted) in ANSWERS.iter().enumerate() {
+        let said = said(rt.alloc(), &answer(place))?;
+        assert!(rt; said.as_str() == *wanted, "row {place}");
     }
     Ok(())
 }
 
 const LOOP: Name = Name(*b"LOOP    ");
 
-const SCRIPTS_FAULTS: [(ScriptFault, &str); 5] = [
+static SCRIPTS_FAULTS: [(ScriptFault, &str); 5] = [
     (ScriptFault::Syntax(2), "scripts: syntax at line 2|3"),
     (
         ScriptFault::UnknownName(7),
@@ -105,14 +110,15 @@ const SCRIPTS_FAULTS: [(ScriptFault, &str); 5] = [
 
 #[test]
 fn faults_of_scripts_have_their_texts(rt: HostRuntime) -> Result<(), Fail> {
-    for (fault, wanted) in SCRIPTS_FAULTS {
-        assert_eq!(rt; said(rt.alloc(), &Status::Scripts(fault))?.as_str(), wanted);
+    for (place, (fault, wanted)) in SCRIPTS_FAULTS.iter().enumerate() {
+        let said = said(rt.alloc(), &Status::Scripts(*fault))?;
+        assert!(rt; said.as_str() == *wanted, "row {place}");
     }
     Ok(())
 }
 
 // What is said of each fault of the definitions, by its place below.
-const DEFINITIONS_FAULTS: [&str; 8] = [
+static DEFINITIONS_FAULTS: [&str; 8] = [
     "definitions: not TOML|2",
     "definitions: missing pool|2",
     "definitions: unknown pool|2",
@@ -142,12 +148,12 @@ fn faults_of_definitions_have_their_texts(rt: HostRuntime) -> Result<(), Fail> {
     for (place, wanted) in DEFINITIONS_FAULTS.iter().enumerate() {
         let fault = definitions_fault(rt.alloc(), place)?;
         let said = said(rt.alloc(), &Status::Definitions(fault))?;
-        assert_eq!(rt; said.as_str(), *wanted);
+        assert!(rt; said.as_str() == *wanted, "row {place}");
     }
     Ok(())
 }
 
-const NO_FORMS: [&[&str]; 11] = [
+static NO_FORMS: [&[&str]; 11] = [
     &[],
     &["run"],
     &["run", ""],
@@ -163,20 +169,15 @@ const NO_FORMS: [&[&str]; 11] = [
 
 #[test]
 fn words_in_no_form_are_usage(rt: HostRuntime) -> Result<(), Fail> {
-    for form in NO_FORMS {
+    for (place, form) in NO_FORMS.iter().enumerate() {
         let (said, same) = refused(rt.alloc(), form, GOOD, "", "")?;
-        assert_eq!(rt;
-            said.as_str(),
-            "usage: ims_fp define DIR | run DIR | show DIR | log DIR | migrate DIR | audit DIR|1",
-            "at {form:?}"
-        );
-        assert!(rt; same);
+        assert!(rt; said.as_str() == USAGE && same, "row {place}");
     }
     Ok(())
 }
 
 // A command, definitions, scripts and a schedule, and what is said.
-const REFUSALS: [(&str, &str, &str, &str, &str); 8] = [
+static REFUSALS: [(&str, &str, &str, &str, &str); 8] = [
     (
         "run",
         "",
@@ -225,10 +226,9 @@ const REFUSALS: [(&str, &str, &str, &str, &str); 8] = [
 
 #[test]
 fn the_first_fault_of_the_parts_is_told(rt: HostRuntime) -> Result<(), Fail> {
-    for (command, definitions, scripts, schedule, wanted) in REFUSALS {
+    for (place, (command, definitions, scripts, schedule, wanted)) in REFUSALS.iter().enumerate() {
         let (said, same) = refused(rt.alloc(), &[command, "D"], definitions, scripts, schedule)?;
-        assert_eq!(rt; said.as_str(), wanted);
-        assert!(rt; same);
+        assert!(rt; said.as_str() == *wanted && same, "row {place}");
     }
     Ok(())
 }

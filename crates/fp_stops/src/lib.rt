@@ -1,14 +1,10 @@
-//! Tests over sites in memory: logs, restarts and whole runs that are stopped at each call, and what they answer.
+//! Tests over sites in memory: whole runs that are stopped at each call, and what commands answer and send.
 #![tactic(auto)]
 
 #[cfg(test)]
 mod commands;
 #[cfg(test)]
 mod formats;
-#[cfg(test)]
-mod logs;
-#[cfg(test)]
-mod restarts;
 #[cfg(test)]
 mod runs;
 #[cfg(test)]

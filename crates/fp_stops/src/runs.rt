@@ -5,7 +5,7 @@ use crate::systems::{EACH_SEALED, ONE_REGION, PAIRS};
 use std::test::Fail;
 
 // Messages one after another, and the lines that they are answered.
-const REPLIES: [(&str, &str); 15] = [
+static REPLIES: [(&str, &str); 15] = [
     ("", ""),
     ("T1 DEPOSIT A001 10\n", "T1 OK NEW\n"),
     ("T1 DEPOSIT A009 10\n", "T1 NO ROLB 1\n"),
@@ -44,20 +44,16 @@ const REPLIES: [(&str, &str); 15] = [
 
 #[test]
 fn messages_have_their_replies(rt: HostRuntime) -> Result<(), Fail> {
-    for (messages, sent) in REPLIES {
+    for (place, (messages, sent)) in REPLIES.iter().enumerate() {
         let mut folder = Folder::new(rt.alloc(), ONE_REGION)?;
-        let made = folder.take(Step::Define)?;
-        let ran = folder.take(Step::Run {
-            schedule: EACH_SEALED,
-            messages,
-            sent,
-        })?;
-        assert!(rt; made && ran, "at {messages:?}");
+        let made = folder.tells("define", "")?;
+        let ran = folder.runs(EACH_SEALED, messages, sent)?;
+        assert!(rt; made && ran, "row {place}");
     }
     Ok(())
 }
 
-const RUNS: [Row; 9] = [
+static RUNS: [Row; 9] = [
     // A deposit and a rollback are these groups.
     Row {
         system: ONE_REGION,
@@ -207,12 +203,13 @@ const RUNS: [Row; 9] = [
 
 #[test]
 fn each_run_comes_to_what_is_wanted(rt: HostRuntime) -> Result<(), Fail> {
-    assert_eq!(rt; first_wrong(rt.alloc(), &RUNS)?, None);
+    let wrong = first_wrong(rt.alloc(), &RUNS)?;
+    assert!(rt; wrong.is_none(), "at {wrong:?}");
     Ok(())
 }
 
 // A schedule of two regions, messages, what is sent, and how many bytes the groups of the log have.
-const SCHEDULES: [(&str, &str, &str, usize); 8] = [
+static SCHEDULES: [(&str, &str, &str, usize); 8] = [
     (
         "",
         "T1 DEPOSIT A001 5\nT2 WDRAW A001 105\nT3 ASK A001\n",
@@ -265,23 +262,21 @@ const SCHEDULES: [(&str, &str, &str, usize); 8] = [
 
 #[test]
 fn a_schedule_says_whose_turn_it_is(rt: HostRuntime) -> Result<(), Fail> {
-    for (schedule, messages, sent, length) in SCHEDULES {
+    for (place, (schedule, messages, sent, length)) in SCHEDULES.iter().enumerate() {
         let mut folder = Folder::new(rt.alloc(), PAIRS)?;
-        let made = folder.take(Step::Define)?;
-        let ran = folder.take(Step::Run {
-            schedule,
-            messages,
-            sent,
-        })?;
-        let long = folder.take(Step::GroupsLength(length))?;
-        assert!(rt; made && ran && long, "at {schedule:?} {messages:?}");
+        let made = folder.tells("define", "")?;
+        let ran = folder.runs(schedule, messages, sent)?;
+        let long = folder.has_groups_of(*length);
+        assert!(rt; made && ran && long, "row {place}");
     }
     Ok(())
 }
 
+const TWO_DEPOSITS: &str = "T1 DEPOSIT A001 10\nT2 DEPOSIT A001 20\n";
+
 // Schedules of two deposits before a line that is too long, and what was sent by then: what a LOG sealed, and nothing
 // else. A question behind it is answered by what is left.
-const CUT_SHORT: [(&str, &str, &str); 4] = [
+static CUT_SHORT: [(&str, &str, &str); 4] = [
     ("", "", "T3 OK 100\n"),
     ("IN IN IN", "", "T3 OK 100\n"),
     ("IN R1 R1 R1 R1 IN R1 R1 R1 R1", "", "T3 OK 100\n"),
@@ -294,21 +289,12 @@ const CUT_SHORT: [(&str, &str, &str); 4] = [
 
 #[test]
 fn what_is_not_sealed_is_lost_at_a_line_that_is_too_long(rt: HostRuntime) -> Result<(), Fail> {
-    for (schedule, sent, asked) in CUT_SHORT {
+    for (place, (schedule, sent, asked)) in CUT_SHORT.iter().enumerate() {
         let mut folder = Folder::new(rt.alloc(), PAIRS)?;
-        let made = folder.take(Step::Define)?;
-        let ended = folder.take(Step::RunTooLong {
-            schedule,
-            messages: "T1 DEPOSIT A001 10\nT2 DEPOSIT A001 20\n",
-            number: 3,
-            sent,
-        })?;
-        let left = folder.take(Step::Run {
-            schedule: "",
-            messages: "T3 ASK A001\n",
-            sent: asked,
-        })?;
-        assert!(rt; made && ended && left, "at {schedule:?}");
+        let made = folder.tells("define", "")?;
+        let ended = folder.runs_too_long(schedule, TWO_DEPOSITS, 3, sent)?;
+        let left = folder.runs("", "T3 ASK A001\n", asked)?;
+        assert!(rt; made && ended && left, "row {place}");
     }
     Ok(())
 }

@@ -71,7 +71,7 @@ pub(crate) fn run(
 }
 
 // What a command answers.
-#[derive(Clone, Copy, Debug)]
+#[derive(Clone, Copy)]
 pub(crate) enum Answer {
     Done,
     ReadFault,
@@ -102,7 +102,6 @@ impl Answer {
 }
 
 // A step, and what is wanted of it.
-#[derive(Clone, Copy, Debug)]
 pub(crate) enum Step {
     // The databases are made.
     Define,
@@ -111,12 +110,6 @@ pub(crate) enum Step {
         schedule: &'static str,
         messages: &'static str,
         sent: &'static str,
-    },
-    // A run is done, and sends so many lines.
-    RunLines {
-        schedule: &'static str,
-        messages: &'static str,
-        lines: usize,
     },
     // A run of these messages, and of one that is too long behind them.
     RunTooLong {
@@ -185,8 +178,18 @@ impl Folder {
         Ok(status == answer.status(length) && sent.as_slice() == wanted.as_bytes())
     }
 
-    // Whether a run is done.
-    fn runs(&mut self, schedule: &str, messages: &str, wanted: &str) -> Result<bool, AllocError> {
+    // Whether a command that reads no messages is done, and sends this.
+    pub(crate) fn tells(&mut self, command: &str, wanted: &str) -> Result<bool, AllocError> {
+        self.ends(command, NOTHING, Answer::Done, wanted)
+    }
+
+    // Whether a run is done, and sends these lines.
+    pub(crate) fn runs(
+        &mut self,
+        schedule: &str,
+        messages: &str,
+        wanted: &str,
+    ) -> Result<bool, AllocError> {
         let input = Input {
             schedule,
             messages: messages.as_bytes(),
@@ -196,7 +199,7 @@ impl Folder {
     }
 
     // Whether a run is done and sends so many lines.
-    fn runs_lines(
+    pub(crate) fn runs_lines(
         &mut self,
         schedule: &str,
         messages: &str,
@@ -212,7 +215,7 @@ impl Folder {
     }
 
     // Whether a run of these messages and one that is too long ends so.
-    fn runs_too_long(
+    pub(crate) fn runs_too_long(
         &mut self,
         schedule: &str,
         messages: &str,
@@ -260,27 +263,27 @@ impl Folder {
         self.site.contents(0).get(front..).unwrap_or(b"")
     }
 
+    // Whether the groups of the log have so many bytes.
+    pub(crate) fn has_groups_of(&self, length: usize) -> bool {
+        self.groups().len() == length.saturating_add(1)
+    }
+
     // Takes a step. Whether it came to what is wanted.
-    pub(crate) fn take(&mut self, step: Step) -> Result<bool, AllocError> {
-        match step {
-            Step::Define => self.ends("define", NOTHING, Answer::Done, ""),
+    pub(crate) fn take(&mut self, step: &Step) -> Result<bool, AllocError> {
+        match *step {
+            Step::Define => self.tells("define", ""),
             Step::Run {
                 schedule,
                 messages,
                 sent,
             } => self.runs(schedule, messages, sent),
-            Step::RunLines {
-                schedule,
-                messages,
-                lines,
-            } => self.runs_lines(schedule, messages, lines),
             Step::RunTooLong {
                 schedule,
                 messages,
                 number,
                 sent,
             } => self.runs_too_long(schedule, messages, number, sent),
-            Step::Tell { command, sent } => self.ends(command, NOTHING, Answer::Done, sent),
+            Step::Tell { command, sent } => self.tells(command, sent),
             Step::End {
                 command,
                 failing,
@@ -289,7 +292,7 @@ impl Folder {
             } => self.ends(command, one_deposit(failing), answer, sent),
             Step::Foreign { command } => self.is_foreign(command),
             Step::Put { back, bytes } => Ok(self.put(back, bytes)),
-            Step::GroupsLength(length) => Ok(self.groups().len() == length.saturating_add(1)),
+            Step::GroupsLength(length) => Ok(self.has_groups_of(length)),
             Step::Groups(groups) => Ok(self.groups() == groups),
         }
     }
@@ -305,7 +308,7 @@ pub(crate) struct Row {
 fn wrong_step(alloc: Global, row: &Row) -> Result<Option<usize>, AllocError> {
     let mut folder = Folder::new(alloc, row.system)?;
     for (place, step) in row.steps.iter().enumerate() {
-        if !folder.take(*step)? {
+        if !folder.take(step)? {
             return Ok(Some(place));
         }
     }
@@ -336,7 +339,11 @@ fn one_deposit(failing: &[u64]) -> Input<'_> {
 
 // How many newlines a text has.
 fn count_lines(text: &[u8]) -> usize {
-    text.iter()
-        .filter(|byte: &&u8| -> bool { **byte == b'\n' })
-        .count()
+    let mut lines = 0usize;
+    for byte in text {
+        if *byte == b'\n' {
+            lines = lines.saturating_add(1);
+        }
+    }
+    lines
 }

@@ -1,6 +1,7 @@
 //! What `show`, `log` and `audit` send behind a run, also where bytes of the log were changed.
 use crate::steps::{Answer, Folder, Row, Step, first_wrong};
 use crate::systems::{FOUR_REGIONS, TWO_REGIONS};
+use std::alloc::{AllocError, Global};
 use std::test::Fail;
 
 // A run, and what `show` and `log` send behind it.
@@ -12,7 +13,7 @@ struct Text {
     logged: &'static str,
 }
 
-const TEXTS: [Text; 6] = [
+static TEXTS: [Text; 6] = [
     Text {
         schedule: "",
         messages: "",
@@ -77,26 +78,20 @@ group 1 entries 1
     },
 ];
 
+// Whether a run on a new site sends its lines, and `show` and `log` behind it their texts.
+fn is_told(alloc: Global, text: &Text) -> Result<bool, AllocError> {
+    let mut folder = Folder::new(alloc, TWO_REGIONS)?;
+    let made = folder.tells("define", "")?;
+    let ran = folder.runs(text.schedule, text.messages, text.sent)?;
+    let shown = folder.tells("show", text.shown)?;
+    let logged = folder.tells("log", text.logged)?;
+    Ok(made && ran && shown && logged)
+}
+
 #[test]
 fn databases_and_log_are_these_texts(rt: HostRuntime) -> Result<(), Fail> {
-    for text in &TEXTS {
-        let mut folder = Folder::new(rt.alloc(), TWO_REGIONS)?;
-        let run = Step::Run {
-            schedule: text.schedule,
-            messages: text.messages,
-            sent: text.sent,
-        };
-        let show = Step::Tell {
-            command: "show",
-            sent: text.shown,
-        };
-        let log = Step::Tell {
-            command: "log",
-            sent: text.logged,
-        };
-        for step in [Step::Define, run, show, log] {
-            assert!(rt; folder.take(step)?, "at {step:?}");
-        }
+    for (place, text) in TEXTS.iter().enumerate() {
+        assert!(rt; is_told(rt.alloc(), text)?, "text {place}");
     }
     Ok(())
 }
@@ -114,7 +109,7 @@ const THREE_LINES: Step = Step::Run {
     sent: "T1 OK NEW\nT3 OK NEW\nT2 OK 110\n",
 };
 
-const TOLD: [Row; 7] = [
+static TOLD: [Row; 7] = [
     // Where the last gate is open and has nothing behind it, the groups before it are sent by `log` alone.
     Row {
         system: TWO_REGIONS,
@@ -241,7 +236,8 @@ const TOLD: [Row; 7] = [
 
 #[test]
 fn each_command_tells_what_is_wanted(rt: HostRuntime) -> Result<(), Fail> {
-    assert_eq!(rt; first_wrong(rt.alloc(), &TOLD)?, None);
+    let wrong = first_wrong(rt.alloc(), &TOLD)?;
+    assert!(rt; wrong.is_none(), "at {wrong:?}");
     Ok(())
 }
 
@@ -279,7 +275,7 @@ T10 ASK A001
 ";
 
 // Schedules of four regions.
-const MIXED_SCHEDULES: [&str; 3] = [
+static MIXED_SCHEDULES: [&str; 3] = [
     "",
     "IN IN IN IN IN IN IN IN IN IN IN IN IN IN IN IN IN IN IN IN IN IN IN IN IN IN IN IN IN IN IN IN IN IN IN IN IN IN IN IN",
     "IN R1 R2 R3 R4
@@ -299,20 +295,12 @@ const MIXED_SHOWN: &str =
 
 #[test]
 fn a_mix_comes_to_one_text_by_each_schedule(rt: HostRuntime) -> Result<(), Fail> {
-    for schedule in MIXED_SCHEDULES {
+    for (place, schedule) in MIXED_SCHEDULES.iter().enumerate() {
         let mut folder = Folder::new(rt.alloc(), FOUR_REGIONS)?;
-        let run = Step::RunLines {
-            schedule,
-            messages: MIXED,
-            lines: 30,
-        };
-        let show = Step::Tell {
-            command: "show",
-            sent: MIXED_SHOWN,
-        };
-        for step in [Step::Define, run, show] {
-            assert!(rt; folder.take(step)?, "at {step:?}");
-        }
+        let made = folder.tells("define", "")?;
+        let ran = folder.runs_lines(schedule, MIXED, 30)?;
+        let shown = folder.tells("show", MIXED_SHOWN)?;
+        assert!(rt; made && ran && shown, "schedule {place}");
     }
     Ok(())
 }

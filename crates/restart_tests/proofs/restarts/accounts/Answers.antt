@@ -1,8 +1,8 @@
 use Rattle.std.proofs.Common.{◌≡◌, sym, subst, rules, true}
 use Rattle.std.specs.Prelude.{codes}
 use Rattle.fp_model.specs.WellFormed.{IsMsdbDef}
-use Rattle.fp_stops.proofs.Samples.{accounts, accounts_good}
-use Rattle.fp_stops.proofs.restarts.accounts.Goals as goal
+use Rattle.restart_tests.proofs.Samples.{accounts, accounts_good}
+use Rattle.restart_tests.proofs.restarts.accounts.Goals as goal
 
 pub returns : goal.returns
 returns c =

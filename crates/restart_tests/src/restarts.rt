@@ -261,12 +261,16 @@ fn a_restart_reads_each_byte_once(rt: HostRuntime) -> Result<(), Fail> {
     let defs = defs(alloc, List::new(alloc))?;
     let mut site = two_written(alloc, &defs)?;
     let gate = FIRST + 2 * (1 + 8 + 29 + 17);
-    assert_eq!(rt; read_once(alloc, &defs, b'S', &mut site), Ok(gate));
+    assert!(rt; read_once(alloc, &defs, b'S', &mut site) == Ok(gate));
     Ok(())
 }
 
-fn found(alloc: Global, count: u64, segments: &[u8]) -> Result<(u64, Bytes), AllocError> {
-    Ok((count, Bytes::from_slice(alloc, segments)?))
+// Whether a restart gave so many entries and these segments.
+fn is_found(answer: &Result<(u64, Bytes), RestartFault>, count: u64, segments: &[u8]) -> bool {
+    match answer {
+        Ok((entries, bytes)) => *entries == count && bytes.as_slice() == segments,
+        Err(_) => false,
+    }
 }
 
 #[test]
@@ -275,7 +279,7 @@ fn a_restart_gives_the_segments_of_the_last_group(rt: HostRuntime) -> Result<(),
     let defs = defs(alloc, List::new(alloc))?;
     let mut site = two_written(alloc, &defs)?;
     let answer = read(alloc, &defs, b'S', &mut site);
-    assert_eq!(rt; answer, Ok(found(alloc, 2, b"A001paidB002open")?));
+    assert!(rt; is_found(&answer, 2, b"A001paidB002open"));
     Ok(())
 }
 
@@ -295,39 +299,28 @@ fn a_log_goes_on_behind_what_a_restart_found(rt: HostRuntime) -> Result<(), Fail
     let alloc = rt.alloc();
     let defs = defs(alloc, List::new(alloc))?;
     let mut site = two_written(alloc, &defs)?;
-    assert_eq!(rt; go_on(alloc, &defs, &mut site), Ok(()));
+    assert!(rt; go_on(alloc, &defs, &mut site).is_ok());
     let answer = read(alloc, &defs, b'S', &mut site);
-    assert_eq!(rt; answer, Ok(found(alloc, 3, b"A001paidB002shut")?));
+    assert!(rt; is_found(&answer, 3, b"A001paidB002shut"));
     Ok(())
 }
 
-// What a crash left of a making over a log with two groups that stopped behind so many calls.
-#[derive(Clone, Copy, PartialEq, Eq)]
-enum Left {
-    TwoGroups,
-    NoFront,
-    Start,
-    Another,
+// Whether a restart gave the start.
+fn is_start(answer: &Result<(u64, Bytes), RestartFault>) -> bool {
+    is_found(answer, 0, b"A001open")
 }
 
-fn left_of(answer: &Result<(u64, Bytes), RestartFault>) -> Left {
-    match answer {
-        Ok((2, segments)) if segments.as_slice() == b"A001paidB002open".as_slice() =>
-            Left::TwoGroups,
-        Ok((0, segments)) if segments.as_slice() == b"A001open".as_slice() => Left::Start,
-        Err(RestartFault::Foreign) => Left::NoFront,
-        _ => Left::Another,
-    }
+// Whether a restart found no front.
+fn is_foreign(answer: &Result<(u64, Bytes), RestartFault>) -> bool {
+    matches!(answer, Err(RestartFault::Foreign))
 }
 
-// Of a log with two groups a new one is made by nine calls.
-fn may_be_left(after: u64, left: Left) -> bool {
-    match left {
-        Left::TwoGroups => after < 5,
-        Left::NoFront => after >= 3 && after < 9,
-        Left::Start => after >= 7,
-        Left::Another => false,
-    }
+// Whether a crash may leave this of a making over a log with two groups that stopped behind so many calls. Of such a
+// log a new one is made by nine.
+fn may_be_left(after: u64, answer: &Result<(u64, Bytes), RestartFault>) -> bool {
+    (after < 5 && is_found(answer, 2, b"A001paidB002open"))
+        || (after >= 3 && after < 9 && is_foreign(answer))
+        || (after >= 7 && is_start(answer))
 }
 
 // Whether every snapshot of a site restarts to what may be left of a making that stopped so.
@@ -344,11 +337,29 @@ fn is_left_well(
         let snapshot = site.snapshot_as(choice)?;
         let mut left = MemorySite::from_snapshot(alloc, snapshot, &[])?;
         let answer = read(alloc, defs, b'S', &mut left);
-        if !may_be_left(after, left_of(&answer)) {
+        if !may_be_left(after, &answer) {
             return Ok(false);
         }
     }
     Ok(true)
+}
+
+// Makes a log anew over the contents of a site, where the call with this number and the next one fail. The site, and
+// whether the log was made.
+fn made_anew(
+    alloc: Global,
+    defs: &Defs,
+    old: &MemorySite,
+    after: u64,
+) -> Result<(MemorySite, bool), AllocError>
+    requires after { after < 100 }
+    requires text { length defs.now.text < 2 ^ 32 }
+{
+    let failing = [after, after + 1];
+    let snapshot = old.snapshot_as(0)?;
+    let mut site = MemorySite::from_snapshot(alloc, snapshot, &failing)?;
+    let made = make(alloc, defs, &mut site).is_ok();
+    Ok((site, made))
 }
 
 #[test]
@@ -359,12 +370,12 @@ fn after_each_stop_of_define_the_old_state_stands_or_none_or_the_start(
     let defs = defs(alloc, List::new(alloc))?;
     let old = two_written(alloc, &defs)?;
     for after in 0..10 {
-        let failing = [after, after + 1];
-        let snapshot = old.snapshot_as(0)?;
-        let mut site = MemorySite::from_snapshot(alloc, snapshot, &failing)?;
-        let made = make(alloc, &defs, &mut site).is_ok();
-        assert_eq!(rt; made, after == 9);
-        assert_eq!(rt; is_left_well(alloc, &defs, &site, after), Ok(true));
+        let (site, made) = made_anew(alloc, &defs, &old, after)?;
+        assert!(rt; made == (after == 9), "stopped at {after}");
+        assert!(rt;
+            is_left_well(alloc, &defs, &site, after)?,
+            "stopped at {after}"
+        );
     }
     Ok(())
 }
@@ -385,9 +396,17 @@ fn with_bytes(
     read(alloc, defs, b'S', &mut site)
 }
 
+// Whether a restart found damage in the log at this place.
+fn is_damaged(answer: &Result<(u64, Bytes), RestartFault>, gate: u64) -> bool {
+    match answer {
+        Err(RestartFault::Damaged { set, at }) => *set == 0 && *at == gate,
+        _ => false,
+    }
+}
+
 // Bytes at the first gate, how many of them are written, and whether they are damage: behind an open gate stand
 // nothing, a length of 0, one that passes the end, and a body that is no entry.
-const GATES: [([u8; 12], usize, bool); 6] = [
+static GATES: [([u8; 12], usize, bool); 6] = [
     ([0, 0, 0, 0, 0, 0, 0, 0, 0, 0, 0, 0], 12, false),
     ([7, 0, 0, 0, 0, 0, 0, 0, 3, 0, 0, 0], 12, false),
     ([1, 0, 0, 0, 0, 0, 0, 0, 0, 0, 0, 0], 1, true),
@@ -400,11 +419,14 @@ const GATES: [([u8; 12], usize, bool); 6] = [
 fn an_open_gate_without_a_group_is_damaged_at_its_place(rt: HostRuntime) -> Result<(), Fail> {
     let alloc = rt.alloc();
     let defs = defs(alloc, List::new(alloc))?;
-    for (bytes, count, is_damage) in GATES {
-        let answer = with_bytes(alloc, &defs, &bytes, count);
-        let damaged = answer == Err(RestartFault::Damaged { set: 0, at: FIRST });
-        assert_eq!(rt; damaged, is_damage);
-        assert_eq!(rt; left_of(&answer) == Left::Start, !is_damage);
+    for (row, (bytes, count, is_damage)) in GATES.iter().enumerate() {
+        let answer = with_bytes(alloc, &defs, bytes, *count);
+        let is_so = if *is_damage {
+            is_damaged(&answer, FIRST)
+        } else {
+            is_start(&answer)
+        };
+        assert!(rt; is_so, "row {row}");
     }
     Ok(())
 }
@@ -414,8 +436,7 @@ fn storage_without_a_log_is_foreign(rt: HostRuntime) -> Result<(), Fail> {
     let alloc = rt.alloc();
     let defs = defs(alloc, List::new(alloc))?;
     let mut site = MemorySite::new(alloc, &[])?;
-    let none = read(alloc, &defs, b'S', &mut site);
-    assert!(rt; left_of(&none) == Left::NoFront);
+    assert!(rt; is_foreign(&read(alloc, &defs, b'S', &mut site)));
     Ok(())
 }
 
@@ -425,9 +446,8 @@ fn another_front_is_foreign_and_stays(rt: HostRuntime) -> Result<(), Fail> {
     let defs = defs(alloc, List::new(alloc))?;
     let mut site = two_written(alloc, &defs)?;
     let before = Vec::from_slice(alloc, site.contents(0))?;
-    let other = read(alloc, &defs, b'X', &mut site);
-    assert!(rt; left_of(&other) == Left::NoFront);
-    assert_eq!(rt; site.contents(0), before.as_slice());
+    assert!(rt; is_foreign(&read(alloc, &defs, b'X', &mut site)));
+    assert!(rt; site.contents(0) == before.as_slice());
     Ok(())
 }
 
@@ -445,6 +465,19 @@ fn item(alloc: Global, case: u64) -> Result<Item, AllocError>
         5 => image(alloc, 3, 1),
         6 => image(alloc, 4, (1 << 53) - 1),
         _ => segment(alloc, 0, b"B002", b"B002open"),
+    }
+}
+
+// Whether a restart found the damage at this gate, or, where there is none, gave a state.
+fn fits_or_is_damaged(
+    answer: &Result<(u64, Bytes), RestartFault>,
+    gate: u64,
+    is_damage: bool,
+) -> bool {
+    if is_damage {
+        is_damaged(answer, gate)
+    } else {
+        answer.is_ok()
     }
 }
 
@@ -472,13 +505,9 @@ fn an_item_that_does_not_fit_is_damage_at_its_group(rt: HostRuntime) -> Result<(
     let defs = defs(alloc, orders(alloc)?)?;
     for case in 0..8 {
         let mut site = MemorySite::new(alloc, &[])?;
-        let gate = write_case(alloc, &defs, &mut site, case);
-        assert!(rt; gate.is_ok());
-        let at = gate.unwrap_or(0);
+        let gate = write_case(alloc, &defs, &mut site, case)?;
         let answer = read(alloc, &defs, b'S', &mut site);
-        let damaged = answer == Err(RestartFault::Damaged { set: 0, at });
-        assert_eq!(rt; damaged, case < 5);
-        assert_eq!(rt; answer.is_ok(), case >= 5);
+        assert!(rt; fits_or_is_damaged(&answer, gate, case < 5), "case {case}");
     }
     Ok(())
 }
@@ -504,21 +533,17 @@ fn write_range(
 }
 
 // Intervals, and whether a range of one is damage there.
-const RANGES: [(u16, u64, bool); 3] = [(3, 1, false), (3, 2, true), (4, 1, true)];
+static RANGES: [(u16, u64, bool); 3] = [(3, 1, false), (3, 2, true), (4, 1, true)];
 
 #[test]
 fn a_range_without_its_image_is_damage_at_its_group(rt: HostRuntime) -> Result<(), Fail> {
     let alloc = rt.alloc();
     let defs = defs(alloc, orders(alloc)?)?;
-    for (set, ci, is_damage) in RANGES {
+    for (row, (set, ci, is_damage)) in RANGES.iter().enumerate() {
         let mut site = MemorySite::new(alloc, &[])?;
-        let gate = write_range(alloc, &defs, &mut site, set, ci);
-        assert!(rt; gate.is_ok());
-        let at = gate.unwrap_or(0);
+        let gate = write_range(alloc, &defs, &mut site, *set, *ci)?;
         let answer = read(alloc, &defs, b'S', &mut site);
-        let damaged = answer == Err(RestartFault::Damaged { set: 0, at });
-        assert_eq!(rt; damaged, is_damage);
-        assert_eq!(rt; answer.is_ok(), !is_damage);
+        assert!(rt; fits_or_is_damaged(&answer, gate, *is_damage), "row {row}");
     }
     Ok(())
 }

@@ -93,6 +93,15 @@ fn is_read_back(alloc: Global, site: &MemorySite, wanted: Option<u64>) -> Result
     Ok(true)
 }
 
+// Whether a log of which so many groups were sealed, by a site that stopped behind so many calls, may read back so.
+fn may_be_read_back(after: u64, sealed: u64, found: Result<Option<u64>, LogFault>) -> bool {
+    match found {
+        Ok(Some(groups)) => groups >= sealed && groups - sealed <= 1,
+        Ok(None) => after < 8,
+        Err(_) => false,
+    }
+}
+
 // The log is made by 8 calls, opened by 2, and each group sealed by 4.
 #[test]
 fn after_each_stop_every_sealed_group_is_read_back(rt: HostRuntime) -> Result<(), Fail> {
@@ -101,12 +110,11 @@ fn after_each_stop_every_sealed_group_is_read_back(rt: HostRuntime) -> Result<()
         let mut site = MemorySite::stopping(alloc, after)?;
         let sealed = seal_three(alloc, &mut site)?;
         for choice in 0..8 {
-            let snapshot = site.snapshot_as(choice)?;
-            match read_back(alloc, snapshot) {
-                Ok(Some(groups)) => assert!(rt; groups >= sealed && groups - sealed <= 1),
-                Ok(None) => assert!(rt; after < 8),
-                Err(_) => assert!(rt; false),
-            }
+            let found = read_back(alloc, site.snapshot_as(choice)?);
+            assert!(rt;
+                may_be_read_back(after, sealed, found),
+                "stopped at {after}, image {choice}"
+            );
         }
     }
     Ok(())
@@ -117,10 +125,10 @@ fn after_each_stop_every_sealed_group_is_read_back(rt: HostRuntime) -> Result<()
 fn before_its_gate_is_written_no_group_is_read_back(rt: HostRuntime) -> Result<(), Fail> {
     let alloc = rt.alloc();
     let mut site = MemorySite::stopping(alloc, 12)?;
-    assert_eq!(rt; seal_three(alloc, &mut site)?, 0);
+    assert!(rt; seal_three(alloc, &mut site)? == 0);
     for choice in 0..2 {
         let snapshot = site.snapshot_as(choice)?;
-        assert_eq!(rt; read_back(alloc, snapshot), Ok(Some(0)));
+        assert!(rt; read_back(alloc, snapshot) == Ok(Some(0)), "image {choice}");
     }
     Ok(())
 }
@@ -141,7 +149,7 @@ fn write_third_body(alloc: Global, site: &mut MemorySite) -> Result<bool, AllocE
 fn a_body_behind_a_closed_gate_is_not_read_back(rt: HostRuntime) -> Result<(), Fail> {
     let alloc = rt.alloc();
     let (mut site, sealed) = three_sealed(alloc)?;
-    assert_eq!(rt; sealed, 3);
+    assert!(rt; sealed == 3);
     assert!(rt; write_third_body(alloc, &mut site)?);
     assert!(rt; is_read_back(alloc, &site, Some(3))?);
     Ok(())
@@ -175,13 +183,16 @@ fn may_be_left(after: u64, found: Result<Option<u64>, LogFault>) -> bool {
 fn a_log_made_anew_is_the_old_one_or_none_or_the_new_one(rt: HostRuntime) -> Result<(), Fail> {
     let alloc = rt.alloc();
     let (old, sealed) = three_sealed(alloc)?;
-    assert_eq!(rt; sealed, 3);
+    assert!(rt; sealed == 3);
     for after in 0..10 {
         let (site, made) = made_anew(alloc, &old, after)?;
-        assert_eq!(rt; made, after == 9);
+        assert!(rt; made == (after == 9), "stopped at {after}");
         for choice in 0..8 {
-            let snapshot = site.snapshot_as(choice)?;
-            assert!(rt; may_be_left(after, read_back(alloc, snapshot)));
+            let found = read_back(alloc, site.snapshot_as(choice)?);
+            assert!(rt;
+                may_be_left(after, found),
+                "stopped at {after}, image {choice}"
+            );
         }
     }
     Ok(())
@@ -191,9 +202,9 @@ fn a_log_made_anew_is_the_old_one_or_none_or_the_new_one(rt: HostRuntime) -> Res
 fn a_log_that_is_shut_is_not_opened(rt: HostRuntime) -> Result<(), Fail> {
     let alloc = rt.alloc();
     let (mut site, sealed) = three_sealed(alloc)?;
-    assert_eq!(rt; sealed, 3);
+    assert!(rt; sealed == 3);
     for _ in 0..2 {
-        assert_eq!(rt; Log::shut(&mut site), Ok(()));
+        assert!(rt; Log::shut(&mut site).is_ok());
         assert!(rt; is_read_back(alloc, &site, None)?);
     }
     Ok(())
@@ -203,9 +214,9 @@ fn a_log_that_is_shut_is_not_opened(rt: HostRuntime) -> Result<(), Fail> {
 fn a_log_that_is_shut_is_made_anew(rt: HostRuntime) -> Result<(), Fail> {
     let alloc = rt.alloc();
     let (mut site, _) = three_sealed(alloc)?;
-    assert_eq!(rt; Log::shut(&mut site), Ok(()));
+    assert!(rt; Log::shut(&mut site).is_ok());
     let front = front(alloc)?;
-    assert_eq!(rt; Log::make(alloc, &mut site, &front), Ok(()));
+    assert!(rt; Log::make(alloc, &mut site, &front).is_ok());
     assert!(rt; is_read_back(alloc, &site, Some(0))?);
     Ok(())
 }
@@ -213,7 +224,6 @@ fn a_log_that_is_shut_is_made_anew(rt: HostRuntime) -> Result<(), Fail> {
 // ---- logs in use
 
 // A step of a log in use, with what is wanted of it.
-#[derive(Clone, Copy, Debug)]
 enum Step {
     // Room for so many bytes.
     Reserve(u64),
@@ -267,8 +277,8 @@ impl InUse {
     }
 
     // Takes a step. Whether it came to what is wanted.
-    fn take(&mut self, alloc: Global, step: Step) -> Result<bool, AllocError> {
-        match step {
+    fn take(&mut self, alloc: Global, step: &Step) -> Result<bool, AllocError> {
+        match *step {
             Step::Reserve(bytes) => self.reserve(bytes),
             Step::Append(place) => Ok(self.log.append(&entry(alloc, place))? == place),
             Step::Uses(bytes) => Ok(self.spare.checked_sub(self.log.spare()) == Some(bytes)),
@@ -279,7 +289,7 @@ impl InUse {
 }
 
 // Each entry has 29 bytes, and a group 9 more. The last append of the first log has 2 bytes to spare.
-const LOGS_IN_USE: [&[Step]; 2] = [
+static LOGS_IN_USE: [&[Step]; 2] = [
     &[
         Step::Uses(0),
         Step::Reserve(60),
@@ -312,10 +322,10 @@ const LOGS_IN_USE: [&[Step]; 2] = [
 
 #[test]
 fn each_step_of_a_log_in_use_comes_to_what_is_wanted(rt: HostRuntime) -> Result<(), Fail> {
-    for steps in LOGS_IN_USE {
+    for (row, steps) in LOGS_IN_USE.iter().enumerate() {
         let mut log = InUse::new(rt.alloc())?;
-        for step in steps {
-            assert!(rt; log.take(rt.alloc(), *step)?, "{step:?}");
+        for (place, step) in steps.iter().enumerate() {
+            assert!(rt; log.take(rt.alloc(), step)?, "log {row} at {place}");
         }
     }
     Ok(())
