@@ -160,10 +160,23 @@ def compared(bench, folder, name, group):
     return cost
 
 
+def reopened(bench, folder, group):
+    """What it costs each to go on over what its run of the folder left."""
+    costs = [bench.start(folder)]
+    for name in PEERS:
+        bench.peer(name, folder, group)
+        words = ["--read", f"{folder}/peer"] if name == "plain" else ["--open", f"{folder}/peer"]
+        costs += bench.best(lambda: Cost([f"{bench.room}/{name}", *words], f"{folder}/peer_out"))
+    return costs
+
+
 def beside(bench):
-    """The table beside the others, and the rates and processor times of each group."""
+    """The tables beside the others: rates, processor times, peak memory, and a start over what was left; and the rates
+    and processor times of each group."""
     lines = heads("`log_group`", *NAMES, *(f"to {name}" for name in NAMES[1:]))
     times = heads("`log_group`", *(f"{name}, µs" for name in NAMES), "to plain Rust")
+    sizes = heads("`log_group`", *(f"{name}, MB" for name in NAMES), "to plain Rust")
+    again = heads("`log_group`", "messages", *(f"{name}, ms" for name in NAMES), "to plain Rust")
     points = []
     for group in GROUPS:
         load = Load(bench.size(200_000 if group > 1 else 10_000), group=group)
@@ -174,9 +187,15 @@ def beside(bench):
         rates, costs = zip(*(cost.behind(start, load.count) for cost, start in zip(found, starts)))
         lines.append(row(group, *(f"{r:,.0f}" for r in rates), *(f"{rates[0] / r:.2f}" for r in rates[1:])))
         times.append(row(group, *(f"{c:.2f}" for c in costs), f"{costs[0] / max(costs[1], 1e-3):.2f}"))
+        memory = [cost.memory / 1e6 for cost in found]
+        sizes.append(row(group, *(f"{m:.1f}" for m in memory), f"{memory[0] / memory[1]:.2f}"))
+        shutil.copy(f"{folder}/log", f"{folder}/front")
+        open_times = [cost.seconds * 1e3 for cost in reopened(bench, folder, group)]
+        again.append(row(group, f"{load.count:,}", *(f"{t:.1f}" for t in open_times),
+                         f"{open_times[0] / open_times[1]:.2f}"))
         points.append((group, rates, costs))
         shutil.rmtree(folder)
-    return lines, times, points
+    return (lines, times, sizes, again), points
 
 
 def loads(bench):
@@ -298,9 +317,11 @@ def page(bench):
     text = [f"By `bench/run.py` on {datetime.date.today():%-d %B %Y}; {machine()}. Each figure is the best of "
             f"{bench.reps} runs, in turn with the others.", "",
             f"A write of one byte and its sync takes {bench.sync_time() * 1e6:.0f} µs here."]
-    lines, times, points = beside(bench)
+    (lines, times, sizes, again), points = beside(bench)
     text += ["", "### Beside others: messages a second", "", *lines, "", "![messages a second](benchmarks.svg)"]
     text += ["", "### Beside others: processor time a message", "", *times]
+    text += ["", "### Beside others: peak memory", "", *sizes]
+    text += ["", "### Beside others: a start over what the run left", "", *again]
     lines, found = alone(bench)
     text += ["", "### The program alone", "", *lines]
     lines, starts, ratio = five(bench)

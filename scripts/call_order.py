@@ -5,6 +5,8 @@ import subprocess
 import sys
 
 program, folder = sys.argv[1], sys.argv[2]
+if os.path.exists(f"{folder}/log"):
+    sys.exit(f"{folder} has a log, which this would define anew")
 TRACED = "open,openat,flock,fsync,fdatasync,read,pread64,write,pwrite64,ftruncate,close"
 BLOCK = 1 << 20
 SITE_FAULT = 6

@@ -6,7 +6,10 @@ import subprocess
 import sys
 
 program, sample, room = sys.argv[1:4]
+OLD = f"{os.path.dirname(os.path.abspath(__file__))}/../sample/format1"
 NOBODY = 65534
+# The commands that look at a log that stands.
+ON_A_LOG = ("run", "show", "log", "migrate", "audit")
 
 
 def run(command, folder, as_nobody=False):
@@ -45,7 +48,7 @@ def front_length(folder):
     return 17 + sum(os.path.getsize(f"{folder}/{part}") for part in ("defs.toml", "scripts.txt"))
 
 
-def refused(folder, status, said, commands=("run", "show", "log"), as_nobody=False):
+def refused(folder, status, said, commands=ON_A_LOG, as_nobody=False):
     """Each of these commands ends so, sends nothing, and leaves the log as it was."""
     before = log_of(folder) if os.path.isfile(f"{folder}/log") else None
     for command in commands:
@@ -60,7 +63,7 @@ def refused(folder, status, said, commands=("run", "show", "log"), as_nobody=Fal
 
 folder = f"{room}/absent"
 refused(folder, 5, f"read fault\n{folder}/defs.toml: open: No such file or directory (os error 2)\n",
-        ("define", "run", "show", "log"))
+        ("define", *ON_A_LOG))
 
 folder = made("no_log")
 os.remove(f"{folder}/log")
@@ -85,17 +88,25 @@ length = int.from_bytes(log[gate + 1:gate + 9], "big")
 with_log(folder, log[:gate + 9 + length // 2])
 refused(folder, 8, f"damaged: data set 0 at {gate}\n")
 
+folder = made("illegal")
+front = front_length(folder)
+with_log(folder, log[:front] + log[front:].replace(b"NEW", b"OLD", 1))
+refused(folder, 13, "illegal entry 0\n", ("audit",))
+
+folder = f"{room}/old_format"
+shutil.copytree(OLD, folder)
+refused(folder, 12, "old format\n", ("run",))
+
 folder = made("locked")
-with open(f"{folder}/defs.toml", "rb"):
-    handle = os.open(folder, os.O_RDONLY)
-    fcntl.flock(handle, fcntl.LOCK_EX)
-    refused(folder, 6, f"site fault\n{folder}: lock: another program uses this folder\n")
-    os.close(handle)
+handle = os.open(folder, os.O_RDONLY)
+fcntl.flock(handle, fcntl.LOCK_EX)
+refused(folder, 6, f"site fault\n{folder}: lock: another program uses this folder\n", ("define", *ON_A_LOG))
+os.close(handle)
 
 folder = made("no_file")
 os.remove(f"{folder}/log")
 os.mkdir(f"{folder}/log")
-for command in ("run", "show", "log"):
+for command in ("define", *ON_A_LOG):
     status, sent, said = run(command, folder)
     assert (status, sent, said.splitlines()[0]) == (6, b"", "site fault"), (status, sent, said)
 print(f"folders: no_file: status 6, {said.strip().splitlines()[-1]}")
@@ -106,9 +117,10 @@ if os.getuid() == 0:
         os.chmod(f"{folder}/{name}", 0o444)
     os.chmod(room, 0o755)
     os.chmod(folder, 0o555)
-    status, sent, said = run("run", folder, True)
-    assert (status, sent, said.splitlines()[0]) == (6, b"", "site fault"), (status, sent, said)
-    print(f"folders: unwritable: status 6, {said.strip().splitlines()[-1]}")
+    refused(folder, 6, f"site fault\n{folder}/log: open: Permission denied (os error 13)\n",
+            ("define", "run", "migrate"), True)
     status, sent, said = run("show", folder, True)
     assert (status, said) == (0, "") and sent.startswith(b"msdb "), (status, said)
     print("folders: unwritable: `show` serves it")
+else:
+    print("folders: unwritable: skipped: only root can become nobody")

@@ -31,8 +31,12 @@ def entry(place):
 
 
 def main():
+    if not 2 <= len(sys.argv) <= 4:
+        sys.exit(__doc__)
     folder = Path(sys.argv[1])
     groups, count = (int(word) for word in (sys.argv[2:] + ["1000", "1000"][len(sys.argv) - 2:]))
+    if (folder / "log").exists():
+        sys.exit(f"restart_log: {folder}/log is there already, and would be lost: move it away")
     with open(folder / "log", "wb") as log:
         parts = [(folder / name).read_bytes() for name in ("defs.toml", "scripts.txt")]
         log.write(b"\1IMSFPLG2" + b"".join(sized(part, 4) for part in parts))

@@ -1,11 +1,14 @@
 """Kills `PROGRAM run FOLDER` at random moments and sends the same numbered messages again, until all are answered:
 TIMES times. Each deposit of 1 must count once, whatever was killed and however often it was sent."""
+import os
 import random
 import subprocess
 import sys
 import time
 
 program, folder, times = sys.argv[1], sys.argv[2], int(sys.argv[3])
+if os.path.exists(f"{folder}/log"):
+    sys.exit(f"{folder} has a log, which this would define anew")
 TERMINALS = 200
 
 

@@ -1,4 +1,5 @@
 """Starts `PROGRAM run FOLDER` beside another `run` or a `define` of that folder, TIMES times, and reads the log."""
+import os
 import random
 import subprocess
 import sys
@@ -7,6 +8,8 @@ import time
 from log_text import replies
 
 program, folder, times = sys.argv[1], sys.argv[2], int(sys.argv[3])
+if os.path.exists(f"{folder}/log"):
+    sys.exit(f"{folder} has a log, which this would define anew")
 MESSAGES = 100
 REFUSED = f"site fault\n{folder}: lock: another program uses this folder\n".encode()
 

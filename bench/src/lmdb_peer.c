@@ -1,5 +1,6 @@
 /* The same messages through LMDB: one write transaction a group, each synced; line and reply of each message are kept.
-   lmdb_peer DIR GROUP DATABASE REPLIES */
+   lmdb_peer DIR GROUP DATABASE REPLIES
+   Opens a database that a run left, and looks at one account:      lmdb_peer --open DATABASE */
 #include <lmdb.h>
 #include <stdio.h>
 #include <stdlib.h>
@@ -61,13 +62,32 @@ static void keep(MDB_cursor *cursor, size_t place, const char *line, const char 
     must(mdb_cursor_put(cursor, &key, &value, MDB_APPEND));
 }
 
-int main(int count, char **words) {
-    if (count != 5) return 2;
-    int group = atoi(words[2]), waiting = 0;
+static void open_database(const char *path) {
     must(mdb_env_create(&env));
     must(mdb_env_set_mapsize(env, 1UL << 32));
     must(mdb_env_set_maxdbs(env, 2));
-    must(mdb_env_open(env, words[3], MDB_NOSUBDIR, 0644));
+    must(mdb_env_open(env, path, MDB_NOSUBDIR, 0644));
+}
+
+static int look_again(const char *path) {
+    open_database(path);
+    must(mdb_txn_begin(env, 0, MDB_RDONLY, &txn));
+    must(mdb_dbi_open(txn, "accts", 0, &accts));
+    MDB_cursor *cursor;
+    MDB_val key, value;
+    long long balance;
+    must(mdb_cursor_open(txn, accts, &cursor));
+    must(mdb_cursor_get(cursor, &key, &value, MDB_FIRST));
+    memcpy(&balance, value.mv_data, sizeof balance);
+    printf("%lld\n", balance);
+    return 0;
+}
+
+int main(int count, char **words) {
+    if (count == 3 && !strcmp(words[1], "--open")) return look_again(words[2]);
+    if (count != 5) return 2;
+    int group = atoi(words[2]), waiting = 0;
+    open_database(words[3]);
     load(words[1]);
     char line[4096], reply[64], account[64], terminal[16], script[16];
     FILE *out = fopen(words[4], "w"), *file = opened(words[1], "messages.txt");

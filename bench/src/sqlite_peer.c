@@ -1,5 +1,6 @@
 /* The same messages through SQLite: one transaction a group, write-ahead log, synchronous FULL; line and reply of each
-   message are kept.      sqlite_peer DIR GROUP DATABASE REPLIES */
+   message are kept.      sqlite_peer DIR GROUP DATABASE REPLIES
+   Opens a database that a run left, as a stop would, and looks at one account:      sqlite_peer --open DATABASE */
 #include <sqlite3.h>
 #include <stdio.h>
 #include <stdlib.h>
@@ -30,7 +31,17 @@ static FILE *opened(const char *folder, const char *name) {
     return file;
 }
 
+static int look_again(const char *path) {
+    must(sqlite3_open(path, &db));
+    exec("PRAGMA journal_mode = WAL; PRAGMA synchronous = FULL");
+    sqlite3_stmt *look = prepared("SELECT bal FROM accts LIMIT 1");
+    must(sqlite3_step(look));
+    printf("%lld\n", (long long)sqlite3_column_int64(look, 0));
+    return 0;
+}
+
 int main(int count, char **words) {
+    if (count == 3 && !strcmp(words[1], "--open")) return look_again(words[2]);
     if (count != 5) return 2;
     int group = atoi(words[2]), waiting = 0;
     must(sqlite3_open(words[3], &db));
