@@ -13,50 +13,14 @@ if ! command -v rt >/dev/null; then
 fi
 cd "$(dirname "$0")/../crates/ims_fp"
 room=$(mktemp -d)
-proving=
-trap 'if [ -n "$proving" ]; then kill "$proving" 2>/dev/null || :; fi; rm -rf "$room"' EXIT
+trap 'rm -rf "$room"' EXIT
 trap 'exit 130' INT TERM
-
-# How many crates the program consists of: itself, and those of crates.txt that stand below it.
-count_crates() {
-    awk -F: '/^[a-z]/ { split($1, head, " "); below[head[1]] = $2 }
-        END {
-            list[count = 1] = "ims_fp"; seen["ims_fp"] = 1
-            for (i = 1; i <= count; i++) {
-                n = split(below[list[i]], names, " ")
-                for (k = 1; k <= n; k++)
-                    if (names[k] in below && !(names[k] in seen)) { seen[names[k]] = 1; list[++count] = names[k] }
-            }
-            print count
-        }' ../../crates.txt
-}
-
-# Proves the crates side by side, and tells how many are done.
-prove() {
-    jobs=$(nproc 2>/dev/null || echo 1)
-    if [ "$jobs" -gt 4 ]; then jobs=4; fi
-    count=$(count_crates)
-    say "proving $count crates, $jobs at a time. The first time this takes long."
-    rt all check --jobs "$jobs" >"$room/proofs" 2>&1 &
-    proving=$!
-    told=0
-    while kill -0 "$proving" 2>/dev/null; do
-        done=$(grep -c '^== ' "$room/proofs" || :)
-        if [ "$done" -ne "$told" ]; then say "proving $count crates: $done done"; told=$done; fi
-        sleep 1
-    done
-    if ! wait "$proving"; then
-        proving=
-        tail -n 40 "$room/proofs" >&2
-        say "the proof failed"
-        exit 1
-    fi
-    proving=
-}
 
 # What was proved and built since the last change is only run.
 if [ ! -x out/ims_fp ] || [ -n "$(find ../*/src ../*/specs ../*/proofs ../../crates.txt -newer out/ims_fp)" ]; then
-    prove
+    say "proving the program. The first time this takes long."
+    jobs=$(nproc 2>/dev/null || echo 1)
+    ../../scripts/prove ims_fp $((jobs > 4 ? 4 : jobs))
     say "building the program"
 fi
 cp data/defs.toml data/scripts.txt data/schedule.txt data/messages.txt "$room"
