@@ -22,6 +22,20 @@ fn are_blank(letters: &[u8]) -> bool
     letters.iter().all(|letter| *letter == b' ')
 }
 
+// These letters, and whether all are blanks.
+fn told(letters: Bytes) -> Letters
+    ensures letters { result.letters ≡ letters }
+    ensures good { result.good ≡ all_blank letters }
+{
+    Letters {
+        good: are_blank(letters.as_slice()),
+        letters,
+    }
+}
+
+// Up to so many bytes a segment is copied without taking memory.
+const SHORT: usize = 64;
+
 // Tries arguments on a copy of a segment. It fails only for want of memory.
 pub(crate) fn letters_on(
     alloc: Global,
@@ -36,10 +50,12 @@ pub(crate) fn letters_on(
     ensures good { IfOk result (λ tried. tried.good ≡ all_blank
         (list_on def.now (fsas_in fsas.now) segment.now).letters) }
 {
-    let mut copy = Vec::from_slice(alloc, segment)?;
-    let letters = try_list(alloc, def, fsas, copy.as_mut_slice())?;
-    Ok(Letters {
-        good: are_blank(letters.as_slice()),
-        letters,
-    })
+    if segment.len() > SHORT {
+        let mut copy = Vec::from_slice(alloc, segment)?;
+        return Ok(told(try_list(alloc, def, fsas, copy.as_mut_slice())?));
+    }
+    let mut room = [0; SHORT];
+    let copy = &mut room[..segment.len()];
+    copy.copy_from_slice(segment);
+    Ok(told(try_list(alloc, def, fsas, copy)?))
 }

@@ -5,6 +5,7 @@ pub mod Kept
 pub mod Letters
 mod ListBytes
 pub mod ListLemmas
+pub mod Names
 pub mod NumberSizes
 pub mod ReadLemmas
 pub mod SettleLemmas

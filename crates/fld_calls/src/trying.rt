@@ -2,6 +2,7 @@
 ghost use Rattle.std.specs.Prelude.{◌≡◌, ◌+◌, ◌≤◌, IfOk, OnErr, OnOk, length};
 ghost use Rattle.fp_model.specs.FitCalls.{IsFsaList};
 ghost use Rattle.fp_model.specs.Fsas.{all_blank, field_bytes, field_of, fsa_on, fsas_in, letter_of, letter_on, list_on};
+ghost use Rattle.fp_model.specs.Texts.{same_text};
 ghost use Rattle.fp_model.specs.WellFormed.{StandFrom};
 ghost use Rattle.fld_calls.specs.Forms.{forms, lent_form_of, of_fields, with_letters};
 ghost use Rattle.fld_calls.specs.Operations.{byte_of};
@@ -14,12 +15,19 @@ use crate::operation::Operation;
 use fp_model::{Bytes, FieldDef, List, MsdbDef, Name};
 use std::alloc::{AllocError, Global};
 
+// Whether two names are the same: the bytes of each are compared as one number.
+fn is_same(name: Name, other: Name) -> bool
+    ensures { result ≡ same_text name.0 other.0 }
+{
+    u64::from_be_bytes(name.0) == u64::from_be_bytes(other.0)
+}
+
 // The field of a name.
 pub(crate) fn find_field(fields: &List<FieldDef>, name: &Name) -> Option<FieldDef>
     ensures { result ≡ field_of fields.now name.now.0 }
 {
     for field in fields.as_slice() {
-        if field.name == *name {
+        if is_same(field.name, *name) {
             return Some(*field);
         }
     }

@@ -1,5 +1,5 @@
 -- A queue settled call by call.
-use Rattle.std.proofs.Common.{◌≡◌, refl, sym, ◌∙◌, ap, subst, arith, ℕ, ◌≤◌, ◌+◌, List, [], ◌∷◌, ◌++◌, map, length, Bool, true, false, ◌||◌, ◌==◌, ◌&&◌, Option, Some, None, nat_lt}
+use Rattle.std.proofs.Common.{◌≡◌, refl, sym, ◌∙◌, ap, subst, arith, ℕ, ◌≤◌, ◌<◌, ◌+◌, slice_index_or, List, [], ◌∷◌, ◌++◌, map, length, Bool, true, false, ◌||◌, ◌==◌, ◌&&◌, Option, Some, None, nat_lt}
 use Rattle.std.specs.Prelude.{Ok, Err, if◌then◌else◌, is_some, count_by}
 use Rattle.std.specs.declared.cmp.Ordering.TheVariants.{Less, Equal, Greater}
 use Rattle.std.specs.declared.cmp.Ordering.{Ordering}
@@ -13,16 +13,16 @@ use Rattle.fld_calls.specs.declared.arguments.SettleFault.TheVariants as fault
 use Rattle.fp_model.specs.CheckpointText.{IsMsdbOf}
 use Rattle.fp_model.specs.Items.{with_item, with_items}
 use Rattle.fp_model.specs.ItemTargets.{is_ascending, precedes}
-use Rattle.fp_model.specs.Settle.{Applied, Becomes, Fails, Settled, Stands, VerifyFails, applied, settle_from}
+use Rattle.fp_model.specs.Settle.{Applied, Becomes, Fails, Settled, Stands, VerifyFails, applied, settle, settle_from}
 use Rattle.fp_model.specs.Texts.{same_text}
 use Rattle.fp_model.specs.declared.calls.Deferred.{Deferred}
 use Rattle.fp_model.specs.declared.database.Msdb.{Msdb}
 use Rattle.fp_model.specs.declared.definitions.MsdbDef.{MsdbDef}
 use Rattle.fp_model.specs.declared.log.Item.{Item}
-use Rattle.msdb_store.specs.Settling.{IsAnswer, IsSegmentItem, IsStaged, adds, named}
+use Rattle.msdb_store.specs.Settling.{CanSettle, IsAnswer, IsSegmentItem, IsStaged, adds, named}
 use Rattle.msdb_store.specs.Faults.{fault_at}
-use Rattle.msdb_store.specs.Steps.{IsStep, Stages}
-use Rattle.msdb_store.specs.Store.{IsFitSegment, segment_in}
+use Rattle.msdb_store.specs.Steps.{AtCall, IsGiven, IsStep, Stages}
+use Rattle.msdb_store.specs.Store.{IsFitSegment, Stored, segment_in}
 use Rattle.msdb_store.specs.Touches.{AreInOrder, Touch, bytes_at, has_key, item_of, made, put_touch, seen, touch_cmp}
 use Rattle.msdb_store.proofs.Databases.{item_good, same_databases}
 use Rattle.msdb_store.proofs.Stagings.{at_put, behind_item, long_put, none_staged, one_staged, shown, ties}
@@ -228,3 +228,39 @@ step_long defs now call old new step =
       long_put (record
           { number = (named defs call).0; key = (named defs call).1; bytes = step.0 }) old,
     )
+
+-- ---- a queue of one call
+
+-- a list of one element is that element's
+pub only_item : {X : Type 0} (xs : List X) (x : X) → 1 ≤ length xs → length xs < 2 → x ≡ slice_index_or xs 0 x
+    → xs ≡ x ∷ []
+only_item [] x some few is = absurd (omega (arith, some))
+only_item (y ∷ []) x some few is = ap (λ z. z ∷ []) (sym is)
+only_item (y ∷ z ∷ ys) x some few is = absurd (omega (arith, few))
+
+module _ (defs : List MsdbDef) (store : Stored) (call : Deferred) (can : CanSettle defs store (call ∷ [])) where
+  -- before it nothing is staged
+  pub before_one : IsSettling defs store.msdbs (call ∷ []) [] 0 (call ∷ []) []
+  before_one = at_first defs store.msdbs (call ∷ []) can.of.each
+
+  pub at_one : AtCall defs store [] store.msdbs call
+  unfolding before_one at_first
+  at_one = record { of = can.of; defined = can.defined; stages = before_one.stages; fit = can.fit.0 }
+
+  -- it fails,
+  pub one_bad : (why : SettleFault) → IsGiven defs store.msdbs call (Err why)
+      → IsAnswer defs store.msdbs (Err (fault_at 0 why)) (settle defs store.msdbs (call ∷ []))
+  unfolding before_one at_first
+  one_bad (fault.Bad place found) given =
+      bad_answer defs store.msdbs (call ∷ []) [] 0 call [] [] [] before_one (fault.Bad place found) given
+  one_bad fault.Memory given = tt
+
+  -- or its segment alone is staged
+  abbrev pub only_touch : List ℕ → Touch
+  only_touch bytes = record { number = (named defs call).0; key = (named defs call).1; bytes = bytes }
+
+  pub behind_one : (bytes : List ℕ) → IsGiven defs store.msdbs call (Ok bytes)
+      → IsSettling defs store.msdbs (call ∷ []) (call ∷ []) 1 [] (only_touch bytes ∷ [])
+  unfolding before_one at_first
+  behind_one bytes given =
+      one_more defs store.msdbs (call ∷ []) [] 0 call [] [] (only_touch bytes ∷ []) before_one (bytes, given, refl)

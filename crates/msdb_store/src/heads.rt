@@ -1,5 +1,6 @@
 //! A guess at the place of a key: the first eight bytes of each key, one behind the other, so that a search reads little
-//! memory. A transaction looks for one key several times, so the last guess is kept. What is guessed is looked up, so
+//! memory. A transaction looks for one key several times, so the last guess is kept. Where a head stood as the database
+//! was made is noted by its hash, which saves the search while it stands there still. What is guessed is looked up, so
 //! nothing but time rests on it.
 use crate::keyed::key_in;
 use fp_model::Bytes;
@@ -16,10 +17,15 @@ struct Guess {
 // Of the least head: no key has a lower one.
 const FIRST: Guess = Guess { head: 0, place: 0 };
 
+// An odd number whose product with a number has bits of all its low half in the middle.
+const SPREAD: u64 = 0x9E37_79B9_7F4A_7C15;
+
 // The heads of the keys, in the order of the segments.
 #[derive(Debug, Drop)]
 pub(crate) struct Heads {
     heads: Vec<u64>,
+    // By hash, the place that one of the heads had at first. There are twice as many as heads, or more.
+    noted: Vec<u32>,
     // The guess that was made last.
     last: Cell<Guess>,
 }
@@ -32,6 +38,33 @@ pub(crate) fn head_of(key: &[u8]) -> u64 {
     u64::from_be_bytes(head)
 }
 
+// Where a head is noted among so many. It is no place where there are none.
+fn note_of(head: u64, count: usize) -> usize {
+    let folded = head ^ (head >> 32);
+    (folded.wrapping_mul(SPREAD) >> 32) as usize & count.saturating_sub(1)
+}
+
+// How many notes there are for so many heads: a power of 2, and none where there are too many heads for a note.
+fn note_count(heads: usize) -> usize {
+    if heads == 0 || heads > (1 << 31) {
+        return 0;
+    }
+    (2 * heads).next_power_of_two()
+}
+
+// The place of each head, noted by its hash. Of those with one hash the last counts.
+fn noted(alloc: Global, heads: &[u64]) -> Result<Vec<u32>, AllocError> {
+    let count = note_count(heads.len());
+    let mut notes = vec![in alloc; 0; count]?;
+    for (place, head) in heads.iter().enumerate() {
+        let at = note_of(*head, count);
+        if at < notes.len() && place <= u32::MAX as usize {
+            notes[at] = place as u32;
+        }
+    }
+    Ok(notes)
+}
+
 impl Heads {
     // Those of the keys of these segments.
     pub(crate) fn of(alloc: Global, segments: &[Bytes], count: usize) -> Result<Heads, AllocError> {
@@ -39,22 +72,45 @@ impl Heads {
         for segment in segments {
             heads.push(head_of(key_in(segment.as_slice(), count)))?;
         }
+        let noted = noted(alloc, heads.as_slice())?;
         Ok(Heads {
             heads,
+            noted,
             last: Cell::new(FIRST),
         })
     }
 
-    // How many have a lower head.
+    // The place of a head, where it stands as it is noted.
+    fn noted_place(&self, head: u64) -> Option<usize> {
+        let at = note_of(head, self.noted.len());
+        if at >= self.noted.len() {
+            return None;
+        }
+        let place = self.noted[at] as usize;
+        if place < self.heads.len() && self.heads[place] == head {
+            Some(place)
+        } else {
+            None
+        }
+    }
+
+    // How many have a lower head, by halving them.
+    fn search(&self, head: u64) -> usize {
+        self.heads
+            .partition_point(|lower: &u64| -> bool { *lower < head })
+    }
+
+    // How many have a lower head, or the place of one with this head.
     pub(crate) fn guess(&self, key: &[u8]) -> usize {
         let head = head_of(key);
         let last = self.last.get();
         if last.head == head {
             return last.place;
         }
-        let place = self
-            .heads
-            .partition_point(|lower: &u64| -> bool { *lower < head });
+        let place = match self.noted_place(head) {
+            Some(place) => place,
+            None => self.search(head),
+        };
         self.last.set(Guess { head, place });
         place
     }

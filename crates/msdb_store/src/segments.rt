@@ -10,6 +10,7 @@ use crate::keyed::key_in;
 use fp_model::Bytes;
 use std::alloc::{AllocError, Global};
 use std::marker::Model;
+use std::mem::replace;
 
 // `order` has the number of each slot once: first those in use, in the order of their segments, then the free ones.
 #[derive(Debug, Drop)]
@@ -43,6 +44,19 @@ fn in_slot(slots: &[Bytes], number: u32) -> &[u8]
     } else {
         &[]
     }
+}
+
+// Puts a segment in place of another: into its memory where it is as long, so that segments stay beside one another.
+fn put_over(alloc: Global, slot: &mut Bytes, segment: Bytes)
+    ensures { slot.new ≡ segment }
+{
+    if slot.len() != segment.len() {
+        *slot = segment;
+        return;
+    }
+    let mut bytes = replace(slot, Bytes::new(alloc)).into_vec();
+    bytes.as_mut_slice().copy_from_slice(segment.as_slice());
+    *slot = Bytes::from_vec(bytes);
 }
 
 // Whether the segment in a slot has a lower key.
@@ -178,7 +192,8 @@ impl Segments {
         ensures capacity { self.old.capacity ≤ self.new.capacity }
     {
         let number = self.order[at];
-        self.slots[number as usize] = segment;
+        let alloc = *self.slots.allocator();
+        put_over(alloc, &mut self.slots[number as usize], segment);
     }
 
     // Puts a segment at a place; the later ones come behind it. It fails for want of memory, and where there would be

@@ -6,11 +6,12 @@ ghost use Rattle.fp_model.specs.WellFormed.{StandFrom};
 ghost use Rattle.fp_model.specs.declared.calls.Deferred.TheVariants.{Fld};
 ghost use Rattle.fp_model.specs.declared.database.Msdb.{Msdb as MsdbOf};
 ghost use Rattle.fp_model.specs.declared.definitions.MsdbDef.{MsdbDef as DefOf};
+ghost use Rattle.fp_model.specs.declared.log.Item.TheVariants.{Segment};
 ghost use Rattle.msdb_store.specs.Settling.{CanSettle, HasItem, IsAnswer, IsNamed, IsStaged, adds, key_in, named};
 ghost use Rattle.msdb_store.specs.Steps.{AtCall, IsChanged, IsGiven, IsStep, Stages};
 ghost use Rattle.msdb_store.specs.Store.{IsOf, segment_in};
 ghost use Rattle.std.specs.Option.{option_copied};
-ghost use Rattle.std.specs.Prelude.{◌≡◌, ◌<◌, ◌^◌, ◌↔◌, ℕ, IfOk, List as ListOf, count_by, length};
+ghost use Rattle.std.specs.Prelude.{◌≡◌, ◌<◌, ◌^◌, ◌↔◌, ◌∷◌, [], ℕ, IfOk, List as ListOf, count_by, length};
 
 use crate::keyed::key_in;
 use crate::staged::{Staged, VerifyFault};
@@ -34,6 +35,19 @@ fn changed(
     let mut bytes = Vec::from_slice(alloc, segment)?;
     settle_list(alloc, fields, fsas.as_slice(), &mut bytes)?;
     Ok(Bytes::from_vec(bytes))
+}
+
+// The item of one segment.
+fn one_item(alloc: Global, key: SegmentKey, bytes: Bytes) -> Result<List<Item>, AllocError>
+    ensures { IfOk result (λ items. items ≡ Segment key.msdb key.key.items bytes ∷ []) }
+{
+    let mut items = List::new(alloc);
+    items.push(Item::Segment {
+        msdb: key.msdb,
+        key: Bytes::from_vec(key.key),
+        bytes,
+    })?;
+    Ok(items)
 }
 
 impl MsdbStore {
@@ -166,6 +180,27 @@ impl MsdbStore {
         self.look(*msdb, key.as_slice()).is_none()
     }
 
+    // Settles a queue of one call, as most are.
+    fn check_one(&self, call: &Deferred) -> Result<Staged, VerifyFault>
+        requires fit { (defs : ListOf DefOf) × CanSettle defs self.now (call.now ∷ []) }
+        ensures answer { (defs : ListOf DefOf) → CanSettle defs self.now (call.now ∷ [])
+            → IsAnswer defs self.now.msdbs result (settle defs self.now.msdbs (call.now ∷ [])) }
+        ensures staged { (defs : ListOf DefOf) → CanSettle defs self.now (call.now ∷ [])
+            → IfOk result (IsStaged defs self.now.msdbs) }
+        ensures keys { (defs : ListOf DefOf) → CanSettle defs self.now (call.now ∷ [])
+            → IfOk result (λ staged. (number : ℕ) → (key : ListOf ℕ) → (HasItem staged.items number key)
+            ↔ (IsNamed defs (call.now ∷ []) number key)) }
+    {
+        let key = self.named(call)?;
+        let bytes = match self.given(&Staging::new(self.alloc()), &key, call) {
+            Ok(bytes) => bytes,
+            Err(fault) => return Err(VerifyFault::at(0, fault)),
+        };
+        let items = one_item(self.alloc(), key, bytes)?;
+        let inserts = self.count_new(&items);
+        Ok(Staged { items, inserts })
+    }
+
     /// Settles a queue of deferred calls in its order, each on what those before it left, beside the databases. They
     /// stay as they are. Verify says that a field call fails, and which is the first.
     pub fn check(&self, deferred: &List<Deferred>) -> Result<Staged, VerifyFault>
@@ -179,6 +214,9 @@ impl MsdbStore {
             → IfOk result (λ staged. (number : ℕ) → (key : ListOf ℕ) → (HasItem staged.items number key)
             ↔ (IsNamed defs deferred.now number key)) }
     {
+        if let [only] = deferred.as_slice() {
+            return self.check_one(only);
+        }
         let mut staging = Staging::new(self.alloc());
         for (at, call) in deferred.as_slice().iter().enumerate() {
             match self.settle_call(&mut staging, call) {

@@ -7,7 +7,7 @@ ghost use Rattle.msdb_store.specs.Store.{lacks, room};
 ghost use Rattle.std.specs.Prelude.{slice_get, ◌≡◌, ◌+◌, ◌<◌, ◌≤◌, IfOk, IsOk, ◌^◌, ℕ, List as ListOf, OnErr, OnOk, Some, find, if◌then◌else◌, length, map, take, true};
 
 use crate::heads::{Heads, head_of};
-use crate::keyed::{Place, key_in};
+use crate::keyed::{Place, is_same, key_in};
 use crate::segments::Segments;
 use fp_model::{Bytes, FieldDef, List, Msdb, MsdbDef, key_length};
 use std::alloc::{AllocError, Global};
@@ -55,7 +55,7 @@ impl Table {
         if at >= self.segments.len() {
             return false;
         }
-        key_in(self.segments.at(at), count) == key
+        is_same(key_in(self.segments.at(at), count), key)
     }
 
     // Where the segment of a key stands, or would stand.

@@ -1,15 +1,25 @@
-use Rattle.std.proofs.Common.{◌≡◌, ◌∙◌, ◌+◌, ◌<◌, ◌≤◌, ◌∷◌, ◌++◌, [], ap, sym, subst, take, drop, length, slice_index_or, arith, rules}
-use Rattle.std.specs.Prelude.{Err}
+use Rattle.std.proofs.Common.{ℕ, List, ◌≡◌, ◌∙◌, ◌+◌, ◌<◌, ◌≤◌, ◌∷◌, ◌++◌, [], ap, sym, subst, take, drop, length, slice_index_or, arith, rules}
+use Rattle.std.specs.Prelude.{Err, IfOk, ◌↔◌}
 use Rattle.std.proofs.lemmas.List.{drop_all, take_all, take_more}
 use Rattle.fld_calls.proofs.SettleLemmas.{here}
 use Rattle.fp_model.specs.FitCalls.{IsFitDeferred}
 use Rattle.fp_model.specs.Settle.{settle}
-use Rattle.msdb_store.specs.Settling.{IsAnswer}
+use Rattle.msdb_store.specs.Settling.{CanSettle, HasItem, IsAnswer, IsNamed}
 use Rattle.msdb_store.specs.Steps.{AtCall}
 use Rattle.key_order.proofs.Ascending.{all_at}
 use Rattle.msdb_store.proofs.Names.{same_keys}
-use Rattle.msdb_store.proofs.Queues.{IsSettling, bad_answer, good_answer, one_more, staged_of, step_long}
+use Rattle.msdb_store.proofs.Queues.{IsSettling, bad_answer, good_answer, one_more, only_item, staged_of, step_long}
 use Rattle.msdb_store.proofs.store.MsdbStore.check.Goals as goal
+
+pub returns-in-len1-clause-keys : goal.returns-in-len1-clause-keys
+returns-in-len1-clause-keys c defs can =
+    let same = c.as_slice.ensures in
+    let is : c.args.deferred.now ≡ c.only-item.result ∷ [] =
+    subst (λ calls. calls ≡ c.only-item.result ∷ []) same
+    (only_item c.as_slice.result.now c.only-item.result c.in-len1.len_at_least c.in-len1.len_below c.only-item.is) in
+    subst (λ calls. CanSettle defs c.args.self.now calls → IfOk c.check_one.result (λ staged. (number : ℕ)
+    → (key : List ℕ) → HasItem staged.items number key ↔ IsNamed defs calls number key)) (sym is)
+    (c.check_one.ensures.keys defs) can
 
 pub returns-in-Err-clause-answer : goal.returns-in-Err-clause-answer
 returns-in-Err-clause-answer c defs can =
