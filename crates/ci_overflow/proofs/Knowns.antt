@@ -1,18 +1,15 @@
 -- Intervals that are known to have no room: runs of a list, and what stays known when elements are taken.
-use Rattle.std.proofs.Common.{rules, ◌≡◌, ◌≢◌, ◌⊎◌, ℕ, false, length, take, get_or, ◌++◌, zero, suc, ◌+◌, ◌-◌, ◌<◌, ◌≤◌, inl, inr, List, [], ◌∷◌, Option, Some, None, IfSome, IfNone, Result, Ok, Err, IfOk, refl, sym, ap, ◌∙◌, subst, arith}
+use Rattle.std.proofs.Common.{rules, ◌≡◌, ◌≢◌, ◌⊎◌, ℕ, false, length, zero, suc, ◌+◌, ◌-◌, ◌<◌, ◌≤◌, inl, inr, List, [], ◌∷◌, Option, Some, None, IfSome, IfNone, Result, Ok, Err, IfOk, refl, sym, ap, ◌∙◌, subst, arith}
 use Rattle.std.specs.Ordering.{nat_cmp}
-use Rattle.std.proofs.Math.Seq.{take-suc}
 use Rattle.std.specs.BTreeMap.{BTreeMap, get, is_at, IsEmpty}
 use Rattle.std.proofs.lemmas.Bool.Decides.{nat_tests}
 use Rattle.ci_space.specs.declared.intervals.Shape.{Shape}
 use Rattle.ci_space.specs.declared.head.Head.{Head}
 use Rattle.ci_space.specs.Interval.{IsFull}
 use Rattle.ci_overflow.specs.Places.{first_base, first_dependent, first_independent, uow_of}
-use Rattle.ci_overflow.specs.Lists.{bytes_at, link_of, owner_of, first_free, IsOwned, IsInOrder}
-use Rattle.ci_overflow.specs.Rooms.{numbers_from, AreFull, TakesAt, IsTaken, IsTried, AreTried, IsFirst, IsLeft, IsOnChain, Joins, JoinsNext, IsOwnRoom, an_independent, TakesOne, TakesEach, none_yet, one_more}
-use Rattle.ci_overflow.specs.Faults.{IsAtFaultThen}
-use Rattle.ci_overflow.specs.Known.{AreFullTo, the_last, in_front, IsKnown, AreKnown}
-use Rattle.ci_overflow.proofs.FaultLemmas.{in-order-sound}
+use Rattle.ci_overflow.specs.Lists.{bytes_at, link_of, owner_of, first_free, IsOwned}
+use Rattle.ci_overflow.specs.Rooms.{numbers_from, AreFull, TakesAt, IsTaken, IsTried, AreTried, IsFirst, IsLeft, IsOnChain, Joins, JoinsNext, IsOwnRoom, an_independent}
+use Rattle.ci_overflow.specs.Known.{AreFullTo, the_last, in_front, IsKnown}
 use Rattle.ci_overflow.specs.declared.reading.Tried.{Tried}
 use Rattle.ci_overflow.specs.declared.known.KnownFull.{KnownFull}
 use Rattle.ci_overflow.proofs.Finds.{same_or}
@@ -328,6 +325,9 @@ same_known a b e = cc
 none_some : (k : KnownFull) → (let o : Option KnownFull = None in o) ≡ Some k → ⊥
 none_some k e = cc
 
+empty_get : (map : BTreeMap ℕ KnownFull) (n : ℕ) → IsEmpty map → get nat_cmp map n ≡ None
+empty_get map n e = rw e refl
+
 -- what is known for one length is put among the others, in an area in which all that was known is so still
 pub known-put : (shape : Shape) (old new : List (List ℕ)) (uow : ℕ) (before after : ℕ → Option KnownFull) (n : ℕ)
     (known : KnownFull) → after n ≡ Some known → ((m : ℕ) → (m ≡ n → ⊥) → after m ≡ before m)
@@ -353,35 +353,7 @@ known-out shape area uow before after n gone others was m k e = elim (same_or m 
       | inr x ↦ was m k (sym (others m x) ∙ e)
     ]
 
--- ---- one after the other
-
-pub each-more : (shape : Shape) (anchor : ℕ) (old middle new : List (List ℕ)) (lengths : List ℕ) (rooms now : List (ℕ × ℕ))
-    (k n : ℕ) (room : ℕ × ℕ) → TakesEach shape anchor old middle (take k lengths) rooms → k < length lengths
-    → n ≡ get_or lengths k 0 → TakesOne shape middle new anchor n room → now ≡ rooms ++ room ∷ []
-    → TakesEach shape anchor old new (take (k + 1) lengths) now
-each-more shape anchor old middle new lengths rooms now k n room t b e x r =
-    let s : suc k ≡ k + 1 = omega arith in
-    let d : take (suc k) lengths ≡ take k lengths ++ n ∷ [] =
-    take-suc lengths k 0 b ∙ ap (λ m. take k lengths ++ m ∷ []) (sym e) in
-    subst (λ m. TakesEach shape anchor old new (take m lengths) now) s
-    (subst (λ l. TakesEach shape anchor old new l now) (sym d)
-    (subst (λ l. TakesEach shape anchor old new (take k lengths ++ n ∷ []) l) (sym r) (one_more t x)))
-
-pub each-order : (shape : Shape) (anchor : ℕ) (old new : List (List ℕ)) (lengths : List ℕ) (rooms : List (ℕ × ℕ))
-    → TakesEach shape anchor old new lengths rooms → IsInOrder shape old → IsInOrder shape new
-each-order shape anchor old new lengths rooms none_yet o = o
-each-order shape anchor old new lengths rooms (one_more {middle} {new = m} {lengths = l} {rooms = r} t x) o =
-    x.in_order (each-order shape anchor old middle l r t o)
-
-pub each-sound : (shape : Shape) (old : List (List ℕ)) (anchor ci : ℕ) → IsInOrder shape old
-    → IsAtFaultThen shape old anchor ci → ⊥
-each-sound shape old anchor ci o f = in-order-sound shape f.area ci
-    (each-order shape anchor old f.area f.lengths f.rooms f.taken o) f.at_fault
-
 -- nothing is known in the beginning
-empty_get : (map : BTreeMap ℕ KnownFull) (n : ℕ) → IsEmpty map → get nat_cmp map n ≡ None
-empty_get map n e = rw e refl
-
-pub known-empty : (shape : Shape) (area : List (List ℕ)) (uow : ℕ) (map : BTreeMap ℕ KnownFull) → IsEmpty map
-    → AreKnown shape area uow map
-known-empty shape area uow map e n known g = absurd (none_some known (sym (empty_get map n e) ∙ g))
+pub known-empty : (map : BTreeMap ℕ KnownFull) (n : ℕ) (known : KnownFull) → IsEmpty map → get nat_cmp map n ≡ Some known
+    → ⊥
+known-empty map n known e g = none_some known (sym (empty_get map n e) ∙ g)

@@ -5,7 +5,6 @@ use Rattle.ci_space.specs.Element.{size_for}
 use Rattle.ci_space.specs.Interval.{IsInterval, IsEmpty, kind_of}
 use Rattle.ci_overflow.specs.Places.{first_base, first_independent}
 use Rattle.ci_overflow.specs.Lists.{bytes_at, link_of, owner_of, counted, first_free, IsChain, Holds, IsOwned, IsInPlace}
-use Rattle.ci_overflow.specs.Rooms.{TakesEach}
 use Rattle.ci_overflow.specs.declared.reading.Place.{Place}
 
 -- an empty interval of this size has room for `n` bytes
@@ -58,14 +57,6 @@ pub data IsAtFault (shape : Shape) (area : List (List ℕ)) (ci : ℕ) : Type 0 
   -- the list of the unit of work that is its owner ends, and doesn't hold it
   unlisted : (uow : ℕ) (list : List ℕ) → uow < shape.uows → IsOwned shape area (uow + 1) ci
       → IsChain area (link_of (bytes_at area (first_base shape uow))) list → ¬ Holds list ci → IsAtFault shape area ci
-
--- the interval is at fault in the area as new elements of an anchor leave it
-pub record IsAtFaultThen (shape : Shape) (old : List (List ℕ)) (anchor ci : ℕ) : Type 0 where
-  pub area : List (List ℕ)
-  pub lengths : List ℕ
-  pub rooms : List (ℕ × ℕ)
-  pub taken : TakesEach shape anchor old area lengths rooms
-  pub at_fault : IsAtFault shape area ci
 
 -- an interval of this kind and this owner is there
 pub record IsThere (area : List (List ℕ)) (place : Place) : Type 0 where

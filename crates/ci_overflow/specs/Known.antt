@@ -9,6 +9,7 @@ use Rattle.ci_overflow.specs.Lists.{bytes_at, link_of, IsOwned}
 use Rattle.ci_overflow.specs.Rooms.{numbers_from, AreFull}
 use Rattle.ci_overflow.specs.declared.known.Passed.{Passed}
 use Rattle.ci_overflow.specs.declared.known.KnownFull.{KnownFull}
+use Rattle.ci_overflow.specs.declared.known.SeenFull.{SeenFull}
 
 -- The links lead from the first interval to the last one, whose link leads to `next`: each is an independent overflow
 -- interval with this owner, and has no free element for `n` bytes.
@@ -26,7 +27,6 @@ pub record IsKnown (shape : Shape) (area : List (List ℕ)) (uow n : ℕ) (known
   pub listed : (map : BTreeMap ℕ Passed) → known.listed ≡ Some map → (ci : ℕ) (p : Passed)
       → get nat_cmp map ci ≡ Some p → AreFullTo shape area (uow + 1) n ci p.last p.next
 
--- so it is for each length
-abbrev pub AreKnown : Shape → List (List ℕ) → ℕ → BTreeMap ℕ KnownFull → Type 0
-AreKnown shape area uow map =
-    (n : ℕ) (known : KnownFull) → get nat_cmp map n ≡ Some known → IsKnown shape area uow n known
+-- what walks for room in a unit of work found to have none has none
+pub record HasSeen (shape : Shape) (area : List (List ℕ)) (uow : ℕ) (seen : SeenFull) : Type 0 where
+  pub each : (n : ℕ) (known : KnownFull) → get nat_cmp seen.known n ≡ Some known → IsKnown shape area uow n known

@@ -249,11 +249,3 @@ pub record TakesOne (shape : Shape) (old new : List (List ℕ)) (anchor n : ℕ)
   pub own : IsOwnRoom shape new anchor room.0
   pub finds : IsInOrder shape old → FindsRoom shape old new anchor n room
   pub in_order : IsInOrder shape old → IsInOrder shape new
-
--- new elements for these lengths, one after the other
-pub data TakesEach (shape : Shape) (anchor : ℕ) (old : List (List ℕ)) : List (List ℕ) → List ℕ → List (ℕ × ℕ) → Type 0
-  where
-    none_yet : TakesEach shape anchor old old [] []
-    one_more : {middle new : List (List ℕ)} {lengths : List ℕ} {rooms : List (ℕ × ℕ)} {n : ℕ} {room : ℕ × ℕ}
-        → TakesEach shape anchor old middle lengths rooms → TakesOne shape middle new anchor n room
-        → TakesEach shape anchor old new (lengths ++ n ∷ []) (rooms ++ room ∷ [])

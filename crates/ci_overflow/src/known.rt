@@ -5,7 +5,7 @@
 
 ghost use Rattle.std.specs.Prelude.{◌≡◌, ◌≢◌, ◌+◌, ℕ, List, Err, IfSome, OnOk, IsErrOf};
 ghost use Rattle.ci_space.specs.declared.intervals.Shape.{Shape as ShapeOf};
-ghost use Rattle.ci_overflow.specs.Known.{AreFullTo, IsKnown};
+ghost use Rattle.ci_overflow.specs.Known.{AreFullTo, HasSeen, IsKnown};
 
 use crate::SpaceFault;
 use std::alloc::Global;
@@ -75,6 +75,48 @@ impl KnownFull {
             return Ok(());
         };
         match listed.insert(ci, passed) {
+            Ok(_) => Ok(()),
+            Err(_) => Err(SpaceFault::Memory),
+        }
+    }
+}
+
+/// What walks for room in one unit of work found to have none, for those that come after them.
+#[derive(Drop)]
+pub struct SeenFull {
+    /// By the length of an element.
+    known: BTreeMap<u16, KnownFull>,
+}
+
+impl SeenFull {
+    /// Nothing yet.
+    pub fn new(alloc: Global) -> SeenFull
+        ensures { (shape : ShapeOf) (area : List (List ℕ)) (uow : ℕ) → HasSeen shape area uow result }
+    {
+        SeenFull {
+            known: BTreeMap::new(alloc),
+        }
+    }
+
+    /// What is known for a length, taken out of it.
+    pub(crate) fn take_known(&mut self, alloc: Global, length: u16) -> KnownFull
+        ensures { (shape : ShapeOf) (area : List (List ℕ)) (uow : ℕ) → HasSeen shape area uow self.old
+            → IsKnown shape area uow length result × HasSeen shape area uow self.new }
+    {
+        match self.known.remove(&length) {
+            Some(full) => full,
+            None => KnownFull::new(alloc),
+        }
+    }
+
+    /// This is known for a length.
+    pub(crate) fn put_known(&mut self, length: u16, full: KnownFull) -> Result<(), SpaceFault>
+        ensures seen { (shape : ShapeOf) (area : List (List ℕ)) (uow : ℕ) → HasSeen shape area uow self.old
+            → IsKnown shape area uow length full → OnOk result (HasSeen shape area uow self.new) }
+        ensures never_failed { ¬ IsErrOf result SpaceFault.Failed }
+        ensures never_damaged { (n : ℕ) → result ≢ Err (SpaceFault.Damaged n) }
+    {
+        match self.known.insert(length, full) {
             Ok(_) => Ok(()),
             Err(_) => Err(SpaceFault::Memory),
         }

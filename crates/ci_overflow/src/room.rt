@@ -1,24 +1,22 @@
 //! Room for a new element.
 
-ghost use Rattle.std.specs.Prelude.{◌≡◌, ◌≢◌, ◌<◌, ◌≤◌, ◌+◌, ◌*◌, ℕ, All, Err, List, IfOk, OnOk, IsErrOf};
+ghost use Rattle.std.specs.Prelude.{◌≡◌, ◌≢◌, ◌<◌, ◌≤◌, ◌+◌, ◌*◌, ℕ, Err, IfOk, OnOk, IsErrOf};
 ghost use Rattle.ci_space.specs.Calls.{Rose, GoesOn};
-ghost use Rattle.ci_space.specs.declared.intervals.Shape.{Shape as ShapeOf};
 ghost use Rattle.ci_overflow.specs.Places.{uow_of};
 ghost use Rattle.ci_overflow.specs.Lists.{IsInOrder};
-ghost use Rattle.ci_overflow.specs.Rooms.{FindsRoom, TakesRoom, JoinsNext, IsOwnRoom, TakesOne, TakesEach};
-ghost use Rattle.ci_overflow.specs.Faults.{FitsEmpty, IsAtFault, IsAtFaultThen};
-ghost use Rattle.ci_overflow.specs.Known.{AreKnown, IsKnown};
+ghost use Rattle.ci_overflow.specs.Rooms.{FindsRoom, TakesRoom, JoinsNext, IsOwnRoom, TakesOne};
+ghost use Rattle.ci_overflow.specs.Faults.{FitsEmpty, IsAtFault};
+ghost use Rattle.ci_overflow.specs.Known.{HasSeen, IsKnown};
 ghost use Rattle.ci_overflow.specs.declared.known.KnownFull.{KnownFull as KnownFullOf};
 
 use crate::SpaceFault;
 use crate::joined::{join_free, join_new};
-use crate::known::KnownFull;
+use crate::known::{KnownFull, SeenFull};
 use crate::places::{CONTROL, uow_of};
 use crate::reading::{Place, read};
 use crate::tried::try_standing;
 use ci_space::{Intervals, Shape};
 use std::alloc::Global;
-use std::collections::BTreeMap;
 
 /// Takes a new element with room for `length` bytes, and gives its interval and its place there. It is
 /// taken from the first of these intervals that has room: the anchor's base interval, the dependent
@@ -67,29 +65,38 @@ pub fn find_room<I: Intervals>(
     find_passing(i, shape, anchor, length, &mut KnownFull::none())
 }
 
-/// Takes new elements with room for so many bytes each, one after the other, as `find_room` does, and gives their
-/// intervals and places. A walk goes on where one for the same length stopped: what had no room then isn't looked at
-/// again. An anchor is counted from 0 within its area.
-///
-/// `Damaged` names an interval that is at fault in the area as the elements that were taken before leave it.
-pub fn find_rooms<I: Intervals>(
+/// Takes a new element as `find_room` does, after others of the same unit of work. A walk goes on where one for the same
+/// length stopped: what had no room then isn't looked at again. So it is until something is given back.
+pub fn find_room_seen<I: Intervals>(
     alloc: Global,
     i: &mut I,
     shape: &Shape,
     anchor: u32,
-    lengths: &[u16],
-) -> Result<Vec<(u64, u16)>, SpaceFault>
+    length: u16,
+    seen: &mut SeenFull,
+) -> Result<(u64, u16), SpaceFault>
     requires { anchor < shape.now.uows * shape.now.base }
 
-    // At `Ok` there are new elements, each as `find_room` takes it.
-    ensures takes { I.told i.old → IfOk result (λ rooms. TakesEach shape.now anchor (I.intervals i.old)
-        (I.intervals i.new) lengths.now rooms.items) }
+    // Where what was seen is so: at `Ok` a new element is there, and so on as in `find_room`.
+    ensures takes { I.told i.old → HasSeen shape.now (I.intervals i.old) (uow_of shape.now anchor) seen.old
+        → IfOk result (TakesRoom shape.now (I.intervals i.old) (I.intervals i.new) anchor length) }
+    ensures own { I.told i.old → HasSeen shape.now (I.intervals i.old) (uow_of shape.now anchor) seen.old
+        → IfOk result (λ room. IsOwnRoom shape.now (I.intervals i.new) anchor room.0) }
+    ensures room { I.told i.old → HasSeen shape.now (I.intervals i.old) (uow_of shape.now anchor) seen.old
+        → IsInOrder shape.now (I.intervals i.old)
+        → IfOk result (FindsRoom shape.now (I.intervals i.old) (I.intervals i.new) anchor length) }
+    ensures lists { I.told i.old → HasSeen shape.now (I.intervals i.old) (uow_of shape.now anchor) seen.old
+        → IsInOrder shape.now (I.intervals i.old) → OnOk result (IsInOrder shape.now (I.intervals i.new)) }
+    ensures damaged { I.told i.old → HasSeen shape.now (I.intervals i.old) (uow_of shape.now anchor) seen.old
+        → FitsEmpty (I.size i.old) length → (n : ℕ) → result ≡ Err (SpaceFault.Damaged n)
+        → IsAtFault shape.now (I.intervals i.old) n }
+    ensures sound { I.told i.old → HasSeen shape.now (I.intervals i.old) (uow_of shape.now anchor) seen.old
+        → IsInOrder shape.now (I.intervals i.old) → FitsEmpty (I.size i.old) length → (n : ℕ)
+        → result ≢ Err (SpaceFault.Damaged n) }
 
-    // Where an empty interval has room for each, `Damaged` names an interval at fault. An area in order has none.
-    ensures damaged { I.told i.old → All (FitsEmpty (I.size i.old)) lengths.now → (n : ℕ)
-        → result ≡ Err (SpaceFault.Damaged n) → IsAtFaultThen shape.now (I.intervals i.old) anchor n }
-    ensures sound { I.told i.old → IsInOrder shape.now (I.intervals i.old) → All (FitsEmpty (I.size i.old)) lengths.now
-        → (n : ℕ) → result ≢ Err (SpaceFault.Damaged n) }
+    // Then what was seen by now is so, too.
+    ensures seen { I.told i.old → HasSeen shape.now (I.intervals i.old) (uow_of shape.now anchor) seen.old
+        → OnOk result (HasSeen shape.now (I.intervals i.new) (uow_of shape.now anchor) seen.new) }
 
     // It fails only with what holds the intervals.
     ensures failed { IsErrOf result SpaceFault.Failed → Rose (I.faults i.old) (I.faults i.new) }
@@ -98,56 +105,10 @@ pub fn find_rooms<I: Intervals>(
     ensures number { I.number i.old ≤ I.number i.new }
     ensures goes_on { GoesOn I.told I.size I.faults I.keeps i.old i.new }
 {
-    let mut known = BTreeMap::new(alloc);
-    let mut rooms = Vec::new(alloc);
-    for length in lengths {
-        let room = find_next(alloc, i, shape, anchor, *length, &mut known)?;
-        match rooms.push(room) {
-            Ok(()) => {}
-            Err(_) => return Err(SpaceFault::Memory),
-        }
-    }
-    Ok(rooms)
-}
-
-/// What is known for a length, taken out of what is known for each.
-fn take_known(alloc: Global, known: &mut BTreeMap<u16, KnownFull>, length: u16) -> KnownFull
-    ensures { (shape : ShapeOf) (area : List (List ℕ)) (uow : ℕ) → AreKnown shape area uow known.old
-        → IsKnown shape area uow length result × AreKnown shape area uow known.new }
-{
-    match known.remove(&length) {
-        Some(full) => full,
-        None => KnownFull::new(alloc),
-    }
-}
-
-/// Takes a new element as `find_room` does, but passes intervals that are known to have no room for its length.
-fn find_next<I: Intervals>(
-    alloc: Global,
-    i: &mut I,
-    shape: &Shape,
-    anchor: u32,
-    length: u16,
-    known: &mut BTreeMap<u16, KnownFull>,
-) -> Result<(u64, u16), SpaceFault>
-    requires { anchor < shape.now.uows * shape.now.base }
-    ensures one { I.told i.old → AreKnown shape.now (I.intervals i.old) (uow_of shape.now anchor) known.old
-        → IfOk result (TakesOne shape.now (I.intervals i.old) (I.intervals i.new) anchor length) }
-    ensures known { I.told i.old → AreKnown shape.now (I.intervals i.old) (uow_of shape.now anchor) known.old
-        → OnOk result (AreKnown shape.now (I.intervals i.new) (uow_of shape.now anchor) known.new) }
-    ensures damaged { I.told i.old → FitsEmpty (I.size i.old) length
-        → AreKnown shape.now (I.intervals i.old) (uow_of shape.now anchor) known.old
-        → (n : ℕ) → result ≡ Err (SpaceFault.Damaged n) → IsAtFault shape.now (I.intervals i.old) n }
-    ensures failed { IsErrOf result SpaceFault.Failed → Rose (I.faults i.old) (I.faults i.new) }
-    ensures number { I.number i.old ≤ I.number i.new }
-    ensures goes_on { GoesOn I.told I.size I.faults I.keeps i.old i.new }
-{
-    let mut full = take_known(alloc, known, length);
+    let mut full = seen.take_known(alloc, length);
     let room = find_passing(i, shape, anchor, length, &mut full)?;
-    match known.insert(length, full) {
-        Ok(_) => Ok(room),
-        Err(_) => Err(SpaceFault::Memory),
-    }
+    seen.put_known(length, full)?;
+    Ok(room)
 }
 
 /// Takes a new element as `find_room` does, but passes intervals that are known to have no room for it.
