@@ -3,6 +3,7 @@ use Rattle.std.proofs.Common.{◌≡◌, ◌≢◌, ℕ, zero, suc, ◌+◌, ◌
 use Rattle.ci_space.specs.declared.intervals.Shape.{Shape}
 use Rattle.ci_overflow.specs.Lists.{bytes_at, link_of, IsChain, Holds, IsOnce, IsOwned}
 use Rattle.ci_overflow.specs.Faults.{Leads, here, on, HoldsLink, in_list, IsAtFault, circle}
+use Rattle.ci_overflow.specs.Known.{AreFullTo, the_last, in_front}
 use Rattle.ci_overflow.proofs.Finds.{same_or}
 
 -- whether a list holds an interval
@@ -102,7 +103,7 @@ pub record IsWalked (shape : Shape) (area : List (List ℕ)) (owner from ci n : 
   pub goes : link_of (bytes_at area from) ≡ ci
   pub from_some : from ≢ 0
   pub path : List ℕ
-  pub long : length path ≡ n
+  pub long : n ≤ length path
   pub inside : (k : ℕ) → Holds path k → (0 < k) × (k < length area)
   pub leads : (k : ℕ) → Holds path k → Leads area k from
   pub once : IsOnce path ⊎ (IsOwned shape area owner from × Leads area ci from)
@@ -114,7 +115,7 @@ walk-begins shape area owner from ci n h g z e = record {
   goes = g;
   from_some = z;
   path = [];
-  long = sym e;
+  long = omega (arith, e);
   inside = λ k x. absurd x;
   leads = λ k x. absurd x;
   once = inl tt;
@@ -157,3 +158,26 @@ walk-round shape area owner from ci n w l s = elim w.once as (λ _. IsAtFault sh
       absurd (omega (arith, b, w.long, l)))
   | inr o ↦ circle owner o.0 (rw w.goes o.1)
 ]
+
+-- a walk over intervals that are passed at once takes one turn
+walk-fewer : (shape : Shape) (area : List (List ℕ)) (owner from ci n m : ℕ) → IsWalked shape area owner from ci n
+    → m ≤ n → IsWalked shape area owner from ci m
+walk-fewer shape area owner from ci n m w l = record {
+  holds = w.holds;
+  goes = w.goes;
+  from_some = w.from_some;
+  path = w.path;
+  long = omega (arith, w.long, l);
+  inside = w.inside;
+  leads = w.leads;
+  once = w.once;
+}
+
+pub walk-over : (shape : Shape) (area : List (List ℕ)) (owner room from ci last next n m : ℕ)
+    → AreFullTo shape area owner room ci last next → IsWalked shape area owner from ci n → m ≡ n + 1
+    → IsWalked shape area owner last next m
+walk-over shape area owner room from ci last next n m (the_last c o f) w l = walk-on shape area owner from c
+    (link_of (bytes_at area c)) n m w o refl l
+walk-over shape area owner room from ci last next n m (in_front c t x o f rest) w l = walk-fewer shape area owner last next
+    (m + 1) m (walk-over shape area owner room c (link_of (bytes_at area c)) last next m (m + 1) rest
+    (walk-on shape area owner from c (link_of (bytes_at area c)) n m w o refl l) refl) (omega arith)

@@ -180,6 +180,16 @@ base-before shape uow u b =
     (shape.base + shape.overflow) = grind arith in
     omega (arith, m, e, b)
 
+pub dependents-before : (shape : Shape) (uow : ℕ) → uow < shape.uows
+    → first_base shape uow + shape.base + shape.overflow ≤ first_independent shape
+dependents-before shape uow u =
+    let m : (uow + 1) * (shape.base + shape.overflow) ≤ shape.uows * (shape.base + shape.overflow) =
+    mul-le (uow + 1) (shape.base + shape.overflow) shape.uows (shape.base + shape.overflow) (omega arith)
+    (omega arith) in
+    let e : (uow + 1) * (shape.base + shape.overflow) ≡ uow * (shape.base + shape.overflow) +
+    (shape.base + shape.overflow) = grind arith in
+    omega (arith, m, e)
+
 pub kind-behind : (shape : Shape) (ci : ℕ) → first_independent shape ≤ ci → kind_at shape ci ≡ 5
 kind-behind shape ci l = grind arith
 
@@ -198,10 +208,11 @@ counted_is area control ends e f = ap (λ (xs : List ℕ). slice_index xs 2) f �
 
 pub joins-free : (shape : Shape) (uow n ci at next : ℕ) (old m1 m2 new : List (List ℕ)) (control ends interval : List ℕ)
     → control ≡ bytes_at old 0 → ends ≡ ends_of control → ci ≡ slice_index ends 3 → first_independent shape ≤ ci
-    → ci < length old → m1 ≡ old → interval ≡ bytes_at old ci → kind_of interval ≡ 5 → IsEmpty interval
+    → ci < length old → m1 ≡ old → interval ≡ bytes_at old ci → kind_of interval ≡ 5
+    → owner_of interval ≡ 0 → IsEmpty interval
     → next ≡ (head_of interval).link → PutsEnds control (slice_index ends 2) next m1 m2
     → Joins shape uow m2 new ci interval n at → JoinsFree shape uow old new n (ci, at)
-joins-free shape uow n ci at next old m1 m2 new control ends interval ce ee fe lf lb m ie ke em ne p j =
+joins-free shape uow n ci at next old m1 m2 new control ends interval ce ee fe lf lb m ie ke oe em ne p j =
     let l : next ≡ link_of (bytes_at old ci) = link_is_number interval next ne ∙ ap link_of ie in
     let s : slice_index ends 2 ≡ counted old = counted_is old control ends ce ee in
     let c : ChangesEnds (bytes_at old 0) p.bytes (counted old) (link_of (bytes_at old ci)) =
@@ -217,6 +228,7 @@ joins-free shape uow n ci at next old m1 m2 new control ends interval ce ee fe l
       below = lb;
       is_first = fe ∙ first_free_is old control ends ce ee;
       is_kind = f;
+      is_free = ap owner_of (sym ie) ∙ oe;
       is_empty = e;
       ends = c;
       put = q;

@@ -10,3 +10,4 @@ pub mod FaultLemmas
 pub mod Givings
 pub mod MoveOrders
 pub mod JoinFaults
+pub mod Knowns

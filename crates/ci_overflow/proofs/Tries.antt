@@ -1,5 +1,9 @@
 -- Intervals that are tried one after the other.
-use Rattle.std.proofs.Common.{◌≡◌, ◌≢◌, ℕ, suc, ◌+◌, ◌-◌, ◌<◌, ◌≤◌, inl, inr, List, [], ◌∷◌, ◌++◌, length, Option, Some, None, IfSome, IfNone, Result, Ok, Err, IfOk, refl, sym, ap, ◌∙◌, subst, arith}
+use Rattle.std.proofs.Common.{◌≡◌, ◌≢◌, ℕ, zero, suc, ◌+◌, ◌-◌, ◌<◌, ◌≤◌, inl, inr, List, [], ◌∷◌, ◌++◌, length, Option, Some, None, IfSome, IfNone, Result, Ok, Err, IfOk, refl, sym, ap, ◌∙◌, subst, arith}
+use Rattle.std.specs.List.{All}
+use Rattle.std.proofs.lemmas.List.Elements.{All-nil, All-cons, All-head, All-tail, All-append}
+use Rattle.ci_space.specs.Element.{Element, Free, Used, free_size, size_for, rest_free}
+use Rattle.ci_space.proofs.Standing.{Tiles-unique}
 use Rattle.ci_space.specs.Interval.{kind_of, HasRoom, IsUsed, IsFull, OthersStay, Keeps}
 use Rattle.ci_space.specs.Interval.{Takes}
 use Rattle.ci_space.specs.Head.{head_of}
@@ -44,6 +48,38 @@ taken-in old new n at t r f o = record {
       record { elements = _; tiles = t.now };
 }
 
+-- ---- what is said of all of a list is said of its parts
+All-left : {X : Type 0} (P : X → Type 0) (xs ys : List X) → All P (xs ++ ys) → All P xs
+All-left P [] ys a = All-nil P
+All-left P (x ∷ xs) ys a = All-cons P x xs (All-head P x (xs ++ ys) a) (All-left P xs ys (All-tail P x (xs ++ ys) a))
+
+All-right : {X : Type 0} (P : X → Type 0) (xs ys : List X) → All P (xs ++ ys) → All P ys
+All-right P [] ys a = a
+All-right P (x ∷ xs) ys a = All-right P xs ys (All-tail P x (xs ++ ys) a)
+
+-- what no free element holds, none holds when one of them is taken
+rest-smaller : (k m : ℕ) → k < m → All (λ e. free_size e < m) (rest_free k)
+rest-smaller zero m l = All-nil (λ e. free_size e < m)
+rest-smaller (suc k) m l = All-cons (λ e. free_size e < m) (Free (suc k)) [] l (All-nil (λ e. free_size e < m))
+
+pub takes-fuller : (old new : List ℕ) (n at m : ℕ) → Takes old new n at → IsFull old m → IsFull new m
+takes-fuller old new n at m t f =
+    let P : Element → Type 0 = λ e. free_size e < size_for m in
+    let all : All P (t.before ++ Free t.free ∷ t.after) = subst (λ es. All P es)
+    (Tiles-unique old f.elements (t.before ++ Free t.free ∷ t.after) f.tiles t.was) f.smaller in
+    let front : All P t.before = All-left P t.before (Free t.free ∷ t.after) all in
+    let back : All P (Free t.free ∷ t.after) = All-right P t.before (Free t.free ∷ t.after) all in
+    let here : t.free < size_for m = All-head P (Free t.free) t.after back in
+    let rest : List Element = rest_free (t.free - size_for n) in
+    let now : All P (Used 0 t.content ∷ rest) = All-cons P (Used 0 t.content) rest (omega (arith, here))
+    (rest-smaller (t.free - size_for n) (size_for m) (omega (arith, here))) in
+    record {
+      elements = t.before ++ Used 0 t.content ∷ rest ++ t.after;
+      tiles = t.now;
+      smaller = All-append P (t.before ++ Used 0 t.content ∷ rest) t.after
+          (All-append P t.before (Used 0 t.content ∷ rest) front now) (All-tail P (Free t.free) t.after back);
+    }
+
 pub tried-taken : (old mid new : List (List ℕ)) (interval taken : List ℕ) (ci kind owner n at link : ℕ) → mid ≡ old
     → interval ≡ bytes_at old ci → ci < length old
     → kind_of interval ≡ kind → owner_of interval ≡ owner → kind ≢ 1 → (kind ≡ 5 → owner ≢ 0)
@@ -65,6 +101,8 @@ tried-taken old mid new interval taken ci kind owner n at link m i b k o nk nz l
         is_in_use = u;
         takes = e;
         head = w;
+        fuller = λ k x. subst (λ b. IsFull b k) (sym p.here)
+            (takes-fuller interval taken n at k t (subst (λ b. IsFull b k) (sym i) x));
         others = λ other x. p.others other x ∙ same other;
         same_number = p.same_number ∙ ap length m;
       };

@@ -4,3 +4,5 @@ pub mod Rooms
 pub mod Freed
 pub mod Moves
 pub mod Faults
+pub mod Known
+pub mod Seen

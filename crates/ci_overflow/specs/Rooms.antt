@@ -4,7 +4,7 @@ use Rattle.ci_space.specs.declared.intervals.Shape.{Shape}
 use Rattle.ci_space.specs.Interval.{IsInterval, HasUsed, IsUsed, HasRoom, IsFull, OthersStay, Keeps, IsEmpty, kind_of, empty_bytes, is_size}
 use Rattle.ci_space.specs.Head.{head_of, ends_of}
 use Rattle.ci_overflow.specs.Places.{first_base, first_dependent, first_independent, uow_of, base_of}
-use Rattle.ci_overflow.specs.Lists.{bytes_at, link_of, owner_of, counted, first_free, IsChain}
+use Rattle.ci_overflow.specs.Lists.{bytes_at, link_of, owner_of, counted, first_free, IsChain, IsOwned, IsInOrder}
 use Rattle.ci_overflow.specs.declared.reading.Tried.{Tried}
 
 -- so many intervals from `first` on
@@ -75,6 +75,8 @@ pub record TakesAt (old new : List (List ℕ)) (ci n at : ℕ) : Type 0 where
   pub is_in_use : IsInUse (bytes_at old ci)
   pub takes : TakesIn (bytes_at old ci) (bytes_at new ci) n at
   pub head : Keeps (bytes_at old ci) (bytes_at new ci) 0 32
+  -- no free element comes or becomes longer
+  pub fuller : (m : ℕ) → IsFull (bytes_at old ci) m → IsFull (bytes_at new ci) m
   pub others : (other : ℕ) → other ≢ ci → bytes_at new other ≡ bytes_at old other
   pub same_number : length new ≡ length old
 
@@ -151,6 +153,7 @@ pub record JoinsFree (shape : Shape) (uow : ℕ) (old new : List (List ℕ)) (n 
   pub below : room.0 < length old
   pub is_first : room.0 ≡ first_free old
   pub is_kind : kind_of (bytes_at old room.0) ≡ 5
+  pub is_free : owner_of (bytes_at old room.0) ≡ 0
   pub is_empty : IsEmpty (bytes_at old room.0)
   pub ends : ChangesEnds (bytes_at old 0) control (counted old) (link_of (bytes_at old room.0))
   pub put : IsPut old middle 0 control
@@ -231,3 +234,18 @@ pub record FindsRoom (shape : Shape) (old new : List (List ℕ)) (anchor n : ℕ
   pub roots : KeepsRoots old new
   -- no interval goes away
   pub longer : length old ≤ length new
+
+-- an interval of an anchor's own: its base interval, a dependent overflow interval of its unit of work, or an
+-- independent one that its unit of work has
+pub data IsOwnRoom (shape : Shape) (area : List (List ℕ)) (anchor ci : ℕ) : Type 0 where
+  its_base : ci ≡ base_of shape anchor → IsOwnRoom shape area anchor ci
+  a_dependent : first_dependent shape (uow_of shape anchor) ≤ ci
+      → ci < first_dependent shape (uow_of shape anchor) + shape.overflow → IsOwnRoom shape area anchor ci
+  an_independent : IsOwned shape area (uow_of shape anchor + 1) ci → IsOwnRoom shape area anchor ci
+
+-- what a new element is, in whatever order the lists were, and what more it is where they were in order
+pub record TakesOne (shape : Shape) (old new : List (List ℕ)) (anchor n : ℕ) (room : ℕ × ℕ) : Type 0 where
+  pub takes : TakesRoom shape old new anchor n room
+  pub own : IsOwnRoom shape new anchor room.0
+  pub finds : IsInOrder shape old → FindsRoom shape old new anchor n room
+  pub in_order : IsInOrder shape old → IsInOrder shape new

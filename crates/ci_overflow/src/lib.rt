@@ -16,6 +16,7 @@
 mod before;
 mod freed;
 mod joined;
+mod known;
 mod places;
 mod reading;
 mod room;
@@ -23,7 +24,8 @@ mod seen;
 mod tried;
 
 pub use freed::{give_back, give_back_seen};
-pub use room::find_room;
+pub use known::SeenFull;
+pub use room::{find_room, find_room_seen};
 pub use seen::SeenLinks;
 
 /// Why a call on an area's elements gives none. The object that holds the area is then thrown away.

@@ -1,6 +1,7 @@
 //! What walks over overflow lists saw, for those that come after them.
 
 ghost use Rattle.std.specs.Prelude.{◌≡◌, ◌≢◌, ℕ, Err, IsErrOf};
+ghost use Rattle.ci_overflow.specs.Seen.{HasSeenNone};
 
 use crate::SpaceFault;
 use std::alloc::Global;
@@ -17,8 +18,10 @@ pub struct SeenLinks {
 }
 
 impl SeenLinks {
-    /// No links yet.
-    pub fn new(alloc: Global) -> SeenLinks {
+    /// No links yet; those that come are kept.
+    pub fn new(alloc: Global) -> SeenLinks
+        ensures { HasSeenNone result }
+    {
         SeenLinks {
             before: Some(BTreeMap::new(alloc)),
             reached: 0,

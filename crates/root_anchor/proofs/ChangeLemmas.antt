@@ -1,10 +1,10 @@
 -- Lists of which one has one segment more don't differ in one segment.
-use Rattle.std.proofs.Common.{◌≡◌, ◌≢◌, ℕ, List, slice_get, Some, subst, arith}
+use Rattle.std.proofs.Common.{◌≡◌, ◌≢◌, ℕ, List, length, slice_get, Some, ap, subst, arith}
 use Rattle.fp_model.specs.declared.database.Node.{Node, out-Node}
 use Rattle.fp_model.specs.declared.database.Root.{Root}
 use Rattle.root_changes.specs.Differing.{DifferAt, NodesDiffer, own, lower, RowDiffers, HaveSameOwn, RootDiffers, own_root, lower_root, RootsDiffer}
 use Rattle.root_changes.specs.Gaining.{RowGains, new_segment, lower_segment, RootsGain, new_root, below_root}
-use Rattle.root_changes.proofs.ComparingLemmas.{one_place, same_lengths, nodes_apart, rows_apart, roots_apart}
+use Rattle.root_changes.proofs.ComparingLemmas.{one_place, same_lengths, same_there, nodes_apart, rows_apart, roots_apart}
 use Rattle.root_changes.proofs.GainingLemmas.{more_lengths}
 
 record SameThere {A : Type 0} (x y a b : A) : Type 0 where
@@ -82,3 +82,16 @@ roots_exclusive before after (below_root {lower = low} {more = more} {x = x} {y 
     let n : RootDiffers x y = subst (λ u. RootDiffers u y) s.first
     (subst (λ u. RootDiffers d.differ.x u) s.second d.differ.differ) in
     rows_exclusive low more gains (same_row below (lower_root_differs same n))
+
+-- nor are they the same
+gain_rows_apart : (row other : List Node) → RowGains row other → row ≡ other → ⊥
+gain_rows_apart row other (new_segment {k = k} {n = n} m bare) e =
+    absurd (omega (arith, more_lengths row other k n m, ap length e))
+gain_rows_apart row other (lower_segment {lower = low} {more = more} {x = x} {y = y} at same below gains) e =
+    gain_rows_apart low more gains (same_there below (ap (λ (n : Node). (out-Node n).children) (same_there at e)))
+
+pub gain_apart : (before after : List Root) → RootsGain before after → before ≡ after → ⊥
+gain_apart before after (new_root {k = k} {root = root} m bare) e =
+    absurd (omega (arith, more_lengths before after k root m, ap length e))
+gain_apart before after (below_root {lower = low} {more = more} {x = x} {y = y} at same below gains) e =
+    gain_rows_apart low more gains (same_there below (ap (λ (r : Root). r.children) (same_there at e)))

@@ -1,12 +1,21 @@
 -- An anchor's roots with one segment more: the pointer to it leads there, and every other element stays.
-use Rattle.std.proofs.Common.{◌≡◌, ◌≢◌, ◌⊎◌, inl, inr, ℕ, ◌<◌, List, [], ◌∷◌, ◌++◌, length, replicate, Contains, None, Result, Ok, Err, IfOk, refl, sym, ap, ◌∙◌, subst, arith}
+use Rattle.std.proofs.Common.{◌≡◌, ◌≢◌, ◌⊎◌, inl, inr, ℕ, ◌+◌, ◌<◌, ◌≤◌, List, [], ◌∷◌, ◌++◌, length, replicate, Contains, None, Result, Ok, Err, IfOk, refl, sym, ap, ◌∙◌, subst, arith}
 use Rattle.std.proofs.lemmas.List.{append-nil}
 use Rattle.std.proofs.lemmas.List.Elements.{Contains-append_left, Contains-append_right, Contains-append_cases}
 use Rattle.ci_space.specs.declared.intervals.Shape.{Shape}
 use Rattle.ci_space.specs.Interval.{IsUsed}
 use Rattle.ci_space.proofs.Contents.{used-type}
-use Rattle.ci_overflow.specs.Lists.{bytes_at, IsInOrder}
-use Rattle.ci_overflow.specs.Places.{base_of, first_base, uow_of}
+use Rattle.ci_overflow.specs.Lists.{bytes_at, owner_of, IsInOrder}
+use Rattle.std.proofs.lemmas.Bool.{cases_lt}
+use Rattle.std.proofs.lemmas.List.{get_or_past}
+use Rattle.ci_space.specs.declared.head.Head.{Head}
+use Rattle.ci_space.specs.Head.{head_of}
+use Rattle.ci_space.proofs.Tilings.{size-bounds}
+use Rattle.ci_overflow.specs.Places.{base_of, first_base, first_independent, uow_of}
+use Rattle.ci_overflow.specs.Rooms.{IsOwnRoom, its_base, a_dependent, an_independent}
+use Rattle.ci_overflow.proofs.Finds.{same_or, base-some}
+use Rattle.ci_overflow.proofs.Joins.{base-before}
+use Rattle.ci_overflow.proofs.Tries.{head-owner}
 use Rattle.fp_model.specs.declared.definitions.SegDef.{SegDef}
 use Rattle.fp_model.specs.declared.database.Node.{Node}
 use Rattle.fp_model.specs.declared.database.Root.{Root}
@@ -24,7 +33,7 @@ use Rattle.root_anchor.specs.declared.standing.Standing.{Standing}
 use Rattle.root_anchor.specs.Chains.{AreRows, no_row, row_end, segment, AreRoots, no_root, root, newest, root_of, anchor_count}
 use Rattle.root_anchor.specs.Differing.{ChangesAlone}
 use Rattle.root_anchor.specs.Formed.{HasRoots, IsFormed}
-use Rattle.root_anchor.specs.Gaps.{FewChange, SegmentsStay, StaysIn, linked, Refills, TakesNew, Fills, MeetsOneMore, IsGapInRoots, Adds, AddsBehind, AddsInFront, says_added, links_to}
+use Rattle.root_anchor.specs.Gaps.{AddsOne, FewChange, SegmentsStay, StaysIn, linked, Refills, TakesNew, Fills, MeetsOneMore, IsGapInRoots, Adds, AddsBehind, AddsInFront, says_added, links_to}
 use Rattle.root_anchor.specs.Puts.{PutsRoot}
 use Rattle.root_anchor.specs.Rebuilding.{Exchanges, AreApart, RootsStand, Rebuilds, Shares, met_after}
 use Rattle.root_anchor.specs.Standing.{places_of, AreStanding}
@@ -36,7 +45,7 @@ use Rattle.root_anchor.proofs.Framing.{Stay, roots_stay, roots_behind}
 use Rattle.root_anchor.proofs.GapLemmas.{bare_rows, lone, lone_stands}
 use Rattle.root_anchor.proofs.Members.{none_in, front_in, behind_in, in_cases}
 use Rattle.root_anchor.proofs.OneChain.{one_segment, one_chain, chain_has}
-use Rattle.root_anchor.proofs.PutLemmas.{root_keeps_segment, put_keeps_segment, put_keeps_order, segment_stays}
+use Rattle.root_anchor.proofs.PutLemmas.{root_keeps_segment, put_keeps_head, put_keeps_segment, put_keeps_order, segment_stays, uow_below}
 use Rattle.root_anchor.proofs.Rebuilt.{base-in-place, IsStored, is-stored, apart-kept}
 use Rattle.root_anchor.proofs.Steps.{finds-place, places-segment, puts-segment}
 
@@ -125,11 +134,73 @@ says_made types added firsts bytes f b =
     } in
     ap P f ∙ ap Q b
 
+same_owner : (old new : List ℕ) → (head_of new).owner ≡ (head_of old).owner → owner_of new ≡ owner_of old
+same_owner old new e = sym (head-owner new (head_of new).owner refl) ∙ e ∙ head-owner old (head_of old).owner refl
+
+-- a segment that is put, and a root anchor point, leave each interval with its unit of work
+put_keeps_own : (shape : Shape) (types : List SegDef) (old new : List (List ℕ)) (anchor type : ℕ) (at : Pointer) (ci : ℕ)
+    (s : Segment) → PutsSegment types old new type at s → IsOwnRoom shape old anchor ci → IsOwnRoom shape new anchor ci
+put_keeps_own shape types old new anchor type at ci s p (its_base e) = its_base e
+put_keeps_own shape types old new anchor type at ci s p (a_dependent l h) = a_dependent l h
+put_keeps_own shape types old new anchor type at ci s p (an_independent o) = an_independent (record {
+  from = o.from;
+  below = omega (arith, o.below, p.same_number);
+  owned = same_owner (bytes_at old ci) (bytes_at new ci) (ap (λ (h : Head). h.owner)
+      (put_keeps_head types old new type at s p ci)) ∙ o.owned;
+})
+
+root_keeps_own : (shape : Shape) (old new : List (List ℕ)) (anchor ci : ℕ) (first : Pointer)
+    → PutsRoot shape old new anchor first → IsOwnRoom shape old anchor ci → IsOwnRoom shape new anchor ci
+root_keeps_own shape old new anchor ci first p (its_base e) = its_base e
+root_keeps_own shape old new anchor ci first p (a_dependent l h) = a_dependent l h
+root_keeps_own shape old new anchor ci first p (an_independent o) = an_independent (record {
+  from = o.from;
+  below = omega (arith, o.below, p.same_number);
+  owned = same_owner (bytes_at old ci) (bytes_at new ci) (elim (same_or ci (base_of shape anchor)) as
+      (λ _. (head_of (bytes_at new ci)).owner ≡ (head_of (bytes_at old ci)).owner) [
+        | inl e ↦ subst (λ c. (head_of (bytes_at new c)).owner ≡ (head_of (bytes_at old c)).owner) (sym e)
+            (ap (λ (h : Head). h.owner) p.head)
+        | inr n ↦ ap (λ bytes. (head_of bytes).owner) (p.elsewhere ci n)
+      ]) ∙ o.owned;
+})
+
+-- an area in order in which one interval more changes than control and a base interval has at most one more
+none_past_end : (shape : Shape) (old new : List (List ℕ)) (ci : ℕ) → IsInOrder shape new → length old ≤ ci
+    → ci < length new → bytes_at new ci ≡ bytes_at old ci → ⊥
+none_past_end shape old new ci o l b e =
+    let z : bytes_at new ci ≡ [] = e ∙ get_or_past old ci [] l in
+    let i = (o.in_place ci b).is_interval in
+    let s : (512 ≤ length (bytes_at new ci)) × (length (bytes_at new ci) ≤ 4096) =
+    size-bounds (length (bytes_at new ci)) i.tiles.size in
+    omega (arith, s.0, ap length z)
+
+grows_one : (shape : Shape) (old new : List (List ℕ)) (anchor at : ℕ) → IsInOrder shape old → IsInOrder shape new
+    → anchor < anchor_count shape
+    → ((ci : ℕ) → ci ≢ 0 → ci ≢ first_base shape (uow_of shape anchor) → ci ≢ at → bytes_at new ci ≡ bytes_at old ci)
+    → length new ≤ length old + 1
+grows_one shape old new anchor at o n b named = elim (cases_lt (length old + 1) (length new)) as
+    (λ _. length new ≤ length old + 1) [
+      | inr l ↦ omega (arith, l)
+      | inl l ↦
+          let u : uow_of shape anchor < shape.uows = uow_below shape anchor b in
+          let f : first_base shape (uow_of shape anchor) < first_independent shape =
+          base-before shape (uow_of shape anchor) u (base-some anchor shape.uows shape.base b) in
+          let w = o.whole in
+          absurd (elim (same_or (length old) at) as (λ _. ⊥) [
+            | inl e ↦ none_past_end shape old new (length old + 1) n (omega arith) l
+                (named (length old + 1) (λ z. omega (arith, z)) (λ z. omega (arith, z, f, w))
+                (λ z. omega (arith, z, e)))
+            | inr d ↦ none_past_end shape old new (length old) n (omega arith) (omega (arith, l))
+                (named (length old) (λ z. omega (arith, z, f, w)) (λ z. omega (arith, z, f, w)) d)
+          ])
+    ]
+
 pub adds_made : (shape : Shape) (types : List SegDef) (old middle new : List (List ℕ)) (anchor : ℕ) (added : Added)
-    (at : Pointer) (s : Segment) → anchor < anchor_count shape → TakesNew shape types old middle anchor added.segment at
+    (at : Pointer) (s : Segment) → anchor < anchor_count shape → IsInOrder shape old
+    → TakesNew shape types old middle anchor added.segment at
     → s ≡ says_added types added → PutsSegment types middle new added.segment at s
     → Adds shape types old new anchor added at
-adds_made shape types old middle new anchor added at s b t e p =
+adds_made shape types old middle new anchor added at s b o t e p =
     let put : PutsSegment types middle new added.segment at (says_added types added) =
     subst (λ (u : Segment). PutsSegment types middle new added.segment at u) e p in
     let place = finds-place shape types old middle added.segment anchor (content_length types added.segment) None at refl
@@ -139,7 +210,19 @@ adds_made shape types old middle new anchor added at s b t e p =
       exchange = it.exchange;
       has = it.has;
       named = λ ci x y z. put.elsewhere ci z ∙ t.finds.named ci x y z;
+      place = t.finds.place;
+      own = put_keeps_own shape types middle new anchor added.segment at at.0 (says_added types added) put t.own;
+      one_more = omega (
+        arith,
+        put.same_number,
+        grows_one shape old middle anchor at.0 o t.in_order b t.finds.named,
+      );
     }
+
+none_used : (shape : Shape) (old new : List (List ℕ)) (at : Pointer) → Exchanges shape old new [] (at ∷ [])
+    → ¬ IsUsed (bytes_at old at.0) at.1
+none_used shape old new at e = elim (e.fresh at (front_in at [])) as (λ _. ¬ IsUsed (bytes_at old at.0) at.1)
+    [ inl c ↦ absurd (none_in at c) | inr n ↦ n ]
 
 module _ (shape : Shape) (types : List SegDef) (old new : List (List ℕ)) (anchor : ℕ) (added : Added) (at : Pointer)
     (a : Adds shape types old new anchor added at) where
@@ -288,6 +371,52 @@ front_few shape types old new anchor first r d =
           (λ e. n (one_of all base ci (behind_in 0 (base ∷ two) _ (front_in base two)) e))
           (λ e. n (one_of all d.at.0 ci
           (behind_in 0 (base ∷ two) _ (behind_in base two _ (front_in d.at.0 (own ∷ [])))) e));
+    }
+
+-- one has come
+pub behind_one : (shape : Shape) (types : List SegDef) (old new : List (List ℕ)) (anchor : ℕ) (first : Pointer)
+    (roots others : List Root) (gap : Gap) → first ≡ root_of shape old anchor → HasRoots shape types old anchor roots
+    → IsGapInRoots types old first roots others gap → AddsBehind shape types old new anchor gap
+    → AddsOne shape types old new anchor
+behind_one shape types old new anchor first roots others gap e has g d =
+    let start : AreRoots types old [] first roots has.elements =
+    subst (λ p. AreRoots types old [] p roots has.elements) (sym e) has.is_chain.are_roots in
+    let fills = behind_fills shape types old new anchor gap g.there d in
+    let k = g.fills new d.at fills has.elements start in
+    record {
+      type = gap.added.segment;
+      element = d.at;
+      holder = gap.holder.at.0;
+      fresh = none_used shape old d.middle d.at d.adds.exchange;
+      used = record { segment = gap.added.segment; content = fills.stands.content; used = fills.stands.used };
+      place = d.adds.place;
+      own = put_keeps_own shape types d.middle new anchor gap.holder.segment gap.holder.at d.at.0
+          (links_to gap.holder d.at) d.put d.adds.own;
+      holds = inr (record {
+        at = gap.holder.at;
+        is_met = record { roots = roots; elements = has.elements; is_chain = has.is_chain; met = k.holder_met };
+        is_there = refl;
+      });
+      others = λ ci x y z w. d.put.elsewhere ci w ∙ d.adds.named ci x y z;
+      one_more = omega (arith, d.put.same_number, d.adds.one_more);
+    }
+
+pub front_one : (shape : Shape) (types : List SegDef) (old new : List (List ℕ)) (anchor : ℕ) (first : Pointer)
+    (r : Root) → AddsInFront shape types old new anchor first r → AddsOne shape types old new anchor
+front_one shape types old new anchor first r d =
+    let now = root_keeps_segment shape types d.middle new anchor d.at d.put d.added.segment d.at
+    (says_added types d.added) d.adds.has in
+    record {
+      type = d.added.segment;
+      element = d.at;
+      holder = base_of shape anchor;
+      fresh = none_used shape old d.middle d.at d.adds.exchange;
+      used = record { segment = d.added.segment; content = now.content; used = now.used };
+      place = d.adds.place;
+      own = root_keeps_own shape d.middle new anchor d.at.0 d.at d.put d.adds.own;
+      holds = inl refl;
+      others = λ ci x y z w. d.put.elsewhere ci w ∙ d.adds.named ci x y z;
+      one_more = omega (arith, d.put.same_number, d.adds.one_more);
     }
 
 -- ---- the anchor's elements give way to those and one more
@@ -445,3 +574,7 @@ alone_few shape types old new anchor before after it = record {
 pub ok_map : {X E : Type 0} (r : Result X E) (P Q : X → Type 0) → ((x : X) → P x → Q x) → IfOk r P → IfOk r Q
 ok_map (Ok x) P Q f p = f x p
 ok_map (Err e) P Q f p = tt
+
+pub any_ok : {X E : Type 0} (r : Result X E) (P : X → Type 0) → ((x : X) → P x) → IfOk r P
+any_ok (Ok x) P f = f x
+any_ok (Err e) P f = tt

@@ -30,3 +30,5 @@ pub mod GapLemmas
 pub mod FillLemmas
 pub mod GapPlaces
 pub mod ChangeLemmas
+pub mod Directs
+pub mod Takings

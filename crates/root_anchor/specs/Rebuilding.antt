@@ -133,6 +133,20 @@ pub record TakesPlace (shape : Shape) (types : List SegDef) (old new : List (Lis
   pub exchange : Exchanges shape old new (and_place planned []) (at ∷ [])
   pub room : HasRoom (bytes_at new at.0) at.1 (content_length types type)
 
+-- each segment of a plan has a place: the one that was planned, or a new one, with room for its type
+pub record TakesPlaces (shape : Shape) (types : List SegDef) (old new : List (List ℕ)) (plan taken : List Planned) :
+    Type 0 where
+  pub exchange : Exchanges shape old new (reserved plan) (reserved taken)
+  pub kinds : types_of taken ≡ types_of plan
+  pub rooms : HaveRooms types new taken
+
+-- so it is for the last segments of a plan; these are left
+pub record IsTaking (shape : Shape) (types : List SegDef) (old now : List (List ℕ)) (plan left taken : List Planned) :
+    Type 0 where
+  pub done : List Planned
+  pub parts : plan ≡ left ++ done
+  pub takes : TakesPlaces shape types old now done taken
+
 -- a segment is put into the place that was planned, or into a new one
 pub record PlacesSegment (shape : Shape) (types : List SegDef) (old new : List (List ℕ)) (type : ℕ)
     (planned : Option Pointer) (at : Pointer) (segment : Segment) : Type 0 where

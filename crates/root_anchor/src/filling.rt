@@ -13,7 +13,7 @@ ghost use Rattle.root_changes.specs.Telling.{TellsRootGain};
 ghost use Rattle.root_anchor.specs.Chains.{anchor_count, root_of};
 ghost use Rattle.root_anchor.specs.Damage.{ChainFails};
 ghost use Rattle.root_anchor.specs.Formed.{HasChain, HasRoots};
-ghost use Rattle.root_anchor.specs.Gaps.{Adds, AddsBehind, AddsInFront, FewChange, FitsAdded, FitsHolder, FitsGap, Refills, SegmentsStay, TakesNew, links_to};
+ghost use Rattle.root_anchor.specs.Gaps.{Adds, AddsBehind, AddsInFront, AddsOne, FewChange, FitsAdded, FitsHolder, FitsGap, Refills, SegmentsStay, TakesNew, links_to};
 ghost use Rattle.root_anchor.specs.Rebuilding.{IsDirect, Rebuilds};
 ghost use Rattle.root_anchor.specs.Standing.{AreStanding};
 ghost use Rattle.root_anchor.specs.Stored.{are_storable, is_storable};
@@ -232,6 +232,11 @@ fn add_behind<I: Intervals>(
         → IfOk result (λ added. added ≡ true → FewChange (I.intervals i.old) (I.intervals i.new)) }
     ensures stay { I.told i.old → IsInOrder home.now.shape.now (I.intervals i.old)
         → IfOk result (λ added. added ≡ true → SegmentsStay home.now.segments.now (I.intervals i.old) (I.intervals i.new)) }
+    ensures one { I.told i.old → IsInOrder home.now.shape.now (I.intervals i.old)
+        → first ≡ root_of home.now.shape.now (I.intervals i.old) home.now.anchor
+        → HasRoots home.now.shape.now home.now.segments.now (I.intervals i.old) home.now.anchor roots.now
+        → IfOk result (λ added. added ≡ true → AddsOne home.now.shape.now home.now.segments.now (I.intervals i.old)
+        (I.intervals i.new) home.now.anchor) }
     ensures some { gain ≢ Gain.Not → gain ≢ Gain.New 0 → IfOk result (λ added. added ≡ true) }
     ensures same { I.told i.old → IfOk result (λ added. added ≡ false → I.intervals i.new ≡ I.intervals i.old) }
     ensures sound { I.told i.old → IsInOrder home.now.shape.now (I.intervals i.old)
@@ -270,6 +275,10 @@ fn add_missing<I: Intervals>(
         → IfOk result (λ added. added ≡ true → FewChange (I.intervals i.old) (I.intervals i.new)) }
     ensures stay { I.told i.old → IsInOrder home.now.shape.now (I.intervals i.old)
         → IfOk result (λ added. added ≡ true → SegmentsStay home.now.segments.now (I.intervals i.old) (I.intervals i.new)) }
+    ensures one { I.told i.old → IsInOrder home.now.shape.now (I.intervals i.old)
+        → HasRoots home.now.shape.now home.now.segments.now (I.intervals i.old) home.now.anchor roots.now
+        → IfOk result (λ added. added ≡ true → AddsOne home.now.shape.now home.now.segments.now (I.intervals i.old)
+        (I.intervals i.new) home.now.anchor) }
     ensures some { RootsGain roots.now others.now → IfOk result (λ added. added ≡ true) }
     ensures same { I.told i.old → IfOk result (λ added. added ≡ false → I.intervals i.new ≡ I.intervals i.old) }
     ensures sound { I.told i.old → IsInOrder home.now.shape.now (I.intervals i.old)
@@ -319,6 +328,11 @@ pub(crate) fn set_more<I: Intervals>(
         → IfOk result (λ more. more ≡ true → FewChange (I.intervals i.old) (I.intervals i.new)) }
     ensures stay { I.told i.old → IsInOrder home.now.shape.now (I.intervals i.old)
         → IfOk result (λ more. more ≡ true → SegmentsStay home.now.segments.now (I.intervals i.old) (I.intervals i.new)) }
+    ensures one { I.told i.old → IsInOrder home.now.shape.now (I.intervals i.old)
+        → IfOk result (λ more. more ≡ true → AddsOne home.now.shape.now home.now.segments.now (I.intervals i.old)
+        (I.intervals i.new) home.now.anchor) }
+    ensures stood { I.told i.old → IfOk result (λ more. more ≡ true
+        → HasChain home.now.shape.now home.now.segments.now (I.intervals i.old) home.now.anchor) }
     ensures more { I.told i.old
         → HasRoots home.now.shape.now home.now.segments.now (I.intervals i.old) home.now.anchor before.now
         → RootsGain before.now after.now → IfOk result (λ more. more ≡ true) }

@@ -24,6 +24,7 @@ mod putting;
 mod rewriting;
 mod standing;
 mod storing;
+mod taking;
 mod walk;
 
 pub use anchor_elements::AnchorFault;

@@ -3,7 +3,7 @@
 //! Where an anchor's old and new roots differ in one segment, that one's element alone is put. Where the new ones have
 //! one segment more, it is put into a new element, and the pointer to it. Else the anchor is stored.
 
-ghost use Rattle.std.specs.Prelude.{◌≡◌, ◌≢◌, ◌↔◌, ◌<◌, ◌≤◌, ℕ, List, Err, IfOk, OnOk, IsOk, IsErrOf, IsTrue, true, false};
+ghost use Rattle.std.specs.Prelude.{◌≡◌, ◌≢◌, ◌⊎◌, ◌↔◌, ◌<◌, ◌≤◌, ℕ, List, Err, IfOk, OnOk, IsOk, IsErrOf, IsTrue, true, false};
 ghost use Rattle.ci_space.specs.Calls.{Rose, GoesOn};
 ghost use Rattle.ci_overflow.specs.Lists.{IsInOrder};
 ghost use Rattle.anchor_elements.specs.Elements.{AreTypes, Segment, HasSegment};
@@ -15,7 +15,7 @@ ghost use Rattle.root_changes.specs.Gaining.{RootsGain};
 ghost use Rattle.root_anchor.specs.Differing.{ChangesAlone};
 ghost use Rattle.root_anchor.specs.Finding.{FitsType, says_of};
 ghost use Rattle.root_anchor.specs.Formed.{IsFormed, HasChain, HasRoots};
-ghost use Rattle.root_anchor.specs.Gaps.{FewChange, SegmentsStay};
+ghost use Rattle.root_anchor.specs.Gaps.{AddsOne, FewChange, SegmentsStay};
 ghost use Rattle.root_anchor.specs.Stored.{are_storable, ApartKeep, OthersKeep, KeepsSequential};
 
 use crate::building::Home;
@@ -126,11 +126,13 @@ fn rewrite_held<I: Intervals>(
         → IsFormed shape.now segments.now (I.intervals i.old)
         → OnOk result (IsFormed shape.now segments.now (I.intervals i.new)) }
 
-    // And where the lists differ in one segment, just its element changes.
+    // And where the lists differ in one segment, just its element changes, and nothing is damaged.
     ensures alone { I.told i.old → HasRoots shape.now segments.now (I.intervals i.old) anchor before.now
         → RootsDiffer before.now after.now
         → OnOk result (ChangesAlone shape.now segments.now (I.intervals i.old) (I.intervals i.new) anchor before.now
         after.now) }
+    ensures alone_sound { I.told i.old → HasRoots shape.now segments.now (I.intervals i.old) anchor before.now
+        → RootsDiffer before.now after.now → (ci : ℕ) → result ≢ Err (AnchorFault.Damaged ci) }
 
     // And where the new list has one segment more, at most four intervals change, and each segment stays in its
     // element.
@@ -140,8 +142,11 @@ fn rewrite_held<I: Intervals>(
     ensures stay { I.told i.old → HasRoots shape.now segments.now (I.intervals i.old) anchor before.now
         → IsInOrder shape.now (I.intervals i.old) → RootsGain before.now after.now
         → OnOk result (SegmentsStay segments.now (I.intervals i.old) (I.intervals i.new)) }
+    ensures one { I.told i.old → HasRoots shape.now segments.now (I.intervals i.old) anchor before.now
+        → IsInOrder shape.now (I.intervals i.old) → RootsGain before.now after.now
+        → OnOk result (AddsOne shape.now segments.now (I.intervals i.old) (I.intervals i.new) anchor) }
 
-    // Whatever roots it has.
+    // Whatever roots it has. At `Ok` its chain stood, or an element changed alone.
     ensures sequential { I.told i.old → IsFormed shape.now segments.now (I.intervals i.old)
         → OnOk result (KeepsSequential shape.now (I.intervals i.old) (I.intervals i.new)) }
     ensures sound { I.told i.old → IsInOrder shape.now (I.intervals i.old)
@@ -149,6 +154,8 @@ fn rewrite_held<I: Intervals>(
         → result ≢ Err (AnchorFault.Damaged ci) }
     ensures damaged { I.told i.old → ¬ HasChain shape.now segments.now (I.intervals i.old) anchor → (ci : ℕ)
         → result ≡ Err (AnchorFault.Damaged ci) → ChainFails shape.now segments.now (I.intervals i.old) anchor ci }
+    ensures stood { I.told i.old → OnOk result (HasChain shape.now segments.now (I.intervals i.old) anchor
+        ⊎ ChangesAlone shape.now segments.now (I.intervals i.old) (I.intervals i.new) anchor before.now after.now) }
 
     // It fails only with what holds the intervals.
     ensures failed { IsErrOf result AnchorFault.Failed → Rose (I.faults i.old) (I.faults i.new) }
@@ -222,11 +229,13 @@ pub fn rewrite<I: Intervals>(
         → IsFormed shape.now segments.now (I.intervals i.old)
         → OnOk result (IsFormed shape.now segments.now (I.intervals i.new)) }
 
-    // And where the lists differ in one segment, just its element changes.
+    // And where the lists differ in one segment, just its element changes, and nothing is damaged.
     ensures alone { I.told i.old → HasRoots shape.now segments.now (I.intervals i.old) anchor before.now
         → RootsDiffer before.now after.now
         → OnOk result (ChangesAlone shape.now segments.now (I.intervals i.old) (I.intervals i.new) anchor before.now
         after.now) }
+    ensures alone_sound { I.told i.old → HasRoots shape.now segments.now (I.intervals i.old) anchor before.now
+        → RootsDiffer before.now after.now → (ci : ℕ) → result ≢ Err (AnchorFault.Damaged ci) }
 
     // And where the new list has one segment more, at most four intervals change, and each segment stays in its
     // element.
@@ -236,12 +245,15 @@ pub fn rewrite<I: Intervals>(
     ensures stay { I.told i.old → HasRoots shape.now segments.now (I.intervals i.old) anchor before.now
         → IsInOrder shape.now (I.intervals i.old) → RootsGain before.now after.now
         → OnOk result (SegmentsStay segments.now (I.intervals i.old) (I.intervals i.new)) }
+    ensures one { I.told i.old → HasRoots shape.now segments.now (I.intervals i.old) anchor before.now
+        → IsInOrder shape.now (I.intervals i.old) → RootsGain before.now after.now
+        → OnOk result (AddsOne shape.now segments.now (I.intervals i.old) (I.intervals i.new) anchor) }
 
     // And where they are the same, nothing changes.
     ensures done { before.now ≡ after.now → IsOk result }
     ensures same { before.now ≡ after.now → i.new ≡ i.old }
 
-    // Whatever roots it has.
+    // Whatever roots it has. At `Ok` its chain stood, or an element changed alone.
     ensures sequential { I.told i.old → IsFormed shape.now segments.now (I.intervals i.old)
         → OnOk result (KeepsSequential shape.now (I.intervals i.old) (I.intervals i.new)) }
     ensures sound { I.told i.old → IsInOrder shape.now (I.intervals i.old)
@@ -249,6 +261,9 @@ pub fn rewrite<I: Intervals>(
         → result ≢ Err (AnchorFault.Damaged ci) }
     ensures damaged { I.told i.old → ¬ HasChain shape.now segments.now (I.intervals i.old) anchor → (ci : ℕ)
         → result ≡ Err (AnchorFault.Damaged ci) → ChainFails shape.now segments.now (I.intervals i.old) anchor ci }
+    ensures stood { I.told i.old → before.now ≢ after.now
+        → OnOk result (HasChain shape.now segments.now (I.intervals i.old) anchor
+        ⊎ ChangesAlone shape.now segments.now (I.intervals i.old) (I.intervals i.new) anchor before.now after.now) }
 
     // It fails only with what holds the intervals.
     ensures failed { IsErrOf result AnchorFault.Failed → Rose (I.faults i.old) (I.faults i.new) }

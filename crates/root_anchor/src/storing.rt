@@ -13,13 +13,14 @@ ghost use Rattle.root_anchor.specs.Formed.{IsFormed, HasChain, HasRoots};
 ghost use Rattle.anchor_elements.specs.Elements.{AreTypes};
 ghost use Rattle.root_anchor.specs.Stored.{are_storable, ApartKeep, OthersKeep, KeepsSequential};
 ghost use Rattle.root_anchor.specs.Standing.{places_of};
-ghost use Rattle.root_anchor.specs.Rebuilding.{Exchanges, AreGivable, IsRebuildable, Rebuilds};
+ghost use Rattle.root_anchor.specs.Rebuilding.{Exchanges, AreGivable, IsRebuildable, Rebuilds, types_of, types_of_roots};
 
 use crate::building::{Home, build_roots, fault_of};
 use crate::holding::{Begun, begin, rest, settle};
 use crate::plan::{Planned, plan_roots};
 use crate::putting::put_root;
 use crate::standing::{Standing, elements_of};
+use crate::taking::take_places;
 use anchor_elements::AnchorFault;
 use ci_overflow::{SeenLinks, give_back_seen};
 use ci_space::{Intervals, Shape};
@@ -56,7 +57,7 @@ fn give_back_all<I: Intervals>(
 }
 
 /// Gives an anchor roots in the places that are planned for them and in new ones; the rest of what it had is given
-/// back.
+/// back before.
 fn rebuild<I: Intervals>(
     alloc: Global,
     i: &mut I,
@@ -68,6 +69,7 @@ fn rebuild<I: Intervals>(
     requires anchor { home.now.anchor < anchor_count home.now.shape.now }
     requires types { AreTypes (I.size i.old) home.now.segments.now }
     requires roots { are_storable home.now.segments.now roots.now ≡ true }
+    requires kinds { types_of plan.old.items ≡ types_of_roots home.now.segments.now roots.now }
     ensures rebuilt { I.told i.old → IsRebuildable home.now.shape.now home.now.segments.now (I.intervals i.old)
         plan.old.items rest.now roots.now
         → OnOk result (Rebuilds home.now.shape.now home.now.segments.now (I.intervals i.old) (I.intervals i.new)
@@ -79,7 +81,8 @@ fn rebuild<I: Intervals>(
     ensures goes_on { GoesOn I.told I.size I.faults I.keeps i.old i.new }
 {
     give_back_all(alloc, i, home.shape, rest)?;
-    let first = build_roots(alloc, i, home, plan, roots)?;
+    let mut taken = take_places(alloc, i, home, plan)?;
+    let first = build_roots(alloc, i, home, &mut taken, roots)?;
     put_root(i, home.shape, home.anchor, first)
 }
 

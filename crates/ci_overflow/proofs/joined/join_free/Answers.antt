@@ -30,7 +30,8 @@ returns-clause-joined g c = λ t e.
     let below : slice_index_or c.ends-ends.result 3 0 < length (g.I.Intervals.intervals c.args.i.now) =
     omega (arith, g.met.I.Intervals.numbered c.args.i.now t, c.in_ok-interval.ensures.below) in
     joins-free _ _ _ _ _ _ _ _ _ _ _ _ _ e c.ends-ends.ensures refl from below (c.in_ok-interval.ensures.same t)
-    (c.in_ok-interval.ensures.bytes t) c.in_ok-interval.ensures.kind (c.if-not-is_empty.ensures.0 refl)
+    (c.in_ok-interval.ensures.bytes t) c.in_ok-interval.ensures.kind c.in_ok-interval.ensures.owner
+    (c.if-not-is_empty.ensures.0 refl)
     (ap (λ h. h.link) c.head-next.ensures.head) (c.in_ok-put_counts.ensures.put t1) (c.in_ok-at.ensures.joined t2)
 
 pub returns-then-ci-first_independent-clause-damaged : goal.returns-then-ci-first_independent-clause-damaged

@@ -5,7 +5,7 @@ use Rattle.anchor_elements.specs.Elements.{HasSegment}
 use Rattle.anchor_elements.specs.Reading.{segment_of}
 use Rattle.root_anchor.specs.Chains.{AreRoots}
 use Rattle.root_anchor.specs.Gaps.{AddsBehind}
-use Rattle.root_anchor.proofs.FillLemmas.{behind_few, behind_stay, behind_rebuilds}
+use Rattle.root_anchor.proofs.FillLemmas.{behind_few, behind_one, behind_stay, behind_rebuilds}
 use Rattle.root_anchor.proofs.FindingLemmas.{found_there}
 use Rattle.root_anchor.proofs.filling.add_behind.Goals as goal
 
@@ -80,5 +80,21 @@ returns-clause-stay g c = λ told o yes.
     let there = subst (λ x. HasSegment types x gap.holder.segment gap.holder.at (segment_of gap.holder.said)) (sym same)
     it.there in
     behind_stay shape types _ _ anchor gap it.there
+    (subst (λ x. AddsBehind shape types x (g.I.Intervals.intervals c.fill.new.i) anchor gap) same
+    (c.in_ok-fill.ensures.filled told1 order there))
+
+pub returns-clause-one : goal.returns-clause-one
+returns-clause-one g c = λ told o e has yes.
+    let shape = c.args.home.now.shape.now in
+    let types = c.args.home.now.segments.now in
+    let anchor = c.args.home.now.anchor in
+    let told1 = c.gap_in_roots.ensures.look.goes_on.tells told in
+    let same = c.gap_in_roots.ensures.look.same told in
+    let gap = c.in-Some.gap in
+    let it = found_there _ gap _ c.in-Some.is (c.in_ok-gap.ensures.gap told) in
+    let order = subst (λ x. IsInOrder shape x) (sym same) o in
+    let there = subst (λ x. HasSegment types x gap.holder.segment gap.holder.at (segment_of gap.holder.said)) (sym same)
+    it.there in
+    behind_one shape types _ _ anchor c.args.first c.args.roots.now c.args.others.now gap e has it
     (subst (λ x. AddsBehind shape types x (g.I.Intervals.intervals c.fill.new.i) anchor gap) same
     (c.in_ok-fill.ensures.filled told1 order there))

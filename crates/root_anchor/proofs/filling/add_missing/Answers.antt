@@ -6,12 +6,12 @@ use Rattle.fp_model.specs.declared.database.Root.{Root}
 use Rattle.fp_model.specs.Order.{child_types}
 use Rattle.root_anchor.specs.Chains.{root_of}
 use Rattle.root_anchor.specs.Formed.{HasRoots}
-use Rattle.root_anchor.specs.Gaps.{AddsInFront, FewChange, SegmentsStay}
+use Rattle.root_anchor.specs.Gaps.{AddsInFront, AddsOne, FewChange, SegmentsStay}
 use Rattle.root_anchor.specs.Rebuilding.{Rebuilds}
 use Rattle.root_anchor.specs.Standing.{AreStanding}
 use Rattle.root_anchor.specs.Stored.{is_storable}
 use Rattle.root_changes.proofs.GainingLemmas.{first_more, more_item}
-use Rattle.root_anchor.proofs.FillLemmas.{front_few, front_stay, front_rebuilds}
+use Rattle.root_anchor.proofs.FillLemmas.{front_few, front_one, front_stay, front_rebuilds}
 use Rattle.root_anchor.proofs.GapPlaces.{root_new_read}
 use Rattle.root_anchor.proofs.TypeLemmas.{root_at, roots-root, rows-count}
 use Rattle.root_anchor.proofs.filling.add_missing.Goals as goal
@@ -141,3 +141,28 @@ returns-clause-sound g c = λ told o has ci e.
     let has1 = subst (λ x. HasRoots shape types x anchor c.args.roots.now) (sym same) has in
     let first = c.in_ok-first.ensures.root told ∙ ap (λ x. root_of shape x anchor) (sym same) in
     c.add_behind.ensures.sound told1 order first has1 ci e
+
+pub returns-then-is_in_front-clause-one : goal.returns-then-is_in_front-clause-one
+returns-then-is_in_front-clause-one g c = λ told o has yes.
+    let shape = c.args.home.now.shape.now in
+    let types = c.args.home.now.segments.now in
+    let anchor = c.args.home.now.anchor in
+    let told1 = c.root_anchor_point.ensures.look.goes_on.tells told in
+    let same = c.root_anchor_point.ensures.look.same told in
+    let order = subst (λ x. IsInOrder shape x) (sym same) o in
+    front_one shape types _ _ anchor c.in_ok-first.first c.index-others-0.result
+    (subst (λ x. AddsInFront shape types x (g.I.Intervals.intervals c.add_in_front.new.i) anchor
+    c.in_ok-first.first c.index-others-0.result) same (c.in_ok-add_in_front.ensures.filled told1 order))
+
+pub returns-clause-one : goal.returns-clause-one
+returns-clause-one g c = λ told o has.
+    let shape = c.args.home.now.shape.now in
+    let types = c.args.home.now.segments.now in
+    let anchor = c.args.home.now.anchor in
+    let told1 = c.root_anchor_point.ensures.look.goes_on.tells told in
+    let same = c.root_anchor_point.ensures.look.same told in
+    let order = subst (λ x. IsInOrder shape x) (sym same) o in
+    let has1 = subst (λ x. HasRoots shape types x anchor c.args.roots.now) (sym same) has in
+    let first = c.in_ok-first.ensures.root told ∙ ap (λ x. root_of shape x anchor) (sym same) in
+    subst (λ x. IfOk c.add_behind.result (λ added. added ≡ true → AddsOne shape types x
+    (g.I.Intervals.intervals c.add_behind.new.i) anchor)) same (c.add_behind.ensures.one told1 order first has1)

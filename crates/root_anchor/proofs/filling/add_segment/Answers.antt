@@ -23,4 +23,4 @@ returns-clause-adds g c = λ told o.
     let firsts = c.as_slice-3.ensures.value ∙ c.in_ok-firsts.ensures.nothing
     ∙ ap (λ n. replicate n nothing) count in
     adds_made c.args.home.now.shape.now types _ _ _ c.args.home.now.anchor c.args.added c.in_ok-at.at _
-    c.requires.anchor t (says_made types c.args.added _ _ firsts c.as_slice-4.ensures) put
+    c.requires.anchor o t (says_made types c.args.added _ _ firsts c.as_slice-4.ensures) put

@@ -2,12 +2,12 @@ use Rattle.std.proofs.Common.{◌≡◌, ◌∙◌, true, [], refl, sym, subst, 
 use Rattle.std.proofs.lemmas.Result.{err_from_is_err_and}
 use Rattle.ci_overflow.specs.Lists.{IsInOrder}
 use Rattle.root_changes.specs.Gaining.{RootsGain}
-use Rattle.root_anchor.specs.Formed.{HasRoots}
-use Rattle.root_anchor.specs.Gaps.{FewChange, Refills, SegmentsStay}
+use Rattle.root_anchor.specs.Formed.{HasChain, HasRoots}
+use Rattle.root_anchor.specs.Gaps.{AddsOne, FewChange, Refills, SegmentsStay}
 use Rattle.root_anchor.specs.Rebuilding.{Rebuilds}
 use Rattle.root_anchor.specs.Standing.{AreStanding}
 use Rattle.root_anchor.proofs.BaseLemmas.{standing_walked}
-use Rattle.root_anchor.proofs.FillLemmas.{ok_map}
+use Rattle.root_anchor.proofs.FillLemmas.{any_ok, ok_map}
 use Rattle.root_anchor.proofs.OneChain.{one_chain}
 use Rattle.root_anchor.proofs.Sound.{chain_sound}
 use Rattle.root_anchor.proofs.filling.set_more.Goals as goal
@@ -96,3 +96,26 @@ pub returns-clause-damaged : goal.returns-clause-damaged
 returns-clause-damaged g c = λ told none ci e.
     let w = c.in_ok-roots.ensures.walked told in
     absurd (none (record { roots = c.in_ok-roots.field-0.roots; elements = _; is_chain = w.is_chain }))
+
+pub returns-clause-one : goal.returns-clause-one
+returns-clause-one g c = λ told o.
+    let shape = c.args.home.now.shape.now in
+    let types = c.args.home.now.segments.now in
+    let anchor = c.args.home.now.anchor in
+    let told1 = c.walk_anchor.ensures.look.goes_on.tells told in
+    let same = c.walk_anchor.ensures.look.same told in
+    let w = c.in_ok-roots.ensures.walked told in
+    let has = subst (λ r. HasRoots shape types (g.I.Intervals.intervals c.walk_anchor.new.i) anchor r)
+    (sym c.as_slice.ensures)
+    (subst (λ x. HasRoots shape types x anchor c.in_ok-roots.field-0.roots) (sym same)
+    (record { elements = _; is_chain = w.is_chain })) in
+    subst (λ x. IfOk c.add_missing.result (λ more. more ≡ true → AddsOne shape types x
+    (g.I.Intervals.intervals c.add_missing.new.i) anchor)) same
+    (c.add_missing.ensures.one told1 (subst (λ x. IsInOrder shape x) (sym same) o) has)
+
+pub returns-clause-stood : goal.returns-clause-stood
+returns-clause-stood g c = λ told.
+    let w = c.in_ok-roots.ensures.walked told in
+    any_ok c.add_missing.result (λ more. more ≡ true → HasChain c.args.home.now.shape.now c.args.home.now.segments.now
+    (g.I.Intervals.intervals c.args.i.now) c.args.home.now.anchor)
+    (λ more yes. record { roots = c.in_ok-roots.field-0.roots; elements = _; is_chain = w.is_chain })

@@ -18,6 +18,7 @@ returns-in-Ok-clause-takes g c = λ t o. record {
   finds = subst (λ n. FindsRoom c.args.home.now.shape.now (g.I.Intervals.intervals c.args.i.now)
       (g.I.Intervals.intervals c.find_room.new.i) c.args.home.now.anchor n c.in-Ok.at) c.content_length-length.ensures.exact
       (c.in-Ok.ensures.room t o);
+  own = c.in-Ok.ensures.own t;
   in_order = c.in-Ok.ensures.lists t o;
 }
 

@@ -1,4 +1,4 @@
-use Rattle.std.proofs.Common.{◌≡◌, ◌∙◌, ℕ, List, OnOk, refl, sym, ap, subst, rules}
+use Rattle.std.proofs.Common.{◌≡◌, ◌⊎◌, ◌∙◌, ℕ, List, OnOk, refl, sym, ap, subst, rules}
 use Rattle.std.specs.Ordering.{nat_cmp}
 use Rattle.std.specs.BTreeMap.{get}
 use Rattle.std.proofs.lemmas.Result.{err_from_is_err_and}
@@ -10,9 +10,10 @@ use Rattle.held_intervals.proofs.Holds.{held_number, on_settled}
 use Rattle.root_anchor.specs.Damage.{ChainFails}
 use Rattle.root_anchor.specs.Differing.{ChangesAlone}
 use Rattle.root_anchor.specs.Formed.{IsFormed, HasChain, HasRoots}
-use Rattle.root_anchor.specs.Gaps.{FewChange, SegmentsStay}
+use Rattle.root_anchor.specs.Gaps.{AddsOne, FewChange, SegmentsStay}
 use Rattle.root_anchor.specs.Stored.{ApartKeep, OthersKeep, KeepsSequential}
 use Rattle.root_changes.proofs.ComparingLemmas.{roots_apart, same_there}
+use Rattle.root_anchor.proofs.ChangeLemmas.{gain_apart}
 use Rattle.root_anchor.proofs.FillLemmas.{none_changes, none_stays}
 use Rattle.root_anchor.proofs.HeldLemmas.{starts}
 use Rattle.root_anchor.proofs.Sound.{chain_sound}
@@ -31,7 +32,21 @@ returns-then-are_same-clause-few g c = λ told has order gain. none_changes (g.I
 pub returns-then-are_same-clause-stay : goal.returns-then-are_same-clause-stay
 returns-then-are_same-clause-stay g c = λ told has order gain. none_stays c.args.segments.now (g.I.Intervals.intervals c.args.i.now)
 
+pub returns-then-are_same-clause-one : goal.returns-then-are_same-clause-one
+returns-then-are_same-clause-one g c = λ told has order gain.
+    let same : c.args.before.now ≡ c.args.after.now = c.are_same.ensures.0 c.if-are_same.true in
+    absurd (gain_apart c.args.before.now c.args.after.now gain same)
+
+pub returns-then-are_same-clause-stood : goal.returns-then-are_same-clause-stood
+returns-then-are_same-clause-stood g c = λ told differ. absurd (differ (c.are_same.ensures.0 c.if-are_same.true))
+
 -- ---- lists that differ
+
+pub returns-in_err-size-clause-alone_sound : goal.returns-in_err-size-clause-alone_sound
+returns-in_err-size-clause-alone_sound g c = λ told has differ ci e.
+    let p = err_from_is_err_and c.from_residual.result c.from_residual.ensures.1 in
+    chain_sound (record { roots = c.args.before.now; elements = has.elements; is_chain = has.is_chain }) ci
+    (c.begin.ensures.damaged told c.args.segments.now ci (cc (p.1, p.2, c.in_err-size.was)))
 
 pub returns-in_err-size-clause-sound : goal.returns-in_err-size-clause-sound
 returns-in_err-size-clause-sound g c = λ told o h ci e.
@@ -179,6 +194,56 @@ returns-clause-stay g c = λ told has order gain.
     let x = on_settled c.settle-result.result c.rewrite_held-rewritten.result _ _ (λ a. SegmentsStay c.args.segments.now (g.I.Intervals.intervals c.args.i.now) a)
     c.settle-result.ensures.done done made in
     search rules
+
+pub returns-clause-one : goal.returns-clause-one
+returns-clause-one g c = λ told has order gain.
+    let q = c.new-held.result in
+    let n = c.rewrite_held-rewritten.new.i in
+    let b = starts c.begin.ensures.look c.new-held.ensures.under (c.new-held.ensures.size ∙ c.in_ok-size.ensures.size)
+    (subst (λ m. AreRead (get nat_cmp m) (g.I.Intervals.intervals c.args.i.now)) (sym c.new-held.ensures.read)
+    (c.in_ok-size.ensures.read told)) c.new-held.ensures.none_changed g.met.I.Intervals.numbered told in
+    let kept = c.rewrite_held-rewritten.ensures.goes_on.known q
+    (refl, keeps_itself _ _ _ _ _ _ q.under.now q.size (get nat_cmp q.changed)) in
+    let next : List (List ℕ) = overlaid (g.I.Intervals.number n.under.now) (get nat_cmp n.changed)
+    (g.I.Intervals.intervals n.under.now) in
+    let done = c.settle-result.ensures.put (kept.1.area.tells b.told_held.0) in
+    let name = kept.0 ∙ c.new-held.ensures.same_area in
+    let made = subst (λ b. OnOk c.rewrite_held-rewritten.result (AddsOne c.args.shape.now c.args.segments.now b next c.args.anchor)) b.over
+    (c.rewrite_held-rewritten.ensures.one b.told_held (subst (λ a. HasRoots c.args.shape.now c.args.segments.now a c.args.anchor c.args.before.now) (sym b.over) has)
+    (subst (λ a. IsInOrder c.args.shape.now a) (sym b.over) order) gain) in
+    let x = on_settled c.settle-result.result c.rewrite_held-rewritten.result _ _ (λ a. AddsOne c.args.shape.now c.args.segments.now (g.I.Intervals.intervals c.args.i.now) a c.args.anchor)
+    c.settle-result.ensures.done done made in
+    search rules
+
+pub returns-clause-stood : goal.returns-clause-stood
+returns-clause-stood g c = λ told differ.
+    let q = c.new-held.result in
+    let n = c.rewrite_held-rewritten.new.i in
+    let b = starts c.begin.ensures.look c.new-held.ensures.under (c.new-held.ensures.size ∙ c.in_ok-size.ensures.size)
+    (subst (λ m. AreRead (get nat_cmp m) (g.I.Intervals.intervals c.args.i.now)) (sym c.new-held.ensures.read)
+    (c.in_ok-size.ensures.read told)) c.new-held.ensures.none_changed g.met.I.Intervals.numbered told in
+    let kept = c.rewrite_held-rewritten.ensures.goes_on.known q
+    (refl, keeps_itself _ _ _ _ _ _ q.under.now q.size (get nat_cmp q.changed)) in
+    let next : List (List ℕ) = overlaid (g.I.Intervals.number n.under.now) (get nat_cmp n.changed)
+    (g.I.Intervals.intervals n.under.now) in
+    let done = c.settle-result.ensures.put (kept.1.area.tells b.told_held.0) in
+    let name = kept.0 ∙ c.new-held.ensures.same_area in
+    let made = subst (λ b. OnOk c.rewrite_held-rewritten.result (HasChain c.args.shape.now c.args.segments.now b c.args.anchor ⊎ ChangesAlone c.args.shape.now c.args.segments.now b next c.args.anchor c.args.before.now c.args.after.now)) b.over
+    (c.rewrite_held-rewritten.ensures.stood b.told_held) in
+    let x = on_settled c.settle-result.result c.rewrite_held-rewritten.result _ _ (λ a. HasChain c.args.shape.now c.args.segments.now (g.I.Intervals.intervals c.args.i.now) c.args.anchor ⊎ ChangesAlone c.args.shape.now c.args.segments.now (g.I.Intervals.intervals c.args.i.now) a c.args.anchor c.args.before.now c.args.after.now)
+    c.settle-result.ensures.done done made in
+    search rules
+
+pub returns-clause-alone_sound : goal.returns-clause-alone_sound
+returns-clause-alone_sound g c = λ told has differ ci e.
+    let q = c.new-held.result in
+    let n = c.rewrite_held-rewritten.new.i in
+    let b = starts c.begin.ensures.look c.new-held.ensures.under (c.new-held.ensures.size ∙ c.in_ok-size.ensures.size)
+    (subst (λ m. AreRead (get nat_cmp m) (g.I.Intervals.intervals c.args.i.now)) (sym c.new-held.ensures.read)
+    (c.in_ok-size.ensures.read told)) c.new-held.ensures.none_changed g.met.I.Intervals.numbered told in
+    c.rewrite_held-rewritten.ensures.alone_sound b.told_held
+    (subst (λ a. HasRoots c.args.shape.now c.args.segments.now a c.args.anchor c.args.before.now) (sym b.over) has) differ ci
+    (c.settle-result.ensures.damaged ci e)
 
 pub returns-clause-sequential : goal.returns-clause-sequential
 returns-clause-sequential g c = λ told formed.

@@ -1,9 +1,10 @@
-use Rattle.std.proofs.Common.{OnOk, ◌∙◌, sym, subst}
+use Rattle.std.proofs.Common.{OnOk, ◌⊎◌, inl, inr, ◌∙◌, sym, subst}
 use Rattle.std.proofs.lemmas.Result.{err_from_is_err_and}
 use Rattle.ci_overflow.specs.Lists.{IsInOrder}
+use Rattle.ci_overflow.proofs.Joins.{on_ok-map}
 use Rattle.root_anchor.specs.Damage.{ChainFails}
 use Rattle.root_anchor.specs.Formed.{IsFormed, HasChain, HasRoots}
-use Rattle.root_anchor.specs.Gaps.{FewChange, SegmentsStay}
+use Rattle.root_anchor.specs.Gaps.{AddsOne, FewChange, SegmentsStay}
 use Rattle.root_anchor.specs.Stored.{ApartKeep, OthersKeep, KeepsSequential}
 use Rattle.root_anchor.proofs.AloneLemmas.{alone_stored, alone_others, alone_apart, alone_formed, alone_sequential}
 use Rattle.root_anchor.proofs.ChangeLemmas.{roots_exclusive}
@@ -19,6 +20,11 @@ pub returns-in_err-alone-clause-damaged : goal.returns-in_err-alone-clause-damag
 returns-in_err-alone-clause-damaged g c = λ told none ci e.
     let p = err_from_is_err_and c.from_residual.result c.from_residual.ensures.1 in
     absurd (c.set_alone.ensures.sound told ci (cc (p.1, p.2, c.in_err-alone.was)))
+
+pub returns-in_err-alone-clause-alone_sound : goal.returns-in_err-alone-clause-alone_sound
+returns-in_err-alone-clause-alone_sound g c = λ told has differ ci e.
+    let p = err_from_is_err_and c.from_residual.result c.from_residual.ensures.1 in
+    c.set_alone.ensures.sound told ci (cc (p.1, p.2, c.in_err-alone.was))
 
 pub returns-then-alone-clause-stored : goal.returns-then-alone-clause-stored
 returns-then-alone-clause-stored g c = λ told has formed. alone_stored c.args.shape.now c.args.segments.now _ _
@@ -53,6 +59,13 @@ pub returns-then-alone-clause-stay : goal.returns-then-alone-clause-stay
 returns-then-alone-clause-stay g c = λ told has order gain. absurd (roots_exclusive c.args.before.now c.args.after.now gain
     (c.in_ok-alone.ensures.differ c.if-alone.true))
 
+pub returns-then-alone-clause-one : goal.returns-then-alone-clause-one
+returns-then-alone-clause-one g c = λ told has order gain. absurd (roots_exclusive c.args.before.now c.args.after.now gain
+    (c.in_ok-alone.ensures.differ c.if-alone.true))
+
+pub returns-then-alone-clause-stood : goal.returns-then-alone-clause-stood
+returns-then-alone-clause-stood g c = λ told. inr (c.in_ok-alone.ensures.set told c.if-alone.true)
+
 -- ---- one segment more
 
 pub returns-in_err-more-clause-sound : goal.returns-in_err-more-clause-sound
@@ -72,6 +85,12 @@ returns-in_err-more-clause-damaged g c = λ told none ci e.
     (c.set_more.ensures.damaged (c.set_alone.ensures.goes_on.tells told)
     (subst (λ a. ¬ HasChain c.args.shape.now c.args.segments.now a c.args.anchor) (sym same) none) ci
     (cc (p.1, p.2, c.in_err-more.was)))
+
+pub returns-in_err-more-clause-alone_sound : goal.returns-in_err-more-clause-alone_sound
+returns-in_err-more-clause-alone_sound g c = λ told has differ ci e.
+    let yes = c.in_ok-alone.ensures.alone told has differ in
+    let no = c.if-alone.false in
+    absurd (cc)
 
 pub returns-then-more-clause-stored : goal.returns-then-more-clause-stored
 returns-then-more-clause-stored g c = λ told has formed.
@@ -136,6 +155,19 @@ returns-then-more-clause-stay g c = λ told has order gain.
     let told1 = c.set_alone.ensures.goes_on.tells told in
     subst (λ a. SegmentsStay c.args.segments.now a (g.I.Intervals.intervals c.set_more.new.i)) same
     (c.in_ok-more.ensures.stay told1 (subst (λ a. IsInOrder c.args.shape.now a) (sym same) order) c.if-more.true)
+
+pub returns-then-more-clause-one : goal.returns-then-more-clause-one
+returns-then-more-clause-one g c = λ told has order gain.
+    let same = c.in_ok-alone.ensures.same told c.if-alone.false in
+    let told1 = c.set_alone.ensures.goes_on.tells told in
+    subst (λ a. AddsOne c.args.shape.now c.args.segments.now a (g.I.Intervals.intervals c.set_more.new.i) c.args.anchor)
+    same (c.in_ok-more.ensures.one told1 (subst (λ a. IsInOrder c.args.shape.now a) (sym same) order) c.if-more.true)
+
+pub returns-then-more-clause-stood : goal.returns-then-more-clause-stood
+returns-then-more-clause-stood g c = λ told.
+    let same = c.in_ok-alone.ensures.same told c.if-alone.false in
+    inl (subst (λ a. HasChain c.args.shape.now c.args.segments.now a c.args.anchor) same
+    (c.in_ok-more.ensures.stood (c.set_alone.ensures.goes_on.tells told) c.if-more.true))
 
 -- ---- else
 
@@ -218,3 +250,25 @@ returns-clause-damaged g c = λ told none ci e.
     subst (λ a. ChainFails c.args.shape.now c.args.segments.now a c.args.anchor ci) same
     (c.store_held.ensures.damaged (c.set_more.ensures.goes_on.tells told1)
     (subst (λ a. ¬ HasChain c.args.shape.now c.args.segments.now a c.args.anchor) (sym same) none) ci e)
+
+pub returns-clause-one : goal.returns-clause-one
+returns-clause-one g c = λ told has order gain.
+    let same = c.in_ok-alone.ensures.same told c.if-alone.false in
+    let told1 = c.set_alone.ensures.goes_on.tells told in
+    let yes = c.in_ok-more.ensures.more told1
+    (subst (λ a. HasRoots c.args.shape.now c.args.segments.now a c.args.anchor c.args.before.now) (sym same) has) gain in
+    let no = c.if-more.false in
+    absurd (cc)
+
+pub returns-clause-alone_sound : goal.returns-clause-alone_sound
+returns-clause-alone_sound g c = λ told has differ ci e.
+    let yes = c.in_ok-alone.ensures.alone told has differ in
+    let no = c.if-alone.false in
+    absurd (cc)
+
+pub returns-clause-stood : goal.returns-clause-stood
+returns-clause-stood g c = λ told.
+    let told1 = c.set_alone.ensures.goes_on.tells told in
+    let same = c.in_ok-more.ensures.same told1 c.if-more.false ∙ c.in_ok-alone.ensures.same told c.if-alone.false in
+    on_ok-map _ _ _ (λ h. inl (subst (λ a. HasChain c.args.shape.now c.args.segments.now a c.args.anchor) same h))
+    (c.store_held.ensures.stood (c.set_more.ensures.goes_on.tells told1))

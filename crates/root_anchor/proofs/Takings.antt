@@ -1,0 +1,101 @@
+-- Places that are taken for the segments of a plan, from the last to the first.
+use Rattle.std.proofs.Common.{◌≡◌, ℕ, inl, inr, List, [], ◌∷◌, ◌++◌, All, Contains, Some, refl, sym, ap, ◌∙◌, subst, append_assoc}
+use Rattle.std.proofs.lemmas.List.{append-nil, map-append}
+use Rattle.std.proofs.lemmas.List.Elements.{All-pop}
+use Rattle.ci_space.specs.declared.intervals.Shape.{Shape}
+use Rattle.ci_space.specs.Interval.{IsUsed}
+use Rattle.ci_overflow.specs.Lists.{bytes_at, IsInOrder}
+use Rattle.fp_model.specs.declared.definitions.SegDef.{SegDef}
+use Rattle.fp_model.specs.declared.database.Root.{Root}
+use Rattle.anchor_elements.specs.Elements.{Pointer}
+use Rattle.root_anchor.specs.Rebuilding.{AreReserved, BuildsRoots, Exchanges, HaveRoom, HaveRooms, IsDirect, IsPlanned, IsTaking, TakesPlace, TakesPlaces, and_place, reserved, types_of, types_of_roots}
+use Rattle.root_anchor.specs.declared.plan.Planned.{Planned}
+use Rattle.root_anchor.proofs.Exchanging.{exchange-again, exchange-both}
+use Rattle.root_anchor.proofs.Planning.{exchange-none, reserved-append, reserved-disjoint, reserved-left, reserved-right, rooms-right, rooms-stay, rooms-used, still-reserved}
+
+pub none-taken : (shape : Shape) (types : List SegDef) (area : List (List ℕ)) (plan : List Planned) → IsInOrder shape area
+    → IsTaking shape types area area plan plan []
+none-taken shape types area plan o = record {
+  done = [];
+  parts = sym (append-nil plan);
+  takes = record { exchange = exchange-none shape area o; kinds = refl; rooms = tt };
+}
+
+-- the next one has room, if it has a place
+pub next-room : (shape : Shape) (types : List SegDef) (old now : List (List ℕ)) (plan left before taken : List Planned)
+    (p : Planned) → AreReserved types old plan → IsTaking shape types old now plan left taken → left ≡ before ++ p ∷ []
+    → HaveRoom types now p.segment p.at
+next-room shape types old now plan left before taken p r t e =
+    let P : List Planned → Type 0 = λ xs. AreReserved types old xs in
+    let kept : AreReserved types now left = still-reserved shape types old now left t.done (reserved taken)
+    (subst P t.parts r) t.takes.exchange in
+    let Q : List Planned → Type 0 = λ xs. AreReserved types now xs in
+    (reserved-right types now before (p ∷ []) (subst Q e kept)).rooms.0
+
+-- the types of the rest are types of direct segments still
+pub direct-last : (types : List SegDef) (plan before : List Planned) (p : Planned) → plan ≡ before ++ p ∷ []
+    → All (IsDirect types) (types_of plan) → All (IsDirect types) (types_of before) × IsDirect types p.segment
+direct-last types plan before p e all =
+    All-pop (IsDirect types) (types_of plan) (types_of before) (Some p.segment)
+    (ap types_of e ∙ map-append (λ (q : Planned). q.segment) before (p ∷ [])) all
+
+-- one more is taken
+pub taken-on : (shape : Shape) (types : List SegDef) (old now new : List (List ℕ)) (plan left before taken : List Planned)
+    (p : Planned) (at : Pointer) → AreReserved types old plan → IsTaking shape types old now plan left taken
+    → left ≡ before ++ p ∷ [] → TakesPlace shape types now new p.segment p.at at
+    → IsTaking shape types old new plan before (record { segment = p.segment; at = Some at } ∷ taken)
+taken-on shape types old now new plan left before taken p at r t e x =
+    let all : plan ≡ before ++ (p ∷ t.done) = t.parts ∙ ap (λ xs. xs ++ t.done) e ∙ append_assoc before (p ∷ []) t.done
+    in
+    let P : List Planned → Type 0 = λ xs. AreReserved types old xs in
+    let rest : AreReserved types old ((p ∷ []) ++ t.done) =
+    reserved-right types old before (p ∷ t.done) (subst P all r) in
+    let u : (q : Pointer) → Contains (reserved (p ∷ [])) q → IsUsed (bytes_at old q.0) q.1 =
+    rooms-used types old (p ∷ []) (reserved-left types old (p ∷ []) t.done rest).rooms in
+    let d : (q : Pointer) → Contains (reserved (p ∷ [])) q → ¬ Contains (reserved t.done) q =
+    reserved-disjoint types old (p ∷ []) t.done rest in
+    let both : Exchanges shape old new (reserved (p ∷ []) ++ reserved t.done) ((at ∷ []) ++ reserved taken) =
+    exchange-both shape old now new (reserved t.done) (reserved taken) (reserved (p ∷ [])) (at ∷ []) t.takes.exchange
+    x.exchange u d in
+    let Q : List Pointer → Type 0 = λ had. Exchanges shape old new had (at ∷ reserved taken) in
+    record {
+      done = p ∷ t.done;
+      parts = all;
+      takes = record {
+        exchange = subst Q (sym (reserved-append (p ∷ []) t.done)) both;
+        kinds = ap (λ ks. p.segment ∷ ks) t.takes.kinds;
+        rooms = (
+          x.room,
+          rooms-stay types now new taken (λ q k content c h. x.exchange.stay q k content
+              (λ m. elim (t.takes.exchange.fresh q c) as (λ _. ⊥) [ inl y ↦ d q m y | inr y ↦ y (u q m) ]) h)
+              t.takes.rooms,
+        );
+      };
+    }
+
+pub all-taken : (shape : Shape) (types : List SegDef) (old now : List (List ℕ)) (plan left taken : List Planned)
+    → left ≡ [] → IsTaking shape types old now plan left taken → TakesPlaces shape types old now plan taken
+all-taken shape types old now plan left taken e t =
+    let same : t.done ≡ plan = sym (t.parts ∙ ap (λ xs. xs ++ t.done) e) in
+    subst (λ xs. TakesPlaces shape types old now xs taken) same t.takes
+
+-- ---- what is built in these places
+
+pub taken-planned : (shape : Shape) (types : List SegDef) (old new : List (List ℕ)) (plan taken : List Planned)
+    (roots : List Root) → types_of plan ≡ types_of_roots types roots → TakesPlaces shape types old new plan taken
+    → IsPlanned shape types new taken [] taken (types_of_roots types roots)
+taken-planned shape types old new plan taken roots k t = record {
+  in_order = t.exchange.in_order;
+  parts = refl;
+  kinds_are = t.kinds ∙ k;
+  are_reserved = record { rooms = t.rooms; once = t.exchange.once };
+}
+
+pub taken-built : (shape : Shape) (types : List SegDef) (old mid new : List (List ℕ)) (plan taken : List Planned)
+    (first : Pointer) (roots : List Root) → TakesPlaces shape types old mid plan taken
+    → BuildsRoots shape types mid new taken first roots → BuildsRoots shape types old new plan first roots
+taken-built shape types old mid new plan taken first roots t b = record {
+  elements = b.elements;
+  exchange = exchange-again shape old mid new (reserved plan) (reserved taken) b.elements t.exchange b.exchange;
+  stand = b.stand;
+}

@@ -1,0 +1,30 @@
+use Rattle.std.proofs.Common.{◌≡◌, ℕ, Err, sym, subst, ap, ◌∙◌, arith}
+use Rattle.ci_space.proofs.Tilings.{size-bounds}
+use Rattle.ci_overflow.specs.Faults.{FitsEmpty}
+use Rattle.ci_overflow.specs.declared.SpaceFault.TheVariants.{Damaged as SpaceDamaged}
+use Rattle.anchor_elements.specs.declared.fault.AnchorFault.TheVariants.{Damaged}
+use Rattle.root_anchor.proofs.TypeLemmas.{fits-empty, content-small}
+use Rattle.root_anchor.proofs.Steps.{finds-place, keeps-place}
+use Rattle.root_anchor.proofs.taking.take_place.Goals as goal
+
+pub returns-in-Some-clause-place : goal.returns-in-Some-clause-place
+returns-in-Some-clause-place g c = λ t o s h. keeps-place _ _ _ _ _ _ o c.in-Some.is h
+
+pub overflow_cast-length : goal.overflow_cast-length
+overflow_cast-length g c =
+    let b = size-bounds _ (g.met.I.Intervals.is_sized c.args.i.now) in
+    let s = content-small _ _ _ c.requires.types c.requires.direct b.1 in
+    omega (arith, s, c.content_length-length.ensures.exact)
+
+pub returns-in-Ok-clause-place : goal.returns-in-Ok-clause-place
+returns-in-Ok-clause-place g c = λ t o s h. finds-place _ _ _ _ _ _ _ _ _ c.in_default.is
+    c.content_length-length.ensures.exact (c.in-Ok.ensures.room t s o) (c.in-Ok.ensures.lists t s o) c.requires.anchor
+
+pub returns-in-Err-clause-sound : goal.returns-in-Err-clause-sound
+returns-in-Err-clause-sound g c = λ t o s ci e.
+    let fault : c.fault_of.result ≡ Damaged ci = cc in
+    let was : c.in-Err.fault ≡ SpaceDamaged ci = c.fault_of.ensures.damaged ci fault in
+    let P : ℕ → Type 0 = λ n. FitsEmpty (g.I.Intervals.size c.args.i.now) n in
+    let fits = subst P (sym c.content_length-length.ensures.exact) (fits-empty _ _ _ c.requires.types c.requires.direct)
+    in
+    c.find_room_seen.ensures.sound t s o fits ci (c.in-Err.is ∙ ap Err was)

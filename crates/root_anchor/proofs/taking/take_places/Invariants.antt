@@ -1,0 +1,24 @@
+use Rattle.std.proofs.Common.{◌≡◌, ◌≤◌, All, length}
+use Rattle.ci_space.specs.Calls.{GoesOn}
+use Rattle.ci_overflow.specs.Known.{HasSeen}
+use Rattle.ci_overflow.specs.Lists.{IsInOrder}
+use Rattle.ci_overflow.specs.Places.{uow_of}
+use Rattle.root_anchor.specs.Rebuilding.{AreReserved, IsDirect, IsTaking, types_of}
+use Rattle.root_anchor.proofs.taking.take_places.Given as goal
+
+-- the last segments of the plan have places
+abbrev pub invariant-loop-planned : goal.invariant-loop-planned
+invariant-loop-planned g l = record {
+  number : g.I.Intervals.number l.initial.i ≤ g.I.Intervals.number l.i;
+  goes_on : GoesOn g.I.Intervals.told g.I.Intervals.size g.I.Intervals.faults g.I.Intervals.keeps l.initial.i l.i;
+  direct : All (IsDirect l.home.segments.now) (types_of l.plan.items);
+  seen : g.I.Intervals.told l.initial.i
+      → HasSeen l.home.shape.now (g.I.Intervals.intervals l.i) (uow_of l.home.shape.now l.home.anchor) l.seen;
+  taking : g.I.Intervals.told l.initial.i → IsInOrder l.home.shape.now (g.I.Intervals.intervals l.initial.i)
+      → AreReserved l.home.segments.now (g.I.Intervals.intervals l.initial.i) l.initial.plan.items
+      → IsTaking l.home.shape.now l.home.segments.now (g.I.Intervals.intervals l.initial.i)
+      (g.I.Intervals.intervals l.i) l.initial.plan.items l.plan.items l.taken.items;
+}
+
+abbrev pub decreases-loop-planned : goal.decreases-loop-planned
+decreases-loop-planned g l = length l.plan.items
