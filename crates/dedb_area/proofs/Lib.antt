@@ -9,12 +9,10 @@ pub mod Newest
 pub mod Everything
 pub mod Applied
 pub mod Formatted
-pub mod Staged
-pub mod Flags
 pub mod Marks
 pub mod Published
 pub mod Entering
 pub mod Purges
 pub mod StagedPurge
-pub mod RangeLemmas
+pub mod PurgeItems
 pub mod PurgeEntry

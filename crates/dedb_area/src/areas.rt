@@ -15,7 +15,7 @@ ghost use Rattle.fp_model.specs.declared.database.Db.{Db};
 ghost use Rattle.area_states.specs.Databases.{AreFor};
 ghost use Rattle.dedb_area.specs.Anchors.{AnchorIsPending, AreInTime, AreRootsOf, HasAnchorIn, IsDamagedFor};
 ghost use Rattle.dedb_area.specs.Control.{ends_in, IsControlOf};
-ghost use Rattle.dedb_area.specs.Items.{is_imaged};
+ghost use Rattle.area_staging.specs.Items.{is_imaged};
 ghost use Rattle.dedb_area.specs.Looking.{LooksAtAreas};
 ghost use Rattle.area_states.specs.Places.{places_of, place_at};
 ghost use Rattle.area_states.specs.declared.place.Place.{Place as PlaceOf};
@@ -26,7 +26,7 @@ ghost use Rattle.ci_pool.specs.Cells.{pending_number};
 
 use crate::AreaFault;
 use crate::anchors::{area_of, roots_at, some_area};
-use crate::imaging::none_imaged;
+use area_staging::none_imaged;
 use crate::opening::places_of;
 use crate::reading::{control, ends_in, place_in};
 use crate::syncing::{clear, note_write, sync_all};

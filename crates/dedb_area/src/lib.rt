@@ -4,18 +4,16 @@
 mod anchors;
 mod applying;
 mod areas;
+mod changing;
+mod committing;
 mod counting;
 mod fault;
 mod formatting;
-mod imaging;
-mod items;
-mod looking;
 mod marking;
 mod opening;
 mod publishing;
 mod purging;
 mod reading;
-mod staging;
 mod syncing;
 
 pub use applying::ApplyFault;
@@ -25,4 +23,4 @@ pub use fault::AreaFault;
 pub use marking::a_mark_keeps_the_areas;
 pub use publishing::a_publish_keeps_the_areas;
 pub use purging::a_purged_area_has_the_purged_state;
-pub use staging::Staging;
+pub use area_staging::Staging;

@@ -7,12 +7,14 @@ ghost use Rattle.area_redo.specs.Redo.{AreaBytes, GrowByImages};
 ghost use Rattle.area_redo.specs.Standing.{Way, BeginsSinceMark, behind};
 ghost use Rattle.area_redo.specs.Steps.{longer, next_place};
 ghost use Rattle.area_states.specs.Places.{layout_of};
-ghost use Rattle.dedb_area.specs.Appending.{AreStagedBy, IsPublished, StagedStand};
-ghost use Rattle.dedb_area.specs.Publishing.{AreFlagged, AreNoted, ArePublished, IsFitStaged};
+ghost use Rattle.area_staging.specs.Changing.{AreStagedBy};
+ghost use Rattle.dedb_area.specs.Appending.{IsPublished, StagedStand};
+ghost use Rattle.area_staging.specs.Flags.{AreFlagged, AreNoted};
+ghost use Rattle.dedb_area.specs.Publishing.{ArePublished, IsFitStaged};
 ghost use Rattle.dedb_area.specs.Standing.{AreasStand, Holding, IsFitPool, IsUnstaged};
 
 use crate::Areas;
-use crate::imaging::note_all;
+use area_staging::note_all;
 use fp_model::{Item, List};
 use fp_site::Site;
 
