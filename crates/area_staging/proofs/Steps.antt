@@ -393,14 +393,16 @@ flag_one : (imaged : List (List Bool)) (area : Extent) (ci : ℕ) (item : Item) 
 flag_one imaged area ci (Segment msdb key bytes) fit from has = absurd fit.0
 flag_one imaged area ci (Image s k bytes) fit from has =
     let at : s ≡ area.set = fit.0.0 in
-    let number : k ≡ ci = (let both = fit.1 in cc) in
-    (subst (λ x. first_area_set ≤ x) (sym at) from,
-    subst (λ x. HasFlag imaged x k) (sym at) (subst (HasFlag imaged area.set) (sym number) has))
+    let number : k ≡ ci = (let both = fit.1 in cc) in (
+      subst (λ x. first_area_set ≤ x) (sym at) from,
+      subst (λ x. HasFlag imaged x k) (sym at) (subst (HasFlag imaged area.set) (sym number) has),
+    )
 flag_one imaged area ci (Range s k at bytes) fit from has =
     let set_is : s ≡ area.set = fit.0.0 in
-    let number : k ≡ ci = (let both = fit.1 in cc) in
-    (subst (λ x. first_area_set ≤ x) (sym set_is) from,
-    subst (λ x. HasFlag imaged x k) (sym set_is) (subst (HasFlag imaged area.set) (sym number) has))
+    let number : k ≡ ci = (let both = fit.1 in cc) in (
+      subst (λ x. first_area_set ≤ x) (sym set_is) from,
+      subst (λ x. HasFlag imaged x k) (sym set_is) (subst (HasFlag imaged area.set) (sym number) has),
+    )
 
 pub flags_more : (before after : List (List Bool)) (area : Extent) (ci : ℕ) (items more : List Item) (o : Option Item)
     → IsFitItem area ci o → more ≡ items ++ items_in o → first_area_set ≤ area.set

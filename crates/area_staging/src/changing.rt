@@ -81,7 +81,14 @@ fn change_of<T: Site>(
     if old.len() != interval.whole().len() {
         return Ok(Some(image_of(alloc, area.set, ci, interval.whole())?));
     }
-    Ok(item_of(alloc, area.set, ci, imaged, old.as_slice(), interval.whole())?)
+    Ok(item_of(
+        alloc,
+        area.set,
+        ci,
+        imaged,
+        old.as_slice(),
+        interval.whole(),
+    )?)
 }
 
 /// Stages a changed interval of an area, where it is other than it was or new, and makes room for its flag. Gives its item.

@@ -151,7 +151,7 @@ pub counted_area : (places : List Place) (bytes : AreaBytes) (set : ℕ) (place 
     → area_in (layout_of places) bytes set ≡ intervals_of place (bytes set)
 counted_area places bytes set place is = ap (λ o. listed (counted_by o (bytes set 0)) (bytes set)) is
 
-state_here : (places : List Place) (bytes : AreaBytes) (db : Db) (set : ℕ) (place : Place) → AreFor places bytes db
+pub state_here : (places : List Place) (bytes : AreaBytes) (db : Db) (set : ℕ) (place : Place) → AreFor places bytes db
     → place_at places set ≡ Some place → HasState place (intervals_of place (bytes set)) (state_of place db)
 state_here places bytes db set place are is =
     subst (λ area. HasState place area (state_of place db)) (counted_area places bytes set place is) (are set place is)

@@ -16,3 +16,9 @@ pub mod Purges
 pub mod StagedPurge
 pub mod PurgeItems
 pub mod PurgeEntry
+pub mod CommitLemmas
+pub mod StagedAreas
+pub mod Staying
+pub mod CommitLaws
+pub mod ChangedLemmas
+pub mod StageLemmas

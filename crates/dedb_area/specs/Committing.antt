@@ -1,6 +1,6 @@
 -- Changed anchors and sequential inserts of a commit, staged.
-use Rattle.std.specs.Prelude.{◌≡◌, ◌≢◌, ◌⊎◌, ⊤, ℕ, ◌+◌, ◌-◌, ◌*◌, ◌<◌, ◌≤◌, ◌^◌, Bool, true, false, List, length, IsSome, Some}
-use Rattle.std.specs.List.{AllByRecursion}
+use Rattle.std.specs.Prelude.{◌≡◌, ◌≢◌, ◌⊎◌, ⊤, ℕ, ◌+◌, ◌-◌, ◌*◌, ◌<◌, ◌≤◌, ◌^◌, ◌||◌, Bool, true, false, List, length, IsSome, Some}
+use Rattle.std.specs.List.{AllByRecursion, list_any}
 use Rattle.fp_model.specs.declared.calls.AnchorChange.{AnchorChange}
 use Rattle.fp_model.specs.declared.calls.SeqInsert.{SeqInsert}
 use Rattle.fp_model.specs.declared.database.Db.{Db}
@@ -41,10 +41,10 @@ pub record MayStage (places : List Place) (changes : List AnchorChange) (inserts
 pub record FitsCommit (defs : Defs) (db : Db) (changes : List AnchorChange) (inserts : List SeqInsert) : Type 0 where
   pub defined : AreDefs defs
   pub shaped : IsDbOf defs db
-  pub changes : AllByRecursion (FitsAnchorChange defs db) changes
+  pub anchors : AllByRecursion (FitsAnchorChange defs db) changes
   pub there : AllByRecursion (HasAnchorOf db) changes
   pub in_order : changes_ascend changes ≡ true
-  pub inserts : AllByRecursion (FitsSeqInsert defs) inserts
+  pub dependents : AllByRecursion (FitsSeqInsert defs) inserts
 
 -- ---- one area
 
@@ -123,17 +123,20 @@ pub record AreStagedUpTo (places : List Place) (n : ℕ) (imaged : ℕ → ℕ �
   pub room : (set : ℕ) (place : Place) → place_at places set ≡ Some place → set < first_area_set + n
       → HasRoomFor place (state_of place db) inserts
 
--- a change or an insert is of an anchor of the area
-pub data IsConcerned (place : Place) (changes : List AnchorChange) (inserts : List SeqInsert) : Type 0 where
-  by_change : ¬ AllByRecursion (λ c. has_anchor place c.dedb c.anchor ≡ false) changes
-      → IsConcerned place changes inserts
-  by_insert : ¬ AllByRecursion (λ i. has_anchor place i.dedb i.anchor ≡ false) inserts
-      → IsConcerned place changes inserts
+-- whether a changed anchor is one of the area, and whether an insert is
+abbrev pub has_change : Place → List AnchorChange → Bool
+has_change place changes = list_any (λ c. has_anchor place c.dedb c.anchor) changes
+
+abbrev pub has_insert : Place → List SeqInsert → Bool
+has_insert place inserts = list_any (λ i. has_anchor place i.dedb i.anchor) inserts
+
+abbrev pub is_concerned : Place → List AnchorChange → List SeqInsert → Bool
+is_concerned place changes inserts = has_change place changes || has_insert place inserts
 
 -- each interval of the areas that a change or an insert is of waits to be written
 abbrev pub ConcernedArePending : List Place → Held → AreaBytes → List AnchorChange → List SeqInsert → Type 0
 ConcernedArePending places pool bytes changes inserts =
-    (set : ℕ) (place : Place) → place_at places set ≡ Some place → IsConcerned place changes inserts
+    (set : ℕ) (place : Place) → place_at places set ≡ Some place → is_concerned place changes inserts ≡ true
     → AllPending pool set (counted_by (Some place) (bytes set 0))
 
 -- a byte at which an interval of an area begins

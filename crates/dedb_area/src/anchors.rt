@@ -14,9 +14,9 @@ ghost use Rattle.dedb_area.specs.declared.fault.AreaFault.TheVariants as fault;
 
 use crate::AreaFault;
 use crate::counting::counted;
-use area_staging::{Staging, rest};
 use crate::syncing::FIRST_AREA;
 use area_reading::read_anchor;
+use area_staging::{Staging, rest};
 use area_states::Place;
 use ci_pool::Pool;
 use fp_model::{List, Root};

@@ -26,10 +26,10 @@ ghost use Rattle.ci_pool.specs.Cells.{pending_number};
 
 use crate::AreaFault;
 use crate::anchors::{area_of, roots_at, some_area};
-use area_staging::none_imaged;
 use crate::opening::places_of;
 use crate::reading::{control, ends_in, place_in};
 use crate::syncing::{clear, note_write, sync_all};
+use area_staging::none_imaged;
 use area_states::Place;
 use ci_pool::{Owed, Pool};
 use fp_model::{AreaEnds, Defs, List, Root};

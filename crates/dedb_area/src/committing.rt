@@ -1,7 +1,7 @@
 //! Changed anchors and sequential inserts of a commit are staged: in each area, one after another, the intervals that they
 //! change, each with its item.
 
-ghost use Rattle.std.specs.Prelude.{◌≡◌, ◌≢◌, ◌+◌, ◌-◌, ◌*◌, ◌<◌, ◌≤◌, ◌^◌, ℕ, List as ListOf, Err, None, Some, IfOk, IsErrOf, IsSome, OnErr, OnOk, length, true, false};
+ghost use Rattle.std.specs.Prelude.{◌≡◌, ◌≢◌, ◌+◌, ◌-◌, ◌*◌, ◌<◌, ◌≤◌, ◌^◌, ℕ, List as ListOf, Err, None, Ok, Some, IfOk, IsErrOf, IsSome, OnErr, OnOk, length, true, false};
 ghost use Rattle.std.specs.List.{AllByRecursion};
 ghost use Rattle.fp_model.specs.Commit.{FillsPart, first_full, with_anchors, with_inserts};
 ghost use Rattle.fp_model.specs.ItemTargets.{is_ascending};
@@ -10,6 +10,7 @@ ghost use Rattle.fp_model.specs.declared.database.Db.{Db};
 ghost use Rattle.fp_model.specs.declared.definitions.Defs.{Defs as DefsOf};
 ghost use Rattle.fp_site.specs.Site.{ReadsNothing};
 ghost use Rattle.ci_space.specs.Calls.{Rose};
+ghost use Rattle.ci_pool.specs.declared.fault.PoolFault.TheVariants as pool_fault;
 ghost use Rattle.area_redo.specs.Redo.{AreaBytes, redone};
 ghost use Rattle.area_redo.specs.Standing.{Way, behind};
 ghost use Rattle.area_states.specs.Changes.{IsInsertable, IsStorable, IsTooFull};
@@ -22,7 +23,7 @@ ghost use Rattle.area_staging.specs.Items.{HasFlag, is_imaged};
 ghost use Rattle.area_staging.specs.Staging.{AllPending};
 ghost use Rattle.dedb_area.specs.Anchors.{AreInTime, CountsIntervals, IsBegin, ShowsArea, ShowsAreas, intervals_of};
 ghost use Rattle.dedb_area.specs.Appending.{MayEnter, StagesInAreas};
-ghost use Rattle.dedb_area.specs.Committing.{AreStagedUpTo, ConcernedArePending, FitAreas, FitsArea, FitsCommit, HasRoomFor, IsBeginIn, IsConcerned, IsFirstFull, IsFitItem, MakesArea, MayStage, OnlyChanges, StagesAll, committed};
+ghost use Rattle.dedb_area.specs.Committing.{AreStagedUpTo, ConcernedArePending, FitAreas, FitsArea, FitsCommit, HasRoomFor, IsBeginIn, IsFirstFull, IsFitItem, MakesArea, MayStage, OnlyChanges, StagesAll, committed, has_change, has_insert, is_concerned};
 ghost use Rattle.dedb_area.specs.Standing.{AreasStand, IsUnstaged};
 ghost use Rattle.dedb_area.specs.declared.fault.AreaFault.TheVariants as fault;
 
@@ -40,9 +41,7 @@ use std::alloc::Global;
 
 /// Whether a changed anchor is one of the area.
 fn has_change(place: &Place, changes: &[AnchorChange]) -> bool
-    ensures none { result ≡ false → AllByRecursion (λ c. has_anchor place.now c.dedb c.anchor ≡ false) changes.now }
-    ensures some { result ≡ true
-        → ¬ AllByRecursion (λ c. has_anchor place.now c.dedb c.anchor ≡ false) changes.now }
+    ensures { result ≡ has_change place.now changes.now }
 {
     for change in changes {
         if has_anchor(place, change.dedb, change.anchor) {
@@ -54,9 +53,7 @@ fn has_change(place: &Place, changes: &[AnchorChange]) -> bool
 
 /// Whether a sequential insert is one of the area.
 fn has_insert(place: &Place, inserts: &[SeqInsert]) -> bool
-    ensures none { result ≡ false → AllByRecursion (λ i. has_anchor place.now i.dedb i.anchor ≡ false) inserts.now }
-    ensures some { result ≡ true
-        → ¬ AllByRecursion (λ i. has_anchor place.now i.dedb i.anchor ≡ false) inserts.now }
+    ensures { result ≡ has_insert place.now inserts.now }
 {
     for insert in inserts {
         if has_anchor(place, insert.dedb, insert.anchor) {
@@ -64,6 +61,27 @@ fn has_insert(place: &Place, inserts: &[SeqInsert]) -> bool
         }
     }
     false
+}
+
+/// Whether a changed anchor or an insert is one of the area.
+fn is_concerned(place: &Place, changes: &[AnchorChange], inserts: &[SeqInsert]) -> bool
+    ensures { result ≡ is_concerned place.now changes.now inserts.now }
+{
+    has_change(place, changes) || has_insert(place, inserts)
+}
+
+/// The items of intervals that were staged; else the fault of the area.
+fn given_items(staged: Result<List<Item>, PoolFault>) -> Result<List<Item>, AreaFault>
+    ensures same { IfOk result (λ items. staged ≡ Ok items) }
+    ensures failed { IsErrOf result fault.Device → IsErrOf staged pool_fault.Failed }
+    ensures never_damaged { (s at : ℕ) → result ≢ Err (fault.Damaged s at) }
+    ensures never_full { (s begin end n : ℕ) → result ≢ Err (fault.SeqFull s begin end n) }
+{
+    match staged {
+        Ok(items) => Ok(items),
+        Err(PoolFault::Failed) => Err(AreaFault::Device),
+        Err(PoolFault::Memory) => Err(AreaFault::Memory),
+    }
 }
 
 /// Stages an area that changed anchors or inserts are of. After a fault some of its intervals may be staged.
@@ -129,11 +147,8 @@ fn stage_area<T: Site>(
         count,
     };
     let changed = changed_intervals(alloc, pool, site, place, area, changes, inserts)?;
-    match stage_changed(alloc, pool, site, imaged, area, changed) {
-        Ok(items) => Ok(items),
-        Err(PoolFault::Failed) => Err(AreaFault::Device),
-        Err(PoolFault::Memory) => Err(AreaFault::Memory),
-    }
+    let staged = stage_changed(alloc, pool, site, imaged, area, changed);
+    given_items(staged)
 }
 
 /// Stages an area, where a changed anchor or an insert is of it; else nothing happens.
@@ -186,14 +201,14 @@ fn stage_here<T: Site>(
     ensures failed { IsErrOf result fault.Device → Rose (T.faults site.old) (T.faults site.new) }
     ensures unread { T.told site.old → (bytes : ℕ → ListOf ℕ)
         → ShowsArea place.now set (T.disk site.old).contents pool.old bytes
-        → (IsConcerned place.now changes.now inserts.now
+        → (is_concerned place.now changes.now inserts.now ≡ true
         → AllPending pool.old set (counted_by (Some place.now) (bytes 0)))
         → ReadsNothing (T.tells_reads site.old) (T.tells_reads site.new) (T.bytes_read site.old)
         (T.bytes_read site.new) }
     ensures stages { Stages T.told T.disk T.faults T.holds T.keeps set place.now.shape.ci site.old site.new pool.old
         pool.new }
 {
-    if has_change(place, changes) || has_insert(place, inserts) {
+    if is_concerned(place, changes, inserts) {
         return stage_area(alloc, pool, site, imaged, place, set, changes, inserts);
     }
     Ok(List::new(alloc))
@@ -243,11 +258,11 @@ fn stage_all<T: Site>(
     ensures stages { StagesAll T.told T.disk T.faults T.holds T.keeps places.now site.old site.new pool.old pool.new }
 {
     let mut items = List::new(alloc);
-    for number in 0..places.len() {
-        let set = FIRST_AREA + number as u16;
-        let place = &places[number];
+    let mut set = FIRST_AREA;
+    for place in places {
         let more = stage_here(alloc, pool, site, imaged, place, set, changes, inserts)?;
         items.append(more)?;
+        set += 1;
     }
     Ok(items)
 }
@@ -330,18 +345,21 @@ impl Areas {
         // No area changes, at any moment; the pool may have other clean intervals.
         ensures stages { StagesInAreas T.told T.disk T.faults T.holds T.keeps site.old site.new self.old self.new }
     {
-        let staged = stage_all(
+        let places: &[Place] = &self.places;
+        match stage_all(
             self.alloc,
             &mut self.pool,
             site,
             &mut self.imaged,
-            &self.places,
+            places,
             changes.as_slice(),
             inserts.as_slice(),
-        );
-        if staged.is_err() {
-            self.pool.drop_staged();
+        ) {
+            Ok(items) => Ok(items),
+            Err(fault) => {
+                self.pool.drop_staged();
+                Err(fault)
+            }
         }
-        staged
     }
 }

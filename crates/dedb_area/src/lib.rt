@@ -17,10 +17,10 @@ mod reading;
 mod syncing;
 
 pub use applying::ApplyFault;
+pub use area_staging::Staging;
 pub use area_states::Place;
 pub use areas::Areas;
 pub use fault::AreaFault;
 pub use marking::a_mark_keeps_the_areas;
 pub use publishing::a_publish_keeps_the_areas;
 pub use purging::a_purged_area_has_the_purged_state;
-pub use area_staging::Staging;

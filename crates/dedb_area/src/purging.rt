@@ -28,11 +28,9 @@ ghost use Rattle.dedb_area.specs.declared.fault.AreaFault.{AreaFault as FaultOf}
 ghost use Rattle.dedb_area.specs.declared.fault.AreaFault.TheVariants as fault;
 
 use crate::counting::count_in;
-use area_staging::{is_imaged, make_room};
-use area_staging::item_of;
 use crate::reading::{control, place_in};
-use area_staging::{Staging, rest};
 use crate::{AreaFault, Areas};
+use area_staging::{Staging, is_imaged, item_of, make_room, rest};
 use area_states::Place;
 use ci_pool::Pool;
 use ci_space::Interval;

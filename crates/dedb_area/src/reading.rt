@@ -12,8 +12,8 @@ ghost use Rattle.area_states.specs.Places.{place_at};
 ghost use Rattle.dedb_area.specs.declared.fault.AreaFault.TheVariants as fault;
 
 use crate::AreaFault;
-use area_staging::interval_at;
 use crate::syncing::FIRST_AREA;
+use area_staging::interval_at;
 use area_states::Place;
 use ci_pool::Pool;
 use ci_space::{GetFault, Interval};

@@ -52,18 +52,18 @@ loop-ci-preserved g c =
     λ k b is. sym (others k (apart k b is)) ∙ is in
     let later : (k : ℕ) (b : List ℕ) → left2 k ≡ Some b → ci < k =
     λ k b is. (
-      let least = c.in-Some.ensures.least k (some_bytes (left k) b (here k b is)) in
-      let ne = apart k b is in
-      grind (arith, nat_tests, least, ne)
+    let least = c.in-Some.ensures.least k (some_bytes (left k) b (here k b is)) in
+    let ne = apart k b is in
+    grind (arith, nat_tests, least, ne)
     ) in
     let is = inv.same ci bytes was in
     let e = c.in_ok-add.ensures in
     let long : length bytes ≡ area.size = (c.requires.changed ci bytes is).0 in
     let same_long : (b : ℕ → List ℕ) (t : g.T.Site.told c.args.site.now) → _ → ci < area.count → length (b ci) ≡ length bytes =
     λ b t shown lt. (
-      ap length (sym (shown.newest ci lt))
-      ∙ sized_newest area.set area.size c.args.pool.now (g.T.Site.disk c.args.site.now).contents ci shown.told.sizes
-      ∙ sym long
+    ap length (sym (shown.newest ci lt))
+    ∙ sized_newest area.set area.size c.args.pool.now (g.T.Site.disk c.args.site.now).contents ci shown.told.sizes
+    ∙ sym long
     ) in
     let flag : is_imaged c.loop-ci.imaged.items area.set ci ≡ is_imaged c.args.imaged.now.items area.set ci =
     inv.flags area.set ci in
