@@ -240,16 +240,16 @@ module _ (places : List Place) (n : ℕ) (imaged : ℕ → ℕ → Bool) (newest
 
 -- ---- the items, without the site
 
-fit_item : (places : List Place) (set : ℕ) (place : Place) (item : Item) → place_at places set ≡ Some place
-    → IsFitFor set place.shape.ci item → IsFitItem places item
-fit_item places set place (Segment msdb key bytes) is fit = absurd fit
-fit_item places set place (Image s ci bytes) is fit = record {
+fit_item : (places : List Place) (data_set : ℕ) (place : Place) (item : Item) → place_at places data_set ≡ Some place
+    → IsFitFor data_set place.shape.ci item → IsFitItem places item
+fit_item places data_set place (Segment msdb key bytes) is fit = absurd fit
+fit_item places data_set place (Image s ci bytes) is fit = record {
   place = place;
   is_place = ap (place_at places) fit.0 ∙ is;
   is_size = fit.1;
   ends = subst (λ n. (ci + 1) * n ≤ 2 ^ 62) (sym fit.1) fit.2;
 }
-fit_item places set place (Range s ci at bytes) is fit = (
+fit_item places data_set place (Range s ci at bytes) is fit = (
   place.shape.ci,
   record { place = place; is_place = ap (place_at places) fit.0 ∙ is; is_size = refl; ends = fit.2 },
   fit.1,

@@ -9,3 +9,4 @@ pub mod Publishing
 pub mod Appending
 pub mod Purging
 pub mod Committing
+pub mod Dropping

@@ -22,5 +22,5 @@ pub use area_states::Place;
 pub use areas::Areas;
 pub use fault::AreaFault;
 pub use marking::a_mark_keeps_the_areas;
-pub use publishing::a_publish_keeps_the_areas;
+pub use publishing::{a_publish_keeps_the_areas, dropped_areas_stand};
 pub use purging::a_purged_area_has_the_purged_state;

@@ -10,6 +10,7 @@ ghost use Rattle.area_states.specs.Places.{layout_of};
 ghost use Rattle.area_staging.specs.Changing.{AreStagedBy};
 ghost use Rattle.dedb_area.specs.Appending.{IsPublished, StagedStand};
 ghost use Rattle.area_staging.specs.Flags.{AreFlagged, AreNoted};
+ghost use Rattle.dedb_area.specs.Dropping.{IsDropped};
 ghost use Rattle.dedb_area.specs.Publishing.{ArePublished, IsFitStaged};
 ghost use Rattle.dedb_area.specs.Standing.{AreasStand, Holding, IsFitPool, IsUnstaged};
 
@@ -69,4 +70,12 @@ pub fn a_publish_keeps_the_areas<S: Site>(site: &S)
         → GrowByImages (layout_of before.places) e.items (behind way.unsealed bytes)
         → next_place way < 2 ^ 64 - 1
         → AreasStand (longer way e) bytes (S.disk site.now) after }
+{}
+
+/// Areas with changes staged stand once these are dropped: `drop_staged` says that they are (`IsDropped`).
+pub fn dropped_areas_stand<S: Site>(site: &S)
+    ensures { (way : Way) (bytes : AreaBytes) (before after : Holding)
+        → StagedStand way bytes (S.disk site.now) before
+        → IsDropped before after
+        → AreasStand way bytes (S.disk site.now) after }
 {}
