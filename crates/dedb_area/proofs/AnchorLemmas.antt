@@ -24,12 +24,12 @@ use Rattle.area_states.proofs.StateLemmas.{one_anchor}
 use Rattle.area_reading.proofs.Readable.{readable}
 use Rattle.dedb_area.specs.Anchors.{AnchorIsPending, AreInTime, AreRootsOf, CountsIntervals, HasAnchorIn, IsAnchorOf, IsBegin, IsDamagedFor, IsFaulty, ShowsArea, ShowsAreas, intervals_of, uncounted, unreadable}
 use Rattle.dedb_area.specs.Control.{IsControl}
-use Rattle.dedb_area.specs.Looking.{LooksAt}
-use Rattle.dedb_area.specs.Staging.{AllPending, IsToldPool, KeepsStaging, staged_area, staged_or_newest}
+use Rattle.area_staging.specs.Looking.{LooksAt}
+use Rattle.area_staging.specs.Staging.{AllPending, IsToldPool, KeepsStaging, staged_area, staged_or_newest}
 use Rattle.dedb_area.specs.Standing.{AreasStand, Holding}
-use Rattle.dedb_area.proofs.Looks.{same_pending}
+use Rattle.area_staging.proofs.Looks.{same_pending}
 use Rattle.dedb_area.proofs.Newest.{reads_newest}
-use Rattle.dedb_area.proofs.Staged.{in_pool, newest_same}
+use Rattle.area_staging.proofs.Staged.{in_pool, newest_same}
 
 pub by_ok : {T E : Type 0} (r : Result T E) (P Q : T → Type 0) → IfOk r P → ((x : T) → P x → Q x) → IfOk r Q
 by_ok (Ok x) P Q p f = f x p
@@ -151,7 +151,7 @@ pub counted_area : (places : List Place) (bytes : AreaBytes) (set : ℕ) (place 
     → area_in (layout_of places) bytes set ≡ intervals_of place (bytes set)
 counted_area places bytes set place is = ap (λ o. listed (counted_by o (bytes set 0)) (bytes set)) is
 
-state_here : (places : List Place) (bytes : AreaBytes) (db : Db) (set : ℕ) (place : Place) → AreFor places bytes db
+pub state_here : (places : List Place) (bytes : AreaBytes) (db : Db) (set : ℕ) (place : Place) → AreFor places bytes db
     → place_at places set ≡ Some place → HasState place (intervals_of place (bytes set)) (state_of place db)
 state_here places bytes db set place are is =
     subst (λ area. HasState place area (state_of place db)) (counted_area places bytes set place is) (are set place is)

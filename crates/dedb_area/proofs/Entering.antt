@@ -17,8 +17,9 @@ use Rattle.area_redo.proofs.Items.{redone_none}
 use Rattle.area_redo.proofs.Staged.{imaged_longer}
 use Rattle.area_redo.proofs.Steps.{published}
 use Rattle.area_states.specs.Places.{layout_of}
-use Rattle.dedb_area.specs.Appending.{AreStagedBy, IsPublished, StagedStand}
-use Rattle.dedb_area.specs.Items.{is_imaged}
+use Rattle.area_staging.specs.Changing.{AreStagedBy}
+use Rattle.dedb_area.specs.Appending.{IsPublished, StagedStand}
+use Rattle.area_staging.specs.Items.{is_imaged}
 use Rattle.dedb_area.specs.Publishing.{ArePublished}
 use Rattle.dedb_area.specs.Standing.{AreSynced, AreasStand, Holding, PoolStands, due_of, owed_of}
 

@@ -1,9 +1,8 @@
--- Calls that change no area, one after another.
+-- Calls that change no area.
 use Rattle.std.proofs.Common.{◌≡◌, ℕ, ◌+◌, Bool, List, refl, sym, ◌∙◌, ap, subst, arith}
 use Rattle.std.specs.Prelude.{Some}
 use mathlib.Core.Path.{fun_ext}
 use Rattle.fp_site.specs.Disk.{Disk, IsLawful}
-use Rattle.fp_site.proofs.Runs.{stays_then}
 use Rattle.fp_site.proofs.Images.{durable_stays}
 use Rattle.fp_model.specs.Items.{items_of}
 use Rattle.fp_model.specs.State.{first_area_set}
@@ -12,56 +11,16 @@ use Rattle.area_redo.specs.Standing.{Way, since_mark, Stands, MayOpen}
 use Rattle.area_redo.specs.Steps.{SparesAreas}
 use Rattle.area_redo.proofs.Areas.{stays_spares, spared_through}
 use Rattle.area_redo.proofs.Opening.{spared, may_spared}
-use Rattle.ci_pool.specs.Cells.{cell_at}
-use Rattle.ci_pool.specs.Held.{Held, waiting_of, staged_of, pending_at, staged_at}
+use Rattle.ci_pool.specs.Held.{Held}
 use Rattle.area_states.specs.declared.place.Place.{Place}
 use Rattle.area_states.specs.Places.{place_at, layout_of}
+use Rattle.area_staging.proofs.Looks.{same_pending, same_staged}
 use Rattle.dedb_area.specs.Standing.{Holding, IsFitPool, due_of, owed_of}
 use Rattle.dedb_area.specs.Keeping.{KeepsAreas}
-use Rattle.dedb_area.specs.Looking.{LooksAt, LooksAtAreas}
+use Rattle.area_staging.specs.Looking.{LooksAt}
+use Rattle.dedb_area.specs.Looking.{LooksAtAreas}
 
-module _ {S : Type 0} (told : S → Type 0) (disk : S → Disk) (faults holds : S → ℕ) (keeps : S → S → Type 0)
-    (set size : ℕ) where
-  -- one after another
-  pub looks_then : ((s : S) → told s → IsLawful (disk s)) → (a b c : S) (p q r : Held)
-      → LooksAt told disk faults holds keeps set size a b p q → LooksAt told disk faults holds keeps set size b c q r
-      → LooksAt told disk faults holds keeps set size a c p r
-  looks_then lawful a b c p q r first second = record {
-    tells = λ t. second.tells (first.tells t);
-    stays = λ t. stays_then (disk a) (disk b) (disk c) (lawful a t) (lawful b (first.tells t)) (first.stays t)
-        (second.stays (first.tells t));
-    later = omega (arith, first.later, second.later);
-    same = second.same ∙ first.same;
-    known = λ s k. second.known s (first.known s k);
-    cells = second.cells ∙ first.cells;
-    sizes = λ n m same was. second.sizes n m same (first.sizes n m same was);
-    clean = λ t was. second.clean (first.tells t) (first.clean t was);
-  }
-
--- of the same data set and size
-pub looks_as : {S : Type 0} (told : S → Type 0) (disk : S → Disk) (faults holds : S → ℕ) (keeps : S → S → Type 0)
-    (set set2 size size2 : ℕ) (a b : S) (p q : Held) → set ≡ set2 → size ≡ size2
-    → LooksAt told disk faults holds keeps set size a b p q → LooksAt told disk faults holds keeps set2 size2 a b p q
-looks_as told disk faults holds keeps set set2 size size2 a b p q e e2 looks = record {
-  tells = looks.tells;
-  stays = looks.stays;
-  later = looks.later;
-  same = looks.same;
-  known = looks.known;
-  cells = looks.cells;
-  sizes = λ s n same was. looks.sizes s n (λ is. same (is ∙ e) ∙ sym e2) was;
-  clean = looks.clean;
-}
-
--- ---- of areas
-
--- pools with the same cells have the same pending, and owe the same
-pub same_pending : (pool after : Held) → after.cells ≡ pool.cells → (s k : ℕ) → pending_at after s k ≡ pending_at pool s k
-same_pending pool after same s k = ap (λ cs. waiting_of (cell_at s k cs)) same
-
-pub same_staged : (pool after : Held) → after.cells ≡ pool.cells → (s k : ℕ) → staged_at after s k ≡ staged_at pool s k
-same_staged pool after same s k = ap (λ cs. staged_of (cell_at s k cs)) same
-
+-- pools with the same cells owe the same
 pub same_owed : (pool after : Held) → after.cells ≡ pool.cells → owed_of after ≡ owed_of pool
 same_owed pool after same = fun_ext (λ s. fun_ext (λ k. ap due_of (same_pending pool after same s k)))
 

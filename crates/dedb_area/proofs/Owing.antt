@@ -31,10 +31,6 @@ pub same_waits : (before after : Held) → after ≡ before → StillWaits befor
 same_waits before after same s k w is = sym (ap (λ (p : Held). pending_at p s k) same) ∙ is
 
 -- an answer's two cases
-pub by_answer : {T E : Type 0} (r : Result T E) (A B P : Type 0) → OnOk r A → OnErr r B → (A → P) → (B → P) → P
-by_answer (Ok x) A B P a b f g = f a
-by_answer (Err e) A B P a b f g = g b
-
 pub by_both : {T E : Type 0} (r : Result T E) (A B C D P : Type 0) → OnOk r A → OnOk r B → OnErr r C → OnErr r D
     → (A → B → P) → (C → D → P) → P
 by_both (Ok x) A B C D P a b d e f g = f a b

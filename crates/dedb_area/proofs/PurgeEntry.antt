@@ -17,11 +17,13 @@ use Rattle.area_redo.proofs.Items.{redone_none}
 use Rattle.area_states.specs.declared.place.Place.{Place}
 use Rattle.area_states.specs.Places.{counted_by, place_at}
 use Rattle.dedb_area.specs.Appending.{MayEnter}
-use Rattle.dedb_area.specs.Items.{IsChange, IsItemOf, is_imaged}
-use Rattle.dedb_area.specs.Purging.{IsPurgeStaged, IsPurged, items_in}
+use Rattle.area_staging.specs.Items.{IsChange, IsItemOf, is_imaged}
+use Rattle.area_staging.specs.Items.{items_in}
+use Rattle.dedb_area.specs.Purging.{IsPurgeStaged, IsPurged}
 use Rattle.dedb_area.specs.Standing.{AreasStand, Holding}
 use Rattle.dedb_area.proofs.Purges.{third_stays}
-use Rattle.dedb_area.proofs.RangeLemmas.{both, made, names_item, names_one}
+use Rattle.area_staging.proofs.ItemLemmas.{names_item, names_one}
+use Rattle.dedb_area.proofs.PurgeItems.{both, made}
 
 -- ---- it begins with an image
 

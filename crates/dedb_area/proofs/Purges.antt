@@ -16,9 +16,9 @@ use Rattle.area_states.specs.declared.place.Place.{Place}
 use Rattle.area_states.specs.Places.{IsPlace, counted_by}
 use Rattle.dedb_area.specs.Anchors.{ShowsArea, intervals_of}
 use Rattle.dedb_area.specs.Purging.{IsPurged, with_control}
-use Rattle.dedb_area.specs.Staging.{length_listed, staged_area, staged_or_newest}
+use Rattle.area_staging.specs.Staging.{length_listed, staged_area, staged_or_newest}
 use Rattle.dedb_area.proofs.AnchorLemmas.{first_bytes, some_counted}
-use Rattle.dedb_area.proofs.Staged.{newest_same}
+use Rattle.area_staging.proofs.Staged.{newest_same}
 
 -- the first interval of an area is control
 pub control_before : (place : Place) (bytes : ℕ → List ℕ) (area : List (List ℕ)) → area ≡ intervals_of place bytes

@@ -18,14 +18,18 @@ use Rattle.area_states.specs.declared.place.Place.{Place}
 use Rattle.area_states.specs.Places.{counted_by, layout_of, place_at}
 use Rattle.dedb_area.specs.Anchors.{intervals_of}
 use Rattle.dedb_area.specs.Appending.{StagedStand, StagesInAreas}
-use Rattle.dedb_area.specs.Items.{HasFlag, IsChange, IsItemOf, is_imaged}
-use Rattle.dedb_area.specs.Looking.{LooksAt, LooksAtAreas}
-use Rattle.dedb_area.specs.Publishing.{AreFlagged, IsFitStaged, IsFlagged}
-use Rattle.dedb_area.specs.Purging.{IsControlStaged, IsJustStaged, IsPurgeStaged, IsPurged, MayPurge, items_in}
-use Rattle.dedb_area.specs.Staging.{length_listed}
+use Rattle.area_staging.specs.Items.{HasFlag, IsChange, IsItemOf, is_imaged}
+use Rattle.area_staging.specs.Looking.{LooksAt}
+use Rattle.dedb_area.specs.Looking.{LooksAtAreas}
+use Rattle.area_staging.specs.Flags.{AreFlagged, IsFlagged}
+use Rattle.dedb_area.specs.Publishing.{IsFitStaged}
+use Rattle.area_staging.specs.Items.{items_in}
+use Rattle.dedb_area.specs.Purging.{IsControlStaged, IsJustStaged, IsPurgeStaged, IsPurged, MayPurge}
+use Rattle.area_staging.specs.Staging.{length_listed}
 use Rattle.dedb_area.specs.Standing.{AreasStand, Holding, IsFitPool, IsUnstaged, due_of, owed_of}
 use Rattle.dedb_area.proofs.AnchorLemmas.{first_bytes, some_counted}
-use Rattle.dedb_area.proofs.Looks.{areas_looked, same_pending, same_staged}
+use Rattle.area_staging.proofs.Looks.{same_pending, same_staged}
+use Rattle.dedb_area.proofs.Looks.{areas_looked}
 
 -- ---- control
 

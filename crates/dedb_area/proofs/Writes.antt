@@ -20,7 +20,8 @@ use Rattle.area_states.specs.Places.{place_at, size_of, ArePlaces, layout_of}
 use Rattle.dedb_area.specs.Standing.{Holding, IsFitPool, due_of, owed_of, PoolStands, AreSynced}
 use Rattle.dedb_area.specs.Keeping.{KeepsAreas, OnlyAreas, IsWritten, StillWaits}
 use Rattle.dedb_area.proofs.Owing.{owed_less, written_waits, same_waits, still_owed, fit_still}
-use Rattle.dedb_area.proofs.Data.{area_behind, there, some_size, place_there}
+use Rattle.area_staging.proofs.Data.{there}
+use Rattle.dedb_area.proofs.Data.{area_behind, some_size, place_there}
 
 -- the bytes of an interval are written whole, or any in their place
 pub data Wrote (pool after : Held) (set ci : ℕ) (w : Waiting) (old new : Disk) : Type 0 where

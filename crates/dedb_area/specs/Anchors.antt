@@ -9,7 +9,7 @@ use Rattle.area_states.specs.Places.{LiesIn, counted_by, place_at}
 use Rattle.area_states.specs.States.{HasAnchor}
 use Rattle.area_reading.specs.Damage.{IsUnreadable}
 use Rattle.dedb_area.specs.Control.{IsControl}
-use Rattle.dedb_area.specs.Staging.{AllPending, IsToldPool}
+use Rattle.area_staging.specs.Staging.{AllPending, IsToldPool}
 
 -- ---- an area
 

@@ -9,8 +9,9 @@ use Rattle.area_redo.specs.Redo.{AreaBytes, GrowByImages, RedoesThrough, names, 
 use Rattle.area_redo.specs.Standing.{Way, BeginsSinceMark, behind, since_mark}
 use Rattle.area_redo.specs.Steps.{AreImaged}
 use Rattle.area_states.specs.Places.{layout_of}
-use Rattle.dedb_area.specs.Items.{is_imaged}
-use Rattle.dedb_area.specs.Publishing.{AreNoted, ArePublished, IsFitStaged}
+use Rattle.area_staging.specs.Items.{is_imaged}
+use Rattle.area_staging.specs.Flags.{AreNoted}
+use Rattle.dedb_area.specs.Publishing.{ArePublished, IsFitStaged}
 use Rattle.dedb_area.specs.Standing.{AreSynced, AreasMayOpen, AreasStand, Holding, IsFitPool, IsUnstaged, PoolStands}
 
 -- where areas stand in a run, and changes are staged that no entry has yet
@@ -19,12 +20,6 @@ pub record StagedStand (way : Way) (bytes : AreaBytes) (disk : Disk) (areas : Ho
   pub pool : PoolStands (layout_of areas.places) way bytes disk areas.pool
   pub synced : AreSynced areas.unsynced disk
   pub imaged : AreImaged way (is_imaged areas.imaged)
-
--- Just the intervals that the items name are staged, with what these make of the newest bytes.
-pub record AreStagedBy (items : List Item) (newest : AreaBytes) (pool : Held) : Type 0 where
-  pub named : (set ci : ℕ) → names set ci items ≡ true
-      → staged_at pool set ci ≡ Some (redone_at set ci items (newest set ci))
-  pub others : (set ci : ℕ) → names set ci items ≡ false → staged_at pool set ci ≡ None
 
 -- A publish for the entry at a place: what is staged is pending, the intervals that the items name have an item since the
 -- mark, and all else stays.

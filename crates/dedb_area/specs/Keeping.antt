@@ -8,7 +8,7 @@ use Rattle.ci_pool.specs.declared.cell.Waiting.{Waiting}
 use Rattle.ci_pool.specs.Held.{Held, pending_at}
 use Rattle.area_redo.specs.Redo.{AreaBytes, Layout, RedoesThrough}
 use Rattle.area_redo.specs.Standing.{Way, since_mark, Owed, Stands, MayOpen}
-use Rattle.dedb_area.specs.Items.{is_imaged}
+use Rattle.area_staging.specs.Items.{is_imaged}
 use Rattle.area_states.specs.Places.{layout_of}
 use Rattle.dedb_area.specs.Standing.{Holding, AreasStand, AreasMayOpen}
 

@@ -4,9 +4,9 @@ pub mod Control
 pub mod Looking
 pub mod Applying
 pub mod Formatting
-pub mod Staging
-pub mod Items
 pub mod Anchors
 pub mod Publishing
 pub mod Appending
 pub mod Purging
+pub mod Committing
+pub mod Dropping

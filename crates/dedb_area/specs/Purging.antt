@@ -6,7 +6,7 @@ use Rattle.ci_pool.specs.Held.{Held, pending_at, staged_at}
 use Rattle.seq_dependents.specs.Control.{AreEnds, ChangesEnds, begin_in, end_in}
 use Rattle.area_states.specs.declared.place.Place.{Place}
 use Rattle.dedb_area.specs.Anchors.{CountsIntervals}
-use Rattle.dedb_area.specs.Items.{HasFlag, IsChange}
+use Rattle.area_staging.specs.Items.{HasFlag, IsChange}
 use Rattle.dedb_area.specs.Standing.{IsUnstaged}
 
 -- Begin moves up by n, at most to the end, and nothing else of control changes.
@@ -31,11 +31,6 @@ IsControlStaged set control imaged before after (Some item) =
     × ((s k : ℕ) → pending_at after s k ≡ pending_at before s k)
     × (after.clean ≡ before.clean)
     × HasFlag imaged set 0
-
--- the items of a Purge
-abbrev pub items_in : Option Item → List Item
-items_in None = []
-items_in (Some item) = item ∷ []
 
 -- where control has an item just control is staged, with these bytes, and else nothing is
 abbrev pub IsJustStaged : ℕ → List ℕ → Held → Option Item → Type 0

@@ -8,7 +8,7 @@ use Rattle.area_redo.specs.Redo.{AreaBytes, Layout}
 use Rattle.area_redo.specs.Standing.{behind, Way, Due, Owed, Stands, MayOpen}
 use Rattle.area_redo.specs.Steps.{AreImaged}
 use Rattle.area_states.specs.declared.place.Place.{Place}
-use Rattle.dedb_area.specs.Items.{is_imaged}
+use Rattle.area_staging.specs.Items.{is_imaged}
 use Rattle.area_states.specs.Places.{place_at, layout_of}
 
 -- what contracts see of areas

@@ -8,15 +8,15 @@ ghost use Rattle.area_reading.specs.Damage.{IsUnreadable};
 ghost use Rattle.area_states.specs.Places.{IsPlace, counted_by, has_anchor};
 ghost use Rattle.area_states.specs.States.{HasAnchor};
 ghost use Rattle.dedb_area.specs.Anchors.{HasAnchorIn, IsBegin, IsFaulty, ShowsArea, intervals_of};
-ghost use Rattle.dedb_area.specs.Looking.{LooksAt};
-ghost use Rattle.dedb_area.specs.Staging.{AllPending};
+ghost use Rattle.area_staging.specs.Looking.{LooksAt};
+ghost use Rattle.area_staging.specs.Staging.{AllPending};
 ghost use Rattle.dedb_area.specs.declared.fault.AreaFault.TheVariants as fault;
 
 use crate::AreaFault;
 use crate::counting::counted;
-use crate::staging::{Staging, rest};
 use crate::syncing::FIRST_AREA;
 use area_reading::read_anchor;
+use area_staging::{Staging, rest};
 use area_states::Place;
 use ci_pool::Pool;
 use fp_model::{List, Root};
@@ -25,7 +25,7 @@ use root_anchor::AnchorFault;
 use std::alloc::Global;
 
 /// Whether an anchor of a database lies in the area.
-fn has_anchor(place: &Place, dedb: u8, anchor: u32) -> bool
+pub(crate) fn has_anchor(place: &Place, dedb: u8, anchor: u32) -> bool
     ensures { result ≡ has_anchor place.now dedb anchor }
 {
     let anchors = u64::from(place.shape.uows) * u64::from(place.shape.base);

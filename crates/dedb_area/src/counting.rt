@@ -9,7 +9,7 @@ ghost use Rattle.ci_pool.specs.Held.{pending_at};
 ghost use Rattle.ci_pool.specs.declared.cell.Waiting.{Waiting as Pending};
 ghost use Rattle.area_states.specs.Places.{counted_by};
 ghost use Rattle.dedb_area.specs.Anchors.{CountsIntervals, ShowsArea};
-ghost use Rattle.dedb_area.specs.Looking.{LooksAt};
+ghost use Rattle.area_staging.specs.Looking.{LooksAt};
 ghost use Rattle.dedb_area.specs.declared.fault.AreaFault.TheVariants as fault;
 
 use crate::AreaFault;

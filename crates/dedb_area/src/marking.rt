@@ -8,7 +8,7 @@ ghost use Rattle.dedb_area.specs.Standing.{Holding, AreasStand};
 ghost use Rattle.dedb_area.specs.Keeping.{IsMarked};
 
 use crate::Areas;
-use crate::imaging::clear;
+use area_staging::clear;
 use fp_site::Site;
 
 impl Areas {

@@ -7,12 +7,15 @@ ghost use Rattle.area_redo.specs.Redo.{AreaBytes, GrowByImages};
 ghost use Rattle.area_redo.specs.Standing.{Way, BeginsSinceMark, behind};
 ghost use Rattle.area_redo.specs.Steps.{longer, next_place};
 ghost use Rattle.area_states.specs.Places.{layout_of};
-ghost use Rattle.dedb_area.specs.Appending.{AreStagedBy, IsPublished, StagedStand};
-ghost use Rattle.dedb_area.specs.Publishing.{AreFlagged, AreNoted, ArePublished, IsFitStaged};
+ghost use Rattle.area_staging.specs.Changing.{AreStagedBy};
+ghost use Rattle.dedb_area.specs.Appending.{IsPublished, StagedStand};
+ghost use Rattle.area_staging.specs.Flags.{AreFlagged, AreNoted};
+ghost use Rattle.dedb_area.specs.Dropping.{IsDropped};
+ghost use Rattle.dedb_area.specs.Publishing.{ArePublished, IsFitStaged};
 ghost use Rattle.dedb_area.specs.Standing.{AreasStand, Holding, IsFitPool, IsUnstaged};
 
 use crate::Areas;
-use crate::imaging::note_all;
+use area_staging::note_all;
 use fp_model::{Item, List};
 use fp_site::Site;
 
@@ -67,4 +70,12 @@ pub fn a_publish_keeps_the_areas<S: Site>(site: &S)
         → GrowByImages (layout_of before.places) e.items (behind way.unsealed bytes)
         → next_place way < 2 ^ 64 - 1
         → AreasStand (longer way e) bytes (S.disk site.now) after }
+{}
+
+/// Areas with changes staged stand once these are dropped: `drop_staged` says that they are (`IsDropped`).
+pub fn dropped_areas_stand<S: Site>(site: &S)
+    ensures { (way : Way) (bytes : AreaBytes) (before after : Holding)
+        → StagedStand way bytes (S.disk site.now) before
+        → IsDropped before after
+        → AreasStand way bytes (S.disk site.now) after }
 {}

@@ -7,13 +7,13 @@ ghost use Rattle.ci_space.specs.Head.{ends_of};
 ghost use Rattle.ci_pool.specs.Held.{IsClean, HasSize, newest_in, pending_at};
 ghost use Rattle.ci_pool.specs.declared.cell.Waiting.{Waiting as Pending};
 ghost use Rattle.dedb_area.specs.Control.{IsControl, AreEnds, IsControlOf};
-ghost use Rattle.dedb_area.specs.Looking.{LooksAt};
+ghost use Rattle.area_staging.specs.Looking.{LooksAt};
 ghost use Rattle.area_states.specs.Places.{place_at};
 ghost use Rattle.dedb_area.specs.declared.fault.AreaFault.TheVariants as fault;
 
 use crate::AreaFault;
-use crate::looking::interval_at;
 use crate::syncing::FIRST_AREA;
+use area_staging::interval_at;
 use area_states::Place;
 use ci_pool::Pool;
 use ci_space::{GetFault, Interval};

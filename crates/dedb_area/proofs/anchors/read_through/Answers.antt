@@ -6,8 +6,8 @@ use Rattle.ci_space.specs.Calls.{Rose}
 use Rattle.area_reading.specs.Damage.{IsUnreadable}
 use Rattle.area_states.specs.States.{HasAnchor}
 use Rattle.std.specs.Prelude.{IfOk}
-use Rattle.dedb_area.specs.Looking.{LooksAt}
-use Rattle.dedb_area.specs.Staging.{kept_itself}
+use Rattle.area_staging.specs.Looking.{LooksAt}
+use Rattle.area_staging.specs.Staging.{kept_itself}
 use Rattle.dedb_area.proofs.AnchorLemmas.{fresh_area, fresh_told, kept_of_equals}
 use Rattle.dedb_area.proofs.anchors.read_through.Goals as goal
 

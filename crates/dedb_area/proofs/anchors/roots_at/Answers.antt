@@ -4,11 +4,11 @@ use Rattle.root_anchor.proofs.Exits.{same_fault}
 use Rattle.area_states.specs.States.{HasAnchor}
 use Rattle.ci_pool.specs.Held.{pending_at}
 use Rattle.dedb_area.specs.Anchors.{intervals_of, uncounted, unreadable}
-use Rattle.dedb_area.specs.Staging.{AllPending}
+use Rattle.area_staging.specs.Staging.{AllPending}
 use Rattle.dedb_area.proofs.AnchorLemmas.{all_pending, begin_first, by_given, some_counted, still_shown}
-use Rattle.dedb_area.proofs.Data.{there}
-use Rattle.dedb_area.proofs.Looks.{looks_then}
-use Rattle.dedb_area.proofs.Staged.{reads_nothing, reads_then}
+use Rattle.area_staging.proofs.Data.{there}
+use Rattle.area_staging.proofs.Looks.{looks_then}
+use Rattle.area_staging.proofs.Staged.{reads_nothing, reads_then}
 use Rattle.dedb_area.proofs.anchors.roots_at.Goals as goal
 
 pub returns-in_err-count-clause-damaged : goal.returns-in_err-count-clause-damaged

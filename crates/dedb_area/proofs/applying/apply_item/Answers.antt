@@ -1,7 +1,7 @@
 use Rattle.std.proofs.Common.{◌∙◌, ap, subst, length}
 use Rattle.dedb_area.specs.Applying.{IsFitImage, IsFitInterval}
 use Rattle.area_states.specs.Places.{place_at}
-use Rattle.dedb_area.proofs.Data.{there}
+use Rattle.area_staging.proofs.Data.{there}
 use Rattle.dedb_area.proofs.Applied.{fit_pended}
 use Rattle.dedb_area.proofs.applying.apply_item.Goals as goal
 

@@ -6,7 +6,7 @@ use Rattle.ci_overflow.specs.Places.{first_independent}
 use Rattle.root_anchor.proofs.Exits.{same_fault}
 use Rattle.area_states.specs.Places.{counted_by}
 use Rattle.dedb_area.proofs.AnchorLemmas.{some_counted, still_shown}
-use Rattle.dedb_area.proofs.Looks.{looks_then}
+use Rattle.area_staging.proofs.Looks.{looks_then}
 use Rattle.dedb_area.proofs.StagedPurge.{control_is, not_past}
 use Rattle.dedb_area.proofs.purging.control_purged.Goals as goal
 

@@ -4,8 +4,8 @@ use Rattle.std.specs.Ordering.{nat_cmp}
 use Rattle.std.specs.BTreeMap.{get}
 use Rattle.ci_space.specs.Calls.{Rose}
 use Rattle.seq_dependents.specs.Control.{IsControl}
-use Rattle.dedb_area.specs.Looking.{LooksAt}
-use Rattle.dedb_area.specs.Staging.{kept_itself, staged_area}
+use Rattle.area_staging.specs.Looking.{LooksAt}
+use Rattle.area_staging.specs.Staging.{kept_itself, staged_area}
 use Rattle.dedb_area.proofs.AnchorLemmas.{by_ok, fresh_area, fresh_told, kept_of_equals, some_counted}
 use Rattle.dedb_area.proofs.Purges.{control_after, control_before, purged_given}
 use Rattle.dedb_area.proofs.purging.purged.Goals as goal

@@ -6,16 +6,18 @@ use Rattle.held_intervals.specs.Holding.{held_or}
 use Rattle.area_redo.specs.Standing.{behind}
 use Rattle.area_states.specs.declared.place.Place.{Place}
 use Rattle.area_states.specs.Places.{place_at}
-use Rattle.dedb_area.specs.Appending.{AreStagedBy, MayEnter, StagesInAreas}
-use Rattle.dedb_area.specs.Items.{is_imaged}
-use Rattle.dedb_area.specs.Purging.{IsPurgeStaged, IsPurged, MayPurge, items_in}
+use Rattle.area_staging.specs.Changing.{AreStagedBy}
+use Rattle.dedb_area.specs.Appending.{MayEnter, StagesInAreas}
+use Rattle.area_staging.specs.Items.{is_imaged}
+use Rattle.area_staging.specs.Items.{items_in}
+use Rattle.dedb_area.specs.Purging.{IsPurgeStaged, IsPurged, MayPurge}
 use Rattle.dedb_area.specs.Standing.{AreasStand, Holding, IsUnstaged}
 use Rattle.dedb_area.specs.declared.fault.AreaFault.TheVariants as fault
 use Rattle.dedb_area.proofs.AnchorLemmas.{by_ok, shows, within_areas}
 use Rattle.dedb_area.proofs.StagedPurge.{at_err, none_staged, others_stay, purge_none, purge_staged, stages_here, stages_none, stands_then, still_unstaged}
 use Rattle.dedb_area.proofs.Looks.{areas_looked}
 use Rattle.dedb_area.proofs.PurgeEntry.{enters_purge}
-use Rattle.dedb_area.proofs.RangeLemmas.{staged_by}
+use Rattle.dedb_area.proofs.PurgeItems.{staged_by}
 use Rattle.dedb_area.proofs.areas.Areas.stage_purge.Goals as goal
 
 pub returns-in_err-old-clause-damaged : goal.returns-in_err-old-clause-damaged

@@ -3,7 +3,7 @@ use Rattle.std.specs.Prelude.{IsSome, Some}
 use Rattle.ci_pool.specs.Held.{pending_at}
 use Rattle.dedb_area.specs.Standing.{Holding}
 use Rattle.dedb_area.specs.Keeping.{KeepsAreas}
-use Rattle.dedb_area.proofs.Data.{there}
+use Rattle.area_staging.proofs.Data.{there}
 use Rattle.dedb_area.proofs.Owing.{by_both}
 use Rattle.dedb_area.proofs.Writes.{Wrote, keeps_written}
 use Rattle.dedb_area.proofs.areas.Areas.write.Goals as goal

@@ -1,0 +1,23 @@
+use Rattle.std.proofs.Common.{◌≡◌, ◌∙◌, ◌<◌, ℕ, length, ap, arith}
+use Rattle.std.proofs.lemmas.Bool.Decides.{nat_tests}
+use Rattle.area_staging.proofs.Data.{sized_newest}
+use Rattle.area_staging.proofs.Steps.{fit_change}
+use Rattle.area_staging.proofs.changing.change_of.Goals as goal
+
+pub returns-then-len-whole-clause-item : goal.returns-then-len-whole-clause-item
+returns-then-len-whole-clause-item g c = λ told bytes shown.
+    let area = c.args.area in
+    let newest = c.in_ok-old.ensures.newest told shown.told.clean shown.told.sizes in
+    let long : length c.in_ok-old.old ≡ area.size =
+    ap length newest ∙ sized_newest area.set area.size c.args.pool.now (g.T.Site.disk c.args.site.now).contents
+    c.args.ci shown.told.sizes in
+    let size : length c.args.interval.now ≡ area.size = c.requires.size in
+    let whole : length c.whole-2.result.now ≡ length c.args.interval.now = ap length c.whole-2.ensures.bytes in
+    absurd (grind (arith, nat_tests, c.if-len-whole.true, c.len.ensures, long, size, whole))
+
+pub returns-clause-fits : goal.returns-clause-fits
+returns-clause-fits g c = λ end.
+    let area = c.args.area in
+    let whole : c.whole-3.result.now ≡ c.args.interval.now = c.whole-3.ensures.bytes in
+    fit_change c.args.imaged area c.args.ci c.as_slice.result.now c.whole-3.result.now c.in_ok-item_of.field-0
+    (ap length whole ∙ c.requires.size) end c.in_ok-item_of.ensures

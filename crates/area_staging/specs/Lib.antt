@@ -1,0 +1,5 @@
+pub mod Looking
+pub mod Staging
+pub mod Items
+pub mod Flags
+pub mod Changing

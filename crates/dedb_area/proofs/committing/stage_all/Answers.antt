@@ -1,0 +1,278 @@
+use Rattle.std.proofs.Common.{◌≡◌, ◌+◌, ◌<◌, ◌≤◌, ℕ, length, refl, sym, ◌∙◌, ap, subst, arith}
+use Rattle.std.specs.Prelude.{Some}
+use Rattle.std.proofs.lemmas.Result.{err_from_is_err_and}
+use Rattle.fp_model.specs.State.{first_area_set}
+use Rattle.root_anchor.proofs.Exits.{same_fault}
+use Rattle.area_states.specs.Databases.{state_of}
+use Rattle.area_states.specs.Places.{counted_by, place_at}
+use Rattle.area_states.specs.declared.place.Place.{Place}
+use Rattle.std.specs.List.{AllByRecursion}
+use Rattle.fp_model.specs.ItemTargets.{is_ascending}
+use Rattle.area_staging.specs.Changing.{AllBefore}
+use Rattle.area_staging.specs.Flags.{AreFlagged}
+use Rattle.area_staging.specs.Items.{is_imaged}
+use Rattle.area_staging.proofs.Staged.{reads_then}
+use Rattle.dedb_area.specs.Committing.{AreStagedUpTo, IsFitItem, committed}
+use Rattle.dedb_area.proofs.AnchorLemmas.{at_number, got, state_here}
+use Rattle.dedb_area.proofs.CommitLaws.{counts_in_time}
+use Rattle.dedb_area.proofs.Data.{place_there}
+use Rattle.dedb_area.proofs.StagedAreas.{before_next_area, fit_more_items, flag_more_items, makes_as, area_more, none_yet, order_more_items}
+use Rattle.dedb_area.proofs.Staying.{all_itself, all_more, all_pending_still, all_shown}
+use Rattle.dedb_area.proofs.committing.stage_all.Goals as goal
+
+pub loop-place-init : goal.loop-place-init
+loop-place-init g c =
+    let places = c.args.places.now in
+    let none = c.new-items.ensures in
+    record {
+      here = refl;
+      within = omega arith;
+      count = refl;
+      flags = λ s k. refl;
+      flagged = subst (AreFlagged c.args.imaged.now.items) (sym none) tt;
+      fit = subst (AllByRecursion (IsFitItem places)) (sym none) tt;
+      in_order = ap is_ascending none;
+      before = subst (AllBefore (first_area_set + 0) 0) (sym none) tt;
+      stages = all_itself g.T.Site.told g.T.Site.disk g.T.Site.faults g.T.Site.holds g.T.Site.keeps places
+          c.args.site.now c.args.pool.now;
+      staged = λ told newest db shown are unstaged fits.
+          subst (λ l. AreStagedUpTo places 0 (is_imaged c.args.imaged.now.items) newest c.args.changes.now
+          c.args.inserts.now db l c.args.pool.now) (sym none)
+          (none_yet places (is_imaged c.args.imaged.now.items) newest c.args.changes.now c.args.inserts.now db
+          c.args.pool.now unstaged);
+      unread = λ told newest shown pending set tells. (tells, refl);
+    }
+
+-- ---- the area at hand
+
+pub stage_here-requires-clause-place : goal.stage_here-requires-clause-place
+stage_here-requires-clause-place g c =
+    let index = c.loop-place.place-index in
+    let is = at_number c.args.places.now index c.place-item.result
+    (got c.args.places.now index c.place-item.result c.loop-place-test.true c.place-item.is) in
+    place_there c.args.places.now (first_area_set + index) c.place-item.result c.requires.places is
+
+pub stage_here-requires-clause-within : goal.stage_here-requires-clause-within
+stage_here-requires-clause-within g c =
+    let lt = c.loop-place-test.true in
+    let here = c.loop-place.invariant.here in
+    let count = c.loop-place.invariant.count in
+    let each = c.requires.each in
+    omega (arith, lt, here, count, each)
+
+pub stage_here-requires-clause-storable : goal.stage_here-requires-clause-storable
+stage_here-requires-clause-storable g c =
+    let index = c.loop-place.place-index in
+    let is = at_number c.args.places.now index c.place-item.result
+    (got c.args.places.now index c.place-item.result c.loop-place-test.true c.place-item.is) in
+    c.requires.stageable.storable (first_area_set + index) c.place-item.result is
+
+pub stage_here-requires-clause-insertable : goal.stage_here-requires-clause-insertable
+stage_here-requires-clause-insertable g c =
+    let index = c.loop-place.place-index in
+    let is = at_number c.args.places.now index c.place-item.result
+    (got c.args.places.now index c.place-item.result c.loop-place-test.true c.place-item.is) in
+    c.requires.stageable.insertable (first_area_set + index) c.place-item.result is
+
+-- ---- it can't be staged
+
+pub returns-in_err-more-clause-full : goal.returns-in_err-more-clause-full
+returns-in_err-more-clause-full g c = λ told newest db shown are none fits s begin end n e.
+    let inv = c.loop-place.invariant in
+    let places = c.args.places.now in
+    let index = c.loop-place.place-index in
+    let place = c.place-item.result in
+    let set = c.loop-place.set in
+    let is : place_at places set ≡ Some place =
+    ap (place_at places) inv.here
+    ∙ at_number places index place (got places index place c.loop-place-test.true c.place-item.is) in
+    let shown1 = all_shown g.T.Site.told g.T.Site.disk g.T.Site.faults g.T.Site.holds g.T.Site.keeps places
+    c.args.site.now c.loop-place.site c.args.pool.now c.loop-place.pool newest inv.stages told shown in
+    let p = err_from_is_err_and c.from_residual.result c.from_residual.ensures.1 in
+    let fault = same_fault _ _ _ _ p.1 p.2 e in
+    let here : s ≡ set = c.in_err-more.ensures.here s begin end n fault in
+    let done = inv.staged told newest db shown are none fits in
+    record {
+      place = place;
+      is_place = ap (place_at places) here ∙ is;
+      too_full = c.in_err-more.ensures.full (inv.stages.tells told) (newest set) (shown1 set place is)
+          (state_of place db) (state_here places newest db set place are is) (fits set place is) s begin end n fault;
+      first = λ earlier other there lt. done.room earlier other there (let h = inv.here in omega (arith, h, here, lt));
+    }
+
+pub returns-in_err-more-clause-sound : goal.returns-in_err-more-clause-sound
+returns-in_err-more-clause-sound g c = λ told newest db shown are fits ends s at e.
+    let inv = c.loop-place.invariant in
+    let places = c.args.places.now in
+    let index = c.loop-place.place-index in
+    let place = c.place-item.result in
+    let set = c.loop-place.set in
+    let is : place_at places set ≡ Some place =
+    ap (place_at places) inv.here
+    ∙ at_number places index place (got places index place c.loop-place-test.true c.place-item.is) in
+    let shown1 = all_shown g.T.Site.told g.T.Site.disk g.T.Site.faults g.T.Site.holds g.T.Site.keeps places
+    c.args.site.now c.loop-place.site c.args.pool.now c.loop-place.pool newest inv.stages told shown in
+    let p = err_from_is_err_and c.from_residual.result c.from_residual.ensures.1 in
+    c.in_err-more.ensures.sound (inv.stages.tells told) (newest set) (shown1 set place is) (state_of place db)
+    (state_here places newest db set place are is) (fits set place is)
+    (counts_in_time places newest db set place are ends is) s at (same_fault _ _ _ _ p.1 p.2 e)
+
+pub returns-in_err-more-clause-begins : goal.returns-in_err-more-clause-begins
+returns-in_err-more-clause-begins g c = λ s at e.
+    let inv = c.loop-place.invariant in
+    let places = c.args.places.now in
+    let index = c.loop-place.place-index in
+    let place = c.place-item.result in
+    let set = c.loop-place.set in
+    let is : place_at places set ≡ Some place =
+    ap (place_at places) inv.here
+    ∙ at_number places index place (got places index place c.loop-place-test.true c.place-item.is) in
+    let p = err_from_is_err_and c.from_residual.result c.from_residual.ensures.1 in
+    let found = c.in_err-more.ensures.begins s at (same_fault _ _ _ _ p.1 p.2 e) in
+    record {
+      place = place;
+      ci = found.1.0;
+      is_place = ap (place_at places) found.0 ∙ is;
+      begins = found.1.1;
+    }
+
+pub returns-in_err-more-clause-unread : goal.returns-in_err-more-clause-unread
+returns-in_err-more-clause-unread g c = λ told newest shown pending.
+    let inv = c.loop-place.invariant in
+    let places = c.args.places.now in
+    let index = c.loop-place.place-index in
+    let place = c.place-item.result in
+    let set = c.loop-place.set in
+    let is : place_at places set ≡ Some place =
+    ap (place_at places) inv.here
+    ∙ at_number places index place (got places index place c.loop-place-test.true c.place-item.is) in
+    let shown1 = all_shown g.T.Site.told g.T.Site.disk g.T.Site.faults g.T.Site.holds g.T.Site.keeps places
+    c.args.site.now c.loop-place.site c.args.pool.now c.loop-place.pool newest inv.stages told shown in
+    reads_then g.T.Site.tells_reads g.T.Site.bytes_read c.args.site.now c.loop-place.site c.stage_here.new.site
+    (inv.unread told newest shown pending)
+    (c.stage_here.ensures.unread (inv.stages.tells told) (newest set) (shown1 set place is) (λ some.
+    all_pending_still g.T.Site.told g.T.Site.disk g.T.Site.faults g.T.Site.holds g.T.Site.keeps places c.args.site.now
+    c.loop-place.site c.args.pool.now c.loop-place.pool set (counted_by (Some place) (newest set 0)) inv.stages
+    (pending set place is some)))
+
+pub returns-in_err-more-clause-stages : goal.returns-in_err-more-clause-stages
+returns-in_err-more-clause-stages g c =
+    let inv = c.loop-place.invariant in
+    let places = c.args.places.now in
+    let index = c.loop-place.place-index in
+    let place = c.place-item.result in
+    let set = c.loop-place.set in
+    let is : place_at places set ≡ Some place =
+    ap (place_at places) inv.here
+    ∙ at_number places index place (got places index place c.loop-place-test.true c.place-item.is) in
+    all_more g.T.Site.told g.T.Site.disk g.T.Site.faults g.T.Site.holds g.T.Site.keeps places
+    (λ s t. g.met.T.Site.lawful s t) set place c.args.site.now c.loop-place.site c.stage_here.new.site c.args.pool.now
+    c.loop-place.pool c.stage_here.new.pool is inv.stages c.stage_here.ensures.stages
+
+pub returns-in_err-append-clause-unread : goal.returns-in_err-append-clause-unread
+returns-in_err-append-clause-unread g c = λ told newest shown pending.
+    let inv = c.loop-place.invariant in
+    let places = c.args.places.now in
+    let index = c.loop-place.place-index in
+    let place = c.place-item.result in
+    let set = c.loop-place.set in
+    let is : place_at places set ≡ Some place =
+    ap (place_at places) inv.here
+    ∙ at_number places index place (got places index place c.loop-place-test.true c.place-item.is) in
+    let shown1 = all_shown g.T.Site.told g.T.Site.disk g.T.Site.faults g.T.Site.holds g.T.Site.keeps places
+    c.args.site.now c.loop-place.site c.args.pool.now c.loop-place.pool newest inv.stages told shown in
+    reads_then g.T.Site.tells_reads g.T.Site.bytes_read c.args.site.now c.loop-place.site c.stage_here.new.site
+    (inv.unread told newest shown pending)
+    (c.stage_here.ensures.unread (inv.stages.tells told) (newest set) (shown1 set place is) (λ some.
+    all_pending_still g.T.Site.told g.T.Site.disk g.T.Site.faults g.T.Site.holds g.T.Site.keeps places c.args.site.now
+    c.loop-place.site c.args.pool.now c.loop-place.pool set (counted_by (Some place) (newest set 0)) inv.stages
+    (pending set place is some)))
+
+pub returns-in_err-append-clause-stages : goal.returns-in_err-append-clause-stages
+returns-in_err-append-clause-stages g c =
+    let inv = c.loop-place.invariant in
+    let places = c.args.places.now in
+    let index = c.loop-place.place-index in
+    let place = c.place-item.result in
+    let set = c.loop-place.set in
+    let is : place_at places set ≡ Some place =
+    ap (place_at places) inv.here
+    ∙ at_number places index place (got places index place c.loop-place-test.true c.place-item.is) in
+    all_more g.T.Site.told g.T.Site.disk g.T.Site.faults g.T.Site.holds g.T.Site.keeps places
+    (λ s t. g.met.T.Site.lawful s t) set place c.args.site.now c.loop-place.site c.stage_here.new.site c.args.pool.now
+    c.loop-place.pool c.stage_here.new.pool is inv.stages c.stage_here.ensures.stages
+
+-- ---- one more
+
+pub loop-place-preserved : goal.loop-place-preserved
+loop-place-preserved g c =
+    let inv = c.loop-place.invariant in
+    let places = c.args.places.now in
+    let index = c.loop-place.place-index in
+    let place = c.place-item.result in
+    let set = c.loop-place.set in
+    let is : place_at places set ≡ Some place =
+    ap (place_at places) inv.here
+    ∙ at_number places index place (got places index place c.loop-place-test.true c.place-item.is) in
+    let items = c.loop-place.items in
+    let more = c.in_ok-more.more in
+    let lt = c.loop-place-test.true in
+    let next : set < first_area_set + (index + 1) = (let h = inv.here in omega (arith, h)) in
+    let before : AllBefore set 0 items = subst (λ x. AllBefore x 0 items) (sym inv.here) inv.before in
+    let added = c.in_ok-append.ensures.ok in
+    record {
+      here = let h = inv.here in omega (arith, h);
+      within = omega (arith, lt);
+      count = c.stage_here.ensures.count ∙ inv.count;
+      flags = λ s k. c.stage_here.ensures.flags s k ∙ inv.flags s k;
+      flagged = subst (AreFlagged c.stage_here.new.imaged.items) (sym added)
+          (flag_more_items c.loop-place.imaged.items c.stage_here.new.imaged.items items more
+          c.stage_here.ensures.kept inv.flagged c.in_ok-more.ensures.flagged);
+      fit = subst (AllByRecursion (IsFitItem places)) (sym added)
+          (fit_more_items places set place items more is inv.fit c.in_ok-more.ensures.fit);
+      in_order = ap is_ascending added
+          ∙ order_more_items set place.shape.ci items more before inv.in_order c.in_ok-more.ensures.in_order
+          c.in_ok-more.ensures.fit;
+      before = subst (AllBefore (first_area_set + (index + 1)) 0) (sym added)
+          (before_next_area set (first_area_set + (index + 1)) place.shape.ci items more next before
+          c.in_ok-more.ensures.fit);
+      stages = all_more g.T.Site.told g.T.Site.disk g.T.Site.faults g.T.Site.holds g.T.Site.keeps places
+          (λ s t. g.met.T.Site.lawful s t) set place c.args.site.now c.loop-place.site c.stage_here.new.site c.args.pool.now
+          c.loop-place.pool c.stage_here.new.pool is inv.stages c.stage_here.ensures.stages;
+      staged = λ told newest db shown are none fits.
+          let shown1 = all_shown g.T.Site.told g.T.Site.disk g.T.Site.faults g.T.Site.holds g.T.Site.keeps places
+          c.args.site.now c.loop-place.site c.args.pool.now c.loop-place.pool newest inv.stages told shown in
+          let t1 = inv.stages.tells told in
+          let has = state_here places newest db set place are is in
+          area_more places index set (is_imaged c.args.imaged.now.items) newest c.args.changes.now c.args.inserts.now
+          db items more c.append.new.self c.loop-place.pool c.stage_here.new.pool place inv.here added is
+          (inv.staged told newest db shown are none fits)
+          (makes_as place set (is_imaged c.loop-place.imaged.items set) (is_imaged c.args.imaged.now.items set)
+          (newest set) (committed place c.args.changes.now c.args.inserts.now (state_of place db)) more
+          (λ k. inv.flags set k)
+          (c.in_ok-more.ensures.made t1 (newest set) (shown1 set place is) (state_of place db) has
+          (fits set place is)))
+          (c.in_ok-more.ensures.staged t1 (newest set) (shown1 set place is)) c.stage_here.ensures.stages.others
+          c.in_ok-more.ensures.fit
+          (c.in_ok-more.ensures.room t1 (newest set) (shown1 set place is) (state_of place db) has
+          (fits set place is));
+      unread = λ told newest shown pending.
+          let shown1 = all_shown g.T.Site.told g.T.Site.disk g.T.Site.faults g.T.Site.holds g.T.Site.keeps places
+          c.args.site.now c.loop-place.site c.args.pool.now c.loop-place.pool newest inv.stages told shown in
+          reads_then g.T.Site.tells_reads g.T.Site.bytes_read c.args.site.now c.loop-place.site c.stage_here.new.site
+          (inv.unread told newest shown pending)
+          (c.stage_here.ensures.unread (inv.stages.tells told) (newest set) (shown1 set place is) (λ some.
+          all_pending_still g.T.Site.told g.T.Site.disk g.T.Site.faults g.T.Site.holds g.T.Site.keeps places c.args.site.now
+          c.loop-place.site c.args.pool.now c.loop-place.pool set (counted_by (Some place) (newest set 0)) inv.stages
+          (pending set place is some)));
+    }
+
+-- ---- all are staged
+
+pub returns-clause-staged : goal.returns-clause-staged
+returns-clause-staged g c = λ told newest db shown are none fits.
+    let inv = c.loop-place.invariant in
+    let last : c.loop-place.place-index ≡ length c.args.places.now =
+    (let w = inv.within in let past = c.loop-place-test.false in omega (arith, w, past)) in
+    subst (λ n. AreStagedUpTo c.args.places.now n (is_imaged c.args.imaged.now.items) newest c.args.changes.now
+    c.args.inserts.now db c.loop-place.items c.loop-place.pool) last (inv.staged told newest db shown are none fits)

@@ -1,0 +1,22 @@
+use Rattle.std.proofs.Common.{◌≡◌, sym, subst, ◌∙◌}
+use Rattle.area_staging.specs.Items.{is_imaged}
+use Rattle.dedb_area.specs.Committing.{MakesArea, committed}
+use Rattle.dedb_area.proofs.CommitLemmas.{unconcerned_makes, unconcerned_room}
+use Rattle.dedb_area.proofs.committing.stage_here.Goals as goal
+
+pub returns-then-is_concerned-clause-unread : goal.returns-then-is_concerned-clause-unread
+returns-then-is_concerned-clause-unread g c = λ told bytes shown pending.
+    c.stage_area.ensures.unread told bytes shown (pending (sym c.is_concerned.ensures ∙ c.if-is_concerned.true))
+
+pub returns-clause-made : goal.returns-clause-made
+returns-clause-made g c = λ told bytes shown state has fits.
+    subst (MakesArea c.args.place.now c.args.set (is_imaged c.args.imaged.now.items c.args.set) bytes
+    (committed c.args.place.now c.args.changes.now c.args.inserts.now state)) (sym c.new.ensures)
+    (unconcerned_makes c.args.place.now c.args.changes.now c.args.inserts.now
+    (sym c.is_concerned.ensures ∙ c.if-is_concerned.false) c.args.set (is_imaged c.args.imaged.now.items c.args.set)
+    bytes state has)
+
+pub returns-clause-room : goal.returns-clause-room
+returns-clause-room g c = λ told bytes shown state has fits.
+    unconcerned_room c.args.place.now c.args.changes.now c.args.inserts.now
+    (sym c.is_concerned.ensures ∙ c.if-is_concerned.false) state

@@ -1,0 +1,365 @@
+//! Changed anchors and sequential inserts of a commit are staged: in each area, one after another, the intervals that they
+//! change, each with its item.
+
+ghost use Rattle.std.specs.Prelude.{◌≡◌, ◌≢◌, ◌+◌, ◌-◌, ◌*◌, ◌<◌, ◌≤◌, ◌^◌, ℕ, List as ListOf, Err, None, Ok, Some, IfOk, IsErrOf, IsSome, OnErr, OnOk, length, true, false};
+ghost use Rattle.std.specs.List.{AllByRecursion};
+ghost use Rattle.fp_model.specs.Commit.{FillsPart, first_full, with_anchors, with_inserts};
+ghost use Rattle.fp_model.specs.ItemTargets.{is_ascending};
+ghost use Rattle.fp_model.specs.State.{areas_of, first_area_set};
+ghost use Rattle.fp_model.specs.declared.database.Db.{Db};
+ghost use Rattle.fp_model.specs.declared.definitions.Defs.{Defs as DefsOf};
+ghost use Rattle.fp_site.specs.Site.{ReadsNothing};
+ghost use Rattle.ci_space.specs.Calls.{Rose};
+ghost use Rattle.ci_pool.specs.declared.fault.PoolFault.TheVariants as pool_fault;
+ghost use Rattle.area_redo.specs.Redo.{AreaBytes, redone};
+ghost use Rattle.area_redo.specs.Standing.{Way, behind};
+ghost use Rattle.area_states.specs.Changes.{IsInsertable, IsStorable, IsTooFull};
+ghost use Rattle.area_states.specs.Databases.{AreFor, state_of};
+ghost use Rattle.area_states.specs.Places.{ArePlaces, IsPlace, counted_by, has_anchor, place_at, places_of};
+ghost use Rattle.area_states.specs.States.{AreaState, HasState};
+ghost use Rattle.area_staging.specs.Changing.{AllBefore, AreStagedBy, IsFitFor, Stages, StagesItems};
+ghost use Rattle.area_staging.specs.Flags.{AreFlagged};
+ghost use Rattle.area_staging.specs.Items.{HasFlag, is_imaged};
+ghost use Rattle.area_staging.specs.Staging.{AllPending};
+ghost use Rattle.dedb_area.specs.Anchors.{AreInTime, CountsIntervals, IsBegin, ShowsArea, ShowsAreas, intervals_of};
+ghost use Rattle.dedb_area.specs.Appending.{MayEnter, StagesInAreas};
+ghost use Rattle.dedb_area.specs.Committing.{AreStagedUpTo, ConcernedArePending, FitAreas, FitsArea, FitsCommit, HasRoomFor, IsBeginIn, IsFirstFull, IsFitItem, MakesArea, MayStage, OnlyChanges, StagesAll, committed, has_change, has_insert, is_concerned};
+ghost use Rattle.dedb_area.specs.Standing.{AreasStand, IsUnstaged};
+ghost use Rattle.dedb_area.specs.declared.fault.AreaFault.TheVariants as fault;
+
+use crate::anchors::has_anchor;
+use crate::changing::changed_intervals;
+use crate::counting::counted;
+use crate::syncing::FIRST_AREA;
+use crate::{AreaFault, Areas};
+use area_staging::{Extent, stage_changed};
+use area_states::Place;
+use ci_pool::{Pool, PoolFault};
+use fp_model::{AnchorChange, Item, List, SeqInsert};
+use fp_site::Site;
+use std::alloc::Global;
+
+/// Whether a changed anchor is one of the area.
+fn has_change(place: &Place, changes: &[AnchorChange]) -> bool
+    ensures { result ≡ has_change place.now changes.now }
+{
+    for change in changes {
+        if has_anchor(place, change.dedb, change.anchor) {
+            return true;
+        }
+    }
+    false
+}
+
+/// Whether a sequential insert is one of the area.
+fn has_insert(place: &Place, inserts: &[SeqInsert]) -> bool
+    ensures { result ≡ has_insert place.now inserts.now }
+{
+    for insert in inserts {
+        if has_anchor(place, insert.dedb, insert.anchor) {
+            return true;
+        }
+    }
+    false
+}
+
+/// Whether a changed anchor or an insert is one of the area.
+fn is_concerned(place: &Place, changes: &[AnchorChange], inserts: &[SeqInsert]) -> bool
+    ensures { result ≡ is_concerned place.now changes.now inserts.now }
+{
+    has_change(place, changes) || has_insert(place, inserts)
+}
+
+/// The items of intervals that were staged; else the fault of the area.
+fn given_items(staged: Result<List<Item>, PoolFault>) -> Result<List<Item>, AreaFault>
+    ensures same { IfOk result (λ items. staged ≡ Ok items) }
+    ensures failed { IsErrOf result fault.Device → IsErrOf staged pool_fault.Failed }
+    ensures never_damaged { (s at : ℕ) → result ≢ Err (fault.Damaged s at) }
+    ensures never_full { (s begin end n : ℕ) → result ≢ Err (fault.SeqFull s begin end n) }
+{
+    match staged {
+        Ok(items) => Ok(items),
+        Err(PoolFault::Failed) => Err(AreaFault::Device),
+        Err(PoolFault::Memory) => Err(AreaFault::Memory),
+    }
+}
+
+/// Stages an area that changed anchors or inserts are of. After a fault some of its intervals may be staged.
+fn stage_area<T: Site>(
+    alloc: Global,
+    pool: &mut Pool,
+    site: &mut T,
+    imaged: &mut Vec<List<bool>>,
+    place: &Place,
+    set: u16,
+    changes: &[AnchorChange],
+    inserts: &[SeqInsert],
+) -> Result<List<Item>, AreaFault>
+    requires place { IsPlace place.now }
+    requires from { first_area_set ≤ set }
+    requires within { set - first_area_set < length imaged.old.items }
+    requires storable { AllByRecursion (IsStorable place.now) changes.now }
+    requires insertable { AllByRecursion (IsInsertable place.now) inserts.now }
+    ensures made { T.told site.old → (bytes : ℕ → ListOf ℕ)
+        → ShowsArea place.now set (T.disk site.old).contents pool.old bytes
+        → (state : AreaState) → HasState place.now (intervals_of place.now bytes) state
+        → FitsArea place.now state changes.now
+        → IfOk result (MakesArea place.now set (is_imaged imaged.old.items set) bytes
+        (committed place.now changes.now inserts.now state)) }
+    ensures staged { T.told site.old → (bytes : ℕ → ListOf ℕ)
+        → ShowsArea place.now set (T.disk site.old).contents pool.old bytes
+        → IfOk result (λ items. StagesItems set items bytes pool.old pool.new) }
+    ensures room { T.told site.old → (bytes : ℕ → ListOf ℕ)
+        → ShowsArea place.now set (T.disk site.old).contents pool.old bytes
+        → (state : AreaState) → HasState place.now (intervals_of place.now bytes) state
+        → FitsArea place.now state changes.now → OnOk result (HasRoomFor place.now state inserts.now) }
+    ensures fit { IfOk result (AllByRecursion (IsFitFor set place.now.shape.ci)) }
+    ensures in_order { IfOk result (λ items. is_ascending items ≡ true) }
+    ensures flagged { IfOk result (AreFlagged imaged.new.items) }
+    ensures flags { (s k : ℕ) → is_imaged imaged.new.items s k ≡ is_imaged imaged.old.items s k }
+    ensures kept { (s k : ℕ) → HasFlag imaged.old.items s k → HasFlag imaged.new.items s k }
+    ensures count { length imaged.new.items ≡ length imaged.old.items }
+    ensures full { T.told site.old → (bytes : ℕ → ListOf ℕ)
+        → ShowsArea place.now set (T.disk site.old).contents pool.old bytes
+        → (state : AreaState) → HasState place.now (intervals_of place.now bytes) state
+        → FitsArea place.now state changes.now → (s begin end n : ℕ)
+        → result ≡ Err (fault.SeqFull s begin end n) → IsTooFull place.now state inserts.now begin end n }
+    ensures sound { T.told site.old → (bytes : ℕ → ListOf ℕ)
+        → ShowsArea place.now set (T.disk site.old).contents pool.old bytes
+        → (state : AreaState) → HasState place.now (intervals_of place.now bytes) state
+        → FitsArea place.now state changes.now → CountsIntervals place.now (bytes 0) → (s at : ℕ)
+        → result ≢ Err (fault.Damaged s at) }
+    ensures begins { (s at : ℕ) → result ≡ Err (fault.Damaged s at) → (s ≡ set) × ((ci : ℕ) × IsBegin place.now ci at) }
+    ensures here { (s begin end n : ℕ) → result ≡ Err (fault.SeqFull s begin end n) → s ≡ set }
+    ensures failed { IsErrOf result fault.Device → Rose (T.faults site.old) (T.faults site.new) }
+    ensures unread { T.told site.old → (bytes : ℕ → ListOf ℕ)
+        → ShowsArea place.now set (T.disk site.old).contents pool.old bytes
+        → AllPending pool.old set (counted_by (Some place.now) (bytes 0))
+        → ReadsNothing (T.tells_reads site.old) (T.tells_reads site.new) (T.bytes_read site.old)
+        (T.bytes_read site.new) }
+    ensures stages { Stages T.told T.disk T.faults T.holds T.keeps set place.now.shape.ci site.old site.new pool.old
+        pool.new }
+{
+    let count = counted(pool, site, place, set)?;
+    let area = Extent {
+        set,
+        size: place.shape.ci,
+        count,
+    };
+    let changed = changed_intervals(alloc, pool, site, place, area, changes, inserts)?;
+    let staged = stage_changed(alloc, pool, site, imaged, area, changed);
+    given_items(staged)
+}
+
+/// Stages an area, where a changed anchor or an insert is of it; else nothing happens.
+fn stage_here<T: Site>(
+    alloc: Global,
+    pool: &mut Pool,
+    site: &mut T,
+    imaged: &mut Vec<List<bool>>,
+    place: &Place,
+    set: u16,
+    changes: &[AnchorChange],
+    inserts: &[SeqInsert],
+) -> Result<List<Item>, AreaFault>
+    requires place { IsPlace place.now }
+    requires from { first_area_set ≤ set }
+    requires within { set - first_area_set < length imaged.old.items }
+    requires storable { AllByRecursion (IsStorable place.now) changes.now }
+    requires insertable { AllByRecursion (IsInsertable place.now) inserts.now }
+    ensures made { T.told site.old → (bytes : ℕ → ListOf ℕ)
+        → ShowsArea place.now set (T.disk site.old).contents pool.old bytes
+        → (state : AreaState) → HasState place.now (intervals_of place.now bytes) state
+        → FitsArea place.now state changes.now
+        → IfOk result (MakesArea place.now set (is_imaged imaged.old.items set) bytes
+        (committed place.now changes.now inserts.now state)) }
+    ensures staged { T.told site.old → (bytes : ℕ → ListOf ℕ)
+        → ShowsArea place.now set (T.disk site.old).contents pool.old bytes
+        → IfOk result (λ items. StagesItems set items bytes pool.old pool.new) }
+    ensures room { T.told site.old → (bytes : ℕ → ListOf ℕ)
+        → ShowsArea place.now set (T.disk site.old).contents pool.old bytes
+        → (state : AreaState) → HasState place.now (intervals_of place.now bytes) state
+        → FitsArea place.now state changes.now → OnOk result (HasRoomFor place.now state inserts.now) }
+    ensures fit { IfOk result (AllByRecursion (IsFitFor set place.now.shape.ci)) }
+    ensures in_order { IfOk result (λ items. is_ascending items ≡ true) }
+    ensures flagged { IfOk result (AreFlagged imaged.new.items) }
+    ensures flags { (s k : ℕ) → is_imaged imaged.new.items s k ≡ is_imaged imaged.old.items s k }
+    ensures kept { (s k : ℕ) → HasFlag imaged.old.items s k → HasFlag imaged.new.items s k }
+    ensures count { length imaged.new.items ≡ length imaged.old.items }
+    ensures full { T.told site.old → (bytes : ℕ → ListOf ℕ)
+        → ShowsArea place.now set (T.disk site.old).contents pool.old bytes
+        → (state : AreaState) → HasState place.now (intervals_of place.now bytes) state
+        → FitsArea place.now state changes.now → (s begin end n : ℕ)
+        → result ≡ Err (fault.SeqFull s begin end n) → IsTooFull place.now state inserts.now begin end n }
+    ensures sound { T.told site.old → (bytes : ℕ → ListOf ℕ)
+        → ShowsArea place.now set (T.disk site.old).contents pool.old bytes
+        → (state : AreaState) → HasState place.now (intervals_of place.now bytes) state
+        → FitsArea place.now state changes.now → CountsIntervals place.now (bytes 0) → (s at : ℕ)
+        → result ≢ Err (fault.Damaged s at) }
+    ensures begins { (s at : ℕ) → result ≡ Err (fault.Damaged s at) → (s ≡ set) × ((ci : ℕ) × IsBegin place.now ci at) }
+    ensures here { (s begin end n : ℕ) → result ≡ Err (fault.SeqFull s begin end n) → s ≡ set }
+    ensures failed { IsErrOf result fault.Device → Rose (T.faults site.old) (T.faults site.new) }
+    ensures unread { T.told site.old → (bytes : ℕ → ListOf ℕ)
+        → ShowsArea place.now set (T.disk site.old).contents pool.old bytes
+        → (is_concerned place.now changes.now inserts.now ≡ true
+        → AllPending pool.old set (counted_by (Some place.now) (bytes 0)))
+        → ReadsNothing (T.tells_reads site.old) (T.tells_reads site.new) (T.bytes_read site.old)
+        (T.bytes_read site.new) }
+    ensures stages { Stages T.told T.disk T.faults T.holds T.keeps set place.now.shape.ci site.old site.new pool.old
+        pool.new }
+{
+    if is_concerned(place, changes, inserts) {
+        return stage_area(alloc, pool, site, imaged, place, set, changes, inserts);
+    }
+    Ok(List::new(alloc))
+}
+
+/// Stages all areas that changed anchors and inserts are of, in their order. Gives the items. After a fault some may be
+/// staged.
+fn stage_all<T: Site>(
+    alloc: Global,
+    pool: &mut Pool,
+    site: &mut T,
+    imaged: &mut Vec<List<bool>>,
+    places: &[Place],
+    changes: &[AnchorChange],
+    inserts: &[SeqInsert],
+) -> Result<List<Item>, AreaFault>
+    requires places { ArePlaces places.now }
+    requires few { length places.now ≤ 256 }
+    requires each { length imaged.old.items ≡ length places.now }
+    requires stageable { MayStage places.now changes.now inserts.now }
+    ensures staged { T.told site.old → (newest : AreaBytes) (db : Db)
+        → ShowsAreas places.now (T.disk site.old).contents pool.old newest → AreFor places.now newest db
+        → IsUnstaged pool.old → FitAreas places.now db changes.now
+        → IfOk result (λ items. AreStagedUpTo places.now (length places.now) (is_imaged imaged.old.items) newest
+        changes.now inserts.now db items pool.new) }
+    ensures fit { IfOk result (AllByRecursion (IsFitItem places.now)) }
+    ensures in_order { IfOk result (λ items. is_ascending items ≡ true) }
+    ensures flagged { IfOk result (AreFlagged imaged.new.items) }
+    ensures flags { (s k : ℕ) → is_imaged imaged.new.items s k ≡ is_imaged imaged.old.items s k }
+    ensures count { length imaged.new.items ≡ length imaged.old.items }
+    ensures full { T.told site.old → (newest : AreaBytes) (db : Db)
+        → ShowsAreas places.now (T.disk site.old).contents pool.old newest → AreFor places.now newest db
+        → IsUnstaged pool.old → FitAreas places.now db changes.now → (s begin end n : ℕ)
+        → result ≡ Err (fault.SeqFull s begin end n)
+        → IsFirstFull places.now db inserts.now s begin end n }
+    ensures sound { T.told site.old → (newest : AreaBytes) (db : Db)
+        → ShowsAreas places.now (T.disk site.old).contents pool.old newest → AreFor places.now newest db
+        → FitAreas places.now db changes.now → AreInTime places.now newest → (s at : ℕ)
+        → result ≢ Err (fault.Damaged s at) }
+    ensures begins { (s at : ℕ) → result ≡ Err (fault.Damaged s at) → IsBeginIn places.now s at }
+    ensures failed { IsErrOf result fault.Device → Rose (T.faults site.old) (T.faults site.new) }
+    ensures unread { T.told site.old → (newest : AreaBytes)
+        → ShowsAreas places.now (T.disk site.old).contents pool.old newest
+        → ConcernedArePending places.now pool.old newest changes.now inserts.now
+        → ReadsNothing (T.tells_reads site.old) (T.tells_reads site.new) (T.bytes_read site.old)
+        (T.bytes_read site.new) }
+    ensures stages { StagesAll T.told T.disk T.faults T.holds T.keeps places.now site.old site.new pool.old pool.new }
+{
+    let mut items = List::new(alloc);
+    let mut set = FIRST_AREA;
+    for place in places {
+        let more = stage_here(alloc, pool, site, imaged, place, set, changes, inserts)?;
+        items.append(more)?;
+        set += 1;
+    }
+    Ok(items)
+}
+
+impl Areas {
+    /// Stages changed anchors and sequential inserts of a commit. Gives the items of the intervals that they change: an
+    /// image where the interval has no item since the mark or is new in its area, else the range in which it differs, and
+    /// none where its bytes stay. Nothing may be staged before.
+    ///
+    /// `SeqFull` names the first area whose sequential part has no room for the inserts of it. `Damaged` names the first
+    /// byte of the interval that is at fault. After a refusal nothing is staged.
+    ///
+    /// Costs for each area that has some of them one read of control, `store_all` and `append_all` of `area_states`, and
+    /// a `get` of each interval that these put. Other areas aren't read.
+    pub fn stage<T: Site>(
+        &mut self,
+        site: &mut T,
+        changes: &List<AnchorChange>,
+        inserts: &List<SeqInsert>,
+    ) -> Result<List<Item>, AreaFault>
+        requires { MayStage self.old.places changes.now inserts.now }
+
+        // The items make of the newest bytes those of the databases behind the commit.
+        ensures committed { T.told site.old → (way : Way) (bytes : AreaBytes) (defs : DefsOf) (db : Db)
+            → AreasStand way bytes (T.disk site.old) self.old → self.old.places ≡ places_of defs
+            → AreFor self.old.places (behind way.unsealed bytes) db → FitsCommit defs db changes.now inserts.now
+            → IfOk result (λ items. AreFor self.old.places (redone items (behind way.unsealed bytes))
+            (with_inserts defs inserts.now (with_anchors changes.now db))) }
+
+        // Just the intervals that they name are staged, and an entry with them may enter.
+        ensures staged { T.told site.old → (way : Way) (bytes : AreaBytes) (defs : DefsOf) (db : Db)
+            → AreasStand way bytes (T.disk site.old) self.old → self.old.places ≡ places_of defs
+            → AreFor self.old.places (behind way.unsealed bytes) db → FitsCommit defs db changes.now inserts.now
+            → IfOk result (λ items. AreStagedBy items (behind way.unsealed bytes) self.new.pool) }
+        ensures enters { T.told site.old → (way : Way) (bytes : AreaBytes) (defs : DefsOf) (db : Db)
+            → AreasStand way bytes (T.disk site.old) self.old → self.old.places ≡ places_of defs
+            → AreFor self.old.places (behind way.unsealed bytes) db → FitsCommit defs db changes.now inserts.now
+            → IfOk result (λ items. MayEnter way bytes self.old items) }
+        ensures other { T.told site.old → (way : Way) (bytes : AreaBytes) (defs : DefsOf) (db : Db)
+            → AreasStand way bytes (T.disk site.old) self.old → self.old.places ≡ places_of defs
+            → AreFor self.old.places (behind way.unsealed bytes) db → FitsCommit defs db changes.now inserts.now
+            → IfOk result (OnlyChanges self.old.places (behind way.unsealed bytes)) }
+        ensures fit { IfOk result (AllByRecursion (IsFitItem self.old.places)) }
+        ensures in_order { IfOk result (λ items. is_ascending items ≡ true) }
+        ensures flagged { IfOk result (AreFlagged self.new.imaged) }
+
+        // It is full exactly where the databases say so.
+        ensures full { T.told site.old → (way : Way) (bytes : AreaBytes) (defs : DefsOf) (db : Db)
+            → AreasStand way bytes (T.disk site.old) self.old → self.old.places ≡ places_of defs
+            → AreFor self.old.places (behind way.unsealed bytes) db → FitsCommit defs db changes.now inserts.now
+            → (s begin end n : ℕ) → result ≡ Err (fault.SeqFull s begin end n)
+            → first_full db inserts.now first_area_set (areas_of defs) ≡ Some (FillsPart s begin end n) }
+        ensures room { T.told site.old → (way : Way) (bytes : AreaBytes) (defs : DefsOf) (db : Db)
+            → AreasStand way bytes (T.disk site.old) self.old → self.old.places ≡ places_of defs
+            → AreFor self.old.places (behind way.unsealed bytes) db → FitsCommit defs db changes.now inserts.now
+            → OnOk result (first_full db inserts.now first_area_set (areas_of defs) ≡ None) }
+
+        // Then nothing is damaged. Else an interval is named by its first byte; it fails only with the site.
+        ensures sound { T.told site.old → (way : Way) (bytes : AreaBytes) (defs : DefsOf) (db : Db)
+            → AreasStand way bytes (T.disk site.old) self.old → self.old.places ≡ places_of defs
+            → AreFor self.old.places (behind way.unsealed bytes) db → FitsCommit defs db changes.now inserts.now
+            → AreInTime self.old.places (behind way.unsealed bytes) → (s at : ℕ)
+            → result ≢ Err (fault.Damaged s at) }
+        ensures begins { (s at : ℕ) → result ≡ Err (fault.Damaged s at) → IsBeginIn self.old.places s at }
+        ensures failed { IsErrOf result fault.Device → Rose (T.faults site.old) (T.faults site.new) }
+
+        // Where each interval of the areas concerned is pending, no byte of the site is read.
+        ensures unread { T.told site.old → (way : Way) (bytes : AreaBytes)
+            → AreasStand way bytes (T.disk site.old) self.old
+            → ConcernedArePending self.old.places self.old.pool (behind way.unsealed bytes) changes.now inserts.now
+            → ReadsNothing (T.tells_reads site.old) (T.tells_reads site.new) (T.bytes_read site.old)
+            (T.bytes_read site.new) }
+
+        // After a refusal nothing is staged, and the areas stand as before.
+        ensures unstaged { OnErr result (IsUnstaged self.new.pool) }
+        ensures stands { T.told site.old → (way : Way) (bytes : AreaBytes)
+            → AreasStand way bytes (T.disk site.old) self.old
+            → OnErr result (AreasStand way bytes (T.disk site.new) self.new) }
+
+        // No area changes, at any moment; the pool may have other clean intervals.
+        ensures stages { StagesInAreas T.told T.disk T.faults T.holds T.keeps site.old site.new self.old self.new }
+    {
+        let places: &[Place] = &self.places;
+        match stage_all(
+            self.alloc,
+            &mut self.pool,
+            site,
+            &mut self.imaged,
+            places,
+            changes.as_slice(),
+            inserts.as_slice(),
+        ) {
+            Ok(items) => Ok(items),
+            Err(fault) => {
+                self.pool.drop_staged();
+                Err(fault)
+            }
+        }
+    }
+}
