@@ -1,0 +1,149 @@
+//! Customers come to one anchor until it is full, notes to a part until it is full, and items of changes in place.
+
+ghost use Rattle.std.specs.Prelude.{◌≤◌};
+
+use crate::bench::Came::{Full, Items};
+use crate::bench::Named::{Image, Range};
+use crate::bench::Step::{Commit, Ends, Length, Purge, Restart, Seal, Shows, Write, WriteAll};
+use crate::bench::{Bench, Came, Ended, Step};
+use crate::changes::Change::{Add, Drop, Note, Rename};
+use fp_site::MemorySite;
+use std::alloc::Global;
+use std::test::Fail;
+
+/// Runs steps over formatted areas. The first that didn't end well, and what the site has of both areas.
+fn first_other(alloc: Global, bound: u32, steps: &[Step]) -> Result<(Option<usize>, Vec<u8>), Fail>
+    requires { 1 ≤ bound }
+{
+    let site = MemorySite::new(alloc, &[])?;
+    let Some(mut bench) = Bench::formatted(alloc, site, bound)? else {
+        return Ok((Some(steps.len()), Vec::new(alloc)));
+    };
+    for (place, step) in steps.iter().enumerate() {
+        if bench.step(step)? != Ended::Well {
+            return Ok((Some(place), Vec::new(alloc)));
+        }
+    }
+    let mut bytes = Vec::from_slice(alloc, bench.site.contents(3))?;
+    bytes.extend_from_slice(bench.site.contents(4))?;
+    Ok((None, bytes))
+}
+
+/// Twenty-one customers of one anchor, of which ten fit into its base interval, and ten into its unit's overflow interval.
+/// The last one takes an interval that is new in the area, and the area had eight.
+static CUSTOMERS: [Step; 26] = [
+    Commit(&[Add(6, b"C001", b"A")], Items(&[Image(4, 4)])),
+    Commit(&[Add(6, b"C009", b"B")], Came::Some),
+    Commit(&[Add(6, b"C012", b"C")], Came::Some),
+    Commit(&[Add(6, b"C023", b"D")], Came::Some),
+    Commit(&[Add(6, b"C034", b"E")], Came::Some),
+    Commit(&[Add(6, b"C045", b"F")], Came::Some),
+    Commit(&[Add(6, b"C056", b"G")], Came::Some),
+    Commit(&[Add(6, b"C067", b"H")], Came::Some),
+    Commit(&[Add(6, b"C070", b"I")], Came::Some),
+    Commit(&[Add(6, b"C078", b"J")], Came::Some),
+    Commit(&[Add(6, b"C081", b"K")], Came::Some),
+    Commit(&[Add(6, b"C089", b"L")], Came::Some),
+    Commit(&[Add(6, b"C092", b"M")], Came::Some),
+    Commit(&[Add(6, b"C100", b"N")], Came::Some),
+    Commit(&[Add(6, b"C108", b"O")], Came::Some),
+    Commit(&[Add(6, b"C111", b"P")], Came::Some),
+    Commit(&[Add(6, b"C119", b"Q")], Came::Some),
+    Commit(&[Add(6, b"C122", b"R")], Came::Some),
+    Commit(&[Add(6, b"C133", b"S")], Came::Some),
+    Commit(&[Add(6, b"C144", b"T")], Came::Some),
+    Length(4, 4096),
+    Commit(&[Add(6, b"C155", b"U")], Came::Some),
+    Seal,
+    WriteAll,
+    Length(4, 4608),
+    Shows(
+        6,
+        b"C001A;C009B;C012C;C023D;C034E;C045F;C056G;C067H;C070I;C078J;C081K;C089L;C092M;C100N;C108O;C111P;C119Q;C122R;C133S;C144T;C155U;",
+    ),
+];
+
+/// A part that keeps four notes: the fifth is too many until the two oldest go.
+static NOTES: [Step; 17] = [
+    Commit(&[Add(6, b"C001", b"ANN")], Came::Some),
+    Commit(&[Note(6, b"C001", b"N1")], Came::Some),
+    Commit(
+        &[Note(6, b"C001", b"N2"), Note(6, b"C001", b"N3")],
+        Came::Some,
+    ),
+    Seal,
+    Write,
+    Commit(&[Note(6, b"C001", b"N4")], Came::Some),
+    Commit(&[Note(6, b"C001", b"N5")], Full(4, 1, 5, 1)),
+    Shows(6, b"C001ANN N4 N3 N2 N1;"),
+    Ends(4, 1, 5),
+    Purge(4, 2, Came::Some),
+    Commit(&[Note(6, b"C001", b"N6")], Came::Some),
+    Shows(6, b"C001ANN N6 N4 N3;"),
+    Ends(4, 3, 6),
+    Ends(3, 1, 1),
+    Seal,
+    WriteAll,
+    Shows(6, b"C001ANN N6 N4 N3;"),
+];
+
+/// Two customers of two areas in one commit; a customer that goes; a root that is inserted anew has no notes.
+static MIXED: [Step; 9] = [
+    Commit(
+        &[Add(6, b"C001", b"ANN"), Add(0, b"C003", b"BOB")],
+        Items(&[Image(3, 1), Image(4, 4)]),
+    ),
+    Commit(
+        &[Note(6, b"C001", b"N1"), Rename(0, b"C003", b"BEN")],
+        Came::Some,
+    ),
+    Shows(0, b"C003BEN;"),
+    Commit(&[Drop(6, b"C001")], Came::Some),
+    Shows(6, b""),
+    Commit(&[Add(6, b"C001", b"ANN")], Came::Some),
+    Shows(6, b"C001ANN;"),
+    Seal,
+    WriteAll,
+];
+
+/// A name that changes behind a restart: first an image of the interval, then the two bytes in which the names differ. The
+/// segment stands at place 64: the element at 32, with 4 bytes of its own, two pointers and a serial before it.
+static IN_PLACE: [Step; 8] = [
+    Commit(&[Add(6, b"C001", b"ANN")], Items(&[Image(4, 4)])),
+    Seal,
+    Restart,
+    Commit(&[Rename(6, b"C001", b"BEN")], Items(&[Image(4, 4)])),
+    Commit(
+        &[Rename(6, b"C001", b"BOB")],
+        Items(&[Range(4, 4, 69, b"OB")]),
+    ),
+    Commit(&[Rename(6, b"C001", b"BOB")], Items(&[])),
+    Seal,
+    WriteAll,
+];
+
+#[test]
+fn rows_come_out_as_wanted(rt: HostRuntime) -> Result<(), Fail> {
+    for (row, steps) in [&CUSTOMERS[..], &NOTES[..], &MIXED[..], &IN_PLACE[..]]
+        .iter()
+        .enumerate()
+    {
+        let (other, bytes) = first_other(rt.alloc(), 10, steps)?;
+        assert!(rt; other.is_none(), "row {row}, step {}", other.unwrap_or(0));
+        assert!(rt; !bytes.is_empty(), "row {row}");
+    }
+    Ok(())
+}
+
+#[test]
+fn a_pool_of_one_makes_the_same_bytes(rt: HostRuntime) -> Result<(), Fail> {
+    for (row, steps) in [&CUSTOMERS[..], &NOTES[..], &MIXED[..], &IN_PLACE[..]]
+        .iter()
+        .enumerate()
+    {
+        let (_, small) = first_other(rt.alloc(), 1, steps)?;
+        let (other, large) = first_other(rt.alloc(), 1000, steps)?;
+        assert!(rt; other.is_none() && small == large, "row {row}");
+    }
+    Ok(())
+}
