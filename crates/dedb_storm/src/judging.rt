@@ -256,6 +256,17 @@ fn judge_turns(
     Ok(tally)
 }
 
+// The databases that definitions say, as they start.
+fn bank(alloc: Global, definitions: &[u8], exits: &Exits) -> Result<(Defs, MsdbStore), Fault>
+    ensures { IfOk result (λ bank. IsBank bank.0 bank.1 (kinds_of exits.now)) }
+{
+    let Ok(defs) = read_defs(alloc, definitions, exits) else {
+        return Err(Fault::NotRead);
+    };
+    let store = MsdbStore::start(alloc, &defs)?;
+    Ok((defs, store))
+}
+
 /// Judges the lines of a file, in its way.
 pub(crate) fn judged(
     alloc: Global,
@@ -263,18 +274,15 @@ pub(crate) fn judged(
     exits: &Exits,
     randomized: &Cell<u64>,
 ) -> Result<Tally, Fault> {
-    let Ok(defs) = read_defs(alloc, asked.definitions, exits) else {
-        return Err(Fault::NotRead);
-    };
+    let (defs, store) = bank(alloc, asked.definitions, exits)?;
     match asked.way {
         Way::Locked => judge_locked(alloc, asked, &defs, exits, randomized),
-        Way::Alone if defs.msdbs.is_empty() => {
+        Way::Alone => {
+            if !defs.msdbs.is_empty() {
+                return Err(Fault::NotRead);
+            }
             judge_alone(alloc, asked, &defs, exits, randomized)
         }
-        Way::Alone => Err(Fault::NotRead),
-        Way::Turns => {
-            let store = MsdbStore::start(alloc, &defs)?;
-            judge_turns(alloc, asked, &store, &defs, exits)
-        }
+        Way::Turns => judge_turns(alloc, asked, &store, &defs, exits),
     }
 }
