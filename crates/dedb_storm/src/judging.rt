@@ -15,12 +15,13 @@ ghost use Rattle.std.specs.Prelude.{◌≡◌, ◌<◌, [], IfOk, length, true};
 use crate::alone::{ask_alone, begin_alone, end_alone};
 use crate::bench::{ask, begin};
 use crate::cases::{call_of, came_of, number_of, numbers_text};
-use crate::ending::empty;
+use crate::ending::{Standing, empty};
 use crate::fault::Fault;
 use crate::live::{both_begin, done_by};
 use crate::tally::{Line, Tally};
 use ci_locks::Locks;
 use dedb_calls::DedbWork;
+use dli_calls::Work as RegionWork;
 use fp_defs::read_defs;
 use fp_exits::Exits;
 use fp_model::{Call, Defs};
@@ -157,6 +158,36 @@ fn judge_locked(
     Ok(tally)
 }
 
+// How many sequential inserts a transaction that ran alone had queued. Another begins.
+fn alone_queued(alloc: Global, work: &mut Work, defs: &Defs) -> Result<String, Fault>
+    ensures { IfOk result (λ came. IsWorkOf defs.now work.new) }
+{
+    let queued = end_alone(alloc, work, defs)?;
+    Ok(queued.to_string(alloc)?)
+}
+
+// What comes of a call, by a transaction that runs alone.
+fn alone_call(
+    alloc: Global,
+    what: &str,
+    work: &mut Work,
+    needed: &mut Vec<u32>,
+    defs: &Defs,
+    exits: &Exits,
+) -> Result<String, Fault>
+    requires none { defs.now.msdbs ≡ [] }
+    requires dedbs { AllByRecursion IsDedbDef defs.now.dedbs }
+    requires exits { AllByRecursion (λ dedb. has_kind (kinds_of exits.now).spreaders dedb.randomizer ≡ true)
+        defs.now.dedbs }
+    requires going { IsWorkOf defs.now work.old }
+
+    ensures { IfOk result (λ came. IsWorkOf defs.now work.new) }
+{
+    let (_, call) = numbered_call(alloc, what, defs)?;
+    let answer = ask_alone(alloc, work, &call, defs, exits, needed)?;
+    Ok(came_of(alloc, &answer)?)
+}
+
 // What comes of a line, by a transaction that runs alone.
 fn alone_step(
     alloc: Global,
@@ -176,14 +207,12 @@ fn alone_step(
     ensures { IfOk result (λ came. IsWorkOf defs.now work.new) }
 {
     if what == "queued" {
-        return Ok(end_alone(alloc, work, defs)?.to_string(alloc)?);
+        return alone_queued(alloc, work, defs);
     }
     if let Some(came) = trail.look(alloc, what, randomized)? {
         return Ok(came);
     }
-    let (_, call) = numbered_call(alloc, what, defs)?;
-    let answer = ask_alone(alloc, work, &call, defs, exits, &mut trail.needed)?;
-    Ok(came_of(alloc, &answer)?)
+    alone_call(alloc, what, work, &mut trail.needed, defs, exits)
 }
 
 // Judges the lines of a file by transactions that run alone.
@@ -217,6 +246,82 @@ fn judge_alone(
     Ok(tally)
 }
 
+// A scenario begins: each region with a transaction of its own, and no lock held.
+fn turns_begin(
+    alloc: Global,
+    first: &mut RegionWork,
+    second: &mut RegionWork,
+    locks: &mut Locks,
+    defs: &Defs,
+) -> Result<(), AllocError>
+    ensures { IfOk result (λ begun. AreBothGoing defs.now first.new second.new locks.new) }
+{
+    let (one, two, free) = both_begin(alloc, defs)?;
+    *first = one;
+    *second = two;
+    *locks = free;
+    Ok(())
+}
+
+// Judges what comes of a line of a scenario, and says what stands behind it.
+fn turns_step(
+    alloc: Global,
+    what: &str,
+    wanted: &str,
+    tally: &mut Tally,
+    first: &mut RegionWork,
+    second: &mut RegionWork,
+    locks: &mut Locks,
+    before: Standing,
+    store: &MsdbStore,
+    defs: &Defs,
+    exits: &Exits,
+) -> Result<Standing, Fault>
+    requires bank { IsBank defs.now store.now (kinds_of exits.now) }
+    requires going { AreBothGoing defs.now first.old second.old locks.old }
+    requires kept { AreKept defs.now.dedbs before.anchors.items }
+
+    ensures going { IfOk result (λ standing. AreBothGoing defs.now first.new second.new locks.new) }
+    ensures kept { IfOk result (λ standing. AreKept defs.now.dedbs standing.anchors.items) }
+{
+    let came = done_by(
+        alloc, what, first, second, locks, before, store, defs, exits,
+    )?;
+    tally.judge(alloc, what, wanted, &came.text)?;
+    Ok(came.standing)
+}
+
+// Reads a line of a scenario and judges it, or begins the next scenario; and says what stands behind it.
+fn turns_line(
+    alloc: Global,
+    text: &str,
+    tally: &mut Tally,
+    first: &mut RegionWork,
+    second: &mut RegionWork,
+    locks: &mut Locks,
+    before: Standing,
+    store: &MsdbStore,
+    defs: &Defs,
+    exits: &Exits,
+) -> Result<Standing, Fault>
+    requires bank { IsBank defs.now store.now (kinds_of exits.now) }
+    requires going { AreBothGoing defs.now first.old second.old locks.old }
+    requires kept { AreKept defs.now.dedbs before.anchors.items }
+
+    ensures going { IfOk result (λ standing. AreBothGoing defs.now first.new second.new locks.new) }
+    ensures kept { IfOk result (λ standing. AreKept defs.now.dedbs standing.anchors.items) }
+{
+    match tally.read(alloc, text)? {
+        Line::Begin => {
+            turns_begin(alloc, first, second, locks, defs)?;
+            Ok(empty(alloc))
+        }
+        Line::Step { what, wanted } => turns_step(
+            alloc, what, wanted, tally, first, second, locks, before, store, defs, exits,
+        ),
+    }
+}
+
 // Judges the scenarios of a file, each on anchors without roots and with no lock held.
 fn judge_turns(
     alloc: Global,
@@ -231,27 +336,18 @@ fn judge_turns(
     let (mut first, mut second, mut locks) = both_begin(alloc, defs)?;
     let mut standing = empty(alloc);
     for text in asked.lines.lines() {
-        match tally.read(alloc, text)? {
-            Line::Begin => {
-                (first, second, locks) = both_begin(alloc, defs)?;
-                standing = empty(alloc);
-            }
-            Line::Step { what, wanted } => {
-                let came = done_by(
-                    alloc,
-                    what,
-                    &mut first,
-                    &mut second,
-                    &mut locks,
-                    standing,
-                    store,
-                    defs,
-                    exits,
-                )?;
-                tally.judge(alloc, what, wanted, &came.text)?;
-                standing = came.standing;
-            }
-        }
+        standing = turns_line(
+            alloc,
+            text,
+            &mut tally,
+            &mut first,
+            &mut second,
+            &mut locks,
+            standing,
+            store,
+            defs,
+            exits,
+        )?;
     }
     Ok(tally)
 }
